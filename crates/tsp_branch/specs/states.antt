@@ -1,4 +1,5 @@
 pub mod Rooms
+pub mod Numbers
 pub mod PairSets
 pub mod Outside
 pub mod Marked

@@ -8,7 +8,7 @@ use Rattle.std.proofs.lemmas.Bool.{cases_lt}
 use Rattle.std.proofs.lemmas.Nat.{mul-add-lt, pow_pos}
 use Rattle.std.proofs.lemmas.Nat.Bits.{bit_at_lowest, bit_at-suc, bit_at-zero}
 use Rattle.tsp_theory.specs.Tree.{IsInner}
-use Rattle.tsp_families.specs.Paths.{by_rows, path_length, number_of, AllApart, IsOrderOf, no_path, IsBest, AreBest, IsLeastSum}
+use Rattle.tsp_families.specs.Paths.{cost_by_rows, path_length, number_of, AllApart, IsOrderOf, no_path, IsBestPath, AreBestPaths, IsLeastSum}
 use Rattle.tsp_families.proofs.Lists.{Within, at_within, within_or_apart}
 
 -- ---- one bit more
@@ -123,7 +123,7 @@ next_place n other k = let e : other + 2 - 1 ≡ other + 1 = omega arith in let 
 pub inside : (s t m k len : ℕ) → s < t → k < m → t * m ≤ len → s * m + k < len
 inside s t m k len p q h = let fits = mul-add-lt s m k t p q in omega (arith, fits, mul_comm t m, h)
 
-pub no_best : (n set other : ℕ) (cost : ℕ → ℕ → ℕ) → bit_at set other ≡ 0 → IsBest n cost set (other + 2) no_path
+pub no_best : (n set other : ℕ) (cost : ℕ → ℕ → ℕ) → bit_at set other ≡ 0 → IsBestPath n cost set (other + 2) no_path
 no_best n set other cost clear = record {
   most = omega arith;
   below = λ rest order. absurd (omega (arith, clear, own_bit n set other rest order));
@@ -134,9 +134,9 @@ abbrev pub IsFound : ℕ → (ℕ → ℕ → ℕ) → ℕ → ℕ → ℕ → T
 IsFound n cost set node least = (least ≡ no_path) ⊎ ((rest : List ℕ) × IsOrderOf n set (node ∷ rest) × (least ≡ path_length cost node rest))
 
 -- a path from the least sum over the best paths of what is left of the set
-pub best_from : (n set other start least : ℕ) (costs paths : List ℕ) → other < n - 1 → bit_at set other ≡ 1 → set * (n - 1) ≤ length paths → AreBest n (by_rows n costs) paths
+pub best_from : (n set other start least : ℕ) (costs paths : List ℕ) → other < n - 1 → bit_at set other ≡ 1 → set * (n - 1) ≤ length paths → AreBestPaths n (cost_by_rows n costs) paths
     → start ≤ no_path → StartsWith n costs set other start
-    → IsLeastSum start costs paths ((other + 1) * n + 1) ((set - 2 ^ other) * (n - 1)) (n - 1) least → IsBest n (by_rows n costs) set (other + 2) least
+    → IsLeastSum start costs paths ((other + 1) * n + 1) ((set - 2 ^ other) * (n - 1)) (n - 1) least → IsBestPath n (cost_by_rows n costs) set (other + 2) least
 best_from n set other start least costs paths in_range own long best most starts sum = record {
   most = omega (arith, most, sum.below_start);
   below = below;
@@ -149,38 +149,38 @@ best_from n set other start least costs paths in_range own long best most starts
     inner : (k : ℕ) → k < n - 1 → IsInner n (k + 2)
     inner k lt = (omega arith, omega (arith, lt))
 
-    at : (k : ℕ) → k < n - 1 → IsBest n (by_rows n costs) (set - 2 ^ other) (k + 2) (slice_index paths ((set - 2 ^ other) * (n - 1) + k))
+    at : (k : ℕ) → k < n - 1 → IsBestPath n (cost_by_rows n costs) (set - 2 ^ other) (k + 2) (slice_index paths ((set - 2 ^ other) * (n - 1) + k))
     at k lt = best (set - 2 ^ other) k lt (inside (set - 2 ^ other) set (n - 1) k (length paths) (omega (arith, off.0, pow_pos other)) lt long)
 
-    step : (k : ℕ) → slice_index costs ((other + 1) * n + 1 + k) ≡ by_rows n costs (other + 2) (k + 2)
+    step : (k : ℕ) → slice_index costs ((other + 1) * n + 1 + k) ≡ cost_by_rows n costs (other + 2) (k + 2)
     step k = ap (slice_index costs) (next_place n other k)
 
-    last : slice_index costs ((other + 1) * n) ≡ by_rows n costs (other + 2) 1
+    last : slice_index costs ((other + 1) * n) ≡ cost_by_rows n costs (other + 2) 1
     last = ap (slice_index costs) (first_place n other)
 
-    ended : (starts : StartsWith n costs set other start) → IsOrderOf n (set - 2 ^ other) [] → least ≤ by_rows n costs (other + 2) 1
+    ended : (starts : StartsWith n costs set other start) → IsOrderOf n (set - 2 ^ other) [] → least ≤ cost_by_rows n costs (other + 2) 1
     ended (inl here) order = omega (arith, sum.below_start, here.1, last)
     ended (inr none) order = absurd (none.0 (sym order.set_is))
 
-    by_next : (k x : ℕ) (rest : List ℕ) → k < n - 1 → x ≡ k + 2 → IsOrderOf n (set - 2 ^ other) (x ∷ rest) → least ≤ by_rows n costs (other + 2) x + path_length (by_rows n costs) x rest
+    by_next : (k x : ℕ) (rest : List ℕ) → k < n - 1 → x ≡ k + 2 → IsOrderOf n (set - 2 ^ other) (x ∷ rest) → least ≤ cost_by_rows n costs (other + 2) x + path_length (cost_by_rows n costs) x rest
     by_next k x rest lt is order =
         let left = (at k lt).below rest (subst (λ (y : ℕ). IsOrderOf n (set - 2 ^ other) (y ∷ rest)) is order) in
-        let all : least ≤ by_rows n costs (other + 2) (k + 2) + path_length (by_rows n costs) (k + 2) rest = omega (arith, sum.below k lt, left, step k) in
-        subst (λ (y : ℕ). least ≤ by_rows n costs (other + 2) y + path_length (by_rows n costs) y rest) (sym is) all
+        let all : least ≤ cost_by_rows n costs (other + 2) (k + 2) + path_length (cost_by_rows n costs) (k + 2) rest = omega (arith, sum.below k lt, left, step k) in
+        subst (λ (y : ℕ). least ≤ cost_by_rows n costs (other + 2) y + path_length (cost_by_rows n costs) y rest) (sym is) all
 
-    below : (rest : List ℕ) → IsOrderOf n set ((other + 2) ∷ rest) → least ≤ path_length (by_rows n costs) (other + 2) rest
+    below : (rest : List ℕ) → IsOrderOf n set ((other + 2) ∷ rest) → least ≤ path_length (cost_by_rows n costs) (other + 2) rest
     below [] order = ended starts (less_order n set other [] order)
     below (x ∷ rest) order =
         let left = less_order n set other (x ∷ rest) order in
         by_next (x - 2) x rest (omega (arith, left.range.0)) (omega (arith, left.range.0)) left
 
     next : (k : ℕ) → k < n - 1 → least ≡ slice_index costs ((other + 1) * n + 1 + k) + slice_index paths ((set - 2 ^ other) * (n - 1) + k)
-        → IsFound n (by_rows n costs) (set - 2 ^ other) (k + 2) (slice_index paths ((set - 2 ^ other) * (n - 1) + k)) → IsFound n (by_rows n costs) set (other + 2) least
+        → IsFound n (cost_by_rows n costs) (set - 2 ^ other) (k + 2) (slice_index paths ((set - 2 ^ other) * (n - 1) + k)) → IsFound n (cost_by_rows n costs) set (other + 2) least
     next k lt is (inl none) = inl (omega (arith, is, none, sum.below_start, most))
     next k lt is (inr path) = inr ((k + 2) ∷ path.0, more_order n set other ((k + 2) ∷ path.0) (inner other in_range) own path.1, omega (arith, is, path.2, step k))
 
     found : StartsWith n costs set other start → (least ≡ start) ⊎ ((k : ℕ) × (k < n - 1) × (least ≡ slice_index costs ((other + 1) * n + 1 + k) + slice_index paths ((set - 2 ^ other) * (n - 1) + k)))
-        → IsFound n (by_rows n costs) set (other + 2) least
+        → IsFound n (cost_by_rows n costs) set (other + 2) least
     found (inl here) (inl is) = inr ([], more_order n set other [] (inner other in_range) own (record { range = tt; once = tt; set_is = sym here.0 }), is ∙ here.1 ∙ last)
     found (inr none) (inl is) = inl (is ∙ none.1)
     found starts (inr sum_at) = next sum_at.0 sum_at.1 sum_at.2 (at sum_at.0 sum_at.1).found

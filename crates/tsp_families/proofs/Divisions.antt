@@ -9,7 +9,7 @@ use Rattle.std.proofs.lemmas.List.Elements.{recursion_from_All}
 use Rattle.tsp_format.specs.Cells.{IsNode}
 use Rattle.tsp_theory.specs.Cycle.{IsCycle}
 use Rattle.tsp_theory.specs.Length.{length_of}
-use Rattle.tsp_families.specs.Crossed.{IsLeastLength, crossings}
+use Rattle.tsp_families.specs.Crossed.{IsLeastLength, sets_crossed}
 use Rattle.tsp_families.specs.Parts.{between, IsDivision, DivisionsBoundCycles}
 use Rattle.tsp_families.proofs.Lists.{Within}
 use Rattle.tsp_families.proofs.Walks.{shorter_cycle}
@@ -59,7 +59,7 @@ in_parts n m sets part_of firsts (x ∷ xs) is h range =
 pub divisions_bound_cycles : DivisionsBoundCycles
 divisions_bound_cycles n m sets part_of cost least nodes some is agree lengths cycle = go nodes cycle (recursion_from_All (IsNode n) nodes cycle.range)
   where
-    go : (nodes : List ℕ) → IsCycle n nodes → AllByRecursion (IsNode n) nodes → least ≤ℤ length_of (crossings sets) nodes
+    go : (nodes : List ℕ) → IsCycle n nodes → AllByRecursion (IsNode n) nodes → least ≤ℤ length_of (sets_crossed sets) nodes
     go [] cycle range = absurd (omega (arith, cycle.count, some))
     go (a ∷ nodes) cycle range =
         let first = found n m m sets part_of is (omega arith) in

@@ -18,7 +18,8 @@ use Rattle.tsp_theory.specs.Tree.{IsInner}
 use Rattle.tsp_theory.proofs.Tours.{AreInner}
 use Rattle.tsp_theory.proofs.Cycles.{turned_nodes}
 use Rattle.tsp_families.specs.Crossed.{IsLeastLength}
-use Rattle.tsp_families.specs.Paths.{by_rows, as_whole, path_length, number_of, AllApart, IsOrderOf, no_path, IsBest, AreBest, IsLeastSum}
+use Rattle.tsp_families.specs.Memberships.{IsLargest}
+use Rattle.tsp_families.specs.Paths.{cost_by_rows, as_whole, path_length, number_of, AllApart, IsOrderOf, no_path, IsBestPath, AreBestPaths, IsLeastSum}
 use Rattle.tsp_families.proofs.Lists.{Within, weaker, within_or_apart, no_more, run_has, run_range, run_once, cycle_from}
 use Rattle.tsp_families.proofs.Walks.{length_to, turned_length}
 use Rattle.tsp_families.proofs.PartWalks.{cycle_has}
@@ -179,32 +180,32 @@ alone cost least is = record {
 one_place : (n k : ℕ) → 1 + k ≡ (1 - 1) * n + (k + 2 - 1)
 one_place n k = omega arith
 
-pub least_of_paths : (n least : ℕ) (costs paths : List ℕ) → 2 ≤ n → n ≤ 14 → ((k : ℕ) → slice_index costs k < 2 ^ 32) → length paths ≡ 2 ^ (n - 1) * (n - 1) → AreBest n (by_rows n costs) paths
-    → IsLeastSum no_path costs paths 1 ((2 ^ (n - 1) - 1) * (n - 1)) (n - 1) least → IsLeastLength n (as_whole (by_rows n costs)) (pos least)
-least_of_paths n least costs paths more few small long best sum = least_from n (by_rows n costs) least more few (λ i j. small ((i - 1) * n + (j - 1))) below (found sum.found)
+pub least_of_paths : (n least : ℕ) (costs paths : List ℕ) → 2 ≤ n → n ≤ 14 → ((k : ℕ) → slice_index costs k < 2 ^ 32) → length paths ≡ 2 ^ (n - 1) * (n - 1) → AreBestPaths n (cost_by_rows n costs) paths
+    → IsLeastSum no_path costs paths 1 ((2 ^ (n - 1) - 1) * (n - 1)) (n - 1) least → IsLeastLength n (as_whole (cost_by_rows n costs)) (pos least)
+least_of_paths n least costs paths more few small long best sum = least_from n (cost_by_rows n costs) least more few (λ i j. small ((i - 1) * n + (j - 1))) below (found sum.found)
   where
-    step : (k : ℕ) → slice_index costs (1 + k) ≡ by_rows n costs 1 (k + 2)
+    step : (k : ℕ) → slice_index costs (1 + k) ≡ cost_by_rows n costs 1 (k + 2)
     step k = ap (slice_index costs) (one_place n k)
 
-    at : (k : ℕ) → k < n - 1 → IsBest n (by_rows n costs) (2 ^ (n - 1) - 1) (k + 2) (slice_index paths ((2 ^ (n - 1) - 1) * (n - 1) + k))
+    at : (k : ℕ) → k < n - 1 → IsBestPath n (cost_by_rows n costs) (2 ^ (n - 1) - 1) (k + 2) (slice_index paths ((2 ^ (n - 1) - 1) * (n - 1) + k))
     at k lt = best (2 ^ (n - 1) - 1) k lt (inside (2 ^ (n - 1) - 1) (2 ^ (n - 1)) (n - 1) k (length paths) (omega (arith, pow_pos (n - 1))) lt (omega (arith, long)))
 
-    below_at : (k x : ℕ) (rest : List ℕ) → k < n - 1 → x ≡ k + 2 → IsOrderOf n (2 ^ (n - 1) - 1) (x ∷ rest) → least ≤ length_from_one (by_rows n costs) x rest
+    below_at : (k x : ℕ) (rest : List ℕ) → k < n - 1 → x ≡ k + 2 → IsOrderOf n (2 ^ (n - 1) - 1) (x ∷ rest) → least ≤ length_from_one (cost_by_rows n costs) x rest
     below_at k x rest lt is order =
         let left = (at k lt).below rest (subst (λ (y : ℕ). IsOrderOf n (2 ^ (n - 1) - 1) (y ∷ rest)) is order) in
-        let all : least ≤ length_from_one (by_rows n costs) (k + 2) rest = omega (arith, sum.below k lt, left, step k) in
-        subst (λ (y : ℕ). least ≤ length_from_one (by_rows n costs) y rest) (sym is) all
+        let all : least ≤ length_from_one (cost_by_rows n costs) (k + 2) rest = omega (arith, sum.below k lt, left, step k) in
+        subst (λ (y : ℕ). least ≤ length_from_one (cost_by_rows n costs) y rest) (sym is) all
 
-    below : IsBelowAll n (by_rows n costs) least
+    below : IsBelowAll n (cost_by_rows n costs) least
     below x rest order = below_at (x - 2) x rest (omega (arith, order.range.0)) (omega (arith, order.range.0)) order
 
-    next : (k : ℕ) → least ≡ slice_index costs (1 + k) + slice_index paths ((2 ^ (n - 1) - 1) * (n - 1) + k) → IsFound n (by_rows n costs) (2 ^ (n - 1) - 1) (k + 2) (slice_index paths ((2 ^ (n - 1) - 1) * (n - 1) + k))
-        → (least ≡ no_path) ⊎ ((x : ℕ) × (rest : List ℕ) × IsOrderOf n (2 ^ (n - 1) - 1) (x ∷ rest) × (least ≡ length_from_one (by_rows n costs) x rest))
+    next : (k : ℕ) → least ≡ slice_index costs (1 + k) + slice_index paths ((2 ^ (n - 1) - 1) * (n - 1) + k) → IsFound n (cost_by_rows n costs) (2 ^ (n - 1) - 1) (k + 2) (slice_index paths ((2 ^ (n - 1) - 1) * (n - 1) + k))
+        → (least ≡ no_path) ⊎ ((x : ℕ) × (rest : List ℕ) × IsOrderOf n (2 ^ (n - 1) - 1) (x ∷ rest) × (least ≡ length_from_one (cost_by_rows n costs) x rest))
     next k is (inl none) = inl (omega (arith, is, none, sum.below_start))
     next k is (inr path) = inr (k + 2, path.0, path.1, omega (arith, is, path.2, step k))
 
     found : (least ≡ no_path) ⊎ ((k : ℕ) × (k < n - 1) × (least ≡ slice_index costs (1 + k) + slice_index paths ((2 ^ (n - 1) - 1) * (n - 1) + k)))
-        → (least ≡ no_path) ⊎ ((x : ℕ) × (rest : List ℕ) × IsOrderOf n (2 ^ (n - 1) - 1) (x ∷ rest) × (least ≡ length_from_one (by_rows n costs) x rest))
+        → (least ≡ no_path) ⊎ ((x : ℕ) × (rest : List ℕ) × IsOrderOf n (2 ^ (n - 1) - 1) (x ∷ rest) × (least ≡ length_from_one (cost_by_rows n costs) x rest))
     found (inl none) = inl none
     found (inr sum_at) = next sum_at.0 sum_at.2 (at sum_at.0 sum_at.1).found
 
@@ -224,11 +225,17 @@ least_most n most least cost small is = go is.nodes is.cycle.count is.length_is
         let whole : most * (1 + length xs) ≡ most * n = ap (λ k. most * k) (omega (arith, count)) in
         omega (arith, ints, same, path, whole)
 
-pub small_cycle : (n most least : ℕ) (costs : List ℕ) → All (λ cost. cost ≤ most) costs → IsLeastLength n (as_whole (by_rows n costs)) (pos least) → least ≤ most * n
-small_cycle n most least costs small is = least_most n most least (by_rows n costs) each is
+pub small_cycle : (n most least : ℕ) (costs : List ℕ) → All (λ cost. cost ≤ most) costs → IsLeastLength n (as_whole (cost_by_rows n costs)) (pos least) → least ≤ most * n
+small_cycle n most least costs small is = least_most n most least (cost_by_rows n costs) each is
   where
-    each : (i j : ℕ) → by_rows n costs i j ≤ most
+    each : (i j : ℕ) → cost_by_rows n costs i j ≤ most
     each i j = elim (cases_lt ((i - 1) * n + (j - 1)) (length costs)) [
       | inl lt ↦ small ((i - 1) * n + (j - 1)) 0 lt
       | inr ge ↦ let none = get_or_past costs ((i - 1) * n + (j - 1)) 0 ge in omega (arith, none)
     ]
+
+pub small_largest : (largest most : ℕ) (costs : List ℕ) → All (λ cost. cost ≤ most) costs → IsLargest costs largest → largest ≤ most
+small_largest largest most costs small is = elim (cases_lt is.found.0 (length costs)) [
+  | inl lt ↦ let own = small is.found.0 0 lt in omega (arith, own, is.found.1)
+  | inr ge ↦ let none = get_or_past costs is.found.0 0 ge in omega (arith, none, is.found.1)
+]

@@ -15,12 +15,12 @@ use Rattle.std.proofs.lemmas.Nat.{div-add-mod', xor_block, ones_cat}
 use Rattle.tsp_format.specs.Cells.{IsNode}
 use Rattle.tsp_theory.specs.Length.{length_of}
 use Rattle.tsp_theory.proofs.Crossings.{one_if}
-use Rattle.tsp_families.specs.Crossed.{IsLeastLength, IsMostCost, has, sets_of, crossings, AreAlike, HasUnlike, AreTooMany}
+use Rattle.tsp_families.specs.Crossed.{IsLeastLength, IsMostCost, has, sets_of, sets_crossed, AreAlike, HasUnlike, AreTooMany}
 use Rattle.tsp_families.specs.Parts.{ArePartsOf, between}
-use Rattle.tsp_families.specs.Memberships.{membership, AreMemberships, IsPlace, AreDifferent, AreFirsts, MembershipsTellSets, IsLargest}
+use Rattle.tsp_families.specs.Memberships.{membership, AreMemberships, IsNodePlace, AreDifferent, AreFirsts, MembershipsTellSets, IsLargest}
 use Rattle.tsp_families.specs.FamilySets.{lists_of}
 use Rattle.tsp_families.specs.declared.comb_set.CombSet.{CombSet}
-use Rattle.tsp_families.specs.Paths.{by_rows, as_whole}
+use Rattle.tsp_families.specs.Paths.{cost_by_rows, as_whole}
 use Rattle.tsp_families.proofs.Walks.{length_to}
 use Rattle.tsp_families.proofs.PartWalks.{alike_crossings, part_found, unlike_nodes_need_parts}
 
@@ -146,37 +146,37 @@ differ_more memberships nodes node differ new = all_pairs_push (λ i j. slice_in
 
 -- ---- parts
 
-node_from : (n : ℕ) (memberships : List ℕ) (node : ℕ) → length memberships ≡ n + 1 → IsPlace memberships node → IsNode n node
+node_from : (n : ℕ) (memberships : List ℕ) (node : ℕ) → length memberships ≡ n + 1 → IsNodePlace memberships node → IsNode n node
 node_from n memberships node long h = (h.0, omega (arith, h.1, long))
 
-alike_from : (n : ℕ) (sets : List (ℕ → Bool)) (memberships : List ℕ) (i j : ℕ) → AreMemberships n sets memberships → IsPlace memberships i → IsPlace memberships j → slice_index memberships i ≡ slice_index memberships j → AreAlike sets i j
+alike_from : (n : ℕ) (sets : List (ℕ → Bool)) (memberships : List ℕ) (i j : ℕ) → AreMemberships n sets memberships → IsNodePlace memberships i → IsNodePlace memberships j → slice_index memberships i ≡ slice_index memberships j → AreAlike sets i j
 alike_from n sets memberships i j are in_i in_j same =
     All-from_recursion (λ set. set i ≡ set j) sets (alike_of_membership sets i j (sym (are.said i in_i.1) ∙ same ∙ are.said j in_j.1))
 
-differ_from : (n : ℕ) (sets : List (ℕ → Bool)) (memberships : List ℕ) (i j : ℕ) → AreMemberships n sets memberships → IsPlace memberships i → IsPlace memberships j → slice_index memberships i ≢ slice_index memberships j → AreAlike sets i j → ⊥
+differ_from : (n : ℕ) (sets : List (ℕ → Bool)) (memberships : List ℕ) (i j : ℕ) → AreMemberships n sets memberships → IsNodePlace memberships i → IsNodePlace memberships j → slice_index memberships i ≢ slice_index memberships j → AreAlike sets i j → ⊥
 differ_from n sets memberships i j are in_i in_j other alike =
     other (are.said i in_i.1 ∙ membership_of_alike sets i j (recursion_from_All (λ set. set i ≡ set j) sets alike) ∙ sym (are.said j in_j.1))
 
-pub places_from : (n : ℕ) (sets : List (ℕ → Bool)) (memberships firsts : List ℕ) → AreMemberships n sets memberships → All (IsNode n) firsts → All (IsPlace memberships) firsts
-places_from n sets memberships firsts are nodes = All-weaker (IsNode n) (IsPlace memberships) (λ node h. (h.0, omega (arith, h.1, are.count))) firsts nodes
+pub places_from : (n : ℕ) (sets : List (ℕ → Bool)) (memberships firsts : List ℕ) → AreMemberships n sets memberships → All (IsNode n) firsts → All (IsNodePlace memberships) firsts
+places_from n sets memberships firsts are nodes = All-weaker (IsNode n) (IsNodePlace memberships) (λ node h. (h.0, omega (arith, h.1, are.count))) firsts nodes
 
 pub parts_from : (n : ℕ) (sets : List (ℕ → Bool)) (memberships firsts : List ℕ) → AreMemberships n sets memberships → AreFirsts memberships firsts → ArePartsOf n sets firsts
 parts_from n sets memberships firsts are is = record {
-  nodes = All-weaker (IsPlace memberships) (IsNode n) (λ node h. node_from n memberships node are.count h) firsts is.places;
+  nodes = All-weaker (IsNodePlace memberships) (IsNode n) (λ node h. node_from n memberships node are.count h) firsts is.places;
   apart = λ i j d lt in_list. differ_from n sets memberships (get_or firsts i d) (get_or firsts j d) are (is.places i d (omega (arith, lt, in_list))) (is.places j d in_list) (is.differ i j d lt in_list);
   each = λ node h.
-      let place : IsPlace memberships node = (h.0, omega (arith, h.1, are.count)) in
+      let place : IsNodePlace memberships node = (h.0, omega (arith, h.1, are.count)) in
       let found = is.each node place in
-      let there : IsPlace memberships found.1 = subst (IsPlace memberships) found.3 (is.places found.0 found.1 found.2) in
+      let there : IsNodePlace memberships found.1 = subst (IsNodePlace memberships) found.3 (is.places found.0 found.1 found.2) in
       (found.0, found.1, found.2, found.3, alike_from n sets memberships node found.1 are place there found.4);
 }
 
 pub unlike_from : (n count : ℕ) (sets : List (ℕ → Bool)) (memberships : List ℕ) → AreMemberships n sets memberships
-    → (nodes : List ℕ) × (length nodes ≡ count) × All (IsPlace memberships) nodes × AreDifferent memberships nodes → HasUnlike count n sets
+    → (nodes : List ℕ) × (length nodes ≡ count) × All (IsNodePlace memberships) nodes × AreDifferent memberships nodes → HasUnlike count n sets
 unlike_from n count sets memberships are found = (
   found.0,
   found.1,
-  All-weaker (IsPlace memberships) (IsNode n) (λ node h. node_from n memberships node are.count h) found.0 found.2,
+  All-weaker (IsNodePlace memberships) (IsNode n) (λ node h. node_from n memberships node are.count h) found.0 found.2,
   λ i j d lt in_list. differ_from n sets memberships (get_or found.0 i d) (get_or found.0 j d) are (found.2 i d (omega (arith, lt, in_list))) (found.2 j d in_list) (found.3 i j d lt in_list),
 )
 
@@ -203,7 +203,7 @@ no_bits : pos (count_ones (bit_xor 0 0)) ≡ pos 0
 unfolding ones ones_in
 no_bits = refl
 
-pub crossings_by_memberships : (sets : List (ℕ → Bool)) (i j : ℕ) → pos (count_ones (bit_xor (membership sets i) (membership sets j))) ≡ crossings sets i j
+pub crossings_by_memberships : (sets : List (ℕ → Bool)) (i j : ℕ) → pos (count_ones (bit_xor (membership sets i) (membership sets j))) ≡ sets_crossed sets i j
 crossings_by_memberships [] i j = no_bits
 crossings_by_memberships (s ∷ ss) i j =
     let split = xor_block 1 (membership ss i) (membership ss j) (if s i then 1 else 0) (if s j then 1 else 0) (one_bit (s i)) (one_bit (s j)) in
@@ -237,25 +237,25 @@ same_least n c d least same is = record {
 
 -- ---- the costs that the code lists, which are those between parts
 
-module _ (n : ℕ) (sets : List (ℕ → Bool)) (memberships firsts costs : List ℕ) (are : AreMemberships n sets memberships) (places : All (IsPlace memberships) firsts)
+module _ (n : ℕ) (sets : List (ℕ → Bool)) (memberships firsts costs : List ℕ) (are : AreMemberships n sets memberships) (places : All (IsNodePlace memberships) firsts)
     (values : (a b : ℕ) → a < length firsts → b < length firsts
     → slice_index costs (a * length firsts + b) ≡ count_ones (bit_xor (slice_index memberships (slice_index firsts a)) (slice_index memberships (slice_index firsts b)))) where
   membership_at : (a : ℕ) → a < length firsts → slice_index memberships (slice_index firsts a) ≡ membership sets (slice_index firsts a)
   membership_at a lt = are.said (slice_index firsts a) (places a 0 lt).1
 
-  cost_at : (a b : ℕ) → a < length firsts → b < length firsts → pos (slice_index costs (a * length firsts + b)) ≡ crossings sets (slice_index firsts a) (slice_index firsts b)
+  cost_at : (a b : ℕ) → a < length firsts → b < length firsts → pos (slice_index costs (a * length firsts + b)) ≡ sets_crossed sets (slice_index firsts a) (slice_index firsts b)
   cost_at a b in_a in_b = ap pos (values a b in_a in_b ∙ ap₂ (λ x y. count_ones (bit_xor x y)) (membership_at a in_a) (membership_at b in_b))
       ∙ crossings_by_memberships sets (slice_index firsts a) (slice_index firsts b)
 
-  pub least_between : (least : ℤ) → IsLeastLength (length firsts) (as_whole (by_rows (length firsts) costs)) least → IsLeastLength (length firsts) (between sets firsts) least
-  least_between least is = same_least (length firsts) (as_whole (by_rows (length firsts) costs)) (between sets firsts) least
+  pub least_between : (least : ℤ) → IsLeastLength (length firsts) (as_whole (cost_by_rows (length firsts) costs)) least → IsLeastLength (length firsts) (between sets firsts) least
+  least_between least is = same_least (length firsts) (as_whole (cost_by_rows (length firsts) costs)) (between sets firsts) least
       (λ i j in_i in_j. cost_at (i - 1) (j - 1) (omega (arith, in_i.0, in_i.1)) (omega (arith, in_j.0, in_j.1))) is
 
   -- the largest of them is the most that two nodes cross
-  pub most_between : (largest : ℕ) → 1 ≤ n → length costs ≡ length firsts * length firsts → ArePartsOf n sets firsts → IsLargest costs largest → IsMostCost n (crossings sets) (pos largest)
+  pub most_between : (largest : ℕ) → 1 ≤ n → length costs ≡ length firsts * length firsts → ArePartsOf n sets firsts → IsLargest costs largest → IsMostCost n (sets_crossed sets) (pos largest)
   most_between largest some long parts is = found is.found.0 is.found.1 (cases_lt is.found.0 (length costs))
     where
-      above : (i j : ℕ) → IsNode n i → IsNode n j → crossings sets i j ≤ℤ pos largest
+      above : (i j : ℕ) → IsNode n i → IsNode n j → sets_crossed sets i j ≤ℤ pos largest
       above i j in_i in_j =
           let p = part_found n sets firsts i parts in_i in
           let q = part_found n sets firsts j parts in_j in
@@ -272,7 +272,7 @@ module _ (n : ℕ) (sets : List (ℕ → Bool)) (memberships firsts costs : List
       first_in : first < length firsts
       first_in = let p = part_found n sets firsts 1 parts (omega arith, some) in omega (arith, p.1.0.0, p.1.0.1)
 
-      at : (a b : ℕ) → a < length firsts → b < length firsts → largest ≡ slice_index costs (a * length firsts + b) → IsMostCost n (crossings sets) (pos largest)
+      at : (a b : ℕ) → a < length firsts → b < length firsts → largest ≡ slice_index costs (a * length firsts + b) → IsMostCost n (sets_crossed sets) (pos largest)
       at a b in_a in_b same = record {
         first = slice_index firsts a;
         second = slice_index firsts b;
@@ -282,13 +282,13 @@ module _ (n : ℕ) (sets : List (ℕ → Bool)) (memberships firsts costs : List
         above = above;
       }
 
-      none : largest ≡ 0 → IsMostCost n (crossings sets) (pos largest)
+      none : largest ≡ 0 → IsMostCost n (sets_crossed sets) (pos largest)
       none is_none = at first first first_in first_in (is_none ∙ sym (no_cost (is.above (first * length firsts + first)) is_none))
         where
           no_cost : slice_index costs (first * length firsts + first) ≤ largest → largest ≡ 0 → slice_index costs (first * length firsts + first) ≡ 0
           no_cost most is_zero = omega (arith, most, is_zero)
 
-      found : (k : ℕ) → largest ≡ slice_index costs k → (k < length costs) ⊎ (length costs ≤ k) → IsMostCost n (crossings sets) (pos largest)
+      found : (k : ℕ) → largest ≡ slice_index costs k → (k < length costs) ⊎ (length costs ≤ k) → IsMostCost n (sets_crossed sets) (pos largest)
       found k same (inl lt) =
           let m : ℕ = length firsts in
           let within : k < m * m = omega (arith, lt, long) in

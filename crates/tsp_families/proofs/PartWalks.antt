@@ -11,7 +11,7 @@ use Rattle.tsp_format.specs.Cells.{IsNode}
 use Rattle.tsp_theory.specs.Cycle.{IsCycle}
 use Rattle.tsp_theory.specs.Length.{length_of}
 use Rattle.tsp_theory.proofs.Crossings.{one_if}
-use Rattle.tsp_families.specs.Crossed.{crossings, AreAlike, AreUnlike}
+use Rattle.tsp_families.specs.Crossed.{sets_crossed, AreAlike, AreUnlike}
 use Rattle.tsp_families.specs.Parts.{ArePartsOf, between, PartsBoundCycles, LeastLengthsAreUnique, MostCostsAreUnique, UnlikeNodesNeedParts}
 use Rattle.tsp_families.specs.Paths.{AllApart}
 use Rattle.tsp_families.proofs.Lists.{Within, weaker, within_or_apart, no_more, run_has, apart_from_pairs}
@@ -29,15 +29,15 @@ turn_less false true false = omega (arith, ints)
 turn_less false false true = omega (arith, ints)
 turn_less false false false = omega (arith, ints)
 
-pub triangles : (sets : List (ℕ → Bool)) (i j k : ℕ) → crossings sets i k ≤ℤ (crossings sets i j +ℤ crossings sets j k)
+pub triangles : (sets : List (ℕ → Bool)) (i j k : ℕ) → sets_crossed sets i k ≤ℤ (sets_crossed sets i j +ℤ sets_crossed sets j k)
 triangles [] i j k = omega (arith, ints)
 triangles (s ∷ ss) i j k = omega (arith, ints, turn_less (s i) (s j) (s k), triangles ss i j k)
 
-same_crossings : (sets : List (ℕ → Bool)) (i j a b : ℕ) → AllByRecursion (λ set. set i ≡ set a) sets → AllByRecursion (λ set. set j ≡ set b) sets → crossings sets i j ≡ crossings sets a b
+same_crossings : (sets : List (ℕ → Bool)) (i j a b : ℕ) → AllByRecursion (λ set. set i ≡ set a) sets → AllByRecursion (λ set. set j ≡ set b) sets → sets_crossed sets i j ≡ sets_crossed sets a b
 same_crossings [] i j a b p q = refl
 same_crossings (s ∷ ss) i j a b p q = ap₂ (λ x y. x +ℤ y) (ap₂ (λ u v. one_if (cond u (not v) v)) p.0 q.0) (same_crossings ss i j a b p.1 q.1)
 
-pub alike_crossings : (sets : List (ℕ → Bool)) (i j a b : ℕ) → AreAlike sets i a → AreAlike sets j b → crossings sets i j ≡ crossings sets a b
+pub alike_crossings : (sets : List (ℕ → Bool)) (i j a b : ℕ) → AreAlike sets i a → AreAlike sets j b → sets_crossed sets i j ≡ sets_crossed sets a b
 alike_crossings sets i j a b p q = same_crossings sets i j a b (recursion_from_All (λ set. set i ≡ set a) sets p) (recursion_from_All (λ set. set j ≡ set b) sets q)
 
 pub alike_back : (sets : List (ℕ → Bool)) (i j : ℕ) → AreAlike sets i j → AreAlike sets j i
@@ -65,7 +65,7 @@ parts_found n sets firsts (x ∷ xs) is h =
 
 -- a walk through nodes crosses as often as one through their parts
 pub same_length : (sets : List (ℕ → Bool)) (firsts : List ℕ) (end e from f : ℕ) (nodes parts : List ℕ) → IsInPart sets firsts end e → IsInPart sets firsts from f → AllZip (IsInPart sets firsts) nodes parts
-    → length_to (crossings sets) end from nodes ≡ length_to (between sets firsts) e f parts
+    → length_to (sets_crossed sets) end from nodes ≡ length_to (between sets firsts) e f parts
 same_length sets firsts end e from f [] [] p q h = ap (λ z. z +ℤ pos 0) (alike_crossings sets from end (slice_index firsts (f - 1)) (slice_index firsts (e - 1)) q.1 p.1)
 same_length sets firsts end e from f [] (b ∷ bs) p q h = absurd h
 same_length sets firsts end e from f (a ∷ others) [] p q h = absurd h
@@ -118,7 +118,7 @@ parts_bound_cycles n sets firsts least nodes some is lengths cycle =
     let parts = parts_found n sets firsts nodes is range in
     go nodes parts.0 cycle parts.1
   where
-    go : (nodes parts : List ℕ) → IsCycle n nodes → AllZip (IsInPart sets firsts) nodes parts → least ≤ℤ length_of (crossings sets) nodes
+    go : (nodes parts : List ℕ) → IsCycle n nodes → AllZip (IsInPart sets firsts) nodes parts → least ≤ℤ length_of (sets_crossed sets) nodes
     go [] parts cycle zip = absurd (omega (arith, cycle.count, some))
     go (a ∷ nodes) [] cycle zip = absurd zip
     go (a ∷ nodes) (b ∷ parts) cycle zip =

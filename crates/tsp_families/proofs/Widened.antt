@@ -8,7 +8,7 @@ use Rattle.std.proofs.lemmas.List.Elements.{recursion_from_All}
 use Rattle.tsp_format.specs.Cells.{IsNode}
 use Rattle.tsp_theory.specs.Length.{length_of}
 use Rattle.tsp_theory.proofs.Crossings.{one_if}
-use Rattle.tsp_families.specs.Crossed.{IsLeastLength, crossings, AreAlike}
+use Rattle.tsp_families.specs.Crossed.{IsLeastLength, sets_crossed, AreAlike}
 use Rattle.tsp_families.specs.Parts.{ArePartsOf, between, PartsTellCycles}
 use Rattle.tsp_families.specs.Paths.{AllApart}
 use Rattle.tsp_families.proofs.Lists.{Within, within_or_apart, apart_from_pairs, cycle_from}
@@ -92,7 +92,7 @@ after_length cost u v (x ∷ xs) is = elim (cases_eq x u) [
   | inr other ↦ rw (ne_eqb x u other) (after_long cost u v x x xs is)
 ]
 
-no_crossings : (sets : List (ℕ → Bool)) (u : ℕ) → crossings sets u u ≡ pos 0
+no_crossings : (sets : List (ℕ → Bool)) (u : ℕ) → sets_crossed sets u u ≡ pos 0
 no_crossings [] u = refl
 no_crossings (s ∷ ss) u = omega (arith, ints, none (s u), no_crossings ss u)
   where
@@ -103,7 +103,7 @@ no_crossings (s ∷ ss) u = omega (arith, ints, none (s u), no_crossings ss u)
 alike_self : (sets : List (ℕ → Bool)) (u : ℕ) → AreAlike sets u u
 alike_self sets u = λ k d lt. refl
 
-crossings_as : (sets : List (ℕ → Bool)) (u v : ℕ) → AreAlike sets v u → IsAs (crossings sets) u v
+crossings_as : (sets : List (ℕ → Bool)) (u v : ℕ) → AreAlike sets v u → IsAs (sets_crossed sets) u v
 crossings_as sets u v alike = record {
   none = alike_crossings sets u v u u (alike_self sets u) alike ∙ no_crossings sets u;
   same = λ x. alike_crossings sets v x u x alike (alike_self sets x);
@@ -115,11 +115,11 @@ abbrev first_of : List ℕ → ℕ → ℕ
 first_of firsts part = slice_index firsts (part - 1)
 
 mapped_to : (sets : List (ℕ → Bool)) (firsts : List ℕ) (end from : ℕ) (parts : List ℕ)
-    → length_to (between sets firsts) end from parts ≡ length_to (crossings sets) (first_of firsts end) (first_of firsts from) (map (first_of firsts) parts)
+    → length_to (between sets firsts) end from parts ≡ length_to (sets_crossed sets) (first_of firsts end) (first_of firsts from) (map (first_of firsts) parts)
 mapped_to sets firsts end from [] = refl
 mapped_to sets firsts end from (p ∷ ps) = ap (λ z. between sets firsts from p +ℤ z) (mapped_to sets firsts end p ps)
 
-mapped : (sets : List (ℕ → Bool)) (firsts parts : List ℕ) → length_of (between sets firsts) parts ≡ length_of (crossings sets) (map (first_of firsts) parts)
+mapped : (sets : List (ℕ → Bool)) (firsts parts : List ℕ) → length_of (between sets firsts) parts ≡ length_of (sets_crossed sets) (map (first_of firsts) parts)
 mapped sets firsts [] = refl
 mapped sets firsts (p ∷ ps) = mapped_to sets firsts p p ps
 
@@ -150,7 +150,7 @@ firsts_once n sets firsts (p ∷ ps) is h once = (firsts_apart n sets firsts ps 
 pub record IsWide (n k : ℕ) (sets : List (ℕ → Bool)) (firsts : List ℕ) (least : ℤ) (nodes : List ℕ) : Type 0 where
   pub range : AllByRecursion (IsNode n) nodes
   pub once : AllApart nodes
-  pub length_is : least ≡ length_of (crossings sets) nodes
+  pub length_is : least ≡ length_of (sets_crossed sets) nodes
   pub has_firsts : (part : ℕ) → IsNode (length firsts) part → Within nodes (first_of firsts part)
   pub has : (x : ℕ) → IsNode k x → Within nodes x
 
@@ -177,7 +177,7 @@ wider n k sets firsts least nodes is below wide = elim (within_or_apart (suc k) 
         record {
           range = after_all (IsNode n) u (suc k) nodes (omega arith, below) wide.range;
           once = after_once u (suc k) nodes wide.once apart;
-          length_is = wide.length_is ∙ sym (after_length (crossings sets) u (suc k) nodes (crossings_as sets u (suc k) part.1.1));
+          length_is = wide.length_is ∙ sym (after_length (sets_crossed sets) u (suc k) nodes (crossings_as sets u (suc k) part.1.1));
           has_firsts = λ p in_p. after_has u (suc k) nodes (first_of firsts p) (wide.has_firsts p in_p);
           has = λ x node. elim (cases_eq (suc k) x) [
             | inl same ↦ subst (Within (after u (suc k) nodes)) same (after_new u (suc k) nodes (wide.has_firsts part.0 part.1.0))

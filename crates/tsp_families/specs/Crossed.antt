@@ -32,8 +32,8 @@ abbrev pub sets_of : List (List ℕ) → List (ℕ → Bool)
 sets_of lists = map has lists
 
 -- how many sets have one of two nodes and not the other
-abbrev pub crossings : List (ℕ → Bool) → ℕ → ℕ → ℤ
-crossings sets i j = sum_int_by (λ set. crossing set i j) sets
+abbrev pub sets_crossed : List (ℕ → Bool) → ℕ → ℕ → ℤ
+sets_crossed sets i j = sum_int_by (λ set. crossing set i j) sets
 
 -- ---- parts: two nodes are in one part exactly where the same sets have them
 

@@ -14,8 +14,8 @@ pub record AreMemberships (n : ℕ) (sets : List (ℕ → Bool)) (memberships : 
   pub said : (node : ℕ) → node < length memberships → slice_index memberships node ≡ membership sets node
 
 -- a place from 1 on
-abbrev pub IsPlace : List ℕ → ℕ → Type 0
-IsPlace memberships node = (1 ≤ node) × (node < length memberships)
+abbrev pub IsNodePlace : List ℕ → ℕ → Type 0
+IsNodePlace memberships node = (1 ≤ node) × (node < length memberships)
 
 -- places of different numbers
 abbrev pub AreDifferent : List ℕ → List ℕ → Type 0
@@ -23,9 +23,9 @@ AreDifferent memberships nodes = AllPairs (λ i j. slice_index memberships i ≢
 
 -- one place of each number in the list from its place 1 on
 pub record AreFirsts (memberships firsts : List ℕ) : Type 0 where
-  pub places : All (IsPlace memberships) firsts
+  pub places : All (IsNodePlace memberships) firsts
   pub differ : AreDifferent memberships firsts
-  pub each : (node : ℕ) → IsPlace memberships node → Any (λ first. slice_index memberships node ≡ slice_index memberships first) firsts
+  pub each : (node : ℕ) → IsNodePlace memberships node → Any (λ first. slice_index memberships node ≡ slice_index memberships first) firsts
 
 -- Two nodes have one membership exactly where they are in the same sets.
 abbrev pub MembershipsTellSets : Type 0

@@ -4,7 +4,7 @@ use Rattle.std.specs.List.{All, Any}
 use Rattle.tsp_format.specs.Cells.{IsNode}
 use Rattle.tsp_theory.specs.Cycle.{IsCycle}
 use Rattle.tsp_theory.specs.Length.{length_of}
-use Rattle.tsp_families.specs.Crossed.{IsLeastLength, IsMostCost, crossings, AreAlike, AreUnlike}
+use Rattle.tsp_families.specs.Crossed.{IsLeastLength, IsMostCost, sets_crossed, AreAlike, AreUnlike}
 
 -- one node of each part: each node of 1..n is in the same sets as one of them, and no two of them are
 pub record ArePartsOf (n : ℕ) (sets : List (ℕ → Bool)) (firsts : List ℕ) : Type 0 where
@@ -14,7 +14,7 @@ pub record ArePartsOf (n : ℕ) (sets : List (ℕ → Bool)) (firsts : List ℕ)
 
 -- the crossings between two parts, which are numbered from 1 on
 abbrev pub between : List (ℕ → Bool) → List ℕ → ℕ → ℕ → ℤ
-between sets firsts a b = crossings sets (slice_index firsts (a - 1)) (slice_index firsts (b - 1))
+between sets firsts a b = sets_crossed sets (slice_index firsts (a - 1)) (slice_index firsts (b - 1))
 
 -- parts by a number for each node: each of 1..m is that of a node, and the nodes with one number are in the same sets
 pub record IsDivision (n m : ℕ) (sets : List (ℕ → Bool)) (part_of : ℕ → ℕ) : Type 0 where
@@ -28,20 +28,20 @@ pub record IsDivision (n m : ℕ) (sets : List (ℕ → Bool)) (part_of : ℕ �
 abbrev pub DivisionsBoundCycles : Type 0
 DivisionsBoundCycles = (n m : ℕ) (sets : List (ℕ → Bool)) (part_of : ℕ → ℕ) (cost : ℕ → ℕ → ℤ) (least : ℤ) (nodes : List ℕ)
     → 1 ≤ n → IsDivision n m sets part_of
-    → ((i j : ℕ) → IsNode n i → IsNode n j → cost (part_of i) (part_of j) ≡ crossings sets i j)
-    → IsLeastLength m cost least → IsCycle n nodes → least ≤ℤ length_of (crossings sets) nodes
+    → ((i j : ℕ) → IsNode n i → IsNode n j → cost (part_of i) (part_of j) ≡ sets_crossed sets i j)
+    → IsLeastLength m cost least → IsCycle n nodes → least ≤ℤ length_of (sets_crossed sets) nodes
 
 -- Every cycle crosses the sets at least as often as the best cyclic order of their parts.
 abbrev pub PartsBoundCycles : Type 0
 PartsBoundCycles = (n : ℕ) (sets : List (ℕ → Bool)) (firsts : List ℕ) (least : ℤ) (nodes : List ℕ)
     → 1 ≤ n → ArePartsOf n sets firsts → IsLeastLength (length firsts) (between sets firsts) least
-    → IsCycle n nodes → least ≤ℤ length_of (crossings sets) nodes
+    → IsCycle n nodes → least ≤ℤ length_of (sets_crossed sets) nodes
 
 -- And some cycle crosses them no more often.
 abbrev pub PartsTellCycles : Type 0
 PartsTellCycles = (n : ℕ) (sets : List (ℕ → Bool)) (firsts : List ℕ) (least : ℤ)
     → 1 ≤ n → ArePartsOf n sets firsts → IsLeastLength (length firsts) (between sets firsts) least
-    → IsLeastLength n (crossings sets) least
+    → IsLeastLength n (sets_crossed sets) least
 
 -- There is one least length, and one greatest cost.
 abbrev pub LeastLengthsAreUnique : Type 0

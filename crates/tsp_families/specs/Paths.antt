@@ -5,8 +5,8 @@ use Rattle.std.specs.List.{AllByRecursion}
 use Rattle.tsp_theory.specs.Tree.{IsInner}
 
 -- costs between the nodes 1..n, listed by rows
-abbrev pub by_rows : ℕ → List ℕ → ℕ → ℕ → ℕ
-by_rows n costs i j = slice_index costs ((i - 1) * n + (j - 1))
+abbrev pub cost_by_rows : ℕ → List ℕ → ℕ → ℕ → ℕ
+cost_by_rows n costs i j = slice_index costs ((i - 1) * n + (j - 1))
 
 abbrev pub as_whole : (ℕ → ℕ → ℕ) → ℕ → ℕ → ℤ
 as_whole cost i j = pos (cost i j)
@@ -37,15 +37,15 @@ abbrev pub no_path : ℕ
 no_path = 2 ^ 60
 
 -- the least length of the paths from a node of the set through all others of it to node 1
-pub record IsBest (n : ℕ) (cost : ℕ → ℕ → ℕ) (set node best : ℕ) : Type 0 where
+pub record IsBestPath (n : ℕ) (cost : ℕ → ℕ → ℕ) (set node best : ℕ) : Type 0 where
   pub most : best ≤ no_path
   pub below : (rest : List ℕ) → IsOrderOf n set (node ∷ rest) → best ≤ path_length cost node rest
   pub found : (best ≡ no_path) ⊎ ((rest : List ℕ) × IsOrderOf n set (node ∷ rest) × (best ≡ path_length cost node rest))
 
 -- the best paths of all sets and nodes, listed set by set, as far as the list goes
-abbrev pub AreBest : ℕ → (ℕ → ℕ → ℕ) → List ℕ → Type 0
-AreBest n cost table = (set other : ℕ) → other < n - 1 → set * (n - 1) + other < length table
-    → IsBest n cost set (other + 2) (slice_index table (set * (n - 1) + other))
+abbrev pub AreBestPaths : ℕ → (ℕ → ℕ → ℕ) → List ℕ → Type 0
+AreBestPaths n cost table = (set other : ℕ) → other < n - 1 → set * (n - 1) + other < length table
+    → IsBestPath n cost set (other + 2) (slice_index table (set * (n - 1) + other))
 
 -- the least of a number and of sums of two numbers at the same place of two lists
 pub record IsLeastSum (start : ℕ) (costs paths : List ℕ) (cost_at path_at count least : ℕ) : Type 0 where

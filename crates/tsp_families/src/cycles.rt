@@ -2,7 +2,7 @@
 
 ghost use Rattle.std.specs.Prelude.{◌≡◌, ◌*◌, ◌≤◌, pos, length, IfOk};
 ghost use Rattle.tsp_families.specs.Crossed.{IsLeastLength};
-ghost use Rattle.tsp_families.specs.Paths.{by_rows, as_whole};
+ghost use Rattle.tsp_families.specs.Paths.{cost_by_rows, as_whole};
 
 use crate::paths::{NO_PATH, best_paths, least_sum, power};
 use std::alloc::{AllocError, Global};
@@ -16,7 +16,7 @@ pub fn least_cycle(alloc: Global, costs: &[u32], nodes: usize) -> Result<u64, Al
     requires some { 1 ≤ nodes }
     requires few { nodes ≤ 14 }
     requires square { length costs.now ≡ nodes * nodes }
-    ensures { IfOk result (λ least. IsLeastLength nodes (as_whole (by_rows nodes costs.now)) (pos least)) }
+    ensures { IfOk result (λ least. IsLeastLength nodes (as_whole (cost_by_rows nodes costs.now)) (pos least)) }
 {
     if nodes == 1 {
         return Ok(u64::from(costs[0]));

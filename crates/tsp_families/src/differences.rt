@@ -2,7 +2,7 @@
 
 ghost use Rattle.std.specs.Prelude.{◌≡◌, ◌≤◌, ◌<◌, ◌+◌, ◌*◌, ℕ, IfOk, length, count_ones, bit_xor, slice_index};
 ghost use Rattle.std.specs.List.{All};
-ghost use Rattle.tsp_families.specs.Memberships.{IsPlace};
+ghost use Rattle.tsp_families.specs.Memberships.{IsNodePlace};
 
 use std::alloc::{AllocError, Global};
 
@@ -17,7 +17,7 @@ pub(crate) fn crossings_between(
     firsts: &[u32],
 ) -> Result<Vec<u32>, AllocError>
     requires few { length firsts.now ≤ 14 }
-    requires places { All (IsPlace memberships.now) firsts.now }
+    requires places { All (IsNodePlace memberships.now) firsts.now }
     ensures long { IfOk result (λ costs. length costs.items ≡ length firsts.now * length firsts.now) }
     ensures small { IfOk result (λ costs. All (λ cost. cost ≤ 64) costs.items) }
     ensures values { IfOk result (λ costs. (a b : ℕ) → a < length firsts.now → b < length firsts.now

@@ -1,7 +1,7 @@
 //! How often cycles cross a family of sets.
 
 ghost use Rattle.std.specs.Prelude.{◌≤◌, ◌<◌, ◌-◌, ◌^◌, pos, MatchOption, IfOk, IfSome};
-ghost use Rattle.tsp_families.specs.Crossed.{sets_of, crossings, IsLeastLength, IsMostCost, AreTooMany};
+ghost use Rattle.tsp_families.specs.Crossed.{sets_of, sets_crossed, IsLeastLength, IsMostCost, AreTooMany};
 ghost use Rattle.tsp_families.specs.Memberships.{IsLargest};
 ghost use Rattle.tsp_families.specs.FamilySets.{AreSetsOf, lists_of};
 
@@ -21,7 +21,7 @@ pub struct Crossings {
     /// The least number of times that a cycle crosses them.
     pub least: u64,
     /// The most of them that two nodes cross.
-    pub most: u32,
+    pub most: u64,
 }
 
 /// How often the sets of a family are crossed. `None` where there are more than 63 of them, or where
@@ -40,11 +40,11 @@ pub fn family_crossings(
     requires few { nodes < 2 ^ 32 - 1 }
     requires nodes { AreSetsOf nodes sets.now }
     ensures least { IfOk result (λ found. MatchOption found (AreTooMany nodes (sets_of (lists_of sets.now)))
-        (λ own. IsLeastLength nodes (crossings (sets_of (lists_of sets.now))) (pos own.least))) }
+        (λ own. IsLeastLength nodes (sets_crossed (sets_of (lists_of sets.now))) (pos own.least))) }
     ensures most { IfOk result (λ found. IfSome found
-        (λ own. IsMostCost nodes (crossings (sets_of (lists_of sets.now))) (pos own.most))) }
+        (λ own. IsMostCost nodes (sets_crossed (sets_of (lists_of sets.now))) (pos own.most))) }
     ensures known { IfOk result (λ found. IfSome found (λ own. AreTooMany nodes (sets_of (lists_of sets.now)) → ⊥)) }
-    ensures few { IfOk result (λ found. IfSome found (λ own. own.least ≤ 896)) }
+    ensures few { IfOk result (λ found. IfSome found (λ own. (own.least ≤ 896) × (own.most ≤ 64))) }
 {
     if sets.len() > MOST_SETS {
         return Ok(None);
@@ -55,7 +55,7 @@ pub fn family_crossings(
     };
     let costs = crossings_between(alloc, &parts.memberships, &parts.firsts)?;
     let least = least_cycle(alloc, &costs, parts.firsts.len())?;
-    let most = largest(&costs);
+    let most = u64::from(largest(&costs));
     parts_tell_cycles();
     Ok(Some(Crossings { least, most }))
 }

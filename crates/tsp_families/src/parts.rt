@@ -4,7 +4,7 @@ ghost use Rattle.std.specs.Prelude.{◌≡◌, ◌≤◌, ◌<◌, ◌+◌, ◌-
 ghost use Rattle.std.specs.List.{All, Any};
 ghost use Rattle.tsp_families.specs.Crossed.{sets_of, HasUnlike};
 ghost use Rattle.tsp_families.specs.Parts.{ArePartsOf};
-ghost use Rattle.tsp_families.specs.Memberships.{AreMemberships, IsPlace, AreDifferent, AreFirsts};
+ghost use Rattle.tsp_families.specs.Memberships.{AreMemberships, IsNodePlace, AreDifferent, AreFirsts};
 ghost use Rattle.tsp_families.specs.FamilySets.{AreSetsOf, lists_of};
 
 use crate::comb_set::CombSet;
@@ -54,7 +54,7 @@ pub fn parts_of(alloc: Global, nodes: u32, sets: &[CombSet]) -> Result<Option<Pa
 fn firsts_of(alloc: Global, memberships: &[u64]) -> Result<Option<Vec<u32>>, AllocError>
     requires { length memberships.now < 2 ^ 32 }
     ensures firsts { IfOk result (λ found. MatchOption found
-        ((nodes : List ℕ) × (length nodes ≡ 15) × All (IsPlace memberships.now) nodes × AreDifferent memberships.now nodes)
+        ((nodes : List ℕ) × (length nodes ≡ 15) × All (IsNodePlace memberships.now) nodes × AreDifferent memberships.now nodes)
         (λ firsts. AreFirsts memberships.now firsts.items)) }
     ensures few { IfOk result (λ found. IfSome found (λ firsts. length firsts.items ≤ 14)) }
 {
@@ -72,7 +72,7 @@ fn firsts_of(alloc: Global, memberships: &[u64]) -> Result<Option<Vec<u32>>, All
 
 /// Whether one of these nodes has the membership.
 fn has_membership(memberships: &[u64], nodes: &[u32], membership: u64) -> bool
-    requires { All (IsPlace memberships.now) nodes.now }
+    requires { All (IsNodePlace memberships.now) nodes.now }
     ensures { IsTrue result ↔ Any (λ node. membership ≡ slice_index memberships.now node) nodes.now }
 {
     'nodes: for node in nodes {

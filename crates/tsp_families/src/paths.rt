@@ -2,7 +2,7 @@
 
 ghost use Rattle.std.specs.Prelude.{◌≡◌, ℕ, ◌+◌, ◌-◌, ◌*◌, ◌^◌, ◌<◌, ◌≤◌, length, IfOk};
 ghost use Rattle.std.specs.List.{All};
-ghost use Rattle.tsp_families.specs.Paths.{by_rows, no_path, IsBest, AreBest, IsLeastSum};
+ghost use Rattle.tsp_families.specs.Paths.{cost_by_rows, no_path, IsBestPath, AreBestPaths, IsLeastSum};
 
 use std::alloc::{AllocError, Global};
 
@@ -43,8 +43,8 @@ fn best_path(costs: &[u32], nodes: usize, paths: &[u64], set: usize, other: usiz
     requires other { other < nodes - 1 }
     requires paths { set * (nodes - 1) ≤ length paths.now }
     requires small { All (λ path. path ≤ no_path) paths.now }
-    requires best { AreBest nodes (by_rows nodes costs.now) paths.now }
-    ensures { IsBest nodes (by_rows nodes costs.now) set (other + 2) result }
+    requires best { AreBestPaths nodes (cost_by_rows nodes costs.now) paths.now }
+    ensures { IsBestPath nodes (cost_by_rows nodes costs.now) set (other + 2) result }
 {
     let others = nodes - 1;
     let bit = power(other);
@@ -80,7 +80,7 @@ pub(crate) fn best_paths(alloc: Global, costs: &[u32], nodes: usize) -> Result<V
     requires square { length costs.now ≡ nodes * nodes }
     ensures long { IfOk result (λ paths. length paths.items ≡ 2 ^ (nodes - 1) * (nodes - 1)) }
     ensures small { IfOk result (λ paths. All (λ path. path ≤ no_path) paths.items) }
-    ensures best { IfOk result (λ paths. AreBest nodes (by_rows nodes costs.now) paths.items) }
+    ensures best { IfOk result (λ paths. AreBestPaths nodes (cost_by_rows nodes costs.now) paths.items) }
 {
     let others = nodes - 1;
     let count = power(others);

@@ -1,13 +1,13 @@
 use Rattle.std.proofs.Common.{ℕ, ◌-◌, ◌*◌, ◌≤◌, List, sym, subst, arith}
 use Rattle.std.specs.Prelude.{pos}
 use Rattle.tsp_families.specs.Crossed.{IsLeastLength}
-use Rattle.tsp_families.specs.Paths.{by_rows, as_whole, no_path, IsLeastSum}
+use Rattle.tsp_families.specs.Paths.{cost_by_rows, as_whole, no_path, IsLeastSum}
 use Rattle.tsp_families.proofs.LeastCycles.{alone, least_of_paths}
 use Rattle.tsp_families.proofs.cycles.least_cycle.Goals as goal
 
 pub returns-then-nodes-eq1 : goal.returns-then-nodes-eq1
 returns-then-nodes-eq1 c =
-    subst (λ (n : ℕ). IsLeastLength n (as_whole (by_rows n c.args.costs.now)) (pos c.from.result)) (sym c.if-nodes-eq1.true) (alone (by_rows 1 c.args.costs.now) c.from.result c.from.ensures)
+    subst (λ (n : ℕ). IsLeastLength n (as_whole (cost_by_rows n c.args.costs.now)) (pos c.from.result)) (sym c.if-nodes-eq1.true) (alone (cost_by_rows 1 c.args.costs.now) c.from.result c.from.ensures)
 
 pub returns : goal.returns
 returns c =

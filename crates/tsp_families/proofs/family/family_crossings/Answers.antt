@@ -1,12 +1,12 @@
 use Rattle.std.proofs.Common.{◌≡◌, ℕ, Bool, List, length, arith, ap, sym, ◌∙◌, subst}
 use Rattle.std.specs.Prelude.{pos, ◌≤◌}
 use Rattle.std.specs.List.{All}
-use Rattle.tsp_families.specs.Crossed.{sets_of, IsLeastLength}
+use Rattle.tsp_families.specs.Crossed.{sets_of, sets_crossed, IsLeastLength, IsMostCost}
 use Rattle.tsp_families.specs.Parts.{ArePartsOf}
 use Rattle.tsp_families.specs.Memberships.{AreMemberships, IsLargest}
 use Rattle.tsp_families.specs.FamilySets.{lists_of}
-use Rattle.tsp_families.specs.Paths.{by_rows, as_whole}
-use Rattle.tsp_families.proofs.LeastCycles.{small_cycle}
+use Rattle.tsp_families.specs.Paths.{cost_by_rows, as_whole}
+use Rattle.tsp_families.proofs.LeastCycles.{small_cycle, small_largest}
 use Rattle.tsp_families.proofs.NodeMembers.{places_from, least_between, most_between, few_parts, sets_long}
 use Rattle.tsp_families.proofs.family.family_crossings.Goals as goal
 
@@ -23,9 +23,9 @@ returns-clause-least c =
     let parts : ArePartsOf n sets firsts = subst (ArePartsOf n sets) (sym c.deref-2.ensures.value) found in
     let are : AreMemberships n sets memberships = subst (AreMemberships n sets) (sym c.deref.ensures.value) told in
     let count : c.len.result ≡ length firsts = c.len.ensures ∙ sym c.deref-2.ensures.len in
-    let shortest : IsLeastLength (length firsts) (as_whole (by_rows (length firsts) costs)) (pos least) =
-    subst (λ (m : ℕ). IsLeastLength m (as_whole (by_rows m costs)) (pos least)) count c.in_ok-least.ensures in
-    let listed = subst (λ (xs : List ℕ). IsLeastLength (length firsts) (as_whole (by_rows (length firsts) xs)) (pos least)) c.deref-3.ensures.value shortest in
+    let shortest : IsLeastLength (length firsts) (as_whole (cost_by_rows (length firsts) costs)) (pos least) =
+    subst (λ (m : ℕ). IsLeastLength m (as_whole (cost_by_rows m costs)) (pos least)) count c.in_ok-least.ensures in
+    let listed = subst (λ (xs : List ℕ). IsLeastLength (length firsts) (as_whole (cost_by_rows (length firsts) xs)) (pos least)) c.deref-3.ensures.value shortest in
     let whole = least_between n sets memberships firsts c.in_ok-costs.costs.items are (places_from n sets memberships firsts are parts.nodes) c.in_ok-costs.ensures.values (pos least) listed in
     c.parts_tell_cycles.ensures n sets firsts (pos least) c.requires.some parts whole
 
@@ -40,9 +40,10 @@ returns-clause-most c =
     let told : AreMemberships n sets c.in-Some.parts.memberships.items = rw c.in-Some.is at c.in_ok-found.ensures.memberships in
     let parts : ArePartsOf n sets firsts = subst (ArePartsOf n sets) (sym c.deref-2.ensures.value) found in
     let are : AreMemberships n sets memberships = subst (AreMemberships n sets) (sym c.deref.ensures.value) told in
-    let most : IsLargest costs c.largest-most.result = subst (λ (xs : List ℕ). IsLargest xs c.largest-most.result) c.deref-4.ensures.value c.largest-most.ensures in
-    most_between n sets memberships firsts costs are (places_from n sets memberships firsts are parts.nodes) c.in_ok-costs.ensures.values c.largest-most.result
-    c.requires.some c.in_ok-costs.ensures.long parts most
+    let most : IsLargest costs c.largest.result = subst (λ (xs : List ℕ). IsLargest xs c.largest.result) c.deref-4.ensures.value c.largest.ensures in
+    subst (λ (z : ℕ). IsMostCost n (sets_crossed sets) (pos z)) (sym c.from-most.ensures)
+    (most_between n sets memberships firsts costs are (places_from n sets memberships firsts are parts.nodes) c.in_ok-costs.ensures.values c.largest.result
+    c.requires.some c.in_ok-costs.ensures.long parts most)
 
 pub returns-clause-few : goal.returns-clause-few
 returns-clause-few c =
@@ -51,7 +52,9 @@ returns-clause-few c =
     let least = small_cycle c.len.result 64 c.in_ok-least.least costs small c.in_ok-least.ensures in
     let few : length c.in-Some.parts.firsts.items ≤ 14 = rw c.in-Some.is at c.in_ok-found.ensures.few in
     let count : c.len.result ≡ length c.in-Some.parts.firsts.items = c.len.ensures ∙ sym c.deref-2.ensures.len ∙ ap length c.deref-2.ensures.value in
-    omega (arith, least, few, count)
+    let largest : IsLargest c.in_ok-costs.costs.items c.largest.result = subst (λ (xs : List ℕ). IsLargest xs c.largest.result) c.deref-4.ensures.value c.largest.ensures in
+    let most = small_largest c.largest.result 64 c.in_ok-costs.costs.items c.in_ok-costs.ensures.small largest in
+    (omega (arith, least, few, count), omega (arith, most, c.from-most.ensures))
 
 pub returns-clause-known : goal.returns-clause-known
 returns-clause-known c =

@@ -3,7 +3,7 @@ use Rattle.std.specs.List.{All, Any}
 use Rattle.std.proofs.lemmas.Bool.{cases_eq, iff_false}
 use Rattle.std.proofs.lemmas.List.Elements.{All-push}
 use Rattle.std.proofs.lemmas.List.Quantifiers.{Any-push}
-use Rattle.tsp_families.specs.Memberships.{IsPlace, AreDifferent}
+use Rattle.tsp_families.specs.Memberships.{IsNodePlace, AreDifferent}
 use Rattle.tsp_families.proofs.NodeMembers.{any_more, differ_more}
 use Rattle.tsp_families.proofs.parts.firsts_of.Goals.{then-not-has_membership+else-len-ge-MOST_PARTS+in_ok-push, else-not-has_membership}
 use Rattle.tsp_families.proofs.parts.firsts_of.Goals as goal
@@ -16,10 +16,10 @@ returns-then-len-ge-MOST_PARTS-clause-firsts c =
     let h = c.nodes.invariant in
     let new : Any (λ first. get_or memberships node 0 ≡ get_or memberships first 0) firsts → ⊥ = λ found. iff_false c.has_membership.ensures c.if-not-has_membership.true
     (subst (Any (λ first. get_or memberships node 0 ≡ get_or memberships first 0)) (sym c.deref.ensures.value) found) in
-    let place : IsPlace memberships node = (omega arith, omega (arith, c.nodes-test.true)) in (
+    let place : IsNodePlace memberships node = (omega arith, omega (arith, c.nodes-test.true)) in (
       firsts ++ node ∷ [],
       length-append firsts (node ∷ []) ∙ omega (arith, h.few, c.if-len-ge-MOST_PARTS.true, c.len.ensures),
-      All-push (IsPlace memberships) firsts node h.places place,
+      All-push (IsNodePlace memberships) firsts node h.places place,
       differ_more memberships firsts node h.differ new,
     )
 
@@ -32,15 +32,15 @@ more_nodes memberships firsts node each here x low high = elim (cases_eq node x)
 
 -- what is kept of the nodes so far
 record IsKept (memberships firsts : List ℕ) (node : ℕ) : Type 0 where
-  pub places : All (IsPlace memberships) firsts
+  pub places : All (IsNodePlace memberships) firsts
   pub differ : AreDifferent memberships firsts
   pub each : (x : ℕ) → 1 ≤ x → x < node → Any (λ first. get_or memberships x 0 ≡ get_or memberships first 0) firsts
   pub few : length firsts ≤ 14
 
-pushed_kept : (memberships firsts : List ℕ) (node : ℕ) → IsKept memberships firsts node → IsPlace memberships node → (Any (λ first. get_or memberships node 0 ≡ get_or memberships first 0) firsts → ⊥) → length firsts < 14
+pushed_kept : (memberships firsts : List ℕ) (node : ℕ) → IsKept memberships firsts node → IsNodePlace memberships node → (Any (λ first. get_or memberships node 0 ≡ get_or memberships first 0) firsts → ⊥) → length firsts < 14
     → IsKept memberships (firsts ++ node ∷ []) (node + 1)
 pushed_kept memberships firsts node h place new room = record {
-  places = All-push (IsPlace memberships) firsts node h.places place;
+  places = All-push (IsNodePlace memberships) firsts node h.places place;
   differ = differ_more memberships firsts node h.differ new;
   each = more_nodes memberships (firsts ++ node ∷ []) node (λ x low high. any_more (λ first. get_or memberships x 0 ≡ get_or memberships first 0) firsts node (h.each x low high))
       (Any-push (λ first. get_or memberships node 0 ≡ get_or memberships first 0) firsts node refl);
@@ -53,7 +53,7 @@ nodes-preserved c =
     let firsts : List ℕ = c.nodes.firsts.items in
     let node : ℕ = c.nodes.node in
     let h = c.nodes.invariant in
-    let place : IsPlace memberships node = (omega arith, omega (arith, c.nodes-test.true)) in
+    let place : IsNodePlace memberships node = (omega arith, omega (arith, c.nodes-test.true)) in
     let kept : IsKept memberships firsts node = record { places = h.places; differ = h.differ; each = h.each; few = h.few } in
     let all : IsKept memberships c.if-not-has_membership.firsts.items (node + 1) = elim c.if-not-has_membership.branch [
       | then-not-has_membership+else-len-ge-MOST_PARTS+in_ok-push w ↦

@@ -1,12 +1,12 @@
 use Rattle.std.proofs.Common.{◌≡◌, ℕ, ◌+◌, ◌-◌, ◌*◌, ◌/◌, ◌%◌, ◌^◌, inl, inr, ap, sym, ◌∙◌, subst, arith, rules}
 use Rattle.std.specs.Int.{bit_at}
-use Rattle.tsp_families.specs.Paths.{by_rows, IsLeastSum}
+use Rattle.tsp_families.specs.Paths.{cost_by_rows, IsLeastSum}
 use Rattle.tsp_families.proofs.BestPaths.{StartsWith, no_best, best_from}
 use Rattle.tsp_families.proofs.paths.best_path.Goals.{then-rest-eq0, else-rest-eq0}
 use Rattle.tsp_families.proofs.paths.best_path.Goals as goal
 
 pub returns-then-set-bit-eq0 : goal.returns-then-set-bit-eq0
-returns-then-set-bit-eq0 c = no_best c.args.nodes c.args.set c.args.other (by_rows c.args.nodes c.args.costs.now)
+returns-then-set-bit-eq0 c = no_best c.args.nodes c.args.set c.args.other (cost_by_rows c.args.nodes c.args.costs.now)
     (ap (λ (z : ℕ). c.args.set / z % 2) (sym c.power-bit.ensures) ∙ c.if-set-bit-eq0.true)
 
 pub returns : goal.returns

@@ -1,7 +1,7 @@
 use Rattle.std.proofs.Common.{ℕ, ◌+◌, ◌-◌, ◌≤◌, List, [], ◌∷◌, length, ap, sym, ◌∙◌, subst, arith, length-append}
 use Rattle.std.specs.List.{All}
 use Rattle.std.proofs.lemmas.List.Elements.{All-push}
-use Rattle.tsp_families.specs.Paths.{by_rows, no_path, IsBest, AreBest}
+use Rattle.tsp_families.specs.Paths.{cost_by_rows, no_path, IsBestPath, AreBestPaths}
 use Rattle.tsp_families.proofs.Tables.{by_rows_push}
 use Rattle.tsp_families.proofs.paths.best_paths.Goals as goal
 
@@ -15,7 +15,7 @@ nodes-preserved c =
     record {
       long = ap length pushed ∙ omega (arith, long, h.long);
       small = subst (All (λ path. path ≤ no_path)) (sym pushed) (All-push (λ path. path ≤ no_path) paths c.best_path-best.result h.small c.best_path-best.ensures.most);
-      best = subst (AreBest n (by_rows n c.args.costs.now)) (sym pushed)
-          (by_rows_push (n - 1) (λ set other best. IsBest n (by_rows n c.args.costs.now) set (other + 2) best) paths c.sets.set c.nodes.other c.best_path-best.result c.nodes-test.true h.long h.best
+      best = subst (AreBestPaths n (cost_by_rows n c.args.costs.now)) (sym pushed)
+          (by_rows_push (n - 1) (λ set other best. IsBestPath n (cost_by_rows n c.args.costs.now) set (other + 2) best) paths c.sets.set c.nodes.other c.best_path-best.result c.nodes-test.true h.long h.best
           c.best_path-best.ensures);
     }

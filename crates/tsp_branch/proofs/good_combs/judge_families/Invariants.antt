@@ -1,11 +1,13 @@
 use Rattle.std.proofs.Common.{◌≡◌, ◌≤◌, ◌<◌, ◌+◌, ℕ, length}
 use Rattle.std.specs.List.{All}
-use Rattle.tsp_branch.specs.states.Sets.{AreSetsOf, AreInOrder}
+use Rattle.tsp_families.specs.FamilySets.{AreSetsOf}
+use Rattle.tsp_branch.specs.states.Sets.{AreInOrder}
 use Rattle.tsp_branch.specs.states.Combed.{plain}
 use Rattle.tsp_branch.specs.CombsOfSets.{of_comb}
-use Rattle.tsp_branch.specs.GoodCombs.{IsGoodComb}
+use Rattle.tsp_branch.specs.states.Numbers.{AreSmallCrossings}
+use Rattle.tsp_branch.proofs.CombRuns.{HaveNumbers}
 use Rattle.tsp_branch.specs.states.Marked.{AreUnmarked}
-use Rattle.tsp_branch.proofs.good_combs.first_bad_comb.Given as goal
+use Rattle.tsp_branch.proofs.good_combs.judge_families.Given as goal
 
 abbrev pub invariant-combs : goal.invariant-combs
 invariant-combs l = record {
@@ -17,5 +19,8 @@ invariant-combs l = record {
   in_order : AreInOrder l.rest;
   later : All (λ set. l.comb ≤ set.comb) l.rest;
   same : (comb : ℕ) → l.comb ≤ comb → of_comb comb (plain l.rest) ≡ of_comb comb (plain l.sets);
-  good : (comb : ℕ) → comb < l.comb → IsGoodComb l.nodes (of_comb comb (plain l.sets));
+  few : length l.rest ≤ length l.sets;
+  many : length l.crossed.items ≡ l.comb;
+  have : HaveNumbers l.nodes (plain l.sets) l.crossed.items;
+  small : AreSmallCrossings l.crossed.items;
 }
