@@ -20,7 +20,9 @@ use std::time::Instant;
 const UNIT: i128 = 1_000_000_000;
 const MARK: i64 = 4_000_000_000_000_000_000;
 const MOST_POTENTIAL: i128 = 1_000_000_000_000_000;
-const MOST_MULTIPLIERS: i128 = 300_000_000_000_000_000;
+const MOST_CROSSED: i128 = 900_000_000_000_000_000;
+const MOST_SETS: usize = 63;
+const MOST_PARTS: usize = 14;
 
 type Pair = (usize, usize);
 
@@ -253,6 +255,7 @@ enum Step {
 struct Certificate {
     scale: i64,
     combs: Vec<Vec<Vec<usize>>>,
+    crossed: Vec<(i128, i128)>,
     steps: Vec<Step>,
 }
 
@@ -344,6 +347,60 @@ fn is_good(comb: &[Vec<usize>], count: usize) -> bool {
     })
 }
 
+/// How often tours cross a family at the least, and edges at the most.
+fn crossings_of(comb: &[Vec<usize>], count: usize) -> Option<(i128, i128)> {
+    if is_good(comb, count) {
+        let sets = comb.len() as i128;
+        return Some((if sets == 1 { 2 } else { 3 * sets - 2 }, 3));
+    }
+    if comb.len() > MOST_SETS {
+        return None;
+    }
+    let mut marks = vec![0u64; count];
+    for (number, set) in comb.iter().enumerate() {
+        for node in set {
+            let mark = 1 << number;
+            if marks[*node] & mark != 0 {
+                return None;
+            }
+            marks[*node] |= mark;
+        }
+    }
+    let mut parts: Vec<u64> = Vec::new();
+    for mark in marks {
+        if !parts.contains(&mark) {
+            if parts.len() == MOST_PARTS {
+                return None;
+            }
+            parts.push(mark);
+        }
+    }
+    let costs: Vec<Vec<u32>> =
+        parts.iter().map(|a| parts.iter().map(|b| (a ^ b).count_ones()).collect()).collect();
+    let most = costs.iter().flatten().max().copied().unwrap_or(0);
+    (parts.len() > 1).then(|| (i128::from(least_cycle(&costs)), i128::from(most)))
+}
+
+/// The least length of a cycle: the shortest paths from each part through a set of others to the last.
+fn least_cycle(costs: &[Vec<u32>]) -> u32 {
+    let others = costs.len() - 1;
+    let mut shortest = vec![u32::MAX; others << others];
+    for set in 1usize..1 << others {
+        for from in 0..others {
+            if set >> from & 1 == 0 {
+                continue;
+            }
+            let rest = set & !(1 << from);
+            let paths = &shortest[rest * others..][..others];
+            let sums = costs[from][..others].iter().zip(paths).map(|(cost, path)| cost.saturating_add(*path));
+            let least = if rest == 0 { costs[from][others] } else { sums.min().unwrap_or(u32::MAX) };
+            shortest[set * others + from] = least;
+        }
+    }
+    let whole = &shortest[((1 << others) - 1) * others..];
+    costs[others][..others].iter().zip(whole).map(|(cost, path)| cost + path).min().unwrap_or(0)
+}
+
 /// The first branch whose pair is decided above it or fixed.
 fn branch_twice(instance: &Instance, steps: &[Step]) -> Option<usize> {
     let mut decided: HashSet<Pair> = instance.fixed.iter().copied().collect();
@@ -380,14 +437,14 @@ fn bad_leaf(count: usize, certificate: &Certificate) -> Option<usize> {
             }
             numbers[place - 1] += i128::from(*difference);
             if *place > count {
-                sum += i128::from(*difference);
+                sum += i128::from(*difference) * certificate.crossed[place - count - 1].1;
             }
         }
         let wrong = |place: usize| match numbers[place - 1] {
             number if place <= count => number.abs() > MOST_POTENTIAL,
             number => number < 0,
         };
-        if sum > MOST_MULTIPLIERS || list.iter().any(|(place, _)| wrong(*place)) {
+        if sum > MOST_CROSSED || list.iter().any(|(place, _)| wrong(*place)) {
             return Some(index + 1);
         }
     }
@@ -430,16 +487,15 @@ impl Weights {
     }
 
     /// Changes a potential, or the multiplier of a comb.
-    fn change(&mut self, place: usize, difference: i64, combs: &[Vec<Vec<usize>>]) {
+    fn change(&mut self, place: usize, difference: i64, certificate: &Certificate) {
         if place <= self.count {
             self.ends[place - 1] += difference;
             self.added -= 2 * i128::from(difference);
             return;
         }
-        let comb = &combs[place - self.count - 1];
-        let crossings = if comb.len() == 1 { 2 } else { 3 * comb.len() as i128 - 2 };
-        self.added += i128::from(difference) * crossings;
-        for set in comb {
+        let comb = place - self.count - 1;
+        self.added += i128::from(difference) * certificate.crossed[comb].0;
+        for set in &certificate.combs[comb] {
             for i in set {
                 self.ends[*i] -= difference;
                 let row = &mut self.between[i * self.count..][..self.count];
@@ -532,7 +588,7 @@ fn bound_of(instance: &Instance, certificate: &Certificate) -> i128 {
             }
             Step::Leaf(numbers) => {
                 for (place, difference) in numbers {
-                    weights.change(*place, *difference, &certificate.combs);
+                    weights.change(*place, *difference, certificate);
                 }
                 least = least.min(match instance.directed {
                     false => weights.value(),
@@ -564,13 +620,17 @@ fn judge(instance: &Instance, fields: &Fields) -> Result<Certificate, String> {
     if fields.number("DIMENSION") != Some(instance.count as i64) {
         return Err("BranchesDimension".to_string());
     }
-    let certificate = Certificate {
+    let mut certificate = Certificate {
         scale: fields.number("SCALE").unwrap_or(1),
         combs: combs_of(&fields.numbers("COMB_SECTION")),
+        crossed: Vec::new(),
         steps: steps_of(&fields.numbers("BRANCH_SECTION"), instance.directed),
     };
-    if let Some(index) = certificate.combs.iter().position(|comb| !is_good(comb, instance.count)) {
-        return Err(format!("BadComb {}", index + 1));
+    for (index, comb) in certificate.combs.iter().enumerate() {
+        match crossings_of(comb, instance.count) {
+            Some(crossed) => certificate.crossed.push(crossed),
+            None => return Err(format!("BadComb {}", index + 1)),
+        }
     }
     if let Some(index) = branch_twice(instance, &certificate.steps) {
         return Err(format!("BranchTwice {index}"));

@@ -374,6 +374,38 @@ def is_family(count: int, handle: list[int], *teeth: list[int]) -> bool:
     return once and apart and across and len(teeth) >= 3 and len(teeth) % 2 == 1
 
 
+def least_cycle(costs: list[list[int]]) -> int:
+    """The least length of a cycle, by the shortest paths from the last one through each set of the others."""
+    last = len(costs) - 1
+    whole = (1 << last) - 1
+    shortest: list[dict[int, int]] = [{} for _ in range(whole + 1)]
+    shortest[0] = {last: 0}
+    for visited, ends in enumerate(shortest):
+        for end, length in ends.items():
+            for new in range(last):
+                if not visited >> new & 1:
+                    longer = shortest[visited | 1 << new]
+                    longer[new] = min(longer.get(new, length + costs[end][new]), length + costs[end][new])
+    return min(length + costs[end][last] for end, length in shortest[whole].items())
+
+
+def crossings_of(count: int, sets: list[list[int]]) -> Optional[tuple[int, int]]:
+    """How often tours cross the sets at the least, and edges at the most, or None where they are no family."""
+    if any(len(set(nodes)) < len(nodes) for nodes in sets):
+        return None
+    if is_family(count, *sets):
+        return 3 * len(sets) - 2 if len(sets) > 1 else 2, 3
+    marks = [0] * (count + 1)
+    for number, nodes in enumerate(sets):
+        for node in nodes:
+            marks[node] |= 1 << number
+    parts = sorted(set(marks[1:]))
+    if len(sets) > 63 or not 2 <= len(parts) <= 14:
+        return None
+    crossed = [[bin(a ^ b).count("1") for b in parts] for a in parts]
+    return least_cycle(crossed), max(map(max, crossed))
+
+
 def pair_of(directed: bool, i: int, j: int) -> Hashable:
     """A pair of nodes: for an ATSP it has a direction."""
     return (i, j) if directed else frozenset((i, j))
@@ -405,11 +437,14 @@ def bound_by_branches(instance: Fields, file: Fields, cost: Costs, count: int) -
     if dimension_of(file) != count:
         raise No("BranchesDimension")
     combs = combs_of(wholes(file, "COMB_SECTION"))
+    crossed: list[tuple[int, int]] = []
     for number, comb in enumerate(combs, 1):
         if not all(1 <= node <= count for nodes in comb for node in nodes):
             raise file.faulty("COMB_SECTION", f"nodes are 1 to {count}, and those of comb {number} aren't")
-        if not is_family(count, *comb):
+        found = crossings_of(count, comb)
+        if found is None:
             raise No(f"BadComb {number}")
+        crossed.append(found)
     directed = instance["TYPE"][0] == "ATSP"
     fixed = ended(wholes(instance, "FIXED_EDGES_SECTION"), 2)
     open_cases: list[Case] = [{pair_of(directed, i, j): True for i, j in fixed}]
@@ -438,17 +473,18 @@ def bound_by_branches(instance: Fields, file: Fields, cost: Costs, count: int) -
                 raise No(f"BadLeaf {leaf}")
             numbers[index] += difference
         p, m = numbers[: count + 1], numbers[count + 1 :]
-        if max(map(abs, p)) > 10**15 or min(m, default=0) < 0 or sum(m) > 3 * 10**17:
+        most = sum(number * own for number, (_, own) in zip(m, crossed))
+        if max(map(abs, p)) > 10**15 or min(m, default=0) < 0 or most > 9 * 10**17:
             raise No(f"BadLeaf {leaf}")
         active = [(number, nodes) for number, comb in zip(m, sets) if number for nodes in comb]
-        back = sum(m[k] * (3 * len(comb) - 2 if len(comb) > 1 else 2) for k, comb in enumerate(combs))
+        back = sum(number * least for number, (least, _) in zip(m, crossed))
         if directed:
-            found = least_links(count, weights_of(scale, cost, p, active, []), case)
+            relaxed = least_links(count, weights_of(scale, cost, p, active, []), case)
         else:
             changes = [(*sorted(pair), -DECIDED if used else DECIDED) for pair, used in case.items()]
-            found = least_one_tree(count, weights_of(scale, cost, p, active, changes)) + DECIDED * sum(case.values())
-        if found is not None:
-            bounds.append(-(-(found - 2 * sum(p) + back) // scale))
+            relaxed = least_one_tree(count, weights_of(scale, cost, p, active, changes)) + DECIDED * sum(case.values())
+        if relaxed is not None:
+            bounds.append(-(-(relaxed - 2 * sum(p) + back) // scale))
     show("")
     return min(bounds)
 

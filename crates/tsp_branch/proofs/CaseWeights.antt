@@ -1,38 +1,38 @@
 -- The weights of code at a leaf are those of its case.
-use Rattle.std.proofs.Common.{◌≡◌, ◌≢◌, ℕ, ◌<◌, List, [], ◌∷◌, length, Option, None, Some, true, ℤ, ◌≤ℤ◌, ◌∙◌, ap, sym, subst, arith}
+use Rattle.std.proofs.Common.{◌≡◌, ◌≢◌, ℕ, ◌<◌, ◌≤◌, List, [], ◌∷◌, length, Option, None, Some, true, ℤ, ◌≤ℤ◌, ◌∙◌, ap, sym, subst, arith}
 use Rattle.std.specs.Prelude.{pos, ◌+ℤ◌, ◌-ℤ◌, ◌*ℤ◌, MatchOption}
 use Rattle.std.specs.List.{All, AllPairs, AllByRecursion}
 use Rattle.std.proofs.lemmas.Int.{ints}
 use Rattle.std.proofs.lemmas.List.Elements.{recursion_from_All, All-from_recursion}
 use Rattle.tsp_theory.specs.Numbers.{IsFromTo, total}
-use Rattle.tsp_branch.specs.Families.{IsFamily}
+use Rattle.tsp_families.specs.declared.family.Crossings.{Crossings}
+use Rattle.tsp_branch.specs.Families.{Family, IsFamily}
 use Rattle.tsp_branch.specs.declared.decision.Decision.{Decision}
 use Rattle.tsp_branch.specs.Decisions.{on_taken, on_avoided, decided_number}
 use Rattle.tsp_theory.specs.NodeBound.{weight_between}
-use Rattle.tsp_branch.specs.Combs.{Comb}
 use Rattle.tsp_branch.specs.LeafBound.{combed, least_of, leaf_weight}
 use Rattle.tsp_branch.specs.Rows.{HasNoLink, IsRowBound}
 use Rattle.tsp_branch.specs.Certificate.{multiplied, IsFoundAt}
 use Rattle.tsp_branch.specs.states.Combed.{plain, AreSmallMultipliers, AreFewCrossings, set_weight}
-use Rattle.tsp_branch.specs.CombsOfSets.{NumberedSet, combs_of_sets}
+use Rattle.tsp_branch.specs.CombsOfSets.{NumberedSet, families_of}
 use Rattle.tsp_branch.specs.states.Decided.{decided}
-use Rattle.tsp_branch.specs.Judged.{AreGoodNumbers, as_leaf_numbers}
-use Rattle.tsp_branch.specs.declared.comb_set.CombSet.{CombSet}
+use Rattle.tsp_branch.specs.Judged.{AreGoodNumbers, as_leaf_numbers, most_crossed, most_with}
+use Rattle.tsp_families.specs.declared.comb_set.CombSet.{CombSet}
 use Rattle.tsp_branch.proofs.Changes.{changes_are}
-use Rattle.tsp_branch.proofs.CombSizes.{combs_crossed_few}
+use Rattle.tsp_branch.proofs.CombSizes.{families_crossed_few, families_some, multipliers_below}
 use Rattle.tsp_branch.proofs.CombsBySets.{sets_tell_combs, sets_give_leaves}
 use Rattle.tsp_branch.proofs.GivenBack.{below_from_sets}
 use Rattle.tsp_branch.proofs.RowLeaves.{agreed_rows}
 
 -- weights that are those by sets, under the decisions of a case, are those of the leaf
-pub case_weight : (w : ℕ → ℕ → ℤ) (scale : ℤ) (potentials multipliers : List ℤ) (sets : List NumberedSet) (case : List Decision) (cost : ℕ → ℕ → ℤ) (i j : ℕ)
-    → All (λ set. set.comb < length multipliers) sets → w i j ≡ set_weight scale potentials multipliers sets cost i j
+pub case_weight : (w : ℕ → ℕ → ℤ) (scale : ℤ) (crossed : List Crossings) (potentials multipliers : List ℤ) (sets : List NumberedSet) (case : List Decision) (cost : ℕ → ℕ → ℤ) (i j : ℕ)
+    → length multipliers ≡ length crossed → All (λ set. set.comb < length multipliers) sets → w i j ≡ set_weight scale potentials multipliers sets cost i j
     → decided case w i j
     ≡ leaf_weight scale potentials (on_taken decided_number case) (on_avoided decided_number case)
-    (multiplied (combs_of_sets (length multipliers) sets) multipliers) cost i j
-case_weight w scale potentials multipliers sets case cost i j below is =
+    (multiplied (families_of crossed sets) multipliers) cost i j
+case_weight w scale crossed potentials multipliers sets case cost i j long below is =
     let v : ℕ → ℕ → ℤ = set_weight scale potentials multipliers sets cost in
-    let leaf = sets_give_leaves scale potentials multipliers (on_taken decided_number case) (on_avoided decided_number case) sets cost i j below in
+    let leaf = sets_give_leaves scale crossed potentials multipliers (on_taken decided_number case) (on_avoided decided_number case) sets cost i j long below in
     let by = changes_are case v i j in
     let own = changes_are case w i j in
     omega (arith, ints, leaf, by, own, is)
@@ -49,21 +49,32 @@ each_below (m ∷ ms) signs =
     wider a b [] h k = tt
     wider a b (x ∷ xs) h k = ((k.0.0, let most = k.0.1 in omega (arith, ints, most, h)), wider a b xs h k.1)
 
-pub small_multipliers : (n combs : ℕ) (potentials multipliers : List ℤ) → AreGoodNumbers n combs (as_leaf_numbers potentials multipliers) → AreSmallMultipliers multipliers
-small_multipliers n combs potentials ms good =
+-- multipliers of families that some two nodes cross
+pub few_multipliers : (crossed : List Crossings) (multipliers : List ℤ) → length multipliers ≡ length crossed → All (λ own. 1 ≤ own.most) crossed → All (λ m. pos 0 ≤ℤ m) multipliers
+    → most_with crossed multipliers ≤ℤ pos most_crossed → total multipliers ≤ℤ pos most_crossed
+few_multipliers crossed ms long some signs sum =
+    let below = multipliers_below crossed ms long (recursion_from_All (λ own. 1 ≤ own.most) crossed some) (recursion_from_All (λ m. pos 0 ≤ℤ m) ms signs) in
+    omega (arith, ints, below, sum)
+
+pub small_multipliers : (n : ℕ) (crossed : List Crossings) (potentials multipliers : List ℤ) → All (λ own. 1 ≤ own.most) crossed → AreGoodNumbers n crossed (as_leaf_numbers potentials multipliers)
+    → AreSmallMultipliers multipliers
+small_multipliers n crossed potentials ms some good =
     let each = (each_below ms (recursion_from_All (λ m. pos 0 ≤ℤ m) ms good.signs)).1 in
     λ k default lt.
     let own = All-from_recursion (λ m. IsFromTo (pos 0) (total ms) m) ms each k default lt in
-    (own.0, let most = own.1 in let sum = good.sum in omega (arith, ints, most, sum))
+    (own.0, let most = own.1 in let sum = few_multipliers crossed ms good.each_comb some good.signs good.sum in omega (arith, ints, most, sum))
 
-pub few_crossings : (n combs : ℕ) (potentials multipliers : List ℤ) (sets : List NumberedSet) → AreGoodNumbers n combs (as_leaf_numbers potentials multipliers) → All (IsFamily n)
-    (combs_of_sets (length multipliers) sets)
-    → All (λ set. set.comb < length multipliers) sets → AreFewCrossings multipliers sets
-few_crossings n combs potentials ms sets good are below = λ i j.
-    let few = combs_crossed_few n (combs_of_sets (length ms) sets) ms i j (recursion_from_All (IsFamily n) (combs_of_sets (length ms) sets) are) (recursion_from_All (λ m. pos 0 ≤ℤ m) ms good.signs) in
-    let same = sets_tell_combs ms sets i j below in
+-- some two nodes cross each family
+pub all_some : (n : ℕ) (crossed : List Crossings) (sets : List NumberedSet) → All (IsFamily n) (families_of crossed sets) → All (λ own. 1 ≤ own.most) crossed
+all_some n crossed sets are = All-from_recursion (λ own. 1 ≤ own.most) crossed (families_some n 0 crossed sets (recursion_from_All (IsFamily n) (families_of crossed sets) are))
+
+pub few_crossings : (n : ℕ) (crossed : List Crossings) (potentials multipliers : List ℤ) (sets : List NumberedSet) → AreGoodNumbers n crossed (as_leaf_numbers potentials multipliers)
+    → All (IsFamily n) (families_of crossed sets) → All (λ set. set.comb < length multipliers) sets → AreFewCrossings n multipliers sets
+few_crossings n crossed potentials ms sets good are below = λ i j in_i in_j.
+    let few = families_crossed_few n 0 crossed sets ms i j in_i in_j (recursion_from_All (IsFamily n) (families_of crossed sets) are) (recursion_from_All (λ m. pos 0 ≤ℤ m) ms good.signs) in
+    let same = sets_tell_combs crossed ms sets i j good.each_comb below in
     let sum = good.sum in
-    (let low = few.1 in omega (arith, ints, low, same), let high = few.2 in omega (arith, ints, high, same, sum))
+    (let low = few.0 in omega (arith, ints, low, same), let high = few.1 in omega (arith, ints, high, same, sum))
 
 -- ---- the sets as code has them
 
@@ -74,15 +85,13 @@ sets_below_count count combs sets same h =
 -- ---- the least links from each node
 
 -- weights that are those by sets are those of a leaf by rows
-pub row_weight : (combs : ℕ) (scale : ℤ) (potentials multipliers : List ℤ) (sets : List NumberedSet) (cost : ℕ → ℕ → ℤ) (i j : ℕ) → length multipliers ≡ combs
+pub row_weight : (crossed : List Crossings) (scale : ℤ) (potentials multipliers : List ℤ) (sets : List NumberedSet) (cost : ℕ → ℕ → ℤ) (i j : ℕ) → length multipliers ≡ length crossed
     → All (λ set. set.comb < length multipliers) sets
-    → set_weight scale potentials multipliers sets cost i j ≡ combed (multiplied (combs_of_sets combs sets) multipliers) (weight_between scale potentials cost) i j
-row_weight combs scale ps ms sets cost i j same below =
-    ap (λ (z : ℤ). weight_between scale ps cost i j -ℤ z) (sym (sets_tell_combs ms sets i j below))
-    ∙ ap (λ (k : ℕ). combed (multiplied (combs_of_sets k sets) ms) (weight_between scale ps cost) i j) same
+    → set_weight scale potentials multipliers sets cost i j ≡ combed (multiplied (families_of crossed sets) multipliers) (weight_between scale potentials cost) i j
+row_weight crossed scale ps ms sets cost i j long below = ap (λ (z : ℤ). weight_between scale ps cost i j -ℤ z) (sym (sets_tell_combs crossed ms sets i j long below))
 
 -- what the code finds by rows is what is found of the leaf
-pub found_by_rows : (n k : ℕ) (cost : ℕ → ℕ → ℤ) (scale held number : ℤ) (families : List Comb) (case : List Decision) (potentials multipliers : List ℤ) (w : ℕ → ℕ → ℤ) (back : ℤ)
+pub found_by_rows : (n k : ℕ) (cost : ℕ → ℕ → ℤ) (scale held number : ℤ) (families : List Family) (case : List Decision) (potentials multipliers : List ℤ) (w : ℕ → ℕ → ℤ) (back : ℤ)
     (found : Option ℤ) → k ≡ n → held ≡ scale
     → ((i j : ℕ) → w i j ≡ combed (multiplied families multipliers) (weight_between scale potentials cost) i j)
     → back ≡ least_of (multiplied families multipliers) -ℤ (pos 2 *ℤ total potentials)

@@ -5,8 +5,7 @@ use Rattle.std.specs.List.{All, AllByRecursion}
 use Rattle.std.proofs.lemmas.Int.{ints}
 use Rattle.std.proofs.lemmas.List.Elements.{recursion_from_All, All-from_recursion, All-contains}
 use Rattle.tsp_theory.specs.Numbers.{IsScale}
-use Rattle.tsp_branch.specs.Combs.{Comb}
-use Rattle.tsp_branch.specs.Families.{IsFamily}
+use Rattle.tsp_branch.specs.Families.{Family, IsFamily}
 use Rattle.tsp_branch.specs.declared.decision.Decision.{Decision}
 use Rattle.tsp_branch.specs.Decisions.{take_pairs, on_taken, on_avoided}
 use Rattle.tsp_branch.specs.LeafBound.{AreMultiplied, IsLeafBound, LeafBoundsBoundCycles}
@@ -17,13 +16,13 @@ use Rattle.tsp_branch.specs.Certificate.{multiplied, AreLeafNumbers, IsFoundAt, 
 use Rattle.tsp_branch.proofs.Decisions.{takes_each, takes_none, tours_keep_fixed}
 use Rattle.tsp_branch.proofs.RowLeaves.{one_bound, has_no_bound}
 
-families_with : (n : ℕ) (families : List Comb) (multipliers : List ℤ) → AllByRecursion (IsFamily n) families → AllByRecursion (λ multiplier. pos 0 ≤ℤ multiplier) multipliers
+families_with : (n : ℕ) (families : List Family) (multipliers : List ℤ) → AllByRecursion (IsFamily n) families → AllByRecursion (λ multiplier. pos 0 ≤ℤ multiplier) multipliers
     → AllByRecursion (λ f. IsFamily n f.0 × (pos 0 ≤ℤ f.1)) (multiplied families multipliers)
 families_with n [] multipliers are signs = tt
 families_with n (family ∷ families) [] are signs = tt
 families_with n (family ∷ families) (multiplier ∷ multipliers) are signs = ((are.0, signs.0), families_with n families multipliers are.1 signs.1)
 
-are_multiplied : (n : ℕ) (families : List Comb) (multipliers : List ℤ) → All (IsFamily n) families → All (λ multiplier. pos 0 ≤ℤ multiplier) multipliers → AreMultiplied n (multiplied families multipliers)
+are_multiplied : (n : ℕ) (families : List Family) (multipliers : List ℤ) → All (IsFamily n) families → All (λ multiplier. pos 0 ≤ℤ multiplier) multipliers → AreMultiplied n (multiplied families multipliers)
 are_multiplied n families multipliers are signs = All-from_recursion (λ f. IsFamily n f.0 × (pos 0 ≤ℤ f.1)) (multiplied families multipliers)
     (families_with n families multipliers (recursion_from_All (IsFamily n) families are) (recursion_from_All (λ multiplier. pos 0 ≤ℤ multiplier) multipliers signs))
 
@@ -34,7 +33,7 @@ pub record LeafLaws : Type 0 where
   pub no_link : NoLinkNoCycle
 
 -- a leaf's bound, and that it has none
-leaf_bounds_case : (directed : Bool) (n : ℕ) (cost : ℕ → ℕ → ℤ) (scale number : ℤ) (families : List Comb) (leaf : List Decision × LeafNumbers) (own : ℤ) → LeafLaws → AreCostsFor directed n cost → IsScale scale
+leaf_bounds_case : (directed : Bool) (n : ℕ) (cost : ℕ → ℕ → ℤ) (scale number : ℤ) (families : List Family) (leaf : List Decision × LeafNumbers) (own : ℤ) → LeafLaws → AreCostsFor directed n cost → IsScale scale
     → All (IsFamily n) families → AreLeafNumbers n leaf.1 → IsFoundAt directed n cost scale number families leaf (Some own) → BoundsCase directed n cost own leaf.0
 leaf_bounds_case false n cost scale number families leaf own laws costs_are scale_in are numbers is = λ nodes cycle keeps.
     laws.trees n cost scale leaf.1.potentials (on_taken number leaf.0) (on_avoided number leaf.0) (multiplied families leaf.1.multipliers) own nodes costs_are.0 costs_are.1 scale_in numbers.each_node
@@ -42,7 +41,7 @@ leaf_bounds_case false n cost scale number families leaf own laws costs_are scal
 leaf_bounds_case true n cost scale number families leaf own laws costs_are scale_in are numbers is =
     laws.rows n cost scale leaf.1.potentials (multiplied families leaf.1.multipliers) leaf.0 own costs_are scale_in numbers.each_node (are_multiplied n families leaf.1.multipliers are numbers.signs) is
 
-leaf_has_none : (directed : Bool) (n : ℕ) (cost : ℕ → ℕ → ℤ) (scale number : ℤ) (families : List Comb) (leaf : List Decision × LeafNumbers) → LeafLaws → AreCostsFor directed n cost
+leaf_has_none : (directed : Bool) (n : ℕ) (cost : ℕ → ℕ → ℤ) (scale number : ℤ) (families : List Family) (leaf : List Decision × LeafNumbers) → LeafLaws → AreCostsFor directed n cost
     → IsFoundAt directed n cost scale number families leaf None → HasNoCycle directed n leaf.0
 leaf_has_none false n cost scale number families leaf laws costs_are none = absurd none
 leaf_has_none true n cost scale number families leaf laws costs_are none = laws.no_link n leaf.0 costs_are none
@@ -88,7 +87,7 @@ no_bound_no_tour bounds problem scale number families steps costs_are scale_in c
 -- ---- one bound, or none
 
 -- two least 1-trees weigh the same
-one_leaf_bound : (n : ℕ) (cost : ℕ → ℕ → ℤ) (scale : ℤ) (potentials : List ℤ) (taken avoided : List (ℕ × ℕ × ℤ)) (families : List (Comb × ℤ)) (a b : ℤ)
+one_leaf_bound : (n : ℕ) (cost : ℕ → ℕ → ℤ) (scale : ℤ) (potentials : List ℤ) (taken avoided : List (ℕ × ℕ × ℤ)) (families : List (Family × ℤ)) (a b : ℤ)
     → IsLeafBound n cost scale potentials taken avoided families a → IsLeafBound n cost scale potentials taken avoided families b → a ≡ b
 one_leaf_bound n cost scale potentials taken avoided families a b one other =
     let below = one.least.least other.tree other.least.tree in
@@ -97,19 +96,19 @@ one_leaf_bound n cost scale potentials taken avoided families a b one other =
     let second = other.bound_is.least a (let own = one.bound_is.above in omega (arith, ints, own, above)) in
     omega (arith, ints, first, second)
 
-one_found : (directed : Bool) (n : ℕ) (cost : ℕ → ℕ → ℤ) (scale number : ℤ) (families : List Comb) (leaf : List Decision × LeafNumbers) (a b : ℤ) → IsFoundAt directed n cost scale number families leaf (Some a)
+one_found : (directed : Bool) (n : ℕ) (cost : ℕ → ℕ → ℤ) (scale number : ℤ) (families : List Family) (leaf : List Decision × LeafNumbers) (a b : ℤ) → IsFoundAt directed n cost scale number families leaf (Some a)
     → IsFoundAt directed n cost scale number families leaf (Some b) → a ≡ b
 one_found false n cost scale number families leaf a b one other =
     one_leaf_bound n cost scale leaf.1.potentials (on_taken number leaf.0) (on_avoided number leaf.0) (multiplied families leaf.1.multipliers) a b one other
 one_found true n cost scale number families leaf a b one other = one_bound n _ leaf.0 scale _ a b one other
 
-some_or_none : (directed : Bool) (n : ℕ) (cost : ℕ → ℕ → ℤ) (scale number : ℤ) (families : List Comb) (leaf : List Decision × LeafNumbers) (a : ℤ) → IsFoundAt directed n cost scale number families leaf (Some a)
+some_or_none : (directed : Bool) (n : ℕ) (cost : ℕ → ℕ → ℤ) (scale number : ℤ) (families : List Family) (leaf : List Decision × LeafNumbers) (a : ℤ) → IsFoundAt directed n cost scale number families leaf (Some a)
     → IsFoundAt directed n cost scale number families leaf None → ⊥
 some_or_none false n cost scale number families leaf a one none = none
 some_or_none true n cost scale number families leaf a one none = has_no_bound n _ leaf.0 scale _ a none one
 
 -- what is at most the bound of each leaf is at most that of one of them
-at_most : (directed : Bool) (n : ℕ) (cost : ℕ → ℕ → ℤ) (scale number : ℤ) (families : List Comb) (given : List Decision) (steps : List CaseStep) (a b : ℤ)
+at_most : (directed : Bool) (n : ℕ) (cost : ℕ → ℕ → ℤ) (scale number : ℤ) (families : List Family) (given : List Decision) (steps : List CaseStep) (a b : ℤ)
     → IsCertificateBound directed n cost scale number families given steps (Some a) → IsCertificateBound directed n cost scale number families given steps (Some b) → a ≤ℤ b
 at_most directed n cost scale number families given steps a b one other =
     let leaves = leaves_of (given ∷ []) steps in
@@ -120,7 +119,7 @@ at_most directed n cost scale number families given steps a b one other =
       | inr own ↦ let same = one_found directed n cost scale number families leaf own.0 b own.1 there.4 in omega (arith, ints, own.2, same)
     ]
 
-never_both : (directed : Bool) (n : ℕ) (cost : ℕ → ℕ → ℤ) (scale number : ℤ) (families : List Comb) (given : List Decision) (steps : List CaseStep) (a : ℤ)
+never_both : (directed : Bool) (n : ℕ) (cost : ℕ → ℕ → ℤ) (scale number : ℤ) (families : List Family) (given : List Decision) (steps : List CaseStep) (a : ℤ)
     → IsCertificateBound directed n cost scale number families given steps (Some a) → IsCertificateBound directed n cost scale number families given steps None → ⊥
 never_both directed n cost scale number families given steps a one none =
     let there = one.1 in

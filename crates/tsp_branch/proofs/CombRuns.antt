@@ -1,17 +1,20 @@
 -- Sets listed comb by comb: those of one comb come first, and the rest has the later combs.
-use Rattle.std.proofs.Common.{◌≡◌, ◌≢◌, ◌∙◌, ℕ, zero, suc, ◌+◌, ◌<◌, ◌≤◌, List, [], ◌∷◌, ◌++◌, take, drop, length, get_or, inl, inr, refl, ap, sym, subst, arith}
-use Rattle.std.specs.Prelude.{Option, None}
+use Rattle.std.proofs.Common.{◌≡◌, ◌≢◌, ◌∙◌, ℕ, zero, suc, ◌+◌, ◌<◌, ◌≤◌, List, [], ◌∷◌, ◌++◌, take, drop, length, get_or, inl, inr, refl, ap, sym, subst, arith, length-append}
+use Rattle.std.specs.Prelude.{Some}
 use Rattle.std.specs.List.{All, AllByRecursion}
-use Rattle.std.proofs.lemmas.Bool.{cases_eq, eq-eqb, ne_eqb}
-use Rattle.std.proofs.lemmas.List.{take-append-drop, get_or-drop, length-drop}
+use Rattle.std.proofs.lemmas.Bool.{cases_eq, cases_lt, eq-eqb, ne_eqb}
+use Rattle.std.proofs.lemmas.List.{get_or_append_left, get_or_push, take-append-drop, get_or-drop, length-drop}
 use Rattle.std.proofs.lemmas.List.Elements.{All-head, All-tail, All-take, All-from_recursion, recursion_from_All}
+use Rattle.tsp_families.specs.declared.family.Crossings.{Crossings}
 use Rattle.tsp_branch.specs.Families.{IsFamily}
 use Rattle.tsp_format.specs.Cells.{IsNode}
-use Rattle.tsp_branch.specs.states.Sets.{AreSetsOf, AreInOrder, lists_of}
+use Rattle.tsp_families.specs.FamilySets.{AreSetsOf, lists_of}
+use Rattle.tsp_branch.specs.states.Sets.{AreInOrder}
 use Rattle.tsp_branch.specs.states.Combed.{plain}
-use Rattle.tsp_branch.specs.CombsOfSets.{NumberedSet, of_comb, combs_from, combs_of_sets}
-use Rattle.tsp_branch.specs.GoodCombs.{HasEachOnce, IsGoodComb, IsFirstBadComb, AreCombsJudged}
-use Rattle.tsp_branch.specs.declared.comb_set.CombSet.{CombSet}
+use Rattle.tsp_branch.specs.CombsOfSets.{NumberedSet, family_with, of_comb, families_from, families_of}
+use Rattle.tsp_branch.specs.GoodCombs.{HasEachOnce, IsGoodFamily, IsFirstBadComb, AreFamilies}
+use Rattle.tsp_branch.specs.states.Numbers.{HasNumbers}
+use Rattle.tsp_families.specs.declared.comb_set.CombSet.{CombSet}
 
 -- ---- a run at the front
 
@@ -63,11 +66,16 @@ module _ (comb count : ℕ) (sets : List CombSet) (order : AreInOrder sets) (lat
   later_sets other more = sym (split other
       ∙ none_own comb other (take count sets) (drop count sets) (λ e. omega (arith, e, more)) (recursion_from_All (λ (set : CombSet). set.comb ≡ comb) (take count sets) own))
 
--- ---- all combs
+-- ---- all families
 
-combs_all : (n first count : ℕ) (sets : List NumberedSet) → ((comb : ℕ) → comb < first + count → IsGoodComb n (of_comb comb sets)) → AllByRecursion (IsFamily n) (combs_from first count sets)
-combs_all n first zero sets h = tt
-combs_all n first (suc count) sets h = ((h first (omega arith)).family, combs_all n (suc first) count sets (λ comb lt. h comb (omega (arith, lt))))
+families_all : (n first : ℕ) (crossed : List Crossings) (sets : List NumberedSet)
+    → ((k : ℕ) (default : Crossings) → k < length crossed → IsFamily n (family_with (get_or crossed k default) (of_comb (first + k) sets))) → AllByRecursion (IsFamily n) (families_from first crossed sets)
+families_all n first [] sets h = tt
+families_all n first (own ∷ crossed) sets h = (
+  subst (λ (k : ℕ). IsFamily n (family_with own (of_comb k sets))) (let e : first + 0 ≡ first = omega arith in e) (h 0 own (omega arith)),
+  families_all n (suc first) crossed sets (λ k default lt. subst (λ (m : ℕ). IsFamily n (family_with (get_or crossed k default) (of_comb m sets)))
+      (let e : first + suc k ≡ suc first + k = omega arith in e) (h (suc k) default (omega (arith, lt)))),
+)
 
 once_all : (combs : ℕ) (sets : List NumberedSet) → AllByRecursion (λ set. set.comb < combs) sets → ((comb : ℕ) → comb < combs → All HasEachOnce (of_comb comb sets))
     → AllByRecursion (λ set. HasEachOnce set.nodes) sets
@@ -87,22 +95,44 @@ plain_within : (combs : ℕ) (sets : List CombSet) → AllByRecursion (λ set. s
 plain_within combs [] h = tt
 plain_within combs (set ∷ sets) h = (h.0, plain_within combs sets h.1)
 
-pub all_good : (n combs : ℕ) (sets : List CombSet) → All (λ set. set.comb < combs) sets → ((comb : ℕ) → comb < combs → IsGoodComb n (of_comb comb (plain sets)))
-    → AreCombsJudged n combs (plain sets) None
-all_good n combs sets within good = (
-  good,
-  All-from_recursion (IsFamily n) (combs_of_sets combs (plain sets)) (combs_all n 0 combs (plain sets) (λ comb lt. good comb (omega (arith, lt)))),
-  All-from_recursion (λ (set : NumberedSet). HasEachOnce set.nodes) (plain sets)
-      (once_all combs (plain sets) (plain_within combs sets (recursion_from_All (λ (set : CombSet). set.comb < combs) sets within)) (λ comb lt. (good comb lt).once)),
-)
+-- the families so far have their numbers
+abbrev pub HaveNumbers : ℕ → List NumberedSet → List Crossings → Type 0
+HaveNumbers n sets crossed = (k : ℕ) (default : Crossings) → k < length crossed → HasNumbers n (of_comb k sets) (Some (get_or crossed k default))
 
-pub first_found : (n combs comb : ℕ) (sets : List NumberedSet) → comb < combs → ((other : ℕ) → other < comb → IsGoodComb n (of_comb other sets)) → (IsGoodComb n (of_comb comb sets) → ⊥)
+pub numbers_more : (n : ℕ) (sets : List NumberedSet) (crossed : List Crossings) (own : Crossings) → HaveNumbers n sets crossed → HasNumbers n (of_comb (length crossed) sets) (Some own) → HaveNumbers n sets (crossed ++ own ∷ [])
+numbers_more n sets crossed own before here k default lt = elim (cases_lt k (length crossed)) [
+  | inl old ↦ subst (λ (c : Crossings). HasNumbers n (of_comb k sets) (Some c)) (sym (get_or_append_left crossed (own ∷ []) default k old)) (before k default old)
+  | inr new ↦
+      let last : length crossed ≡ k = omega (arith, new, lt, length-append crossed (own ∷ [])) in
+      subst (λ (c : Crossings). HasNumbers n (of_comb k sets) (Some c)) (sym (get_or_push crossed own default k last)) (subst (λ (m : ℕ). HasNumbers n (of_comb m sets) (Some own)) last here)
+]
+
+-- so each of them is good
+pub good_so_far : (n comb : ℕ) (sets : List NumberedSet) (crossed : List Crossings) → length crossed ≡ comb → HaveNumbers n sets crossed → (other : ℕ) → other < comb → IsGoodFamily n (of_comb other sets)
+good_so_far n comb sets crossed many have other lt =
+    let default : Crossings = record { least = 0; most = 0 } in
+    let own = have other default (omega (arith, lt, many)) in
+    record { numbers = get_or crossed other default; family = own.0; once = own.1 }
+
+pub all_good : (n combs : ℕ) (sets : List CombSet) (crossed : List Crossings) → length crossed ≡ combs → All (λ set. set.comb < combs) sets → HaveNumbers n (plain sets) crossed
+    → AreFamilies n combs (plain sets) crossed
+all_good n combs sets crossed many within have =
+    let good = good_so_far n combs (plain sets) crossed many have in
+    record {
+      many = many;
+      good = good;
+      are = All-from_recursion (IsFamily n) (families_of crossed (plain sets)) (families_all n 0 crossed (plain sets) (λ k default lt. subst (λ (m : ℕ). IsFamily n (family_with (get_or crossed k default) (of_comb m (plain sets)))) (let e : k ≡ 0 + k = omega arith in e) (have k default lt).0));
+      once = All-from_recursion (λ (set : NumberedSet). HasEachOnce set.nodes) (plain sets)
+          (once_all combs (plain sets) (plain_within combs sets (recursion_from_All (λ (set : CombSet). set.comb < combs) sets within)) (λ comb lt. (good comb lt).once));
+    }
+
+pub first_found : (n combs comb : ℕ) (sets : List NumberedSet) → comb < combs → ((other : ℕ) → other < comb → IsGoodFamily n (of_comb other sets)) → (IsGoodFamily n (of_comb comb sets) → ⊥)
     → IsFirstBadComb n combs sets (comb + 1)
 first_found n combs comb sets lt before bad = record {
   least = omega arith;
   most = omega (arith, lt);
   before = λ other less. before other (omega (arith, less));
-  bad = λ other same good. bad (subst (λ (k : ℕ). IsGoodComb n (of_comb k sets)) (let e : other ≡ comb = omega (arith, same) in e) good);
+  bad = λ other same good. bad (subst (λ (k : ℕ). IsGoodFamily n (of_comb k sets)) (let e : other ≡ comb = omega (arith, same) in e) good);
 }
 
 -- the sets of the comb that is next, as they are read
@@ -114,22 +144,13 @@ own_judged n comb count rest sets own order later run next same are read = (
   ap lists_of read ∙ sym (own_sets comb count rest order later run next) ∙ same comb (omega arith),
 )
 
-pub good_more : (n comb : ℕ) (sets : List NumberedSet) → ((other : ℕ) → other < comb → IsGoodComb n (of_comb other sets)) → IsGoodComb n (of_comb comb sets)
-    → (other : ℕ) → other < comb + 1 → IsGoodComb n (of_comb other sets)
-good_more n comb sets before here other lt = elim (cases_eq other comb) [
-  | inl same ↦ subst (λ (k : ℕ). IsGoodComb n (of_comb k sets)) (sym same) here
-  | inr less ↦ before other (omega (arith, lt, less))
-]
-
 -- what the bound of a tree of cases asks of the sets
 both_known : (combs : ℕ) (sets : List CombSet) → AllByRecursion (λ set. set.comb < combs) sets → AllByRecursion (λ set. HasEachOnce set.nodes) (plain sets)
     → AllByRecursion (λ set. (set.comb < combs) × HasEachOnce set.nodes.items) sets
 both_known combs [] within once = tt
 both_known combs (set ∷ sets) within once = ((within.0, once.0), both_known combs sets within.1 once.1)
 
-pub sets_judged : (n combs : ℕ) (sets : List CombSet) (found : Option ℕ) → AreCombsJudged n combs (plain sets) found → found ≡ None → All (λ set. set.comb < combs) sets
+pub sets_judged : (combs : ℕ) (sets : List CombSet) → All (λ set. HasEachOnce set.nodes) (plain sets) → All (λ set. set.comb < combs) sets
     → All (λ set. (set.comb < combs) × HasEachOnce set.nodes.items) sets
-sets_judged n combs sets found judged none within =
-    let good = subst (AreCombsJudged n combs (plain sets)) none judged in
-    All-from_recursion (λ (set : CombSet). (set.comb < combs) × HasEachOnce set.nodes.items) sets
-    (both_known combs sets (recursion_from_All (λ (set : CombSet). set.comb < combs) sets within) (recursion_from_All (λ (set : NumberedSet). HasEachOnce set.nodes) (plain sets) good.2))
+sets_judged combs sets once within = All-from_recursion (λ (set : CombSet). (set.comb < combs) × HasEachOnce set.nodes.items) sets
+    (both_known combs sets (recursion_from_All (λ (set : CombSet). set.comb < combs) sets within) (recursion_from_All (λ (set : NumberedSet). HasEachOnce set.nodes) (plain sets) once))

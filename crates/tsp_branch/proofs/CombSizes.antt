@@ -1,5 +1,5 @@
--- How large crossings and multipliers make a weight at most: two nodes cross three sets of a comb at most, since a node is in one tooth at most.
-use Rattle.std.proofs.Common.{◌≡◌, ℕ, Bool, true, false, List, [], ◌∷◌, ℤ, ◌≤ℤ◌, FitsSigned, cond, not, inl, inr, refl, ap, sym, subst, arith}
+-- How large crossings and multipliers make a weight at most: two nodes cross three sets of a comb at most, since a node is in one tooth at most, and others as their number says.
+use Rattle.std.proofs.Common.{◌≡◌, ℕ, Bool, true, false, List, [], ◌∷◌, ℤ, ◌≤ℤ◌, ◌≤◌, suc, length, FitsSigned, cond, not, inl, inr, refl, ap, sym, subst, arith}
 use Rattle.std.specs.Prelude.{pos, negsuc, neg_ℤ, ◌+ℤ◌, ◌-ℤ◌, ◌*ℤ◌}
 use Rattle.std.specs.Int.{w64}
 use Rattle.std.specs.List.{AllByRecursion}
@@ -12,11 +12,15 @@ use Rattle.tsp_theory.specs.Tree.{crossing}
 use Rattle.tsp_theory.specs.NodeBound.{most_between}
 use Rattle.tsp_theory.proofs.Crossings.{one_if, none_or_one}
 use Rattle.tsp_theory.proofs.Sizes.{size_of}
+use Rattle.tsp_format.specs.Cells.{IsNode}
+use Rattle.tsp_families.specs.declared.family.Crossings.{Crossings}
 use Rattle.tsp_branch.specs.Combs.{Comb, AreApart, crossings}
-use Rattle.tsp_branch.specs.Families.{IsFamily}
+use Rattle.tsp_branch.specs.Families.{Family, IsLoneOrComb, IsFamily}
 use Rattle.tsp_branch.specs.LeafBound.{crossings_of}
 use Rattle.tsp_branch.specs.Certificate.{multiplied}
-use Rattle.tsp_branch.specs.states.Combed.{most_crossed, most_combed}
+use Rattle.tsp_branch.specs.CombsOfSets.{NumberedSet, of_comb, family_with, families_from}
+use Rattle.tsp_branch.specs.Judged.{most_crossed, most_with}
+use Rattle.tsp_branch.specs.states.Combed.{most_combed}
 use Rattle.tsp_branch.proofs.Combs.{Apart, apart_from_pairs}
 use Rattle.tsp_branch.proofs.LeafBounds.{product_below}
 
@@ -55,38 +59,71 @@ teeth_crossed_few i j (t ∷ ts) =
     let link = of_link (t i) (t j) in
     (omega (arith, ints, rest.0, own.0), omega (arith, ints, rest.1, link))
 
--- no two teeth of a family have a node in common
-apart_teeth : (n : ℕ) (family : Comb) → IsFamily n family → Apart family.teeth
-apart_teeth n family (inl lone) = subst Apart (sym lone.alone) tt
-apart_teeth n family (inr comb) = apart_from_pairs family.teeth comb.apart
+-- no two teeth of a comb have a node in common
+apart_teeth : (n : ℕ) (sets : Comb) → IsLoneOrComb n sets → Apart sets.teeth
+apart_teeth n sets (inl lone) = subst Apart (sym lone.alone) tt
+apart_teeth n sets (inr comb) = apart_from_pairs sets.teeth comb.apart
 
-comb_crossed_few : (n : ℕ) (comb : Comb) (i j : ℕ) → IsFamily n comb → (pos 0 ≤ℤ crossings comb i j) × (crossings comb i j ≤ℤ pos 3)
-comb_crossed_few n comb i j is =
-    let apart = apart_teeth n comb is in
-    let teeth = teeth_crossed_few i j comb.teeth in
-    let handle = none_or_one (cond (comb.handle i) (not (comb.handle j)) (comb.handle j)) in
-    let one = in_one i comb.teeth apart in
-    let two = in_one j comb.teeth apart in
-    (omega (arith, ints, teeth.0, handle.0), omega (arith, ints, teeth.1, handle.1, one, two))
+crossed_some : (sets : Comb) (i j : ℕ) → pos 0 ≤ℤ crossings sets i j
+crossed_some sets i j =
+    let teeth = teeth_crossed_few i j sets.teeth in
+    let handle = none_or_one (cond (sets.handle i) (not (sets.handle j)) (sets.handle j)) in
+    omega (arith, ints, teeth.0, handle.0)
 
--- ---- all combs
+comb_crossed_few : (n : ℕ) (sets : Comb) (i j : ℕ) → IsLoneOrComb n sets → crossings sets i j ≤ℤ pos 3
+comb_crossed_few n sets i j is =
+    let apart = apart_teeth n sets is in
+    let teeth = teeth_crossed_few i j sets.teeth in
+    let handle = none_or_one (cond (sets.handle i) (not (sets.handle j)) (sets.handle j)) in
+    let one = in_one i sets.teeth apart in
+    let two = in_one j sets.teeth apart in
+    omega (arith, ints, teeth.1, handle.1, one, two)
 
-three_at_most : (multiplier crossed : ℤ) → pos 0 ≤ℤ multiplier → pos 0 ≤ℤ crossed → crossed ≤ℤ pos 3 → (pos 0 ≤ℤ (multiplier *ℤ crossed)) × ((multiplier *ℤ crossed) ≤ℤ (pos 3 *ℤ multiplier))
-three_at_most (negsuc m) crossed some low high = absurd (omega (arith, ints, some))
-three_at_most (pos m) crossed some low high =
+family_crossed_few : (n : ℕ) (family : Family) (i j : ℕ) → IsNode n i → IsNode n j → IsFamily n family → crossings family.sets i j ≤ℤ pos family.numbers.most
+family_crossed_few n family i j in_i in_j (inl known) = let few = comb_crossed_few n family.sets i j known.kind in omega (arith, ints, few, known.most_is)
+family_crossed_few n family i j in_i in_j (inr other) = other.most_is.above i j in_i in_j
+
+-- ---- all families
+
+times_at_most : (multiplier crossed : ℤ) (most : ℕ) → pos 0 ≤ℤ multiplier → pos 0 ≤ℤ crossed → crossed ≤ℤ pos most → (pos 0 ≤ℤ (multiplier *ℤ crossed)) × ((multiplier *ℤ crossed) ≤ℤ (multiplier *ℤ pos most))
+times_at_most (negsuc m) crossed most some low high = absurd (omega (arith, ints, some))
+times_at_most (pos m) crossed most some low high =
     let none = *ℤ-zero (pos m) in
     let least = product_below m (pos 0) crossed low in
-    let most = product_below m crossed (pos 3) high in
-    (omega (arith, ints, none, least), omega (arith, ints, most))
+    (omega (arith, ints, none, least), product_below m crossed (pos most) high)
 
-pub combs_crossed_few : (n : ℕ) (combs : List Comb) (multipliers : List ℤ) (i j : ℕ) → AllByRecursion (IsFamily n) combs → AllByRecursion (λ multiplier. pos 0 ≤ℤ multiplier) multipliers
-    → (pos 0 ≤ℤ total multipliers) × (pos 0 ≤ℤ crossings_of (multiplied combs multipliers) i j) × (crossings_of (multiplied combs multipliers) i j ≤ℤ (pos 3 *ℤ total multipliers))
-combs_crossed_few n [] [] i j are signs = (omega (arith, ints), omega (arith, ints), omega (arith, ints))
-combs_crossed_few n [] (m ∷ ms) i j are signs = let rest = combs_crossed_few n [] ms i j are signs.1 in
-    (omega (arith, ints, rest.0, signs.0), omega (arith, ints), omega (arith, ints, rest.0, signs.0))
-combs_crossed_few n (comb ∷ combs) [] i j are signs = (omega (arith, ints), omega (arith, ints), omega (arith, ints))
-combs_crossed_few n (comb ∷ combs) (m ∷ ms) i j are signs =
-    let rest = combs_crossed_few n combs ms i j are.1 signs.1 in
-    let few = comb_crossed_few n comb i j are.0 in
-    let own = three_at_most m (crossings comb i j) signs.0 few.0 few.1 in
-    (omega (arith, ints, rest.0, signs.0), omega (arith, ints, rest.1, own.0), omega (arith, ints, rest.2, own.1))
+pub families_crossed_few : (n first : ℕ) (crossed : List Crossings) (sets : List NumberedSet) (multipliers : List ℤ) (i j : ℕ) → IsNode n i → IsNode n j
+    → AllByRecursion (IsFamily n) (families_from first crossed sets) → AllByRecursion (λ multiplier. pos 0 ≤ℤ multiplier) multipliers
+    → (pos 0 ≤ℤ crossings_of (multiplied (families_from first crossed sets) multipliers) i j)
+    × (crossings_of (multiplied (families_from first crossed sets) multipliers) i j ≤ℤ most_with crossed multipliers)
+families_crossed_few n first [] sets ms i j in_i in_j are signs = (omega (arith, ints), omega (arith, ints))
+families_crossed_few n first (own ∷ crossed) sets [] i j in_i in_j are signs = (omega (arith, ints), omega (arith, ints))
+families_crossed_few n first (own ∷ crossed) sets (m ∷ ms) i j in_i in_j are signs =
+    let rest = families_crossed_few n (suc first) crossed sets ms i j in_i in_j are.1 signs.1 in
+    let family : Family = family_with own (of_comb first sets) in
+    let one = times_at_most m (crossings family.sets i j) own.most signs.0 (crossed_some family.sets i j) (family_crossed_few n family i j in_i in_j are.0) in
+    (omega (arith, ints, rest.0, one.0), omega (arith, ints, rest.1, one.1))
+
+-- some two nodes cross each family
+pub families_some : (n first : ℕ) (crossed : List Crossings) (sets : List NumberedSet) → AllByRecursion (IsFamily n) (families_from first crossed sets) → AllByRecursion (λ own. 1 ≤ own.most) crossed
+families_some n first [] sets are = tt
+families_some n first (own ∷ crossed) sets are = (some are.0, families_some n (suc first) crossed sets are.1)
+  where
+    some : IsFamily n (family_with own (of_comb first sets)) → 1 ≤ own.most
+    some (inl known) = omega (arith, known.most_is)
+    some (inr other) = other.parted
+
+-- so that multipliers sum to no more than the crossings
+pub multipliers_below : (crossed : List Crossings) (multipliers : List ℤ) → length multipliers ≡ length crossed → AllByRecursion (λ own. 1 ≤ own.most) crossed
+    → AllByRecursion (λ multiplier. pos 0 ≤ℤ multiplier) multipliers → total multipliers ≤ℤ most_with crossed multipliers
+multipliers_below [] [] long some signs = omega (arith, ints)
+multipliers_below [] (m ∷ ms) long some signs = absurd (omega (arith, long))
+multipliers_below (own ∷ crossed) [] long some signs = absurd (omega (arith, long))
+multipliers_below (own ∷ crossed) (m ∷ ms) long some signs =
+    let rest = multipliers_below crossed ms (omega (arith, long)) some.1 signs.1 in
+    let one = once_at_most m own.most signs.0 some.0 in
+    omega (arith, ints, rest, one)
+  where
+    once_at_most : (multiplier : ℤ) (most : ℕ) → pos 0 ≤ℤ multiplier → 1 ≤ most → multiplier ≤ℤ (multiplier *ℤ pos most)
+    once_at_most (negsuc m) most low le = absurd (omega (arith, ints, low))
+    once_at_most (pos m) most low le = let more = product_below m (pos 1) (pos most) (omega (arith, ints, le)) in omega (arith, ints, more)

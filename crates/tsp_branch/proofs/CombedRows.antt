@@ -6,7 +6,7 @@ use Rattle.std.proofs.lemmas.List.{get_or-map}
 use Rattle.tsp_branch.specs.states.Sets.{added}
 use Rattle.tsp_branch.specs.states.Combed.{no_set, as_numbered, plain, multiplier_of, twice_in, inside_both}
 use Rattle.tsp_branch.specs.CombsOfSets.{NumberedSet}
-use Rattle.tsp_branch.specs.declared.comb_set.CombSet.{CombSet}
+use Rattle.tsp_families.specs.declared.comb_set.CombSet.{CombSet}
 
 none_if : (b : Bool) → (if b then pos 0 else pos 0) ≡ pos 0
 none_if true = refl

@@ -8,20 +8,22 @@ use Rattle.std.proofs.lemmas.Int.{ints}
 use Rattle.std.proofs.lemmas.List.Elements.{recursion_from_All}
 use Rattle.tsp_theory.specs.Length.{sum_int_by}
 use Rattle.tsp_theory.specs.Tree.{crossing}
-use Rattle.tsp_branch.specs.Combs.{has, crossings}
+use Rattle.tsp_families.specs.Crossed.{has}
+use Rattle.tsp_branch.specs.Combs.{crossings}
+use Rattle.tsp_families.specs.declared.family.Crossings.{Crossings}
 use Rattle.tsp_branch.specs.LeafBound.{crossings_of}
 use Rattle.tsp_branch.specs.Certificate.{multiplied}
 use Rattle.tsp_branch.specs.states.Combed.{multiplier_of, SetsTellCombs, SetsGiveLeaves}
-use Rattle.tsp_branch.specs.CombsOfSets.{NumberedSet, comb_with, of_comb, combs_from}
+use Rattle.tsp_branch.specs.CombsOfSets.{NumberedSet, comb_with, of_comb, families_from}
 
-abbrev crossed : List (List ℕ) → ℕ → ℕ → ℤ
-crossed sets i j = sum_int_by (λ set. crossing (has set) i j) sets
+abbrev crossed_sets : List (List ℕ) → ℕ → ℕ → ℤ
+crossed_sets sets i j = sum_int_by (λ set. crossing (has set) i j) sets
 
-teeth_crossed : (teeth : List (List ℕ)) (i j : ℕ) → sum_int_by (λ tooth. crossing tooth i j) (map has teeth) ≡ crossed teeth i j
+teeth_crossed : (teeth : List (List ℕ)) (i j : ℕ) → sum_int_by (λ tooth. crossing tooth i j) (map has teeth) ≡ crossed_sets teeth i j
 teeth_crossed [] i j = refl
 teeth_crossed (tooth ∷ teeth) i j = ap (λ z. crossing (has tooth) i j +ℤ z) (teeth_crossed teeth i j)
 
-comb_crossed : (sets : List (List ℕ)) (i j : ℕ) → crossings (comb_with sets) i j ≡ crossed sets i j
+comb_crossed : (sets : List (List ℕ)) (i j : ℕ) → crossings (comb_with sets) i j ≡ crossed_sets sets i j
 comb_crossed [] i j = refl
 comb_crossed (handle ∷ teeth) i j = ap (λ z. crossing (has handle) i j +ℤ z) (teeth_crossed teeth i j)
 
@@ -82,13 +84,16 @@ pub all_summed : (g : List ℕ → ℤ) (ms : List ℤ) (sets : List NumberedSet
 all_summed g ms [] h = none_summed g 0 ms
 all_summed g ms (set ∷ sets) h = one_set g 0 set.comb ms set sets (omega arith) h.0 ∙ ap (λ z. (get_or ms set.comb (pos 0) *ℤ g set.nodes) +ℤ z) (all_summed g ms sets h.1)
 
-combs_crossed : (first : ℕ) (ms : List ℤ) (sets : List NumberedSet) (i j : ℕ) → crossings_of (multiplied (combs_from first (length ms) sets) ms) i j ≡ by_comb
-    (λ set. crossing (has set) i j) first ms sets
-combs_crossed first [] sets i j = refl
-combs_crossed first (m ∷ ms) sets i j = ap₂ (λ a b. (m *ℤ a) +ℤ b) (comb_crossed (of_comb first sets) i j) (combs_crossed (suc first) ms sets i j)
+combs_crossed : (first : ℕ) (crossed : List Crossings) (ms : List ℤ) (sets : List NumberedSet) (i j : ℕ) → length ms ≡ length crossed
+    → crossings_of (multiplied (families_from first crossed sets) ms) i j ≡ by_comb (λ set. crossing (has set) i j) first ms sets
+combs_crossed first [] [] sets i j long = refl
+combs_crossed first (own ∷ crossed) [] sets i j long = absurd (omega (arith, long))
+combs_crossed first [] (m ∷ ms) sets i j long = absurd (omega (arith, long))
+combs_crossed first (own ∷ crossed) (m ∷ ms) sets i j long =
+    ap₂ (λ a b. (m *ℤ a) +ℤ b) (comb_crossed (of_comb first sets) i j) (combs_crossed (suc first) crossed ms sets i j (omega (arith, long)))
 
 pub sets_tell_combs : SetsTellCombs
-sets_tell_combs ms sets i j h = combs_crossed 0 ms sets i j ∙ all_summed (λ set. crossing (has set) i j) ms sets (recursion_from_All (λ set. set.comb < length ms) sets h)
+sets_tell_combs crossed ms sets i j long h = combs_crossed 0 crossed ms sets i j long ∙ all_summed (λ set. crossing (has set) i j) ms sets (recursion_from_All (λ set. set.comb < length ms) sets h)
 
 pub sets_give_leaves : SetsGiveLeaves
-sets_give_leaves scale potentials ms taken avoided sets cost i j h = let same = sets_tell_combs ms sets i j h in omega (arith, ints, same)
+sets_give_leaves scale crossed potentials ms taken avoided sets cost i j long h = let same = sets_tell_combs crossed ms sets i j long h in omega (arith, ints, same)

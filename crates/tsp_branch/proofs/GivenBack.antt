@@ -12,14 +12,16 @@ use Rattle.std.proofs.lemmas.List.Elements.{recursion_from_All, All-drop}
 use Rattle.tsp_theory.specs.Numbers.{IsFromTo, total}
 use Rattle.tsp_theory.specs.Adjusted.{triples_total}
 use Rattle.tsp_theory.proofs.Sizes.{size_of}
-use Rattle.tsp_branch.specs.Families.{least_crossings_of}
+use Rattle.tsp_families.specs.declared.family.Crossings.{Crossings}
+use Rattle.tsp_branch.specs.LeafBound.{least_of}
+use Rattle.tsp_branch.specs.Certificate.{multiplied}
 use Rattle.tsp_branch.specs.declared.decision.Decision.{Decision}
 use Rattle.tsp_branch.specs.Decisions.{on_taken, decided_number}
 use Rattle.tsp_branch.specs.states.Combed.{plain}
-use Rattle.tsp_branch.specs.Judged.{most_multiplied}
-use Rattle.tsp_branch.specs.CombsOfSets.{least_with}
+use Rattle.tsp_branch.specs.Judged.{most_crossed}
+use Rattle.tsp_branch.specs.CombsOfSets.{NumberedSet, families_from, least_with}
 use Rattle.tsp_branch.specs.states.Decided.{stack_of}
-use Rattle.tsp_branch.specs.declared.comb_set.CombSet.{CombSet}
+use Rattle.tsp_families.specs.declared.comb_set.CombSet.{CombSet}
 use Rattle.tsp_branch.proofs.LeafBounds.{product_below}
 
 -- ---- sums of numbers
@@ -112,12 +114,18 @@ total_some (z ∷ zs) h = omega (arith, ints, h.0, total_some zs h.1)
 pub left_some : (numbers : List ℤ) (index : ℕ) → All (λ number. pos 0 ≤ℤ number) numbers → pos 0 ≤ℤ total (drop index numbers)
 left_some numbers index h = total_some (drop index numbers) (recursion_from_All (λ number. pos 0 ≤ℤ number) (drop index numbers) (All-drop (λ number. pos 0 ≤ℤ number) index numbers h))
 
-pub least_left : (counts : List ℕ) (ms : List ℤ) (index : ℕ) → index < length counts → index < length ms
-    → least_with (drop index counts) (drop index ms) ≡ (get_or ms index (pos 0) *ℤ pos (least_crossings_of (get_or counts index 0 - 1))) +ℤ least_with (drop (index + 1) counts) (drop (index + 1) ms)
-least_left counts ms index lt below =
-    ap (λ cs. least_with cs (drop index ms)) (drop-cons counts index 0 lt)
-    ∙ ap (λ zs. least_with (get_or counts index 0 ∷ drop (suc index) counts) zs) (drop-cons ms index (pos 0) below)
+pub least_left : (crossed : List Crossings) (ms : List ℤ) (index : ℕ) (default : Crossings) → index < length crossed → index < length ms
+    → least_with (drop index crossed) (drop index ms) ≡ (get_or ms index (pos 0) *ℤ pos (get_or crossed index default).least) +ℤ least_with (drop (index + 1) crossed) (drop (index + 1) ms)
+least_left crossed ms index default lt below =
+    ap (λ cs. least_with cs (drop index ms)) (drop-cons crossed index default lt)
+    ∙ ap (λ zs. least_with (get_or crossed index default ∷ drop (suc index) crossed) zs) (drop-cons ms index (pos 0) below)
     ∙ rw (add-one index) refl
+
+-- what the families give back, whatever their sets
+pub least_told : (first : ℕ) (crossed : List Crossings) (ms : List ℤ) (sets : List NumberedSet) → least_of (multiplied (families_from first crossed sets) ms) ≡ least_with crossed ms
+least_told first [] ms sets = refl
+least_told first (own ∷ crossed) [] sets = refl
+least_told first (own ∷ crossed) (m ∷ ms) sets = ap (λ (z : ℤ). (m *ℤ pos own.least) +ℤ z) (least_told (suc first) crossed ms sets)
 
 -- ---- as the code computes it
 
@@ -125,20 +133,20 @@ least_left counts ms index lt below =
 pub record AddsFamily (sum m rest : ℤ) (r : ℕ) (a b : ℤ) : Type 0 where
   pub product : to_z w128 (of_z w128 (to_z w128 (of_z w128 a) *ℤ to_z w128 (of_z w128 b))) ≡ m *ℤ pos r
   pub low : pos 0 ≤ℤ (sum +ℤ (m *ℤ pos r))
-  pub high : ((sum +ℤ (m *ℤ pos r)) +ℤ (pos (2 ^ 34) *ℤ rest)) ≤ℤ pos (2 ^ 34 * most_multiplied)
+  pub high : ((sum +ℤ (m *ℤ pos r)) +ℤ (pos (2 ^ 34) *ℤ rest)) ≤ℤ pos (2 ^ 34 * most_crossed)
   pub fits : FitsSigned w128 (sum +ℤ (m *ℤ pos r))
   pub computed : to_z w128 (of_z w128 (sum +ℤ (m *ℤ pos r))) ≡ sum +ℤ (m *ℤ pos r)
 
-pub adds_family : (sum m rest : ℤ) (r : ℕ) (a b : ℤ) → pos 0 ≤ℤ sum → pos 0 ≤ℤ m → pos 0 ≤ℤ rest → (sum +ℤ (pos (2 ^ 34) *ℤ (m +ℤ rest))) ≤ℤ pos (2 ^ 34 * most_multiplied) → r < 2 ^ 34
+pub adds_family : (sum m rest : ℤ) (r : ℕ) (a b : ℤ) → pos 0 ≤ℤ sum → pos 0 ≤ℤ m → pos 0 ≤ℤ rest → (sum +ℤ (pos (2 ^ 34) *ℤ (m +ℤ rest))) ≤ℤ pos (2 ^ 34 * most_crossed) → r < 2 ^ 34
     → a ≡ m → b ≡ pos r → AddsFamily sum m rest r a b
 adds_family sum m rest r a b some m_some rest_some high few a_is b_is =
     let size = product_size m r m_some few in
-    let most : m ≤ℤ pos most_multiplied = omega (arith, ints, some, m_some, rest_some, high) in
+    let most : m ≤ℤ pos most_crossed = omega (arith, ints, some, m_some, rest_some, high) in
     let first : to_z w128 (of_z w128 a) ≡ m = omega (arith, ints, m_some, most, a_is) in
     let second : to_z w128 (of_z w128 b) ≡ pos r = omega (arith, ints, few, b_is) in
     let low : pos 0 ≤ℤ (sum +ℤ (m *ℤ pos r)) = omega (arith, ints, some, size.0) in
-    let up : ((sum +ℤ (m *ℤ pos r)) +ℤ (pos (2 ^ 34) *ℤ rest)) ≤ℤ pos (2 ^ 34 * most_multiplied) = omega (arith, ints, size.1, high) in
-    let fits : FitsSigned w128 (sum +ℤ (m *ℤ pos r)) = fits_signed_from_abs w128 (sum +ℤ (m *ℤ pos r)) (let own = size_of (2 ^ 34 * most_multiplied) (sum +ℤ (m *ℤ pos r)) (omega (arith, ints, low), omega (arith, ints, up, rest_some)) in omega (arith, own)) in
+    let up : ((sum +ℤ (m *ℤ pos r)) +ℤ (pos (2 ^ 34) *ℤ rest)) ≤ℤ pos (2 ^ 34 * most_crossed) = omega (arith, ints, size.1, high) in
+    let fits : FitsSigned w128 (sum +ℤ (m *ℤ pos r)) = fits_signed_from_abs w128 (sum +ℤ (m *ℤ pos r)) (let own = size_of (2 ^ 34 * most_crossed) (sum +ℤ (m *ℤ pos r)) (omega (arith, ints, low), omega (arith, ints, up, rest_some)) in omega (arith, own)) in
     record {
       product = rw (first, second) (omega (arith, ints, size.0, size.1, most));
       low = low;

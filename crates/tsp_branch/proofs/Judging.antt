@@ -13,10 +13,10 @@ use Rattle.tsp_format.specs.states.TreeSteps.{step_of, steps_of}
 use Rattle.tsp_format.specs.Steps.{are_whole}
 use Rattle.tsp_theory.specs.Costs.{IsSymmetric}
 use Rattle.tsp_theory.specs.Numbers.{IsFromTo, IsScale, IsBoundSized}
+use Rattle.tsp_families.specs.declared.family.Crossings.{Crossings}
 use Rattle.tsp_branch.specs.declared.steps.Judged.{Judged}
 use Rattle.tsp_branch.specs.declared.steps.Judged.TheVariants as judged
-use Rattle.tsp_branch.specs.Combs.{Comb}
-use Rattle.tsp_branch.specs.Families.{IsFamily}
+use Rattle.tsp_branch.specs.Families.{Family, IsFamily}
 use Rattle.tsp_branch.specs.declared.decision.Decision.{Decision}
 use Rattle.tsp_branch.specs.Decisions.{DecideOnce, decided_number}
 use Rattle.tsp_branch.specs.declared.steps.JudgedLeaf.{JudgedLeaf}
@@ -24,7 +24,7 @@ use Rattle.tsp_branch.specs.declared.steps.JudgedLeaf.TheVariants as leaves
 use Rattle.tsp_branch.specs.Cases.{LeafNumbers, are_trees, leaves_of, next_stack}
 use Rattle.tsp_branch.specs.Certificate.{IsCertificate, IsLeastFound, AreCostsFor, CertificatesBoundCycles}
 use Rattle.tsp_branch.specs.states.Decided.{stack_of}
-use Rattle.tsp_branch.specs.Judged.{AreGoodNumbers, as_leaf_numbers, most_multiplied}
+use Rattle.tsp_branch.specs.Judged.{AreGoodNumbers, as_leaf_numbers, most_crossed}
 use Rattle.tsp_branch.specs.Listed.{all_grown, split_at, steps_from, no_numbers_of, listed_steps, IsStepOf, AreSteps, AreGoodLeaves, IsFirstBadLeaf, IsJudged, BoundsCycles, IsLowest}
 use Rattle.tsp_branch.specs.Twice.{AreBranchesJudged}
 use Rattle.tsp_branch.specs.states.Rooms.{AreSmall, IsJudgedLeaf, IsSizedLeaf}
@@ -36,38 +36,36 @@ use Rattle.tsp_branch.proofs.Passes.{IsAtStep, at_leaf, at_last}
 pub written : {A : Type 0} (len : ℕ) (xs rest : List A) → length xs ≡ len → take len (xs ++ rest) ≡ xs
 written len xs rest long = take-append-le len xs rest (omega (arith, long)) ∙ take_all len xs (omega (arith, long))
 
-pub good_are_small : (n count : ℕ) (numbers : List ℤ) → AreGoodNumbers n count (split_at n numbers) → AreSmall numbers
-good_are_small n count numbers good =
+pub good_are_small : (n : ℕ) (crossed : List Crossings) (numbers : List ℤ) → All (λ own. 1 ≤ own.most) crossed → AreGoodNumbers n crossed (split_at n numbers) → AreSmall numbers
+good_are_small n crossed numbers some good =
     subst AreSmall (take-append-drop n numbers)
     (All-append (IsFromTo (neg_ℤ (pos (2 ^ 64))) (pos (2 ^ 64))) (take n numbers) (drop n numbers)
     (All-weaker (IsFromTo (neg_ℤ (pos most_potential)) (pos most_potential)) (IsFromTo (neg_ℤ (pos (2 ^ 64))) (pos (2 ^ 64)))
     (λ z is. (omega (arith, ints, is.0), omega (arith, ints, is.1))) (take n numbers) good.potentials_are)
-    (All-weaker (IsFromTo (pos 0) (pos most_multiplied)) (IsFromTo (neg_ℤ (pos (2 ^ 64))) (pos (2 ^ 64)))
-    (λ z is. (omega (arith, ints, is.0), omega (arith, ints, is.1))) (drop n numbers) (small_multipliers n count (take n numbers) (drop n numbers) good)))
+    (All-weaker (IsFromTo (pos 0) (pos most_crossed)) (IsFromTo (neg_ℤ (pos (2 ^ 64))) (pos (2 ^ 64)))
+    (λ z is. (omega (arith, ints, is.0), omega (arith, ints, is.1))) (drop n numbers) (small_multipliers n crossed (take n numbers) (drop n numbers) some good)))
 
-pub judged_leaf : (Found : List Decision × LeafNumbers → Option ℤ → Type 0) (n count : ℕ) (case : List Decision) (old : List ℤ) (changes : List (ℕ × ℤ)) (new potentials multipliers : List ℤ) (own : Option ℤ)
-    → length old ≡ n + count → All (λ change. IsNode (length old) change.0) changes → new ≡ all_grown changes old → AreGoodNumbers n count (split_at n new)
+pub judged_leaf : (Found : List Decision × LeafNumbers → Option ℤ → Type 0) (n : ℕ) (crossed : List Crossings) (case : List Decision) (old : List ℤ) (changes : List (ℕ × ℤ)) (new potentials multipliers : List ℤ) (own : Option ℤ)
+    → length old ≡ n + length crossed → All (λ own. 1 ≤ own.most) crossed → All (λ change. IsNode (length old) change.0) changes → new ≡ all_grown changes old → AreGoodNumbers n crossed (split_at n new)
     → potentials ≡ take n new → multipliers ≡ drop n new → Found (case, as_leaf_numbers potentials multipliers) own
-    → IsJudgedLeaf Found n count case old changes new (leaves.Found own)
-judged_leaf Found n count case old changes new potentials multipliers own long inside grown good of_nodes of_combs is = (
+    → IsJudgedLeaf Found n crossed case old changes new (leaves.Found own)
+judged_leaf Found n crossed case old changes new potentials multipliers own long some inside grown good of_nodes of_combs is = (
   record {
     indexes = subst (λ (k : ℕ). All (λ change. IsNode k change.0) changes) long inside;
-    numbers_are = subst (λ (zs : List ℤ). AreGoodNumbers n count (split_at n zs)) grown good;
+    numbers_are = subst (λ (zs : List ℤ). AreGoodNumbers n crossed (split_at n zs)) grown good;
   },
   grown,
-  good_are_small n count new good,
+  good_are_small n crossed new some good,
   subst (λ (zs : List ℤ). Found (case, split_at n zs) own) grown
       (subst (λ (zs : List ℤ). Found (case, as_leaf_numbers (take n new) zs) own) of_combs
       (subst (λ (zs : List ℤ). Found (case, as_leaf_numbers zs multipliers) own) of_nodes is)),
 )
 
 -- good numbers, as they are read
-pub good_read : (n count p m : ℕ) (read numbers : List ℤ) → p ≡ n → m ≡ count → read ≡ numbers → AreGoodNumbers p m (as_leaf_numbers (take p read) (drop p read))
-    → AreGoodNumbers n count (split_at n numbers)
-good_read n count p m read numbers at of same good =
-    subst (λ (zs : List ℤ). AreGoodNumbers n count (split_at n zs)) same
-    (subst (λ (k : ℕ). AreGoodNumbers k count (split_at k read)) at
-    (subst (λ (k : ℕ). AreGoodNumbers p k (split_at p read)) of good))
+pub good_read : (n p : ℕ) (crossed : List Crossings) (read numbers : List ℤ) → p ≡ n → read ≡ numbers → AreGoodNumbers p crossed (as_leaf_numbers (take p read) (drop p read))
+    → AreGoodNumbers n crossed (split_at n numbers)
+good_read n p crossed read numbers at same good =
+    subst (λ (zs : List ℤ). AreGoodNumbers n crossed (split_at n zs)) same (subst (λ (k : ℕ). AreGoodNumbers k crossed (split_at k read)) at good)
 
 -- ---- the steps
 
@@ -81,12 +79,12 @@ whole_trees n numbers (suc count) (listed.Branch a b ∷ steps) = whole_trees n 
 whole_trees n numbers (suc count) (listed.Leaf changes ∷ steps) = whole_trees n (all_grown changes numbers) count steps
 
 -- what the bound of a tree of cases asks of the steps
-pub steps_judged : (directed : Bool) (n combs : ℕ) (given : List Decision) (steps : List listed.Step) (found : Option ℕ) → All (IsStepOf n) steps → are_whole 1 steps ≡ true
-    → AreBranchesJudged directed given steps found → found ≡ None → AreSteps directed n given steps (listed_steps n combs steps)
-steps_judged directed n combs given steps found each whole judged none = record {
+pub steps_judged : (directed : Bool) (n : ℕ) (crossed : List Crossings) (given : List Decision) (steps : List listed.Step) (found : Option ℕ) → All (IsStepOf n) steps → are_whole 1 steps ≡ true
+    → AreBranchesJudged directed given steps found → found ≡ None → AreSteps directed n given steps (listed_steps n (length crossed) steps)
+steps_judged directed n crossed given steps found each whole judged none = record {
   each = each;
-  whole = sym (whole_trees n (no_numbers_of n combs) 1 steps) ∙ whole;
-  once = (subst (AreBranchesJudged directed given steps) none judged).1 n combs;
+  whole = sym (whole_trees n (no_numbers_of n (length crossed)) 1 steps) ∙ whole;
+  once = (subst (AreBranchesJudged directed given steps) none judged).1 n (length crossed);
 }
 
 -- ---- the step that is next
@@ -101,37 +99,37 @@ own_step n steps index step other each lt is same =
     subst (λ (s : TreeStep). IsStepOf n (step_of s)) (sym is ∙ same)
     (subst (IsStepOf n) (get_or-map step_of steps index step (step_of step) lt) (each index (step_of step) (subst (λ (k : ℕ). index < k) (sym (length-map steps step_of)) lt)))
 
-module _ (Found : List Decision × LeafNumbers → Option ℤ → Type 0) (directed : Bool) (n count : ℕ) (given : List Decision) where
+module _ (Found : List Decision × LeafNumbers → Option ℤ → Type 0) (directed : Bool) (n : ℕ) (crossed : List Crossings) (given : List Decision) where
   pub at_next : (all : List TreeStep) (numbers : List ℤ) (stack : List Decision) (lowest : Option ℤ)
       (leaf index : ℕ) (step other : TreeStep) → index < length all → step ≡ get_or all index step → step ≡ other
-      → IsAtStep Found directed n count given (steps_of all) numbers stack lowest leaf (steps_of (drop index all))
-      → IsAtStep Found directed n count given (steps_of all) numbers stack lowest leaf (step_of other ∷ steps_of (drop (index + 1) all))
+      → IsAtStep Found directed n crossed given (steps_of all) numbers stack lowest leaf (steps_of (drop index all))
+      → IsAtStep Found directed n crossed given (steps_of all) numbers stack lowest leaf (step_of other ∷ steps_of (drop (index + 1) all))
   at_next all numbers stack lowest leaf index step other lt is same at =
-      subst (λ (steps : List TreeStep). IsAtStep Found directed n count given (steps_of all) numbers stack lowest leaf (steps_of steps))
+      subst (λ (steps : List TreeStep). IsAtStep Found directed n crossed given (steps_of all) numbers stack lowest leaf (steps_of steps))
       (left_at all index step lt is ∙ ap (λ (s : TreeStep). s ∷ drop (index + 1) all) same) at
 
-module _ (Found : List Decision × LeafNumbers → Option ℤ → Type 0) (directed : Bool) (n count : ℕ) (given : List Decision) (all : List listed.Step) where
+module _ (Found : List Decision × LeafNumbers → Option ℤ → Type 0) (directed : Bool) (n : ℕ) (crossed : List Crossings) (given : List Decision) (all : List listed.Step) where
   abbrev pub AtNext : List ℤ → List Decision → Option ℤ → ℕ → List listed.Step → Type 0
-  AtNext numbers stack lowest leaf steps = IsAtStep Found directed n count given all numbers stack lowest leaf steps
+  AtNext numbers stack lowest leaf steps = IsAtStep Found directed n crossed given all numbers stack lowest leaf steps
 
   abbrev JudgedAs : List ℤ → List Decision → List (ℕ × ℤ) → List ℤ → JudgedLeaf → Type 0
-  JudgedAs numbers stack changes new found = IsJudgedLeaf Found n count (stack_of stack ++ given) numbers changes new found
+  JudgedAs numbers stack changes new found = IsJudgedLeaf Found n crossed (stack_of stack ++ given) numbers changes new found
 
   pub bad_here : (numbers : List ℤ) (stack : List Decision) (lowest : Option ℤ) (leaf : ℕ) (changes : List (ℕ × ℤ)) (rest : List listed.Step) (new : List ℤ) (found : JudgedLeaf)
       → AtNext numbers stack lowest leaf (listed.Leaf changes ∷ rest) → JudgedAs numbers stack changes new found → found ≡ leaves.Bad
-      → IsFirstBadLeaf n count all (leaf + 1)
+      → IsFirstBadLeaf n crossed all (leaf + 1)
   bad_here numbers stack lowest leaf changes rest new found at judged none =
-      first_bad_by_place n count all (leaf + 1) (at.bad (leaf + 1) (inl (add-one leaf, subst (JudgedAs numbers stack changes new) none judged)))
+      first_bad_by_place n crossed all (leaf + 1) (at.bad (leaf + 1) (inl (add-one leaf, subst (JudgedAs numbers stack changes new) none judged)))
 
-  pub last_found : (families : List Comb) (numbers : List ℤ) (stack : List Decision) (lowest : Option ℤ) (leaf : ℕ) (changes : List (ℕ × ℤ)) (rest : List listed.Step) (new : List ℤ)
+  pub last_found : (families : List Family) (numbers : List ℤ) (stack : List Decision) (lowest : Option ℤ) (leaf : ℕ) (changes : List (ℕ × ℤ)) (rest : List listed.Step) (new : List ℤ)
       (found : JudgedLeaf) (own lower : Option ℤ)
-      → AtNext numbers stack lowest leaf (listed.Leaf changes ∷ rest) → All (IsFamily n) families → are_trees 1 (listed_steps n count all) ≡ true
+      → AtNext numbers stack lowest leaf (listed.Leaf changes ∷ rest) → All (IsFamily n) families → are_trees 1 (listed_steps n (length crossed) all) ≡ true
       → JudgedAs numbers stack changes new found → found ≡ leaves.Found own → IsLowest lowest own lower → next_stack (stack_of stack) ≡ None
-      → IsCertificate n families given (listed_steps n count all) × IsLeastFound Found (leaves_of (given ∷ []) (listed_steps n count all)) lower
-      × AreGoodLeaves n count all
+      → IsCertificate n families given (listed_steps n (length crossed) all) × IsLeastFound Found (leaves_of (given ∷ []) (listed_steps n (length crossed) all)) lower
+      × AreGoodLeaves n crossed all
   last_found families numbers stack lowest leaf changes rest new found own lower at are whole judged some low turned =
       let is = subst (JudgedAs numbers stack changes new) some judged in
-      at_last Found directed n count given all families numbers stack lowest leaf changes rest own lower at are whole is.0 is.3 low turned
+      at_last Found directed n crossed given all families numbers stack lowest leaf changes rest own lower at are whole is.0 is.3 low turned
 
   pub more_found : (numbers : List ℤ) (stack : List Decision) (lowest : Option ℤ) (leaf : ℕ) (changes : List (ℕ × ℤ)) (rest : List listed.Step) (new : List ℤ) (next : List Decision)
       (found : JudgedLeaf) (own lower : Option ℤ) → AtNext numbers stack lowest leaf (listed.Leaf changes ∷ rest)
@@ -141,7 +139,7 @@ module _ (Found : List Decision × LeafNumbers → Option ℤ → Type 0) (direc
       let is = subst (JudgedAs numbers stack changes new) some judged in (
         subst (λ (k : ℕ). AtNext new next lower k rest) (sym (add-one leaf))
             (subst (λ (ns : List ℤ). AtNext ns next lower (suc leaf) rest) (sym is.1)
-            (at_leaf Found directed n count given all numbers stack lowest leaf changes rest next own lower at is.0 is.3 low turned)),
+            (at_leaf Found directed n crossed given all numbers stack lowest leaf changes rest next own lower at is.0 is.3 low turned)),
         is.2,
       )
 
@@ -162,11 +160,11 @@ low_sized lowest own lower found before here some is = sized lowest own before (
 
 -- ---- the whole
 
-pub cycles_of : CertificatesBoundCycles → (directed : Bool) (n : ℕ) (cost : ℕ → ℕ → ℤ) (scale : ℤ) (families : List Comb) (count : ℕ) (given : List Decision) (steps : List listed.Step) (found : Judged)
-    → AreCostsFor directed n cost → IsScale scale → IsJudged directed n cost scale families count given steps found → BoundsCycles directed n cost given found
-cycles_of bounds directed n cost scale families count given steps (judged.Bound found) costs_are scale_in is =
-    bounds directed n cost scale decided_number families given (listed_steps n count steps) found costs_are scale_in is.0 is.1
-cycles_of bounds directed n cost scale families count given steps (judged.BadLeaf leaf) costs_are scale_in is = tt
+pub cycles_of : CertificatesBoundCycles → (directed : Bool) (n : ℕ) (cost : ℕ → ℕ → ℤ) (scale : ℤ) (families : List Family) (crossed : List Crossings) (given : List Decision) (steps : List listed.Step) (found : Judged)
+    → AreCostsFor directed n cost → IsScale scale → IsJudged directed n cost scale families crossed given steps found → BoundsCycles directed n cost given found
+cycles_of bounds directed n cost scale families crossed given steps (judged.Bound found) costs_are scale_in is =
+    bounds directed n cost scale decided_number families given (listed_steps n (length crossed) steps) found costs_are scale_in is.0 is.1
+cycles_of bounds directed n cost scale families crossed given steps (judged.BadLeaf leaf) costs_are scale_in is = tt
 
 -- three nodes, and costs that are the same in both directions where pairs have none
 pub costs_for : (directed : Bool) (n : ℕ) (cost : ℕ → ℕ → ℤ) → 3 ≤ n → (directed ≡ false → IsSymmetric cost) → AreCostsFor directed n cost

@@ -18,7 +18,7 @@ use Rattle.tsp_theory.proofs.Exchange.{crosses_turned}
 use Rattle.tsp_theory.proofs.Crossings.{one_if}
 use Rattle.tsp_theory.proofs.Adjustments.{adjusted_even, sum_zero, difference, adjusted_cycle}
 use Rattle.tsp_branch.specs.Combs.{Comb, crossings}
-use Rattle.tsp_branch.specs.Families.{IsFamily, least_crossings_of, CyclesCrossFamilies}
+use Rattle.tsp_branch.specs.Families.{Family, IsFamily, CyclesCrossFamilies}
 use Rattle.tsp_branch.specs.LeafBound.{crossings_of, least_of, combed, leaf_weight, LeafBoundsBoundCycles, UncombedBoundsAreAdjustedBounds}
 
 -- ---- crossings are symmetric
@@ -30,11 +30,11 @@ teeth_even i j (t ∷ ts) = ap₂ (λ a b. a +ℤ b) (ap one_if (crosses_turned 
 comb_even : (comb : Comb) (i j : ℕ) → crossings comb i j ≡ crossings comb j i
 comb_even comb i j = ap₂ (λ a b. a +ℤ b) (ap one_if (crosses_turned comb.handle i j)) (teeth_even i j comb.teeth)
 
-combs_even : (combs : List (Comb × ℤ)) (i j : ℕ) → crossings_of combs i j ≡ crossings_of combs j i
+combs_even : (combs : List (Family × ℤ)) (i j : ℕ) → crossings_of combs i j ≡ crossings_of combs j i
 combs_even [] i j = refl
-combs_even (c ∷ cs) i j = ap₂ (λ a b. a +ℤ b) (ap (λ z. c.1 *ℤ z) (comb_even c.0 i j)) (combs_even cs i j)
+combs_even (c ∷ cs) i j = ap₂ (λ a b. a +ℤ b) (ap (λ z. c.1 *ℤ z) (comb_even c.0.sets i j)) (combs_even cs i j)
 
-pub leaf_even : (scale : ℤ) (potentials : List ℤ) (taken avoided : List (ℕ × ℕ × ℤ)) (combs : List (Comb × ℤ)) (cost : ℕ → ℕ → ℤ) → IsSymmetric cost
+pub leaf_even : (scale : ℤ) (potentials : List ℤ) (taken avoided : List (ℕ × ℕ × ℤ)) (combs : List (Family × ℤ)) (cost : ℕ → ℕ → ℤ) → IsSymmetric cost
     → (i j : ℕ) → leaf_weight scale potentials taken avoided combs cost i j ≡ leaf_weight scale potentials taken avoided combs cost j i
 leaf_even scale potentials taken avoided combs cost even i j =
     ap₂ (λ a b. a -ℤ b) (adjusted_even taken avoided (weight_between scale potentials cost) (weight_even scale potentials cost even) i j) (combs_even combs i j)
@@ -45,20 +45,20 @@ pub product_below : (m : ℕ) (a b : ℤ) → a ≤ℤ b → (pos m *ℤ a) ≤�
 product_below zero a b h = let first = zero-*ℤ a in let second = zero-*ℤ b in omega (arith, ints, first, second)
 product_below (suc m) a b h = omega (arith, ints, h, product_below m a b h, suc_ℤ-*ℤ (pos m) a, suc_ℤ-*ℤ (pos m) b)
 
-comb_of_cycle : (n : ℕ) (nodes : List ℕ) (comb : Comb) (multiplier : ℤ) → Laws → CyclesCrossFamilies → IsCycle n nodes → IsFamily n comb → pos 0 ≤ℤ multiplier
-    → (multiplier *ℤ pos (least_crossings_of (length comb.teeth))) ≤ℤ length_of (λ i j. multiplier *ℤ crossings comb i j) nodes
-comb_of_cycle n nodes comb (pos m) laws crossed cycle is some =
-    let scaled = laws.scale m (crossings comb) nodes in
-    let below = product_below m (pos (least_crossings_of (length comb.teeth))) (length_of (crossings comb) nodes) (crossed n comb nodes is cycle) in
+comb_of_cycle : (n : ℕ) (nodes : List ℕ) (family : Family) (multiplier : ℤ) → Laws → CyclesCrossFamilies → IsCycle n nodes → IsFamily n family → pos 0 ≤ℤ multiplier
+    → (multiplier *ℤ pos family.numbers.least) ≤ℤ length_of (λ i j. multiplier *ℤ crossings family.sets i j) nodes
+comb_of_cycle n nodes family (pos m) laws crossed cycle is some =
+    let scaled = laws.scale m (crossings family.sets) nodes in
+    let below = product_below m (pos family.numbers.least) (length_of (crossings family.sets) nodes) (crossed n family nodes is cycle) in
     omega (arith, ints, scaled, below)
-comb_of_cycle n nodes comb (negsuc m) laws crossed cycle is some = absurd (omega (arith, ints, some))
+comb_of_cycle n nodes family (negsuc m) laws crossed cycle is some = absurd (omega (arith, ints, some))
 
-pub combs_of_cycle : (n : ℕ) (nodes : List ℕ) (combs : List (Comb × ℤ)) → Laws → CyclesCrossFamilies → IsCycle n nodes → AllByRecursion (λ c. IsFamily n c.0 × (pos 0 ≤ℤ c.1)) combs
+pub combs_of_cycle : (n : ℕ) (nodes : List ℕ) (combs : List (Family × ℤ)) → Laws → CyclesCrossFamilies → IsCycle n nodes → AllByRecursion (λ c. IsFamily n c.0 × (pos 0 ≤ℤ c.1)) combs
     → least_of combs ≤ℤ length_of (crossings_of combs) nodes
 combs_of_cycle n nodes [] laws crossed cycle are = omega (arith, ints, sum_zero (links nodes))
 combs_of_cycle n nodes (c ∷ cs) laws crossed cycle are =
     let first = comb_of_cycle n nodes c.0 c.1 laws crossed cycle are.0.0 are.0.1 in
-    let split = laws.sum (λ i j. c.1 *ℤ crossings c.0 i j) (crossings_of cs) nodes in
+    let split = laws.sum (λ i j. c.1 *ℤ crossings c.0.sets i j) (crossings_of cs) nodes in
     omega (arith, ints, first, split, combs_of_cycle n nodes cs laws crossed cycle are.1)
 
 pub leaf_bounds_bound_cycles : Laws → CyclesCrossFamilies → LeafBoundsBoundCycles

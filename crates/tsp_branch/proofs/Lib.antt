@@ -24,6 +24,7 @@ pub mod Judging
 pub mod Grown
 pub mod CaseWeights
 pub mod GivenBack
+pub mod MostCrossed
 pub mod NodeMarks
 pub mod Teeth
 pub mod CombRuns
@@ -34,8 +35,8 @@ pub mod CostRows
 pub mod Links
 pub mod LeastLinks
 pub mod Families
+pub mod FamilyKinds
 pub mod RowLeaves
-pub mod SetCounts
 pub mod Closed
 pub mod OpenRows
 pub mod Sums

@@ -6,7 +6,7 @@ use Rattle.std.proofs.lemmas.Bool.{cases_Bool}
 use Rattle.std.proofs.lemmas.Int.{ints, int_wrap_fits, SFits-int_wrap}
 use Rattle.tsp_branch.specs.states.Sets.{IsMoved, added}
 use Rattle.tsp_branch.specs.states.Combed.{plain, multipliers_at}
-use Rattle.tsp_branch.specs.declared.comb_set.CombSet.{CombSet}
+use Rattle.tsp_families.specs.declared.comb_set.CombSet.{CombSet}
 
 pub added_less : (number : ℤ) (nodes : List ℕ) (x : ℕ) → added (neg_ℤ number) nodes x ≡ neg_ℤ (added number nodes x)
 added_less number [] x = refl

@@ -14,7 +14,8 @@ use Rattle.tsp_theory.specs.Length.{sum_int_by}
 use Rattle.tsp_theory.specs.Tree.{crossing}
 use Rattle.tsp_theory.proofs.Crossings.{one_if}
 use Rattle.tsp_theory.proofs.Neighbours.{count}
-use Rattle.tsp_branch.specs.Combs.{IsTooth, AreApart, has, one_in_tooth, NumbersTellCombs, IsToothNumbering, NumbersTellLists}
+use Rattle.tsp_families.specs.Crossed.{has}
+use Rattle.tsp_branch.specs.Combs.{IsTooth, AreApart, one_in_tooth, NumbersTellCombs, IsToothNumbering, NumbersTellLists}
 
 abbrev tooth : (ℕ → ℕ) → ℕ → ℕ → Bool
 tooth tooth_of t x = tooth_of x == t

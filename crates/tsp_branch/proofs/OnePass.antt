@@ -2,6 +2,7 @@
 use Rattle.std.proofs.Common.{◌≡◌, ℕ, zero, suc, ◌+◌, ◌-◌, ◌<◌, Bool, true, false, List, [], ◌∷◌, get_or, take, length, ℤ, inl, inr, subst, arith}
 use Rattle.std.specs.Prelude.{◌⊎◌}
 use Rattle.tsp_format.specs.Steps as listed
+use Rattle.tsp_families.specs.declared.family.Crossings.{Crossings}
 use Rattle.tsp_branch.specs.declared.decision.Decision.{Decision}
 use Rattle.tsp_branch.specs.Cases.{decide}
 use Rattle.tsp_branch.specs.Listed.{all_grown, no_numbers_of, leaf_changes, after_leaves, IsGoodLeaf, AreGoodLeaves, IsFirstBadLeaf}
@@ -10,47 +11,47 @@ use Rattle.tsp_branch.specs.Twice.{is_decided, Divided, divided, IsFirstTwice}
 -- ---- leaves
 
 -- all leaves are good, where the leaf before had these numbers
-abbrev pub AreGoodFrom : ℕ → ℕ → List ℤ → List listed.Step → Type 0
-AreGoodFrom n combs numbers [] = Unit {0}
-AreGoodFrom n combs numbers (listed.Branch a b ∷ steps) = AreGoodFrom n combs numbers steps
-AreGoodFrom n combs numbers (listed.Leaf changes ∷ steps) =
-    IsGoodLeaf n combs numbers changes × AreGoodFrom n combs (all_grown changes numbers) steps
+abbrev pub AreGoodFrom : ℕ → List Crossings → List ℤ → List listed.Step → Type 0
+AreGoodFrom n crossed numbers [] = Unit {0}
+AreGoodFrom n crossed numbers (listed.Branch a b ∷ steps) = AreGoodFrom n crossed numbers steps
+AreGoodFrom n crossed numbers (listed.Leaf changes ∷ steps) =
+    IsGoodLeaf n crossed numbers changes × AreGoodFrom n crossed (all_grown changes numbers) steps
 
 -- the first leaf that isn't good, counted on from the leaf before
-abbrev pub IsFirstBadFrom : ℕ → ℕ → List ℤ → ℕ → List listed.Step → ℕ → Type 0
-IsFirstBadFrom n combs numbers leaf [] bad = ⊥
-IsFirstBadFrom n combs numbers leaf (listed.Branch a b ∷ steps) bad = IsFirstBadFrom n combs numbers leaf steps bad
-IsFirstBadFrom n combs numbers leaf (listed.Leaf changes ∷ steps) bad =
-    ((bad ≡ suc leaf) × (IsGoodLeaf n combs numbers changes → ⊥))
-    ⊎ (IsGoodLeaf n combs numbers changes × IsFirstBadFrom n combs (all_grown changes numbers) (suc leaf) steps bad)
+abbrev pub IsFirstBadFrom : ℕ → List Crossings → List ℤ → ℕ → List listed.Step → ℕ → Type 0
+IsFirstBadFrom n crossed numbers leaf [] bad = ⊥
+IsFirstBadFrom n crossed numbers leaf (listed.Branch a b ∷ steps) bad = IsFirstBadFrom n crossed numbers leaf steps bad
+IsFirstBadFrom n crossed numbers leaf (listed.Leaf changes ∷ steps) bad =
+    ((bad ≡ suc leaf) × (IsGoodLeaf n crossed numbers changes → ⊥))
+    ⊎ (IsGoodLeaf n crossed numbers changes × IsFirstBadFrom n crossed (all_grown changes numbers) (suc leaf) steps bad)
 
 -- the leaf after k others is good
-abbrev GoodAfter : ℕ → ℕ → List ℤ → List (List (ℕ × ℤ)) → ℕ → Type 0
-GoodAfter n combs numbers leaves k = IsGoodLeaf n combs (after_leaves (take k leaves) numbers) (get_or leaves k [])
+abbrev GoodAfter : ℕ → List Crossings → List ℤ → List (List (ℕ × ℤ)) → ℕ → Type 0
+GoodAfter n crossed numbers leaves k = IsGoodLeaf n crossed (after_leaves (take k leaves) numbers) (get_or leaves k [])
 
 -- the first bad one is after k others
-record IsBadAfter (n combs : ℕ) (numbers : List ℤ) (leaves : List (List (ℕ × ℤ))) (k : ℕ) : Type 0 where
+record IsBadAfter (n : ℕ) (crossed : List Crossings) (numbers : List ℤ) (leaves : List (List (ℕ × ℤ))) (k : ℕ) : Type 0 where
   inside : k < length leaves
-  bad : GoodAfter n combs numbers leaves k → ⊥
-  before : (j : ℕ) → j < k → GoodAfter n combs numbers leaves j
+  bad : GoodAfter n crossed numbers leaves k → ⊥
+  before : (j : ℕ) → j < k → GoodAfter n crossed numbers leaves j
 
-bad_by_place : (n combs : ℕ) (numbers : List ℤ) (leaf : ℕ) (steps : List listed.Step) (bad : ℕ) → IsFirstBadFrom n combs numbers leaf steps bad
-    → (k : ℕ) × (bad ≡ leaf + suc k) × IsBadAfter n combs numbers (leaf_changes steps) k
-bad_by_place n combs numbers leaf [] bad h = absurd h
-bad_by_place n combs numbers leaf (listed.Branch a b ∷ steps) bad h = bad_by_place n combs numbers leaf steps bad h
-bad_by_place n combs numbers leaf (listed.Leaf changes ∷ steps) bad (inl here) = (
+bad_by_place : (n : ℕ) (crossed : List Crossings) (numbers : List ℤ) (leaf : ℕ) (steps : List listed.Step) (bad : ℕ) → IsFirstBadFrom n crossed numbers leaf steps bad
+    → (k : ℕ) × (bad ≡ leaf + suc k) × IsBadAfter n crossed numbers (leaf_changes steps) k
+bad_by_place n crossed numbers leaf [] bad h = absurd h
+bad_by_place n crossed numbers leaf (listed.Branch a b ∷ steps) bad h = bad_by_place n crossed numbers leaf steps bad h
+bad_by_place n crossed numbers leaf (listed.Leaf changes ∷ steps) bad (inl here) = (
   0,
   omega (arith, here.0),
   record { inside = omega arith; bad = here.1; before = λ j lt. absurd (omega (arith, lt)) },
 )
-bad_by_place n combs numbers leaf (listed.Leaf changes ∷ steps) bad (inr later) =
-    let rest = bad_by_place n combs (all_grown changes numbers) (suc leaf) steps bad later.1 in (
+bad_by_place n crossed numbers leaf (listed.Leaf changes ∷ steps) bad (inr later) =
+    let rest = bad_by_place n crossed (all_grown changes numbers) (suc leaf) steps bad later.1 in (
       suc rest.0,
       omega (arith, rest.1),
       record {
         inside = omega (arith, rest.2.inside);
         bad = rest.2.bad;
-        before = one_more (GoodAfter n combs numbers (changes ∷ leaf_changes steps)) rest.0 later.0 rest.2.before;
+        before = one_more (GoodAfter n crossed numbers (changes ∷ leaf_changes steps)) rest.0 later.0 rest.2.before;
       },
     )
   where
@@ -58,66 +59,66 @@ bad_by_place n combs numbers leaf (listed.Leaf changes ∷ steps) bad (inr later
     one_more P k first more zero lt = first
     one_more P k first more (suc j) lt = more j (omega (arith, lt))
 
-bad_in_pass : (n combs : ℕ) (numbers : List ℤ) (leaf : ℕ) (steps : List listed.Step) (k : ℕ) → IsBadAfter n combs numbers (leaf_changes steps) k
-    → IsFirstBadFrom n combs numbers leaf steps (leaf + suc k)
-bad_in_pass n combs numbers leaf [] k h = absurd (omega (arith, h.inside))
-bad_in_pass n combs numbers leaf (listed.Branch a b ∷ steps) k h = bad_in_pass n combs numbers leaf steps k h
-bad_in_pass n combs numbers leaf (listed.Leaf changes ∷ steps) zero h = inl (omega arith, h.bad)
-bad_in_pass n combs numbers leaf (listed.Leaf changes ∷ steps) (suc k) h =
+bad_in_pass : (n : ℕ) (crossed : List Crossings) (numbers : List ℤ) (leaf : ℕ) (steps : List listed.Step) (k : ℕ) → IsBadAfter n crossed numbers (leaf_changes steps) k
+    → IsFirstBadFrom n crossed numbers leaf steps (leaf + suc k)
+bad_in_pass n crossed numbers leaf [] k h = absurd (omega (arith, h.inside))
+bad_in_pass n crossed numbers leaf (listed.Branch a b ∷ steps) k h = bad_in_pass n crossed numbers leaf steps k h
+bad_in_pass n crossed numbers leaf (listed.Leaf changes ∷ steps) zero h = inl (omega arith, h.bad)
+bad_in_pass n crossed numbers leaf (listed.Leaf changes ∷ steps) (suc k) h =
     let same : suc leaf + suc k ≡ leaf + suc (suc k) = omega arith in
     inr (
       h.before 0 (omega arith),
-      subst (IsFirstBadFrom n combs (all_grown changes numbers) (suc leaf) steps) same (bad_in_pass n combs (all_grown changes numbers) (suc leaf) steps k (record {
+      subst (IsFirstBadFrom n crossed (all_grown changes numbers) (suc leaf) steps) same (bad_in_pass n crossed (all_grown changes numbers) (suc leaf) steps k (record {
         inside = omega (arith, h.inside);
         bad = h.bad;
         before = λ j lt. h.before (suc j) (omega (arith, lt));
       })),
     )
 
-good_by_place : (n combs : ℕ) (numbers : List ℤ) (steps : List listed.Step) → AreGoodFrom n combs numbers steps → (k : ℕ) → k < length (leaf_changes steps) → GoodAfter n combs numbers (leaf_changes steps) k
-good_by_place n combs numbers [] h k lt = absurd (omega (arith, lt))
-good_by_place n combs numbers (listed.Branch a b ∷ steps) h k lt = good_by_place n combs numbers steps h k lt
-good_by_place n combs numbers (listed.Leaf changes ∷ steps) h zero lt = h.0
-good_by_place n combs numbers (listed.Leaf changes ∷ steps) h (suc k) lt = good_by_place n combs (all_grown changes numbers) steps h.1 k (omega (arith, lt))
+good_by_place : (n : ℕ) (crossed : List Crossings) (numbers : List ℤ) (steps : List listed.Step) → AreGoodFrom n crossed numbers steps → (k : ℕ) → k < length (leaf_changes steps) → GoodAfter n crossed numbers (leaf_changes steps) k
+good_by_place n crossed numbers [] h k lt = absurd (omega (arith, lt))
+good_by_place n crossed numbers (listed.Branch a b ∷ steps) h k lt = good_by_place n crossed numbers steps h k lt
+good_by_place n crossed numbers (listed.Leaf changes ∷ steps) h zero lt = h.0
+good_by_place n crossed numbers (listed.Leaf changes ∷ steps) h (suc k) lt = good_by_place n crossed (all_grown changes numbers) steps h.1 k (omega (arith, lt))
 
-good_in_pass : (n combs : ℕ) (numbers : List ℤ) (steps : List listed.Step) → ((k : ℕ) → k < length (leaf_changes steps) → GoodAfter n combs numbers (leaf_changes steps) k) → AreGoodFrom n combs numbers steps
-good_in_pass n combs numbers [] h = tt
-good_in_pass n combs numbers (listed.Branch a b ∷ steps) h = good_in_pass n combs numbers steps h
-good_in_pass n combs numbers (listed.Leaf changes ∷ steps) h = (
+good_in_pass : (n : ℕ) (crossed : List Crossings) (numbers : List ℤ) (steps : List listed.Step) → ((k : ℕ) → k < length (leaf_changes steps) → GoodAfter n crossed numbers (leaf_changes steps) k) → AreGoodFrom n crossed numbers steps
+good_in_pass n crossed numbers [] h = tt
+good_in_pass n crossed numbers (listed.Branch a b ∷ steps) h = good_in_pass n crossed numbers steps h
+good_in_pass n crossed numbers (listed.Leaf changes ∷ steps) h = (
   h 0 (omega arith),
-  good_in_pass n combs (all_grown changes numbers) steps (λ k lt. h (suc k) (omega (arith, lt))),
+  good_in_pass n crossed (all_grown changes numbers) steps (λ k lt. h (suc k) (omega (arith, lt))),
 )
 
 -- of a whole tree, before whose first leaf all numbers are 0
-pub first_bad_by_place : (n combs : ℕ) (steps : List listed.Step) (bad : ℕ) → IsFirstBadFrom n combs (no_numbers_of n combs) 0 steps bad → IsFirstBadLeaf n combs steps bad
-first_bad_by_place n combs steps bad h =
-    let found = bad_by_place n combs (no_numbers_of n combs) 0 steps bad h in
+pub first_bad_by_place : (n : ℕ) (crossed : List Crossings) (steps : List listed.Step) (bad : ℕ) → IsFirstBadFrom n crossed (no_numbers_of n (length crossed)) 0 steps bad → IsFirstBadLeaf n crossed steps bad
+first_bad_by_place n crossed steps bad h =
+    let found = bad_by_place n crossed (no_numbers_of n (length crossed)) 0 steps bad h in
     let place : found.0 ≡ bad - 1 = omega (arith, found.1) in
     record {
       least = omega (arith, found.1);
       most = omega (arith, found.1, found.2.inside);
-      bad = subst (λ (k : ℕ). GoodAfter n combs (no_numbers_of n combs) (leaf_changes steps) k → ⊥) place found.2.bad;
+      bad = subst (λ (k : ℕ). GoodAfter n crossed (no_numbers_of n (length crossed)) (leaf_changes steps) k → ⊥) place found.2.bad;
       before = λ earlier from lt. found.2.before (earlier - 1) (omega (arith, from, lt, found.1));
     }
 
-pub first_bad_in_pass : (n combs : ℕ) (steps : List listed.Step) (bad : ℕ) → IsFirstBadLeaf n combs steps bad → IsFirstBadFrom n combs (no_numbers_of n combs) 0 steps bad
-first_bad_in_pass n combs steps bad h =
+pub first_bad_in_pass : (n : ℕ) (crossed : List Crossings) (steps : List listed.Step) (bad : ℕ) → IsFirstBadLeaf n crossed steps bad → IsFirstBadFrom n crossed (no_numbers_of n (length crossed)) 0 steps bad
+first_bad_in_pass n crossed steps bad h =
     let place : 0 + suc (bad - 1) ≡ bad = omega (arith, h.least) in
-    subst (IsFirstBadFrom n combs (no_numbers_of n combs) 0 steps) place (bad_in_pass n combs (no_numbers_of n combs) 0 steps (bad - 1) (record {
+    subst (IsFirstBadFrom n crossed (no_numbers_of n (length crossed)) 0 steps) place (bad_in_pass n crossed (no_numbers_of n (length crossed)) 0 steps (bad - 1) (record {
       inside = omega (arith, h.least, h.most);
       bad = h.bad;
       before = λ j lt.
           let same : suc j - 1 ≡ j = omega arith in
-          subst (GoodAfter n combs (no_numbers_of n combs) (leaf_changes steps)) same (h.before (suc j) (omega arith) (omega (arith, lt)));
+          subst (GoodAfter n crossed (no_numbers_of n (length crossed)) (leaf_changes steps)) same (h.before (suc j) (omega arith) (omega (arith, lt)));
     }))
 
-pub all_good_by_place : (n combs : ℕ) (steps : List listed.Step) → AreGoodFrom n combs (no_numbers_of n combs) steps → AreGoodLeaves n combs steps
-all_good_by_place n combs steps h place from within = good_by_place n combs (no_numbers_of n combs) steps h (place - 1) (omega (arith, from, within))
+pub all_good_by_place : (n : ℕ) (crossed : List Crossings) (steps : List listed.Step) → AreGoodFrom n crossed (no_numbers_of n (length crossed)) steps → AreGoodLeaves n crossed steps
+all_good_by_place n crossed steps h place from within = good_by_place n crossed (no_numbers_of n (length crossed)) steps h (place - 1) (omega (arith, from, within))
 
-pub all_good_in_pass : (n combs : ℕ) (steps : List listed.Step) → AreGoodLeaves n combs steps → AreGoodFrom n combs (no_numbers_of n combs) steps
-all_good_in_pass n combs steps h = good_in_pass n combs (no_numbers_of n combs) steps (λ k lt.
+pub all_good_in_pass : (n : ℕ) (crossed : List Crossings) (steps : List listed.Step) → AreGoodLeaves n crossed steps → AreGoodFrom n crossed (no_numbers_of n (length crossed)) steps
+all_good_in_pass n crossed steps h = good_in_pass n crossed (no_numbers_of n (length crossed)) steps (λ k lt.
     let same : suc k - 1 ≡ k = omega arith in
-    subst (GoodAfter n combs (no_numbers_of n combs) (leaf_changes steps)) same (h (suc k) (omega arith) (omega (arith, lt))))
+    subst (GoodAfter n crossed (no_numbers_of n (length crossed)) (leaf_changes steps)) same (h (suc k) (omega arith) (omega (arith, lt))))
 
 -- ---- branches
 

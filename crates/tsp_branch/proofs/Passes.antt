@@ -6,8 +6,8 @@ use Rattle.std.proofs.lemmas.Bool.{both_ways}
 use Rattle.std.proofs.lemmas.Int.{ints}
 use Rattle.std.proofs.lemmas.List.Elements.{recursion_from_All, All-from_recursion}
 use Rattle.tsp_format.specs.Steps as listed
-use Rattle.tsp_branch.specs.Combs.{Comb}
-use Rattle.tsp_branch.specs.Families.{IsFamily}
+use Rattle.tsp_families.specs.declared.family.Crossings.{Crossings}
+use Rattle.tsp_branch.specs.Families.{Family, IsFamily}
 use Rattle.tsp_branch.specs.declared.decision.Decision.{Decision}
 use Rattle.tsp_branch.specs.Decisions.{DecideOnce}
 use Rattle.tsp_branch.specs.Cases.{LeafNumbers, are_trees, decide, leaves_of, cases_of, later_cases, open_cases, next_stack}
@@ -98,50 +98,50 @@ module _ (Found : List Decision × LeafNumbers → Option ℤ → Type 0) where
 abbrev open_leaves : ℕ → List ℤ → List Decision → List Decision → List listed.Step → List (List Decision × LeafNumbers)
 open_leaves n numbers given stack steps = leaves_of (open_cases given (Some (stack_of stack))) (steps_from n numbers steps)
 
-none_left : (n count : ℕ) (numbers : List ℤ) (steps : List listed.Step) → are_trees 0 (steps_from n numbers steps) ≡ true → AreGoodFrom n count numbers steps
-none_left n count numbers [] h = tt
-none_left n count numbers (listed.Branch a b ∷ steps) h = absurd (both_ways false refl h)
-none_left n count numbers (listed.Leaf changes ∷ steps) h = absurd (both_ways false refl h)
+none_left : (n : ℕ) (crossed : List Crossings) (numbers : List ℤ) (steps : List listed.Step) → are_trees 0 (steps_from n numbers steps) ≡ true → AreGoodFrom n crossed numbers steps
+none_left n crossed numbers [] h = tt
+none_left n crossed numbers (listed.Branch a b ∷ steps) h = absurd (both_ways false refl h)
+none_left n crossed numbers (listed.Leaf changes ∷ steps) h = absurd (both_ways false refl h)
 
-leaf_numbers : (n count : ℕ) (numbers : List ℤ) (steps : List listed.Step) (cases : List (List Decision)) → AreGoodFrom n count numbers steps
+leaf_numbers : (n : ℕ) (crossed : List Crossings) (numbers : List ℤ) (steps : List listed.Step) (cases : List (List Decision)) → AreGoodFrom n crossed numbers steps
     → AllByRecursion (λ leaf. AreLeafNumbers n leaf.1) (leaves_of cases (steps_from n numbers steps))
-leaf_numbers n count numbers steps [] good = tt
-leaf_numbers n count numbers [] (case ∷ cases) good = tt
-leaf_numbers n count numbers (listed.Branch a b ∷ steps) (case ∷ cases) good =
-    leaf_numbers n count numbers steps (decide (a, b) true case ∷ decide (a, b) false case ∷ cases) good
-leaf_numbers n count numbers (listed.Leaf changes ∷ steps) (case ∷ cases) good = (
+leaf_numbers n crossed numbers steps [] good = tt
+leaf_numbers n crossed numbers [] (case ∷ cases) good = tt
+leaf_numbers n crossed numbers (listed.Branch a b ∷ steps) (case ∷ cases) good =
+    leaf_numbers n crossed numbers steps (decide (a, b) true case ∷ decide (a, b) false case ∷ cases) good
+leaf_numbers n crossed numbers (listed.Leaf changes ∷ steps) (case ∷ cases) good = (
   record { each_node = good.0.numbers_are.each_node; signs = good.0.numbers_are.signs },
-  leaf_numbers n count (all_grown changes numbers) steps cases good.1,
+  leaf_numbers n crossed (all_grown changes numbers) steps cases good.1,
 )
 
 -- what is left to do from a step on, and that it settles the whole
-pub record IsAtStep (Found : List Decision × LeafNumbers → Option ℤ → Type 0) (directed : Bool) (n count : ℕ) (given : List Decision) (all : List listed.Step) (numbers : List ℤ)
+pub record IsAtStep (Found : List Decision × LeafNumbers → Option ℤ → Type 0) (directed : Bool) (n : ℕ) (crossed : List Crossings) (given : List Decision) (all : List listed.Step) (numbers : List ℤ)
     (stack : List Decision) (lowest : Option ℤ) (leaf : ℕ) (steps : List listed.Step) : Type 0 where
-  pub least : (final : Option ℤ) → ComesTo Found lowest (open_leaves n numbers given stack steps) final → ComesTo Found None (leaves_of (given ∷ []) (listed_steps n count all)) final
+  pub least : (final : Option ℤ) → ComesTo Found lowest (open_leaves n numbers given stack steps) final → ComesTo Found None (leaves_of (given ∷ []) (listed_steps n (length crossed) all)) final
   pub whole : are_trees (length (open_cases given (Some (stack_of stack)))) (steps_from n numbers steps) ≡ true
-  pub good : AreGoodFrom n count numbers steps → AreGoodFrom n count (no_numbers_of n count) all
-  pub bad : (first : ℕ) → IsFirstBadFrom n count numbers leaf steps first → IsFirstBadFrom n count (no_numbers_of n count) 0 all first
+  pub good : AreGoodFrom n crossed numbers steps → AreGoodFrom n crossed (no_numbers_of n (length crossed)) all
+  pub bad : (first : ℕ) → IsFirstBadFrom n crossed numbers leaf steps first → IsFirstBadFrom n crossed (no_numbers_of n (length crossed)) 0 all first
   pub once : AllByRecursion (DecideOnce directed) (cases_of (open_leaves n numbers given stack steps))
 
-module _ (Found : List Decision × LeafNumbers → Option ℤ → Type 0) (directed : Bool) (n count : ℕ) (given : List Decision) (all : List listed.Step) where
-  pub at_start : are_trees 1 (listed_steps n count all) ≡ true → All (DecideOnce directed) (cases_of (leaves_of (given ∷ []) (listed_steps n count all)))
-      → IsAtStep Found directed n count given all (no_numbers_of n count) [] None 0 all
+module _ (Found : List Decision × LeafNumbers → Option ℤ → Type 0) (directed : Bool) (n : ℕ) (crossed : List Crossings) (given : List Decision) (all : List listed.Step) where
+  pub at_start : are_trees 1 (listed_steps n (length crossed) all) ≡ true → All (DecideOnce directed) (cases_of (leaves_of (given ∷ []) (listed_steps n (length crossed) all)))
+      → IsAtStep Found directed n crossed given all (no_numbers_of n (length crossed)) [] None 0 all
   at_start whole once = record {
     least = λ final h. h;
     whole = whole;
     good = λ h. h;
     bad = λ first h. h;
-    once = recursion_from_All (DecideOnce directed) (cases_of (leaves_of (given ∷ []) (listed_steps n count all))) once;
+    once = recursion_from_All (DecideOnce directed) (cases_of (leaves_of (given ∷ []) (listed_steps n (length crossed) all))) once;
   }
 
   pub at_branch : (numbers : List ℤ) (stack : List Decision) (lowest : Option ℤ) (leaf a b : ℕ) (steps : List listed.Step)
-      → IsAtStep Found directed n count given all numbers stack lowest leaf (listed.Branch a b ∷ steps)
-      → IsAtStep Found directed n count given all numbers (stack ++ decide (a, b) true []) lowest leaf steps
+      → IsAtStep Found directed n crossed given all numbers stack lowest leaf (listed.Branch a b ∷ steps)
+      → IsAtStep Found directed n crossed given all numbers (stack ++ decide (a, b) true []) lowest leaf steps
   at_branch numbers stack lowest leaf a b steps h =
       let same = sym (stack_more stack (record { pair = (a, b); taken = true })) in
       record {
         least = λ final. subst (λ (st : List Decision). ComesTo Found lowest (leaves_of (open_cases given (Some st)) (steps_from n numbers steps)) final
-            → ComesTo Found None (leaves_of (given ∷ []) (listed_steps n count all)) final) same (h.least final);
+            → ComesTo Found None (leaves_of (given ∷ []) (listed_steps n (length crossed) all)) final) same (h.least final);
         whole = subst (λ (st : List Decision). are_trees (length (open_cases given (Some st))) (steps_from n numbers steps) ≡ true) same h.whole;
         good = h.good;
         bad = h.bad;
@@ -149,9 +149,9 @@ module _ (Found : List Decision × LeafNumbers → Option ℤ → Type 0) (direc
       }
 
   pub at_leaf : (numbers : List ℤ) (stack : List Decision) (lowest : Option ℤ) (leaf : ℕ) (changes : List (ℕ × ℤ)) (steps : List listed.Step) (next : List Decision) (own lower : Option ℤ)
-      → IsAtStep Found directed n count given all numbers stack lowest leaf (listed.Leaf changes ∷ steps)
-      → IsGoodLeaf n count numbers changes → Found (stack_of stack ++ given, split_at n (all_grown changes numbers)) own → IsLowest lowest own lower
-      → next_stack (stack_of stack) ≡ Some (stack_of next) → IsAtStep Found directed n count given all (all_grown changes numbers) next lower (suc leaf) steps
+      → IsAtStep Found directed n crossed given all numbers stack lowest leaf (listed.Leaf changes ∷ steps)
+      → IsGoodLeaf n crossed numbers changes → Found (stack_of stack ++ given, split_at n (all_grown changes numbers)) own → IsLowest lowest own lower
+      → next_stack (stack_of stack) ≡ Some (stack_of next) → IsAtStep Found directed n crossed given all (all_grown changes numbers) next lower (suc leaf) steps
   at_leaf numbers stack lowest leaf changes steps next own lower h good is low turned =
       let later_are : later_cases given (stack_of stack) ≡ open_cases given (Some (stack_of next)) = sym (stacks_hold_cases given (stack_of stack)) ∙ ap (open_cases given) turned in
       let ns : List ℤ = all_grown changes numbers in
@@ -165,27 +165,27 @@ module _ (Found : List Decision × LeafNumbers → Option ℤ → Type 0) (direc
         once = subst (λ (cs : List (List Decision)). AllByRecursion (DecideOnce directed) (cases_of (leaves_of cs (steps_from n ns steps)))) later_are h.once.1;
       }
 
-  pub at_last : (families : List Comb) (numbers : List ℤ) (stack : List Decision) (lowest : Option ℤ) (leaf : ℕ) (changes : List (ℕ × ℤ)) (steps : List listed.Step) (own lower : Option ℤ)
-      → IsAtStep Found directed n count given all numbers stack lowest leaf (listed.Leaf changes ∷ steps)
-      → All (IsFamily n) families → are_trees 1 (listed_steps n count all) ≡ true
-      → IsGoodLeaf n count numbers changes → Found (stack_of stack ++ given, split_at n (all_grown changes numbers)) own → IsLowest lowest own lower
+  pub at_last : (families : List Family) (numbers : List ℤ) (stack : List Decision) (lowest : Option ℤ) (leaf : ℕ) (changes : List (ℕ × ℤ)) (steps : List listed.Step) (own lower : Option ℤ)
+      → IsAtStep Found directed n crossed given all numbers stack lowest leaf (listed.Leaf changes ∷ steps)
+      → All (IsFamily n) families → are_trees 1 (listed_steps n (length crossed) all) ≡ true
+      → IsGoodLeaf n crossed numbers changes → Found (stack_of stack ++ given, split_at n (all_grown changes numbers)) own → IsLowest lowest own lower
       → next_stack (stack_of stack) ≡ None
-      → IsCertificate n families given (listed_steps n count all) × IsLeastFound Found (leaves_of (given ∷ []) (listed_steps n count all)) lower
-      × AreGoodLeaves n count all
+      → IsCertificate n families given (listed_steps n (length crossed) all) × IsLeastFound Found (leaves_of (given ∷ []) (listed_steps n (length crossed) all)) lower
+      × AreGoodLeaves n crossed all
   at_last families numbers stack lowest leaf changes steps own lower h are whole good is low turned =
       let none : later_cases given (stack_of stack) ≡ [] = sym (stacks_hold_cases given (stack_of stack)) ∙ ap (open_cases given) turned in
       let ns : List ℤ = all_grown changes numbers in
       let left = subst (λ (cs : List (List Decision)). are_trees (length cs) (steps_from n ns steps) ≡ true) none h.whole in
-      let all_good = h.good (good, none_left n count ns steps left) in
-      let leaves = leaves_of (given ∷ []) (listed_steps n count all) in
+      let all_good = h.good (good, none_left n crossed ns steps left) in
+      let leaves = leaves_of (given ∷ []) (listed_steps n (length crossed) all) in
       let least = h.least lower
       (on_leaf Found lowest own lower lower (stack_of stack ++ given, split_at n ns) (leaves_of (later_cases given (stack_of stack)) (steps_from n ns steps)) is low
       (subst (λ (cs : List (List Decision)). ComesTo Found lower (leaves_of cs (steps_from n ns steps)) lower) (sym none) (done Found lower))) in (
         record {
           families_are = are;
           whole = whole;
-          numbers_are = All-from_recursion (λ leaf. AreLeafNumbers n leaf.1) leaves (leaf_numbers n count (no_numbers_of n count) all (given ∷ []) all_good);
+          numbers_are = All-from_recursion (λ leaf. AreLeafNumbers n leaf.1) leaves (leaf_numbers n crossed (no_numbers_of n (length crossed)) all (given ∷ []) all_good);
         },
         least_of Found leaves lower least,
-        all_good_by_place n count all all_good,
+        all_good_by_place n crossed all all_good,
       )

@@ -11,11 +11,11 @@ use Rattle.std.proofs.lemmas.List.{get_or-set_same, get_or-set_other}
 use Rattle.tsp_format.specs.Cells.{IsNode}
 use Rattle.tsp_theory.specs.Length.{sum_int_by}
 use Rattle.tsp_theory.specs.states.Nearest.{least_at}
-use Rattle.tsp_branch.specs.Combs.{has}
+use Rattle.tsp_families.specs.Crossed.{has}
 use Rattle.tsp_branch.specs.states.Sets.{IsMoved, added, times, sets_with}
 use Rattle.tsp_branch.specs.states.Combed.{no_set, as_numbered, plain, multiplier_of, set_crossings, multipliers_at, twice_in, inside_both}
 use Rattle.tsp_branch.specs.CombsOfSets.{NumberedSet}
-use Rattle.tsp_branch.specs.declared.comb_set.CombSet.{CombSet}
+use Rattle.tsp_families.specs.declared.comb_set.CombSet.{CombSet}
 
 -- different nodes, by recursion
 abbrev Differ : List ℕ → Type 0

@@ -9,7 +9,7 @@ use Rattle.std.proofs.lemmas.Int.{ints, int_wrap-add_left}
 use Rattle.std.proofs.lemmas.List.{append_assoc, get_or-set_same, get_or-set_other}
 use Rattle.tsp_theory.specs.states.Nearest.{least_at}
 use Rattle.tsp_branch.specs.states.Sets.{IsMoved, added, times, sets_with}
-use Rattle.tsp_branch.specs.declared.comb_set.CombSet.{CombSet}
+use Rattle.tsp_families.specs.declared.comb_set.CombSet.{CombSet}
 
 pub moved_on : (a b old between new : ℤ) → IsMoved a old between → IsMoved b between new → IsMoved (a +ℤ b) old new
 moved_on a b old between new (inl same) (inl kept) = inl (kept.0 ∙ same.0, let one = same.1 in let two = kept.1 in omega (arith, ints, one, two))

@@ -12,13 +12,14 @@ use Rattle.tsp_theory.specs.Costs.{IsSymmetric}
 use Rattle.tsp_format.specs.Cells.{IsNode}
 use Rattle.tsp_theory.specs.Tree.{weight_of}
 use Rattle.tsp_theory.specs.Growth.{tree_of}
-use Rattle.tsp_branch.specs.Combs.{Comb, has, AreApart, IsComb, IsTooth}
+use Rattle.tsp_families.specs.Crossed.{has}
+use Rattle.tsp_branch.specs.Combs.{AreApart, IsComb, IsTooth}
 use Rattle.tsp_branch.specs.LeafBound.{leaf_weight, IsLeafBoundOf, IsLeafBound}
 use Rattle.tsp_branch.specs.declared.decision.Decision.{Decision}
 use Rattle.tsp_branch.specs.Cases.{LeafNumbers, Branch, Leaf}
-use Rattle.tsp_branch.specs.Families.{IsFamily}
+use Rattle.tsp_branch.specs.Families.{Family, IsFamily}
 use Rattle.tsp_branch.specs.Certificate.{multiplied, AreLeafNumbers, IsFoundAt, IsAbove}
-use Rattle.tsp_branch.specs.Examples.{small_comb, cost_in, four_rows, six_rows, large, one_at_two, with_pair, without_pair, FourHave, SixHave}
+use Rattle.tsp_branch.specs.Examples.{small_comb, small_family, cost_in, four_rows, six_rows, large, one_at_two, with_pair, without_pair, FourHave, SixHave}
 use Rattle.tsp_branch.proofs.LeafBounds.{leaf_even}
 use Rattle.tsp_branch.proofs.SmallTrees.{near_one, grows_well, least_tree}
 
@@ -26,7 +27,7 @@ costs_even : (rows : List (List ℕ)) → IsSymmetric (cost_in rows)
 costs_even rows = λ i j other. ap₂ (λ a b. pos (slice_index (slice_index_or rows (a - 1) []) (b - a - 1))) (min_comm i j) (max_comm i j)
 
 -- the bound of a leaf, by a growth that is tested
-leaf_bound : (n : ℕ) (rows : List (List ℕ)) (scale : ℤ) (potentials : List ℤ) (taken avoided : List (ℕ × ℕ × ℤ)) (combs : List (Comb × ℤ)) (bound : ℤ) (first second : ℕ) (added : List (ℕ × ℕ))
+leaf_bound : (n : ℕ) (rows : List (List ℕ)) (scale : ℤ) (potentials : List ℤ) (taken avoided : List (ℕ × ℕ × ℤ)) (combs : List (Family × ℤ)) (bound : ℤ) (first second : ℕ) (added : List (ℕ × ℕ))
     → 3 ≤ n → 2 + length added ≡ n
     → near_one n (leaf_weight scale potentials taken avoided combs (cost_in rows)) first second ≡ true
     → grows_well n (leaf_weight scale potentials taken avoided combs (cost_in rows)) (λ x. x == 2) added ≡ true
@@ -137,21 +138,21 @@ six_alone : IsLeafBound 6 (cost_in six_rows) (pos 2) (replicate 6 (pos 0)) [] []
 six_alone = leaf_bound 6 six_rows (pos 2) (replicate 6 (pos 0)) [] [] [] (pos 9) 4 2 six_tree (omega arith) refl refl refl
     (record { above = le_z_yes tt; least = λ other above. let known : pos 18 ≤ℤ (pos 2 *ℤ other) = above in omega (arith, ints, known) })
 
-six_combed : IsLeafBound 6 (cost_in six_rows) (pos 2) (replicate 6 (pos 0)) [] [] ((small_comb, pos 1) ∷ []) (pos 10)
-six_combed = leaf_bound 6 six_rows (pos 2) (replicate 6 (pos 0)) [] [] ((small_comb, pos 1) ∷ []) (pos 10) 4 2 six_tree (omega arith) refl refl refl
+six_combed : IsLeafBound 6 (cost_in six_rows) (pos 2) (replicate 6 (pos 0)) [] [] ((small_family, pos 1) ∷ []) (pos 10)
+six_combed = leaf_bound 6 six_rows (pos 2) (replicate 6 (pos 0)) [] [] ((small_family, pos 1) ∷ []) (pos 10) 4 2 six_tree (omega arith) refl refl refl
     (record { above = le_z_yes tt; least = λ other above. let known : pos 19 ≤ℤ (pos 2 *ℤ other) = above in omega (arith, ints, known) })
 
 six_have : (multipliers : List ℤ) (bound : ℤ) → All (λ multiplier. pos 0 ≤ℤ multiplier) multipliers
-    → IsLeafBound 6 (cost_in six_rows) (pos 2) (replicate 6 (pos 0)) [] [] (multiplied (small_comb ∷ []) multipliers) bound → SixHave multipliers bound
+    → IsLeafBound 6 (cost_in six_rows) (pos 2) (replicate 6 (pos 0)) [] [] (multiplied (small_family ∷ []) multipliers) bound → SixHave multipliers bound
 six_have multipliers bound signs leaf =
     let leaves : List (List Decision × LeafNumbers) = ([], no_numbers_of 6 multipliers) ∷ [] in (
       record {
-        families_are = All-from_recursion (IsFamily 6) (small_comb ∷ []) (inr small_comb_is, tt);
+        families_are = All-from_recursion (IsFamily 6) (small_family ∷ []) (inl (record { kind = inr small_comb_is; least_is = refl; most_is = refl }), tt);
         whole = refl;
         numbers_are = All-from_recursion (λ leaf. AreLeafNumbers 6 leaf.1) leaves (record { each_node = refl; signs = signs }, tt);
       },
       (
-        All-from_recursion (IsAbove (IsFoundAt false 6 (cost_in six_rows) (pos 2) large (small_comb ∷ [])) bound) leaves (inr (bound, leaf, omega (arith, ints)), tt),
+        All-from_recursion (IsAbove (IsFoundAt false 6 (cost_in six_rows) (pos 2) large (small_family ∷ [])) bound) leaves (inr (bound, leaf, omega (arith, ints)), tt),
         (0, ([], no_numbers_of 6 multipliers), omega arith, refl, leaf),
       ),
     )

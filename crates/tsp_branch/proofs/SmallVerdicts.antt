@@ -4,28 +4,29 @@ use Rattle.std.proofs.lemmas.Bool.{both_ways, cases_eq}
 use Rattle.std.proofs.lemmas.List.Elements.{All-from_recursion}
 use Rattle.std.proofs.lemmas.List.Kept.{AllPairs-cons}
 use Rattle.tsp_format.specs.Cells.{IsNode}
-use Rattle.tsp_branch.specs.Combs.{IsTooth, has}
+use Rattle.tsp_families.specs.Crossed.{has}
+use Rattle.tsp_branch.specs.Combs.{IsTooth}
 use Rattle.tsp_branch.specs.GoodCombs.{HasEachOnce}
 use Rattle.tsp_branch.specs.VerdictExamples.{IsNotGood, IsGood, three_teeth, TwiceAt, branches}
 use Rattle.tsp_branch.proofs.OnePass.{IsFirstTwiceFrom, first_twice_in_pass}
 use Rattle.tsp_branch.proofs.Teeth.{all_had, comb_of_family, lone_of_family}
 
 pub no_sets : IsNotGood []
-no_sets h = elim h.family [
+no_sets h = elim h.kind [
   | inl lone ↦ both_ways false refl lone.has_inside
   | inr comb ↦ let odd = comb.odd in omega (arith, odd)
 ]
 
 pub one_tooth : IsNotGood ((1 ∷ 2 ∷ 3 ∷ []) ∷ (1 ∷ 4 ∷ []) ∷ [])
 one_tooth h =
-    let comb = comb_of_family 6 (1 ∷ 2 ∷ 3 ∷ []) ((1 ∷ 4 ∷ []) ∷ []) (omega arith) h.family in
+    let comb = comb_of_family 6 (1 ∷ 2 ∷ 3 ∷ []) ((1 ∷ 4 ∷ []) ∷ []) (omega arith) h.kind in
     let odd = comb.odd in
     let some = comb.some in
     omega (arith, odd, some)
 
 pub two_teeth : IsNotGood ((1 ∷ 2 ∷ 3 ∷ []) ∷ (1 ∷ 4 ∷ []) ∷ (2 ∷ 5 ∷ []) ∷ [])
 two_teeth h =
-    let comb = comb_of_family 6 (1 ∷ 2 ∷ 3 ∷ []) ((1 ∷ 4 ∷ []) ∷ (2 ∷ 5 ∷ []) ∷ []) (omega arith) h.family in
+    let comb = comb_of_family 6 (1 ∷ 2 ∷ 3 ∷ []) ((1 ∷ 4 ∷ []) ∷ (2 ∷ 5 ∷ []) ∷ []) (omega arith) h.kind in
     let odd = comb.odd in
     omega (arith, odd)
 
@@ -33,17 +34,17 @@ pub node_twice : IsNotGood ((1 ∷ 2 ∷ 3 ∷ 1 ∷ []) ∷ three_teeth)
 node_twice h = h.once 0 [] (omega arith) 0 3 0 (omega arith) (omega arith) refl
 
 pub teeth_meet : IsNotGood ((1 ∷ 2 ∷ 3 ∷ []) ∷ (1 ∷ 4 ∷ []) ∷ (2 ∷ 4 ∷ []) ∷ (3 ∷ 6 ∷ []) ∷ [])
-teeth_meet h = both_ways true ((comb_of_family 6 (1 ∷ 2 ∷ 3 ∷ []) ((1 ∷ 4 ∷ []) ∷ (2 ∷ 4 ∷ []) ∷ (3 ∷ 6 ∷ []) ∷ []) (omega arith) h.family).apart 0 1 (λ node. false) (omega arith) (omega arith) 4 refl) refl
+teeth_meet h = both_ways true ((comb_of_family 6 (1 ∷ 2 ∷ 3 ∷ []) ((1 ∷ 4 ∷ []) ∷ (2 ∷ 4 ∷ []) ∷ (3 ∷ 6 ∷ []) ∷ []) (omega arith) h.kind).apart 0 1 (λ node. false) (omega arith) (omega arith) 4 refl) refl
 
 pub tooth_inside : IsNotGood ((1 ∷ 2 ∷ 3 ∷ 4 ∷ []) ∷ three_teeth)
 tooth_inside h =
-    let tooth : IsTooth 6 (has (1 ∷ 2 ∷ 3 ∷ 4 ∷ [])) (has (1 ∷ 4 ∷ [])) = (comb_of_family 6 (1 ∷ 2 ∷ 3 ∷ 4 ∷ []) three_teeth (omega arith) h.family).reach 0 (λ node. false) (omega arith) in
+    let tooth : IsTooth 6 (has (1 ∷ 2 ∷ 3 ∷ 4 ∷ [])) (has (1 ∷ 4 ∷ [])) = (comb_of_family 6 (1 ∷ 2 ∷ 3 ∷ 4 ∷ []) three_teeth (omega arith) h.kind).reach 0 (λ node. false) (omega arith) in
     both_ways (has (1 ∷ 2 ∷ 3 ∷ 4 ∷ []) tooth.outside) tooth.off_handle
     (all_had (λ x. has (1 ∷ 2 ∷ 3 ∷ 4 ∷ []) x ≡ true) (1 ∷ 4 ∷ []) tooth.outside (All-from_recursion (λ x. has (1 ∷ 2 ∷ 3 ∷ 4 ∷ []) x ≡ true) (1 ∷ 4 ∷ []) (refl, (refl, tt))) tooth.outside_tooth)
 
 pub tooth_outside : IsNotGood ((1 ∷ 2 ∷ []) ∷ three_teeth)
 tooth_outside h =
-    let tooth : IsTooth 6 (has (1 ∷ 2 ∷ [])) (has (3 ∷ 6 ∷ [])) = (comb_of_family 6 (1 ∷ 2 ∷ []) three_teeth (omega arith) h.family).reach 2 (λ node. false) (omega arith) in
+    let tooth : IsTooth 6 (has (1 ∷ 2 ∷ [])) (has (3 ∷ 6 ∷ [])) = (comb_of_family 6 (1 ∷ 2 ∷ []) three_teeth (omega arith) h.kind).reach 2 (λ node. false) (omega arith) in
     both_ways (has (1 ∷ 2 ∷ []) tooth.inside)
     (all_had (λ x. has (1 ∷ 2 ∷ []) x ≡ false) (3 ∷ 6 ∷ []) tooth.inside (All-from_recursion (λ x. has (1 ∷ 2 ∷ []) x ≡ false) (3 ∷ 6 ∷ []) (refl, (refl, tt))) tooth.inside_tooth) tooth.in_handle
 
@@ -51,7 +52,7 @@ tooth_outside h =
 
 pub lone_set : IsGood ((1 ∷ 2 ∷ []) ∷ [])
 lone_set = record {
-  family = inl (record {
+  kind = inl (record {
     alone = refl;
     inside = 1;
     outside = 3;
@@ -87,7 +88,7 @@ of_six P a b c d e f i node = elim (cases_eq i 1) [
 
 pub all_nodes : IsNotGood ((1 ∷ 2 ∷ 3 ∷ 4 ∷ 5 ∷ 6 ∷ []) ∷ [])
 all_nodes h =
-    let lone = lone_of_family 6 (1 ∷ 2 ∷ 3 ∷ 4 ∷ 5 ∷ 6 ∷ []) h.family in
+    let lone = lone_of_family 6 (1 ∷ 2 ∷ 3 ∷ 4 ∷ 5 ∷ 6 ∷ []) h.kind in
     both_ways (has (1 ∷ 2 ∷ 3 ∷ 4 ∷ 5 ∷ 6 ∷ []) lone.outside) lone.lacks_outside
     (of_six (λ x. has (1 ∷ 2 ∷ 3 ∷ 4 ∷ 5 ∷ 6 ∷ []) x ≡ true) refl refl refl refl refl refl lone.outside lone.outside_node)
 
@@ -95,7 +96,7 @@ pub lone_node_twice : IsNotGood ((1 ∷ 2 ∷ 1 ∷ []) ∷ [])
 lone_node_twice h = h.once 0 [] (omega arith) 0 2 0 (omega arith) (omega arith) refl
 
 pub no_node : IsNotGood ([] ∷ [])
-no_node h = let lone = lone_of_family 6 [] h.family in both_ways false refl lone.has_inside
+no_node h = let lone = lone_of_family 6 [] h.kind in both_ways false refl lone.has_inside
 
 -- ---- two arcs in opposite directions
 

@@ -9,12 +9,13 @@ use Rattle.std.proofs.lemmas.List.Elements.{All-nil, All-cons, All-head, All-tai
 use Rattle.std.proofs.lemmas.List.Folds.{Any-from_list_any, list_any_at}
 use Rattle.std.proofs.lemmas.List.Kept.{AllPairs-cons}
 use Rattle.tsp_format.specs.Cells.{IsNode}
-use Rattle.tsp_branch.specs.Combs.{IsTooth, AreApart, IsComb, has, comb_of}
-use Rattle.tsp_branch.specs.Families.{IsLoneSet, IsFamily}
+use Rattle.tsp_families.specs.Crossed.{has}
+use Rattle.tsp_branch.specs.Combs.{IsTooth, AreApart, IsComb, comb_of}
+use Rattle.tsp_branch.specs.Families.{IsLoneSet, IsLoneOrComb}
 use Rattle.tsp_branch.specs.GoodCombs.{HasEachOnce, IsGoodComb, IsToothCount}
-use Rattle.tsp_branch.specs.states.Sets.{lists_of}
+use Rattle.tsp_families.specs.FamilySets.{lists_of}
 use Rattle.tsp_branch.specs.states.Marked.{AreNew, AreTeeth}
-use Rattle.tsp_branch.specs.declared.comb_set.CombSet.{CombSet}
+use Rattle.tsp_families.specs.declared.comb_set.CombSet.{CombSet}
 
 -- ---- one tooth
 
@@ -171,25 +172,25 @@ pub good_comb : (n half : ℕ) (used marked : ℕ → Bool) (handle : List ℕ) 
 good_comb n half used marked handle teeth odd some once same h =
     let is = subst (λ (f : ℕ → Bool). AreApartTeeth n f used teeth) (fun_ext same) (apart_teeth n marked used teeth h) in
     record {
-      family = inr (record { half = half; some = some; odd = length-map teeth has ∙ odd; reach = is.reach; apart = is.apart });
+      kind = inr (record { half = half; some = some; odd = length-map teeth has ∙ odd; reach = is.reach; apart = is.apart });
       once = All-cons HasEachOnce handle teeth once is.once;
     }
 
 -- a family with teeth is a comb, and one without a lone set
-pub comb_of_family : (n : ℕ) (handle : List ℕ) (teeth : List (List ℕ)) → 1 ≤ length teeth → IsFamily n (comb_of handle teeth) → IsComb n (comb_of handle teeth)
+pub comb_of_family : (n : ℕ) (handle : List ℕ) (teeth : List (List ℕ)) → 1 ≤ length teeth → IsLoneOrComb n (comb_of handle teeth) → IsComb n (comb_of handle teeth)
 comb_of_family n handle [] some h = absurd (omega (arith, some))
 comb_of_family n handle (tooth ∷ teeth) some (inl lone) = absurd (let none = lone.alone in cc)
 comb_of_family n handle (tooth ∷ teeth) some (inr comb) = comb
 
-pub lone_of_family : (n : ℕ) (handle : List ℕ) → IsFamily n (comb_of handle []) → IsLoneSet n (comb_of handle [])
+pub lone_of_family : (n : ℕ) (handle : List ℕ) → IsLoneOrComb n (comb_of handle []) → IsLoneSet n (comb_of handle [])
 lone_of_family n handle (inl lone) = lone
 lone_of_family n handle (inr comb) = absurd (let odd = comb.odd in omega (arith, odd))
 
 pub comb_teeth : (n : ℕ) (used marked : ℕ → Bool) (handle : List ℕ) (teeth : List (List ℕ)) → 1 ≤ length teeth → ((x : ℕ) → used x ≡ false) → ((x : ℕ) → marked x ≡ has handle x)
     → IsGoodComb n (handle ∷ teeth) → AreTeeth n marked used teeth
 comb_teeth n used marked handle teeth some none same h = teeth_apart n marked used teeth (subst (λ (f : ℕ → Bool). AreApartTeeth n f used teeth) (sym (fun_ext same)) (record {
-  reach = (comb_of_family n handle teeth some h.family).reach;
-  apart = (comb_of_family n handle teeth some h.family).apart;
+  reach = (comb_of_family n handle teeth some h.kind).reach;
+  apart = (comb_of_family n handle teeth some h.kind).apart;
   once = All-tail HasEachOnce handle teeth h.once;
   unused = none_used used teeth none;
 }))
@@ -213,7 +214,7 @@ module _ (n : ℕ) (sets : List CombSet) (handle : CombSet) (teeth : List CombSe
 
   pub counted : 1 ≤ length teeth → IsGoodComb n (lists_of sets) → IsToothCount (length teeth)
   counted some h =
-      let comb = comb_of_family n nodes (lists_of teeth) (long_teeth some) (subst (IsGoodComb n) told h).family in
+      let comb = comb_of_family n nodes (lists_of teeth) (long_teeth some) (subst (IsGoodComb n) told h).kind in
       (comb.half, comb.some, sym (length-map (lists_of teeth) has ∙ length-map teeth (λ set. set.nodes.items)) ∙ comb.odd)
 
   pub handle_new : (old : ℕ → Bool) → ((x : ℕ) → old x ≡ false) → IsGoodComb n (lists_of sets) → AreNew old nodes
@@ -244,10 +245,10 @@ module _ (n : ℕ) (sets : List CombSet) (handle : CombSet) (teeth : List CombSe
       alone = told ∙ ap (λ (ts : List CombSet). nodes ∷ lists_of ts) none_left
 
       pub lone_found : AreNew old nodes → IsLoneSet n (comb_of nodes []) → IsGoodComb n (lists_of sets)
-      lone_found new lone = subst (IsGoodComb n) (sym alone) (record { family = inl lone; once = All-cons HasEachOnce nodes [] new.once (All-nil HasEachOnce) })
+      lone_found new lone = subst (IsGoodComb n) (sym alone) (record { kind = inl lone; once = All-cons HasEachOnce nodes [] new.once (All-nil HasEachOnce) })
 
       pub lone_in : IsGoodComb n (lists_of sets) → IsLoneSet n (comb_of nodes [])
-      lone_in h = lone_of_family n nodes (subst (IsGoodComb n) alone h).family
+      lone_in h = lone_of_family n nodes (subst (IsGoodComb n) alone h).kind
 
 pub no_sets : (sets : List CombSet) → length sets ≡ 0 → sets ≡ []
 no_sets [] none = refl

@@ -5,8 +5,7 @@ use Rattle.std.specs.List.{All, Any}
 use Rattle.tsp_theory.specs.Costs.{IsSymmetric}
 use Rattle.tsp_theory.specs.Tour.{Problem, BoundsTours, HasNoTour}
 use Rattle.tsp_theory.specs.Numbers.{IsScale}
-use Rattle.tsp_branch.specs.Combs.{Comb}
-use Rattle.tsp_branch.specs.Families.{IsFamily}
+use Rattle.tsp_branch.specs.Families.{Family, IsFamily}
 use Rattle.tsp_branch.specs.declared.decision.Decision.{Decision}
 use Rattle.tsp_branch.specs.Decisions.{take_pairs, on_taken, on_avoided}
 use Rattle.tsp_branch.specs.LeafBound.{IsLeafBound}
@@ -15,7 +14,7 @@ use Rattle.tsp_branch.specs.RowLeaves.{IsRowLeafBound}
 use Rattle.tsp_branch.specs.Cases.{LeafNumbers, CaseStep, are_trees, leaves_of, BoundsCase, HasNoCycle}
 
 -- each family with its multiplier
-abbrev pub multiplied : List Comb → List ℤ → List (Comb × ℤ)
+abbrev pub multiplied : List Family → List ℤ → List (Family × ℤ)
 multiplied [] multipliers = []
 multiplied (family ∷ families) [] = []
 multiplied (family ∷ families) (multiplier ∷ multipliers) = (family, multiplier) ∷ multiplied families multipliers
@@ -26,7 +25,7 @@ pub record AreLeafNumbers (n : ℕ) (numbers : LeafNumbers) : Type 0 where
   pub signs : All (λ multiplier. pos 0 ≤ℤ multiplier) numbers.multipliers
 
 -- families of n nodes, a whole tree, and numbers at each of its leaves
-pub record IsCertificate (n : ℕ) (families : List Comb) (given : List Decision) (steps : List CaseStep) : Type 0 where
+pub record IsCertificate (n : ℕ) (families : List Family) (given : List Decision) (steps : List CaseStep) : Type 0 where
   pub families_are : All (IsFamily n) families
   pub whole : are_trees 1 steps ≡ true
   pub numbers_are : All (λ leaf. AreLeafNumbers n leaf.1) (leaves_of (given ∷ []) steps)
@@ -35,7 +34,7 @@ pub record IsCertificate (n : ℕ) (families : List Comb) (given : List Decision
 
 -- What is found of a leaf. Undirected: the bound of a least 1-tree, where all decisions have the same number. Directed: the bound by
 -- the least link from each node, or none where some node has no link that the decisions allow.
-abbrev pub IsFoundAt : Bool → ℕ → (ℕ → ℕ → ℤ) → ℤ → ℤ → List Comb → List Decision × LeafNumbers → Option ℤ → Type 0
+abbrev pub IsFoundAt : Bool → ℕ → (ℕ → ℕ → ℤ) → ℤ → ℤ → List Family → List Decision × LeafNumbers → Option ℤ → Type 0
 IsFoundAt false n cost scale number families (case, numbers) (Some bound) =
     IsLeafBound n cost scale numbers.potentials (on_taken number case) (on_avoided number case)
     (multiplied families numbers.multipliers) bound
@@ -55,7 +54,7 @@ abbrev pub IsLeastFound : (List Decision × LeafNumbers → Option ℤ → Type 
 IsLeastFound found leaves (Some bound) = All (IsAbove found bound) leaves × Any (λ leaf. found leaf (Some bound)) leaves
 IsLeastFound found leaves None = All (λ leaf. found leaf None) leaves
 
-abbrev pub IsCertificateBound : Bool → ℕ → (ℕ → ℕ → ℤ) → ℤ → ℤ → List Comb → List Decision → List CaseStep → Option ℤ → Type 0
+abbrev pub IsCertificateBound : Bool → ℕ → (ℕ → ℕ → ℤ) → ℤ → ℤ → List Family → List Decision → List CaseStep → Option ℤ → Type 0
 IsCertificateBound directed n cost scale number families given steps found =
     IsLeastFound (IsFoundAt directed n cost scale number families) (leaves_of (given ∷ []) steps) found
 
@@ -73,14 +72,14 @@ BoundsIfAny directed n cost case None = HasNoCycle directed n case
 
 -- The bound of a certificate is at most the length of every cycle that keeps the given decisions.
 abbrev pub CertificatesBoundCycles : Type 0
-CertificatesBoundCycles = (directed : Bool) (n : ℕ) (cost : ℕ → ℕ → ℤ) (scale number : ℤ) (families : List Comb)
+CertificatesBoundCycles = (directed : Bool) (n : ℕ) (cost : ℕ → ℕ → ℤ) (scale number : ℤ) (families : List Family)
     (given : List Decision) (steps : List CaseStep) (found : Option ℤ)
     → AreCostsFor directed n cost → IsScale scale → IsCertificate n families given steps
     → IsCertificateBound directed n cost scale number families given steps found → BoundsIfAny directed n cost given found
 
 -- Where the fixed pairs are given, it is at most the length of every tour.
 abbrev pub CertificatesBoundTours : Type 0
-CertificatesBoundTours = (problem : Problem) (scale number : ℤ) (families : List Comb) (steps : List CaseStep) (bound : ℤ)
+CertificatesBoundTours = (problem : Problem) (scale number : ℤ) (families : List Family) (steps : List CaseStep) (bound : ℤ)
     → AreCostsFor problem.directed problem.nodes problem.cost → IsScale scale
     → IsCertificate problem.nodes families (take_pairs problem.fixed) steps
     → IsCertificateBound problem.directed problem.nodes problem.cost scale number families (take_pairs problem.fixed) steps
@@ -88,7 +87,7 @@ CertificatesBoundTours = (problem : Problem) (scale number : ℤ) (families : Li
 
 -- Where there is none, there is no tour.
 abbrev pub NoBoundNoTour : Type 0
-NoBoundNoTour = (problem : Problem) (scale number : ℤ) (families : List Comb) (steps : List CaseStep)
+NoBoundNoTour = (problem : Problem) (scale number : ℤ) (families : List Family) (steps : List CaseStep)
     → AreCostsFor problem.directed problem.nodes problem.cost → IsScale scale
     → IsCertificate problem.nodes families (take_pairs problem.fixed) steps
     → IsCertificateBound problem.directed problem.nodes problem.cost scale number families (take_pairs problem.fixed) steps None
@@ -96,7 +95,7 @@ NoBoundNoTour = (problem : Problem) (scale number : ℤ) (families : List Comb) 
 
 -- There is one such bound, or none, whichever least 1-trees are found.
 abbrev pub CertificateBoundsAreUnique : Type 0
-CertificateBoundsAreUnique = (directed : Bool) (n : ℕ) (cost : ℕ → ℕ → ℤ) (scale number : ℤ) (families : List Comb)
+CertificateBoundsAreUnique = (directed : Bool) (n : ℕ) (cost : ℕ → ℕ → ℤ) (scale number : ℤ) (families : List Family)
     (given : List Decision) (steps : List CaseStep) (a b : Option ℤ)
     → IsCertificateBound directed n cost scale number families given steps a
     → IsCertificateBound directed n cost scale number families given steps b → a ≡ b

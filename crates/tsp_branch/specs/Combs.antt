@@ -1,11 +1,12 @@
 -- Combs: parts of the nodes that every cycle crosses often.
 -- Source: M. Grötschel and M. W. Padberg, On the symmetric travelling salesman problem, 1979.
 use Rattle.std.specs.Prelude.{◌≡◌, ℕ, ◌+◌, ◌*◌, ◌<◌, ◌≤◌, ◌==◌, map, Bool, true, false, if◌then◌else◌, List, length, slice_index_or, ℤ, pos, ◌+ℤ◌, ◌≤ℤ◌}
-use Rattle.std.specs.List.{All, AllPairs, list_any, range_with_len}
+use Rattle.std.specs.List.{All, AllPairs, range_with_len}
 use Rattle.tsp_format.specs.Cells.{IsNode}
 use Rattle.tsp_theory.specs.Cycle.{IsCycle}
 use Rattle.tsp_theory.specs.Length.{sum_int_by, length_of}
 use Rattle.tsp_theory.specs.Tree.{crossing}
+use Rattle.tsp_families.specs.Crossed.{has}
 
 -- a part of the nodes, the handle, and parts that reach into it, the teeth
 pub record Comb : Type 0 where
@@ -49,10 +50,6 @@ CyclesCrossCombs = (n : ℕ) (comb : Comb) (nodes : List ℕ)
     → IsComb n comb → IsCycle n nodes → least_crossings comb ≤ℤ length_of (crossings comb) nodes
 
 -- ---- combs by lists of nodes
-
--- whether a node is in a list
-abbrev pub has : List ℕ → ℕ → Bool
-has nodes node = list_any (λ other. other == node) nodes
 
 abbrev pub comb_of : List ℕ → List (List ℕ) → Comb
 comb_of handle teeth = record { handle = has handle; teeth = map has teeth }

@@ -1,9 +1,11 @@
--- Combs by their sets in one list, of which each has the number of its comb, from 0 on, and the first one of a comb is the handle.
-use Rattle.std.specs.Prelude.{◌≡◌, ℕ, zero, suc, ◌==◌, ◌<◌, ◌-◌, false, if◌then◌else◌, List, [], ◌∷◌, length, slice_index_or, ℤ, pos, ◌+ℤ◌, ◌*ℤ◌}
+-- Families by their sets in one list, of which each has the number of its family, from 0 on, and the first one of a comb is the
+-- handle.
+use Rattle.std.specs.Prelude.{◌≡◌, ℕ, suc, ◌==◌, ◌*◌, false, if◌then◌else◌, List, [], ◌∷◌, ℤ, pos, ◌+ℤ◌, ◌*ℤ◌}
+use Rattle.tsp_families.specs.declared.family.Crossings.{Crossings}
 use Rattle.tsp_branch.specs.Combs.{Comb, comb_of}
-use Rattle.tsp_branch.specs.Families.{least_crossings_of}
+use Rattle.tsp_branch.specs.Families.{Family}
 
--- a set of a comb, with the comb's number
+-- a set of a family, with the family's number
 pub record NumberedSet : Type 0 where
   pub comb : ℕ
   pub nodes : List ℕ
@@ -15,27 +17,25 @@ abbrev pub comb_with : List (List ℕ) → Comb
 comb_with [] = record { handle = λ node. false; teeth = [] }
 comb_with (handle ∷ teeth) = comb_of handle teeth
 
--- the sets of a comb
+-- the family of sets, with its numbers
+abbrev pub family_with : Crossings → List (List ℕ) → Family
+family_with numbers sets = record { sets = comb_with sets; numbers = numbers }
+
+-- the sets of a family
 abbrev pub of_comb : ℕ → List NumberedSet → List (List ℕ)
 of_comb comb [] = []
 of_comb comb (set ∷ sets) = if set.comb == comb then (set.nodes ∷ of_comb comb sets) else of_comb comb sets
 
--- a number of combs, from a first number on
-abbrev pub combs_from : ℕ → ℕ → List NumberedSet → List Comb
-combs_from first zero sets = []
-combs_from first (suc count) sets = comb_with (of_comb first sets) ∷ combs_from (suc first) count sets
+-- the families with these numbers, from a first one on
+abbrev pub families_from : ℕ → List Crossings → List NumberedSet → List Family
+families_from first [] sets = []
+families_from first (own ∷ crossed) sets = family_with own (of_comb first sets) ∷ families_from (suc first) crossed sets
 
-abbrev pub combs_of_sets : ℕ → List NumberedSet → List Comb
-combs_of_sets count sets = combs_from 0 count sets
+abbrev pub families_of : List Crossings → List NumberedSet → List Family
+families_of crossed sets = families_from 0 crossed sets
 
--- how many sets each comb has
-pub record AreSetCounts (combs : ℕ) (sets : List NumberedSet) (counts : List ℕ) : Type 0 where
-  pub many : length counts ≡ combs
-  pub each : (comb default : ℕ) → comb < combs → slice_index_or counts comb default ≡ length (of_comb comb sets)
-
--- the least crossings of families with these numbers of sets, each times its multiplier
-abbrev pub least_with : List ℕ → List ℤ → ℤ
+-- the least crossings of families, each times its multiplier
+abbrev pub least_with : List Crossings → List ℤ → ℤ
 least_with [] multipliers = pos 0
-least_with (count ∷ counts) [] = pos 0
-least_with (count ∷ counts) (multiplier ∷ multipliers) =
-    (multiplier *ℤ pos (least_crossings_of (count - 1))) +ℤ least_with counts multipliers
+least_with (own ∷ crossed) [] = pos 0
+least_with (own ∷ crossed) (multiplier ∷ multipliers) = (multiplier *ℤ pos own.least) +ℤ least_with crossed multipliers

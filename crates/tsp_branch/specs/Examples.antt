@@ -2,6 +2,7 @@
 use Rattle.std.specs.Prelude.{◌≡◌, ℕ, ◌-◌, true, false, List, [], ◌∷◌, Some, replicate, min, max, slice_index, slice_index_or, ℤ, pos}
 use Rattle.tsp_theory.specs.Length.{length_of}
 use Rattle.tsp_branch.specs.Combs.{Comb, comb_of, crossings}
+use Rattle.tsp_branch.specs.Families.{Family}
 use Rattle.tsp_branch.specs.declared.decision.Decision.{Decision}
 use Rattle.tsp_branch.specs.Decisions.{on_taken, on_avoided}
 use Rattle.tsp_branch.specs.LeafBound.{leaf_weight}
@@ -11,6 +12,10 @@ use Rattle.tsp_branch.specs.Certificate.{multiplied, IsCertificate, IsCertificat
 -- the comb of the handle 1 2 3 and the teeth 1 4, 2 5 and 3 6
 abbrev pub small_comb : Comb
 small_comb = comb_of (1 ∷ 2 ∷ 3 ∷ []) ((1 ∷ 4 ∷ []) ∷ (2 ∷ 5 ∷ []) ∷ (3 ∷ 6 ∷ []) ∷ [])
+
+-- its family: a cycle crosses its sets 10 times at the least
+abbrev pub small_family : Family
+small_family = record { sets = small_comb; numbers = record { least = 10; most = 3 } }
 
 -- how many of its parts have one of the two nodes and not the other; how often a list of nodes crosses them
 abbrev pub Crosses : ℕ → ℕ → ℕ → Type 0
@@ -53,7 +58,7 @@ WeighsAt case i j weight =
 -- the weight of two of the six at the scale 2, where the comb has the multiplier 1
 abbrev pub WeighsUnderComb : ℕ → ℕ → ℤ → Type 0
 WeighsUnderComb i j weight =
-    leaf_weight (pos 2) [] [] [] (multiplied (small_comb ∷ []) (pos 1 ∷ [])) (cost_in six_rows) i j ≡ weight
+    leaf_weight (pos 2) [] [] [] (multiplied (small_family ∷ []) (pos 1 ∷ [])) (cost_in six_rows) i j ≡ weight
 
 -- a certificate of four nodes has this bound; one of six, with the comb and these multipliers, and no branch
 abbrev pub FourHave : List CaseStep → ℤ → Type 0
@@ -64,8 +69,8 @@ abbrev pub six_leaf : List ℤ → List CaseStep
 six_leaf multipliers = Leaf (record { potentials = replicate 6 (pos 0); multipliers = multipliers }) ∷ []
 
 abbrev pub SixHave : List ℤ → ℤ → Type 0
-SixHave multipliers bound = IsCertificate 6 (small_comb ∷ []) [] (six_leaf multipliers)
-    × IsCertificateBound false 6 (cost_in six_rows) (pos 2) large (small_comb ∷ []) [] (six_leaf multipliers) (Some bound)
+SixHave multipliers bound = IsCertificate 6 (small_family ∷ []) [] (six_leaf multipliers)
+    × IsCertificateBound false 6 (cost_in six_rows) (pos 2) large (small_family ∷ []) [] (six_leaf multipliers) (Some bound)
 
 -- the steps are one tree, and these are the cases of its leaves
 pub record IsTreeOf (steps : List CaseStep) (cases : List (List Decision)) : Type 0 where

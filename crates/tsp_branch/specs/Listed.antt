@@ -6,7 +6,8 @@ use Rattle.tsp_format.specs.Steps as listed
 use Rattle.tsp_theory.specs.Numbers.{entry, IsBoundSized}
 use Rattle.tsp_branch.specs.declared.steps.Judged.{Judged}
 use Rattle.tsp_branch.specs.declared.steps.Judged.TheVariants as judged
-use Rattle.tsp_branch.specs.Combs.{Comb}
+use Rattle.tsp_families.specs.declared.family.Crossings.{Crossings}
+use Rattle.tsp_branch.specs.Families.{Family}
 use Rattle.tsp_branch.specs.declared.decision.Decision.{Decision}
 use Rattle.tsp_branch.specs.Decisions.{DecideOnce, decided_number}
 use Rattle.tsp_branch.specs.Cases.{LeafNumbers, CaseStep, Branch, Leaf, are_trees, leaves_of, cases_of}
@@ -51,9 +52,9 @@ IsStepOf n (listed.Leaf changes) = length changes < 2 ^ 32
 -- ---- good leaves
 
 -- each index is that of a node or of a comb, and the numbers are good
-pub record IsGoodLeaf (n combs : ℕ) (numbers : List ℤ) (changes : List (ℕ × ℤ)) : Type 0 where
-  pub indexes : All (λ change. IsNode (n + combs) change.0) changes
-  pub numbers_are : AreGoodNumbers n combs (split_at n (all_grown changes numbers))
+pub record IsGoodLeaf (n : ℕ) (crossed : List Crossings) (numbers : List ℤ) (changes : List (ℕ × ℤ)) : Type 0 where
+  pub indexes : All (λ change. IsNode (n + length crossed) change.0) changes
+  pub numbers_are : AreGoodNumbers n crossed (split_at n (all_grown changes numbers))
 
 -- the leaves, each by its differences
 abbrev pub leaf_changes : List listed.Step → List (List (ℕ × ℤ))
@@ -67,30 +68,30 @@ after_leaves [] numbers = numbers
 after_leaves (changes ∷ leaves) numbers = after_leaves leaves (all_grown changes numbers)
 
 -- the leaf at a place, from 1 on, is good: its differences are added to what all leaves before it give
-abbrev pub IsGoodAt : ℕ → ℕ → List (List (ℕ × ℤ)) → ℕ → Type 0
-IsGoodAt n combs leaves place =
-    IsGoodLeaf n combs (after_leaves (take (place - 1) leaves) (no_numbers_of n combs)) (slice_index_or leaves (place - 1) [])
+abbrev pub IsGoodAt : ℕ → List Crossings → List (List (ℕ × ℤ)) → ℕ → Type 0
+IsGoodAt n crossed leaves place =
+    IsGoodLeaf n crossed (after_leaves (take (place - 1) leaves) (no_numbers_of n (length crossed))) (slice_index_or leaves (place - 1) [])
 
-abbrev pub AreGoodLeaves : ℕ → ℕ → List listed.Step → Type 0
-AreGoodLeaves n combs steps =
-    (place : ℕ) → 1 ≤ place → place ≤ length (leaf_changes steps) → IsGoodAt n combs (leaf_changes steps) place
+abbrev pub AreGoodLeaves : ℕ → List Crossings → List listed.Step → Type 0
+AreGoodLeaves n crossed steps =
+    (place : ℕ) → 1 ≤ place → place ≤ length (leaf_changes steps) → IsGoodAt n crossed (leaf_changes steps) place
 
 -- the first leaf that isn't good, counted from 1
-pub record IsFirstBadLeaf (n combs : ℕ) (steps : List listed.Step) (leaf : ℕ) : Type 0 where
+pub record IsFirstBadLeaf (n : ℕ) (crossed : List Crossings) (steps : List listed.Step) (leaf : ℕ) : Type 0 where
   pub least : 1 ≤ leaf
   pub most : leaf ≤ length (leaf_changes steps)
-  pub bad : IsGoodAt n combs (leaf_changes steps) leaf → ⊥
-  pub before : (earlier : ℕ) → 1 ≤ earlier → earlier < leaf → IsGoodAt n combs (leaf_changes steps) earlier
+  pub bad : IsGoodAt n crossed (leaf_changes steps) leaf → ⊥
+  pub before : (earlier : ℕ) → 1 ≤ earlier → earlier < leaf → IsGoodAt n crossed (leaf_changes steps) earlier
 
 -- ---- the judgement
 
 -- Where all leaves are good, the bound, or none where no leaf has one; else the first leaf that isn't.
-abbrev pub IsJudged : Bool → ℕ → (ℕ → ℕ → ℤ) → ℤ → List Comb → ℕ → List Decision → List listed.Step → Judged → Type 0
-IsJudged directed n cost scale families count given steps (judged.Bound found) =
-    IsCertificate n families given (listed_steps n count steps)
-    × IsCertificateBound directed n cost scale decided_number families given (listed_steps n count steps) found
-    × AreGoodLeaves n count steps
-IsJudged directed n cost scale families count given steps (judged.BadLeaf leaf) = IsFirstBadLeaf n count steps leaf
+abbrev pub IsJudged : Bool → ℕ → (ℕ → ℕ → ℤ) → ℤ → List Family → List Crossings → List Decision → List listed.Step → Judged → Type 0
+IsJudged directed n cost scale families crossed given steps (judged.Bound found) =
+    IsCertificate n families given (listed_steps n (length crossed) steps)
+    × IsCertificateBound directed n cost scale decided_number families given (listed_steps n (length crossed) steps) found
+    × AreGoodLeaves n crossed steps
+IsJudged directed n cost scale families crossed given steps (judged.BadLeaf leaf) = IsFirstBadLeaf n crossed steps leaf
 
 -- Then the bound is at most the length of every cycle that keeps the given decisions, and where there is none, no cycle does.
 abbrev pub BoundsCycles : Bool → ℕ → (ℕ → ℕ → ℤ) → List Decision → Judged → Type 0

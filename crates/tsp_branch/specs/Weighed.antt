@@ -3,7 +3,7 @@ use Rattle.std.specs.Prelude.{◌≡◌, ℕ, List, ℤ, pos, ◌+ℤ◌, ◌-�
 use Rattle.tsp_theory.specs.Numbers.{total, IsLeastBound}
 use Rattle.tsp_theory.specs.Adjusted.{triples_total}
 use Rattle.tsp_tree.specs.Weighed.{IsLeastWeight}
-use Rattle.tsp_branch.specs.Combs.{Comb}
+use Rattle.tsp_branch.specs.Families.{Family}
 use Rattle.tsp_branch.specs.LeafBound.{least_of, leaf_weight, IsLeafBound}
 
 -- the least whole number that at the scale is no less than such a weight and the sum that is added
@@ -13,11 +13,11 @@ pub record IsBoundOfWeights (n : ℕ) (w : ℕ → ℕ → ℤ) (scale given_bac
   pub bound_is : IsLeastBound scale (weight +ℤ given_back) bound
 
 -- what a leaf gives back: the numbers of its taken pairs and the least crossings of its combs, less each potential twice
-abbrev pub given_back_of : List ℤ → List (ℕ × ℕ × ℤ) → List (Comb × ℤ) → ℤ
+abbrev pub given_back_of : List ℤ → List (ℕ × ℕ × ℤ) → List (Family × ℤ) → ℤ
 given_back_of potentials taken combs = (triples_total taken +ℤ least_of combs) -ℤ (pos 2 *ℤ total potentials)
 
 -- the bound is that of each leaf that has these weights and gives this back
 abbrev pub BoundsEachLeaf : ℕ → (ℕ → ℕ → ℤ) → ℤ → ℤ → ℤ → Type 0
 BoundsEachLeaf n w scale given_back bound = (cost : ℕ → ℕ → ℤ) (potentials : List ℤ) (taken avoided : List (ℕ × ℕ × ℤ))
-    (combs : List (Comb × ℤ)) → ((i j : ℕ) → w i j ≡ leaf_weight scale potentials taken avoided combs cost i j)
+    (combs : List (Family × ℤ)) → ((i j : ℕ) → w i j ≡ leaf_weight scale potentials taken avoided combs cost i j)
     → given_back ≡ given_back_of potentials taken combs → IsLeafBound n cost scale potentials taken avoided combs bound

@@ -1,4 +1,5 @@
 pub mod Rooms
+pub mod Numbers
 pub mod PairSets
 pub mod Marked
 pub mod Tabled

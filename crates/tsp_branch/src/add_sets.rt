@@ -7,8 +7,8 @@ ghost use Rattle.tsp_theory.specs.states.Nearest.{least_at};
 ghost use Rattle.tsp_branch.specs.states.Sets.{IsMoved, added};
 ghost use Rattle.tsp_branch.specs.states.Combed.{plain, AreSmallMultipliers, AreMultipliedSets, inside_both};
 
-use crate::comb_set::CombSet;
 use crate::sets::add_to_nodes;
+use tsp_families::CombSet;
 
 /// Adds to a row, at each node of the sets with these numbers, the set's multiplier twice.
 pub(crate) fn add_sets(row: &mut [i64], numbers: &[u32], sets: &[CombSet], multipliers: &[i64])

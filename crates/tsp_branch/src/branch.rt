@@ -7,17 +7,16 @@ ghost use Rattle.tsp_theory.specs.Costs.{IsSymmetric};
 ghost use Rattle.tsp_theory.specs.Numbers.{IsScale};
 ghost use Rattle.tsp_branch.specs.Families.{IsFamily};
 ghost use Rattle.tsp_branch.specs.Decisions.{DecideOnce, decided_number};
-ghost use Rattle.tsp_branch.specs.states.Sets.{AreSetsOf};
+ghost use Rattle.tsp_families.specs.FamilySets.{AreSetsOf};
 ghost use Rattle.tsp_branch.specs.states.Combed.{plain};
-ghost use Rattle.tsp_branch.specs.CombsOfSets.{combs_of_sets};
+ghost use Rattle.tsp_branch.specs.CombsOfSets.{families_of};
 ghost use Rattle.tsp_branch.specs.Certificate.{IsFoundAt};
 ghost use Rattle.tsp_branch.specs.states.Decided.{IsDecision};
 ghost use Rattle.tsp_branch.specs.states.OpenCases.{IsOpenCase, decisions_in};
 ghost use Rattle.tsp_branch.specs.Listed.{no_numbers_of, listed_steps, AreSteps, IsJudged, BoundsCycles, IsJudgedSized, IsLowest};
+ghost use Rattle.tsp_branch.specs.states.Numbers.{AreSmallCrossings};
 ghost use Rattle.tsp_branch.specs.states.Rooms.{IsRoom, AreSmall, IsJudgedLeaf, IsSizedLeaf};
 
-use crate::comb_set::CombSet;
-use crate::counts::set_counts;
 use crate::decision::Decision;
 use crate::judge::judge;
 use crate::laws::certificates_bound_cycles;
@@ -28,19 +27,21 @@ use crate::sets::sets_by_node;
 use crate::setting::Setting;
 use crate::steps::{Judged, JudgedLeaf};
 use std::alloc::{AllocError, Global};
+use tsp_families::{CombSet, Crossings};
 use tsp_format::TreeStep;
 use tsp_theory::Costs;
 
 /// The bound of a tree of cases: the least of the bounds of its leaves, which is at most the length
 /// of every cycle that keeps the given decisions, or none where no leaf has one. Or the first leaf
-/// that isn't good: one with an index past those of the nodes and the combs, with a potential above
-/// 10^15 in size, with a negative multiplier, or with multipliers that sum to more than 3 * 10^17.
+/// that isn't good: one with an index past those of the nodes and the families, with a potential
+/// above 10^15 in size, with a negative multiplier, or with multipliers that sum to more than
+/// 9 * 10^17, where each counts as often as two nodes cross its family at most.
 ///
 /// Where pairs have no direction the bound of a leaf is that of a least 1-tree, else that of the
 /// least link from each node.
 ///
-/// The combs are given by their sets, each with the number of its comb from 0 on, the handle before
-/// the teeth. A lone set is a handle without teeth.
+/// The families are given by their numbers and by their sets, each with the number of its family
+/// from 0 on, of a comb the handle before the teeth. A lone set is a handle without teeth.
 ///
 /// # Requires
 ///
@@ -57,7 +58,7 @@ pub fn branch_bound<C: Costs>(
     costs: &C,
     directed: bool,
     scale: i64,
-    combs: usize,
+    crossed: &[Crossings],
     sets: &[CombSet],
     given: &[Decision],
     steps: &[TreeStep],
@@ -65,34 +66,33 @@ pub fn branch_bound<C: Costs>(
     requires some { 3 ≤ C.nodes costs.now }
     requires even { directed ≡ false → IsSymmetric (C.at costs.now) }
     requires scaled { IsScale scale }
-    requires few_combs { combs < 2 ^ 32 }
+    requires few_combs { length crossed.now < 2 ^ 32 }
     requires few_sets { length sets.now < 2 ^ 32 }
     requires few_given { length given.now < 2 ^ 32 }
     requires few_steps { length steps.now < 2 ^ 32 }
     requires nodes { AreSetsOf (C.nodes costs.now) sets.now }
-    requires of_combs { All (λ set. (set.comb < combs) × AllPairs (λ a b. a ≢ b) set.nodes.items) sets.now }
-    requires are_families { All (IsFamily (C.nodes costs.now)) (combs_of_sets combs (plain sets.now)) }
+    requires of_combs { All (λ set. (set.comb < length crossed.now) × AllPairs (λ a b. a ≢ b) set.nodes.items) sets.now }
+    requires are_families { All (IsFamily (C.nodes costs.now)) (families_of crossed.now (plain sets.now)) }
+    requires small { AreSmallCrossings crossed.now }
     requires given_are { All (IsDecision (C.nodes costs.now)) given.now }
     requires steps { AreSteps directed (C.nodes costs.now) given.now (steps_of steps.now)
-        (listed_steps (C.nodes costs.now) combs (steps_of steps.now)) }
+        (listed_steps (C.nodes costs.now) (length crossed.now) (steps_of steps.now)) }
     ensures judged { IfOk result (IsJudged directed (C.nodes costs.now) (C.at costs.now) scale
-        (combs_of_sets combs (plain sets.now)) combs given.now (steps_of steps.now)) }
+        (families_of crossed.now (plain sets.now)) crossed.now given.now (steps_of steps.now)) }
     ensures cycles { IfOk result (BoundsCycles directed (C.nodes costs.now) (C.at costs.now) given.now) }
     ensures size { IfOk result IsJudgedSized }
 {
     certificates_bound_cycles();
     let count = costs.count();
     let by_node = sets_by_node(alloc, count, sets)?;
-    let counts = set_counts(alloc, combs, sets)?;
-    let room = Room::new(alloc, count as usize, combs)?;
+    let room = Room::new(alloc, count as usize, crossed.len())?;
     let setting = Setting {
         costs,
         directed,
         scale,
-        combs,
         sets,
         by_node: &by_node,
-        counts: &counts,
+        crossed,
         given,
     };
     judge_leaves(alloc, &setting, steps, room)
@@ -111,13 +111,13 @@ fn judge_leaves<C: Costs>(
 ) -> Result<Judged, AllocError>
     requires few_steps { length steps.now < 2 ^ 32 }
     requires are_families { All (IsFamily (C.nodes setting.now.costs.now))
-        (combs_of_sets setting.now.combs (plain setting.now.sets.now)) }
+        (families_of setting.now.crossed.now (plain setting.now.sets.now)) }
     requires steps { AreSteps setting.now.directed (C.nodes setting.now.costs.now) setting.now.given.now
-        (steps_of steps.now) (listed_steps (C.nodes setting.now.costs.now) setting.now.combs (steps_of steps.now)) }
-    requires room { IsRoom (C.nodes setting.now.costs.now) setting.now.combs room }
-    requires start { room.numbers.items ≡ no_numbers_of (C.nodes setting.now.costs.now) setting.now.combs }
+        (steps_of steps.now) (listed_steps (C.nodes setting.now.costs.now) (length setting.now.crossed.now) (steps_of steps.now)) }
+    requires room { IsRoom (C.nodes setting.now.costs.now) (length setting.now.crossed.now) room }
+    requires start { room.numbers.items ≡ no_numbers_of (C.nodes setting.now.costs.now) (length setting.now.crossed.now) }
     ensures judged { IfOk result (IsJudged setting.now.directed (C.nodes setting.now.costs.now) (C.at setting.now.costs.now)
-        setting.now.scale (combs_of_sets setting.now.combs (plain setting.now.sets.now)) setting.now.combs
+        setting.now.scale (families_of setting.now.crossed.now (plain setting.now.sets.now)) setting.now.crossed.now
         setting.now.given.now (steps_of steps.now)) }
     ensures size { IfOk result IsJudgedSized }
 {
@@ -158,27 +158,32 @@ fn judge_leaf<C: Costs>(
     room: &mut Room,
 ) -> Result<JudgedLeaf, AllocError>
     requires are_families { All (IsFamily (C.nodes setting.now.costs.now))
-        (combs_of_sets setting.now.combs (plain setting.now.sets.now)) }
+        (families_of setting.now.crossed.now (plain setting.now.sets.now)) }
     requires few_changes { length changes.now < 2 ^ 32 }
     requires few { length case.now.stack.items < 2 ^ 32 }
     requires case { IsOpenCase (C.nodes setting.now.costs.now) case.now }
     requires direction { case.now.by_node.directed ≡ setting.now.directed }
     requires given { case.now.given.now ≡ setting.now.given.now }
     requires once { DecideOnce setting.now.directed (decisions_in case.now) }
-    requires room { IsRoom (C.nodes setting.now.costs.now) setting.now.combs room.old }
+    requires room { IsRoom (C.nodes setting.now.costs.now) (length setting.now.crossed.now) room.old }
     requires small { AreSmall room.old.numbers.items }
     ensures judged { IfOk result (IsJudgedLeaf (IsFoundAt setting.now.directed (C.nodes setting.now.costs.now)
         (C.at setting.now.costs.now) setting.now.scale decided_number
-        (combs_of_sets setting.now.combs (plain setting.now.sets.now))) (C.nodes setting.now.costs.now) setting.now.combs
+        (families_of setting.now.crossed.now (plain setting.now.sets.now))) (C.nodes setting.now.costs.now) setting.now.crossed.now
         (decisions_in case.now) room.old.numbers.items changes.now
         room.new.numbers.items) }
-    ensures room { IfOk result (λ own. IsRoom (C.nodes setting.now.costs.now) setting.now.combs room.new) }
+    ensures room { IfOk result (λ own. IsRoom (C.nodes setting.now.costs.now) (length setting.now.crossed.now) room.new) }
     ensures size { IfOk result IsSizedLeaf }
 {
     if !add_differences(&mut room.numbers, changes) {
         return Ok(JudgedLeaf::Bad);
     }
-    if !judge(&room.numbers, &mut room.potentials, &mut room.multipliers) {
+    if !judge(
+        &room.numbers,
+        setting.crossed,
+        &mut room.potentials,
+        &mut room.multipliers,
+    ) {
         return Ok(JudgedLeaf::Bad);
     }
     let bound = setting.case_bound(

@@ -5,12 +5,13 @@ ghost use Rattle.std.specs.Int.{w64, int_wrap};
 ghost use Rattle.tsp_format.specs.Cells.{IsNode};
 ghost use Rattle.tsp_theory.specs.Numbers.{IsFromTo, IsScale, ArePotentials, entry};
 ghost use Rattle.tsp_theory.specs.states.Nearest.{least_at};
-ghost use Rattle.tsp_branch.specs.states.Sets.{IsMoved, IsSetTable, AreSetsOf};
+ghost use Rattle.tsp_families.specs.FamilySets.{AreSetsOf};
+ghost use Rattle.tsp_branch.specs.states.Sets.{IsMoved, IsSetTable};
 ghost use Rattle.tsp_branch.specs.states.Combed.{plain, AreSmallMultipliers, AreMultipliedSets, multipliers_at, AreFewCrossings, set_weight};
 
 use crate::add_sets::add_sets;
-use crate::comb_set::CombSet;
 use crate::scaled::scale_row;
+use tsp_families::CombSet;
 use tsp_theory::Costs;
 use tsp_tree::{Weights, weight_in};
 
@@ -39,7 +40,7 @@ pub struct CombedWeights<'a, C: Costs> {
         ≡ int_wrap w64 (entry potentials.now x +ℤ neg_ℤ (multipliers_at multipliers.now (plain sets.now) x)) },
     ghost long: { length potentials.now ≡ C.nodes costs.now },
     ghost potentials_are: { ArePotentials potentials.now },
-    ghost crossed: { AreFewCrossings multipliers.now (plain sets.now) },
+    ghost crossed: { AreFewCrossings (C.nodes costs.now) multipliers.now (plain sets.now) },
 }
 
 impl<'a, C: Costs> CombedWeights<'a, C> {
@@ -49,7 +50,8 @@ impl<'a, C: Costs> CombedWeights<'a, C> {
     ghost use Rattle.tsp_theory.specs.Numbers.{IsFromTo, IsScale, ArePotentials, entry};
     ghost use Rattle.tsp_theory.specs.states.Nearest.{least_at};
     ghost use Rattle.tsp_theory.specs.NodeBound.{weight_between, most_between};
-    ghost use Rattle.tsp_branch.specs.states.Sets.{IsMoved, IsSetTable, AreSetsOf};
+    ghost use Rattle.tsp_families.specs.FamilySets.{AreSetsOf};
+    ghost use Rattle.tsp_branch.specs.states.Sets.{IsMoved, IsSetTable};
     ghost use Rattle.tsp_branch.specs.states.Combed.{plain, AreSmallMultipliers, AreMultipliedSets, multipliers_at, AreFewCrossings, most_combed, set_weight};
 
     /// The weights of these costs, potentials and sets.
@@ -58,7 +60,7 @@ impl<'a, C: Costs> CombedWeights<'a, C> {
     ///
     /// - a scale of 1 to 1,000,000;
     /// - as many potentials as nodes, each at most 10^15 in size;
-    /// - multipliers from 0 to 3 * 10^17;
+    /// - multipliers from 0 to 9 * 10^17;
     /// - sets of different nodes, each with the number of a comb, of which no two nodes cross more
     ///   than 9 * 10^17 with the multipliers;
     /// - by node the numbers of its sets;
@@ -82,7 +84,7 @@ impl<'a, C: Costs> CombedWeights<'a, C> {
             ≡ int_wrap w64 (entry potentials.now x +ℤ neg_ℤ (multipliers_at multipliers.now (plain sets.now) x)) }
         requires long { length potentials.now ≡ C.nodes costs.now }
         requires potentials_are { ArePotentials potentials.now }
-        requires crossed { AreFewCrossings multipliers.now (plain sets.now) }
+        requires crossed { AreFewCrossings (C.nodes costs.now) multipliers.now (plain sets.now) }
         ensures nodes { C.nodes result.costs.now ≡ C.nodes costs.now }
         ensures weights { (i j : ℕ) → set_weight result.scale result.potentials.now result.multipliers.now
             (plain result.sets.now) (C.at result.costs.now) i j

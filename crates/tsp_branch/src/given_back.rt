@@ -6,60 +6,50 @@ ghost use Rattle.tsp_theory.specs.Numbers.{IsFromTo, total};
 ghost use Rattle.tsp_theory.specs.Adjusted.{triples_total};
 ghost use Rattle.tsp_branch.specs.Decisions.{on_taken, decided_number};
 ghost use Rattle.tsp_branch.specs.Certificate.{multiplied};
-ghost use Rattle.tsp_branch.specs.Families.{least_crossings_of};
 ghost use Rattle.tsp_branch.specs.LeafBound.{least_of};
-ghost use Rattle.tsp_branch.specs.Judged.{most_multiplied};
-ghost use Rattle.tsp_branch.specs.CombsOfSets.{NumberedSet, combs_of_sets, AreSetCounts, least_with};
+ghost use Rattle.tsp_branch.specs.Judged.{most_crossed};
+ghost use Rattle.tsp_branch.specs.CombsOfSets.{NumberedSet, families_of, least_with};
+ghost use Rattle.tsp_branch.specs.states.Numbers.{AreSmallCrossings};
 
 use crate::decided::DECIDED;
 use crate::decision::Decision;
+use tsp_families::Crossings;
 
 /// The least crossings of a leaf's families, each times its multiplier, less each potential twice:
 /// at most 2^98 in size.
 ///
 /// # Requires
 ///
-/// The number of sets of each family, and multipliers that aren't negative and sum to at most
-/// 3 * 10^17.
-pub(crate) fn given_back(potentials: &[i64], multipliers: &[i64], counts: &[u32]) -> i128
+/// The numbers of each family, and multipliers that aren't negative and sum to at most 9 * 10^17.
+pub(crate) fn given_back(potentials: &[i64], multipliers: &[i64], crossed: &[Crossings]) -> i128
     requires few_potentials { length potentials.now < 2 ^ 32 }
     requires few_multipliers { length multipliers.now < 2 ^ 32 }
-    requires as_many { length counts.now ≡ length multipliers.now }
+    requires as_many { length crossed.now ≡ length multipliers.now }
+    requires small { AreSmallCrossings crossed.now }
     requires signs { All (λ multiplier. pos 0 ≤ℤ multiplier) multipliers.now }
-    requires sum { total multipliers.now ≤ℤ pos most_multiplied }
-    ensures value { (sets : List NumberedSet) → AreSetCounts (length multipliers.now) sets counts.now
-        → result ≡ least_of (multiplied (combs_of_sets (length multipliers.now) sets) multipliers.now)
+    requires sum { total multipliers.now ≤ℤ pos most_crossed }
+    ensures value { (sets : List NumberedSet)
+        → result ≡ least_of (multiplied (families_of crossed.now sets) multipliers.now)
         -ℤ (pos 2 *ℤ total potentials.now) }
     ensures size { IsFromTo (neg_ℤ (pos (2 ^ 98))) (pos (2 ^ 98)) result }
 {
-    multiplied_crossings(counts, multipliers) - 2 * total(potentials)
+    multiplied_crossings(crossed, multipliers) - 2 * total(potentials)
 }
 
-/// The least crossings of families with these numbers of sets, each times its multiplier.
-fn multiplied_crossings(counts: &[u32], multipliers: &[i64]) -> i128
-    requires as_many { length counts.now ≡ length multipliers.now }
+/// The least crossings of families, each times its multiplier.
+fn multiplied_crossings(crossed: &[Crossings], multipliers: &[i64]) -> i128
+    requires as_many { length crossed.now ≡ length multipliers.now }
+    requires small { AreSmallCrossings crossed.now }
     requires signs { All (λ multiplier. pos 0 ≤ℤ multiplier) multipliers.now }
-    requires sum { total multipliers.now ≤ℤ pos most_multiplied }
-    ensures value { result ≡ least_with counts.now multipliers.now }
+    requires sum { total multipliers.now ≤ℤ pos most_crossed }
+    ensures value { result ≡ least_with crossed.now multipliers.now }
     ensures size { IsFromTo (pos 0) (pos (2 ^ 95)) result }
 {
     let mut sum = 0;
     'families: for index in 0..multipliers.len() {
-        sum += i128::from(multipliers[index]) * i128::from(least_crossings(counts[index]));
+        sum += i128::from(multipliers[index]) * i128::from(crossed[index].least);
     }
     sum
-}
-
-/// How often a cycle crosses a family of `sets` sets at the least: twice a lone set, and 3k + 1
-/// times the handle and the k teeth of a comb.
-fn least_crossings(sets: u32) -> u64
-    ensures value { result ≡ least_crossings_of (sets - 1) }
-    ensures few { result < 2 ^ 34 }
-{
-    if sets <= 1 {
-        return 2;
-    }
-    3 * u64::from(sets) - 2
 }
 
 /// The sum of numbers.

@@ -1,27 +1,32 @@
-//! Which comb is bad.
+//! Which family is bad, and the numbers of the others.
 
-ghost use Rattle.std.specs.Prelude.{◌≡◌, ◌≤◌, ◌<◌, ◌-◌, ◌+◌, ◌^◌, ◌↔◌, ◌≢◌, ℕ, IsTrue, [], length, take, true, IfOk, slice_index_or};
+ghost use Rattle.std.specs.Prelude.{◌≡◌, ◌≤◌, ◌<◌, ◌-◌, ◌+◌, ◌^◌, ◌↔◌, ◌≢◌, ℕ, IsTrue, [], length, take, true, IfOk, IfSome, slice_index_or};
 ghost use Rattle.std.specs.List.{All};
 ghost use Rattle.tsp_format.specs.Cells.{IsNode};
-ghost use Rattle.tsp_branch.specs.Combs.{IsTooth, has, comb_of};
-ghost use Rattle.tsp_branch.specs.Families.{IsLoneSet};
-ghost use Rattle.tsp_branch.specs.states.Sets.{AreSetsOf, AreInOrder, lists_of};
+ghost use Rattle.tsp_families.specs.Crossed.{has};
+ghost use Rattle.tsp_families.specs.FamilySets.{AreSetsOf, lists_of};
+ghost use Rattle.tsp_families.specs.declared.comb_set.CombSet.{CombSet};
+ghost use Rattle.tsp_branch.specs.Combs.{IsTooth, comb_of};
+ghost use Rattle.tsp_branch.specs.Families.{IsLoneSet, least_crossings_of};
+ghost use Rattle.tsp_branch.specs.states.Sets.{AreInOrder};
 ghost use Rattle.tsp_branch.specs.states.Combed.{plain};
-ghost use Rattle.tsp_branch.specs.GoodCombs.{IsGoodComb, IsToothCount, AreCombsJudged};
+ghost use Rattle.tsp_branch.specs.GoodCombs.{IsGoodComb, IsToothCount, AreFamiliesJudged};
+ghost use Rattle.tsp_branch.specs.states.Numbers.{AreSmallFamilies, HasNumbers, IsSmall};
 ghost use Rattle.tsp_branch.specs.states.Marked.{is_marked, AreUnmarked, HavePlaces, AddsNoOther, AreTeeth};
-ghost use Rattle.tsp_branch.specs.declared.comb_set.CombSet.{CombSet};
 
-use crate::comb_set::CombSet;
 use crate::marks::{has_node, leaves_one_out, mark_nodes};
+use crate::other_families::other_crossings;
+use crate::steps::JudgedFamilies;
 use std::alloc::{AllocError, Global};
+use tsp_families::{CombSet, Crossings};
 
-/// The first family that is neither a lone set nor a comb, counted from 1: a set alone that has no
-/// node or leaves none out, or more sets with an even number of teeth or fewer than three, a node
-/// twice in a set, two teeth with a node in common, or a tooth inside the handle or outside of it.
-/// `None` where all are families.
+/// The numbers of families, or the first one that isn't good, counted from 1: one with a node twice
+/// in a set, or one that is neither a lone set nor a comb and that has more than 63 sets, or whose
+/// nodes make more than 14 parts or one alone. Two nodes are in one part where they are in the same
+/// sets.
 ///
 /// The families are given by their sets, each with the number of its family from 0 on, family by
-/// family, the handle before the teeth.
+/// family, of a comb the handle before the teeth.
 ///
 /// # Requires
 ///
@@ -29,32 +34,85 @@ use std::alloc::{AllocError, Global};
 ///
 /// # Errors
 ///
-/// Out of memory, of which it takes some for each node.
-pub fn first_bad_comb(
+/// Out of memory, of which it takes some for each node and for each family.
+pub fn judge_families(
     alloc: Global,
     nodes: u32,
     combs: usize,
     sets: &[CombSet],
-) -> Result<Option<usize>, AllocError>
+) -> Result<JudgedFamilies, AllocError>
+    requires some { 1 ≤ nodes }
     requires few_nodes { nodes < 2 ^ 32 - 1 }
     requires few_combs { combs < 2 ^ 32 }
+    requires few_sets { length sets.now < 2 ^ 32 }
     requires nodes { AreSetsOf nodes sets.now }
     requires of_combs { All (λ set. set.comb < combs) sets.now }
     requires in_order { AreInOrder sets.now }
-    ensures { IfOk result (AreCombsJudged nodes combs (plain sets.now)) }
+    ensures judged { IfOk result (AreFamiliesJudged nodes combs (plain sets.now)) }
+    ensures small { IfOk result AreSmallFamilies }
 {
     let mut handles = vec![in alloc; 0; nodes as usize + 1]?;
     let mut teeth = vec![in alloc; 0; nodes as usize + 1]?;
+    let mut crossed = Vec::new(alloc);
     let mut rest = sets;
     'combs: for comb in 0..combs as u32 {
         let (own, later) = rest.split_at(count_of(rest, comb));
         // Marks from 1 on, since 0 means no mark.
-        if !is_comb(&mut handles, &mut teeth, comb + 1, own) {
-            return Ok(Some(comb as usize + 1));
-        }
+        let found = crossings_of(alloc, nodes, &mut handles, &mut teeth, comb + 1, own)?;
+        let Some(numbers) = found else {
+            return Ok(JudgedFamilies::Bad(comb as usize + 1));
+        };
+        crossed.push(numbers)?;
         rest = later;
     }
-    Ok(None)
+    Ok(JudgedFamilies::Good(crossed))
+}
+
+/// The numbers of the family that sets are, the handle first; `None` where they are none, or one has
+/// a node twice.
+///
+/// # Errors
+///
+/// Out of memory.
+fn crossings_of(
+    alloc: Global,
+    nodes: u32,
+    handles: &mut [u32],
+    used: &mut [u32],
+    mark: u32,
+    sets: &[CombSet],
+) -> Result<Option<Crossings>, AllocError>
+    requires some { 1 ≤ nodes }
+    requires few_nodes { nodes < 2 ^ 32 - 1 }
+    requires few_sets { length sets.now < 2 ^ 32 }
+    requires nodes { AreSetsOf nodes sets.now }
+    requires handle_places { length handles.old ≡ nodes + 1 }
+    requires tooth_places { length used.old ≡ nodes + 1 }
+    requires fresh_handle { AreUnmarked handles.old mark }
+    requires fresh_teeth { AreUnmarked used.old mark }
+    ensures found { IfOk result (HasNumbers nodes (lists_of sets.now)) }
+    ensures small { IfOk result (λ found. IfSome found IsSmall) }
+    ensures handle_others { AddsNoOther mark handles.old handles.new }
+    ensures tooth_others { AddsNoOther mark used.old used.new }
+    ensures handle_length { length handles.new ≡ length handles.old }
+    ensures tooth_length { length used.new ≡ length used.old }
+{
+    if is_comb(handles, used, mark, sets) {
+        return Ok(Some(known_crossings(sets.len())));
+    }
+    other_crossings(alloc, nodes, sets)
+}
+
+/// The numbers of a lone set or a comb with this many sets: a cycle crosses a lone set twice at
+/// least, and the handle and the k teeth of a comb 3k + 1 times.
+fn known_crossings(sets: usize) -> Crossings
+    requires { sets < 2 ^ 32 }
+    ensures least { result.least ≡ least_crossings_of (sets - 1) }
+    ensures most { result.most ≡ 3 }
+    ensures small { IsSmall result }
+{
+    let least = if sets <= 1 { 2 } else { 3 * sets as u64 - 2 };
+    Crossings { least, most: 3 }
 }
 
 /// How many sets at the front have the number of a comb.
@@ -70,7 +128,7 @@ fn count_of(sets: &[CombSet], comb: u32) -> usize
     count
 }
 
-/// Whether sets, the handle first, are those of a lone set or a comb, each with its nodes once.
+/// Whether sets, the handle first, are a lone set or a comb, each with its nodes once.
 ///
 /// The nodes of the handle get a mark, and so do those of the teeth in marks of their own: a mark
 /// that no node has before.

@@ -1,21 +1,33 @@
 //! Whether the numbers of a leaf are good.
 
-ghost use Rattle.std.specs.Prelude.{◌≡◌, ◌<◌, ◌+◌, ◌^◌, ◌↔◌, IsTrue, length, take, drop, true};
-ghost use Rattle.tsp_branch.specs.Judged.{AreGoodNumbers, as_leaf_numbers};
+ghost use Rattle.std.specs.Prelude.{◌≡◌, ◌≤◌, ◌<◌, ◌+◌, ◌^◌, ◌↔◌, IsTrue, length, take, drop, true};
+ghost use Rattle.std.specs.List.{All};
+ghost use Rattle.tsp_branch.specs.Judged.{AreGoodNumbers, as_leaf_numbers, most_with};
+ghost use Rattle.tsp_branch.specs.states.Combed.{AreSmallMultipliers};
+ghost use Rattle.tsp_branch.specs.states.Numbers.{AreSmallCrossings};
 
-use crate::given_back::total;
 use crate::numbers::copy_within;
+use tsp_families::Crossings;
 use tsp_format::MOST_POTENTIAL;
 
-/// What the multipliers of all combs of a leaf sum to at most.
-const MOST_MULTIPLIED: i64 = 300_000_000_000_000_000;
+/// How often two nodes cross the sets of all families at most, each as often as its multiplier says.
+const MOST_CROSSED: i64 = 900_000_000_000_000_000;
 
-/// Whether the numbers, of the nodes and then of the combs, are good: no potential is above 10^15
-/// in size, no multiplier is negative, and these sum to at most 3 * 10^17. Then they are copied.
-pub(crate) fn judge(numbers: &[i128], potentials: &mut [i64], multipliers: &mut [i64]) -> bool
+/// Whether the numbers, of the nodes and then of the families, are good: no potential is above 10^15
+/// in size, no multiplier is negative, and these, each times the most that two nodes cross of its
+/// family, sum to at most 9 * 10^17. Then they are copied.
+pub(crate) fn judge(
+    numbers: &[i128],
+    crossed: &[Crossings],
+    potentials: &mut [i64],
+    multipliers: &mut [i64],
+) -> bool
     requires long { length numbers.now ≡ length potentials.old + length multipliers.old }
+    requires as_many { length multipliers.old ≡ length crossed.now }
     requires few { length multipliers.old < 2 ^ 32 }
-    ensures good { IsTrue result ↔ AreGoodNumbers (length potentials.old) (length multipliers.old)
+    requires numbers { AreSmallCrossings crossed.now }
+    requires some { All (λ own. 1 ≤ own.most) crossed.now }
+    ensures good { IsTrue result ↔ AreGoodNumbers (length potentials.old) crossed.now
         (as_leaf_numbers (take (length potentials.old) numbers.now) (drop (length potentials.old) numbers.now)) }
     ensures potentials { result ≡ true → potentials.new ≡ take (length potentials.old) numbers.now }
     ensures multipliers { result ≡ true → multipliers.new ≡ drop (length potentials.old) numbers.now }
@@ -26,8 +38,23 @@ pub(crate) fn judge(numbers: &[i128], potentials: &mut [i64], multipliers: &mut 
     if !copy_within(of_nodes, -MOST_POTENTIAL, MOST_POTENTIAL, potentials) {
         return false;
     }
-    if !copy_within(of_combs, 0, MOST_MULTIPLIED, multipliers) {
+    if !copy_within(of_combs, 0, MOST_CROSSED, multipliers) {
         return false;
     }
-    total(multipliers) <= i128::from(MOST_MULTIPLIED)
+    most_crossings(crossed, multipliers) <= i128::from(MOST_CROSSED)
+}
+
+/// How often two nodes cross the sets of families at most, each as often as its multiplier says.
+fn most_crossings(crossed: &[Crossings], multipliers: &[i64]) -> i128
+    requires as_many { length multipliers.now ≡ length crossed.now }
+    requires few { length multipliers.now < 2 ^ 32 }
+    requires small { AreSmallMultipliers multipliers.now }
+    requires numbers { AreSmallCrossings crossed.now }
+    ensures { result ≡ most_with crossed.now multipliers.now }
+{
+    let mut sum = 0;
+    'families: for index in 0..multipliers.len() {
+        sum += i128::from(multipliers[index]) * i128::from(crossed[index].most);
+    }
+    sum
 }

@@ -7,11 +7,12 @@ ghost use Rattle.tsp_branch.specs.Decisions.{DecidedBoundsBoundCycles, FixedBoun
 ghost use Rattle.tsp_branch.specs.LeafBound.{LeafBoundsBoundCycles, UncombedBoundsAreAdjustedBounds};
 ghost use Rattle.tsp_branch.specs.Cases.{decide, BoundsCase, HasNoCycle, BoundsButOpen, CyclesKeepLeaves, CasesBoundCycles, CasesHaveNoCycle, StacksBegin, StacksBranch, StacksHoldCases};
 ghost use Rattle.tsp_branch.specs.Rows.{LinksAreAllowed, NoLinkNoCycle, SumsAreBelowCycles};
-ghost use Rattle.tsp_branch.specs.Families.{CyclesCrossFamilies};
+ghost use Rattle.tsp_branch.specs.Families.{CyclesCrossFamilies, NumbersAreUnique};
 ghost use Rattle.tsp_branch.specs.RowLeaves.{RowLeafBoundsBoundCycles};
 ghost use Rattle.tsp_branch.specs.Certificate.{CertificatesBoundCycles, CertificatesBoundTours, NoBoundNoTour, CertificateBoundsAreUnique};
 ghost use Rattle.tsp_branch.specs.states.Combed.{SetsTellCombs, SetsGiveLeaves};
 
+use tsp_families::{least_lengths_are_unique, most_costs_are_unique};
 use tsp_theory::{
     adjusted_bounds_bound_cycles, cycles_are_permutations, cycles_have_no_loops, lengths_add_up,
 };
@@ -40,7 +41,8 @@ pub fn cycles_cross_combs()
     cycles_have_no_loops();
 }
 
-/// Each cycle crosses a lone set at least twice, and a comb of k teeth at least 3k + 1 times.
+/// Each cycle crosses a family at least as often as its number says: a lone set twice, and a comb of k
+/// teeth 3k + 1 times.
 pub fn cycles_cross_families()
     ensures { CyclesCrossFamilies }
 {
@@ -176,3 +178,11 @@ pub fn certificates_bound_cycles()
 pub fn certificate_bounds_are_unique()
     ensures { CertificateBoundsAreUnique }
 {}
+
+/// A family has one pair of numbers.
+pub fn numbers_are_unique()
+    ensures { NumbersAreUnique }
+{
+    least_lengths_are_unique();
+    most_costs_are_unique();
+}

@@ -1,5 +1,5 @@
-//! Lower bounds by branching: families (lone sets and combs), and cases by pairs of nodes, as theorems
-//! and as code. There are two relaxations: least 1-trees, and the least arc from each node.
+//! Lower bounds by branching: families of sets of nodes, and cases by pairs of nodes, as theorems and
+//! as code. There are two relaxations: least 1-trees, and the least arc from each node.
 //!
 //! [`judge_branches`] finds the bound of a certificate, or what is wrong with it first. It searches
 //! for no certificates, and knows costs by their traits only.
@@ -12,9 +12,7 @@
 mod add_sets;
 mod branch;
 mod closing;
-mod comb_set;
 mod combed;
-mod counts;
 mod decided;
 mod decision;
 mod examples;
@@ -29,6 +27,7 @@ mod node_decisions;
 mod number_examples;
 mod numbers;
 mod open_case;
+mod other_families;
 mod pairs;
 mod room;
 mod row_examples;
@@ -43,27 +42,28 @@ mod twice;
 mod verdict;
 
 pub use branch::branch_bound;
-pub use comb_set::CombSet;
 pub use combed::CombedWeights;
 pub use decision::Decision;
 pub use examples::{
     examples_of_bounds, examples_of_crossings, examples_of_trees, examples_of_verdicts,
     examples_of_weights,
 };
-pub use good_combs::first_bad_comb;
+pub use good_combs::judge_families;
 pub use laws::{
     cases_bound_cycles, cases_have_no_cycle, certificate_bounds_are_unique,
     certificates_bound_cycles, cycles_cross_combs, cycles_cross_families, cycles_keep_leaves,
     decided_bounds_bound_cycles, fixed_bounds_bound_tours, leaf_bounds_bound_cycles,
-    links_are_allowed, numbers_tell_combs, numbers_tell_lists, row_leaf_bounds_bound_cycles,
-    sets_tell_combs, stacks_hold_cases, steps_leave_cases, sums_are_below_cycles,
+    links_are_allowed, numbers_are_unique, numbers_tell_combs, numbers_tell_lists,
+    row_leaf_bounds_bound_cycles, sets_tell_combs, stacks_hold_cases, steps_leave_cases,
+    sums_are_below_cycles,
 };
 pub use leaf::leaf_bound;
 pub use number_examples::{examples_of_differences, examples_of_good_numbers};
 pub use pairs::key_of;
 pub use row_examples::{examples_of_arcs, examples_of_links, examples_of_rows};
 pub use stack::next_case;
-pub use steps::{BranchVerdict, Judged};
+pub use steps::{BranchVerdict, Judged, JudgedFamilies};
 pub use table::CostTable;
+pub use tsp_families::{CombSet, Crossings};
 pub use twice::first_twice;
 pub use verdict::judge_branches;

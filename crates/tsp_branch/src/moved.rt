@@ -6,11 +6,12 @@ ghost use Rattle.std.specs.List.{All};
 ghost use Rattle.tsp_format.specs.Cells.{IsNode};
 ghost use Rattle.tsp_theory.specs.Numbers.{entry};
 ghost use Rattle.tsp_theory.specs.states.Nearest.{least_at};
-ghost use Rattle.tsp_branch.specs.states.Sets.{IsMoved, AreSetsOf};
+ghost use Rattle.tsp_families.specs.FamilySets.{AreSetsOf};
+ghost use Rattle.tsp_branch.specs.states.Sets.{IsMoved};
 ghost use Rattle.tsp_branch.specs.states.Combed.{plain, AreSmallMultipliers, multipliers_at};
 
 use crate::add_sets::add_where_any;
-use crate::comb_set::CombSet;
+use tsp_families::CombSet;
 
 /// Writes at the place of each node what is left in 64 bits of its potential less the multipliers
 /// of the sets that have it.

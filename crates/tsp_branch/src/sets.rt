@@ -3,11 +3,12 @@
 ghost use Rattle.std.specs.Prelude.{◌<◌, ◌-◌, ◌^◌, ℕ, [], length, IfOk};
 ghost use Rattle.std.specs.List.{All};
 ghost use Rattle.tsp_theory.specs.states.Nearest.{least_at};
-ghost use Rattle.tsp_branch.specs.states.Sets.{IsMoved, added, times, AreLengthened, IsSetTable, AreSetsOf};
+ghost use Rattle.tsp_families.specs.FamilySets.{AreSetsOf};
+ghost use Rattle.tsp_branch.specs.states.Sets.{IsMoved, added, times, AreLengthened, IsSetTable};
 
-use crate::comb_set::CombSet;
 use crate::decided::add_at;
 use std::alloc::{AllocError, Global};
+use tsp_families::CombSet;
 
 /// Adds a number at each node of a list.
 ///

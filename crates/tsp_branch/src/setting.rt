@@ -4,12 +4,11 @@ ghost use Rattle.std.specs.Prelude.{◌≡◌, ◌≢◌, ◌≤◌, ◌<◌, �
 ghost use Rattle.std.specs.List.{All, AllPairs};
 ghost use Rattle.tsp_theory.specs.Costs.{IsSymmetric};
 ghost use Rattle.tsp_theory.specs.Numbers.{IsScale};
-ghost use Rattle.tsp_branch.specs.states.Sets.{IsSetTable, AreSetsOf};
-ghost use Rattle.tsp_branch.specs.states.Combed.{plain};
-ghost use Rattle.tsp_branch.specs.CombsOfSets.{AreSetCounts};
+ghost use Rattle.tsp_families.specs.FamilySets.{AreSetsOf};
+ghost use Rattle.tsp_branch.specs.states.Sets.{IsSetTable};
+ghost use Rattle.tsp_branch.specs.states.Numbers.{AreSmallCrossings};
 ghost use Rattle.tsp_branch.specs.states.Decided.{IsDecision};
 
-use crate::comb_set::CombSet;
 use crate::combed::CombedWeights;
 use crate::decided::DecidedWeights;
 use crate::decision::Decision;
@@ -19,11 +18,12 @@ use crate::moved::fill_moved;
 use crate::open_case::OpenCase;
 use crate::rows::row_bound;
 use std::alloc::{AllocError, Global};
+use tsp_families::{CombSet, Crossings};
 use tsp_theory::Costs;
 
 /// What all leaves share: costs, and whether pairs have a direction; a scale; families by their
-/// sets, each with the number of its family; the sets of each node and the number of sets of each
-/// family; and the given decisions.
+/// sets, each with the number of its family; the sets of each node; the numbers of each family; and
+/// the given decisions.
 ///
 /// Where pairs have no direction the costs are the same in both, and the bound of a leaf is that of
 /// a least 1-tree; else it is that of the least link from each node.
@@ -32,21 +32,20 @@ pub(crate) struct Setting<'a, C: Costs> {
     pub(crate) costs: &'a C,
     pub(crate) directed: bool,
     pub(crate) scale: i64,
-    pub(crate) combs: usize,
     pub(crate) sets: &'a [CombSet],
     pub(crate) by_node: &'a [Vec<u32>],
-    pub(crate) counts: &'a [u32],
+    pub(crate) crossed: &'a [Crossings],
     pub(crate) given: &'a [Decision],
     ghost some: { 3 ≤ C.nodes costs.now },
     ghost even: { directed ≡ false → IsSymmetric (C.at costs.now) },
     ghost scaled: { IsScale scale },
-    ghost few_combs: { combs < 2 ^ 32 },
+    ghost few_combs: { length crossed.now < 2 ^ 32 },
     ghost few_sets: { length sets.now < 2 ^ 32 },
     ghost few_given: { length given.now < 2 ^ 32 },
     ghost nodes: { AreSetsOf (C.nodes costs.now) sets.now },
-    ghost of_combs: { All (λ set. (set.comb < combs) × AllPairs (λ a b. a ≢ b) set.nodes.items) sets.now },
+    ghost of_combs: { All (λ set. (set.comb < length crossed.now) × AllPairs (λ a b. a ≢ b) set.nodes.items) sets.now },
     ghost table: { IsSetTable (C.nodes costs.now) sets.now by_node.now },
-    ghost counted: { AreSetCounts combs (plain sets.now) counts.now },
+    ghost small: { AreSmallCrossings crossed.now },
     ghost given_are: { All (IsDecision (C.nodes costs.now)) given.now },
 }
 
@@ -58,7 +57,7 @@ impl<C: Costs> Setting<'_, C> {
     ghost use Rattle.tsp_branch.specs.Decisions.{DecideOnce, decided_number};
     ghost use Rattle.tsp_branch.specs.Certificate.{IsFoundAt};
     ghost use Rattle.tsp_branch.specs.states.Combed.{plain};
-    ghost use Rattle.tsp_branch.specs.CombsOfSets.{combs_of_sets};
+    ghost use Rattle.tsp_branch.specs.CombsOfSets.{families_of};
     ghost use Rattle.tsp_branch.specs.states.OpenCases.{IsOpenCase, decisions_in};
     ghost use Rattle.tsp_branch.specs.Judged.{AreGoodNumbers, as_leaf_numbers};
 
@@ -82,8 +81,8 @@ impl<C: Costs> Setting<'_, C> {
         moved: &mut [i64],
     ) -> Result<Option<i128>, AllocError>
         requires are_families { All (IsFamily (C.nodes self.now.costs.now))
-            (combs_of_sets self.now.combs (plain self.now.sets.now)) }
-        requires numbers { AreGoodNumbers (C.nodes self.now.costs.now) self.now.combs
+            (families_of self.now.crossed.now (plain self.now.sets.now)) }
+        requires numbers { AreGoodNumbers (C.nodes self.now.costs.now) self.now.crossed.now
             (as_leaf_numbers potentials.now multipliers.now) }
         requires case { IsOpenCase (C.nodes self.now.costs.now) case.now }
         requires direction { case.now.by_node.directed ≡ self.now.directed }
@@ -92,7 +91,7 @@ impl<C: Costs> Setting<'_, C> {
         requires row { length row.old ≡ C.nodes self.now.costs.now + 1 }
         requires moved { length moved.old ≡ C.nodes self.now.costs.now + 1 }
         ensures bound { IfOk result (IsFoundAt self.now.directed (C.nodes self.now.costs.now) (C.at self.now.costs.now)
-            self.now.scale decided_number (combs_of_sets self.now.combs (plain self.now.sets.now))
+            self.now.scale decided_number (families_of self.now.crossed.now (plain self.now.sets.now))
             (decisions_in case.now, as_leaf_numbers potentials.now multipliers.now)) }
         ensures size { IfOk result (λ bound. IfSome bound IsBoundSized) }
     {
@@ -119,8 +118,8 @@ impl<C: Costs> Setting<'_, C> {
     ) -> Result<i128, AllocError>
         requires undirected { self.now.directed ≡ false }
         requires are_families { All (IsFamily (C.nodes self.now.costs.now))
-            (combs_of_sets self.now.combs (plain self.now.sets.now)) }
-        requires numbers { AreGoodNumbers (C.nodes self.now.costs.now) self.now.combs
+            (families_of self.now.crossed.now (plain self.now.sets.now)) }
+        requires numbers { AreGoodNumbers (C.nodes self.now.costs.now) self.now.crossed.now
             (as_leaf_numbers potentials.now multipliers.now) }
         requires case { IsOpenCase (C.nodes self.now.costs.now) case.now }
         requires both { case.now.by_node.directed ≡ false }
@@ -129,7 +128,7 @@ impl<C: Costs> Setting<'_, C> {
         requires row { length row.old ≡ C.nodes self.now.costs.now + 1 }
         requires moved { length moved.old ≡ C.nodes self.now.costs.now + 1 }
         ensures bound { IfOk result (λ bound. IsFoundAt false (C.nodes self.now.costs.now) (C.at self.now.costs.now)
-            self.now.scale decided_number (combs_of_sets self.now.combs (plain self.now.sets.now))
+            self.now.scale decided_number (families_of self.now.crossed.now (plain self.now.sets.now))
             (decisions_in case.now, as_leaf_numbers potentials.now multipliers.now)
             (Some bound)) }
         ensures size { IfOk result (λ bound. IsBoundSized bound) }
@@ -148,7 +147,7 @@ impl<C: Costs> Setting<'_, C> {
         );
         let weights = DecidedWeights::of(&combed, case);
         let taken = taken_back(&case.by_node.taken);
-        let back = taken + given_back(potentials, multipliers, self.counts);
+        let back = taken + given_back(potentials, multipliers, self.crossed);
         leaf_bound(alloc, &weights, row, self.scale, back)
     }
 
@@ -163,15 +162,15 @@ impl<C: Costs> Setting<'_, C> {
         moved: &mut [i64],
     ) -> Option<i128>
         requires are_families { All (IsFamily (C.nodes self.now.costs.now))
-            (combs_of_sets self.now.combs (plain self.now.sets.now)) }
-        requires numbers { AreGoodNumbers (C.nodes self.now.costs.now) self.now.combs
+            (families_of self.now.crossed.now (plain self.now.sets.now)) }
+        requires numbers { AreGoodNumbers (C.nodes self.now.costs.now) self.now.crossed.now
             (as_leaf_numbers potentials.now multipliers.now) }
         requires case { IsOpenCase (C.nodes self.now.costs.now) case.now }
         requires direction { case.now.by_node.directed ≡ true }
         requires row { length row.old ≡ C.nodes self.now.costs.now + 1 }
         requires moved { length moved.old ≡ C.nodes self.now.costs.now + 1 }
         ensures bound { IsFoundAt true (C.nodes self.now.costs.now) (C.at self.now.costs.now)
-            self.now.scale decided_number (combs_of_sets self.now.combs (plain self.now.sets.now))
+            self.now.scale decided_number (families_of self.now.crossed.now (plain self.now.sets.now))
             (decisions_in case.now, as_leaf_numbers potentials.now multipliers.now)
             result }
         ensures size { IfSome result IsBoundSized }
@@ -188,7 +187,7 @@ impl<C: Costs> Setting<'_, C> {
             self.by_node,
             moved,
         );
-        let back = given_back(potentials, multipliers, self.counts);
+        let back = given_back(potentials, multipliers, self.crossed);
         row_bound(&combed, case, row, self.scale, back)
     }
 }

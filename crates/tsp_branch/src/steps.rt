@@ -1,4 +1,6 @@
-//! The parts of a tree of cases that are judged.
+//! The parts of a certificate that are judged.
+
+use tsp_families::Crossings;
 
 /// The parts of a certificate that are judged.
 #[derive(Drop)]
@@ -8,6 +10,15 @@ pub enum Judged {
     Bound(Option<i128>),
     /// The first leaf that isn't good, counted from 1.
     BadLeaf(usize),
+}
+
+/// The judgement on families.
+#[derive(Drop)]
+pub enum JudgedFamilies {
+    /// All are good, and these are their numbers.
+    Good(Vec<Crossings>),
+    /// The first one that isn't good, counted from 1.
+    Bad(usize),
 }
 
 /// The judgement on a leaf.
@@ -26,7 +37,7 @@ pub enum BranchVerdict {
     /// The bound: no cycle that keeps the given decisions is shorter. `None` where no leaf has one:
     /// then no cycle keeps them.
     Bound(Option<i128>),
-    /// The first family that is neither a lone set nor a comb, counted from 1.
+    /// The first family that isn't good, counted from 1.
     BadComb(usize),
     /// The first branch on a pair that is decided above it or given, counted from 1.
     BranchTwice(usize),

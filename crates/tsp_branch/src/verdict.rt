@@ -7,31 +7,32 @@ ghost use Rattle.tsp_format.specs.Steps.{are_whole};
 ghost use Rattle.tsp_theory.specs.Costs.{IsSymmetric};
 ghost use Rattle.tsp_theory.specs.Numbers.{IsScale};
 ghost use Rattle.tsp_branch.specs.Decisions.{DecideOnce};
-ghost use Rattle.tsp_branch.specs.states.Sets.{AreSetsOf, AreInOrder};
+ghost use Rattle.tsp_families.specs.FamilySets.{AreSetsOf};
+ghost use Rattle.tsp_branch.specs.states.Sets.{AreInOrder};
 ghost use Rattle.tsp_branch.specs.states.Combed.{plain};
 ghost use Rattle.tsp_branch.specs.states.Decided.{IsDecision};
 ghost use Rattle.tsp_branch.specs.Listed.{IsStepOf};
 ghost use Rattle.tsp_branch.specs.BranchVerdicts.{IsBranchVerdict, VerdictBoundsCycles, IsSizedVerdict};
 
 use crate::branch::branch_bound;
-use crate::comb_set::CombSet;
 use crate::decision::Decision;
-use crate::good_combs::first_bad_comb;
-use crate::steps::{BranchVerdict, Judged};
+use crate::good_combs::judge_families;
+use crate::steps::{BranchVerdict, Judged, JudgedFamilies};
 use crate::twice::first_twice;
 use std::alloc::{AllocError, Global};
+use tsp_families::CombSet;
 use tsp_format::TreeStep;
 use tsp_theory::Costs;
 
-/// The verdict on a certificate by branching: the first family that is neither a lone set nor a
-/// comb, or the first branch on a pair that is decided above it or given, or the first leaf that
-/// isn't good, or, where there is none of these, the bound. It is at most the length of every cycle
+/// The verdict on a certificate by branching: the first family that isn't good, or the first branch
+/// on a pair that is decided above it or given, or the first leaf that isn't good, or, where there
+/// is none of these, the bound. It is at most the length of every cycle
 /// that keeps the given decisions, and sums with it fit 128 bits. Where no leaf has a bound, no
 /// cycle keeps them.
 ///
 /// Where pairs have no direction the bound of a leaf is that of a least 1-tree, else that of the
 /// least link from each node. The families are given by their sets, each with the number of its
-/// family from 0 on, family by family, the handle before the teeth.
+/// family from 0 on, family by family, of a comb the handle before the teeth.
 ///
 /// # Requires
 ///
@@ -72,13 +73,14 @@ pub fn judge_branches<C: Costs>(
     ensures cycles { IfOk result (VerdictBoundsCycles directed (C.nodes costs.now) (C.at costs.now) given.now) }
     ensures size { IfOk result IsSizedVerdict }
 {
-    if let Some(comb) = first_bad_comb(alloc, costs.count(), combs, sets)? {
-        return Ok(BranchVerdict::BadComb(comb));
-    }
+    let crossed = match judge_families(alloc, costs.count(), combs, sets)? {
+        JudgedFamilies::Good(crossed) => crossed,
+        JudgedFamilies::Bad(comb) => return Ok(BranchVerdict::BadComb(comb)),
+    };
     if let Some(branch) = first_twice(alloc, directed, given, steps)? {
         return Ok(BranchVerdict::BranchTwice(branch));
     }
-    match branch_bound(alloc, costs, directed, scale, combs, sets, given, steps)? {
+    match branch_bound(alloc, costs, directed, scale, &crossed, sets, given, steps)? {
         Judged::Bound(bound) => Ok(BranchVerdict::Bound(bound)),
         Judged::BadLeaf(leaf) => Ok(BranchVerdict::BadLeaf(leaf)),
     }

@@ -1,12 +1,15 @@
 //! What a certificate shows of a reason against it.
 
 use crate::refusal::{push_dimensions, push_type, say};
-use crate::solution::count_at_place;
+use crate::solution::{count_at_place, first_repeated};
 use crate::text::{begin, end, push, push_lines};
 use std::alloc::AllocError;
 use tsp_file::File;
 use tsp_format::{Kind, TreeStep, Word};
 use tsp_reason::Reason;
+
+/// The most sets of a family that is neither a lone set nor a comb.
+const MOST_SETS: i64 = 63;
 
 /// Appends what a certificate shows of a reason.
 pub(crate) fn push_certificate(
@@ -94,27 +97,74 @@ fn push_sum(text: &mut Vec<u8>, i: u32, j: u32, certificate: &File) -> Result<()
     }
 }
 
-/// Appends how many teeth a family of sets has.
+/// Appends what is wrong with a family of sets, counted from 1: a node that a set has twice, or how
+/// many sets there are, and how many parts their nodes make.
 fn push_comb(text: &mut Vec<u8>, index: u32, certificate: &File) -> Result<(), AllocError> {
     let combs = certificate.combs().unwrap_or(&[]);
     let Some(place) = (index as usize).checked_sub(1) else {
         return Ok(());
     };
-    match combs.get(place) {
-        None => Ok(()),
-        Some(sets) => say(
+    let Some(sets) = combs.get(place) else {
+        return Ok(());
+    };
+    if let Some((set, node)) = node_twice(sets) {
+        return say(
             text,
             &[
-                ("The number of teeth of family ", i64::from(index)),
-                (" is ", teeth_of(sets)),
+                ("In family ", i64::from(index)),
+                (" set ", i64::from(set)),
+                (" has this node twice: ", i64::from(node)),
             ],
-        ),
+        );
     }
+    push_parts(text, index, sets, certificate.dimension().unwrap_or(0))
 }
 
-/// How many sets of a comb are teeth.
-fn teeth_of(sets: &[Vec<u32>]) -> i64 {
-    i64::try_from(sets.len().saturating_sub(1)).unwrap_or(i64::MAX)
+/// Appends how many sets a family has in which no node is twice, and how many parts it makes.
+fn push_parts(
+    text: &mut Vec<u8>,
+    index: u32,
+    sets: &[Vec<u32>],
+    nodes: u32,
+) -> Result<(), AllocError> {
+    let count = i64::try_from(sets.len()).unwrap_or(i64::MAX);
+    say(
+        text,
+        &[
+            ("The number of sets of family ", i64::from(index)),
+            (" is ", count),
+        ],
+    )?;
+    if count > MOST_SETS {
+        return Ok(());
+    }
+    if have_all(sets, nodes) {
+        return push_lines(text, "Their nodes make one part.");
+    }
+    push_lines(text, "Their nodes make more than 14 parts.")
+}
+
+/// Whether each of these sets, in which no node is twice, has all nodes.
+fn have_all(sets: &[Vec<u32>], nodes: u32) -> bool {
+    'sets: for set in sets {
+        if set.len() != nodes as usize {
+            return false;
+        }
+    }
+    true
+}
+
+/// The first set with a node twice, counted from 1, and that node.
+fn node_twice(sets: &[Vec<u32>]) -> Option<(u32, u32)> {
+    let mut number = 0u32;
+    'sets: for set in sets {
+        number = number.saturating_add(1);
+        if let Some(place) = first_repeated(set) {
+            let node = count_at_place(set, place)?;
+            return Some((number, node));
+        }
+    }
+    None
 }
 
 /// Appends the pair of a branch, counted from 1.

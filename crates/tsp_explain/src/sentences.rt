@@ -168,9 +168,10 @@ pub(crate) fn reason_sentence(reason: Reason) -> &'static str {
         Reason::NotBranches => "The certificate has to be of TYPE BRANCHES.",
         Reason::BranchesDimension => "DIMENSION of the tree of cases isn't that of the instance.",
         Reason::BadComb { index: _ } => {
-            "This family of COMB_SECTION is neither a lone set nor a comb. A lone set is one set that leaves a node out.\n\
-             A comb has a handle and an odd number of teeth, 3 or more, which don't meet;\n\
-             each tooth has a node inside the handle and one outside. No set has a node twice."
+            "This family of COMB_SECTION isn't taken. No set may have a node twice. A family is a lone set, which leaves a node out;\n\
+             or a comb: a handle and an odd number of teeth, 3 or more, which don't meet,\n\
+             each with a node inside the handle and one outside; or any other sets, at most 63, whose nodes make 2 to 14 parts.\n\
+             Two nodes are in one part if they are in the same sets. The nodes in no set are a part too."
         }
         Reason::BranchTwice { index: _ } => {
             "This branch of BRANCH_SECTION is on a pair that a branch above it decides, or that is a fixed edge of the instance,\n\
@@ -178,9 +179,10 @@ pub(crate) fn reason_sentence(reason: Reason) -> &'static str {
         }
         Reason::BadLeaf { index: _ } => {
             "This leaf of BRANCH_SECTION has a number that isn't taken. Indices are 1 to DIMENSION for the potentials of nodes,\n\
-             and go on from there for the multipliers of lone sets and combs, in the order of COMB_SECTION.\n\
+             and go on from there for the multipliers of families, in the order of COMB_SECTION.\n\
              A potential is at most 1,000,000,000,000,000 in size; multipliers aren't below 0,\n\
-             and sum to at most 300,000,000,000,000,000.\n\
+             and sum to at most 300,000,000,000,000,000, where there are lone sets and combs alone. In general the sum of each\n\
+             times 3, or for other sets times the most of them that two nodes cross, is at most 900,000,000,000,000,000.\n\
              Numbers are written as their differences to those of the leaf before."
         }
     }

@@ -86,8 +86,8 @@ pub fn run_bound_check<I: Read, S: Read, P: Read, W: Write>(
 /// shorter than the printed bound, so that a tour whose length equals it, which the report calls
 /// optimal, is a shortest one. The bound is the least of those of the leaves, each for tours in which
 /// the pairs decided above it are neighbours, or aren't: for a TSP that of a least 1-tree, for an ATSP
-/// that of the least arc from each node, under the leaf's potentials, lone sets and combs (Grötschel
-/// and Padberg, 1979).
+/// that of the least arc from each node, under the leaf's potentials and families of sets, such as
+/// combs (Grötschel and Padberg, 1979).
 ///
 /// Each file is read whole before the next, and the first file that is none decides. Nothing is
 /// written before the verdict exists.

@@ -63,16 +63,16 @@ pub enum Reason {
     NotBranches,
     /// The certificate by branching has a DIMENSION other than that of the instance.
     BranchesDimension,
-    /// This family is the first one that is neither a lone set nor a comb. It has one tooth or an even
-    /// number of teeth, a node twice in a set, teeth that meet, or a tooth inside or outside of its
-    /// handle; or it is one set of all nodes.
+    /// This family is the first one that isn't good: it has a node twice in a set, or is neither a
+    /// lone set nor a comb and has more than 63 sets, or sets that divide the nodes into more than 14
+    /// parts, or into one.
     BadComb { index: u32 },
     /// This branch is the first one whose pair is decided above it or fixed: for a TSP in either
     /// direction, for an ATSP the same arc.
     BranchTwice { index: u32 },
     /// This leaf is the first one that isn't good: it has an index past those of the nodes and the
-    /// combs, a potential above 10^15 in size, a negative multiplier, or multipliers that sum to
-    /// more than 3 * 10^17.
+    /// families, a potential above 10^15 in size, a negative multiplier, or multipliers that sum to
+    /// more than 9 * 10^17, each times the most sets of its family that two nodes cross.
     BadLeaf { index: u32 },
     /// No other reason applies to the solution, and its length, which is this one, isn't the
     /// length that is claimed.

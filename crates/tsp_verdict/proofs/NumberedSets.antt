@@ -11,12 +11,16 @@ use Rattle.std.proofs.lemmas.List.Sums.{sum_by-cons}
 use Rattle.tsp_format.specs.Cells.{IsNode}
 use Rattle.tsp_draft.specs.states.Drafts.{combs_of as lists_of_combs}
 use Rattle.tsp_draft.specs.Valid.{IsSetOf, AreSets}
-use Rattle.tsp_branch.specs.states.Sets.{AreSetsOf, AreInOrder}
+use Rattle.tsp_families.specs.FamilySets.{AreSetsOf}
+use Rattle.tsp_branch.specs.states.Sets.{AreInOrder}
 use Rattle.tsp_branch.specs.states.Combed.{as_numbered, plain}
-use Rattle.tsp_branch.specs.CombsOfSets.{NumberedSet, numbered_set, comb_with, of_comb, combs_from, combs_of_sets}
+use Rattle.tsp_branch.specs.CombsOfSets.{NumberedSet, numbered_set, family_with, of_comb, families_from, families_of}
 use Rattle.tsp_file.specs.Typed.{AreSomeSets}
+use Rattle.tsp_families.specs.declared.family.Crossings.{Crossings}
+use Rattle.tsp_branch.specs.Families.{IsFamily, NumbersAreUnique}
+use Rattle.tsp_verdict.specs.Tree.{families_with}
 use Rattle.tsp_verdict.specs.states.Numbered.{with_number, numbered_from}
-use Rattle.tsp_branch.specs.declared.comb_set.CombSet.{CombSet}
+use Rattle.tsp_families.specs.declared.comb_set.CombSet.{CombSet}
 
 -- ---- the sets of one comb
 
@@ -52,15 +56,26 @@ own_sets first (suc j) k (comb ∷ combs) at =
     of_append k (with_number first comb) (numbered_from (suc first) combs)
     ∙ ap₂ (λ (a b : List (List ℕ)). a ++ b) (of_other k first (λ e. omega (arith, e, at)) comb) (own_sets (suc first) j k combs (omega (arith, at)))
 
-told_from : (first : ℕ) (sets : List NumberedSet) (combs : List (List (List ℕ))) → ((j k : ℕ) → j < length combs → first + j ≡ k → of_comb k sets ≡ get_or combs j [])
-    → combs_from first (length combs) sets ≡ map comb_with combs
-told_from first sets [] h = refl
-told_from first sets (comb ∷ combs) h = ap₂ (λ a b. comb_with a ∷ b) (h 0 first (omega arith) (omega arith))
-    (told_from (suc first) sets combs (λ j k lt at. h (suc j) k (omega (arith, lt)) (omega (arith, at))))
+told_from : (first : ℕ) (crossed : List Crossings) (sets : List NumberedSet) (combs : List (List (List ℕ))) → length crossed ≡ length combs
+    → ((j k : ℕ) → j < length combs → first + j ≡ k → of_comb k sets ≡ get_or combs j []) → families_from first crossed sets ≡ families_with crossed combs
+told_from first [] sets combs long h = refl
+told_from first (own ∷ crossed) sets [] long h = absurd (omega (arith, long))
+told_from first (own ∷ crossed) sets (comb ∷ combs) long h = ap₂ (λ a b. family_with own a ∷ b) (h 0 first (omega arith) (omega arith))
+    (told_from (suc first) crossed sets combs (omega (arith, long)) (λ j k lt at. h (suc j) k (omega (arith, lt)) (omega (arith, at))))
 
--- the combs of the list are those that it was made of
-pub combs_told : (combs : List (List (List ℕ))) → combs_of_sets (length combs) (numbered_from 0 combs) ≡ map comb_with combs
-combs_told combs = told_from 0 (numbered_from 0 combs) combs (λ j k lt at. own_sets 0 j k combs at)
+-- the families of the list are those that it was made of
+pub families_told : (crossed : List Crossings) (combs : List (List (List ℕ))) → length crossed ≡ length combs → families_of crossed (numbered_from 0 combs) ≡ families_with crossed combs
+families_told crossed combs long = told_from 0 crossed (numbered_from 0 combs) combs long (λ j k lt at. own_sets 0 j k combs at)
+
+-- and they have one list of numbers
+pub one_numbers : NumbersAreUnique → (n : ℕ) (a b : List Crossings) (combs : List (List (List ℕ))) → length a ≡ length combs → length b ≡ length combs
+    → AllByRecursion (IsFamily n) (families_with a combs) → AllByRecursion (IsFamily n) (families_with b combs) → a ≡ b
+one_numbers unique n [] [] combs p q f g = refl
+one_numbers unique n [] (b ∷ bs) combs p q f g = absurd (omega (arith, p, q))
+one_numbers unique n (a ∷ more) [] combs p q f g = absurd (omega (arith, p, q))
+one_numbers unique n (a ∷ more) (b ∷ bs) [] p q f g = absurd (omega (arith, p))
+one_numbers unique n (a ∷ more) (b ∷ bs) (sets ∷ combs) p q f g = ap₂ (λ (c : Crossings) (cs : List Crossings). c ∷ cs) (unique n (family_with a sets) (family_with b sets) refl f.0 g.0)
+    (one_numbers unique n more bs combs (omega (arith, p)) (omega (arith, q)) f.1 g.1)
 
 -- ---- all sets
 

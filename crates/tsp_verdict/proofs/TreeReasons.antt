@@ -2,9 +2,11 @@
 use Rattle.std.proofs.Common.{◌≡◌, ◌∙◌, ℕ, ◌-◌, ◌<◌, ◌≤◌, Bool, true, false, List, [], ◌∷◌, get_or, length, inl, inr, refl, sym, ap, subst, arith}
 use Rattle.std.specs.Prelude.{◌⊎◌, Option, None, Some, unwrap_or, ℤ}
 use Rattle.std.specs.Global.{Vec}
+use Rattle.std.specs.List.{All}
 use Rattle.std.proofs.Math.Path.{fun_ext}
 use Rattle.std.proofs.lemmas.Bool.{false≢true}
 use Rattle.std.proofs.lemmas.List.{length-map}
+use Rattle.std.proofs.lemmas.List.Elements.{recursion_from_All}
 use Rattle.tsp_format.specs.declared.kinds.Kind.{Kind}
 use Rattle.tsp_format.specs.declared.kinds.Kind.TheVariants as kinds
 use Rattle.tsp_format.specs.Steps as listed
@@ -21,12 +23,13 @@ use Rattle.tsp_branch.specs.declared.steps.BranchVerdict.TheVariants as found
 use Rattle.tsp_branch.specs.BranchVerdicts.{IsBranchVerdict}
 use Rattle.tsp_branch.specs.Cases.{decide}
 use Rattle.tsp_branch.specs.Certificate.{IsCertificate, IsCertificateBound, AreCostsFor, BoundsIfAny, CertificatesBoundCycles}
-use Rattle.tsp_branch.specs.Combs.{Comb}
+use Rattle.tsp_families.specs.declared.family.Crossings.{Crossings}
+use Rattle.tsp_branch.specs.Families.{Family, IsFamily, NumbersAreUnique}
 use Rattle.tsp_branch.specs.CombsOfSets.{NumberedSet, of_comb}
 use Rattle.tsp_branch.specs.declared.decision.Decision.{Decision}
 use Rattle.tsp_branch.specs.Decisions.{KeepsAll, take_pairs, decided_number}
-use Rattle.tsp_branch.specs.GoodCombs.{IsGoodComb, IsFirstBadComb}
-use Rattle.tsp_branch.specs.Listed.{leaf_changes, IsFirstBadLeaf}
+use Rattle.tsp_branch.specs.GoodCombs.{IsGoodFamily, IsFirstBadComb, AreFamilies}
+use Rattle.tsp_branch.specs.Listed.{leaf_changes, listed_steps, AreGoodLeaves, IsFirstBadLeaf}
 use Rattle.tsp_branch.specs.Twice.{divided, IsFirstTwice}
 use Rattle.tsp_reason.specs.declared.verdict.Reason.{Reason}
 use Rattle.tsp_reason.specs.declared.verdict.Reason.TheVariants.{NotBranches, BranchesDimension, BadComb, BranchTwice, BadLeaf}
@@ -35,12 +38,12 @@ use Rattle.tsp_verdict.specs.states.Numbered.{numbered_from}
 use Rattle.tsp_verdict.specs.Places.{IsFirstPlace}
 use Rattle.tsp_verdict.specs.Reasons.{NoneBefore, IsFirstReason}
 use Rattle.tsp_verdict.specs.states.Costs.{IsSymmetricTsp}
-use Rattle.tsp_verdict.specs.Tree.{each_once, given_in, tree_in, told_combs, IsBadComb, StandsAgainstTree, IsBoundByTree, HasNoBoundByTree}
+use Rattle.tsp_verdict.specs.Tree.{each_once, given_in, tree_in, told_families, AreNumbersOf, IsBadComb, StandsAgainstTree, HasBoundByTree, IsBoundByTree, HasNoBoundByTree}
 use Rattle.tsp_verdict.specs.Certified.{IsBoundBy, IsCertified, NoneWithoutMemory}
 use Rattle.tsp_reason.specs.declared.certificate.Certificate.TheVariants.{Branches}
 use Rattle.tsp_verdict.proofs.CarriedBounds.{Same}
 use Rattle.tsp_verdict.proofs.GivenPairs.{keeps_given}
-use Rattle.tsp_verdict.proofs.NumberedSets.{own_sets, combs_told}
+use Rattle.tsp_verdict.proofs.NumberedSets.{own_sets, families_told, one_numbers}
 
 -- ---- where indexes end
 
@@ -63,8 +66,8 @@ leaves_within [] = omega arith
 leaves_within (listed.Branch a b ∷ steps) = let less = leaves_within steps in omega (arith, less)
 leaves_within (listed.Leaf changes ∷ steps) = let less = leaves_within steps in omega (arith, less)
 
-pub bad_within : (n combs : ℕ) (steps : List listed.Step) (bad : ℕ) → IsFirstBadLeaf n combs steps bad → bad ≤ length steps
-bad_within n combs steps bad h =
+pub bad_within : (n : ℕ) (crossed : List Crossings) (steps : List listed.Step) (bad : ℕ) → IsFirstBadLeaf n crossed steps bad → bad ≤ length steps
+bad_within n crossed steps bad h =
     let most = h.most in
     let less = leaves_within steps in
     omega (arith, most, less)
@@ -118,15 +121,32 @@ bad_comb : (inst tree : Fields) (index : ℕ) → IsFirstBadComb (nodes_of inst)
     → IsFirstPlace (IsBadComb (nodes_of inst) (combs_in tree)) (combs_in tree) index
 bad_comb inst tree index bad = record {
   here = (bad.least, bad.most);
-  holds = λ good. bad.bad (index - 1) (let some = bad.least in omega (arith, some)) (subst (IsGoodComb (nodes_of inst)) (sym (own_comb tree (index - 1))) good);
-  first = λ earlier from before is. is (subst (IsGoodComb (nodes_of inst)) (own_comb tree (earlier - 1)) (bad.before (earlier - 1) (omega (arith, from, before))));
+  holds = λ good. bad.bad (index - 1) (let some = bad.least in omega (arith, some)) (subst (IsGoodFamily (nodes_of inst)) (sym (own_comb tree (index - 1))) good);
+  first = λ earlier from before is. is (subst (IsGoodFamily (nodes_of inst)) (own_comb tree (earlier - 1)) (bad.before (earlier - 1) (omega (arith, from, before))));
 }
 
 -- where all combs are good, none is bad
-no_bad_comb : (inst tree : Fields) → ((comb : ℕ) → comb < length (combs_in tree) → IsGoodComb (nodes_of inst) (of_comb comb (numbered_from 0 (combs_in tree))))
+no_bad_comb : (inst tree : Fields) → ((comb : ℕ) → comb < length (combs_in tree) → IsGoodFamily (nodes_of inst) (of_comb comb (numbered_from 0 (combs_in tree))))
     → (index : ℕ) → StandsAgainstTree inst tree (BadComb index) → ⊥
 no_bad_comb inst tree good index stands =
-    stands.holds (subst (IsGoodComb (nodes_of inst)) (own_comb tree (index - 1)) (good (index - 1) (omega (arith, stands.here.0, stands.here.1))))
+    stands.holds (subst (IsGoodFamily (nodes_of inst)) (own_comb tree (index - 1)) (good (index - 1) (omega (arith, stands.here.0, stands.here.1))))
+
+-- the numbers of the families are those of the file's
+numbers_told : (inst tree : Fields) (crossed : List Crossings) → AreFamilies (nodes_of inst) (length (combs_in tree)) (numbered_from 0 (combs_in tree)) crossed → AreNumbersOf inst tree crossed
+numbers_told inst tree crossed are = record {
+  many = are.many;
+  are = subst (All (IsFamily (nodes_of inst))) (families_told crossed (combs_in tree) are.many) are.are;
+}
+
+-- where all leaves are good, none is bad, by whichever numbers
+no_bad_leaf : NumbersAreUnique → (inst tree : Fields) (crossed : List Crossings) → AreNumbersOf inst tree crossed → AreGoodLeaves (nodes_of inst) crossed (steps_in tree) → (index : ℕ)
+    → StandsAgainstTree inst tree (BadLeaf index) → ⊥
+no_bad_leaf unique inst tree crossed are good index stands =
+    let n : ℕ = nodes_of inst in
+    let same : stands.0 ≡ crossed = one_numbers unique n stands.0 crossed (combs_in tree) stands.1.many are.many
+    (recursion_from_All (IsFamily n) (told_families tree stands.0) stands.1.are) (recursion_from_All (IsFamily n) (told_families tree crossed) are.are) in
+    let bad = subst (λ (cs : List Crossings). IsFirstBadLeaf n cs (steps_in tree) index) same stands.2 in
+    bad.bad (good index bad.least bad.most)
 
 -- the facts before a rank rule out the reasons before it
 none_before : (inst tree : Fields) (rank : ℕ) → (23 < rank → is_tree tree.kind ≡ true) → (24 < rank → nodes_of tree ≡ nodes_of inst)
@@ -153,25 +173,25 @@ comb_first inst tree costs index sort size is = record {
 pub twice_first : (inst tree : Fields) (costs : ℕ → ℕ → ℤ) (index : ℕ) → is_tree tree.kind ≡ true → nodes_of tree ≡ nodes_of inst → IsTold inst tree costs (found.BranchTwice index)
     → IsFirstReason (StandsAgainstTree inst tree) (BranchTwice index)
 twice_first inst tree costs index sort size is = record {
-  stands = is.1;
-  none_before = none_before inst tree 26 (λ low. sort) (λ low. size) (λ low. no_bad_comb inst tree is.0.0) (λ low. absurd (omega (arith, low))) (λ low. absurd (omega (arith, low)));
+  stands = is.2;
+  none_before = none_before inst tree 26 (λ low. sort) (λ low. size) (λ low. no_bad_comb inst tree is.1.good) (λ low. absurd (omega (arith, low))) (λ low. absurd (omega (arith, low)));
 }
 
 pub leaf_first : (inst tree : Fields) (costs : ℕ → ℕ → ℤ) (index : ℕ) → is_tree tree.kind ≡ true → nodes_of tree ≡ nodes_of inst → IsTold inst tree costs (found.BadLeaf index)
     → IsFirstReason (StandsAgainstTree inst tree) (BadLeaf index)
 leaf_first inst tree costs index sort size is = record {
-  stands = is.leaves;
-  none_before = none_before inst tree 27 (λ low. sort) (λ low. size) (λ low. no_bad_comb inst tree is.are_combs.0) (λ low. is.are_once.0) (λ low. absurd (omega (arith, low)));
+  stands = (is.crossed, numbers_told inst tree is.crossed is.are_families, is.leaves);
+  none_before = none_before inst tree 27 (λ low. sort) (λ low. size) (λ low. no_bad_comb inst tree is.are_families.good) (λ low. is.are_once.0) (λ low. absurd (omega (arith, low)));
 }
 
-pub none_stands : (inst tree : Fields) (costs : ℕ → ℕ → ℤ) (bound : Option ℤ) → is_tree tree.kind ≡ true → nodes_of tree ≡ nodes_of inst → IsTold inst tree costs (found.Bound bound)
+pub none_stands : NumbersAreUnique → (inst tree : Fields) (costs : ℕ → ℕ → ℤ) (bound : Option ℤ) → is_tree tree.kind ≡ true → nodes_of tree ≡ nodes_of inst → IsTold inst tree costs (found.Bound bound)
     → (reason : Reason) → StandsAgainstTree inst tree reason → ⊥
-none_stands inst tree costs bound sort size is NotBranches stands = false≢true (sym stands ∙ sort)
-none_stands inst tree costs bound sort size is BranchesDimension stands = stands size
-none_stands inst tree costs bound sort size is (BadComb index) stands = no_bad_comb inst tree is.are_combs.0 index stands
-none_stands inst tree costs bound sort size is (BranchTwice index) stands = is.are_once.0 index stands
-none_stands inst tree costs bound sort size is (BadLeaf index) stands = stands.bad (is.leaves.2 index stands.least stands.most)
-none_stands inst tree costs bound sort size is reason stands = stands
+none_stands unique inst tree costs bound sort size is NotBranches stands = false≢true (sym stands ∙ sort)
+none_stands unique inst tree costs bound sort size is BranchesDimension stands = stands size
+none_stands unique inst tree costs bound sort size is (BadComb index) stands = no_bad_comb inst tree is.are_families.good index stands
+none_stands unique inst tree costs bound sort size is (BranchTwice index) stands = is.are_once.0 index stands
+none_stands unique inst tree costs bound sort size is (BadLeaf index) stands = no_bad_leaf unique inst tree is.crossed (numbers_told inst tree is.crossed is.are_families) is.leaves.2 index stands
+none_stands unique inst tree costs bound sort size is reason stands = stands
 
 -- ---- the bound, carried to costs that are the same between all nodes
 
@@ -199,19 +219,31 @@ even_view inst directed costs kind is even same undirected i j differ =
 
 -- what is found for the costs of a view is found for those of the instance
 module _ (inst tree : Fields) (costs : ℕ → ℕ → ℤ) (bound : Option ℤ) (same : Same costs (cost inst)) (is : IsTold inst tree costs (found.Bound bound)) where
-  certificate_is : IsCertificate (nodes_of inst) (told_combs tree) (given_in inst) (tree_in inst tree)
-  certificate_is = subst (λ (cs : List Comb). IsCertificate (nodes_of inst) cs (given_in inst) (tree_in inst tree)) (combs_told (combs_in tree)) is.leaves.0
+  numbers_are : AreNumbersOf inst tree is.crossed
+  numbers_are = numbers_told inst tree is.crossed is.are_families
 
-  bound_is : IsCertificateBound (is_directed inst.kind) (nodes_of inst) (cost inst) (scale_in tree) decided_number (told_combs tree) (given_in inst) (tree_in inst tree) bound
+  certificate_is : IsCertificate (nodes_of inst) (told_families tree is.crossed) (given_in inst) (tree_in inst tree)
+  certificate_is =
+      subst (λ (k : ℕ). IsCertificate (nodes_of inst) (told_families tree is.crossed) (given_in inst) (listed_steps (nodes_of inst) k (steps_in tree))) numbers_are.many
+      (subst (λ (fs : List Family). IsCertificate (nodes_of inst) fs (given_in inst) (listed_steps (nodes_of inst) (length is.crossed) (steps_in tree)))
+      (families_told is.crossed (combs_in tree) numbers_are.many) is.leaves.0)
+
+  bound_is : IsCertificateBound (is_directed inst.kind) (nodes_of inst) (cost inst) (scale_in tree) decided_number (told_families tree is.crossed) (given_in inst) (tree_in inst tree) bound
   bound_is =
-      subst (λ (f : ℕ → ℕ → ℤ). IsCertificateBound (is_directed inst.kind) (nodes_of inst) f (scale_in tree) decided_number (told_combs tree) (given_in inst) (tree_in inst tree) bound)
+      subst (λ (f : ℕ → ℕ → ℤ). IsCertificateBound (is_directed inst.kind) (nodes_of inst) f (scale_in tree) decided_number (told_families tree is.crossed) (given_in inst) (tree_in inst tree) bound)
       (fun_ext (λ i. fun_ext (same i)))
-      (subst (λ (cs : List Comb). IsCertificateBound (is_directed inst.kind) (nodes_of inst) costs (scale_in tree) decided_number cs (given_in inst) (tree_in inst tree) bound)
-      (combs_told (combs_in tree)) is.leaves.1)
+      (subst (λ (k : ℕ). IsCertificateBound (is_directed inst.kind) (nodes_of inst) costs (scale_in tree) decided_number (told_families tree is.crossed) (given_in inst)
+      (listed_steps (nodes_of inst) k (steps_in tree)) bound) numbers_are.many
+      (subst (λ (fs : List Family). IsCertificateBound (is_directed inst.kind) (nodes_of inst) costs (scale_in tree) decided_number fs (given_in inst)
+      (listed_steps (nodes_of inst) (length is.crossed) (steps_in tree)) bound)
+      (families_told is.crossed (combs_in tree) numbers_are.many) is.leaves.1))
+
+  has_bound : HasBoundByTree inst tree bound
+  has_bound = record { crossed = is.crossed; numbers = numbers_are; certificate = certificate_is; bound = bound_is }
 
   cycles_bounded : CertificatesBoundCycles → HasArcsOrEdges inst → 3 ≤ nodes_of inst → IsSymmetricTsp inst → IsScale (scale_in tree) → BoundsIfAny (is_directed inst.kind) (nodes_of inst) (cost inst) (given_in inst) bound
   cycles_bounded law kind some even scaled =
-      law (is_directed inst.kind) (nodes_of inst) (cost inst) (scale_in tree) decided_number (told_combs tree) (given_in inst) (tree_in inst tree) bound
+      law (is_directed inst.kind) (nodes_of inst) (cost inst) (scale_in tree) decided_number (told_families tree is.crossed) (given_in inst) (tree_in inst tree) bound
       (costs_for (is_directed inst.kind) (nodes_of inst) (cost inst) some (λ undirected. even (tsp_of_undirected inst kind undirected))) scaled certificate_is bound_is
 
 tour_keeps : (inst : Fields) (nodes : List ℕ) → IsTourOf inst nodes → KeepsAll (is_directed inst.kind) nodes (given_in inst)
@@ -225,7 +257,7 @@ bound_by inst tree bound (inr atsp) is = subst (λ k. IsBoundBy Branches k inst 
 pub certified : (inst tree : Fields) (costs : ℕ → ℕ → ℤ) (bound : ℤ) → CertificatesBoundCycles → HasArcsOrEdges inst → 3 ≤ nodes_of inst → IsSymmetricTsp inst → IsScale (scale_in tree)
     → Same costs (cost inst) → IsBoundSized bound → IsTold inst tree costs (found.Bound (Some bound)) → IsCertified Branches inst tree bound
 certified inst tree costs bound law kind some even scaled same sized is = (
-  bound_by inst tree bound kind (certificate_is inst tree costs (Some bound) same is, bound_is inst tree costs (Some bound) same is),
+  bound_by inst tree bound kind (has_bound inst tree costs (Some bound) same is),
   λ nodes tour. cycles_bounded inst tree costs (Some bound) same is law kind some even scaled nodes tour.cycle (tour_keeps inst nodes tour),
   sized,
 )
@@ -234,6 +266,6 @@ certified inst tree costs bound law kind some even scaled same sized is = (
 pub no_tour : (inst tree : Fields) (costs : ℕ → ℕ → ℤ) → CertificatesBoundCycles → HasArcsOrEdges inst → 3 ≤ nodes_of inst → IsSymmetricTsp inst → IsScale (scale_in tree)
     → Same costs (cost inst) → IsTold inst tree costs (found.Bound None) → HasNoBoundByTree inst tree × HasNoTour (problem_of inst)
 no_tour inst tree costs law kind some even scaled same is = (
-  (certificate_is inst tree costs None same is, bound_is inst tree costs None same is),
+  has_bound inst tree costs None same is,
   λ nodes tour. cycles_bounded inst tree costs None same is law kind some even scaled nodes tour.cycle (tour_keeps inst nodes tour),
 )

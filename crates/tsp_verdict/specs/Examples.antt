@@ -72,9 +72,9 @@ two_leaves = Leaf [] ∷ Leaf [] ∷ []
 abbrev pub three_leaves : List Step
 three_leaves = Leaf [] ∷ two_leaves
 
--- a comb of four nodes with two teeth
-abbrev pub two_teeth : List (List ℕ)
-two_teeth = (1 ∷ 2 ∷ []) ∷ (1 ∷ 3 ∷ []) ∷ (2 ∷ 4 ∷ []) ∷ []
+-- two sets of four nodes, of which the first has a node twice
+abbrev pub node_twice : List (List ℕ)
+node_twice = (1 ∷ 2 ∷ 1 ∷ []) ∷ (1 ∷ 3 ∷ []) ∷ []
 
 -- a single tour, and two routes
 abbrev pub lone : List ℕ → Fields

@@ -1,18 +1,20 @@
 -- A certificate by branching: a file of branches, when a reason applies to it, and the bound that it gives.
-use Rattle.std.specs.Prelude.{◌≡◌, ◌≢◌, ℕ, ◌-◌, Bool, false, not, List, [], ◌∷◌, length, map, filter, slice_index_or, None, Some, ℤ}
+use Rattle.std.specs.Prelude.{◌≡◌, ◌≢◌, ℕ, ◌-◌, Bool, false, not, List, [], ◌∷◌, length, filter, slice_index_or, Option, None, Some, ℤ}
+use Rattle.std.specs.List.{All}
 use Rattle.tsp_format.specs.Steps as listed
 use Rattle.tsp_draft.specs.Fields.{Fields}
 use Rattle.tsp_draft.specs.Rules.{is_tree}
 use Rattle.tsp_file.specs.Meant.{nodes_of, fixed_of, scale_in, combs_in, steps_in}
 use Rattle.tsp_file.specs.Cost.{cost}
 use Rattle.tsp_cost.specs.Tours.{is_directed}
-use Rattle.tsp_branch.specs.Combs.{Comb}
-use Rattle.tsp_branch.specs.CombsOfSets.{comb_with}
+use Rattle.tsp_families.specs.declared.family.Crossings.{Crossings}
+use Rattle.tsp_branch.specs.Families.{Family, IsFamily}
+use Rattle.tsp_branch.specs.CombsOfSets.{family_with}
 use Rattle.tsp_branch.specs.Cases.{CaseStep}
 use Rattle.tsp_branch.specs.Certificate.{IsCertificate, IsCertificateBound}
 use Rattle.tsp_branch.specs.declared.decision.Decision.{Decision}
 use Rattle.tsp_branch.specs.Decisions.{take_pairs, is_same, decided_number}
-use Rattle.tsp_branch.specs.GoodCombs.{IsGoodComb}
+use Rattle.tsp_branch.specs.GoodCombs.{IsGoodFamily}
 use Rattle.tsp_branch.specs.Listed.{listed_steps, IsFirstBadLeaf}
 use Rattle.tsp_branch.specs.Twice.{IsFirstTwice}
 use Rattle.tsp_reason.specs.declared.verdict.Reason.{Reason}
@@ -30,38 +32,54 @@ each_once directed (pair ∷ pairs) = pair ∷ filter (λ other. not (is_same di
 abbrev pub given_in : Fields → List Decision
 given_in inst = take_pairs (each_once (is_directed inst.kind) (fixed_of inst))
 
--- the steps of its tree, with the potentials and the multipliers of each leaf; the combs
+-- the steps of its tree, with the potentials and the multipliers of each leaf
 abbrev pub tree_in : Fields → Fields → List CaseStep
 tree_in inst tree = listed_steps (nodes_of inst) (length (combs_in tree)) (steps_in tree)
 
-abbrev pub told_combs : Fields → List Comb
-told_combs tree = map comb_with (combs_in tree)
+-- its families, with these numbers
+abbrev pub families_with : List Crossings → List (List (List ℕ)) → List Family
+families_with [] combs = []
+families_with (own ∷ crossed) [] = []
+families_with (own ∷ crossed) (sets ∷ combs) = family_with own sets ∷ families_with crossed combs
+
+abbrev pub told_families : Fields → List Crossings → List Family
+told_families tree crossed = families_with crossed (combs_in tree)
+
+-- the numbers of each of them: how often a cycle crosses it at the least, and two nodes at the most
+pub record AreNumbersOf (inst tree : Fields) (crossed : List Crossings) : Type 0 where
+  pub many : length crossed ≡ length (combs_in tree)
+  pub are : All (IsFamily (nodes_of inst)) (told_families tree crossed)
 
 -- ---- when a reason applies to it; reasons of tours, of routes and of potentials never do
 
--- the sets at the place are neither a lone set nor those of a comb, each with its nodes once
+-- the sets at the place are no family, each with its nodes once
 abbrev pub IsBadComb : ℕ → List (List (List ℕ)) → ℕ → Type 0
-IsBadComb n combs place = IsGoodComb n (slice_index_or combs (place - 1) []) → ⊥
+IsBadComb n combs place = IsGoodFamily n (slice_index_or combs (place - 1) []) → ⊥
 
 abbrev pub StandsAgainstTree : Fields → Fields → Reason → Type 0
 StandsAgainstTree inst tree NotBranches = is_tree tree.kind ≡ false
 StandsAgainstTree inst tree BranchesDimension = nodes_of tree ≢ nodes_of inst
 StandsAgainstTree inst tree (BadComb index) = IsFirstPlace (IsBadComb (nodes_of inst) (combs_in tree)) (combs_in tree) index
 StandsAgainstTree inst tree (BranchTwice index) = IsFirstTwice (is_directed inst.kind) (given_in inst) (steps_in tree) index
-StandsAgainstTree inst tree (BadLeaf index) = IsFirstBadLeaf (nodes_of inst) (length (combs_in tree)) (steps_in tree) index
+StandsAgainstTree inst tree (BadLeaf index) =
+    (crossed : List Crossings) × AreNumbersOf inst tree crossed × IsFirstBadLeaf (nodes_of inst) crossed (steps_in tree) index
 StandsAgainstTree inst tree reason = ⊥
 
 -- ---- its bound
 
--- families, a whole tree and good numbers at its leaves, and the least of the bounds of these: by least 1-trees, for an ATSP by the
--- least link from each node
-abbrev pub IsBoundByTree : Fields → Fields → ℤ → Type 0
-IsBoundByTree inst tree bound = IsCertificate (nodes_of inst) (told_combs tree) (given_in inst) (tree_in inst tree)
-    × IsCertificateBound (is_directed inst.kind) (nodes_of inst) (cost inst) (scale_in tree) decided_number (told_combs tree)
-    (given_in inst) (tree_in inst tree) (Some bound)
+-- families, a whole tree and good numbers at its leaves, and what is the least of the bounds of these: by least 1-trees, for an ATSP
+-- by the least link from each node
+pub record HasBoundByTree (inst tree : Fields) (found : Option ℤ) : Type 0 where
+  pub crossed : List Crossings
+  pub numbers : AreNumbersOf inst tree crossed
+  pub certificate : IsCertificate (nodes_of inst) (told_families tree crossed) (given_in inst) (tree_in inst tree)
+  pub bound : IsCertificateBound (is_directed inst.kind) (nodes_of inst) (cost inst) (scale_in tree) decided_number
+      (told_families tree crossed) (given_in inst) (tree_in inst tree) found
 
--- the same, where no leaf has a bound: for an ATSP, where the decisions at each of them leave some node no link
+-- a bound
+abbrev pub IsBoundByTree : Fields → Fields → ℤ → Type 0
+IsBoundByTree inst tree bound = HasBoundByTree inst tree (Some bound)
+
+-- no leaf has a bound: for an ATSP, where the decisions at each of them leave some node no link
 abbrev pub HasNoBoundByTree : Fields → Fields → Type 0
-HasNoBoundByTree inst tree = IsCertificate (nodes_of inst) (told_combs tree) (given_in inst) (tree_in inst tree)
-    × IsCertificateBound (is_directed inst.kind) (nodes_of inst) (cost inst) (scale_in tree) decided_number (told_combs tree)
-    (given_in inst) (tree_in inst tree) None
+HasNoBoundByTree inst tree = HasBoundByTree inst tree None

@@ -114,7 +114,7 @@ pub fn judge_tour_bound(
 ///
 /// The reasons of the certificate are those from `NotBranches` to `BadLeaf`. The bound is the least
 /// of those of the leaves. Under TYPE TSP each of these is that of a least 1-tree under the leaf's
-/// potentials, its multipliers of lone sets and combs, and the decisions above it. Under TYPE ATSP
+/// potentials, its multipliers of families of sets, and the decisions above it. Under TYPE ATSP
 /// it is that of the least link from each node, and a leaf whose decisions leave some node no link
 /// counts for nothing. The fixed pairs are taken in all cases.
 ///

@@ -18,7 +18,7 @@ ghost use Rattle.tsp_verdict.specs.Routes.{StandsAgainstRoutes, NoneOfRoutesBefo
 ghost use Rattle.tsp_verdict.specs.Certificate.{StandsAgainstPotentials};
 ghost use Rattle.tsp_file.specs.Meant.{scale_in};
 ghost use Rattle.tsp_verdict.specs.Tree.{StandsAgainstTree, given_in};
-ghost use Rattle.tsp_verdict.specs.Examples.{of_nodes, of_rows, of_both, multiplying, nodes, vehicles, carrying, solution, sized, lone, both, two, three, four, branching, two_leaves, three_leaves, two_teeth, Before};
+ghost use Rattle.tsp_verdict.specs.Examples.{of_nodes, of_rows, of_both, multiplying, nodes, vehicles, carrying, solution, sized, lone, both, two, three, four, branching, two_leaves, three_leaves, node_twice, Before};
 
 /// The order in which reasons against a tour, and then against its certificate, are judged: each
 /// pair of neighbours.
@@ -129,8 +129,8 @@ pub fn examples_against_trees()
     ensures dimension { StandsAgainstTree (nodes kinds.Tsp 4 []) (branching 3 [] (Leaf [] ∷ [])) reasons.BranchesDimension }
     ensures same_dimension { ¬ StandsAgainstTree (nodes kinds.Tsp 4 [])
         (branching 4 [] (Leaf [] ∷ [])) reasons.BranchesDimension }
-    ensures even_teeth { StandsAgainstTree (nodes kinds.Tsp 4 [])
-        (branching 4 (two_teeth ∷ []) (Leaf [] ∷ [])) (reasons.BadComb 1) }
+    ensures node_twice { StandsAgainstTree (nodes kinds.Tsp 4 [])
+        (branching 4 (node_twice ∷ []) (Leaf [] ∷ [])) (reasons.BadComb 1) }
     ensures again { StandsAgainstTree (nodes kinds.Tsp 4 [])
         (branching 4 [] (Branch 1 2 ∷ Branch 1 2 ∷ three_leaves)) (reasons.BranchTwice 2) }
     ensures fixed { StandsAgainstTree (nodes kinds.Tsp 4 ((2, 1) ∷ []))

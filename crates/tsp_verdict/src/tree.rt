@@ -19,7 +19,9 @@ use crate::files::fixed_pairs;
 use crate::numbered::numbered_sets;
 use crate::tour::is_directed;
 use std::alloc::{AllocError, Global};
-use tsp_branch::{BranchVerdict, CostTable, certificates_bound_cycles, judge_branches};
+use tsp_branch::{
+    BranchVerdict, CostTable, certificates_bound_cycles, judge_branches, numbers_are_unique,
+};
 use tsp_cost::{Costs, Instance, View};
 use tsp_file::{File, TreeData};
 use tsp_reason::{BoundVerdict, Reason};
@@ -127,6 +129,7 @@ fn judge_tree<C: Costs>(
     ensures { IfOk result (λ found. FindsBound certificates.Branches instance.now branches.now found) }
 {
     certificates_bound_cycles();
+    numbers_are_unique();
     let directed = is_directed(instance.kind());
     let given = taken_once(alloc, directed, fixed_pairs(instance))?;
     let sets = numbered_sets(alloc, tree.combs)?;

@@ -6,13 +6,15 @@ use Rattle.tsp_theory.specs.Numbers.{IsFromTo}
 use Rattle.tsp_theory.specs.NodeBound.{weight_between}
 use Rattle.tsp_theory.specs.Tree.{crossing}
 use Rattle.tsp_theory.specs.Adjusted.{adjusted}
-use Rattle.tsp_branch.specs.Combs.{has}
+use Rattle.tsp_format.specs.Cells.{IsNode}
+use Rattle.tsp_families.specs.Crossed.{has}
+use Rattle.tsp_families.specs.declared.family.Crossings.{Crossings}
 use Rattle.tsp_branch.specs.LeafBound.{crossings_of, leaf_weight}
 use Rattle.tsp_branch.specs.Certificate.{multiplied}
-use Rattle.tsp_branch.specs.CombsOfSets.{NumberedSet, combs_of_sets}
-use Rattle.tsp_branch.specs.Judged.{most_multiplied}
+use Rattle.tsp_branch.specs.CombsOfSets.{NumberedSet, families_of}
+use Rattle.tsp_branch.specs.Judged.{most_crossed}
 use Rattle.tsp_branch.specs.states.Sets.{added}
-use Rattle.tsp_branch.specs.declared.comb_set.CombSet.{CombSet}
+use Rattle.tsp_families.specs.declared.comb_set.CombSet.{CombSet}
 
 -- sets as the definitions have them
 abbrev pub as_numbered : CombSet → NumberedSet
@@ -22,7 +24,7 @@ abbrev pub plain : List CombSet → List NumberedSet
 plain sets = map as_numbered sets
 
 abbrev pub AreSmallMultipliers : List ℤ → Type 0
-AreSmallMultipliers multipliers = All (IsFromTo (pos 0) (pos most_multiplied)) multipliers
+AreSmallMultipliers multipliers = All (IsFromTo (pos 0) (pos most_crossed)) multipliers
 
 -- the multiplier of a set's comb
 abbrev pub multiplier_of : List ℤ → NumberedSet → ℤ
@@ -57,25 +59,24 @@ abbrev pub set_weight : ℤ → List ℤ → List ℤ → List NumberedSet → (
 set_weight scale potentials multipliers sets cost i j =
     weight_between scale potentials cost i j -ℤ set_crossings multipliers sets i j
 
--- how often two nodes cross the sets at most, and how large a weight is: no two teeth of a comb have a node in common, so that
--- two nodes cross three sets of each comb at most
-abbrev pub most_crossed : ℕ
-most_crossed = 3 * most_multiplied
-
-abbrev pub AreFewCrossings : List ℤ → List NumberedSet → Type 0
-AreFewCrossings multipliers sets = (i j : ℕ) → IsFromTo (pos 0) (pos most_crossed) (set_crossings multipliers sets i j)
+-- two nodes of 1..n don't cross the sets too often; and how large a weight is
+abbrev pub AreFewCrossings : ℕ → List ℤ → List NumberedSet → Type 0
+AreFewCrossings n multipliers sets = (i j : ℕ) → IsNode n i → IsNode n j
+    → IsFromTo (pos 0) (pos most_crossed) (set_crossings multipliers sets i j)
 
 abbrev pub most_combed : ℕ
 most_combed = 2000000000000000000
 
--- The crossings of the sets are those of the combs.
+-- The crossings of the sets are those of the families.
 abbrev pub SetsTellCombs : Type 0
-SetsTellCombs = (multipliers : List ℤ) (sets : List NumberedSet) (i j : ℕ) → All (λ set. set.comb < length multipliers) sets
-    → crossings_of (multiplied (combs_of_sets (length multipliers) sets) multipliers) i j ≡ set_crossings multipliers sets i j
+SetsTellCombs = (crossed : List Crossings) (multipliers : List ℤ) (sets : List NumberedSet) (i j : ℕ)
+    → length multipliers ≡ length crossed → All (λ set. set.comb < length multipliers) sets
+    → crossings_of (multiplied (families_of crossed sets) multipliers) i j ≡ set_crossings multipliers sets i j
 
 -- So the weights by sets are, under taken and avoided pairs, those of a leaf.
 abbrev pub SetsGiveLeaves : Type 0
-SetsGiveLeaves = (scale : ℤ) (potentials multipliers : List ℤ) (taken avoided : List (ℕ × ℕ × ℤ)) (sets : List NumberedSet)
-    (cost : ℕ → ℕ → ℤ) (i j : ℕ) → All (λ set. set.comb < length multipliers) sets
+SetsGiveLeaves = (scale : ℤ) (crossed : List Crossings) (potentials multipliers : List ℤ) (taken avoided : List (ℕ × ℕ × ℤ))
+    (sets : List NumberedSet) (cost : ℕ → ℕ → ℤ) (i j : ℕ)
+    → length multipliers ≡ length crossed → All (λ set. set.comb < length multipliers) sets
     → adjusted taken avoided (set_weight scale potentials multipliers sets cost) i j
-    ≡ leaf_weight scale potentials taken avoided (multiplied (combs_of_sets (length multipliers) sets) multipliers) cost i j
+    ≡ leaf_weight scale potentials taken avoided (multiplied (families_of crossed sets) multipliers) cost i j

@@ -1,9 +1,10 @@
 -- Nodes of sets as code finds out that no two of them are the same: each gets a mark, by which it is known again.
 use Rattle.std.specs.Prelude.{◌≡◌, ◌≢◌, ℕ, ◌==◌, ◌||◌, ◌<◌, length, Bool, false, List, [], ◌∷◌, slice_index}
 use Rattle.std.specs.List.{All}
-use Rattle.tsp_branch.specs.Combs.{has, IsTooth}
+use Rattle.tsp_families.specs.Crossed.{has}
+use Rattle.tsp_branch.specs.Combs.{IsTooth}
 use Rattle.tsp_branch.specs.GoodCombs.{HasEachOnce}
-use Rattle.tsp_branch.specs.declared.comb_set.CombSet.{CombSet}
+use Rattle.tsp_families.specs.declared.comb_set.CombSet.{CombSet}
 
 -- whether a node has a mark
 abbrev pub is_marked : List ℕ → ℕ → ℕ → Bool

@@ -2,6 +2,7 @@
 use Rattle.std.specs.Prelude.{◌≡◌, ℕ, ◌+◌, ◌^◌, List, length, Option, IfSome, ℤ, pos, neg_ℤ}
 use Rattle.std.specs.List.{All}
 use Rattle.tsp_theory.specs.Numbers.{IsFromTo, IsBoundSized}
+use Rattle.tsp_families.specs.declared.family.Crossings.{Crossings}
 use Rattle.tsp_branch.specs.declared.room.Room.{Room}
 use Rattle.tsp_branch.specs.declared.steps.JudgedLeaf.{JudgedLeaf}
 use Rattle.tsp_branch.specs.declared.steps.JudgedLeaf.TheVariants as leaves
@@ -22,10 +23,10 @@ abbrev pub AreSmall : List ℤ → Type 0
 AreSmall numbers = All (IsFromTo (neg_ℤ (pos (2 ^ 64))) (pos (2 ^ 64))) numbers
 
 -- What is found of a leaf that is good, whose numbers are kept for the next one; nothing of one that isn't.
-abbrev pub IsJudgedLeaf : (List Decision × LeafNumbers → Option ℤ → Type 0) → ℕ → ℕ → List Decision → List ℤ → List (ℕ × ℤ)
+abbrev pub IsJudgedLeaf : (List Decision × LeafNumbers → Option ℤ → Type 0) → ℕ → List Crossings → List Decision → List ℤ → List (ℕ × ℤ)
     → List ℤ → JudgedLeaf → Type 0
-IsJudgedLeaf found n count case old changes new leaves.Bad = IsGoodLeaf n count old changes → ⊥
-IsJudgedLeaf found n count case old changes new (leaves.Found own) = IsGoodLeaf n count old changes
+IsJudgedLeaf found n crossed case old changes new leaves.Bad = IsGoodLeaf n crossed old changes → ⊥
+IsJudgedLeaf found n crossed case old changes new (leaves.Found own) = IsGoodLeaf n crossed old changes
     × (new ≡ all_grown changes old) × AreSmall new × found (case, split_at n (all_grown changes old)) own
 
 -- Sums with the bound fit 128 bits.

@@ -1,11 +1,10 @@
 -- Sets of nodes as code has them, each with the number of its comb, and what they add to a row of numbers by node.
-use Rattle.std.specs.Prelude.{◌≡◌, ℕ, suc, ◌==◌, ◌+◌, ◌++◌, ◌<◌, ◌≤◌, if◌then◌else◌, List, [], ◌∷◌, length, map, slice_index_or, ℤ, pos, ◌+ℤ◌, ◌⊎◌}
+use Rattle.std.specs.Prelude.{◌≡◌, ℕ, suc, ◌==◌, ◌+◌, ◌++◌, ◌<◌, ◌≤◌, if◌then◌else◌, List, [], ◌∷◌, length, slice_index_or, ℤ, pos, ◌+ℤ◌, ◌⊎◌}
 use Rattle.std.specs.Int.{w64, int_wrap}
 use Rattle.std.specs.Global.{Vec}
-use Rattle.std.specs.List.{All, AllPairs}
-use Rattle.tsp_format.specs.Cells.{IsNode}
+use Rattle.std.specs.List.{AllPairs}
 use Rattle.tsp_theory.specs.Length.{sum_int_by}
-use Rattle.tsp_branch.specs.declared.comb_set.CombSet.{CombSet}
+use Rattle.tsp_families.specs.declared.comb_set.CombSet.{CombSet}
 
 -- a value as it was, where nothing is added; else what is left of the sum in 64 bits
 abbrev pub IsMoved : ℤ → ℤ → ℤ → Type 0
@@ -35,14 +34,6 @@ pub record IsSetTable (n : ℕ) (sets : List CombSet) (lists : List (Vec ℕ)) :
   pub count : length lists ≡ n + 1
   pub said : (x : ℕ) (default : Vec ℕ) → x ≤ n → (slice_index_or lists x default).items ≡ sets_with 0 sets x
 
--- sets of nodes of 1..n
-abbrev pub AreSetsOf : ℕ → List CombSet → Type 0
-AreSetsOf n sets = All (λ set. All (IsNode n) set.nodes.items) sets
-
 -- the sets are listed comb by comb
 abbrev pub AreInOrder : List CombSet → Type 0
 AreInOrder sets = AllPairs (λ set later. set.comb ≤ later.comb) sets
-
--- the nodes of sets
-abbrev pub lists_of : List CombSet → List (List ℕ)
-lists_of sets = map (λ set. set.nodes.items) sets

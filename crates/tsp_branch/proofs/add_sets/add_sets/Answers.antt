@@ -6,7 +6,7 @@ use Rattle.std.proofs.lemmas.List.{drop_all}
 use Rattle.tsp_theory.specs.states.Nearest.{least_at}
 use Rattle.tsp_branch.specs.states.Sets.{IsMoved, added}
 use Rattle.tsp_branch.specs.states.Combed.{plain, twice_in, inside_both}
-use Rattle.tsp_branch.specs.declared.comb_set.CombSet.{CombSet}
+use Rattle.tsp_families.specs.declared.comb_set.CombSet.{CombSet}
 use Rattle.tsp_branch.proofs.SetSums.{moved_on}
 use Rattle.tsp_branch.proofs.CombedRows.{inside_left, twice_is}
 use Rattle.tsp_branch.proofs.add_sets.add_sets.Goals as goal

@@ -4,7 +4,7 @@ use Rattle.std.proofs.lemmas.Int.{to_z-of_z}
 use Rattle.std.proofs.lemmas.Result.{IfOk-weaker}
 use Rattle.tsp_format.specs.states.TreeSteps.{steps_of}
 use Rattle.tsp_branch.specs.states.Combed.{plain}
-use Rattle.tsp_branch.specs.CombsOfSets.{combs_of_sets}
+use Rattle.tsp_branch.specs.CombsOfSets.{families_of}
 use Rattle.tsp_branch.specs.Listed.{IsJudged}
 use Rattle.tsp_branch.proofs.Judging.{cycles_of, costs_for}
 use Rattle.tsp_branch.proofs.branch.branch_bound.Goals as goal
@@ -14,11 +14,11 @@ returns-clause-cycles g c =
     let costs = c.args.costs.now in
     let n : ℕ = g.C.Costs.nodes costs in
     let cost = g.C.Costs.at costs in
-    let combs = combs_of_sets c.args.combs (plain c.args.sets.now) in
+    let combs = families_of c.args.crossed.now (plain c.args.sets.now) in
     let given = c.args.given.now in
     let fits : FitsSigned w64 c.args.scale = search rules in
     IfOk-weaker c.judge_leaves.result _ _ (λ found is.
-    cycles_of c.certificates_bound_cycles.ensures.cycles c.args.directed n cost c.args.scale combs c.args.combs given (steps_of c.args.steps.now) found
+    cycles_of c.certificates_bound_cycles.ensures.cycles c.args.directed n cost c.args.scale combs c.args.crossed.now given (steps_of c.args.steps.now) found
     (costs_for c.args.directed n cost c.requires.some c.requires.even) c.requires.scaled
-    (subst (λ (z : ℤ). IsJudged c.args.directed n cost z combs c.args.combs given (steps_of c.args.steps.now) found) (to_z-of_z w64 c.args.scale fits) is))
+    (subst (λ (z : ℤ). IsJudged c.args.directed n cost z combs c.args.crossed.now given (steps_of c.args.steps.now) found) (to_z-of_z w64 c.args.scale fits) is))
     c.judge_leaves.ensures.judged

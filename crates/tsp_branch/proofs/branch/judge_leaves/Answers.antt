@@ -7,7 +7,7 @@ use Rattle.tsp_format.specs.declared.steps.TreeStep.TheVariants as code
 use Rattle.tsp_format.specs.Steps as listed
 use Rattle.tsp_format.specs.states.TreeSteps.{steps_of}
 use Rattle.tsp_branch.specs.states.Combed.{plain}
-use Rattle.tsp_branch.specs.CombsOfSets.{combs_of_sets}
+use Rattle.tsp_branch.specs.CombsOfSets.{families_of}
 use Rattle.tsp_branch.specs.Cases.{LeafNumbers}
 use Rattle.tsp_branch.specs.Certificate.{IsFoundAt}
 use Rattle.tsp_branch.specs.Listed.{no_numbers_of}
@@ -36,16 +36,16 @@ pub steps-init : goal.steps-init
 steps-init g c =
     let s = c.args.setting.now in
     let n : ℕ = g.C.Costs.nodes s.costs.now in
-    let found : List Decision × LeafNumbers → Option ℤ → Type 0 = IsFoundAt s.directed n (g.C.Costs.at s.costs.now) s.scale decided_number (combs_of_sets s.combs (plain s.sets.now)) in
+    let found : List Decision × LeafNumbers → Option ℤ → Type 0 = IsFoundAt s.directed n (g.C.Costs.at s.costs.now) s.scale decided_number (families_of s.crossed.now (plain s.sets.now)) in
     let given = s.given.now in
     let told : List listed.Step = steps_of c.args.steps.now in
     let case = c.in_ok-case.case in
     record {
-      at = subst (λ (ds : List Decision). IsAtStep found s.directed n s.combs given told c.args.room.numbers.items ds None 0 told) (sym c.in_ok-case.ensures.stack)
-          (subst (λ (zs : List ℤ). IsAtStep found s.directed n s.combs given told zs [] None 0 told) (sym c.requires.start)
-          (at_start found s.directed n s.combs given told c.requires.steps.whole c.requires.steps.once));
+      at = subst (λ (ds : List Decision). IsAtStep found s.directed n s.crossed.now given told c.args.room.numbers.items ds None 0 told) (sym c.in_ok-case.ensures.stack)
+          (subst (λ (zs : List ℤ). IsAtStep found s.directed n s.crossed.now given told zs [] None 0 told) (sym c.requires.start)
+          (at_start found s.directed n s.crossed.now given told c.requires.steps.whole c.requires.steps.once));
       room = c.requires.room;
-      small = subst AreSmall (sym c.requires.start) (none_small n s.combs);
+      small = subst AreSmall (sym c.requires.start) (none_small n (length s.crossed.now));
       case = subst (λ (k : ℕ). IsOpenCase k case) c.count-count.ensures.value c.in_ok-case.ensures.case;
       given = c.in_ok-case.ensures.given;
       direction = c.in_ok-case.ensures.directed;
@@ -70,51 +70,51 @@ pub judge_leaf-requires-clause-once : goal.judge_leaf-requires-clause-once
 judge_leaf-requires-clause-once g c =
     let s = c.args.setting.now in
     let n : ℕ = g.C.Costs.nodes s.costs.now in
-    let found : List Decision × LeafNumbers → Option ℤ → Type 0 = IsFoundAt s.directed n (g.C.Costs.at s.costs.now) s.scale decided_number (combs_of_sets s.combs (plain s.sets.now)) in
+    let found : List Decision × LeafNumbers → Option ℤ → Type 0 = IsFoundAt s.directed n (g.C.Costs.at s.costs.now) s.scale decided_number (families_of s.crossed.now (plain s.sets.now)) in
     let given = s.given.now in
     let all : List TreeStep = c.args.steps.now in
     let told : List listed.Step = steps_of all in
     let st = c.steps in
-    let at = at_next found s.directed n s.combs given all st.room.numbers.items st.case.stack.items st.lowest st.leaf st.step-index c.step-item.result
+    let at = at_next found s.directed n s.crossed.now given all st.room.numbers.items st.case.stack.items st.lowest st.leaf st.step-index c.step-item.result
     (code.Leaf c.in-Leaf.changes) c.steps-test.true c.step-item.is c.in-Leaf.is st.invariant.at in
     subst (λ (ds : List Decision). DecideOnce s.directed (stack_of st.case.stack.items ++ ds)) (sym st.invariant.given)
-    (once_here found s.directed n s.combs given told st.room.numbers.items st.case.stack.items st.lowest st.leaf c.in-Leaf.changes.items _ at)
+    (once_here found s.directed n s.crossed.now given told st.room.numbers.items st.case.stack.items st.lowest st.leaf c.in-Leaf.changes.items _ at)
 
 pub returns-in_default-clause-judged : goal.returns-in_default-clause-judged
 returns-in_default-clause-judged g c =
     let s = c.args.setting.now in
     let n : ℕ = g.C.Costs.nodes s.costs.now in
-    let found : List Decision × LeafNumbers → Option ℤ → Type 0 = IsFoundAt s.directed n (g.C.Costs.at s.costs.now) s.scale decided_number (combs_of_sets s.combs (plain s.sets.now)) in
+    let found : List Decision × LeafNumbers → Option ℤ → Type 0 = IsFoundAt s.directed n (g.C.Costs.at s.costs.now) s.scale decided_number (families_of s.crossed.now (plain s.sets.now)) in
     let given = s.given.now in
     let all : List TreeStep = c.args.steps.now in
     let told : List listed.Step = steps_of all in
     let st = c.steps in
-    let at = at_next found s.directed n s.combs given all st.room.numbers.items st.case.stack.items st.lowest st.leaf st.step-index c.step-item.result
+    let at = at_next found s.directed n s.crossed.now given all st.room.numbers.items st.case.stack.items st.lowest st.leaf st.step-index c.step-item.result
     (code.Leaf c.in-Leaf.changes) c.steps-test.true c.step-item.is c.in-Leaf.is st.invariant.at in
-    let judged = subst (λ (cs : List (ℕ × ℤ)). IsJudgedLeaf found n s.combs
+    let judged = subst (λ (cs : List (ℕ × ℤ)). IsJudgedLeaf found n s.crossed.now
     (stack_of st.case.stack.items ++ given) st.room.numbers.items cs c.judge_leaf.new.room.numbers.items c.in_ok-judged-in-Leaf.judged) c.deref.ensures.value
-    (subst (λ (ds : List Decision). IsJudgedLeaf found n s.combs
+    (subst (λ (ds : List Decision). IsJudgedLeaf found n s.crossed.now
     (stack_of st.case.stack.items ++ ds) st.room.numbers.items c.deref.result.now c.judge_leaf.new.room.numbers.items c.in_ok-judged-in-Leaf.judged) st.invariant.given
     c.in_ok-judged-in-Leaf.ensures.judged) in
-    bad_here found s.directed n s.combs given told st.room.numbers.items st.case.stack.items st.lowest st.leaf c.in-Leaf.changes.items _ _ c.in_ok-judged-in-Leaf.judged at judged c.in_default.is
+    bad_here found s.directed n s.crossed.now given told st.room.numbers.items st.case.stack.items st.lowest st.leaf c.in-Leaf.changes.items _ _ c.in_ok-judged-in-Leaf.judged at judged c.in_default.is
 
 pub returns-then-not-is_open-clause-judged : goal.returns-then-not-is_open-clause-judged
 returns-then-not-is_open-clause-judged g c =
     let s = c.args.setting.now in
     let n : ℕ = g.C.Costs.nodes s.costs.now in
-    let found : List Decision × LeafNumbers → Option ℤ → Type 0 = IsFoundAt s.directed n (g.C.Costs.at s.costs.now) s.scale decided_number (combs_of_sets s.combs (plain s.sets.now)) in
+    let found : List Decision × LeafNumbers → Option ℤ → Type 0 = IsFoundAt s.directed n (g.C.Costs.at s.costs.now) s.scale decided_number (families_of s.crossed.now (plain s.sets.now)) in
     let given = s.given.now in
     let all : List TreeStep = c.args.steps.now in
     let told : List listed.Step = steps_of all in
     let st = c.steps in
-    let at = at_next found s.directed n s.combs given all st.room.numbers.items st.case.stack.items st.lowest st.leaf st.step-index c.step-item.result
+    let at = at_next found s.directed n s.crossed.now given all st.room.numbers.items st.case.stack.items st.lowest st.leaf st.step-index c.step-item.result
     (code.Leaf c.in-Leaf.changes) c.steps-test.true c.step-item.is c.in-Leaf.is st.invariant.at in
-    let judged = subst (λ (cs : List (ℕ × ℤ)). IsJudgedLeaf found n s.combs
+    let judged = subst (λ (cs : List (ℕ × ℤ)). IsJudgedLeaf found n s.crossed.now
     (stack_of st.case.stack.items ++ given) st.room.numbers.items cs c.judge_leaf.new.room.numbers.items c.in_ok-judged-in-Leaf.judged) c.deref.ensures.value
-    (subst (λ (ds : List Decision). IsJudgedLeaf found n s.combs
+    (subst (λ (ds : List Decision). IsJudgedLeaf found n s.crossed.now
     (stack_of st.case.stack.items ++ ds) st.room.numbers.items c.deref.result.now c.judge_leaf.new.room.numbers.items c.in_ok-judged-in-Leaf.judged) st.invariant.given
     c.in_ok-judged-in-Leaf.ensures.judged) in
-    last_found found s.directed n s.combs given told (combs_of_sets s.combs (plain s.sets.now)) st.room.numbers.items st.case.stack.items st.lowest st.leaf c.in-Leaf.changes.items _ _ c.in_ok-judged-in-Leaf.judged c.in-Found.own
+    last_found found s.directed n s.crossed.now given told (families_of s.crossed.now (plain s.sets.now)) st.room.numbers.items st.case.stack.items st.lowest st.leaf c.in-Leaf.changes.items _ _ c.in_ok-judged-in-Leaf.judged c.in-Found.own
     c.lower-lowest.result at c.requires.are_families c.requires.steps.whole judged c.in-Found.is c.lower-lowest.ensures
     (subst (λ (b : Bool). IsNextStack st.case.stack.items b c.next.new.self.stack.items) c.if-not-is_open.true c.in_ok-is_open-in-Leaf.ensures.next).0
 
@@ -126,22 +126,22 @@ pub steps-preserved : goal.steps-preserved
 steps-preserved g c =
     let s = c.args.setting.now in
     let n : ℕ = g.C.Costs.nodes s.costs.now in
-    let found : List Decision × LeafNumbers → Option ℤ → Type 0 = IsFoundAt s.directed n (g.C.Costs.at s.costs.now) s.scale decided_number (combs_of_sets s.combs (plain s.sets.now)) in
+    let found : List Decision × LeafNumbers → Option ℤ → Type 0 = IsFoundAt s.directed n (g.C.Costs.at s.costs.now) s.scale decided_number (families_of s.crossed.now (plain s.sets.now)) in
     let given = s.given.now in
     let all : List TreeStep = c.args.steps.now in
     let told : List listed.Step = steps_of all in
     let st = c.steps in
     elim c.match-step.branch [
       | in-Branch+in_ok-take-in-Branch w ↦
-          let at = at_next found s.directed n s.combs given all st.room.numbers.items st.case.stack.items st.lowest st.leaf st.step-index c.step-item.result
+          let at = at_next found s.directed n s.crossed.now given all st.room.numbers.items st.case.stack.items st.lowest st.leaf st.step-index c.step-item.result
           (code.Branch w.in-Branch.first w.in-Branch.second) c.steps-test.true c.step-item.is w.in-Branch.is st.invariant.at in
           let items = w.in_ok-take-in-Branch.ensures.stack in
           let decision : Decision = record { pair = (w.in-Branch.first, w.in-Branch.second); taken = true } in
           let own = own_step n all st.step-index c.step-item.result (code.Branch w.in-Branch.first w.in-Branch.second) c.requires.steps.each c.steps-test.true c.step-item.is w.in-Branch.is in
           let longer = length_push st.case.stack.items decision in
           rw (w.room-is, w.case-is, w.lowest-is, w.leaf-is) (record {
-            at = subst (λ (ds : List Decision). IsAtStep found s.directed n s.combs given told st.room.numbers.items ds st.lowest st.leaf (steps_of (drop (st.step-index + 1) all))) (sym items)
-                (at_branch found s.directed n s.combs given told st.room.numbers.items st.case.stack.items st.lowest st.leaf w.in-Branch.first w.in-Branch.second _ at);
+            at = subst (λ (ds : List Decision). IsAtStep found s.directed n s.crossed.now given told st.room.numbers.items ds st.lowest st.leaf (steps_of (drop (st.step-index + 1) all))) (sym items)
+                (at_branch found s.directed n s.crossed.now given told st.room.numbers.items st.case.stack.items st.lowest st.leaf w.in-Branch.first w.in-Branch.second _ at);
             room = st.invariant.room;
             small = st.invariant.small;
             case = w.in_ok-take-in-Branch.ensures.case n st.invariant.case own;
@@ -152,14 +152,14 @@ steps-preserved g c =
             sized = st.invariant.sized;
           })
       | in-Leaf+in_ok-judged-in-Leaf+in-Found+in_ok-is_open-in-Leaf+else-not-is_open w ↦
-          let at = at_next found s.directed n s.combs given all st.room.numbers.items st.case.stack.items st.lowest st.leaf st.step-index c.step-item.result
+          let at = at_next found s.directed n s.crossed.now given all st.room.numbers.items st.case.stack.items st.lowest st.leaf st.step-index c.step-item.result
           (code.Leaf w.in-Leaf.changes) c.steps-test.true c.step-item.is w.in-Leaf.is st.invariant.at in
-          let judged = subst (λ (cs : List (ℕ × ℤ)). IsJudgedLeaf found n s.combs
+          let judged = subst (λ (cs : List (ℕ × ℤ)). IsJudgedLeaf found n s.crossed.now
           (stack_of st.case.stack.items ++ given) st.room.numbers.items cs w.judge_leaf.new.room.numbers.items w.in_ok-judged-in-Leaf.judged) w.deref.ensures.value
-          (subst (λ (ds : List Decision). IsJudgedLeaf found n s.combs
+          (subst (λ (ds : List Decision). IsJudgedLeaf found n s.crossed.now
           (stack_of st.case.stack.items ++ ds) st.room.numbers.items w.deref.result.now w.judge_leaf.new.room.numbers.items w.in_ok-judged-in-Leaf.judged) st.invariant.given
           w.in_ok-judged-in-Leaf.ensures.judged) in
-          let more = more_found found s.directed n s.combs given told st.room.numbers.items st.case.stack.items st.lowest st.leaf w.in-Leaf.changes.items _ _ w.next.new.self.stack.items
+          let more = more_found found s.directed n s.crossed.now given told st.room.numbers.items st.case.stack.items st.lowest st.leaf w.in-Leaf.changes.items _ _ w.next.new.self.stack.items
           w.in_ok-judged-in-Leaf.judged w.in-Found.own w.lower-lowest.result at judged w.in-Found.is w.lower-lowest.ensures
           (subst (λ (b : Bool). IsNextStack st.case.stack.items b w.next.new.self.stack.items) w.if-not-is_open.false w.in_ok-is_open-in-Leaf.ensures.next) in
           rw (w.room-is, w.case-is, w.lowest-is, w.leaf-is) (record {

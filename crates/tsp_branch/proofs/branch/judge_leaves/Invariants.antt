@@ -3,7 +3,7 @@ use Rattle.std.specs.Prelude.{IfSome}
 use Rattle.tsp_format.specs.states.TreeSteps.{steps_of}
 use Rattle.tsp_theory.specs.Numbers.{IsBoundSized}
 use Rattle.tsp_branch.specs.states.Combed.{plain}
-use Rattle.tsp_branch.specs.CombsOfSets.{combs_of_sets}
+use Rattle.tsp_branch.specs.CombsOfSets.{families_of}
 use Rattle.tsp_branch.specs.Certificate.{IsFoundAt}
 use Rattle.tsp_branch.specs.states.OpenCases.{IsOpenCase}
 use Rattle.tsp_branch.specs.Decisions.{decided_number}
@@ -16,9 +16,9 @@ invariant-steps g l =
     let s = l.setting in
     let n : ℕ = g.C.Costs.nodes s.costs.now in
     record {
-      at : IsAtStep (IsFoundAt s.directed n (g.C.Costs.at s.costs.now) s.scale decided_number (combs_of_sets s.combs (plain s.sets.now))) s.directed n s.combs s.given.now (steps_of l.steps) l.room.numbers.items l.case.stack.items l.lowest l.leaf
+      at : IsAtStep (IsFoundAt s.directed n (g.C.Costs.at s.costs.now) s.scale decided_number (families_of s.crossed.now (plain s.sets.now))) s.directed n s.crossed.now s.given.now (steps_of l.steps) l.room.numbers.items l.case.stack.items l.lowest l.leaf
           (steps_of (drop l.step-index l.steps));
-      room : IsRoom n s.combs l.room;
+      room : IsRoom n (length s.crossed.now) l.room;
       small : AreSmall l.room.numbers.items;
       case : IsOpenCase n l.case;
       given : l.case.given.now ≡ s.given.now;

@@ -1,10 +1,9 @@
-use Rattle.std.proofs.Common.{◌∙◌, ℤ, List, length, ap, sym}
+use Rattle.std.proofs.Common.{◌∙◌, ℤ, List, ap, sym}
 use Rattle.std.specs.Prelude.{pos, ◌-ℤ◌, ◌*ℤ◌}
 use Rattle.tsp_branch.specs.LeafBound.{least_of}
 use Rattle.tsp_branch.specs.Certificate.{multiplied}
-use Rattle.tsp_branch.specs.CombsOfSets.{combs_of_sets}
-use Rattle.tsp_branch.proofs.SetCounts.{counts_tell}
-use Rattle.tsp_branch.proofs.GivenBack.{less_fits, less_held, less_sized}
+use Rattle.tsp_branch.specs.CombsOfSets.{families_of}
+use Rattle.tsp_branch.proofs.GivenBack.{least_told, less_fits, less_held, less_sized}
 use Rattle.tsp_branch.proofs.given_back.given_back.Goals as goal
 
 pub overflow_sub-result : goal.overflow_sub-result
@@ -17,7 +16,7 @@ returns c =
     let ms : List ℤ = c.args.multipliers.now in
     let is = less_held crossed ps c.multiplied_crossings.ensures.size c.total.ensures.size in
     rw is (record {
-      value = λ sets are. ap (λ (z : ℤ). z -ℤ (pos 2 *ℤ ps)) (c.multiplied_crossings.ensures.value ∙ sym (counts_tell sets c.args.counts.now ms are))
-          ∙ ap (λ (z : ℤ). least_of (multiplied (combs_of_sets (length ms) sets) ms) -ℤ (pos 2 *ℤ z)) c.total.ensures.value;
+      value = λ sets. ap (λ (z : ℤ). z -ℤ (pos 2 *ℤ ps)) (c.multiplied_crossings.ensures.value ∙ sym (least_told 0 c.args.crossed.now ms sets))
+          ∙ ap (λ (z : ℤ). least_of (multiplied (families_of c.args.crossed.now sets) ms) -ℤ (pos 2 *ℤ z)) c.total.ensures.value;
       size = less_sized crossed ps c.multiplied_crossings.ensures.size c.total.ensures.size;
     })

@@ -1,13 +1,13 @@
 use Rattle.std.proofs.Common.{◌≡◌, ◌*◌, ◌^◌, drop}
 use Rattle.std.specs.Prelude.{pos, ◌+ℤ◌, ◌*ℤ◌, ◌≤ℤ◌}
 use Rattle.tsp_theory.specs.Numbers.{total}
-use Rattle.tsp_branch.specs.Judged.{most_multiplied}
+use Rattle.tsp_branch.specs.Judged.{most_crossed}
 use Rattle.tsp_branch.specs.CombsOfSets.{least_with}
 use Rattle.tsp_branch.proofs.given_back.multiplied_crossings.Given as goal
 
 abbrev pub invariant-families : goal.invariant-families
 invariant-families l = record {
   low : pos 0 ≤ℤ l.sum;
-  high : (l.sum +ℤ (pos (2 ^ 34) *ℤ total (drop l.index l.multipliers))) ≤ℤ pos (2 ^ 34 * most_multiplied);
-  so_far : (l.sum +ℤ least_with (drop l.index l.counts) (drop l.index l.multipliers)) ≡ least_with l.counts l.multipliers;
+  high : (l.sum +ℤ (pos (2 ^ 34) *ℤ total (drop l.index l.multipliers))) ≤ℤ pos (2 ^ 34 * most_crossed);
+  so_far : (l.sum +ℤ least_with (drop l.index l.crossed) (drop l.index l.multipliers)) ≡ least_with l.crossed l.multipliers;
 }

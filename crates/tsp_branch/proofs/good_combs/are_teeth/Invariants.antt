@@ -1,6 +1,6 @@
 use Rattle.std.proofs.Common.{◌≡◌, ℕ, length, drop}
 use Rattle.std.specs.Prelude.{◌↔◌}
-use Rattle.tsp_branch.specs.states.Sets.{AreSetsOf, lists_of}
+use Rattle.tsp_families.specs.FamilySets.{AreSetsOf, lists_of}
 use Rattle.tsp_branch.specs.states.Marked.{is_marked, AddsNoOther, AreTeeth}
 use Rattle.tsp_branch.proofs.good_combs.are_teeth.Given as goal
 

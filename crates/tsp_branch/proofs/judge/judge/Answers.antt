@@ -9,5 +9,5 @@ returns-then-not-copy_within-2-clause-good c =
     let numbers : List ℤ = c.args.numbers.now in (
       λ none. absurd (both_ways false refl none),
       λ good. c.if-not-copy_within-2.ensures.inside.1
-          (rw c.split_at.ensures.back (small_multipliers n (length c.args.multipliers.now) (take n numbers) (drop n numbers) good)),
+          (rw c.split_at.ensures.back (small_multipliers n c.args.crossed.now (take n numbers) (drop n numbers) c.requires.some good)),
     )

@@ -1,5 +1,5 @@
 use Rattle.std.proofs.Common.{◌≡◌, ◌||◌, ℕ, length, take}
-use Rattle.tsp_branch.specs.Combs.{has}
+use Rattle.tsp_families.specs.Crossed.{has}
 use Rattle.tsp_branch.specs.states.Marked.{is_marked, AreNew, AddsNoOther}
 use Rattle.tsp_branch.proofs.marks.mark_nodes.Given as goal
 

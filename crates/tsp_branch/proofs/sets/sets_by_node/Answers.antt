@@ -1,6 +1,6 @@
 use Rattle.std.proofs.Common.{◌<◌, ◌++◌, length, get_or, ap, sym, ◌∙◌, arith}
 use Rattle.tsp_branch.specs.states.Sets.{times}
-use Rattle.tsp_branch.specs.declared.comb_set.CombSet.{CombSet}
+use Rattle.tsp_families.specs.declared.comb_set.CombSet.{CombSet}
 use Rattle.tsp_branch.proofs.SetSums.{set_listed}
 use Rattle.tsp_branch.proofs.sets.sets_by_node.Goals as goal
 

@@ -1,14 +1,13 @@
-use Rattle.std.proofs.Common.{refl, inl, inr, arith, pos}
+use Rattle.std.proofs.Common.{[], refl, inl, inr, arith, pos}
+use Rattle.std.proofs.lemmas.List.Elements.{All-nil}
+use Rattle.tsp_branch.specs.Families.{IsFamily}
 use Rattle.tsp_branch.proofs.OnePass.{first_bad_by_place, first_twice_by_place}
 use Rattle.tsp_verdict.proofs.examples.examples_against_trees.Goals as goal
 
-pub returns-clause-even_teeth : goal.returns-clause-even_teeth
-returns-clause-even_teeth c = record {
+pub returns-clause-node_twice : goal.returns-clause-node_twice
+returns-clause-node_twice c = record {
   here = (omega arith, omega arith);
-  holds = λ good. elim good.family [
-    | inl lone ↦ absurd (let none = lone.alone in cc)
-    | inr comb ↦ let odd = comb.odd in omega (arith, odd)
-  ];
+  holds = λ good. good.once 0 [] (omega arith) 0 2 0 (omega arith) (omega arith) refl;
   first = λ earlier from before. absurd (omega (arith, from, before));
 }
 
@@ -19,4 +18,8 @@ pub returns-clause-fixed : goal.returns-clause-fixed
 returns-clause-fixed c = first_twice_by_place _ _ _ 1 (inl (refl, refl))
 
 pub returns-clause-past_the_nodes : goal.returns-clause-past_the_nodes
-returns-clause-past_the_nodes c = first_bad_by_place _ _ _ 1 (inl (refl, λ good. let inside = (good.indexes 0 (0, pos 0) (omega arith)).1 in omega (arith, inside)))
+returns-clause-past_the_nodes c = (
+  [],
+  record { many = refl; are = All-nil (IsFamily 4) },
+  first_bad_by_place _ _ _ 1 (inl (refl, λ good. let inside = (good.indexes 0 (0, pos 0) (omega arith)).1 in omega (arith, inside))),
+)

@@ -13,7 +13,7 @@ use Rattle.tsp_branch.specs.declared.steps.BranchVerdict.TheVariants as found
 use Rattle.tsp_branch.specs.BranchVerdicts.{IsBranchVerdict, IsSizedVerdict}
 use Rattle.tsp_branch.specs.states.Combed.{plain}
 use Rattle.tsp_branch.specs.Listed.{IsStepOf}
-use Rattle.tsp_branch.specs.states.Sets.{AreSetsOf}
+use Rattle.tsp_families.specs.FamilySets.{AreSetsOf}
 use Rattle.tsp_file.specs.Meant.{nodes_of}
 use Rattle.tsp_verdict.proofs.FilesHold.{steps_hold, steps_few}
 use Rattle.tsp_verdict.proofs.HeldNumbers.{steps_are}
@@ -90,7 +90,7 @@ returns-in-Bound-Some g c =
     let fits : FitsSigned w128 bound = search rules in
     let all_told = told inst tree c.is_directed-directed.result n costs _ (length combs) sets given steps (found.Bound (Some bound)) are is in
     rw (to_z-of_z w128 bound fits) (
-      none_stands inst tree costs (Some bound) c.requires.sort c.requires.count all_told,
+      none_stands c.numbers_are_unique.ensures inst tree costs (Some bound) c.requires.sort c.requires.count all_told,
       certified inst tree costs bound c.certificates_bound_cycles.ensures.cycles c.requires.kind c.requires.some c.requires.even
           (subst IsScale c.requires.held.scale_is c.requires.held.scaled) c.requires.keeps.every
           (subst IsSizedVerdict whole c.in_ok-bound.ensures.size) all_told,
@@ -115,7 +115,7 @@ returns-in-Bound-None g c =
     let all_told = told inst tree c.is_directed-directed.result n costs _ (length combs) sets given steps (found.Bound None) are is in
     let gone = no_tour inst tree costs c.certificates_bound_cycles.ensures.cycles c.requires.kind c.requires.some c.requires.even
     (subst IsScale c.requires.held.scale_is c.requires.held.scaled) c.requires.keeps.every all_told in
-    (none_stands inst tree costs None c.requires.sort c.requires.count all_told, gone.0, gone.1)
+    (none_stands c.numbers_are_unique.ensures inst tree costs None c.requires.sort c.requires.count all_told, gone.0, gone.1)
 
 pub returns-in-BadComb : goal.returns-in-BadComb
 returns-in-BadComb g c =
@@ -139,7 +139,7 @@ overflow_cast-result-in-BranchTwice g c =
     let steps = steps_of c.args.tree.now.steps.now in
     let given = c.deref-2.result.now in
     let is = subst (IsBranchVerdict c.is_directed-directed.result _ _ _ _ _ given steps) c.in-BranchTwice.is c.in_ok-bound.ensures.verdict in
-    omega (arith, twice_within c.is_directed-directed.result given steps c.in-BranchTwice.index is.1, length-map c.args.tree.now.steps.now step_of, steps_few c.args.branches.now c.args.tree.now.steps.now c.requires.held.each_step)
+    omega (arith, twice_within c.is_directed-directed.result given steps c.in-BranchTwice.index is.2, length-map c.args.tree.now.steps.now step_of, steps_few c.args.branches.now c.args.tree.now.steps.now c.requires.held.each_step)
 
 pub returns-in-BranchTwice : goal.returns-in-BranchTwice
 returns-in-BranchTwice g c =
@@ -165,7 +165,7 @@ overflow_cast-result-in-BadLeaf g c =
     let count = length c.args.tree.now.combs.now in
     let steps = steps_of c.args.tree.now.steps.now in
     let is = subst (IsBranchVerdict c.is_directed-directed.result n _ _ count _ _ steps) c.in-BadLeaf.is c.in_ok-bound.ensures.verdict in
-    omega (arith, bad_within n count steps c.in-BadLeaf.index is.leaves, length-map c.args.tree.now.steps.now step_of, steps_few c.args.branches.now c.args.tree.now.steps.now c.requires.held.each_step)
+    omega (arith, bad_within n is.crossed steps c.in-BadLeaf.index is.leaves, length-map c.args.tree.now.steps.now step_of, steps_few c.args.branches.now c.args.tree.now.steps.now c.requires.held.each_step)
 
 pub returns : goal.returns
 returns g c =

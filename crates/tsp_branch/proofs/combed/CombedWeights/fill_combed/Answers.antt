@@ -9,7 +9,7 @@ use Rattle.tsp_theory.specs.NodeBound.{weight_between}
 use Rattle.tsp_theory.specs.states.Nearest.{least_at}
 use Rattle.tsp_branch.specs.states.Sets.{IsMoved, sets_with}
 use Rattle.tsp_branch.specs.states.Combed.{no_set, plain, multipliers_at, inside_both, set_crossings, most_combed, set_weight}
-use Rattle.tsp_branch.specs.declared.comb_set.CombSet.{CombSet}
+use Rattle.tsp_families.specs.declared.comb_set.CombSet.{CombSet}
 use Rattle.tsp_branch.proofs.CombSizes.{combed_size, combed_fits}
 use Rattle.tsp_branch.proofs.SetSums.{moved_on}
 use Rattle.tsp_branch.proofs.CombedRows.{plain_at}
@@ -37,7 +37,7 @@ returns g c =
     let numbers_are : c.deref.result.now ≡ sets_with 0 sets from = c.deref.ensures.value ∙ p.table.said from c.index-self-from.result c.requires.from.1 in
     let node_in : (x : ℕ) → IsNode n x → IsNode n x = λ x h. h in
     let size : (x : ℕ) → IsNode n x → IsFromTo (neg_ℤ (pos most_combed)) (pos most_combed) (w x) = λ x h.
-    combed_size (base x) (set_crossings multipliers (plain sets) from x) (c.fill_apart.ensures.sizes x (node_in x h)) (p.crossed from x) in
+    combed_size (base x) (set_crossings multipliers (plain sets) from x) (c.fill_apart.ensures.sizes x (node_in x h)) (p.crossed from x c.requires.from (node_in x h)) in
     let come : (x : ℕ) → (neg_ℤ (multipliers_at multipliers (plain sets) from) +ℤ neg_ℤ (multipliers_at multipliers (plain sets) x)) +ℤ inside_both multipliers (plain sets) (sets_with 0 sets from) x
     ≡ neg_ℤ (set_crossings multipliers (plain sets) from x) = λ x.
     sets_come_to multipliers (plain sets) 0 sets from x (λ k set lt is. let same : 0 + k ≡ k = omega arith in ap (λ i. get_or (plain sets) i no_set) same ∙ plain_at sets k set lt is)

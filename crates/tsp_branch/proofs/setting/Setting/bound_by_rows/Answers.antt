@@ -1,29 +1,29 @@
 use Rattle.std.proofs.Common.{◌≡◌, ◌∙◌, ℕ, ℤ, List, length, ap, sym, subst, rules, FitsSigned, to_z, of_z}
 use Rattle.std.specs.Prelude.{pos, ◌-ℤ◌, ◌*ℤ◌}
 use Rattle.std.specs.Int.{w128}
-use Rattle.std.specs.List.{All}
 use Rattle.std.proofs.lemmas.Int.{to_z-of_z}
 use Rattle.tsp_theory.specs.Numbers.{total}
 use Rattle.tsp_theory.specs.NodeBound.{weight_between}
 use Rattle.tsp_theory.proofs.Sizes.{same_scale}
-use Rattle.tsp_branch.specs.Combs.{Comb}
-use Rattle.tsp_branch.specs.Families.{IsFamily}
+use Rattle.tsp_branch.specs.Families.{Family}
 use Rattle.tsp_branch.specs.declared.decision.Decision.{Decision}
 use Rattle.tsp_branch.specs.Decisions.{decided_number}
 use Rattle.tsp_branch.specs.LeafBound.{combed, least_of}
 use Rattle.tsp_branch.specs.Certificate.{multiplied}
 use Rattle.tsp_branch.specs.states.Combed.{plain, set_weight}
-use Rattle.tsp_branch.specs.CombsOfSets.{combs_of_sets, AreSetCounts}
+use Rattle.tsp_branch.specs.CombsOfSets.{families_of}
 use Rattle.tsp_branch.specs.states.OpenCases.{decisions_in}
-use Rattle.tsp_branch.specs.declared.comb_set.CombSet.{CombSet}
-use Rattle.tsp_branch.proofs.CaseWeights.{small_multipliers, few_crossings, sets_below_count, row_weight, found_by_rows}
+use Rattle.tsp_families.specs.declared.comb_set.CombSet.{CombSet}
+use Rattle.tsp_branch.proofs.CaseWeights.{few_multipliers, small_multipliers, all_some, few_crossings, sets_below_count, row_weight, found_by_rows}
 use Rattle.tsp_branch.proofs.setting.Setting.bound_by_rows.Goals as goal
 
 pub fill_moved-requires-clause-small : goal.fill_moved-requires-clause-small
-fill_moved-requires-clause-small g c = small_multipliers (g.C.Costs.nodes c.args.self.now.costs.now) c.args.self.now.combs c.args.potentials.now c.args.multipliers.now c.requires.numbers
+fill_moved-requires-clause-small g c = small_multipliers (g.C.Costs.nodes c.args.self.now.costs.now) c.args.self.now.crossed.now c.args.potentials.now c.args.multipliers.now
+    (all_some (g.C.Costs.nodes c.args.self.now.costs.now) c.args.self.now.crossed.now (plain c.args.self.now.sets.now) c.requires.are_families) c.requires.numbers
 
 pub of-combed-requires-clause-small : goal.of-combed-requires-clause-small
-of-combed-requires-clause-small g c = small_multipliers (g.C.Costs.nodes c.args.self.now.costs.now) c.args.self.now.combs c.args.potentials.now c.args.multipliers.now c.requires.numbers
+of-combed-requires-clause-small g c = small_multipliers (g.C.Costs.nodes c.args.self.now.costs.now) c.args.self.now.crossed.now c.args.potentials.now c.args.multipliers.now
+    (all_some (g.C.Costs.nodes c.args.self.now.costs.now) c.args.self.now.crossed.now (plain c.args.self.now.sets.now) c.requires.are_families) c.requires.numbers
 
 pub of-combed-requires-clause-crossed : goal.of-combed-requires-clause-crossed
 of-combed-requires-clause-crossed g c =
@@ -32,8 +32,14 @@ of-combed-requires-clause-crossed g c =
     let sets : List CombSet = p.sets.now in
     let ms : List ℤ = c.args.multipliers.now in
     let good = c.requires.numbers in
-    few_crossings n p.combs c.args.potentials.now ms (plain sets) good (subst (λ (k : ℕ). All (IsFamily n) (combs_of_sets k (plain sets))) (sym good.each_comb) c.requires.are_families)
-    (sets_below_count p.combs (length ms) sets good.each_comb p.of_combs)
+    few_crossings n p.crossed.now c.args.potentials.now ms (plain sets) good c.requires.are_families
+    (sets_below_count (length p.crossed.now) (length ms) sets good.each_comb p.of_combs)
+
+pub given_back-back-requires-clause-sum : goal.given_back-back-requires-clause-sum
+given_back-back-requires-clause-sum g c =
+    let p = c.args.self.now in
+    let good = c.requires.numbers in
+    few_multipliers p.crossed.now c.args.multipliers.now good.each_comb (all_some (g.C.Costs.nodes p.costs.now) p.crossed.now (plain p.sets.now) c.requires.are_families) good.signs good.sum
 
 pub returns-clause-bound : goal.returns-clause-bound
 returns-clause-bound g c =
@@ -45,19 +51,17 @@ returns-clause-bound g c =
     let ms : List ℤ = c.args.multipliers.now in
     let case : List Decision = decisions_in c.args.case.now in
     let good = c.requires.numbers in
-    let families : List (Comb × ℤ) = multiplied (combs_of_sets p.combs (plain sets)) ms in
+    let families : List (Family × ℤ) = multiplied (families_of p.crossed.now (plain sets)) ms in
     let q = c.of-combed.result in
     let w : ℕ → ℕ → ℤ = set_weight q.scale q.potentials.now q.multipliers.now (plain q.sets.now) (g.C.Costs.at q.costs.now) in
-    let below = sets_below_count p.combs (length ms) sets good.each_comb p.of_combs in
+    let below = sets_below_count (length p.crossed.now) (length ms) sets good.each_comb p.of_combs in
     let agree : (i j : ℕ) → w i j ≡ combed families (weight_between p.scale ps cost) i j = λ i j.
     c.of-combed.ensures.weights i j
     ∙ ap (λ (z : ℤ). set_weight z ps ms (plain sets) cost i j) (same_scale p.scale p.scaled)
-    ∙ row_weight p.combs p.scale ps ms (plain sets) cost i j good.each_comb below in
+    ∙ row_weight p.crossed.now p.scale ps ms (plain sets) cost i j good.each_comb below in
     let back : ℤ = c.given_back-back.result in
     let fits : FitsSigned w128 c.given_back-back.result = search rules in
-    let counted = subst (λ (k : ℕ). AreSetCounts k (plain sets) p.counts.now) (sym good.each_comb) p.counted in
     let back_is : to_z w128 (of_z w128 back) ≡ least_of families -ℤ (pos 2 *ℤ total ps) =
-    to_z-of_z w128 back fits ∙ c.given_back-back.ensures.value (plain sets) counted
-    ∙ ap (λ (k : ℕ). least_of (multiplied (combs_of_sets k (plain sets)) ms) -ℤ (pos 2 *ℤ total ps)) good.each_comb in
-    found_by_rows n (g.C.Costs.nodes q.costs.now) cost p.scale _ decided_number (combs_of_sets p.combs (plain sets)) case ps ms w _ c.row_bound.result c.of-combed.ensures.nodes
+    to_z-of_z w128 back fits ∙ c.given_back-back.ensures.value (plain sets) in
+    found_by_rows n (g.C.Costs.nodes q.costs.now) cost p.scale _ decided_number (families_of p.crossed.now (plain sets)) case ps ms w _ c.row_bound.result c.of-combed.ensures.nodes
     (same_scale p.scale p.scaled) agree back_is c.row_bound.ensures.bound

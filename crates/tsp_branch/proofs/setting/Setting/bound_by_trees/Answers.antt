@@ -1,32 +1,32 @@
 use Rattle.std.proofs.Common.{◌≡◌, ◌∙◌, ◌^◌, ℕ, ℤ, List, length, ap, sym, subst, to_z, of_z}
 use Rattle.std.specs.Prelude.{◌+ℤ◌}
 use Rattle.std.specs.Int.{w128}
-use Rattle.std.specs.List.{All}
 use Rattle.std.proofs.lemmas.Result.{IfOk-weaker}
 use Rattle.tsp_theory.proofs.Sizes.{same_scale}
-use Rattle.tsp_branch.specs.Combs.{Comb}
-use Rattle.tsp_branch.specs.Families.{IsFamily}
+use Rattle.tsp_branch.specs.Families.{Family}
 use Rattle.tsp_branch.specs.declared.decision.Decision.{Decision}
 use Rattle.tsp_branch.specs.Decisions.{on_taken, on_avoided, decided_number}
 use Rattle.tsp_branch.specs.LeafBound.{IsLeafBound}
 use Rattle.tsp_branch.specs.Certificate.{multiplied}
 use Rattle.tsp_branch.specs.Weighed.{BoundsEachLeaf, given_back_of}
 use Rattle.tsp_branch.specs.states.Combed.{plain, set_weight}
-use Rattle.tsp_branch.specs.CombsOfSets.{combs_of_sets, AreSetCounts}
+use Rattle.tsp_branch.specs.CombsOfSets.{families_of}
 use Rattle.tsp_branch.specs.states.Decided.{stack_of, decided}
 use Rattle.tsp_branch.specs.states.OpenCases.{decisions_in}
-use Rattle.tsp_branch.specs.declared.comb_set.CombSet.{CombSet}
+use Rattle.tsp_families.specs.declared.comb_set.CombSet.{CombSet}
 use Rattle.tsp_branch.proofs.LeafBounds.{leaf_even}
 use Rattle.tsp_branch.proofs.DecidedOnce.{few_changes}
-use Rattle.tsp_branch.proofs.CaseWeights.{case_weight, small_multipliers, few_crossings, sets_below_count, back_of}
+use Rattle.tsp_branch.proofs.CaseWeights.{case_weight, few_multipliers, small_multipliers, all_some, few_crossings, sets_below_count, back_of}
 use Rattle.tsp_branch.proofs.GivenBack.{back_held, taken_listed, taken_few}
 use Rattle.tsp_branch.proofs.setting.Setting.bound_by_trees.Goals as goal
 
 pub fill_moved-requires-clause-small : goal.fill_moved-requires-clause-small
-fill_moved-requires-clause-small g c = small_multipliers (g.C.Costs.nodes c.args.self.now.costs.now) c.args.self.now.combs c.args.potentials.now c.args.multipliers.now c.requires.numbers
+fill_moved-requires-clause-small g c = small_multipliers (g.C.Costs.nodes c.args.self.now.costs.now) c.args.self.now.crossed.now c.args.potentials.now c.args.multipliers.now
+    (all_some (g.C.Costs.nodes c.args.self.now.costs.now) c.args.self.now.crossed.now (plain c.args.self.now.sets.now) c.requires.are_families) c.requires.numbers
 
 pub of-combed-requires-clause-small : goal.of-combed-requires-clause-small
-of-combed-requires-clause-small g c = small_multipliers (g.C.Costs.nodes c.args.self.now.costs.now) c.args.self.now.combs c.args.potentials.now c.args.multipliers.now c.requires.numbers
+of-combed-requires-clause-small g c = small_multipliers (g.C.Costs.nodes c.args.self.now.costs.now) c.args.self.now.crossed.now c.args.potentials.now c.args.multipliers.now
+    (all_some (g.C.Costs.nodes c.args.self.now.costs.now) c.args.self.now.crossed.now (plain c.args.self.now.sets.now) c.requires.are_families) c.requires.numbers
 
 pub of-combed-requires-clause-crossed : goal.of-combed-requires-clause-crossed
 of-combed-requires-clause-crossed g c =
@@ -35,8 +35,8 @@ of-combed-requires-clause-crossed g c =
     let sets : List CombSet = p.sets.now in
     let ms : List ℤ = c.args.multipliers.now in
     let good = c.requires.numbers in
-    few_crossings n p.combs c.args.potentials.now ms (plain sets) good (subst (λ (k : ℕ). All (IsFamily n) (combs_of_sets k (plain sets))) (sym good.each_comb) c.requires.are_families)
-    (sets_below_count p.combs (length ms) sets good.each_comb p.of_combs)
+    few_crossings n p.crossed.now c.args.potentials.now ms (plain sets) good c.requires.are_families
+    (sets_below_count (length p.crossed.now) (length ms) sets good.each_comb p.of_combs)
 
 pub of-weights-requires-clause-once : goal.of-weights-requires-clause-once
 of-weights-requires-clause-once g c = few_changes (decisions_in c.args.case.now) c.requires.once
@@ -55,11 +55,17 @@ leaf_bound-requires-clause-even g c =
     let case : List Decision = decisions_in c.args.case.now in
     let q = c.of-combed.result in
     let w : ℕ → ℕ → ℤ = set_weight q.scale q.potentials.now q.multipliers.now (plain q.sets.now) (g.C.Costs.at q.costs.now) in
-    let below = sets_below_count p.combs (length ms) sets c.requires.numbers.each_comb p.of_combs in
-    let combs : List (Comb × ℤ) = multiplied (combs_of_sets (length ms) (plain sets)) ms in
-    let agree = λ (i j : ℕ). c.of-weights.ensures.weights i j ∙ case_weight w p.scale ps ms (plain sets) case cost i j below
+    let below = sets_below_count (length p.crossed.now) (length ms) sets c.requires.numbers.each_comb p.of_combs in
+    let combs : List (Family × ℤ) = multiplied (families_of p.crossed.now (plain sets)) ms in
+    let agree = λ (i j : ℕ). c.of-weights.ensures.weights i j ∙ case_weight w p.scale p.crossed.now ps ms (plain sets) case cost i j c.requires.numbers.each_comb below
     (c.of-combed.ensures.weights i j ∙ ap (λ (z : ℤ). set_weight z ps ms (plain sets) cost i j) (same_scale p.scale p.scaled)) in
     λ i j. agree i j ∙ leaf_even p.scale ps (on_taken decided_number case) (on_avoided decided_number case) combs cost (p.even c.requires.undirected) i j ∙ sym (agree j i)
+
+pub given_back-requires-clause-sum : goal.given_back-requires-clause-sum
+given_back-requires-clause-sum g c =
+    let p = c.args.self.now in
+    let good = c.requires.numbers in
+    few_multipliers p.crossed.now c.args.multipliers.now good.each_comb (all_some (g.C.Costs.nodes p.costs.now) p.crossed.now (plain p.sets.now) c.requires.are_families) good.signs good.sum
 
 pub returns-clause-bound : goal.returns-clause-bound
 returns-clause-bound g c =
@@ -72,9 +78,9 @@ returns-clause-bound g c =
     let case : List Decision = decisions_in c.args.case.now in
     let q = c.of-combed.result in
     let w : ℕ → ℕ → ℤ = set_weight q.scale q.potentials.now q.multipliers.now (plain q.sets.now) (g.C.Costs.at q.costs.now) in
-    let below = sets_below_count p.combs (length ms) sets c.requires.numbers.each_comb p.of_combs in
-    let combs : List (Comb × ℤ) = multiplied (combs_of_sets (length ms) (plain sets)) ms in
-    let agree = λ (i j : ℕ). c.of-weights.ensures.weights i j ∙ case_weight w p.scale ps ms (plain sets) case cost i j below
+    let below = sets_below_count (length p.crossed.now) (length ms) sets c.requires.numbers.each_comb p.of_combs in
+    let combs : List (Family × ℤ) = multiplied (families_of p.crossed.now (plain sets)) ms in
+    let agree = λ (i j : ℕ). c.of-weights.ensures.weights i j ∙ case_weight w p.scale p.crossed.now ps ms (plain sets) case cost i j c.requires.numbers.each_comb below
     (c.of-combed.ensures.weights i j ∙ ap (λ (z : ℤ). set_weight z ps ms (plain sets) cost i j) (same_scale p.scale p.scaled)) in
     let nodes_are = c.of-weights.ensures.nodes ∙ c.of-combed.ensures.nodes in
     let r = c.of-weights.result in
@@ -85,13 +91,12 @@ returns-clause-bound g c =
     let less : ℤ = c.given_back.result in
     let back : ℤ = to_z w128 (of_z w128 (to_z w128 (of_z w128 taken) +ℤ to_z w128 (of_z w128 less))) in
     let sum_is : back ≡ taken +ℤ less = back_held taken less c.taken_back-taken.ensures.size c.given_back.ensures.size in
-    let least = c.given_back.ensures.value (plain sets) (subst (λ (k : ℕ). AreSetCounts k (plain sets) p.counts.now) (sym c.requires.numbers.each_comb) p.counted) in
+    let least = c.given_back.ensures.value (plain sets) in
     let taken_is = c.taken_back-taken.ensures.value ∙ taken_listed case c.deref.result.now (ap stack_of c.deref.ensures.value ∙ c.requires.case.by_node.taken) in
     let back_is : back ≡ given_back_of ps (on_taken decided_number case) combs = sum_is ∙ back_of taken less _ _ _ taken_is least in
     IfOk-weaker c.leaf_bound.result _ _
     (λ (bound : ℤ) bounds.
     let whole : BoundsEachLeaf k v p.scale back bound = subst (λ (z : ℤ). BoundsEachLeaf k v z back bound) (same_scale p.scale p.scaled) bounds in
     let own = whole cost ps (on_taken decided_number case) (on_avoided decided_number case) combs agree back_is in
-    subst (λ (k : ℕ). IsLeafBound n cost p.scale ps (on_taken decided_number case) (on_avoided decided_number case) (multiplied (combs_of_sets k (plain sets)) ms) bound) c.requires.numbers.each_comb
-    (subst (λ (m : ℕ). IsLeafBound m cost p.scale ps (on_taken decided_number case) (on_avoided decided_number case) combs bound) nodes_are own))
+    subst (λ (m : ℕ). IsLeafBound m cost p.scale ps (on_taken decided_number case) (on_avoided decided_number case) combs bound) nodes_are own)
     c.leaf_bound.ensures.leaf

@@ -1,0 +1,5 @@
+use Rattle.tsp_branch.proofs.Families.{numbers_are_unique}
+use Rattle.tsp_branch.proofs.laws.numbers_are_unique.Goals as goal
+
+pub returns : goal.returns
+returns c = numbers_are_unique c.least_lengths_are_unique.ensures c.most_costs_are_unique.ensures

@@ -1,0 +1,9 @@
+pub mod Lists
+pub mod Tables
+pub mod Walks
+pub mod PartWalks
+pub mod Widened
+pub mod BestPaths
+pub mod LeastCycles
+pub mod NodeMembers
+pub mod Divisions

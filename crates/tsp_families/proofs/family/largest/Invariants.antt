@@ -1,0 +1,8 @@
+use Rattle.std.proofs.Common.{◌≡◌, ◌<◌, ◌≤◌, ◌⊎◌, ℕ, get_or}
+use Rattle.tsp_families.proofs.family.largest.Given as goal
+
+abbrev pub invariant-numbers : goal.invariant-numbers
+invariant-numbers l = record {
+  above : (k : ℕ) → k < l.number-index → get_or l.numbers k 0 ≤ l.largest;
+  found : (l.largest ≡ 0) ⊎ ((k : ℕ) × (l.largest ≡ get_or l.numbers k 0));
+}

@@ -1,0 +1,5 @@
+use Rattle.tsp_families.proofs.Divisions.{divisions_bound_cycles}
+use Rattle.tsp_families.proofs.laws.divisions_bound_cycles.Goals as goal
+
+pub returns : goal.returns
+returns c = divisions_bound_cycles

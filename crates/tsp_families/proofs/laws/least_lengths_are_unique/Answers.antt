@@ -1,0 +1,5 @@
+use Rattle.tsp_families.proofs.PartWalks.{least_lengths_are_unique}
+use Rattle.tsp_families.proofs.laws.least_lengths_are_unique.Goals as goal
+
+pub returns : goal.returns
+returns c = least_lengths_are_unique

@@ -1,0 +1,5 @@
+use Rattle.tsp_families.proofs.NodeMembers.{memberships_tell_sets}
+use Rattle.tsp_families.proofs.laws.memberships_tell_sets.Goals as goal
+
+pub returns : goal.returns
+returns c = memberships_tell_sets

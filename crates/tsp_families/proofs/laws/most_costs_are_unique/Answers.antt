@@ -1,0 +1,5 @@
+use Rattle.tsp_families.proofs.PartWalks.{most_costs_are_unique}
+use Rattle.tsp_families.proofs.laws.most_costs_are_unique.Goals as goal
+
+pub returns : goal.returns
+returns c = most_costs_are_unique

@@ -1,0 +1,5 @@
+use Rattle.tsp_families.proofs.PartWalks.{parts_bound_cycles}
+use Rattle.tsp_families.proofs.laws.parts_bound_cycles.Goals as goal
+
+pub returns : goal.returns
+returns c = parts_bound_cycles

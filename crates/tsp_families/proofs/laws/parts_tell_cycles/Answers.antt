@@ -1,0 +1,5 @@
+use Rattle.tsp_families.proofs.Widened.{parts_tell_cycles}
+use Rattle.tsp_families.proofs.laws.parts_tell_cycles.Goals as goal
+
+pub returns : goal.returns
+returns c = parts_tell_cycles

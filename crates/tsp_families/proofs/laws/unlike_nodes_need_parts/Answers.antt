@@ -1,0 +1,5 @@
+use Rattle.tsp_families.proofs.PartWalks.{unlike_nodes_need_parts}
+use Rattle.tsp_families.proofs.laws.unlike_nodes_need_parts.Goals as goal
+
+pub returns : goal.returns
+returns c = unlike_nodes_need_parts

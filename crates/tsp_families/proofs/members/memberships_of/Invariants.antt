@@ -1,0 +1,11 @@
+use Rattle.std.proofs.Common.{◌≡◌, ℕ, ◌+◌, ◌<◌, length, get_or}
+use Rattle.tsp_families.specs.Crossed.{sets_of}
+use Rattle.tsp_families.specs.FamilySets.{lists_of}
+use Rattle.tsp_families.proofs.NodeMembers.{IsSoFar}
+use Rattle.tsp_families.proofs.members.memberships_of.Given as goal
+
+abbrev pub invariant-sets : goal.invariant-sets
+invariant-sets l = record {
+  long : length l.memberships.items ≡ l.nodes + 1;
+  so_far : (x : ℕ) → x < length l.memberships.items → IsSoFar (sets_of (lists_of l.sets)) l.set x (get_or l.memberships.items x 0);
+}

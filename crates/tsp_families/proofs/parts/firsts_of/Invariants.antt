@@ -1,0 +1,12 @@
+use Rattle.std.proofs.Common.{◌≡◌, ℕ, ◌<◌, ◌≤◌, length, get_or}
+use Rattle.std.specs.List.{All, Any}
+use Rattle.tsp_families.specs.Memberships.{IsNodePlace, AreDifferent}
+use Rattle.tsp_families.proofs.parts.firsts_of.Given as goal
+
+abbrev pub invariant-nodes : goal.invariant-nodes
+invariant-nodes l = record {
+  places : All (IsNodePlace l.memberships) l.firsts.items;
+  differ : AreDifferent l.memberships l.firsts.items;
+  each : (x : ℕ) → 1 ≤ x → x < l.node → Any (λ first. get_or l.memberships x 0 ≡ get_or l.memberships first 0) l.firsts.items;
+  few : length l.firsts.items ≤ 14;
+}

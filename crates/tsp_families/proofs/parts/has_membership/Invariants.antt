@@ -1,0 +1,5 @@
+use Rattle.std.proofs.Common.{◌≢◌, ℕ, ◌<◌, get_or}
+use Rattle.tsp_families.proofs.parts.has_membership.Given as goal
+
+abbrev pub invariant-nodes : goal.invariant-nodes
+invariant-nodes l = (k : ℕ) → k < l.node-index → l.membership ≢ get_or l.memberships (get_or l.nodes k 0) 0

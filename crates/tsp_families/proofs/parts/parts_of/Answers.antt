@@ -1,0 +1,15 @@
+use Rattle.std.proofs.Common.{◌≡◌, ℕ, List, length, subst}
+use Rattle.std.specs.List.{All}
+use Rattle.tsp_families.specs.Crossed.{sets_of}
+use Rattle.tsp_families.specs.Memberships.{AreFirsts, IsNodePlace, AreDifferent}
+use Rattle.tsp_families.specs.FamilySets.{lists_of}
+use Rattle.tsp_families.proofs.NodeMembers.{parts_from, unlike_from}
+use Rattle.tsp_families.proofs.parts.parts_of.Goals as goal
+
+pub returns-in-Some-clause-parts : goal.returns-in-Some-clause-parts
+returns-in-Some-clause-parts c = parts_from c.args.nodes (sets_of (lists_of c.args.sets.now)) c.in_ok-memberships.memberships.items c.in-Some.firsts.items c.in_ok-memberships.ensures
+    (subst (λ (memberships : List ℕ). AreFirsts memberships c.in-Some.firsts.items) c.deref.ensures.value (rw c.in-Some.is at c.in_ok-found.ensures.firsts))
+
+pub returns-in-None-clause-parts : goal.returns-in-None-clause-parts
+returns-in-None-clause-parts c = unlike_from c.args.nodes 15 (sets_of (lists_of c.args.sets.now)) c.in_ok-memberships.memberships.items c.in_ok-memberships.ensures
+    (subst (λ (memberships : List ℕ). (nodes : List ℕ) × (length nodes ≡ 15) × All (IsNodePlace memberships) nodes × AreDifferent memberships nodes) c.deref.ensures.value (rw c.in-None.is at c.in_ok-found.ensures.firsts))

@@ -1,0 +1,18 @@
+use Rattle.std.proofs.Common.{◌≡◌, ◌+◌, ◌-◌, ◌*◌, ◌≤◌, length}
+use Rattle.std.specs.List.{All}
+use Rattle.tsp_families.specs.Paths.{cost_by_rows, no_path, AreBestPaths}
+use Rattle.tsp_families.proofs.paths.best_paths.Given as goal
+
+abbrev pub invariant-sets : goal.invariant-sets
+invariant-sets l = record {
+  long : length l.paths.items ≡ l.set * (l.nodes - 1);
+  small : All (λ path. path ≤ no_path) l.paths.items;
+  best : AreBestPaths l.nodes (cost_by_rows l.nodes l.costs) l.paths.items;
+}
+
+abbrev pub invariant-nodes : goal.invariant-nodes
+invariant-nodes l = record {
+  long : length l.paths.items ≡ l.set * (l.nodes - 1) + l.other;
+  small : All (λ path. path ≤ no_path) l.paths.items;
+  best : AreBestPaths l.nodes (cost_by_rows l.nodes l.costs) l.paths.items;
+}

@@ -1,0 +1,5 @@
+pub mod Crossed
+pub mod Parts
+pub mod Paths
+pub mod Memberships
+pub mod FamilySets

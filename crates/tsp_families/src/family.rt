@@ -1,0 +1,74 @@
+//! How often cycles cross a family of sets.
+
+ghost use Rattle.std.specs.Prelude.{◌≤◌, ◌<◌, ◌-◌, ◌^◌, pos, MatchOption, IfOk, IfSome};
+ghost use Rattle.tsp_families.specs.Crossed.{sets_of, sets_crossed, IsLeastLength, IsMostCost, AreTooMany};
+ghost use Rattle.tsp_families.specs.Memberships.{IsLargest};
+ghost use Rattle.tsp_families.specs.FamilySets.{AreSetsOf, lists_of};
+
+use crate::comb_set::CombSet;
+use crate::cycles::least_cycle;
+use crate::differences::crossings_between;
+use crate::laws::parts_tell_cycles;
+use crate::parts::parts_of;
+use std::alloc::{AllocError, Global};
+
+/// How many sets a family may have.
+const MOST_SETS: usize = 63;
+
+/// How often the sets of a family are crossed.
+#[derive(Clone, Copy, Debug, PartialEq, Eq)]
+pub struct Crossings {
+    /// The least number of times that a cycle crosses them.
+    pub least: u64,
+    /// The most of them that two nodes cross.
+    pub most: u64,
+}
+
+/// How often the sets of a family are crossed. `None` where there are more than 63 of them, or where
+/// they divide the nodes into more than 14 parts: two nodes are in one part exactly where they are
+/// in the same sets.
+///
+/// # Errors
+///
+/// Out of memory, of which it takes some for each node.
+pub fn family_crossings(
+    alloc: Global,
+    nodes: u32,
+    sets: &[CombSet],
+) -> Result<Option<Crossings>, AllocError>
+    requires some { 1 ≤ nodes }
+    requires few { nodes < 2 ^ 32 - 1 }
+    requires nodes { AreSetsOf nodes sets.now }
+    ensures least { IfOk result (λ found. MatchOption found (AreTooMany nodes (sets_of (lists_of sets.now)))
+        (λ own. IsLeastLength nodes (sets_crossed (sets_of (lists_of sets.now))) (pos own.least))) }
+    ensures most { IfOk result (λ found. IfSome found
+        (λ own. IsMostCost nodes (sets_crossed (sets_of (lists_of sets.now))) (pos own.most))) }
+    ensures known { IfOk result (λ found. IfSome found (λ own. AreTooMany nodes (sets_of (lists_of sets.now)) → ⊥)) }
+    ensures few { IfOk result (λ found. IfSome found (λ own. (own.least ≤ 896) × (own.most ≤ 64))) }
+{
+    if sets.len() > MOST_SETS {
+        return Ok(None);
+    }
+    let found = parts_of(alloc, nodes, sets)?;
+    let Some(parts) = found else {
+        return Ok(None);
+    };
+    let costs = crossings_between(alloc, &parts.memberships, &parts.firsts)?;
+    let least = least_cycle(alloc, &costs, parts.firsts.len())?;
+    let most = u64::from(largest(&costs));
+    parts_tell_cycles();
+    Ok(Some(Crossings { least, most }))
+}
+
+/// The largest of some numbers, 0 where there is none.
+fn largest(numbers: &[u32]) -> u32
+    ensures { IsLargest numbers.now result }
+{
+    let mut largest = 0;
+    'numbers: for number in numbers {
+        if largest < *number {
+            largest = *number;
+        }
+    }
+    largest
+}

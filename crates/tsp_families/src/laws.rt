@@ -1,0 +1,40 @@
+//! What always holds of sets and their parts, as contracts of functions that do nothing.
+
+ghost use Rattle.tsp_families.specs.Parts.{PartsBoundCycles, PartsTellCycles, DivisionsBoundCycles, LeastLengthsAreUnique, MostCostsAreUnique, UnlikeNodesNeedParts};
+ghost use Rattle.tsp_families.specs.Memberships.{MembershipsTellSets};
+
+/// Every cycle crosses sets at least as often as the best cyclic order of their parts.
+pub fn parts_bound_cycles()
+    ensures { PartsBoundCycles }
+{}
+
+/// And some cycle crosses them no more often.
+pub fn parts_tell_cycles()
+    ensures { PartsTellCycles }
+{}
+
+/// Every cycle crosses sets at least as often as the best cyclic order of any parts whose nodes are
+/// in the same sets.
+pub fn divisions_bound_cycles()
+    ensures { DivisionsBoundCycles }
+{}
+
+/// There is one least length.
+pub fn least_lengths_are_unique()
+    ensures { LeastLengthsAreUnique }
+{}
+
+/// There is one greatest cost.
+pub fn most_costs_are_unique()
+    ensures { MostCostsAreUnique }
+{}
+
+/// Nodes of which no two are in the same sets are no more than the parts.
+pub fn unlike_nodes_need_parts()
+    ensures { UnlikeNodesNeedParts }
+{}
+
+/// Two nodes have one membership exactly where they are in the same sets.
+pub fn memberships_tell_sets()
+    ensures { MembershipsTellSets }
+{}

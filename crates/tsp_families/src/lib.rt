@@ -1,0 +1,25 @@
+//! How often cycles cross families of sets of nodes: the least number of crossings of any cycle, for
+//! all sets that divide the nodes into few parts.
+//!
+//! ```text
+//! let crossings = family_crossings(alloc, nodes, &sets)?;
+//! ```
+#![tactic(auto)]
+
+mod comb_set;
+mod cycles;
+mod differences;
+mod family;
+mod laws;
+mod members;
+mod parts;
+mod paths;
+
+pub use comb_set::CombSet;
+pub use cycles::least_cycle;
+pub use family::{Crossings, family_crossings};
+pub use laws::{
+    divisions_bound_cycles, least_lengths_are_unique, memberships_tell_sets, most_costs_are_unique,
+    parts_bound_cycles, parts_tell_cycles, unlike_nodes_need_parts,
+};
+pub use parts::parts_of;

@@ -1,0 +1,84 @@
+//! The parts into which sets divide the nodes.
+
+ghost use Rattle.std.specs.Prelude.{◌≡◌, ◌≤◌, ◌<◌, ◌+◌, ◌-◌, ◌^◌, ◌↔◌, ℕ, List, IsTrue, MatchOption, IfOk, IfSome, length, slice_index};
+ghost use Rattle.std.specs.List.{All, Any};
+ghost use Rattle.tsp_families.specs.Crossed.{sets_of, HasUnlike};
+ghost use Rattle.tsp_families.specs.Parts.{ArePartsOf};
+ghost use Rattle.tsp_families.specs.Memberships.{AreMemberships, IsNodePlace, AreDifferent, AreFirsts};
+ghost use Rattle.tsp_families.specs.FamilySets.{AreSetsOf, lists_of};
+
+use crate::comb_set::CombSet;
+use crate::members::memberships_of;
+use std::alloc::{AllocError, Global};
+
+/// How many parts there may be.
+const MOST_PARTS: usize = 14;
+
+/// One node of each part, and the memberships of all nodes.
+#[derive(Debug, Drop)]
+pub struct Parts {
+    /// A node of each part.
+    pub firsts: Vec<u32>,
+    /// Of each node, from 0 on, a number whose bits say which sets have it.
+    pub memberships: Vec<u64>,
+}
+
+/// The parts of the nodes: two nodes are in one part exactly where they are in the same sets.
+/// `None` where there are more than 14.
+///
+/// # Errors
+///
+/// Out of memory, of which it takes some for each node.
+pub fn parts_of(alloc: Global, nodes: u32, sets: &[CombSet]) -> Result<Option<Parts>, AllocError>
+    requires few { nodes < 2 ^ 32 - 1 }
+    requires few_sets { length sets.now ≤ 63 }
+    requires nodes { AreSetsOf nodes sets.now }
+    ensures parts { IfOk result (λ found. MatchOption found
+        (HasUnlike 15 nodes (sets_of (lists_of sets.now)))
+        (λ parts. ArePartsOf nodes (sets_of (lists_of sets.now)) parts.firsts.items)) }
+    ensures memberships { IfOk result (λ found. IfSome found (λ parts. AreMemberships nodes (sets_of (lists_of sets.now)) parts.memberships.items)) }
+    ensures few { IfOk result (λ found. IfSome found (λ parts. length parts.firsts.items ≤ 14)) }
+{
+    let memberships = memberships_of(alloc, nodes, sets)?;
+    let found = firsts_of(alloc, &memberships)?;
+    match found {
+        None => Ok(None),
+        Some(firsts) => Ok(Some(Parts {
+            firsts,
+            memberships,
+        })),
+    }
+}
+
+/// A node of each membership, from node 1 on. `None` where there are more than 14.
+fn firsts_of(alloc: Global, memberships: &[u64]) -> Result<Option<Vec<u32>>, AllocError>
+    requires { length memberships.now < 2 ^ 32 }
+    ensures firsts { IfOk result (λ found. MatchOption found
+        ((nodes : List ℕ) × (length nodes ≡ 15) × All (IsNodePlace memberships.now) nodes × AreDifferent memberships.now nodes)
+        (λ firsts. AreFirsts memberships.now firsts.items)) }
+    ensures few { IfOk result (λ found. IfSome found (λ firsts. length firsts.items ≤ 14)) }
+{
+    let mut firsts = Vec::new(alloc);
+    'nodes: for node in 1..memberships.len() {
+        if !has_membership(memberships, &firsts, memberships[node]) {
+            if firsts.len() >= MOST_PARTS {
+                return Ok(None);
+            }
+            firsts.push(node as u32)?;
+        }
+    }
+    Ok(Some(firsts))
+}
+
+/// Whether one of these nodes has the membership.
+fn has_membership(memberships: &[u64], nodes: &[u32], membership: u64) -> bool
+    requires { All (IsNodePlace memberships.now) nodes.now }
+    ensures { IsTrue result ↔ Any (λ node. membership ≡ slice_index memberships.now node) nodes.now }
+{
+    'nodes: for node in nodes {
+        if memberships[*node as usize] == membership {
+            return true;
+        }
+    }
+    false
+}

@@ -1,0 +1,95 @@
+//! The least lengths of paths through sets of nodes, by dynamic programming.
+
+ghost use Rattle.std.specs.Prelude.{◌≡◌, ℕ, ◌+◌, ◌-◌, ◌*◌, ◌^◌, ◌<◌, ◌≤◌, length, IfOk};
+ghost use Rattle.std.specs.List.{All};
+ghost use Rattle.tsp_families.specs.Paths.{cost_by_rows, no_path, IsBestPath, AreBestPaths, IsLeastSum};
+
+use std::alloc::{AllocError, Global};
+
+/// What stands where there is no path.
+pub(crate) const NO_PATH: u64 = 1_152_921_504_606_846_976;
+
+/// The least of a number and of the sums of two lists, from a place of each on.
+pub(crate) fn least_sum(
+    start: u64,
+    costs: &[u32],
+    paths: &[u64],
+    cost_at: usize,
+    path_at: usize,
+    count: usize,
+) -> u64
+    requires costs { cost_at + count ≤ length costs.now }
+    requires paths { path_at + count ≤ length paths.now }
+    requires small { All (λ path. path ≤ no_path) paths.now }
+    ensures { IsLeastSum start costs.now paths.now cost_at path_at count result }
+{
+    let mut least = start;
+    'places: for place in 0..count {
+        let sum = u64::from(costs[cost_at + place]) + paths[path_at + place];
+        if sum < least {
+            least = sum;
+        }
+    }
+    least
+}
+
+/// The least length of the paths from a node through all others of a set to node 1, or `NO_PATH`
+/// where the set doesn't have the node. The node has 2 less as its number.
+fn best_path(costs: &[u32], nodes: usize, paths: &[u64], set: usize, other: usize) -> u64
+    requires some { 2 ≤ nodes }
+    requires few { nodes ≤ 14 }
+    requires square { length costs.now ≡ nodes * nodes }
+    requires set { set < 2 ^ (nodes - 1) }
+    requires other { other < nodes - 1 }
+    requires paths { set * (nodes - 1) ≤ length paths.now }
+    requires small { All (λ path. path ≤ no_path) paths.now }
+    requires best { AreBestPaths nodes (cost_by_rows nodes costs.now) paths.now }
+    ensures { IsBestPath nodes (cost_by_rows nodes costs.now) set (other + 2) result }
+{
+    let others = nodes - 1;
+    let bit = power(other);
+    if set / bit % 2 == 0 {
+        return NO_PATH;
+    }
+    let rest = set - bit;
+    let row = (other + 1) * nodes;
+    let start = if rest == 0 {
+        u64::from(costs[row])
+    } else {
+        NO_PATH
+    };
+    least_sum(start, costs, paths, row + 1, rest * others, others)
+}
+
+/// A power of two.
+pub(crate) fn power(exponent: usize) -> usize
+    requires { exponent < 63 }
+    ensures { result ≡ 2 ^ exponent }
+{
+    1 << exponent
+}
+
+/// The best paths of all sets of the nodes 2 to `nodes`.
+///
+/// # Errors
+///
+/// Out of memory.
+pub(crate) fn best_paths(alloc: Global, costs: &[u32], nodes: usize) -> Result<Vec<u64>, AllocError>
+    requires some { 2 ≤ nodes }
+    requires few { nodes ≤ 14 }
+    requires square { length costs.now ≡ nodes * nodes }
+    ensures long { IfOk result (λ paths. length paths.items ≡ 2 ^ (nodes - 1) * (nodes - 1)) }
+    ensures small { IfOk result (λ paths. All (λ path. path ≤ no_path) paths.items) }
+    ensures best { IfOk result (λ paths. AreBestPaths nodes (cost_by_rows nodes costs.now) paths.items) }
+{
+    let others = nodes - 1;
+    let count = power(others);
+    let mut paths = Vec::new(alloc);
+    'sets: for set in 0..count {
+        'nodes: for other in 0..others {
+            let best = best_path(costs, nodes, &paths, set, other);
+            paths.push(best)?;
+        }
+    }
+    Ok(paths)
+}
