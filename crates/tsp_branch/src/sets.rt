@@ -6,8 +6,8 @@ ghost use Rattle.tsp_theory.specs.states.Nearest.{least_at};
 ghost use Rattle.tsp_branch.specs.states.Sets.{IsMoved, added, times, AreLengthened, IsSetTable, AreSetsOf};
 
 use crate::comb_set::CombSet;
-use crate::decided::add_at;
 use std::alloc::{AllocError, Global};
+use tsp_tree::add_at;
 
 /// Adds a number at each node of a list.
 ///
