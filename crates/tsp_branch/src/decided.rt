@@ -1,7 +1,6 @@
 //! Weights that decisions change.
 
-ghost use Rattle.std.specs.Prelude.{◌≡◌, ◌<◌, ◌≢◌, ◌+ℤ◌, ℕ, false, length};
-ghost use Rattle.std.specs.Int.{w64, int_wrap};
+ghost use Rattle.std.specs.Prelude.{◌≡◌, ◌<◌, ◌≢◌, ℕ, false, length};
 ghost use Rattle.std.specs.List.{All};
 ghost use Rattle.tsp_theory.specs.states.Nearest.{least_at};
 ghost use Rattle.tsp_branch.specs.states.Sets.{IsMoved};
@@ -12,7 +11,7 @@ use crate::combed::CombedWeights;
 use crate::decision::Decision;
 use crate::open_case::OpenCase;
 use tsp_theory::Costs;
-use tsp_tree::{Weights, weight_in};
+use tsp_tree::{Weights, add_at};
 
 /// The number on each decided pair. It cancels in the bound: any number would be sound, and this
 /// one is far above all other parts of a weight and lets weights fit 64 bits.
@@ -107,15 +106,4 @@ fn change(row: &mut [i64], decision: Decision, from: u32)
     } else if second == from {
         add_at(row, first, number);
     }
-}
-
-/// Adds a number at a place.
-#[inline]
-pub(crate) fn add_at(row: &mut [i64], node: u32, number: i64)
-    requires { node < length row.old }
-    ensures here { least_at row.new node ≡ int_wrap w64 (least_at row.old node +ℤ number) }
-    ensures others { (x : ℕ) → x ≢ node → least_at row.new x ≡ least_at row.old x }
-{
-    let old = weight_in(row, node);
-    row[node as usize] = old.wrapping_add(number);
 }

@@ -9,6 +9,7 @@ ghost use Rattle.tsp_theory.specs.Growth.{IsWholeGrowth};
 ghost use Rattle.tsp_theory.specs.states.Nearest.{least_at, IsNearer};
 ghost use Rattle.tsp_tree.specs.states.Outside.{AreFromThree, AreBroughtNearer, AreInner, IsLeastPlace};
 
+use crate::row::weight_in;
 use crate::weights::Weights;
 use std::alloc::{AllocError, Global};
 
@@ -88,7 +89,7 @@ fn reach<W: Weights>(
     ensures small { (k : ℕ) → k < length outside.now → W.at w.now next (slice_index outside.now k) <ℤ i64.MAX }
     ensures nearest { MatchOption result (length outside.now ≡ 0) (IsLeastPlace least.new) }
 {
-    w.fill(next, row);
+    w.fill_at(next, outside, row);
     bring(row, outside, near, least, next)
 }
 
@@ -131,13 +132,4 @@ fn take_nearer(near: &mut u32, least: &mut i64, next: u32, weight: i64) -> i64
         *near = next;
     }
     *least
-}
-
-/// The weight of a row at a node.
-#[inline]
-pub fn weight_in(row: &[i64], node: u32) -> i64
-    requires { node < length row.now }
-    ensures { result ≡ least_at row.now node }
-{
-    row[node as usize]
 }

@@ -10,11 +10,13 @@
 #![tactic(auto)]
 
 mod growth;
+mod row;
 mod spokes;
 mod tree;
 mod weights;
 
-pub use growth::{Grown, grow, weight_in};
+pub use growth::{Grown, grow};
+pub use row::{add_at, weight_in};
 pub use spokes::{Spoke, two_spokes};
 pub use tree::least_weight;
 pub use weights::Weights;

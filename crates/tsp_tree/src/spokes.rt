@@ -5,7 +5,7 @@ ghost use Rattle.tsp_format.specs.Limits.{most_nodes};
 ghost use Rattle.tsp_theory.specs.Growth.{AreNearest};
 ghost use Rattle.tsp_theory.specs.states.Nearest.{least_at};
 
-use crate::growth::weight_in;
+use crate::row::weight_in;
 use crate::weights::Weights;
 
 /// A node of 2..n, and the weight between node 1 and it.

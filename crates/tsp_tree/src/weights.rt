@@ -1,6 +1,6 @@
 //! What holds of the weights of pairs of nodes, however they are made.
 
-ghost use Rattle.std.specs.Prelude.{◌≡◌, ◌≤◌, ◌+◌, ℕ, ℤ, length, ◌<ℤ◌};
+ghost use Rattle.std.specs.Prelude.{◌≡◌, ◌≤◌, ◌<◌, ◌+◌, ℕ, ℤ, length, slice_index, ◌<ℤ◌};
 ghost use Rattle.tsp_format.specs.Cells.{IsNode};
 ghost use Rattle.tsp_format.specs.Limits.{most_nodes};
 ghost use Rattle.tsp_theory.specs.states.Nearest.{least_at};
@@ -29,4 +29,20 @@ pub trait Weights {
             → least_at row.new x ≡ at self.now from x }
         ensures small { (x : ℕ) → IsNode (nodes self.now) x
             → least_at row.new x <ℤ i64.MAX };
+
+    /// The same at some nodes; what it writes at other places says nothing.
+    ///
+    /// # Requires
+    ///
+    /// Nodes of 1 to `count`, and a row of one place more than there are nodes.
+    fn fill_at(&self, from: u32, to: &[u32], row: &mut [i64])
+        requires from { IsNode (nodes self.now) from }
+        requires to { (k : ℕ) → k < length to.now → IsNode (nodes self.now) (slice_index to.now k) }
+        requires room { length row.old ≡ nodes self.now + 1 }
+        ensures values { (k : ℕ) → k < length to.now → least_at row.new (slice_index to.now k)
+            ≡ at self.now from (slice_index to.now k) }
+        ensures small { (k : ℕ) → k < length to.now → least_at row.new (slice_index to.now k) <ℤ i64.MAX }
+    {
+        self.fill(from, row);
+    }
 }

@@ -3,7 +3,7 @@ use Rattle.std.specs.Prelude.{pos, ◌+ℤ◌}
 use Rattle.std.specs.Int.{w64, int_wrap}
 use Rattle.std.proofs.lemmas.Int.{wrapping_add_is}
 use Rattle.std.proofs.lemmas.List.{get_or-set_same}
-use Rattle.tsp_branch.proofs.decided.add_at.Goals as goal
+use Rattle.tsp_tree.proofs.row.add_at.Goals as goal
 
 pub returns-clause-here : goal.returns-clause-here
 returns-clause-here c =
