@@ -69,10 +69,10 @@ named() {
 
 # Prints the path of each file and link in a folder of the release.
 list() {
-    for path in "$here/$1"/*; do
+    for path in "$here/$1"/* "$here/$1"/.[!.]*; do
         if [ -d "$path" ] && [ ! -L "$path" ]; then
             (list "$1/${path##*/}")
-        else
+        elif [ -e "$path" ] || [ -L "$path" ]; then
             echo "$1/${path##*/}"
         fi
     done

@@ -1,7 +1,8 @@
 //! Whole reports, and all that is shown of files of each TYPE. No body is looked at here: a definition
 //! that is changed together with its code is refused by its examples.
 
-ghost use Rattle.std.specs.Prelude.{◌≡◌, ◌++◌, None, Some, Ok, Err, pos, codes};
+ghost use Rattle.std.specs.Prelude.{◌≡◌, ◌++◌, Some, pos, codes};
+ghost use Rattle.tsp_reason.specs.declared.verdict.BoundVerdict.TheVariants as bounds;
 ghost use Rattle.tsp_reason.specs.declared.verdict.Reason.TheVariants as reasons;
 ghost use Rattle.tsp_reason.specs.declared.verdict.Verdict.TheVariants as verdicts;
 ghost use Rattle.tsp_report.specs.Report.{report_of, bound_report_of};
@@ -20,11 +21,11 @@ pub fn examples_of_whole_reports()
 
 /// Whole reports on the same instance, where its tours are bounded.
 pub fn examples_of_bound_reports()
-    ensures bound { bound_report_of matrix (Ok (Some (pos 12)))
+    ensures bound { bound_report_of matrix (bounds.Bound (pos 12))
         ≡ codes "type TSP\nnodes 2\nnot judged FOO\nnot judged BAR\nbound 12\nyes\n" }
-    ensures no_tour { bound_report_of matrix (Ok None)
+    ensures no_tour { bound_report_of matrix bounds.NoTour
         ≡ codes "type TSP\nnodes 2\nnot judged FOO\nnot judged BAR\nbound none\nyes\n" }
-    ensures no { bound_report_of matrix (Err reasons.TooFewNodes)
+    ensures no { bound_report_of matrix (bounds.No reasons.TooFewNodes)
         ≡ codes "type TSP\nnodes 2\nnot judged FOO\nnot judged BAR\nno TooFewNodes\n" }
 {}
 
