@@ -6,8 +6,8 @@ multipliers of combs and of sets, and by branches on pairs of nodes that a tour 
 script finds one whose bound is the length of a tour if the time allows. A linear program over degrees,
 cuts and combs gives the numbers, and where a gap stays, a pair is branched on. Without a tour it finds
 a good one first, and `--tour` says where that is written. `--help` tells of all the words. Ctrl-C or
-SIGTERM ends the search: the best certificate so far is written, with status 130. A second one, more than
-a second later, ends the script. No output may be one of the files that are read, or the other output.
+SIGTERM ends the search: the best certificate so far is written, with status 130 or 143. A second one, more
+than a second later, ends the script. No output may be one of the files that are read, or the other output.
 
 Nothing here is proved, and nothing has to be trusted: `tsp check INSTANCE TOUR --branches OUT` says
 what the certificate is worth.
@@ -47,7 +47,6 @@ except ImportError as missing:
     sys.exit(2)
 
 UNIT = 10**9  # coordinates are counts of 10^-9
-INTERRUPTED = 130
 MARK = 4 * 10**18  # off the weight of a taken pair, and onto that of an avoided one
 FAR = np.iinfo(np.int64).max
 MOST_POTENTIAL = 10**15
@@ -1187,16 +1186,16 @@ class Search:
         self.used = set()
         self.improver = ArcImprover(instance, tour) if instance.directed else None
         self.is_lopsided = lopsided(instance.costs)
-        self.progress, self.interrupted, self.again = Progress(), False, inf
+        self.progress, self.interrupted, self.again = Progress(), None, inf  # the signal, if there was one
 
-    def interrupt(self, *_):
+    def interrupt(self, number, _):
         """Ends the search as if the time were over. A second later the next signal ends the script, and
         before that it is the same one: `timeout` sends two."""
         now = time.monotonic()
         if now > self.again:
-            raise KeyboardInterrupt
+            raise KeyboardInterrupt(number)
         if not self.interrupted:
-            self.until, self.interrupted, self.again = -inf, True, now + 1
+            self.until, self.interrupted, self.again = -inf, number, now + 1
 
     def goal(self):
         """The least value whose bound, rounded up, is the tour's length."""
@@ -1571,9 +1570,15 @@ def report(search, first, bound, size):
         print(f"branches: {line}", file=sys.stderr)
 
 
+def stop(number, _):
+    """Ends the script."""
+    raise KeyboardInterrupt(number)
+
+
 def main():
     given = command()
-    signal.signal(signal.SIGTERM, signal.default_int_handler)
+    signal.signal(signal.SIGINT, stop)
+    signal.signal(signal.SIGTERM, stop)
     start = time.monotonic()
     instance = read_instance(given.instance)
     chance = random.Random(given.seed)
@@ -1596,12 +1601,12 @@ def main():
     report(search, first, bound, size)
     if search.interrupted:
         print("branches: interrupted; this is the best certificate so far", file=sys.stderr)
-        sys.exit(INTERRUPTED)
+        sys.exit(128 + search.interrupted)
 
 
 if __name__ == "__main__":
     try:
         main()
-    except KeyboardInterrupt:
+    except KeyboardInterrupt as ended:
         print("branches: interrupted before there was a certificate", file=sys.stderr)
-        sys.exit(INTERRUPTED)
+        sys.exit(128 + (ended.args or (signal.SIGINT,))[0])

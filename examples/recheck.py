@@ -280,11 +280,13 @@ def tour_of(instance: Fields, solution: Fields, cost: Costs, count: int) -> list
     return tour
 
 
-def least_one_tree(count: int, row: Row) -> int:
+def least_one_tree(count: int, row: Row, stage: str = "") -> int:
     """The least weight of two edges at node 1 and a tree over the others."""
     total = sum(sorted(row(1)[2:])[:2])
     near, outside = row(2), set(range(3, count + 1))
     while outside:
+        if len(outside) % 100 == 0:
+            show(f"{stage}{len(outside)} nodes are left")
         node = min(outside, key=near.__getitem__)
         outside.remove(node)
         total += near[node]
@@ -465,7 +467,8 @@ def bound_by_branches(instance: Fields, file: Fields, cost: Costs, count: int) -
     scale, sets = scale_of(file), [[set(nodes) for nodes in comb] for comb in combs]
     numbers, bounds = [0] * (count + len(combs) + 1), []
     for leaf, (step, case) in enumerate(leaves, 1):
-        show(f"leaf {leaf} of {len(leaves)}")
+        stage = f"leaf {leaf} of {len(leaves)}: "
+        show(stage)
         for index, difference in zip(step[1::2], step[2::2]):
             if index < 1:
                 raise file.faulty("BRANCH_SECTION", f"an index of leaf {leaf} is below 1")
@@ -482,10 +485,10 @@ def bound_by_branches(instance: Fields, file: Fields, cost: Costs, count: int) -
             relaxed = least_links(count, weights_of(scale, cost, p, active, []), case)
         else:
             changes = [(*sorted(pair), -DECIDED if used else DECIDED) for pair, used in case.items()]
-            relaxed = least_one_tree(count, weights_of(scale, cost, p, active, changes)) + DECIDED * sum(case.values())
+            tree = least_one_tree(count, weights_of(scale, cost, p, active, changes), stage)
+            relaxed = tree + DECIDED * sum(case.values())
         if relaxed is not None:
             bounds.append(-(-(relaxed - 2 * sum(p) + back) // scale))
-    show("")
     return min(bounds)
 
 
@@ -534,6 +537,7 @@ def report(instance: Fields, solution: Fields, kind: str, certificate: Optional[
         if certificate is not None:
             bounds = {"potentials": bound_by_potentials, "branches": bound_by_branches}
             bound = bounds[kind](instance, certificate, cost, count)
+            show("")
             lines += [f"bound {bound}", "optimal" if bound == length else f"gap {length - bound}"]
     except No as reason:
         print(f"no {reason}")
