@@ -331,7 +331,9 @@ void Search::run() {
   begun_ = clock_.used();
   while (!open_.empty() && !clock_.over(kPartForTree)) visit(next_case());
   list_steps();
-  log("end");
+  Standing last = standing();
+  last.bound = std::min(bound(), length_);
+  progress_.log("end", last);
   progress_.clear();
 }
 }  // namespace certify
