@@ -1,8 +1,8 @@
 #!/usr/bin/env python3
 """Finds potentials of an instance: examples/ascent.py INSTANCE > FILE
 
-The program is the one after `--tsp`, or `tsp` on the PATH. Ctrl-C writes the best numbers so far, with
-status 130.
+The program is the one after `--tsp`, else the one that ./install.sh put beside this script, else `tsp` on
+the PATH. Ctrl-C or SIGTERM writes the best numbers so far, with status 130.
 
 For a TSP they are numbers of the nodes, by the steps of Held and Karp: up for a node with too many
 edges in a least 1-tree, down for one with too few. For an ATSP they are duals of the assignment
@@ -13,14 +13,27 @@ says what the numbers are worth. It needs Python 3.8 or later, and the program t
 import argparse
 import re
 import shutil
+import signal
 import subprocess
 import sys
+import time
 from decimal import Decimal
 from math import inf, isqrt
+from pathlib import Path
 
 SCALE = 100  # of the potentials; the rows of costs are at this scale too
 UNIT = 10**9  # coordinates are counts of 10^-9
 INTERRUPTED = 130
+VERSION = re.compile(rb"tsp [0-9]+\.[0-9]+\.[0-9]+\b")
+last_signal = -inf
+
+
+def interrupt(*_):
+    """Ends the search. A second signal within a second is the same one: `timeout` sends two."""
+    global last_signal
+    before, last_signal = last_signal, time.monotonic()
+    if last_signal - before > 1:
+        raise KeyboardInterrupt
 
 
 def show(words):
@@ -29,12 +42,28 @@ def show(words):
         print(f"\r{words:40}", end="\r" if not words else "", file=sys.stderr, flush=True)
 
 
+def installed():
+    """The program that was installed with this script, or None."""
+    above = Path(__file__).parent.parent
+    try:
+        return str(above / (above / "PROGRAM").read_text().strip())
+    except OSError:
+        return None
+
+
 def program(given):
-    """The path of the program."""
-    found = shutil.which(given or "tsp")
+    """The path of the program, which has to be Yokecairn's."""
+    found = shutil.which(given or installed() or "tsp")
     if found is None:
         where = f"at {given}" if given else "tsp on the PATH: name it by --tsp"
         sys.exit(f"ascent: there is no program {where}")
+    streams = {"stdin": subprocess.DEVNULL, "stdout": subprocess.PIPE, "stderr": subprocess.STDOUT}
+    try:
+        said = subprocess.run([found, "--version"], **streams).stdout
+    except OSError:
+        said = b""
+    if not VERSION.match(said):
+        sys.exit(f"ascent: {found} isn't Yokecairn's program tsp (task-spooler has one of that name): name it by --tsp")
     return found
 
 
@@ -167,6 +196,8 @@ def main():
     words.add_argument("--tsp", help="the program; else tsp on the PATH")
     words.add_argument("--upper", type=int, help="the length of a tour, the shorter the better")
     given = words.parse_args()
+    signal.signal(signal.SIGINT, interrupt)
+    signal.signal(signal.SIGTERM, interrupt)
     tsp = program(given.tsp)
     fields = canonical(tsp, given.instance)
     kind = fields[b"TYPE"][-1]

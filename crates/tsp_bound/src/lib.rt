@@ -28,6 +28,7 @@ mod placed;
 mod potentials;
 mod rounds;
 mod scaled;
+mod search;
 mod seen;
 mod tags;
 mod tree;

@@ -30,6 +30,7 @@ pub mod Teeth
 pub mod CombRuns
 pub mod BranchesOnce
 pub mod SmallVerdicts
+pub mod SmallRows
 pub mod CostRows
 pub mod Links
 pub mod LeastLinks

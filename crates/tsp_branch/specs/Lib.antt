@@ -16,4 +16,5 @@ pub mod BranchVerdicts
 pub mod VerdictExamples
 pub mod Rows
 pub mod Families
+pub mod RowExamples
 pub mod RowLeaves

@@ -31,6 +31,7 @@ mod numbers;
 mod open_case;
 mod pairs;
 mod room;
+mod row_examples;
 mod rows;
 mod scaled;
 mod sets;
@@ -60,6 +61,7 @@ pub use laws::{
 pub use leaf::leaf_bound;
 pub use number_examples::{examples_of_differences, examples_of_good_numbers};
 pub use pairs::key_of;
+pub use row_examples::{examples_of_arcs, examples_of_links, examples_of_rows};
 pub use stack::next_case;
 pub use steps::{BranchVerdict, Judged};
 pub use table::CostTable;
