@@ -60,9 +60,12 @@ fn weigh_all<C: Costs>(w: &Weights<C>, from: u32, row: &mut [i64])
     ensures sizes { (x : ℕ) → IsNode (C.nodes w.now.c.now) x
         → IsFromTo (neg_ℤ (pos most_between)) (pos most_between) (least_at row.new x) }
 {
-    let own = w.p.number(from);
-    'nodes: for node in 1..w.c.count() + 1 {
-        row[node as usize] = w.p.weight_from(w.c, own, from, node);
+    // Out of the loop, which writes to other memory.
+    let c = w.c;
+    let p = w.p;
+    let own = p.number(from);
+    'nodes: for node in 1..c.count() + 1 {
+        row[node as usize] = p.weight_from(c, own, from, node);
     }
 }
 
@@ -76,10 +79,12 @@ fn weigh<C: Costs>(w: &Weights<C>, from: u32, to: &[u32], row: &mut [i64])
     ensures sizes { (k : ℕ) → k < length to.now
         → IsFromTo (neg_ℤ (pos most_between)) (pos most_between) (least_at row.new (slice_index to.now k)) }
 {
-    let own = w.p.number(from);
+    let c = w.c;
+    let p = w.p;
+    let own = p.number(from);
     'places: for place in 0..to.len() {
         let node = to[place];
-        row[node as usize] = w.p.weight_from(w.c, own, from, node);
+        row[node as usize] = p.weight_from(c, own, from, node);
     }
 }
 

@@ -11,6 +11,7 @@ pub mod Changes
 pub mod NextCases
 pub mod SetSums
 pub mod CombedRows
+pub mod CombedValues
 pub mod SetAlgebra
 pub mod CombsBySets
 pub mod CombSizes

@@ -76,6 +76,11 @@ impl<C: Costs> Weights for DecidedWeights<'_, C> {
         self.combed.fill_combed(from, row);
         change_row(row, self.case.at(from), from);
     }
+
+    fn fill_at(&self, from: u32, to: &[u32], row: &mut [i64]) {
+        self.combed.fill_combed_at(from, to, row);
+        change_row(row, self.case.at(from), from);
+    }
 }
 
 /// Changes the row of a node by decisions.
