@@ -10,7 +10,7 @@ use crate::text::{append, end, push, push_lines};
 use std::alloc::{AllocError, Global};
 use tsp_cost::Instance;
 use tsp_file::File;
-use tsp_reason::{Reason, Verdict};
+use tsp_reason::{BoundVerdict, Reason, Verdict};
 
 /// What a user calls the files of a check, or of a bound.
 #[derive(Clone, Copy)]
@@ -104,7 +104,7 @@ pub fn explain_bound(
     alloc: Global,
     text: &mut Vec<u8>,
     names: Names<'_>,
-    found: Result<Option<i128>, Reason>,
+    found: BoundVerdict,
     instance: &Instance,
     certificate: &File,
 ) -> Result<(), AllocError>
@@ -112,9 +112,9 @@ pub fn explain_bound(
 {
     let mut told = Vec::new(alloc);
     let answer = match found {
-        Ok(Some(_)) => Ok(()),
-        Ok(None) => push_lines(&mut told, NO_TOUR),
-        Err(reason) => push_no(
+        BoundVerdict::Bound(_) => Ok(()),
+        BoundVerdict::NoTour => push_lines(&mut told, NO_TOUR),
+        BoundVerdict::No(reason) => push_no(
             alloc,
             &mut told,
             names,

@@ -43,4 +43,4 @@ pub use examples::{
 pub use judged::judge;
 pub use routes::judge_routes;
 pub use tour::judge_tour;
-pub use tsp_reason::{Certificate, Reason, Verdict};
+pub use tsp_reason::{BoundVerdict, Certificate, Reason, Verdict};
