@@ -17,6 +17,7 @@ mod examples;
 mod fault;
 mod file;
 mod judging;
+mod run_examples;
 mod show;
 mod status;
 
@@ -30,6 +31,7 @@ pub use examples::{
 };
 pub use fault::RunFault;
 pub use judging::Judged;
+pub use run_examples::{examples_of_runs_over_one_file, examples_of_wrong_kinds};
 pub use show::run_show;
 pub use status::status_of;
 pub use tsp_draft::EndFault;
