@@ -75,6 +75,18 @@ void Branching::score(Relaxation& relaxation, std::vector<Candidate>& candidates
   });
 }
 
+// By hundredths of the gap.
+double Branching::leaves() const {
+  std::vector<double> leaves(101, 1);
+  for (int gap = 1; gap <= 100; gap++) {
+    double sum = 0;
+    for (const double gain : gained_)
+      sum += leaves[std::max(0, gap - std::max(1, static_cast<int>(gain * 100)))];
+    leaves[gap] = std::min(1e9, sum);
+  }
+  return leaves[100];
+}
+
 std::optional<Pair> Branching::choose(Relaxation& relaxation, double target) {
   relaxation.purge(0);
   relaxation.solve();
@@ -91,6 +103,7 @@ std::optional<Pair> Branching::choose(Relaxation& relaxation, double target) {
   if (tried.empty()) return std::nullopt;
   for (Candidate& candidate : tried) candidate.gains = {};
   score(relaxation, tried, {kManyIterations, gap, 1});
+  for (const int value : {0, 1}) gained_[value] = tried[0].gains[value].value_or(0) / gap;
   return relaxation.edge(tried[0].column);
 }
 }  // namespace certify

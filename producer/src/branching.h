@@ -13,6 +13,10 @@ class Branching {
   explicit Branching(const Matrix& weights) : weights_(weights) {}
   // A pair to branch on that the solution uses in part, where there is one.
   std::optional<Pair> choose(Relaxation& relaxation, double target);
+  // The leaves of a tree where each branch gains as much as the last choice.
+  double leaves() const;
+  // Forgets what was tried: the linear program became another one.
+  void forget() { history_.clear(); }
 
  private:
   using Gains =
@@ -40,6 +44,7 @@ class Branching {
 
   const Matrix& weights_;
   int choices_ = 0;
+  std::array<double, 2> gained_{};  // by the last choice, as parts of the gap
   std::map<Pair, Known> history_;
 };
 }  // namespace certify

@@ -62,11 +62,15 @@ bool CutPool::is_comb(const std::vector<NodeSet>& sets) const {
   return true;
 }
 
-int CutPool::add(bool comb, std::vector<NodeSet> sets) {
+int CutPool::add(CutKind kind, std::vector<NodeSet> sets, int crossings) {
+  const bool any = kind == CutKind::kFamily;
   sets[0] = smaller_side(sets[0]);
-  for (NodeSet& set : sets) std::sort(set.begin(), set.end());
-  std::sort(sets.begin() + 1, sets.end());
-  std::uint64_t hash = comb ? 1 : 0;
+  for (NodeSet& set : sets) {
+    if (any) set = smaller_side(set);
+    std::sort(set.begin(), set.end());
+  }
+  std::sort(sets.begin() + (any ? 0 : 1), sets.end());
+  std::uint64_t hash = kind == CutKind::kSubtour ? 0 : 1;
   double nodes = 0;
   for (const NodeSet& set : sets) {
     hash = hash * 31 + hash_of(set);
@@ -74,12 +78,10 @@ int CutPool::add(bool comb, std::vector<NodeSet> sets) {
   }
   const auto [first, last] = by_hash_.equal_range(hash);
   for (auto known = first; known != last; ++known) {
-    if (cuts_[known->second].comb == comb && cuts_[known->second].sets == sets) return known->second;
+    if (cuts_[known->second].kind == kind && cuts_[known->second].sets == sets) return known->second;
   }
-  Cut cut{comb, std::move(sets), 0};
-  cut.most_inside = nodes - cut.crossings() / 2.0;
   by_hash_.emplace(hash, size());
-  cuts_.push_back(std::move(cut));
+  cuts_.push_back({kind, std::move(sets), crossings, nodes - crossings / 2.0});
   return size() - 1;
 }
 }  // namespace certify

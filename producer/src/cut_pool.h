@@ -1,4 +1,4 @@
-// The cuts that were found: sets that a tour crosses twice, and combs.
+// The cuts that were found: sets that a tour crosses twice, combs, and families of any sets.
 //
 // A row of a cut is in inner form: the sum over its sets of the values of edges inside. Sets are kept
 // as their smaller side where that is allowed.
@@ -10,13 +10,13 @@
 #include "support.h"
 
 namespace certify {
-struct Cut {
-  bool comb = false;
-  std::vector<NodeSet> sets;  // of a comb the handle first, then its teeth; the nodes are sorted
-  double most_inside = 0;
+enum class CutKind { kSubtour, kComb, kFamily };
 
-  // How often a tour crosses the sets at least.
-  int crossings() const { return comb ? 3 * (static_cast<int>(sets.size()) - 1) + 1 : 2; }
+struct Cut {
+  CutKind kind;
+  std::vector<NodeSet> sets;  // of a comb the handle first, then its teeth; the nodes are sorted
+  int crossings;              // as often a tour crosses the sets at least
+  double most_inside;
 };
 
 // How much more often a tour crosses the sets than this solution.
@@ -26,15 +26,21 @@ class CutPool {
  public:
   explicit CutPool(int nodes);
   // The number of a cut. It may be known already.
-  int add_subtour(const NodeSet& set) { return add(false, {set}); }
-  int add_comb(const std::vector<NodeSet>& sets) { return add(true, sets); }
+  int add_subtour(const NodeSet& set) { return add(CutKind::kSubtour, {set}, 2); }
+  int add_comb(const std::vector<NodeSet>& sets) {
+    return add(CutKind::kComb, sets, 3 * (static_cast<int>(sets.size()) - 1) + 1);
+  }
+  // Any sets, with how often a tour crosses them at least.
+  int add_family(const std::vector<NodeSet>& sets, int crossings) {
+    return add(CutKind::kFamily, sets, crossings);
+  }
   bool is_comb(const std::vector<NodeSet>& sets) const;
   const Cut& operator[](int cut) const { return cuts_[cut]; }
   int size() const { return static_cast<int>(cuts_.size()); }
   std::uint64_t key_of(int node) const { return keys_[node]; }
 
  private:
-  int add(bool comb, std::vector<NodeSet> sets);
+  int add(CutKind kind, std::vector<NodeSet> sets, int crossings);
   NodeSet smaller_side(NodeSet set) const;
   std::uint64_t hash_of(const NodeSet& set) const;
 

@@ -5,7 +5,7 @@
 namespace certify {
 namespace {
 constexpr Weight kMostPotential = 1000000000000000;
-constexpr Value kMostMultipliers = 300000000000000000;
+constexpr Value kMostMultipliers = 900000000000000000;  // each as often as two nodes are separated
 }  // namespace
 
 ExactBound::ExactBound(const Matrix& weights, const CutPool& pool, Weight scale)
@@ -28,9 +28,11 @@ Value ExactBound::prepare(const Numbers& numbers) {
   }
   for (const auto& [cut, multiplier] : numbers.multipliers) {
     if (multiplier < 0) return nothing();
-    sum += multiplier;
-    back += static_cast<Value>(multiplier) * pool_[cut].crossings();
-    for (const NodeSet& set : pool_[cut].sets) {
+    const Cut& own = pool_[cut];
+    sum += static_cast<Value>(multiplier) *
+           (own.kind == CutKind::kFamily ? static_cast<int>(own.sets.size()) : 3);
+    back += static_cast<Value>(multiplier) * own.crossings;
+    for (const NodeSet& set : own.sets) {
       for (const int v : set) {
         own_[v] -= multiplier;
         sets_of_[v].push_back(static_cast<int>(sets_.size()));

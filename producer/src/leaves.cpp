@@ -17,10 +17,10 @@ Weight rounded(double number, Weight grid) {
 }
 }  // namespace
 
-// The dual of a comb is its multiplier, halved since each crossing counts. Of an ATSP so is that of a set,
-// and the potentials are the duals of the arcs that enter: rows take those of the arcs that leave by
-// themselves. Of a TSP the dual of a set is given by potentials alone: a tree over the nodes 1.. keeps those
-// of sets without node 0 by itself, and a set with node 0 is turned into the other side.
+// The dual of a comb or a family is its multiplier, halved since each crossing counts. Of an ATSP so is that
+// of a set, and the potentials are the duals of the arcs that enter: rows take those of the arcs that leave
+// by themselves. Of a TSP the dual of a set is given by potentials alone: a tree over the nodes 1.. keeps
+// those of sets without node 0 by itself, and a set with node 0 is turned into the other side.
 Numbers Leaves::extract(const Relaxation& relaxation, Weight grid) {
   Numbers numbers;
   const int nodes = static_cast<int>(relaxation.support().size());
@@ -30,7 +30,7 @@ Numbers Leaves::extract(const Relaxation& relaxation, Weight grid) {
   for (std::size_t row = 0; row < relaxation.cuts().size(); row++) {
     const double dual = relaxation.cut_dual(row) * scale;
     const Cut& cut = pool_[relaxation.cuts()[row]];
-    if (cut.comb || directed_) {
+    if (cut.kind != CutKind::kSubtour || directed_) {
       const Weight multiplier = rounded(dual / 2, grid);
       if (multiplier <= 0) continue;
       numbers.multipliers[relaxation.cuts()[row]] = multiplier;
@@ -66,7 +66,7 @@ bool Leaves::step(Numbers& numbers, double length_times_square) const {
   const std::map<int, int> crossings = bound_.crossings();
   std::map<int, int> lacking;
   for (const auto& [cut, multiplier] : numbers.multipliers) {
-    const int lack = pool_[cut].crossings() - crossings.at(cut);
+    const int lack = pool_[cut].crossings - crossings.at(cut);
     lacking[cut] = lack;
     square += static_cast<double>(lack) * lack;
   }

@@ -3,6 +3,7 @@
 #include <algorithm>
 #include <cmath>
 #include <cstdlib>
+#include <utility>
 
 #include "arc_tours.h"
 #include "eax.h"
@@ -19,6 +20,15 @@ constexpr double kPartForTours = 0.5;                 // of the time, at most
 constexpr double kPartForTree = 0.95;  // of the time; the rest is for short numbers of the leaves
 constexpr double kTrial = 0.1;         // of the time, before the size of the tree is guessed
 constexpr int kRootClimbs = 400, kNodeClimbs = 100, kLevels = 2;
+constexpr int kFamilyAtoms = 14, kFamilyChunks = 800, kFamilyClimbs = 1600;  // at the root
+constexpr int kLightAtoms = 12, kLightChunks = 300, kLightClimbs = 200;      // where the gap is large
+constexpr int kNodeAtoms = 12, kNodeChunks = 60;
+constexpr int kMostMisses = 3;                   // rounds in a row without a cut
+constexpr double kLargeTree = 300;               // leaves, from which families are looked for in the tree
+constexpr double kVeryLargeTree = 1000;          // and at the root
+constexpr double kLargeGap = 0.0025;             // of the length, from which they are too
+constexpr int kManyLeaves = 10;                  // that are done, after which they are looked for
+constexpr double kPartOfRootGap = 0.3;           // cases with more of it get families of their own
 constexpr int kArcRuns = 2, kArcPatience = 100;  // of the second search for a tour of an ATSP
 
 // Whole multiples of many fractions, coarser for long tours, whose numbers are long as they are.
@@ -64,6 +74,7 @@ Search::Search(const Instance& instance, const Start& start, const Clock& clock,
       costs_(costs_of(instance)),
       seed_(start.seed),
       named_(start.named),
+      families_(start.families),
       clock_(clock),
       progress_(progress),
       tour_(start.tour),
@@ -146,37 +157,57 @@ Standing Search::standing() const {
   const bool known = cases_.size() > 1;
   const Weight reached = known ? bound_->bound_of(least) : static_cast<Weight>(relaxation_.value());
   Standing standing{length_, std::min(reached, target_), leaves_, static_cast<int>(open_.size())};
-  for (const int cut : relaxation_.cuts()) (pool_[cut].comb ? standing.combs : standing.subtours)++;
+  for (const int cut : relaxation_.cuts()) {
+    const CutKind kind = pool_[cut].kind;
+    (kind == CutKind::kSubtour ? standing.subtours
+     : kind == CutKind::kComb  ? standing.combs
+                               : standing.families)++;
+  }
   return standing;
 }
 
-bool Search::stalled(const std::vector<double>& values, double gap) const {
-  const std::size_t window = root() ? 12 : 4;
-  if (values.size() <= window) return false;
-  return values.back() - values[values.size() - 1 - window] < (root() ? 0.02 : 0.06) * gap;
+bool Search::stalled(const std::vector<double>& values, const Patience& patience) const {
+  if (values.size() <= patience.window) return false;
+  return values.back() - values[values.size() - 1 - patience.window] < patience.least_gain * gap();
 }
 
-bool Search::add_cuts(int level, int round) {
-  const bool added = root() ? separation_.add_cuts({kRootClimbs << level, 1 + level, 0.01, 4, 200})
-                            : separation_.add_cuts({kNodeClimbs, 1, 0.02, 2, 100});
+bool Search::add_cuts(const Effort& effort, int round) {
+  const bool added = separation_.add_cuts(effort);
   if (added && round % 3 == 0) relaxation_.purge(root() ? 5 : 4);
   return added;
 }
 
+bool Search::add_cuts(int level, int round) {
+  if (root()) return add_cuts({kRootClimbs << level, 1 + level, 0.01, 4, 200}, round);
+  Effort effort{kNodeClimbs, 1, 0.02, 2, 100, families_ && large_tree_};
+  if (effort.tighten && gap() > kPartOfRootGap * root_gap_) {
+    effort.atoms = kNodeAtoms;
+    effort.chunks = kNodeChunks;
+  }
+  return add_cuts(effort, round);
+}
+
+// Solves the relaxation. Whether numbers were found that reach the target.
+bool Search::solve(int round, Numbers& numbers) {
+  relaxation_.solve();
+  offer_tour();
+  if (root() && round % 6 == 0) relaxation_.drop_edges();
+  progress_.show(standing());
+  if (root()) log("round");
+  return made_.reach(relaxation_, decisions_, target_, numbers);
+}
+
 // Adds cuts while they help. Whether numbers were found that reach the target.
 bool Search::tighten(Numbers& numbers) {
+  const Patience patience = root() ? Patience{12, 0.02} : Patience{4, 0.06};
   std::vector<double> values;
   int level = 0;
   for (int round = 1;; round++) {
-    relaxation_.solve();
-    offer_tour();
-    if (root() && round % 6 == 0) relaxation_.drop_edges();
-    progress_.show(standing());
-    if (root()) log("round");
-    values.push_back(relaxation_.value());
-    if (made_.reach(relaxation_, decisions_, target_, numbers)) return true;
+    if (solve(round, numbers)) return true;
     if (clock_.over()) return false;
-    const bool stall = stalled(values, static_cast<double>(target_) - relaxation_.value());
+    values.push_back(relaxation_.value());
+    large_tree_ = large_tree_ || leaves_ >= kManyLeaves;
+    const bool stall = stalled(values, patience);
     if (!stall && add_cuts(level, round)) continue;
     if (!root() || level == kLevels) return false;
     level++;
@@ -185,14 +216,50 @@ bool Search::tighten(Numbers& numbers) {
   }
 }
 
-// The same, and at the root one more search for a tour where a gap is left.
-bool Search::settle(Numbers& numbers) {
-  if (tighten(numbers)) return true;
-  if (!root() || named_ || clock_.over()) return false;
-  const Weight before = length_;
-  look_for_tour();
-  return length_ < before && tighten(numbers);
+// The same at the root with families. Rounds that met many subtours aren't counted.
+bool Search::tighten_by_families(Numbers& numbers) {
+  const bool light = gap() >= kLargeGap * std::abs(static_cast<double>(length_));
+  Effort effort{kFamilyClimbs, 2, 0.01, 2, 200, true, kFamilyAtoms, kFamilyChunks};
+  if (light) effort = {kLightClimbs, 1, 0.01, 2, 200, true, kLightAtoms, kLightChunks};
+  std::vector<double> values;
+  int misses = 0;
+  for (int round = 1; misses < kMostMisses; round++) {
+    if (solve(round, numbers)) return true;
+    if (clock_.over()) return false;
+    if (!values.empty() && (misses > 0 || !separation_.was_whole())) values.pop_back();
+    values.push_back(relaxation_.value());
+    if (stalled(values, {8, 0.02})) return false;
+    misses = add_cuts(effort, round) ? 0 : misses + 1;
+  }
+  return false;
 }
+
+// Whether the root is worth families: where the tree would be large by what the best branch gains.
+bool Search::wants_families() {
+  if (!families_ || clock_.over()) return false;
+  choice_ = branching_.choose(relaxation_, static_cast<double>(target_));
+  const double leaves = branching_.leaves();
+  large_tree_ = leaves >= kLargeTree;
+  const bool large_gap = gap() >= kLargeGap * std::abs(static_cast<double>(length_));
+  return leaves >= kVeryLargeTree || large_gap;
+}
+
+// With one more search for a tour where a gap is left.
+bool Search::settle_root(Numbers& numbers) {
+  if (tighten(numbers)) return true;
+  if (!named_ && !clock_.over()) {
+    const Weight before = length_;
+    look_for_tour();
+    if (length_ < before && tighten(numbers)) return true;
+  }
+  if (!wants_families()) return false;
+  large_tree_ = true;
+  choice_.reset();
+  branching_.forget();
+  return tighten_by_families(numbers);
+}
+
+bool Search::settle(Numbers& numbers) { return root() ? settle_root(numbers) : tighten(numbers); }
 
 std::vector<Decision> Search::decisions_of(int place) const {
   std::vector<Decision> decisions;
@@ -270,7 +337,8 @@ void Search::visit(int place) {
   }
   improve(cases_[place]);
   if (clock_.over()) return;
-  if (const auto pair = branching_.choose(relaxation_, static_cast<double>(target_))) branch(place, *pair);
+  if (!choice_) choice_ = branching_.choose(relaxation_, static_cast<double>(target_));
+  if (const auto pair = std::exchange(choice_, std::nullopt)) branch(place, *pair);
   log("branch");
 }
 
@@ -328,6 +396,7 @@ void Search::run() {
   }
   cases_.emplace_back();
   visit(0);
+  root_gap_ = gap();
   begun_ = clock_.used();
   while (!open_.empty() && !clock_.over(kPartForTree)) visit(next_case());
   list_steps();

@@ -22,7 +22,8 @@ struct Start {
   std::vector<Pair> edges;    // likely edges
   std::optional<Weight> upper;
   std::uint64_t seed = 1;
-  bool named = false;  // the tour was named, so that none is looked for again
+  bool named = false;     // the tour was named, so that none is looked for again
+  bool families = false;  // cuts may be families of any sets
 };
 
 // A branch on a pair, or a leaf with its numbers.
@@ -63,10 +64,21 @@ class Search {
     bool done = false;  // its numbers reach the target
     std::optional<Branch> branch{};
   };
+  // When cuts stop to help: over a window of rounds the value gains less than this part of the gap.
+  struct Patience {
+    std::size_t window;
+    double least_gain;
+  };
+  bool solve(int round, Numbers& numbers);
   bool tighten(Numbers& numbers);
+  bool tighten_by_families(Numbers& numbers);
   bool settle(Numbers& numbers);
+  bool settle_root(Numbers& numbers);
+  bool wants_families();
   bool add_cuts(int level, int round);
-  bool stalled(const std::vector<double>& values, double gap) const;
+  bool add_cuts(const Effort& effort, int round);
+  bool stalled(const std::vector<double>& values, const Patience& patience) const;
+  double gap() const { return static_cast<double>(target_) - relaxation_.value(); }
   std::vector<Decision> decisions_of(int place) const;
   void enter(int place);
   void visit(int place);
@@ -86,7 +98,7 @@ class Search {
   const Instance& instance_;
   const Matrix costs_;  // the weights, those of fixed pairs lowered; of an ATSP those of both directions
   const std::uint64_t seed_;
-  const bool named_;
+  const bool named_, families_;
   const Clock& clock_;
   Progress& progress_;
   Tour tour_;
@@ -105,7 +117,10 @@ class Search {
   std::vector<TreeStep> steps_;
   Value least_;
   int leaves_ = 0;
-  double begun_ = 0;  // the part of the time before the tree
-  double done_ = 0;   // the part of the tree that is done, where both cases of a branch are one half
+  bool large_tree_ = false;  // the tree seems to be large, so that families are worth their time
+  double root_gap_ = 0;
+  std::optional<Pair> choice_;  // the branch of the root, where it was chosen before
+  double begun_ = 0;            // the part of the time before the tree
+  double done_ = 0;  // the part of the tree that is done, where both cases of a branch are one half
 };
 }  // namespace certify

@@ -4,11 +4,14 @@
 
 #include "local_search.h"
 #include "subtours.h"
+#include "tightening.h"
 
 namespace certify {
 namespace {
 constexpr std::size_t kMostFromPool = 150;
 constexpr int kMostHandlesOfNode = 12;
+constexpr int kMostSetsOfNode = 60;  // of the families of a round
+constexpr std::size_t kLargestTight = 80;
 constexpr int kManySubtours = 10, kManyFromPool = 50;  // then no combs are looked for
 }  // namespace
 
@@ -94,6 +97,15 @@ Tour Separation::tour_for(int k) {
   return k % 2 == 1 || further_.empty() ? guided_tour() : further_[random_.below(further_.size())];
 }
 
+// Takes a cut that is new and violated by as much.
+bool Separation::take(Round& round, int cut, double least_violation) {
+  if (relaxation_.has(cut) || std::find(round.cuts.begin(), round.cuts.end(), cut) != round.cuts.end())
+    return false;
+  if (violation(pool_[cut], relaxation_.support(), scratch_) < least_violation) return false;
+  round.cuts.push_back(cut);
+  return true;
+}
+
 void Separation::take_combs(Round& round, const std::vector<FoundComb>& found, const Effort& effort) {
   for (const FoundComb& comb : found) {
     if (round.combs >= effort.most_cuts) return;
@@ -101,12 +113,8 @@ void Separation::take_combs(Round& round, const std::vector<FoundComb>& found, c
     const bool crowded =
         std::any_of(handle.begin(), handle.end(), [&](int v) { return round.uses[v] >= kMostHandlesOfNode; });
     if (crowded || !pool_.is_comb(comb.sets)) continue;
-    const int cut = pool_.add_comb(comb.sets);
-    if (relaxation_.has(cut)) continue;
-    if (std::find(round.cuts.begin(), round.cuts.end(), cut) != round.cuts.end()) continue;
-    if (violation(pool_[cut], relaxation_.support(), scratch_) < effort.least_violation) continue;
+    if (!take(round, pool_.add_comb(comb.sets), effort.least_violation)) continue;
     for (const int v : handle) round.uses[v]++;
-    round.cuts.push_back(cut);
     round.combs++;
   }
 }
@@ -126,6 +134,63 @@ void Separation::combs(Round& round, const Effort& effort) {
   }
 }
 
+// Cuts of the linear program, with nodes in other atoms.
+void Separation::tighten_cuts(Round& round, const Effort& effort) {
+  const std::vector<int> cuts = relaxation_.cuts();
+  for (const int cut : cuts) {
+    const CutKind kind = pool_[cut].kind;
+    if (kind == CutKind::kSubtour || violation(pool_[cut], relaxation_.support(), scratch_) < -1) continue;
+    const auto sets = tightened(pool_[cut], relaxation_.support());
+    if (!sets || (kind == CutKind::kComb && !pool_.is_comb(*sets))) continue;
+    const int moved =
+        kind == CutKind::kComb ? pool_.add_comb(*sets) : pool_.add_family(*sets, pool_[cut].crossings);
+    take(round, moved, effort.least_violation);
+  }
+}
+
+// How much the solution crosses a set.
+double Separation::crossed(const NodeSet& set) {
+  double sum = 0;
+  for (const int v : set) scratch_[v] = 1;
+  for (const int v : set) {
+    for (const Edge& edge : relaxation_.support()[v]) sum += scratch_[edge.to] ? 0 : edge.value;
+  }
+  for (const int v : set) scratch_[v] = 0;
+  return sum;
+}
+
+// Sets of cuts with duals that the solution crosses twice.
+std::vector<const NodeSet*> Separation::tight_sets() {
+  std::vector<const NodeSet*> tight;
+  for (std::size_t row = 0; row < relaxation_.cuts().size(); row++) {
+    if (relaxation_.cut_dual(row) <= 1e-7) continue;
+    for (const NodeSet& set : pool_[relaxation_.cuts()[row]].sets) {
+      if (set.size() >= 3 && set.size() <= kLargestTight && crossed(set) < 2 + 1e-5) tight.push_back(&set);
+    }
+  }
+  return tight;
+}
+
+void Separation::families(Round& round, const Effort& effort) {
+  const std::vector<const NodeSet*> tight = tight_sets();
+  QuotientSearch search(relaxation_.support(), tight, best_, random_, tried_, effort.least_violation);
+  const std::vector<Family> found = search.find(effort.atoms, effort.chunks);
+  std::vector<int> uses(scratch_.size(), 0);
+  int count = 0;
+  for (const Family& family : found) {
+    if (count >= effort.most_cuts) return;
+    const bool crowded = std::any_of(family.sets.begin(), family.sets.end(), [&](const NodeSet& set) {
+      return std::any_of(set.begin(), set.end(), [&](int v) { return uses[v] >= kMostSetsOfNode; });
+    });
+    if (crowded || !take(round, pool_.add_family(family.sets, family.required), effort.least_violation))
+      continue;
+    count++;
+    for (const NodeSet& set : family.sets) {
+      for (const int v : set) uses[v]++;
+    }
+  }
+}
+
 bool Separation::add_subtours() {
   Round round;
   from_pool(round);
@@ -139,7 +204,12 @@ bool Separation::add_cuts(const Effort& effort) {
   const int pooled = from_pool(round);
   const int sets = subtours(round);
   // the runs of a tour have three nodes outside
-  if (sets < kManySubtours && pooled < kManyFromPool && scratch_.size() >= 6) combs(round, effort);
+  whole_ = sets < kManySubtours && pooled < kManyFromPool;
+  if (whole_ && scratch_.size() >= 6) {
+    if (effort.tighten) tighten_cuts(round, effort);
+    combs(round, effort);
+    if (effort.atoms > 0) families(round, effort);
+  }
   relaxation_.add_cuts(round.cuts);
   return !round.cuts.empty();
 }

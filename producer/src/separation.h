@@ -1,9 +1,11 @@
 // One round of cuts for a solution of the linear program: of the pool, subtours, and combs with runs
-// of the tour and of further tours as teeth. Further tours are those that the search for a tour met,
-// and ones by local search on costs that the solution lowers.
-// Source: D. Applegate, R. Bixby, V. Chvatal and W. Cook, The Traveling Salesman Problem (2006).
+// of the tour and of further tours as teeth; where that is asked for, families of any sets too, and cuts
+// whose nodes move to other atoms. Further tours are those that the search for a tour met, and ones by local
+// search on costs that the solution lowers. Source: D. Applegate, R. Bixby, V. Chvatal and W. Cook, The
+// Traveling Salesman Problem (2006).
 #pragma once
 #include "combs.h"
+#include "quotients.h"
 #include "relaxation.h"
 
 namespace certify {
@@ -12,6 +14,8 @@ struct Effort {
   int climbs, growths;
   double least_violation;
   int further_tours, most_cuts;
+  bool tighten = false;
+  int atoms = 0, chunks = 0;  // of families; 0 looks for none
 };
 
 class Separation {
@@ -21,8 +25,10 @@ class Separation {
   void set_best(const Tour& best) { best_ = best; }
   // Adds subtours and cuts of the pool. Whether any joined.
   bool add_subtours();
-  // The same with combs too.
+  // The same with combs too, and what else the effort says.
   bool add_cuts(const Effort& effort);
+  // Whether the last round looked for all that: it doesn't where there are many subtours.
+  bool was_whole() const { return whole_; }
 
  private:
   struct Round {
@@ -33,6 +39,11 @@ class Separation {
   int from_pool(Round& round);
   int subtours(Round& round);
   void combs(Round& round, const Effort& effort);
+  void tighten_cuts(Round& round, const Effort& effort);
+  void families(Round& round, const Effort& effort);
+  std::vector<const NodeSet*> tight_sets();
+  double crossed(const NodeSet& set);
+  bool take(Round& round, int cut, double least_violation);
   void take_combs(Round& round, const std::vector<FoundComb>& found, const Effort& effort);
   std::vector<NodeSet> known_handles() const;
   Tour guided_tour();
@@ -46,5 +57,7 @@ class Separation {
   Tour best_;
   std::vector<Tour> further_;
   std::vector<char> scratch_;
+  std::unordered_set<std::uint64_t> tried_;  // chunks
+  bool whole_ = true;
 };
 }  // namespace certify
