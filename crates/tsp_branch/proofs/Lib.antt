@@ -32,6 +32,7 @@ pub mod Teeth
 pub mod CombRuns
 pub mod BranchesOnce
 pub mod SmallVerdicts
+pub mod SmallFamilies
 pub mod CostRows
 pub mod Links
 pub mod LeastLinks
