@@ -1,8 +1,8 @@
 #!/usr/bin/env python3
 """Finds potentials of an instance: examples/ascent.py INSTANCE > FILE
 
-The program is the one after `--tsp`, or `tsp` on the PATH. Ctrl-C writes the best numbers so far, with
-status 130.
+The program is the one after `--tsp`, else the one that ./install.sh put beside this script, else `tsp` on
+the PATH. Ctrl-C or SIGTERM writes the best numbers so far, with status 130 or 143.
 
 For a TSP they are numbers of the nodes, by the steps of Held and Karp: up for a node with too many
 edges in a least 1-tree, down for one with too few. For an ATSP they are duals of the assignment
@@ -13,14 +13,31 @@ says what the numbers are worth. It needs Python 3.8 or later, and the program t
 import argparse
 import re
 import shutil
+import signal
 import subprocess
 import sys
+import time
 from decimal import Decimal
 from math import inf, isqrt
+from pathlib import Path
 
 SCALE = 100  # of the potentials; the rows of costs are at this scale too
 UNIT = 10**9  # coordinates are counts of 10^-9
-INTERRUPTED = 130
+VERSION = re.compile(rb"tsp [0-9]+\.[0-9]+\.[0-9]+\b")
+last_signal = -inf
+
+
+def interrupt(number, _):
+    """Ends the search. A second signal within a second is the same one: `timeout` sends two."""
+    global last_signal
+    before, last_signal = last_signal, time.monotonic()
+    if last_signal - before > 1:
+        raise KeyboardInterrupt(number)
+
+
+def status_of(ended):
+    """The exit status after a signal."""
+    return 128 + (ended.args or (signal.SIGINT,))[0]
 
 
 def show(words):
@@ -29,12 +46,28 @@ def show(words):
         print(f"\r{words:40}", end="\r" if not words else "", file=sys.stderr, flush=True)
 
 
+def installed():
+    """The program that was installed with this script, or None."""
+    above = Path(__file__).parent.parent
+    try:
+        return str(above / (above / "PROGRAM").read_text().strip())
+    except OSError:
+        return None
+
+
 def program(given):
-    """The path of the program."""
-    found = shutil.which(given or "tsp")
+    """The path of the program, which has to be Yokecairn's."""
+    found = shutil.which(given or installed() or "tsp")
     if found is None:
         where = f"at {given}" if given else "tsp on the PATH: name it by --tsp"
         sys.exit(f"ascent: there is no program {where}")
+    streams = {"stdin": subprocess.DEVNULL, "stdout": subprocess.PIPE, "stderr": subprocess.STDOUT}
+    try:
+        said = subprocess.run([found, "--version"], **streams).stdout
+    except OSError:
+        said = b""
+    if not VERSION.match(said):
+        sys.exit(f"ascent: {found} isn't Yokecairn's program tsp (task-spooler has one of that name): name it by --tsp")
     return found
 
 
@@ -101,7 +134,7 @@ def one_tree(rows, potentials):
 
 def ascend(rows, upper):
     """What no tour is shorter than, and the potentials of the nodes that show it."""
-    best, interrupted = (-inf, [0] * len(rows)), False
+    best, interrupted = (-inf, [0] * len(rows)), 0
     try:
         upper = nearest_neighbours(rows) if upper is None else SCALE * upper
         potentials = best[1]
@@ -116,8 +149,8 @@ def ascend(rows, upper):
                 break  # the 1-tree is a tour, or the bound rounded up is the length of one
             size = reach * 0.97**step / squares
             potentials = [old + round(size * (degree - 2)) for old, degree in zip(potentials, degrees)]
-    except KeyboardInterrupt:
-        interrupted = True
+    except KeyboardInterrupt as ended:
+        interrupted = status_of(ended)
     if best[0] == -inf:
         best = one_tree(rows, best[1])[0], best[1]
     return best[0], {"NODE": best[1]}, interrupted
@@ -150,12 +183,12 @@ def assigned(rows):
 
 def assign(rows):
     """What no tour is shorter than, and the duals of the rows and columns that show it."""
-    columns, interrupted = [0] * len(rows), False
+    columns, interrupted = [0] * len(rows), 0
     try:
         for columns in assigned(rows):
             pass
-    except KeyboardInterrupt:
-        interrupted = True
+    except KeyboardInterrupt as ended:
+        interrupted = status_of(ended)
     # with any numbers of columns these are the largest numbers of rows
     u = [min(c - v for j, (c, v) in enumerate(zip(row, columns)) if j != i) for i, row in enumerate(rows)]
     return sum(u) + sum(columns), {"ROW": u, "COLUMN": columns}, interrupted
@@ -167,6 +200,8 @@ def main():
     words.add_argument("--tsp", help="the program; else tsp on the PATH")
     words.add_argument("--upper", type=int, help="the length of a tour, the shorter the better")
     given = words.parse_args()
+    signal.signal(signal.SIGINT, interrupt)
+    signal.signal(signal.SIGTERM, interrupt)
     tsp = program(given.tsp)
     fields = canonical(tsp, given.instance)
     kind = fields[b"TYPE"][-1]
@@ -190,12 +225,12 @@ def main():
     print("EOF")
     if interrupted:
         print("ascent: interrupted; these are the best numbers so far", file=sys.stderr)
-        sys.exit(INTERRUPTED)
+        sys.exit(interrupted)
 
 
 if __name__ == "__main__":
     try:
         main()
-    except KeyboardInterrupt:
+    except KeyboardInterrupt as ended:
         print("ascent: interrupted before there were numbers", file=sys.stderr)
-        sys.exit(INTERRUPTED)
+        sys.exit(status_of(ended))

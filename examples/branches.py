@@ -5,8 +5,9 @@ A certificate shows how short no tour of a TSP or an ATSP can be: by potentials 
 multipliers of combs and of sets, and by branches on pairs of nodes that a tour uses or doesn't. This
 script finds one whose bound is the length of a tour if the time allows. A linear program over degrees,
 cuts and combs gives the numbers, and where a gap stays, a pair is branched on. Without a tour it finds
-a good one first, and `--tour` says where that is written. `--help` tells of all the words. Ctrl-C ends
-the search: the best certificate so far is written, with status 130. A second Ctrl-C ends the script.
+a good one first, and `--tour` says where that is written. `--help` tells of all the words. Ctrl-C or
+SIGTERM ends the search: the best certificate so far is written, with status 130 or 143. A second one, more
+than a second later, ends the script. No output may be one of the files that are read, or the other output.
 
 Nothing here is proved, and nothing has to be trusted: `tsp check INSTANCE TOUR --branches OUT` says
 what the certificate is worth.
@@ -19,6 +20,7 @@ and Ubuntu this one command installs it, for /usr/bin/python3:
 
 import argparse
 import heapq
+import os
 import random
 import re
 import signal
@@ -45,7 +47,6 @@ except ImportError as missing:
     sys.exit(2)
 
 UNIT = 10**9  # coordinates are counts of 10^-9
-INTERRUPTED = 130
 MARK = 4 * 10**18  # off the weight of a taken pair, and onto that of an avoided one
 FAR = np.iinfo(np.int64).max
 MOST_POTENTIAL = 10**15
@@ -1185,12 +1186,16 @@ class Search:
         self.used = set()
         self.improver = ArcImprover(instance, tour) if instance.directed else None
         self.is_lopsided = lopsided(instance.costs)
-        self.progress, self.interrupted = Progress(), False
+        self.progress, self.interrupted, self.again = Progress(), None, inf  # the signal, if there was one
 
-    def interrupt(self, *_):
-        """Ends the search as if the time were over; the next signal ends the script."""
-        self.until, self.interrupted = -inf, True
-        signal.signal(signal.SIGINT, signal.default_int_handler)
+    def interrupt(self, number, _):
+        """Ends the search as if the time were over. A second later the next signal ends the script, and
+        before that it is the same one: `timeout` sends two."""
+        now = time.monotonic()
+        if now > self.again:
+            raise KeyboardInterrupt(number)
+        if not self.interrupted:
+            self.until, self.interrupted, self.again = -inf, number, now + 1
 
     def goal(self):
         """The least value whose bound, rounded up, is the tour's length."""
@@ -1506,6 +1511,25 @@ def write_branches(path, steps, bound, scale):
 # ---- the command
 
 
+def are_one(path, other):
+    """Whether two paths lead to one file, by whatever names. A device is no file."""
+    try:
+        return os.path.samefile(path, other) and os.path.isfile(path)
+    except OSError:  # one isn't there yet
+        return os.path.realpath(path) == os.path.realpath(other)
+
+
+def keep_apart(given, parser):
+    """Refuses an output that would overwrite an input, or the other output."""
+    inputs = [path for path in (given.instance, given.given) if path is not None]
+    for option, path in (("--branches", given.branches), ("--tour", given.tour)):
+        for other in inputs:
+            if path is not None and are_one(path, other):
+                parser.error(f"{option} would overwrite {other}, which is read: name another file")
+    if given.tour is not None and are_one(given.branches, given.tour):
+        parser.error("--branches and --tour are one file: name two")
+
+
 SCALE_HELP = "of the numbers, 1 to 1000000 (2520); the file has a part of it where that does"
 
 
@@ -1527,6 +1551,7 @@ def command():
         parser.error("the scale is a number from 1 to 1000000")
     if given.given is None and given.tour is None:
         parser.error("name a tour, or say by --tour where the one that is found goes")
+    keep_apart(given, parser)
     return given
 
 
@@ -1545,8 +1570,15 @@ def report(search, first, bound, size):
         print(f"branches: {line}", file=sys.stderr)
 
 
+def stop(number, _):
+    """Ends the script."""
+    raise KeyboardInterrupt(number)
+
+
 def main():
     given = command()
+    signal.signal(signal.SIGINT, stop)
+    signal.signal(signal.SIGTERM, stop)
     start = time.monotonic()
     instance = read_instance(given.instance)
     chance = random.Random(given.seed)
@@ -1557,6 +1589,7 @@ def main():
     search = Search(instance, tour, given.scale, start + 0.9 * given.seconds, chance)
     first = search.length
     signal.signal(signal.SIGINT, search.interrupt)
+    signal.signal(signal.SIGTERM, search.interrupt)
     steps = search.steps()
     search.progress.done()
     bound = search.bounds.bound(least_value(steps))
@@ -1568,12 +1601,12 @@ def main():
     report(search, first, bound, size)
     if search.interrupted:
         print("branches: interrupted; this is the best certificate so far", file=sys.stderr)
-        sys.exit(INTERRUPTED)
+        sys.exit(128 + search.interrupted)
 
 
 if __name__ == "__main__":
     try:
         main()
-    except KeyboardInterrupt:
+    except KeyboardInterrupt as ended:
         print("branches: interrupted before there was a certificate", file=sys.stderr)
-        sys.exit(INTERRUPTED)
+        sys.exit(128 + (ended.args or (signal.SIGINT,))[0])

@@ -10,7 +10,7 @@ from __future__ import annotations
 import sys
 from math import acos, cos
 
-from recheck import fields_of, whole
+from recheck import Faulty, fields_of, whole
 
 PI = 3.141592
 RADIUS = 6378.388
@@ -43,9 +43,12 @@ def main() -> None:
             sys.exit(f"geo: {sys.argv[1]}: NODE_COORD_SECTION has to list each node from 1 to {count} once")
         points = {node: (radians(x), radians(y)) for node, x, y in zip(nodes, words[1::3], words[2::3])}
         rows = [[distance(points[i], points[j]) for j in range(i + 1, count + 1)] for i in range(1, count)]
-        lines = [f"TYPE : {fields['TYPE'][0]}", "COMMENT : Weights computed from GEO in doubles, not proved"]
+        lines = [f"NAME : {' '.join(fields['NAME'])}"] if "NAME" in fields else []
+        lines += [f"TYPE : {fields['TYPE'][0]}", "COMMENT : Weights computed from GEO in doubles, not proved"]
     except OSError as fault:
         sys.exit(f"geo: {sys.argv[1]}: {fault.strerror}")
+    except Faulty as fault:
+        sys.exit(f"geo: {fault}")
     except (LookupError, ValueError):
         sys.exit(f"geo: {sys.argv[1]}: this isn't an instance with points")
     lines += [f"DIMENSION : {count}", "EDGE_WEIGHT_TYPE : EXPLICIT", "EDGE_WEIGHT_FORMAT : UPPER_ROW"]

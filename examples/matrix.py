@@ -8,7 +8,7 @@ from __future__ import annotations
 
 import sys
 
-from recheck import costs_of, fields_of, whole
+from recheck import Faulty, costs_of, fields_of, whole
 
 KINDS = ("EUC_2D", "CEIL_2D", "MAN_2D", "MAX_2D", "ATT", "EUC_3D", "MAN_3D", "MAX_3D")
 
@@ -25,9 +25,12 @@ def main() -> None:
         count = whole(fields["DIMENSION"][0])
         cost, nodes = costs_of(fields, count), range(1, count + 1)
         rows = [" ".join(str(cost(i, j)) for j in nodes) for i in nodes]
-        head = [f"TYPE : {fields['TYPE'][0]}", f"DIMENSION : {count}"]
+        head = [f"NAME : {' '.join(fields['NAME'])}"] if "NAME" in fields else []
+        head += [f"TYPE : {fields['TYPE'][0]}", f"DIMENSION : {count}"]
     except OSError as fault:
         sys.exit(f"matrix: {path}: {fault.strerror}")
+    except Faulty as fault:
+        sys.exit(f"matrix: {fault}")
     except (LookupError, ValueError):
         sys.exit(f"matrix: {path}: this isn't an instance with points")
     head += ["EDGE_WEIGHT_TYPE : EXPLICIT", "EDGE_WEIGHT_FORMAT : FULL_MATRIX", "EDGE_WEIGHT_SECTION"]

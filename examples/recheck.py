@@ -5,56 +5,96 @@ It reads an instance of TYPE TSP or ATSP, a tour, and a certificate, and prints 
 `tsp check` prints. Status 0 means `yes`, 1 `no`, 2 a file that isn't read here. It needs Python 3.9 and
 its standard library alone, and computes in whole numbers. It follows docs/format.md, which defines
 the numbers, and docs/proof.md, which says why they are bounds. It isn't proved, and it is lenient
-with files that the program refuses. A large instance is slow: a step takes n * n distances.
+with files that the program refuses. A faulty file is named, with a line of it. On a terminal it shows
+how far it is.
 """
 from __future__ import annotations
 
 import argparse
 import re
 import sys
+from bisect import bisect
 from fractions import Fraction
 from math import isqrt
+from pathlib import Path
 from typing import Callable, Hashable, Iterator, NoReturn, Optional
 
-Fields = dict[str, list[str]]
-Weight = Callable[[int, int], int]
+Row = Callable[[int], list[int]]  # the weights from a node to each node; the place 0 isn't used
 Case = dict[Hashable, bool]
 BILLION = 10**9
 DECIDED = 4 * BILLION**2
+MOST_KEPT = 5_000_000  # distances
 
 
 class No(Exception):
     """The first reason for the line `no`."""
 
 
-def refuse(words: str) -> NoReturn:
-    print(f"recheck: {words}", file=sys.stderr)
+class Faulty(ValueError):
+    """A file isn't as docs/format.md says: its name, a line, and what is wrong."""
+
+
+class Fields(dict[str, list[str]]):
+    """The words after each keyword, and those of each section."""
+
+    def __init__(self, path: str) -> None:
+        super().__init__({"not judged": []})
+        self.path = path
+        self.lines: dict[str, list[tuple[int, int]]] = {}  # of each line its first word's place, and its number
+
+    def __missing__(self, name: str) -> NoReturn:
+        raise Faulty(f"{self.path}: there is no {name}")
+
+    def add(self, name: str, line: int, words: list[str]) -> None:
+        """Adds the words of a line to a field."""
+        self.lines.setdefault(name, []).append((len(self.setdefault(name, [])), line))
+        self[name].extend(words)
+
+    def faulty(self, name: str, what: str, at: int = 0) -> Faulty:
+        """What is wrong with the word at a place of a field."""
+        lines = self.lines.get(name, [])
+        found = bisect(lines, (at, sys.maxsize)) - 1
+        line = f":{lines[found][1]}" if found >= 0 else ""
+        return Faulty(f"{self.path}{line}: {name}: {what}")
+
+
+def refuse(words: object) -> NoReturn:
+    show("")
+    print(f"{Path(sys.argv[0]).stem}: {words}", file=sys.stderr)
     sys.exit(2)
 
 
+def show(words: str) -> None:
+    """Shows how far it is, on a terminal."""
+    if sys.stderr.isatty():
+        print(f"\r{words:40}", end="\r" if not words else "", file=sys.stderr, flush=True)
+
+
 def fields_of(path: str) -> Fields:
-    """The words after each keyword, and those of each section."""
-    fields: Fields = {"not judged": []}
-    section: Optional[list[str]] = None
+    """The fields of a file."""
+    fields, section = Fields(path), ""
     with open(path, encoding="latin-1", newline="\n") as file:
-        for line in file:
+        for number, line in enumerate(file, 1):
             line = line.strip(" \t\n\v\f\r")
-            if not re.match("[A-Za-z]", line):
-                if line and section is None:
-                    refuse(f"{path}: a number outside of a section")
-                (section if section is not None else []).extend(re.findall("[^ \t\v\f\r]+", line))
+            match = re.match("([A-Za-z][^ \t\v\f\r:]*)[ \t\v\f\r]*:?(.*)", line, re.S)
+            if match is None:
+                if line and not section:
+                    refuse(f"{path}:{number}: a number outside of a section")
+                if line:
+                    fields.add(section, number, re.findall("[^ \t\v\f\r]+", line))
                 continue
-            keyword, colon, value = re.match("([^ \t\v\f\r:]+)[ \t\v\f\r]*(:?)(.*)", line, re.S).groups()
+            keyword, value = match.groups()
             if keyword == "EOF":
                 break
             keyword = "FIXED_EDGES_SECTION" if keyword == "FIXED_EDGES" else keyword
             if keyword in fields and (keyword in KNOWN - {"COMMENT"} or keyword.endswith("_SECTION")):
-                refuse(f"{path}: {keyword} comes twice")
-            section = fields.setdefault(keyword, []) if keyword.endswith("_SECTION") else None
-            if section is None:
-                fields[keyword] = value.split()
+                refuse(f"{path}:{number}: {keyword} comes twice")
+            section = keyword if keyword.endswith("_SECTION") else ""
+            if not section:
+                fields.pop(keyword, None)
                 if keyword not in KNOWN:
                     fields["not judged"].append(keyword)
+            fields.add(keyword, number, [] if section else value.split())
     return fields
 
 
@@ -73,17 +113,26 @@ def whole(word: str) -> int:
 
 
 def wholes(fields: Fields, name: str) -> list[int]:
-    return [whole(word) for word in fields.get(name, [])]
+    numbers: list[int] = []
+    for word in fields.get(name, []):
+        try:
+            numbers.append(int(word) if word.isascii() and word.isdigit() else whole(word))
+        except (ValueError, ZeroDivisionError):
+            raise fields.faulty(name, f"{word} is no whole number", len(numbers)) from None
+    return numbers
 
 
-def need(right: bool) -> None:
-    if not right:
-        raise ValueError
+def dimension_of(fields: Fields) -> int:
+    numbers = wholes(fields, "DIMENSION") if fields["DIMENSION"] else []
+    if not numbers:
+        raise fields.faulty("DIMENSION", "a number is missing")
+    return numbers[0]
 
 
 def scale_of(file: Fields) -> int:
     scale = (wholes(file, "SCALE") or [1])[0]
-    need(1 <= scale <= 10**6)
+    if not 1 <= scale <= 10**6:
+        raise file.faulty("SCALE", f"{scale} isn't 1 to 1000000")
     return scale
 
 
@@ -97,7 +146,8 @@ def ended(numbers: list[int], group: int) -> list[tuple[int, ...]]:
 def by_node(fields: Fields, name: str, count: int) -> list[int]:
     """A number for each node, from node 1 on; the place 0 isn't used."""
     numbers, words = [0] * (count + 1), wholes(fields, name)
-    need(sorted(words[0 : 2 * count : 2]) == list(range(1, count + 1)))
+    if sorted(words[0 : 2 * count : 2]) != list(range(1, count + 1)) or len(words) < 2 * count:
+        raise fields.faulty(name, f"each node from 1 to {count} is wanted once, with a number")
     for node, number in zip(words[0 : 2 * count : 2], words[1 : 2 * count : 2]):
         numbers[node] = number
     return numbers
@@ -118,62 +168,111 @@ def rounded(kind: str, gaps: list[int]) -> int:
     return (isqrt(4 * square // unit) + 1) // 2  # the nearest whole number, a half up
 
 
-def costs_of(fields: Fields, count: int) -> Weight:
+class Costs:
+    """The costs between nodes. The rows that were asked for are kept, as far as there aren't too many."""
+
+    def __init__(self, count: int, pair: Callable[[int, int], int], row: Row, symmetric: bool) -> None:
+        self.count, self.symmetric, self.pair, self.make = count, symmetric, pair, row
+        self.kept: dict[int, list[int]] = {}
+
+    def __call__(self, i: int, j: int) -> int:
+        return self.pair(i, j)
+
+    def row(self, i: int) -> list[int]:
+        """The costs from a node to each node."""
+        if i not in self.kept:
+            if (len(self.kept) + 1) * self.count > MOST_KEPT:
+                self.kept.clear()
+            self.kept[i] = self.make(i)
+        return self.kept[i]
+
+
+def costs_of(fields: Fields, count: int) -> Costs:
     """The cost from a node to another."""
-    kind, nodes = fields["EDGE_WEIGHT_TYPE"][0], range(1, count + 1)
+    kind = (fields["EDGE_WEIGHT_TYPE"] or ["none"])[0]
     if kind == "EXPLICIT":
-        layout, listed = fields["EDGE_WEIGHT_FORMAT"][0], iter(wholes(fields, "EDGE_WEIGHT_SECTION"))
-        matrix: dict[tuple[int, int], int] = {}
-        for i in nodes:  # the line, which is a column in layouts by columns
-            upper = layout.startswith("UPPER") or layout == "FULL_MATRIX"
-            for j in nodes:
-                off = j - i if layout.endswith("ROW") else i - j
-                wanted = off > 0 if layout.startswith("UPPER") else off < 0
-                if layout.endswith("COL"):
-                    wanted = j < i if upper else j > i
-                if layout == "FULL_MATRIX" or wanted or (i == j and "DIAG" in layout):
-                    matrix[(j, i) if layout.endswith("COL") else (i, j)] = next(listed)
-        if next(listed, None) is not None:
-            refuse("more weights than the layout has")
-        return lambda i, j: matrix[i, j] if (i, j) in matrix else matrix.get((j, i), 0)
-    need(kind in DISTANCES)
-    axes = 3 if kind.endswith("_3D") else 2
+        rows = matrix_of(fields, count)
+        return Costs(count, lambda i, j: rows[i][j], rows.__getitem__, False)
+    if kind not in DISTANCES:
+        raise fields.faulty("EDGE_WEIGHT_TYPE", f"{kind} isn't read here")
+    points = points_of(fields, kind, count)
+
+    def pair(i: int, j: int) -> int:
+        return rounded(kind, [abs(a - b) for a, b in zip(points[i], points[j])])
+
+    def row(i: int) -> list[int]:
+        return [rounded(kind, [abs(a - b) for a, b in zip(points[i], point)]) for point in points]
+
+    return Costs(count, pair, row, True)
+
+
+def matrix_of(fields: Fields, count: int) -> list[list[int]]:
+    """The rows of a matrix, from a layout."""
+    layout, numbers = (fields["EDGE_WEIGHT_FORMAT"] or ["none"])[0], wholes(fields, "EDGE_WEIGHT_SECTION")
+    full, columns, nodes = layout == "FULL_MATRIX", layout.endswith("COL"), range(1, count + 1)
+    listed, rows = iter(numbers), [[0] * (count + 1) for _ in range(count + 1)]
+    wanted = count * count if full else count * (count + (1 if "DIAG" in layout else -1)) // 2
+    if len(numbers) != wanted:
+        raise fields.faulty("EDGE_WEIGHT_SECTION", f"{layout} has {wanted} weights, and {len(numbers)} are listed")
+    upper = layout.startswith("UPPER") != columns  # a column above the diagonal is read as a row below it
+    for i in nodes:
+        for j in nodes:
+            if full or (i == j and "DIAG" in layout):
+                rows[i][j] = next(listed)
+            elif i < j if upper else j < i:
+                rows[i][j] = rows[j][i] = next(listed)
+    return rows
+
+
+def points_of(fields: Fields, kind: str, count: int) -> list[list[int]]:
+    """The coordinates of each node, in counts of 10^-9; the place 0 isn't used."""
+    axes, name = 3 if kind.endswith("_3D") else 2, "NODE_COORD_SECTION"
     group = 4 if axes == 3 or fields.get("NODE_COORD_TYPE", [""])[0] == "THREED_COORDS" else 3
-    words, points = fields["NODE_COORD_SECTION"][: group * count], {}
+    words, points = fields[name], {0: [0] * axes}
     for at in range(0, group * count, group):
-        exact = [Fraction(word) * BILLION for word in words[at + 1 : at + 1 + axes]]
-        need(all(number.denominator == 1 for number in exact))
-        points[whole(words[at])] = [int(number) for number in exact]
-    return lambda i, j: rounded(kind, [abs(a - b) for a, b in zip(points[i], points[j])])
+        try:
+            exact = [Fraction(word) * BILLION for word in words[at + 1 : at + 1 + axes]]
+            points[whole(words[at])] = [int(number) for number in exact]
+        except (LookupError, ValueError, ZeroDivisionError):
+            raise fields.faulty(name, "a node and its coordinates are wanted", at) from None
+        if len(exact) != axes or any(number.denominator != 1 for number in exact):
+            raise fields.faulty(name, "coordinates have at most nine decimals", at)
+    if sorted(points) != list(range(count + 1)):
+        raise fields.faulty(name, f"each node from 1 to {count} is wanted once")
+    return [points[node] for node in range(count + 1)]
 
 
-def tour_of(instance: Fields, solution: Fields, cost: Weight, count: int) -> list[int]:
+def tour_of(instance: Fields, solution: Fields, cost: Costs, count: int) -> list[int]:
     """The tour, if no reason is against it."""
     if solution.get("TYPE", [""])[0] != "TOUR":
         raise No("NotASolution")
     if count < 3:
         raise No("TooFewNodes")
     directed = instance["TYPE"][0] == "ATSP"
-    for i in range(1, count + 1 if not directed else 1):
+    for i in range(1, 1 if directed or cost.symmetric else count + 1):
         for j in range(i + 1, count + 1):
             if cost(i, j) != cost(j, i):
                 raise No(f"NotSymmetric {i} {j}")
-    if "DIMENSION" in solution and wholes(solution, "DIMENSION")[0] != count:
+    if "DIMENSION" in solution and dimension_of(solution) != count:
         raise No("Dimension")
     text = " ".join(map(str, wholes(solution, "TOUR_SECTION")))
     tours = [run.split() for run in re.split(r"(?<!\S)-1(?!\S)", text) if run.strip()]
     if len(tours) != 1:
         raise No("TourCount")
     tour = [int(word) for word in tours[0]]
-    need(min(tour) >= 1)
+    if min(tour) < 1:
+        place = wholes(solution, "TOUR_SECTION").index(min(tour))
+        raise solution.faulty("TOUR_SECTION", f"nodes count from 1, and this is {min(tour)}", place)
     if len(tour) != count:
         raise No("TourLength")
     for place, node in enumerate(tour, 1):
         if node > count:
             raise No(f"NodeOutOfRange {place}")
+    seen: set[int] = set()
     for place, node in enumerate(tour, 1):
-        if node in tour[: place - 1]:
+        if node in seen:
             raise No(f"RepeatedNode {place}")
+        seen.add(node)
     used = set(zip(tour, tour[1:] + tour[:1]))
     for number, (i, j) in enumerate(ended(wholes(instance, "FIXED_EDGES_SECTION"), 2), 1):
         if (i, j) not in used and (directed or (j, i) not in used):
@@ -181,22 +280,25 @@ def tour_of(instance: Fields, solution: Fields, cost: Weight, count: int) -> lis
     return tour
 
 
-def least_one_tree(count: int, weight: Weight) -> int:
+def least_one_tree(count: int, row: Row, stage: str = "") -> int:
     """The least weight of two edges at node 1 and a tree over the others."""
-    total = sum(sorted(weight(1, node) for node in range(2, count + 1))[:2])
-    near = {node: weight(2, node) for node in range(3, count + 1)}
-    while near:
-        node = min(near, key=near.__getitem__)
-        total += near.pop(node)
-        near = {other: min(value, weight(node, other)) for other, value in near.items()}
+    total = sum(sorted(row(1)[2:])[:2])
+    near, outside = row(2), set(range(3, count + 1))
+    while outside:
+        if len(outside) % 100 == 0:
+            show(f"{stage}{len(outside)} nodes are left")
+        node = min(outside, key=near.__getitem__)
+        outside.remove(node)
+        total += near[node]
+        near = list(map(min, near, row(node)))
     return total
 
 
-def bound_by_potentials(instance: Fields, file: Fields, cost: Weight, count: int) -> int:
+def bound_by_potentials(instance: Fields, file: Fields, cost: Costs, count: int) -> int:
     """The bound of potentials, or of duals, if no reason is against them."""
     if file.get("TYPE", [""])[0] != "POTENTIALS":
         raise No("NotPotentials")
-    if wholes(file, "DIMENSION")[0] != count:
+    if dimension_of(file) != count:
         raise No("PotentialsDimension")
     scale, nodes = scale_of(file), range(1, count + 1)
     directed = instance["TYPE"][0] == "ATSP"
@@ -219,11 +321,10 @@ def bound_by_potentials(instance: Fields, file: Fields, cost: Weight, count: int
     for number, pair in enumerate(pairs, 1):
         if pair in pairs[: number - 1]:
             raise No(f"MultiplierRepeated {number}")
-    off = {pair: triple[2] for pair, triple in zip(pairs, triples)}
-    tree = least_one_tree(
-        count, lambda i, j: scale * cost(i, j) + p[i] + p[j] - off.get(frozenset((i, j)), 0)
-    )
-    return -(-(tree - 2 * sum(p) + sum(off.values())) // scale)
+    off = sum(triple[2] for triple in triples)
+    changes = [(i, j, -multiplier) for i, j, multiplier in triples]
+    tree = least_one_tree(count, weights_of(scale, cost, p, [], changes))
+    return -(-(tree - 2 * sum(p) + off) // scale)
 
 
 def combs_of(numbers: list[int]) -> list[list[list[int]]]:
@@ -243,21 +344,25 @@ def combs_of(numbers: list[int]) -> list[list[list[int]]]:
     return combs
 
 
-def steps_of(numbers: list[int]) -> Iterator[list[int]]:
+def steps_of(file: Fields) -> Iterator[list[int]]:
     """The steps of the tree: a branch's two nodes, or a leaf's 0 and its indices and differences."""
-    words, missing = iter(numbers), 1
-    while missing:
-        step = [next(words)]
-        if step[0] == 0:
-            index = next(words)
-            while index != -1:
-                step += [index, next(words)]
+    name = "BRANCH_SECTION"
+    words, missing = iter(wholes(file, name)), 1
+    try:
+        while missing:
+            step = [next(words)]
+            if step[0] == 0:
                 index = next(words)
-            missing -= 1
-        else:
-            step.append(next(words))
-            missing += 1
-        yield step
+                while index != -1:
+                    step += [index, next(words)]
+                    index = next(words)
+                missing -= 1
+            else:
+                step.append(next(words))
+                missing += 1
+            yield step
+    except StopIteration:
+        raise file.faulty(name, "the tree isn't complete", max(0, len(file.get(name, [])) - 1)) from None
 
 
 def is_family(count: int, handle: list[int], *teeth: list[int]) -> bool:
@@ -308,7 +413,7 @@ def pair_of(directed: bool, i: int, j: int) -> Hashable:
     return (i, j) if directed else frozenset((i, j))
 
 
-def least_links(count: int, weight: Weight, case: Case) -> Optional[int]:
+def least_links(count: int, row: Row, case: Case) -> Optional[int]:
     """The least weights of the links from each node that the decisions allow, or None where a node has none."""
     after: dict[int, set[int]] = {}
     before: dict[int, set[int]] = {}
@@ -319,23 +424,25 @@ def least_links(count: int, weight: Weight, case: Case) -> Optional[int]:
     total, nodes = 0, range(1, count + 1)
     for i in nodes:
         allowed = [j for j in nodes if j != i and after.get(i, {j}) == {j} and before.get(j, {i}) == {i}]
-        weights = [weight(i, j) for j in allowed if case.get((i, j), True)]
+        links = row(i)
+        weights = [links[j] for j in allowed if case.get((i, j), True)]
         if not weights:
             return None
         total += min(weights)
     return total
 
 
-def bound_by_branches(instance: Fields, file: Fields, cost: Weight, count: int) -> int:
+def bound_by_branches(instance: Fields, file: Fields, cost: Costs, count: int) -> int:
     """The least of the bounds of the leaves, if no reason is against the tree."""
     if file.get("TYPE", [""])[0] != "BRANCHES":
         raise No("NotBranches")
-    if wholes(file, "DIMENSION")[0] != count:
+    if dimension_of(file) != count:
         raise No("BranchesDimension")
     combs = combs_of(wholes(file, "COMB_SECTION"))
     crossed: list[tuple[int, int]] = []
     for number, comb in enumerate(combs, 1):
-        need(all(1 <= node <= count for nodes in comb for node in nodes))
+        if not all(1 <= node <= count for nodes in comb for node in nodes):
+            raise file.faulty("COMB_SECTION", f"nodes are 1 to {count}, and those of comb {number} aren't")
         found = crossings_of(count, comb)
         if found is None:
             raise No(f"BadComb {number}")
@@ -345,13 +452,14 @@ def bound_by_branches(instance: Fields, file: Fields, cost: Weight, count: int) 
     open_cases: list[Case] = [{pair_of(directed, i, j): True for i, j in fixed}]
     leaves: list[tuple[list[int], Case]] = []
     branches = 0
-    for step in steps_of(wholes(file, "BRANCH_SECTION")):
+    for step in steps_of(file):
         case = open_cases.pop()
         if step[0] == 0:
             leaves.append((step, case))
             continue
         branches += 1
-        need(step[0] != step[1] and 1 <= min(step) and max(step) <= count)
+        if step[0] == step[1] or min(step) < 1 or max(step) > count:
+            raise file.faulty("BRANCH_SECTION", f"branch {branches} has to be on two nodes from 1 to {count}")
         pair = pair_of(directed, *step)
         if pair in case:
             raise No(f"BranchTwice {branches}")
@@ -359,8 +467,11 @@ def bound_by_branches(instance: Fields, file: Fields, cost: Weight, count: int) 
     scale, sets = scale_of(file), [[set(nodes) for nodes in comb] for comb in combs]
     numbers, bounds = [0] * (count + len(combs) + 1), []
     for leaf, (step, case) in enumerate(leaves, 1):
+        stage = f"leaf {leaf} of {len(leaves)}: "
+        show(stage)
         for index, difference in zip(step[1::2], step[2::2]):
-            need(index >= 1)
+            if index < 1:
+                raise file.faulty("BRANCH_SECTION", f"an index of leaf {leaf} is below 1")
             if index >= len(numbers):
                 raise No(f"BadLeaf {leaf}")
             numbers[index] += difference
@@ -371,30 +482,50 @@ def bound_by_branches(instance: Fields, file: Fields, cost: Weight, count: int) 
         active = [(number, nodes) for number, comb in zip(m, sets) if number for nodes in comb]
         back = sum(number * least for number, (least, _) in zip(m, crossed))
         if directed:
-            relaxed = least_links(count, leaf_weight(scale, cost, p, active, {}), case)
+            relaxed = least_links(count, weights_of(scale, cost, p, active, []), case)
         else:
-            relaxed = least_one_tree(count, leaf_weight(scale, cost, p, active, case)) + DECIDED * sum(case.values())
+            changes = [(*sorted(pair), -DECIDED if used else DECIDED) for pair, used in case.items()]
+            tree = least_one_tree(count, weights_of(scale, cost, p, active, changes), stage)
+            relaxed = tree + DECIDED * sum(case.values())
         if relaxed is not None:
             bounds.append(-(-(relaxed - 2 * sum(p) + back) // scale))
     return min(bounds)
 
 
-def leaf_weight(
-    scale: int, cost: Weight, p: list[int], active: list[tuple[int, set[int]]], case: Case
-) -> Weight:
-    """The weights of a leaf: its families make crossings cheaper, its decisions bind or bar a pair."""
+def weights_of(
+    scale: int, cost: Costs, p: list[int], active: list[tuple[int, set[int]]], changes: list[tuple[int, int, int]]
+) -> Row:
+    """The weights of a bound: families make crossings cheaper, and the weights of some pairs are changed.
 
-    def weight(i: int, j: int) -> int:
-        decided = {None: 0, True: -DECIDED, False: DECIDED}[case.get(frozenset((i, j)))]
-        crossed = sum(number for number, nodes in active if (i in nodes) != (j in nodes))
-        return scale * cost(i, j) + p[i] + p[j] + decided - crossed
+    A pair crosses each set that one of its nodes is in, but for those that both are in. So each node is
+    cheaper by the numbers of its sets, and a pair inside of a set twice as much dearer again.
+    """
+    prices, sets = list(p), [[] for _ in p]  # type: tuple[list[int], list[list[tuple[int, set[int]]]]]
+    for number, nodes in active:
+        for node in nodes:
+            prices[node] -= number
+            sets[node].append((2 * number, nodes))
+    more: dict[int, list[tuple[int, int]]] = {}
+    for i, j, change in changes:
+        more.setdefault(i, []).append((j, change))
+        more.setdefault(j, []).append((i, change))
 
-    return weight
+    def row(i: int) -> list[int]:
+        own = prices[i]
+        weights = [scale * value + own + price for value, price in zip(cost.row(i), prices)]
+        for twice, nodes in sets[i]:
+            for j in nodes:
+                weights[j] += twice
+        for j, change in more.get(i, []):
+            weights[j] += change
+        return weights
+
+    return row
 
 
 def report(instance: Fields, solution: Fields, kind: str, certificate: Optional[Fields]) -> int:
     """Prints the report, and returns the status."""
-    count = wholes(instance, "DIMENSION")[0]
+    count = dimension_of(instance)
     print(f"type {instance['TYPE'][0]}\nnodes {count}")
     for keyword in instance["not judged"]:
         print(f"not judged {keyword}")
@@ -406,6 +537,7 @@ def report(instance: Fields, solution: Fields, kind: str, certificate: Optional[
         if certificate is not None:
             bounds = {"potentials": bound_by_potentials, "branches": bound_by_branches}
             bound = bounds[kind](instance, certificate, cost, count)
+            show("")
             lines += [f"bound {bound}", "optimal" if bound == length else f"gap {length - bound}"]
     except No as reason:
         print(f"no {reason}")
@@ -414,8 +546,16 @@ def report(instance: Fields, solution: Fields, kind: str, certificate: Optional[
     return 0
 
 
+TIMES = (
+    "How long it takes: with potentials n * n steps, 3 seconds for 1,000 nodes. With branches as many for each"
+    " leaf, 1 to 2 seconds a leaf for 1,000 nodes. The tour alone takes n steps."
+)
+
+
 def main() -> int:
-    words = argparse.ArgumentParser(description="Checks a tour anew, in Python and whole numbers.")
+    words = argparse.ArgumentParser(
+        description="Checks a tour anew, in Python and whole numbers.", epilog=TIMES
+    )
     words.add_argument("instance", metavar="F", help="a file of TYPE TSP or ATSP")
     words.add_argument("solution", metavar="T", help="a file of TYPE TOUR")
     kinds = words.add_mutually_exclusive_group()
@@ -431,8 +571,11 @@ def main() -> int:
         return report(*files, kind, fields_of(path) if path else None)
     except OSError as fault:
         refuse(f"{fault.filename}: {fault.strerror}")
+    except Faulty as fault:
+        refuse(fault)
     except (ArithmeticError, LookupError, RuntimeError, StopIteration, TypeError, ValueError):
-        refuse("one of the files isn't as docs/format.md says")
+        names = ", ".join(filter(None, (given.instance, given.solution, path)))
+        refuse(f"one of the files isn't as docs/format.md says: {names}")
 
 
 if __name__ == "__main__":

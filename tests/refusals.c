@@ -1,14 +1,17 @@
 /* Comes before the C library of the program that is run with it (LD_PRELOAD), and refuses calls of
  * the program. Which ones, and how, the environment says:
  *
- *   REFUSE_CALL   the calls that are counted: memory, read, or write (to standard output alone)
+ *   REFUSE_CALL   the calls that are counted: memory, read, or write (to standard output alone);
+ *                 open: nothing is refused, and each path that is opened is written to descriptor 9
  *   REFUSE_AT     which of them is refused, counted from 1; none where it is missing
  *   REFUSE_REST   all later ones are refused too, where it is 1
+ *   REFUSE_LEAST  the fewest bytes that a request for memory has to be counted
  *   REFUSE_BY     a refused read or write fails with EIO or EINTR, and else answers 0 bytes
  *   REFUSE_BYTES  the most bytes that one of these reads or writes takes; any number where missing
  *
  * At the first refusal the number of reads before it is written to descriptor 9. */
 #include <errno.h>
+#include <fcntl.h>
 #include <stdio.h>
 #include <stdlib.h>
 #include <string.h>
@@ -47,9 +50,15 @@ static int is_refused(const char *call)
     return calls == at || (at > 0 && calls > at && says("REFUSE_REST", "1"));
 }
 
+/* Whether a request for so many bytes is refused. */
+static int is_refused_memory(size_t size)
+{
+    return size >= (size_t)number("REFUSE_LEAST") && is_refused("memory");
+}
+
 void *malloc(size_t size)
 {
-    if (!is_refused("memory"))
+    if (!is_refused_memory(size))
         return __libc_malloc(size);
     errno = ENOMEM;
     return NULL;
@@ -57,7 +66,7 @@ void *malloc(size_t size)
 
 void *realloc(void *block, size_t size)
 {
-    if (!is_refused("memory"))
+    if (!is_refused_memory(size))
         return __libc_realloc(block, size);
     errno = ENOMEM;
     return NULL;
@@ -96,6 +105,16 @@ ssize_t write(int file, const void *bytes, size_t size)
     if (is_refused("write"))
         return refuse();
     return syscall(SYS_write, file, bytes, part("write", size));
+}
+
+/* No mode is passed on: the program makes no file. */
+int open(const char *path, int flags, ...)
+{
+    if (says("REFUSE_CALL", "open")) {
+        syscall(SYS_write, 9, path, strlen(path));
+        syscall(SYS_write, 9, "\n", 1);
+    }
+    return syscall(SYS_openat, AT_FDCWD, path, flags);
 }
 
 /* The same call by its other name. */

@@ -3,6 +3,7 @@ function fail(words) {
     print "concorde-edges: " words | "cat 1>&2"
     exit status = 1
 }
+{ sub(/\r$/, "") } # lines of Windows end in bytes 13 and 10
 NF == 0 { next }
 NF < 2 || $1 !~ /^[0-9]+$/ || $2 !~ /^[0-9]+$/ { fail("line " NR ": this is no edge: " $0) }
 !started { started = 1; n = $1 + 0; edges = $2 + 0; next }

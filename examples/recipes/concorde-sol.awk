@@ -3,6 +3,7 @@ function fail(words) {
     print "concorde-sol: " words | "cat 1>&2"
     exit status = 1
 }
+{ sub(/\r$/, "") } # lines of Windows end in bytes 13 and 10
 {
     for (k = 1; k <= NF; k++) {
         if ($k !~ /^[0-9]+$/)

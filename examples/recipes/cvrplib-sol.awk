@@ -3,6 +3,7 @@ function fail(words) {
     print "cvrplib-sol: " words | "cat 1>&2"
     exit status = 1
 }
+{ sub(/\r$/, "") } # lines of Windows end in bytes 13 and 10
 sub(/^[ \t]*[Rr]oute[^:]*:/, "") {
     routes++
     for (k = 1; k <= NF; k++) {
@@ -13,7 +14,7 @@ sub(/^[ \t]*[Rr]oute[^:]*:/, "") {
     text = text "-1\n"
     next
 }
-tolower($1) == "cost" { cost = $2; next }
+sub(/^[ \t]*[Cc][Oo][Ss][Tt][ \t]*[:=]?[ \t]*/, "") { cost = $1; next }
 NF { fail("line " NR ": neither a route nor the cost: " $0) }
 END {
     if (status)

@@ -9,6 +9,7 @@ BEGIN {
     if (scale !~ /^[0-9]+$/ || scale + 0 < 1)
         fail("the scale is a whole number from 1 on, and this is none: " scale)
 }
+{ sub(/\r$/, "") } # lines of Windows end in bytes 13 and 10
 NF == 0 { next }
 !started {
     started = 1

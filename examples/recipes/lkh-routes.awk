@@ -15,6 +15,7 @@ BEGIN {
     if (dimension !~ /^[0-9]+$/ || dimension + 0 < 2 || depot !~ /^[0-9]+$/ || depot + 0 < 1 || depot + 0 > dimension + 0)
         fail("name the instance's DIMENSION by -v dimension=N, and a depot from 1 to N by -v depot=D")
 }
+{ sub(/\r$/, "") } # lines of Windows end in bytes 13 and 10
 over || NF == 0 { next }
 $1 == "TOUR_SECTION" { inside = 1; next }
 inside {

@@ -9,6 +9,7 @@ BEGIN {
     if (first != "0" && first != "1")
         fail("first is 0 or 1, and this is neither: " first)
 }
+{ sub(/\r$/, "") } # lines of Windows end in bytes 13 and 10
 {
     gsub(/[],;[]/, " ") # lists of other programs have commas and brackets
     for (k = 1; k <= NF; k++) {

@@ -4,6 +4,7 @@ function fail(words) {
     print "r-tour: " words | "cat 1>&2"
     exit status = 1
 }
+{ sub(/\r$/, "") } # lines of Windows end in bytes 13 and 10
 {
     sub(/^ *\[[0-9]+\]/, "") # print(as.integer(tour)) begins its lines with [1]
     for (k = 1; k <= NF; k++) {

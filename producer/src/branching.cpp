@@ -3,6 +3,7 @@
 #include <algorithm>
 #include <functional>
 
+namespace certify {
 namespace {
 constexpr std::size_t kCandidates = 12, kFinalists = 4;
 constexpr int kFewIterations = 25, kManyIterations = 300;
@@ -55,9 +56,9 @@ void Branching::score(Relaxation& relaxation, std::vector<Candidate>& candidates
   std::vector<double> best;
   for (Candidate& candidate : candidates) {
     const auto part = [&](int value) {
-      double& gain = candidate.gains[value];
-      if (gain == kUntried) gain = probe.gain(candidate.column, value);
-      return std::clamp(gain / trial.gap, kLeastPart, kMostPart);
+      std::optional<double>& gain = candidate.gains[value];
+      if (!gain) gain = probe.gain(candidate.column, value);
+      return std::clamp(*gain / trial.gap, kLeastPart, kMostPart);
     };
     const double first = part(candidate.first);
     candidate.score = first * kMostPart;
@@ -74,7 +75,7 @@ void Branching::score(Relaxation& relaxation, std::vector<Candidate>& candidates
   });
 }
 
-Pair Branching::choose(Relaxation& relaxation, double target) {
+std::optional<Pair> Branching::choose(Relaxation& relaxation, double target) {
   relaxation.purge(0);
   relaxation.solve();
   const double gap = std::max(target - relaxation.value(), 1e-6);
@@ -87,8 +88,9 @@ Pair Branching::choose(Relaxation& relaxation, double target) {
     if (found->second.gains != candidate.gains) found->second = {candidate.gains, candidate.score, choices_};
   }
   tried.resize(std::min(tried.size(), kFinalists));
-  if (tried.empty()) return {-1, -1};
-  for (Candidate& candidate : tried) candidate.gains = {kUntried, kUntried};
+  if (tried.empty()) return std::nullopt;
+  for (Candidate& candidate : tried) candidate.gains = {};
   score(relaxation, tried, {kManyIterations, gap, 1});
   return relaxation.edge(tried[0].column);
 }
+}  // namespace certify

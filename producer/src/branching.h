@@ -3,22 +3,25 @@
 // Source: D. Applegate, R. Bixby, V. Chvatal and W. Cook, The Traveling Salesman Problem (2006).
 #pragma once
 #include <map>
+#include <optional>
 
 #include "relaxation.h"
 
+namespace certify {
 class Branching {
  public:
   explicit Branching(const Matrix& weights) : weights_(weights) {}
-  // A pair to branch on that the solution uses in part, or a pair of -1.
-  Pair choose(Relaxation& relaxation, double target);
+  // A pair to branch on that the solution uses in part, where there is one.
+  std::optional<Pair> choose(Relaxation& relaxation, double target);
 
  private:
-  static constexpr double kUntried = -1;
+  using Gains =
+      std::array<std::optional<double>, 2>;  // of the values 0 and 1; nothing where that wasn't tried
   struct Candidate {
     int column;
-    std::array<double, 2> gains{kUntried, kUntried};  // of the values 0 and 1
-    int first = 0;                                    // the value that is tried first
-    double score = 0;                                 // where not all was tried, no less than it would be
+    Gains gains{};
+    int first = 0;     // the value that is tried first
+    double score = 0;  // where not all was tried, no less than it would be
   };
   // How a score is reckoned.
   struct Trial {
@@ -27,7 +30,7 @@ class Branching {
     std::size_t wanted;  // as many of the best have a score that is exact
   };
   struct Known {
-    std::array<double, 2> gains;
+    Gains gains;
     double score;
     int when;  // the number of the choice
   };
@@ -39,3 +42,4 @@ class Branching {
   int choices_ = 0;
   std::map<Pair, Known> history_;
 };
+}  // namespace certify

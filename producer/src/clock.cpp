@@ -1,15 +1,30 @@
 #include "clock.h"
 
-#include <unistd.h>
-
 #include <csignal>
-#include <cstdio>
 #include <ctime>
 
+namespace certify {
 namespace {
-volatile std::sig_atomic_t interrupt_came = 0;
+volatile std::sig_atomic_t first_signal = 0;
+timespec first_time{};  // of the signal; written once, before any later signal is looked at
 
-void note_interrupt(int) { interrupt_came = 1; }
+double seconds_since_first() {
+  timespec now{};
+  clock_gettime(CLOCK_MONOTONIC, &now);
+  return static_cast<double>(now.tv_sec - first_time.tv_sec) +
+         static_cast<double>(now.tv_nsec - first_time.tv_nsec) * 1e-9;
+}
+
+// Both calls in it may be made by a handler of signals.
+void note_signal(int signal) {
+  if (first_signal == 0) {
+    clock_gettime(CLOCK_MONOTONIC, &first_time);
+    first_signal = signal;
+  } else if (seconds_since_first() > 1) {
+    std::signal(signal, SIG_DFL);
+    std::raise(signal);
+  }
+}
 }  // namespace
 
 double Clock::now() {
@@ -18,25 +33,17 @@ double Clock::now() {
   return static_cast<double>(time.tv_sec) + static_cast<double>(time.tv_nsec) * 1e-9;
 }
 
-bool Clock::interrupted() { return interrupt_came != 0; }
+std::optional<int> Clock::signal() {
+  const int signal = first_signal;
+  return signal == 0 ? std::nullopt : std::optional(signal);
+}
 
-void Clock::catch_interrupts() {
+void Clock::catch_signals() {
   struct sigaction action {};
-  action.sa_handler = note_interrupt;
-  action.sa_flags = static_cast<int>(SA_RESETHAND | SA_RESTART);
-  sigaction(SIGINT, &action, nullptr);
+  action.sa_handler = note_signal;
+  action.sa_flags = SA_RESTART;
+  sigaddset(&action.sa_mask, SIGINT);
+  sigaddset(&action.sa_mask, SIGTERM);
+  for (const int signal : {SIGINT, SIGTERM}) sigaction(signal, &action, nullptr);
 }
-
-Progress::Progress() : terminal_(isatty(STDERR_FILENO) != 0) {}
-
-void Progress::show(const std::string& line) {
-  if (!terminal_ || (shown_ >= 0 && Clock::now() - shown_ < 0.2)) return;
-  shown_ = Clock::now();
-  std::fprintf(stderr, "\r\033[K%s", line.c_str());
-  std::fflush(stderr);
-}
-
-void Progress::clear() {
-  if (terminal_ && shown_ >= 0) std::fprintf(stderr, "\r\033[K");
-  shown_ = -1;
-}
+}  // namespace certify

@@ -3,6 +3,7 @@
 #include <algorithm>
 #include <array>
 
+namespace certify {
 namespace {
 constexpr double kNoComb = -9;
 constexpr int kMostSteps = 30;
@@ -79,8 +80,14 @@ double CombSearch::list_ends() {
   for (const int v : handle_.nodes()) {
     const int after = runs_.place[v], before = after == 0 ? count_ - 1 : after - 1;
     const int next = after + 1 == count_ ? 0 : after + 1;
-    if (!handle_.has(runs_.tour[next])) ends_.push_back(after), most += runs_.best_gain(after);
-    if (!handle_.has(runs_.tour[before])) ends_.push_back(before), most += runs_.best_gain(before);
+    if (!handle_.has(runs_.tour[next])) {
+      ends_.push_back(after);
+      most += runs_.best_gain(after);
+    }
+    if (!handle_.has(runs_.tour[before])) {
+      ends_.push_back(before);
+      most += runs_.best_gain(before);
+    }
   }
   return most;
 }
@@ -91,7 +98,10 @@ void CombSearch::list_intervals() {
   int widest = -1, base = 0;  // the places count from the middle of the widest gap
   for (std::size_t k = 0; k < ends_.size(); k++) {
     const int gap = k + 1 < ends_.size() ? ends_[k + 1] - ends_[k] : ends_[0] + count_ - ends_[k];
-    if (gap > widest) widest = gap, base = (ends_[k] + gap / 2 + 1) % count_;
+    if (gap > widest) {
+      widest = gap;
+      base = (ends_[k] + gap / 2 + 1) % count_;
+    }
   }
   intervals_.clear();
   for (const int end : ends_) {
@@ -250,14 +260,20 @@ void CombSearch::grow(int start, bool by_chance) {
     if (set.size() > 1 && !seen_.has(handle_.hash())) {
       const double runs = with_runs(kNoComb);
       const double violation = std::max(runs, with_edges());
-      if (violation > best) best = violation, best_set = set;
+      if (violation > best) {
+        best = violation;
+        best_set = set;
+      }
     }
     node = -1;
     double most = 0;
     for (const int v : touched) {
       if (handle_.has(v) || back_[v] <= 1e-6) continue;
       const double nearness = back_[v] * (by_chance ? 0.3 + random_.unit() : 1);
-      if (nearness > most) most = nearness, node = v;
+      if (nearness > most) {
+        most = nearness;
+        node = v;
+      }
     }
   }
   for (const int v : touched) back_[v] = 0;
@@ -278,7 +294,9 @@ std::vector<int> CombSearch::ends_of_handle() {
     for (const Edge& edge : graph_[v]) {
       if (handle_.has(edge.to)) continue;
       for (const int end : {v, edge.to}) {
-        if (!used_[end]) used_[end] = 1, nodes.push_back(end);
+        if (used_[end]) continue;
+        used_[end] = 1;
+        nodes.push_back(end);
       }
     }
   }
@@ -355,3 +373,4 @@ std::vector<FoundComb> CombSearch::find(const std::vector<NodeSet>& known, int c
   std::stable_sort(found_.begin(), found_.end(), [](auto& a, auto& b) { return a.violation > b.violation; });
   return std::move(found_);
 }
+}  // namespace certify

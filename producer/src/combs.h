@@ -11,6 +11,7 @@
 #include "random.h"
 #include "runs.h"
 
+namespace certify {
 struct FoundComb {
   double violation;
   std::vector<NodeSet> sets;
@@ -107,3 +108,4 @@ class CombSearch {
   std::vector<char> used_;
   std::vector<double> back_;
 };
+}  // namespace certify

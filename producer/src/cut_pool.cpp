@@ -4,6 +4,7 @@
 
 #include "random.h"
 
+namespace certify {
 double violation(const Cut& cut, const Graph& graph, std::vector<char>& scratch) {
   double inside = 0;
   for (const NodeSet& set : cut.sets) {
@@ -81,3 +82,4 @@ int CutPool::add(bool comb, std::vector<NodeSet> sets) {
   cuts_.push_back(std::move(cut));
   return size() - 1;
 }
+}  // namespace certify

@@ -9,6 +9,7 @@
 
 #include "support.h"
 
+namespace certify {
 struct Cut {
   bool comb = false;
   std::vector<NodeSet> sets;  // of a comb the handle first, then its teeth; the nodes are sorted
@@ -42,3 +43,4 @@ class CutPool {
   std::vector<Cut> cuts_;
   std::unordered_multimap<std::uint64_t, int> by_hash_;
 };
+}  // namespace certify

@@ -8,6 +8,7 @@
 #include "local_search.h"
 #include "tsp_program.h"
 
+namespace certify {
 namespace {
 constexpr int kChildren = 30;
 constexpr int kPatience = 30;
@@ -167,7 +168,10 @@ void Crossover::begin(Links& links, const Tour& order) {
 void Crossover::list_edges(const Cycle& cycle) {
   const std::size_t size = cycle.size();
   const int nodes = static_cast<int>(order_.size());
-  removed_.clear(), added_.clear(), cuts_.clear(), log_.clear();
+  removed_.clear();
+  added_.clear();
+  cuts_.clear();
+  log_.clear();
   change_ = 0;
   for (std::size_t k = 0; k < size; k += 2) {
     const int u = cycle[k], v = cycle[k + 1], w = cycle[k + 2 == size ? 0 : k + 2];
@@ -237,11 +241,13 @@ void Crossover::relink(const Cycle& cycle) {
 void Crossover::find_subtours() {
   const std::size_t count = cuts_.size();
   part_of_.assign(count, -1);
-  part_size_.clear(), segments_of_.clear();
+  part_size_.clear();
+  segments_of_.clear();
   for (std::size_t s = 0; s < count; s++) {
     if (part_of_[s] >= 0) continue;
     const int part = static_cast<int>(part_size_.size());
-    part_size_.push_back(0), segments_of_.emplace_back();
+    part_size_.push_back(0);
+    segments_of_.emplace_back();
     int segment = static_cast<int>(s), entered = 0;
     while (part_of_[segment] < 0) {
       part_of_[segment] = part;
@@ -291,11 +297,14 @@ bool Crossover::join_smallest() {
   const Join join = best_join(part);
   if (join.v < 0) return false;
   change_ += join.change;
-  set_link(join.v, join.after_v, join.w), set_link(join.w, join.after_w, join.v);
-  set_link(join.after_v, join.v, join.after_w), set_link(join.after_w, join.w, join.after_v);
-  removed_.push_back(std::minmax(join.v, join.after_v)),
-      removed_.push_back(std::minmax(join.w, join.after_w));
-  added_.push_back(std::minmax(join.v, join.w)), added_.push_back(std::minmax(join.after_v, join.after_w));
+  set_link(join.v, join.after_v, join.w);
+  set_link(join.w, join.after_w, join.v);
+  set_link(join.after_v, join.v, join.after_w);
+  set_link(join.after_w, join.w, join.after_v);
+  removed_.push_back(std::minmax(join.v, join.after_v));
+  removed_.push_back(std::minmax(join.w, join.after_w));
+  added_.push_back(std::minmax(join.v, join.w));
+  added_.push_back(std::minmax(join.after_v, join.after_w));
   for (const int segment : segments_of_[part]) {
     part_of_[segment] = join.part;
     segments_of_[join.part].push_back(segment);
@@ -383,7 +392,10 @@ void Eax::cross(int a, int b) {
     if (crossover_.apply(cycles[k]) && crossover_.change() < 0) {
       const double loss = -entropy_change(crossover_);
       const double score = static_cast<double>(-crossover_.change()) / std::max(loss, 1e-9);
-      if (score > best_score) best_score = score, best = k;
+      if (score > best_score) {
+        best_score = score;
+        best = k;
+      }
     }
     crossover_.undo();
   }
@@ -438,3 +450,4 @@ std::vector<Pair> Eax::edges() const {
   edges.erase(std::unique(edges.begin(), edges.end()), edges.end());
   return edges;
 }
+}  // namespace certify

@@ -10,6 +10,7 @@
 #include "random.h"
 #include "tour.h"
 
+namespace certify {
 using Links = std::vector<std::array<int, 2>>;  // the two neighbours of each node
 using Cycle = std::vector<int>;                 // edges of A and of B in turn, of A first
 
@@ -102,3 +103,4 @@ Matrix with_potentials(Matrix costs, const std::vector<Weight>& potentials);
 // The maximal paths of these pairs, each node in one. Throws Refusal where no tour uses all pairs.
 std::vector<std::vector<int>> paths_of(const std::vector<Pair>& fixed, int nodes);
 Tour order_of(const Links& links);
+}  // namespace certify

@@ -5,6 +5,7 @@
 #include <cstdint>
 #include <vector>
 
+namespace certify {
 class HandleTable {
  public:
   // The violation, or nullptr.
@@ -43,3 +44,4 @@ class HandleTable {
   std::vector<Cell> cells_ = std::vector<Cell>(4096);
   std::size_t count_ = 0;
 };
+}  // namespace certify

@@ -11,6 +11,7 @@
 
 #include "tsp_program.h"
 
+namespace certify {
 namespace {
 __extension__ typedef unsigned __int128 Wide;
 constexpr Weight kUnit = 1000000000;
@@ -51,7 +52,9 @@ Wide square_root(Wide square) {
   return root;
 }
 
-Matrix distances(const Fields& fields, int nodes) {
+// Takes the distances of points.
+void measure(const Fields& fields, Instance& instance) {
+  const int nodes = instance.nodes();
   const std::string& kind = first_of(fields, "EDGE_WEIGHT_TYPE");
   const bool deep = kind.find("_3D") != std::string::npos;
   const bool groups_of_four = deep || first_of(fields, "NODE_COORD_TYPE") == "THREED_COORDS";
@@ -62,48 +65,60 @@ Matrix distances(const Fields& fields, int nodes) {
     std::array<Weight, 3>& point = points.at(std::stoul(words[k]) - 1);
     for (std::size_t axis = 0; axis < (deep ? 3u : 2u); axis++) point[axis] = count_of(words[k + 1 + axis]);
   }
-  Matrix weights(nodes);
   for (int i = 0; i < nodes; i++) {
     for (int j = i + 1; j < nodes; j++) {
-      const auto &a = points[i], &b = points[j];
-      weights.set(i, j, distance_of(kind, a[0] - b[0], a[1] - b[1], a[2] - b[2]));
+      const auto& a = points[i];
+      const auto& b = points[j];
+      instance.weights.set(i, j, distance_of(kind, a[0] - b[0], a[1] - b[1], a[2] - b[2]));
     }
   }
-  return weights;
+  instance.rounded =
+      std::any_of(points.begin(), points.end(), [&](const auto& point) { return point != points[0]; });
 }
 
-Matrix full_matrix(const Fields& fields, int nodes, const std::string& path) {
+Matrix full_matrix(const Fields& fields, int nodes) {
   const std::vector<std::string>& words = fields.at("EDGE_WEIGHT_SECTION");
   Matrix weights(nodes);
   for (int i = 0; i < nodes; i++) {
-    for (int j = 0; j < i; j++) {
+    for (int j = 0; j < nodes; j++) {
       const std::size_t place = static_cast<std::size_t>(i) * nodes + j;
-      const std::size_t mirrored = static_cast<std::size_t>(j) * nodes + i;
-      if (words.at(place) != words.at(mirrored)) throw Refusal(path + ": the weights aren't symmetric");
-      weights.set(i, j, std::stoll(words[place]));
+      if (i != j) weights.set_arc(i, j, std::stoll(words.at(place)));
     }
   }
   return weights;
 }
 
-std::vector<Pair> fixed_pairs(const Fields& fields) {
+bool is_symmetric(const Matrix& weights) {
+  for (int i = 0; i < weights.nodes(); i++) {
+    for (int j = 0; j < i; j++) {
+      if (weights(i, j) != weights(j, i)) return false;
+    }
+  }
+  return true;
+}
+
+std::vector<Pair> fixed_pairs(const Fields& fields, const Instance& instance) {
   std::set<Pair> pairs;
   const auto found = fields.find("FIXED_EDGES_SECTION");
   if (found == fields.end()) return {};
   const std::vector<std::string>& words = found->second;
   for (std::size_t k = 0; k + 1 < words.size() && words[k] != "-1"; k += 2) {
-    pairs.insert(std::minmax(std::stoi(words[k]) - 1, std::stoi(words[k + 1]) - 1));
+    pairs.insert(instance.link(std::stoi(words[k]) - 1, std::stoi(words[k + 1]) - 1));
   }
   return {pairs.begin(), pairs.end()};
 }
 
 void refuse_other_kinds(const std::string& kind, const std::string& path) {
-  if (kind == "TSP") return;
-  std::string why = path + ": the file is of TYPE " + kind + ", and certificates are for TYPE TSP";
-  if (kind == "ATSP") why += "; examples/ascent.py makes the duals of an ATSP";
-  throw Refusal(why);
+  if (kind == "TSP" || kind == "ATSP") return;
+  throw Refusal(path + ": the file is of TYPE " + kind + ", and certificates are for TYPE TSP and ATSP");
 }
 }  // namespace
+
+bool Instance::allows(const Tour& tour) const {
+  const std::vector<Pair> links = links_of(tour);
+  const std::set<Pair> used(links.begin(), links.end());
+  return std::all_of(fixed.begin(), fixed.end(), [&](const Pair& pair) { return used.contains(pair); });
+}
 
 Weight count_of(const std::string& word) {
   const bool negative = !word.empty() && word[0] == '-';
@@ -132,15 +147,22 @@ Weight distance_of(const std::string& kind, Weight x, Weight y, Weight z) {
 Instance read_instance(const std::string& tsp, const std::string& path) {
   Fields fields = fields_of(canonical_text(tsp, path, {}));
   refuse_other_kinds(first_of(fields, "TYPE"), path);
+  const bool directed = first_of(fields, "TYPE") == "ATSP";
   const int nodes = std::stoi(first_of(fields, "DIMENSION"));
   if (nodes < 3) throw Refusal(path + ": there are no tours of fewer than three nodes");
   if (nodes > kMostNodes) {
     throw Refusal(path + ": more than " + std::to_string(kMostNodes) + " nodes aren't taken");
   }
-  std::vector<Pair> fixed = fixed_pairs(fields);
-  if (first_of(fields, "EDGE_WEIGHT_TYPE") != "EXPLICIT") return {distances(fields, nodes), std::move(fixed)};
+  Instance instance{Matrix(nodes), {}, directed};
+  instance.fixed = fixed_pairs(fields, instance);
+  if (first_of(fields, "EDGE_WEIGHT_TYPE") != "EXPLICIT") {
+    measure(fields, instance);
+    return instance;
+  }
   fields = fields_of(canonical_text(tsp, path, {"--layout", "FULL_MATRIX"}));
-  return {full_matrix(fields, nodes, path), std::move(fixed)};
+  instance.weights = full_matrix(fields, nodes);
+  if (!directed && !is_symmetric(instance.weights)) throw Refusal(path + ": the weights aren't symmetric");
+  return instance;
 }
 
 Tour read_tour(const std::string& tsp, const std::string& path, const Instance& instance) {
@@ -157,6 +179,7 @@ Tour read_tour(const std::string& tsp, const std::string& path, const Instance& 
       throw Refusal(path + ": this is no tour of the instance");
     }
   }
-  if (!uses(tour, instance.fixed)) throw Refusal(path + ": the tour doesn't use all fixed edges");
+  if (!instance.allows(tour)) throw Refusal(path + ": the tour doesn't use all fixed edges");
   return tour;
 }
+}  // namespace certify

@@ -5,6 +5,7 @@
 #include <cstdlib>
 #include <set>
 
+namespace certify {
 namespace {
 constexpr Weight kLargestGrid = 1000000;
 constexpr int kTrials = 60;  // of bounds for a leaf that is made like the last
@@ -16,19 +17,20 @@ Weight rounded(double number, Weight grid) {
 }
 }  // namespace
 
-// The dual of a set is given by potentials alone: a tree over the nodes 1.. keeps those of sets
-// without node 0 by itself, and a set with node 0 is turned into the other side. That of a comb is
-// the multiplier, halved since each crossing counts.
+// The dual of a comb is its multiplier, halved since each crossing counts. Of an ATSP so is that of a set,
+// and the potentials are the duals of the arcs that enter: rows take those of the arcs that leave by
+// themselves. Of a TSP the dual of a set is given by potentials alone: a tree over the nodes 1.. keeps those
+// of sets without node 0 by itself, and a set with node 0 is turned into the other side.
 Numbers Leaves::extract(const Relaxation& relaxation, Weight grid) {
   Numbers numbers;
   const int nodes = static_cast<int>(relaxation.support().size());
   const double scale = static_cast<double>(bound_.scale());
   std::vector<double> potentials(nodes);
-  for (int v = 0; v < nodes; v++) potentials[v] = -relaxation.node_dual(v) * scale;
+  for (int v = 0; v < nodes; v++) potentials[v] = -relaxation.entering_dual(v) * scale;
   for (std::size_t row = 0; row < relaxation.cuts().size(); row++) {
     const double dual = relaxation.cut_dual(row) * scale;
     const Cut& cut = pool_[relaxation.cuts()[row]];
-    if (cut.comb) {
+    if (cut.comb || directed_) {
       const Weight multiplier = rounded(dual / 2, grid);
       if (multiplier <= 0) continue;
       numbers.multipliers[relaxation.cuts()[row]] = multiplier;
@@ -51,11 +53,14 @@ Numbers Leaves::extract(const Relaxation& relaxation, Weight grid) {
   return numbers;
 }
 
-// One step of subgradient ascent. False where the tree is a tour that crosses each cut as often.
+// One step of subgradient ascent. False where the links are a tour that crosses each cut as often.
 bool Leaves::step(Numbers& numbers, double length_times_square) const {
-  const std::vector<Pair>& tree = bound_.tree();
+  const std::vector<Pair>& links = bound_.links();
   std::vector<int> degree(numbers.potentials.size(), -2);
-  for (auto [i, j] : tree) degree[i]++, degree[j]++;
+  for (const auto& [i, j] : links) {
+    degree[i]++;
+    degree[j]++;
+  }
   double square = 0;
   for (const int d : degree) square += static_cast<double>(d) * d;
   const std::map<int, int> crossings = bound_.crossings();
@@ -173,3 +178,4 @@ Numbers Leaves::near_last(Numbers numbers, const std::vector<Decision>& decision
   }
   return numbers;
 }
+}  // namespace certify

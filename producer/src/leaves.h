@@ -4,9 +4,11 @@
 #pragma once
 #include "exact_bound.h"
 
+namespace certify {
 class Leaves {
  public:
-  Leaves(ExactBound& bound, const CutPool& pool) : bound_(bound), pool_(pool) {}
+  Leaves(ExactBound& bound, const CutPool& pool, bool directed)
+      : bound_(bound), pool_(pool), directed_(directed) {}
   // The duals of the solution, as multiples of a grid.
   Numbers extract(const Relaxation& relaxation, Weight grid);
   // Numbers that reach the goal under the decisions. False where none were found.
@@ -28,7 +30,9 @@ class Leaves {
 
   ExactBound& bound_;
   const CutPool& pool_;
+  const bool directed_;
   bool has_shift_ = false;
   Weight shift_ = 0;
   Numbers last_;
 };
+}  // namespace certify

@@ -2,6 +2,7 @@
 
 #include <utility>
 
+namespace certify {
 int LocalSearch::beside(int node, int step) const {
   const int nodes = static_cast<int>(tour_.size());
   int place = place_[node] + step;
@@ -116,3 +117,4 @@ void LocalSearch::improve(Tour& tour) {
   }
   tour = std::move(tour_);
 }
+}  // namespace certify

@@ -3,6 +3,7 @@
 #pragma once
 #include "tour.h"
 
+namespace certify {
 class LocalSearch {
  public:
   LocalSearch(const Matrix& costs, const Neighbours& near)
@@ -25,3 +26,4 @@ class LocalSearch {
   std::vector<int> queue_;
   std::vector<char> queued_;
 };
+}  // namespace certify

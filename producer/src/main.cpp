@@ -2,16 +2,19 @@
 //
 // Nothing here is proved, and nothing has to be trusted: `tsp check` decides what a certificate is worth.
 #include <algorithm>
-#include <cstdio>
 #include <exception>
+#include <iomanip>
 #include <iostream>
 
+#include "arc_tours.h"
 #include "eax.h"
 #include "options.h"
 #include "tsp_program.h"
 #include "writing.h"
 
+namespace certify {
 namespace {
+constexpr int kArcRuns = 4, kArcPatience = 200;  // of the search for a tour of an ATSP
 constexpr int kPopulation = 200;
 constexpr int kSmallPopulation = 30;   // where a tour was named
 constexpr double kPartForTours = 0.4;  // of the time
@@ -28,75 +31,100 @@ Tour shortest_by_orders(const Matrix& costs) {
   return best;
 }
 
+Start find_arcs(const Instance& instance, const Options& options, const Clock& clock, Start start) {
+  const auto late = [&] { return clock.over(kPartForTours); };
+  ArcTours found = find_arc_tours(instance, kArcRuns, kArcPatience, options.seed, late);
+  start.tour = std::move(found.best);
+  start.further = std::move(found.further);
+  start.edges = std::move(found.arcs);
+  return start;
+}
+
 Start find_tours(const Instance& instance, const Options& options, const Clock& clock, Progress& progress) {
   Start start;
   start.seed = options.seed;
   start.upper = options.upper;
-  start.named = !options.tour.empty();
+  start.named = options.tour.has_value();
+  if (instance.directed) return find_arcs(instance, options, clock, std::move(start));
   const Matrix costs = with_fixed_lowered(instance.weights, instance.fixed);
   paths_of(instance.fixed, instance.nodes());
   if (instance.nodes() <= kFewNodes) {
     start.tour = shortest_by_orders(costs);
     return start;
   }
-  Eax eax(costs, instance.fixed, options.tour.empty() ? kPopulation : kSmallPopulation, options.seed);
-  start.tour = eax.run(
-      [&] { return clock.over(kPartForTours); },
-      [&](Weight) {
-        progress.show("seconds " + std::to_string(static_cast<int>(Clock::now())) + " looking for a tour");
-      });
+  Eax eax(costs, instance.fixed, options.tour ? kSmallPopulation : kPopulation, options.seed);
+  start.tour = eax.run([&] { return clock.over(kPartForTours); },
+                       [&](Weight) {
+                         std::string line = "seconds " + std::to_string(static_cast<int>(Clock::now()));
+                         progress.show(line.append(" looking for a tour"));
+                       });
   start.further = eax.snapshots();
   start.edges = eax.edges();
   return start;
 }
 
+// A length that says little: where distances of points are rounded away.
+void warn_of_rounding(const Instance& instance, const Tour& tour) {
+  const std::vector<Pair> arcs = arcs_of(tour);
+  const auto tiny = [&](const Pair& arc) {
+    const Weight weight = instance.weights(arc.first, arc.second);
+    return weight == 0 || weight == 1;
+  };
+  if (!instance.rounded || !std::all_of(arcs.begin(), arcs.end(), tiny)) return;
+  std::cerr
+      << "tsp-certify: distances are rounded to whole numbers, and each of this tour is 0 or 1: multiply the "
+         "coordinates by a power of ten, and say so where the length is published\n";
+}
+
 // Reports the files, and the gap by its own reckoning.
-void report(const Options& options, const Search& search, const Instance& instance, Weight given) {
-  const Weight length = length_of(instance.weights, search.tour()), bound = std::min(search.bound(), length);
-  std::fprintf(stderr,
-               "tsp-certify: length %lld, bound %lld as reckoned here, leaves %d, processor seconds %.1f\n",
-               static_cast<long long>(length), static_cast<long long>(bound), search.leaves(), Clock::now());
-  if (bound < length) {
-    std::fprintf(stderr, "tsp-certify: a gap of %lld is left\n", static_cast<long long>(length - bound));
+void report(const Options& options, const Search& search, const Instance& instance, const Tour& given) {
+  const Weight length = length_of(instance.weights, search.tour());
+  const Weight bound = std::min(search.bound(), length);
+  std::cerr << "tsp-certify: length " << length << ", bound " << bound << " as reckoned here, leaves "
+            << search.leaves() << ", processor seconds " << std::fixed << std::setprecision(1) << Clock::now()
+            << "\n";
+  if (bound < length) std::cerr << "tsp-certify: a gap of " << length - bound << " is left\n";
+  if (!given.empty() && length < length_of(instance.weights, given)) {
+    std::cerr << "tsp-certify: a shorter tour than the named one was found"
+              << (options.tour_out ? "" : "; --tour-out says where it goes") << "\n";
   }
-  if (!options.tour.empty() && length < given) {
-    std::fprintf(stderr, "tsp-certify: a shorter tour than the named one was found%s\n",
-                 options.tour_out.empty() ? "; --tour-out says where it goes" : "");
-  }
-  const std::string tour = options.tour_out.empty() ? options.tour : options.tour_out;
-  std::fprintf(stderr, "tsp-certify: this decides: tsp check %s %s --branches %s\n", options.instance.c_str(),
-               tour.empty() ? "TOUR" : tour.c_str(), options.certificate.c_str());
+  warn_of_rounding(instance, search.tour());
+  const std::string tour = options.tour_out.value_or(options.tour.value_or("TOUR"));
+  std::cerr << "tsp-certify: this decides: tsp check " << options.instance << " " << tour << " --branches "
+            << options.certificate << "\n";
 }
 
 int run(const Options& options) {
   const std::string tsp = find_tsp(options.tsp);
   const Instance instance = read_instance(tsp, options.instance);
-  Tour given;
-  if (!options.tour.empty()) given = read_tour(tsp, options.tour, instance);
-  Clock::catch_interrupts();
+  const Tour given = options.tour ? read_tour(tsp, *options.tour, instance) : Tour{};
+  Progress progress(options.log);
+  Clock::catch_signals();
   const Clock clock(options.seconds);
-  Progress progress;
   Start start = find_tours(instance, options, clock, progress);
-  if (!uses(start.tour, instance.fixed)) throw Refusal("no tour uses all fixed edges");
-  const Weight length = given.empty() ? 0 : length_of(instance.weights, given);
-  if (!given.empty() && length <= length_of(instance.weights, start.tour)) start.tour = given;
+  if (!instance.allows(start.tour)) throw Refusal("no tour uses all fixed edges");
+  if (!given.empty() && length_of(instance.weights, given) <= length_of(instance.weights, start.tour)) {
+    start.tour = given;
+  }
   Search search(instance, start, clock, progress);
   search.run();
   write_certificate(options.certificate, search);
-  if (!options.tour_out.empty()) write_tour(options.tour_out, search.tour());
-  report(options, search, instance, length);
-  return Clock::interrupted() ? 130 : 0;
+  if (options.tour_out) write_tour(*options.tour_out, search.tour());
+  progress.end();
+  report(options, search, instance, given);
+  return Clock::signal() ? 128 + *Clock::signal() : 0;
 }
 }  // namespace
+}  // namespace certify
 
 int main(int count, char** words) {
   try {
-    const Options options = parse_options(count, words);
-    if (options.help) {
-      std::cout << kHelp;
+    const auto asked = certify::parse_options(count, words);
+    if (const auto* help = std::get_if<certify::Help>(&asked)) {
+      std::cout << help->text;
       return 0;
     }
-    return run(options);
+    return certify::run(std::get<certify::Options>(asked));
   } catch (const std::bad_alloc&) {
     std::cerr << "tsp-certify: out of memory\n";
   } catch (const std::exception& fault) {

@@ -1,95 +1,89 @@
 #include "options.h"
 
-#include <cmath>
-#include <functional>
-#include <map>
+#include <CLI/CLI.hpp>
+#include <array>
+#include <filesystem>
+#include <vector>
 
 #include "tsp_program.h"
 
-const char* const kHelp =
-    "Makes a certificate of TYPE BRANCHES for a TSP, and a tour where none is named\n"
-    "\n"
-    "Usage: tsp-certify INSTANCE [TOUR] -o CERTIFICATE [OPTIONS]\n"
-    "\n"
-    "  -o CERTIFICATE   where the certificate is written\n"
-    "  --tour-out TOUR  where the shortest tour that was found is written\n"
-    "  --seconds S      processor seconds, 0 for no limit (300)\n"
-    "  --seed N         of the choices by chance (1)\n"
-    "  --upper L        a bound of L is enough\n"
-    "  --tsp PATH       the program tsp; else it is looked for on PATH, then in the folders above\n"
-    "  --help           this text\n"
-    "\n"
+namespace certify {
+namespace fs = std::filesystem;
+
+namespace {
+constexpr const char* kFooter =
     "The certificate isn't proved here. This decides what it is worth:\n"
     "  tsp check INSTANCE TOUR --branches CERTIFICATE\n"
     "\n"
-    "Exit status: 0 the files are written, 2 a fault, 130 they are written after an interrupt\n";
+    "Exit status: 0 the files are written, 2 a fault, 130 they are written after SIGINT, 143 after SIGTERM";
 
-namespace {
-double number_of(const std::string& name, const std::string& word) {
-  std::size_t end = 0;
-  double number = 0;
-  try {
-    number = std::stod(word, &end);
-  } catch (const std::logic_error&) {
-    end = 0;
-  }
-  if (end == 0 || end != word.size() || !std::isfinite(number))
-    throw Refusal(name + ": this is no number: " + word);
-  return number;
+void declare(CLI::App& app, Options& options) {
+  app.set_help_flag("-h,--help", "this text");
+  app.add_option("INSTANCE", options.instance, "a file of TYPE TSP or ATSP")->required();
+  app.add_option("TOUR", options.tour, "a tour to begin with");
+  app.add_option("-o", options.certificate, "where the certificate is written")
+      ->required()
+      ->type_name("CERTIFICATE");
+  app.add_option("--tour-out", options.tour_out, "where the shortest tour that was found is written")
+      ->type_name("TOUR");
+  app.add_option("--seconds", options.seconds, "processor seconds, 0 for no limit")
+      ->type_name("S")
+      ->check(CLI::NonNegativeNumber)
+      ->capture_default_str();
+  app.add_option("--seed", options.seed, "of the choices by chance")->type_name("N")->capture_default_str();
+  app.add_option("--upper", options.upper, "a bound of L is enough")->type_name("L");
+  app.add_option(
+         "--tsp", options.tsp,
+         "the program tsp: a path, or a name that is looked for on PATH; else it is tsp on PATH, then in the "
+         "folders above")
+      ->type_name("PROGRAM");
+  app.add_option("--log", options.log, "where each event is written as a line of JSON")->type_name("FILE");
+  app.footer(kFooter);
 }
 
-Weight whole_of(const std::string& name, const std::string& word) {
-  std::size_t end = 0;
-  Weight number = 0;
-  try {
-    number = std::stoll(word, &end);
-  } catch (const std::logic_error&) {
-    end = 0;
-  }
-  if (end == 0 || end != word.size()) throw Refusal(name + ": this is no whole number: " + word);
-  return number;
+// Whether two paths lead to one file. Of files that aren't there yet the paths decide. Devices may be named
+// twice.
+bool same_file(const std::string& one, const std::string& other) {
+  std::error_code error;
+  if (fs::exists(one, error) && !fs::is_regular_file(one, error)) return false;
+  if (fs::equivalent(one, other, error)) return true;
+  const auto whole = [&](const std::string& path) {
+    return fs::weakly_canonical(fs::absolute(path, error), error);
+  };
+  return whole(one) == whole(other);
 }
 
-void check_options(const Options& options) {
-  if (options.instance.empty()) throw Refusal("name an instance; --help tells of all words");
-  if (options.certificate.empty()) throw Refusal("say by -o where the certificate goes");
-  if (options.seconds < 0) throw Refusal("--seconds: the number is below 0");
-  if (options.tour.empty() && options.tour_out.empty() && !options.upper) {
-    throw Refusal("name a tour, or say by --tour-out where the one that is found goes");
+void refuse_overwriting(const Options& options) {
+  std::vector<std::string> taken{options.instance};
+  if (options.tour) taken.push_back(*options.tour);
+  for (const std::optional<std::string>& written :
+       {std::optional(options.certificate), options.tour_out, options.log}) {
+    if (!written) continue;
+    for (const std::string& path : taken) {
+      if (same_file(path, *written))
+        throw Refusal(*written + ": this is " + path + ", which would be overwritten");
+    }
+    taken.push_back(*written);
   }
 }
 }  // namespace
 
-Options parse_options(int count, char** words) {
+std::variant<Options, Help> parse_options(int count, const char* const* words) {
   Options options;
-  const std::map<std::string, std::function<void(const std::string&, const std::string&)>> takers{
-      {"-o", [&](auto&, auto& word) { options.certificate = word; }},
-      {"--tour-out", [&](auto&, auto& word) { options.tour_out = word; }},
-      {"--tsp", [&](auto&, auto& word) { options.tsp = word; }},
-      {"--seconds", [&](auto& name, auto& word) { options.seconds = number_of(name, word); }},
-      {"--seed",
-       [&](auto& name, auto& word) { options.seed = static_cast<std::uint64_t>(whole_of(name, word)); }},
-      {"--upper", [&](auto& name, auto& word) { options.upper = whole_of(name, word); }}};
-  for (int k = 1; k < count; k++) {
-    const std::string word = words[k];
-    const auto taker = takers.find(word);
-    if (word == "--help" || word == "-h") {
-      options.help = true;
-      return options;
-    }
-    if (taker != takers.end()) {
-      if (k + 1 == count) throw Refusal(word + ": a value is missing");
-      taker->second(word, words[++k]);
-    } else if (word.size() > 1 && word[0] == '-') {
-      throw Refusal(word + ": there is no such option; --help tells of all words");
-    } else if (options.instance.empty()) {
-      options.instance = word;
-    } else if (options.tour.empty()) {
-      options.tour = word;
-    } else {
-      throw Refusal(word + ": an instance and a tour are named already");
-    }
+  CLI::App app("Makes a certificate of TYPE BRANCHES for a TSP or an ATSP, and a tour where none is named",
+               "tsp-certify");
+  declare(app, options);
+  try {
+    app.parse(count, words);
+  } catch (const CLI::CallForHelp&) {
+    return Help{app.help()};
+  } catch (const CLI::ParseError& fault) {
+    throw Refusal(std::string(fault.what()) + "; --help tells of all words");
   }
-  check_options(options);
+  if (!options.tour && !options.tour_out && !options.upper) {
+    throw Refusal("name a tour, or say by --tour-out where the one that is found goes");
+  }
+  refuse_overwriting(options);
   return options;
 }
+}  // namespace certify

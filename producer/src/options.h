@@ -3,17 +3,24 @@
 #include <cstdint>
 #include <optional>
 #include <string>
+#include <variant>
 
 #include "tour.h"
 
+namespace certify {
 struct Options {
-  std::string instance, tour, certificate, tour_out, tsp;
+  std::string instance, certificate;
+  std::optional<std::string> tour, tour_out, tsp, log;
   double seconds = 300;
   std::uint64_t seed = 1;
   std::optional<Weight> upper;
-  bool help = false;
 };
 
-extern const char* const kHelp;
-// Throws Refusal where the words are wrong.
-Options parse_options(int count, char** words);
+// What --help prints.
+struct Help {
+  std::string text;
+};
+
+// Throws Refusal where the words are wrong, or where a file that is written is one that is read.
+std::variant<Options, Help> parse_options(int count, const char* const* words);
+}  // namespace certify

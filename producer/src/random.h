@@ -5,6 +5,7 @@
 #include <utility>
 #include <vector>
 
+namespace certify {
 class Random {
  public:
   explicit Random(std::uint64_t seed) : state_(seed * 0x9E3779B97F4A7C15ull + 88172645463325252ull) {
@@ -28,3 +29,4 @@ class Random {
  private:
   std::uint64_t state_;
 };
+}  // namespace certify

@@ -5,22 +5,29 @@
 #include <climits>
 #include <cmath>
 
+namespace certify {
 namespace {
 constexpr int kElastic = 3;  // the first columns
 constexpr double kTiny = 1e-6;
 }  // namespace
 
-Relaxation::Relaxation(const Matrix& weights, const CutPool& pool, const Tour& tour)
-    : weights_(weights), pool_(pool), nodes_(weights.nodes()), adjacent_(nodes_), present_(0) {
-  least_ = weights(0, 1);
+Relaxation::Relaxation(const Instance& instance, const CutPool& pool, const Tour& tour)
+    : instance_(instance),
+      weights_(instance.weights),
+      pool_(pool),
+      nodes_(instance.nodes()),
+      adjacent_(nodes_),
+      present_(0) {
+  least_ = weights_(0, 1);
   Weight most = least_;
   for (int i = 0; i < nodes_; i++) {
-    for (int j = 0; j < i; j++) {
-      least_ = std::min(least_, weights(i, j));
-      most = std::max(most, weights(i, j));
+    for (int j = 0; j < nodes_; j++) {
+      if (i == j) continue;
+      least_ = std::min(least_, weights_(i, j));
+      most = std::max(most, weights_(i, j));
     }
   }
-  const double above = static_cast<double>(length_of(weights, tour)) - static_cast<double>(least_) * nodes_;
+  const double above = static_cast<double>(length_of(weights_, tour)) - static_cast<double>(least_) * nodes_;
   average_ = above / nodes_;
   unit_ = std::max(1.0, average_ / 1000);
   penalty_ = (20 * above + 4 * static_cast<double>(most - least_) + 1) / unit_;
@@ -37,16 +44,16 @@ void Relaxation::begin() {
     program_.setColumnBounds(k, 0, COIN_DBL_MAX);
     program_.setObjectiveCoefficient(k, penalty_);
   }
-  const std::vector<double> degree(nodes_, 2);
+  const std::vector<double> degree(degrees(), instance_.directed ? 1 : 2);
   std::vector<CoinBigIndex> starts{0};
   std::vector<int> columns;
   std::vector<double> elements;
-  for (int v = 0; v < nodes_; v++) {
+  for (int row = 0; row < degrees(); row++) {
     columns.insert(columns.end(), {1, 2});
     elements.insert(elements.end(), {1, -1});
     starts.push_back(static_cast<CoinBigIndex>(columns.size()));
   }
-  program_.addRows(nodes_, degree.data(), degree.data(), starts.data(), columns.data(), elements.data());
+  program_.addRows(degrees(), degree.data(), degree.data(), starts.data(), columns.data(), elements.data());
 }
 
 // For each node the rows and sets that it is in, as pairs of row and place of the set.
@@ -71,14 +78,15 @@ void Relaxation::add_edges(const std::vector<Pair>& edges) {
   const std::vector<std::vector<Pair>> sets = memberships();
   std::vector<Pair> common;
   for (const Pair& edge : edges) {
-    const auto [i, j] = std::minmax(edge.first, edge.second);
+    const auto [i, j] = instance_.link(edge.first, edge.second);
     char& present = present_[static_cast<std::size_t>(i) * nodes_ + j];
     if (present) continue;
     present = 1;
     const int column = columns();
     edges_.emplace_back(i, j);
-    adjacent_[i].push_back({j, column}), adjacent_[j].push_back({i, column});
-    rows.insert(rows.end(), {i, j});
+    adjacent_[i].push_back({j, column});
+    adjacent_[j].push_back({i, column});
+    rows.insert(rows.end(), {i, entering_row(j)});
     elements.insert(elements.end(), {1, 1});
     common.clear();
     std::set_intersection(sets[i].begin(), sets[i].end(), sets[j].begin(), sets[j].end(),
@@ -89,7 +97,8 @@ void Relaxation::add_edges(const std::vector<Pair>& edges) {
         elements.back() += 1;
         continue;
       }
-      rows.push_back(nodes_ + set.first), elements.push_back(1);
+      rows.push_back(degrees() + set.first);
+      elements.push_back(1);
       last = set.first;
     }
     starts.push_back(static_cast<CoinBigIndex>(rows.size()));
@@ -120,15 +129,19 @@ void Relaxation::add_cuts(const std::vector<int>& cuts) {
       }
       for (const int v : set) mark[v] = 0;
     }
-    columns.push_back(0), elements.push_back(-1);
+    columns.push_back(0);
+    elements.push_back(-1);
     for (const int column : touched) {
-      columns.push_back(column + kElastic), elements.push_back(inside[column]);
+      columns.push_back(column + kElastic);
+      elements.push_back(inside[column]);
       inside[column] = 0;
     }
     starts.push_back(static_cast<CoinBigIndex>(columns.size()));
-    low.push_back(-COIN_DBL_MAX), high.push_back(pool_[cut].most_inside);
+    low.push_back(-COIN_DBL_MAX);
+    high.push_back(pool_[cut].most_inside);
     row_of_[cut] = static_cast<int>(cuts_.size());
-    cuts_.push_back(cut), ages_.push_back(0);
+    cuts_.push_back(cut);
+    ages_.push_back(0);
   }
   if (low.empty()) return;
   program_.addRows(static_cast<int>(low.size()), low.data(), high.data(), starts.data(), columns.data(),
@@ -137,8 +150,9 @@ void Relaxation::add_cuts(const std::vector<int>& cuts) {
 
 // The column of an edge, or -1.
 int Relaxation::column_of(const Pair& pair) const {
-  for (const Place& place : adjacent_[pair.first]) {
-    if (place.node == pair.second) return place.column;
+  const Pair edge = instance_.link(pair.first, pair.second);
+  for (const Place& place : adjacent_[edge.first]) {
+    if (edges_[place.column] == edge) return place.column;
   }
   return -1;
 }
@@ -158,7 +172,7 @@ void Relaxation::release(const Pair& pair) { set_bounds(pair, 0, 1); }
 void Relaxation::purge(int age) {
   std::vector<char> dropped(cuts_.size(), 0);
   for (std::size_t row = 0; row < cuts_.size(); row++) {
-    const int place = nodes_ + static_cast<int>(row);
+    const int place = degrees() + static_cast<int>(row);
     dropped[row] = ages_[row] > age && program_.getRowStatus(place) == ClpSimplex::basic ? 1 : 0;
   }
   drop_rows(dropped);
@@ -169,14 +183,16 @@ void Relaxation::drop_rows(const std::vector<char>& dropped) {
   std::vector<int> places, cuts, ages;
   for (std::size_t row = 0; row < cuts_.size(); row++) {
     if (dropped[row]) {
-      places.push_back(nodes_ + static_cast<int>(row));
+      places.push_back(degrees() + static_cast<int>(row));
     } else {
-      cuts.push_back(cuts_[row]), ages.push_back(ages_[row]);
+      cuts.push_back(cuts_[row]);
+      ages.push_back(ages_[row]);
     }
   }
   if (places.empty()) return;
   program_.deleteRows(static_cast<int>(places.size()), places.data());
-  cuts_ = cuts, ages_ = ages;
+  cuts_ = cuts;
+  ages_ = ages;
   row_of_.clear();
   for (std::size_t row = 0; row < cuts_.size(); row++) row_of_[cuts_[row]] = static_cast<int>(row);
 }
@@ -194,16 +210,19 @@ void Relaxation::drop_edges() {
       places.push_back(place);
       present_[static_cast<std::size_t>(edges_[column].first) * nodes_ + edges_[column].second] = 0;
     } else {
-      edges.push_back(edges_[column]), solution.push_back(solution_[column]);
+      edges.push_back(edges_[column]);
+      solution.push_back(solution_[column]);
     }
   }
   if (places.empty()) return;
   program_.deleteColumns(static_cast<int>(places.size()), places.data());
-  edges_ = edges, solution_ = solution;
+  edges_ = edges;
+  solution_ = solution;
   for (std::vector<Place>& adjacent : adjacent_) adjacent.clear();
   for (int column = 0; column < columns(); column++) {
     const auto [i, j] = edges_[column];
-    adjacent_[i].push_back({j, column}), adjacent_[j].push_back({i, column});
+    adjacent_[i].push_back({j, column});
+    adjacent_[j].push_back({i, column});
   }
 }
 
@@ -243,10 +262,10 @@ void Relaxation::restore(const Basis& basis) {
   for (const Pair& edge : basis.at_one) {
     program_.setColumnStatus(column_of(edge) + kElastic, ClpSimplex::atUpperBound);
   }
-  for (int v = 0; v < nodes_; v++) program_.setRowStatus(v, basis.rows[v]);
+  for (int row = 0; row < degrees(); row++) program_.setRowStatus(row, basis.rows[row]);
   for (std::size_t k = 0; k < basis.cuts.size(); k++) {
     const int row = row_of_[basis.cuts[k]];
-    program_.setRowStatus(nodes_ + row, basis.rows[static_cast<std::size_t>(nodes_) + k]);
+    program_.setRowStatus(degrees() + row, basis.rows[static_cast<std::size_t>(degrees()) + k]);
     ages_[row] = 0;
   }
 }
@@ -263,9 +282,10 @@ void Relaxation::optimize() {
 
 void Relaxation::read_duals() {
   const double* duals = program_.getRowPrice();
-  node_duals_.assign(duals, duals + nodes_);
+  node_duals_.assign(duals, duals + degrees());
   cut_duals_.resize(cuts_.size());
-  for (std::size_t row = 0; row < cuts_.size(); row++) cut_duals_[row] = std::max(0.0, -duals[nodes_ + row]);
+  for (std::size_t row = 0; row < cuts_.size(); row++)
+    cut_duals_[row] = std::max(0.0, -duals[degrees() + row]);
 }
 
 // The absent edges with a negative reduced cost, the least first.
@@ -274,16 +294,18 @@ std::vector<Pair> Relaxation::missing_edges(
   std::vector<std::pair<double, Pair>> missing;
   for (int i = 0; i < nodes_; i++) {
     const Weight* row = weights_.row(i);
-    for (int j = i + 1; j < nodes_; j++) {
-      double cost = static_cast<double>(row[j] - least_) / unit_ - node_duals_[i] - node_duals_[j];
-      if (cost > -kTiny || present_[static_cast<std::size_t>(i) * nodes_ + j]) continue;
+    for (int j = instance_.directed ? 0 : i + 1; j < nodes_; j++) {
+      double cost =
+          static_cast<double>(row[j] - least_) / unit_ - node_duals_[i] - node_duals_[entering_row(j)];
+      if (cost > -kTiny || j == i || present_[static_cast<std::size_t>(i) * nodes_ + j]) continue;
       auto a = sets[i].begin(), b = sets[j].begin();
       while (a != sets[i].end() && b != sets[j].end()) {
         if (a->first == b->first) {
           cost += a->second;
-          ++a, ++b;
+          ++a;
+          ++b;
         } else {
-          a->first < b->first ? ++a : ++b;
+          ++(a->first < b->first ? a : b);
         }
       }
       if (cost < -kTiny) missing.emplace_back(cost, Pair(i, j));
@@ -313,15 +335,34 @@ int Relaxation::price() {
   return static_cast<int>(edges.size());
 }
 
+// The two arcs of an ATSP between two nodes are one edge.
+void Relaxation::add_support(int node, int to, double value) {
+  std::vector<Edge>& edges = support_[node];
+  if (instance_.directed) {
+    const auto known =
+        std::find_if(edges.begin(), edges.end(), [&](const Edge& edge) { return edge.to == to; });
+    if (known != edges.end()) {
+      known->value += value;
+      return;
+    }
+  }
+  edges.push_back({to, value});
+}
+
 void Relaxation::read_solution() {
   const double* values = program_.getColSolution();
   solution_.assign(values + kElastic, values + kElastic + columns());
   support_.assign(nodes_, {});
   for (int column = 0; column < columns(); column++) {
     if (solution_[column] <= 1e-7) continue;
-    const double value = solution_[column] > 1 - 1e-7 ? 1 : solution_[column];
     const auto [i, j] = edges_[column];
-    support_[i].push_back({j, value}), support_[j].push_back({i, value});
+    add_support(i, j, solution_[column]);
+    add_support(j, i, solution_[column]);
+  }
+  for (std::vector<Edge>& edges : support_) {
+    for (Edge& edge : edges) {
+      if (edge.value > 1 - 1e-7 && edge.value < 1 + 1e-5) edge.value = 1;
+    }
   }
   for (std::size_t row = 0; row < cuts_.size(); row++)
     ages_[row] = cut_duals_[row] > 1e-7 ? 0 : ages_[row] + 1;
@@ -360,3 +401,4 @@ double Relaxation::Probe::gain(int column, int value) {
   for (std::size_t k = 0; k < saved_.size(); k++) std::copy(saved_[k].begin(), saved_[k].end(), places()[k]);
   return std::max(0.0, reached - relaxation_.value());
 }
+}  // namespace certify

@@ -1,14 +1,17 @@
-// The linear program over the edges: degrees of 2, and the rows of cuts in inner form. Edges join by
-// exact pricing over all pairs, rows that have long been slack are dropped, and elastic columns keep
-// it feasible. Clp solves it.
-// Source: D. Applegate, R. Bixby, V. Chvatal and W. Cook, The Traveling Salesman Problem (2006).
+// The linear program over the edges: degrees of 2, and the rows of cuts in inner form. Of an ATSP it is over
+// the arcs: one leaves each node, one enters it, and a cut counts arcs in both directions. Edges join by
+// exact pricing over all pairs, rows that have long been slack are dropped, and elastic columns keep it
+// feasible. Clp solves it. Source: D. Applegate, R. Bixby, V. Chvatal and W. Cook, The Traveling Salesman
+// Problem (2006).
 #pragma once
 #include <array>
 #include <coin/ClpSimplex.hpp>
 #include <unordered_map>
 
 #include "cut_pool.h"
+#include "instance.h"
 
+namespace certify {
 // A pair of nodes that is used, or isn't.
 struct Decision {
   Pair pair;
@@ -24,7 +27,7 @@ struct Basis {
 
 class Relaxation {
  public:
-  Relaxation(const Matrix& weights, const CutPool& pool, const Tour& tour);
+  Relaxation(const Instance& instance, const CutPool& pool, const Tour& tour);
   void add_edges(const std::vector<Pair>& edges);
   void add_cuts(const std::vector<int>& cuts);
   void decide(const Decision& decision);
@@ -40,11 +43,14 @@ class Relaxation {
   void restore(const Basis& basis);
 
   double value() const { return value_; }
+  // Of an ATSP an edge has the value of both arcs.
   const Graph& support() const { return support_; }
   bool has(int cut) const { return row_of_.count(cut) > 0; }
   const std::vector<int>& cuts() const { return cuts_; }
-  // Duals at the weights' own unit: of the degrees, and of the cuts in their order, from 0 on.
-  double node_dual(int node) const { return node_duals_[node] * unit_ + static_cast<double>(least_) / 2; }
+  // Duals at the weights' own unit: of the degrees, and of the cuts in their order, from 0 on. Of an ATSP
+  // each node has two: of the arc that leaves it, and of the arc that enters it.
+  double leaving_dual(int node) const { return node_duals_[node] * unit_ + static_cast<double>(least_) / 2; }
+  double entering_dual(int node) const { return leaving_dual(entering_row(node)); }
   double cut_dual(std::size_t row) const { return cut_duals_[row] * unit_; }
 
   int columns() const { return static_cast<int>(edges_.size()); }
@@ -75,17 +81,21 @@ class Relaxation {
   struct Place {
     int node, column;
   };
+  int entering_row(int node) const { return instance_.directed ? nodes_ + node : node; }
+  int degrees() const { return instance_.directed ? 2 * nodes_ : nodes_; }  // as many rows, before the cuts
   void begin();
   void optimize();
   int price();
   void read_duals();
   void read_solution();
+  void add_support(int node, int to, double value);
   void drop_rows(const std::vector<char>& dropped);
   int column_of(const Pair& pair) const;
   void set_bounds(const Pair& pair, double low, double high);
   std::vector<std::vector<Pair>> memberships() const;
   std::vector<Pair> missing_edges(const std::vector<std::vector<std::pair<int, double>>>& sets) const;
 
+  const Instance& instance_;
   const Matrix& weights_;
   const CutPool& pool_;
   int nodes_;
@@ -101,3 +111,4 @@ class Relaxation {
   Graph support_;
   double value_ = 0;
 };
+}  // namespace certify

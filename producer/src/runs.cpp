@@ -2,6 +2,7 @@
 
 #include <algorithm>
 
+namespace certify {
 namespace {
 constexpr int kLongestRun = 100;
 constexpr int kLongestTooth = 60;
@@ -81,3 +82,4 @@ NodeSet Runs::nodes_of(const Run& run) const {
   }
   return nodes;
 }
+}  // namespace certify

@@ -5,6 +5,7 @@
 #pragma once
 #include "support.h"
 
+namespace certify {
 struct Run {
   int left, right;  // places of the tour, both in the run
   double gain;      // 3 less the crossings
@@ -35,3 +36,4 @@ class Runs {
   std::vector<std::vector<Run>> over_;
   std::vector<double> best_gain_;
 };
+}  // namespace certify

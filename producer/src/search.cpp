@@ -4,8 +4,12 @@
 #include <cmath>
 #include <cstdlib>
 
+#include "arc_tours.h"
 #include "eax.h"
+#include "row_bound.h"
+#include "tree_bound.h"
 
+namespace certify {
 namespace {
 constexpr Weight kLongLength = 2000000;
 constexpr Weight kFineScale = 2520, kCoarseScale = 840;
@@ -15,21 +19,49 @@ constexpr double kPartForTours = 0.5;                 // of the time, at most
 constexpr double kPartForTree = 0.95;  // of the time; the rest is for short numbers of the leaves
 constexpr double kTrial = 0.1;         // of the time, before the size of the tree is guessed
 constexpr int kRootClimbs = 400, kNodeClimbs = 100, kLevels = 2;
-}  // namespace
+constexpr int kArcRuns = 2, kArcPatience = 100;  // of the second search for a tour of an ATSP
 
 // Whole multiples of many fractions, coarser for long tours, whose numbers are long as they are.
-Weight Search::scale_for(const Matrix& weights, Weight length) {
+Weight scale_for(const Matrix& weights, Weight length) {
   Weight most = 1;
   for (int i = 0; i < weights.nodes(); i++) {
-    for (int j = 0; j < i; j++) most = std::max(most, std::abs(weights(i, j)));
+    for (int j = 0; j < weights.nodes(); j++) most = std::max(most, std::abs(weights(i, j)));
   }
   const Weight scale = std::abs(length) > kLongLength ? kCoarseScale : kFineScale;
   return std::max<Weight>(1, std::min(scale, kMostScaledWeight / most));
 }
 
+Matrix costs_of(const Instance& instance) {
+  if (!instance.directed) return with_fixed_lowered(instance.weights, instance.fixed);
+  Matrix costs(instance.nodes());
+  for (int i = 0; i < instance.nodes(); i++) {
+    for (int j = 0; j < i; j++) costs.set(i, j, instance.weights(i, j) + instance.weights(j, i));
+  }
+  return costs;
+}
+
+std::unique_ptr<ExactBound> bound_for(const Instance& instance, const CutPool& pool, Weight scale) {
+  if (instance.directed) return std::make_unique<RowBound>(instance.weights, pool, scale);
+  return std::make_unique<TreeBound>(instance.weights, pool, scale);
+}
+
+// The weights less the duals of the solution. The lengths of all tours change alike.
+Matrix less_duals(const Instance& instance, const Relaxation& relaxation) {
+  Matrix costs(instance.nodes());
+  for (int i = 0; i < instance.nodes(); i++) {
+    for (int j = 0; j < instance.nodes(); j++) {
+      const Weight duals =
+          std::llround(relaxation.leaving_dual(i)) + std::llround(relaxation.entering_dual(j));
+      if (i != j) costs.set_arc(i, j, instance.weights(i, j) - duals);
+    }
+  }
+  return costs;
+}
+}  // namespace
+
 Search::Search(const Instance& instance, const Start& start, const Clock& clock, Progress& progress)
     : instance_(instance),
-      costs_(with_fixed_lowered(instance.weights, instance.fixed)),
+      costs_(costs_of(instance)),
       seed_(start.seed),
       named_(start.named),
       clock_(clock),
@@ -38,10 +70,10 @@ Search::Search(const Instance& instance, const Start& start, const Clock& clock,
       length_(length_of(instance.weights, start.tour)),
       target_(start.upper ? std::min(*start.upper, length_) : length_),
       pool_(instance.nodes()),
-      relaxation_(instance.weights, pool_, start.tour),
+      relaxation_(instance, pool_, start.tour),
       separation_(costs_, pool_, relaxation_, start.seed),
-      bound_(instance.weights, pool_, scale_for(instance.weights, length_)),
-      made_(bound_, pool_),
+      bound_(bound_for(instance, pool_, scale_for(instance.weights, length_))),
+      made_(*bound_, pool_, instance.directed),
       branching_(instance.weights),
       least_(-ExactBound::nothing()) {
   separation_.set_tours(start.tour, start.further);
@@ -50,9 +82,9 @@ Search::Search(const Instance& instance, const Start& start, const Clock& clock,
   for (int v = 0; v < instance.nodes(); v++) {
     for (const int w : near[v]) edges.emplace_back(v, w);
   }
-  for (const Pair& edge : edges_of(tour_)) edges.push_back(edge);
+  for (const Pair& edge : instance.links_of(tour_)) edges.push_back(edge);
   relaxation_.add_edges(edges);
-  bound_.add_likely(edges);
+  bound_->add_likely(edges);
   for (const Pair& pair : instance.fixed) {
     decisions_.push_back({pair, true});
     relaxation_.decide(decisions_.back());
@@ -72,40 +104,50 @@ void Search::offer_tour() {
     for (const Edge& edge : edges) {
       if (!seen[edge.to]) next = edge.to;
     }
-    if (next >= 0) seen[next] = 1, tour.push_back(next);
+    if (next < 0) continue;
+    seen[next] = 1;
+    tour.push_back(next);
   }
-  if (tour.size() == support.size()) take_tour(tour);
+  if (tour.size() < support.size()) return;
+  take_tour(tour);
+  if (instance_.directed) take_tour(Tour(tour.rbegin(), tour.rend()));
 }
 
 void Search::take_tour(const Tour& tour) {
   const Weight length = length_of(instance_.weights, tour);
-  if (length >= length_ || !uses(tour, instance_.fixed)) return;
+  if (length >= length_ || !instance_.allows(tour)) return;
   tour_ = tour;
   length_ = length;
   target_ = std::min(target_, length);
   separation_.set_best(tour_);
+  log("tour");
 }
 
 // Looks once more, by the weights less the duals: the nodes that are near by these are more often neighbours
 // in a shortest tour. The tour at hand isn't in the population, which would take after it.
 void Search::look_for_tour() {
   const int nodes = instance_.nodes();
+  if (instance_.directed) {
+    const Instance changed{less_duals(instance_, relaxation_), instance_.fixed, true};
+    const auto late = [&] { return clock_.over(kPartForTours); };
+    for (const Tour& tour : find_arc_tours(changed, kArcRuns, kArcPatience, seed_ + 1, late).further)
+      take_tour(tour);
+    return;
+  }
   std::vector<Weight> potentials(nodes);
-  for (int v = 0; v < nodes; v++) potentials[v] = std::llround(relaxation_.node_dual(v));
+  for (int v = 0; v < nodes; v++) potentials[v] = std::llround(relaxation_.leaving_dual(v));
   const Matrix costs = with_potentials(costs_, potentials);
   Eax eax(costs, instance_.fixed, kPopulation, seed_ + 1);
-  take_tour(eax.run([&] { return clock_.over(kPartForTours); }, [&](Weight) { show(); }));
+  take_tour(eax.run([&] { return clock_.over(kPartForTours); }, [&](Weight) { progress_.show(standing()); }));
 }
 
-void Search::show() {
+Standing Search::standing() const {
   const Value least = open_.empty() ? here_ : std::min(here_, open_.begin()->first);
   const bool known = cases_.size() > 1;
-  const Weight reached = known ? bound_.bound_of(least) : static_cast<Weight>(relaxation_.value());
-  const Weight bound = std::min(reached, target_);
-  progress_.show("seconds " + std::to_string(static_cast<int>(Clock::now())) + " length " +
-                 std::to_string(length_) + " bound " + std::to_string(bound) + " gap " +
-                 std::to_string(length_ - bound) + " leaves " + std::to_string(leaves_) + " open " +
-                 std::to_string(open_.size()));
+  const Weight reached = known ? bound_->bound_of(least) : static_cast<Weight>(relaxation_.value());
+  Standing standing{length_, std::min(reached, target_), leaves_, static_cast<int>(open_.size())};
+  for (const int cut : relaxation_.cuts()) (pool_[cut].comb ? standing.combs : standing.subtours)++;
+  return standing;
 }
 
 bool Search::stalled(const std::vector<double>& values, double gap) const {
@@ -129,7 +171,8 @@ bool Search::tighten(Numbers& numbers) {
     relaxation_.solve();
     offer_tour();
     if (root() && round % 6 == 0) relaxation_.drop_edges();
-    show();
+    progress_.show(standing());
+    if (root()) log("round");
     values.push_back(relaxation_.value());
     if (made_.reach(relaxation_, decisions_, target_, numbers)) return true;
     if (clock_.over()) return false;
@@ -156,7 +199,9 @@ std::vector<Decision> Search::decisions_of(int place) const {
   decisions.reserve(instance_.fixed.size());
   for (const Pair& pair : instance_.fixed) decisions.push_back({pair, true});
   const std::size_t fixed = decisions.size();
-  for (int k = place; cases_[k].parent >= 0; k = cases_[k].parent) decisions.push_back(cases_[k].decision);
+  for (auto origin = cases_[place].origin; origin; origin = cases_[origin->parent].origin) {
+    decisions.push_back(origin->decision);
+  }
   std::reverse(decisions.begin() + static_cast<std::ptrdiff_t>(fixed), decisions.end());
   return decisions;
 }
@@ -174,9 +219,9 @@ void Search::enter(int place) {
 // Takes the numbers of the last solution where they are better than those from above.
 void Search::improve(Case& here) {
   Numbers numbers = made_.extract(relaxation_, 1);
-  const Value value = bound_.value(numbers, decisions_);
+  const Value value = bound_->value(numbers, decisions_);
   if (!here.numbers.potentials.empty()) {
-    here.value = std::max(here.value, bound_.value(here.numbers, decisions_));
+    here.value = std::max(here.value, bound_->value(here.numbers, decisions_));
     if (here.value >= value) return;
   }
   here.numbers = std::move(numbers);
@@ -186,18 +231,16 @@ void Search::improve(Case& here) {
 // A case's numbers hold for the cases of its branch too.
 void Search::branch(int place, const Pair& pair) {
   basis_ = std::make_shared<const Basis>(relaxation_.basis());
-  cases_[place].branch = pair;
+  const int next = static_cast<int>(cases_.size());
+  cases_[place].branch = Branch{pair, next + 1, next};
   for (const bool used : {false, true}) {
-    const int next = static_cast<int>(cases_.size());
     Case below;
-    below.parent = place;
-    below.decision = {pair, used};
+    below.origin = Origin{place, {pair, used}};
     below.basis = basis_;
     below.numbers = cases_[place].numbers;
     below.value = cases_[place].value;
+    open_.emplace(below.value, -static_cast<int>(cases_.size()));
     cases_.push_back(std::move(below));
-    (used ? cases_[place].used : cases_[place].unused) = next;
-    open_.emplace(cases_[next].value, -next);
   }
   cases_[place].numbers = {};
   cases_[place].basis = nullptr;
@@ -207,8 +250,9 @@ void Search::finish(int place) {
   cases_[place].done = true;
   leaves_++;
   int depth = 0;
-  for (int k = place; cases_[k].parent >= 0; k = cases_[k].parent) depth++;
+  for (auto origin = cases_[place].origin; origin; origin = cases_[origin->parent].origin) depth++;
   done_ += std::ldexp(1.0, -depth);
+  log("leaf");
 }
 
 void Search::visit(int place) {
@@ -226,8 +270,8 @@ void Search::visit(int place) {
   }
   improve(cases_[place]);
   if (clock_.over()) return;
-  const Pair pair = branching_.choose(relaxation_, static_cast<double>(target_));
-  if (pair.first >= 0) branch(place, pair);
+  if (const auto pair = branching_.choose(relaxation_, static_cast<double>(target_))) branch(place, *pair);
+  log("branch");
 }
 
 // A leaf that is done gets numbers near those of the leaf before, which makes a short file.
@@ -235,9 +279,9 @@ void Search::add_leaf(const Case& leaf, const std::vector<Decision>& decisions) 
   const bool time = !clock_.over();
   const Numbers numbers =
       leaf.done && time ? made_.near_last(leaf.numbers, decisions, target_) : leaf.numbers;
-  least_ = std::min(least_, bound_.value(numbers, decisions));
+  least_ = std::min(least_, bound_->value(numbers, decisions));
   made_.set_last(numbers);
-  steps_.push_back({Pair(-1, -1), numbers});
+  steps_.emplace_back(numbers);
 }
 
 // The tree from the root on, a branch before its cases.
@@ -248,13 +292,14 @@ void Search::list_steps() {
     const int place = rest.back();
     const Case& here = cases_[place];
     rest.pop_back();
-    if (here.branch.first < 0) {
+    if (!here.branch) {
       add_leaf(here, decisions_of(place));
       leaves_++;
       continue;
     }
-    steps_.push_back({here.branch, {}});
-    rest.push_back(here.unused), rest.push_back(here.used);
+    steps_.emplace_back(here.branch->pair);
+    rest.push_back(here.branch->unused);
+    rest.push_back(here.branch->used);
   }
 }
 
@@ -279,12 +324,16 @@ void Search::run() {
   relaxation_.solve();
   while (!clock_.over() && separation_.add_subtours()) {
     relaxation_.solve();
-    show();
+    progress_.show(standing());
   }
   cases_.emplace_back();
   visit(0);
   begun_ = clock_.used();
   while (!open_.empty() && !clock_.over(kPartForTree)) visit(next_case());
   list_steps();
+  Standing last = standing();
+  last.bound = std::min(bound(), length_);
+  progress_.log("end", last);
   progress_.clear();
 }
+}  // namespace certify

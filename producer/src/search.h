@@ -6,13 +6,15 @@
 #include <memory>
 #include <optional>
 #include <set>
+#include <variant>
 
 #include "branching.h"
 #include "clock.h"
-#include "instance.h"
 #include "leaves.h"
+#include "progress.h"
 #include "separation.h"
 
+namespace certify {
 // What the search begins with.
 struct Start {
   Tour tour;
@@ -23,12 +25,8 @@ struct Start {
   bool named = false;  // the tour was named, so that none is looked for again
 };
 
-// A branch, or a leaf with its numbers.
-struct TreeStep {
-  Pair branch{-1, -1};
-  Numbers numbers;
-  bool is_leaf() const { return branch.first < 0; }
-};
+// A branch on a pair, or a leaf with its numbers.
+using TreeStep = std::variant<Pair, Numbers>;
 
 // Whether a tree may end in time: this part of it is done, which took the time from begun to used. The guess
 // is a rough one, so the tree may seem too large by a factor that falls from 5 to 1.
@@ -41,22 +39,29 @@ class Search {
   const std::vector<TreeStep>& steps() const { return steps_; }
   const Tour& tour() const { return tour_; }
   const CutPool& pool() const { return pool_; }
-  Weight scale() const { return bound_.scale(); }
+  Weight scale() const { return bound_->scale(); }
   // The least bound of the leaves, as reckoned here.
-  Weight bound() const { return bound_.bound_of(least_); }
+  Weight bound() const { return bound_->bound_of(least_); }
   int leaves() const { return leaves_; }
 
  private:
+  // What leads to a case from the one above.
+  struct Origin {
+    int parent;
+    Decision decision;
+  };
+  struct Branch {
+    Pair pair;
+    int used, unused;  // the cases below
+  };
   // A case: what is decided from the root on to here, and the best numbers for it.
   struct Case {
-    int parent = -1;
-    Decision decision{{-1, -1}, false};    // that leads here from the parent
+    std::optional<Origin> origin{};        // nothing at the root
     std::shared_ptr<const Basis> basis{};  // of the parent's last solution
     Numbers numbers{};
     Value value = ExactBound::nothing();
     bool done = false;  // its numbers reach the target
-    Pair branch{-1, -1};
-    int used = -1, unused = -1;  // the cases of the branch
+    std::optional<Branch> branch{};
   };
   bool tighten(Numbers& numbers);
   bool settle(Numbers& numbers);
@@ -74,12 +79,12 @@ class Search {
   void offer_tour();
   void take_tour(const Tour& tour);
   void look_for_tour();
-  void show();
+  Standing standing() const;
+  void log(std::string_view event) { progress_.log(event, standing()); }
   bool root() const { return decisions_.size() == instance_.fixed.size(); }
-  static Weight scale_for(const Matrix& weights, Weight length);
 
   const Instance& instance_;
-  const Matrix costs_;  // the weights, those of fixed pairs lowered
+  const Matrix costs_;  // the weights, those of fixed pairs lowered; of an ATSP those of both directions
   const std::uint64_t seed_;
   const bool named_;
   const Clock& clock_;
@@ -89,7 +94,7 @@ class Search {
   CutPool pool_;
   Relaxation relaxation_;
   Separation separation_;
-  ExactBound bound_;
+  const std::unique_ptr<ExactBound> bound_;
   Leaves made_;
   Branching branching_;
   std::vector<Decision> decisions_;
@@ -103,3 +108,4 @@ class Search {
   double begun_ = 0;  // the part of the time before the tree
   double done_ = 0;   // the part of the tree that is done, where both cases of a branch are one half
 };
+}  // namespace certify

@@ -5,6 +5,7 @@
 #include "local_search.h"
 #include "subtours.h"
 
+namespace certify {
 namespace {
 constexpr std::size_t kMostFromPool = 150;
 constexpr int kMostHandlesOfNode = 12;
@@ -142,3 +143,4 @@ bool Separation::add_cuts(const Effort& effort) {
   relaxation_.add_cuts(round.cuts);
   return !round.cuts.empty();
 }
+}  // namespace certify

@@ -6,6 +6,7 @@
 #include "combs.h"
 #include "relaxation.h"
 
+namespace certify {
 // How much a round tries.
 struct Effort {
   int climbs, growths;
@@ -46,3 +47,4 @@ class Separation {
   std::vector<Tour> further_;
   std::vector<char> scratch_;
 };
+}  // namespace certify

@@ -2,7 +2,9 @@
 
 #include <algorithm>
 #include <map>
+#include <optional>
 
+namespace certify {
 namespace {
 constexpr std::size_t kMostCuts = 60;
 
@@ -19,10 +21,10 @@ class MinimumCuts {
     shrink_whole_edges();
     std::vector<int> active = remaining();
     while (active.size() > 2 && cuts_.size() < kMostCuts) {
-      const Pair last = phase(active);
-      if (last.first < 0) break;
-      note_if_small(last.second);
-      merge(last.first, last.second);
+      const std::optional<Pair> last = phase(active);
+      if (!last) break;
+      note_if_small(last->second);
+      merge(last->first, last->second);
       active = remaining();
     }
     return cuts_;
@@ -71,8 +73,8 @@ class MinimumCuts {
       }
     }
   }
-  // The last two nodes of a maximum adjacency order, or a pair of -1.
-  Pair phase(const std::vector<int>& active) {
+  // The last two nodes of a maximum adjacency order, where the nodes are connected.
+  std::optional<Pair> phase(const std::vector<int>& active) {
     std::vector<double> key(links_.size(), 0);
     std::vector<char> done(links_.size(), 0);
     std::vector<std::pair<double, int>> heap{{0, active[0]}};
@@ -94,7 +96,8 @@ class MinimumCuts {
         std::push_heap(heap.begin(), heap.end());
       }
     }
-    return count < active.size() ? Pair(-1, -1) : Pair(before, last);
+    if (count < active.size()) return std::nullopt;
+    return Pair(before, last);
   }
 
   double least_;
@@ -110,3 +113,4 @@ std::vector<NodeSet> crossed_too_little(const Graph& graph, double least_violati
   if (parts.size() > 1) return parts;
   return MinimumCuts(graph, least_violation).find();
 }
+}  // namespace certify

@@ -5,4 +5,6 @@
 #pragma once
 #include "support.h"
 
+namespace certify {
 std::vector<NodeSet> crossed_too_little(const Graph& graph, double least_violation);
+}  // namespace certify

@@ -2,6 +2,7 @@
 
 #include <algorithm>
 
+namespace certify {
 std::vector<NodeSet> components(const Graph& graph, const std::function<bool(double)>& passes) {
   std::vector<char> seen(graph.size(), 0);
   std::vector<NodeSet> parts;
@@ -93,3 +94,4 @@ class BlockFinder {
 std::vector<NodeSet> blocks(const Graph& graph, double above, double below) {
   return BlockFinder(graph, above, below).find();
 }
+}  // namespace certify

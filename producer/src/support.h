@@ -4,6 +4,7 @@
 
 #include "tour.h"
 
+namespace certify {
 struct Edge {
   int to;
   double value;
@@ -15,3 +16,4 @@ std::vector<NodeSet> components(const Graph& graph, const std::function<bool(dou
 // The biconnected components, of three nodes or more, of the edges with a value between two numbers.
 // Source: J. Hopcroft and R. Tarjan, Algorithm 447 (1973).
 std::vector<NodeSet> blocks(const Graph& graph, double above, double below);
+}  // namespace certify

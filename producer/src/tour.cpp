@@ -1,27 +1,29 @@
 #include "tour.h"
 
 #include <algorithm>
-#include <set>
 
+namespace certify {
 Weight length_of(const Matrix& weights, const Tour& tour) {
   Weight sum = 0;
-  for (auto [i, j] : edges_of(tour)) sum += weights(i, j);
+  for (const auto& [i, j] : arcs_of(tour)) sum += weights(i, j);
   return sum;
 }
 
-std::vector<Pair> edges_of(const Tour& tour) {
-  std::vector<Pair> edges;
-  edges.reserve(tour.size());
+std::vector<Pair> arcs_of(const Tour& tour) {
+  std::vector<Pair> arcs;
+  arcs.reserve(tour.size());
   for (std::size_t k = 0; k < tour.size(); k++) {
-    edges.push_back(std::minmax(tour[k], tour[k + 1 == tour.size() ? 0 : k + 1]));
+    arcs.emplace_back(tour[k], tour[k + 1 == tour.size() ? 0 : k + 1]);
   }
-  return edges;
+  return arcs;
 }
 
-bool uses(const Tour& tour, const std::vector<Pair>& pairs) {
-  const std::vector<Pair> edges = edges_of(tour);
-  const std::set<Pair> used(edges.begin(), edges.end());
-  return std::all_of(pairs.begin(), pairs.end(), [&](const Pair& pair) { return used.count(pair) > 0; });
+std::vector<Pair> edges_of(const Tour& tour) {
+  std::vector<Pair> edges = arcs_of(tour);
+  for (auto& [low, high] : edges) {
+    if (low > high) std::swap(low, high);
+  }
+  return edges;
 }
 
 Neighbours nearest(const Matrix& weights, int count) {
@@ -41,3 +43,4 @@ Neighbours nearest(const Matrix& weights, int count) {
   }
   return lists;
 }
+}  // namespace certify

@@ -4,13 +4,14 @@
 #include <utility>
 #include <vector>
 
+namespace certify {
 using Weight = std::int64_t;
 using Tour = std::vector<int>;
 using NodeSet = std::vector<int>;
 using Pair = std::pair<int, int>;
 using Neighbours = std::vector<std::vector<int>>;
 
-// A symmetric matrix of weights.
+// A matrix of weights: row i has those from node i. That of a TSP is symmetric.
 class Matrix {
  public:
   explicit Matrix(int nodes) : nodes_(nodes), cells_(static_cast<std::size_t>(nodes) * nodes, 0) {}
@@ -22,6 +23,7 @@ class Matrix {
     cells_[static_cast<std::size_t>(i) * nodes_ + j] = weight;
     cells_[static_cast<std::size_t>(j) * nodes_ + i] = weight;
   }
+  void set_arc(int i, int j, Weight weight) { mutable_row(i)[j] = weight; }
 
  private:
   int nodes_;
@@ -30,6 +32,7 @@ class Matrix {
 
 Weight length_of(const Matrix& weights, const Tour& tour);
 std::vector<Pair> edges_of(const Tour& tour);
-// Whether a tour uses all these pairs.
-bool uses(const Tour& tour, const std::vector<Pair>& pairs);
+// Each node with the one that comes next.
+std::vector<Pair> arcs_of(const Tour& tour);
 Neighbours nearest(const Matrix& weights, int count);
+}  // namespace certify

@@ -3,39 +3,49 @@
 #include <sys/wait.h>
 #include <unistd.h>
 
+#include <cctype>
+#include <cerrno>
 #include <cstdlib>
 #include <filesystem>
 #include <sstream>
 
+namespace certify {
 namespace fs = std::filesystem;
-
 namespace {
 bool runnable(const fs::path& path) {
   std::error_code error;
   return fs::is_regular_file(path, error) && access(path.c_str(), X_OK) == 0;
 }
 
-[[noreturn]] void run_child(int output, const std::vector<std::string>& words) {
+[[noreturn]] void run_child(int output, const std::vector<std::string>& words, bool with_errors) {
   dup2(output, STDOUT_FILENO);
   close(output);
+  if (with_errors) dup2(STDOUT_FILENO, STDERR_FILENO);
   std::vector<char*> pointers;
   for (const std::string& word : words) pointers.push_back(const_cast<char*>(word.c_str()));
   pointers.push_back(nullptr);
   execv(pointers[0], pointers.data());
   _exit(127);
 }
-}  // namespace
 
-std::string find_tsp(const std::string& named) {
-  if (!named.empty()) {
-    if (runnable(named)) return named;
-    throw Refusal(named + ": there is no program of this name");
-  }
+// The file that a name without a slash means.
+std::optional<std::string> on_path(const std::string& name) {
   const char* path = std::getenv("PATH");
   std::istringstream folders(path == nullptr ? "" : path);
   for (std::string folder; std::getline(folders, folder, ':');) {
-    if (!folder.empty() && runnable(fs::path(folder) / "tsp")) return fs::path(folder) / "tsp";
+    if (!folder.empty() && runnable(fs::path(folder) / name)) return fs::path(folder) / name;
   }
+  return std::nullopt;
+}
+
+std::string place_of_tsp(const std::optional<std::string>& named) {
+  if (named && named->find('/') != std::string::npos) {
+    if (runnable(*named)) return *named;
+    throw Refusal(*named + ": there is no program of this name");
+  }
+  const std::optional<std::string> found = on_path(named.value_or("tsp"));
+  if (found) return *found;
+  if (named) throw Refusal(*named + ": there is no program of this name on PATH; a path to it has a slash");
   std::error_code error;
   const fs::path own = fs::read_symlink("/proc/self/exe", error);
   for (const char* place : {"../tsp", "../../tsp"}) {
@@ -45,18 +55,20 @@ std::string find_tsp(const std::string& named) {
   throw Refusal("the program tsp is needed: name it by --tsp, or put it on PATH");
 }
 
-std::string canonical_text(const std::string& tsp, const std::string& path,
-                           const std::vector<std::string>& words) {
-  std::vector<std::string> all{tsp, "convert"};
-  all.insert(all.end(), words.begin(), words.end());
-  all.insert(all.end(), {"--", path});
+struct Output {
+  std::string text;
+  bool well = false;  // its status was 0
+};
+
+// What a program prints on standard output, and where that is asked for on standard error.
+Output output_of(const std::vector<std::string>& words, bool with_errors) {
   int ends[2];
   if (pipe(ends) != 0) throw Refusal("no pipe to the program tsp");
   const pid_t child = fork();
   if (child < 0) throw Refusal("the program tsp can't be started");
   if (child == 0) {
     close(ends[0]);
-    run_child(ends[1], all);
+    run_child(ends[1], words, with_errors);
   }
   close(ends[1]);
   std::string text;
@@ -66,9 +78,30 @@ std::string canonical_text(const std::string& tsp, const std::string& path,
   }
   close(ends[0]);
   int status = 0;
-  waitpid(child, &status, 0);
-  if (!WIFEXITED(status) || WEXITSTATUS(status) != 0) {
-    throw Refusal(path + ": " + tsp + " convert doesn't read this file");
-  }
-  return text;
+  while (waitpid(child, &status, 0) < 0 && errno == EINTR) continue;
+  return {text, WIFEXITED(status) && WEXITSTATUS(status) == 0};
 }
+}  // namespace
+
+// Debian's task-spooler is called tsp too.
+std::string find_tsp(const std::optional<std::string>& named) {
+  const std::string tsp = place_of_tsp(named);
+  const std::string answer = output_of({tsp, "--version"}, true).text;
+  if (answer.starts_with("tsp ") && answer.size() > 4 &&
+      std::isdigit(static_cast<unsigned char>(answer[4])) != 0) {
+    return tsp;
+  }
+  throw Refusal(tsp +
+                ": this isn't Yokecairn's program tsp (task-spooler has the same name): name it by --tsp");
+}
+
+std::string canonical_text(const std::string& tsp, const std::string& path,
+                           const std::vector<std::string>& words) {
+  std::vector<std::string> all{tsp, "convert"};
+  all.insert(all.end(), words.begin(), words.end());
+  all.insert(all.end(), {"--", path});
+  const Output output = output_of(all, false);
+  if (!output.well) throw Refusal(path + ": " + tsp + " convert doesn't read this file");
+  return output.text;
+}
+}  // namespace certify

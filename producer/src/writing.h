@@ -4,5 +4,7 @@
 
 #include "search.h"
 
+namespace certify {
 void write_certificate(const std::string& path, const Search& search);
 void write_tour(const std::string& path, const Tour& tour);
+}  // namespace certify

@@ -4,8 +4,10 @@
 The proved program TSP judges each certificate. A wrong answer ends the case with status 1.
 """
 
+import json
 import os
 import random
+import re
 import shutil
 import signal
 import subprocess
@@ -13,6 +15,7 @@ import sys
 import tempfile
 import time
 from itertools import permutations
+from math import dist
 from pathlib import Path
 
 CERTIFY, TSP = (os.path.abspath(path) for path in sys.argv[2:4])
@@ -48,7 +51,7 @@ def need_optimal(instance, *words):
 
 
 def write(name, kind, lines):
-    text = ["TYPE : TSP", f"DIMENSION : {lines[0]}", f"EDGE_WEIGHT_TYPE : {kind}", *lines[1:], "EOF"]
+    text = [f"TYPE : {'ATSP' if name.endswith('.atsp') else 'TSP'}", f"DIMENSION : {lines[0]}", f"EDGE_WEIGHT_TYPE : {kind}", *lines[1:], "EOF"]
     Path(name).write_text("\n".join(map(str, text)) + "\n")
 
 
@@ -114,6 +117,58 @@ def matrix():
     need_optimal("a.tsp")
 
 
+def write_arcs(nodes, cost, *more):
+    """Writes a.atsp, and returns its matrix."""
+    matrix = [[cost(i, j) if i != j else 0 for j in range(nodes)] for i in range(nodes)]
+    lines = [" ".join(map(str, row)) for row in matrix]
+    write("a.atsp", "EXPLICIT", [nodes, "EDGE_WEIGHT_FORMAT : FULL_MATRIX", "EDGE_WEIGHT_SECTION", *lines, *more])
+    return matrix
+
+
+def atsp_small():
+    """Against all orders of the nodes, with and without fixed arcs."""
+    for nodes in range(3, 10):
+        chance = random.Random(nodes)
+        order = chance.sample(range(nodes), nodes)
+        for fixed in ([], list(zip(order, order[1:3])), list(zip(order, order[1:] + order[:1]))):
+            pairs = [f"{a + 1} {b + 1}" for a, b in fixed]
+            more = ["FIXED_EDGES_SECTION", *pairs, "-1"] if fixed else []
+            matrix = write_arcs(nodes, lambda i, j: chance.randint(-50, 50), *more)
+            tours = [(0, *rest) for rest in permutations(range(1, nodes))]
+            arcs = [[(tour[k - 1], tour[k]) for k in range(nodes)] for tour in tours]
+            least = min(sum(matrix[a][b] for a, b in tour) for tour in arcs if set(fixed) <= set(tour))
+            need(need_optimal("a.atsp") == least, f"{nodes} nodes, fixed {fixed}: another length than {least}")
+
+
+def atsp():
+    chance = random.Random(21)
+    for nodes, low, high in ((40, 1, 1000), (80, -(10**6), 10**6), (40, 0, 3), (30, 10**12 - 1000, 10**12), (25, 7, 7)):
+        write_arcs(nodes, lambda i, j, low=low, high=high: chance.randint(low, high))
+        need_optimal("a.atsp")
+    points = [(chance.randint(0, 1000), chance.randint(0, 1000)) for _ in range(50)]
+    write_arcs(50, lambda i, j: round(dist(points[i], points[j])) + chance.randint(0, 20))
+    need_optimal("a.atsp")
+    write_arcs(50, lambda i, j: abs(points[i][1] - points[j][0]), "FIXED_EDGES_SECTION", "1 2", "2 9", "40 30", "-1")
+    need_optimal("a.atsp")
+    write_points("points.atsp", "EUC_2D", 40, chance)  # the same both ways
+    need_optimal("points.atsp")
+
+
+def atsp_named_tour():
+    """A bad tour that is named is made shorter; a reversed one is another tour."""
+    chance = random.Random(22)
+    write_arcs(40, lambda i, j: chance.randint(1, 1000))
+    Path("bad.tour").write_text("TYPE : TOUR\nTOUR_SECTION\n" + "\n".join(map(str, range(1, 41))) + "\n-1\nEOF\n")
+    certify("a.atsp", "bad.tour", "-o", "out.branches", "--tour-out", "out.tour")
+    need("optimal" in judged("a.atsp"), "not optimal")
+    need(int(judged("a.atsp", "bad.tour")["gap"]) > 0, "no bound of the bad tour")
+    texts = []
+    for name in ("one", "two"):
+        certify("a.atsp", "-o", f"{name}.branches", "--tour-out", f"{name}.tour", "--seconds", "0", "--seed", "4")
+        texts.append((Path(f"{name}.branches").read_bytes(), Path(f"{name}.tour").read_bytes()))
+    need(texts[0] == texts[1], "the same seed gives other bytes")
+
+
 def random_points():
     chance = random.Random(77)
     for nodes in (10, 20, 40, 60, 100, 150):
@@ -163,26 +218,95 @@ def same_bytes():
     need(texts[0] == texts[1], "the same seed gives other bytes")
 
 
+def signalled(*signals):
+    """The status of a run that gets these signals, each so many seconds after the one before."""
+    words = [CERTIFY, "a.tsp", "-o", "out.branches", "--tour-out", "out.tour", "--seconds", "0", "--tsp", TSP]
+    Path("out.branches").unlink(missing_ok=True)
+    with subprocess.Popen(words, stderr=subprocess.PIPE) as process:
+        for wait, number in signals:
+            time.sleep(wait)
+            process.send_signal(number)
+        process.communicate(timeout=120)
+    return process.returncode
+
+
 def interrupt():
     write_points("a.tsp", "EUC_2D", 700, random.Random(12), side=10**6)
-    words = [CERTIFY, "a.tsp", "-o", "out.branches", "--tour-out", "out.tour", "--seconds", "0", "--tsp", TSP]
-    with subprocess.Popen(words, stderr=subprocess.PIPE) as process:
-        time.sleep(3)
-        process.send_signal(signal.SIGINT)
-        process.communicate(timeout=120)
-    need(process.returncode == 130, f"status {process.returncode} after SIGINT")
-    need("bound" in judged("a.tsp"), "no bound after SIGINT")
+    for signals, status in (
+        ([(3, signal.SIGINT)], 130),
+        ([(3, signal.SIGTERM)], 143),
+        ([(3, signal.SIGINT), (0.1, signal.SIGINT)], 130),  # as `timeout -s INT` does
+        ([(3, signal.SIGTERM), (0, signal.SIGINT)], None),  # either may come first
+    ):
+        found = signalled(*signals)
+        need(found in ((status,) if status else (130, 143)), f"status {found} after {signals}")
+        need("bound" in judged("a.tsp"), f"no bound after {signals}")
+
+
+def rounding():
+    """Points within a unit square have distances that are rounded away."""
+    chance = random.Random(23)
+    write_points("a.tsp", "EUC_2D", 12, chance, side=1, places=6)
+    said = certify("a.tsp", "-o", "out.branches", "--tour-out", "out.tour")
+    need("rounded to whole numbers" in said, f"nothing is said of the rounding: {said}")
+    for name, lines in (("b.tsp", 3 * ["5 5"]), ("c.tsp", ["0 0", "0 2", "2 0"])):
+        write(name, "EUC_2D", [3, "NODE_COORD_SECTION", *(f"{v} {line}" for v, line in enumerate(lines, 1))])
+        said = certify(name, "-o", "out.branches", "--tour-out", "out.tour")
+        need("rounded" not in said, f"{name}: the distances aren't rounded away: {said}")
+    write_matrix("d.tsp", "FULL_MATRIX", 9, chance, 0, 1)
+    need("rounded" not in certify("d.tsp", "-o", "out.branches", "--tour-out", "out.tour"), "a matrix isn't rounded")
+
+
+def overwriting():
+    """No file that is read is written, whatever its name, and no file is written twice."""
+    write_points("a.tsp", "EUC_2D", 12, random.Random(24))
+    need_optimal("a.tsp")
+    kept = Path("a.tsp").read_bytes(), Path("out.tour").read_bytes()
+    os.symlink("a.tsp", "soft")
+    os.link("a.tsp", "hard")
+    os.mkdir("here")
+    for words in (
+        ["a.tsp", "-o", "a.tsp", "--tour-out", "b.tour"],
+        ["a.tsp", "-o", "./here/../a.tsp", "--tour-out", "b.tour"],
+        ["a.tsp", "-o", "soft", "--tour-out", "b.tour"],
+        ["soft", "-o", "hard", "--tour-out", "b.tour"],
+        ["a.tsp", "-o", "b.branches", "--tour-out", "hard"],
+        ["a.tsp", "out.tour", "-o", "out.tour"],
+        ["a.tsp", "-o", "same", "--tour-out", "./same"],
+        ["a.tsp", "-o", "b.branches", "--tour-out", "b.tour", "--log", "soft"],
+    ):
+        need("overwritten" in certify(*words, status=2), f"{words}: a file would be overwritten")
+        need(kept == (Path("a.tsp").read_bytes(), Path("out.tour").read_bytes()), f"{words}: a file is changed")
+    certify("a.tsp", "out.tour", "-o", "again.branches", "--tour-out", "again.tour")
+    certify("a.tsp", "out.tour", "-o", "again.branches", "--tour-out", "again.tour")  # these may be written anew
+
+
+def log():
+    """Each line is of JSON, and no bound is above its length."""
+    write_points("a.tsp", "EUC_2D", 250, random.Random(2), side=10**6)  # more than one leaf
+    certify("a.tsp", "-o", "out.branches", "--tour-out", "out.tour", "--log", "out.log")
+    events = [json.loads(line) for line in Path("out.log").read_text().splitlines()]
+    last = events[-1]
+    need(last["event"] == "end" and last["gap"] == 0, f"the last event: {last}")
+    need(last["length"] == int(judged("a.tsp")["length"]), f"another length: {last}")
+    need(all(event["bound"] <= event["length"] and event["cuts"]["combs"] >= 0 for event in events), "a bound is above")
+    need([event["seconds"] for event in events] == sorted(event["seconds"] for event in events), "not in order")
+    certify("a.tsp", "-o", "out.branches", "--tour-out", "out.tour", "--log", "no/folder/log", status=2)
 
 
 def bad_input():
     chance = random.Random(13)
     write_points("a.tsp", "EUC_2D", 12, chance)
     text = Path("a.tsp").read_text()
-    Path("rows.atsp").write_text(
+    rows = (
         "TYPE:ATSP\nDIMENSION:3\nEDGE_WEIGHT_TYPE:EXPLICIT\nEDGE_WEIGHT_FORMAT:FULL_MATRIX\n"
-        "EDGE_WEIGHT_SECTION\n0 1 2 3 0 4 5 6 0\nEOF\n"
+        "EDGE_WEIGHT_SECTION\n0 1 2 3 0 4 5 6 0\n"
     )
-    Path("odd.tsp").write_text(Path("rows.atsp").read_text().replace("ATSP", "TSP"))
+    Path("odd.tsp").write_text(rows.replace("ATSP", "TSP") + "EOF\n")
+    Path("back.atsp").write_text(rows + "FIXED_EDGES_SECTION\n1 2\n2 1\n-1\nEOF\n")
+    Path("one.atsp").write_text("TYPE:ATSP\nDIMENSION:1\n" + rows.partition("3\n")[2].replace("0 1 2 3 0 4 5 6 0", "0"))
+    Path("routes.vrp").write_text(text.replace(": TSP", ": CVRP").replace("EOF", "CAPACITY : 9\nDEMAND_SECTION\n")
+        + "".join(f"{v} {min(v - 1, 1)}\n" for v in range(1, 13)) + "DEPOT_SECTION\n1\n-1\nEOF\n")
     Path("cut.tsp").write_text(text[: len(text) // 2])
     Path("star.tsp").write_text(text.replace("EOF", "FIXED_EDGES_SECTION\n1 2\n1 3\n1 4\n-1\nEOF"))
     Path("ring.tsp").write_text(text.replace("EOF", "FIXED_EDGES_SECTION\n1 2\n2 3\n3 1\n-1\nEOF"))
@@ -191,7 +315,9 @@ def bad_input():
     out = ["-o", "out.branches"]
     both = [*out, "--tour-out", "out.tour"]
     faults = [
-        (["rows.atsp", *both], "ATSP"),
+        (["routes.vrp", *both], "TYPE CVRP"),
+        (["back.atsp", *both], "no tour uses all fixed edges"),
+        (["one.atsp", *both], "three nodes"),
         (["odd.tsp", *both], "symmetric"),
         (["cut.tsp", *both], "convert"),
         (["none.tsp", *both], "convert"),
@@ -202,8 +328,11 @@ def bad_input():
         (["a.tsp", "a.tsp", *out], "TYPE TOUR"),
         (["a.tsp", *out], "--tour-out"),
         (["a.tsp"], "-o"),
-        ([], "instance"),
-        (["a.tsp", *both, "--seconds", "x"], "number"),
+        ([], "INSTANCE"),
+        (["a.tsp", *both, "--seconds", "x"], "--seconds"),
+        (["a.tsp", *both, "--seconds", "-1"], "--seconds"),
+        (["a.tsp", *both, "--seed", "1.5"], "--seed"),
+        (["a.tsp", "out.tour", "more", *out], "more"),
         (["a.tsp", *both, "--wrong"], "--wrong"),
         (["a.tsp", "-o", "no/folder/out", "--tour-out", "out.tour"], "no/folder/out"),
     ]
@@ -217,18 +346,44 @@ def finding_tsp():
     os.makedirs("above/here")
     shutil.copy(CERTIFY, "above/here")
     words = [os.path.abspath("above/here/tsp-certify"), "a.tsp", "-o", "out.branches", "--tour-out", "out.tour"]
+    def find(path, *more):
+        return subprocess.run([*words, *more], capture_output=True, text=True, env={"PATH": path}, timeout=100)
+
     for place, path in ((None, "/nowhere"), ("above", "/nowhere"), ("on-path", os.path.abspath("on-path"))):
         if place:
             os.makedirs(place, exist_ok=True)
             os.symlink(TSP, f"{place}/tsp")
-        done = subprocess.run(words, capture_output=True, text=True, env={"PATH": path}, timeout=100)
+        done = find(path)
         need(done.returncode == (0 if place else 2), f"tsp in {place}: {done.stderr}")
         need(place or "--tsp" in done.stderr, f"no word of a missing tsp: {done.stderr}")
         if place:
             os.remove(f"{place}/tsp")
+    os.symlink(TSP, "on-path/tsp")
+    os.symlink(TSP, "on-path/yokecairn")
+    os.symlink(TSP, "tsp")
+    for name in ("tsp", "yokecairn", "./tsp", os.path.abspath("tsp")):
+        need(find(os.path.abspath("on-path"), "--tsp", name).returncode == 0, f"--tsp {name} isn't found")
+    for name in ("tsp", "./none", "on-path"):  # without a slash a name is looked for on PATH alone
+        need(find("/nowhere", "--tsp", name).returncode == 2, f"--tsp {name} is found")
+    Path("on-path/tsp").unlink()
+    Path("on-path/tsp").write_text("#!/bin/sh\necho Task Spooler v1.0\n")
+    os.chmod("on-path/tsp", 0o755)
+    said = find(os.path.abspath("on-path")).stderr
+    need("task-spooler" in said, f"another program of this name is taken: {said}")
 
 
-CASES = [weights, fixed, small, matrix, named_tour, upper, time_limit, same_bytes, interrupt, bad_input, finding_tsp]
+def installing():
+    """The installed program runs, and its page names each option of its help."""
+    cmake, build = sys.argv[4:6]
+    subprocess.run([cmake, "--install", build, "--prefix", os.path.abspath("here")], check=True, capture_output=True)
+    helped = subprocess.run(["here/bin/tsp-certify", "--help"], capture_output=True, text=True, check=True).stdout
+    page = Path("here/share/man/man1/tsp-certify.1").read_text().replace("\\", "")
+    options = set(re.findall(r"(?<![-\w])--?[a-z][-a-z]*", helped))
+    need(len(options) >= 8 and all(option in page for option in options), f"not all on the page: {options}")
+
+
+CASES = [weights, fixed, small, matrix, atsp_small, atsp, atsp_named_tour, named_tour, upper, time_limit, same_bytes,
+         interrupt, rounding, overwriting, log, bad_input, finding_tsp, installing]
 
 
 def main():

@@ -82,8 +82,8 @@ class Command(unittest.TestCase):
             self.assertTrue(err.endswith(b"\n") and b"Traceback" not in err, words)
         for words in (("--help",), ("check", "--help"), ("--version",)):
             status, out, err = run(*words)
-            self.assertEqual((status, out), (4, b""), words)
-            self.assertIn(b"tsp", err)
+            self.assertEqual((status, err), (0, b""), words)
+            self.assertTrue(out.startswith(b"tsp " if "--version" in words else b"usage: tsp"), out)
 
     def test_a_path_that_can_not_be_read_is_explained(self):
         status, out, err = run("show", "--explain", "no such file")
@@ -96,6 +96,17 @@ class Command(unittest.TestCase):
         status, out, err = run("check", "--explain", EXAMPLES / "rectangle.tsp", "-", stdin=tour)
         self.assertEqual((status, out), (1, b"type TSP\nnodes 4\nno RepeatedNode 3\n"))
         self.assertIn(b"  Place 3 is node 2", err)
+
+    def test_solutions_of_other_programs(self):
+        sol = EXAMPLES / "solvers/dairy.cvrplib.sol"
+        text = b"COMMENT : Cost 231\nTYPE : TOUR\nTOUR_SECTION\n5\n6\n4\n7\n-1\n2\n8\n3\n-1\nEOF\n"
+        self.assertEqual(run("solution", sol), (0, text, b""))
+        self.assertEqual(run("solution", "-", stdin=sol.read_bytes()), (0, text, b""))
+        report = b"type CVRP\nnodes 8\nroutes 2\nleast 2\nlength 231\nyes\n"
+        self.assertEqual(run("check", "--foreign", EXAMPLES / "dairy.vrp", sol), (0, report, b""))
+        self.assertEqual(run("check", EXAMPLES / "dairy.vrp", sol)[0], 2)
+        self.assertEqual(run("solution", "-", stdin=b"1 x\n"),
+                         (2, b"", b"-: line 1: nodes are whole numbers from 0 on, and this is none: x\n"))
 
     def test_lengths(self):
         for word, number in {"12": 12, "+3": 3, "-34": -34, "12.0": 12, "1.2e1": 12, "120e-1": 12, ".0": 0}.items():

@@ -21,12 +21,14 @@ from .faults import (
     NodeError,
     OutOfMemory,
     RelayoutFault,
+    SolutionError,
     TooLong,
     WrongKind,
 )
 from .many import Job, check_many
 from .problem import Problem, load, parse, read
 from .report import Report, bound, check, show
+from .solution import best_known, read_solution
 
 __all__ = [
     "EndFault",
@@ -39,14 +41,17 @@ __all__ = [
     "Problem",
     "RelayoutFault",
     "Report",
+    "SolutionError",
     "TooLong",
     "WrongKind",
+    "best_known",
     "bound",
     "check",
     "check_many",
     "load",
     "parse",
     "read",
+    "read_solution",
     "show",
 ]
 

@@ -1,6 +1,7 @@
-"""The program's verbs: python -m yokecairn show, convert, check and bound.
+"""The program's verbs: python -m yokecairn show, convert, check and bound, and one of its own: solution.
 
-They write what the program `tsp` writes, and end with its statuses. What differs: each file is read
+`solution` writes a solution of another program as a file of TYPE TOUR, and `check --foreign` reads one. The
+others write what the program `tsp` writes, and end with its statuses. What differs: each file is read
 whole before it is judged, the texts for a refused command line, for help and for the version are
 Python's, and what is explained of standard input has its text.
 """
@@ -12,7 +13,8 @@ from decimal import Decimal
 from typing import IO, Any, List, NoReturn, Optional, Sequence, Tuple
 
 from . import LAYOUTS, __version__, _library
-from .faults import explained
+from .faults import SolutionError, explained
+from .solution import solution_text
 
 WORDS, DEVICE = 4, 5
 MOST_BYTES = 1 << 30  # of a file that count
@@ -24,7 +26,11 @@ _UNREADABLE = "  The file can't be opened, or a read of it failed."
 
 
 class Refused(Exception):
-    """The words are refused, or ask for help; with what is written to standard error."""
+    """The words are refused; with what is written to standard error."""
+
+
+class Asked(Exception):
+    """The words ask for help or the version; with that text, which goes to standard output with status 0."""
 
 
 class Unreadable(Exception):
@@ -51,7 +57,7 @@ class _Tell(argparse.Action):
     """Writes a text in place of doing anything else."""
 
     def __call__(self, parser: argparse.ArgumentParser, *_: Any) -> NoReturn:
-        raise Refused(parser.format_help() if self.dest == "help" else f"tsp {__version__}\n")
+        raise Asked(parser.format_help() if self.dest == "help" else f"tsp {__version__}\n")
 
 
 def _parser() -> argparse.ArgumentParser:
@@ -63,6 +69,7 @@ def _parser() -> argparse.ArgumentParser:
         "convert": "write a file anew, with its weights in a layout",
         "check": "judge a tour, or routes, of an instance",
         "bound": "bound all tours of an instance by a certificate",
+        "solution": "write a solution of another program as a file of TYPE TOUR",
     }.items():
         verb = verbs.add_parser(name, help=told, description=told)
         verb.add_argument("--explain", action="store_true", help="explain a fault or a no")
@@ -70,6 +77,9 @@ def _parser() -> argparse.ArgumentParser:
         if name == "check":
             verb.add_argument("solution", metavar="T", help="the solution")
             verb.add_argument("--length", metavar="L", help="a no where the length isn't L")
+            verb.add_argument("--foreign", action="store_true", help="T may have another program's form")
+        if name == "solution":
+            verb.add_argument("--dimension", metavar="N", type=int, help="the instance's, for routes of LKH-3")
         if name == "convert":
             verb.add_argument("--layout", metavar="L", help="the layout's word")
         if name in ("check", "bound"):
@@ -120,6 +130,8 @@ class Task:
             except (ValueError, ArithmeticError):
                 raise Refused("not a length\n") from None
         certificate = potentials if branches is None else branches
+        self.is_foreign: bool = getattr(given, "foreign", False)
+        self.dimension: Optional[int] = getattr(given, "dimension", None)
         paths = [given.file, getattr(given, "solution", None), certificate]
         self.paths: List[str] = [path for path in paths if path is not None]
         if self.paths.count("-") > 1:
@@ -127,6 +139,8 @@ class Task:
 
     def done(self, texts: Sequence[bytes]) -> Tuple[int, bytes]:
         """The status of the verb on these texts, and what it writes."""
+        if self.verb == "solution":
+            return _library.DONE, solution_text(texts[0], self.dimension)
         if self.verb == "check":
             certificate = texts[2] if self.by else b""
             return _library.check(texts[0], texts[1], certificate, self.by, self.claimed)
@@ -171,6 +185,8 @@ class Run:
                 given.file = "-"
             self.explains = getattr(given, "explain", False) or self.err.isatty()
             return self.perform(given)
+        except Asked as asked:
+            return self.tell(_library.DONE, str(asked).encode())
         except Refused as refused:
             self.say(str(refused).encode("utf-8", "surrogateescape"))
             return WORDS
@@ -184,8 +200,15 @@ class Run:
                 texts.append(self.text_of(len(texts) + 1, path))
         except Unreadable as unreadable:
             return self.unreadable(unreadable, texts)
-        ended = self.tell(*task.done(texts))
-        if self.explains and ended in (_library.DONE, _library.NO, _library.FAULT):
+        try:
+            if task.is_foreign:
+                texts[1] = solution_text(texts[1], _library.count(texts[0]) or None)
+            done = task.done(texts)
+        except SolutionError as fault:
+            self.say(f"{task.paths[1 if task.is_foreign else 0]}: {fault}\n".encode("utf-8", "surrogateescape"))
+            return _library.FAULT
+        ended = self.tell(*done)
+        if self.explains and task.verb != "solution" and ended in (_library.DONE, _library.NO, _library.FAULT):
             self.explain(task.explained(texts))
         return ended
 

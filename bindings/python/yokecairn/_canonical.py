@@ -192,7 +192,10 @@ def _spelled(number: Any) -> str:
     return format(number, "f") if isinstance(number, Decimal) else str(number)
 
 
-def _of_nodes(section: Mapping[int, Any]) -> Iterator[List[Any]]:
+def _of_nodes(name: str, section: Mapping[int, Any]) -> Iterator[List[Any]]:
+    if not isinstance(section, Mapping):
+        more = ": Problem.from_points takes lists and arrays" if name == "node_coords" else ""
+        raise TypeError(f"{name} has a value by node, and this is of type {type(section).__name__}{more}")
     for node, values in section.items():
         yield [node, *values] if isinstance(values, Sequence) else [node, values]
 
@@ -229,7 +232,7 @@ def _section_lines(name: str, section: Any) -> Iterator[List[Any]]:
     elif name == "branches":
         yield from _of_steps(section)
     else:
-        yield from _of_nodes(section)
+        yield from _of_nodes(name, section)
 
 
 def _value_lines(keyword: str, value: Any) -> Iterator[str]:
@@ -250,5 +253,10 @@ def text_of_fields(fields: Mapping[str, Any], others: Iterable[Tuple[str, str]])
     for name, section in SECTIONS.items():
         if fields.get(name) is not None:
             lines.append(section)
-            lines += (" ".join(map(_spelled, words)) for words in _section_lines(name, fields[name]))
+            try:
+                lines += [" ".join(map(_spelled, words)) for words in _section_lines(name, fields[name])]
+            except TypeError as fault:
+                if name in str(fault):
+                    raise
+                raise TypeError(f"{name} has another form: {fields[name]!r:.60}") from fault
     return "\n".join([*lines, "EOF", ""]).encode("utf-8", "surrogateescape")

@@ -7,6 +7,7 @@
             TooLong                 it has more bytes than count
             WrongKind               the first file of a check has another TYPE than the check needs
             RelayoutFault           the weights can't go into the layout
+        SolutionError (a ValueError)    a solution of another program has no known form
         OutOfMemory (a MemoryError)
         NodeError (a LookupError)   the instance has no such node
 """
@@ -26,6 +27,26 @@ class Error(Exception):
 
 class NodeError(Error, LookupError):
     """An instance has no such node."""
+
+
+class SolutionError(Error, ValueError):
+    """A solution of another program has no known form, or breaks it.
+
+    Attributes:
+        told: what is wrong.
+        line: the line, from 1, where it is one of a line.
+        path: the path of the text, where it was read from one.
+    """
+
+    def __init__(self, told: str, line: Optional[int] = None, path: Optional[str] = None) -> None:
+        super().__init__(told, line, path)
+        self.told = told
+        self.line = line
+        self.path = path
+
+    def __str__(self) -> str:
+        line = f"line {self.line}: " if self.line else ""
+        return (f"{self.path}: " if self.path else "") + line + self.told
 
 
 class OutOfMemory(Error, MemoryError):

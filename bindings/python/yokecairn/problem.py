@@ -1,13 +1,15 @@
 """A file of TSPLIB 95 as a value, in the shape of the package tsplib95."""
 
+import importlib
 import io
 import os
 from array import array
+from decimal import Decimal
 from itertools import chain, product
-from typing import IO, Any, Dict, Iterable, Iterator, List, Optional, Sequence, Tuple, Union
+from typing import IO, Any, Dict, Iterable, Iterator, List, Mapping, Optional, Sequence, Tuple, Union
 
-from . import _canonical, _library
-from .faults import NodeError, WrongKind, error_of, explained, text_of
+from . import _arrays, _canonical, _library
+from .faults import LineFault, NodeError, WrongKind, error_of, explained, text_of
 
 Path = Union[str, "os.PathLike[str]"]
 
@@ -119,6 +121,67 @@ class Problem:
         return load(path, floats=floats)
 
     @classmethod
+    def from_points(
+        cls,
+        points: Any,
+        *,
+        edge_weight_type: str = "EUC_2D",
+        scale: int = 1,
+        decimals: Optional[int] = None,
+        floats: bool = False,
+        **fields: Any,
+    ) -> "Problem":
+        """An instance with these points, of TYPE TSP where no other is named.
+
+        `points` has two coordinates for each node from 1 on, or three for a distance in space: a numpy array
+        or a list. They are taken as they are written in the fewest digits, so 0.1 is 0.1, and multiplied
+        by `scale`, exactly. More than nine decimals are a `Fault` (`TooFine`): `decimals=9` rounds to so
+        many, half to even. Distances are rounded to whole numbers: give points of a unit square a scale,
+        as 10000, which a COMMENT tells. More `fields` are those of a `Problem`, as `name`.
+
+        Raises:
+            Fault: the points make no file.
+            TypeError: a coordinate is no number.
+            ValueError: the points aren't rows of two or three numbers.
+        """
+        rows = _arrays.points(points, 3 if edge_weight_type.endswith("_3D") else 2, scale, decimals)
+        notes = [fields.pop("comment", None), _arrays.note("Coordinates", scale, decimals)]
+        mine: Dict[str, Any] = {"type": "TSP", "comment": "\n".join(filter(None, notes)) or None, **fields}
+        mine.update(dimension=len(rows), edge_weight_type=edge_weight_type)
+        mine.update(node_coords=dict(enumerate(rows, 1)), floats=floats)
+        try:
+            return cls(**mine)
+        except LineFault as fault:
+            if "TooFine" not in fault.details:
+                raise
+            advice = "  from_points(.., decimals=9) rounds coordinates to nine decimals."
+            raise LineFault(fault.told, f"{fault.explanation}\n{advice}") from None
+
+    @classmethod
+    def from_matrix(
+        cls, matrix: Any, *, scale: int = 1, rounded: bool = False, **fields: Any
+    ) -> "Problem":
+        """An instance with these weights: of TYPE TSP where the matrix is symmetric, else ATSP, where no TYPE
+        is named.
+
+        `matrix` has a row for each node from 1 on: a numpy array or lists. Its numbers are multiplied by
+        `scale`, exactly, and have to be whole then; `rounded` rounds them, half to even. The diagonal isn't
+        looked at, and is 0. More `fields` are those of a `Problem`, as `name`.
+
+        Raises:
+            Fault: the weights make no file.
+            TypeError: a weight is no number.
+            ValueError: the rows aren't as long as there are rows, or a weight isn't whole.
+        """
+        rows = _arrays.matrix(matrix, scale, rounded)
+        is_even = all(rows[i][j] == rows[j][i] for i in range(len(rows)) for j in range(i))
+        notes = [fields.pop("comment", None), _arrays.note("Weights", scale, 0 if rounded else None)]
+        mine: Dict[str, Any] = {"type": "TSP" if is_even else "ATSP", **fields}
+        mine.update(comment="\n".join(filter(None, notes)) or None)
+        mine.update(dimension=len(rows), edge_weight_type="EXPLICIT", edge_weight_format="FULL_MATRIX")
+        return cls(**mine, edge_weights=rows)
+
+    @classmethod
     def _of(cls, text: bytes, floats: bool) -> "Problem":
         """The file with this canonical text."""
         problem = cls.__new__(cls)
@@ -197,9 +260,40 @@ class Problem:
         found = {keywords[name]: value for name, value in self.as_name_dict().items()}
         return {**found, **dict(self.others)}
 
-    def as_dict(self, by_keyword: bool = False) -> Dict[str, Any]:
-        """The fields that stand in the file, by their names, or by their keywords and sections."""
-        return self.as_keyword_dict() if by_keyword else self.as_name_dict()
+    def as_dict(self, by_keyword: bool = False, *, json: bool = False) -> Dict[str, Any]:
+        """The fields that stand in the file, by their names, or by their keywords and sections.
+
+        With `json` they are numbers, texts, lists and dicts by texts, which `json.dumps` takes and `json.loads`
+        gives back: a coordinate that isn't whole is the nearest float.
+        """
+        found = self.as_keyword_dict() if by_keyword else self.as_name_dict()
+        return {name: _plain(value) for name, value in found.items()} if json else found
+
+    def get_graph(self, normalize: bool = False) -> Any:
+        """The instance as a graph of networkx, which has to be installed: a `DiGraph` where costs differ by
+        direction. It has an edge for each pair of different nodes, with `weight` and `is_fixed`, and its
+        nodes have `coord`, `display`, `demand` and `is_depot`. With `normalize` nodes count from 0.
+
+        Raises:
+            ImportError: networkx isn't installed.
+            WrongKind: the file is no instance.
+        """
+        networkx = importlib.import_module("networkx")
+        self._weight_kind()
+        is_even, less = self.is_symmetric(), int(normalize)
+        graph = networkx.Graph() if is_even else networkx.DiGraph()
+        for name in ("name", "comment", "type", "dimension", "capacity"):
+            graph.graph[name] = getattr(self, name)
+        depots, fixed = set(self.depots), set(self.fixed_edges)
+        for node in self.get_nodes():
+            places = {"coord": self.node_coords.get(node), "display": self.display_data.get(node)}
+            graph.add_node(node - less, **places, demand=self.demands.get(node), is_depot=node in depots)
+        for i in self.get_nodes():
+            for j in range(i + 1, self._nodes() + 1) if is_even else self.get_nodes():
+                if i != j:
+                    is_fixed = (i, j) in fixed or is_even and (j, i) in fixed
+                    graph.add_edge(i - less, j - less, weight=self.get_weight(i, j), is_fixed=is_fixed)
+        return graph
 
     def replace(self, **fields: Any) -> "Problem":
         """The file with other values of these fields. None takes one away.
@@ -347,15 +441,17 @@ class Problem:
             NodeError: there is no such node.
             WrongKind: the file is no instance.
         """
-        count = self.dimension or 0
-        if not (0 < start <= count and 0 < end <= count):
-            raise NodeError(f"nodes are 1 to {count}, and the pair is {start}, {end}")
-        kind = self._kind
-        if kind:
-            points = self._points
-            weight: int = _library.distance(kind, *points[start], *points[end])
-            return weight
-        return self._matrix[(start - 1) * count + end - 1]
+        count, kind = self.dimension or 0, self._kind
+        try:
+            if not (0 < start <= count and 0 < end <= count):
+                raise NodeError(f"nodes are 1 to {count}, and the pair is {start}, {end}")
+            if kind:
+                points = self._points
+                weight: int = _library.distance(kind, *points[start], *points[end])
+                return weight
+            return self._matrix[(int(start) - 1) * count + end - 1]
+        except TypeError:
+            raise TypeError(f"nodes are whole numbers, and the pair is {start!r}, {end!r}") from None
 
     def weights(self, pairs: Any) -> "array[int]":
         """The costs of many pairs of nodes in one call: an array of 64-bit numbers.
@@ -384,7 +480,7 @@ class Problem:
         self._weight_kind()
         found: List[int] = []
         nodes, count = array("I"), 0
-        for tour in tours:
+        for tour in _arrays.tours(tours):
             more = self._tour(tour)
             if len(nodes) + len(more) > _library.MOST_NODES:
                 found += self._numbers(*_library.lengths(self._text, nodes, count))
@@ -400,6 +496,8 @@ class Problem:
             nodes = array("I", tour)
         except OverflowError as fault:
             raise NodeError(f"nodes are 1 to {self._nodes()}") from fault
+        except TypeError:
+            raise TypeError(f"a tour is a list of nodes, whole numbers, and this is none: {tour!r:.60}") from None
         if 0 in nodes:
             raise NodeError(f"nodes are 1 to {self._nodes()}, and this is 0")
         nodes.append(0)
@@ -439,7 +537,18 @@ def _whole_nodes(pairs: Any) -> "array[int]":
         flat.extend(chain.from_iterable(pairs))
     except OverflowError as fault:
         raise NodeError("nodes count from 1") from fault
+    except TypeError:
+        raise TypeError(f"pairs are pairs of nodes, whole numbers, and these aren't: {pairs!r:.60}") from None
     return flat
+
+
+def _plain(value: Any) -> Any:
+    """A value as JSON has it."""
+    if isinstance(value, Decimal):
+        return int(value) if value == value.to_integral_value() else float(value)
+    if isinstance(value, Mapping):
+        return {str(key): _plain(part) for key, part in value.items()}
+    return list(map(_plain, value)) if isinstance(value, (list, tuple)) else value
 
 
 def parse(text: Union[str, bytes], *, floats: bool = False, path: Optional[Path] = None) -> Problem:
@@ -449,6 +558,8 @@ def parse(text: Union[str, bytes], *, floats: bool = False, path: Optional[Path]
         Fault: the text is no file.
         MemoryError: out of memory.
     """
+    if not isinstance(text, (str, bytes, bytearray, memoryview)):
+        raise TypeError(f"a text is of type str or bytes, and this is of type {type(text).__name__}")
     told = text.encode("utf-8", "surrogateescape") if isinstance(text, str) else bytes(text)
     return Problem._of(canonical(told, path=None if path is None else os.fspath(path)), floats)
 

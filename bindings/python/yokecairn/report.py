@@ -1,8 +1,10 @@
 """What is judged: a solution of an instance, with or without a certificate; or a certificate alone."""
 
+import dataclasses
+import operator
 import os
 from dataclasses import dataclass
-from typing import Iterable, List, Optional, Sequence, Tuple, Union
+from typing import Any, Dict, Iterable, List, Optional, Sequence, Tuple, Union
 
 from . import _library
 from .faults import error_of, explained, text_of
@@ -13,6 +15,9 @@ Source = Union[Path, bytes, Problem]
 
 # Also the nodes of one tour, or of several routes.
 Solution = Union[Source, Sequence[int], Sequence[Sequence[int]]]
+
+# What an explanation says where distances are rounded to 0 and 1.
+_ROUNDED = ": every distance along the solution is 0 or 1, "
 
 # The words of a report's lines with a number.
 _NUMBERS = ("nodes", "routes", "least", "length", "bound", "gap")
@@ -38,6 +43,9 @@ class Report:
         numbers: the numbers of the reason.
         text: the whole report, as the program prints it.
         explanation: what `tsp --explain` tells of it, where that was asked for.
+        rounded: whether every distance along an accepted solution is 0 or 1, though its points differ.
+            TSPLIB rounds distances to whole numbers, so of points in a unit square such a report says
+            little: multiply the coordinates, as `Problem.from_points` does by `scale`.
 
     Each is None where the report doesn't have it.
     """
@@ -57,6 +65,7 @@ class Report:
     numbers: Tuple[int, ...]
     text: str
     explanation: str = ""
+    rounded: bool = False
 
     def __bool__(self) -> bool:
         return self.yes
@@ -65,6 +74,22 @@ class Report:
         words = [f"{word}={value}" for word in _NUMBERS if (value := getattr(self, word)) is not None]
         verdict = "yes" if self.yes else " ".join(map(str, ("no", self.reason, *self.numbers)))
         return f"<Report {verdict}: {' '.join([self.type, *words])}{' optimal' * self.optimal}>"
+
+    def as_dict(self) -> Dict[str, Any]:
+        """The attributes by their names, as numbers, texts and lists that `json.dumps` takes."""
+        found = dataclasses.asdict(self)
+        return {name: list(it) if isinstance(it, tuple) else it for name, it in found.items()}
+
+    @property
+    def gap_percent(self) -> Optional[float]:
+        """The gap in percent of the bound; None where there is no bound above 0."""
+        return None if self.bound is None or self.bound <= 0 else self.percent_over(self.bound)
+
+    def percent_over(self, length: int) -> Optional[float]:
+        """By how many percent the length is above another one, as a best-known length; None without one."""
+        if self.length is None or length <= 0:
+            return None
+        return 100 * (self.length - length) / length
 
     @classmethod
     def of(cls, text: str, explanation: str = "") -> "Report":
@@ -94,16 +119,28 @@ def text_and_path(source: Source) -> Tuple[bytes, Optional[str]]:
         return source.to_bytes(), None
     if isinstance(source, (bytes, bytearray)):
         return bytes(source), None
-    path = os.fspath(source)
+    try:
+        path = os.fspath(source)
+    except TypeError:
+        raise TypeError(
+            f"a file is a path, the bytes of its text, or a Problem, and this is of type {_type(source)}"
+        ) from None
     with open(path, "rb") as file:
         return file.read(), path
+
+
+def _type(value: object) -> str:
+    return type(value).__name__
 
 
 def tour_text(tours: Iterable[Iterable[int]]) -> bytes:
     """A text of TYPE TOUR with these tours, or routes."""
     lines = ["TYPE : TOUR", "TOUR_SECTION"]
     for tour in tours:
-        lines += [*map(str, tour), "-1"]
+        try:
+            lines += [*map(str, map(operator.index, tour)), "-1"]
+        except TypeError:
+            raise TypeError(f"a tour is a list of nodes, whole numbers, and this is none: {tour!r:.60}") from None
     return "\n".join([*lines, "EOF", ""]).encode()
 
 
@@ -112,7 +149,13 @@ def solution_and_path(solution: Solution) -> Tuple[bytes, Optional[str]]:
     if isinstance(solution, (Problem, bytes, bytearray, str, os.PathLike)):
         return text_and_path(solution)
     parts: List[Sequence[int]] = []
-    nodes = list(solution)
+    try:
+        nodes = list(solution)
+    except TypeError:
+        raise TypeError(
+            "a solution is a path, the bytes of its text, a Problem, or a list of nodes, and this is of type"
+            f" {_type(solution)}"
+        ) from None
     if nodes and isinstance(nodes[0], Iterable):
         parts.extend(nodes)  # type: ignore[arg-type]
     elif nodes:
@@ -157,8 +200,7 @@ def check(
     first, path = text_and_path(instance)
     second, solution_path = solution_and_path(solution)
     by, third, certificate_path = _certificate(potentials, branches)
-    if length is not None and not -(2**63) <= length < 2**63:
-        raise ValueError("a length has 64 bits")
+    length = _length(length)
     status, told = _library.check(first, second, third, by, length)
 
     paths = (path, solution_path, certificate_path)
@@ -168,7 +210,28 @@ def check(
 
     if status not in (_library.DONE, _library.NO):
         raise error_of(status, told, more, paths)
-    return Report.of(text_of(told), more() if explain else "")
+    report = Report.of(text_of(told), more() if explain else "")
+    # such a solution is at most as long as it has edges, so others aren't looked at again
+    if report.yes and 0 <= (report.length or 0) <= report.nodes + (report.routes or 0):
+        told_more = report.explanation or more()
+        return dataclasses.replace(report, rounded=_ROUNDED in told_more)
+    return report
+
+
+def _length(length: Optional[int]) -> Optional[int]:
+    """A claimed length."""
+    if length is None:
+        return None
+    try:
+        whole = operator.index(length)
+    except TypeError:
+        raise TypeError(
+            f"a length is a whole number, and this is of type {_type(length)}: {length!r:.60}. Lengths of TSPLIB"
+            " are whole, and one in real numbers can't be compared with them"
+        ) from None
+    if not -(2**63) <= whole < 2**63:
+        raise ValueError("a length has 64 bits")
+    return whole
 
 
 def bound(

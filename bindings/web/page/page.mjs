@@ -17,6 +17,9 @@ const find = (id) => /** @type {HTMLElement} */ (document.getElementById(id));
 /** @type {Record<import("./roles.mjs").Slot, import("./run.mjs").Given | null>} the files that are given */
 const given = { instance: null, solution: null, certificate: null };
 
+/** @type {import("./run.mjs").Given[]} all solutions, where several came at once */
+let tours = [];
+
 /** @type {Worker | null} */
 let worker = null;
 
@@ -94,6 +97,9 @@ function hear(message) {
  */
 function put(slot, file, by) {
     given[slot] = file;
+    if (slot === "solution") {
+        tours = [];
+    }
     find(`${slot}-name`).textContent = file ? `${file.name}, ${file.bytes.length.toLocaleString("en")} bytes` : "none";
     find(`${slot}-remove`).hidden = file === null;
     if (by !== undefined) {
@@ -109,10 +115,19 @@ function put(slot, file, by) {
  */
 async function take(files, slot) {
     try {
+        const solutions = [];
         for (const file of files) {
             const bytes = new Uint8Array(await file.arrayBuffer());
             const role = roleOf(file.name, bytes);
             put(slot ?? role.slot, { name: file.name, bytes }, role.by);
+            if ((slot ?? role.slot) === "solution") {
+                solutions.push({ name: file.name, bytes });
+            }
+        }
+        if (solutions.length > 1) {
+            put("solution", solutions[0]);
+            tours = solutions;
+            find("solution-name").textContent = `${solutions.length} tours`;
         }
     } catch (error) {
         tell("fault", "Not read", `The browser can't read the file: ${error}`);
@@ -156,7 +171,7 @@ function judge() {
     if (length === undefined) {
         return;
     }
-    const job = { ...given, by: isBranches ? By.BRANCHES : By.POTENTIALS, claimed: length };
+    const job = { ...given, by: isBranches ? By.BRANCHES : By.POTENTIALS, claimed: length, tours, foreign: true };
     if (verbOf(job) === null) {
         const isEmpty = SLOTS.every((slot) => given[slot] === null);
         tell("none", isEmpty ? "" : "No instance", isEmpty ? "" : "Choose the instance too.");
@@ -182,7 +197,7 @@ function tell(kind, word, meaning) {
     find("verdict").className = kind;
     find("verdict").textContent = word;
     find("meaning").textContent = meaning;
-    for (const id of ["explanation", "not-judged", "no-drawing", "details", "figure", "bar"]) {
+    for (const id of ["explanation", "not-judged", "no-drawing", "details", "figure", "bar", "converted", "rows"]) {
         find(id).setAttribute("hidden", "");
     }
 }
@@ -193,6 +208,9 @@ function show(answered) {
     const unknown = report?.notJudged.join(", ") ?? "";
     tell(...headlineOf(answered));
     fill("explanation", explanation.replace(/^  /gm, "").trimEnd());
+    find("converted").hidden = answered.converted === null;
+    find("form").textContent = answered.converted ? `${answered.converted.from} was read as ${answered.converted.form}.` : "";
+    showRows(answered.rows);
     fill("not-judged", unknown && `Not judged: ${unknown}. The verdict says nothing about these lines.`);
     find("details").hidden = false;
     find("report").textContent = text;
@@ -201,6 +219,63 @@ function show(answered) {
     outcome = answered;
     draw();
     find("verdict").scrollIntoView({ block: "nearest" });
+}
+
+/**
+ * Shows what comes of several tours. The button of one shows it.
+ *
+ * @param {import("./run.mjs").Row[]} rows
+ */
+function showRows(rows) {
+    find("rows").hidden = rows.length === 0;
+    find("rows-body").replaceChildren(
+        ...rows.map(({ name, word, length, gap }, at) => {
+            const row = document.createElement("tr");
+            const button = document.createElement("button");
+            button.type = "button";
+            button.textContent = name;
+            button.addEventListener("click", () => {
+                given.solution = tours[at];
+                judge();
+            });
+            row.append(...[button, word, length, gap].map((part) => {
+                const cell = document.createElement("td");
+                cell.append(part);
+                return cell;
+            }));
+            return row;
+        }),
+    );
+}
+
+/**
+ * Saves a file where the person wants it.
+ *
+ * @param {string} name
+ * @param {string} type
+ * @param {BlobPart} content
+ */
+function save(name, type, content) {
+    const link = document.createElement("a");
+    link.href = URL.createObjectURL(new Blob([content], { type }));
+    link.download = name;
+    link.click();
+    setTimeout(() => URL.revokeObjectURL(link.href), 60_000);
+}
+
+/** The name of what is saved: that of the instance, with another end. */
+function nameWith(/** @type {string} */ end) {
+    return `${(given.instance?.name ?? "tsp").replace(/\.\w+$/, "")}.${end}`;
+}
+
+/** The drawing as a file of SVG, with the page's style. */
+function drawing() {
+    const copy = /** @type {Element} */ (find("map").cloneNode(true));
+    const style = document.createElementNS(SVG, "style");
+    style.textContent = document.querySelector("style")?.textContent ?? "";
+    copy.setAttribute("xmlns", SVG);
+    copy.prepend(style);
+    return new XMLSerializer().serializeToString(copy);
 }
 
 /**
@@ -367,6 +442,14 @@ function listenToPage() {
     find("stop").addEventListener("click", () => {
         stop();
         tell("none", "Stopped", "");
+    });
+    find("save-report").addEventListener("click", () => save(nameWith("report"), "text/plain", find("report").textContent ?? ""));
+    find("save-picture").addEventListener("click", () => save(nameWith("svg"), "image/svg+xml", drawing()));
+    find("save-converted").addEventListener("click", () => {
+        const read = outcome?.converted;
+        if (read) {
+            save(read.given.name, "text/plain", read.given.bytes);
+        }
     });
     find("files").addEventListener("submit", (event) => event.preventDefault());
     new ResizeObserver(() => find("result").clientWidth !== drawn && draw()).observe(find("result"));

@@ -23,15 +23,19 @@ const COLOURS = 6;
 /** What is left free at each side. */
 const MARGIN = 24;
 
+/** A picture isn't narrower. */
+const LEAST_WIDTH = 4 * MARGIN;
+
 /**
  * The drawing of a scene.
  *
  * @param {import("./scene.mjs").Scene} scene
- * @param {number} width
+ * @param {number} room the width that there is; a page that isn't shown has none
  * @param {string} kind yes or no
  * @returns {Picture}
  */
-export function pictureOf(scene, width, kind) {
+export function pictureOf(scene, room, kind) {
+    const width = Math.max(room, LEAST_WIDTH);
     const nodes = scene.points.length / 2;
     const { place, height } = layOut(scene.points, width);
     const all = Array.from({ length: nodes }, (_, at) => at + 1);
@@ -206,10 +210,11 @@ function markShapes({ marks }, place, nodes) {
  * A bar of the length, in which bound and gap have their shares; null without a bound.
  *
  * @param {import("./report.mjs").Report} report
- * @param {number} width
+ * @param {number} room
  * @returns {Picture | null}
  */
-export function barOf({ length, bound, gap, optimal }, width) {
+export function barOf({ length, bound, gap, optimal }, room) {
+    const width = Math.max(room, LEAST_WIDTH);
     if (length === null || bound === null || length <= 0n || bound < 0n || bound > length) {
         return null;
     }

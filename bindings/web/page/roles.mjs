@@ -17,7 +17,7 @@ const OF_TYPES = {
 };
 
 /** @type {Record<string, string>} */
-const OF_ENDS = { tour: "TOUR", sol: "TOUR", potentials: "POTENTIALS", pi: "POTENTIALS", branches: "BRANCHES" };
+const OF_ENDS = { tour: "TOUR", sol: "TOUR", edges: "TOUR", cyc: "TOUR", potentials: "POTENTIALS", pi: "POTENTIALS", branches: "BRANCHES" };
 
 /**
  * @typedef {"instance" | "solution" | "certificate"} Slot
@@ -34,5 +34,15 @@ export function roleOf(name, bytes) {
     const start = new TextDecoder().decode(bytes.subarray(0, LOOKED_AT));
     const type = /^[ \t]*TYPE[ \t]*:[ \t]*(\w+)/m.exec(start)?.[1] ?? "";
     const end = name.slice(name.lastIndexOf(".") + 1).toLowerCase();
-    return OF_TYPES[type] ?? OF_TYPES[OF_ENDS[end] ?? "TSP"];
+    return OF_TYPES[type] ?? OF_TYPES[OF_ENDS[end] ?? (isForeign(start) ? "TOUR" : "TSP")];
+}
+
+/**
+ * Whether a text without a TYPE begins as solutions of other programs do: with a number, a list or a route.
+ *
+ * @param {string} start
+ * @returns {boolean}
+ */
+function isForeign(start) {
+    return /^\s*(?:\d|\[|route\b[^:]*:)/i.test(start);
 }

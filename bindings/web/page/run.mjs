@@ -1,8 +1,9 @@
 // What is done with the files that are given: the verb of the program that they ask for.
 
 import { By, Call, Status } from "./library.mjs";
-import { reportOf } from "./report.mjs";
+import { reportOf, verdictOf } from "./report.mjs";
 import { sceneOf } from "./scene.mjs";
+import { NoSolution, converted } from "./solutions.mjs";
 
 /**
  * @typedef {object} Given
@@ -15,6 +16,14 @@ import { sceneOf } from "./scene.mjs";
  * @property {Given | null} certificate
  * @property {number} by how the certificate gives a bound
  * @property {bigint | null} claimed the length that the solution is said to have
+ * @property {Given[]} [tours] all solutions, where there are several
+ * @property {boolean} [foreign] whether a solution may have the form of another program
+ *
+ * @typedef {object} Row what comes of one of several solutions
+ * @property {string} name
+ * @property {string} word
+ * @property {string} length empty where there is none
+ * @property {string} gap
  *
  * @typedef {object} Outcome
  * @property {string} command the same call of the program
@@ -24,6 +33,8 @@ import { sceneOf } from "./scene.mjs";
  * @property {string} explanation
  * @property {import("./report.mjs").Report | null} report of a check or a bound
  * @property {import("./scene.mjs").Scene | null} scene
+ * @property {{ given: Given, form: string, from: string } | null} converted a solution of another program as it was read
+ * @property {Row[]} rows
  */
 
 const NOTHING = new Uint8Array();
@@ -52,6 +63,64 @@ export function verbOf({ instance, solution, certificate }) {
  * @returns {Outcome}
  */
 export function run(library, job) {
+    const read = readOf(library, job);
+    return { ...judged(library, read ? { ...job, solution: read.given } : job), converted: read, rows: rowsOfTours(library, job) };
+}
+
+/**
+ * The solution of another program as a file of TYPE TOUR; null where it is one, or none that is known.
+ *
+ * @param {import("./library.mjs").Library} library
+ * @param {Job} job
+ * @returns {{ given: Given, form: string, from: string } | null}
+ */
+function readOf(library, { instance, solution, foreign }) {
+    if (solution === null || !foreign) {
+        return null;
+    }
+    const shown = instance ? new TextDecoder().decode(library.show(instance.bytes).bytes) : "";
+    try {
+        const read = converted(solution.bytes, Number(/^nodes (\d+)$/m.exec(shown)?.[1] ?? 0));
+        const name = `${solution.name.replace(/\.(?:sol|edges|cyc|txt|json)$/i, "")}.tour`;
+        return read && { given: { name, bytes: read.bytes }, form: read.form, from: solution.name };
+    } catch (error) {
+        if (error instanceof NoSolution) {
+            return null; // the library explains it
+        }
+        throw error;
+    }
+}
+
+/**
+ * What comes of each solution, where there are several.
+ *
+ * @param {import("./library.mjs").Library} library
+ * @param {Job} job
+ * @returns {Row[]}
+ */
+function rowsOfTours(library, job) {
+    const tours = job.instance && (job.tours ?? []).length > 1 ? (job.tours ?? []) : [];
+    return tours.map((solution) => {
+        const read = readOf(library, { ...job, solution });
+        const { status, bytes } = answerOf(library, { ...job, solution: read?.given ?? solution }, "check");
+        const text = new TextDecoder().decode(bytes);
+        if (status !== Status.YES && status !== Status.NO) {
+            return { name: solution.name, word: text.trim() || "Out of memory", length: "", gap: "" };
+        }
+        const report = reportOf(text);
+        const word = report.yes ? verdictOf(report).word : [`No: ${report.reason}`, ...report.numbers].join(" ");
+        return { name: solution.name, word, length: String(report.length ?? ""), gap: String(report.gap ?? "") };
+    });
+}
+
+/**
+ * What comes of the files of a job.
+ *
+ * @param {import("./library.mjs").Library} library
+ * @param {Job} job
+ * @returns {Omit<Outcome, "converted" | "rows">}
+ */
+function judged(library, job) {
     const verb = verbOf(job);
     const { status, bytes } = answerOf(library, job, verb);
     const text = new TextDecoder().decode(bytes);

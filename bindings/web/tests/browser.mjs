@@ -178,6 +178,41 @@ const TESTS = {
         assert.equal(await browser.value(`document.getElementById("verdict").textContent`), "No instance");
         assert.equal(await browser.value(`document.getElementById("figure").hidden`), true);
     },
+    "a solution of another program is read, and is saved with the report and the picture": async (browser) => {
+        await browser.open("");
+        await browser.value(`globalThis.saved = []; globalThis.made = URL.createObjectURL;
+            URL.createObjectURL = (blob) => { saved.push({ blob }); return made.call(URL, blob); };
+            HTMLAnchorElement.prototype.click = function () { saved.at(-1).name = this.download; }; 0`);
+        await browser.choose("all", ["harbour.tsp", "solvers/harbour.concorde.sol"]);
+        await browser.until(`document.getElementById("verdict").textContent === "Yes: a tour"`);
+        assert.equal(await browser.value(`document.getElementById("converted").hidden`), false);
+        assert.match(await browser.value(`document.getElementById("form").textContent`), /was read as a tour of Concorde/);
+        for (const id of ["save-converted", "save-report", "save-picture"]) {
+            await browser.value(`document.getElementById("${id}").click()`);
+        }
+        const texts = await browser.value(`Promise.all(saved.map(({ blob }) => blob.text()))`);
+        assert.deepEqual(await browser.value(`saved.map(({ name }) => name)`), ["harbour.concorde.tour", "harbour.report", "harbour.svg"]);
+        assert.equal(texts[0], "TYPE : TOUR\nTOUR_SECTION\n1\n2\n3\n4\n8\n5\n6\n7\n-1\nEOF\n");
+        assert.equal(texts[1], "type TSP\nnodes 8\nlength 226\nyes\n");
+        assert.match(texts[2], /^<svg [^>]*xmlns="http:\/\/www.w3.org\/2000\/svg".*<style.*<path /s);
+    },
+    "several tours are a table": async (browser) => {
+        await browser.open("");
+        await browser.choose("all", ["harbour.tsp", "harbour.tour", "rectangle-1-2-3-4.tour"]);
+        await browser.until(`document.getElementById("verdict").textContent === "Yes: a tour"`);
+        const rows = `[...document.querySelectorAll("#rows-body tr")].map((row) => row.innerText.split(/\\s*\\t\\s*/).slice(0, 2).join("|"))`;
+        assert.deepEqual(await browser.value(rows), ["harbour.tour|Yes: a tour", "rectangle-1-2-3-4.tour|No: TourLength"]);
+        await browser.value(`document.querySelectorAll("#rows-body button")[1].click()`);
+        await browser.until(`document.getElementById("meaning").textContent === "The reason is TourLength."`);
+        assert.equal(await browser.value(`document.querySelectorAll("#rows-body tr").length`), 2);
+    },
+    "a page that isn't shown draws without a fault": async (browser) => {
+        await browser.open("");
+        await browser.value(`document.getElementById("result").style.display = "none"`);
+        await browser.value(`document.querySelector("button[data-example=harbour]").click()`);
+        assert.match(await browser.verdict(), /^Yes: gap/);
+        assert.match(await browser.value(`document.getElementById("map").getAttribute("viewBox")`), /^0 0 [1-9]\d* [1-9]\d*$/);
+    },
     "the policy refuses connections": async (browser) => {
         await browser.open("");
         assert.equal(await browser.value(`fetch("http://127.0.0.1:9/").then(() => "sent", (error) => error.name)`), "TypeError");

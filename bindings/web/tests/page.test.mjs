@@ -10,6 +10,7 @@ import { reportOf, verdictOf } from "../page/report.mjs";
 import { roleOf } from "../page/roles.mjs";
 import { run, verbOf } from "../page/run.mjs";
 import { marksOf, missingOf, rowsOf, toursOf } from "../page/scene.mjs";
+import { NoSolution, converted } from "../page/solutions.mjs";
 import { libraryOf } from "./module.mjs";
 
 const PAGE = process.env.PAGE ?? "";
@@ -69,6 +70,36 @@ test("what a file is for", () => {
     assert.deepEqual(roleOf("a.potentials", bytesOf("")), { slot: "certificate", by: By.POTENTIALS });
     assert.equal(roleOf("a.tour", bytesOf("")).slot, "solution");
     assert.equal(roleOf("a", bytesOf("")).slot, "instance");
+    for (const start of ["8\n0 1", "[0, 1]", "Route #1: 2", "1,2,3"]) {
+        assert.equal(roleOf("a.txt", bytesOf(start)).slot, "solution", start);
+    }
+});
+
+test("solutions of other programs", () => {
+    const read = (words, nodes = 0) => toursOf(new TextDecoder().decode(converted(bytesOf(words), nodes).bytes));
+    for (const words of ["1 3 2", "1\n3\n2\n", "[1, 3, 2]", "1, 3, 2, 1", "1;3;2", "0 2 1", "0,2,1,0", "[0, 2, 1]",
+        "3\n0 2 1", " [1] 1 3\n [3] 2\n", "1 3 2\r\n", "\ufeff1 3 2"]) {
+        assert.deepEqual(read(words), [[1, 3, 2]], words);
+    }
+    assert.deepEqual(read("3\n0 2 1", 4), [[4, 1, 3, 2]]);
+    assert.deepEqual(read("[[2, 3], [4]]"), [[2, 3], [4]]);
+    assert.deepEqual(read("4 4\n2 0 1\n1 3 1\n3 2 1\n0 1 1\n"), [[1, 3, 4, 2]]);
+    assert.deepEqual(read("Route #1: 1 2\r\nroute 2 : 3\r\nCost : 3000\r\n"), [[2, 3], [4]]);
+    assert.match(new TextDecoder().decode(converted(bytesOf("Route #1: 1\nCost : 3000\n"), 0).bytes), /^COMMENT : Cost 3000$/m);
+    assert.equal(converted(HARBOUR.solution.bytes, 8), null, "a file of TSPLIB stays");
+    assert.equal(converted(bytesOf(" \n"), 8), null);
+    for (const words of ["x", "1 -2", "1 2.5", "{}", "[1, true]", "Route #1: 0", "Route #1: 1\n2 3\n", "3 3\n0 1 5\n",
+        "6 6\n0 1 1\n1 2 1\n2 0 1\n3 4 1\n4 5 1\n5 3 1\n"]) {
+        assert.throws(() => read(words), NoSolution, words);
+    }
+});
+
+test("a page that isn't shown has pictures of some width", () => {
+    const scene = { points: Float64Array.of(0, 0, 3, 4), note: "", tours: [], fixed: [], depot: null, missing: [], marks: { nodes: [], pair: null, route: null } };
+    const { width, height } = pictureOf(scene, 0, "plain");
+    assert.ok(width > 0 && height > 0);
+    const bar = barOf(reportOf("type TSP\nnodes 3\nlength 10\nbound 9\ngap 1\nyes\n"), 0);
+    assert.ok(bar.shapes.every(({ attributes }) => attributes.width === undefined || attributes.width >= 0));
 });
 
 test("which verb the files ask for", () => {
@@ -103,6 +134,33 @@ test("a check, from files to the drawing", async () => {
     const numbers = shapes.flatMap(({ attributes: { d = "" } }) => [...d.matchAll(/[ML](\S+) ([^MLZh]+)/g)]);
     assert.equal(numbers.length, 16, "each node is drawn, and is in the tour");
     assert.ok(numbers.every(([, x, y]) => x >= 0 && x <= width && y >= 0 && y <= height));
+});
+
+test("a tour of Concorde is read by itself, and can be saved", async () => {
+    const library = await libraryOf(PAGE);
+    const outcome = run(library, { ...HARBOUR, foreign: true, solution: { ...example("solvers/harbour.concorde.sol"), name: "harbour.sol" } });
+    assert.deepEqual([outcome.status, outcome.report.length], [Status.YES, 226n]);
+    assert.equal(outcome.command, "tsp check harbour.tsp harbour.tour");
+    assert.equal(outcome.converted.form, "a tour of Concorde, whose nodes count from 0");
+    assert.deepEqual(toursOf(new TextDecoder().decode(outcome.converted.given.bytes)), [[1, 2, 3, 4, 8, 5, 6, 7]]);
+    assert.equal(run(library, { ...HARBOUR, foreign: true }).converted, null);
+});
+
+test("several tours are a table", async () => {
+    const library = await libraryOf(PAGE);
+    const bad = { ...text("1 2 3\n"), name: "bad" };
+    const none = { ...text("TYPE : TOUR\n"), name: "none" };
+    const { rows } = run(library, { ...HARBOUR, foreign: true, tours: [HARBOUR.solution, bad, none] });
+    assert.deepEqual(rows.map(({ word, length }) => [word, length]),
+        [["Yes: a tour", "226"], ["No: TourLength", ""], ["file 2: end: Missing TOUR_SECTION", ""]]);
+    assert.deepEqual(run(library, HARBOUR).rows, []);
+});
+
+test("rounded distances are told", async () => {
+    const library = await libraryOf(PAGE);
+    const instance = text("TYPE : TSP\nDIMENSION : 3\nEDGE_WEIGHT_TYPE : EUC_2D\nNODE_COORD_SECTION\n1 0 0\n2 0.1 0\n3 0 0.1\nEOF\n");
+    const { explanation } = run(library, { ...alone, foreign: true, instance, solution: text("1 2 3") });
+    assert.match(explanation, /every distance along the solution is 0 or 1/);
 });
 
 test("a refused tour has its place marked", async () => {

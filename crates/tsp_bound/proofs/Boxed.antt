@@ -1,10 +1,12 @@
 -- Orders on numbers of 64 bits as code shows them, and the weights that a box bounds.
-use Rattle.std.proofs.Common.{◌≡◌, true, false, ℤ, pos, negsuc, ◌+ℤ◌, ◌*ℤ◌, ◌≤ℤ◌, w64, to_z, of_z, SFits, subst, arith}
-use Rattle.std.specs.Int.Signed.{lt_z, le_z}
+use Rattle.std.proofs.Common.{◌≡◌, Bool, true, false, ℤ, pos, negsuc, neg_ℤ, ◌+ℤ◌, ◌-ℤ◌, ◌*ℤ◌, ◌≤ℤ◌, w64, to_z, of_z, SFits, subst, arith}
+use Rattle.std.specs.Bool.{OnTrue}
+use Rattle.std.specs.Int.Signed.{lt_z}
 use Rattle.std.proofs.lemmas.Int.{ints, to_z-of_z}
-use Rattle.tsp_bound.specs.states.Boxes.{IsKnown}
-use Rattle.tsp_theory.specs.Numbers.{IsScale}
+use Rattle.tsp_format.specs.Limits.{most_potential}
+use Rattle.tsp_theory.specs.Numbers.{IsFromTo, IsScale}
 use Rattle.tsp_theory.proofs.Division.{scaled_up}
+use Rattle.tsp_theory.proofs.Sizes.{same_scale}
 
 pub less_seen : (a b : ℤ) → SFits w64 b → lt_z a (to_z w64 (of_z w64 b)) ≡ true → a ≤ℤ b
 less_seen a b f h =
@@ -15,12 +17,6 @@ pub not_less_seen : (a b : ℤ) → SFits w64 a → SFits w64 b → lt_z (to_z w
 not_less_seen a b f g h =
     let k : lt_z a b ≡ false = simp to_z-of_z at h in
     grind (arith, ints)
-
-pub at_most_seen : (a b : ℤ) → le_z a b ≡ true → a ≤ℤ b
-at_most_seen a b h = grind (arith, ints)
-
-pub not_at_most_seen : (a b : ℤ) → le_z a b ≡ false → b ≤ℤ a
-not_at_most_seen a b h = grind (arith, ints)
 
 sum_above : (a b q r s : ℤ) → a ≤ℤ b → r ≤ℤ s → (a +ℤ (q +ℤ r)) ≤ℤ (b +ℤ (q +ℤ s))
 sum_above a b q r s h k = omega (arith, ints, h, k)
@@ -36,15 +32,26 @@ chained_64 a b c fits is h =
     let same = to_z-of_z w64 a fits in
     omega (arith, ints, same, is, h)
 
-pub known_64 : (bound best : ℤ) → SFits w64 bound → SFits w64 best
-    → IsKnown (to_z w64 (of_z w64 bound)) × (to_z w64 (of_z w64 best) ≤ℤ to_z w64 (of_z w64 bound)) → IsKnown bound × (best ≤ℤ bound)
-known_64 bound best f g h =
-    let same = to_z-of_z w64 bound f in
-    let other = to_z-of_z w64 best g in
-    (subst IsKnown same h.0, omega (arith, ints, same, other, h.1))
+pub on_true_still : (test : Bool) (P Q : Type 0) → (P → Q) → OnTrue test P → OnTrue test Q
+on_true_still true P Q still known = still known
+on_true_still false P Q still known = tt
 
-pub known_further : (bound other best : ℤ) → bound ≤ℤ other → IsKnown bound × (best ≤ℤ bound) → IsKnown other × (best ≤ℤ other)
-known_further bound other best further h = (further_known bound other further h.0, (let under = h.1 in omega (arith, ints, further, under)))
-  where
-    further_known : (a b : ℤ) → a ≤ℤ b → IsKnown a → IsKnown b
-    further_known a b h k = omega (arith, ints, h, k)
+-- what is left of the best weight without two potentials, as the code computes it
+pub left_is : (best own least left : ℤ) → SFits w64 best → IsFromTo (neg_ℤ (pos most_potential)) (pos most_potential) own → IsFromTo (neg_ℤ (pos most_potential)) (pos most_potential) least
+    → left ≡ to_z w64 (of_z w64 best) -ℤ to_z w64 (of_z w64 (to_z w64 (of_z w64 own) +ℤ to_z w64 (of_z w64 least)))
+    → left ≡ best -ℤ (own +ℤ least)
+left_is best own least left fits p q is =
+    let same = to_z-of_z w64 best fits in
+    let sum : to_z w64 (of_z w64 (to_z w64 (of_z w64 own) +ℤ to_z w64 (of_z w64 least))) ≡ own +ℤ least = omega (arith, ints, p.0, p.1, q.0, q.1) in
+    omega (arith, ints, same, sum, is)
+
+pub enough_is : (left scale cost : ℤ) → SFits w64 left → IsScale scale → to_z w64 (of_z w64 left) ≤ℤ (to_z w64 (of_z w64 scale) *ℤ cost) → left ≤ℤ (scale *ℤ cost)
+enough_is left scale cost fits is_scale h =
+    subst (λ (z : ℤ). z ≤ℤ (scale *ℤ cost)) (to_z-of_z w64 left fits) (subst (λ (z : ℤ). to_z w64 (of_z w64 left) ≤ℤ (z *ℤ cost)) (same_scale scale is_scale) h)
+
+-- where that is at most a cost at the scale, a node with no lower cost and potential weighs no less than the best
+pub best_below : (best left scale cost other own least potential : ℤ) → IsScale scale → left ≡ best -ℤ (own +ℤ least) → left ≤ℤ (scale *ℤ cost)
+    → cost ≤ℤ other → least ≤ℤ potential → best ≤ℤ ((scale *ℤ other) +ℤ (own +ℤ potential))
+best_below best left scale cost other own least potential is_scale is enough further no_less =
+    let above = weight_above scale cost other own least potential is_scale further no_less in
+    omega (arith, ints, above, is, enough)

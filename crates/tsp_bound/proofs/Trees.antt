@@ -1,12 +1,12 @@
 -- The tree of boxes: what a write keeps, and what a search of halves is.
-use Rattle.std.proofs.Common.{◌≡◌, ◌≢◌, ℕ, zero, suc, ◌+◌, ◌*◌, ◌/◌, ◌<◌, ◌≤◌, Bool, true, List, length, Option, ℤ, pos, ◌≤ℤ◌, ◌⊎◌, inl, inr, refl, arith, ap, sym, ◌∙◌, subst}
+use Rattle.std.proofs.Common.{◌≡◌, ◌≢◌, ℕ, zero, suc, ◌+◌, ◌*◌, ◌/◌, ◌<◌, ◌≤◌, Bool, true, List, length, Option, ℤ, pos, ◌≤ℤ◌, ◌⊎◌, inl, inr, refl, arith, ap, sym, ◌∙◌, subst, w64, to_z, of_z, SFits}
 use Rattle.std.proofs.Math.ListN.{set}
 use Rattle.std.proofs.lemmas.Bool.{cases_eq}
 use Rattle.std.proofs.lemmas.List.{get_or-set_same, get_or-set_other}
-use Rattle.std.proofs.lemmas.Int.{ints}
+use Rattle.std.proofs.lemmas.Int.{ints, to_z-of_z}
 use Rattle.tsp_bound.specs.declared.area.Area.{Area}
 use Rattle.tsp_bound.specs.declared.nearest.Best.{Best}
-use Rattle.tsp_bound.specs.states.Boxes.{up, node_of, box_at, AreHeldFrom, AreHeld, IsRefit, IsKnown, IsBelowAll, IsFound, IsBest, IsSearched}
+use Rattle.tsp_bound.specs.states.Boxes.{up, node_of, box_at, AreHeldFrom, AreHeld, IsRefit, IsBelowAll, IsFound, IsBest, IsSearched}
 use Rattle.tsp_bound.specs.states.Components.{IsNearest}
 
 -- ---- numbers of boxes
@@ -105,12 +105,11 @@ searched_none w places outside from v best below = record {
 
 -- a box that is left alone
 pub searched_alone : (In : Option Area → ℕ → Type 0) (IsOne : ℕ → Type 0) (w : ℕ → ℕ → ℤ) (places : List ℕ) (outside : ℕ → Bool) (area : ℕ → Option Area) (from : ℕ) (v : ℕ) (best : Best)
-    (bound : ℤ) → 1 ≤ v → AreHeld In places outside area → ((j : ℕ) → j < length places → IsOne (node_of places j)) → IsBelowAll IsOne (In (area v)) (w from) bound
-    → IsKnown bound → best.weight ≤ℤ bound → IsSearched w places outside from v best best
-searched_alone In IsOne w places outside area from v best bound some held ones bounds known worse = searched_none w places outside from v best (λ j h j_in out above.
-    let in_box = subst (λ (k : ℕ). In (area k) (node_of places j)) above (held j h j_in out (omega (arith, some, above))) in
-    let first = bounds known (node_of places j) (ones j j_in) in_box in
-    omega (arith, ints, first, worse))
+    → SFits w64 best.weight → 1 ≤ v → AreHeld In places outside area → ((j : ℕ) → j < length places → IsOne (node_of places j))
+    → IsBelowAll IsOne (In (area v)) (w from) (to_z w64 (of_z w64 best.weight)) → IsSearched w places outside from v best best
+searched_alone In IsOne w places outside area from v best fits some held ones worse = searched_none w places outside from v best (λ j h j_in out above.
+    subst (λ (z : ℤ). z ≤ℤ w from (node_of places j)) (to_z-of_z w64 best.weight fits)
+    (worse (node_of places j) (ones j j_in) (subst (λ (k : ℕ). In (area k) (node_of places j)) above (held j h j_in out (omega (arith, some, above))))))
 
 found_after : (w : ℕ → ℕ → ℤ) (places : List ℕ) (outside : ℕ → Bool) (from : ℕ) (u v : ℕ) (old half new : Best)
     → IsSearched w places outside from u old half → IsSearched w places outside from v half new → (new ≡ old) ⊎ IsFound w places outside from new

@@ -12,7 +12,6 @@ ghost use Rattle.tsp_bound.specs.states.Numbering.{on_both};
 ghost use Rattle.tsp_theory.specs.Numbers.{IsFromTo, IsSumSized};
 ghost use Rattle.tsp_theory.specs.Tree.{weight_of};
 
-use crate::growth::{Grown, grow_pair_by_pair};
 use crate::labelled::Labelled;
 use crate::numbering::places_in;
 use crate::placed::Placed;
@@ -20,17 +19,23 @@ use crate::rounds::grow_by_rounds;
 use crate::weights::Weights;
 use std::alloc::{AllocError, Global};
 use tsp_theory::{Costs, Grouped};
+use tsp_tree::Grown;
 
 /// A least tree over the nodes 2..n: each pair leads from a part that no earlier pair leaves to a
 /// node outside it, and no such pair weighs less.
 ///
 /// All nodes are joined in rounds. Where that takes too many steps, a tree grows from node 2 pair by
-/// pair.
+/// pair, for which a row of one place more than there are nodes is lent.
 ///
 /// # Errors
 ///
 /// Out of memory.
-pub(crate) fn grow<C: Grouped>(alloc: Global, w: &Weights<C>) -> Result<Grown, AllocError>
+pub(crate) fn grow<C: Grouped>(
+    alloc: Global,
+    w: &Weights<C>,
+    row: &mut [i64],
+) -> Result<Grown, AllocError>
+    requires { length row.old ≡ C.nodes w.now.c.now + 1 }
     ensures whole { IfOk result (λ grown. IsWholeForest (C.nodes w.now.c.now)
         (weight_less w.now.p.now (triples_in w.now.m.now) (C.at w.now.c.now)) grown.pairs.items) }
     ensures weight { IfOk result (λ grown. grown.weight
@@ -41,7 +46,7 @@ pub(crate) fn grow<C: Grouped>(alloc: Global, w: &Weights<C>) -> Result<Grown, A
     if let Some(grown) = joined(alloc, w)? {
         return Ok(grown);
     }
-    grow_pair_by_pair(alloc, w)
+    tsp_tree::grow(alloc, w, row)
 }
 
 /// The nodes 2..n in an order in which near ones are near each other; none where it isn't one of

@@ -16,11 +16,11 @@ use crate::multipliers::Multipliers;
 use crate::numbers::{least_bound, total, total_of};
 use crate::part::grow;
 use crate::potentials::Potentials;
-use crate::spokes::two_spokes;
 use crate::unplaced::Unplaced;
 use crate::weights::Weights;
 use std::alloc::{AllocError, Global};
 use tsp_theory::{Costs, Grouped, Symmetric, adjusted_bounds_bound_cycles};
+use tsp_tree::two_spokes;
 
 /// A least 1-tree, its weight, and the bound on the length of every cycle.
 #[derive(Debug, Drop)]
@@ -144,8 +144,9 @@ fn least_edges<'a, C: Grouped>(
         (pos ((most_nodes + 2) * 2 ^ 63)) found.weight) }
 {
     let weights = Weights { c, p, m };
-    let (first, second) = two_spokes(alloc, &weights)?;
-    let grown = grow(alloc, &weights)?;
+    let mut row = vec![in alloc; 0; c.count() as usize + 1]?;
+    let (first, second) = two_spokes(&weights, &mut row);
+    let grown = grow(alloc, &weights, &mut row)?;
     let edges = tree_of(
         alloc,
         c.count() as usize,

@@ -1,12 +1,21 @@
 //! What gives the weights between nodes.
 
-ghost use Rattle.std.specs.Prelude.{◌≡◌, ◌≤◌, length};
+ghost use Rattle.std.specs.Prelude.{◌≡◌, ◌≤◌, ◌<◌, ◌+◌, ℕ, length, slice_index, pos, neg_ℤ};
+ghost use Rattle.std.specs.List.{All};
+ghost use Rattle.tsp_format.specs.Cells.{IsNode};
+ghost use Rattle.tsp_format.specs.Limits.{most_multiplier};
+ghost use Rattle.tsp_theory.specs.NodeBound.{most_between};
+ghost use Rattle.tsp_theory.specs.Numbers.{IsFromTo};
+ghost use Rattle.tsp_theory.specs.states.Nearest.{least_at};
+ghost use Rattle.tsp_tree.specs.states.Moved.{IsMoved};
+ghost use Rattle.tsp_bound.specs.states.ByNode.{lowered_by};
 ghost use Rattle.tsp_bound.specs.states.Multipliers.{node_count};
-ghost use Rattle.tsp_bound.specs.states.Potentials.{numbers_of};
+ghost use Rattle.tsp_bound.specs.states.Potentials.{numbers_of, weight_under};
 
 use crate::by_node::ByNode;
 use crate::potentials::Potentials;
 use tsp_theory::Costs;
+use tsp_tree::add_at;
 
 /// Costs of three or more nodes, and the potentials and the multipliers of these.
 #[derive(Drop)]
@@ -17,4 +26,78 @@ pub(crate) struct Weights<'a, C: Costs> {
     ghost some: { 3 ≤ C.nodes c.now },
     ghost count: { length (numbers_of p.now) ≡ C.nodes c.now },
     ghost over: { node_count m.now ≡ C.nodes c.now },
+}
+
+impl<C: Costs> tsp_tree::Weights for Weights<'_, C> {
+    ghost use Rattle.tsp_bound.specs.states.Multipliers.{triples_in, weight_less};
+
+    ghost nodes = { λ w. C.nodes w.c.now };
+
+    ghost at = { λ w. weight_less w.p.now (triples_in w.m.now) (C.at w.c.now) };
+
+    #[inline]
+    fn count(&self) -> u32 {
+        self.c.count()
+    }
+
+    fn fill(&self, from: u32, row: &mut [i64]) {
+        weigh_all(self, from, row);
+        lower(row, self.m.at(from));
+    }
+
+    fn fill_at(&self, from: u32, to: &[u32], row: &mut [i64]) {
+        weigh(self, from, to, row);
+        lower(row, self.m.at(from));
+    }
+}
+
+/// Writes the weights between a node and each, without multipliers.
+fn weigh_all<C: Costs>(w: &Weights<C>, from: u32, row: &mut [i64])
+    requires from { IsNode (C.nodes w.now.c.now) from }
+    requires room { length row.old ≡ C.nodes w.now.c.now + 1 }
+    ensures values { (x : ℕ) → IsNode (C.nodes w.now.c.now) x
+        → least_at row.new x ≡ weight_under w.now.p.now (C.at w.now.c.now) from x }
+    ensures sizes { (x : ℕ) → IsNode (C.nodes w.now.c.now) x
+        → IsFromTo (neg_ℤ (pos most_between)) (pos most_between) (least_at row.new x) }
+{
+    // Out of the loop, which writes to other memory.
+    let c = w.c;
+    let p = w.p;
+    let own = p.number(from);
+    'nodes: for node in 1..c.count() + 1 {
+        row[node as usize] = p.weight_from(c, own, from, node);
+    }
+}
+
+/// The same to some nodes.
+fn weigh<C: Costs>(w: &Weights<C>, from: u32, to: &[u32], row: &mut [i64])
+    requires from { IsNode (C.nodes w.now.c.now) from }
+    requires to { (k : ℕ) → k < length to.now → IsNode (C.nodes w.now.c.now) (slice_index to.now k) }
+    requires room { length row.old ≡ C.nodes w.now.c.now + 1 }
+    ensures values { (k : ℕ) → k < length to.now → least_at row.new (slice_index to.now k)
+        ≡ weight_under w.now.p.now (C.at w.now.c.now) from (slice_index to.now k) }
+    ensures sizes { (k : ℕ) → k < length to.now
+        → IsFromTo (neg_ℤ (pos most_between)) (pos most_between) (least_at row.new (slice_index to.now k)) }
+{
+    let c = w.c;
+    let p = w.p;
+    let own = p.number(from);
+    'places: for place in 0..to.len() {
+        let node = to[place];
+        row[node as usize] = p.weight_from(c, own, from, node);
+    }
+}
+
+/// Takes the multipliers of a node's pairs off its row.
+///
+/// Places that weren't written may hold any number, so sums are taken in their remainders.
+fn lower(row: &mut [i64], lowerings: &[(u32, i64)])
+    requires { All (λ lowering. (lowering.0 < length row.old)
+        × IsFromTo (pos 0) (pos most_multiplier) lowering.1) lowerings.now }
+    ensures { (x : ℕ) → IsMoved (neg_ℤ (lowered_by lowerings.now x)) (least_at row.old x) (least_at row.new x) }
+{
+    'lowerings: for lowering in lowerings {
+        let (node, number) = *lowering;
+        add_at(row, node, -number);
+    }
 }

@@ -1,5 +1,5 @@
 -- The weights of code at a leaf are those of its case.
-use Rattle.std.proofs.Common.{◌≡◌, ◌≢◌, ℕ, ◌<◌, ◌≤◌, List, [], ◌∷◌, ◌++◌, length, Option, None, Some, true, ℤ, ◌≤ℤ◌, ◌∙◌, ap, sym, subst, arith}
+use Rattle.std.proofs.Common.{◌≡◌, ◌≢◌, ℕ, ◌<◌, ◌≤◌, List, [], ◌∷◌, length, Option, None, Some, true, ℤ, ◌≤ℤ◌, ◌∙◌, ap, sym, subst, arith}
 use Rattle.std.specs.Prelude.{pos, ◌+ℤ◌, ◌-ℤ◌, ◌*ℤ◌, MatchOption}
 use Rattle.std.specs.List.{All, AllPairs, AllByRecursion}
 use Rattle.std.proofs.lemmas.Int.{ints}
@@ -15,7 +15,7 @@ use Rattle.tsp_branch.specs.Rows.{HasNoLink, IsRowBound}
 use Rattle.tsp_branch.specs.Certificate.{multiplied, IsFoundAt}
 use Rattle.tsp_branch.specs.states.Combed.{plain, AreSmallMultipliers, AreFewCrossings, set_weight}
 use Rattle.tsp_branch.specs.CombsOfSets.{NumberedSet, families_of}
-use Rattle.tsp_branch.specs.states.Decided.{stack_of, decided, decided_twice}
+use Rattle.tsp_branch.specs.states.Decided.{decided}
 use Rattle.tsp_branch.specs.Judged.{AreGoodNumbers, as_leaf_numbers, most_crossed, most_with}
 use Rattle.tsp_families.specs.declared.comb_set.CombSet.{CombSet}
 use Rattle.tsp_branch.proofs.Changes.{changes_are}
@@ -23,24 +23,19 @@ use Rattle.tsp_branch.proofs.CombSizes.{families_crossed_few, families_some, mul
 use Rattle.tsp_branch.proofs.CombsBySets.{sets_tell_combs, sets_give_leaves}
 use Rattle.tsp_branch.proofs.GivenBack.{below_from_sets}
 use Rattle.tsp_branch.proofs.RowLeaves.{agreed_rows}
-use Rattle.tsp_branch.proofs.DecidedOnce.{changes_both, changes_turned}
 
--- weights that are those by sets, under the decisions of code, are those of the leaf
-pub case_weight : (w : ℕ → ℕ → ℤ) (scale : ℤ) (crossed : List Crossings) (potentials multipliers : List ℤ) (sets : List NumberedSet) (given stack : List Decision) (cost : ℕ → ℕ → ℤ) (i j : ℕ)
+-- weights that are those by sets, under the decisions of a case, are those of the leaf
+pub case_weight : (w : ℕ → ℕ → ℤ) (scale : ℤ) (crossed : List Crossings) (potentials multipliers : List ℤ) (sets : List NumberedSet) (case : List Decision) (cost : ℕ → ℕ → ℤ) (i j : ℕ)
     → length multipliers ≡ length crossed → All (λ set. set.comb < length multipliers) sets → w i j ≡ set_weight scale potentials multipliers sets cost i j
-    → decided_twice given stack w i j
-    ≡ leaf_weight scale potentials (on_taken decided_number (stack_of stack ++ given)) (on_avoided decided_number (stack_of stack ++ given))
+    → decided case w i j
+    ≡ leaf_weight scale potentials (on_taken decided_number case) (on_avoided decided_number case)
     (multiplied (families_of crossed sets) multipliers) cost i j
-case_weight w scale crossed potentials multipliers sets given stack cost i j long below is =
-    let case : List Decision = stack_of stack ++ given in
+case_weight w scale crossed potentials multipliers sets case cost i j long below is =
     let v : ℕ → ℕ → ℤ = set_weight scale potentials multipliers sets cost in
     let leaf = sets_give_leaves scale crossed potentials multipliers (on_taken decided_number case) (on_avoided decided_number case) sets cost i j long below in
     let by = changes_are case v i j in
-    let both = changes_both (stack_of stack) given i j in
-    let turned = changes_turned stack i j in
-    let own = changes_are stack (decided given w) i j in
-    let first = changes_are given w i j in
-    omega (arith, ints, leaf, by, both, turned, own, first, is)
+    let own = changes_are case w i j in
+    omega (arith, ints, leaf, by, own, is)
 
 -- ---- good numbers
 

@@ -75,12 +75,14 @@ certificates_bound_cycles laws bounds_cases no_cases directed n cost scale numbe
     each (leaf ∷ leaves) none = (leaf_has_none directed n cost scale number families leaf laws costs_are none.0, each leaves none.1)
 
 pub certificates_bound_tours : CertificatesBoundCycles → CertificatesBoundTours
-certificates_bound_tours bounds directed n cost scale number families fixed steps bound nodes costs_are scale_in certificate is tour =
-    bounds directed n cost scale number families (take_pairs fixed) steps (Some bound) costs_are scale_in certificate is nodes tour.cycle (tours_keep_fixed directed nodes fixed tour.fixed_used)
+certificates_bound_tours bounds problem scale number families steps bound costs_are scale_in certificate is nodes tour =
+    bounds problem.directed problem.nodes problem.cost scale number families (take_pairs problem.fixed) steps (Some bound) costs_are scale_in certificate is nodes tour.cycle
+    (tours_keep_fixed problem.directed nodes problem.fixed tour.fixed_used)
 
 pub no_bound_no_tour : CertificatesBoundCycles → NoBoundNoTour
-no_bound_no_tour bounds directed n cost scale number families fixed steps nodes costs_are scale_in certificate is tour =
-    bounds directed n cost scale number families (take_pairs fixed) steps None costs_are scale_in certificate is nodes tour.cycle (tours_keep_fixed directed nodes fixed tour.fixed_used)
+no_bound_no_tour bounds problem scale number families steps costs_are scale_in certificate is nodes tour =
+    bounds problem.directed problem.nodes problem.cost scale number families (take_pairs problem.fixed) steps None costs_are scale_in certificate is nodes tour.cycle
+    (tours_keep_fixed problem.directed nodes problem.fixed tour.fixed_used)
 
 -- ---- one bound, or none
 

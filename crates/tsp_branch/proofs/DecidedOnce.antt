@@ -10,7 +10,7 @@ use Rattle.tsp_theory.specs.Numbers.{IsFromTo}
 use Rattle.tsp_theory.specs.Adjusted.{is_same_pair}
 use Rattle.tsp_branch.specs.declared.decision.Decision.{Decision}
 use Rattle.tsp_branch.specs.Decisions.{DecideOnce, decided_number}
-use Rattle.tsp_branch.specs.states.Decided.{stack_of, signed, changes, AreFewChanges}
+use Rattle.tsp_branch.specs.states.Decided.{signed, changes, AreFewChanges}
 
 -- two pairs that are both on two nodes
 abbrev Same : ℕ × ℕ → ℕ → ℕ → Type 0
@@ -22,7 +22,7 @@ told p i j h = elim (or_cases ((p.0 == i) && (p.1 == j)) ((p.1 == i) && (p.0 == 
   | inr one ↦ let two = and_parts (p.1 == i) (p.0 == j) one in inr (eqb-true p.1 i two.0, eqb-true p.0 j two.1)
 ]
 
-or_true : (b : Bool) → (b || true) ≡ true
+pub or_true : (b : Bool) → (b || true) ≡ true
 or_true true = refl
 or_true false = refl
 
@@ -84,9 +84,5 @@ changed_once (d ∷ ds) i j h = elim (cases_Bool (is_same_pair d.pair (i, j))) [
       rw other (omega (arith, ints, rest.0), omega (arith, ints, rest.1))
 ]
 
-pub few_changes : (given stack : List Decision) → DecideOnce false (stack_of stack ++ given) → AreFewChanges given stack
-few_changes given stack once i j =
-    let all = changed_once (stack_of stack ++ given) i j (apart (stack_of stack ++ given) once) in
-    let split = changes_both (stack_of stack) given i j in
-    let turned = changes_turned stack i j in
-    (omega (arith, ints, all.0, split, turned), omega (arith, ints, all.1, split, turned))
+pub few_changes : (case : List Decision) → DecideOnce false case → AreFewChanges case
+few_changes case once i j = changed_once case i j (apart case once)

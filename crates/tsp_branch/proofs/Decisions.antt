@@ -1,5 +1,5 @@
 -- A cycle that keeps decisions uses the taken pairs and none of the avoided.
-use Rattle.std.proofs.Common.{ℕ, Bool, true, false, List, [], ◌∷◌, map, ℤ}
+use Rattle.std.proofs.Common.{ℕ, Bool, true, false, List, [], ◌∷◌, map, ℤ, sym, subst}
 use Rattle.std.specs.Prelude.{if◌then◌else◌}
 use Rattle.std.specs.List.{All, AllByRecursion}
 use Rattle.std.proofs.lemmas.List.Elements.{recursion_from_All, All-from_recursion}
@@ -47,9 +47,11 @@ decided_bounds_bound_cycles bounds n cost scale potentials number decisions boun
     (takes_each nodes number decisions keeps) (takes_none nodes number decisions keeps)
 
 pub fixed_bounds_bound_tours : AdjustedBoundsBoundCycles → FixedBoundsBoundTours
-fixed_bounds_bound_tours bounds n cost scale potentials fixed bound nodes some even scale_in long is tour =
-    bounds n cost scale potentials fixed [] bound nodes some even scale_in long is tour.cycle
-    (All-from_recursion (λ triple. AreNeighbours nodes (pair_of triple)) fixed (each fixed (recursion_from_All (AreNeighbours nodes) (map pair_of fixed) tour.fixed_used)))
+fixed_bounds_bound_tours bounds problem scale potentials numbers bound some undirected even are scale_in long is nodes tour =
+    let used : All (AreNeighbours nodes) (map pair_of numbers) =
+    subst (λ pairs. All (AreNeighbours nodes) pairs) (sym are) (subst (λ d. All (Uses d nodes) problem.fixed) undirected tour.fixed_used) in
+    bounds problem.nodes problem.cost scale potentials numbers [] bound nodes some even scale_in long is tour.cycle
+    (All-from_recursion (λ triple. AreNeighbours nodes (pair_of triple)) numbers (each numbers (recursion_from_All (AreNeighbours nodes) (map pair_of numbers) used)))
     (All-from_recursion (λ triple. AreNeighbours nodes (pair_of triple) → ⊥) [] tt)
   where
     each : (triples : List (ℕ × ℕ × ℤ)) → AllByRecursion (AreNeighbours nodes) (map pair_of triples) → AllByRecursion (λ triple. AreNeighbours nodes (pair_of triple)) triples

@@ -1,12 +1,13 @@
 -- What a leaf gives back, in the order in which code sums it.
-use Rattle.std.proofs.Common.{◌≡◌, ◌∙◌, ℕ, suc, ◌+◌, ◌*◌, ◌-◌, ◌<◌, ◌^◌, List, [], ◌∷◌, ◌++◌, drop, length, get_or, ℤ, ◌≤ℤ◌, FitsSigned, inl, inr, refl, ap, arith, to_z, of_z, drop-cons, add-one}
+use Rattle.std.proofs.Common.{◌≡◌, ◌∙◌, ℕ, Bool, suc, ◌+◌, ◌*◌, ◌-◌, ◌<◌, ◌^◌, List, [], ◌∷◌, ◌++◌, drop, length, get_or, ℤ, ◌≤ℤ◌, FitsSigned, inl, inr, refl, ap, sym, arith, to_z, of_z, drop-cons, add-one}
 use Rattle.std.specs.Prelude.{pos, negsuc, neg_ℤ, ◌+ℤ◌, ◌-ℤ◌, ◌*ℤ◌, if◌then◌else◌, reverse}
 use Rattle.std.specs.Int.{w64, w128}
-use Rattle.std.specs.List.{All, AllByRecursion}
+use Rattle.std.specs.List.{All, AllByRecursion, filter}
 use Rattle.std.proofs.Math.IntN.{*ℤ-zero}
 use Rattle.std.proofs.lemmas.Bool.{cases_Bool}
 use Rattle.std.proofs.lemmas.Int.{ints, to_z-of_z, fits_signed_from_abs}
-use Rattle.std.proofs.lemmas.List.{reverse-append}
+use Rattle.std.proofs.lemmas.List.{reverse-append, length-reverse}
+use Rattle.std.proofs.lemmas.List.Sums.{length-filter, count_by-le-length}
 use Rattle.std.proofs.lemmas.List.Elements.{recursion_from_All, All-drop}
 use Rattle.tsp_theory.specs.Numbers.{IsFromTo, total}
 use Rattle.tsp_theory.specs.Adjusted.{triples_total}
@@ -56,12 +57,25 @@ taken_turned (d ∷ ds) =
     let rest = taken_turned ds in
     omega (arith, ints, split, both, first, rest)
 
-pub taken_in_all : (given stack : List Decision)
-    → triples_total (on_taken decided_number (stack_of stack ++ given)) ≡ triples_total (on_taken decided_number given) +ℤ triples_total (on_taken decided_number stack)
-taken_in_all given stack =
-    let both = taken_both (stack_of stack) given in
-    let turned = taken_turned stack in
-    omega (arith, ints, both, turned)
+taken_passed : (case : List Decision) → triples_total (on_taken decided_number (filter (λ decision. decision.taken) case)) ≡ triples_total (on_taken decided_number case)
+taken_passed [] = refl
+taken_passed (d ∷ case) =
+    let rest = taken_passed case in
+    elim (cases_Bool d.taken) [
+      | inl t ↦ rw t (omega (arith, ints, rest))
+      | inr f ↦ rw f rest
+    ]
+
+-- those of a case are listed in either order
+pub taken_listed : (case taken : List Decision) → stack_of taken ≡ filter (λ decision. decision.taken) case → triples_total (on_taken decided_number taken) ≡ triples_total (on_taken decided_number case)
+taken_listed case taken is = sym (taken_turned taken) ∙ ap (λ (ds : List Decision). triples_total (on_taken decided_number ds)) is ∙ taken_passed case
+
+pub taken_few : (case taken : List Decision) (most : ℕ) → stack_of taken ≡ filter (λ decision. decision.taken) case → length case < most → length taken < most
+taken_few case taken most is few =
+    let test : Decision → Bool = λ decision. decision.taken in
+    let first = sym (length-reverse taken) ∙ ap length is ∙ length-filter test case in
+    let second = count_by-le-length test case in
+    omega (arith, first, second, few)
 
 pub taken_left : (ds : List Decision) (index : ℕ) (default : Decision) → index < length ds
     → triples_total (on_taken decided_number (drop index ds))
@@ -159,12 +173,6 @@ less_held crossed ps p q = rw (twice_held ps q) (omega (arith, ints, p.0, p.1, q
 pub less_sized : (crossed ps : ℤ) → IsFromTo (pos 0) (pos (2 ^ 95)) crossed → IsFromTo (neg_ℤ (pos (2 ^ 95))) (pos (2 ^ 95)) ps
     → IsFromTo (neg_ℤ (pos (2 ^ 98))) (pos (2 ^ 98)) (crossed -ℤ (pos 2 *ℤ ps))
 less_sized crossed ps p q = (omega (arith, ints, p.0, q.1), omega (arith, ints, p.1, q.0))
-
-pub taken_held : (given stack : ℤ) → IsFromTo (pos 0) (pos (2 ^ 94)) given → IsFromTo (pos 0) (pos (2 ^ 94)) stack → held (held given +ℤ held stack) ≡ given +ℤ stack
-taken_held given stack p q = omega (arith, ints, p.0, p.1, q.0, q.1)
-
-pub taken_sized : (given stack : ℤ) → IsFromTo (pos 0) (pos (2 ^ 94)) given → IsFromTo (pos 0) (pos (2 ^ 94)) stack → IsFromTo (pos 0) (pos (2 ^ 95)) (given +ℤ stack)
-taken_sized given stack p q = (omega (arith, ints, p.0, q.0), omega (arith, ints, p.1, q.1))
 
 pub back_held : (taken less : ℤ) → IsFromTo (pos 0) (pos (2 ^ 95)) taken → IsFromTo (neg_ℤ (pos (2 ^ 98))) (pos (2 ^ 98)) less → held (held taken +ℤ held less) ≡ taken +ℤ less
 back_held taken less p q = omega (arith, ints, p.0, p.1, q.0, q.1)

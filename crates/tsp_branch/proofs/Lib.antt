@@ -11,17 +11,16 @@ pub mod Changes
 pub mod NextCases
 pub mod SetSums
 pub mod CombedRows
+pub mod CombedValues
 pub mod SetAlgebra
 pub mod CombsBySets
 pub mod CombSizes
 pub mod DecidedOnce
 pub mod MovedSums
-pub mod Outside
 pub mod OnePass
 pub mod PairKeys
 pub mod DecidedSets
 pub mod Passes
-pub mod GrowthStates
 pub mod Judging
 pub mod Grown
 pub mod CaseWeights
@@ -33,6 +32,7 @@ pub mod CombRuns
 pub mod BranchesOnce
 pub mod SmallVerdicts
 pub mod SmallFamilies
+pub mod SmallRows
 pub mod CostRows
 pub mod Links
 pub mod LeastLinks
@@ -42,3 +42,4 @@ pub mod RowLeaves
 pub mod Closed
 pub mod OpenRows
 pub mod Sums
+pub mod OpenCases

@@ -17,10 +17,10 @@ avoid decision = record decision { taken = false }
 pub stack_more : (xs : List Decision) (d : Decision) → stack_of (xs ++ d ∷ []) ≡ d ∷ stack_of xs
 stack_more xs d = reverse-append xs (d ∷ [])
 
-next_avoided : (d : Decision) (xs : List Decision) → d.taken ≡ false → next_stack (stack_of (xs ++ d ∷ [])) ≡ next_stack (stack_of xs)
+pub next_avoided : (d : Decision) (xs : List Decision) → d.taken ≡ false → next_stack (stack_of (xs ++ d ∷ [])) ≡ next_stack (stack_of xs)
 next_avoided d xs h = ap next_stack (stack_more xs d) ∙ rw h refl
 
-next_taken : (d : Decision) (xs : List Decision) → d.taken ≡ true → next_stack (stack_of (xs ++ d ∷ [])) ≡ Some (stack_of (xs ++ avoid d ∷ []))
+pub next_taken : (d : Decision) (xs : List Decision) → d.taken ≡ true → next_stack (stack_of (xs ++ d ∷ [])) ≡ Some (stack_of (xs ++ avoid d ∷ []))
 next_taken d xs h = ap next_stack (stack_more xs d) ∙ rw h (ap Some (sym (stack_more xs (avoid d))))
 
 pub dropped : (stack : List Decision) (k : ℕ) (default : Decision) → k < length stack → (get_or stack k default).taken ≡ false

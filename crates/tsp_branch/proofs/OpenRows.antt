@@ -1,17 +1,19 @@
 -- Rows in which all decisions of a case have closed what they don't allow, and their least numbers.
-use Rattle.std.proofs.Common.{◌≡◌, ◌≢◌, ℕ, ◌+◌, ◌<◌, List, reverse, get_or, inl, inr, sym, ◌∙◌, subst, arith}
+use Rattle.std.proofs.Common.{◌≡◌, ◌≢◌, ℕ, ◌+◌, ◌<◌, Bool, true, false, List, [], ◌∷◌, reverse, get_or, inl, inr, sym, ◌∙◌, subst, arith}
 use Rattle.std.specs.Prelude.{ℤ, ◌↔◌, ◌≤ℤ◌, ◌<ℤ◌}
-use Rattle.std.specs.List.{All, Contains}
-use Rattle.std.proofs.lemmas.Bool.{cases_eq}
+use Rattle.std.specs.List.{All, AllByRecursion, Contains, filter}
+use Rattle.std.proofs.lemmas.Bool.{cases_Bool, cases_eq}
 use Rattle.std.proofs.lemmas.Int.{ints}
-use Rattle.std.proofs.lemmas.List.Elements.{All-append, All-contains, Contains-get_or, Contains-append_left, Contains-append_right}
+use Rattle.std.proofs.lemmas.List.Elements.{All-contains, All-filter, All-from_recursion, Contains-get_or, recursion_from_All}
 use Rattle.std.proofs.lemmas.List.Sorted.{IsPermutation-reverse, IsPermutation-sym, Contains-permutation}
 use Rattle.tsp_format.specs.Cells.{IsNode}
 use Rattle.tsp_theory.specs.states.Nearest.{least_at}
 use Rattle.tsp_branch.specs.declared.decision.Decision.{Decision}
 use Rattle.tsp_branch.specs.states.Decided.{IsDecision, stack_of}
-use Rattle.tsp_branch.specs.Rows.{Allows, IsAllowed, IsLeastFrom}
-use Rattle.tsp_branch.specs.states.Closed.{closed, IsShut, decisions_of, IsOpenRow}
+use Rattle.tsp_branch.specs.states.OpenCases.{bears_on}
+use Rattle.tsp_branch.specs.Rows.{AllowsLink, Allows, IsAllowed, IsLeastFrom}
+use Rattle.tsp_branch.specs.states.Closed.{closed, IsShut, IsOpenRow}
+use Rattle.tsp_branch.proofs.OpenCases.{first_bears, second_only, filter_in, filter_out}
 
 -- ---- the decisions of a case
 
@@ -24,17 +26,61 @@ turned P xs all = all_within P (reverse xs) xs (λ x c. Contains-permutation (re
 turned_back : (P : Decision → Type 0) (xs : List Decision) → All P (reverse xs) → All P xs
 turned_back P xs all = all_within P xs (reverse xs) (λ x c. Contains-permutation xs (reverse xs) x (IsPermutation-reverse xs) c) all
 
-both_parts : (P : Decision → Type 0) (given stack : List Decision) → (All P given × All P stack) ↔ All P (decisions_of given stack)
-both_parts P given stack = (
-  λ h. All-append P (stack_of stack) given (turned P stack h.1) h.0,
-  λ all. (
-    all_within P given (decisions_of given stack) (λ x c. Contains-append_right (stack_of stack) given x c) all,
-    turned_back P stack (all_within P (stack_of stack) (decisions_of given stack) (λ x c. Contains-append_left (stack_of stack) given x c) all),
-  ),
-)
+-- ---- those of a node, and those that take their pair
 
-pub ends_inside : (n long : ℕ) (decisions : List Decision) → long ≡ n + 1 → All (IsDecision n) decisions → All (λ decision. decision.pair.1 < long) decisions
-ends_inside n long decisions is all = λ k d lt. let node = (all k d lt).1 in omega (arith, is, node.1)
+avoided_allows : (pair : ℕ × ℕ) (i j : ℕ) → pair.0 ≢ i → AllowsLink false pair i j
+avoided_allows pair i j other = λ e same. other (sym e)
+
+all_passed : (P : Decision → Type 0) (test : Decision → Bool) (case own : List Decision) → stack_of own ≡ filter test case → All P case → All P own
+all_passed P test case own is all = turned_back P own (subst (All P) (sym is) (All-filter test P case all))
+
+both_parts : (from x : ℕ) (case own taken : List Decision) → stack_of own ≡ filter (bears_on true from) case → stack_of taken ≡ filter (λ decision. decision.taken) case
+    → (All (Allows from x) own × All (Allows from x) taken) ↔ All (Allows from x) case
+both_parts from x case own taken own_is taken_is = (
+  λ h. All-from_recursion P case (each case (recursion_from_All P (filter (bears_on true from) case) (subst (All P) own_is (turned P own h.0)))
+      (recursion_from_All P (filter is_taken case) (subst (All P) taken_is (turned P taken h.1)))),
+  λ all. (all_passed P (bears_on true from) case own own_is all, all_passed P is_taken case taken taken_is all),
+)
+  where
+    P : Decision → Type 0
+    P = Allows from x
+
+    is_taken : Decision → Bool
+    is_taken decision = decision.taken
+
+    each : (case : List Decision) → AllByRecursion P (filter (bears_on true from) case) → AllByRecursion P (filter is_taken case) → AllByRecursion P case
+    each [] a b = tt
+    each (d ∷ case) a b = elim (cases_Bool d.taken) [
+      | inl t ↦
+          let more = subst (AllByRecursion P) (filter_in is_taken d case t) b in (
+            more.0,
+            each case (elim (cases_eq d.pair.0 from) [
+              | inl same ↦ (subst (AllByRecursion P) (filter_in (bears_on true from) d case (first_bears true from d same)) a).1
+              | inr other ↦ subst (AllByRecursion P) (filter_out (bears_on true from) d case (second_only from d other)) a
+            ]) more.1,
+          )
+      | inr f ↦
+          let more = subst (AllByRecursion P) (filter_out is_taken d case f) b in
+          elim (cases_eq d.pair.0 from) [
+            | inl same ↦
+                let own = subst (AllByRecursion P) (filter_in (bears_on true from) d case (first_bears true from d same)) a in
+                (own.0, each case own.1 more)
+            | inr other ↦
+                let own = subst (AllByRecursion P) (filter_out (bears_on true from) d case (second_only from d other)) a in
+                (subst (λ (t : Bool). AllowsLink t d.pair from x) (sym f) (avoided_allows d.pair from x other), each case own more)
+          ]
+    ]
+
+pub ends_inside : (n long : ℕ) (test : Decision → Bool) (case own : List Decision) → long ≡ n + 1 → stack_of own ≡ filter test case → All (IsDecision n) case
+    → All (λ decision. decision.pair.1 < long) own
+ends_inside n long test case own is own_is all = all_passed (λ decision. decision.pair.1 < long) test case own own_is
+    (λ k d lt. let node = (all k d lt).1 in omega (arith, is, node.1))
+
+-- the same of both nodes, which differ
+pub both_inside : (n long : ℕ) (test : Decision → Bool) (case own : List Decision) → long ≡ n + 1 → stack_of own ≡ filter test case → All (IsDecision n) case
+    → All (λ decision. (decision.pair.0 < long) × (decision.pair.1 < long) × (decision.pair.0 ≢ decision.pair.1)) own
+both_inside n long test case own is own_is all = all_passed (λ decision. (decision.pair.0 < long) × (decision.pair.1 < long) × (decision.pair.0 ≢ decision.pair.1)) test case own own_is
+    (λ k d lt. let node = all k d lt in (omega (arith, is, node.0.1), omega (arith, is, node.1.1), node.2))
 
 -- ---- one value
 
@@ -51,19 +97,20 @@ allowed_if : (A B : Type 0) (a c : ℤ) → IsShut A a c → (A → B) → (B �
 allowed_if A B a c (inl one) to from = inl (to one.0, one.1)
 allowed_if A B a c (inr one) to from = inr (λ h. one.0 (from h), one.1)
 
--- the node itself, the given decisions, and those on the stack
-pub opened : (n : ℕ) (w : ℕ → ℕ → ℤ) (given stack : List Decision) (from long : ℕ) (old own mid new : List ℤ) → n < long → ((x : ℕ) → IsNode n x → least_at old x ≡ w from x)
-    → least_at own from ≡ closed → ((x : ℕ) → x ≢ from → least_at own x ≡ least_at old x)
-    → ((x : ℕ) → x < long → IsShut (All (Allows from x) given) (least_at own x) (least_at mid x))
-    → ((x : ℕ) → x < long → IsShut (All (Allows from x) stack) (least_at mid x) (least_at new x)) → IsOpenRow n w (decisions_of given stack) from new
-opened n w given stack from long old own mid new room read here others first second = λ x node.
+-- the node itself, the decisions that begin at it, and those that take their pair
+pub opened : (n : ℕ) (w : ℕ → ℕ → ℤ) (case own taken : List Decision) (from long : ℕ) (old shut mid new : List ℤ) → n < long → ((x : ℕ) → IsNode n x → least_at old x ≡ w from x)
+    → stack_of own ≡ filter (bears_on true from) case → stack_of taken ≡ filter (λ decision. decision.taken) case
+    → least_at shut from ≡ closed → ((x : ℕ) → x ≢ from → least_at shut x ≡ least_at old x)
+    → ((x : ℕ) → x < long → IsShut (All (Allows from x) own) (least_at shut x) (least_at mid x))
+    → ((x : ℕ) → x < long → IsShut (All (Allows from x) taken) (least_at mid x) (least_at new x)) → IsOpenRow n w case from new
+opened n w case own taken from long old shut mid new room read own_is taken_is here others first second = λ x node.
     let inside : x < long = omega (arith, node.1, room) in
-    let both = two_turns (All (Allows from x) given) (All (Allows from x) stack) (least_at own x) (least_at mid x) (least_at new x) (first x inside) (second x inside) in
-    let parts = both_parts (Allows from x) given stack in
+    let both = two_turns (All (Allows from x) own) (All (Allows from x) taken) (least_at shut x) (least_at mid x) (least_at new x) (first x inside) (second x inside) in
+    let parts = both_parts from x case own taken own_is taken_is in
     elim (cases_eq x from) [
-      | inl same ↦ inr (λ h. h.other (sym same), stays_closed _ (least_at own x) (least_at new x) both (subst (λ (y : ℕ). least_at own y ≡ closed) (sym same) here))
-      | inr other ↦ allowed_if (All (Allows from x) given × All (Allows from x) stack) (IsAllowed n (decisions_of given stack) from x) (w from x) (least_at new x)
-          (subst (λ (z : ℤ). IsShut (All (Allows from x) given × All (Allows from x) stack) z (least_at new x)) (others x other ∙ read x node) both)
+      | inl same ↦ inr (λ h. h.other (sym same), stays_closed _ (least_at shut x) (least_at new x) both (subst (λ (y : ℕ). least_at shut y ≡ closed) (sym same) here))
+      | inr other ↦ allowed_if (All (Allows from x) own × All (Allows from x) taken) (IsAllowed n case from x) (w from x) (least_at new x)
+          (subst (λ (z : ℤ). IsShut (All (Allows from x) own × All (Allows from x) taken) z (least_at new x)) (others x other ∙ read x node) both)
           (λ h. record { node = node; other = λ same. other (sym same); each = parts.0 h }) (λ h. parts.1 h.each)
     ]
 

@@ -1,10 +1,10 @@
 -- What the rows of code come to: each set takes its multiplier off the two nodes, and gives it back twice where it has both.
-use Rattle.std.proofs.Common.{◌≡◌, ◌≢◌, ℕ, zero, suc, ◌+◌, ◌<◌, ◌≤◌, ◌==◌, FitsSigned, Bool, true, false, not, List, [], ◌∷◌, ◌++◌, length, get_or, inl, inr, refl, ap, sym, subst, ◌∙◌, arith}
+use Rattle.std.proofs.Common.{◌≡◌, ◌≢◌, ℕ, zero, suc, ◌+◌, ◌<◌, ◌≤◌, ◌==◌, Bool, true, false, not, List, [], ◌∷◌, ◌++◌, length, get_or, inl, inr, refl, ap, sym, subst, ◌∙◌, arith}
 use Rattle.std.specs.Prelude.{ℤ, pos, neg_ℤ, ◌+ℤ◌, ◌*ℤ◌, ◌||◌, if◌then◌else◌}
 use Rattle.std.specs.List.{AllPairs, AllByRecursion}
 use Rattle.std.proofs.lemmas.Bool.{cases_Bool, cases_eq, both_ways, eq-eqb, ne_eqb}
 use Rattle.std.specs.Int.{w64, int_wrap}
-use Rattle.std.proofs.lemmas.Int.{ints, int_wrap_fits, int_wrap-add_right, int_wrap-add_same}
+use Rattle.std.proofs.lemmas.Int.{ints, int_wrap-add_right, int_wrap-add_same}
 use Rattle.std.proofs.lemmas.List.Elements.{recursion_from_All}
 use Rattle.std.proofs.Math.ListN.{set}
 use Rattle.std.proofs.lemmas.List.{get_or-set_same, get_or-set_other}
@@ -16,6 +16,7 @@ use Rattle.tsp_branch.specs.states.Sets.{IsMoved, added, times, sets_with}
 use Rattle.tsp_branch.specs.states.Combed.{no_set, as_numbered, plain, multiplier_of, set_crossings, multipliers_at, twice_in, inside_both}
 use Rattle.tsp_branch.specs.CombsOfSets.{NumberedSet}
 use Rattle.tsp_families.specs.declared.comb_set.CombSet.{CombSet}
+pub use Rattle.tsp_tree.proofs.Moved.{moved_to}
 
 -- different nodes, by recursion
 abbrev Differ : List ℕ → Type 0
@@ -143,10 +144,6 @@ apart_is scaled p q a b m k both result m_is k_is both_is result_is =
     ∙ ap (int_wrap w64) second
     ∙ int_wrap-add_same w64 k (q +ℤ neg_ℤ b) (scaled +ℤ (p +ℤ neg_ℤ a)) k_is
     ∙ ap (int_wrap w64) third
-
-pub moved_to : (change old new sum : ℤ) → sum ≡ old +ℤ change → FitsSigned w64 sum → IsMoved change old new → new ≡ sum
-moved_to change old new sum is fits (inl same) = same.0 ∙ (let none = same.1 in omega (arith, ints, is, none))
-moved_to change old new sum is fits (inr wrapped) = wrapped ∙ ap (int_wrap w64) (sym is) ∙ int_wrap_fits w64 sum fits
 
 -- a row that is filled from node 1 on
 pub row_more : (n node x : ℕ) (change base : ℕ → ℤ) (row : List ℤ) (value : ℤ) → node < length row → IsMoved (change node) (base node) value

@@ -1,28 +1,13 @@
 -- Additions to rows and lists, one node or one set after the other.
-use Rattle.std.proofs.Common.{◌≡◌, ◌≢◌, ℕ, suc, ◌+◌, ◌<◌, ◌==◌, List, [], ◌∷◌, ◌++◌, drop, length, get_or, inl, inr, refl, ap, sym, subst, ◌∙◌, arith, drop-cons, add-one}
-use Rattle.std.specs.Int.{w64, int_wrap}
+use Rattle.std.proofs.Common.{◌≡◌, ℕ, suc, ◌+◌, ◌<◌, ◌==◌, List, [], ◌∷◌, ◌++◌, drop, length, get_or, inl, inr, refl, ap, sym, subst, ◌∙◌, drop-cons, add-one}
 use Rattle.std.specs.Prelude.{ℤ, pos, ◌+ℤ◌, if◌then◌else◌}
 use Rattle.std.specs.Global.{Vec}
 use Rattle.std.proofs.Math.ListN.{set}
 use Rattle.std.proofs.lemmas.Bool.{cases_eq, eq-eqb, ne_eqb}
-use Rattle.std.proofs.lemmas.Int.{ints, int_wrap-add_left}
 use Rattle.std.proofs.lemmas.List.{append_assoc, get_or-set_same, get_or-set_other}
-use Rattle.tsp_theory.specs.states.Nearest.{least_at}
-use Rattle.tsp_branch.specs.states.Sets.{IsMoved, added, times, sets_with}
+pub use Rattle.tsp_tree.proofs.Moved.{moved_on, node_moved}
+use Rattle.tsp_branch.specs.states.Sets.{added, times, sets_with}
 use Rattle.tsp_families.specs.declared.comb_set.CombSet.{CombSet}
-
-pub moved_on : (a b old between new : ℤ) → IsMoved a old between → IsMoved b between new → IsMoved (a +ℤ b) old new
-moved_on a b old between new (inl same) (inl kept) = inl (kept.0 ∙ same.0, let one = same.1 in let two = kept.1 in omega (arith, ints, one, two))
-moved_on a b old between new (inl same) (inr wrapped) = inr (wrapped ∙ ap (int_wrap w64) (let one = same.0 in let two = same.1 in omega (arith, ints, one, two)))
-moved_on a b old between new (inr wrapped) (inl kept) = inr (kept.0 ∙ wrapped ∙ ap (int_wrap w64) (let two = kept.1 in omega (arith, ints, two)))
-moved_on a b old between new (inr first) (inr second) = inr (second ∙ ap (λ z. int_wrap w64 (z +ℤ b)) first ∙ int_wrap-add_left w64 (old +ℤ a) b ∙ ap (int_wrap w64) (omega (arith, ints)))
-
-pub node_moved : (number : ℤ) (node x : ℕ) (old new : List ℤ) → least_at new node ≡ int_wrap w64 (least_at old node +ℤ number) → ((y : ℕ) → y ≢ node → least_at new y ≡ least_at old y)
-    → IsMoved (if node == x then number else pos 0) (least_at old x) (least_at new x)
-node_moved number node x old new here others = elim (cases_eq node x) [
-  | inl same ↦ rw (eq-eqb node x same) (inr (subst (λ (y : ℕ). least_at new y ≡ int_wrap w64 (least_at old y +ℤ number)) same here))
-  | inr other ↦ rw (ne_eqb node x other) (inl (others x (λ e. other (sym e)), refl))
-]
 
 pub added_left : (number : ℤ) (nodes : List ℕ) (index x default : ℕ) → index < length nodes
     → added number (drop index nodes) x ≡ (if get_or nodes index default == x then number else pos 0) +ℤ added number (drop (index + 1) nodes) x

@@ -3,8 +3,7 @@
 use Rattle.std.specs.Prelude.{◌≡◌, ◌⊎◌, ℕ, ◌≤◌, Bool, true, false, List, [], ◌∷◌, length, Option, Some, None, ℤ, pos, ◌≤ℤ◌}
 use Rattle.std.specs.List.{All, Any}
 use Rattle.tsp_theory.specs.Costs.{IsSymmetric}
-use Rattle.tsp_theory.specs.Length.{length_of}
-use Rattle.tsp_theory.specs.Tour.{IsTour}
+use Rattle.tsp_theory.specs.Tour.{Problem, BoundsTours, HasNoTour}
 use Rattle.tsp_theory.specs.Numbers.{IsScale}
 use Rattle.tsp_branch.specs.Families.{Family, IsFamily}
 use Rattle.tsp_branch.specs.declared.decision.Decision.{Decision}
@@ -80,19 +79,19 @@ CertificatesBoundCycles = (directed : Bool) (n : ℕ) (cost : ℕ → ℕ → �
 
 -- Where the fixed pairs are given, it is at most the length of every tour.
 abbrev pub CertificatesBoundTours : Type 0
-CertificatesBoundTours = (directed : Bool) (n : ℕ) (cost : ℕ → ℕ → ℤ) (scale number : ℤ) (families : List Family)
-    (fixed : List (ℕ × ℕ)) (steps : List CaseStep) (bound : ℤ) (nodes : List ℕ)
-    → AreCostsFor directed n cost → IsScale scale → IsCertificate n families (take_pairs fixed) steps
-    → IsCertificateBound directed n cost scale number families (take_pairs fixed) steps (Some bound)
-    → IsTour directed n fixed nodes → bound ≤ℤ length_of cost nodes
+CertificatesBoundTours = (problem : Problem) (scale number : ℤ) (families : List Family) (steps : List CaseStep) (bound : ℤ)
+    → AreCostsFor problem.directed problem.nodes problem.cost → IsScale scale
+    → IsCertificate problem.nodes families (take_pairs problem.fixed) steps
+    → IsCertificateBound problem.directed problem.nodes problem.cost scale number families (take_pairs problem.fixed) steps
+    (Some bound) → BoundsTours problem bound
 
 -- Where there is none, there is no tour.
 abbrev pub NoBoundNoTour : Type 0
-NoBoundNoTour = (directed : Bool) (n : ℕ) (cost : ℕ → ℕ → ℤ) (scale number : ℤ) (families : List Family)
-    (fixed : List (ℕ × ℕ)) (steps : List CaseStep) (nodes : List ℕ)
-    → AreCostsFor directed n cost → IsScale scale → IsCertificate n families (take_pairs fixed) steps
-    → IsCertificateBound directed n cost scale number families (take_pairs fixed) steps None
-    → IsTour directed n fixed nodes → ⊥
+NoBoundNoTour = (problem : Problem) (scale number : ℤ) (families : List Family) (steps : List CaseStep)
+    → AreCostsFor problem.directed problem.nodes problem.cost → IsScale scale
+    → IsCertificate problem.nodes families (take_pairs problem.fixed) steps
+    → IsCertificateBound problem.directed problem.nodes problem.cost scale number families (take_pairs problem.fixed) steps None
+    → HasNoTour problem
 
 -- There is one such bound, or none, whichever least 1-trees are found.
 abbrev pub CertificateBoundsAreUnique : Type 0

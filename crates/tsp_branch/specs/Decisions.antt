@@ -4,7 +4,7 @@ use Rattle.std.specs.List.{All, AllPairs}
 use Rattle.tsp_theory.specs.Costs.{IsSymmetric}
 use Rattle.tsp_theory.specs.Cycle.{IsCycle}
 use Rattle.tsp_theory.specs.Length.{length_of}
-use Rattle.tsp_theory.specs.Tour.{IsTour, Uses}
+use Rattle.tsp_theory.specs.Tour.{Problem, BoundsTours, Uses}
 use Rattle.tsp_theory.specs.Numbers.{IsScale}
 use Rattle.tsp_theory.specs.Adjusted.{pair_of, is_same_pair, IsAdjustedBound}
 use Rattle.tsp_branch.specs.declared.decision.Decision.{Decision}
@@ -65,7 +65,7 @@ DecidedBoundsBoundCycles = (n : ℕ) (cost : ℕ → ℕ → ℤ) (scale : ℤ) 
 
 -- The bound of potentials and of numbers on fixed pairs is at most the length of every tour.
 abbrev pub FixedBoundsBoundTours : Type 0
-FixedBoundsBoundTours = (n : ℕ) (cost : ℕ → ℕ → ℤ) (scale : ℤ) (potentials : List ℤ) (fixed : List (ℕ × ℕ × ℤ)) (bound : ℤ)
-    (nodes : List ℕ) → 3 ≤ n → IsSymmetric cost → IsScale scale → length potentials ≡ n
-    → IsAdjustedBound n cost scale potentials fixed [] bound → IsTour false n (map pair_of fixed) nodes
-    → bound ≤ℤ length_of cost nodes
+FixedBoundsBoundTours = (problem : Problem) (scale : ℤ) (potentials : List ℤ) (numbers : List (ℕ × ℕ × ℤ)) (bound : ℤ)
+    → 3 ≤ problem.nodes → problem.directed ≡ false → IsSymmetric problem.cost → map pair_of numbers ≡ problem.fixed
+    → IsScale scale → length potentials ≡ problem.nodes
+    → IsAdjustedBound problem.nodes problem.cost scale potentials numbers [] bound → BoundsTours problem bound

@@ -17,4 +17,5 @@ pub mod VerdictExamples
 pub mod FamilyExamples
 pub mod Rows
 pub mod Families
+pub mod RowExamples
 pub mod RowLeaves

@@ -1,16 +1,10 @@
--- What a least 1-tree weighs, and the bound that its weight gives.
+-- The bound that the weight of a least 1-tree gives.
 use Rattle.std.specs.Prelude.{◌≡◌, ℕ, List, ℤ, pos, ◌+ℤ◌, ◌-ℤ◌, ◌*ℤ◌}
 use Rattle.tsp_theory.specs.Numbers.{total, IsLeastBound}
-use Rattle.tsp_theory.specs.Tree.{weight_of, IsLeastOneTree}
 use Rattle.tsp_theory.specs.Adjusted.{triples_total}
+use Rattle.tsp_tree.specs.Weighed.{IsLeastWeight}
 use Rattle.tsp_branch.specs.Families.{Family}
 use Rattle.tsp_branch.specs.LeafBound.{least_of, leaf_weight, IsLeafBound}
-
--- the weight of a 1-tree than which none weighs less
-pub record IsLeastWeight (n : ℕ) (w : ℕ → ℕ → ℤ) (weight : ℤ) : Type 0 where
-  pub tree : List (ℕ × ℕ)
-  pub least : IsLeastOneTree n w tree
-  pub weight_is : weight ≡ weight_of w tree
 
 -- the least whole number that at the scale is no less than such a weight and the sum that is added
 pub record IsBoundOfWeights (n : ℕ) (w : ℕ → ℕ → ℤ) (scale given_back bound : ℤ) : Type 0 where

@@ -1,10 +1,10 @@
 pub mod Rooms
 pub mod Numbers
 pub mod PairSets
-pub mod Outside
 pub mod Marked
 pub mod Tabled
 pub mod Sets
 pub mod Combed
 pub mod Closed
 pub mod Decided
+pub mod OpenCases

@@ -1,6 +1,6 @@
 //! The bound of a certificate by branching.
 
-ghost use Rattle.std.specs.Prelude.{◌≡◌, ◌≢◌, ◌≤◌, ◌<◌, ◌^◌, ◌++◌, false, length, IfOk};
+ghost use Rattle.std.specs.Prelude.{◌≡◌, ◌≢◌, ◌≤◌, ◌<◌, ◌^◌, false, length, IfOk};
 ghost use Rattle.std.specs.List.{All, AllPairs};
 ghost use Rattle.tsp_format.specs.states.TreeSteps.{steps_of};
 ghost use Rattle.tsp_theory.specs.Costs.{IsSymmetric};
@@ -11,7 +11,8 @@ ghost use Rattle.tsp_families.specs.FamilySets.{AreSetsOf};
 ghost use Rattle.tsp_branch.specs.states.Combed.{plain};
 ghost use Rattle.tsp_branch.specs.CombsOfSets.{families_of};
 ghost use Rattle.tsp_branch.specs.Certificate.{IsFoundAt};
-ghost use Rattle.tsp_branch.specs.states.Decided.{IsDecision, stack_of};
+ghost use Rattle.tsp_branch.specs.states.Decided.{IsDecision};
+ghost use Rattle.tsp_branch.specs.states.OpenCases.{IsOpenCase, decisions_in};
 ghost use Rattle.tsp_branch.specs.Listed.{no_numbers_of, listed_steps, AreSteps, IsJudged, BoundsCycles, IsJudgedSized, IsLowest};
 ghost use Rattle.tsp_branch.specs.states.Numbers.{AreSmallCrossings};
 ghost use Rattle.tsp_branch.specs.states.Rooms.{IsRoom, AreSmall, IsJudgedLeaf, IsSizedLeaf};
@@ -20,10 +21,10 @@ use crate::decision::Decision;
 use crate::judge::judge;
 use crate::laws::certificates_bound_cycles;
 use crate::numbers::add_differences;
+use crate::open_case::OpenCase;
 use crate::room::Room;
 use crate::sets::sets_by_node;
 use crate::setting::Setting;
-use crate::stack::next_case;
 use crate::steps::{Judged, JudgedLeaf};
 use std::alloc::{AllocError, Global};
 use tsp_families::{CombSet, Crossings};
@@ -120,23 +121,22 @@ fn judge_leaves<C: Costs>(
         setting.now.given.now (steps_of steps.now)) }
     ensures size { IfOk result IsJudgedSized }
 {
-    let mut stack: Vec<Decision> = Vec::new(alloc);
+    let count = setting.costs.count();
+    let mut case = OpenCase::new(alloc, setting.directed, count, setting.given)?;
     let mut lowest = None;
     let mut leaf = 0;
     'steps: for step in steps {
         match step {
-            TreeStep::Branch(first, second) => stack.push(Decision {
-                pair: (*first, *second),
-                taken: true,
-            })?,
+            TreeStep::Branch(first, second) => case.take((*first, *second))?,
             TreeStep::Leaf(changes) => {
                 leaf += 1;
-                let judged = judge_leaf(alloc, setting, changes, &stack, &mut room)?;
+                let judged = judge_leaf(alloc, setting, changes, &case, &mut room)?;
                 let JudgedLeaf::Found(own) = judged else {
                     return Ok(Judged::BadLeaf(leaf));
                 };
                 lowest = lower(lowest, own);
-                if !next_case(&mut stack) {
+                let is_open = case.next()?;
+                if !is_open {
                     return Ok(Judged::Bound(lowest));
                 }
             }
@@ -154,21 +154,23 @@ fn judge_leaf<C: Costs>(
     alloc: Global,
     setting: &Setting<C>,
     changes: &[(u32, i64)],
-    decisions: &[Decision],
+    case: &OpenCase,
     room: &mut Room,
 ) -> Result<JudgedLeaf, AllocError>
     requires are_families { All (IsFamily (C.nodes setting.now.costs.now))
         (families_of setting.now.crossed.now (plain setting.now.sets.now)) }
     requires few_changes { length changes.now < 2 ^ 32 }
-    requires few_decisions { length decisions.now < 2 ^ 32 }
-    requires pairs { All (IsDecision (C.nodes setting.now.costs.now)) decisions.now }
-    requires once { DecideOnce setting.now.directed (stack_of decisions.now ++ setting.now.given.now) }
+    requires few { length case.now.stack.items < 2 ^ 32 }
+    requires case { IsOpenCase (C.nodes setting.now.costs.now) case.now }
+    requires direction { case.now.by_node.directed ≡ setting.now.directed }
+    requires given { case.now.given.now ≡ setting.now.given.now }
+    requires once { DecideOnce setting.now.directed (decisions_in case.now) }
     requires room { IsRoom (C.nodes setting.now.costs.now) (length setting.now.crossed.now) room.old }
     requires small { AreSmall room.old.numbers.items }
     ensures judged { IfOk result (IsJudgedLeaf (IsFoundAt setting.now.directed (C.nodes setting.now.costs.now)
         (C.at setting.now.costs.now) setting.now.scale decided_number
         (families_of setting.now.crossed.now (plain setting.now.sets.now))) (C.nodes setting.now.costs.now) setting.now.crossed.now
-        (stack_of decisions.now ++ setting.now.given.now) room.old.numbers.items changes.now
+        (decisions_in case.now) room.old.numbers.items changes.now
         room.new.numbers.items) }
     ensures room { IfOk result (λ own. IsRoom (C.nodes setting.now.costs.now) (length setting.now.crossed.now) room.new) }
     ensures size { IfOk result IsSizedLeaf }
@@ -188,7 +190,7 @@ fn judge_leaf<C: Costs>(
         alloc,
         &room.potentials,
         &room.multipliers,
-        decisions,
+        case,
         &mut room.row,
         &mut room.moved,
     )?;

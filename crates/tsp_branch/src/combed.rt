@@ -9,12 +9,11 @@ ghost use Rattle.tsp_families.specs.FamilySets.{AreSetsOf};
 ghost use Rattle.tsp_branch.specs.states.Sets.{IsMoved, IsSetTable};
 ghost use Rattle.tsp_branch.specs.states.Combed.{plain, AreSmallMultipliers, AreMultipliedSets, multipliers_at, AreFewCrossings, set_weight};
 
-use crate::add_sets::add_sets;
-use crate::growth::weight_in;
+use crate::add_sets::{add_sets, sum_left};
 use crate::scaled::scale_row;
-use crate::weights::Weights;
 use tsp_families::CombSet;
 use tsp_theory::Costs;
+use tsp_tree::{Weights, weight_in};
 
 /// Costs, a scale, potentials, and sets of nodes with the multipliers of their combs.
 ///
@@ -45,7 +44,7 @@ pub struct CombedWeights<'a, C: Costs> {
 }
 
 impl<'a, C: Costs> CombedWeights<'a, C> {
-    ghost use Rattle.std.specs.Prelude.{◌≡◌, ◌+◌, ◌+ℤ◌, ℕ, length, pos, neg_ℤ};
+    ghost use Rattle.std.specs.Prelude.{◌≡◌, ◌<◌, ◌+◌, ◌+ℤ◌, ℕ, length, slice_index, pos, neg_ℤ};
     ghost use Rattle.std.specs.Int.{w64, int_wrap};
     ghost use Rattle.tsp_format.specs.Cells.{IsNode};
     ghost use Rattle.tsp_theory.specs.Numbers.{IsFromTo, IsScale, ArePotentials, entry};
@@ -53,7 +52,7 @@ impl<'a, C: Costs> CombedWeights<'a, C> {
     ghost use Rattle.tsp_theory.specs.NodeBound.{weight_between, most_between};
     ghost use Rattle.tsp_families.specs.FamilySets.{AreSetsOf};
     ghost use Rattle.tsp_branch.specs.states.Sets.{IsMoved, IsSetTable};
-    ghost use Rattle.tsp_branch.specs.states.Combed.{plain, AreSmallMultipliers, AreMultipliedSets, multipliers_at, AreFewCrossings, most_combed, set_weight};
+    ghost use Rattle.tsp_branch.specs.states.Combed.{plain, AreSmallMultipliers, AreMultipliedSets, multipliers_at, AreFewCrossings, IsApart, most_combed, set_weight};
 
     /// The weights of these costs, potentials and sets.
     ///
@@ -120,6 +119,61 @@ impl<'a, C: Costs> CombedWeights<'a, C> {
         scale_row(row, self.moved, self.scale, weight_in(self.moved, from));
     }
 
+    /// What is left in 64 bits of a weight from a node as if no set had two nodes, where the caller
+    /// passes what is left of the node's potential; and how large the weight is without combs.
+    #[inline]
+    fn weight_apart(&self, own: i64, from: u32, to: u32) -> i64
+        requires own { own ≡ least_at self.now.moved.now from }
+        requires from { IsNode (C.nodes self.now.costs.now) from }
+        requires to { IsNode (C.nodes self.now.costs.now) to }
+        ensures value { IsMoved (neg_ℤ (multipliers_at self.now.multipliers.now (plain self.now.sets.now) from)
+            +ℤ neg_ℤ (multipliers_at self.now.multipliers.now (plain self.now.sets.now) to))
+            (weight_between self.now.scale self.now.potentials.now (C.at self.now.costs.now) from to) result }
+        ensures size { IsFromTo (neg_ℤ (pos most_between)) (pos most_between)
+            (weight_between self.now.scale self.now.potentials.now (C.at self.now.costs.now) from to) }
+    {
+        sum_left(
+            self.scale * self.costs.cost(from, to),
+            sum_left(own, weight_in(self.moved, to)),
+        )
+    }
+
+    /// The same as `fill_apart` at some nodes.
+    fn fill_apart_at(&self, from: u32, to: &[u32], row: &mut [i64])
+        requires from { IsNode (C.nodes self.now.costs.now) from }
+        requires to { (k : ℕ) → k < length to.now → IsNode (C.nodes self.now.costs.now) (slice_index to.now k) }
+        requires room { length row.old ≡ C.nodes self.now.costs.now + 1 }
+        ensures { (k : ℕ) → k < length to.now → IsApart self.now.scale self.now.potentials.now self.now.multipliers.now
+            (plain self.now.sets.now) (C.at self.now.costs.now) from (slice_index to.now k)
+            (least_at row.new (slice_index to.now k)) }
+    {
+        let own = weight_in(self.moved, from);
+        'places: for place in 0..to.len() {
+            let node = to[place];
+            row[node as usize] = self.weight_apart(own, from, node);
+        }
+    }
+
+    /// Writes a row as `fill_at` does, of weights that are at most 2 * 10^18 in size.
+    pub(crate) fn fill_combed_at(&self, from: u32, to: &[u32], row: &mut [i64])
+        requires from { IsNode (C.nodes self.now.costs.now) from }
+        requires to { (k : ℕ) → k < length to.now → IsNode (C.nodes self.now.costs.now) (slice_index to.now k) }
+        requires room { length row.old ≡ C.nodes self.now.costs.now + 1 }
+        ensures values { (k : ℕ) → k < length to.now → least_at row.new (slice_index to.now k)
+            ≡ set_weight self.now.scale self.now.potentials.now self.now.multipliers.now
+            (plain self.now.sets.now) (C.at self.now.costs.now) from (slice_index to.now k) }
+        ensures sizes { (k : ℕ) → k < length to.now
+            → IsFromTo (neg_ℤ (pos most_combed)) (pos most_combed) (least_at row.new (slice_index to.now k)) }
+    {
+        self.fill_apart_at(from, to, row);
+        add_sets(
+            row,
+            &self.by_node[from as usize],
+            self.sets,
+            self.multipliers,
+        );
+    }
+
     /// Writes a row as `fill` does, of weights that are at most 2 * 10^18 in size.
     pub(crate) fn fill_combed(&self, from: u32, row: &mut [i64])
         requires from { IsNode (C.nodes self.now.costs.now) from }
@@ -154,5 +208,9 @@ impl<C: Costs> Weights for CombedWeights<'_, C> {
 
     fn fill(&self, from: u32, row: &mut [i64]) {
         self.fill_combed(from, row);
+    }
+
+    fn fill_at(&self, from: u32, to: &[u32], row: &mut [i64]) {
+        self.fill_combed_at(from, to, row);
     }
 }

@@ -1,76 +1,69 @@
 //! Weights that decisions change.
 
-ghost use Rattle.std.specs.Prelude.{◌≡◌, ◌<◌, ◌≢◌, ◌+ℤ◌, ℕ, length};
-ghost use Rattle.std.specs.Int.{w64, int_wrap};
+ghost use Rattle.std.specs.Prelude.{◌≡◌, ◌<◌, ◌≢◌, ℕ, false, length};
 ghost use Rattle.std.specs.List.{All};
 ghost use Rattle.tsp_theory.specs.states.Nearest.{least_at};
 ghost use Rattle.tsp_branch.specs.states.Sets.{IsMoved};
-ghost use Rattle.tsp_branch.specs.states.Decided.{IsDecision, IsChanged, AreFewChanges, changes};
+ghost use Rattle.tsp_branch.specs.states.Decided.{IsChanged, AreFewChanges, changes};
+ghost use Rattle.tsp_branch.specs.states.OpenCases.{IsOpenCase, decisions_in};
 
 use crate::combed::CombedWeights;
 use crate::decision::Decision;
-use crate::growth::weight_in;
-use crate::weights::Weights;
+use crate::open_case::OpenCase;
 use tsp_theory::Costs;
+use tsp_tree::{Weights, add_at};
 
 /// The number on each decided pair. It cancels in the bound: any number would be sound, and this
 /// one is far above all other parts of a weight and lets weights fit 64 bits.
 pub(crate) const DECIDED: i64 = 4_000_000_000_000_000_000;
 
 /// Weights under combs, less a number for each taken pair and more by it for each avoided one.
-///
-/// The decisions are two lists: those given for all cases, and those of a case.
 #[derive(Drop)]
-pub struct DecidedWeights<'a, C: Costs> {
+pub(crate) struct DecidedWeights<'a, C: Costs> {
     combed: &'a CombedWeights<'a, C>,
-    given: &'a [Decision],
-    decisions: &'a [Decision],
-    ghost given_are: { All (IsDecision (C.nodes combed.now.costs.now)) given.now },
-    ghost pairs: { All (IsDecision (C.nodes combed.now.costs.now)) decisions.now },
-    ghost once: { AreFewChanges given.now decisions.now },
+    case: &'a OpenCase<'a>,
+    ghost is_case: { IsOpenCase (C.nodes combed.now.costs.now) case.now },
+    ghost both: { case.now.by_node.directed ≡ false },
+    ghost once: { AreFewChanges (decisions_in case.now) },
 }
 
 impl<'a, C: Costs> DecidedWeights<'a, C> {
-    ghost use Rattle.std.specs.Prelude.{◌≡◌, ℕ};
-    ghost use Rattle.std.specs.List.{All};
+    ghost use Rattle.std.specs.Prelude.{◌≡◌, ℕ, false};
     ghost use Rattle.tsp_branch.specs.states.Combed.{plain, set_weight};
-    ghost use Rattle.tsp_branch.specs.states.Decided.{IsDecision, AreFewChanges, decided_twice};
+    ghost use Rattle.tsp_branch.specs.states.Decided.{AreFewChanges, decided};
+    ghost use Rattle.tsp_branch.specs.states.OpenCases.{IsOpenCase, decisions_in};
 
-    /// The weights under decisions.
+    /// The weights under the decisions of a case.
     ///
     /// # Requires
     ///
-    /// Pairs of different nodes, no two of which are the same pair.
-    pub fn of(
+    /// Pairs without a direction, no two of which are the same pair.
+    pub(crate) fn of(
         combed: &'a CombedWeights<'a, C>,
-        given: &'a [Decision],
-        decisions: &'a [Decision],
+        case: &'a OpenCase<'a>,
     ) -> DecidedWeights<'a, C>
-        requires given_are { All (IsDecision (C.nodes combed.now.costs.now)) given.now }
-        requires pairs { All (IsDecision (C.nodes combed.now.costs.now)) decisions.now }
-        requires once { AreFewChanges given.now decisions.now }
+        requires case { IsOpenCase (C.nodes combed.now.costs.now) case.now }
+        requires both { case.now.by_node.directed ≡ false }
+        requires once { AreFewChanges (decisions_in case.now) }
         ensures nodes { C.nodes result.combed.now.costs.now ≡ C.nodes combed.now.costs.now }
-        ensures weights { (i j : ℕ) → decided_twice result.given.now result.decisions.now
+        ensures weights { (i j : ℕ) → decided (decisions_in result.case.now)
             (set_weight result.combed.now.scale result.combed.now.potentials.now result.combed.now.multipliers.now
             (plain result.combed.now.sets.now) (C.at result.combed.now.costs.now)) i j
-            ≡ decided_twice given.now decisions.now (set_weight combed.now.scale combed.now.potentials.now
+            ≡ decided (decisions_in case.now) (set_weight combed.now.scale combed.now.potentials.now
             combed.now.multipliers.now (plain combed.now.sets.now) (C.at combed.now.costs.now)) i j }
     {
-        DecidedWeights {
-            combed,
-            given,
-            decisions,
-        }
+        DecidedWeights { combed, case }
     }
 }
 
 impl<C: Costs> Weights for DecidedWeights<'_, C> {
     ghost use Rattle.tsp_branch.specs.states.Combed.{plain, set_weight};
-    ghost use Rattle.tsp_branch.specs.states.Decided.{decided_twice};
+    ghost use Rattle.tsp_branch.specs.states.Decided.{decided};
+    ghost use Rattle.tsp_branch.specs.states.OpenCases.{decisions_in};
 
     ghost nodes = { λ w. C.nodes w.combed.now.costs.now };
 
-    ghost at = { λ w. decided_twice w.given.now w.decisions.now (set_weight w.combed.now.scale
+    ghost at = { λ w. decided (decisions_in w.case.now) (set_weight w.combed.now.scale
         w.combed.now.potentials.now w.combed.now.multipliers.now (plain w.combed.now.sets.now)
         (C.at w.combed.now.costs.now)) };
 
@@ -81,8 +74,12 @@ impl<C: Costs> Weights for DecidedWeights<'_, C> {
 
     fn fill(&self, from: u32, row: &mut [i64]) {
         self.combed.fill_combed(from, row);
-        change_row(row, self.given, from);
-        change_row(row, self.decisions, from);
+        change_row(row, self.case.at(from), from);
+    }
+
+    fn fill_at(&self, from: u32, to: &[u32], row: &mut [i64]) {
+        self.combed.fill_combed_at(from, to, row);
+        change_row(row, self.case.at(from), from);
     }
 }
 
@@ -114,15 +111,4 @@ fn change(row: &mut [i64], decision: Decision, from: u32)
     } else if second == from {
         add_at(row, first, number);
     }
-}
-
-/// Adds a number at a place.
-#[inline]
-pub(crate) fn add_at(row: &mut [i64], node: u32, number: i64)
-    requires { node < length row.old }
-    ensures here { least_at row.new node ≡ int_wrap w64 (least_at row.old node +ℤ number) }
-    ensures others { (x : ℕ) → x ≢ node → least_at row.new x ≡ least_at row.old x }
-{
-    let old = weight_in(row, node);
-    row[node as usize] = old.wrapping_add(number);
 }

@@ -1,6 +1,6 @@
 //! What a leaf gives back.
 
-ghost use Rattle.std.specs.Prelude.{◌≡◌, ◌≤◌, ◌<◌, ◌^◌, ◌-◌, ◌++◌, List, length, pos, neg_ℤ, ◌-ℤ◌, ◌*ℤ◌, ◌≤ℤ◌};
+ghost use Rattle.std.specs.Prelude.{◌≡◌, ◌≤◌, ◌<◌, ◌^◌, ◌-◌, List, length, pos, neg_ℤ, ◌-ℤ◌, ◌*ℤ◌, ◌≤ℤ◌};
 ghost use Rattle.std.specs.List.{All};
 ghost use Rattle.tsp_theory.specs.Numbers.{IsFromTo, total};
 ghost use Rattle.tsp_theory.specs.Adjusted.{triples_total};
@@ -10,7 +10,6 @@ ghost use Rattle.tsp_branch.specs.LeafBound.{least_of};
 ghost use Rattle.tsp_branch.specs.Judged.{most_crossed};
 ghost use Rattle.tsp_branch.specs.CombsOfSets.{NumberedSet, families_of, least_with};
 ghost use Rattle.tsp_branch.specs.states.Numbers.{AreSmallCrossings};
-ghost use Rattle.tsp_branch.specs.states.Decided.{stack_of};
 
 use crate::decided::DECIDED;
 use crate::decision::Decision;
@@ -66,24 +65,14 @@ pub(crate) fn total(numbers: &[i64]) -> i128
     sum
 }
 
-/// The numbers of a leaf's taken pairs, of those that are given for all leaves too.
-pub(crate) fn taken_back(given: &[Decision], decisions: &[Decision]) -> i128
-    requires few_given { length given.now < 2 ^ 32 }
-    requires few_decisions { length decisions.now < 2 ^ 32 }
-    ensures value { result ≡ triples_total (on_taken decided_number (stack_of decisions.now ++ given.now)) }
+/// The numbers of the taken pairs.
+pub(crate) fn taken_back(taken: &[Decision]) -> i128
+    requires { length taken.now < 2 ^ 33 }
+    ensures value { result ≡ triples_total (on_taken decided_number taken.now) }
     ensures size { IsFromTo (pos 0) (pos (2 ^ 95)) result }
 {
-    taken_in(given) + taken_in(decisions)
-}
-
-/// The sum of the numbers of the taken pairs.
-fn taken_in(decisions: &[Decision]) -> i128
-    requires { length decisions.now < 2 ^ 32 }
-    ensures value { result ≡ triples_total (on_taken decided_number decisions.now) }
-    ensures size { IsFromTo (pos 0) (pos (2 ^ 94)) result }
-{
     let mut sum = 0;
-    'decisions: for decision in decisions {
+    'decisions: for decision in taken {
         if decision.taken {
             sum += i128::from(DECIDED);
         }

@@ -4,9 +4,8 @@ ghost use Rattle.std.specs.Prelude.{◌≡◌, ◌≤◌, ◌+◌, ◌^◌, ℕ,
 ghost use Rattle.tsp_theory.specs.Numbers.{IsFromTo, IsScale, IsLeastBound, IsBoundSized};
 ghost use Rattle.tsp_branch.specs.Weighed.{IsBoundOfWeights, BoundsEachLeaf};
 
-use crate::tree::least_weight;
-use crate::weights::Weights;
 use std::alloc::{AllocError, Global};
+use tsp_tree::{Weights, least_weight};
 
 /// The bound of a leaf whose weights are given by rows: the least whole number that at the scale is
 /// no less than the weight of a least 1-tree plus a sum.

@@ -1,19 +1,22 @@
 //! The bound of a leaf by the least link from each node.
 
-ghost use Rattle.std.specs.Prelude.{◌≡◌, ◌≤◌, ◌<◌, ◌+◌, ◌*◌, ◌^◌, ℕ, length, pos, neg_ℤ, MatchOption, IfSome, ◌⊎◌, ℤ, ◌≤ℤ◌};
-ghost use Rattle.std.specs.List.{All};
+ghost use Rattle.std.specs.Prelude.{◌≡◌, ◌≤◌, ◌<◌, ◌+◌, ◌^◌, ℕ, List, true, length, pos, neg_ℤ, MatchOption, IfSome, ◌⊎◌, ℤ, ◌≤ℤ◌};
+ghost use Rattle.std.specs.List.{All, filter};
 ghost use Rattle.tsp_format.specs.Cells.{IsNode};
 ghost use Rattle.tsp_format.specs.Limits.{most_nodes};
 ghost use Rattle.tsp_theory.specs.Numbers.{IsFromTo, IsScale, IsBoundSized, IsSumSized};
 ghost use Rattle.tsp_theory.specs.states.Nearest.{least_at};
-ghost use Rattle.tsp_branch.specs.states.Decided.{IsDecision};
+ghost use Rattle.tsp_branch.specs.declared.decision.Decision.{Decision};
+ghost use Rattle.tsp_branch.specs.states.Decided.{stack_of};
+ghost use Rattle.tsp_branch.specs.states.OpenCases.{IsOpenCase, bears_on, decisions_in};
 ghost use Rattle.tsp_branch.specs.Rows.{IsAllowed, HasNoLink, IsLeastFrom, IsSumOfLeast, IsRowBound};
-ghost use Rattle.tsp_branch.specs.states.Closed.{closed, decisions_of, IsOpenRow};
+ghost use Rattle.tsp_branch.specs.states.Closed.{closed, IsOpenRow};
 
 use crate::closing::{CLOSED, close_all, shut};
 use crate::decision::Decision;
 use crate::leaf::rounded_up;
-use crate::weights::Weights;
+use crate::open_case::OpenCase;
+use tsp_tree::Weights;
 
 /// The bound of a leaf whose weights are given by rows: the least whole number that at the scale is
 /// no less than the least weights from all nodes plus a sum. `None` where the decisions allow no
@@ -21,46 +24,40 @@ use crate::weights::Weights;
 ///
 /// # Requires
 ///
-/// Decisions of different nodes, a sum of at most 2^99 in size, and a row of one place more than
+/// A sum of at most 2^99 in size, and a row of one place more than
 /// there are nodes, which is overwritten.
-pub fn row_bound<W: Weights>(
+pub(crate) fn row_bound<W: Weights>(
     w: &W,
-    given: &[Decision],
-    decisions: &[Decision],
+    case: &OpenCase,
     row: &mut [i64],
     scale: i64,
     given_back: i128,
 ) -> Option<i128>
-    requires given_are { All (IsDecision (W.nodes w.now)) given.now }
-    requires pairs { All (IsDecision (W.nodes w.now)) decisions.now }
+    requires case { IsOpenCase (W.nodes w.now) case.now }
+    requires direction { case.now.by_node.directed ≡ true }
     requires room { length row.old ≡ W.nodes w.now + 1 }
     requires scale { IsScale scale }
     requires given_back { IsFromTo (neg_ℤ (pos (2 ^ 99))) (pos (2 ^ 99)) given_back }
-    ensures bound { MatchOption result (HasNoLink (W.nodes w.now) (decisions_of given.now decisions.now))
-        (λ bound. IsRowBound (W.nodes w.now) (W.at w.now) (decisions_of given.now decisions.now) scale given_back bound) }
+    ensures bound { MatchOption result (HasNoLink (W.nodes w.now) (decisions_in case.now))
+        (λ bound. IsRowBound (W.nodes w.now) (W.at w.now) (decisions_in case.now) scale given_back bound) }
     ensures size { IfSome result IsBoundSized }
 {
-    let sum = sum_of_least(w, given, decisions, row)?;
+    let sum = sum_of_least(w, case, row)?;
     Some(rounded_up(scale, sum + given_back))
 }
 
 /// The sum of the least weights of the allowed links from each node.
-fn sum_of_least<W: Weights>(
-    w: &W,
-    given: &[Decision],
-    decisions: &[Decision],
-    row: &mut [i64],
-) -> Option<i128>
-    requires given_are { All (IsDecision (W.nodes w.now)) given.now }
-    requires pairs { All (IsDecision (W.nodes w.now)) decisions.now }
+fn sum_of_least<W: Weights>(w: &W, case: &OpenCase, row: &mut [i64]) -> Option<i128>
+    requires case { IsOpenCase (W.nodes w.now) case.now }
+    requires direction { case.now.by_node.directed ≡ true }
     requires room { length row.old ≡ W.nodes w.now + 1 }
-    ensures sum { MatchOption result (HasNoLink (W.nodes w.now) (decisions_of given.now decisions.now))
-        (λ sum. IsSumOfLeast (W.nodes w.now) (W.at w.now) (decisions_of given.now decisions.now) (W.nodes w.now) sum) }
+    ensures sum { MatchOption result (HasNoLink (W.nodes w.now) (decisions_in case.now))
+        (λ sum. IsSumOfLeast (W.nodes w.now) (W.at w.now) (decisions_in case.now) (W.nodes w.now) sum) }
     ensures size { IfSome result (IsSumSized most_nodes) }
 {
     let mut sum = 0;
     'nodes: for index in 0..w.count() {
-        let Some(least) = least_from(w, given, decisions, index + 1, row) else {
+        let Some(least) = least_from(w, case, index + 1, row) else {
             return None;
         };
         sum += i128::from(least);
@@ -69,23 +66,17 @@ fn sum_of_least<W: Weights>(
 }
 
 /// The least weight of the allowed links from a node; `None` where no link is allowed.
-fn least_from<W: Weights>(
-    w: &W,
-    given: &[Decision],
-    decisions: &[Decision],
-    from: u32,
-    row: &mut [i64],
-) -> Option<i64>
-    requires given_are { All (IsDecision (W.nodes w.now)) given.now }
-    requires pairs { All (IsDecision (W.nodes w.now)) decisions.now }
+fn least_from<W: Weights>(w: &W, case: &OpenCase, from: u32, row: &mut [i64]) -> Option<i64>
+    requires case { IsOpenCase (W.nodes w.now) case.now }
+    requires direction { case.now.by_node.directed ≡ true }
     requires from { IsNode (W.nodes w.now) from }
     requires room { length row.old ≡ W.nodes w.now + 1 }
     ensures { MatchOption result
-        ((x : ℕ) → IsAllowed (W.nodes w.now) (decisions_of given.now decisions.now) from x → ⊥)
-        (λ least. IsLeastFrom (W.nodes w.now) (W.at w.now) (decisions_of given.now decisions.now) from least) }
+        ((x : ℕ) → IsAllowed (W.nodes w.now) (decisions_in case.now) from x → ⊥)
+        (λ least. IsLeastFrom (W.nodes w.now) (W.at w.now) (decisions_in case.now) from least) }
 {
     w.fill(from, row);
-    close_row(row, given, decisions, from);
+    close_row(row, case.at(from), &case.by_node.taken, from);
     let least = least_in(row);
     if least == CLOSED {
         return None;
@@ -93,18 +84,20 @@ fn least_from<W: Weights>(
     Some(least)
 }
 
-/// Closes in the row of a node the place of the node itself, and what some decision doesn't allow.
-fn close_row(row: &mut [i64], given: &[Decision], decisions: &[Decision], from: u32)
-    requires given_are { All (λ decision. decision.pair.1 < length row.old) given.now }
-    requires pairs { All (λ decision. decision.pair.1 < length row.old) decisions.now }
+/// Closes in the row of a node the place of the node itself, and what some decision doesn't allow: one
+/// that begins at the node, or one that takes its pair.
+fn close_row(row: &mut [i64], own: &[Decision], taken: &[Decision], from: u32)
+    requires own { All (λ decision. decision.pair.1 < length row.old) own.now }
+    requires taken { All (λ decision. decision.pair.1 < length row.old) taken.now }
     requires from { from < length row.old }
-    ensures { (n : ℕ) (w : ℕ → ℕ → ℤ) → n < length row.old
+    ensures { (n : ℕ) (w : ℕ → ℕ → ℤ) (case : List Decision) → n < length row.old
         → ((x : ℕ) → IsNode n x → least_at row.old x ≡ w from x)
-        → IsOpenRow n w (decisions_of given.now decisions.now) from row.new }
+        → stack_of own.now ≡ filter (bears_on true from) case
+        → stack_of taken.now ≡ filter (λ decision. decision.taken) case → IsOpenRow n w case from row.new }
 {
     shut(row, from);
-    close_all(row, given, from);
-    close_all(row, decisions, from);
+    close_all(row, own, from);
+    close_all(row, taken, from);
 }
 
 /// The least number of a row from place 1 on.

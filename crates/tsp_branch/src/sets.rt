@@ -6,9 +6,9 @@ ghost use Rattle.tsp_theory.specs.states.Nearest.{least_at};
 ghost use Rattle.tsp_families.specs.FamilySets.{AreSetsOf};
 ghost use Rattle.tsp_branch.specs.states.Sets.{IsMoved, added, times, AreLengthened, IsSetTable};
 
-use crate::decided::add_at;
 use std::alloc::{AllocError, Global};
 use tsp_families::CombSet;
+use tsp_tree::add_at;
 
 /// Adds a number at each node of a list.
 ///

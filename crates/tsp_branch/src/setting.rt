@@ -15,6 +15,7 @@ use crate::decision::Decision;
 use crate::given_back::{given_back, taken_back};
 use crate::leaf::leaf_bound;
 use crate::moved::fill_moved;
+use crate::open_case::OpenCase;
 use crate::rows::row_bound;
 use std::alloc::{AllocError, Global};
 use tsp_families::{CombSet, Crossings};
@@ -49,7 +50,7 @@ pub(crate) struct Setting<'a, C: Costs> {
 }
 
 impl<C: Costs> Setting<'_, C> {
-    ghost use Rattle.std.specs.Prelude.{◌≡◌, ◌<◌, ◌+◌, ◌^◌, ◌++◌, true, false, length, Some, IfOk, IfSome};
+    ghost use Rattle.std.specs.Prelude.{◌≡◌, ◌<◌, ◌+◌, ◌^◌, true, false, length, Some, IfOk, IfSome};
     ghost use Rattle.std.specs.List.{All};
     ghost use Rattle.tsp_theory.specs.Numbers.{IsBoundSized};
     ghost use Rattle.tsp_branch.specs.Families.{IsFamily};
@@ -57,7 +58,7 @@ impl<C: Costs> Setting<'_, C> {
     ghost use Rattle.tsp_branch.specs.Certificate.{IsFoundAt};
     ghost use Rattle.tsp_branch.specs.states.Combed.{plain};
     ghost use Rattle.tsp_branch.specs.CombsOfSets.{families_of};
-    ghost use Rattle.tsp_branch.specs.states.Decided.{IsDecision, stack_of};
+    ghost use Rattle.tsp_branch.specs.states.OpenCases.{IsOpenCase, decisions_in};
     ghost use Rattle.tsp_branch.specs.Judged.{AreGoodNumbers, as_leaf_numbers};
 
     /// The bound of the leaf with these numbers and decisions; `None` where it has none, since some
@@ -75,7 +76,7 @@ impl<C: Costs> Setting<'_, C> {
         alloc: Global,
         potentials: &[i64],
         multipliers: &[i64],
-        decisions: &[Decision],
+        case: &OpenCase,
         row: &mut [i64],
         moved: &mut [i64],
     ) -> Result<Option<i128>, AllocError>
@@ -83,20 +84,21 @@ impl<C: Costs> Setting<'_, C> {
             (families_of self.now.crossed.now (plain self.now.sets.now)) }
         requires numbers { AreGoodNumbers (C.nodes self.now.costs.now) self.now.crossed.now
             (as_leaf_numbers potentials.now multipliers.now) }
-        requires pairs { All (IsDecision (C.nodes self.now.costs.now)) decisions.now }
-        requires once { DecideOnce self.now.directed (stack_of decisions.now ++ self.now.given.now) }
-        requires few { length decisions.now < 2 ^ 32 }
+        requires case { IsOpenCase (C.nodes self.now.costs.now) case.now }
+        requires direction { case.now.by_node.directed ≡ self.now.directed }
+        requires once { DecideOnce self.now.directed (decisions_in case.now) }
+        requires few { length (decisions_in case.now) < 2 ^ 33 }
         requires row { length row.old ≡ C.nodes self.now.costs.now + 1 }
         requires moved { length moved.old ≡ C.nodes self.now.costs.now + 1 }
         ensures bound { IfOk result (IsFoundAt self.now.directed (C.nodes self.now.costs.now) (C.at self.now.costs.now)
             self.now.scale decided_number (families_of self.now.crossed.now (plain self.now.sets.now))
-            (stack_of decisions.now ++ self.now.given.now, as_leaf_numbers potentials.now multipliers.now)) }
+            (decisions_in case.now, as_leaf_numbers potentials.now multipliers.now)) }
         ensures size { IfOk result (λ bound. IfSome bound IsBoundSized) }
     {
         if self.directed {
-            return Ok(self.bound_by_rows(potentials, multipliers, decisions, row, moved));
+            return Ok(self.bound_by_rows(potentials, multipliers, case, row, moved));
         }
-        let bound = self.bound_by_trees(alloc, potentials, multipliers, decisions, row, moved)?;
+        let bound = self.bound_by_trees(alloc, potentials, multipliers, case, row, moved)?;
         Ok(Some(bound))
     }
 
@@ -110,7 +112,7 @@ impl<C: Costs> Setting<'_, C> {
         alloc: Global,
         potentials: &[i64],
         multipliers: &[i64],
-        decisions: &[Decision],
+        case: &OpenCase,
         row: &mut [i64],
         moved: &mut [i64],
     ) -> Result<i128, AllocError>
@@ -119,14 +121,15 @@ impl<C: Costs> Setting<'_, C> {
             (families_of self.now.crossed.now (plain self.now.sets.now)) }
         requires numbers { AreGoodNumbers (C.nodes self.now.costs.now) self.now.crossed.now
             (as_leaf_numbers potentials.now multipliers.now) }
-        requires pairs { All (IsDecision (C.nodes self.now.costs.now)) decisions.now }
-        requires once { DecideOnce false (stack_of decisions.now ++ self.now.given.now) }
-        requires few { length decisions.now < 2 ^ 32 }
+        requires case { IsOpenCase (C.nodes self.now.costs.now) case.now }
+        requires both { case.now.by_node.directed ≡ false }
+        requires once { DecideOnce false (decisions_in case.now) }
+        requires few { length (decisions_in case.now) < 2 ^ 33 }
         requires row { length row.old ≡ C.nodes self.now.costs.now + 1 }
         requires moved { length moved.old ≡ C.nodes self.now.costs.now + 1 }
         ensures bound { IfOk result (λ bound. IsFoundAt false (C.nodes self.now.costs.now) (C.at self.now.costs.now)
             self.now.scale decided_number (families_of self.now.crossed.now (plain self.now.sets.now))
-            (stack_of decisions.now ++ self.now.given.now, as_leaf_numbers potentials.now multipliers.now)
+            (decisions_in case.now, as_leaf_numbers potentials.now multipliers.now)
             (Some bound)) }
         ensures size { IfOk result (λ bound. IsBoundSized bound) }
     {
@@ -142,8 +145,8 @@ impl<C: Costs> Setting<'_, C> {
             self.by_node,
             moved,
         );
-        let weights = DecidedWeights::of(&combed, self.given, decisions);
-        let taken = taken_back(self.given, decisions);
+        let weights = DecidedWeights::of(&combed, case);
+        let taken = taken_back(&case.by_node.taken);
         let back = taken + given_back(potentials, multipliers, self.crossed);
         leaf_bound(alloc, &weights, row, self.scale, back)
     }
@@ -154,7 +157,7 @@ impl<C: Costs> Setting<'_, C> {
         &self,
         potentials: &[i64],
         multipliers: &[i64],
-        decisions: &[Decision],
+        case: &OpenCase,
         row: &mut [i64],
         moved: &mut [i64],
     ) -> Option<i128>
@@ -162,12 +165,13 @@ impl<C: Costs> Setting<'_, C> {
             (families_of self.now.crossed.now (plain self.now.sets.now)) }
         requires numbers { AreGoodNumbers (C.nodes self.now.costs.now) self.now.crossed.now
             (as_leaf_numbers potentials.now multipliers.now) }
-        requires pairs { All (IsDecision (C.nodes self.now.costs.now)) decisions.now }
+        requires case { IsOpenCase (C.nodes self.now.costs.now) case.now }
+        requires direction { case.now.by_node.directed ≡ true }
         requires row { length row.old ≡ C.nodes self.now.costs.now + 1 }
         requires moved { length moved.old ≡ C.nodes self.now.costs.now + 1 }
         ensures bound { IsFoundAt true (C.nodes self.now.costs.now) (C.at self.now.costs.now)
             self.now.scale decided_number (families_of self.now.crossed.now (plain self.now.sets.now))
-            (stack_of decisions.now ++ self.now.given.now, as_leaf_numbers potentials.now multipliers.now)
+            (decisions_in case.now, as_leaf_numbers potentials.now multipliers.now)
             result }
         ensures size { IfSome result IsBoundSized }
     {
@@ -184,6 +188,6 @@ impl<C: Costs> Setting<'_, C> {
             moved,
         );
         let back = given_back(potentials, multipliers, self.crossed);
-        row_bound(&combed, self.given, decisions, row, self.scale, back)
+        row_bound(&combed, case, row, self.scale, back)
     }
 }

@@ -1,6 +1,6 @@
 -- From runs on readers to what is said of the texts that they read.
 use Rattle.std.proofs.Common.{◌≡◌, ℕ, List, [], Bool, true, false, Result, Ok, Err, inl, inr, refl, sym, ap, subst, ◌∙◌, arith}
-use Rattle.std.specs.Prelude.{◌⊎◌, Option, None, Some, IfSome, ℤ, is_ok}
+use Rattle.std.specs.Prelude.{Option, None, Some, IfSome, ℤ}
 use Rattle.std.specs.Io.KnownBytes.{Appends}
 use Rattle.std.proofs.lemmas.Bool.{false≢true}
 use Rattle.tsp_format.specs.declared.layout.Layout.{Layout}
@@ -15,22 +15,24 @@ use Rattle.tsp_text.specs.declared.fault.ReadFault.TheVariants as read_faults
 use Rattle.tsp_text.specs.Text.{fault, Spells}
 use Rattle.tsp_read.specs.Reads.{IsFile, HasFault, StopsAt}
 use Rattle.tsp_reason.specs.declared.certificate.Certificate.{Certificate}
-use Rattle.tsp_reason.specs.declared.verdict.Reason.{Reason}
+use Rattle.tsp_reason.specs.declared.verdict.BoundVerdict.{BoundVerdict}
+use Rattle.tsp_reason.specs.declared.verdict.BoundVerdict.TheVariants as bounds
 use Rattle.tsp_reason.specs.declared.verdict.Verdict.{Verdict}
 use Rattle.tsp_reason.specs.declared.verdict.Verdict.TheVariants.{Tour, Routes, No}
+use Rattle.tsp_reason.specs.Verdicts.{is_yes, is_bound_yes}
 use Rattle.tsp_judge.specs.declared.bound.Bounded.{Bounded}
 use Rattle.tsp_judge.specs.declared.fault.RunFault.{RunFault}
 use Rattle.tsp_judge.specs.declared.fault.RunFault.TheVariants.{File, WrongKind, Write, OutOfMemory, Relayout}
 use Rattle.tsp_judge.specs.Status.{status_of_fault}
-use Rattle.tsp_judge.specs.Run.{given_by, IsSomeFile, IsFileIn, AreRead, JudgesFiles, EndsWithout, is_yes}
-use Rattle.tsp_judge.specs.Yes.{IsATourYes, IsARoutesYes, IsAYes, SaysYes, IsCheckOf}
+use Rattle.tsp_judge.specs.Run.{given_by, IsSomeFile, IsFileIn, AreRead, JudgesFiles, EndsWithout}
+use Rattle.tsp_judge.specs.Accepted.{IsAccepted, IsBoundAccepted}
+use Rattle.tsp_judge.specs.Yes.{SaysYes, IsCheckOf}
 use Rattle.tsp_judge.specs.BoundRun.{BoundsFiles, EndsUnbounded, SaysBound, IsBoundRunOf}
 use Rattle.tsp_judge.specs.ShowRun.{IsShowRun}
 use Rattle.tsp_judge.specs.ConvertRun.{IsConvertRun}
 use Rattle.tsp_c.specs.Ended.{without_devices, done, has_bound, fault_line, EndsOnTexts}
 use Rattle.tsp_c.specs.Texts.{IsFileText, ShowsText, ConvertsText, given_text, SpellsGiven}
-use Rattle.tsp_c.specs.Texts.{IsTourAccepted, AreRoutesAccepted, IsAYesOfTexts, IsAccepted, IsRejected, IsUnchecked, ChecksTexts}
-use Rattle.tsp_c.specs.Texts.{IsABoundOfTexts, IsNoTourOfTexts, IsUnbounded, BoundsTexts}
+use Rattle.tsp_c.specs.Texts.{AreSpelled, IsAcceptedText, IsRejected, IsUnchecked, ChecksTexts, IsBoundText, IsUnbounded, BoundsTexts}
 use Rattle.tsp_c.proofs.Ends.{yes_ends, no_ends, fault_ends}
 
 -- ---- a text
@@ -127,72 +129,27 @@ spelled_given None third three (Some certificate) known is = absurd is
 spelled_given (Some by) third three None known is = absurd is
 spelled_given (Some by) third three (Some certificate) known is = (is.0, spelled third three certificate.1 known is.1)
 
-tour_accepted : (claimed : Option ℤ) (first second third : Turn) (sink : Sink) (one two three written : List ℕ)
-    → Reads3 first second third one two three → Collects sink written
-    → IsATourYes claimed first second sink → IsTourAccepted claimed one two written
-tour_accepted claimed first second third sink one two three written reads collects says = record {
-  instance = says.instance;
-  solution = says.solution;
-  first_file = spelled first one says.instance reads.first_is says.first_file;
-  second_file = spelled second two says.solution reads.second_is says.second_file;
-  of_type = says.of_type;
-  of_tours = says.of_tours;
-  tour = says.tour;
-  only = says.only;
-  tour_of = says.tour_of;
-  as_claimed = says.as_claimed;
-  printed = printed_is sink written _ collects says.printed;
-}
-
-routes_accepted : (claimed : Option ℤ) (first second third : Turn) (sink : Sink) (one two three written : List ℕ)
-    → Reads3 first second third one two three → Collects sink written
-    → IsARoutesYes claimed first second sink → AreRoutesAccepted claimed one two written
-routes_accepted claimed first second third sink one two three written reads collects says = record {
-  instance = says.instance;
-  solution = says.solution;
-  first_file = spelled first one says.instance reads.first_is says.first_file;
-  second_file = spelled second two says.solution reads.second_is says.second_file;
-  of_type = says.of_type;
-  of_tours = says.of_tours;
-  plan_of = says.plan_of;
-  least = says.least;
-  none_fewer = says.none_fewer;
-  as_claimed = says.as_claimed;
-  printed = printed_is sink written _ collects says.printed;
-}
-
-accepted_with : (by : Certificate) (claimed : Option ℤ) (first second third : Turn) (sink : Sink) (one two three written : List ℕ)
-    → Reads3 first second third one two three → Collects sink written → IsAYes by claimed first second third sink
-    → IsAYesOfTexts by claimed one two three written
-accepted_with by claimed first second third sink one two three written reads collects says = record {
-  instance = says.instance;
-  solution = says.solution;
-  certificate = says.certificate;
-  first_file = spelled first one says.instance reads.first_is says.first_file;
-  second_file = spelled second two says.solution reads.second_is says.second_file;
-  third_file = spelled third three says.certificate reads.third_is says.third_file;
-  of_tours = says.of_tours;
-  of_type = says.of_type;
-  tour = says.tour;
-  only = says.only;
-  tour_of = says.tour_of;
-  bound = says.bound;
-  of_certificate = says.of_certificate;
-  as_claimed = says.as_claimed;
-  printed = printed_is sink written _ collects says.printed;
-  below_tours = says.below_tours;
-  optimal = says.optimal;
+are_spelled : (by : Option Certificate) (first second third : Turn) (one two three : List ℕ) (instance solution : Fields)
+    (certificate : Option (Certificate × Fields)) → Reads3 first second third one two three
+    → AreRead (given_by by third) first second instance solution certificate
+    → AreSpelled (given_text by three) one two instance solution certificate
+are_spelled by first second third one two three instance solution certificate reads read = record {
+  first_file = spelled first one instance reads.first_is read.first_file;
+  second_file = spelled second two solution reads.second_is read.second_file;
+  third_file = spelled_given by third three certificate reads.third_is read.third_file;
 }
 
 accepted : (by : Option Certificate) (claimed : Option ℤ) (first second third : Turn) (sink : Sink) (one two three written : List ℕ)
     → Reads3 first second third one two three → Collects sink written → SaysYes (given_by by third) claimed first second sink
-    → IsAccepted (given_text by three) claimed one two written
-accepted None claimed first second third sink one two three written reads collects says = elim says [
-  | inl tour ↦ inl (tour_accepted claimed first second third sink one two three written reads collects tour)
-  | inr routes ↦ inr (routes_accepted claimed first second third sink one two three written reads collects routes)
-]
-accepted (Some by) claimed first second third sink one two three written reads collects says =
-    accepted_with by claimed first second third sink one two three written reads collects says
+    → IsAcceptedText (given_text by three) claimed one two written
+accepted by claimed first second third sink one two three written reads collects says = record {
+  instance = says.instance;
+  solution = says.solution;
+  certificate = says.certificate;
+  spelled = are_spelled by first second third one two three says.instance says.solution says.certificate reads says.read;
+  meaning = subst (IsAccepted says.certificate claimed says.instance says.solution)
+      (sym (printed_is sink written says.report collects says.written)) says.meaning;
+}
 
 rejected : (by : Option Certificate) (claimed : Option ℤ) (first second third : Turn) (sink : Sink) (one two three written : List ℕ)
     (instance solution : Fields) (certificate : Option (Certificate × Fields)) (verdict : Verdict)
@@ -208,9 +165,7 @@ rejected by claimed first second third sink one two three written instance solut
   instance = instance;
   solution = solution;
   certificate = certificate;
-  first_file = spelled first one instance reads.first_is read.first_file;
-  second_file = spelled second two solution reads.second_is read.second_file;
-  third_file = spelled_given by third three certificate reads.third_is read.third_file;
+  spelled = are_spelled by first second third one two three instance solution certificate reads read;
   of_type = judged.0;
   reason = reason;
   judged = judged.1;
@@ -247,15 +202,7 @@ unchecked by claimed first second third sink one two three (File file found) rea
   ]
 ]
 unchecked by claimed first second third sink one two three WrongKind reads run s =
-    let read = run.3 in (
-      run.0,
-      run.1,
-      run.2,
-      spelled first one run.0 reads.first_is read.first_file,
-      spelled second two run.1 reads.second_is read.second_file,
-      spelled_given by third three run.2 reads.third_is read.third_file,
-      run.4.0,
-    )
+    (run.0, run.1, run.2, are_spelled by first second third one two three run.0 run.1 run.2 reads run.3, run.4.0)
 unchecked by claimed first second third sink one two three OutOfMemory reads run s = let n : 3 ≡ 2 = s in absurd (omega arith)
 unchecked by claimed first second third sink one two three (Relayout refused) reads run s = absurd run.4
 unchecked by claimed first second third sink one two three (Write write_faults.OutOfMemory) reads run s = absurd run.4
@@ -290,38 +237,28 @@ pub record Reads2 (first second : Turn) (one two : List ℕ) : Type 0 where
   pub first_is : first.known ≡ Some one
   pub second_is : second.known ≡ Some two
 
-bound_says : (by : Certificate) (first second : Turn) (sink : Sink) (one two written : List ℕ) (bound : Option ℤ)
-    → Reads2 first second one two → Collects sink written → SaysBound by first second sink bound
-    → IsABoundOfTexts by one two written ⊎ IsNoTourOfTexts by one two written
-bound_says by first second sink one two written (Some bound) reads collects says = inl (record {
+bound_says : (by : Certificate) (first second : Turn) (sink : Sink) (one two written : List ℕ) (found : BoundVerdict)
+    → Reads2 first second one two → Collects sink written → SaysBound by first second sink found → IsBoundText by one two written
+bound_says by first second sink one two written found reads collects says = record {
   instance = says.instance;
   certificate = says.certificate;
+  found = found;
   first_file = spelled first one says.instance reads.first_is says.first_file;
   second_file = spelled second two says.certificate reads.second_is says.second_file;
-  of_type = says.of_type;
-  bound = bound;
-  of_certificate = says.of_certificate;
-  printed = printed_is sink written _ collects says.printed;
-  below_tours = says.below_tours;
-})
-bound_says by first second sink one two written None reads collects says = inr (record {
-  instance = says.instance;
-  certificate = says.certificate;
-  first_file = spelled first one says.instance reads.first_is says.first_file;
-  second_file = spelled second two says.certificate reads.second_is says.second_file;
-  of_type = says.of_type;
-  printed = printed_is sink written _ collects says.printed;
-  no_tour = says.no_tour;
-})
+  meaning = subst (IsBoundAccepted by says.instance says.certificate found)
+      (sym (printed_is sink written says.report collects says.written)) says.meaning;
+}
 
 bound_found : (by : Certificate) (first second : Turn) (sink : Sink) (one two written : List ℕ) (status : ℕ) (text : List ℕ)
-    (instance certificate : Fields) (found : Result (Option ℤ) Reason) → Reads2 first second one two → Collects sink written
+    (instance certificate : Fields) (found : BoundVerdict) → Reads2 first second one two → Collects sink written
     → IsFile first instance → IsFile second certificate → BoundsFiles by instance certificate sink (Ok found)
-    → ((bound : Option ℤ) → found ≡ Ok bound → SaysBound by first second sink bound)
-    → EndsOnTexts (Ok (is_ok found)) written status text → BoundsTexts by one two status text
-bound_found by first second sink one two written status text instance certificate (Ok bound) reads collects first_file second_file judged says e =
-    yes_ends written status text (bound_says by first second sink one two written bound reads collects (says bound refl)) e
-bound_found by first second sink one two written status text instance certificate (Err reason) reads collects first_file second_file judged says e =
+    → (is_bound_yes found ≡ true → SaysBound by first second sink found)
+    → EndsOnTexts (Ok (is_bound_yes found)) written status text → BoundsTexts by one two status text
+bound_found by first second sink one two written status text instance certificate (bounds.Bound bound) reads collects first_file second_file judged says e =
+    yes_ends written status text (bound_says by first second sink one two written (bounds.Bound bound) reads collects (says refl)) e
+bound_found by first second sink one two written status text instance certificate bounds.NoTour reads collects first_file second_file judged says e =
+    yes_ends written status text (bound_says by first second sink one two written bounds.NoTour reads collects (says refl)) e
+bound_found by first second sink one two written status text instance certificate (bounds.No reason) reads collects first_file second_file judged says e =
     no_ends written status text (record {
       instance = instance;
       certificate = certificate;
@@ -359,12 +296,12 @@ not_relaid by first second sink fault refused is run = none (subst (λ (f : RunF
     none : EndsUnbounded by first second sink (Relayout refused) → ⊥
     none ended = ended.4
 
-pub bounds : (by : Certificate) (first second : Turn) (sink : Sink) (ended : Result Bounded RunFault) (one two written : List ℕ)
+pub bounds_texts : (by : Certificate) (first second : Turn) (sink : Sink) (ended : Result Bounded RunFault) (one two written : List ℕ)
     (status : ℕ) (text : List ℕ) → Reads2 first second one two → Collects sink written → IsBoundRunOf by first second sink ended
     → EndsOnTexts (has_bound ended) written status text → BoundsTexts by one two status text
-bounds by first second sink (Ok bounded) one two written status text reads collects run e =
+bounds_texts by first second sink (Ok bounded) one two written status text reads collects run e =
     let is = run.0 in bound_found by first second sink one two written status text bounded.instance bounded.certificate bounded.found
-    reads collects is.0 is.1 is.2 (λ bound found. run.1 bounded bound refl found) e
-bounds by first second sink (Err fault) one two written status text reads collects run e = fault_ends fault written status text
+    reads collects is.0 is.1 is.2 (λ yes. run.1 bounded refl yes) e
+bounds_texts by first second sink (Err fault) one two written status text reads collects run e = fault_ends fault written status text
     (λ refused is line. absurd (not_relaid by first second sink fault refused is run.0))
     (λ s. unbounded by first second sink one two fault reads run.0 s) e

@@ -1,7 +1,8 @@
 -- How a call on texts ends: its status, and the text that goes to the caller's buffer.
-use Rattle.std.specs.Prelude.{◌≡◌, ◌⊎◌, ℕ, zero, suc, ◌≤◌, ◌<◌, Bool, true, List, [], ◌∷◌, ◌++◌, length, drop, Option, None, Some, Result, Ok, Err, is_ok}
+use Rattle.std.specs.Prelude.{◌≡◌, ◌⊎◌, ℕ, zero, suc, ◌≤◌, ◌<◌, Bool, true, List, [], ◌∷◌, ◌++◌, length, drop, Option, None, Some, Result, Ok, Err}
 use Rattle.tsp_stream.specs.declared.output.WriteFault.TheVariants as write_faults
 use Rattle.tsp_text.specs.declared.fault.ReadFault.TheVariants as read_faults
+use Rattle.tsp_reason.specs.Verdicts.{is_bound_yes}
 use Rattle.tsp_judge.specs.declared.bound.Bounded.{Bounded}
 use Rattle.tsp_judge.specs.declared.fault.RunFault.{RunFault}
 use Rattle.tsp_judge.specs.declared.fault.RunFault.TheVariants.{File, Write}
@@ -39,7 +40,7 @@ done (Err fault) = Err fault
 
 -- whether there is no reason against the files, where they were read
 abbrev pub has_bound : Result Bounded RunFault → Result Bool RunFault
-has_bound (Ok bounded) = Ok (is_ok bounded.found)
+has_bound (Ok bounded) = Ok (is_bound_yes bounded.found)
 has_bound (Err fault) = Err fault
 
 -- Texts in memory have no device that fails: a read or a write of them that fails is out of memory.

@@ -1,27 +1,24 @@
 -- What the calls on texts answer, over the bytes of these texts alone.
-use Rattle.std.specs.Prelude.{◌≡◌, ◌⊎◌, ℕ, zero, suc, ◌≤◌, ◌<◌, false, List, [], ◌∷◌, length, Option, None, Some, Ok, Err, IsTrue, ℤ, ◌≤ℤ◌}
-use Rattle.tsp_format.specs.declared.kinds.Kind.TheVariants as kinds
+use Rattle.std.specs.Prelude.{◌≡◌, ◌⊎◌, ℕ, zero, suc, ◌≤◌, ◌<◌, false, List, [], ◌∷◌, Option, None, Some, Ok, Err, IsTrue, ℤ}
 use Rattle.tsp_format.specs.declared.layout.Layout.{Layout}
 use Rattle.tsp_format.specs.Words.{layouts}
 use Rattle.tsp_draft.specs.Fields.{Fields}
 use Rattle.tsp_draft.specs.Rules.{fault_of, is_instance}
-use Rattle.tsp_file.specs.Cost.{cost}
 use Rattle.tsp_file.specs.Text.{text_of}
 use Rattle.tsp_file.specs.declared.fault.RelayoutFault.{RelayoutFault}
 use Rattle.tsp_text.specs.Text.{fault, Spells}
-use Rattle.tsp_theory.specs.Length.{length_of}
-use Rattle.tsp_cost.specs.Tours.{IsTourOf}
 use Rattle.tsp_reason.specs.declared.certificate.Certificate.{Certificate}
 use Rattle.tsp_reason.specs.declared.certificate.Certificate.TheVariants.{Potentials, Branches}
+use Rattle.tsp_reason.specs.declared.verdict.BoundVerdict.{BoundVerdict}
+use Rattle.tsp_reason.specs.declared.verdict.BoundVerdict.TheVariants as bounds
 use Rattle.tsp_reason.specs.declared.verdict.Reason.{Reason}
-use Rattle.tsp_reason.specs.declared.verdict.Verdict.TheVariants.{Tour, Routes, No}
+use Rattle.tsp_reason.specs.declared.verdict.Verdict.TheVariants.{No}
 use Rattle.tsp_verdict.specs.Bounded.{IsBoundVerdict}
-use Rattle.tsp_verdict.specs.Certified.{kind_of, is_bounded, IsBoundOf, BoundsTours, HasNoTour}
-use Rattle.tsp_verdict.specs.Judged.{is_judged, IsAsClaimed, IsVerdictWith}
-use Rattle.tsp_verdict.specs.Plan.{IsPlanOf, plan_length, depot_of}
-use Rattle.tsp_file.specs.Meant.{tours_of}
+use Rattle.tsp_verdict.specs.Certified.{is_bounded}
+use Rattle.tsp_verdict.specs.Judged.{is_judged, IsVerdictWith}
 use Rattle.tsp_report.specs.Report.{report_of, bound_report_of}
 use Rattle.tsp_report.specs.Show.{shown}
+use Rattle.tsp_judge.specs.Accepted.{IsAccepted, IsBoundAccepted}
 use Rattle.tsp_judge.specs.ConvertRun.{Becomes}
 use Rattle.tsp_judge.specs.declared.fault.RunFault.{RunFault}
 use Rattle.tsp_judge.specs.declared.fault.RunFault.TheVariants.{File, WrongKind, Relayout}
@@ -95,77 +92,28 @@ abbrev pub claim_of : ℕ → ℤ → Option ℤ
 claim_of zero claimed = None
 claim_of (suc has) claimed = Some claimed
 
--- ---- a solution that is accepted
-
--- The second text has one tour; it visits every node of the instance once and uses every fixed edge, and its length is printed,
--- and is the claimed one, where one is claimed.
-pub record IsTourAccepted (claimed : Option ℤ) (one two text : List ℕ) : Type 0 where
-  pub instance : Fields
-  pub solution : Fields
+-- these are the files that the texts spell
+pub record AreSpelled (given : GivenText) (one two : List ℕ) (instance solution : Fields)
+    (certificate : Option (Certificate × Fields)) : Type 0 where
   pub first_file : Spells one instance
   pub second_file : Spells two solution
-  pub of_type : (instance.kind ≡ Some kinds.Tsp) ⊎ (instance.kind ≡ Some kinds.Atsp)
-  pub of_tours : solution.kind ≡ Some kinds.Tour
-  pub tour : List ℕ
-  pub only : tours_of solution ≡ tour ∷ []
-  pub tour_of : IsTourOf instance tour
-  pub as_claimed : IsAsClaimed claimed (length_of (cost instance) tour)
-  pub printed : text ≡ report_of instance (Tour (length_of (cost instance) tour) None)
+  pub third_file : SpellsGiven given certificate
 
--- The routes of the second text serve every customer of the instance once and within the capacity, and their length and number
--- are printed; no plan of routes has fewer than the printed least number. The length is the claimed one, where one is claimed.
-pub record AreRoutesAccepted (claimed : Option ℤ) (one two text : List ℕ) : Type 0 where
+-- ---- a solution that is accepted, and one that isn't
+
+pub record IsAcceptedText (given : GivenText) (claimed : Option ℤ) (one two text : List ℕ) : Type 0 where
   pub instance : Fields
   pub solution : Fields
-  pub first_file : Spells one instance
-  pub second_file : Spells two solution
-  pub of_type : instance.kind ≡ Some kinds.Cvrp
-  pub of_tours : solution.kind ≡ Some kinds.Tour
-  pub plan_of : IsPlanOf instance (tours_of solution)
-  pub least : ℕ
-  pub none_fewer : (other : List (List ℕ)) → IsPlanOf instance other → least ≤ length other
-  pub as_claimed : IsAsClaimed claimed (plan_length (cost instance) (depot_of instance) (tours_of solution))
-  pub printed : text ≡ report_of instance
-      (Routes (plan_length (cost instance) (depot_of instance) (tours_of solution)) (length (tours_of solution)) least)
-
--- With a certificate: the second text is one of tours and the third one of the certificate's TYPE; the one tour visits every node
--- of the instance once and uses every fixed edge; its length and the bound of the third text are printed, and the length is the
--- claimed one, where one is claimed; and no tour of the instance is shorter than the bound, so that where the length equals it
--- no tour is shorter than this one.
-pub record IsAYesOfTexts (by : Certificate) (claimed : Option ℤ) (one two three text : List ℕ) : Type 0 where
-  pub instance : Fields
-  pub solution : Fields
-  pub certificate : Fields
-  pub first_file : Spells one instance
-  pub second_file : Spells two solution
-  pub third_file : Spells three certificate
-  pub of_tours : solution.kind ≡ Some kinds.Tour
-  pub of_type : certificate.kind ≡ Some (kind_of by)
-  pub tour : List ℕ
-  pub only : tours_of solution ≡ tour ∷ []
-  pub tour_of : IsTourOf instance tour
-  pub bound : ℤ
-  pub of_certificate : IsBoundOf by instance certificate bound
-  pub as_claimed : IsAsClaimed claimed (length_of (cost instance) tour)
-  pub printed : text ≡ report_of instance (Tour (length_of (cost instance) tour) (Some bound))
-  pub below_tours : BoundsTours instance bound
-  pub optimal : length_of (cost instance) tour ≡ bound → (other : List ℕ) → IsTourOf instance other
-      → length_of (cost instance) tour ≤ℤ length_of (cost instance) other
-
-abbrev pub IsAccepted : GivenText → Option ℤ → List ℕ → List ℕ → List ℕ → Type 0
-IsAccepted None claimed one two text = IsTourAccepted claimed one two text ⊎ AreRoutesAccepted claimed one two text
-IsAccepted (Some given) claimed one two text = IsAYesOfTexts given.0 claimed one two given.1 text
-
--- ---- a solution that isn't, and texts that aren't judged
+  pub certificate : Option (Certificate × Fields)
+  pub spelled : AreSpelled given one two instance solution certificate
+  pub meaning : IsAccepted certificate claimed instance solution text
 
 -- the first reason against the solution or the certificate is printed
 pub record IsRejected (given : GivenText) (claimed : Option ℤ) (one two text : List ℕ) : Type 0 where
   pub instance : Fields
   pub solution : Fields
   pub certificate : Option (Certificate × Fields)
-  pub first_file : Spells one instance
-  pub second_file : Spells two solution
-  pub third_file : SpellsGiven given certificate
+  pub spelled : AreSpelled given one two instance solution certificate
   pub of_type : IsTrue (is_judged certificate instance.kind)
   pub reason : Reason
   pub judged : IsVerdictWith certificate claimed instance solution (No reason)
@@ -174,7 +122,7 @@ pub record IsRejected (given : GivenText) (claimed : Option ℤ) (one two text :
 -- all texts are files, and solutions of the first one's TYPE aren't judged so
 abbrev pub IsOfWrongKind : GivenText → List ℕ → List ℕ → Type 0
 IsOfWrongKind given one two = (instance solution : Fields) × (certificate : Option (Certificate × Fields))
-    × Spells one instance × Spells two solution × SpellsGiven given certificate × (is_judged certificate instance.kind ≡ false)
+    × AreSpelled given one two instance solution certificate × (is_judged certificate instance.kind ≡ false)
 
 -- the first text, in order, that is no file decides, with its fault
 abbrev pub IsUnchecked : GivenText → List ℕ → List ℕ → RunFault → Type 0
@@ -185,7 +133,7 @@ IsUnchecked given one two fault = IsFaultyText 1 one fault
 
 abbrev pub ChecksTexts : GivenText → Option ℤ → List ℕ → List ℕ → ℕ → List ℕ → Type 0
 ChecksTexts given claimed one two status text = EndsWithText
-    (IsAccepted given claimed one two)
+    (IsAcceptedText given claimed one two)
     (IsRejected given claimed one two)
     (IsUnchecked given one two) status text
 
@@ -200,28 +148,13 @@ ChecksBy by has_claim claimed one two three status text =
 
 -- ---- a bound without a solution
 
--- What a yes says: the second text is of the certificate's TYPE, its bound is printed, and every tour of the instance is at least
--- as long as that.
-pub record IsABoundOfTexts (by : Certificate) (one two text : List ℕ) : Type 0 where
+pub record IsBoundText (by : Certificate) (one two text : List ℕ) : Type 0 where
   pub instance : Fields
   pub certificate : Fields
+  pub found : BoundVerdict
   pub first_file : Spells one instance
   pub second_file : Spells two certificate
-  pub of_type : certificate.kind ≡ Some (kind_of by)
-  pub bound : ℤ
-  pub of_certificate : IsBoundOf by instance certificate bound
-  pub printed : text ≡ bound_report_of instance (Ok (Some bound))
-  pub below_tours : BoundsTours instance bound
-
--- With `bound none` the second text is of the certificate's TYPE, and the instance has no tour.
-pub record IsNoTourOfTexts (by : Certificate) (one two text : List ℕ) : Type 0 where
-  pub instance : Fields
-  pub certificate : Fields
-  pub first_file : Spells one instance
-  pub second_file : Spells two certificate
-  pub of_type : certificate.kind ≡ Some (kind_of by)
-  pub printed : text ≡ bound_report_of instance (Ok None)
-  pub no_tour : HasNoTour instance
+  pub meaning : IsBoundAccepted by instance certificate found text
 
 -- the first reason against the instance or the certificate is printed
 pub record IsBoundRejected (by : Certificate) (one two text : List ℕ) : Type 0 where
@@ -231,8 +164,8 @@ pub record IsBoundRejected (by : Certificate) (one two text : List ℕ) : Type 0
   pub second_file : Spells two certificate
   pub bounded : IsTrue (is_bounded by instance.kind)
   pub reason : Reason
-  pub judged : IsBoundVerdict by instance certificate (Err reason)
-  pub printed : text ≡ bound_report_of instance (Err reason)
+  pub judged : IsBoundVerdict by instance certificate (bounds.No reason)
+  pub printed : text ≡ bound_report_of instance (bounds.No reason)
 
 -- the first text, in order, that is no file decides, with its fault; or both are files, and tours of the first one's TYPE have no
 -- bound by the certificate
@@ -243,7 +176,7 @@ IsUnbounded by one two fault = IsFaultyText 1 one fault ⊎ (IsFileText one × I
 
 abbrev pub BoundsTexts : Certificate → List ℕ → List ℕ → ℕ → List ℕ → Type 0
 BoundsTexts by one two status text = EndsWithText
-    (λ out. IsABoundOfTexts by one two out ⊎ IsNoTourOfTexts by one two out)
+    (IsBoundText by one two)
     (IsBoundRejected by one two)
     (IsUnbounded by one two) status text
 

@@ -1,15 +1,14 @@
 //! The runs on texts in memory.
 
 ghost use Rattle.std.specs.Prelude.{◌≡◌};
-ghost use Rattle.tsp_judge.specs.Run.{is_yes, told};
+ghost use Rattle.tsp_judge.specs.Run.{told};
 ghost use Rattle.tsp_c.specs.Ended.{done, has_bound};
 ghost use Rattle.tsp_c.specs.Texts.{BoundsTexts, ChecksTexts, ConvertsText, ShowsText, given_text};
 
 use crate::ended::ended;
 use std::alloc::Global;
 use tsp_judge::{
-    Bounded, Certificate, Judged, Layout, RunFault, Verdict, Watched, run, run_bound, run_convert,
-    run_show,
+    Bounded, Certificate, Judged, Layout, RunFault, Watched, run, run_bound, run_convert, run_show,
 };
 
 /// What is shown of a text, with its status.
@@ -90,19 +89,9 @@ fn told(ended: Result<Judged, RunFault>) -> Result<bool, RunFault>
     ensures { result ≡ told ended }
 {
     let judged = ended?;
-    let answer = is_yes(judged.verdict);
+    let answer = judged.verdict.is_yes();
     drop(judged);
     Ok(answer)
-}
-
-/// Whether the solution is accepted.
-fn is_yes(verdict: Verdict) -> bool
-    ensures { result ≡ is_yes verdict }
-{
-    match verdict {
-        Verdict::Tour { .. } | Verdict::Routes { .. } => true,
-        Verdict::No(_) => false,
-    }
 }
 
 /// Whether there is no reason against the files, where they were read.
@@ -110,7 +99,7 @@ fn has_bound(ended: Result<Bounded, RunFault>) -> Result<bool, RunFault>
     ensures { result ≡ has_bound ended }
 {
     let bounded = ended?;
-    let answer = bounded.found.is_ok();
+    let answer = bounded.found.is_yes();
     drop(bounded);
     Ok(answer)
 }

@@ -1,6 +1,7 @@
 -- The distance by each weight type grows with the ways along the axes.
-use Rattle.std.proofs.Common.{◌≤◌, ◌≤ℤ◌, ℕ, arith}
-use Rattle.std.specs.Prelude.{pos}
+use Rattle.std.proofs.Common.{◌≤◌, ◌≤ℤ◌, ℕ, ℤ, Bool, true, false, refl, arith}
+use Rattle.std.specs.Prelude.{pos, IsTrue}
+use Rattle.std.specs.Bool.{OnTrue}
 use Rattle.std.proofs.lemmas.Int.{ints}
 use Rattle.tsp_distance.specs.declared.decimal.Point.{Point}
 use Rattle.tsp_distance.specs.Distances.{across, along, above, euc_2d_of, ceil_2d_of, man_2d_of, max_2d_of, att_of, euc_3d_of, man_3d_of, max_3d_of}
@@ -25,3 +26,10 @@ distance_grows euc ceil man max att euc' man' max' Att a b c d x y z = whole-le 
 distance_grows euc ceil man max att euc' man' max' Euc3d a b c d x y z = whole-le (euc_3d_of a b) (euc_3d_of c d) (euc' a b c d x y z)
 distance_grows euc ceil man max att euc' man' max' Man3d a b c d x y z = whole-le (man_3d_of a b) (man_3d_of c d) (man' a b c d x y z)
 distance_grows euc ceil man max att euc' man' max' Max3d a b c d x y z = whole-le (max_3d_of a b) (max_3d_of c d) (max' a b c d x y z)
+
+pub at_least_further : (least near far : ℤ) → least ≤ℤ near → near ≤ℤ far → least ≤ℤ far
+at_least_further least near far h k = omega (arith, ints, h, k)
+
+pub known_true : (test : Bool) (P : Type 0) → (IsTrue test → P) → OnTrue test P
+known_true true P known = known refl
+known_true false P known = tt

@@ -45,7 +45,7 @@ not_explicit o kind e other = ap is_explicit e ∙ by_kind kind other
     by_kind Man3d other = refl
     by_kind Max3d other = refl
 
-is_listed_kind : (o : Option WeightKind) → is_explicit o ≡ true → o ≡ Some Explicit
+pub is_listed_kind : (o : Option WeightKind) → is_explicit o ≡ true → o ≡ Some Explicit
 is_listed_kind None is = absurd (false≢true is)
 is_listed_kind (Some Explicit) is = refl
 is_listed_kind (Some Euc2d) is = absurd (false≢true is)

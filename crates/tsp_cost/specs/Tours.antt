@@ -1,10 +1,12 @@
--- The tours of an instance: cycles that use every fixed pair. Source: TSPLIB 95 (G. Reinelt), FIXED_EDGES_SECTION.
-use Rattle.std.specs.Prelude.{ℕ, Bool, true, false, List, Option, None, Some}
+-- The problems of instances as functions of their fields, which compute. Of a valid instance they are its problem (`Problems`).
+use Rattle.std.specs.Prelude.{ℕ, Bool, true, false, List, Option, None, Some, slice_index}
 use Rattle.tsp_format.specs.declared.kinds.Kind.{Kind}
 use Rattle.tsp_format.specs.declared.kinds.Kind.TheVariants.{Tsp, Atsp, Cvrp, Tour, Potentials, Branches}
 use Rattle.tsp_draft.specs.Fields.{Fields}
-use Rattle.tsp_file.specs.Meant.{nodes_of, fixed_of}
-use Rattle.tsp_theory.specs.Tour.{IsTour}
+use Rattle.tsp_file.specs.Cost.{cost}
+use Rattle.tsp_file.specs.Meant.{nodes_of, fixed_of, depots_of, demands_of, capacity_of}
+use Rattle.tsp_theory.specs.Routing.{RoutingProblem, IsPlan}
+use Rattle.tsp_theory.specs.Tour.{Problem, IsTour}
 
 -- whether pairs have a direction
 abbrev pub is_directed : Option Kind → Bool
@@ -16,6 +18,19 @@ is_directed (Some Potentials) = false
 is_directed (Some Branches) = false
 is_directed None = false
 
+abbrev pub problem_of : Fields → Problem
+problem_of f = record { nodes = nodes_of f; directed = is_directed f.kind; cost = cost f; fixed = fixed_of f }
+
 -- a tour of an instance
 abbrev pub IsTourOf : Fields → List ℕ → Type 0
-IsTourOf f nodes = IsTour (is_directed f.kind) (nodes_of f) (fixed_of f) nodes
+IsTourOf f nodes = IsTour (problem_of f) nodes
+
+-- the depot of an instance that lists one
+abbrev pub depot_of : Fields → ℕ
+depot_of f = slice_index (depots_of f) 0
+
+abbrev pub routing_of : Fields → RoutingProblem
+routing_of f = record { nodes = nodes_of f; cost = cost f; depot = depot_of f; demands = demands_of f; capacity = capacity_of f }
+
+abbrev pub IsPlanOf : Fields → List (List ℕ) → Type 0
+IsPlanOf f routes = IsPlan (routing_of f) routes

@@ -6,6 +6,7 @@ ghost use Rattle.tsp_theory.specs.Costs.{IsSymmetric, IsFirstAsymmetric, FindsAs
 ghost use Rattle.tsp_cost.specs.states.Views.{ShowsEven};
 
 use crate::fault::CostFault;
+use crate::laws::instances_are_problems;
 use crate::matrix::Matrix;
 use crate::points::Points;
 use crate::triangle::Triangle;
@@ -41,20 +42,26 @@ impl Instance {
     ghost use Rattle.tsp_cost.specs.declared.fault.CostFault.TheVariants.{NotInstance};
     ghost use Rattle.tsp_file.specs.Listed.{ListsWeights};
     ghost use Rattle.tsp_file.specs.Relayout.{HasListedWeights};
+    ghost use Rattle.tsp_cost.specs.ProblemLaws.{IsProblem};
     ghost use Rattle.tsp_cost.specs.states.Views.{Shows};
 
-    /// The instance that a file is, or why it is none, and the file itself, unchanged.
+    /// The instance that a file is, which is one problem, or why it is none, and the file itself,
+    /// unchanged.
     ///
     /// # Errors
     ///
     /// `NotInstance` for a file of TYPE TOUR, POTENTIALS or BRANCHES. No memory is taken.
     pub fn of(f: File) -> Result<Instance, (CostFault, File)>
         ensures { MatchResult result
-            (λ inst. (inst ≡ f) × IsTrue (is_instance f.kind))
+            (λ inst. (inst ≡ f) × IsTrue (is_instance f.kind) × IsProblem f)
             (λ refused. (refused.0 ≡ NotInstance) × (refused.1 ≡ f) × (is_instance f.kind ≡ false)) }
     {
         match f.kind() {
-            Kind::Tsp | Kind::Atsp | Kind::Cvrp => Ok(Instance { file: f }),
+            Kind::Tsp | Kind::Atsp | Kind::Cvrp => {
+                let _valid = f.fields();
+                instances_are_problems();
+                Ok(Instance { file: f })
+            }
             Kind::Tour | Kind::Potentials | Kind::Branches => { Err((CostFault::NotInstance, f)) }
         }
     }

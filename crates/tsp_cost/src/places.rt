@@ -5,7 +5,7 @@ ghost use Rattle.tsp_format.specs.Cells.{IsNode};
 
 use crate::curve::along_curve;
 use crate::matrix::EvenMatrix;
-use crate::points::{Points, distance};
+use crate::points::{Points, is_at_least};
 use crate::triangle::Triangle;
 use std::alloc::{AllocError, Global};
 use tsp_distance::{InSpace, Point, monotone_laws};
@@ -38,12 +38,12 @@ impl<P: InSpace> Grouped for Points<'_, P> {
         Some(Region::of(self.place(node)))
     }
 
-    #[inline]
-    fn cost_to(&self, from: u32, region: Region) -> Option<i64> {
+    // (as a call of its own it cost a tenth more instructions)
+    #[inline(always)]
+    fn is_beyond(&self, from: u32, region: &Region, least: i64) -> bool {
         monotone_laws();
         let here = self.place(from);
-        let nearest = region.nearest(&here);
-        Some(distance(self.kind, here, nearest))
+        is_at_least(self.kind, here, region.nearest(&here), least)
     }
 }
 

@@ -1,6 +1,6 @@
 //! Costs that are distances of points.
 
-ghost use Rattle.std.specs.Prelude.{◌≡◌, ◌≢◌, ◌≤◌, ◌-◌, ℕ, length, map, pos, ◌≤ℤ◌};
+ghost use Rattle.std.specs.Prelude.{◌≡◌, ◌≢◌, ◌≤◌, ◌-◌, ◌↔◌, ℕ, IsTrue, length, map, pos, ◌≤ℤ◌};
 ghost use Rattle.tsp_distance.specs.declared.decimal.Point.{Point};
 ghost use Rattle.tsp_format.specs.declared.kinds.WeightKind.TheVariants.{Explicit};
 ghost use Rattle.tsp_format.specs.Limits.{most_nodes};
@@ -8,7 +8,8 @@ ghost use Rattle.tsp_file.specs.Cost.{distance, point_of};
 
 use std::alloc::AllocError;
 use tsp_distance::{
-    InSpace, Point, att, ceil_2d, distance_laws, euc_2d, euc_3d, man_2d, man_3d, max_2d, max_3d,
+    InSpace, Point, att, ceil_2d, distance_laws, euc_2d, euc_3d, is_att_at_least,
+    is_ceil_2d_at_least, is_euc_2d_at_least, is_euc_3d_at_least, man_2d, man_3d, max_2d, max_3d,
 };
 use tsp_format::WeightKind;
 use tsp_theory::{Costs, Symmetric};
@@ -103,6 +104,26 @@ pub(crate) fn distance(kind: WeightKind, a: Point, b: Point) -> i64
         WeightKind::Euc3d => euc_3d(a, b),
         WeightKind::Man3d => man_3d(a, b),
         WeightKind::Max3d => max_3d(a, b),
+        WeightKind::Explicit => unreachable!(),
+    }
+}
+
+/// Whether the distance of two points by a weight type that is a distance is at least `least`.
+#[inline(always)]
+#[tactic(auto, unfolding(tsp_file::specs::Cost::distance))]
+pub(crate) fn is_at_least(kind: WeightKind, a: Point, b: Point, least: i64) -> bool
+    requires { kind ≢ Explicit }
+    ensures { IsTrue result ↔ (least ≤ℤ distance kind a b) }
+{
+    match kind {
+        WeightKind::Euc2d => is_euc_2d_at_least(a, b, least),
+        WeightKind::Ceil2d => is_ceil_2d_at_least(a, b, least),
+        WeightKind::Man2d => man_2d(a, b) >= least,
+        WeightKind::Max2d => max_2d(a, b) >= least,
+        WeightKind::Att => is_att_at_least(a, b, least),
+        WeightKind::Euc3d => is_euc_3d_at_least(a, b, least),
+        WeightKind::Man3d => man_3d(a, b) >= least,
+        WeightKind::Max3d => max_3d(a, b) >= least,
         WeightKind::Explicit => unreachable!(),
     }
 }

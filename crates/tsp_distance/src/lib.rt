@@ -9,6 +9,7 @@
 //! ```
 #![tactic(auto)]
 
+mod compared;
 mod decimal;
 mod distance;
 mod examples;
@@ -17,6 +18,7 @@ mod monotone;
 mod root;
 mod space;
 
+pub use compared::{is_att_at_least, is_ceil_2d_at_least, is_euc_2d_at_least, is_euc_3d_at_least};
 pub use decimal::{Decimal, InSpace, PlanePoint, Point, UNIT};
 pub use distance::{att, ceil_2d, euc_2d, man_2d, max_2d};
 pub use examples::{examples_of_distances, examples_of_distances_in_space};

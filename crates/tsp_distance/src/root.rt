@@ -1,6 +1,6 @@
 //! Roots of squares, rounded to whole numbers exactly.
 
-ghost use Rattle.std.specs.Prelude.{◌≡◌, ◌+◌, ◌-◌, ◌*◌, ◌<◌, ◌≤◌, ◌^◌, ◌↔◌, IsTrue, unsigned_abs};
+ghost use Rattle.std.specs.Prelude.{◌≡◌, ◌+◌, ◌-◌, ◌*◌, ◌<◌, ◌≤◌, ◌≤ℤ◌, ◌^◌, ◌↔◌, ℕ, IsTrue, pos, unsigned_abs};
 ghost use Rattle.std.specs.Bool.{OnTrue};
 ghost use Rattle.tsp_distance.specs.Distances.{squared};
 ghost use Rattle.tsp_distance.specs.declared.root.Rounding.TheVariants.{Nearest};
@@ -53,6 +53,22 @@ fn covers(rounding: Rounding, square: u128, whole: u32) -> bool
     }
 }
 
+/// Whether the rounded root of a square is at least `least`, without the root: where the number
+/// before `least` doesn't cover the square.
+#[inline(always)]
+pub(crate) fn is_root_at_least(rounding: Rounding, square: u128, least: i64) -> bool
+    requires { square ≤ 12 * 10 ^ 36 }
+    ensures { (root : ℕ) → IsLeastCover rounding square root → IsTrue result ↔ (least ≤ℤ pos root) }
+{
+    if least < 1 {
+        return true;
+    }
+    if least > 0xffff_ffff {
+        return false;
+    }
+    !covers(rounding, square, (least - 1) as u32)
+}
+
 /// The least number that covers the square, by halving the range up to `most`, which covers it.
 #[cold]
 #[inline(never)]
@@ -78,7 +94,7 @@ fn exact_root(rounding: Rounding, square: u128, most: u32) -> u32
 
 /// The square of a way.
 #[inline(always)]
-fn square_of(way: i64) -> u128
+pub(crate) fn square_of(way: i64) -> u128
     requires { unsigned_abs way ≤ 2 * 10 ^ 18 }
     ensures value { result ≡ squared (unsigned_abs way) }
     ensures most { result ≤ 4 * 10 ^ 36 }

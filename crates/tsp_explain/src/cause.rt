@@ -15,7 +15,7 @@ pub(crate) fn cause(look: &Look, fault: ReadFault) -> Option<&'static str> {
             fault,
         } => {
             let kind = if line == 1 {
-                kind_of(look.head.as_slice())
+                kind_of(look.head.as_slice()).or(cause_of_controls(look))
             } else {
                 None
             };
@@ -74,9 +74,18 @@ fn is_usual(byte: u8) -> bool {
         || byte == b'.'
 }
 
+/// Whether the file may be no text at all.
+fn cause_of_controls(look: &Look) -> Option<&'static str> {
+    if look.has_controls {
+        Some("The file has control bytes, as a text hasn't. Is it another kind of file?")
+    } else {
+        None
+    }
+}
+
 /// Whether the ends of lines may be the cause.
 fn cause_of_returns(look: &Look) -> Option<&'static str> {
-    if look.has_returns {
+    if look.has_returns && !look.has_controls {
         Some(
             "Lines of this file end in byte 13 alone. A line ends in byte 10: tr '\\r' '\\n' < FILE.",
         )

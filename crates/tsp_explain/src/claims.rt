@@ -3,9 +3,17 @@
 ghost use Rattle.std.specs.Prelude.{◌≡◌};
 ghost use Rattle.std.specs.Io.{StartsWith};
 
-use crate::text::{append, push, push_number};
+use crate::text::{append, push, push_number, push_shown};
 use std::alloc::{AllocError, Global};
-use tsp_number::parse_whole;
+use tsp_number::{NumberFault, parse_whole};
+
+/// A length that a comment claims.
+#[derive(Clone, Copy)]
+enum Claim<'a> {
+    Whole(i64),
+    /// A number that isn't whole, as it is written.
+    Real(&'a [u8]),
+}
 
 /// Appends one sentence where a comment of a solution claims another length than its own: the first
 /// comment that ends in `Length = N`, `(N)` or `Cost N` with another number. `name` is what the user
@@ -26,7 +34,8 @@ pub fn push_claim(
     let mut told = Vec::new(alloc);
     let answer = match other_claim(comments, length) {
         None => Ok(()),
-        Some(claim) => push_sentence(&mut told, name, claim, length),
+        Some(Claim::Whole(claim)) => push_sentence(&mut told, name, claim, length),
+        Some(Claim::Real(claim)) => push_real(&mut told, name, claim),
     };
     append(text, told, answer)
 }
@@ -46,19 +55,31 @@ fn push_sentence(
     push(text, ".\n")
 }
 
+/// Appends that a comment claims a length that isn't whole.
+fn push_real(text: &mut Vec<u8>, name: &str, claim: &[u8]) -> Result<(), AllocError> {
+    push(text, name)?;
+    push(text, ": a COMMENT claims the length ")?;
+    push_shown(text, claim)?;
+    push(
+        text,
+        ". Lengths of TSPLIB are whole, and one in real numbers can't be compared with them.\n",
+    )
+}
+
 /// The first length that a comment claims and that isn't this one.
-fn other_claim(comments: &[Vec<u8>], length: i64) -> Option<i64> {
+fn other_claim(comments: &[Vec<u8>], length: i64) -> Option<Claim<'_>> {
     'comments: for comment in comments {
         match claim_in(comment) {
-            Some(claim) if claim != length => return Some(claim),
-            Some(_) | None => {}
+            Some(Claim::Whole(claim)) if claim == length => {}
+            Some(claim) => return Some(claim),
+            None => {}
         }
     }
     None
 }
 
 /// The length that a comment claims at its end.
-fn claim_in(comment: &[u8]) -> Option<i64> {
+fn claim_in(comment: &[u8]) -> Option<Claim<'_>> {
     let text = comment.trim_ascii_end();
     if let Some(inner) = text.strip_suffix(b")") {
         let (before, number) = split_number(inner);
@@ -72,7 +93,11 @@ fn claim_in(comment: &[u8]) -> Option<i64> {
     let before = before.trim_ascii_end();
     let is_claim = match before.strip_suffix(b"=") {
         Some(words) => words.trim_ascii_end().ends_with(b"Length"),
-        None => before.ends_with(b"Cost"),
+        None => before
+            .strip_suffix(b":")
+            .unwrap_or(before)
+            .trim_ascii_end()
+            .ends_with(b"Cost"),
     };
     if is_claim { length_of(number) } else { None }
 }
@@ -81,7 +106,7 @@ fn claim_in(comment: &[u8]) -> Option<i64> {
 fn split_number(text: &[u8]) -> (&[u8], &[u8]) {
     let mut start = 0usize;
     'bytes: for (index, byte) in text.iter().enumerate() {
-        if !byte.is_ascii_digit() && *byte != b'-' {
+        if !byte.is_ascii_digit() && *byte != b'-' && *byte != b'.' {
             start = index.saturating_add(1);
         }
     }
@@ -91,7 +116,11 @@ fn split_number(text: &[u8]) -> (&[u8], &[u8]) {
     )
 }
 
-/// The whole number that a word is.
-fn length_of(word: &[u8]) -> Option<i64> {
-    parse_whole(word, i64::MIN, i64::MAX).ok()
+/// The length that a word is.
+fn length_of(word: &[u8]) -> Option<Claim<'_>> {
+    match parse_whole(word, i64::MIN, i64::MAX) {
+        Ok(length) => Some(Claim::Whole(length)),
+        Err(NumberFault::NotWhole) => Some(Claim::Real(word)),
+        Err(_) => None,
+    }
 }

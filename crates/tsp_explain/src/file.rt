@@ -85,6 +85,10 @@ fn explain_seen(
     {
         seen.excerpt.push_to(text, word > 0)?;
     }
+    if let (ReadFault::End(_), None) = (fault, seen.head.first()) {
+        push_lines(text, "The file is empty.")?;
+        return push_lines(text, begins(given));
+    }
     let cause = cause(seen, fault);
     if cause.is_none()
         && let Some(form) = foreign_form(seen, given, fault)

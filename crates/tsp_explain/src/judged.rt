@@ -5,11 +5,12 @@ ghost use Rattle.std.specs.Io.{StartsWith};
 use crate::claims::push_claim;
 use crate::refusal::{explain_reason, push_details};
 use crate::role::{Role, blamed};
+use crate::rounding::push_rounding;
 use crate::text::{append, end, push, push_lines};
 use std::alloc::{AllocError, Global};
 use tsp_cost::Instance;
 use tsp_file::File;
-use tsp_reason::{Reason, Verdict};
+use tsp_reason::{BoundVerdict, Reason, Verdict};
 
 /// What a user calls the files of a check, or of a bound.
 #[derive(Clone, Copy)]
@@ -32,7 +33,8 @@ const BOUND_KINDS: &str =
 const NO_TOUR: &str =
     "The instance has no tour: at each leaf of the tree its decisions and the fixed arcs leave some node no arc.";
 
-/// Appends what explains a no, and of a yes whether a comment of the solution claims another length.
+/// Appends what explains a no, and of a yes whether a comment of the solution claims another length, and
+/// whether rounding leaves distances of 0 and 1 alone.
 ///
 /// # Errors
 ///
@@ -50,13 +52,7 @@ pub fn explain_verdict(
 {
     let mut told = Vec::new(alloc);
     let answer = match length_of(verdict) {
-        Ok(length) => push_claim(
-            alloc,
-            &mut told,
-            names.solution,
-            solution.comments(),
-            length,
-        ),
+        Ok(length) => push_yes(alloc, &mut told, names, length, instance, solution),
         Err(reason) => {
             let solution = Some(solution);
             push_no(
@@ -71,6 +67,19 @@ pub fn explain_verdict(
         }
     };
     append(text, told, answer)
+}
+
+/// Appends what a user has to know of a solution that is accepted.
+fn push_yes(
+    alloc: Global,
+    text: &mut Vec<u8>,
+    names: Names<'_>,
+    length: i64,
+    instance: &Instance,
+    solution: &File,
+) -> Result<(), AllocError> {
+    push_claim(alloc, text, names.solution, solution.comments(), length)?;
+    push_rounding(text, names.instance, instance, solution)
 }
 
 /// The length of a solution that is accepted, or the reason against it.
@@ -95,7 +104,7 @@ pub fn explain_bound(
     alloc: Global,
     text: &mut Vec<u8>,
     names: Names<'_>,
-    found: Result<Option<i128>, Reason>,
+    found: BoundVerdict,
     instance: &Instance,
     certificate: &File,
 ) -> Result<(), AllocError>
@@ -103,9 +112,9 @@ pub fn explain_bound(
 {
     let mut told = Vec::new(alloc);
     let answer = match found {
-        Ok(Some(_)) => Ok(()),
-        Ok(None) => push_lines(&mut told, NO_TOUR),
-        Err(reason) => push_no(
+        BoundVerdict::Bound(_) => Ok(()),
+        BoundVerdict::NoTour => push_lines(&mut told, NO_TOUR),
+        BoundVerdict::No(reason) => push_no(
             alloc,
             &mut told,
             names,

@@ -21,6 +21,7 @@ mod look;
 mod near;
 mod refusal;
 mod role;
+mod rounding;
 mod sentences;
 mod solution;
 mod text;

@@ -71,6 +71,9 @@ pub(crate) struct Look {
     pub(crate) near_line: u32,
     /// Whether a byte 13 is anywhere but before a byte 10 or at the end.
     pub(crate) has_returns: bool,
+    /// Whether there is a byte that a text hasn't: a control byte other than a tab, an escape or the end of
+    /// a line or page.
+    pub(crate) has_controls: bool,
     /// The last byte.
     last: u8,
     is_done: bool,
@@ -126,6 +129,7 @@ impl Look {
             near: ArrayVec::new(),
             near_line: 0,
             has_returns: false,
+            has_controls: false,
             last: b'\n',
             is_done: false,
         }
@@ -144,6 +148,7 @@ impl Look {
         }
         let _ = self.head.try_push(byte);
         self.has_returns = self.has_returns || (self.last == 13 && byte != b'\n' && byte != 13);
+        self.has_controls = self.has_controls || is_control(byte);
         self.last = byte;
         if byte == b'\n' {
             self.end_line();
@@ -268,6 +273,14 @@ impl Line {
         self.words = 0;
         self.is_in_word = false;
         self.front.clear();
+    }
+}
+
+/// Whether a text hasn't the byte.
+fn is_control(byte: u8) -> bool {
+    match byte {
+        9..=13 | 26 | 27 | 32..=126 | 128..=255 => false,
+        _ => true,
     }
 }
 

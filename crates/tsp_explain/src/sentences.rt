@@ -32,7 +32,7 @@ pub(crate) fn line_sentence(fault: LineFault) -> &'static str {
             "The line of a section has no value. What belongs to the section begins in the next line."
         }
         LineFault::SectionEarly => {
-            "The section comes before DIMENSION. Only TOUR_SECTION may come before it."
+            "The section needs a line DIMENSION before it, and there is none. Only TOUR_SECTION may come before DIMENSION."
         }
         LineFault::TooManyNodes => {
             "A matrix of weights is read for at most 5,000 nodes, and DIMENSION is more."

@@ -1,17 +1,28 @@
 -- A run that bounds the tours of an instance, put together from its parts.
-use Rattle.std.specs.Prelude.{ℤ}
-use Rattle.std.proofs.Common.{◌≡◌, Option, None, Some, Result, Ok, Err, subst, inl, inr}
+use Rattle.std.specs.Prelude.{IsTrue}
+use Rattle.std.proofs.Common.{◌≡◌, true, Result, Ok, Err, refl, subst, inl, inr}
+use Rattle.std.proofs.lemmas.Bool.{false≢true}
 use Rattle.tsp_stream.specs.Turn.{Turn, IsUnread}
 use Rattle.tsp_stream.specs.Sink.{Sink, IsUnwritten}
 use Rattle.tsp_draft.specs.Fields.{Fields}
 use Rattle.tsp_read.specs.Reads.{IsFile}
 use Rattle.tsp_reason.specs.declared.certificate.Certificate.{Certificate}
+use Rattle.tsp_reason.specs.declared.verdict.BoundVerdict.{BoundVerdict}
+use Rattle.tsp_reason.specs.declared.verdict.BoundVerdict.TheVariants as bounds
+use Rattle.tsp_reason.specs.Verdicts.{is_bound_yes}
+use Rattle.tsp_verdict.specs.Bounded.{IsBoundVerdict}
+use Rattle.tsp_verdict.specs.Certified.{is_bounded}
+use Rattle.tsp_report.specs.Report.{bound_report_of}
 use Rattle.tsp_judge.specs.declared.bound.Bounded.{Bounded}
 use Rattle.tsp_judge.specs.declared.fault.RunFault.{RunFault}
 use Rattle.tsp_judge.specs.declared.fault.RunFault.TheVariants.{File, WrongKind, Write, OutOfMemory, Relayout}
-use Rattle.tsp_judge.specs.BoundRun.{BoundsFiles, EndsUnbounded, IsBoundRun, IsABoundYes, IsNoTourYes, SaysBound, IsBoundRunOf}
+use Rattle.tsp_judge.specs.BoundRun.{BoundsFiles, EndsUnbounded, IsBoundRun, SaysBound, IsBoundRunOf}
+use Rattle.tsp_cost.specs.ProblemLaws.{IsProblem}
+use Rattle.tsp_cost.specs.Tours.{problem_of}
+use Rattle.tsp_judge.specs.Accepted.{IsTspOrAtsp, IsBoundAccepted}
 use Rattle.tsp_judge.specs.Run.{ReadsFile}
-use Rattle.tsp_judge.proofs.Yeses.{of_type}
+use Rattle.tsp_judge.proofs.HandedOn.{one_value}
+use Rattle.tsp_judge.proofs.Yeses.{of_type, tours_bounded}
 
 pub bound_first_stops : (by : Certificate) (first second : Turn) (sink : Sink) (fault : RunFault) → ReadsFile 1 first (Err fault) → IsUnread second → IsUnwritten sink
     → EndsUnbounded by first second sink fault
@@ -39,49 +50,55 @@ ends_unbounded by first second instance certificate sink OutOfMemory one two bou
 ends_unbounded by first second instance certificate sink (Relayout fault) one two bounds = (instance, certificate, one, two, bounds)
 
 -- what an accepted bound says
-a_bound_yes : (by : Certificate) (first second : Turn) (sink : Sink) (instance certificate : Fields) (bound : ℤ) → IsFile first instance → IsFile second certificate
-    → BoundsFiles by instance certificate sink (Ok (Ok (Some bound))) → IsABoundYes by first second sink bound
-a_bound_yes by first second sink instance certificate bound one two b = record {
-  instance = instance;
-  certificate = certificate;
-  first_file = one;
-  second_file = two;
-  of_type = of_type by instance certificate (λ reason stands. b.1.0 reason (inr stands));
-  of_certificate = b.1.1.0;
-  printed = b.2;
-  below_tours = b.1.1.1;
-}
+bound_accepted : (by : Certificate) (instance certificate : Fields) (found : BoundVerdict) → IsProblem instance → IsTrue (is_bounded by instance.kind)
+    → IsBoundVerdict by instance certificate found → is_bound_yes found ≡ true → IsBoundAccepted by instance certificate found (bound_report_of instance found)
+bound_accepted by instance certificate (bounds.Bound bound) problem type v is =
+    let tours : IsTspOrAtsp instance.kind = tours_bounded by instance.kind type in
+    record {
+      instance_type = tours;
+      problem = problem_of instance;
+      of_instance = problem.of_tours tours;
+      certificate_type = of_type by instance certificate (λ reason stands. v.0 reason (inr stands));
+      of_certificate = v.1.0;
+      printed = refl;
+      below_tours = v.1.1;
+    }
+bound_accepted by instance certificate bounds.NoTour problem type v is =
+    let tours : IsTspOrAtsp instance.kind = tours_bounded by instance.kind type in
+    record {
+      instance_type = tours;
+      problem = problem_of instance;
+      of_instance = problem.of_tours tours;
+      certificate_type = of_type by instance certificate (λ reason stands. v.0 reason (inr stands));
+      printed = refl;
+      no_tour = v.2;
+    }
+bound_accepted by instance certificate (bounds.No reason) problem type v is = absurd (false≢true is)
 
-a_yes_of_no_tour : (by : Certificate) (first second : Turn) (sink : Sink) (instance certificate : Fields) → IsFile first instance → IsFile second certificate
-    → BoundsFiles by instance certificate sink (Ok (Ok None)) → IsNoTourYes by first second sink
-a_yes_of_no_tour by first second sink instance certificate one two b = record {
-  instance = instance;
-  certificate = certificate;
-  first_file = one;
-  second_file = two;
-  of_type = of_type by instance certificate (λ reason stands. b.1.0 reason (inr stands));
-  printed = b.2;
-  no_tour = b.1.2;
-}
+says_bound : (by : Certificate) (first second : Turn) (sink : Sink) (bounded : Bounded) → IsProblem bounded.instance
+    → IsBoundRun by first second sink (Ok bounded) → is_bound_yes bounded.found ≡ true → SaysBound by first second sink bounded.found
+says_bound by first second sink bounded problem run is =
+    let b = run.2 in
+    record {
+      instance = bounded.instance;
+      certificate = bounded.certificate;
+      report = bound_report_of bounded.instance bounded.found;
+      first_file = run.0;
+      second_file = run.1;
+      written = b.2;
+      meaning = bound_accepted by bounded.instance bounded.certificate bounded.found problem b.0 b.1 is;
+    }
 
-either_yes : (by : Certificate) (first second : Turn) (sink : Sink) (instance certificate : Fields) (bound : Option ℤ) → IsFile first instance → IsFile second certificate
-    → BoundsFiles by instance certificate sink (Ok (Ok bound)) → SaysBound by first second sink bound
-either_yes by first second sink instance certificate (Some bound) one two b = a_bound_yes by first second sink instance certificate bound one two b
-either_yes by first second sink instance certificate None one two b = a_yes_of_no_tour by first second sink instance certificate one two b
-
-says_bound : (by : Certificate) (first second : Turn) (sink : Sink) (bounded : Bounded) (bound : Option ℤ) → IsBoundRun by first second sink (Ok bounded) → bounded.found ≡ Ok bound
-    → SaysBound by first second sink bound
-says_bound by first second sink bounded bound run is =
-    either_yes by first second sink bounded.instance bounded.certificate bound run.0 run.1
-    (subst (λ found. BoundsFiles by bounded.instance bounded.certificate sink (Ok found)) is run.2)
-
-pub bound_run_of : (by : Certificate) (first second : Turn) (sink : Sink) (result : Result Bounded RunFault) → IsBoundRun by first second sink result
-    → IsBoundRunOf by first second sink result
-bound_run_of by first second sink result run = (
+-- the whole contract of a run with a bound, or a reason, and of one without either
+pub bound_run_of : (by : Certificate) (first second : Turn) (sink : Sink) (bounded : Bounded) → IsProblem bounded.instance
+    → IsBoundRun by first second sink (Ok bounded) → IsBoundRunOf by first second sink (Ok bounded)
+bound_run_of by first second sink bounded problem run = (
   run,
-  λ bounded bound ended found. says_bound by first second sink bounded bound (subst (IsBoundRun by first second sink) ended run) found,
+  λ other ended is.
+      let same : bounded ≡ other = one_value {T = Bounded} {E = RunFault} (Ok bounded) bounded other refl ended in
+      subst (λ (b : Bounded). is_bound_yes b.found ≡ true → SaysBound by first second sink b.found) same (says_bound by first second sink bounded problem run) is,
 )
 
 pub bound_fault_of : (by : Certificate) (first second : Turn) (sink : Sink) (fault : RunFault) → EndsUnbounded by first second sink fault
     → IsBoundRunOf by first second sink (Err fault)
-bound_fault_of by first second sink fault ends = bound_run_of by first second sink (Err fault) ends
+bound_fault_of by first second sink fault ends = (ends, λ other ended is. absurd cc)

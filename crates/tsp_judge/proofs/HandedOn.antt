@@ -1,4 +1,4 @@
--- The errors that `?` returns.
+-- The errors that `?` returns, and values.
 use Rattle.std.proofs.Common.{◌≡◌, ap, Result, Ok, Err}
 use Rattle.std.specs.Result.{IsErrAnd}
 
@@ -6,3 +6,7 @@ use Rattle.std.specs.Result.{IsErrAnd}
 pub handed_on : {T E : Type 0} (r : Result T E) (e : E) → IsErrAnd r (λ y. y ≡ e) → r ≡ Err e
 handed_on (Ok x) e h = absurd h
 handed_on (Err y) e h = ap (λ z. Err z) h
+
+-- a result has one value
+pub one_value : {T E : Type 0} (r : Result T E) (a b : T) → r ≡ Ok a → r ≡ Ok b → a ≡ b
+one_value r a b first second = cc

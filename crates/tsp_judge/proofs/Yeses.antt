@@ -1,31 +1,39 @@
 -- What an accepted check says, by its verdict.
-use Rattle.std.specs.Prelude.{ℤ, ◌⊎◌, ◌≤ℤ◌}
-use Rattle.std.proofs.Common.{◌≡◌, ℕ, Bool, true, false, Option, Some, None, Result, Ok, Err, refl, sym, subst, subst₂, inl, inr}
-use Rattle.std.proofs.lemmas.Bool.{false≢true}
+use Rattle.std.specs.Prelude.{ℤ, pos, ◌⊎◌, ◌≤ℤ◌, IsTrue, unwrap_or}
+use Rattle.std.proofs.Common.{◌≡◌, ◌≢◌, ℕ, ◌≤◌, ◌<◌, eqb, List, [], ◌∷◌, length, Bool, true, false, Option, Some, None, Result, Ok, Err, refl, sym, ap, subst, ◌∙◌, inl, inr, arith}
+use Rattle.std.proofs.lemmas.Bool.{false≢true, cases_lt}
+use Rattle.std.proofs.lemmas.Bool.Decides.{eqb_tells}
 use Rattle.tsp_format.specs.declared.kinds.Kind.{Kind}
 use Rattle.tsp_format.specs.declared.kinds.Kind.TheVariants as kinds
 use Rattle.tsp_stream.specs.Turn.{Turn}
-use Rattle.tsp_stream.specs.Sink.{Sink, HasWritten}
+use Rattle.tsp_stream.specs.Sink.{Sink}
 use Rattle.tsp_draft.specs.Fields.{Fields}
 use Rattle.tsp_draft.specs.Rules.{is_tours, is_certificate, is_tree}
 use Rattle.tsp_file.specs.Cost.{cost}
+use Rattle.tsp_file.specs.Meant.{nodes_of, depots_of, tours_of}
 use Rattle.tsp_theory.specs.Length.{length_of}
-use Rattle.tsp_read.specs.Reads.{IsFile}
+use Rattle.tsp_theory.specs.Routing.{RoutingProblem, IsPlan, IsCustomer, plan_length}
+use Rattle.tsp_cost.specs.ProblemLaws.{IsProblem}
+use Rattle.tsp_cost.specs.Tours.{depot_of, problem_of, routing_of}
 use Rattle.tsp_reason.specs.declared.certificate.Certificate.{Certificate}
 use Rattle.tsp_reason.specs.declared.certificate.Certificate.TheVariants.{Potentials, Branches}
 use Rattle.tsp_reason.specs.declared.verdict.Reason.{Reason}
-use Rattle.tsp_reason.specs.declared.verdict.Reason.TheVariants.{NotASolution, NotPotentials, NotBranches}
+use Rattle.tsp_reason.specs.declared.verdict.Reason.TheVariants.{NotASolution, TooFewNodes, DepotCount, NotPotentials, NotBranches}
 use Rattle.tsp_reason.specs.declared.verdict.Verdict.{Verdict}
 use Rattle.tsp_reason.specs.declared.verdict.Verdict.TheVariants as verdicts
-use Rattle.tsp_verdict.specs.Certified.{kind_of, StandsAgainstCertificate, IsCertifiedVerdict}
-use Rattle.tsp_verdict.specs.Judged.{IsVerdictBy, IsUnclaimedVerdict, IsAsClaimed, IsVerdictWith}
+use Rattle.tsp_verdict.specs.Certified.{kind_of, is_bounded, StandsAgainstCertificate, IsCertifiedVerdict}
+use Rattle.tsp_verdict.specs.Judged.{is_judged, IsVerdictBy, IsUnclaimedVerdict, IsAsClaimed, IsVerdictWith}
 use Rattle.tsp_verdict.specs.Routes.{IsRoutesVerdict}
 use Rattle.tsp_verdict.specs.Tours.{IsTourVerdict}
+use Rattle.tsp_verdict.specs.Plan.{plan_length, depot_of}
 use Rattle.tsp_report.specs.Report.{report_of}
 use Rattle.tsp_judge.specs.declared.fault.RunFault.{RunFault}
 use Rattle.tsp_judge.specs.declared.judging.Judged.{Judged}
-use Rattle.tsp_judge.specs.Run.{Given, AreRead, is_yes, JudgesFiles, EndsWithout, IsRun, IsCheckAnswer, told}
-use Rattle.tsp_judge.specs.Yes.{IsATourYes, IsARoutesYes, IsAYes, SaysYes, IsCheckOf, IsRunOf}
+use Rattle.tsp_reason.specs.Verdicts.{is_yes}
+use Rattle.tsp_judge.specs.Run.{Given, EndsWithout, IsRun, told}
+use Rattle.tsp_judge.proofs.HandedOn.{one_value}
+use Rattle.tsp_judge.specs.Accepted.{IsTspOrAtsp, IsAcceptedTour, AreAcceptedRoutes, IsOptimalOrBounded, IsAccepted}
+use Rattle.tsp_judge.specs.Yes.{SaysYes, IsRunOf}
 
 -- ---- the TYPE of a file
 
@@ -61,6 +69,16 @@ pub of_type : (by : Certificate) (instance certificate : Fields) → ((reason : 
 of_type Potentials instance certificate none = potentials certificate.kind (λ other. none NotPotentials other)
 of_type Branches instance certificate none = tree certificate.kind (λ other. none NotBranches other)
 
+-- one whose tours have a bound
+pub tours_bounded : (by : Certificate) (kind : Option Kind) → IsTrue (is_bounded by kind) → IsTspOrAtsp kind
+tours_bounded by (Some kinds.Tsp) is = inl refl
+tours_bounded by (Some kinds.Atsp) is = inr refl
+tours_bounded by (Some kinds.Cvrp) is = absurd (false≢true is)
+tours_bounded by (Some kinds.Tour) is = absurd (false≢true is)
+tours_bounded by (Some kinds.Potentials) is = absurd (false≢true is)
+tours_bounded by (Some kinds.Branches) is = absurd (false≢true is)
+tours_bounded by None is = absurd (false≢true is)
+
 -- ---- a claim: a solution accepted with it is accepted without it too, with the claimed length
 
 tour_as_claimed : (certificate : Option (Certificate × Fields)) (claimed : Option ℤ) (instance solution : Fields) (length : ℤ) (bound : Option ℤ)
@@ -75,147 +93,177 @@ routes_as_claimed : (certificate : Option (Certificate × Fields)) (claimed : Op
 routes_as_claimed certificate None instance solution length routes least v = (v, tt)
 routes_as_claimed certificate (Some claim) instance solution length routes least v = (v.0, v.1)
 
+-- a claimed length
+claim_is : (claimed : Option ℤ) (length measured : ℤ) → IsAsClaimed claimed length → length ≡ measured → (claim : ℤ) → claimed ≡ Some claim → claim ≡ measured
+claim_is None length measured claims same claim is = absurd cc
+claim_is (Some other) length measured claims same claim is = sym (ap (λ o. unwrap_or o (pos 0)) is) ∙ claims ∙ same
+
+-- tours that aren't none are a field of their file
+present : (o : Option (List (List ℕ))) (tours : List (List ℕ)) → unwrap_or o [] ≡ tours → (tours ≡ [] → ⊥) → o ≡ Some tours
+present None tours is some = absurd (some (sym is))
+present (Some held) tours is some = ap (λ ts. Some ts) is
+
+one_tour : (solution : Fields) (tour : List ℕ) → tours_of solution ≡ tour ∷ [] → solution.tours ≡ Some (tour ∷ [])
+one_tour solution tour only = present solution.tours (tour ∷ []) only (λ none. cc)
+
 -- ---- without a certificate
 
-a_tour_yes : (claimed : Option ℤ) (first second : Turn) (sink : Sink) (instance solution : Fields) (length : ℤ) (bound : Option ℤ) → IsFile first instance → IsFile second solution
-    → (instance.kind ≡ Some kinds.Tsp) ⊎ (instance.kind ≡ Some kinds.Atsp) → IsTourVerdict instance solution (verdicts.Tour length bound) → IsAsClaimed claimed length
-    → HasWritten sink (report_of instance (verdicts.Tour length bound)) → IsATourYes claimed first second sink
-a_tour_yes claimed first second sink instance solution length bound one two type v claims written = record {
-  instance = instance;
-  solution = solution;
-  first_file = one;
-  second_file = two;
-  of_type = type;
-  of_tours = a_file_of_tours solution.kind (λ other. v.0 NotASolution other);
+an_accepted_tour : (claimed : Option ℤ) (instance solution : Fields) (length : ℤ) (bound : Option ℤ) → IsProblem instance → IsTspOrAtsp instance.kind
+    → IsTourVerdict instance solution (verdicts.Tour length bound) → IsAsClaimed claimed length
+    → IsAcceptedTour claimed instance solution (report_of instance (verdicts.Tour length bound))
+an_accepted_tour claimed instance solution length bound problem type v claims = record {
+  instance_type = type;
+  problem = problem_of instance;
+  of_instance = problem.of_tours type;
+  solution_type = a_file_of_tours solution.kind (λ other. v.0 NotASolution other);
   tour = v.1.0;
-  only = v.1.1;
-  tour_of = v.1.2;
-  as_claimed = subst (IsAsClaimed claimed) v.1.3 claims;
-  printed = subst₂ (λ l o. HasWritten sink (report_of instance (verdicts.Tour l o))) v.1.3 v.2 written;
+  only = one_tour solution v.1.0 v.1.1;
+  is_tour = v.1.2;
+  as_claimed = claim_is claimed length (length_of (cost instance) v.1.0) claims v.1.3;
+  printed = ap (λ l. report_of instance (verdicts.Tour l bound)) v.1.3
+      ∙ ap (λ o. report_of instance (verdicts.Tour (length_of (cost instance) v.1.0) o)) v.2;
 }
 
-a_routes_yes : (claimed : Option ℤ) (first second : Turn) (sink : Sink) (instance solution : Fields) (length_is : ℤ) (count least : ℕ) → IsFile first instance → IsFile second solution
-    → instance.kind ≡ Some kinds.Cvrp → IsRoutesVerdict instance solution (verdicts.Routes length_is count least) → IsAsClaimed claimed length_is
-    → HasWritten sink (report_of instance (verdicts.Routes length_is count least)) → IsARoutesYes claimed first second sink
-a_routes_yes claimed first second sink instance solution length_is count least one two type v claims written = record {
-  instance = instance;
-  solution = solution;
-  first_file = one;
-  second_file = two;
-  of_type = type;
-  of_tours = a_file_of_tours solution.kind (λ other. v.0 NotASolution other);
-  plan_of = v.1.plan_of;
-  least = least;
-  none_fewer = v.1.none_fewer;
-  as_claimed = subst (IsAsClaimed claimed) v.1.measured claims;
-  printed = subst₂ (λ l c. HasWritten sink (report_of instance (verdicts.Routes l c least))) v.1.measured v.1.counted written;
-}
+-- a plan serves some customer, so that the file lists routes
+served_by_none : (problem : RoutingProblem) → 2 ≤ problem.nodes → IsPlan problem [] → ⊥
+served_by_none problem some plan = by_depot (eqb_tells problem.depot 1)
+  where
+    none_served : (node : ℕ) → IsCustomer problem.nodes problem.depot node → ⊥
+    none_served node customer = let found = plan.served node customer in omega (arith, found.1)
 
-yes_of_tour : (kind : Option Kind) (claimed : Option ℤ) (first second : Turn) (sink : Sink) (instance solution : Fields) (length : ℤ) (bound : Option ℤ) → kind ≡ instance.kind
-    → IsFile first instance → IsFile second solution → IsVerdictBy kind instance solution (verdicts.Tour length bound) → IsAsClaimed claimed length
-    → HasWritten sink (report_of instance (verdicts.Tour length bound)) → IsATourYes claimed first second sink
-yes_of_tour (Some kinds.Tsp) claimed first second sink instance solution length bound same one two v claims written =
-    a_tour_yes claimed first second sink instance solution length bound one two (inl (sym same)) v claims written
-yes_of_tour (Some kinds.Atsp) claimed first second sink instance solution length bound same one two v claims written =
-    a_tour_yes claimed first second sink instance solution length bound one two (inr (sym same)) v claims written
-yes_of_tour (Some kinds.Cvrp) claimed first second sink instance solution length bound same one two v claims written = absurd v
-yes_of_tour (Some kinds.Tour) claimed first second sink instance solution length bound same one two v claims written = absurd v
-yes_of_tour (Some kinds.Potentials) claimed first second sink instance solution length bound same one two v claims written = absurd v
-yes_of_tour (Some kinds.Branches) claimed first second sink instance solution length bound same one two v claims written = absurd v
-yes_of_tour None claimed first second sink instance solution length bound same one two v claims written = absurd v
+    by_depot : ((eqb problem.depot 1 ≡ true) × (problem.depot ≡ 1)) ⊎ ((eqb problem.depot 1 ≡ false) × (problem.depot ≢ 1)) → ⊥
+    by_depot (inl first) = none_served 2 ((omega arith, some), λ is. omega (arith, is, first.1))
+    by_depot (inr other) = none_served 1 ((omega arith, omega (arith, some)), λ is. other.1 (sym is))
 
-yes_of_routes : (kind : Option Kind) (claimed : Option ℤ) (first second : Turn) (sink : Sink) (instance solution : Fields) (length : ℤ) (count least : ℕ) → kind ≡ instance.kind
-    → IsFile first instance → IsFile second solution → IsVerdictBy kind instance solution (verdicts.Routes length count least) → IsAsClaimed claimed length
-    → HasWritten sink (report_of instance (verdicts.Routes length count least)) → IsARoutesYes claimed first second sink
-yes_of_routes (Some kinds.Tsp) claimed first second sink instance solution length count least same one two v claims written = absurd v
-yes_of_routes (Some kinds.Atsp) claimed first second sink instance solution length count least same one two v claims written = absurd v
-yes_of_routes (Some kinds.Cvrp) claimed first second sink instance solution length count least same one two v claims written =
-    a_routes_yes claimed first second sink instance solution length count least one two (sym same) v claims written
-yes_of_routes (Some kinds.Tour) claimed first second sink instance solution length count least same one two v claims written = absurd v
-yes_of_routes (Some kinds.Potentials) claimed first second sink instance solution length count least same one two v claims written = absurd v
-yes_of_routes (Some kinds.Branches) claimed first second sink instance solution length count least same one two v claims written = absurd v
-yes_of_routes None claimed first second sink instance solution length count least same one two v claims written = absurd v
+accepted_routes : (claimed : Option ℤ) (instance solution : Fields) (length_is : ℤ) (count least : ℕ) → IsProblem instance → instance.kind ≡ Some kinds.Cvrp
+    → IsRoutesVerdict instance solution (verdicts.Routes length_is count least) → IsAsClaimed claimed length_is
+    → AreAcceptedRoutes claimed instance solution (report_of instance (verdicts.Routes length_is count least))
+accepted_routes claimed instance solution length_is count least problem type v claims =
+    let one_depot : length (depots_of instance) ≡ 1 = not_not (length (depots_of instance)) (λ other. v.0 DepotCount other) in
+    let some : 2 ≤ nodes_of instance = not_fewer (nodes_of instance) (λ few. v.0 TooFewNodes few) in
+    record {
+      instance_type = type;
+      problem = routing_of instance;
+      of_instance = problem.of_routes type one_depot;
+      solution_type = a_file_of_tours solution.kind (λ other. v.0 NotASolution other);
+      routes = tours_of solution;
+      all = present solution.tours (tours_of solution) refl
+          (λ none. served_by_none (routing_of instance) some (subst (IsPlan (routing_of instance)) none v.1.plan_of));
+      is_plan = v.1.plan_of;
+      least = least;
+      least_is = v.1.least_is;
+      none_fewer = v.1.none_fewer;
+      as_claimed = claim_is claimed length_is (plan_length (cost instance) (depot_of instance) (tours_of solution)) claims v.1.measured;
+      printed = ap (λ l. report_of instance (verdicts.Routes l count least)) v.1.measured
+          ∙ ap (λ c. report_of instance (verdicts.Routes (plan_length (cost instance) (depot_of instance) (tours_of solution)) c least)) v.1.counted;
+    }
+  where
+    not_not : (count : ℕ) → (count ≢ 1 → ⊥) → count ≡ 1
+    not_not count not = by_test (eqb_tells count 1)
+      where
+        by_test : ((eqb count 1 ≡ true) × (count ≡ 1)) ⊎ ((eqb count 1 ≡ false) × (count ≢ 1)) → count ≡ 1
+        by_test (inl is) = is.1
+        by_test (inr other) = absurd (not other.1)
 
-yes_alone : (claimed : Option ℤ) (first second : Turn) (sink : Sink) (instance solution : Fields) (verdict : Verdict) → IsFile first instance → IsFile second solution
-    → IsVerdictWith None claimed instance solution verdict → HasWritten sink (report_of instance verdict) → true ≡ is_yes verdict
-    → IsATourYes claimed first second sink ⊎ IsARoutesYes claimed first second sink
-yes_alone claimed first second sink instance solution (verdicts.Tour length bound) one two v written is =
-    let c = tour_as_claimed None claimed instance solution length bound v in
-    inl (yes_of_tour instance.kind claimed first second sink instance solution length bound refl one two c.0 c.1 written)
-yes_alone claimed first second sink instance solution (verdicts.Routes length count least) one two v written is =
-    let c = routes_as_claimed None claimed instance solution length count least v in
-    inr (yes_of_routes instance.kind claimed first second sink instance solution length count least refl one two c.0 c.1 written)
-yes_alone claimed first second sink instance solution (verdicts.No reason) one two v written is = absurd (false≢true (sym is))
+    not_fewer : (n : ℕ) → (n < 2 → ⊥) → 2 ≤ n
+    not_fewer n not = by_test (cases_lt n 2)
+      where
+        by_test : (n < 2) ⊎ (2 ≤ n) → 2 ≤ n
+        by_test (inl few) = absurd (not few)
+        by_test (inr some) = some
+
+tour_by_type : (kind : Option Kind) (claimed : Option ℤ) (instance solution : Fields) (length : ℤ) (bound : Option ℤ) → IsProblem instance → kind ≡ instance.kind
+    → IsVerdictBy kind instance solution (verdicts.Tour length bound) → IsAsClaimed claimed length
+    → IsAcceptedTour claimed instance solution (report_of instance (verdicts.Tour length bound))
+tour_by_type (Some kinds.Tsp) claimed instance solution length bound problem same v claims =
+    an_accepted_tour claimed instance solution length bound problem (inl (sym same)) v claims
+tour_by_type (Some kinds.Atsp) claimed instance solution length bound problem same v claims =
+    an_accepted_tour claimed instance solution length bound problem (inr (sym same)) v claims
+tour_by_type (Some kinds.Cvrp) claimed instance solution length bound problem same v claims = absurd v
+tour_by_type (Some kinds.Tour) claimed instance solution length bound problem same v claims = absurd v
+tour_by_type (Some kinds.Potentials) claimed instance solution length bound problem same v claims = absurd v
+tour_by_type (Some kinds.Branches) claimed instance solution length bound problem same v claims = absurd v
+tour_by_type None claimed instance solution length bound problem same v claims = absurd v
+
+routes_by_type : (kind : Option Kind) (claimed : Option ℤ) (instance solution : Fields) (length : ℤ) (count least : ℕ) → IsProblem instance → kind ≡ instance.kind
+    → IsVerdictBy kind instance solution (verdicts.Routes length count least) → IsAsClaimed claimed length
+    → AreAcceptedRoutes claimed instance solution (report_of instance (verdicts.Routes length count least))
+routes_by_type (Some kinds.Tsp) claimed instance solution length count least problem same v claims = absurd v
+routes_by_type (Some kinds.Atsp) claimed instance solution length count least problem same v claims = absurd v
+routes_by_type (Some kinds.Cvrp) claimed instance solution length count least problem same v claims =
+    accepted_routes claimed instance solution length count least problem (sym same) v claims
+routes_by_type (Some kinds.Tour) claimed instance solution length count least problem same v claims = absurd v
+routes_by_type (Some kinds.Potentials) claimed instance solution length count least problem same v claims = absurd v
+routes_by_type (Some kinds.Branches) claimed instance solution length count least problem same v claims = absurd v
+routes_by_type None claimed instance solution length count least problem same v claims = absurd v
 
 -- ---- with a certificate
 
-a_yes : (by : Certificate) (claimed : Option ℤ) (first second third : Turn) (sink : Sink) (instance solution certificate : Fields) (length : ℤ) (bound : Option ℤ)
-    → IsFile first instance → IsFile second solution → IsFile third certificate → IsCertifiedVerdict by instance solution certificate (verdicts.Tour length bound)
-    → IsAsClaimed claimed length → HasWritten sink (report_of instance (verdicts.Tour length bound)) → IsAYes by claimed first second third sink
-a_yes by claimed first second third sink instance solution certificate length bound one two three v claims written =
+bounded_tour : (by : Certificate) (claimed : Option ℤ) (instance solution certificate : Fields) (length : ℤ) (bound : Option ℤ) → IsProblem instance
+    → IsTrue (is_bounded by instance.kind) → IsCertifiedVerdict by instance solution certificate (verdicts.Tour length bound) → IsAsClaimed claimed length
+    → IsOptimalOrBounded by claimed instance solution certificate (report_of instance (verdicts.Tour length bound))
+bounded_tour by claimed instance solution certificate length bound problem type v claims =
     let b = v.1 in
+    let tours : IsTspOrAtsp instance.kind = tours_bounded by instance.kind type in
     record {
-      instance = instance;
-      solution = solution;
-      certificate = certificate;
-      first_file = one;
-      second_file = two;
-      third_file = three;
-      of_tours = a_file_of_tours solution.kind (λ other. v.0 NotASolution (inl other));
-      of_type = of_type by instance certificate (λ reason stands. v.0 reason (inr stands));
+      instance_type = tours;
+      problem = problem_of instance;
+      of_instance = problem.of_tours tours;
+      solution_type = a_file_of_tours solution.kind (λ other. v.0 NotASolution (inl other));
+      certificate_type = of_type by instance certificate (λ reason stands. v.0 reason (inr stands));
       tour = b.tour;
-      only = b.only;
-      tour_of = b.tour_of;
+      only = one_tour solution b.tour b.only;
+      is_tour = b.tour_of;
       bound = b.least;
       of_certificate = b.of_certificate;
-      as_claimed = subst (IsAsClaimed claimed) b.measured claims;
-      printed = subst₂ (λ l o. HasWritten sink (report_of instance (verdicts.Tour l o))) b.measured b.bound_is written;
+      as_claimed = claim_is claimed length (length_of (cost instance) b.tour) claims b.measured;
+      printed = ap (λ l. report_of instance (verdicts.Tour l bound)) b.measured
+          ∙ ap (λ o. report_of instance (verdicts.Tour (length_of (cost instance) b.tour) o)) b.bound_is;
       below_tours = b.below_tours;
       optimal = λ same other is. subst (λ l. l ≤ℤ length_of (cost instance) other) (sym same) (b.below_tours other is);
     }
 
-yes_with : (given : Certificate × Turn) (claimed : Option ℤ) (first second : Turn) (sink : Sink) (instance solution : Fields) (certificate : Certificate × Fields) (verdict : Verdict)
-    → AreRead (Some given) first second instance solution (Some certificate) → IsVerdictWith (Some certificate) claimed instance solution verdict
-    → HasWritten sink (report_of instance verdict) → true ≡ is_yes verdict → IsAYes given.0 claimed first second given.1 sink
-yes_with given claimed first second sink instance solution certificate (verdicts.Tour length bound) read v written is =
-    let c = tour_as_claimed (Some certificate) claimed instance solution length bound v in
-    subst (λ by. IsAYes by claimed first second given.1 sink) read.third_file.0
-    (a_yes certificate.0 claimed first second given.1 sink instance solution certificate.1 length bound read.first_file read.second_file read.third_file.1 c.0 c.1 written)
-yes_with given claimed first second sink instance solution certificate (verdicts.Routes length count least) read v written is =
-    absurd (routes_as_claimed (Some certificate) claimed instance solution length count least v).0
-yes_with given claimed first second sink instance solution certificate (verdicts.No reason) read v written is = absurd (false≢true (sym is))
-
 -- ---- either
 
-says_yes : (given : Given) (claimed : Option ℤ) (first second : Turn) (sink : Sink) (instance solution : Fields) (certificate : Option (Certificate × Fields)) (verdict : Verdict)
-    → AreRead given first second instance solution certificate → JudgesFiles certificate claimed instance solution sink (Ok verdict) → true ≡ is_yes verdict
-    → SaysYes given claimed first second sink
-says_yes None claimed first second sink instance solution None verdict read j is =
-    yes_alone claimed first second sink instance solution verdict read.first_file read.second_file j.1 j.2 is
-says_yes None claimed first second sink instance solution (Some certificate) verdict read j is = absurd read.third_file
-says_yes (Some given) claimed first second sink instance solution None verdict read j is = absurd read.third_file
-says_yes (Some given) claimed first second sink instance solution (Some certificate) verdict read j is =
-    yes_with given claimed first second sink instance solution certificate verdict read j.1 j.2 is
+accepted : (certificate : Option (Certificate × Fields)) (claimed : Option ℤ) (instance solution : Fields) (verdict : Verdict) → IsProblem instance
+    → IsTrue (is_judged certificate instance.kind) → IsVerdictWith certificate claimed instance solution verdict → true ≡ is_yes verdict
+    → IsAccepted certificate claimed instance solution (report_of instance verdict)
+accepted None claimed instance solution (verdicts.Tour length bound) problem type v is =
+    let c = tour_as_claimed None claimed instance solution length bound v in
+    inl (tour_by_type instance.kind claimed instance solution length bound problem refl c.0 c.1)
+accepted None claimed instance solution (verdicts.Routes length count least) problem type v is =
+    let c = routes_as_claimed None claimed instance solution length count least v in
+    inr (routes_by_type instance.kind claimed instance solution length count least problem refl c.0 c.1)
+accepted (Some given) claimed instance solution (verdicts.Tour length bound) problem type v is =
+    let c = tour_as_claimed (Some given) claimed instance solution length bound v in
+    bounded_tour given.0 claimed instance solution given.1 length bound problem type c.0 c.1
+accepted (Some given) claimed instance solution (verdicts.Routes length count least) problem type v is =
+    absurd (routes_as_claimed (Some given) claimed instance solution length count least v).0
+accepted certificate claimed instance solution (verdicts.No reason) problem type v is = absurd (false≢true (sym is))
 
-with_yes : (given : Given) (claimed : Option ℤ) (first second : Turn) (sink : Sink) (result : Result Bool RunFault) → IsCheckAnswer given claimed first second sink result
-    → IsCheckOf given claimed first second sink result
-with_yes given claimed first second sink result answer = (
-  answer,
-  λ is.
-      let r : IsCheckAnswer given claimed first second sink (Ok true) = subst (IsCheckAnswer given claimed first second sink) is answer in
-      says_yes given claimed first second sink r.0 r.1 r.2 r.3 r.4 r.5 r.6,
+says_yes : (given : Given) (claimed : Option ℤ) (first second : Turn) (sink : Sink) (judged : Judged) → IsProblem judged.instance
+    → IsRun given claimed first second sink (Ok judged) → true ≡ is_yes judged.verdict → SaysYes given claimed first second sink
+says_yes given claimed first second sink judged problem run is = record {
+  instance = judged.instance;
+  solution = judged.solution;
+  certificate = judged.certificate;
+  report = report_of judged.instance judged.verdict;
+  read = run.0;
+  written = run.1.2;
+  meaning = accepted judged.certificate claimed judged.instance judged.solution judged.verdict problem run.1.0 run.1.1 is;
+}
+
+-- the whole contract of a run with a verdict, and of one without
+pub run_of : (given : Given) (claimed : Option ℤ) (first second : Turn) (sink : Sink) (judged : Judged) → IsProblem judged.instance
+    → IsRun given claimed first second sink (Ok judged) → IsRunOf given claimed first second sink (Ok judged)
+run_of given claimed first second sink judged problem run = (
+  run,
+  (
+    (judged.instance, judged.solution, judged.certificate, judged.verdict, run.0, run.1, refl),
+    λ is. says_yes given claimed first second sink judged problem run (sym (one_value (told (Ok judged)) _ _ refl is)),
+  ),
 )
-
-answer_of_run : (given : Given) (claimed : Option ℤ) (first second : Turn) (sink : Sink) (result : Result Judged RunFault) → IsRun given claimed first second sink result
-    → IsCheckAnswer given claimed first second sink (told result)
-answer_of_run given claimed first second sink (Ok judged) run = (judged.instance, judged.solution, judged.certificate, judged.verdict, run.0, run.1, refl)
-answer_of_run given claimed first second sink (Err fault) run = run
-
-pub run_of : (given : Given) (claimed : Option ℤ) (first second : Turn) (sink : Sink) (result : Result Judged RunFault) → IsRun given claimed first second sink result
-    → IsRunOf given claimed first second sink result
-run_of given claimed first second sink result run =
-    (run, with_yes given claimed first second sink (told result) (answer_of_run given claimed first second sink result run))
 
 pub fault_of_run : (given : Given) (claimed : Option ℤ) (first second : Turn) (sink : Sink) (fault : RunFault) → EndsWithout given claimed first second sink fault
     → IsRunOf given claimed first second sink (Err fault)
-fault_of_run given claimed first second sink fault ends = run_of given claimed first second sink (Err fault) ends
+fault_of_run given claimed first second sink fault ends = (ends, (ends, λ is. absurd cc))

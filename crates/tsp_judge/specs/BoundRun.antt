@@ -1,17 +1,19 @@
 -- What bounding the tours of an instance, without a solution, does to its readers and its writer, and its result.
-use Rattle.std.specs.Prelude.{◌≡◌, ◌⊎◌, false, Option, None, Some, Result, Ok, Err, IsTrue, ℤ}
+use Rattle.std.specs.Prelude.{◌≡◌, ◌⊎◌, ℕ, true, false, List, Result, Ok, Err, IsTrue}
 use Rattle.tsp_stream.specs.declared.output.WriteFault.TheVariants as write_faults
 use Rattle.tsp_stream.specs.Turn.{Turn, IsUnread}
 use Rattle.tsp_stream.specs.Sink.{Sink, IsUnwritten, HasWritten, HasStopped}
 use Rattle.tsp_draft.specs.Fields.{Fields}
 use Rattle.tsp_read.specs.Reads.{IsFile, StopsAt}
 use Rattle.tsp_reason.specs.declared.certificate.Certificate.{Certificate}
-use Rattle.tsp_reason.specs.declared.verdict.Reason.{Reason}
+use Rattle.tsp_reason.specs.declared.verdict.BoundVerdict.{BoundVerdict}
+use Rattle.tsp_reason.specs.Verdicts.{is_bound_yes}
 use Rattle.tsp_verdict.specs.Bounded.{NoneAgainstInstance, IsBoundVerdict}
-use Rattle.tsp_verdict.specs.Certified.{kind_of, is_bounded, NoneWithoutMemory, IsBoundOf, BoundsTours, HasNoTour}
+use Rattle.tsp_verdict.specs.Certified.{is_bounded, NoneWithoutMemory}
 use Rattle.tsp_judge.specs.declared.bound.Bounded.{Bounded}
 use Rattle.tsp_judge.specs.declared.fault.RunFault.{RunFault}
 use Rattle.tsp_judge.specs.declared.fault.RunFault.TheVariants.{File, WrongKind, Write, OutOfMemory, Relayout}
+use Rattle.tsp_judge.specs.Accepted.{IsBoundAccepted}
 use Rattle.tsp_judge.specs.Run.{IsSomeFile}
 use Rattle.tsp_report.specs.Report.{bound_report_of}
 
@@ -19,7 +21,7 @@ use Rattle.tsp_report.specs.Report.{bound_report_of}
 -- whole report on it was written. Nothing is written where the first file is of a TYPE whose tours have no bound by the
 -- certificate, nor out of memory: then no reason applies to the instance, nor one to the certificate that is found without
 -- memory. Where the writer fails a prefix of the report was written.
-abbrev pub BoundsFiles : Certificate → Fields → Fields → Sink → Result (Result (Option ℤ) Reason) RunFault → Type 0
+abbrev pub BoundsFiles : Certificate → Fields → Fields → Sink → Result BoundVerdict RunFault → Type 0
 BoundsFiles by instance certificate sink (Ok found) = IsTrue (is_bounded by instance.kind)
     × IsBoundVerdict by instance certificate found
     × HasWritten sink (bound_report_of instance found)
@@ -27,7 +29,7 @@ BoundsFiles by instance certificate sink (Err WrongKind) = (is_bounded by instan
 BoundsFiles by instance certificate sink (Err OutOfMemory) = IsTrue (is_bounded by instance.kind) × NoneAgainstInstance instance
     × NoneWithoutMemory by instance certificate × IsUnwritten sink
 BoundsFiles by instance certificate sink (Err (Write write_faults.Device)) = IsTrue (is_bounded by instance.kind)
-    × ((found : Result (Option ℤ) Reason) × IsBoundVerdict by instance certificate found
+    × ((found : BoundVerdict) × IsBoundVerdict by instance certificate found
     × HasStopped sink (bound_report_of instance found))
 BoundsFiles by instance certificate sink (Err (Write write_faults.OutOfMemory)) = ⊥
 BoundsFiles by instance certificate sink (Err (File file fault)) = ⊥
@@ -47,34 +49,17 @@ IsBoundRun by first second sink (Ok bounded) = IsFile first bounded.instance × 
     × BoundsFiles by bounded.instance bounded.certificate sink (Ok bounded.found)
 IsBoundRun by first second sink (Err fault) = EndsUnbounded by first second sink fault
 
--- With a bound the second file is of the certificate's TYPE, its bound is printed, and every tour of the instance is at least
--- as long as that.
-pub record IsABoundYes (by : Certificate) (first second : Turn) (sink : Sink) (bound : ℤ) : Type 0 where
+-- With `yes` the bytes that were read parse to these files, the whole report was written, and it means that the bound is one.
+pub record SaysBound (by : Certificate) (first second : Turn) (sink : Sink) (found : BoundVerdict) : Type 0 where
   pub instance : Fields
   pub certificate : Fields
+  pub report : List ℕ
   pub first_file : IsFile first instance
   pub second_file : IsFile second certificate
-  pub of_type : certificate.kind ≡ Some (kind_of by)
-  pub of_certificate : IsBoundOf by instance certificate bound
-  pub printed : HasWritten sink (bound_report_of instance (Ok (Some bound)))
-  pub below_tours : BoundsTours instance bound
-
--- With `bound none` the second file is of the certificate's TYPE, and the instance has no tour.
-pub record IsNoTourYes (by : Certificate) (first second : Turn) (sink : Sink) : Type 0 where
-  pub instance : Fields
-  pub certificate : Fields
-  pub first_file : IsFile first instance
-  pub second_file : IsFile second certificate
-  pub of_type : certificate.kind ≡ Some (kind_of by)
-  pub printed : HasWritten sink (bound_report_of instance (Ok None))
-  pub no_tour : HasNoTour instance
-
-abbrev pub SaysBound : Certificate → Turn → Turn → Sink → Option ℤ → Type 0
-SaysBound by first second sink (Some bound) = IsABoundYes by first second sink bound
-SaysBound by first second sink None = IsNoTourYes by first second sink
+  pub written : HasWritten sink report
+  pub meaning : IsBoundAccepted by instance certificate found report
 
 -- what the run does, and what its line `yes` means
 abbrev pub IsBoundRunOf : Certificate → Turn → Turn → Sink → Result Bounded RunFault → Type 0
 IsBoundRunOf by first second sink result = IsBoundRun by first second sink result
-    × ((bounded : Bounded) (bound : Option ℤ) → result ≡ Ok bounded → bounded.found ≡ Ok bound
-    → SaysBound by first second sink bound)
+    × ((bounded : Bounded) → result ≡ Ok bounded → is_bound_yes bounded.found ≡ true → SaysBound by first second sink bounded.found)

@@ -1,6 +1,6 @@
 -- What a check does to its readers and its writer, and its result: with a certificate of a bound or without one, and with a
 -- length that is claimed or without.
-use Rattle.std.specs.Prelude.{◌≡◌, ℕ, ◌⊎◌, Bool, true, false, Option, None, Some, Result, Ok, Err, IsTrue, ℤ}
+use Rattle.std.specs.Prelude.{◌≡◌, ℕ, ◌⊎◌, Bool, false, Option, None, Some, Result, Ok, Err, IsTrue, ℤ}
 use Rattle.tsp_stream.specs.declared.output.WriteFault.TheVariants as write_faults
 use Rattle.tsp_stream.specs.Turn.{Turn, IsUnread}
 use Rattle.tsp_stream.specs.Sink.{Sink, IsUnwritten, HasWritten, HasStopped}
@@ -9,7 +9,7 @@ use Rattle.tsp_read.specs.declared.ReadFault.{ReadFault}
 use Rattle.tsp_read.specs.Reads.{IsFile, StopsAt}
 use Rattle.tsp_reason.specs.declared.certificate.Certificate.{Certificate}
 use Rattle.tsp_reason.specs.declared.verdict.Verdict.{Verdict}
-use Rattle.tsp_reason.specs.declared.verdict.Verdict.TheVariants.{Tour, Routes, No}
+use Rattle.tsp_reason.specs.Verdicts.{is_yes}
 use Rattle.tsp_verdict.specs.Judged.{is_judged, NoneBeforeRepeatsOn, IsVerdictWith}
 use Rattle.tsp_judge.specs.declared.judging.Judged.{Judged}
 use Rattle.tsp_judge.specs.declared.fault.RunFault.{RunFault}
@@ -72,11 +72,6 @@ IsFaultOfRun given first second file fault = ((file ≡ 1) × StopsAt fault firs
     × StopsAt fault third.1)
 
 -- ---- the verdict
-
-abbrev pub is_yes : Verdict → Bool
-is_yes (Tour length bound) = true
-is_yes (Routes length routes least) = true
-is_yes (No reason) = false
 
 -- What comes of files that were read. At Ok this is the verdict on them, and the whole report on it was written. Nothing is
 -- written where the first file is of a TYPE that isn't judged so, nor out of memory: then none of the reasons applies that

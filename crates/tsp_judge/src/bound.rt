@@ -3,7 +3,7 @@
 ghost use Rattle.tsp_stream.specs.states.Watched.{sink_of, turn_of};
 ghost use Rattle.tsp_stream.specs.Turn.{Turn, TakesAtMost};
 ghost use Rattle.tsp_read.specs.Reads.{IsFile, most_taken};
-ghost use Rattle.tsp_judge.specs.BoundRun.{BoundsFiles, IsBoundRun, IsBoundRunOf};
+ghost use Rattle.tsp_judge.specs.BoundRun.{BoundsFiles, IsBoundRunOf};
 
 use crate::fault::RunFault;
 use crate::file::read_file;
@@ -13,14 +13,14 @@ use tsp_cost::Instance;
 use tsp_file::File;
 use tsp_report::write_bound;
 use tsp_stream::Watched;
-use tsp_verdict::{Certificate, Reason, is_bounded, judge_bound};
+use tsp_verdict::{BoundVerdict, Certificate, is_bounded, judge_bound};
 
 /// The files that a run has read, and the bound that it found.
 #[derive(Drop)]
 pub struct Bounded {
-    /// The bound, `None` where the instance has no tour; or the first reason against the files. The
-    /// report is of it.
-    pub found: Result<Option<i128>, Reason>,
+    /// The bound, or that the instance has no tour; or the first reason against the files. The report is
+    /// of it.
+    pub found: BoundVerdict,
     /// The first file.
     pub instance: Instance,
     /// The second file.
@@ -69,7 +69,7 @@ fn bound_read<W: Write>(
     out: &mut Watched<W>,
 ) -> Result<Bounded, RunFault>
     ensures { (first second : Turn) → IsFile first instance → IsFile second certificate
-        → IsBoundRun by first second (sink_of W.contents out.old out.new) result }
+        → IsBoundRunOf by first second (sink_of W.contents out.old out.new) result }
 {
     let Ok(instance) = Instance::of(instance) else {
         return Err(RunFault::WrongKind);
@@ -89,7 +89,7 @@ fn bound_files<W: Write>(
     instance: &Instance,
     certificate: &File,
     out: &mut Watched<W>,
-) -> Result<Result<Option<i128>, Reason>, RunFault>
+) -> Result<BoundVerdict, RunFault>
     ensures { BoundsFiles by instance.now certificate.now (sink_of W.contents out.old out.new) result }
 {
     if !is_bounded(by, instance.kind()) {

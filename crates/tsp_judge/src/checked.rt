@@ -4,7 +4,7 @@ ghost use Rattle.std.specs.Prelude.{◌≡◌, None};
 ghost use Rattle.tsp_stream.specs.states.Watched.{sink_of, turn_of};
 ghost use Rattle.tsp_stream.specs.Turn.{Turn, IsUnread, TakesAtMost};
 ghost use Rattle.tsp_read.specs.Reads.{IsFile, most_taken};
-ghost use Rattle.tsp_judge.specs.Run.{Given, given_by, IsFileIn, ReadsGiven, IsRun};
+ghost use Rattle.tsp_judge.specs.Run.{Given, given_by, IsFileIn, ReadsGiven};
 ghost use Rattle.tsp_judge.specs.Yes.{IsRunOf};
 
 use crate::fault::RunFault;
@@ -83,7 +83,7 @@ fn judge_read<W: Write>(
 ) -> Result<Judged, RunFault>
     ensures { (given : Given) (first second : Turn) → IsFile first instance → IsFile second solution
         → IsFileIn given certificate
-        → IsRun given claimed first second (sink_of W.contents out.old out.new) result }
+        → IsRunOf given claimed first second (sink_of W.contents out.old out.new) result }
 {
     let Ok(instance) = Instance::of(instance) else {
         return Err(RunFault::WrongKind);

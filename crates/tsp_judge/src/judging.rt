@@ -3,7 +3,7 @@
 ghost use Rattle.std.specs.Prelude.{◌≡◌, option_map};
 ghost use Rattle.tsp_stream.specs.states.Watched.{sink_of};
 ghost use Rattle.tsp_verdict.specs.Judged.{is_judged};
-ghost use Rattle.tsp_judge.specs.Run.{is_yes, told, JudgesFiles};
+ghost use Rattle.tsp_judge.specs.Run.{told, JudgesFiles};
 
 use crate::fault::RunFault;
 use std::alloc::{AllocError, Global};
@@ -77,17 +77,7 @@ pub(crate) fn told(ended: Result<Judged, RunFault>) -> Result<bool, RunFault>
     ensures { result ≡ told ended }
 {
     let judged = ended?;
-    let answer = is_yes(judged.verdict);
+    let answer = judged.verdict.is_yes();
     drop(judged);
     Ok(answer)
-}
-
-/// Whether the solution is accepted.
-fn is_yes(verdict: Verdict) -> bool
-    ensures { result ≡ is_yes verdict }
-{
-    match verdict {
-        Verdict::Tour { .. } | Verdict::Routes { .. } => true,
-        Verdict::No(_) => false,
-    }
 }

@@ -38,5 +38,6 @@ pub use tsp_format::Layout;
 pub use tsp_read::{LineFault, ReadFault};
 pub use tsp_stream::{Watched, WriteFault};
 pub use tsp_verdict::{
-    Certificate, Reason, Verdict, judge_routes, judge_tour, judge_tour_bound, judge_tour_branches,
+    BoundVerdict, Certificate, Reason, Verdict, judge_routes, judge_tour, judge_tour_bound,
+    judge_tour_branches,
 };

@@ -1,6 +1,6 @@
-//! The verdict on a solution, the reasons to reject one, and the kinds of certificates: types only.
+//! The verdict on a solution, the reasons to reject one, and the kinds of certificates.
 //!
-//! No function decides anything here, so that crates which print or explain a verdict don't depend on
+//! No verdict is found here, so that crates which print or explain a verdict don't depend on
 //! the one that finds it, tsp_verdict.
 //!
 //! ```text
@@ -12,4 +12,4 @@ mod certificate;
 mod verdict;
 
 pub use certificate::Certificate;
-pub use verdict::{Reason, Verdict};
+pub use verdict::{BoundVerdict, Reason, Verdict};

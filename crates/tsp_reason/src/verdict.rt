@@ -99,3 +99,44 @@ pub enum Verdict {
     /// Rejected, with the first reason that applies to the solution.
     No(Reason),
 }
+
+impl Verdict {
+    ghost use Rattle.std.specs.Prelude.{◌≡◌};
+    ghost use Rattle.tsp_reason.specs.Verdicts.{is_yes};
+
+    /// Whether the solution is accepted.
+    pub fn is_yes(self) -> bool
+        ensures { result ≡ is_yes self }
+    {
+        match self {
+            Verdict::Tour { .. } | Verdict::Routes { .. } => true,
+            Verdict::No(_) => false,
+        }
+    }
+}
+
+/// The verdict on an instance with a certificate, without a solution.
+#[derive(Clone, Copy, Debug, PartialEq, Eq)]
+pub enum BoundVerdict {
+    /// Accepted: no tour of the instance is shorter than this bound.
+    Bound(i128),
+    /// Accepted: the instance has no tour.
+    NoTour,
+    /// Rejected, with the first reason that applies to the instance or the certificate.
+    No(Reason),
+}
+
+impl BoundVerdict {
+    ghost use Rattle.std.specs.Prelude.{◌≡◌};
+    ghost use Rattle.tsp_reason.specs.Verdicts.{is_bound_yes};
+
+    /// Whether there is no reason against the instance and the certificate.
+    pub fn is_yes(self) -> bool
+        ensures { result ≡ is_bound_yes self }
+    {
+        match self {
+            BoundVerdict::Bound(_) | BoundVerdict::NoTour => true,
+            BoundVerdict::No(_) => false,
+        }
+    }
+}

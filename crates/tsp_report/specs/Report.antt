@@ -1,5 +1,5 @@
 -- The report of a check, line by line. Each line ends with byte 10, and one blank is between words.
-use Rattle.std.specs.Prelude.{ℕ, List, ◌++◌, map, codes, decimal, cond, ℤ, pos, ◌-ℤ◌, Option, None, Some, Result, Ok, Err, [], IfSome, unsigned_abs, ◌≤◌, ◌^◌}
+use Rattle.std.specs.Prelude.{ℕ, List, ◌++◌, map, codes, decimal, cond, ℤ, pos, ◌-ℤ◌, Option, None, Some, [], IfSome, unsigned_abs, ◌≤◌, ◌^◌}
 use Rattle.std.specs.List.{concat}
 use Rattle.std.specs.Option.{option_map_or}
 use Rattle.std.specs.Ordering.{int_eq}
@@ -8,6 +8,8 @@ use Rattle.tsp_format.specs.declared.kinds.Kind.{Kind}
 use Rattle.tsp_format.specs.Words.{kind_word}
 use Rattle.tsp_draft.specs.Fields.{Fields}
 use Rattle.tsp_file.specs.Meant.{nodes_of}
+use Rattle.tsp_reason.specs.declared.verdict.BoundVerdict.{BoundVerdict}
+use Rattle.tsp_reason.specs.declared.verdict.BoundVerdict.TheVariants as bounds
 use Rattle.tsp_reason.specs.declared.verdict.Reason.{Reason}
 use Rattle.tsp_reason.specs.declared.verdict.Reason.TheVariants.{NotASolution, TooFewNodes, NotSymmetric, Dimension, TourCount, TourLength, NodeOutOfRange, RepeatedNode, FixedEdgeUnused, NotPotentials, PotentialsDimension, PotentialsKind, MultiplierNotFixed, MultiplierRepeated, DualInfeasible, DepotCount, DepotDemand, FixedEdgesInRoutes, DepotInRoute, Unserved, Overload, NotBranches, BranchesDimension, BadComb, BranchTwice, BadLeaf, LengthClaimed}
 use Rattle.tsp_reason.specs.declared.verdict.Verdict.{Verdict}
@@ -140,16 +142,12 @@ report_of instance verdict = instance_lines instance ++ verdict_lines verdict
 
 -- ---- a bound without a solution
 
--- the bound, and the yes; `none` where the instance has no tour
-abbrev pub bound_alone_lines : Option ℤ → List ℕ
-bound_alone_lines (Some bound) = codes "bound " ++ signed_decimal bound ++ codes "\nyes\n"
-bound_alone_lines None = codes "bound none\nyes\n"
-
--- the bound, or the first reason against the instance or the certificate
-abbrev pub bound_found_lines : Result (Option ℤ) Reason → List ℕ
-bound_found_lines (Ok bound) = bound_alone_lines bound
-bound_found_lines (Err reason) = no_line reason
+-- the bound, or `none` where the instance has no tour; or the first reason against the instance or the certificate
+abbrev pub bound_found_lines : BoundVerdict → List ℕ
+bound_found_lines (bounds.Bound bound) = codes "bound " ++ signed_decimal bound ++ codes "\nyes\n"
+bound_found_lines bounds.NoTour = codes "bound none\nyes\n"
+bound_found_lines (bounds.No reason) = no_line reason
 
 -- the report on an instance whose tours are bounded
-abbrev pub bound_report_of : Fields → Result (Option ℤ) Reason → List ℕ
+abbrev pub bound_report_of : Fields → BoundVerdict → List ℕ
 bound_report_of instance found = instance_lines instance ++ bound_found_lines found

@@ -1,13 +1,14 @@
 //! Lines of reports and of `show`. No body is looked at here: a definition that is changed together
 //! with its code is refused by its examples. Digits are as `decimal` writes them.
 
-ghost use Rattle.std.specs.Prelude.{◌≡◌, ℕ, List, [], ◌∷◌, ◌++◌, None, Some, Ok, Err, pos, negsuc, codes, decimal};
+ghost use Rattle.std.specs.Prelude.{◌≡◌, ℕ, List, [], ◌∷◌, ◌++◌, None, Some, pos, negsuc, codes, decimal};
 ghost use Rattle.std.specs.Fmt.{signed_decimal};
 ghost use Rattle.tsp_format.specs.declared.kinds.Kind.TheVariants as kinds;
 ghost use Rattle.tsp_format.specs.declared.kinds.WeightKind.TheVariants as weight_kinds;
 ghost use Rattle.tsp_format.specs.declared.kinds.WeightFormat.TheVariants as formats;
 ghost use Rattle.tsp_format.specs.declared.layout.Layout.TheVariants as layouts;
 ghost use Rattle.tsp_format.specs.Steps.{Branch, Leaf};
+ghost use Rattle.tsp_reason.specs.declared.verdict.BoundVerdict.TheVariants as bounds;
 ghost use Rattle.tsp_reason.specs.declared.verdict.Reason.TheVariants as reasons;
 ghost use Rattle.tsp_reason.specs.declared.verdict.Verdict.TheVariants as verdicts;
 ghost use Rattle.tsp_report.specs.Report.{not_judged, type_line, nodes_line, gap_lines, bound_lines, reason_text, verdict_lines, bound_found_lines};
@@ -29,9 +30,9 @@ pub fn examples_of_reports()
     ensures routes { verdict_lines (verdicts.Routes (pos 20) 3 2) ≡ codes "routes " ++ decimal 3 ++ codes "\nleast " ++ decimal 2
         ++ codes "\nlength " ++ signed_decimal (pos 20) ++ codes "\nyes\n" }
     ensures no { verdict_lines (verdicts.No reasons.TourCount) ≡ codes "no TourCount\n" }
-    ensures bound_alone { bound_found_lines (Ok (Some (pos 14))) ≡ codes "bound " ++ signed_decimal (pos 14) ++ codes "\nyes\n" }
-    ensures no_tour { bound_found_lines (Ok None) ≡ codes "bound none\nyes\n" }
-    ensures no_bound_alone { bound_found_lines (Err reasons.TooFewNodes) ≡ codes "no TooFewNodes\n" }
+    ensures bound_alone { bound_found_lines (bounds.Bound (pos 14)) ≡ codes "bound " ++ signed_decimal (pos 14) ++ codes "\nyes\n" }
+    ensures no_tour { bound_found_lines bounds.NoTour ≡ codes "bound none\nyes\n" }
+    ensures no_bound_alone { bound_found_lines (bounds.No reasons.TooFewNodes) ≡ codes "no TooFewNodes\n" }
 {}
 
 /// The words of each reason.

@@ -19,4 +19,6 @@ pub use bound::write_bound;
 pub use examples::{examples_of_reasons, examples_of_reports, examples_of_shown_lines};
 pub use report::write_report;
 pub use shown::write_shown;
-pub use whole_examples::{examples_of_shown_files, examples_of_whole_reports};
+pub use whole_examples::{
+    examples_of_bound_reports, examples_of_shown_files, examples_of_whole_reports,
+};

@@ -1,10 +1,11 @@
 //! Whole reports, and all that is shown of files of each TYPE. No body is looked at here: a definition
 //! that is changed together with its code is refused by its examples.
 
-ghost use Rattle.std.specs.Prelude.{◌≡◌, ◌++◌, None, Some, pos, codes};
+ghost use Rattle.std.specs.Prelude.{◌≡◌, ◌++◌, Some, pos, codes};
+ghost use Rattle.tsp_reason.specs.declared.verdict.BoundVerdict.TheVariants as bounds;
 ghost use Rattle.tsp_reason.specs.declared.verdict.Reason.TheVariants as reasons;
 ghost use Rattle.tsp_reason.specs.declared.verdict.Verdict.TheVariants as verdicts;
-ghost use Rattle.tsp_report.specs.Report.{report_of};
+ghost use Rattle.tsp_report.specs.Report.{report_of, bound_report_of};
 ghost use Rattle.tsp_report.specs.Show.{shown};
 ghost use Rattle.tsp_report.specs.Examples.{matrix, shown_routes, shown_tours, shown_potentials, shown_tree, untyped};
 
@@ -16,6 +17,16 @@ pub fn examples_of_whole_reports()
         ≡ codes "type TSP\nnodes 2\nnot judged FOO\nnot judged BAR\nno TourCount\n" }
     ensures routes { report_of shown_routes (verdicts.Routes (pos 20) 3 2)
         ≡ codes "type CVRP\nnodes 2\nroutes 3\nleast 2\nlength 20\nyes\n" }
+{}
+
+/// Whole reports on the same instance, where its tours are bounded.
+pub fn examples_of_bound_reports()
+    ensures bound { bound_report_of matrix (bounds.Bound (pos 12))
+        ≡ codes "type TSP\nnodes 2\nnot judged FOO\nnot judged BAR\nbound 12\nyes\n" }
+    ensures no_tour { bound_report_of matrix bounds.NoTour
+        ≡ codes "type TSP\nnodes 2\nnot judged FOO\nnot judged BAR\nbound none\nyes\n" }
+    ensures no { bound_report_of matrix (bounds.No reasons.TooFewNodes)
+        ≡ codes "type TSP\nnodes 2\nnot judged FOO\nnot judged BAR\nno TooFewNodes\n" }
 {}
 
 /// All that is shown of a file of each TYPE.

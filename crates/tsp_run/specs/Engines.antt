@@ -1,5 +1,5 @@
 -- A task done on its files: what that does to their readers and to the writer, and what it comes to.
-use Rattle.std.specs.Prelude.{◌≡◌, ℕ, Bool, true, List, Option, None, Some, Result, Ok, Err, is_ok}
+use Rattle.std.specs.Prelude.{◌≡◌, ℕ, Bool, true, List, Option, None, Some, Result, Ok, Err}
 use Rattle.tsp_judge.specs.declared.Watched.{Watched}
 use Rattle.tsp_judge.specs.Watched.{turn_of}
 use Rattle.tsp_judge.specs.Turn.{TakesAtMost}
@@ -10,7 +10,7 @@ use Rattle.tsp_judge.specs.declared.judging.Judged.{Judged}
 use Rattle.tsp_judge.specs.declared.bound.Bounded.{Bounded}
 use Rattle.tsp_judge.specs.ShowRun.{IsShowRun}
 use Rattle.tsp_judge.specs.ConvertRun.{IsConvertRun}
-use Rattle.tsp_judge.specs.Run.{is_yes}
+use Rattle.tsp_judge.specs.Verdicts.{is_yes, is_bound_yes}
 use Rattle.tsp_judge.specs.Yes.{IsRunOf}
 use Rattle.tsp_judge.specs.BoundRun.{IsBoundRunOf}
 use Rattle.tsp_cli.specs.declared.task.Task.{Task}
@@ -22,7 +22,7 @@ use Rattle.tsp_run.specs.declared.engines.Outcome.TheVariants as outcomes
 abbrev pub is_accepted : Outcome → Bool
 is_accepted outcomes.Done = true
 is_accepted (outcomes.Judged judged) = is_yes judged.verdict
-is_accepted (outcomes.Bounded bounded) = is_ok bounded.found
+is_accepted (outcomes.Bounded bounded) = is_bound_yes bounded.found
 
 -- what a run comes to, by its sort
 abbrev pub counts : Result (Unit {0}) RunFault → Result Outcome RunFault

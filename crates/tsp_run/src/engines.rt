@@ -7,9 +7,7 @@ ghost use Rattle.tsp_run.specs.Engines.{IsDone, is_accepted, counts, judges, bou
 use std::alloc::Global;
 use std::io::{Read, Write};
 use tsp_cli::Task;
-use tsp_judge::{
-    Bounded, Judged, RunFault, Verdict, Watched, run, run_bound, run_convert, run_show,
-};
+use tsp_judge::{Bounded, Judged, RunFault, Watched, run, run_bound, run_convert, run_show};
 
 /// What a task comes to.
 #[derive(Drop)]
@@ -28,11 +26,8 @@ pub(crate) fn is_accepted(outcome: &Outcome) -> bool
 {
     match outcome {
         Outcome::Done => true,
-        Outcome::Judged(judged) => match judged.verdict {
-            Verdict::Tour { .. } | Verdict::Routes { .. } => true,
-            Verdict::No(_) => false,
-        },
-        Outcome::Bounded(bounded) => bounded.found.is_ok(),
+        Outcome::Judged(judged) => judged.verdict.is_yes(),
+        Outcome::Bounded(bounded) => bounded.found.is_yes(),
     }
 }
 

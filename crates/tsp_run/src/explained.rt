@@ -68,7 +68,8 @@ const NO_CERTIFICATE: &str =
 
 /// What a length is.
 const LENGTHS: &str =
-    "A length is a whole number that fits 64 bits, as 426 or 12.0. One below 0 is written --length=-34.";
+    "A length is a whole number that fits 64 bits, as 426 or 12.0. One below 0 is written --length=-34.\n\
+    Lengths of TSPLIB are whole. A cost in real numbers, as 524.61, can't be compared with them.";
 
 /// Appends what explains a fault of a task.
 fn push_fault<F: Read + Drop, O: Open<F>>(

@@ -6,7 +6,7 @@ use crate::files::{BOUND_REPORT, DUALS, THREE_NODES, TOUR};
 use std::alloc::Global;
 use std::test::Fail;
 use tsp_format::Kind;
-use tsp_judge::{Certificate, Reason, RunFault, Verdict, run, run_bound};
+use tsp_judge::{BoundVerdict, Certificate, Reason, RunFault, Verdict, run, run_bound};
 use tsp_stream::Watched;
 
 /// The verdict of a check with duals and this claim, and the TYPEs of the files that come with it. (It
@@ -30,7 +30,7 @@ fn claimed(
 fn bounded(
     alloc: Global,
     out: &mut Watched<Vec<u8>>,
-) -> Result<(Result<Option<i128>, Reason>, Kind, Kind), RunFault> {
+) -> Result<(BoundVerdict, Kind, Kind), RunFault> {
     let mut inst = Watched::new(THREE_NODES.as_bytes());
     let mut cert = Watched::new(DUALS.as_bytes());
     let by = Certificate::Potentials;
@@ -68,7 +68,11 @@ fn another_length_is_refused(rt: HostRuntime) {
 fn tours_are_bounded(rt: HostRuntime) {
     let mut out = Watched::new(Vec::new(rt.alloc()));
     let answer = bounded(rt.alloc(), &mut out);
-    same(&rt, answer, Ok((Ok(Some(6)), Kind::Atsp, Kind::Potentials)));
+    same(
+        &rt,
+        answer,
+        Ok((BoundVerdict::Bound(6), Kind::Atsp, Kind::Potentials)),
+    );
     let report: &[u8] = b"type ATSP\nnodes 3\nbound 6\nyes\n";
     same(&rt, out.into_inner().as_slice(), report);
 }

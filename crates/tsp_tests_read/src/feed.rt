@@ -50,6 +50,10 @@ const CANONICAL_TOUR: &str = "TYPE : TOUR\nTOUR_SECTION\n1\n2\n3\n-1\nEOF\n";
 const RECTANGLE: &str =
     "NAME : rectangle\nTYPE : TSP\nDIMENSION : 4\nEDGE_WEIGHT_TYPE : EUC_2D\nNODE_COORD_SECTION\n1 0 0\n2 3 0\n3 3 4\n4 0 4\nEOF\n";
 
+/// Three points in space, 3, 2 and 2 apart.
+const IN_SPACE: &str =
+    "TYPE : TSP\nDIMENSION : 3\nEDGE_WEIGHT_TYPE : EUC_3D\nNODE_COORD_SECTION\n1 0 0 0\n2 1 2 2\n3 0 0 2\nEOF\n";
+
 /// Texts of a few lines, with their answers by hand.
 const EXAMPLES: &[Example] = &[
     // Three points, the second of which has a coordinate that is no number.
@@ -80,7 +84,9 @@ const EXAMPLES: &[Example] = &[
     ),
     (TOUR, Ok(CANONICAL_TOUR)),
     (RECTANGLE, Ok(RECTANGLE)),
-    // Three points in space.
+    // Three points in space: examples/in-space.tsp.
+    (IN_SPACE, Ok(IN_SPACE)),
+    // Others, whose coordinates are written in several ways.
     (
         "TYPE : TSP\nDIMENSION : 3\nEDGE_WEIGHT_TYPE : EUC_3D\nNODE_COORD_SECTION\n1 0 0 0\n2 2.50 3e0 -6\n3 .5 -1 4\nEOF\n",
         Ok(

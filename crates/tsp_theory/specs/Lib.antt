@@ -11,5 +11,6 @@ pub mod Length
 pub mod NodeBound
 pub mod Numbers
 pub mod Regions
+pub mod Routing
 pub mod Tour
 pub mod Tree

@@ -1,14 +1,30 @@
--- Tours: cycles that use every fixed pair. Source: TSPLIB 95 (G. Reinelt), FIXED_EDGES_SECTION.
-use Rattle.std.specs.Prelude.{ℕ, Bool, true, false, List}
+-- Travelling salesman problems, their tours, and bounds on the lengths of these. Source: TSPLIB 95 (G. Reinelt), FIXED_EDGES_SECTION.
+use Rattle.std.specs.Prelude.{ℕ, Bool, true, false, List, ℤ, ◌≤ℤ◌}
 use Rattle.std.specs.List.{All}
 use Rattle.tsp_theory.specs.Cycle.{IsCycle, Follows, AreNeighbours}
+use Rattle.tsp_theory.specs.Length.{length_of}
+
+-- The nodes are 1 to `nodes`, `cost i j` is the cost from i to j, and every tour uses the fixed pairs. These have a direction if
+-- the problem is directed.
+pub record Problem : Type 0 where
+  pub nodes : ℕ
+  pub directed : Bool
+  pub cost : ℕ → ℕ → ℤ
+  pub fixed : List (ℕ × ℕ)
 
 -- a list of nodes uses a pair: from the first to the second, or in either direction
 abbrev pub Uses : Bool → List ℕ → ℕ × ℕ → Type 0
 Uses true nodes pair = Follows nodes pair
 Uses false nodes pair = AreNeighbours nodes pair
 
--- a tour of n nodes is a cycle that uses every fixed pair
-pub record IsTour (directed : Bool) (n : ℕ) (fixed : List (ℕ × ℕ)) (nodes : List ℕ) : Type 0 where
-  pub cycle : IsCycle n nodes
-  pub fixed_used : All (Uses directed nodes) fixed
+-- a tour of a problem is a cycle of its nodes that uses every fixed pair
+pub record IsTour (problem : Problem) (tour : List ℕ) : Type 0 where
+  pub cycle : IsCycle problem.nodes tour
+  pub fixed_used : All (Uses problem.directed tour) problem.fixed
+
+-- no tour is shorter than the bound
+abbrev pub BoundsTours : Problem → ℤ → Type 0
+BoundsTours problem bound = (tour : List ℕ) → IsTour problem tour → bound ≤ℤ length_of problem.cost tour
+
+abbrev pub HasNoTour : Problem → Type 0
+HasNoTour problem = (tour : List ℕ) → IsTour problem tour → ⊥

@@ -1,17 +1,17 @@
-//! Costs with a bound of those from a node to all nodes of a region.
+//! Costs that are compared with a number for all nodes of a region at once.
 
-ghost use Rattle.std.specs.Prelude.{ℕ, pos, neg_ℤ, ◌≤ℤ◌, IfSome};
+ghost use Rattle.std.specs.Prelude.{ℕ, ◌≤ℤ◌, IfSome};
+ghost use Rattle.std.specs.Bool.{OnTrue};
 ghost use Rattle.tsp_distance.specs.declared.decimal.Point.{Point};
 ghost use Rattle.tsp_format.specs.Cells.{IsNode};
-ghost use Rattle.tsp_format.specs.Limits.{most_weight};
 ghost use Rattle.tsp_theory.specs.Regions.{IsIn};
 
 use crate::costs::Symmetric;
 use crate::region::Region;
 use std::alloc::{AllocError, Global};
 
-/// Costs whose nodes may have places in space, so that a region bounds the costs to all nodes in
-/// it. By itself no node has a region, no region a bound, and the order is empty.
+/// Costs whose nodes may have places in space, so that a region says of all nodes in it at once that
+/// they are far. By itself no node has a region, nothing is known of one, and the order is empty.
 pub trait Grouped: Symmetric {
     ghost place: { Self → ℕ → Point };
 
@@ -33,15 +33,13 @@ pub trait Grouped: Symmetric {
         None
     }
 
-    /// A number that is no larger than the cost from a node to any whose place is in the region,
-    /// where one is known.
-    fn cost_to(&self, from: u32, region: Region) -> Option<i64>
+    /// Whether each node whose place is in the region costs at least `least` from a node, where that
+    /// is known.
+    fn is_beyond(&self, from: u32, region: &Region, least: i64) -> bool
         requires { IsNode (Self.nodes self.now) from }
-        ensures below { IfSome result (λ least. (to : ℕ) → IsNode (Self.nodes self.now) to
-            → IsIn region (place self.now to) → least ≤ℤ Self.at self.now from to) }
-        ensures low { IfSome result (λ least. neg_ℤ (pos most_weight) ≤ℤ least) }
-        ensures high { IfSome result (λ least. least ≤ℤ pos most_weight) }
+        ensures { OnTrue result ((to : ℕ) → IsNode (Self.nodes self.now) to
+            → IsIn region.now (place self.now to) → least ≤ℤ Self.at self.now from to) }
     {
-        None
+        false
     }
 }

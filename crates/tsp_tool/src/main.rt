@@ -6,11 +6,14 @@
 
 mod build;
 
+ghost use Rattle.std.specs.Prelude.{◌↔◌, IfOk, IsTrue};
 ghost use Rattle.tsp_run.specs.states.Source.{IsSourceOf};
+ghost use Rattle.tsp_tool.specs.Beside.{IsBesideStreams, IsBeside};
 
 use crate::build::BUILD;
 use std::fs::File;
-use std::io::IsTerminal;
+use std::io::{ErrorKind, IsTerminal};
+use std::os::fd::AsRawFd;
 use std::process::ExitCode;
 use std::rt::Stdin;
 use std::{env, fs, io};
@@ -53,12 +56,12 @@ struct Host<'a> {
 }
 
 impl Open<Source<Stdin, File>> for Host<'_> {
-    ghost opens = { λ host place source. IsSourceOf place source };
+    ghost opens = { λ host place source. IsSourceOf place source × IsBeside source };
 
     fn open(&self, place: Place<'_>) -> Source<Stdin, File> {
         match place {
             Place::Input => Source::Input(self.rt.stdin()),
-            Place::Path(path) => Source::of(fs::open(self.rt, path)),
+            Place::Path(path) => Source::of(opened(self.rt, path)),
         }
     }
 
@@ -66,10 +69,35 @@ impl Open<Source<Stdin, File>> for Host<'_> {
     fn open_again(&self, path: &str) -> Option<Source<Stdin, File>> {
         match fs::metadata(self.rt, path) {
             Ok(found) if found.is_file() || found.is_dir() => {
-                Some(Source::of(fs::open(self.rt, path)))
+                Some(Source::of(opened(self.rt, path)))
             }
             Ok(_) => None,
             Err(error) => Some(Source::Missing(error)),
         }
     }
+}
+
+/// The file at a path, opened to be read, under another number than a standard stream has.
+///
+/// Where a standard stream was closed before the program started, the system gives its number to the
+/// next file. That file would then be read as standard input.
+fn opened(rt: &HostRuntime, path: &str) -> io::Result<File>
+    ensures { IfOk result IsBesideStreams }
+{
+    let file = fs::open(rt, path)?;
+    if is_beside_streams(&file) {
+        return Ok(file);
+    }
+    let copy = file.try_clone()?;
+    if is_beside_streams(&copy) {
+        return Ok(copy);
+    }
+    Err(io::Error::from(ErrorKind::Unsupported))
+}
+
+/// Whether the number of the file's descriptor is above those of the standard streams, which are 0 to 2.
+fn is_beside_streams(file: &File) -> bool
+    ensures { IsTrue result ↔ IsBesideStreams file.now }
+{
+    file.as_raw_fd() > 2
 }

@@ -1,8 +1,10 @@
 -- An instance with a certificate: the reasons against either, in order.
 use Rattle.std.proofs.Common.{◌≡◌, ℕ, ◌<◌, ◌≤◌, ◌⊎◌, inl, inr, refl, arith}
-use Rattle.std.specs.Prelude.{ℤ, Option, None, Some, Result, Ok, Err, IfOk, IsErr, MatchResult}
+use Rattle.std.specs.Prelude.{Result, Ok, Err, IfOk, IsErr, MatchResult}
 use Rattle.tsp_draft.specs.Fields.{Fields}
 use Rattle.tsp_reason.specs.declared.certificate.Certificate.{Certificate}
+use Rattle.tsp_reason.specs.declared.verdict.BoundVerdict.{BoundVerdict}
+use Rattle.tsp_reason.specs.declared.verdict.BoundVerdict.TheVariants as bounds
 use Rattle.tsp_reason.specs.declared.verdict.Reason.{Reason}
 use Rattle.tsp_reason.specs.declared.verdict.Reason.TheVariants.{TooFewNodes, NotSymmetric}
 use Rattle.tsp_file.specs.Cost.{cost}
@@ -10,7 +12,7 @@ use Rattle.tsp_theory.specs.Costs.{IsSymmetric, IsFirstAsymmetric}
 use Rattle.tsp_verdict.specs.declared.tour.TourCosts.{TourCosts}
 use Rattle.tsp_verdict.specs.states.Costs.{AreTourCosts}
 use Rattle.tsp_verdict.specs.Bounded.{StandsAgainstInstance, NoneAgainstInstance, StandsAgainstBounded, IsBoundVerdict}
-use Rattle.tsp_verdict.specs.Certified.{StandsAgainstCertificate, FindsBoundIfAny, NoneWithoutMemory}
+use Rattle.tsp_verdict.specs.Certified.{StandsAgainstCertificate, FindsBound, NoneWithoutMemory}
 use Rattle.tsp_verdict.specs.Reasons.{rank_of, IsFirstReason}
 use Rattle.tsp_file.specs.Meant.{nodes_of}
 use Rattle.tsp_verdict.proofs.Certificates.{certificate_rank, symmetric_tsp}
@@ -21,7 +23,7 @@ instance_rank inst (NotSymmetric i j) stands = omega arith
 instance_rank inst reason stands = absurd stands
 
 -- the first reason against the instance is the first of all
-pub instance_refused : (by : Certificate) (inst cert : Fields) (reason : Reason) → IsFirstReason (StandsAgainstInstance inst) reason → IsBoundVerdict by inst cert (Err reason)
+pub instance_refused : (by : Certificate) (inst cert : Fields) (reason : Reason) → IsFirstReason (StandsAgainstInstance inst) reason → IsBoundVerdict by inst cert (bounds.No reason)
 instance_refused by inst cert reason first = record {
   stands = inl first.stands;
   none_before = λ other low stands. by_side other low stands;
@@ -37,11 +39,11 @@ none_of_both by inst cert none certificate reason (inl stands) = none reason sta
 none_of_both by inst cert none certificate reason (inr stands) = certificate reason stands
 
 -- where none applies to the instance, it is the certificate that decides
-pub certificate_decides : (by : Certificate) (inst cert : Fields) (found : Result (Option ℤ) Reason) → NoneAgainstInstance inst → FindsBoundIfAny by inst cert found
+pub certificate_decides : (by : Certificate) (inst cert : Fields) (found : BoundVerdict) → NoneAgainstInstance inst → FindsBound by inst cert found
     → IsBoundVerdict by inst cert found
-certificate_decides by inst cert (Ok (Some bound)) none b = (none_of_both by inst cert none b.0, b.1)
-certificate_decides by inst cert (Ok None) none b = (none_of_both by inst cert none b.0, b.1, b.2)
-certificate_decides by inst cert (Err reason) none first = record {
+certificate_decides by inst cert (bounds.Bound bound) none b = (none_of_both by inst cert none b.0, b.1)
+certificate_decides by inst cert bounds.NoTour none b = (none_of_both by inst cert none b.0, b.1, b.2)
+certificate_decides by inst cert (bounds.No reason) none first = record {
   stands = inr first.stands;
   none_before = λ other low stands. by_side other low stands;
 }
@@ -51,7 +53,7 @@ certificate_decides by inst cert (Err reason) none first = record {
     by_side other low (inr stands) = first.none_before other low stands
 
 -- out of memory, none applies to the instance, and none to the certificate that is found without
-pub either_way : {E : Type 0} (by : Certificate) (inst cert : Fields) (result : Result (Result (Option ℤ) Reason) E) → NoneAgainstInstance inst → IfOk result (λ found. FindsBoundIfAny by inst cert found)
+pub either_way : {E : Type 0} (by : Certificate) (inst cert : Fields) (result : Result BoundVerdict E) → NoneAgainstInstance inst → IfOk result (λ found. FindsBound by inst cert found)
     → (IsErr result → NoneWithoutMemory by inst cert)
     → MatchResult result (λ found. IsBoundVerdict by inst cert found) (λ refused. NoneAgainstInstance inst × NoneWithoutMemory by inst cert)
 either_way by inst cert (Ok found) none finds without = certificate_decides by inst cert found none finds

@@ -8,6 +8,7 @@ use Rattle.tsp_reason.specs.declared.verdict.Reason.{Reason}
 use Rattle.tsp_reason.specs.declared.verdict.Reason.TheVariants.{LengthClaimed}
 use Rattle.tsp_reason.specs.declared.verdict.Verdict.{Verdict}
 use Rattle.tsp_reason.specs.declared.verdict.Verdict.TheVariants as verdicts
+use Rattle.tsp_reason.specs.declared.verdict.BoundVerdict.TheVariants as bounds
 use Rattle.tsp_verdict.specs.Certified.{is_bounded, FindsBound, IsCertifiedVerdict}
 use Rattle.tsp_verdict.specs.Judged.{IsVerdictBy, IsVerdictOn, NoneBeforeRepeatsOn, NoneBeforeRepeatsBy, IsAsClaimed, IsOtherClaimed, HasLength, HasNoLength, IsVerdictWith}
 use Rattle.tsp_verdict.specs.Tours.{IsFirstAgainstTour, IsTourVerdict, NoneOfTourBeforeRepeats}
@@ -69,12 +70,12 @@ tour_of_another_length by inst sol cert (Some claim) found is v other =
     inr (inl (found, (verdicts.Tour found None, on_a_tour by inst sol (verdicts.Tour found None) is v, refl), other, refl))
 
 pub certificate_refused : (by : Certificate) (inst sol cert : Fields) (claimed : Option ℤ) (found : ℤ) (reason : Reason) → IsTrue (is_bounded by inst.kind)
-    → IsTourVerdict inst sol (verdicts.Tour found None) → IsAsClaimed claimed found → FindsBound by inst cert (Err reason) → IsVerdictWith (Some (by, cert)) claimed inst sol (verdicts.No reason)
+    → IsTourVerdict inst sol (verdicts.Tour found None) → IsAsClaimed claimed found → FindsBound by inst cert (bounds.No reason) → IsVerdictWith (Some (by, cert)) claimed inst sol (verdicts.No reason)
 certificate_refused by inst sol cert None found reason is v claims first = certificate_first by inst sol cert reason v.0 first
 certificate_refused by inst sol cert (Some claim) found reason is v claims first =
     inr (inr ((verdicts.Tour found None, on_a_tour by inst sol (verdicts.Tour found None) is v, claims), first))
 
-certified : (by : Certificate) (inst sol cert : Fields) (found bound : ℤ) → IsTourVerdict inst sol (verdicts.Tour found None) → FindsBound by inst cert (Ok bound)
+certified : (by : Certificate) (inst sol cert : Fields) (found bound : ℤ) → IsTourVerdict inst sol (verdicts.Tour found None) → FindsBound by inst cert (bounds.Bound bound)
     → IsCertifiedVerdict by inst sol cert (verdicts.Tour found (Some bound))
 certified by inst sol cert found bound v b = (
   none_at_all by inst sol cert v.0 b.0,
@@ -92,6 +93,6 @@ certified by inst sol cert found bound v b = (
 )
 
 pub tour_bounded : (by : Certificate) (inst sol cert : Fields) (claimed : Option ℤ) (found bound : ℤ) → IsTourVerdict inst sol (verdicts.Tour found None) → IsAsClaimed claimed found
-    → FindsBound by inst cert (Ok bound) → IsVerdictWith (Some (by, cert)) claimed inst sol (verdicts.Tour found (Some bound))
+    → FindsBound by inst cert (bounds.Bound bound) → IsVerdictWith (Some (by, cert)) claimed inst sol (verdicts.Tour found (Some bound))
 tour_bounded by inst sol cert None found bound v claims b = certified by inst sol cert found bound v b
 tour_bounded by inst sol cert (Some claim) found bound v claims b = (certified by inst sol cert found bound v b, claims)

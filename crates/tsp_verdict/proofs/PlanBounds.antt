@@ -12,7 +12,7 @@ use Rattle.std.proofs.lemmas.List.Sorted.{IsPermutation-remove, Contains-permuta
 use Rattle.std.proofs.Math.IntN.{suc_ℤ-*ℤ, zero-*ℤ}
 use Rattle.tsp_format.specs.Cells.{nodes_to}
 use Rattle.tsp_theory.specs.Length.{sum_int_by}
-use Rattle.tsp_verdict.specs.Plan.{demand_of, load_of, IsPlan, IsLeast}
+use Rattle.tsp_theory.specs.Routing.{RoutingProblem, demand_of, load_of, IsPlan, IsLeast}
 
 -- ---- sums
 
@@ -71,21 +71,27 @@ demand_low demands low node = at_index (node - 1) (cases_lt (node - 1) (length d
     at_index k (inr le) = rw (get_or_past demands k (pos 0) le) (omega (arith, ints))
 
 -- a plan carries all demands
-plan_carries : (n depot : ℕ) (demands : List ℤ) (capacity : ℤ) (routes : List (List ℕ)) → ((node : ℕ) → pos 0 ≤ℤ demand_of demands node) → demand_of demands depot ≡ pos 0
-    → IsPlan n depot demands capacity routes → load_of demands (nodes_to n) ≤ℤ (pos (length routes) *ℤ capacity)
+plan_carries : (problem : RoutingProblem) (routes : List (List ℕ)) → ((node : ℕ) → pos 0 ≤ℤ demand_of problem.demands node)
+    → demand_of problem.demands problem.depot ≡ pos 0 → IsPlan problem routes
+    → load_of problem.demands (nodes_to problem.nodes) ≤ℤ (pos (length routes) *ℤ problem.capacity)
 unfolding nodes_to
-plan_carries n depot demands capacity routes low none plan =
+plan_carries problem routes low none plan =
+    let n : ℕ = problem.nodes in
+    let depot : ℕ = problem.depot in
+    let demands : List ℤ = problem.demands in
+    let capacity : ℤ = problem.capacity in
     let all : load_of demands (range_with_len 1 n) ≤ℤ load_of demands (depot ∷ concat routes) =
     run_sum (demand_of demands) low n 1 (depot ∷ concat routes) (λ v above below. there v above below (eqb_tells v depot)) in
     let held = carried demands capacity routes (recursion_from_All (λ route. load_of demands route ≤ℤ capacity) routes plan.within) in
     omega (arith, ints, all, held, none)
   where
-    there : (v : ℕ) → 1 ≤ v → v < 1 + n → ((eqb v depot ≡ true) × (v ≡ depot)) ⊎ ((eqb v depot ≡ false) × (v ≢ depot)) → Contains (depot ∷ concat routes) v
+    there : (v : ℕ) → 1 ≤ v → v < 1 + problem.nodes → ((eqb v problem.depot ≡ true) × (v ≡ problem.depot)) ⊎ ((eqb v problem.depot ≡ false) × (v ≢ problem.depot))
+        → Contains (problem.depot ∷ concat routes) v
     there v above below (inl is) = (0, omega arith, sym is.1)
     there v above below (inr other) =
         let found = plan.served v ((above, omega (arith, below)), other.1) in
         (suc found.0, omega (arith, found.1), found.2)
 
-pub none_fewer : (n depot : ℕ) (demands : List ℤ) (capacity : ℤ) (least : ℕ) → ((node : ℕ) → pos 0 ≤ℤ demand_of demands node) → demand_of demands depot ≡ pos 0
-    → IsLeast (load_of demands (nodes_to n)) capacity least → (routes : List (List ℕ)) → IsPlan n depot demands capacity routes → least ≤ length routes
-none_fewer n depot demands capacity least low none is routes plan = is.none_less (length routes) (plan_carries n depot demands capacity routes low none plan)
+pub none_fewer : (problem : RoutingProblem) (least : ℕ) → ((node : ℕ) → pos 0 ≤ℤ demand_of problem.demands node) → demand_of problem.demands problem.depot ≡ pos 0
+    → IsLeast (load_of problem.demands (nodes_to problem.nodes)) problem.capacity least → (routes : List (List ℕ)) → IsPlan problem routes → least ≤ length routes
+none_fewer problem least low none is routes plan = is.none_less (length routes) (plan_carries problem routes low none plan)

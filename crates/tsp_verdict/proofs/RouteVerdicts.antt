@@ -12,6 +12,7 @@ use Rattle.tsp_reason.specs.declared.verdict.Reason.{Reason}
 use Rattle.tsp_reason.specs.declared.verdict.Reason.TheVariants.{DepotInRoute, NodeOutOfRange, RepeatedNode, Unserved, Overload}
 use Rattle.tsp_verdict.specs.states.Marks.{Marked}
 use Rattle.tsp_verdict.specs.Places.{IsFirstPlace, IsLarger, IsAt, IsRepeated}
+use Rattle.tsp_cost.specs.Tours.{routing_of}
 use Rattle.tsp_verdict.specs.Plan.{demand_of, load_of, IsCustomer, plan_length, IsLeast, depot_of, total_of, AreCustomers}
 use Rattle.tsp_file.specs.Meant.{demands_of, capacity_of, nodes_of, tours_of}
 use Rattle.tsp_verdict.specs.Routes.{IsOverloaded, StandsAgainstRoutes, NoneOfRoutesUpTo, IsFirstAgainstRoutes, IsPlanned}
@@ -136,7 +137,7 @@ is_planned inst sol seen size routes demands capacity depot measured count least
         measured = long ∙ ap (λ d. plan_length (cost inst) d routes) depot_is ∙ ap (plan_length (cost inst) (depot_of inst)) are;
         counted = counted ∙ ap length are;
         least_is = least_here;
-        none_fewer = none_fewer (nodes_of inst) (depot_of inst) (demands_of inst) (capacity_of inst) least low none_here least_here;
+        none_fewer = none_fewer (routing_of inst) least low none_here least_here;
       },
     )
   where

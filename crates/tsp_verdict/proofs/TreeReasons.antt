@@ -15,7 +15,8 @@ use Rattle.tsp_draft.specs.states.Drafts.{combs_of as lists_of_combs}
 use Rattle.tsp_draft.specs.Rules.{is_tree}
 use Rattle.tsp_file.specs.Cost.{cost}
 use Rattle.tsp_theory.specs.Costs.{IsSymmetric}
-use Rattle.tsp_cost.specs.Tours.{is_directed, IsTourOf}
+use Rattle.tsp_theory.specs.Tour.{HasNoTour}
+use Rattle.tsp_cost.specs.Tours.{is_directed, problem_of, IsTourOf}
 use Rattle.tsp_theory.specs.Numbers.{IsScale, IsBoundSized}
 use Rattle.tsp_branch.specs.declared.steps.BranchVerdict.{BranchVerdict}
 use Rattle.tsp_branch.specs.declared.steps.BranchVerdict.TheVariants as found
@@ -38,7 +39,7 @@ use Rattle.tsp_verdict.specs.Places.{IsFirstPlace}
 use Rattle.tsp_verdict.specs.Reasons.{NoneBefore, IsFirstReason}
 use Rattle.tsp_verdict.specs.states.Costs.{IsSymmetricTsp}
 use Rattle.tsp_verdict.specs.Tree.{each_once, given_in, tree_in, told_families, AreNumbersOf, IsBadComb, StandsAgainstTree, HasBoundByTree, IsBoundByTree, HasNoBoundByTree}
-use Rattle.tsp_verdict.specs.Certified.{IsBoundBy, IsCertified, HasNoTour, NoneWithoutMemory}
+use Rattle.tsp_verdict.specs.Certified.{IsBoundBy, IsCertified, NoneWithoutMemory}
 use Rattle.tsp_reason.specs.declared.certificate.Certificate.TheVariants.{Branches}
 use Rattle.tsp_verdict.proofs.CarriedBounds.{Same}
 use Rattle.tsp_verdict.proofs.GivenPairs.{keeps_given}
@@ -263,7 +264,7 @@ certified inst tree costs bound law kind some even scaled same sized is = (
 
 -- where no leaf has a bound, the certificate gives none, and the instance has no tour
 pub no_tour : (inst tree : Fields) (costs : ℕ → ℕ → ℤ) → CertificatesBoundCycles → HasArcsOrEdges inst → 3 ≤ nodes_of inst → IsSymmetricTsp inst → IsScale (scale_in tree)
-    → Same costs (cost inst) → IsTold inst tree costs (found.Bound None) → HasNoBoundByTree inst tree × HasNoTour inst
+    → Same costs (cost inst) → IsTold inst tree costs (found.Bound None) → HasNoBoundByTree inst tree × HasNoTour (problem_of inst)
 no_tour inst tree costs law kind some even scaled same is = (
   has_bound inst tree costs None same is,
   λ nodes tour. cycles_bounded inst tree costs None same is law kind some even scaled nodes tour.cycle (tour_keeps inst nodes tour),

@@ -1,14 +1,18 @@
 -- The verdict on an instance with a certificate and without a solution: the first reason against either, or what the certificate
 -- gives.
-use Rattle.std.specs.Prelude.{◌≡◌, ◌⊎◌, ◌<◌, Option, None, Some, Result, Ok, Err, ℤ}
+use Rattle.std.specs.Prelude.{◌≡◌, ◌⊎◌, ◌<◌, Some}
 use Rattle.tsp_format.specs.declared.kinds.Kind.TheVariants as kinds
 use Rattle.tsp_draft.specs.Fields.{Fields}
 use Rattle.tsp_file.specs.Cost.{cost}
 use Rattle.tsp_theory.specs.Costs.{IsFirstAsymmetric}
+use Rattle.tsp_theory.specs.Tour.{HasNoTour}
+use Rattle.tsp_cost.specs.Tours.{problem_of}
 use Rattle.tsp_reason.specs.declared.certificate.Certificate.{Certificate}
+use Rattle.tsp_reason.specs.declared.verdict.BoundVerdict.{BoundVerdict}
+use Rattle.tsp_reason.specs.declared.verdict.BoundVerdict.TheVariants as bounds
 use Rattle.tsp_reason.specs.declared.verdict.Reason.{Reason}
 use Rattle.tsp_reason.specs.declared.verdict.Reason.TheVariants.{TooFewNodes, NotSymmetric}
-use Rattle.tsp_verdict.specs.Certified.{StandsAgainstCertificate, IsCertified, HasNoBound, HasNoTour}
+use Rattle.tsp_verdict.specs.Certified.{StandsAgainstCertificate, IsCertified, HasNoBound}
 use Rattle.tsp_verdict.specs.Reasons.{IsFirstReason}
 use Rattle.tsp_file.specs.Meant.{nodes_of}
 
@@ -26,11 +30,11 @@ NoneAgainstInstance inst = (reason : Reason) → StandsAgainstInstance inst reas
 abbrev pub StandsAgainstBounded : Certificate → Fields → Fields → Reason → Type 0
 StandsAgainstBounded by inst cert reason = StandsAgainstInstance inst reason ⊎ StandsAgainstCertificate by inst cert reason
 
--- Where no reason applies, what the certificate gives: a bound, which no tour of the instance is below, or none, and then the
--- instance has no tour. Or the first reason that applies.
-abbrev pub IsBoundVerdict : Certificate → Fields → Fields → Result (Option ℤ) Reason → Type 0
-IsBoundVerdict by inst cert (Ok (Some bound)) =
+-- Where no reason applies, what the certificate gives: a bound, which no tour of the instance is below, or that the instance has no
+-- tour. Or the first reason that applies.
+abbrev pub IsBoundVerdict : Certificate → Fields → Fields → BoundVerdict → Type 0
+IsBoundVerdict by inst cert (bounds.Bound bound) =
     ((reason : Reason) → StandsAgainstBounded by inst cert reason → ⊥) × IsCertified by inst cert bound
-IsBoundVerdict by inst cert (Ok None) =
-    ((reason : Reason) → StandsAgainstBounded by inst cert reason → ⊥) × HasNoBound by inst cert × HasNoTour inst
-IsBoundVerdict by inst cert (Err reason) = IsFirstReason (StandsAgainstBounded by inst cert) reason
+IsBoundVerdict by inst cert bounds.NoTour =
+    ((reason : Reason) → StandsAgainstBounded by inst cert reason → ⊥) × HasNoBound by inst cert × HasNoTour (problem_of inst)
+IsBoundVerdict by inst cert (bounds.No reason) = IsFirstReason (StandsAgainstBounded by inst cert) reason

@@ -1,15 +1,18 @@
 -- The verdict on a tour with a certificate: the first reason against either, or a tour, its length and the bound. Certificates
 -- differ only in their reasons, and where their numbers become a bound, by the TYPE of the instance.
-use Rattle.std.specs.Prelude.{◌≡◌, ◌⊎◌, ℕ, Bool, true, false, List, [], ◌∷◌, Option, None, Some, Result, Ok, Err, ℤ, ◌≤ℤ◌}
+use Rattle.std.specs.Prelude.{◌≡◌, ◌⊎◌, ℕ, Bool, true, false, List, [], ◌∷◌, Option, None, Some, ℤ}
 use Rattle.tsp_format.specs.declared.kinds.Kind.{Kind}
 use Rattle.tsp_format.specs.declared.kinds.Kind.TheVariants as kinds
 use Rattle.tsp_draft.specs.Fields.{Fields}
 use Rattle.tsp_file.specs.Cost.{cost}
 use Rattle.tsp_theory.specs.Length.{length_of}
-use Rattle.tsp_cost.specs.Tours.{IsTourOf}
+use Rattle.tsp_theory.specs.Tour.{BoundsTours, HasNoTour}
+use Rattle.tsp_cost.specs.Tours.{problem_of, IsTourOf}
 use Rattle.tsp_theory.specs.Numbers.{IsBoundSized}
 use Rattle.tsp_reason.specs.declared.certificate.Certificate.{Certificate}
 use Rattle.tsp_reason.specs.declared.certificate.Certificate.TheVariants.{Potentials, Branches}
+use Rattle.tsp_reason.specs.declared.verdict.BoundVerdict.{BoundVerdict}
+use Rattle.tsp_reason.specs.declared.verdict.BoundVerdict.TheVariants as bounds
 use Rattle.tsp_reason.specs.declared.verdict.Reason.{Reason}
 use Rattle.tsp_reason.specs.declared.verdict.Reason.TheVariants.{MultiplierNotFixed, BadComb}
 use Rattle.tsp_reason.specs.declared.verdict.Verdict.{Verdict}
@@ -71,36 +74,22 @@ NoneWithoutMemory by inst cert = NoneBefore (StandsAgainstCertificate by inst ce
 
 -- ---- its bound
 
--- no tour of the instance is shorter
-abbrev pub BoundsTours : Fields → ℤ → Type 0
-BoundsTours inst bound = (other : List ℕ) → IsTourOf inst other → bound ≤ℤ length_of (cost inst) other
-
 -- the bound that the certificate gives, which no tour is below, and sums with which fit 128 bits
 abbrev pub IsCertified : Certificate → Fields → Fields → ℤ → Type 0
-IsCertified by inst cert bound = IsBoundOf by inst cert bound × BoundsTours inst bound × IsBoundSized bound
-
--- the bound of a certificate to which no reason applies, or the first reason that does
-abbrev pub FindsBound : Certificate → Fields → Fields → Result ℤ Reason → Type 0
-FindsBound by inst cert (Ok bound) =
-    ((reason : Reason) → StandsAgainstCertificate by inst cert reason → ⊥) × IsCertified by inst cert bound
-FindsBound by inst cert (Err reason) = IsFirstReason (StandsAgainstCertificate by inst cert) reason
-
--- the instance has no tour
-abbrev pub HasNoTour : Fields → Type 0
-HasNoTour inst = (tour : List ℕ) → IsTourOf inst tour → ⊥
+IsCertified by inst cert bound = IsBoundOf by inst cert bound × BoundsTours (problem_of inst) bound × IsBoundSized bound
 
 -- The certificate gives no bound: no leaf of its tree has one. Potentials and duals always give one.
 abbrev pub HasNoBound : Certificate → Fields → Fields → Type 0
 HasNoBound Potentials inst cert = ⊥
 HasNoBound Branches inst cert = HasNoBoundByTree inst cert
 
--- What a certificate gives to which no reason applies: a bound, or none, where the instance has no tour. Or the first reason that
--- applies.
-abbrev pub FindsBoundIfAny : Certificate → Fields → Fields → Result (Option ℤ) Reason → Type 0
-FindsBoundIfAny by inst cert (Ok (Some bound)) = FindsBound by inst cert (Ok bound)
-FindsBoundIfAny by inst cert (Ok None) =
-    ((reason : Reason) → StandsAgainstCertificate by inst cert reason → ⊥) × HasNoBound by inst cert × HasNoTour inst
-FindsBoundIfAny by inst cert (Err reason) = FindsBound by inst cert (Err reason)
+-- What a certificate gives to which no reason applies: a bound, or that the instance has no tour. Or the first reason that applies.
+abbrev pub FindsBound : Certificate → Fields → Fields → BoundVerdict → Type 0
+FindsBound by inst cert (bounds.Bound bound) =
+    ((reason : Reason) → StandsAgainstCertificate by inst cert reason → ⊥) × IsCertified by inst cert bound
+FindsBound by inst cert bounds.NoTour =
+    ((reason : Reason) → StandsAgainstCertificate by inst cert reason → ⊥) × HasNoBound by inst cert × HasNoTour (problem_of inst)
+FindsBound by inst cert (bounds.No reason) = IsFirstReason (StandsAgainstCertificate by inst cert) reason
 
 -- ---- the verdict
 
@@ -121,7 +110,7 @@ pub record IsCertifiedTour (by : Certificate) (inst sol cert : Fields) (length_i
   pub least : ℤ
   pub bound_is : bound ≡ Some least
   pub of_certificate : IsBoundOf by inst cert least
-  pub below_tours : BoundsTours inst least
+  pub below_tours : BoundsTours (problem_of inst) least
   pub sized : IsBoundSized least
 
 -- Rejected: the reason is the first one that applies. Accepted: none applies, and the tour is bounded so.

@@ -13,13 +13,13 @@ use crate::tour::{FEWEST_NODES, TourCosts, tour_costs};
 use std::alloc::{AllocError, Global};
 use tsp_cost::{Costs, Instance};
 use tsp_file::File;
-use tsp_reason::{Certificate, Reason};
+use tsp_reason::{BoundVerdict, Certificate, Reason};
 
 /// The bound that a certificate gives the tours of an instance, or the first reason against either. No
 /// tour of the instance is shorter than the bound.
 ///
-/// The reasons are `TooFewNodes` and `NotSymmetric`, and then those of the certificate. The bound is
-/// `None` where the instance has no tour, which a tree shows whose leaves all count for nothing.
+/// The reasons are `TooFewNodes` and `NotSymmetric`, and then those of the certificate. That the instance
+/// has no tour is shown by a tree whose leaves all count for nothing.
 ///
 /// # Requires
 ///
@@ -34,7 +34,7 @@ pub fn judge_bound(
     by: Certificate,
     instance: &Instance,
     certificate: &File,
-) -> Result<Result<Option<i128>, Reason>, AllocError>
+) -> Result<BoundVerdict, AllocError>
     requires { IsTrue (is_bounded by instance.now.kind) }
     ensures { MatchResult result
         (λ found. IsBoundVerdict by instance.now certificate.now found)
@@ -43,7 +43,7 @@ pub fn judge_bound(
 {
     let costs = match costs_of_tours(instance) {
         Ok(costs) => costs,
-        Err(reason) => return Ok(Err(reason)),
+        Err(reason) => return Ok(BoundVerdict::No(reason)),
     };
     bound_of(alloc, by, instance, costs, certificate)
 }

@@ -32,7 +32,7 @@ use tsp_bound::{
 use tsp_cost::{Costs, EvenView, Grouped, Instance, View};
 use tsp_file::File;
 use tsp_format::Kind;
-use tsp_reason::Reason;
+use tsp_reason::{BoundVerdict, Reason};
 
 /// The potentials of nodes that a certificate holds, and its multipliers of fixed pairs.
 #[derive(Clone, Copy, Debug)]
@@ -54,7 +54,7 @@ pub(crate) fn bound_by_nodes(
     inst: &Instance,
     view: EvenView<'_>,
     pot: &File,
-) -> Result<Result<i128, Reason>, AllocError>
+) -> Result<BoundVerdict, AllocError>
     requires kind { inst.now.kind ≡ Some kinds.Tsp }
     requires some { 3 ≤ nodes_of inst.now }
     requires shows { ShowsEven inst.now view }
@@ -63,34 +63,35 @@ pub(crate) fn bound_by_nodes(
     ensures refused { IsErr result → NoneWithoutMemory certificates.Potentials inst.now pot.now }
 {
     if let Some(reason) = first_against_file(inst, pot) {
-        return Ok(Err(reason));
+        return Ok(BoundVerdict::No(reason));
     }
     let Some(numbers) = node_numbers(pot) else {
-        return Ok(Err(Reason::PotentialsKind));
+        return Ok(BoundVerdict::No(Reason::PotentialsKind));
     };
     if let Some(reason) = first_against_multipliers(alloc, inst, pot, numbers.triples)? {
-        return Ok(Err(reason));
+        return Ok(BoundVerdict::No(reason));
     }
-    Ok(Ok(bound_of_potentials(alloc, inst, view, pot, &numbers)?))
+    let bound = bound_of_potentials(alloc, inst, view, pot, &numbers)?;
+    Ok(BoundVerdict::Bound(bound))
 }
 
 /// The bound that the potentials of rows and columns give an instance of TYPE ATSP, or the first
 /// reason against the certificate.
-pub(crate) fn bound_by_duals(inst: &Instance, view: View<'_>, pot: &File) -> Result<i128, Reason>
+pub(crate) fn bound_by_duals(inst: &Instance, view: View<'_>, pot: &File) -> BoundVerdict
     requires kind { inst.now.kind ≡ Some kinds.Atsp }
     requires some { 3 ≤ nodes_of inst.now }
     requires shows { Shows inst.now view }
     ensures { FindsBound certificates.Potentials inst.now pot.now result }
 {
     if let Some(reason) = first_against_file(inst, pot) {
-        return Err(reason);
+        return BoundVerdict::No(reason);
     }
     let Some(duals) = duals_of(pot) else {
-        return Err(Reason::PotentialsKind);
+        return BoundVerdict::No(Reason::PotentialsKind);
     };
     match bound_of_duals(inst, view, pot, &duals) {
-        Ok(bound) => Ok(bound),
-        Err(pair) => Err(Reason::DualInfeasible {
+        Ok(bound) => BoundVerdict::Bound(bound),
+        Err(pair) => BoundVerdict::No(Reason::DualInfeasible {
             i: pair.i,
             j: pair.j,
         }),

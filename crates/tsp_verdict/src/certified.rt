@@ -8,7 +8,7 @@ ghost use Rattle.tsp_reason.specs.declared.certificate.Certificate.TheVariants a
 ghost use Rattle.tsp_file.specs.Meant.{nodes_of};
 ghost use Rattle.tsp_verdict.specs.Tours.{NoneOfTourBeforeRepeats};
 ghost use Rattle.tsp_verdict.specs.states.Costs.{AreTourCosts, IsSymmetricTsp};
-ghost use Rattle.tsp_verdict.specs.Certified.{is_bounded, FindsBound, FindsBoundIfAny, NoneWithoutMemory, IsCertifiedVerdict};
+ghost use Rattle.tsp_verdict.specs.Certified.{is_bounded, FindsBound, NoneWithoutMemory, IsCertifiedVerdict};
 ghost use Rattle.tsp_verdict.specs.Judged.{IsVerdictWith};
 
 use crate::certificate::{bound_by_duals, bound_by_nodes};
@@ -19,7 +19,7 @@ use std::alloc::{AllocError, Global};
 use tsp_cost::Instance;
 use tsp_file::File;
 use tsp_format::Kind;
-use tsp_reason::{Certificate, Reason, Verdict};
+use tsp_reason::{BoundVerdict, Certificate, Reason, Verdict};
 
 /// The verdict on a solution of an instance with a certificate: rejected with the first reason
 /// against either, or accepted with the tour's length and a bound that no tour of the instance is
@@ -72,13 +72,13 @@ pub(crate) fn judge_with_claim(
         return Ok(Verdict::No(Reason::LengthClaimed { length }));
     }
     match bound_of(alloc, by, instance, costs, certificate)? {
-        Ok(Some(bound)) => Ok(Verdict::Tour {
+        BoundVerdict::Bound(bound) => Ok(Verdict::Tour {
             length,
             bound: Some(bound),
         }),
         // The judged tour is one of the instance.
-        Ok(None) => unreachable!(),
-        Err(reason) => Ok(Verdict::No(reason)),
+        BoundVerdict::NoTour => unreachable!(),
+        BoundVerdict::No(reason) => Ok(Verdict::No(reason)),
     }
 }
 
@@ -149,8 +149,8 @@ pub fn is_bounded(by: Certificate, kind: Kind) -> bool
     }
 }
 
-/// The bound that a certificate gives, `None` where the instance has no tour; or the first reason
-/// against it. Of duals no memory is taken.
+/// The bound that a certificate gives, or that the instance has no tour; or the first reason against
+/// it. Of duals no memory is taken.
 ///
 /// # Errors
 ///
@@ -161,33 +161,22 @@ pub(crate) fn bound_of(
     instance: &Instance,
     costs: TourCosts<'_>,
     certificate: &File,
-) -> Result<Result<Option<i128>, Reason>, AllocError>
+) -> Result<BoundVerdict, AllocError>
     requires some { 3 ≤ nodes_of instance.now }
     requires kind { (instance.now.kind ≡ Some kinds.Tsp) ⊎ (instance.now.kind ≡ Some kinds.Atsp) }
     requires costs { AreTourCosts instance.now costs }
     requires even { IsSymmetricTsp instance.now }
-    ensures found { IfOk result (λ found. FindsBoundIfAny by instance.now certificate.now found) }
+    ensures found { IfOk result (λ found. FindsBound by instance.now certificate.now found) }
     ensures refused { IsErr result → NoneWithoutMemory by instance.now certificate.now }
     ensures memory { by ≡ certificates.Potentials → instance.now.kind ≡ Some kinds.Atsp → IsOk result }
 {
     match (by, costs) {
         (Certificate::Potentials, TourCosts::Undirected(view)) => {
-            Ok(as_any(bound_by_nodes(alloc, instance, view, certificate)?))
+            bound_by_nodes(alloc, instance, view, certificate)
         }
         (Certificate::Potentials, TourCosts::Directed(view)) => {
-            Ok(as_any(bound_by_duals(instance, view, certificate)))
+            Ok(bound_by_duals(instance, view, certificate))
         }
         (Certificate::Branches, _) => bound_of_tree(alloc, instance, certificate),
-    }
-}
-
-/// A bound that is always given, as one that may not be.
-fn as_any(found: Result<i128, Reason>) -> Result<Option<i128>, Reason>
-    ensures { (by : Certificate) (instance certificate : Fields)
-        → FindsBound by instance certificate found → FindsBoundIfAny by instance certificate result }
-{
-    match found {
-        Ok(bound) => Ok(Some(bound)),
-        Err(reason) => Err(reason),
     }
 }

@@ -13,6 +13,7 @@
 mod bounded;
 mod certificate;
 mod certified;
+mod claim_examples;
 mod decided;
 mod examples;
 mod files;
@@ -30,6 +31,9 @@ mod visits;
 
 pub use bounded::judge_bound;
 pub use certified::{is_bounded, judge_certified, judge_tour_bound, judge_tour_branches};
+pub use claim_examples::{
+    examples_of_claimed_verdicts, examples_of_fixed_arcs, examples_of_other_claims,
+};
 pub use examples::{
     examples_against_certificates, examples_against_instances, examples_against_routes,
     examples_against_tours, examples_against_trees, examples_of_claims,
@@ -39,4 +43,4 @@ pub use examples::{
 pub use judged::judge;
 pub use routes::judge_routes;
 pub use tour::judge_tour;
-pub use tsp_reason::{Certificate, Reason, Verdict};
+pub use tsp_reason::{BoundVerdict, Certificate, Reason, Verdict};

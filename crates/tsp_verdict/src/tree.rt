@@ -12,7 +12,7 @@ ghost use Rattle.tsp_file.specs.Meant.{nodes_of};
 ghost use Rattle.tsp_verdict.specs.states.Costs.{IsSymmetricTsp};
 ghost use Rattle.tsp_verdict.specs.Tree.{StandsAgainstTree};
 ghost use Rattle.tsp_reason.specs.declared.certificate.Certificate.TheVariants as certificates;
-ghost use Rattle.tsp_verdict.specs.Certified.{FindsBoundIfAny, NoneWithoutMemory};
+ghost use Rattle.tsp_verdict.specs.Certified.{FindsBound, NoneWithoutMemory};
 
 use crate::decided::taken_once;
 use crate::files::fixed_pairs;
@@ -24,13 +24,13 @@ use tsp_branch::{
 };
 use tsp_cost::{Costs, Instance, View};
 use tsp_file::{File, TreeData};
-use tsp_reason::Reason;
+use tsp_reason::{BoundVerdict, Reason};
 
 /// The most nodes of which distances are kept for each pair, in 32 MB.
 const MOST_TABLED: u32 = 2_000;
 
-/// The bound that a certificate by branching gives an instance of TYPE TSP or ATSP, `None` where the
-/// instance has no tour; or the first reason against it.
+/// The bound that a certificate by branching gives an instance of TYPE TSP or ATSP, or that it has no
+/// tour; or the first reason against the certificate.
 ///
 /// # Errors
 ///
@@ -39,16 +39,16 @@ pub(crate) fn bound_of_tree(
     alloc: Global,
     instance: &Instance,
     branches: &File,
-) -> Result<Result<Option<i128>, Reason>, AllocError>
+) -> Result<BoundVerdict, AllocError>
     requires kind { (instance.now.kind ≡ Some kinds.Tsp) ⊎ (instance.now.kind ≡ Some kinds.Atsp) }
     requires some { 3 ≤ nodes_of instance.now }
     requires even { IsSymmetricTsp instance.now }
-    ensures found { IfOk result (λ found. FindsBoundIfAny certificates.Branches instance.now branches.now found) }
+    ensures found { IfOk result (λ found. FindsBound certificates.Branches instance.now branches.now found) }
     ensures refused { IsErr result → NoneWithoutMemory certificates.Branches instance.now branches.now }
 {
     let tree = match tree_of(instance, branches) {
         Ok(tree) => tree,
-        Err(reason) => return Ok(Err(reason)),
+        Err(reason) => return Ok(BoundVerdict::No(reason)),
     };
     // A view has found once and for all where the costs are.
     match instance.view() {
@@ -87,7 +87,7 @@ fn judge_distances<C: Costs>(
     branches: &File,
     tree: &TreeData<'_>,
     costs: &C,
-) -> Result<Result<Option<i128>, Reason>, AllocError>
+) -> Result<BoundVerdict, AllocError>
     requires keeps { HasCosts instance.now (C.nodes costs.now) (C.at costs.now) }
     requires kind { (instance.now.kind ≡ Some kinds.Tsp) ⊎ (instance.now.kind ≡ Some kinds.Atsp) }
     requires some { 3 ≤ nodes_of instance.now }
@@ -95,7 +95,7 @@ fn judge_distances<C: Costs>(
     requires sort { is_tree branches.now.kind ≡ true }
     requires count { nodes_of branches.now ≡ nodes_of instance.now }
     requires held { HoldsCases branches.now tree.now.scale (combs_of tree.now.combs.now) (steps_of tree.now.steps.now) }
-    ensures { IfOk result (λ found. FindsBoundIfAny certificates.Branches instance.now branches.now found) }
+    ensures { IfOk result (λ found. FindsBound certificates.Branches instance.now branches.now found) }
 {
     if costs.count() > MOST_TABLED || tree.steps.len() == 1 {
         return judge_tree(alloc, instance, branches, tree, costs);
@@ -118,7 +118,7 @@ fn judge_tree<C: Costs>(
     branches: &File,
     tree: &TreeData<'_>,
     costs: &C,
-) -> Result<Result<Option<i128>, Reason>, AllocError>
+) -> Result<BoundVerdict, AllocError>
     requires keeps { HasCosts instance.now (C.nodes costs.now) (C.at costs.now) }
     requires kind { (instance.now.kind ≡ Some kinds.Tsp) ⊎ (instance.now.kind ≡ Some kinds.Atsp) }
     requires some { 3 ≤ nodes_of instance.now }
@@ -126,7 +126,7 @@ fn judge_tree<C: Costs>(
     requires sort { is_tree branches.now.kind ≡ true }
     requires count { nodes_of branches.now ≡ nodes_of instance.now }
     requires held { HoldsCases branches.now tree.now.scale (combs_of tree.now.combs.now) (steps_of tree.now.steps.now) }
-    ensures { IfOk result (λ found. FindsBoundIfAny certificates.Branches instance.now branches.now found) }
+    ensures { IfOk result (λ found. FindsBound certificates.Branches instance.now branches.now found) }
 {
     certificates_bound_cycles();
     numbers_are_unique();
@@ -137,15 +137,15 @@ fn judge_tree<C: Costs>(
     match judge_branches(
         alloc, costs, directed, tree.scale, count, &sets, &given, tree.steps,
     )? {
-        BranchVerdict::Bound(Some(bound)) => Ok(Ok(Some(bound))),
-        BranchVerdict::Bound(None) => Ok(Ok(None)),
-        BranchVerdict::BadComb(index) => Ok(Err(Reason::BadComb {
+        BranchVerdict::Bound(Some(bound)) => Ok(BoundVerdict::Bound(bound)),
+        BranchVerdict::Bound(None) => Ok(BoundVerdict::NoTour),
+        BranchVerdict::BadComb(index) => Ok(BoundVerdict::No(Reason::BadComb {
             index: index as u32,
         })),
-        BranchVerdict::BranchTwice(index) => Ok(Err(Reason::BranchTwice {
+        BranchVerdict::BranchTwice(index) => Ok(BoundVerdict::No(Reason::BranchTwice {
             index: index as u32,
         })),
-        BranchVerdict::BadLeaf(index) => Ok(Err(Reason::BadLeaf {
+        BranchVerdict::BadLeaf(index) => Ok(BoundVerdict::No(Reason::BadLeaf {
             index: index as u32,
         })),
     }

@@ -1,5 +1,5 @@
 -- A tree of boxes over nodes in an order, its leaves one node each, and what a search of it finds.
-use Rattle.std.specs.Prelude.{◌≡◌, ℕ, zero, suc, ◌+◌, ◌*◌, ◌/◌, ◌<◌, ◌≤◌, Bool, true, List, Option, None, Some, length, slice_index_or, slice_set, ℤ, pos, neg_ℤ, ◌≤ℤ◌, ◌<ℤ◌, ◌⊎◌}
+use Rattle.std.specs.Prelude.{◌≡◌, ℕ, zero, suc, ◌+◌, ◌*◌, ◌/◌, ◌<◌, ◌≤◌, Bool, true, List, Option, None, Some, length, slice_index_or, slice_set, ℤ, pos, ◌≤ℤ◌, ◌⊎◌}
 use denote.Struct.Props as logic
 use mathlib.Core.HLevel.{Π_prop, ⊥_prop}
 use Rattle.tsp_distance.specs.declared.decimal.Point.{Point}
@@ -46,13 +46,9 @@ pub record IsRefit {A : Type 0} (none : A) (In : A → ℕ → Type 0) (old new 
   pub left : (p : ℕ) → In (box_at none old (2 * v)) p → In box p
   pub right : (p : ℕ) → In (box_at none old (2 * v + 1)) p → In box p
 
--- the least number of 64 bits says nothing
-abbrev pub IsKnown : ℤ → Type 0
-IsKnown bound = neg_ℤ (pos 9223372036854775808) <ℤ bound
-
 -- no more than the weight of each node that is in
 abbrev pub IsBelowAll : (ℕ → Type 0) → (ℕ → Type 0) → (ℕ → ℤ) → ℤ → Type 0
-IsBelowAll IsOne In weight bound = IsKnown bound → (node : ℕ) → IsOne node → In node → bound ≤ℤ weight node
+IsBelowAll IsOne In weight bound = (node : ℕ) → IsOne node → In node → bound ≤ℤ weight node
 
 -- a place whose node is outside, and the weight to it
 pub record IsFound (w : ℕ → ℕ → ℤ) (order : List ℕ) (outside : ℕ → Bool) (from : ℕ) (best : Best) : Type 0 where

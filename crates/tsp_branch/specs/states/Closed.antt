@@ -1,9 +1,8 @@
 -- Rows in which the links that decisions don't allow are closed.
-use Rattle.std.specs.Prelude.{◌≡◌, ℕ, List, ◌++◌, ◌⊎◌, ℤ, pos}
+use Rattle.std.specs.Prelude.{◌≡◌, ℕ, List, ◌⊎◌, ℤ, pos}
 use Rattle.tsp_format.specs.Cells.{IsNode}
 use Rattle.tsp_theory.specs.states.Nearest.{least_at}
 use Rattle.tsp_branch.specs.declared.decision.Decision.{Decision}
-use Rattle.tsp_branch.specs.states.Decided.{stack_of}
 use Rattle.tsp_branch.specs.Rows.{IsAllowed}
 
 -- the weight that means no link: the largest number of 64 bits, below which all weights are
@@ -13,10 +12,6 @@ closed = pos 9223372036854775807
 -- a value as it was, where the link is allowed; else closed
 abbrev pub IsShut : Type 0 → ℤ → ℤ → Type 0
 IsShut Allowed old new = (Allowed × (new ≡ old)) ⊎ ((Allowed → ⊥) × (new ≡ closed))
-
--- the decisions of a case: those on the stack, the last one first, and those that are given for all cases
-abbrev pub decisions_of : List Decision → List Decision → List Decision
-decisions_of given stack = stack_of stack ++ given
 
 -- a row of weights from a node in which the links that aren't allowed are closed
 abbrev pub IsOpenRow : ℕ → (ℕ → ℕ → ℤ) → List Decision → ℕ → List ℤ → Type 0

@@ -1,9 +1,9 @@
 -- Weights under combs as code finds them: by the sets of the combs, each with the multiplier of its comb.
-use Rattle.std.specs.Prelude.{◌≡◌, ◌≢◌, ℕ, ◌*◌, ◌<◌, List, [], map, length, slice_index_or, ℤ, pos, ◌-ℤ◌, ◌*ℤ◌}
+use Rattle.std.specs.Prelude.{◌≡◌, ◌≢◌, ℕ, ◌*◌, ◌<◌, List, [], map, length, slice_index_or, ℤ, pos, neg_ℤ, ◌+ℤ◌, ◌-ℤ◌, ◌*ℤ◌}
 use Rattle.std.specs.List.{All, AllPairs}
 use Rattle.tsp_theory.specs.Length.{sum_int_by}
 use Rattle.tsp_theory.specs.Numbers.{IsFromTo}
-use Rattle.tsp_theory.specs.NodeBound.{weight_between}
+use Rattle.tsp_theory.specs.NodeBound.{weight_between, most_between}
 use Rattle.tsp_theory.specs.Tree.{crossing}
 use Rattle.tsp_theory.specs.Adjusted.{adjusted}
 use Rattle.tsp_format.specs.Cells.{IsNode}
@@ -13,7 +13,7 @@ use Rattle.tsp_branch.specs.LeafBound.{crossings_of, leaf_weight}
 use Rattle.tsp_branch.specs.Certificate.{multiplied}
 use Rattle.tsp_branch.specs.CombsOfSets.{NumberedSet, families_of}
 use Rattle.tsp_branch.specs.Judged.{most_crossed}
-use Rattle.tsp_branch.specs.states.Sets.{added}
+use Rattle.tsp_branch.specs.states.Sets.{IsMoved, added}
 use Rattle.tsp_families.specs.declared.comb_set.CombSet.{CombSet}
 
 -- sets as the definitions have them
@@ -58,6 +58,12 @@ inside_both multipliers sets numbers x = sum_int_by (λ number. twice_in multipl
 abbrev pub set_weight : ℤ → List ℤ → List ℤ → List NumberedSet → (ℕ → ℕ → ℤ) → ℕ → ℕ → ℤ
 set_weight scale potentials multipliers sets cost i j =
     weight_between scale potentials cost i j -ℤ set_crossings multipliers sets i j
+
+-- a value is what is left in 64 bits of a weight as if no set had two nodes, which without sets is so large at most
+abbrev pub IsApart : ℤ → List ℤ → List ℤ → List NumberedSet → (ℕ → ℕ → ℤ) → ℕ → ℕ → ℤ → Type 0
+IsApart scale potentials multipliers sets cost i j value =
+    IsMoved (neg_ℤ (multipliers_at multipliers sets i) +ℤ neg_ℤ (multipliers_at multipliers sets j)) (weight_between scale potentials cost i j) value
+    × IsFromTo (neg_ℤ (pos most_between)) (pos most_between) (weight_between scale potentials cost i j)
 
 -- two nodes of 1..n don't cross the sets too often; and how large a weight is
 abbrev pub AreFewCrossings : ℕ → List ℤ → List NumberedSet → Type 0

@@ -17,10 +17,6 @@ IsDecision n decision = IsNode n decision.pair.0 × IsNode n decision.pair.1 × 
 abbrev pub decided : List Decision → (ℕ → ℕ → ℤ) → ℕ → ℕ → ℤ
 decided decisions w = adjusted (on_taken decided_number decisions) (on_avoided decided_number decisions) w
 
--- the same by decisions that are given for all cases, and those of a case
-abbrev pub decided_twice : List Decision → List Decision → (ℕ → ℕ → ℤ) → ℕ → ℕ → ℤ
-decided_twice given decisions w = decided decisions (decided given w)
-
 -- what a decision adds to the weight of two nodes, and what several do
 abbrev pub signed : Bool → ℤ
 signed taken = if taken then (neg_ℤ decided_number) else decided_number
@@ -32,9 +28,8 @@ abbrev pub changes : List Decision → ℕ → ℕ → ℤ
 changes decisions i j = sum_int_by (λ decision. change_of decision i j) decisions
 
 -- no weight changes by more than one decision does
-abbrev pub AreFewChanges : List Decision → List Decision → Type 0
-AreFewChanges given decisions =
-    (i j : ℕ) → IsFromTo (neg_ℤ decided_number) decided_number (changes given i j +ℤ changes decisions i j)
+abbrev pub AreFewChanges : List Decision → Type 0
+AreFewChanges case = (i j : ℕ) → IsFromTo (neg_ℤ decided_number) decided_number (changes case i j)
 
 -- a value as it was, where the pair is another one; else what is left of the sum with the number in 64 bits
 abbrev pub IsChanged : Decision → ℕ → ℕ → ℤ → ℤ → Type 0

@@ -1,14 +1,10 @@
 -- Sets of nodes as code has them, each with the number of its comb, and what they add to a row of numbers by node.
-use Rattle.std.specs.Prelude.{◌≡◌, ℕ, suc, ◌==◌, ◌+◌, ◌++◌, ◌<◌, ◌≤◌, if◌then◌else◌, List, [], ◌∷◌, length, slice_index_or, ℤ, pos, ◌+ℤ◌, ◌⊎◌}
-use Rattle.std.specs.Int.{w64, int_wrap}
+use Rattle.std.specs.Prelude.{◌≡◌, ℕ, suc, ◌==◌, ◌+◌, ◌++◌, ◌<◌, ◌≤◌, if◌then◌else◌, List, [], ◌∷◌, length, slice_index_or, ℤ, pos}
 use Rattle.std.specs.Global.{Vec}
 use Rattle.std.specs.List.{AllPairs}
 use Rattle.tsp_theory.specs.Length.{sum_int_by}
+pub use Rattle.tsp_tree.specs.states.Moved.{IsMoved}
 use Rattle.tsp_families.specs.declared.comb_set.CombSet.{CombSet}
-
--- a value as it was, where nothing is added; else what is left of the sum in 64 bits
-abbrev pub IsMoved : ℤ → ℤ → ℤ → Type 0
-IsMoved change old new = ((new ≡ old) × (change ≡ pos 0)) ⊎ (new ≡ int_wrap w64 (old +ℤ change))
 
 -- the number of a node where a number is added for each place with the node
 abbrev pub added : ℤ → List ℕ → ℕ → ℤ

@@ -3,10 +3,9 @@ use Rattle.tsp_format.specs.Cells.{IsNode}
 use Rattle.tsp_bound.specs.states.Potentials.{numbers_of, weight_under}
 use Rattle.tsp_bound.specs.declared.area.Area.{Area}
 use Rattle.tsp_bound.specs.states.Boxes.{HoldsNode, IsSearched, no_best, node_of}
-use Rattle.tsp_bound.proofs.Boxed.{known_64}
 use Rattle.tsp_bound.proofs.Trees.{searched_alone, searched_both}
 use Rattle.tsp_bound.proofs.nearest.nearest_from.Goals as goal
-use Rattle.tsp_bound.proofs.nearest.nearest_from.Goals.{then-v-eq0, else-v-eq0, then-not-is_no_better, else-not-is_no_better}
+use Rattle.tsp_bound.proofs.nearest.nearest_from.Goals.{then-v-eq0, else-v-eq0, then-not-is_left_alone, else-not-is_left_alone}
 
 pub climb-preserved : goal.climb-preserved
 climb-preserved g c =
@@ -19,18 +18,16 @@ climb-preserved g c =
       | then-v-eq0 u ↦ (omega (arith, u.other-is, u.if-v-eq0.true), λ e. omega (arith, u.other-is, e))
       | else-v-eq0 u ↦ (omega (arith, u.other-is, u.if-v-eq0.false), λ e. omega (arith, u.other-is, e, u.if-v-eq0.false))
     ] in
-    let searched : IsSearched w c.args.order.now (g.S.Seen.outside_of c.args.seen.now) from other c.climb.best c.if-not-is_no_better.best = elim c.if-not-is_no_better.branch [
-      | then-not-is_no_better u ↦ rw u.best-is u.search-best.ensures
-      | else-not-is_no_better u ↦
-          let bound_fits : SFits w64 c.bound_of-bound.result = search rules in
-          let best_fits : SFits w64 c.climb.best.weight = search rules in
-          let known = known_64 c.bound_of-bound.result c.climb.best.weight bound_fits best_fits u.if-not-is_no_better.ensures in
+    let fits : SFits w64 c.climb.best.weight = search rules in
+    let searched : IsSearched w c.args.order.now (g.S.Seen.outside_of c.args.seen.now) from other c.climb.best c.if-not-is_left_alone.best = elim c.if-not-is_left_alone.branch [
+      | then-not-is_left_alone u ↦ rw u.best-is u.below-best.ensures
+      | else-not-is_left_alone u ↦
           rw u.best-is (searched_alone In (IsNode (g.C.Costs.nodes c.args.c.now)) w c.args.order.now (g.S.Seen.outside_of c.args.seen.now) (g.S.Seen.area_of c.args.seen.now) from other c.climb.best
-          c.bound_of-bound.result (omega (arith, halves.0, c.climb-test.true)) c.requires.held c.requires.nodes c.bound_of-bound.ensures known.0 known.1)
+          fits (omega (arith, halves.0, c.climb-test.true)) c.requires.held c.requires.nodes u.if-not-is_left_alone.ensures)
     ] in
     record {
       low = omega (arith, c.climb-test.true);
       high = omega (arith, c.climb.invariant.high);
-      searched = searched_both w c.args.order.now (g.S.Seen.outside_of c.args.seen.now) from (v / 2) v other no_best c.climb.best c.if-not-is_no_better.best
+      searched = searched_both w c.args.order.now (g.S.Seen.outside_of c.args.seen.now) from (v / 2) v other no_best c.climb.best c.if-not-is_left_alone.best
           (omega (arith, c.climb.invariant.high)) (omega arith) halves.0 halves.1 c.climb.invariant.searched searched;
     }

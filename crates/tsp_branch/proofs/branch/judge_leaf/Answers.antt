@@ -1,4 +1,4 @@
-use Rattle.std.proofs.Common.{◌∙◌, ◌++◌, ℕ, ℤ, List, length, take, drop, Option, refl, ap, subst}
+use Rattle.std.proofs.Common.{◌∙◌, ℕ, ℤ, List, length, take, drop, Option, refl, ap, subst}
 use Rattle.std.specs.List.{All}
 use Rattle.tsp_format.specs.Cells.{IsNode}
 use Rattle.tsp_branch.specs.states.Combed.{plain}
@@ -7,7 +7,7 @@ use Rattle.tsp_branch.specs.Cases.{LeafNumbers}
 use Rattle.tsp_branch.specs.Certificate.{IsFoundAt}
 use Rattle.tsp_branch.specs.declared.decision.Decision.{Decision}
 use Rattle.tsp_branch.specs.Decisions.{decided_number}
-use Rattle.tsp_branch.specs.states.Decided.{stack_of}
+use Rattle.tsp_branch.specs.states.OpenCases.{decisions_in}
 use Rattle.tsp_branch.specs.Listed.{all_grown}
 use Rattle.tsp_branch.proofs.CaseWeights.{all_some}
 use Rattle.tsp_branch.proofs.Judging.{written, good_read, judged_leaf}
@@ -36,7 +36,7 @@ returns-clause-judged g c =
     ∙ c.if-not-judge.ensures.multipliers refl in
     let setting = c.args.setting.now in
     let found : List Decision × LeafNumbers → Option ℤ → Type 0 = IsFoundAt setting.directed n (g.C.Costs.at setting.costs.now) setting.scale decided_number (families_of setting.crossed.now (plain setting.sets.now)) in
-    judged_leaf found n setting.crossed.now (stack_of c.args.decisions.now ++ setting.given.now) room.numbers.items changes _ c.deref-2.result.now c.deref-3.result.now c.in_ok-bound.bound
+    judged_leaf found n setting.crossed.now (decisions_in c.args.case.now) room.numbers.items changes _ c.deref-2.result.now c.deref-3.result.now c.in_ok-bound.bound
     c.requires.room.numbers (all_some n setting.crossed.now (plain setting.sets.now) c.requires.are_families) inside (now ∙ grown) good (of_nodes ∙ ap (λ (k : ℕ). take k read) at ∙ ap (take n) c.deref.ensures.value)
     (of_combs ∙ ap (λ (k : ℕ). drop k read) at ∙ ap (drop n) c.deref.ensures.value)
     c.in_ok-bound.ensures.bound

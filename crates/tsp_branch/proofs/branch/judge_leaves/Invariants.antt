@@ -1,12 +1,11 @@
-use Rattle.std.proofs.Common.{◌≤◌, ℕ, length, drop}
+use Rattle.std.proofs.Common.{◌≡◌, ◌≤◌, ℕ, length, drop}
 use Rattle.std.specs.Prelude.{IfSome}
-use Rattle.std.specs.List.{All}
 use Rattle.tsp_format.specs.states.TreeSteps.{steps_of}
 use Rattle.tsp_theory.specs.Numbers.{IsBoundSized}
 use Rattle.tsp_branch.specs.states.Combed.{plain}
 use Rattle.tsp_branch.specs.CombsOfSets.{families_of}
 use Rattle.tsp_branch.specs.Certificate.{IsFoundAt}
-use Rattle.tsp_branch.specs.states.Decided.{IsDecision}
+use Rattle.tsp_branch.specs.states.OpenCases.{IsOpenCase}
 use Rattle.tsp_branch.specs.Decisions.{decided_number}
 use Rattle.tsp_branch.specs.states.Rooms.{IsRoom, AreSmall}
 use Rattle.tsp_branch.proofs.Passes.{IsAtStep}
@@ -17,12 +16,14 @@ invariant-steps g l =
     let s = l.setting in
     let n : ℕ = g.C.Costs.nodes s.costs.now in
     record {
-      at : IsAtStep (IsFoundAt s.directed n (g.C.Costs.at s.costs.now) s.scale decided_number (families_of s.crossed.now (plain s.sets.now))) s.directed n s.crossed.now s.given.now (steps_of l.steps) l.room.numbers.items l.stack.items l.lowest l.leaf
+      at : IsAtStep (IsFoundAt s.directed n (g.C.Costs.at s.costs.now) s.scale decided_number (families_of s.crossed.now (plain s.sets.now))) s.directed n s.crossed.now s.given.now (steps_of l.steps) l.room.numbers.items l.case.stack.items l.lowest l.leaf
           (steps_of (drop l.step-index l.steps));
       room : IsRoom n (length s.crossed.now) l.room;
       small : AreSmall l.room.numbers.items;
-      pairs : All (IsDecision n) l.stack.items;
-      few : length l.stack.items ≤ l.step-index;
+      case : IsOpenCase n l.case;
+      given : l.case.given.now ≡ s.given.now;
+      direction : l.case.by_node.directed ≡ s.directed;
+      few : length l.case.stack.items ≤ l.step-index;
       leaves : l.leaf ≤ l.step-index;
       sized : IfSome l.lowest IsBoundSized;
     }

@@ -3,7 +3,8 @@ use Rattle.tsp_branch.proofs.OpenRows.{opened}
 use Rattle.tsp_branch.proofs.rows.close_row.Goals as goal
 
 pub returns : goal.returns
-returns c = λ n w room read.
-    opened n w c.args.given.now c.args.decisions.now c.args.from (length c.args.row.now) c.args.row.now c.shut.new.row c.close_all.new.row _ room read c.shut.ensures.here c.shut.ensures.others
+returns c = λ n w case room read own_is taken_is.
+    opened n w case c.args.own.now c.args.taken.now c.args.from (length c.args.row.now) c.args.row.now c.shut.new.row c.close_all.new.row _ room read own_is taken_is
+    c.shut.ensures.here c.shut.ensures.others
     (λ x lt. c.close_all.ensures x (omega (arith, lt, c.shut.auto.row)))
     (λ x lt. c.close_all-2.ensures x (omega (arith, lt, c.shut.auto.row, c.close_all.auto.row)))

@@ -2,13 +2,13 @@ use Rattle.std.proofs.Common.{◌+◌, ◌≤◌, ◌∙◌, ℤ, arith, rules, 
 use Rattle.std.specs.Int.{w64, w128}
 use Rattle.std.proofs.lemmas.Int.{ints, to_z-of_z}
 use Rattle.tsp_format.specs.Limits.{most_nodes}
-use Rattle.tsp_branch.specs.states.Closed.{decisions_of}
+use Rattle.tsp_branch.specs.states.OpenCases.{decisions_in}
 use Rattle.tsp_branch.proofs.Sums.{sum_none, sum_more, size_more, sum_computed}
 use Rattle.tsp_branch.proofs.rows.sum_of_least.Goals as goal
 
 pub nodes-init : goal.nodes-init
 nodes-init g c = record {
-  sum = sum_none (g.W.Weights.nodes c.args.w.now) (g.W.Weights.at c.args.w.now) (decisions_of c.args.given.now c.args.decisions.now);
+  sum = sum_none (g.W.Weights.nodes c.args.w.now) (g.W.Weights.at c.args.w.now) (decisions_in c.args.case.now);
   size = (omega (arith, ints), omega (arith, ints));
 }
 
@@ -22,7 +22,7 @@ nodes-preserved g c =
     let few : c.nodes.index ≤ most_nodes = omega (arith, c.nodes-test.true, c.count-index-end.ensures.most) in
     let is = sum_computed sum least c.from-sum.result c.nodes.index few c.nodes.invariant.size fits (c.from-sum.ensures ∙ to_z-of_z w64 least fits) in
     record {
-      sum = rw is (sum_more n w (decisions_of c.args.given.now c.args.decisions.now) c.nodes.index sum least c.nodes.invariant.sum c.in-Some.ensures);
+      sum = rw is (sum_more n w (decisions_in c.args.case.now) c.nodes.index sum least c.nodes.invariant.sum c.in-Some.ensures);
       size = rw is (size_more sum least c.nodes.index c.nodes.invariant.size fits);
     }
 

@@ -1,10 +1,10 @@
 use Rattle.tsp_theory.specs.Numbers.{IsSumSized}
 use Rattle.tsp_branch.specs.Rows.{IsSumOfLeast}
-use Rattle.tsp_branch.specs.states.Closed.{decisions_of}
+use Rattle.tsp_branch.specs.states.OpenCases.{decisions_in}
 use Rattle.tsp_branch.proofs.rows.sum_of_least.Given as goal
 
 abbrev pub invariant-nodes : goal.invariant-nodes
 invariant-nodes g l = record {
-  sum : IsSumOfLeast (g.W.Weights.nodes l.w) (g.W.Weights.at l.w) (decisions_of l.given l.decisions) l.index l.sum;
+  sum : IsSumOfLeast (g.W.Weights.nodes l.w) (g.W.Weights.at l.w) (decisions_in l.case) l.index l.sum;
   size : IsSumSized l.index l.sum;
 }

@@ -3,7 +3,7 @@ use Rattle.std.proofs.KnownBytes.{Keeps-refl}
 use Rattle.tsp_stream.specs.states.Watched.{turn_of}
 use Rattle.tsp_judge.proofs.HandedOn.{handed_on}
 use Rattle.tsp_judge.proofs.Runs.{none_taken}
-use Rattle.tsp_judge.proofs.Bounding.{bound_first_stops, bound_second_stops, bound_run_of, bound_fault_of}
+use Rattle.tsp_judge.proofs.Bounding.{bound_first_stops, bound_second_stops, bound_fault_of}
 use Rattle.tsp_judge.proofs.bound.run_bound.Goals as goal
 
 pub returns-in_err-instance : goal.returns-in_err-instance
@@ -41,4 +41,4 @@ pub returns : goal.returns
 returns g c =
     let one = c.in_ok-instance.ensures in
     let two = c.in_ok-certificate.ensures in
-    (one.0, one.1, (two.0, two.1, bound_run_of _ _ _ _ _ (c.bound_read.ensures _ _ one.2 two.2)))
+    (one.0, one.1, (two.0, two.1, c.bound_read.ensures _ _ one.2 two.2))

@@ -2,11 +2,13 @@ use Rattle.std.proofs.Common.{◌≡◌, Err, refl, sym, subst}
 use Rattle.std.proofs.KnownBytes.{Keeps-refl}
 use Rattle.tsp_read.specs.Reads.{IsFile}
 use Rattle.tsp_judge.proofs.HandedOn.{handed_on}
+use Rattle.tsp_cost.specs.ProblemLaws.{IsProblem}
 use Rattle.tsp_judge.proofs.Runs.{are_read, ends_without, none_judged}
+use Rattle.tsp_judge.proofs.Yeses.{run_of, fault_of_run}
 use Rattle.tsp_judge.proofs.checked.judge_read.Goals as goal
 
 pub returns-in_default : goal.returns-in_default
-returns-in_default g c = λ given first second one two three. (
+returns-in_default g c = λ given first second one two three. fault_of_run given _ first second _ _ (
   c.args.instance,
   c.args.solution,
   c.args.certificate,
@@ -17,9 +19,10 @@ returns-in_default g c = λ given first second one two three. (
 pub returns-in_err-verdict : goal.returns-in_err-verdict
 returns-in_err-verdict g c = λ given first second one two three.
     let same : c.from_residual.result ≡ Err c.in_err-verdict.field-0.0 = handed_on _ _ c.from_residual.ensures.1 in
-    rw same (ends_without given _ first second c.in-Ok.instance c.args.solution c.args.certificate _ _
-    (are_read given first second c.in-Ok.instance c.args.solution c.args.certificate (subst (IsFile first) (sym c.in-Ok.ensures.0) one) two three) c.in_err-verdict.ensures)
+    rw same (fault_of_run given _ first second _ _ (ends_without given _ first second c.in-Ok.instance c.args.solution c.args.certificate _ _
+    (are_read given first second c.in-Ok.instance c.args.solution c.args.certificate (subst (IsFile first) (sym c.in-Ok.ensures.0) one) two three) c.in_err-verdict.ensures))
 
 pub returns : goal.returns
 returns g c = λ given first second one two three.
+    run_of given _ first second _ _ (subst IsProblem (sym c.in-Ok.ensures.0) c.in-Ok.ensures.2)
     (are_read given first second c.in-Ok.instance c.args.solution c.args.certificate (subst (IsFile first) (sym c.in-Ok.ensures.0) one) two three, c.in_ok-verdict.ensures)

@@ -3,7 +3,7 @@ use Rattle.std.proofs.KnownBytes.{Keeps-refl}
 use Rattle.tsp_stream.specs.states.Watched.{turn_of}
 use Rattle.tsp_judge.proofs.HandedOn.{handed_on}
 use Rattle.tsp_judge.proofs.Runs.{none_taken, unread_in, first_stops, second_stops, third_stops}
-use Rattle.tsp_judge.proofs.Yeses.{run_of, fault_of_run}
+use Rattle.tsp_judge.proofs.Yeses.{fault_of_run}
 use Rattle.tsp_judge.proofs.checked.run.Goals as goal
 
 pub returns-in_err-instance : goal.returns-in_err-instance
@@ -82,4 +82,4 @@ returns g c =
     let one = c.in_ok-instance.ensures in
     let two = c.in_ok-solution.ensures in
     let three = c.in_ok-certificate.ensures in
-    (one.0, one.1, (two.0, two.1, (three.0, three.1, (three.2.0, run_of _ _ _ _ _ _ (c.judge_read.ensures _ _ _ one.2 two.2 three.2.1)))))
+    (one.0, one.1, (two.0, two.1, (three.0, three.1, (three.2.0, c.judge_read.ensures _ _ _ one.2 two.2 three.2.1))))

@@ -1,7 +1,23 @@
+use Rattle.std.proofs.Common.{◌++◌, rules}
+use Rattle.std.specs.Prelude.{codes, FitsSigned}
+use Rattle.std.specs.Int.{w128}
+use Rattle.std.proofs.lemmas.Int.{to_z-of_z}
+use Rattle.std.specs.Fmt.{signed_decimal}
+use Rattle.tsp_stream.specs.states.Way.{way_of}
+use Rattle.tsp_stream.proofs.Carrying.{carried_then}
 use Rattle.tsp_report.proofs.bound.put_found.Goals as goal
 
-pub returns-in-Ok : goal.returns-in-Ok
-returns-in-Ok g c = rw c.in-Ok.is c.put_bound.ensures
+pub returns-in-Bound : goal.returns-in-Bound
+returns-in-Bound g c =
+    let start = way_of g.W.Write.contents c.args.out.now c.args.piece.now.items in
+    let after_bound = way_of g.W.Write.contents c.put_named.new.out c.put_named.new.piece.items in
+    let last = way_of g.W.Write.contents c.put.new.out c.put.new.piece.items in
+    let fits : FitsSigned w128 c.in-Bound.bound = search rules in
+    let named = simp to_z-of_z at c.put_named.ensures in
+    rw c.in-Bound.is (carried_then start after_bound last (codes "bound " ++ signed_decimal c.in-Bound.bound) (codes "\nyes\n") named c.put.ensures)
 
-pub returns-in-Err : goal.returns-in-Err
-returns-in-Err g c = rw c.in-Err.is c.put_no.ensures
+pub returns-in-NoTour : goal.returns-in-NoTour
+returns-in-NoTour g c = rw c.in-NoTour.is c.put-in-NoTour.ensures
+
+pub returns-in-No : goal.returns-in-No
+returns-in-No g c = rw c.in-No.is c.put_no.ensures

@@ -2,7 +2,7 @@ use Rattle.std.proofs.Common.{rules, subst}
 use Rattle.std.specs.Int.{w64}
 use Rattle.std.specs.Prelude.{FitsSigned}
 use Rattle.std.proofs.lemmas.Int.{to_z-of_z}
-use Rattle.tsp_verdict.specs.Certified.{FindsBoundIfAny}
+use Rattle.tsp_verdict.specs.Certified.{FindsBound}
 use Rattle.tsp_verdict.specs.Judged.{IsAsClaimed, IsOtherClaimed}
 use Rattle.tsp_verdict.specs.states.Costs.{FindsLength}
 use Rattle.tsp_verdict.proofs.Certificates.{enough, kinds_bounded, symmetric_tsp}
@@ -30,10 +30,10 @@ bound_of-requires-clause-even c =
     let found = subst (λ found. FindsLength c.args.instance.now c.args.solution.now found) c.in-Ok.is c.in_ok-found.ensures in
     symmetric_tsp c.args.instance.now _ found.1
 
-pub returns-in-Err-2 : goal.returns-in-Err-2
-returns-in-Err-2 c =
+pub returns-in-No : goal.returns-in-No
+returns-in-No c =
     let found = subst (λ found. FindsLength c.args.instance.now c.args.solution.now found) c.in-Ok.is c.in_ok-found.ensures in
     let fits : FitsSigned w64 c.in-Ok.found.0 = search rules in
-    let first = subst (λ bound. FindsBoundIfAny c.args.by c.args.instance.now c.args.certificate.now bound) c.in-Err-2.is c.in_ok-bound.ensures.found in
-    certificate_refused c.args.by c.args.instance.now c.args.solution.now c.args.certificate.now c.args.claimed c.in-Ok.found.0 c.in-Err-2.reason c.requires found.0
+    let first = subst (λ bound. FindsBound c.args.by c.args.instance.now c.args.certificate.now bound) c.in-No.is c.in_ok-bound.ensures.found in
+    certificate_refused c.args.by c.args.instance.now c.args.solution.now c.args.certificate.now c.args.claimed c.in-Ok.found.0 c.in-No.reason c.requires found.0
     (subst (IsAsClaimed c.args.claimed) (to_z-of_z w64 c.in-Ok.found.0 fits) (c.is_other.ensures.same c.if-is_other.false)) first

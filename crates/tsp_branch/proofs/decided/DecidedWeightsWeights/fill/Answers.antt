@@ -1,17 +1,28 @@
-use Rattle.std.proofs.Common.{◌≡◌, ℕ, ℤ, List, arith, sym, subst}
+use Rattle.std.proofs.Common.{◌≡◌, ◌∙◌, ℕ, ℤ, Bool, List, arith, sym, subst}
 use Rattle.std.specs.Prelude.{◌+ℤ◌, pos, neg_ℤ, ◌<ℤ◌}
+use Rattle.std.specs.List.{filter}
 use Rattle.std.proofs.lemmas.Int.{ints}
 use Rattle.tsp_theory.specs.Numbers.{IsFromTo}
 use Rattle.tsp_format.specs.Cells.{IsNode}
 use Rattle.tsp_theory.specs.states.Nearest.{least_at}
 use Rattle.tsp_theory.proofs.Nearest.{most_64}
 use Rattle.tsp_branch.specs.states.Combed.{plain, set_weight}
+use Rattle.tsp_branch.specs.states.Sets.{IsMoved}
 use Rattle.tsp_branch.specs.declared.decision.Decision.{Decision}
-use Rattle.tsp_branch.specs.states.Decided.{decided, decided_twice, changes}
+use Rattle.tsp_branch.specs.states.Decided.{decided, changes, stack_of}
+use Rattle.tsp_branch.specs.states.OpenCases.{bears_on, decisions_in}
 use Rattle.tsp_branch.proofs.Changes.{changes_are, within}
-use Rattle.tsp_branch.proofs.SetSums.{moved_on}
+use Rattle.tsp_branch.proofs.OpenCases.{changes_listed}
+use Rattle.tsp_branch.proofs.OpenRows.{both_inside}
 use Rattle.tsp_branch.proofs.SetAlgebra.{moved_to}
 use Rattle.tsp_branch.proofs.decided.DecidedWeightsWeights.fill.Goals as goal
+
+pub change_row-requires : goal.change_row-requires
+change_row-requires g c =
+    let p = c.args.self.now in
+    let n : ℕ = g.C.Costs.nodes p.combed.now.costs.now in
+    both_inside n _ (bears_on p.case.now.by_node.directed c.args.from) (decisions_in p.case.now) c.at.result.now (c.fill_combed.auto.row ∙ c.requires.room)
+    (c.at.ensures n p.is_case c.requires.from.1) p.is_case.pairs
 
 pub returns : goal.returns
 returns g c =
@@ -20,23 +31,23 @@ returns g c =
     let n = g.C.Costs.nodes q.costs.now in
     let from : ℕ = c.args.from in
     let w : ℕ → ℕ → ℤ = set_weight q.scale q.potentials.now q.multipliers.now (plain q.sets.now) (g.C.Costs.at q.costs.now) in
-    let given : List Decision = p.given.now in
-    let ds : List Decision = p.decisions.now in
-    let row : List ℤ = c.change_row-2.new.row in
+    let case : List Decision = decisions_in p.case.now in
+    let row : List ℤ = c.change_row.new.row in
     let first : ℕ → ℤ = λ x. least_at c.fill_combed.new.row x in
-    let sum_is : (x : ℕ) → IsNode n x → decided_twice given ds w from x ≡ first x +ℤ (changes given from x +ℤ changes ds from x) = λ x h.
-    let one = changes_are ds (decided given w) from x in
-    let two = changes_are given w from x in
-    let three = c.fill_combed.ensures.values x h in
-    omega (arith, ints, one, two, three) in
-    let size : (x : ℕ) → IsNode n x → IsFromTo (neg_ℤ (pos 9000000000000000000)) (pos 9000000000000000000) (decided_twice given ds w from x) = λ x h.
+    let own_is = subst (λ (d : Bool). stack_of c.at.result.now ≡ filter (bears_on d from) case) p.both (c.at.ensures n p.is_case c.requires.from.1) in
+    let moved : (x : ℕ) → IsMoved (changes case from x) (first x) (least_at row x) = λ x.
+    subst (λ (z : ℤ). IsMoved z (first x) (least_at row x)) (changes_listed case c.at.result.now from x own_is) (c.change_row.ensures x) in
+    let sum_is : (x : ℕ) → IsNode n x → decided case w from x ≡ first x +ℤ changes case from x = λ x h.
+    let one = changes_are case w from x in
+    let two = c.fill_combed.ensures.values x h in
+    omega (arith, ints, one, two) in
+    let size : (x : ℕ) → IsNode n x → IsFromTo (neg_ℤ (pos 9000000000000000000)) (pos 9000000000000000000) (decided case w from x) = λ x h.
     let own = c.fill_combed.ensures.sizes x h in
     let more = p.once from x in
     let sum = sum_is x h in
     (omega (arith, ints, own.0, more.0, sum), omega (arith, ints, own.1, more.1, sum)) in
-    let is : (x : ℕ) → IsNode n x → least_at row x ≡ decided_twice given ds w from x = λ x h.
-    moved_to (changes given from x +ℤ changes ds from x) (first x) (least_at row x) (decided_twice given ds w from x) (sum_is x h) (within (decided_twice given ds w from x) (size x h))
-    (moved_on _ _ _ _ _ (c.change_row.ensures x) (c.change_row-2.ensures x)) in
+    let is : (x : ℕ) → IsNode n x → least_at row x ≡ decided case w from x = λ x h.
+    moved_to (changes case from x) (first x) (least_at row x) (decided case w from x) (sum_is x h) (within (decided case w from x) (size x h)) (moved x) in
     record {
       values = is;
       small = λ x h. subst (λ (z : ℤ). z <ℤ most_64) (sym (is x h)) (let high = (size x h).1 in omega (arith, ints, high));

@@ -1,4 +1,4 @@
-use Rattle.std.proofs.Common.{◌≡◌, ◌∙◌, ◌++◌, ℕ, ℤ, List, length, ap, sym, subst, rules, FitsSigned, to_z, of_z}
+use Rattle.std.proofs.Common.{◌≡◌, ◌∙◌, ℕ, ℤ, List, length, ap, sym, subst, rules, FitsSigned, to_z, of_z}
 use Rattle.std.specs.Prelude.{pos, ◌-ℤ◌, ◌*ℤ◌}
 use Rattle.std.specs.Int.{w128}
 use Rattle.std.proofs.lemmas.Int.{to_z-of_z}
@@ -12,7 +12,7 @@ use Rattle.tsp_branch.specs.LeafBound.{combed, least_of}
 use Rattle.tsp_branch.specs.Certificate.{multiplied}
 use Rattle.tsp_branch.specs.states.Combed.{plain, set_weight}
 use Rattle.tsp_branch.specs.CombsOfSets.{families_of}
-use Rattle.tsp_branch.specs.states.Decided.{stack_of}
+use Rattle.tsp_branch.specs.states.OpenCases.{decisions_in}
 use Rattle.tsp_families.specs.declared.comb_set.CombSet.{CombSet}
 use Rattle.tsp_branch.proofs.CaseWeights.{few_multipliers, small_multipliers, all_some, few_crossings, sets_below_count, row_weight, found_by_rows}
 use Rattle.tsp_branch.proofs.setting.Setting.bound_by_rows.Goals as goal
@@ -49,7 +49,7 @@ returns-clause-bound g c =
     let sets : List CombSet = p.sets.now in
     let ps : List ℤ = c.args.potentials.now in
     let ms : List ℤ = c.args.multipliers.now in
-    let case : List Decision = stack_of c.args.decisions.now ++ p.given.now in
+    let case : List Decision = decisions_in c.args.case.now in
     let good = c.requires.numbers in
     let families : List (Family × ℤ) = multiplied (families_of p.crossed.now (plain sets)) ms in
     let q = c.of-combed.result in

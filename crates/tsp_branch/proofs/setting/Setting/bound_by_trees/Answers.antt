@@ -1,4 +1,4 @@
-use Rattle.std.proofs.Common.{◌≡◌, ◌∙◌, ◌++◌, ℕ, ℤ, List, length, ap, sym, subst, to_z, of_z}
+use Rattle.std.proofs.Common.{◌≡◌, ◌∙◌, ◌^◌, ℕ, ℤ, List, length, ap, sym, subst, to_z, of_z}
 use Rattle.std.specs.Prelude.{◌+ℤ◌}
 use Rattle.std.specs.Int.{w128}
 use Rattle.std.proofs.lemmas.Result.{IfOk-weaker}
@@ -11,12 +11,13 @@ use Rattle.tsp_branch.specs.Certificate.{multiplied}
 use Rattle.tsp_branch.specs.Weighed.{BoundsEachLeaf, given_back_of}
 use Rattle.tsp_branch.specs.states.Combed.{plain, set_weight}
 use Rattle.tsp_branch.specs.CombsOfSets.{families_of}
-use Rattle.tsp_branch.specs.states.Decided.{stack_of, decided_twice}
+use Rattle.tsp_branch.specs.states.Decided.{stack_of, decided}
+use Rattle.tsp_branch.specs.states.OpenCases.{decisions_in}
 use Rattle.tsp_families.specs.declared.comb_set.CombSet.{CombSet}
 use Rattle.tsp_branch.proofs.LeafBounds.{leaf_even}
 use Rattle.tsp_branch.proofs.DecidedOnce.{few_changes}
 use Rattle.tsp_branch.proofs.CaseWeights.{case_weight, few_multipliers, small_multipliers, all_some, few_crossings, sets_below_count, back_of}
-use Rattle.tsp_branch.proofs.GivenBack.{back_held}
+use Rattle.tsp_branch.proofs.GivenBack.{back_held, taken_listed, taken_few}
 use Rattle.tsp_branch.proofs.setting.Setting.bound_by_trees.Goals as goal
 
 pub fill_moved-requires-clause-small : goal.fill_moved-requires-clause-small
@@ -38,7 +39,11 @@ of-combed-requires-clause-crossed g c =
     (sets_below_count (length p.crossed.now) (length ms) sets good.each_comb p.of_combs)
 
 pub of-weights-requires-clause-once : goal.of-weights-requires-clause-once
-of-weights-requires-clause-once g c = few_changes c.args.self.now.given.now c.args.decisions.now c.requires.once
+of-weights-requires-clause-once g c = few_changes (decisions_in c.args.case.now) c.requires.once
+
+pub taken_back-taken-requires : goal.taken_back-taken-requires
+taken_back-taken-requires g c =
+    taken_few (decisions_in c.args.case.now) c.deref.result.now (2 ^ 33) (ap stack_of c.deref.ensures.value ∙ c.requires.case.by_node.taken) c.requires.few
 
 pub leaf_bound-requires-clause-even : goal.leaf_bound-requires-clause-even
 leaf_bound-requires-clause-even g c =
@@ -47,14 +52,12 @@ leaf_bound-requires-clause-even g c =
     let sets : List CombSet = p.sets.now in
     let ps : List ℤ = c.args.potentials.now in
     let ms : List ℤ = c.args.multipliers.now in
-    let given : List Decision = p.given.now in
-    let ds : List Decision = c.args.decisions.now in
-    let case : List Decision = stack_of ds ++ given in
+    let case : List Decision = decisions_in c.args.case.now in
     let q = c.of-combed.result in
     let w : ℕ → ℕ → ℤ = set_weight q.scale q.potentials.now q.multipliers.now (plain q.sets.now) (g.C.Costs.at q.costs.now) in
     let below = sets_below_count (length p.crossed.now) (length ms) sets c.requires.numbers.each_comb p.of_combs in
     let combs : List (Family × ℤ) = multiplied (families_of p.crossed.now (plain sets)) ms in
-    let agree = λ (i j : ℕ). c.of-weights.ensures.weights i j ∙ case_weight w p.scale p.crossed.now ps ms (plain sets) given ds cost i j c.requires.numbers.each_comb below
+    let agree = λ (i j : ℕ). c.of-weights.ensures.weights i j ∙ case_weight w p.scale p.crossed.now ps ms (plain sets) case cost i j c.requires.numbers.each_comb below
     (c.of-combed.ensures.weights i j ∙ ap (λ (z : ℤ). set_weight z ps ms (plain sets) cost i j) (same_scale p.scale p.scaled)) in
     λ i j. agree i j ∙ leaf_even p.scale ps (on_taken decided_number case) (on_avoided decided_number case) combs cost (p.even c.requires.undirected) i j ∙ sym (agree j i)
 
@@ -72,26 +75,25 @@ returns-clause-bound g c =
     let sets : List CombSet = p.sets.now in
     let ps : List ℤ = c.args.potentials.now in
     let ms : List ℤ = c.args.multipliers.now in
-    let given : List Decision = p.given.now in
-    let ds : List Decision = c.args.decisions.now in
-    let case : List Decision = stack_of ds ++ given in
+    let case : List Decision = decisions_in c.args.case.now in
     let q = c.of-combed.result in
     let w : ℕ → ℕ → ℤ = set_weight q.scale q.potentials.now q.multipliers.now (plain q.sets.now) (g.C.Costs.at q.costs.now) in
     let below = sets_below_count (length p.crossed.now) (length ms) sets c.requires.numbers.each_comb p.of_combs in
     let combs : List (Family × ℤ) = multiplied (families_of p.crossed.now (plain sets)) ms in
-    let agree = λ (i j : ℕ). c.of-weights.ensures.weights i j ∙ case_weight w p.scale p.crossed.now ps ms (plain sets) given ds cost i j c.requires.numbers.each_comb below
+    let agree = λ (i j : ℕ). c.of-weights.ensures.weights i j ∙ case_weight w p.scale p.crossed.now ps ms (plain sets) case cost i j c.requires.numbers.each_comb below
     (c.of-combed.ensures.weights i j ∙ ap (λ (z : ℤ). set_weight z ps ms (plain sets) cost i j) (same_scale p.scale p.scaled)) in
     let nodes_are = c.of-weights.ensures.nodes ∙ c.of-combed.ensures.nodes in
     let r = c.of-weights.result in
     let k : ℕ = g.C.Costs.nodes r.combed.now.costs.now in
-    let v : ℕ → ℕ → ℤ = decided_twice r.given.now r.decisions.now
+    let v : ℕ → ℕ → ℤ = decided (decisions_in r.case.now)
     (set_weight r.combed.now.scale r.combed.now.potentials.now r.combed.now.multipliers.now (plain r.combed.now.sets.now) (g.C.Costs.at r.combed.now.costs.now)) in
     let taken : ℤ = c.taken_back-taken.result in
     let less : ℤ = c.given_back.result in
     let back : ℤ = to_z w128 (of_z w128 (to_z w128 (of_z w128 taken) +ℤ to_z w128 (of_z w128 less))) in
     let sum_is : back ≡ taken +ℤ less = back_held taken less c.taken_back-taken.ensures.size c.given_back.ensures.size in
     let least = c.given_back.ensures.value (plain sets) in
-    let back_is : back ≡ given_back_of ps (on_taken decided_number case) combs = sum_is ∙ back_of taken less _ _ _ c.taken_back-taken.ensures.value least in
+    let taken_is = c.taken_back-taken.ensures.value ∙ taken_listed case c.deref.result.now (ap stack_of c.deref.ensures.value ∙ c.requires.case.by_node.taken) in
+    let back_is : back ≡ given_back_of ps (on_taken decided_number case) combs = sum_is ∙ back_of taken less _ _ _ taken_is least in
     IfOk-weaker c.leaf_bound.result _ _
     (λ (bound : ℤ) bounds.
     let whole : BoundsEachLeaf k v p.scale back bound = subst (λ (z : ℤ). BoundsEachLeaf k v z back bound) (same_scale p.scale p.scaled) bounds in

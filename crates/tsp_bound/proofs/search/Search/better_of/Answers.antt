@@ -1,0 +1,39 @@
+use Rattle.std.proofs.Common.{◌≡◌, ◌≤ℤ◌, ◌+◌, ℤ, length, arith, rules, sym, ◌∙◌, subst, inr, w64, to_z, of_z, SFits}
+use Rattle.std.proofs.lemmas.Int.{ints, to_z-of_z}
+use Rattle.std.proofs.lemmas.Bool.{false≢true}
+use Rattle.tsp_bound.specs.states.Potentials.{weight_under}
+use Rattle.tsp_bound.specs.states.Boxes.{node_of}
+use Rattle.tsp_bound.proofs.Boxed.{less_seen, not_less_seen}
+use Rattle.tsp_bound.proofs.Trees.{searched_none, leaf_below}
+use Rattle.tsp_bound.proofs.search.Search.better_of.Goals as goal
+
+pub returns-then-not-is_outside : goal.returns-then-not-is_outside
+returns-then-not-is_outside g c =
+    let w = weight_under c.args.self.now.p.now (g.C.Costs.at c.args.self.now.c.now) in
+    searched_none w c.args.self.now.order.now (g.S.Seen.outside_of c.args.self.now.seen.now) c.args.self.now.from (length c.args.self.now.order.now + c.args.place) c.args.best
+    (leaf_below w c.args.self.now.order.now (g.S.Seen.outside_of c.args.self.now.seen.now) c.args.self.now.from c.args.place c.args.best.weight (λ mine. absurd (false≢true (sym c.if-not-is_outside.true ∙ (c.is_outside.ensures ∙ mine)))))
+
+pub returns-else-weight-best : goal.returns-else-weight-best
+returns-else-weight-best g c =
+    let w = weight_under c.args.self.now.p.now (g.C.Costs.at c.args.self.now.c.now) in
+    let fits : SFits w64 c.weight-weight.result = search rules in
+    let best_fits : SFits w64 c.args.best.weight = search rules in
+    let value : c.weight-weight.result ≡ w c.args.self.now.from (node_of c.args.self.now.order.now c.args.place) = c.weight-weight.ensures.value in
+    let below : c.args.best.weight ≤ℤ w c.args.self.now.from (node_of c.args.self.now.order.now c.args.place) =
+    subst (λ (z : ℤ). c.args.best.weight ≤ℤ z) value (not_less_seen c.weight-weight.result c.args.best.weight fits best_fits c.if-weight-best.false) in
+    searched_none w c.args.self.now.order.now (g.S.Seen.outside_of c.args.self.now.seen.now) c.args.self.now.from (length c.args.self.now.order.now + c.args.place) c.args.best
+    (leaf_below w c.args.self.now.order.now (g.S.Seen.outside_of c.args.self.now.seen.now) c.args.self.now.from c.args.place c.args.best.weight (λ mine. below))
+
+pub returns-then-weight-best : goal.returns-then-weight-best
+returns-then-weight-best g c =
+    let w = weight_under c.args.self.now.p.now (g.C.Costs.at c.args.self.now.c.now) in
+    let fits : SFits w64 c.weight-weight.result = search rules in
+    let best_fits : SFits w64 c.args.best.weight = search rules in
+    let value : c.weight-weight.result ≡ w c.args.self.now.from (node_of c.args.self.now.order.now c.args.place) = c.weight-weight.ensures.value in
+    let is : to_z w64 (of_z w64 c.weight-weight.result) ≡ w c.args.self.now.from (node_of c.args.self.now.order.now c.args.place) = to_z-of_z w64 c.weight-weight.result fits ∙ value in
+    record {
+      kept = less_seen (to_z w64 (of_z w64 c.weight-weight.result)) c.args.best.weight best_fits c.if-weight-best.true;
+      below = leaf_below w c.args.self.now.order.now (g.S.Seen.outside_of c.args.self.now.seen.now) c.args.self.now.from c.args.place (to_z w64 (of_z w64 c.weight-weight.result))
+          (λ mine. subst (λ (z : ℤ). z ≤ℤ w c.args.self.now.from (node_of c.args.self.now.order.now c.args.place)) (sym is) (omega (arith, ints)));
+      found = inr (record { node_in = c.requires; out = sym c.is_outside.ensures ∙ c.if-not-is_outside.false; weight_is = is });
+    }

@@ -1,0 +1,28 @@
+use Rattle.std.proofs.Common.{◌≡◌, ℕ, arith}
+use Rattle.std.specs.Prelude.{◌<ℤ◌}
+use Rattle.std.proofs.lemmas.Int.{ints}
+use Rattle.tsp_format.specs.Cells.{IsNode}
+use Rattle.tsp_theory.specs.states.Nearest.{least_at}
+use Rattle.tsp_theory.proofs.Nearest.{most_64}
+use Rattle.tsp_bound.specs.states.Potentials.{weight_under}
+use Rattle.tsp_bound.specs.states.ByNode.{AreLowerings}
+use Rattle.tsp_bound.specs.states.Multipliers.{triples_in, weight_less}
+use Rattle.tsp_bound.proofs.Lowered.{lowered_to}
+use Rattle.tsp_bound.proofs.weights.WeightsWeights.fill.Goals as goal
+
+pub returns : goal.returns
+returns g c =
+    let n = g.C.Costs.nodes c.args.self.now.c.now in
+    let w = weight_under c.args.self.now.p.now (g.C.Costs.at c.args.self.now.c.now) in
+    let v = weight_less c.args.self.now.p.now (triples_in c.args.self.now.m.now) (g.C.Costs.at c.args.self.now.c.now) in
+    let lowerings = c.at.result.now in
+    let are : AreLowerings n lowerings = rw (← c.args.self.now.over) c.at.ensures.are in
+    let both : (x : ℕ) → IsNode n x → (least_at c.lower.new.row x ≡ v c.args.from x) × (least_at c.lower.new.row x <ℤ most_64) = λ x h.
+    let first = c.weigh_all.ensures.values x h in
+    let sum = c.at.ensures.sums x in
+    lowered_to n lowerings x (least_at c.weigh_all.new.row x) (least_at c.lower.new.row x) (v c.args.from x) are (c.weigh_all.ensures.sizes x h) (c.lower.ensures x)
+    (omega (arith, ints, first, sum)) in
+    record {
+      values = λ x h. (both x h).0;
+      small = λ x h. (both x h).1;
+    }

@@ -1,0 +1,30 @@
+use Rattle.std.proofs.Common.{◌≡◌, ◌≤◌, ℕ, ℤ, List, length, refl, ap, subst, inl, arith, to_z, of_z}
+use Rattle.std.specs.Int.{w64}
+use Rattle.std.specs.Prelude.{pos, neg_ℤ, ◌-ℤ◌, slice_index_or, ◌==◌, if◌then◌else◌}
+use Rattle.std.proofs.lemmas.Int.{ints}
+use Rattle.std.proofs.lemmas.List.{drop_all}
+use Rattle.tsp_theory.specs.states.Nearest.{least_at}
+use Rattle.tsp_tree.specs.states.Moved.{IsMoved}
+use Rattle.tsp_tree.proofs.Moved.{moved_on, node_moved}
+use Rattle.tsp_bound.specs.states.ByNode.{lowered_by}
+use Rattle.tsp_bound.proofs.Lowered.{lowered_left}
+use Rattle.tsp_bound.proofs.weights.lower.Goals as goal
+
+pub lowerings-preserved : goal.lowerings-preserved
+lowerings-preserved c = λ x last rest.
+    let index : ℕ = c.lowerings.lowering-index in
+    let entry : ℕ × ℤ = slice_index_or c.args.lowerings.now index (0, pos 0) in
+    let size = (c.requires index (0, pos 0) c.lowerings-test.true).1 in
+    let here = c.add_at.ensures.here in
+    let number : ℤ = to_z w64 (of_z w64 (pos 0 -ℤ to_z w64 (of_z w64 entry.1))) in
+    let is : number ≡ neg_ℤ entry.1 = omega (arith, ints, size.0, size.1) in
+    let moved : IsMoved (if entry.0 == x then neg_ℤ entry.1 else pos 0) (least_at c.lowerings.row x) (least_at c.add_at.new.row x) =
+    subst (λ (z : ℤ). IsMoved (if entry.0 == x then z else pos 0) (least_at c.lowerings.row x) (least_at c.add_at.new.row x)) is
+    (node_moved number entry.0 x c.lowerings.row c.add_at.new.row here c.add_at.ensures.others) in
+    c.lowerings.invariant x last (rw (lowered_left c.args.lowerings.now index x (0, pos 0) c.lowerings-test.true) (moved_on _ _ _ _ _ moved rest))
+
+pub returns : goal.returns
+returns c = λ x.
+    let all : List (ℕ × ℤ) = c.args.lowerings.now in
+    let past : length all ≤ c.lowerings.lowering-index = omega (arith, c.lowerings-test.false) in
+    c.lowerings.invariant x (least_at c.lowerings.row x) (inl (refl, ap (λ ls. neg_ℤ (lowered_by ls x)) (drop_all c.lowerings.lowering-index all past)))

@@ -1,0 +1,10 @@
+use Rattle.std.proofs.Common.{ℕ, ℤ, drop}
+use Rattle.std.specs.Prelude.{neg_ℤ}
+use Rattle.tsp_theory.specs.states.Nearest.{least_at}
+use Rattle.tsp_tree.specs.states.Moved.{IsMoved}
+use Rattle.tsp_bound.specs.states.ByNode.{lowered_by}
+use Rattle.tsp_bound.proofs.weights.lower.Given as goal
+
+abbrev pub invariant-lowerings : goal.invariant-lowerings
+invariant-lowerings l = (x : ℕ) (last : ℤ) → IsMoved (neg_ℤ (lowered_by (drop l.lowering-index l.lowerings) x)) (least_at l.row x) last
+    → IsMoved (neg_ℤ (lowered_by l.lowerings x)) (least_at l.fn.row x) last

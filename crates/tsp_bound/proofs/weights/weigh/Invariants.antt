@@ -1,0 +1,12 @@
+use Rattle.std.proofs.Common.{◌≡◌, ◌<◌, ℕ, length, slice_index}
+use Rattle.std.specs.Prelude.{pos, neg_ℤ}
+use Rattle.tsp_theory.specs.NodeBound.{most_between}
+use Rattle.tsp_theory.specs.Numbers.{IsFromTo}
+use Rattle.tsp_theory.specs.states.Nearest.{least_at}
+use Rattle.tsp_bound.specs.states.Potentials.{weight_under}
+use Rattle.tsp_bound.proofs.weights.weigh.Given as goal
+
+abbrev pub invariant-places : goal.invariant-places
+invariant-places g l = (k : ℕ) → k < length l.to → k < l.place
+    → (least_at l.row (slice_index l.to k) ≡ weight_under l.w.p.now (g.C.Costs.at l.w.c.now) l.from (slice_index l.to k))
+    × IsFromTo (neg_ℤ (pos most_between)) (pos most_between) (least_at l.row (slice_index l.to k))

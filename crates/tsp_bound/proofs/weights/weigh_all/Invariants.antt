@@ -1,0 +1,12 @@
+use Rattle.std.proofs.Common.{◌≡◌, ◌<◌, ℕ}
+use Rattle.std.specs.Prelude.{pos, neg_ℤ}
+use Rattle.tsp_format.specs.Cells.{IsNode}
+use Rattle.tsp_theory.specs.NodeBound.{most_between}
+use Rattle.tsp_theory.specs.Numbers.{IsFromTo}
+use Rattle.tsp_theory.specs.states.Nearest.{least_at}
+use Rattle.tsp_bound.specs.states.Potentials.{weight_under}
+use Rattle.tsp_bound.proofs.weights.weigh_all.Given as goal
+
+abbrev pub invariant-nodes : goal.invariant-nodes
+invariant-nodes g l = (x : ℕ) → IsNode (g.C.Costs.nodes l.w.c.now) x → x < l.node
+    → (least_at l.row x ≡ weight_under l.w.p.now (g.C.Costs.at l.w.c.now) l.from x) × IsFromTo (neg_ℤ (pos most_between)) (pos most_between) (least_at l.row x)

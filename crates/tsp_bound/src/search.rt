@@ -1,0 +1,117 @@
+//! A search from one node, over a tree of boxes.
+
+ghost use Rattle.std.specs.Prelude.{◌≡◌, ◌≤◌, ◌<◌, ◌+◌, ◌*◌, ◌^◌, ◌≤ℤ◌, ◌*ℤ◌, ℕ, length};
+ghost use Rattle.std.specs.Bool.{OnTrue};
+ghost use Rattle.tsp_format.specs.Cells.{IsNode};
+ghost use Rattle.tsp_theory.specs.Numbers.{IsScale, entry};
+ghost use Rattle.tsp_bound.specs.states.Potentials.{numbers_of, weight_under};
+ghost use Rattle.tsp_bound.specs.states.Boxes.{HoldsNode, AreHeld, AreHeld-prop, IsBelowAll, IsSearched, node_of};
+
+use crate::nearest::Best;
+use crate::potentials::Potentials;
+use crate::seen::Seen;
+use tsp_theory::Grouped;
+
+/// A cost that at the scale is no less than a weight.
+#[inline]
+fn cost_of(scale: i64, weight: i64) -> i64
+    requires { IsScale scale }
+    ensures { weight ≤ℤ (scale *ℤ result) }
+{
+    if weight < 1 {
+        return 0;
+    }
+    if scale == 1 {
+        return weight;
+    }
+    let most = weight as u64 + (scale as u64 - 1);
+    (most / scale as u64) as i64
+}
+
+/// The node that a search is from with its potential, and the nodes and boxes that it looks at.
+#[derive(Drop)]
+pub(crate) struct Search<'a, C: Grouped, S: Seen> {
+    pub(crate) c: &'a C,
+    pub(crate) p: &'a Potentials<'a>,
+    pub(crate) order: &'a [u32],
+    pub(crate) seen: &'a S,
+    pub(crate) from: u32,
+    pub(crate) own: i64,
+    ghost count: { length (numbers_of p.now) ≡ C.nodes c.now },
+    ghost nodes: { (j : ℕ) → j < length order.now → IsNode (C.nodes c.now) (node_of order.now j) },
+    ghost few: { length order.now < 2 ^ 31 },
+    ghost as_many: { S.count_of seen.now ≡ length order.now },
+    ghost held: { AreHeld (HoldsNode (C.place c.now) (numbers_of p.now)) order.now (S.outside_of seen.now)
+        (S.area_of seen.now) } by { AreHeld-prop (C.place c.now) (numbers_of p.now) order.now (S.outside_of seen.now) (S.area_of seen.now) },
+    ghost from_in: { IsNode (C.nodes c.now) from },
+    ghost own_is: { own ≡ entry (numbers_of p.now) from },
+}
+
+impl<C: Grouped, S: Seen> Search<'_, C, S> {
+    /// Whether it is known that no node in the box `v` weighs less than `best`.
+    ///
+    /// A node can weigh less only where its cost is less than what is left of `best` without the
+    /// potentials: a comparison of squares, where a cost takes a root.
+    #[inline(always)]
+    pub(crate) fn is_left_alone(&self, v: usize, best: i64) -> bool
+        requires { v < 2 * length self.now.order.now }
+        ensures { OnTrue result (IsBelowAll (IsNode (C.nodes self.now.c.now))
+            (HoldsNode (C.place self.now.c.now) (numbers_of self.now.p.now) (S.area_of self.now.seen.now v))
+            (weight_under self.now.p.now (C.at self.now.c.now) self.now.from) best) }
+    {
+        let Some(area) = self.seen.area(v) else {
+            return true;
+        };
+        match best.checked_sub(self.own + area.least) {
+            None => false,
+            Some(left) => {
+                let least = cost_of(self.p.scale, left);
+                self.c.is_beyond(self.from, &area.region, least)
+            }
+        }
+    }
+
+    /// The better of the best so far and the node at a place, where that is outside.
+    #[inline]
+    pub(crate) fn better_of(&self, place: usize, best: Best) -> Best
+        requires { place < length self.now.order.now }
+        ensures { IsSearched (weight_under self.now.p.now (C.at self.now.c.now)) self.now.order.now
+            (S.outside_of self.now.seen.now) self.now.from (length self.now.order.now + place) best result }
+    {
+        if !self.seen.is_outside(place) {
+            return best;
+        }
+        let weight = self.p.weight(self.c, self.from, self.order[place]);
+        if weight < best.weight {
+            Best { weight, place }
+        } else {
+            best
+        }
+    }
+
+    /// The best of the nodes outside below the box `v` and of the best so far. `steps` counts the
+    /// boxes that it looks at.
+    ///
+    /// The halves are in the order of their numbers: over a curve with near nodes beside each
+    /// other, the one that is nearer by its region isn't better first.
+    pub(crate) fn below(&self, v: usize, best: Best, steps: &mut u64) -> Best
+        requires low { 1 ≤ v }
+        requires high { v < 2 * length self.now.order.now }
+        ensures { IsSearched (weight_under self.now.p.now (C.at self.now.c.now)) self.now.order.now
+            (S.outside_of self.now.seen.now) self.now.from v best result }
+    {
+        if v >= self.order.len() {
+            return self.better_of(v - self.order.len(), best);
+        }
+        *steps = steps.wrapping_add(2);
+        let half = if self.is_left_alone(2 * v, best.weight) {
+            best
+        } else {
+            self.below(2 * v, best, steps)
+        };
+        if self.is_left_alone(2 * v + 1, half.weight) {
+            return half;
+        }
+        self.below(2 * v + 1, half, steps)
+    }
+}

@@ -1,0 +1,12 @@
+use Rattle.std.proofs.Common.{◌≡◌, ◌*◌, drop}
+use Rattle.std.specs.Prelude.{pos, ◌+ℤ◌}
+use Rattle.tsp_theory.specs.Numbers.{IsFromTo}
+use Rattle.tsp_theory.specs.Adjusted.{triples_total}
+use Rattle.tsp_branch.specs.Decisions.{on_taken, decided_number}
+use Rattle.tsp_branch.proofs.given_back.taken_back.Given as goal
+
+abbrev pub invariant-decisions : goal.invariant-decisions
+invariant-decisions l = record {
+  size : IsFromTo (pos 0) (pos (l.decision-index * 4000000000000000000)) l.sum;
+  so_far : (l.sum +ℤ triples_total (on_taken decided_number (drop l.decision-index l.taken))) ≡ triples_total (on_taken decided_number l.taken);
+}

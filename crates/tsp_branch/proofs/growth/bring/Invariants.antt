@@ -1,9 +1,0 @@
-use Rattle.tsp_theory.specs.states.Nearest.{least_at}
-use Rattle.tsp_branch.proofs.Outside.{IsPassed, FindsLeast}
-use Rattle.tsp_branch.proofs.growth.bring.Given as goal
-
-abbrev pub invariant-places : goal.invariant-places
-invariant-places l = record {
-  passed : IsPassed (least_at l.row) l.outside l.place l.fn.least l.least;
-  found : FindsLeast l.place l.least l.best l.nearest;
-}

@@ -1,9 +1,0 @@
-use Rattle.std.proofs.Common.{◌≡◌, ◌+◌, length}
-use Rattle.tsp_branch.proofs.Outside.{AreCounted}
-use Rattle.tsp_branch.proofs.growth.nodes_from_three.Given as goal
-
-abbrev pub invariant-nodes : goal.invariant-nodes
-invariant-nodes l = record {
-  count : length l.nodes.items + 3 ≡ l.node;
-  each : AreCounted l.nodes.items;
-}

@@ -1,0 +1,13 @@
+use Rattle.std.proofs.Common.{◌≡◌, ◌≤◌, drop, length}
+use Rattle.tsp_branch.specs.states.OpenCases.{AreByNode}
+use Rattle.tsp_branch.proofs.open_case.OpenCase.new.Given as goal
+
+abbrev pub invariant-given : goal.invariant-given
+invariant-given l = record {
+  most : l.left ≤ length l.given;
+  by_node : AreByNode l.count l.by_node (drop l.left l.given);
+  directed : l.by_node.directed ≡ l.fn.directed;
+}
+
+abbrev pub decreases-given : goal.decreases-given
+decreases-given l = l.left

@@ -1,0 +1,9 @@
+use Rattle.std.proofs.Common.{true, refl}
+use Rattle.tsp_branch.specs.states.OpenCases.{decisions_in}
+use Rattle.tsp_branch.proofs.OpenCases.{case_more}
+use Rattle.tsp_branch.proofs.open_case.OpenCase.take.Goals as goal
+
+pub returns-clause-case : goal.returns-clause-case
+returns-clause-case c = λ n is pair.
+    case_more n c.args.self.now _ (record { pair = c.args.pair; taken = true }) is pair c.in_ok-push.ensures.items refl
+    (c.in_ok-add.ensures.more n (decisions_in c.args.self.now) is.by_node)

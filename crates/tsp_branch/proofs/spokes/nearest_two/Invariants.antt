@@ -1,7 +1,0 @@
-use Rattle.std.proofs.Common.{◌-◌, length}
-use Rattle.tsp_theory.specs.states.Nearest.{least_at}
-use Rattle.tsp_theory.proofs.TwoNearest.{AreNearestBefore}
-use Rattle.tsp_branch.proofs.spokes.nearest_two.Given as goal
-
-abbrev pub invariant-nodes : goal.invariant-nodes
-invariant-nodes l = AreNearestBefore (length l.weights - 1) (λ i j. least_at l.weights j) l.node l.first.node l.first.weight l.second.node l.second.weight

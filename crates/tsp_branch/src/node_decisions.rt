@@ -1,0 +1,124 @@
+//! The decisions of a case by node.
+
+ghost use Rattle.std.specs.Prelude.{◌≡◌, ◌≤◌, ◌<◌, ◌+◌, ◌-◌, ◌^◌, ℕ, [], length, slice_index_or, IfOk};
+ghost use Rattle.std.specs.Global.{Vec};
+ghost use Rattle.tsp_branch.specs.declared.decision.Decision.{Decision};
+ghost use Rattle.tsp_branch.specs.states.OpenCases.{HaveOneMore, HaveOneLess};
+
+use crate::decision::Decision;
+use std::alloc::{AllocError, Global};
+
+/// For each node the decisions that bear on its row, and all that take their pair, the last one
+/// last.
+///
+/// A decision bears on the row of its first node, and where pairs have no direction on that of its
+/// second one too.
+#[derive(Drop)]
+pub(crate) struct NodeDecisions {
+    pub(crate) directed: bool,
+    pub(crate) lists: Vec<Vec<Decision>>,
+    pub(crate) taken: Vec<Decision>,
+}
+
+impl NodeDecisions {
+    ghost use Rattle.std.specs.Prelude.{◌≡◌, ◌<◌, ◌≢◌, ◌-◌, ◌^◌, ℕ, List, [], ◌∷◌, IfOk, length};
+    ghost use Rattle.tsp_branch.specs.declared.decision.Decision.{Decision};
+    ghost use Rattle.tsp_branch.specs.states.OpenCases.{AreByNode};
+
+    /// No decisions on pairs of this many nodes.
+    ///
+    /// # Errors
+    ///
+    /// Out of memory, of which it takes some for each node.
+    pub(crate) fn new(
+        alloc: Global,
+        directed: bool,
+        count: u32,
+    ) -> Result<NodeDecisions, AllocError>
+        requires { count < 2 ^ 32 - 1 }
+        ensures none { IfOk result (λ made. AreByNode count made []) }
+        ensures directed { IfOk result (λ made. made.directed ≡ directed) }
+    {
+        Ok(NodeDecisions {
+            directed,
+            lists: empty_lists(alloc, count)?,
+            taken: Vec::new(alloc),
+        })
+    }
+
+    /// Adds a decision.
+    ///
+    /// # Errors
+    ///
+    /// Out of memory.
+    pub(crate) fn add(&mut self, decision: Decision) -> Result<(), AllocError>
+        requires first { decision.pair.0 < length self.old.lists.items }
+        requires second { decision.pair.1 < length self.old.lists.items }
+        requires differ { decision.pair.0 ≢ decision.pair.1 }
+        ensures more { IfOk result (λ unit. (n : ℕ) (case : List Decision) → AreByNode n self.old case
+            → AreByNode n self.new (decision ∷ case)) }
+        ensures places { IfOk result (λ unit. length self.new.lists.items ≡ length self.old.lists.items) }
+        ensures directed { IfOk result (λ unit. self.new.directed ≡ self.old.directed) }
+    {
+        let (first, second) = decision.pair;
+        list_at(&mut self.lists, first, decision)?;
+        if !self.directed {
+            list_at(&mut self.lists, second, decision)?;
+        }
+        if decision.taken {
+            self.taken.push(decision)?;
+        }
+        Ok(())
+    }
+
+    /// Drops the decision that was added last.
+    pub(crate) fn drop_last(&mut self, decision: Decision)
+        requires first { decision.pair.0 < length self.old.lists.items }
+        requires second { decision.pair.1 < length self.old.lists.items }
+        requires differ { decision.pair.0 ≢ decision.pair.1 }
+        ensures less { (n : ℕ) (case : List Decision) → AreByNode n self.old (decision ∷ case)
+            → AreByNode n self.new case }
+        ensures places { length self.new.lists.items ≡ length self.old.lists.items }
+        ensures directed { self.new.directed ≡ self.old.directed }
+    {
+        let (first, second) = decision.pair;
+        unlist_at(&mut self.lists, first);
+        if !self.directed {
+            unlist_at(&mut self.lists, second);
+        }
+        if decision.taken {
+            self.taken.pop();
+        }
+    }
+}
+
+/// Adds a decision to the list of a node.
+fn list_at(lists: &mut Vec<Vec<Decision>>, node: u32, decision: Decision) -> Result<(), AllocError>
+    requires { node < length lists.old.items }
+    ensures { IfOk result (λ unit. HaveOneMore node decision lists.old.items lists.new.items) }
+{
+    lists[node as usize].push(decision)?;
+    Ok(())
+}
+
+/// Drops the last decision of a node's list.
+fn unlist_at(lists: &mut Vec<Vec<Decision>>, node: u32)
+    requires { node < length lists.old.items }
+    ensures { HaveOneLess node lists.old.items lists.new.items }
+{
+    lists[node as usize].pop();
+}
+
+/// An empty list for each node from 0 to `count`.
+fn empty_lists(alloc: Global, count: u32) -> Result<Vec<Vec<Decision>>, AllocError>
+    requires { count < 2 ^ 32 - 1 }
+    ensures many { IfOk result (λ lists. length lists.items ≡ count + 1) }
+    ensures empty { IfOk result (λ lists. (x : ℕ) (default : Vec Decision) → x ≤ count
+        → (slice_index_or lists.items x default).items ≡ []) }
+{
+    let mut lists = Vec::with_capacity(alloc, count as usize + 1)?;
+    'lists: for _ in 0..count + 1 {
+        lists.push(Vec::new(alloc))?;
+    }
+    Ok(lists)
+}

@@ -1,0 +1,116 @@
+//! The case that is open in a pass over the steps.
+
+ghost use Rattle.std.specs.Prelude.{◌≡◌, ◌<◌, ◌+◌, ◌^◌, length};
+ghost use Rattle.std.specs.List.{All};
+ghost use Rattle.tsp_branch.specs.states.Decided.{IsDecision, IsNextStack};
+
+use crate::decision::Decision;
+use crate::node_decisions::NodeDecisions;
+use std::alloc::{AllocError, Global};
+
+/// The decisions of the open case: those that are given for all cases, above them a stack of those
+/// of its branches, and all of them by node.
+#[derive(Drop)]
+pub(crate) struct OpenCase<'a> {
+    pub(crate) given: &'a [Decision],
+    pub(crate) stack: Vec<Decision>,
+    pub(crate) by_node: NodeDecisions,
+}
+
+impl<'a> OpenCase<'a> {
+    ghost use Rattle.std.specs.Prelude.{◌≡◌, ◌≤◌, ◌<◌, ◌+◌, ◌-◌, ◌^◌, ◌++◌, ℕ, [], ◌∷◌, true, length, IfOk};
+    ghost use Rattle.std.specs.List.{All, filter};
+    ghost use Rattle.tsp_branch.specs.declared.decision.Decision.{Decision};
+    ghost use Rattle.tsp_branch.specs.states.Decided.{IsDecision, IsNextStack, stack_of};
+    ghost use Rattle.tsp_branch.specs.states.OpenCases.{IsOpenCase, bears_on, decisions_in};
+
+    /// The case of the given decisions alone.
+    ///
+    /// # Errors
+    ///
+    /// Out of memory, of which it takes some for each node and each given decision.
+    pub(crate) fn new(
+        alloc: Global,
+        directed: bool,
+        count: u32,
+        given: &'a [Decision],
+    ) -> Result<OpenCase<'a>, AllocError>
+        requires few { count < 2 ^ 32 - 1 }
+        requires pairs { All (IsDecision count) given.now }
+        ensures case { IfOk result (λ case. IsOpenCase count case) }
+        ensures given { IfOk result (λ case. case.given.now ≡ given.now) }
+        ensures stack { IfOk result (λ case. case.stack.items ≡ []) }
+        ensures directed { IfOk result (λ case. case.by_node.directed ≡ directed) }
+    {
+        let mut by_node = NodeDecisions::new(alloc, directed, count)?;
+        let mut left = given.len();
+        'given: while left > 0 {
+            left -= 1;
+            by_node.add(given[left])?;
+        }
+        Ok(OpenCase {
+            given,
+            stack: Vec::new(alloc),
+            by_node,
+        })
+    }
+
+    /// Goes on to the case of these decisions that takes a pair too.
+    ///
+    /// # Errors
+    ///
+    /// Out of memory.
+    pub(crate) fn take(&mut self, pair: (u32, u32)) -> Result<(), AllocError>
+        requires case { (n : ℕ) × IsOpenCase n self.old × IsDecision n (record { pair = pair; taken = true }) }
+        ensures case { IfOk result (λ unit. (n : ℕ) → IsOpenCase n self.old
+            → IsDecision n (record { pair = pair; taken = true }) → IsOpenCase n self.new) }
+        ensures stack { IfOk result (λ unit. self.new.stack.items
+            ≡ self.old.stack.items ++ record { pair = pair; taken = true } ∷ []) }
+        ensures given { IfOk result (λ unit. self.new.given.now ≡ self.old.given.now) }
+        ensures directed { IfOk result (λ unit. self.new.by_node.directed ≡ self.old.by_node.directed) }
+    {
+        let decision = Decision { pair, taken: true };
+        self.by_node.add(decision)?;
+        self.stack.push(decision)?;
+        Ok(())
+    }
+
+    /// The decisions that bear on the row of a node, the last one last.
+    pub(crate) fn at(&self, node: u32) -> &[Decision]
+        requires { node < length self.now.by_node.lists.items }
+        ensures { (n : ℕ) → IsOpenCase n self.now → node ≤ n
+            → stack_of result.now ≡ filter (bears_on self.now.by_node.directed node) (decisions_in self.now) }
+    {
+        self.by_node.lists[node as usize].as_slice()
+    }
+
+    /// Leaves a leaf for the next open case: the decisions after the last taken pair are dropped,
+    /// and that pair is avoided. Where no pair is taken no case is open: the stack is emptied, and
+    /// the result is `false`.
+    ///
+    /// # Errors
+    ///
+    /// Out of memory.
+    pub(crate) fn next(&mut self) -> Result<bool, AllocError>
+        requires { (n : ℕ) × IsOpenCase n self.old }
+        ensures case { IfOk result (λ found. (n : ℕ) → IsOpenCase n self.old → IsOpenCase n self.new) }
+        ensures next { IfOk result (λ found. IsNextStack self.old.stack.items found self.new.stack.items) }
+        ensures few { IfOk result (λ found. length self.new.stack.items ≤ length self.old.stack.items) }
+        ensures given { IfOk result (λ found. self.new.given.now ≡ self.old.given.now) }
+        ensures directed { IfOk result (λ found. self.new.by_node.directed ≡ self.old.by_node.directed) }
+    {
+        'leave: while let Some(last) = self.stack.pop() {
+            self.by_node.drop_last(last);
+            if last.taken {
+                let turned = Decision {
+                    pair: last.pair,
+                    taken: false,
+                };
+                self.by_node.add(turned)?;
+                self.stack.push(turned)?;
+                return Ok(true);
+            }
+        }
+        Ok(false)
+    }
+}

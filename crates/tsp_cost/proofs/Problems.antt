@@ -1,0 +1,271 @@
+-- Each valid instance is one problem.
+use Rattle.std.proofs.Common.{◌≡◌, ◌≢◌, ℕ, ◌-◌, ◌<◌, eqb, ltb-false, Bool, true, false, List, [], ◌∷◌, length, get_or, Option, None, Some, refl, sym, ap, subst, ◌∙◌, inl, inr, arith}
+use Rattle.std.specs.Prelude.{◌⊎◌, ℤ, pos, unsigned_abs, unwrap_or, is_some, IsTrue, IsSome, slice_index, nat_lt, nat_le, if◌then◌else◌}
+use Rattle.std.specs.List.{slice_get}
+use Rattle.std.proofs.lemmas.Bool.{false≢true, leb-false}
+use Rattle.std.proofs.lemmas.Bool.Decides.{eqb_tells}
+use Rattle.std.proofs.lemmas.Option.{get_or_from_slice_get, slice_get-get_or, slice_get_within}
+use Rattle.tsp_distance.specs.declared.decimal.Point.{Point}
+use Rattle.tsp_format.specs.declared.kinds.Kind.{Kind}
+use Rattle.tsp_format.specs.declared.kinds.Kind.TheVariants as kinds
+use Rattle.tsp_format.specs.declared.kinds.WeightFormat.TheVariants.{Listed}
+use Rattle.tsp_format.specs.declared.kinds.WeightKind.{WeightKind}
+use Rattle.tsp_format.specs.declared.kinds.WeightKind.TheVariants.{Explicit}
+use Rattle.tsp_format.specs.declared.layout.Layout.{Layout}
+use Rattle.tsp_format.specs.declared.layout.Layout.TheVariants.{FullMatrix, UpperRow, LowerRow, UpperDiagRow, LowerDiagRow, UpperCol, LowerCol, UpperDiagCol, LowerDiagCol}
+use Rattle.tsp_format.specs.Cells.{IsNode, is_listed, cells}
+use Rattle.tsp_format.specs.Place.{place_of, place_by_table}
+use Rattle.tsp_format.proofs.Pairs.{cell_is}
+use Rattle.tsp_format.proofs.Places.{placed, place_within, place_from, stands_at, no_place}
+use Rattle.tsp_draft.specs.Coords.{origin}
+use Rattle.tsp_draft.specs.Fields.{Fields}
+use Rattle.tsp_draft.specs.Rules.{is_explicit}
+use Rattle.tsp_draft.specs.Valid.{IsInRange, HasInstance, HasRouting}
+use Rattle.tsp_file.specs.ByInequalities.{IsDistanceBy}
+use Rattle.tsp_file.specs.Cost.{cost, cost_by, listed_cost, point_of}
+use Rattle.tsp_file.specs.Meant.{nodes_of, depots_of, layout_of}
+use Rattle.tsp_file.specs.Listed.{UnlistedHaveNoPlace}
+use Rattle.tsp_file.proofs.Listed.{lists, cost_of_listed, cost_of_cell, cost_unlisted, triangle_even, unlisted_has_no_place}
+use Rattle.tsp_theory.specs.Routing.{RoutingProblem}
+use Rattle.tsp_theory.specs.Tour.{Problem}
+use Rattle.tsp_cost.specs.Problems.{CostsAreListed, CostsAreDistances, IsProblemOf, IsRoutingOf}
+use Rattle.tsp_cost.specs.ProblemLaws.{IsProblem, HaveSameCosts, AreSame, AreSameRouting}
+use Rattle.tsp_cost.specs.Tours.{is_directed, problem_of, routing_of}
+use Rattle.tsp_cost.proofs.Instances.{distance_kind, is_listed_kind}
+
+-- what the law of the costs says
+abbrev pub AreDefined : Type 0
+AreDefined = (f : Fields) (kind : WeightKind) (i j : ℕ) → f.weight_kind ≡ Some kind → kind ≢ Explicit
+    → IsDistanceBy kind (point_of (unwrap_or f.coords []) i) (point_of (unwrap_or f.coords []) j) (unsigned_abs (cost f i j))
+
+abbrev pub AreUnique : Type 0
+AreUnique = (f : Fields) (kind : WeightKind) (i j k : ℕ) → f.weight_kind ≡ Some kind
+    → IsDistanceBy kind (point_of (unwrap_or f.coords []) i) (point_of (unwrap_or f.coords []) j) k → cost f i j ≡ pos k
+
+-- a field that is present
+held : {A : Type 0} (o : Option A) (d : A) → IsSome o → o ≡ Some (unwrap_or o d)
+held None d is = absurd (false≢true is)
+held (Some x) d is = refl
+
+value : {A : Type 0} (o : Option A) (d x : A) → o ≡ Some x → x ≡ unwrap_or o d
+value o d x is = ap (λ p. unwrap_or p d) (sym is)
+
+-- the point of a node
+point_is : (f : Fields) (points : List Point) (i : ℕ) (a : Point) → f.coords ≡ Some points → slice_get points (i - 1) ≡ Some a → point_of (unwrap_or f.coords []) i ≡ a
+point_is f points i a section here = ap (λ o. point_of (unwrap_or o []) i) section ∙ get_or_from_slice_get points (i - 1) a origin here
+
+-- ---- listed costs
+
+unlisted : (layout : Layout) (n : ℕ) → UnlistedHaveNoPlace layout n
+unlisted layout n = unlisted_has_no_place cell_is no_place layout n
+
+-- the listed costs have what the definition says of them
+listed_cell : (layout : Layout) (n : ℕ) (weights : List ℤ) (place i j : ℕ) (weight : ℤ) → slice_get (cells layout n) place ≡ Some (i, j)
+    → slice_get weights place ≡ Some weight → listed_cost layout n weights i j ≡ weight
+listed_cell layout n weights place i j weight cell here =
+    let pair : ℕ × ℕ = (i, j) in
+    let placed_here : place_of layout n (i, j) ≡ Some place =
+    place_from layout n place pair (slice_get_within (cells layout n) place pair cell) (λ d. get_or_from_slice_get (cells layout n) place pair d cell) in
+    cost_of_cell layout n weights i j place placed_here ∙ get_or_from_slice_get weights place weight (pos 0) here
+
+listed_diagonal : (layout : Layout) (n : ℕ) (weights : List ℤ) (i : ℕ) → is_listed layout (i, i) ≡ false → listed_cost layout n weights i i ≡ pos 0
+listed_diagonal layout n weights i out = cost_unlisted layout n weights i i (unlisted layout n i i out) (unlisted layout n i i out)
+
+-- of two different nodes one direction is listed
+by_order : (a b : ℕ) → a ≢ b → nat_lt a b ≡ false → nat_lt b a ≡ true
+by_order a b other not = by_test (nat_lt b a) refl
+  where
+    by_test : (t : Bool) → nat_lt b a ≡ t → t ≡ true
+    by_test true is = refl
+    by_test false is = absurd (other (omega (arith, ltb-false a b not, ltb-false b a is)))
+
+or_equal : (a b : ℕ) → a ≢ b → nat_le a b ≡ false → nat_le b a ≡ true
+or_equal a b other not = by_test (nat_le b a) refl
+  where
+    by_test : (t : Bool) → nat_le b a ≡ t → t ≡ true
+    by_test true is = refl
+    by_test false is = absurd (other (omega (arith, leb-false a b not, leb-false b a is)))
+
+other_listed : (layout : Layout) (i j : ℕ) → i ≢ j → is_listed layout (i, j) ≡ false → is_listed layout (j, i) ≡ true
+other_listed FullMatrix i j other out = refl
+other_listed UpperRow i j other out = by_order i j other out
+other_listed LowerRow i j other out = by_order j i (λ is. other (sym is)) out
+other_listed UpperDiagRow i j other out = or_equal i j other out
+other_listed LowerDiagRow i j other out = or_equal j i (λ is. other (sym is)) out
+other_listed UpperCol i j other out = by_order i j other out
+other_listed LowerCol i j other out = by_order j i (λ is. other (sym is)) out
+other_listed UpperDiagCol i j other out = or_equal i j other out
+other_listed LowerDiagCol i j other out = or_equal j i (λ is. other (sym is)) out
+
+no_matrix : (layout : Layout) (i j : ℕ) → is_listed layout (i, j) ≡ false → layout ≢ FullMatrix
+no_matrix layout i j out is = false≢true (sym out ∙ ap (λ l. is_listed l (i, j)) is)
+
+-- ---- the costs of a valid instance
+
+listed : (f : Fields) → IsInRange f → HasInstance f → is_explicit f.weight_kind ≡ true → CostsAreListed f (nodes_of f) (cost f)
+listed f range has is =
+    let kind : f.weight_kind ≡ Some Explicit = is_listed_kind f.weight_kind is in
+    let n : ℕ = nodes_of f in
+    let weights : List ℤ = unwrap_or f.weights [] in
+    let section : f.weights ≡ Some weights = held f.weights [] (has.weights is) in
+    let are = range.weights weights section in
+    let dimension : f.dimension ≡ Some n = held f.dimension 0 has.dimension in
+    let layout : Layout = are.layout in
+    let lists_these = lists f layout n weights range are.format dimension section in
+    let same : (i j : ℕ) → cost f i j ≡ listed_cost layout n weights i j = λ i j. sym (cost_of_listed f layout n weights kind lists_these i j) in
+    record {
+      weight_type = kind;
+      layout = layout;
+      format = are.format;
+      weights = weights;
+      section = section;
+      count = lists_these.filled;
+      cell = λ place i j weight cell here. same i j ∙ listed_cell layout n weights place i j weight cell here;
+      half = λ i j part other. same i j ∙ triangle_even layout n weights part (unlisted layout n) i j other ∙ sym (same j i);
+      diagonal = λ i out. same i i ∙ listed_diagonal layout n weights i out;
+    }
+
+distances : (f : Fields) → AreDefined → AreUnique → IsInRange f → HasInstance f → is_explicit f.weight_kind ≡ false → CostsAreDistances f (nodes_of f) (cost f)
+distances f defined unique range has not = by_kind f.weight_kind refl
+  where
+    of_kind : (kind : WeightKind) → f.weight_kind ≡ Some kind → CostsAreDistances f (nodes_of f) (cost f)
+    of_kind kind is =
+        let other : kind ≢ Explicit = distance_kind f kind not is in
+        let section = held f.coords [] (has.coords not) in
+        let points : List Point = unwrap_or f.coords [] in
+        record {
+          kind = kind;
+          weight_type = is;
+          points = points;
+          section = section;
+          each_node = value f.dimension 0 (length points) (range.coords points section).0;
+          distance = λ i j a b first second.
+              let by : IsDistanceBy kind (point_of points i) (point_of points j) (unsigned_abs (cost f i j)) = defined f kind i j is other in (
+                unsigned_abs (cost f i j),
+                unique f kind i j (unsigned_abs (cost f i j)) is by,
+                subst (λ p. IsDistanceBy kind a p (unsigned_abs (cost f i j))) (point_is f points j b section second)
+                    (subst (λ p. IsDistanceBy kind p (point_of points j) (unsigned_abs (cost f i j))) (point_is f points i a section first) by),
+              );
+        }
+
+    by_kind : (o : Option WeightKind) → f.weight_kind ≡ o → CostsAreDistances f (nodes_of f) (cost f)
+    by_kind None is = absurd (false≢true (sym (ap is_some is) ∙ has.weight_kind))
+    by_kind (Some kind) is = of_kind kind is
+
+costs_of : (f : Fields) → AreDefined → AreUnique → IsInRange f → HasInstance f → CostsAreListed f (nodes_of f) (cost f) ⊎ CostsAreDistances f (nodes_of f) (cost f)
+costs_of f defined unique range has = by_test (is_explicit f.weight_kind) refl
+  where
+    by_test : (b : Bool) → is_explicit f.weight_kind ≡ b → CostsAreListed f (nodes_of f) (cost f) ⊎ CostsAreDistances f (nodes_of f) (cost f)
+    by_test true is = inl (listed f range has is)
+    by_test false is = inr (distances f defined unique range has is)
+
+-- ---- the problem of a valid instance
+
+type_of_tours : (kind : Option Kind) → (kind ≡ Some kinds.Tsp) ⊎ (kind ≡ Some kinds.Atsp) → kind ≡ Some (if is_directed kind then kinds.Atsp else kinds.Tsp)
+type_of_tours kind (inl tsp) = subst (λ k. k ≡ Some (if is_directed k then kinds.Atsp else kinds.Tsp)) (sym tsp) refl
+type_of_tours kind (inr atsp) = subst (λ k. k ≡ Some (if is_directed k then kinds.Atsp else kinds.Tsp)) (sym atsp) refl
+
+one_depot : (depots : List ℕ) → length depots ≡ 1 → depots ≡ slice_index depots 0 ∷ []
+one_depot [] is = absurd (omega (arith, is))
+one_depot (depot ∷ []) is = refl
+one_depot (depot ∷ other ∷ depots) is = absurd (omega (arith, is))
+
+pub some_problem : (f : Fields) → AreDefined → AreUnique → IsInRange f → HasInstance f → (f.kind ≡ Some kinds.Cvrp → HasRouting f) → IsProblem f
+some_problem f defined unique range has routing = record {
+  of_tours = λ kind. record {
+    type = type_of_tours f.kind kind;
+    nodes = held f.dimension 0 has.dimension;
+    costs = costs_of f defined unique range has;
+    fixed = refl;
+  };
+  of_routes = λ kind one.
+      let more = routing kind in
+      record {
+        type = kind;
+        nodes = held f.dimension 0 has.dimension;
+        costs = costs_of f defined unique range has;
+        depot = held f.depots [] more.depots ∙ ap (λ ds. Some ds) (one_depot (depots_of f) one);
+        demands = held f.demands [] more.demands;
+        capacity = held f.capacity (pos 0) more.capacity;
+      };
+}
+
+-- ---- there is no other
+
+same_listed : (f : Fields) (n : ℕ) (costs : ℕ → ℕ → ℤ) → f.dimension ≡ Some n → CostsAreListed f n costs → HaveSameCosts n costs (cost f)
+unfolding cost
+same_listed f n costs dimension are i j row column = either i j row column ∙ sym (
+    ap (λ k. cost_by k f i j) are.weight_type
+    ∙ ap (λ o. listed_cost (layout_of o) (unwrap_or f.dimension 0) (unwrap_or f.weights []) i j) are.format
+    ∙ ap (λ o. listed_cost are.layout (unwrap_or o 0) (unwrap_or f.weights []) i j) dimension
+    ∙ ap (λ o. listed_cost are.layout n (unwrap_or o []) i j) are.section)
+  where
+    at_cell : (i j : ℕ) → IsNode n i → IsNode n j → is_listed are.layout (i, j) ≡ true → costs i j ≡ listed_cost are.layout n are.weights i j
+    at_cell i j row column in_layout =
+        let pair : ℕ × ℕ = (i, j) in
+        let place : ℕ = place_by_table are.layout n i j in
+        let there : place_of are.layout n (i, j) ≡ Some place = placed are.layout n i j row column in_layout in
+        let within : place < length (cells are.layout n) = place_within are.layout n i j row column in_layout in
+        let inside : place < length are.weights = omega (arith, within, are.count) in
+        let cell : slice_get (cells are.layout n) place ≡ Some pair =
+        slice_get-get_or (cells are.layout n) place pair within ∙ ap (λ p. Some p) (stands_at are.layout n place pair there pair) in
+        are.cell place i j (get_or are.weights place (pos 0)) cell (slice_get-get_or are.weights place (pos 0) inside)
+        ∙ sym (cost_of_cell are.layout n are.weights i j place there)
+
+    on_diagonal : (i j : ℕ) → i ≡ j → is_listed are.layout (i, j) ≡ false → costs i j ≡ listed_cost are.layout n are.weights i j
+    on_diagonal i j same out =
+        subst (λ k. is_listed are.layout (i, k) ≡ false → costs i k ≡ listed_cost are.layout n are.weights i k) same
+        (λ none. are.diagonal i none ∙ sym (listed_diagonal are.layout n are.weights i none)) out
+
+    in_other_half : (i j : ℕ) → IsNode n i → IsNode n j → i ≢ j → is_listed are.layout (i, j) ≡ false → costs i j ≡ listed_cost are.layout n are.weights i j
+    in_other_half i j row column other out =
+        are.half i j (no_matrix are.layout i j out) other
+        ∙ at_cell j i column row (other_listed are.layout i j other out)
+        ∙ sym (triangle_even are.layout n are.weights (no_matrix are.layout i j out) (unlisted are.layout n) i j other)
+
+    either : (i j : ℕ) → IsNode n i → IsNode n j → costs i j ≡ listed_cost are.layout n are.weights i j
+    either i j row column = by_test (is_listed are.layout (i, j)) refl (eqb_tells i j)
+      where
+        by_test : (b : Bool) → is_listed are.layout (i, j) ≡ b → ((eqb i j ≡ true) × (i ≡ j)) ⊎ ((eqb i j ≡ false) × (i ≢ j)) → costs i j ≡ listed_cost are.layout n are.weights i j
+        by_test true is tells = at_cell i j row column is
+        by_test false is (inl same) = on_diagonal i j same.1 is
+        by_test false is (inr other) = in_other_half i j row column other.1 is
+
+same_distances : (f : Fields) (n : ℕ) (costs : ℕ → ℕ → ℤ) → AreUnique → CostsAreDistances f n costs → HaveSameCosts n costs (cost f)
+same_distances f n costs unique are i j row column =
+    let a : Point = get_or are.points (i - 1) origin in
+    let b : Point = get_or are.points (j - 1) origin in
+    let here : i - 1 < length are.points = omega (arith, are.each_node, row.0, row.1) in
+    let there : j - 1 < length are.points = omega (arith, are.each_node, column.0, column.1) in
+    let first : slice_get are.points (i - 1) ≡ Some a = slice_get-get_or are.points (i - 1) origin here in
+    let second : slice_get are.points (j - 1) ≡ Some b = slice_get-get_or are.points (j - 1) origin there in
+    let found = are.distance i j a b first second in
+    let by : IsDistanceBy are.kind (point_of (unwrap_or f.coords []) i) (point_of (unwrap_or f.coords []) j) found.0 =
+    subst (λ p. IsDistanceBy are.kind (point_of (unwrap_or f.coords []) i) p found.0) (sym (point_is f are.points j b are.section second))
+    (subst (λ p. IsDistanceBy are.kind p b found.0) (sym (point_is f are.points i a are.section first)) found.2) in
+    found.1 ∙ sym (unique f are.kind i j found.0 are.weight_type by)
+
+same_costs : (f : Fields) (n : ℕ) (costs : ℕ → ℕ → ℤ) → AreUnique → f.dimension ≡ Some n → CostsAreListed f n costs ⊎ CostsAreDistances f n costs → HaveSameCosts n costs (cost f)
+same_costs f n costs unique dimension (inl are) = same_listed f n costs dimension are
+same_costs f n costs unique dimension (inr are) = same_distances f n costs unique are
+
+direction : (directed : Bool) (kind : Option Kind) → kind ≡ Some (if directed then kinds.Atsp else kinds.Tsp) → directed ≡ is_directed kind
+direction true kind is = sym (ap is_directed is)
+direction false kind is = sym (ap is_directed is)
+
+pub one_problem : AreUnique → (f : Fields) (problem : Problem) → IsProblemOf f problem → AreSame problem (problem_of f)
+one_problem unique f problem is = record {
+  nodes = value f.dimension 0 problem.nodes is.nodes;
+  directed = direction problem.directed f.kind is.type;
+  costs = same_costs f problem.nodes problem.cost unique is.nodes is.costs;
+  fixed = sym is.fixed;
+}
+
+pub one_routing : AreUnique → (f : Fields) (problem : RoutingProblem) → IsRoutingOf f problem → AreSameRouting problem (routing_of f)
+one_routing unique f problem is = record {
+  nodes = value f.dimension 0 problem.nodes is.nodes;
+  costs = same_costs f problem.nodes problem.cost unique is.nodes is.costs;
+  depot = ap (λ o. slice_index (unwrap_or o []) 0) (sym is.depot);
+  demands = value f.demands [] problem.demands is.demands;
+  capacity = value f.capacity (pos 0) problem.capacity is.capacity;
+}

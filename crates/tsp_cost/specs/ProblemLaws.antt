@@ -1,0 +1,33 @@
+-- Each valid instance is one problem: that which its fields give as functions.
+use Rattle.std.specs.Prelude.{◌≡◌, ◌⊎◌, ℕ, length, None, Some, ℤ}
+use Rattle.tsp_format.specs.declared.kinds.Kind.TheVariants as kinds
+use Rattle.tsp_format.specs.Cells.{IsNode}
+use Rattle.tsp_draft.specs.Fields.{Fields}
+use Rattle.tsp_draft.specs.Rules.{fault_of}
+use Rattle.tsp_file.specs.Meant.{depots_of}
+use Rattle.tsp_theory.specs.Routing.{RoutingProblem}
+use Rattle.tsp_theory.specs.Tour.{Problem}
+use Rattle.tsp_cost.specs.Problems.{IsProblemOf, IsRoutingOf}
+use Rattle.tsp_cost.specs.Tours.{problem_of, routing_of}
+
+-- a valid instance is such a problem; a CVRP where it lists one depot
+pub record IsProblem (instance : Fields) : Type 0 where
+  pub of_tours : (instance.kind ≡ Some kinds.Tsp) ⊎ (instance.kind ≡ Some kinds.Atsp) → IsProblemOf instance (problem_of instance)
+  pub of_routes : instance.kind ≡ Some kinds.Cvrp → length (depots_of instance) ≡ 1 → IsRoutingOf instance (routing_of instance)
+
+-- the costs between nodes are the same
+abbrev pub HaveSameCosts : ℕ → (ℕ → ℕ → ℤ) → (ℕ → ℕ → ℤ) → Type 0
+HaveSameCosts n a b = (i j : ℕ) → IsNode n i → IsNode n j → a i j ≡ b i j
+
+pub record AreSame (a b : Problem) : Type 0 where
+  pub nodes : a.nodes ≡ b.nodes
+  pub directed : a.directed ≡ b.directed
+  pub costs : HaveSameCosts a.nodes a.cost b.cost
+  pub fixed : a.fixed ≡ b.fixed
+
+pub record AreSameRouting (a b : RoutingProblem) : Type 0 where
+  pub nodes : a.nodes ≡ b.nodes
+  pub costs : HaveSameCosts a.nodes a.cost b.cost
+  pub depot : a.depot ≡ b.depot
+  pub demands : a.demands ≡ b.demands
+  pub capacity : a.capacity ≡ b.capacity

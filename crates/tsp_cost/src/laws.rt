@@ -1,0 +1,25 @@
+//! That each valid instance is one problem, as a contract of a function that does nothing.
+
+ghost use Rattle.std.specs.Prelude.{◌≡◌, None, IsTrue};
+ghost use Rattle.tsp_draft.specs.Fields.{Fields};
+ghost use Rattle.tsp_draft.specs.Rules.{fault_of, is_instance};
+ghost use Rattle.tsp_theory.specs.Routing.{RoutingProblem};
+ghost use Rattle.tsp_theory.specs.Tour.{Problem};
+ghost use Rattle.tsp_cost.specs.Problems.{IsProblemOf, IsRoutingOf};
+ghost use Rattle.tsp_cost.specs.ProblemLaws.{IsProblem, AreSame, AreSameRouting};
+ghost use Rattle.tsp_cost.specs.Tours.{problem_of, routing_of};
+
+use tsp_draft::{valid_fields_are_in_range, valid_files_are_complete};
+use tsp_file::costs_are_by_inequalities;
+
+/// Each valid instance is one problem, with one cost from each node to each.
+pub fn instances_are_problems()
+    ensures some { (f : Fields) → fault_of f ≡ None → IsTrue (is_instance f.kind) → IsProblem f }
+    ensures one { (f : Fields) (problem : Problem) → IsProblemOf f problem → AreSame problem (problem_of f) }
+    ensures one_routing { (f : Fields) (problem : RoutingProblem) → IsRoutingOf f problem
+        → AreSameRouting problem (routing_of f) }
+{
+    valid_fields_are_in_range();
+    valid_files_are_complete();
+    costs_are_by_inequalities();
+}

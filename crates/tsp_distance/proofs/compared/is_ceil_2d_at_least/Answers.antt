@@ -1,0 +1,9 @@
+use Rattle.std.proofs.Common.{w64}
+use Rattle.std.proofs.lemmas.Int.{to_z-of_z}
+use Rattle.tsp_distance.proofs.AtLeast.{ceil_2d_cover}
+use Rattle.tsp_distance.proofs.compared.is_ceil_2d_at_least.Goals as goal
+
+pub returns : goal.returns
+returns c =
+    let same = to_z-of_z w64 c.args.least c.ranges.least in
+    rw same at c.is_straight_at_least.ensures _ (ceil_2d_cover c.args.a c.args.b)

@@ -1,0 +1,100 @@
+-- The meaning of the line `yes`, over the files that were read and the report that was printed.
+use Rattle.std.specs.Prelude.{◌≡◌, ◌⊎◌, ℕ, ◌≤◌, List, [], ◌∷◌, length, Option, None, Some, ℤ, ◌≤ℤ◌}
+use Rattle.tsp_format.specs.declared.kinds.Kind.{Kind}
+use Rattle.tsp_format.specs.declared.kinds.Kind.TheVariants as kinds
+use Rattle.tsp_format.specs.Cells.{nodes_to}
+use Rattle.tsp_draft.specs.Fields.{Fields}
+use Rattle.tsp_theory.specs.Length.{length_of}
+use Rattle.tsp_theory.specs.Routing.{RoutingProblem, IsPlan, plan_length, load_of, IsLeast}
+use Rattle.tsp_theory.specs.Tour.{Problem, IsTour, BoundsTours, HasNoTour}
+use Rattle.tsp_cost.specs.Problems.{IsProblemOf, IsRoutingOf}
+use Rattle.tsp_reason.specs.declared.certificate.Certificate.{Certificate}
+use Rattle.tsp_reason.specs.declared.verdict.BoundVerdict.{BoundVerdict}
+use Rattle.tsp_reason.specs.declared.verdict.BoundVerdict.TheVariants.{Bound, NoTour, No}
+use Rattle.tsp_reason.specs.declared.verdict.Verdict.TheVariants.{Tour, Routes}
+use Rattle.tsp_verdict.specs.Certified.{kind_of, IsBoundOf}
+use Rattle.tsp_report.specs.Report.{report_of, bound_report_of}
+
+-- the TYPEs whose solutions are tours
+abbrev pub IsTspOrAtsp : Option Kind → Type 0
+IsTspOrAtsp kind = (kind ≡ Some kinds.Tsp) ⊎ (kind ≡ Some kinds.Atsp)
+
+-- A tour: the solution's one tour visits every node of the instance once and uses every fixed edge. Its length is printed, and
+-- is the claimed one, where one is claimed.
+pub record IsAcceptedTour (claimed : Option ℤ) (instance solution : Fields) (report : List ℕ) : Type 0 where
+  pub instance_type : IsTspOrAtsp instance.kind
+  pub problem : Problem
+  pub of_instance : IsProblemOf instance problem
+  pub solution_type : solution.kind ≡ Some kinds.Tour
+  pub tour : List ℕ
+  pub only : solution.tours ≡ Some (tour ∷ [])
+  pub is_tour : IsTour problem tour
+  pub as_claimed : (claim : ℤ) → claimed ≡ Some claim → claim ≡ length_of problem.cost tour
+  pub printed : report ≡ report_of instance (Tour (length_of problem.cost tour) None)
+
+-- Routes: they serve every customer of the instance once and within the capacity. Their length and number are printed, and the
+-- length is the claimed one, where one is claimed. The printed `least` is the least number of routes that carry all demands, and
+-- no plan of routes has fewer.
+pub record AreAcceptedRoutes (claimed : Option ℤ) (instance solution : Fields) (report : List ℕ) : Type 0 where
+  pub instance_type : instance.kind ≡ Some kinds.Cvrp
+  pub problem : RoutingProblem
+  pub of_instance : IsRoutingOf instance problem
+  pub solution_type : solution.kind ≡ Some kinds.Tour
+  pub routes : List (List ℕ)
+  pub all : solution.tours ≡ Some routes
+  pub is_plan : IsPlan problem routes
+  pub least : ℕ
+  pub least_is : IsLeast (load_of problem.demands (nodes_to problem.nodes)) problem.capacity least
+  pub none_fewer : (other : List (List ℕ)) → IsPlan problem other → least ≤ length other
+  pub as_claimed : (claim : ℤ) → claimed ≡ Some claim → claim ≡ plan_length problem.cost problem.depot routes
+  pub printed : report ≡ report_of instance (Routes (plan_length problem.cost problem.depot routes) (length routes) least)
+
+-- A tour with a certificate: the tour is one as above; its length and the certificate's bound are printed. No tour of the
+-- instance is shorter than the bound, so that where the length equals it no tour is shorter than this one.
+pub record IsOptimalOrBounded (by : Certificate) (claimed : Option ℤ) (instance solution certificate : Fields) (report : List ℕ)
+    : Type 0 where
+  pub instance_type : IsTspOrAtsp instance.kind
+  pub problem : Problem
+  pub of_instance : IsProblemOf instance problem
+  pub solution_type : solution.kind ≡ Some kinds.Tour
+  pub certificate_type : certificate.kind ≡ Some (kind_of by)
+  pub tour : List ℕ
+  pub only : solution.tours ≡ Some (tour ∷ [])
+  pub is_tour : IsTour problem tour
+  pub bound : ℤ
+  pub of_certificate : IsBoundOf by instance certificate bound
+  pub as_claimed : (claim : ℤ) → claimed ≡ Some claim → claim ≡ length_of problem.cost tour
+  pub printed : report ≡ report_of instance (Tour (length_of problem.cost tour) (Some bound))
+  pub below_tours : BoundsTours problem bound
+  pub optimal : length_of problem.cost tour ≡ bound → (other : List ℕ) → IsTour problem other
+      → length_of problem.cost tour ≤ℤ length_of problem.cost other
+
+-- A bound without a tour: the certificate's bound is printed, and no tour of the instance is shorter.
+pub record IsBounded (by : Certificate) (instance certificate : Fields) (bound : ℤ) (report : List ℕ) : Type 0 where
+  pub instance_type : IsTspOrAtsp instance.kind
+  pub problem : Problem
+  pub of_instance : IsProblemOf instance problem
+  pub certificate_type : certificate.kind ≡ Some (kind_of by)
+  pub of_certificate : IsBoundOf by instance certificate bound
+  pub printed : report ≡ bound_report_of instance (Bound bound)
+  pub below_tours : BoundsTours problem bound
+
+-- With the line `bound none`: the instance has no tour.
+pub record HasNoTours (by : Certificate) (instance certificate : Fields) (report : List ℕ) : Type 0 where
+  pub instance_type : IsTspOrAtsp instance.kind
+  pub problem : Problem
+  pub of_instance : IsProblemOf instance problem
+  pub certificate_type : certificate.kind ≡ Some (kind_of by)
+  pub printed : report ≡ bound_report_of instance NoTour
+  pub no_tour : HasNoTour problem
+
+-- The meaning of `yes` in a check, by the certificate, and in a bound without a solution.
+abbrev pub IsAccepted : Option (Certificate × Fields) → Option ℤ → Fields → Fields → List ℕ → Type 0
+IsAccepted None claimed instance solution report =
+    IsAcceptedTour claimed instance solution report ⊎ AreAcceptedRoutes claimed instance solution report
+IsAccepted (Some given) claimed instance solution report = IsOptimalOrBounded given.0 claimed instance solution given.1 report
+
+abbrev pub IsBoundAccepted : Certificate → Fields → Fields → BoundVerdict → List ℕ → Type 0
+IsBoundAccepted by instance certificate (Bound bound) report = IsBounded by instance certificate bound report
+IsBoundAccepted by instance certificate NoTour report = HasNoTours by instance certificate report
+IsBoundAccepted by instance certificate (No reason) report = ⊥

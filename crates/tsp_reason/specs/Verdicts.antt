@@ -1,0 +1,17 @@
+-- Which verdicts are accepted.
+use Rattle.std.specs.Prelude.{Bool, true, false}
+use Rattle.tsp_reason.specs.declared.verdict.BoundVerdict.{BoundVerdict}
+use Rattle.tsp_reason.specs.declared.verdict.BoundVerdict.TheVariants as bounds
+use Rattle.tsp_reason.specs.declared.verdict.Verdict.{Verdict}
+use Rattle.tsp_reason.specs.declared.verdict.Verdict.TheVariants.{Tour, Routes, No}
+
+abbrev pub is_yes : Verdict → Bool
+is_yes (Tour length bound) = true
+is_yes (Routes length routes least) = true
+is_yes (No reason) = false
+
+-- the same without a solution
+abbrev pub is_bound_yes : BoundVerdict → Bool
+is_bound_yes (bounds.Bound bound) = true
+is_bound_yes bounds.NoTour = true
+is_bound_yes (bounds.No reason) = false

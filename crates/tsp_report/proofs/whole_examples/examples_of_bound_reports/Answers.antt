@@ -1,0 +1,15 @@
+use Rattle.std.proofs.Common.{refl}
+use Rattle.std.specs.Fmt.{digits}
+use Rattle.tsp_report.proofs.whole_examples.examples_of_bound_reports.Goals as goal
+
+pub returns-clause-bound : goal.returns-clause-bound
+unfolding digits
+returns-clause-bound c = refl
+
+pub returns-clause-no_tour : goal.returns-clause-no_tour
+unfolding digits
+returns-clause-no_tour c = refl
+
+pub returns-clause-no : goal.returns-clause-no
+unfolding digits
+returns-clause-no c = refl

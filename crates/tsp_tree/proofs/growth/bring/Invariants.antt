@@ -1,0 +1,9 @@
+use Rattle.tsp_theory.specs.states.Nearest.{least_at}
+use Rattle.tsp_tree.proofs.Outside.{IsPassed, FindsLeast}
+use Rattle.tsp_tree.proofs.growth.bring.Given as goal
+
+abbrev pub invariant-places : goal.invariant-places
+invariant-places l = record {
+  passed : IsPassed l.next (least_at l.row) l.outside l.place l.fn.near l.fn.least l.near l.least;
+  found : FindsLeast l.place l.least l.best l.nearest;
+}

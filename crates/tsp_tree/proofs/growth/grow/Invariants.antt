@@ -1,0 +1,18 @@
+use Rattle.std.proofs.Common.{◌≡◌, ◌-◌, ◌*◌, ◌^◌, length, MatchOption}
+use Rattle.std.specs.Prelude.{pos, neg_ℤ}
+use Rattle.tsp_theory.specs.Numbers.{IsFromTo}
+use Rattle.tsp_tree.specs.states.Outside.{IsLeastPlace}
+use Rattle.tsp_tree.proofs.GrowthStates.{IsState}
+use Rattle.tsp_tree.proofs.growth.grow.Given as goal
+
+abbrev pub invariant-grow : goal.invariant-grow
+invariant-grow g l =
+    let n = g.W.Weights.nodes l.w in
+    record {
+      state : IsState n (g.W.Weights.at l.w) l.outside.items l.near.items l.least.items l.pairs.items l.weight;
+      nearest : MatchOption l.nearest (length l.outside.items ≡ 0) (IsLeastPlace l.least.items);
+      size : IsFromTo (neg_ℤ (pos ((n - length l.outside.items) * 2 ^ 63))) (pos ((n - length l.outside.items) * 2 ^ 63)) l.weight;
+    }
+
+abbrev pub decreases-grow : goal.decreases-grow
+decreases-grow g l = length l.outside.items

@@ -1,0 +1,9 @@
+use Rattle.std.proofs.Common.{◌≡◌, ◌+◌, length}
+use Rattle.tsp_tree.proofs.Outside.{AreCounted}
+use Rattle.tsp_tree.proofs.growth.nodes_from_three.Given as goal
+
+abbrev pub invariant-nodes : goal.invariant-nodes
+invariant-nodes l = record {
+  count : length l.nodes.items + 3 ≡ l.node;
+  each : AreCounted l.nodes.items;
+}

@@ -1,0 +1,2 @@
+pub mod states
+pub mod Weighed

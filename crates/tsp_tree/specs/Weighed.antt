@@ -1,0 +1,9 @@
+-- What a least 1-tree weighs.
+use Rattle.std.specs.Prelude.{◌≡◌, ℕ, List, ℤ}
+use Rattle.tsp_theory.specs.Tree.{weight_of, IsLeastOneTree}
+
+-- the weight of a 1-tree than which none weighs less
+pub record IsLeastWeight (n : ℕ) (w : ℕ → ℕ → ℤ) (weight : ℤ) : Type 0 where
+  pub tree : List (ℕ × ℕ)
+  pub least : IsLeastOneTree n w tree
+  pub weight_is : weight ≡ weight_of w tree

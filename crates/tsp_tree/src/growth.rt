@@ -1,0 +1,135 @@
+//! The growth of a tree over the nodes 2..n.
+
+ghost use Rattle.std.specs.Prelude.{◌≡◌, ◌≤◌, ◌<◌, ◌+◌, ◌*◌, ◌^◌, ℕ, length, slice_index, IfOk, MatchOption, ◌<ℤ◌, pos, neg_ℤ};
+ghost use Rattle.tsp_format.specs.Cells.{IsNode};
+ghost use Rattle.tsp_format.specs.Limits.{most_nodes};
+ghost use Rattle.tsp_theory.specs.Numbers.{IsFromTo};
+ghost use Rattle.tsp_theory.specs.Tree.{weight_of};
+ghost use Rattle.tsp_theory.specs.Growth.{IsWholeGrowth};
+ghost use Rattle.tsp_theory.specs.states.Nearest.{least_at, IsNearer};
+ghost use Rattle.tsp_tree.specs.states.Outside.{AreFromThree, AreBroughtNearer, AreInner, IsLeastPlace};
+
+use crate::row::weight_in;
+use crate::weights::Weights;
+use std::alloc::{AllocError, Global};
+
+/// The pairs of a growth, and the sum of their weights.
+#[derive(Drop)]
+pub struct Grown {
+    pub pairs: Vec<(u32, u32)>,
+    pub weight: i128,
+}
+
+/// Grows a tree over the nodes 2..n from node 2: each of its pairs leads from a node inside to one
+/// outside, and no such pair weighs less.
+///
+/// It lists the nodes outside, and keeps of each the nearest node inside and the weight between the
+/// two, so that each row is asked for once. The row that is lent is written over.
+///
+/// # Requires
+///
+/// Three or more nodes, and a row of one place more than there are nodes.
+///
+/// # Errors
+///
+/// Out of memory, of which it takes some for each node.
+pub fn grow<W: Weights>(alloc: Global, w: &W, row: &mut [i64]) -> Result<Grown, AllocError>
+    requires some { 3 ≤ W.nodes w.now }
+    requires room { length row.old ≡ W.nodes w.now + 1 }
+    ensures whole { IfOk result (λ grown. IsWholeGrowth (W.nodes w.now) (W.at w.now) grown.pairs.items) }
+    ensures weight { IfOk result (λ grown. grown.weight ≡ weight_of (W.at w.now) grown.pairs.items) }
+    ensures size { IfOk result (λ grown. IsFromTo (neg_ℤ (pos (most_nodes * 2 ^ 63)))
+        (pos (most_nodes * 2 ^ 63)) grown.weight) }
+{
+    let mut outside = nodes_from_three(alloc, w.count())?;
+    let mut near: Vec<u32> = vec![in alloc; 2; outside.len()]?;
+    // Every weight is below the one that means none.
+    let mut least = vec![in alloc; i64::MAX; outside.len()]?;
+    let mut pairs = Vec::with_capacity(alloc, outside.len())?;
+    let mut weight = 0;
+    let mut nearest = reach(w, row, &outside, &mut near, &mut least, 2);
+    'grow: while let Some(place) = nearest {
+        let next = outside.swap_remove(place);
+        pairs.push((near.swap_remove(place), next))?;
+        weight += i128::from(least.swap_remove(place));
+        nearest = reach(w, row, &outside, &mut near, &mut least, next);
+    }
+    Ok(Grown { pairs, weight })
+}
+
+/// The nodes from 3 on.
+fn nodes_from_three(alloc: Global, count: u32) -> Result<Vec<u32>, AllocError>
+    requires some { 2 ≤ count }
+    requires most { count ≤ most_nodes }
+    ensures { IfOk result (λ nodes. AreFromThree count nodes.items) }
+{
+    let mut nodes = Vec::with_capacity(alloc, count as usize)?;
+    'nodes: for node in 3..count + 1 {
+        nodes.push(node)?;
+    }
+    Ok(nodes)
+}
+
+/// Updates the entries of the nodes outside once `next` is inside, and finds the place of the
+/// nearest of them.
+fn reach<W: Weights>(
+    w: &W,
+    row: &mut [i64],
+    outside: &[u32],
+    near: &mut [u32],
+    least: &mut [i64],
+    next: u32,
+) -> Option<usize>
+    requires room { length row.old ≡ W.nodes w.now + 1 }
+    requires inner { AreInner (W.nodes w.now) outside.now }
+    requires near { length near.old ≡ length outside.now }
+    requires least { length least.old ≡ length outside.now }
+    requires next_in { IsNode (W.nodes w.now) next }
+    ensures nearer { AreBroughtNearer next (W.at w.now next) outside.now near.old least.old near.new least.new }
+    ensures small { (k : ℕ) → k < length outside.now → W.at w.now next (slice_index outside.now k) <ℤ i64.MAX }
+    ensures nearest { MatchOption result (length outside.now ≡ 0) (IsLeastPlace least.new) }
+{
+    w.fill_at(next, outside, row);
+    bring(row, outside, near, least, next)
+}
+
+/// The same by the row of the node that came inside.
+fn bring(
+    row: &[i64],
+    outside: &[u32],
+    near: &mut [u32],
+    least: &mut [i64],
+    next: u32,
+) -> Option<usize>
+    requires near { length near.old ≡ length outside.now }
+    requires least { length least.old ≡ length outside.now }
+    requires places { (k : ℕ) → k < length outside.now → slice_index outside.now k < length row.now }
+    requires small { (k : ℕ) → k < length outside.now → least_at row.now (slice_index outside.now k) <ℤ i64.MAX }
+    ensures nearer { AreBroughtNearer next (least_at row.now) outside.now near.old least.old near.new least.new }
+    ensures nearest { MatchOption result (length outside.now ≡ 0) (IsLeastPlace least.new) }
+{
+    let mut nearest = None;
+    let mut best = i64::MAX;
+    'places: for place in 0..outside.len() {
+        let weight = weight_in(row, outside[place]);
+        let own = take_nearer(&mut near[place], &mut least[place], next, weight);
+        if own < best {
+            best = own;
+            nearest = Some(place);
+        }
+    }
+    nearest
+}
+
+/// Takes `next` for the nearest node where it is nearer, and returns the least weight.
+#[inline]
+fn take_nearer(near: &mut u32, least: &mut i64, next: u32, weight: i64) -> i64
+    ensures nearer { IsNearer weight next near.old least.old near.new least.new }
+    ensures value { result ≡ least.new }
+{
+    if weight < *least {
+        *least = weight;
+        *near = next;
+    }
+    *least
+}

@@ -1,0 +1,48 @@
+//! What holds of the weights of pairs of nodes, however they are made.
+
+ghost use Rattle.std.specs.Prelude.{◌≡◌, ◌≤◌, ◌<◌, ◌+◌, ℕ, ℤ, length, slice_index, ◌<ℤ◌};
+ghost use Rattle.tsp_format.specs.Cells.{IsNode};
+ghost use Rattle.tsp_format.specs.Limits.{most_nodes};
+ghost use Rattle.tsp_theory.specs.states.Nearest.{least_at};
+
+/// Weights between the nodes 1 to `count`, told by rows.
+pub trait Weights {
+    ghost nodes: { Self → ℕ };
+
+    ghost at: { Self → ℕ → ℕ → ℤ };
+
+    /// How many nodes there are: at most 100,000.
+    fn count(&self) -> u32
+        ensures value { result ≡ nodes self.now }
+        ensures most { result ≤ most_nodes };
+
+    /// Writes the weights between a node and each into a row, each at the place of its node; they
+    /// are below the largest number of 64 bits, and the same at each call.
+    ///
+    /// # Requires
+    ///
+    /// A node of 1 to `count`, and a row of one place more than there are nodes.
+    fn fill(&self, from: u32, row: &mut [i64])
+        requires from { IsNode (nodes self.now) from }
+        requires room { length row.old ≡ nodes self.now + 1 }
+        ensures values { (x : ℕ) → IsNode (nodes self.now) x
+            → least_at row.new x ≡ at self.now from x }
+        ensures small { (x : ℕ) → IsNode (nodes self.now) x
+            → least_at row.new x <ℤ i64.MAX };
+
+    /// The same at some nodes; what it writes at other places says nothing.
+    ///
+    /// # Requires
+    ///
+    /// Nodes of 1 to `count`, and a row of one place more than there are nodes.
+    fn fill_at(&self, from: u32, to: &[u32], row: &mut [i64])
+        requires from { IsNode (nodes self.now) from }
+        requires to { (k : ℕ) → k < length to.now → IsNode (nodes self.now) (slice_index to.now k) }
+        requires room { length row.old ≡ nodes self.now + 1 }
+        ensures values { (k : ℕ) → k < length to.now → least_at row.new (slice_index to.now k)
+            ≡ at self.now from (slice_index to.now k) }
+        ensures small { (k : ℕ) → k < length to.now → least_at row.new (slice_index to.now k) <ℤ i64.MAX }
+    {
+        self.fill(from, row);
+    }
+}

@@ -1,0 +1,98 @@
+#!/usr/bin/env python3
+"""Multiplies the coordinates of an instance by a power of ten: scale.py F --by 1000 > OUT
+
+TSPLIB's distances are whole numbers. Between points that are near each other, as in a unit square, they
+round to 0 or 1, and say little. After this they don't. The lengths of OUT are those of another instance:
+publish them with the factor, which a COMMENT of OUT has. All else stays as it is, the NAME too. Digits
+are exact; `--decimals 9` rounds the result to so many. It needs Python 3.9 and its standard library
+alone, and isn't proved.
+"""
+from __future__ import annotations
+
+import argparse
+import decimal
+import sys
+from decimal import Decimal
+from typing import Iterator, Optional
+
+from recheck import DISTANCES, Faulty, Fields, dimension_of, fields_of
+
+SECTION = "NODE_COORD_SECTION"
+decimal.getcontext().prec = 400  # of the 64 bytes of a word each digit counts
+
+
+def power_of(word: str) -> int:
+    """The exponent of a power of ten: 3 of 1000."""
+    number = Decimal(word)
+    power = number.adjusted()
+    if number != Decimal(1).scaleb(power) or not 0 < power <= 18:
+        raise ValueError(word)
+    return power
+
+
+def scaled(word: str, power: int, decimals: Optional[int]) -> str:
+    """A coordinate, multiplied."""
+    number = Decimal(word).scaleb(power)
+    if decimals is not None:
+        number = number.quantize(Decimal(1).scaleb(-decimals), decimal.ROUND_HALF_EVEN)
+    text = f"{number:f}"
+    return (text.rstrip("0").rstrip(".") if "." in text else text) or "0"
+
+
+def points_of(fields: Fields, power: int, decimals: Optional[int]) -> Iterator[str]:
+    """The lines of the points."""
+    kind, words = (fields["EDGE_WEIGHT_TYPE"] or ["none"])[0], fields[SECTION]
+    if kind not in DISTANCES:
+        raise fields.faulty("EDGE_WEIGHT_TYPE", f"{kind} is no distance that grows with the coordinates")
+    space = kind.endswith("_3D") or fields.get("NODE_COORD_TYPE", [""])[0] == "THREED_COORDS"
+    group, count = 4 if space else 3, dimension_of(fields)
+    if len(words) < group * count:
+        raise fields.faulty(SECTION, f"{count} nodes are wanted", max(0, len(words) - 1))
+    for at in range(0, group * count, group):
+        try:
+            yield " ".join([words[at], *(scaled(word, power, decimals) for word in words[at + 1 : at + group])])
+        except ArithmeticError:
+            raise fields.faulty(SECTION, "a node and its coordinates are wanted", at) from None
+
+
+def lines_of(path: str, power: int, decimals: Optional[int]) -> Iterator[str]:
+    """The lines of the instance with other points."""
+    points = list(points_of(fields_of(path), power, decimals))
+    rounded = "" if decimals is None else f", rounded to {decimals} decimals"
+    is_inside = False
+    with open(path, encoding="latin-1", newline="\n") as file:
+        for line in file:
+            line = line.rstrip("\r\n")
+            if line.strip()[:1].isalpha():
+                is_inside = line.strip().startswith(SECTION)
+                if is_inside:
+                    yield f"COMMENT : Coordinates multiplied by {10**power}{rounded}"
+                    yield from (line, *points)
+                    continue
+            if not is_inside:
+                yield line
+
+
+def main() -> None:
+    words = argparse.ArgumentParser(description="Multiplies the coordinates of an instance by a power of ten.")
+    words.add_argument("instance", metavar="F", help="an instance with points")
+    words.add_argument("--by", required=True, metavar="N", help="10, 100, .. up to 10^18")
+    words.add_argument("--decimals", type=int, metavar="D", help="round to so many decimals, 0 to 9")
+    given = words.parse_args()
+    try:
+        power = power_of(given.by)
+    except (ArithmeticError, ValueError):
+        words.error(f"--by is a power of ten from 10 on, and this is none: {given.by}")
+    if given.decimals is not None and not 0 <= given.decimals <= 9:
+        words.error("--decimals is 0 to 9")
+    try:
+        text = "\n".join(lines_of(given.instance, power, given.decimals))
+    except OSError as fault:
+        sys.exit(f"scale: {given.instance}: {fault.strerror}")
+    except Faulty as fault:
+        sys.exit(f"scale: {fault}")
+    sys.stdout.buffer.write(f"{text}\n".encode("latin-1"))
+
+
+if __name__ == "__main__":
+    main()

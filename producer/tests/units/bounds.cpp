@@ -1,0 +1,50 @@
+#include <algorithm>
+
+#include "fixtures.h"
+#include "tree_bound.h"
+
+using namespace certify;
+
+// Any numbers give a bound that no tour is below.
+TEST_CASE("any numbers bound every tour") {
+  Random random(9);
+  for (int trial = 0; trial < 200; trial++) {
+    const Matrix weights = random_matrix(7, random);
+    CutPool pool(7);
+    const int comb = pool.add_comb({{0, 1, 2}, {0, 3}, {1, 4}, {2, 5}});
+    TreeBound bound(weights, pool, 10);
+    Numbers numbers;
+    for (int v = 0; v < 7; v++) numbers.potentials.push_back(random.below(2000) - 1000);
+    numbers.multipliers[comb] = random.below(500);
+    CHECK(bound.bound_of(bound.value(numbers, {})) <=
+          shortest(weights));  // a bound is above the shortest tour
+    const Value all = bound.value(numbers, {});
+    const Value with = bound.value(numbers, {{{2, 4}, true}}),
+                without = bound.value(numbers, {{{2, 4}, false}});
+    CHECK((with >= all && without >= all && std::min(with, without) == all));  // decisions lower a bound
+    const std::vector<Decision> none, decided{{{2, 4}, true}};
+    TreeBound few(weights, pool, 10);
+    few.add_likely({{0, 1}, {1, 2}, {2, 3}, {3, 4}, {4, 5}, {5, 6}, {0, 6}});
+    CHECK(few.likely_value(numbers, none) >= all);  // likely edges give less than all edges
+    CHECK((few.reaches(numbers, none, all) &&
+           !few.reaches(numbers, none, all + 1)));  // a goal is reached or not
+    CHECK((few.value(numbers, none) == all &&
+           few.likely_value(numbers, none) == all));  // the tree's edges join
+    few.value(numbers, decided);
+    CHECK(few.likely_value(numbers, decided) == with);  // the same under decisions
+    int crossed = 0;
+    for (const auto& [i, j] : few.links()) {
+      for (const NodeSet& set : pool[comb].sets) {
+        crossed += std::count(set.begin(), set.end(), i) != std::count(set.begin(), set.end(), j) ? 1 : 0;
+      }
+    }
+    CHECK(few.crossings().at(comb) == crossed);  // the crossings of the tree
+    numbers.multipliers[comb] = -1;
+    CHECK(bound.value(numbers, {}) == ExactBound::nothing());  // a multiplier below 0
+  }
+  CutPool pool(3);
+  const Matrix weights(3);
+  TreeBound bound(weights, pool, 10);
+  CHECK((bound.bound_of(21) == 3 && bound.bound_of(20) == 2));      // bounds are rounded up
+  CHECK((bound.bound_of(-21) == -2 && bound.bound_of(-20) == -2));  // bounds below 0 too
+}

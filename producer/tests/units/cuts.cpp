@@ -1,0 +1,69 @@
+#include <algorithm>
+#include <map>
+
+#include "combs.h"
+#include "fixtures.h"
+#include "subtours.h"
+
+using namespace certify;
+
+// Two triangles with weak edges between them.
+TEST_CASE("the cut between two triangles") {
+  Graph graph(6);
+  const auto join = [&](int i, int j, double value) {
+    graph[i].push_back({j, value});
+    graph[j].push_back({i, value});
+  };
+  for (const int start : {0, 3}) {
+    for (int k = 0; k < 3; k++) join(start + k, start + (k + 1) % 3, 0.9);
+  }
+  for (int k = 0; k < 3; k++) join(k, k + 3, 0.2);
+  bool found = false;
+  for (NodeSet set : crossed_too_little(graph, 0.01)) {
+    std::sort(set.begin(), set.end());
+    found = found || set == NodeSet{0, 1, 2} || set == NodeSet{3, 4, 5};
+  }
+  CHECK(found);  // the cut between two triangles
+}
+
+// The prism's half edges: the handle is a triangle, the teeth are the edges between the triangles.
+TEST_CASE("the comb of a prism") {
+  Graph graph(6);
+  const auto join = [&](int i, int j, double value) {
+    graph[i].push_back({j, value});
+    graph[j].push_back({i, value});
+  };
+  for (const int start : {0, 3}) {
+    for (int k = 0; k < 3; k++) join(start + k, start + (k + 1) % 3, 0.5);
+  }
+  for (int k = 0; k < 3; k++) join(k, k + 3, 1);
+  CutPool pool(6);
+  Random random(1);
+  const Runs runs(graph, {0, 1, 2, 5, 4, 3});
+  CombSearch search(graph, pool, runs, random, 0.01);
+  const std::vector<FoundComb> found = search.find({}, 10, 1);
+  CHECK((!found.empty() && found[0].violation > 0.99 && pool.is_comb(found[0].sets)));  // the comb of a prism
+  std::vector<char> scratch(6, 0);
+  CHECK(violation(pool[pool.add_comb(found.at(0).sets)], graph, scratch) >
+        0.99);                                                // its violation by its sets
+  CHECK(!pool.is_comb({{0, 1, 2}, {0, 3}, {1, 4}}));          // two teeth are no comb
+  CHECK(!pool.is_comb({{0, 1, 2}, {0, 3}, {1, 3}, {2, 5}}));  // teeth with a common node are no comb
+  CHECK(!pool.is_comb({{0, 1, 2}, {0, 1}, {2, 4}, {3, 5}}));  // a tooth has nodes inside and outside
+}
+
+TEST_CASE("a handle is known where it was put") {
+  HandleTable table;
+  std::map<std::uint64_t, double> same;
+  Random random(4);
+  for (int k = 0; k < 20000; k++) {
+    const std::uint64_t hash = random.below(30000) * 0x9E3779B97F4A7C15ull + 1;
+    const double violation = random.unit();
+    CHECK(table.has(hash) == (same.count(hash) > 0));  // a handle is known where it was put
+    table.put(hash, violation);
+    same[hash] = violation;
+  }
+  for (const auto& [hash, violation] : same) {
+    CHECK(
+        (table.find(hash) != nullptr && *table.find(hash) == violation));  // the violation that was put last
+  }
+}

@@ -1,0 +1,73 @@
+#include "search.h"
+
+#include <algorithm>
+#include <cmath>
+
+#include "fixtures.h"
+#include "subtours.h"
+
+using namespace certify;
+
+// Of the time 0.2 is used before the tree.
+TEST_CASE("whether a tree ends in time") {
+  CHECK(ends_in_time(0, 0, 0));          // there is no limit
+  CHECK(ends_in_time(0, 0.2, 0.29));     // it is too early for a guess
+  CHECK(ends_in_time(0.1, 0.2, 0.4));    // a tenth is done after a quarter of its time
+  CHECK(!ends_in_time(0.05, 0.2, 0.4));  // a twentieth is done after a quarter of its time
+  CHECK(!ends_in_time(0.6, 0, 0.95));    // it has to be surer near the end
+}
+
+// Points whose solution has fractional edges, from which bounds are tried, and which is found again.
+TEST_CASE("a solution is found again from its basis") {
+  Random random(6);
+  Matrix weights(30);
+  std::vector<Pair> points(30);
+  for (auto& [x, y] : points) x = random.below(1000), y = random.below(1000);
+  for (int i = 0; i < 30; i++) {
+    for (int j = 0; j < i; j++) {
+      weights.set(
+          i, j,
+          std::lround(std::hypot(points[i].first - points[j].first, points[i].second - points[j].second)));
+    }
+  }
+  Tour tour(30);
+  for (int v = 0; v < 30; v++) tour[v] = v;
+  CutPool pool(30);
+  const Instance instance{weights, {}, false};
+  Relaxation relaxation(instance, pool, tour);
+  relaxation.add_edges(edges_of(tour));
+  relaxation.solve();
+  for (int round = 0; round < 3; round++) {
+    std::vector<int> cuts;
+    for (const NodeSet& set : crossed_too_little(relaxation.support(), 0.01))
+      cuts.push_back(pool.add_subtour(set));
+    relaxation.add_cuts(cuts);
+    relaxation.solve();
+  }
+  const double value = relaxation.value();
+  const Basis basis = relaxation.basis();
+  const auto same = [&] { return std::abs(relaxation.value() - value) < 1e-6 * value; };
+  const int columns = relaxation.columns();
+  relaxation.drop_edges();
+  CHECK(relaxation.columns() < columns);  // edges are dropped
+  relaxation.solve();
+  CHECK(same());  // the value without the dropped edges
+  for (int column = 0; column < relaxation.columns(); column += 5) {
+    const Pair pair = relaxation.edge(column);
+    for (const bool used : {true, false}) {
+      double gain = 0;
+      {
+        Relaxation::Probe probe(relaxation, 1000);
+        gain = probe.gain(column, used ? 1 : 0);
+      }
+      relaxation.decide({pair, used});
+      relaxation.solve();
+      CHECK(relaxation.value() >= value - 1e-6 * value);         // a decision lowers the value
+      CHECK(relaxation.value() <= value + gain + 1e-6 * value);  // a bound that is tried gains less
+      relaxation.release(pair);
+      relaxation.restore(basis);
+      relaxation.solve();
+      CHECK((same() && relaxation.edge(column) == pair));  // the value after a return to a basis
+    }
+  }
+}

@@ -1,0 +1,56 @@
+#include <algorithm>
+#include <numeric>
+
+#include "eax.h"
+#include "fixtures.h"
+#include "local_search.h"
+#include "tsp_program.h"
+
+using namespace certify;
+
+TEST_CASE("tours of nine nodes are shortest, and local search shortens") {
+  Random random(3);
+  for (int trial = 0; trial < 20; trial++) {
+    const Matrix weights = random_matrix(9, random);
+    Eax eax(weights, {}, 30, trial + 1);
+    const Tour tour = eax.run([] { return false; }, [](Weight) {});
+    CHECK(length_of(weights, tour) == shortest(weights));  // EAX finds the shortest tour of nine nodes
+  }
+  const Matrix weights = random_matrix(200, random);
+  Tour tour(200);
+  for (int v = 0; v < 200; v++) tour[v] = v;
+  const Weight before = length_of(weights, tour);
+  LocalSearch(weights, nearest(weights, 10)).improve(tour);
+  CHECK(length_of(weights, tour) < before / 2);  // local search makes a tour much shorter
+  std::sort(tour.begin(), tour.end());
+  for (int v = 0; v < 200; v++) CHECK(tour[v] == v);  // local search keeps each node
+}
+
+TEST_CASE("an edge has the smaller node first, an arc the one that comes first") {
+  CHECK(edges_of({2, 0, 1}) == std::vector<Pair>{{0, 2}, {0, 1}, {1, 2}});
+  CHECK(arcs_of({2, 0, 1}) == std::vector<Pair>{{2, 0}, {0, 1}, {1, 2}});
+}
+
+TEST_CASE("paths of fixed edges") {
+  CHECK(paths_of({{0, 1}, {1, 2}}, 5).size() == 3);          // a path and two nodes
+  CHECK(paths_of({{0, 1}, {1, 2}, {0, 2}}, 3).size() == 1);  // a whole tour
+  bool refused = false;
+  try {
+    paths_of({{0, 1}, {1, 2}, {0, 2}}, 4);
+  } catch (const Refusal&) {
+    refused = true;
+  }
+  CHECK(refused);  // a cycle of three of four nodes
+}
+
+TEST_CASE("potentials change each length alike") {
+  Random random(3);
+  const Matrix weights = random_matrix(9, random);
+  std::vector<Weight> potentials(9);
+  for (Weight& potential : potentials) potential = random.below(500) - 250;
+  const Weight all = std::accumulate(potentials.begin(), potentials.end(), Weight{0});
+  const Matrix costs = with_potentials(weights, potentials);
+  for (const Tour& tour : {Tour{0, 1, 2, 3, 4, 5, 6, 7, 8}, Tour{3, 8, 1, 0, 6, 2, 7, 5, 4}}) {
+    CHECK(length_of(costs, tour) == length_of(weights, tour) - 2 * all);  // each length changes alike
+  }
+}

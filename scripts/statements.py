@@ -1,0 +1,92 @@
+"""Makes the toolchain's files of a crate over the statements of the crates below it, which `rt ci` leaves in
+crates/NAME/out/rlib. So nothing but the crate itself is proved again.
+
+`rt lib` and `rt run` would prove each crate below once more, over the proofs of those below it. The words of
+the calls are those of the toolchain's own command, which is loaded here.
+"""
+from __future__ import annotations
+
+import importlib.machinery
+import importlib.util
+import os
+import subprocess
+import sys
+import tempfile
+from pathlib import Path
+
+import module
+from sources import LIBRARY, PROGRAM, ROOT, below, lay_out, name_build, sum_of
+
+# The files that are made of each crate.
+MADE = {LIBRARY: "libtsp_c.a", PROGRAM: "tsp_tool.o"}
+# The library's module for LLVM, beside its archive.
+MODULE = "tsp_c.bc"
+
+
+def place_of(name: str, root: Path) -> Path:
+    """Where `rt ci` leaves the statements of a crate."""
+    return root / "crates" / name / "out" / "rlib" / f"{name}.rlib"
+
+
+def libraries(names: list[str]) -> list[str]:
+    """The crates below these, without these."""
+    return [crate for crate in dict.fromkeys(it for name in names for it in below(name)) if crate not in names]
+
+
+def mark(root: Path) -> None:
+    """Says of which sources the statements are that a run of `rt ci` has just left in a folder."""
+    for name in libraries([LIBRARY, PROGRAM]):
+        if place_of(name, root).is_dir():
+            place_of(name, root).with_name("sum").write_text(sum_of(name, root) + "\n")
+
+
+def lacking(names: list[str], root: Path) -> list[str]:
+    """The crates below these whose statements aren't there, or are of other sources."""
+
+    def is_there(name):
+        said = place_of(name, root).with_name("sum")
+        return place_of(name, root).is_dir() and said.exists() and said.read_text().strip() == sum_of(name)
+
+    return [name for name in libraries(names) if not is_there(name)]
+
+
+def load_rt():
+    """The toolchain's command as a module."""
+    sys.dont_write_bytecode = True
+    loader = importlib.machinery.SourceFileLoader("rt", str(module.kit() / "bin/rt"))
+    made = importlib.util.module_from_spec(importlib.util.spec_from_loader("rt", loader))
+    sys.modules["rt"] = made
+    loader.exec_module(made)
+    return made
+
+
+def make(name: str, root: Path, place: Path) -> str:
+    """Makes the file of a crate over the statements in a folder, the library's with its module beside it.
+    Answers nothing, or else what the toolchain said in place of it."""
+    rt = load_rt()
+    with tempfile.TemporaryDirectory(prefix="tsp-over-") as folder:
+        scratch = Path(folder)
+        copy = scratch / "copy"
+        copy.mkdir()
+        lay_out([name], copy)
+        if name == PROGRAM:
+            name_build(copy)
+        crate = rt.Crate(str(copy / "crates" / name), str(copy), {})
+        for lower in crate.below():
+            lower.rlib = str(place_of(lower.name, root))
+        second = module.lay_out_second(scratch, ends=False)
+        words = [rt.rtlib.RATTLE, "build", *crate.words(["--jobs", str(min(4, len(os.sched_getaffinity(0))))], keeps=False)]
+        words += ["--toolchain", second / "toolchain", "--backend", "llvm", "-o", scratch / MADE[name]]
+        ran = subprocess.run(words, cwd=crate.folder, stdin=subprocess.DEVNULL, capture_output=True, text=True)
+        if ran.returncode or not (scratch / MADE[name]).exists():
+            return f"{MADE[name]} isn't made:\n{ran.stdout[-4000:]}{ran.stderr[-4000:]}"
+        place.parent.mkdir(parents=True, exist_ok=True)
+        files = [(scratch / MADE[name], place)]
+        if name == LIBRARY and (scratch / "module.bc").exists():
+            files.insert(0, (scratch / "module.bc", place.with_name(MODULE)))
+        for made, to in files:
+            # (beside it first, so that a file which is there is whole)
+            new = to.with_name(f"{to.name}.new")
+            new.write_bytes(made.read_bytes())
+            new.replace(to)
+    return ""
