@@ -31,6 +31,7 @@ pub mod Teeth
 pub mod CombRuns
 pub mod BranchesOnce
 pub mod SmallVerdicts
+pub mod SmallFamilies
 pub mod SmallRows
 pub mod CostRows
 pub mod Links

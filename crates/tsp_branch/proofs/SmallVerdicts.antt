@@ -68,7 +68,7 @@ lone_set = record {
 }
 
 -- what holds of 1 to 6 holds of six nodes
-of_six : (P : ℕ → Type 0) → P 1 → P 2 → P 3 → P 4 → P 5 → P 6 → (i : ℕ) → IsNode 6 i → P i
+pub of_six : (P : ℕ → Type 0) → P 1 → P 2 → P 3 → P 4 → P 5 → P 6 → (i : ℕ) → IsNode 6 i → P i
 of_six P a b c d e f i node = elim (cases_eq i 1) [
   | inl same ↦ subst P (sym same) a
   | inr not_one ↦ elim (cases_eq i 2) [

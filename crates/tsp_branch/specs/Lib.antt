@@ -14,6 +14,7 @@ pub mod Twice
 pub mod Listed
 pub mod BranchVerdicts
 pub mod VerdictExamples
+pub mod FamilyExamples
 pub mod Rows
 pub mod Families
 pub mod RowExamples

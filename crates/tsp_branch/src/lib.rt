@@ -16,6 +16,7 @@ mod combed;
 mod decided;
 mod decision;
 mod examples;
+mod family_examples;
 mod given_back;
 mod good_combs;
 mod judge;
@@ -48,6 +49,7 @@ pub use examples::{
     examples_of_bounds, examples_of_crossings, examples_of_trees, examples_of_verdicts,
     examples_of_weights,
 };
+pub use family_examples::examples_of_families;
 pub use good_combs::judge_families;
 pub use laws::{
     cases_bound_cycles, cases_have_no_cycle, certificate_bounds_are_unique,

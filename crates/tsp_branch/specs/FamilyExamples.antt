@@ -1,0 +1,19 @@
+-- Small families of sets of six nodes, on which the definitions are evaluated.
+use Rattle.std.specs.Prelude.{ℕ, List, [], ◌∷◌}
+use Rattle.tsp_branch.specs.Families.{IsFamily}
+use Rattle.tsp_branch.specs.CombsOfSets.{family_with}
+use Rattle.tsp_branch.specs.GoodCombs.{IsGoodFamily}
+
+-- the set 1 2 3 twice, and all nodes
+abbrev pub one_set_twice : List (List ℕ)
+one_set_twice = (1 ∷ 2 ∷ 3 ∷ []) ∷ (1 ∷ 2 ∷ 3 ∷ []) ∷ []
+
+abbrev pub all_six : List (List ℕ)
+all_six = (1 ∷ 2 ∷ 3 ∷ 4 ∷ 5 ∷ 6 ∷ []) ∷ []
+
+-- every cycle crosses the sets so often at the least, and two nodes cross so many at the most
+abbrev pub IsCrossed : ℕ → ℕ → List (List ℕ) → Type 0
+IsCrossed least most sets = IsFamily 6 (family_with (record { least = least; most = most }) sets)
+
+abbrev pub IsNoFamily : List (List ℕ) → Type 0
+IsNoFamily sets = IsGoodFamily 6 sets → ⊥
