@@ -27,11 +27,6 @@ pub weight_above : (scale cost other own least potential : ℤ) → IsScale scal
 weight_above (pos s) cost other own least potential scale h k = sum_above (pos s *ℤ cost) (pos s *ℤ other) own least potential (scaled_up s cost other h) k
 weight_above (negsuc s) cost other own least potential scale h k = absurd (omega (arith, ints, scale.0))
 
-pub chained_64 : (a b c : ℤ) → SFits w64 a → a ≡ b → b ≤ℤ c → to_z w64 (of_z w64 a) ≤ℤ c
-chained_64 a b c fits is h =
-    let same = to_z-of_z w64 a fits in
-    omega (arith, ints, same, is, h)
-
 pub on_true_still : (test : Bool) (P Q : Type 0) → (P → Q) → OnTrue test P → OnTrue test Q
 on_true_still true P Q still known = still known
 on_true_still false P Q still known = tt

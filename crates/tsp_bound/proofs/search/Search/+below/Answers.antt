@@ -1,8 +1,8 @@
-use Rattle.std.proofs.Common.{ℕ, ℤ, ◌+◌, ◌*◌, ◌≤◌, Option, arith, rules, w64, SFits}
+use Rattle.std.proofs.Common.{ℕ, ◌+◌, ◌*◌, Option, arith, rules, w64, SFits}
 use Rattle.tsp_format.specs.Cells.{IsNode}
 use Rattle.tsp_bound.specs.states.Potentials.{numbers_of, weight_under}
 use Rattle.tsp_bound.specs.declared.area.Area.{Area}
-use Rattle.tsp_bound.specs.states.Boxes.{HoldsNode, IsSearched, IsBelowAll}
+use Rattle.tsp_bound.specs.states.Boxes.{HoldsNode, IsSearched}
 use Rattle.tsp_bound.proofs.Trees.{searched_alone, searched_both}
 use Rattle.tsp_bound.proofs.search.Search.+below.Goals as goal
 use Rattle.tsp_bound.proofs.search.Search.+below.Goals.{then-is_left_alone, else-is_left_alone}

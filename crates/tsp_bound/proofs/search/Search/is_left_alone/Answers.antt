@@ -1,4 +1,4 @@
-use Rattle.std.proofs.Common.{ℤ, length, Option, Some, ◌≡◌, ◌≤ℤ◌, ◌-◌, ◌<◌, pos, neg_ℤ, rules, sym, arith, w64, to_z, of_z, SFits, subst}
+use Rattle.std.proofs.Common.{ℤ, length, Option, Some, ◌≡◌, ◌≤ℤ◌, ◌-◌, ◌<◌, pos, neg_ℤ, rules, sym, arith, w64, SFits, subst}
 use Rattle.std.proofs.lemmas.Int.{to_z-of_z}
 use Rattle.tsp_format.specs.Limits.{most_potential}
 use Rattle.tsp_theory.specs.Numbers.{IsFromTo, entry}

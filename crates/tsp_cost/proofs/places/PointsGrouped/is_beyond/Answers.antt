@@ -1,6 +1,5 @@
 use Rattle.std.proofs.Common.{ℤ, ◌≤ℤ◌, subst, w64}
 use Rattle.std.proofs.lemmas.Int.{to_z-of_z}
-use Rattle.std.specs.Prelude.{IsTrue}
 use Rattle.tsp_distance.specs.declared.decimal.Point.{Point}
 use Rattle.tsp_file.specs.Cost.{distance}
 use Rattle.tsp_cost.specs.states.Views.{points_place}
