@@ -1,10 +1,10 @@
 -- The decimals of a part of a whole, digit by digit.
-use Rattle.std.proofs.Common.{◌≡◌, ℕ, ◌+◌, ◌*◌, ◌/◌, ◌%◌, ◌^◌, ◌<◌, ◌≤◌, [], ◌∷◌, ◌++◌, ◌==◌, ◌≢◌, inl, inr, false, zero, suc, refl, sym, ap, ◌∙◌, arith, append_assoc, pow-add}
+use Rattle.std.proofs.Common.{◌≡◌, ℕ, ◌+◌, ◌*◌, ◌/◌, ◌%◌, ◌^◌, ◌<◌, ◌≤◌, [], ◌∷◌, ◌++◌, ◌==◌, ◌≢◌, inl, inr, false, zero, suc, refl, sym, ap, ◌∙◌, arith, append_assoc, pow-add, length}
 use Rattle.std.proofs.Math.Nat.{pow-suc, div-div-eq-div-mul, add-mul-mod_self_right, add-mul-div_right, mod-eq_of_lt, div-one, mul-div-mul_right, mod-le, zero-mod}
 use Rattle.std.proofs.lemmas.Bool.Decides.{nat_tests}
 use Rattle.std.proofs.lemmas.Nat.{mod-mul-add, mul-le, mod_below, div_below, div-add-mod'}
 use Rattle.std.proofs.lemmas.Bool.{cases_eq}
-use Rattle.std.proofs.lemmas.Fmt.{decimal_digit, decimal_step}
+use Rattle.std.proofs.lemmas.Fmt.{length-decimal-le}
 use Rattle.std.specs.Fmt.{decimal}
 use Rattle.tsp_number.specs.Spelling.{decimals, three_digits}
 use Rattle.tsp_number.proofs.Scaling.{pow_above_zero}
@@ -36,49 +36,9 @@ next_part rest place q is above =
 
 -- ---- the digits of a whole number
 
-two_digits : (n : ℕ) → 10 ≤ n → n < 100 → decimal n ≡ (48 + n / 10) ∷ (48 + n % 10) ∷ []
-two_digits n from below = decimal_step n from (omega arith) ∙ ap (λ ds. ds ++ (48 + n % 10) ∷ []) (decimal_digit (n / 10) (omega arith))
-
-pub decimal-group : (n : ℕ) → 100 ≤ n → n < 1000 → decimal n ≡ three_digits n
-decimal-group n from below =
-    let first : n / 10 / 10 ≡ n / 100 = div-div-eq-div-mul n 10 10 in
-    decimal_step n (omega arith) (omega arith) ∙ ap (λ ds. ds ++ (48 + n % 10) ∷ []) (two_digits (n / 10) (omega arith) (omega arith))
-    ∙ ap (λ d. (48 + d) ∷ (48 + n / 10 % 10) ∷ (48 + n % 10) ∷ []) first
-
-pub decimal-pair : (n : ℕ) → 10 ≤ n → n < 100 → decimal n ≡ (48 + n / 10) ∷ (48 + n % 10) ∷ []
-decimal-pair = two_digits
-
--- a number of more than three digits ends in a group of three
-pub decimal-thousands : (n : ℕ) → 1000 ≤ n → n < 2 ^ 64 → decimal n ≡ decimal (n / 1000) ++ three_digits (n % 1000)
-decimal-thousands n from below =
-    let tens : n / 10 / 10 ≡ n / 100 = div-div-eq-div-mul n 10 10 in
-    let hundreds : n / 100 / 10 ≡ n / 1000 = div-div-eq-div-mul n 100 10 in
-    let first : n % 1000 / 100 ≡ n / 100 % 10 = (next_part n 1000 100 refl (omega arith)).0 in
-    let rest : n % 1000 % 100 ≡ n % 100 = (next_part n 1000 100 refl (omega arith)).1 in
-    let second : n % 1000 / 10 % 10 ≡ n / 10 % 10 = omega arith in
-    let third : n % 1000 % 10 ≡ n % 10 = omega arith in
-    decimal_step n (omega arith) below
-    ∙ ap (λ ds. ds ++ (48 + n % 10) ∷ []) (decimal_step (n / 10) (omega arith) (omega arith))
-    ∙ ap (λ m. (decimal m ++ (48 + n / 10 % 10) ∷ []) ++ (48 + n % 10) ∷ []) tens
-    ∙ ap (λ ds. (ds ++ (48 + n / 10 % 10) ∷ []) ++ (48 + n % 10) ∷ []) (decimal_step (n / 100) (omega arith) (omega arith))
-    ∙ rw (hundreds, first, second, third) (simp append_assoc)
-
--- and one of more than six in two
-pub decimal-millions : (n : ℕ) → 1000000 ≤ n → n < 2 ^ 64
-    → decimal n ≡ decimal (n / 1000000) ++ (three_digits (n / 1000 % 1000) ++ three_digits (n % 1000))
-decimal-millions n from below =
-    let whole : n / 1000 / 1000 ≡ n / 1000000 = div-div-eq-div-mul n 1000 1000 in
-    decimal-thousands n (omega arith) below
-    ∙ ap (λ ds. ds ++ three_digits (n % 1000)) (decimal-thousands (n / 1000) (omega arith) (omega arith))
-    ∙ ap (λ m. (decimal m ++ three_digits (n / 1000 % 1000)) ++ three_digits (n % 1000)) whole
-    ∙ append_assoc (decimal (n / 1000000)) (three_digits (n / 1000 % 1000)) (three_digits (n % 1000))
-
--- the largest whole part
-pub decimal-billion : decimal 1000000000 ≡ 49 ∷ 48 ∷ 48 ∷ 48 ∷ 48 ∷ 48 ∷ 48 ∷ 48 ∷ 48 ∷ 48 ∷ []
-decimal-billion =
-    let thousand = decimal-thousands 1000 (omega arith) (omega arith) ∙ ap (λ ds. ds ++ three_digits 0) (decimal_digit 1 (omega arith)) in
-    let million = decimal-thousands 1000000 (omega arith) (omega arith) ∙ ap (λ ds. ds ++ three_digits 0) thousand in
-    decimal-thousands 1000000000 (omega arith) (omega arith) ∙ ap (λ ds. ds ++ three_digits 0) million
+-- a whole part has at most ten digits
+pub length_whole : (whole : ℕ) → whole ≤ 10 ^ 9 → length (decimal whole) ≤ 10
+length_whole whole most = length-decimal-le 10 whole (omega arith) (omega arith) (omega arith)
 
 -- ---- the digits of a part
 

@@ -8,6 +8,7 @@ ghost use Rattle.tsp_number.specs.NumberWord.{StandsFor};
 ghost use Rattle.tsp_number.specs.Spelling.{decimals, three_digits, fraction_spelling, size_spelling, spelling};
 
 use arrayvec::ArrayVec;
+use itoa::Buffer;
 use tsp_distance::{Decimal, UNIT};
 
 /// Appends the three digits of a number below 1000, also those that are zeros at its front.
@@ -26,59 +27,18 @@ fn push_group<const N: usize>(text: &mut ArrayVec<u8, N>, group: u64)
     text.try_extend_from_slice(&digits).unwrap();
 }
 
-/// Appends a number below 1000, without leading zeros.
-#[inline(always)]
-fn push_hundreds<const N: usize>(text: &mut ArrayVec<u8, N>, number: u64)
-    requires few { number < 1000 }
-    requires room { array_vec_len text.old + 3 ≤ N }
-    ensures items { text.new.items ≡ text.old.items ++ decimal number }
-    ensures room { array_vec_len text.new ≤ array_vec_len text.old + 3 }
-{
-    if number >= 100 {
-        push_group(text, number);
-    } else if number >= 10 {
-        let digits = [b'0' + (number / 10) as u8, b'0' + (number % 10) as u8];
-        text.try_extend_from_slice(&digits).unwrap();
-    } else {
-        text.push(b'0' + number as u8);
-    }
-}
-
-/// Appends a number below 10^9, without leading zeros.
-#[inline(always)]
-fn push_millions<const N: usize>(text: &mut ArrayVec<u8, N>, number: u64)
-    requires few { number < 10 ^ 9 }
-    requires room { array_vec_len text.old + 9 ≤ N }
-    ensures items { text.new.items ≡ text.old.items ++ decimal number }
-    ensures room { array_vec_len text.new ≤ array_vec_len text.old + 9 }
-{
-    if number < 1000 {
-        push_hundreds(text, number);
-        return;
-    }
-    if number < 1_000_000 {
-        push_hundreds(text, number / 1000);
-        push_group(text, number % 1000);
-        return;
-    }
-    push_hundreds(text, number / 1_000_000);
-    push_group(text, number / 1000 % 1000);
-    push_group(text, number % 1000);
-}
-
 /// Appends the whole part of a decimal, without leading zeros.
 #[inline(always)]
+#[tactic(auto, using(crate::proofs::Spellings::length_whole))]
 fn push_whole<const N: usize>(text: &mut ArrayVec<u8, N>, whole: u64)
     requires few { whole ≤ 10 ^ 9 }
     requires room { array_vec_len text.old + 10 ≤ N }
     ensures items { text.new.items ≡ text.old.items ++ decimal whole }
     ensures room { array_vec_len text.new ≤ array_vec_len text.old + 10 }
 {
-    if whole < UNIT {
-        push_millions(text, whole);
-        return;
-    }
-    text.try_extend_from_slice(b"1000000000").unwrap();
+    let mut digits = Buffer::new();
+    text.try_extend_from_slice(digits.format(whole).as_bytes())
+        .unwrap();
 }
 
 /// Appends three decimals, without zeros at their end.
