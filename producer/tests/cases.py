@@ -283,7 +283,7 @@ def overwriting():
 
 def log():
     """Each line is of JSON, and no bound is above its length."""
-    write_points("a.tsp", "EUC_2D", 250, random.Random(2), side=10**6)  # more than one leaf
+    write_points("a.tsp", "EUC_2D", 120, random.Random(5), side=10**6)  # more than one leaf
     certify("a.tsp", "-o", "out.branches", "--tour-out", "out.tour", "--log", "out.log")
     events = [json.loads(line) for line in Path("out.log").read_text().splitlines()]
     last = events[-1]
