@@ -6,6 +6,7 @@ ghost use Rattle.tsp_draft.specs.Fields.{Fields};
 ghost use Rattle.tsp_format.specs.declared.kinds.Kind.TheVariants as kinds;
 ghost use Rattle.tsp_format.specs.declared.layout.Layout.{Layout};
 ghost use Rattle.tsp_reason.specs.declared.certificate.Certificate.{Certificate};
+ghost use Rattle.tsp_reason.specs.declared.verdict.BoundVerdict.TheVariants as bounds;
 ghost use Rattle.tsp_reason.specs.declared.verdict.Reason.{Reason};
 ghost use Rattle.tsp_reason.specs.declared.verdict.Verdict.TheVariants as verdicts;
 ghost use Rattle.tsp_read.specs.declared.ReadFault.{ReadFault};
@@ -50,5 +51,5 @@ pub fn examples_of_wrong_kinds()
     ensures bound_of_routes { (by : Certificate) (certificate : Fields) (sink : Sink) → IsUnwritten sink
         → BoundsFiles by (nodes kinds.Cvrp 4 []) certificate sink (Err run_faults.WrongKind) }
     ensures bound_is_no_no { (by : Certificate) (certificate : Fields) (sink : Sink) (reason : Reason)
-        → ¬ BoundsFiles by (nodes kinds.Cvrp 4 []) certificate sink (Ok (Err reason)) }
+        → ¬ BoundsFiles by (nodes kinds.Cvrp 4 []) certificate sink (Ok (bounds.No reason)) }
 {}
