@@ -23,7 +23,7 @@ class Chunks {
   void shrink(int kind);
   // The parts of the shrunk graph with an edge in part, in a random order.
   std::vector<int> centers();
-  // A ball of so many parts around one, and the rest, as atoms. Nothing where the ball is too small.
+  // A ball of this many parts around one, and the rest, as atoms. Nothing if the ball is too small.
   std::optional<Chunk> around(int center, int atoms, int ball);
 
  private:

@@ -17,7 +17,7 @@ class QuotientSearch {
   // Chunks that gave nothing are known by their hash.
   QuotientSearch(const Graph& graph, const std::vector<const NodeSet*>& tight, const Tour& tour,
                  Random& random, std::unordered_set<std::uint64_t>& tried, double least_violation);
-  // Families from this many chunks of so many atoms at most, the deepest first.
+  // Families from at most `most_chunks` chunks of at most `atoms` atoms, the deepest first.
   std::vector<Family> find(int atoms, int most_chunks);
 
  private:

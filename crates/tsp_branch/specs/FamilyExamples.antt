@@ -11,7 +11,7 @@ one_set_twice = (1 ∷ 2 ∷ 3 ∷ []) ∷ (1 ∷ 2 ∷ 3 ∷ []) ∷ []
 abbrev pub all_six : List (List ℕ)
 all_six = (1 ∷ 2 ∷ 3 ∷ 4 ∷ 5 ∷ 6 ∷ []) ∷ []
 
--- every cycle crosses the sets so often at the least, and two nodes cross so many at the most
+-- `least` is the least number of crossings of any cycle, and `most` the most sets that two nodes cross
 abbrev pub IsCrossed : ℕ → ℕ → List (List ℕ) → Type 0
 IsCrossed least most sets = IsFamily 6 (family_with (record { least = least; most = most }) sets)
 

@@ -38,7 +38,7 @@ impl<P: InSpace> Grouped for Points<'_, P> {
         Some(Region::of(self.place(node)))
     }
 
-    // (as a call of its own it cost a tenth more instructions)
+    // (as a separate call it cost a tenth more instructions)
     #[inline(always)]
     fn is_beyond(&self, from: u32, region: &Region, least: i64) -> bool {
         monotone_laws();

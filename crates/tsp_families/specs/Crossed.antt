@@ -44,7 +44,7 @@ AreAlike sets i j = All (λ set. set i ≡ set j) sets
 abbrev pub AreUnlike : List (ℕ → Bool) → List ℕ → Type 0
 AreUnlike sets nodes = AllPairs (λ i j. AreAlike sets i j → ⊥) nodes
 
--- so many nodes of 1..n of which no two are in one part
+-- 1..n has `count` nodes of which no two are in one part
 abbrev pub HasUnlike : ℕ → ℕ → List (ℕ → Bool) → Type 0
 HasUnlike count n sets = (nodes : List ℕ) × (length nodes ≡ count) × All (IsNode n) nodes × AreUnlike sets nodes
 
