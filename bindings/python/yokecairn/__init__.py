@@ -13,6 +13,7 @@ and ctypes aren't, and so not how a canonical text becomes Python's values.
 """
 
 from . import _library
+from .compare import Basis, BestUnknown, Comparison, compare
 from .faults import (
     EndFault,
     Error,
@@ -31,6 +32,9 @@ from .report import Report, bound, check, show
 from .solution import best_known, read_solution
 
 __all__ = [
+    "Basis",
+    "BestUnknown",
+    "Comparison",
     "EndFault",
     "Error",
     "Fault",
@@ -48,6 +52,7 @@ __all__ = [
     "bound",
     "check",
     "check_many",
+    "compare",
     "load",
     "parse",
     "read",

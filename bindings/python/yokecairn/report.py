@@ -163,7 +163,7 @@ def solution_and_path(solution: Solution) -> Tuple[bytes, Optional[str]]:
     return tour_text(parts), None
 
 
-def _certificate(
+def certificate_of(
     potentials: Optional[Source], branches: Optional[Source]
 ) -> Tuple[int, bytes, Optional[str]]:
     """Which certificate is given, its text and its path."""
@@ -199,14 +199,23 @@ def check(
     """
     first, path = text_and_path(instance)
     second, solution_path = solution_and_path(solution)
-    by, third, certificate_path = _certificate(potentials, branches)
-    length = _length(length)
-    status, told = _library.check(first, second, third, by, length)
-
+    by, third, certificate_path = certificate_of(potentials, branches)
     paths = (path, solution_path, certificate_path)
+    return report_of((first, second, third), paths, by, _length(length), explain)
+
+
+def report_of(
+    texts: Tuple[bytes, bytes, bytes],
+    paths: Sequence[Optional[str]],
+    by: int,
+    length: Optional[int] = None,
+    explain: bool = False,
+) -> Report:
+    """The report of a check of these texts: of the instance, the solution and the certificate."""
+    status, told = _library.check(*texts, by, length)
 
     def more() -> str:
-        return explained(_library.CHECK, (first, second, third), paths, by, length)
+        return explained(_library.CHECK, texts, paths, by, length)
 
     if status not in (_library.DONE, _library.NO):
         raise error_of(status, told, more, paths)
@@ -252,16 +261,23 @@ def bound(
         MemoryError: out of memory.
     """
     first, path = text_and_path(instance)
-    by, second, certificate_path = _certificate(potentials, branches)
+    by, second, certificate_path = certificate_of(potentials, branches)
     if by == _library.ALONE:
         raise TypeError("neither potentials nor branches")
-    status, told = _library.bound(first, second, by)
+    return bound_of((first, second), (path, certificate_path), by, explain)
+
+
+def bound_of(
+    texts: Tuple[bytes, bytes], paths: Sequence[Optional[str]], by: int, explain: bool = False
+) -> Report:
+    """The report of a bound by these texts: of the instance and the certificate."""
+    status, told = _library.bound(*texts, by)
 
     def more() -> str:
-        return explained(_library.BOUND, (first, b"", second), (path, None, certificate_path), by)
+        return explained(_library.BOUND, (texts[0], b"", texts[1]), (paths[0], None, paths[1]), by)
 
     if status not in (_library.DONE, _library.NO):
-        raise error_of(status, told, more, (path, certificate_path))
+        raise error_of(status, told, more, paths)
     return Report.of(text_of(told), more() if explain else "")
 
 

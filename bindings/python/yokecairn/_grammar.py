@@ -1,0 +1,179 @@
+"""The words of the command line: one table of verbs, files and options, and what they ask for."""
+
+import argparse
+import re
+from decimal import Decimal
+from typing import Any, Dict, List, NoReturn, Optional, Sequence, Tuple
+
+from . import LAYOUTS, __version__, _library
+from .faults import explained
+from .solution import solution_text
+
+_NUMBER = re.compile(r"[+-]?(?=\.?[0-9])([0-9]*)\.?([0-9]*)(?:[eE][+-]?[0-9]+)?")
+
+# What is said of each verb, its files, and its options.
+_VERBS: Dict[str, Tuple[str, Tuple[str, ...], Tuple[str, ...]]] = {
+    "show": ("say what a file contains", ("file",), ()),
+    "convert": ("write a file anew, with its weights in a layout", ("file",), ("--layout",)),
+    "check": (
+        "judge a tour, or routes, of an instance",
+        ("file", "solution"),
+        ("--potentials", "--branches", "--length", "--foreign"),
+    ),
+    "bound": ("bound all tours of an instance by a certificate", ("file",), ("--potentials", "--branches")),
+    "compare": (
+        "judge many solutions of an instance, a line for each",
+        ("file", "solutions"),
+        ("--potentials", "--branches", "--best", "--tsv", "--json", "--summary", "--foreign"),
+    ),
+    "solution": ("write a solution of another program as a file of TYPE TOUR", ("file",), ("--dimension",)),
+}
+_FILES: Dict[str, Dict[str, Any]] = {
+    "file": {"metavar": "F", "help": "the file, or the instance; - is standard input"},
+    "solution": {"metavar": "T", "help": "the solution"},
+    "solutions": {"metavar": "T", "nargs": "+", "help": "the solutions"},
+}
+_OPTIONS: Dict[str, Dict[str, Any]] = {
+    "--explain": {"action": "store_true", "help": "explain a fault or a no"},
+    "--layout": {"metavar": "L", "help": "the layout's word"},
+    "--potentials": {"metavar": "P", "help": "a file of potentials"},
+    "--branches": {"metavar": "B", "help": "a file of branches"},
+    "--length": {"metavar": "L", "help": "a no where the length isn't L"},
+    "--foreign": {"action": "store_true", "help": "T may have another program's form"},
+    "--best": {"metavar": "FILE", "help": "best-known lengths, in lines NAME LENGTH"},
+    "--tsv": {"action": "store_true", "help": "write a table with a tab between its columns"},
+    "--json": {"action": "store_true", "help": "write JSON, when all are judged"},
+    "--summary": {"action": "store_true", "help": "write what came of all to standard error, in one line"},
+    "--dimension": {"metavar": "N", "type": int, "help": "the instance's, for routes of LKH-3"},
+}
+
+
+class Refused(Exception):
+    """The words are refused; with what is written to standard error."""
+
+
+class Asked(Exception):
+    """The words ask for help or the version; with that text, which goes to standard output with status 0."""
+
+
+class _Parser(argparse.ArgumentParser):
+    """A parser whose refusals and help are exceptions."""
+
+    def __init__(self, **words: Any) -> None:
+        super().__init__(add_help=False, allow_abbrev=False, **words)
+        self.add_argument("-h", "--help", action=_Tell, nargs=0, help="print this")
+
+    def error(self, message: str) -> NoReturn:
+        raise Refused(f"{self.format_usage()}{self.prog}: {message}\n")
+
+
+class _Tell(argparse.Action):
+    """Writes a text in place of doing anything else."""
+
+    def __call__(self, parser: argparse.ArgumentParser, *_: Any) -> NoReturn:
+        raise Asked(parser.format_help() if self.dest == "help" else f"tsp {__version__}\n")
+
+
+def _parser() -> argparse.ArgumentParser:
+    """The parser of the table."""
+    parser = _Parser(prog="tsp", description="Reads, writes and judges files of TSPLIB 95.")
+    parser.add_argument("-V", "--version", action=_Tell, nargs=0, help="print the version")
+    verbs = parser.add_subparsers(dest="verb", metavar="VERB", title="verbs")
+    for name, (told, files, options) in _VERBS.items():
+        verb = verbs.add_parser(name, help=told, description=told)
+        for word in ("--explain", *files, *options):
+            verb.add_argument(word, **(_FILES.get(word) or _OPTIONS[word]))
+    return parser
+
+
+def length_of(word: str) -> int:
+    """The whole number that a word means, in 64 bits.
+
+    Raises:
+        ValueError: it means none.
+    """
+    match = _NUMBER.fullmatch(word)
+    if match is None or len(word) > 64:
+        raise ValueError(word)
+    if not (match[1] + match[2]).strip("0"):
+        return 0
+    number = Decimal(word)
+    if number.adjusted() > 20 or number != number.to_integral_value() or not -(2**63) <= number < 2**63:
+        raise ValueError(word)
+    return int(number)
+
+
+class Task:
+    """What the words of the command line ask for."""
+
+    def __init__(self, given: argparse.Namespace) -> None:
+        self.verb: Optional[str] = given.verb
+        self.layout: Optional[str] = getattr(given, "layout", None)
+        if self.layout is not None and self.layout not in LAYOUTS:
+            raise Refused("unknown layout\n")
+        potentials, branches = getattr(given, "potentials", None), getattr(given, "branches", None)
+        if potentials is not None and branches is not None:
+            raise Refused("both potentials and branches\n")
+        if self.verb == "bound" and potentials is None and branches is None:
+            raise Refused("neither potentials nor branches\n")
+        self.by = _library.ALONE
+        if potentials is not None:
+            self.by = _library.POTENTIALS
+        elif branches is not None:
+            self.by = _library.BRANCHES
+        self.claimed: Optional[int] = None
+        if getattr(given, "length", None) is not None:
+            try:
+                self.claimed = length_of(given.length)
+            except (ValueError, ArithmeticError):
+                raise Refused("not a length\n") from None
+        certificate = potentials if branches is None else branches
+        self.is_foreign: bool = getattr(given, "foreign", False)
+        self.dimension: Optional[int] = getattr(given, "dimension", None)
+        paths = [given.file, getattr(given, "solution", None), certificate]
+        self.paths: List[str] = [path for path in paths if path is not None]
+        self.solutions: List[str] = getattr(given, "solutions", [])
+        self.best: Optional[str] = getattr(given, "best", None)
+        self.form = "tsv" if getattr(given, "tsv", False) else "json" if getattr(given, "json", False) else "text"
+        self.sums: bool = getattr(given, "summary", False)
+        if self.form == "tsv" and given.json:
+            raise Refused("both --tsv and --json\n")
+        if [*self.paths, *self.solutions, self.best].count("-") > 1:
+            raise Refused("standard input is read once\n")
+
+    def done(self, texts: Sequence[bytes]) -> Tuple[int, bytes]:
+        """The status of the verb on these texts, and what it writes."""
+        if self.verb == "solution":
+            return _library.DONE, solution_text(texts[0], self.dimension)
+        if self.verb == "check":
+            certificate = texts[2] if self.by else b""
+            return _library.check(texts[0], texts[1], certificate, self.by, self.claimed)
+        if self.verb == "bound":
+            return _library.bound(texts[0], texts[1], self.by)
+        if self.verb == "convert":
+            return _library.convert(texts[0], _library.LAYOUTS[self.layout] if self.layout else 0)
+        return _library.show(texts[0])
+
+    def explained(self, texts: Sequence[bytes]) -> str:
+        """What is told of the answer on these texts, for a person."""
+        names = ["standard input" if path == "-" else path for path in self.paths]
+        if self.verb == "bound":
+            texts, names = (texts[0], b"", texts[1]), [names[0], "", names[1]]
+        call = getattr(_library, self.verb.upper()) if self.verb else _library.SHOW
+        layout = _library.LAYOUTS[self.layout] if self.layout else 0
+        return explained(call, texts, names, self.by or layout, self.claimed)
+
+
+def task_of(words: Sequence[str]) -> Tuple[Task, bool]:
+    """What these words ask for, and whether they ask for explanations.
+
+    Raises:
+        Refused, Asked: they ask for nothing that is done.
+    """
+    words = [] if list(words) == ["--"] else words
+    given = _parser().parse_args(words)
+    if given.verb is None:
+        if words:
+            raise Refused("tsp: a verb is missing\n")
+        given.file = "-"
+    return Task(given), getattr(given, "explain", False)

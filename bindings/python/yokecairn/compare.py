@@ -1,0 +1,456 @@
+"""Many solutions of one instance, judged by what is read once, and beside each other in a table."""
+
+import csv
+import html
+import importlib
+import io
+import os
+import re
+from dataclasses import dataclass
+from functools import cached_property
+from typing import Any, Callable, Dict, Iterable, Iterator, List, Mapping, Optional, Sequence, Tuple, Union, overload
+
+from . import _library
+from .faults import Error, OutOfMemory, text_of
+from .many import Outcome
+from .problem import Path, Problem, parse
+from .report import (
+    Report,
+    Solution,
+    Source,
+    bound_of,
+    certificate_of,
+    report_of,
+    solution_and_path,
+    text_and_path,
+)
+from .solution import best_known, solution_text
+
+# The best-known length: itself, lengths by names, or a file of lines `NAME LENGTH`.
+Best = Union[int, Mapping[str, int], Source]
+Progress = Callable[[int, str, Outcome], None]
+
+# A solution without a tour: its check says what is wrong with the instance, or that there is no tour.
+_NO_TOUR = b"TYPE : TOUR\nTOUR_SECTION\nEOF\n"
+
+# The reasons that are of the instance alone.
+_OF_INSTANCE = ("TooFewNodes", "NotSymmetric", "DepotCount", "DepotDemand", "FixedEdgesInRoutes")
+
+COLUMNS = (
+    "instance",
+    "solution",
+    "verdict",
+    "length",
+    "bound",
+    "gap",
+    "gap_percent",
+    "best",
+    "best_percent",
+    "routes",
+    "detail",
+)
+_PERCENTS = ("gap_percent", "best_percent")
+
+
+@dataclass(frozen=True)
+class Basis:
+    """What is known of all solutions, before any is read.
+
+    Attributes:
+        type, nodes, not_judged: as in a `Report`.
+        least: how many routes there have to be at least, by their capacity; None for tours.
+        bound: a number that no tour of the instance is below; None without a certificate.
+        no_tour: whether the certificate shows that the instance has no tour.
+        reason, numbers: why no solution is accepted: against the instance or the certificate; else None.
+    """
+
+    type: str
+    nodes: int
+    not_judged: Tuple[str, ...]
+    least: Optional[int] = None
+    bound: Optional[int] = None
+    no_tour: bool = False
+    reason: Optional[str] = None
+    numbers: Tuple[int, ...] = ()
+
+    @property
+    def text(self) -> str:
+        """The first lines of `tsp compare`, each with its line end."""
+        lines = [f"type {self.type}", f"nodes {self.nodes}", *(f"not judged {it}" for it in self.not_judged)]
+        if self.reason is not None:
+            lines.append(_words("no", self.reason, *self.numbers))
+        elif self.least is not None:
+            lines.append(f"least {self.least}")
+        elif self.no_tour or self.bound is not None:
+            lines.append("bound none" if self.no_tour else f"bound {self.bound}")
+        return "".join(f"{line}\n" for line in lines)
+
+
+def _words(*words: object) -> str:
+    return " ".join(map(str, words))
+
+
+class BestUnknown(ValueError):
+    """There is no best-known length of the instance."""
+
+
+class Judge:
+    """What judges all solutions: the texts of the instance and the certificate, which are read once, and their paths."""
+
+    def __init__(
+        self, texts: Tuple[bytes, bytes], paths: Tuple[Optional[str], Optional[str]], by: int, foreign: bool = False
+    ) -> None:
+        self.instance, self.certificate = texts
+        self.paths = paths
+        self.by = by
+        self.is_foreign = foreign
+
+    @classmethod
+    def of(
+        cls, instance: Source, potentials: Optional[Source], branches: Optional[Source], foreign: bool = False
+    ) -> "Judge":
+        """What judges the solutions of these files."""
+        first, path = text_and_path(instance)
+        by, certificate, certificate_path = certificate_of(potentials, branches)
+        return cls((first, certificate), (path, certificate_path), by, foreign)
+
+    @cached_property
+    def name(self) -> str:
+        """The NAME of the instance; it is empty where there is none."""
+        first = text_of(_library.show(self.instance)[1]).partition("\n")[0]
+        return first[len("name ") :] if first.startswith("name ") else ""
+
+    @cached_property
+    def basis(self) -> Basis:
+        """What is known of all solutions.
+
+        Raises:
+            Fault: a text is no file, or the first is of the wrong kind. The certificate is file 2.
+            MemoryError: out of memory.
+        """
+        if self.by == _library.ALONE:
+            report = report_of((self.instance, _NO_TOUR, b""), self.paths[:1], self.by)
+        else:
+            report = bound_of((self.instance, self.certificate), self.paths, self.by)
+        known: Dict[str, Any] = {}
+        if report.reason is not None and (self.by != _library.ALONE or report.reason in _OF_INSTANCE):
+            known.update(reason=report.reason, numbers=report.numbers)
+        elif report.type == "CVRP":
+            known.update(least=_least(parse(self.instance)))
+        else:
+            known.update(bound=report.bound, no_tour=report.no_tour)
+        return Basis(report.type, report.nodes, report.not_judged, **known)
+
+    def outcome(self, solution: Solution, explain: bool = False, path: Optional[str] = None) -> Outcome:
+        """What comes of a solution: its report, or the exception that says why it has none. `path` is where it
+        was, where it is a text."""
+        try:
+            text, own_path = solution_and_path(solution)
+            return self.report(text, path or own_path, explain)
+        except OutOfMemory:
+            raise
+        except (Error, OSError) as fault:  # one bad solution doesn't stop the others
+            return fault
+
+    def report(self, solution: bytes, path: Optional[str], explain: bool = False) -> Report:
+        """The report of a solution's text.
+
+        Raises:
+            Error: it has none.
+        """
+        if self.is_foreign:
+            solution = solution_text(solution, self.basis.nodes)
+        paths = (self.paths[0], path, self.paths[1])
+        return report_of((self.instance, solution, self.certificate), paths, self.by, explain=explain)
+
+    def best(self, best: Optional[Best]) -> Optional[int]:
+        """The best-known length of the instance.
+
+        Raises:
+            BestUnknown: there is none for it.
+            ValueError: the file of best-known lengths has another form.
+        """
+        if best is None or isinstance(best, int):
+            return best
+        lengths = best if isinstance(best, Mapping) else best_known(best)
+        if not self.name:
+            raise BestUnknown("the instance has no NAME, so it isn't known which best-known length is its own")
+        if self.name not in lengths:
+            raise BestUnknown(f"there is no best-known length of {self.name}")
+        return lengths[self.name]
+
+
+def _least(routing: Problem) -> int:
+    """The least number of routes whose capacities sum to all demands."""
+    return -(-sum(routing.demands.values()) // (routing.capacity or 1))
+
+
+def line_of(name: str, outcome: Outcome) -> str:
+    """The line of `tsp compare` for a solution, without its line end."""
+    if isinstance(outcome, OSError):
+        return _words("device", name)
+    if isinstance(outcome, Exception):
+        return _words(_fault(outcome), name)
+    if not outcome.yes:
+        return _words("no", outcome.reason, *outcome.numbers, name)
+    if outcome.routes is not None:
+        return _words(outcome.length, "routes", outcome.routes, name)
+    if outcome.optimal:
+        return _words(outcome.length, "optimal", name)
+    return _words(outcome.length, *(() if outcome.gap is None else ("gap", outcome.gap)), name)
+
+
+def _fault(fault: Exception) -> str:
+    """A fault of a solution, in one line without the number of its file."""
+    told = str(getattr(fault, "told", fault))
+    line = getattr(fault, "line", None)
+    if not told.startswith("file ") and line:
+        return f"line {line}: {told}"  # a solution of another program
+    return re.sub(r"\Afile \d+: ", "", told)
+
+
+def status_of(outcome: Outcome) -> int:
+    """The status with which a check ends in this way."""
+    if isinstance(outcome, Report):
+        return _library.DONE if outcome.yes else _library.NO
+    return _library.DEVICE if isinstance(outcome, OSError) else _library.FAULT
+
+
+def named(solutions: Union[Mapping[str, Solution], Iterable[Solution]]) -> Iterator[Tuple[str, Solution]]:
+    """Each solution with its name: that of the mapping, its path, or its place from 1 on."""
+    wrong = f"solutions are a list of them, or a mapping by names, and this is of type {type(solutions).__name__}"
+    if isinstance(solutions, (str, bytes, bytearray, os.PathLike, Problem)):
+        raise TypeError(f"{wrong}: one solution is a list of one")
+    if isinstance(solutions, Mapping):
+        yield from solutions.items()
+        return
+    try:
+        each = iter(solutions)
+    except TypeError:
+        raise TypeError(wrong) from None
+    for place, solution in enumerate(each, 1):
+        if isinstance(solution, int):
+            raise TypeError(f"solutions are a list of them, and its part {place} is a number: one solution is a list of one")
+        yield os.fsdecode(solution) if isinstance(solution, (str, os.PathLike)) else f"#{place}", solution
+
+
+class Comparison(Sequence[Outcome]):
+    """What comes of each solution of one instance, in order: its report, or the exception that its check raised.
+
+    Where the basis has a reason, no solution was read, and there is nothing in it. As a text, and in a
+    notebook, it is a table.
+
+    Attributes:
+        basis: what is known of all solutions.
+        instance: the path of the instance, or its NAME.
+        names: the name of each solution: its path, its name in a mapping, or `#` and its place from 1 on.
+        best: the best-known length, where one is given.
+    """
+
+    def __init__(self, basis: Basis, instance: str, best: Optional[int] = None) -> None:
+        self.basis = basis
+        self.instance = instance
+        self.best = best
+        self.names: List[str] = []
+        self._outcomes: List[Outcome] = []
+
+    def add(self, name: str, outcome: Outcome) -> None:
+        """One more solution."""
+        self.names.append(name)
+        self._outcomes.append(outcome)
+
+    def __len__(self) -> int:
+        return len(self._outcomes)
+
+    @overload
+    def __getitem__(self, place: int) -> Outcome: ...
+    @overload
+    def __getitem__(self, place: slice) -> List[Outcome]: ...
+    def __getitem__(self, place: Union[int, slice]) -> Union[Outcome, List[Outcome]]:
+        return self._outcomes[place]
+
+    def __repr__(self) -> str:
+        return f"<Comparison of {len(self)} solutions of {self.instance}: {self.summary()}>"
+
+    @property
+    def status(self) -> int:
+        """The exit status of `tsp compare`: the largest of 0 yes, 1 a no, 2 a fault, 5 a file that can't be read."""
+        first = _library.DONE if self.basis.reason is None else _library.NO
+        return max([first, *map(status_of, self._outcomes)])
+
+    def accepted(self) -> List[Tuple[str, Report]]:
+        """The solutions that are accepted, by their names, in order."""
+        pairs = zip(self.names, self._outcomes)
+        return [(name, it) for name, it in pairs if isinstance(it, Report) and it.yes]
+
+    def shortest(self) -> Optional[Tuple[str, Report]]:
+        """The first shortest solution of those that are accepted; None where none is."""
+        return min(self.accepted(), key=lambda pair: pair[1].length or 0, default=None)
+
+    def summary(self) -> str:
+        """What came of all, in one line."""
+        if self.basis.reason is not None:
+            return _words("no solution is accepted:", self.basis.reason, *self.basis.numbers)
+        accepted = self.accepted()
+        told = [f"{len(accepted)} of {len(self)} accepted"]
+        if self.basis.no_tour:
+            told.append("the instance has no tour")
+        if self.basis.bound is not None:
+            told[0] += f", {sum(report.optimal for _, report in accepted)} optimal"
+        shortest = self.shortest()
+        if shortest is not None:
+            told.append(f"shortest {shortest[1].length} ({shortest[0]})")
+            for percent, what in (
+                (shortest[1].gap_percent, f"bound {self.basis.bound}"),
+                (None if self.best is None else shortest[1].percent_over(self.best), f"best known {self.best}"),
+            ):
+                if percent is not None:
+                    told.append(f"{percent:+.4f} % from the {what}")
+        if self.best is not None and self.basis.bound is not None and self.best < self.basis.bound:
+            told.append(f"no tour has the best known length {self.best}: the bound is above it")
+        return "; ".join(told)
+
+    def as_rows(self) -> List[Dict[str, Any]]:
+        """A row for each solution, with the columns of `COLUMNS`. What isn't known is None.
+
+        `verdict` is `optimal`, `yes`, `no`, `fault` or `unread`, and `detail` the reason with its numbers, or the
+        fault.
+        """
+        return [self.row(name, outcome) for name, outcome in zip(self.names, self._outcomes)]
+
+    def row(self, name: str, outcome: Outcome) -> Dict[str, Any]:
+        """The row of a solution."""
+        row: Dict[str, Any] = dict.fromkeys(COLUMNS)
+        row.update(instance=self.instance, solution=name, bound=self.basis.bound, best=self.best)
+        if not isinstance(outcome, Report):
+            unread = isinstance(outcome, OSError)
+            said = outcome.strerror if isinstance(outcome, OSError) else _fault(outcome)
+            return {**row, "verdict": "unread" if unread else "fault", "detail": said}
+        gap = 0 if outcome.optimal else outcome.gap
+        row.update(length=outcome.length, gap=gap, gap_percent=outcome.gap_percent, routes=outcome.routes)
+        if outcome.yes and self.best is not None:
+            row["best_percent"] = outcome.percent_over(self.best)
+        if outcome.yes:
+            return {**row, "verdict": "optimal" if outcome.optimal else "yes"}
+        return {**row, "verdict": "no", "detail": _words(outcome.reason, *outcome.numbers)}
+
+    def as_dict(self) -> Dict[str, Any]:
+        """All of it as numbers, texts and lists that `json.dumps` takes."""
+        head = {**vars(self.basis), "not_judged": list(self.basis.not_judged), "numbers": list(self.basis.numbers)}
+        mine = {"instance": self.instance, **head, "best": self.best}
+        return {**mine, "solutions": self.as_rows(), "summary": self.summary()}
+
+    def to_csv(self, path: Optional[Path] = None, *, separator: str = ",") -> Optional[str]:
+        """Writes the rows to a path, below a line with the names of the columns; or returns that text.
+
+        What isn't known is empty. Percents have four decimals.
+        """
+        lines = io.StringIO()
+        writer = rows_to(lines, separator)
+        writer.writeheader()
+        writer.writerows(map(cells, self.as_rows()))
+        if path is None:
+            return lines.getvalue()
+        with open(path, "w", encoding="utf-8", errors="surrogateescape", newline="") as file:
+            file.write(lines.getvalue())
+        return None
+
+    def to_dataframe(self) -> Any:
+        """The rows as a DataFrame of pandas, which has to be installed.
+
+        Raises:
+            ImportError: pandas isn't installed.
+        """
+        pandas = importlib.import_module("pandas")
+        frame = pandas.DataFrame(self.as_rows(), columns=list(COLUMNS))
+        whole = {name: "Int64" for name in ("length", "bound", "gap", "best", "routes")}
+        return frame.astype({**whole, **dict.fromkeys(_PERCENTS, "float64")})
+
+    def _table(self) -> List[List[str]]:
+        """The columns that say something, below their names. What is the same for all is in the basis."""
+        rows = [cells(row) for row in self.as_rows()]
+        same = ("instance", "bound", "best")
+        shown = [name for name in COLUMNS if name not in same and any(row[name] for row in rows)]
+        return [shown, *([row[name] for name in shown] for row in rows)] if rows else []
+
+    def __str__(self) -> str:
+        table = self._table()
+        wide = [max(map(len, column)) for column in zip(*table)]
+        is_number = [name not in ("solution", "verdict", "detail") for name in (table[0] if table else [])]
+        lines = []
+        for row in table:
+            parts = [it.rjust(w) if right else it.ljust(w) for it, w, right in zip(row, wide, is_number)]
+            lines.append("  ".join(parts).rstrip())
+        return "\n".join([*lines, self.summary()])
+
+    def _repr_html_(self) -> str:
+        """The table in a notebook."""
+        head, *rows = self._table() or [[]]
+
+        def line(tag: str, row: List[str]) -> str:
+            return "<tr>" + "".join(f"<{tag}>{html.escape(_shown(it))}</{tag}>" for it in row) + "</tr>"
+
+        body = "".join(line("td", row) for row in rows)
+        table = f"<table><thead>{line('th', head)}</thead><tbody>{body}</tbody></table>" if rows else ""
+        return f"{table}<p>{html.escape(_shown(self.summary()))}</p>"
+
+
+def _shown(text: str) -> str:
+    """A text with a sign in the place of each byte that is no UTF-8."""
+    return text.encode("utf-8", "surrogateescape").decode("utf-8", "replace")
+
+
+def cells(row: Mapping[str, Any]) -> Dict[str, str]:
+    """The cells of a row as texts."""
+
+    def cell(name: str, value: Any) -> str:
+        if value is None:
+            return ""
+        return f"{value:.4f}" if name in _PERCENTS else str(value)
+
+    return {name: cell(name, value) for name, value in row.items()}
+
+
+def rows_to(file: Any, separator: str) -> "csv.DictWriter[str]":
+    """A writer of rows, each with the columns of `COLUMNS`."""
+    return csv.DictWriter(file, COLUMNS, delimiter=separator, lineterminator="\n")
+
+
+def compare(
+    instance: Source,
+    solutions: Union[Mapping[str, Solution], Iterable[Solution]],
+    potentials: Optional[Source] = None,
+    branches: Optional[Source] = None,
+    *,
+    best: Optional[Best] = None,
+    foreign: bool = False,
+    explain: bool = False,
+    progress: Optional[Progress] = None,
+) -> Comparison:
+    """Judges many solutions of one instance, and puts them beside each other.
+
+    Each solution is what `check` takes: a path, the bytes of its text, a `Problem`, or a list of nodes, for
+    routes a list of such lists. `solutions` may map names to them. The instance and the certificate,
+    `potentials` or `branches`, are read once. `best` is the best-known length, or where it is found: lengths
+    by the NAME of instances, or a file of lines `NAME LENGTH`. With `foreign`, a solution may have the form of
+    another program, as `read_solution` reads it.
+
+    `progress(done, name, outcome)` is called after each solution, in order.
+
+    Raises:
+        Fault: the instance or the certificate is no file, or the instance is of the wrong kind. The
+            certificate is file 2. A faulty solution raises nothing: its exception is in its place.
+        OSError: the instance or the certificate can't be read.
+        ValueError: there is no best-known length of the instance.
+        MemoryError: out of memory.
+    """
+    judge = Judge.of(instance, potentials, branches, foreign)
+    found = Comparison(judge.basis, judge.paths[0] or judge.name, judge.best(best))
+    if judge.basis.reason is not None:
+        return found
+    for name, solution in named(solutions):
+        outcome = judge.outcome(solution, explain)
+        found.add(name, outcome)
+        if progress is not None:
+            progress(len(found), name, outcome)
+    return found
