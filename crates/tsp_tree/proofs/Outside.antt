@@ -1,6 +1,6 @@
 -- Nodes that are listed with the least weights to them: what a pass over the list finds, and what is left once one is taken away.
-use Rattle.std.proofs.Common.{◌≡◌, ◌≢◌, ℕ, ◌+◌, ◌-◌, ◌<◌, ◌≤◌, ◌==◌, List, [], ◌∷◌, ◌++◌, length, slice_index, get_or, Option, Some, None, MatchOption, inl, inr, refl, ap, sym, subst, ◌∙◌, arith, length-append}
-use Rattle.std.specs.Prelude.{ℤ, pos, ◌≤ℤ◌, ◌<ℤ◌, if◌then◌else◌}
+use Rattle.std.proofs.Common.{◌≡◌, ◌≢◌, ℕ, ◌+◌, ◌-◌, ◌<◌, ◌≤◌, ◌==◌, List, [], ◌∷◌, ◌++◌, length, slice_index, get_or, inl, inr, refl, ap, sym, subst, ◌∙◌, arith, length-append}
+use Rattle.std.specs.Prelude.{ℤ, pos, ◌≤ℤ◌, ◌<ℤ◌, ◌⊎◌, if◌then◌else◌}
 use Rattle.std.specs.List.{swap_remove}
 use Rattle.std.proofs.Math.ListN.{set}
 use Rattle.std.proofs.Math.Seq.{get_or-append_seam}
@@ -26,10 +26,10 @@ counted_more nodes node each is k below = elim (cases_eq k (length nodes)) [
 
 -- ---- a pass over the list
 
--- the place with the least weight of those before this one
-abbrev pub FindsLeast : ℕ → List ℤ → ℤ → Option ℕ → Type 0
-FindsLeast place least best None = (best ≡ most_64) × (place ≡ 0)
-FindsLeast place least best (Some v) = (v < place) × (best ≡ least_at least v) × ((k : ℕ) → k < place → best ≤ℤ least_at least k)
+-- the place with the least weight of those before this one, where there are any
+abbrev pub FindsLeast : ℕ → List ℤ → ℤ → ℕ → Type 0
+FindsLeast place least best nearest = ((place ≡ 0) × (best ≡ most_64))
+    ⊎ ((nearest < place) × (best ≡ least_at least nearest) × ((k : ℕ) → k < place → best ≤ℤ least_at least k))
 
 -- the places before this one have the nearer nodes, and the others are as they were
 pub record IsPassed (next : ℕ) (weight : ℕ → ℤ) (nodes : List ℕ) (place : ℕ) (old_near : List ℕ) (old : List ℤ) (near : List ℕ) (new : List ℤ) : Type 0 where
@@ -63,9 +63,9 @@ nearer_small weight next old_near old near new small (inl kept) = omega (arith, 
 nearer_small weight next old_near old near new small (inr taken) = omega (arith, ints, small, taken.1)
 
 -- where the own weight is lower than the best so far
-pub found_lower : (place : ℕ) (least : List ℤ) (best own : ℤ) (nearest : Option ℕ) → FindsLeast place least best nearest → place < length least → own <ℤ best
-    → FindsLeast (place + 1) (set least place own) own (Some place)
-found_lower place least best own nearest found inside less = (
+pub found_lower : (place : ℕ) (least : List ℤ) (best own : ℤ) (nearest : ℕ) → FindsLeast place least best nearest → place < length least → own <ℤ best
+    → FindsLeast (place + 1) (set least place own) own place
+found_lower place least best own nearest found inside less = inr (
   omega arith,
   sym (get_or-set_same least place own (pos 0) inside),
   λ k below. elim (cases_eq k place) [
@@ -74,22 +74,22 @@ found_lower place least best own nearest found inside less = (
         omega (arith, ints, here)
     | inr other ↦
         let there : least_at (set least place own) k ≡ least_at least k = get_or-set_other least place k own (pos 0) other in
-        let under : best ≤ℤ least_at least k = before nearest found k (omega (arith, below, other)) in
+        let under : best ≤ℤ least_at least k = before found k (omega (arith, below, other)) in
         omega (arith, ints, there, under, less)
   ],
 )
   where
-    before : (o : Option ℕ) → FindsLeast place least best o → (k : ℕ) → k < place → best ≤ℤ least_at least k
-    before None f k below = absurd (omega (arith, f.1, below))
-    before (Some v) f k below = f.2 k below
+    before : FindsLeast place least best nearest → (k : ℕ) → k < place → best ≤ℤ least_at least k
+    before (inl none) k below = absurd (omega (arith, none.0, below))
+    before (inr some) k below = some.2 k below
 
 -- where it isn't
-pub found_higher : (place : ℕ) (least : List ℤ) (best own : ℤ) (nearest : Option ℕ) → FindsLeast place least best nearest → place < length least → own <ℤ most_64 → best ≤ℤ own
+pub found_higher : (place : ℕ) (least : List ℤ) (best own : ℤ) (nearest : ℕ) → FindsLeast place least best nearest → place < length least → own <ℤ most_64 → best ≤ℤ own
     → FindsLeast (place + 1) (set least place own) best nearest
-found_higher place least best own None found inside small less = absurd (omega (arith, ints, found.0, small, less))
-found_higher place least best own (Some v) found inside small less = (
+found_higher place least best own nearest (inl none) inside small less = absurd (omega (arith, ints, none.1, small, less))
+found_higher place least best own nearest (inr found) inside small less = inr (
   omega (arith, found.0),
-  found.1 ∙ sym (get_or-set_other least place v own (pos 0) (λ same. omega (arith, found.0, same))),
+  found.1 ∙ sym (get_or-set_other least place nearest own (pos 0) (λ same. omega (arith, found.0, same))),
   λ k below. elim (cases_eq k place) [
     | inl same ↦
         let here : least_at (set least place own) k ≡ own = ap (λ i. least_at (set least place own) i) same ∙ get_or-set_same least place own (pos 0) inside in
@@ -101,10 +101,10 @@ found_higher place least best own (Some v) found inside small less = (
   ],
 )
 
-pub least_found : (size : ℕ) (least : List ℤ) (best : ℤ) (nearest : Option ℕ) → length least ≡ size → FindsLeast size least best nearest
-    → MatchOption nearest (size ≡ 0) (IsLeastPlace least)
-least_found size least best None long found = found.1
-least_found size least best (Some v) long found = record {
+pub least_found : (size : ℕ) (least : List ℤ) (best : ℤ) (nearest : ℕ) → length least ≡ size → 0 < size → FindsLeast size least best nearest
+    → IsLeastPlace least nearest
+least_found size least best nearest long some (inl none) = absurd (omega (arith, some, none.0))
+least_found size least best nearest long some (inr found) = record {
   inside = omega (arith, long, found.0);
   none_less = λ k below. subst (λ (z : ℤ). z ≤ℤ least_at least k) found.1 (found.2 k (omega (arith, long, below)));
 }

@@ -108,17 +108,21 @@ fn bring(
     ensures nearer { AreBroughtNearer next (least_at row.now) outside.now near.old least.old near.new least.new }
     ensures nearest { MatchOption result (length outside.now ≡ 0) (IsLeastPlace least.new) }
 {
-    let mut nearest = None;
+    if outside.is_empty() {
+        return None;
+    }
+    // A place and no `Option`, which the loop would carry along as two values.
+    let mut nearest = 0;
     let mut best = i64::MAX;
     'places: for place in 0..outside.len() {
         let weight = weight_in(row, outside[place]);
         let own = take_nearer(&mut near[place], &mut least[place], next, weight);
         if own < best {
             best = own;
-            nearest = Some(place);
+            nearest = place;
         }
     }
-    nearest
+    Some(nearest)
 }
 
 /// Takes `next` for the nearest node where it is nearer, and returns the least weight.
