@@ -1,7 +1,7 @@
 //! Instances: files that have costs.
 
-ghost use Rattle.std.specs.Prelude.{◌≡◌, None, IsTrue, unwrap_or, MatchResult};
-ghost use Rattle.tsp_draft.specs.Rules.{fault_of, is_instance};
+ghost use Rattle.std.specs.Prelude.{IsTrue, unwrap_or, MatchResult};
+ghost use Rattle.tsp_draft.specs.Rules.{is_instance};
 ghost use Rattle.tsp_file.specs.Cost.{cost};
 ghost use Rattle.tsp_theory.specs.Costs.{IsSymmetric, IsFirstAsymmetric, FindsAsymmetric};
 ghost use Rattle.tsp_cost.specs.states.Sources.{HasFound};
@@ -16,7 +16,7 @@ use crate::source::Source;
 use crate::triangle::Triangle;
 use crate::view::{EvenView, View};
 use std::marker::Model;
-use tsp_draft::{Coords, valid_fields_are_in_range, valid_files_are_complete};
+use tsp_draft::Coords;
 use tsp_file::{File, RoutingData};
 use tsp_format::{Kind, Layout};
 use tsp_theory::Costs;
@@ -68,19 +68,16 @@ impl Instance {
             (λ inst. (inst ≡ f) × IsTrue (is_instance f.kind) × IsProblem f)
             (λ refused. (refused.0 ≡ NotInstance) × (refused.1 ≡ f) × (is_instance f.kind ≡ false)) }
     {
-        match f.kind() {
-            Kind::Tsp | Kind::Atsp | Kind::Cvrp => {
-                instances_are_problems();
-                let _valid = f.fields();
-                let (nodes, source) = found(&f);
-                Ok(Instance {
-                    file: f,
-                    nodes,
-                    source,
-                })
-            }
-            Kind::Tour | Kind::Potentials | Kind::Branches => Err((CostFault::NotInstance, f)),
-        }
+        let Some(Kind::Tsp | Kind::Atsp | Kind::Cvrp) = f.fields().kind else {
+            return Err((CostFault::NotInstance, f));
+        };
+        instances_are_problems();
+        let (nodes, source) = found(&f);
+        Ok(Instance {
+            file: f,
+            nodes,
+            source,
+        })
     }
 
     /// The file that this instance is.
@@ -176,17 +173,15 @@ impl Instance {
 
 /// How many nodes an instance has, and where its costs come from.
 fn found(f: &File) -> (u32, Source)
-    requires valid { fault_of f.now ≡ None }
-    requires instance { IsTrue (is_instance f.now.kind) }
+    requires { IsTrue (is_instance f.now.kind) }
     ensures { HasFound f.now result.0 result.1 }
 {
-    valid_fields_are_in_range();
-    valid_files_are_complete();
-    let source = match Metric::of(f.weight_kind().unwrap()) {
+    let fields = f.fields();
+    let source = match Metric::of(fields.weight_kind.unwrap()) {
         Some(metric) => Source::Distances(metric),
         None => Source::Weights(f.as_matrix().unwrap().layout),
     };
-    (f.dimension().unwrap(), source)
+    (fields.dimension.unwrap(), source)
 }
 
 impl Costs for Instance {
