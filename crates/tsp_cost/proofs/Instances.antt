@@ -1,5 +1,5 @@
 -- What instances hold.
-use Rattle.std.proofs.Common.{◌≡◌, ◌≢◌, ℕ, Bool, true, false, List, [], Option, None, Some, refl, sym, ap, subst, ◌∙◌}
+use Rattle.std.proofs.Common.{◌≡◌, ◌≢◌, ℕ, true, false, List, [], Option, None, Some, refl, sym, ap, ◌∙◌}
 use Rattle.std.specs.Prelude.{unwrap_or}
 use Rattle.std.proofs.lemmas.Bool.{false≢true}
 use Rattle.tsp_distance.specs.declared.decimal.Point.{Point}
@@ -7,9 +7,7 @@ use Rattle.tsp_format.specs.declared.kinds.WeightKind.{WeightKind}
 use Rattle.tsp_format.specs.declared.kinds.WeightKind.TheVariants.{Explicit, Euc2d, Ceil2d, Man2d, Max2d, Att, Euc3d, Man3d, Max3d}
 use Rattle.tsp_draft.specs.Fields.{Fields}
 use Rattle.tsp_draft.specs.Rules.{is_explicit}
-use Rattle.tsp_draft.specs.Valid.{HasInstance}
 use Rattle.tsp_file.specs.Cost.{distance, point_of, cost_by, cost}
-use Rattle.tsp_file.specs.Relayout.{HasListedWeights}
 
 -- the cost from the coordinates
 by_distance : (kind : WeightKind) (f : Fields) (i j : ℕ) → kind ≢ Explicit → cost_by (Some kind) f i j ≡ distance kind (point_of (unwrap_or f.coords []) i) (point_of (unwrap_or f.coords []) j)
@@ -31,20 +29,6 @@ cost_of_points f kind points is_kind other stand i j = sym (
     ∙ by_distance kind f i j other
     ∙ ap (λ o. distance kind (point_of (unwrap_or o []) i) (point_of (unwrap_or o []) j)) stand)
 
-pub not_explicit : (o : Option WeightKind) (kind : WeightKind) → o ≡ Some kind → kind ≢ Explicit → is_explicit o ≡ false
-not_explicit o kind e other = ap is_explicit e ∙ by_kind kind other
-  where
-    by_kind : (kind : WeightKind) → kind ≢ Explicit → is_explicit (Some kind) ≡ false
-    by_kind Explicit other = absurd (other refl)
-    by_kind Euc2d other = refl
-    by_kind Ceil2d other = refl
-    by_kind Man2d other = refl
-    by_kind Max2d other = refl
-    by_kind Att other = refl
-    by_kind Euc3d other = refl
-    by_kind Man3d other = refl
-    by_kind Max3d other = refl
-
 pub is_listed_kind : (o : Option WeightKind) → is_explicit o ≡ true → o ≡ Some Explicit
 is_listed_kind None is = absurd (false≢true is)
 is_listed_kind (Some Explicit) is = refl
@@ -56,14 +40,6 @@ is_listed_kind (Some Att) is = absurd (false≢true is)
 is_listed_kind (Some Euc3d) is = absurd (false≢true is)
 is_listed_kind (Some Man3d) is = absurd (false≢true is)
 is_listed_kind (Some Max3d) is = absurd (false≢true is)
-
--- an instance without listed weights has distances
-pub by_distances : (f : Fields) → HasInstance f → ¬ HasListedWeights f → is_explicit f.weight_kind ≡ false
-by_distances f held unlisted = by_test (is_explicit f.weight_kind) refl
-  where
-    by_test : (b : Bool) → is_explicit f.weight_kind ≡ b → is_explicit f.weight_kind ≡ false
-    by_test false is = is
-    by_test true is = absurd (unlisted (is_listed_kind f.weight_kind is, held.weights is))
 
 pub distance_kind : (f : Fields) (kind : WeightKind) → is_explicit f.weight_kind ≡ false → f.weight_kind ≡ Some kind → kind ≢ Explicit
 distance_kind f kind other is explicit = false≢true (sym other ∙ ap is_explicit (is ∙ ap (λ k. Some k) explicit))

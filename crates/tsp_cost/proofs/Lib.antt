@@ -1,3 +1,4 @@
 pub mod Growing
 pub mod Instances
 pub mod Problems
+pub mod Sources

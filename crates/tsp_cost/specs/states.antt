@@ -1,1 +1,3 @@
+pub mod Metrics
+pub mod Sources
 pub mod Views

@@ -1,48 +1,60 @@
 //! Instances: files that have costs.
 
-ghost use Rattle.std.specs.Prelude.{unwrap_or, MatchResult};
+ghost use Rattle.std.specs.Prelude.{IsTrue, unwrap_or, MatchResult};
+ghost use Rattle.tsp_draft.specs.Rules.{is_instance};
 ghost use Rattle.tsp_file.specs.Cost.{cost};
 ghost use Rattle.tsp_theory.specs.Costs.{IsSymmetric, IsFirstAsymmetric, FindsAsymmetric};
+ghost use Rattle.tsp_cost.specs.states.Sources.{HasFound};
 ghost use Rattle.tsp_cost.specs.states.Views.{ShowsEven};
 
 use crate::fault::CostFault;
 use crate::laws::instances_are_problems;
 use crate::matrix::Matrix;
+use crate::metric::Metric;
 use crate::points::Points;
+use crate::source::Source;
 use crate::triangle::Triangle;
 use crate::view::{EvenView, View};
 use std::marker::Model;
-use tsp_draft::{Coords, valid_fields_are_in_range, valid_files_are_complete};
-use tsp_file::{File, ListedWeights};
+use tsp_draft::Coords;
+use tsp_file::{File, RoutingData};
 use tsp_format::{Kind, Layout};
 use tsp_theory::Costs;
 
 /// A valid file of TYPE TSP, ATSP or CVRP, with the costs between its nodes.
+///
+/// How many nodes it has and where its costs come from is found once, when it is made.
 #[derive(Debug, Drop)]
 pub struct Instance {
     file: File,
+    nodes: u32,
+    source: Source,
 }
 
 impl Model for Instance {
-    ghost use Rattle.std.specs.Prelude.{IsTrue};
     ghost use Rattle.tsp_draft.specs.Fields.{Fields};
-    ghost use Rattle.tsp_draft.specs.Rules.{is_instance};
+    ghost use Rattle.tsp_cost.specs.states.Sources.{HasFound};
 
     ghost Value = { Fields };
 
     ghost view = { λ inst. inst.file };
 
-    ghost invariant = { λ inst. IsTrue (is_instance inst.file.kind) };
+    ghost invariant = { λ inst. HasFound inst.file inst.nodes inst.source };
 }
 
 impl Instance {
-    ghost use Rattle.std.specs.Prelude.{◌≡◌, false, Some, IsTrue, MatchResult};
+    ghost use Rattle.std.specs.Prelude.{◌≡◌, ◌≤◌, ◌⊎◌, false, Some, IsTrue, length, MatchOption, MatchResult};
+    ghost use Rattle.std.specs.List.{All};
     ghost use Rattle.tsp_draft.specs.Rules.{is_instance};
-    ghost use Rattle.tsp_format.specs.declared.kinds.WeightKind.TheVariants.{Explicit};
+    ghost use Rattle.tsp_draft.specs.Valid.{IsPairOf};
+    ghost use Rattle.tsp_format.specs.declared.kinds.Kind.TheVariants as kinds;
+    ghost use Rattle.tsp_format.specs.Limits.{most_fixed};
     ghost use Rattle.tsp_cost.specs.declared.fault.CostFault.TheVariants.{NotInstance};
-    ghost use Rattle.tsp_file.specs.Listed.{ListsWeights};
-    ghost use Rattle.tsp_file.specs.Relayout.{HasListedWeights};
+    ghost use Rattle.tsp_cost.specs.declared.source.Source.TheVariants.{Distances, Weights};
+    ghost use Rattle.tsp_file.specs.Meant.{fixed_of, nodes_of};
+    ghost use Rattle.tsp_file.specs.Typed.{HoldsRouting};
     ghost use Rattle.tsp_cost.specs.ProblemLaws.{IsProblem};
+    ghost use Rattle.tsp_cost.specs.states.Sources.{ComesFrom};
     ghost use Rattle.tsp_cost.specs.states.Views.{Shows};
 
     /// The instance that a file is, which is one problem, or why it is none, and the file itself,
@@ -56,14 +68,16 @@ impl Instance {
             (λ inst. (inst ≡ f) × IsTrue (is_instance f.kind) × IsProblem f)
             (λ refused. (refused.0 ≡ NotInstance) × (refused.1 ≡ f) × (is_instance f.kind ≡ false)) }
     {
-        match f.kind() {
-            Kind::Tsp | Kind::Atsp | Kind::Cvrp => {
-                let _valid = f.fields();
-                instances_are_problems();
-                Ok(Instance { file: f })
-            }
-            Kind::Tour | Kind::Potentials | Kind::Branches => { Err((CostFault::NotInstance, f)) }
-        }
+        let Some(Kind::Tsp | Kind::Atsp | Kind::Cvrp) = f.fields().kind else {
+            return Err((CostFault::NotInstance, f));
+        };
+        instances_are_problems();
+        let (nodes, source) = found(&f);
+        Ok(Instance {
+            file: f,
+            nodes,
+            source,
+        })
     }
 
     /// The file that this instance is.
@@ -79,7 +93,7 @@ impl Instance {
         ensures value { result ≡ self }
         ensures instance { IsTrue (is_instance result.kind) }
     {
-        let Instance { file } = self;
+        let Instance { file, .. } = self;
         file
     }
 
@@ -91,48 +105,83 @@ impl Instance {
         self.file.kind()
     }
 
+    /// The fixed pairs, each of two different nodes; none without FIXED_EDGES_SECTION.
+    pub fn fixed(&self) -> &[(u32, u32)]
+        ensures value { result.now ≡ fixed_of self.now }
+        ensures few { length result.now ≤ most_fixed }
+        ensures range { All (IsPairOf (nodes_of self.now)) result.now }
+    {
+        match self.file.fixed() {
+            Some(pairs) => pairs,
+            None => &[],
+        }
+    }
+
+    /// What an instance of TYPE CVRP holds beside its costs; none of TYPE TSP or ATSP.
+    pub fn routing(&self) -> Option<RoutingData<'_>>
+        ensures { MatchOption result
+            ((self.now.kind ≡ Some kinds.Tsp) ⊎ (self.now.kind ≡ Some kinds.Atsp))
+            (λ held. HoldsRouting self.now held.capacity held.demands.now held.depots.now) }
+    {
+        if self.file.kind() != Kind::Cvrp {
+            return None;
+        }
+        Some(RoutingData {
+            capacity: self.file.capacity().unwrap(),
+            demands: self.file.demands().unwrap(),
+            depots: self.file.depots().unwrap(),
+        })
+    }
+
     /// What the costs are taken from: points where the weight type is a distance, whatever the
     /// format; else a matrix for FULL_MATRIX and a triangle for every other layout.
     #[inline]
     pub fn view(&self) -> View<'_>
         ensures { Shows self.now result }
     {
-        match self.file.as_matrix() {
-            Some(listed) => self.listed_view(listed),
-            None => self.distance_view(),
+        match self.source {
+            Source::Distances(metric) => self.distance_view(metric),
+            Source::Weights(layout) => self.listed_view(layout),
         }
     }
 
     /// The points of an instance whose weight type is a distance.
     #[inline]
-    fn distance_view(&self) -> View<'_>
-        requires { ¬ HasListedWeights self.now }
+    fn distance_view(&self, metric: Metric) -> View<'_>
+        requires { ComesFrom self.now (Distances metric) }
         ensures { Shows self.now result }
     {
-        let _valid = self.file.fields();
-        valid_fields_are_in_range();
-        valid_files_are_complete();
-        let (Some(kind), Some(points)) = (self.file.weight_kind(), self.file.coords()) else {
-            unreachable!();
-        };
-        match points {
-            Coords::Plane(points) => View::Plane(Points::of(kind, points)),
-            Coords::Space(points) => View::Space(Points::of(kind, points)),
+        match self.file.coords().unwrap() {
+            Coords::Plane(points) => View::Plane(Points::of(metric, points)),
+            Coords::Space(points) => View::Space(Points::of(metric, points)),
         }
     }
 
     /// The matrix or the triangle of an instance whose weights are listed.
     #[inline]
-    fn listed_view<'a>(&self, listed: ListedWeights<'a>) -> View<'a>
-        requires explicit { self.now.weight_kind ≡ Some Explicit }
-        requires lists { ListsWeights self.now listed.layout listed.nodes listed.weights.now }
+    fn listed_view(&self, layout: Layout) -> View<'_>
+        requires { ComesFrom self.now (Weights layout) }
         ensures { Shows self.now result }
     {
-        match listed.layout {
-            Layout::FullMatrix => View::Matrix(Matrix::of(listed.nodes, listed.weights)),
-            layout => View::Triangle(Triangle::of(layout, listed.nodes, listed.weights)),
+        let weights = self.file.weights().unwrap();
+        match layout {
+            Layout::FullMatrix => View::Matrix(Matrix::of(self.nodes, weights)),
+            layout => View::Triangle(Triangle::of(layout, self.nodes, weights)),
         }
     }
+}
+
+/// How many nodes an instance has, and where its costs come from.
+fn found(f: &File) -> (u32, Source)
+    requires { IsTrue (is_instance f.now.kind) }
+    ensures { HasFound f.now result.0 result.1 }
+{
+    let fields = f.fields();
+    let source = match Metric::of(fields.weight_kind.unwrap()) {
+        Some(metric) => Source::Distances(metric),
+        None => Source::Weights(f.as_matrix().unwrap().layout),
+    };
+    (fields.dimension.unwrap(), source)
 }
 
 impl Costs for Instance {
@@ -144,12 +193,7 @@ impl Costs for Instance {
     ghost at = { cost };
 
     fn count(&self) -> u32 {
-        match self.view() {
-            View::Plane(points) => points.count(),
-            View::Space(points) => points.count(),
-            View::Matrix(matrix) => matrix.count(),
-            View::Triangle(triangle) => triangle.count(),
-        }
+        self.nodes
     }
 
     #[inline]

@@ -15,8 +15,10 @@ mod fault;
 mod instance;
 mod laws;
 mod matrix;
+mod metric;
 mod places;
 mod points;
+mod source;
 mod triangle;
 mod view;
 

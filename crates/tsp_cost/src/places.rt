@@ -5,7 +5,7 @@ ghost use Rattle.tsp_format.specs.Cells.{IsNode};
 
 use crate::curve::along_curve;
 use crate::matrix::EvenMatrix;
-use crate::points::{Points, is_at_least};
+use crate::points::Points;
 use crate::triangle::Triangle;
 use std::alloc::{AllocError, Global};
 use tsp_distance::{InSpace, Point, monotone_laws};
@@ -43,7 +43,7 @@ impl<P: InSpace> Grouped for Points<'_, P> {
     fn is_beyond(&self, from: u32, region: &Region, least: i64) -> bool {
         monotone_laws();
         let here = self.place(from);
-        is_at_least(self.kind, here, region.nearest(&here), least)
+        self.metric.is_at_least(here, region.nearest(&here), least)
     }
 }
 

@@ -1,11 +1,13 @@
 -- What files of some TYPEs hold.
-use Rattle.std.proofs.Common.{◌≡◌, ℕ, List, Option, sym, ap, subst}
-use Rattle.std.specs.Prelude.{unwrap_or, ℤ}
+use Rattle.std.proofs.Common.{◌≡◌, ℕ, List, Option, None, refl, sym, ap, subst}
+use Rattle.std.specs.Prelude.{unwrap_or, IsTrue, ℤ}
 use Rattle.std.specs.List.{All}
 use Rattle.tsp_draft.specs.Fields.{Fields}
+use Rattle.tsp_draft.specs.Rules.{fault_of, is_routing, is_tours, is_certificate, is_tree}
 use Rattle.tsp_draft.specs.Valid.{IsTripleOf, AreTriples, AreSets, AreCombs}
 use Rattle.tsp_file.specs.Meant.{nodes_of}
-use Rattle.tsp_file.specs.Typed.{AreMultipliersIn, AreSomeSets}
+use Rattle.tsp_draft.proofs.ValidFields.{in_range, has_kind, has_instance, has_routing, has_tours, has_potentials, has_branches}
+use Rattle.tsp_file.specs.Typed.{HoldsItsType, AreMultipliersIn, AreSomeSets}
 
 pub combs_hold : (f : Fields) (combs : List (List (List ℕ))) → AreCombs f combs → AreSomeSets (nodes_of f) combs
 combs_hold f combs held =
@@ -16,3 +18,14 @@ pub multipliers_hold : (f : Fields) (triples : List (ℕ × ℕ × ℤ)) → Are
 multipliers_hold f triples held =
     let same : held.n ≡ nodes_of f = sym (ap (λ (d : Option ℕ). unwrap_or d 0) held.dimension) in
     record { few = held.few; each = subst (λ (n : ℕ). All (IsTripleOf n) triples) same held.triples_of_nodes }
+
+pub holds_its_type : (f : Fields) → fault_of f ≡ None → HoldsItsType f
+holds_its_type f valid = record {
+  range = in_range f valid;
+  kind = has_kind f valid;
+  instance = has_instance f valid;
+  routing = λ kind. has_routing f valid (subst (λ k. IsTrue (is_routing k)) (sym kind) refl);
+  tours = λ kind. has_tours f valid (subst (λ k. IsTrue (is_tours k)) (sym kind) refl);
+  potentials = λ kind. has_potentials f valid (subst (λ k. IsTrue (is_certificate k)) (sym kind) refl);
+  branches = λ kind. has_branches f valid (subst (λ k. IsTrue (is_tree k)) (sym kind) refl);
+}

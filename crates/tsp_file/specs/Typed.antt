@@ -1,12 +1,23 @@
 -- What files of some TYPEs hold, with no field that may be missing, and the ranges of what they hold.
-use Rattle.std.specs.Prelude.{◌≡◌, ℕ, ◌≤◌, List, length, Some, ℤ, pos}
+use Rattle.std.specs.Prelude.{◌≡◌, ℕ, ◌≤◌, List, length, Some, IsSome, IsTrue, ℤ, pos}
 use Rattle.std.specs.List.{All, sum_by}
 use Rattle.tsp_format.specs.declared.kinds.Kind.TheVariants as kinds
 use Rattle.tsp_format.specs.Limits.{most_capacity, most_scale, most_potential, most_multipliers, most_combs, most_comb_nodes}
 use Rattle.tsp_format.specs.Steps.{Step}
 use Rattle.tsp_draft.specs.Fields.{Fields}
-use Rattle.tsp_draft.specs.Valid.{IsFromTo, IsWithin, IsByNode, IsDemand, IsTripleOf, AreDepots, AreSets, AreTreeSteps}
+use Rattle.tsp_draft.specs.Rules.{is_instance}
+use Rattle.tsp_draft.specs.Valid.{IsInRange, HasInstance, HasRouting, HasPotentials, HasBranches, IsFromTo, IsWithin, IsByNode, IsDemand, IsTripleOf, AreDepots, AreSets, AreTreeSteps}
 use Rattle.tsp_file.specs.Meant.{scale_in, multipliers_in, combs_in, nodes_of}
+
+-- what every valid file holds: the fields that its TYPE asks for, and each in its range
+pub record HoldsItsType (f : Fields) : Type 0 where
+  pub range : IsInRange f
+  pub kind : IsSome f.kind
+  pub instance : IsTrue (is_instance f.kind) → HasInstance f
+  pub routing : f.kind ≡ Some kinds.Cvrp → HasRouting f
+  pub tours : f.kind ≡ Some kinds.Tour → IsSome f.tours
+  pub potentials : f.kind ≡ Some kinds.Potentials → HasPotentials f
+  pub branches : f.kind ≡ Some kinds.Branches → HasBranches f
 
 -- a routing problem, beside its costs
 pub record HoldsRouting (f : Fields) (capacity : ℤ) (demands : List ℤ) (depots : List ℕ) : Type 0 where

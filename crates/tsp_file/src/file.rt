@@ -36,7 +36,7 @@ impl Model for File {
 }
 
 impl File {
-    ghost use Rattle.std.specs.Prelude.{◌≡◌, Some, None, IsSome, length, map, MatchResult};
+    ghost use Rattle.std.specs.Prelude.{◌≡◌, ◌≢◌, Some, None, IsSome, length, map, MatchResult};
     ghost use Rattle.std.specs.List.{All};
     ghost use Rattle.std.specs.Option.{option_map};
     ghost use Rattle.tsp_format.specs.Cells.{cells};
@@ -46,16 +46,18 @@ impl File {
     ghost use Rattle.tsp_format.specs.declared.layout.Layout.TheVariants.{FullMatrix};
     ghost use Rattle.tsp_format.specs.declared.kinds.WeightFormat.TheVariants.{Listed};
     ghost use Rattle.tsp_file.specs.Cost.{cost};
-    ghost use Rattle.tsp_file.specs.states.Way.{HasHalf};
     ghost use Rattle.tsp_file.specs.Relayout.{CanGo, with_weights, costs_in};
     ghost use Rattle.tsp_file.specs.Meant.{nodes_of};
+    ghost use Rattle.tsp_file.specs.Typed.{HoldsItsType};
     ghost use Rattle.tsp_format.specs.states.TreeSteps.{steps_of};
     ghost use Rattle.tsp_draft.specs.Rules.{fault_of};
 
-    /// The fields of this file, as a draft that has no fault.
+    /// The fields of this file, as a draft that has no fault: those are there that its TYPE asks for,
+    /// and each is in its range.
     pub fn fields(&self) -> &Draft
         ensures value { fields_of result.now ≡ self.now }
         ensures valid { fault_of self.now ≡ None }
+        ensures held { HoldsItsType self.now }
     {
         &self.draft
     }
@@ -98,45 +100,33 @@ impl File {
     }
 
     /// This file, whose weights are a full matrix, with them in another layout that holds their costs.
-    ///
-    /// A file without weights would stay as it is.
     pub(crate) fn with_half(self, to: Layout) -> File
         requires full { self.weight_format ≡ Some (Listed FullMatrix) }
         requires can_go { CanGo self to }
         ensures { result ≡ with_weights self to (costs_in to (nodes_of self) (cost self)) }
     {
         let File { mut draft } = self;
-        let Some(nodes) = draft.dimension else {
-            return File { draft };
-        };
-        let Some(mut weights) = draft.weights.take() else {
-            return File { draft };
-        };
+        let nodes = draft.dimension.unwrap();
+        let mut weights = draft.weights.take().unwrap();
         keep_half(to, nodes, &mut weights);
         draft.weight_format = Some(WeightFormat::Listed(to));
         draft.weights = Some(weights);
         File { draft }
     }
 
-    /// This file, whose weights are half of a matrix, with the full matrix of their costs; or the file
-    /// as it was where memory was refused.
-    pub(crate) fn with_whole(self) -> Result<File, File>
-        requires half { HasHalf self }
+    /// This file, whose weights are half of a matrix in a layout, with the full matrix of their costs;
+    /// or the file as it was where memory was refused.
+    pub(crate) fn with_whole(self, from: Layout) -> Result<File, File>
+        requires half { from ≢ FullMatrix }
+        requires format { self.weight_format ≡ Some (Listed from) }
         requires can_go { CanGo self FullMatrix }
         ensures { MatchResult result
             (λ file. file ≡ with_weights self FullMatrix (costs_in FullMatrix (nodes_of self) (cost self)))
             (λ back. back ≡ self) }
     {
         let File { mut draft } = self;
-        let Some(nodes) = draft.dimension else {
-            return Err(File { draft });
-        };
-        let Some(WeightFormat::Listed(from)) = draft.weight_format else {
-            return Err(File { draft });
-        };
-        let Some(mut weights) = draft.weights.take() else {
-            return Err(File { draft });
-        };
+        let nodes = draft.dimension.unwrap();
+        let mut weights = draft.weights.take().unwrap();
         if make_whole(from, nodes, &mut weights).is_err() {
             draft.weights = Some(weights);
             return Err(File { draft });
@@ -157,10 +147,7 @@ impl File {
     pub fn kind(&self) -> Kind
         ensures { Some result ≡ self.now.kind }
     {
-        match self.draft.kind {
-            Some(kind) => kind,
-            None => unreachable!(),
-        }
+        self.draft.kind.unwrap()
     }
 
     /// The COMMENT lines, in order.

@@ -29,7 +29,7 @@ impl File {
             Err(fault) => Err((fault, self)),
             Ok(Way::Already) => Ok(self),
             Ok(Way::Within) => Ok(self.with_half(to)),
-            Ok(Way::Across) => match self.with_whole() {
+            Ok(Way::Across(from)) => match self.with_whole(from) {
                 Ok(file) => Ok(file),
                 Err(back) => Err((RelayoutFault::OutOfMemory, back)),
             },
@@ -59,7 +59,7 @@ impl File {
             return Ok(Way::Within);
         }
         if to == Layout::FullMatrix {
-            return Ok(Way::Across);
+            return Ok(Way::Across(listed.layout));
         }
         match listed.laid_out(alloc, to) {
             Ok(weights) => Ok(Way::Anew(weights)),

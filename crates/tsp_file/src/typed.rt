@@ -2,7 +2,6 @@
 
 use crate::file::File;
 use crate::weights::ListedWeights;
-use tsp_draft::{valid_fields_are_in_range, valid_files_are_complete};
 use tsp_format::{Kind, TreeStep, WeightFormat, WeightKind};
 
 /// What a file of TYPE CVRP holds beside its costs.
@@ -69,17 +68,12 @@ impl File {
             (λ listed. (self.now.weight_kind ≡ Some Explicit)
             × ListsWeights self.now listed.layout listed.nodes listed.weights.now) }
     {
-        let _valid = self.fields();
-        valid_fields_are_in_range();
-        if !matches!(self.weight_kind(), Some(WeightKind::Explicit)) {
+        let fields = self.fields();
+        if !matches!(fields.weight_kind, Some(WeightKind::Explicit)) {
             return None;
         }
-        let Some(weights) = self.weights() else {
-            return None;
-        };
-        let Some(nodes) = self.dimension() else {
-            return None;
-        };
+        let weights = self.weights()?;
+        let nodes = fields.dimension.unwrap();
         match self.weight_format() {
             Some(WeightFormat::Listed(layout)) => Some(ListedWeights::of(layout, nodes, weights)),
             Some(WeightFormat::ByFunction) => None,
@@ -94,13 +88,10 @@ impl File {
             × (self.now.tours ≡ Some (map (λ tour. tour.items) tours.now))
             × AreTours (map (λ tour. tour.items) tours.now)) }
     {
-        let _valid = self.fields();
-        valid_fields_are_in_range();
-        valid_files_are_complete();
-        match self.kind() {
-            Kind::Tour => self.tours(),
-            _ => None,
-        }
+        let Some(Kind::Tour) = self.fields().kind else {
+            return None;
+        };
+        self.tours()
     }
 
     /// What a file of TYPE CVRP holds beside its costs; none of every other file.
@@ -108,10 +99,7 @@ impl File {
         ensures { MatchOption result (self.now.kind ≢ Some kinds.Cvrp)
             (λ held. HoldsRouting self.now held.capacity held.demands.now held.depots.now) }
     {
-        let _valid = self.fields();
-        valid_fields_are_in_range();
-        valid_files_are_complete();
-        let Kind::Cvrp = self.kind() else {
+        let Some(Kind::Cvrp) = self.fields().kind else {
             return None;
         };
         Some(RoutingData {
@@ -128,9 +116,7 @@ impl File {
             (self.now.kind ≡ Some kinds.Potentials → IsSome self.now.node_potentials → ⊥)
             (λ held. HoldsNodeNumbers self.now held.scale held.numbers.now held.multipliers.now) }
     {
-        let _valid = self.fields();
-        valid_fields_are_in_range();
-        let Kind::Potentials = self.kind() else {
+        let Some(Kind::Potentials) = self.fields().kind else {
             return None;
         };
         Some(NodeData {
@@ -148,9 +134,7 @@ impl File {
             → IsSome self.now.column_potentials → ⊥)
             (λ held. HoldsDuals self.now held.scale held.rows.now held.columns.now) }
     {
-        let _valid = self.fields();
-        valid_fields_are_in_range();
-        let Kind::Potentials = self.kind() else {
+        let Some(Kind::Potentials) = self.fields().kind else {
             return None;
         };
         Some(DualData {
@@ -165,10 +149,7 @@ impl File {
         ensures { MatchOption result (self.now.kind ≢ Some kinds.Branches)
             (λ held. HoldsCases self.now held.scale (combs_of held.combs.now) (steps_of held.steps.now)) }
     {
-        let _valid = self.fields();
-        valid_fields_are_in_range();
-        valid_files_are_complete();
-        let Kind::Branches = self.kind() else {
+        let Some(Kind::Branches) = self.fields().kind else {
             return None;
         };
         Some(TreeData {
@@ -183,9 +164,7 @@ impl File {
         ensures value { result ≡ unwrap_or self.now.scale (pos 1) }
         ensures range { IsFromTo (pos 1) (pos most_scale) result }
     {
-        let _valid = self.fields();
-        valid_fields_are_in_range();
-        self.scale().unwrap_or(1)
+        self.fields().scale.unwrap_or(1)
     }
 
     /// The multipliers of fixed edges, none where no section lists them.
@@ -193,10 +172,8 @@ impl File {
         ensures value { result.now ≡ unwrap_or self.now.fixed_potentials [] }
         ensures are { AreMultipliersIn self.now result.now }
     {
-        let _valid = self.fields();
-        valid_fields_are_in_range();
-        match self.fixed_potentials() {
-            Some(triples) => triples,
+        match &self.fields().fixed_potentials {
+            Some(triples) => triples.as_slice(),
             None => &[],
         }
     }
@@ -206,10 +183,8 @@ impl File {
         ensures value { combs_of result.now ≡ unwrap_or self.now.combs [] }
         ensures are { AreSomeSets (nodes_of self.now) (combs_of result.now) }
     {
-        let _valid = self.fields();
-        valid_fields_are_in_range();
-        match self.combs() {
-            Some(combs) => combs,
+        match &self.fields().combs {
+            Some(combs) => combs.as_slice(),
             None => &[],
         }
     }

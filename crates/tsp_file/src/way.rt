@@ -1,5 +1,7 @@
 //! How weights get into another layout.
 
+use tsp_format::Layout;
+
 /// How the weights of a file get into another layout.
 #[derive(Drop)]
 pub(crate) enum Way {
@@ -7,8 +9,8 @@ pub(crate) enum Way {
     Already,
     /// They are a full matrix, and what the layout lists of it goes to the front.
     Within,
-    /// They are half of a matrix, and the full one is made in its own memory.
-    Across,
+    /// They are half of a matrix, in this layout, and the full one is made in its own memory.
+    Across(Layout),
     /// These are they, all anew.
     Anew(Vec<i64>),
 }

@@ -1,5 +1,5 @@
 -- What valid files hold.
-use Rattle.std.proofs.Common.{◌≡◌, ℕ, zero, suc, ◌+◌, ◌<◌, ◌≤◌, true, List, [], ◌∷◌, ◌++◌, length, map, Option, Some, refl, sym, ap, subst, ◌∙◌, arith, length-append}
+use Rattle.std.proofs.Common.{◌≡◌, ◌≢◌, ℕ, zero, suc, ◌+◌, ◌<◌, ◌≤◌, true, false, List, [], ◌∷◌, ◌++◌, length, map, Option, None, Some, refl, sym, ap, subst, ◌∙◌, arith, length-append}
 use Rattle.std.specs.Prelude.{unwrap_or, ◌^◌}
 use Rattle.std.specs.Global.{Vec}
 use Rattle.std.specs.List.{All, AllByRecursion, concat, sum_by}
@@ -12,12 +12,15 @@ use Rattle.tsp_format.specs.Limits.{most_nodes, most_tour_nodes, most_changes}
 use Rattle.tsp_format.specs.declared.steps.TreeStep.{TreeStep}
 use Rattle.tsp_format.specs.Steps.{Step, Branch, Leaf, are_whole, branch_count, leaf_count, change_count}
 use Rattle.tsp_format.specs.states.TreeSteps.{step_of, steps_of}
+use Rattle.tsp_format.specs.declared.kinds.Kind.{Kind}
+use Rattle.tsp_format.specs.declared.kinds.Kind.TheVariants as kinds
 use Rattle.tsp_draft.specs.Fields.{Fields}
+use Rattle.tsp_draft.specs.Rules.{is_tours}
 use Rattle.tsp_draft.specs.Valid.{AreTours, AreDepots, IsNodeList, IsStep, AreTreeSteps}
 use Rattle.tsp_branch.specs.Listed.{IsStepOf}
 use Rattle.tsp_file.specs.Meant.{nodes_of, tours_of}
 use Rattle.tsp_verdict.specs.Solution.{visited}
-use Rattle.tsp_verdict.specs.states.Routes.{nodes_in}
+use Rattle.tsp_verdict.specs.states.Routes.{nodes_in, AreToursOf}
 use Rattle.tsp_verdict.proofs.Pieces.{nodes_in_is}
 
 in_both : (P : ℕ → Type 0) (xs ys : List ℕ) → AllByRecursion P xs → AllByRecursion P ys → AllByRecursion P (xs ++ ys)
@@ -57,6 +60,28 @@ nodes_are f tours same = nodes_in_is tours ∙ ap concat same
 
 pub tours_are : (f : Fields) (tours : List (List ℕ)) → f.tours ≡ Some tours → tours ≡ tours_of f
 tours_are f tours stand = sym (ap (λ (o : Option (List (List ℕ))). unwrap_or o []) stand)
+
+pub tours_held : (f : Fields) (tours : List (Vec ℕ)) → f.kind ≡ Some kinds.Tour → f.tours ≡ Some (map (λ (t : Vec ℕ). t.items) tours) → AreTours (map (λ (t : Vec ℕ). t.items) tours) → AreToursOf f tours
+tours_held f tours sort stand held = record {
+  sort = ap is_tours sort;
+  value = tours_are f (map (λ (t : Vec ℕ). t.items) tours) stand;
+  nodes = nodes_are f tours (tours_are f (map (λ (t : Vec ℕ). t.items) tours) stand);
+  range = counted_from_one tours held;
+  few = few_tours tours held;
+  size = few_nodes tours held;
+}
+
+pub no_tours : (f : Fields) → f.kind ≢ Some kinds.Tour → is_tours f.kind ≡ false
+no_tours f other = by_kind f.kind other
+  where
+    by_kind : (kind : Option Kind) → kind ≢ Some kinds.Tour → is_tours kind ≡ false
+    by_kind None other = refl
+    by_kind (Some kinds.Tsp) other = refl
+    by_kind (Some kinds.Atsp) other = refl
+    by_kind (Some kinds.Cvrp) other = refl
+    by_kind (Some kinds.Tour) other = absurd (other refl)
+    by_kind (Some kinds.Potentials) other = refl
+    by_kind (Some kinds.Branches) other = refl
 
 pub depots_in : (f : Fields) (depots : List ℕ) → AreDepots f depots → All (IsNode (nodes_of f)) depots
 depots_in f depots held k d lt =

@@ -1,13 +1,9 @@
 -- Which pairs a cycle uses, by the table of what comes next.
-use Rattle.std.proofs.Common.{◌≡◌, ◌≢◌, ℕ, ◌≤◌, Bool, true, false, eqb, List, get_or, sym, ap, ◌∙◌, inl, inr, arith, Option}
-use Rattle.std.specs.Prelude.{MatchBool, unwrap_or}
-use Rattle.std.specs.List.{All}
+use Rattle.std.proofs.Common.{◌≡◌, ◌≢◌, ℕ, ◌≤◌, Bool, true, false, eqb, List, get_or, sym, ◌∙◌, inl, inr}
+use Rattle.std.specs.Prelude.{MatchBool}
 use Rattle.std.proofs.lemmas.Bool.{eqb-true, eq-eqb, false≢true}
-use Rattle.tsp_draft.specs.Fields.{Fields}
-use Rattle.tsp_draft.specs.Valid.{IsPairOf, AreFixed}
 use Rattle.tsp_theory.specs.Tour.{Uses}
 use Rattle.tsp_verdict.specs.states.Next.{AreNext}
-use Rattle.tsp_file.specs.Meant.{nodes_of}
 
 pub uses_next : (directed : Bool) (cycle next : List ℕ) (pair : ℕ × ℕ) → AreNext cycle next → 1 ≤ pair.1 → get_or next pair.0 0 ≡ pair.1 → Uses directed cycle pair
 uses_next true cycle next pair m some e = m.only pair.0 pair.1 some e
@@ -28,9 +24,3 @@ pub uses_none : (directed : Bool) (cycle next : List ℕ) (pair : ℕ × ℕ) �
     → directed ≡ true → Uses directed cycle pair → ⊥
 uses_none true cycle next pair m other one f = other (m.follows pair.0 pair.1 f)
 uses_none false cycle next pair m other one f = absurd (false≢true one)
-
-pub pairs_of : (f : Fields) (pairs : List (ℕ × ℕ)) → AreFixed f pairs → All (IsPairOf (nodes_of f)) pairs
-pairs_of f pairs held k d lt =
-    let pair = held.pairs_of_nodes k d lt in
-    let same : nodes_of f ≡ held.n = ap (λ (o : Option ℕ). unwrap_or o 0) held.dimension in
-    ((pair.0.0, omega (arith, pair.0.1, same)), (pair.1.0, omega (arith, pair.1.1, same)), pair.2)

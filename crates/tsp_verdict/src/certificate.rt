@@ -22,7 +22,6 @@ ghost use Rattle.tsp_reason.specs.declared.certificate.Certificate.TheVariants a
 ghost use Rattle.tsp_verdict.specs.Certified.{IsCertified, FindsBound, NoneWithoutMemory};
 ghost use Rattle.tsp_verdict.specs.Multiplied.{AreListed};
 
-use crate::files::fixed_pairs;
 use crate::multiplied::{first_repeated_pair, first_unlisted};
 use std::alloc::{AllocError, Global};
 use tsp_bound::{
@@ -172,7 +171,7 @@ fn first_against_multipliers(
     if triples.is_empty() {
         return Ok(None);
     }
-    if let Some(index) = first_unlisted(alloc, fixed_pairs(inst), triples)? {
+    if let Some(index) = first_unlisted(alloc, inst.fixed(), triples)? {
         return Ok(Some(Reason::MultiplierNotFixed { index }));
     }
     if let Some(index) = first_repeated_pair(alloc, triples)? {

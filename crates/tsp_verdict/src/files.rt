@@ -1,48 +1,25 @@
-//! What is read of an instance and of a solution.
+//! What is read of a solution and of a routing instance.
 
-ghost use Rattle.std.specs.Prelude.{◌≡◌, ◌≤◌, map, length, pos, Some};
+ghost use Rattle.std.specs.Prelude.{◌≡◌, ◌≤◌, false, length, pos, MatchOption, Some};
 ghost use Rattle.std.specs.List.{All};
 ghost use Rattle.tsp_format.specs.declared.kinds.Kind.TheVariants as kinds;
 ghost use Rattle.tsp_format.specs.Cells.{IsNode};
-ghost use Rattle.tsp_format.specs.Limits.{most_fixed, most_capacity, most_tour_nodes};
-ghost use Rattle.tsp_draft.specs.Valid.{IsPairOf, IsDemand, IsFromTo};
-ghost use Rattle.tsp_file.specs.Meant.{depots_of, demands_of, capacity_of, nodes_of, fixed_of, tours_of};
-ghost use Rattle.tsp_verdict.specs.Solution.{visited};
-ghost use Rattle.tsp_verdict.specs.states.Routes.{nodes_in};
+ghost use Rattle.tsp_format.specs.Limits.{most_capacity};
+ghost use Rattle.tsp_draft.specs.Rules.{is_tours};
+ghost use Rattle.tsp_draft.specs.Valid.{IsDemand, IsFromTo};
+ghost use Rattle.tsp_file.specs.Meant.{depots_of, demands_of, capacity_of, nodes_of};
+ghost use Rattle.tsp_verdict.specs.states.Routes.{AreToursOf};
 
 use tsp_cost::Instance;
-use tsp_draft::valid_fields_are_in_range;
 use tsp_file::{File, RoutingData};
 
-/// The tours of a solution, none where it has no TOUR_SECTION.
-pub(crate) fn solution_tours(sol: &File) -> &[Vec<u32>]
-    ensures value { map (λ tour. tour.items) result.now ≡ tours_of sol.now }
-    ensures nodes { nodes_in result.now ≡ visited sol.now }
-    ensures range { All (λ node. 1 ≤ node) (nodes_in result.now) }
-    ensures few { length result.now ≤ most_tour_nodes }
-    ensures size { length (nodes_in result.now) ≤ most_tour_nodes }
+/// The tours of a solution; none of a file of another TYPE.
+pub(crate) fn solution_tours(sol: &File) -> Option<&[Vec<u32>]>
+    ensures { MatchOption result
+        (is_tours sol.now.kind ≡ false)
+        (λ tours. AreToursOf sol.now tours.now) }
 {
-    let _valid = sol.fields();
-    valid_fields_are_in_range();
-    match sol.tours() {
-        Some(tours) => tours,
-        None => &[],
-    }
-}
-
-/// The fixed pairs of an instance, none where it has no FIXED_EDGES_SECTION.
-pub(crate) fn fixed_pairs(inst: &Instance) -> &[(u32, u32)]
-    ensures value { result.now ≡ fixed_of inst.now }
-    ensures few { length result.now ≤ most_fixed }
-    ensures range { All (IsPairOf (nodes_of inst.now)) result.now }
-{
-    let file = inst.file();
-    let _valid = file.fields();
-    valid_fields_are_in_range();
-    match file.fixed() {
-        Some(pairs) => pairs,
-        None => &[],
-    }
+    sol.as_tours()
 }
 
 /// What a routing instance holds beside its costs.
@@ -56,8 +33,5 @@ pub(crate) fn routing(inst: &Instance) -> RoutingData<'_>
     ensures depots { result.depots.now ≡ depots_of inst.now }
     ensures each_depot { All (IsNode (nodes_of inst.now)) result.depots.now }
 {
-    let Some(held) = inst.file().as_routing() else {
-        unreachable!();
-    };
-    held
+    inst.routing().unwrap()
 }

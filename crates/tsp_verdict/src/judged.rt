@@ -57,9 +57,8 @@ fn judge_alone(alloc: Global, instance: &Instance, solution: &File) -> Result<Ve
         (λ refused. NoneBeforeRepeatsOn instance.now solution.now) }
 {
     match instance.kind() {
-        Kind::Tsp | Kind::Atsp => judge_tour(alloc, instance, solution),
         Kind::Cvrp => judge_routes(alloc, instance, solution),
-        Kind::Tour | Kind::Potentials | Kind::Branches => unreachable!(),
+        _ => judge_tour(alloc, instance, solution),
     }
 }
 

@@ -9,15 +9,15 @@ ghost use Rattle.tsp_file.specs.Meant.{demands_of, depots_of, nodes_of};
 ghost use Rattle.tsp_verdict.specs.Routes.{NoneOfRoutesUpTo, NoneOfRoutesBeforePlaces, IsFirstAgainstRoutes, IsRoutesVerdict, NoneOfRoutesBeforeRepeats};
 ghost use Rattle.tsp_reason.specs.declared.verdict.Reason.TheVariants.{DepotCount};
 ghost use Rattle.tsp_verdict.specs.Reasons.{rank_of};
+ghost use Rattle.tsp_verdict.specs.states.Routes.{AreToursOf};
 
-use crate::files::{fixed_pairs, routing, solution_tours};
+use crate::files::{routing, solution_tours};
 use crate::lengths::plan_length;
 use crate::loads::{first_overload, least_routes};
 use crate::visits::{first_larger_in, first_of_in, first_unmarked, mark_all};
 use std::alloc::{AllocError, Global};
 use tsp_cost::{Costs, Instance};
 use tsp_file::{File, RoutingData};
-use tsp_format::Kind;
 use tsp_reason::{Reason, Verdict};
 
 /// The fewest nodes of an instance whose routes are judged.
@@ -46,12 +46,11 @@ pub fn judge_routes(alloc: Global, inst: &Instance, sol: &File) -> Result<Verdic
         (λ refused. NoneOfRoutesBeforeRepeats inst.now sol.now) }
 {
     let routing = routing(inst);
-    let depot = match the_depot(inst, &routing, sol) {
-        Ok(depot) => depot,
+    let (depot, routes) = match the_depot(inst, &routing, sol) {
+        Ok(found) => found,
         Err(reason) => return Ok(Verdict::No(reason)),
     };
-    let routes = solution_tours(sol);
-    if let Some(reason) = first_against_places(inst, depot, sol) {
+    if let Some(reason) = first_against_places(inst, sol, depot, routes) {
         return Ok(Verdict::No(reason));
     }
     let mut seen = vec![in alloc; false; inst.count() as usize + 1]?;
@@ -71,60 +70,72 @@ pub fn judge_routes(alloc: Global, inst: &Instance, sol: &File) -> Result<Verdic
     })
 }
 
-/// The only depot of an instance, or the first reason that needs no look at the routes.
-fn the_depot(inst: &Instance, routing: &RoutingData<'_>, sol: &File) -> Result<u32, Reason>
+/// The only depot of an instance and the routes of a solution, or the first reason that needs no look at
+/// the routes.
+fn the_depot<'a>(
+    inst: &Instance,
+    routing: &RoutingData<'_>,
+    sol: &'a File,
+) -> Result<(u32, &'a [Vec<u32>]), Reason>
     requires demands { routing.now.demands.now ≡ demands_of inst.now }
     requires each { length routing.now.demands.now ≡ nodes_of inst.now }
     requires depots { routing.now.depots.now ≡ depots_of inst.now }
     requires each_depot { All (IsNode (nodes_of inst.now)) routing.now.depots.now }
     ensures { MatchResult result
-        (λ depot. (depot ≡ depot_of inst.now) × IsNode (nodes_of inst.now) depot
-        × (demand_of (demands_of inst.now) depot ≡ pos 0) × NoneOfRoutesBeforePlaces inst.now sol.now)
+        (λ found. (found.0 ≡ depot_of inst.now) × IsNode (nodes_of inst.now) found.0
+        × (demand_of (demands_of inst.now) found.0 ≡ pos 0) × NoneOfRoutesBeforePlaces inst.now sol.now
+        × AreToursOf sol.now found.1.now)
         (λ reason. IsFirstAgainstRoutes inst.now sol.now reason) }
 {
-    if let Some(reason) = first_against_files(inst, sol) {
-        return Err(reason);
-    }
+    let routes = match first_against_files(inst, sol) {
+        Ok(routes) => routes,
+        Err(reason) => return Err(reason),
+    };
     let [depot] = routing.depots else {
         return Err(Reason::DepotCount);
     };
     if routing.demands[*depot as usize - 1] != 0 {
         return Err(Reason::DepotDemand);
     }
-    if !fixed_pairs(inst).is_empty() {
+    if !inst.fixed().is_empty() {
         return Err(Reason::FixedEdgesInRoutes);
     }
-    Ok(*depot)
+    Ok((*depot, routes))
 }
 
-/// The first reason that needs no look at the depot.
-fn first_against_files(inst: &Instance, sol: &File) -> Option<Reason>
-    ensures { MatchOption result
-        (NoneOfRoutesUpTo inst.now sol.now (rank_of DepotCount))
+/// The routes of a solution, or the first reason that needs no look at the depot.
+fn first_against_files<'a>(inst: &Instance, sol: &'a File) -> Result<&'a [Vec<u32>], Reason>
+    ensures { MatchResult result
+        (λ routes. AreToursOf sol.now routes.now × NoneOfRoutesUpTo inst.now sol.now (rank_of DepotCount))
         (λ reason. IsFirstAgainstRoutes inst.now sol.now reason) }
 {
     let nodes = inst.count();
-    if sol.kind() != Kind::Tour {
-        return Some(Reason::NotASolution);
-    }
+    let Some(routes) = solution_tours(sol) else {
+        return Err(Reason::NotASolution);
+    };
     if nodes < FEWEST_NODES {
-        return Some(Reason::TooFewNodes);
+        return Err(Reason::TooFewNodes);
     }
     if sol.dimension().is_some_and(|stated| stated != nodes) {
-        return Some(Reason::Dimension);
+        return Err(Reason::Dimension);
     }
-    None
+    Ok(routes)
 }
 
 /// The first reason that one node alone shows: the depot, or a node that is too large.
-fn first_against_places(inst: &Instance, depot: u32, sol: &File) -> Option<Reason>
+fn first_against_places(
+    inst: &Instance,
+    sol: &File,
+    depot: u32,
+    routes: &[Vec<u32>],
+) -> Option<Reason>
     requires depot { depot ≡ depot_of inst.now }
+    requires routes { AreToursOf sol.now routes.now }
     requires before { NoneOfRoutesBeforePlaces inst.now sol.now }
     ensures { MatchOption result
         (AreCustomers inst.now sol.now × NoneOfRoutesBeforeRepeats inst.now sol.now)
         (λ reason. IsFirstAgainstRoutes inst.now sol.now reason) }
 {
-    let routes = solution_tours(sol);
     if let Some(place) = first_of_in(routes, depot) {
         return Some(Reason::DepotInRoute { place });
     }

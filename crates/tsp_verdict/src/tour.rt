@@ -11,8 +11,9 @@ ghost use Rattle.tsp_verdict.specs.Tours.{NoneOfTourUpTo, NoneOfTourBeforeNodes,
 ghost use Rattle.tsp_file.specs.Cost.{cost};
 ghost use Rattle.tsp_theory.specs.Costs.{IsFirstAsymmetric};
 ghost use Rattle.tsp_verdict.specs.states.Costs.{AreTourCosts, FindsLength};
+ghost use Rattle.tsp_verdict.specs.states.Routes.{AreToursOf};
 
-use crate::files::{fixed_pairs, solution_tours};
+use crate::files::solution_tours;
 use crate::fixed::{first_unused, next_nodes};
 use crate::places::{first_larger, first_repeated};
 use std::alloc::{AllocError, Global};
@@ -87,7 +88,7 @@ pub(crate) fn length_of_tour<'a>(
     }
     let next = next_nodes(alloc, tour, nodes)?;
     let directed = is_directed(inst.kind());
-    if let Some(index) = first_unused(fixed_pairs(inst), next.as_slice(), directed) {
+    if let Some(index) = first_unused(inst.fixed(), next.as_slice(), directed) {
         return Ok(Err(Reason::FixedEdgeUnused { index }));
     }
     Ok(Ok((tour_length(inst, tour), costs)))
@@ -103,11 +104,11 @@ fn the_tour<'a, 'b>(inst: &'a Instance, sol: &'b File) -> Result<(&'b [u32], Tou
         × AreTourCosts inst.now found.1)
         (λ reason. IsFirstAgainstTour inst.now sol.now reason) }
 {
-    let costs = match first_against_files(inst, sol) {
-        Ok(costs) => costs,
+    let (tours, costs) = match first_against_files(inst, sol) {
+        Ok(found) => found,
         Err(reason) => return Err(reason),
     };
-    let [tour] = solution_tours(sol) else {
+    let [tour] = tours else {
         return Err(Reason::TourCount);
     };
     if tour.len() != inst.count() as usize {
@@ -116,17 +117,22 @@ fn the_tour<'a, 'b>(inst: &'a Instance, sol: &'b File) -> Result<(&'b [u32], Tou
     Ok((tour.as_slice(), costs))
 }
 
-/// The costs of an instance, or the first reason that needs no look at the tours.
-fn first_against_files<'a>(inst: &'a Instance, sol: &File) -> Result<TourCosts<'a>, Reason>
+/// The tours of a solution and the costs of an instance, or the first reason that needs no look at the
+/// tours.
+fn first_against_files<'a, 'b>(
+    inst: &'a Instance,
+    sol: &'b File,
+) -> Result<(&'b [Vec<u32>], TourCosts<'a>), Reason>
     requires { (inst.now.kind ≡ Some kinds.Tsp) ⊎ (inst.now.kind ≡ Some kinds.Atsp) }
     ensures { MatchResult result
-        (λ costs. NoneOfTourUpTo inst.now sol.now (rank_of TourCount) × AreTourCosts inst.now costs)
+        (λ found. AreToursOf sol.now found.0.now × AreTourCosts inst.now found.1
+        × NoneOfTourUpTo inst.now sol.now (rank_of TourCount))
         (λ reason. IsFirstAgainstTour inst.now sol.now reason) }
 {
     let nodes = inst.count();
-    if sol.kind() != Kind::Tour {
+    let Some(tours) = solution_tours(sol) else {
         return Err(Reason::NotASolution);
-    }
+    };
     if nodes < FEWEST_NODES {
         return Err(Reason::TooFewNodes);
     }
@@ -137,7 +143,7 @@ fn first_against_files<'a>(inst: &'a Instance, sol: &File) -> Result<TourCosts<'
     if sol.dimension().is_some_and(|stated| stated != nodes) {
         return Err(Reason::Dimension);
     }
-    Ok(costs)
+    Ok((tours, costs))
 }
 
 /// The costs of an instance, or under TYPE TSP the first pair of nodes whose two costs differ.

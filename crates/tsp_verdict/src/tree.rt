@@ -15,7 +15,6 @@ ghost use Rattle.tsp_reason.specs.declared.certificate.Certificate.TheVariants a
 ghost use Rattle.tsp_verdict.specs.Certified.{FindsBound, NoneWithoutMemory};
 
 use crate::decided::taken_once;
-use crate::files::fixed_pairs;
 use crate::numbered::numbered_sets;
 use crate::tour::is_directed;
 use std::alloc::{AllocError, Global};
@@ -131,7 +130,7 @@ fn judge_tree<C: Costs>(
     certificates_bound_cycles();
     numbers_are_unique();
     let directed = is_directed(instance.kind());
-    let given = taken_once(alloc, directed, fixed_pairs(instance))?;
+    let given = taken_once(alloc, directed, instance.fixed())?;
     let sets = numbered_sets(alloc, tree.combs)?;
     let count = tree.combs.len();
     match judge_branches(

@@ -8,6 +8,7 @@ use Rattle.tsp_draft.specs.Fields.{Fields}
 use Rattle.tsp_draft.specs.Rules.{is_explicit}
 use Rattle.tsp_file.specs.Cost.{listed_cost, distance, point_of, cost}
 use Rattle.tsp_cost.specs.declared.points.Points.{Points}
+use Rattle.tsp_cost.specs.states.Metrics.{weight_kind_of}
 use Rattle.tsp_cost.specs.declared.matrix.Matrix.{Matrix}
 use Rattle.tsp_cost.specs.declared.matrix.EvenMatrix.{EvenMatrix}
 use Rattle.tsp_cost.specs.declared.triangle.Triangle.{Triangle}
@@ -22,7 +23,7 @@ points_nodes p = length p.points.now
 
 -- of points that have these places in space
 abbrev pub points_cost : {P : Type 0} → (P → Point) → Points P → ℕ → ℕ → ℤ
-points_cost place p i j = distance p.kind (point_of (map place p.points.now) i) (point_of (map place p.points.now) j)
+points_cost place p i j = distance (weight_kind_of p.metric) (point_of (map place p.points.now) i) (point_of (map place p.points.now) j)
 
 abbrev pub points_place : {P : Type 0} → (P → Point) → Points P → ℕ → Point
 points_place place p node = point_of (map place p.points.now) node

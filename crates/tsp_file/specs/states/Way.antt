@@ -13,13 +13,9 @@ use Rattle.tsp_file.specs.Cost.{cost}
 use Rattle.tsp_file.specs.Meant.{nodes_of}
 use Rattle.tsp_file.specs.Relayout.{costs_in}
 
--- the weights are half of a matrix
-abbrev pub HasHalf : Fields → Type 0
-HasHalf f = (from : Layout) × (from ≢ FullMatrix) × (f.weight_format ≡ Some (Listed from))
-
 -- what is so of a file whose weights get into the layout in this way
 abbrev pub LeadsTo : Fields → Layout → Way → Type 0
 LeadsTo f to Already = (f.weight_format ≡ Some (Listed to)) × (f.weights ≡ Some (costs_in to (nodes_of f) (cost f)))
 LeadsTo f to Within = f.weight_format ≡ Some (Listed FullMatrix)
-LeadsTo f to Across = (to ≡ FullMatrix) × HasHalf f
+LeadsTo f to (Across from) = (to ≡ FullMatrix) × (from ≢ FullMatrix) × (f.weight_format ≡ Some (Listed from))
 LeadsTo f to (Anew weights) = (weights.items ≡ costs_in to (nodes_of f) (cost f)) × All (IsWithin most_weight) weights.items

@@ -1,15 +1,11 @@
-use Rattle.std.proofs.Common.{sym}
-use Rattle.tsp_verdict.proofs.FilesHold.{counted_from_one, few_tours, few_nodes, nodes_are, tours_are}
+use Rattle.std.proofs.Common.{Option, None, Some}
+use Rattle.std.specs.Prelude.{MatchOption}
+use Rattle.tsp_verdict.proofs.FilesHold.{tours_held, no_tours}
 use Rattle.tsp_verdict.proofs.files.solution_tours.Goals as goal
 
-pub returns-in-Some-clause-nodes : goal.returns-in-Some-clause-nodes
-returns-in-Some-clause-nodes c = nodes_are c.args.sol.now c.in-Some.tours.now (tours_are c.args.sol.now _ (sym c.in-Some.ensures))
+both : {A : Type 0} (found : Option A) (P R : Type 0) (Q S : A → Type 0) → MatchOption found P Q → (P → R) → ((x : A) → Q x → S x) → MatchOption found R S
+both None P R Q S held none some = none held
+both (Some x) P R Q S held none some = some x held
 
-pub returns-in-Some-clause-range : goal.returns-in-Some-clause-range
-returns-in-Some-clause-range c = counted_from_one c.in-Some.tours.now ((c.valid_fields_are_in_range.ensures c.args.sol.now c.fields-valid.ensures.valid).tours _ (sym c.in-Some.ensures))
-
-pub returns-in-Some-clause-few : goal.returns-in-Some-clause-few
-returns-in-Some-clause-few c = few_tours c.in-Some.tours.now ((c.valid_fields_are_in_range.ensures c.args.sol.now c.fields-valid.ensures.valid).tours _ (sym c.in-Some.ensures))
-
-pub returns-in-Some-clause-size : goal.returns-in-Some-clause-size
-returns-in-Some-clause-size c = few_nodes c.in-Some.tours.now ((c.valid_fields_are_in_range.ensures c.args.sol.now c.fields-valid.ensures.valid).tours _ (sym c.in-Some.ensures))
+pub returns : goal.returns
+returns c = both c.as_tours.result _ _ _ _ c.as_tours.ensures (no_tours c.args.sol.now) (λ tours held. tours_held c.args.sol.now tours.now held.0 held.1 held.2)

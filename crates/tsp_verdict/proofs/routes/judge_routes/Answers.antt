@@ -9,7 +9,7 @@ use Rattle.tsp_verdict.proofs.RouteVerdicts.{IsMarked, is_marked, repeated_first
 use Rattle.tsp_verdict.proofs.routes.judge_routes.Goals as goal
 
 pub returns-in-Some-mark_all : goal.returns-in-Some-mark_all
-returns-in-Some-mark_all c = repeated_first c.args.inst.now c.args.sol.now _ c.in-Some-mark_all.place c.solution_tours-routes.ensures.nodes
+returns-in-Some-mark_all c = repeated_first c.args.inst.now c.args.sol.now _ c.in-Some-mark_all.place c.in-Ok.ensures.4.nodes
     (c.in_default.ensures.1 0) c.in-Some-mark_all.ensures.marks
 
 pub returns-in-Some-first_unmarked : goal.returns-in-Some-first_unmarked
@@ -19,8 +19,8 @@ returns-in-Some-first_unmarked c =
     let seen : List Bool = c.mark_all.new.seen.items in
     let wide : vec_len c.mark_all.new.seen ≡ nodes_of inst + 1 = omega (arith, c.in_default-mark_all.ensures.len, c.in_ok-seen.ensures.len, c.count.ensures.value) in
     let marked : IsMarked inst sol seen (vec_len c.mark_all.new.seen) =
-    is_marked inst sol _ seen _ c.solution_tours-routes.ensures.nodes wide (c.in_default.ensures.1 0) c.in_default-mark_all.ensures.marks in
-    unserved_first inst sol seen (vec_len c.mark_all.new.seen) c.in-Ok.depot c.in-Some-first_unmarked.node marked c.in-Ok.ensures.0 c.in-Some-first_unmarked.ensures
+    is_marked inst sol _ seen _ c.in-Ok.ensures.4.nodes wide (c.in_default.ensures.1 0) c.in_default-mark_all.ensures.marks in
+    unserved_first inst sol seen (vec_len c.mark_all.new.seen) c.in-Ok.found.0 c.in-Some-first_unmarked.node marked c.in-Ok.ensures.0 c.in-Some-first_unmarked.ensures
 
 pub returns-in-Some-first_overload : goal.returns-in-Some-first_overload
 returns-in-Some-first_overload c =
@@ -29,11 +29,11 @@ returns-in-Some-first_overload c =
     let seen : List Bool = c.mark_all.new.seen.items in
     let wide : vec_len c.mark_all.new.seen ≡ nodes_of inst + 1 = omega (arith, c.in_default-mark_all.ensures.len, c.in_ok-seen.ensures.len, c.count.ensures.value) in
     let marked : IsMarked inst sol seen (vec_len c.mark_all.new.seen) =
-    is_marked inst sol _ seen _ c.solution_tours-routes.ensures.nodes wide (c.in_default.ensures.1 0) c.in_default-mark_all.ensures.marks in
-    let served = all_served inst sol seen (vec_len c.mark_all.new.seen) c.in-Ok.depot marked c.in-Ok.ensures.0 c.in_default-first_unmarked.ensures in
+    is_marked inst sol _ seen _ c.in-Ok.ensures.4.nodes wide (c.in_default.ensures.1 0) c.in_default-mark_all.ensures.marks in
+    let served = all_served inst sol seen (vec_len c.mark_all.new.seen) c.in-Ok.found.0 marked c.in-Ok.ensures.0 c.in_default-first_unmarked.ensures in
     let fits : FitsSigned w64 c.routing-routing.result.capacity = search rules in
     let first = simp to_z-of_z at c.in-Some-first_overload.ensures in
-    overload_first inst sol _ c.routing-routing.result.demands.now c.routing-routing.result.capacity c.in-Some-first_overload.route c.solution_tours-routes.ensures.value
+    overload_first inst sol _ c.routing-routing.result.demands.now c.routing-routing.result.capacity c.in-Some-first_overload.route c.in-Ok.ensures.4.value
     c.routing-routing.ensures.demands c.routing-routing.ensures.capacity
     (none_unserved inst sol marked.none served) first
 
@@ -44,15 +44,15 @@ returns c =
     let seen : List Bool = c.mark_all.new.seen.items in
     let wide : vec_len c.mark_all.new.seen ≡ nodes_of inst + 1 = omega (arith, c.in_default-mark_all.ensures.len, c.in_ok-seen.ensures.len, c.count.ensures.value) in
     let marked : IsMarked inst sol seen (vec_len c.mark_all.new.seen) =
-    is_marked inst sol _ seen _ c.solution_tours-routes.ensures.nodes wide (c.in_default.ensures.1 0) c.in_default-mark_all.ensures.marks in
-    let served = all_served inst sol seen (vec_len c.mark_all.new.seen) c.in-Ok.depot marked c.in-Ok.ensures.0 c.in_default-first_unmarked.ensures in
+    is_marked inst sol _ seen _ c.in-Ok.ensures.4.nodes wide (c.in_default.ensures.1 0) c.in_default-mark_all.ensures.marks in
+    let served = all_served inst sol seen (vec_len c.mark_all.new.seen) c.in-Ok.found.0 marked c.in-Ok.ensures.0 c.in_default-first_unmarked.ensures in
     let capacity_fits : FitsSigned w64 c.routing-routing.result.capacity = search rules in
     let length_fits : FitsSigned w64 c.plan_length.result = search rules in
     let within = simp to_z-of_z at c.in_default-first_overload.ensures in
     let least = simp to_z-of_z at c.least_routes.ensures in
-    simp to_z-of_z (is_planned inst sol seen (vec_len c.mark_all.new.seen) (map (λ route. route.items) c.solution_tours-routes.result.now)
-    c.routing-routing.result.demands.now c.routing-routing.result.capacity c.in-Ok.depot c.plan_length.result (length c.solution_tours-routes.result.now)
+    simp to_z-of_z (is_planned inst sol seen (vec_len c.mark_all.new.seen) (map (λ route. route.items) c.in-Ok.found.1.now)
+    c.routing-routing.result.demands.now c.routing-routing.result.capacity c.in-Ok.found.0 c.plan_length.result (length c.in-Ok.found.1.now)
     c.least_routes.result
-    c.solution_tours-routes.ensures.value c.routing-routing.ensures.demands c.routing-routing.ensures.each c.routing-routing.ensures.capacity c.in-Ok.ensures.0
+    c.in-Ok.ensures.4.value c.routing-routing.ensures.demands c.routing-routing.ensures.each c.routing-routing.ensures.capacity c.in-Ok.ensures.0
     c.in_default.ensures.0 marked served c.routing-routing.ensures.each_demand c.in-Ok.ensures.2
-    within c.plan_length.ensures (sym (as_many c.solution_tours-routes.result.now)) least)
+    within c.plan_length.ensures (sym (as_many c.in-Ok.found.1.now)) least)

@@ -58,8 +58,8 @@ returns-in-Some-first_unused c =
     let none : NoneOfTourUpTo inst sol 13 = none_up_to_fixed inst sol tour c.in-Ok.ensures.0 (c.in-Ok.ensures.3 0) high once in
     let way : c.is_directed-directed.result ≡ is_directed inst.kind = c.is_directed-directed.ensures ∙ ap is_directed c.kind.ensures.value in
     let next : AreNext tour c.as_slice.result.now = subst (λ (xs : List ℕ). AreNext tour xs) (sym c.as_slice.ensures.value) c.in_ok-next.ensures.1 in
-    unused_first inst sol tour c.is_directed-directed.result c.fixed_pairs.result.now c.in-Some-first_unused.index c.in-Ok.ensures.0 way
-    c.fixed_pairs.ensures.value none (c.in-Some-first_unused.ensures tour next)
+    unused_first inst sol tour c.is_directed-directed.result c.fixed.result.now c.in-Some-first_unused.index c.in-Ok.ensures.0 way
+    c.fixed.ensures.value none (c.in-Some-first_unused.ensures tour next)
 
 pub returns : goal.returns
 returns c =
@@ -73,6 +73,6 @@ returns c =
     let cycle : IsCycle (nodes_of inst) tour = is_cycle (nodes_of inst) tour c.in-Ok.ensures.1 c.in-Ok.ensures.2 high once in
     let way : c.is_directed-directed.result ≡ is_directed inst.kind = c.is_directed-directed.ensures ∙ ap is_directed c.kind.ensures.value in
     let next : AreNext tour c.as_slice.result.now = subst (λ (xs : List ℕ). AreNext tour xs) (sym c.as_slice.ensures.value) c.in_ok-next.ensures.1 in
-    let yes = is_yes inst sol tour c.is_directed-directed.result c.fixed_pairs.result.now c.tour_length.result c.in-Ok.ensures.0 way c.fixed_pairs.ensures.value
+    let yes = is_yes inst sol tour c.is_directed-directed.result c.fixed.result.now c.tour_length.result c.in-Ok.ensures.0 way c.fixed.ensures.value
     none cycle (c.in_default-first_unused.ensures tour next) c.tour_length.ensures in
     ((yes.0, simp to_z-of_z yes.1, refl), c.in-Ok.ensures.4)

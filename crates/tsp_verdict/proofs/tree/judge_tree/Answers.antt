@@ -1,4 +1,4 @@
-use Rattle.std.proofs.Common.{◌≡◌, ◌∙◌, ℕ, ℤ, [], ◌∷◌, length, ap, subst, arith, rules, FitsSigned, to_z, of_z}
+use Rattle.std.proofs.Common.{◌≡◌, ◌∙◌, ℕ, ℤ, length, ap, subst, arith, rules, FitsSigned, to_z, of_z}
 use Rattle.std.specs.Int.{w64, w128}
 use Rattle.std.specs.Prelude.{Option, None, Some, unwrap_or}
 use Rattle.std.specs.List.{All}
@@ -28,7 +28,7 @@ judge_branches-requires-clause-few_sets g c = sets_few (nodes_of c.args.branches
 
 pub judge_branches-requires-clause-few_given : goal.judge_branches-requires-clause-few_given
 judge_branches-requires-clause-few_given g c =
-    let few = given_few c.is_directed-directed.result most_fixed c.deref-2.result.now c.fixed_pairs.result.now (c.deref-2.ensures.value ∙ c.in_ok-given.ensures) c.fixed_pairs.ensures.few in
+    let few = given_few c.is_directed-directed.result most_fixed c.deref-2.result.now c.fixed.result.now (c.deref-2.ensures.value ∙ c.in_ok-given.ensures) c.fixed.ensures.few in
     omega (arith, few)
 
 pub judge_branches-requires-clause-nodes : goal.judge_branches-requires-clause-nodes
@@ -59,11 +59,11 @@ pub judge_branches-requires-clause-given_are : goal.judge_branches-requires-clau
 judge_branches-requires-clause-given_are g c =
     let same : nodes_of c.args.instance.now ≡ g.C.Costs.nodes c.args.costs.now = ap (λ (d : Option ℕ). unwrap_or d 0) c.requires.keeps.count in
     let n : ℕ = g.C.Costs.nodes c.args.costs.now in
-    given_are c.is_directed-directed.result n c.deref-2.result.now c.fixed_pairs.result.now (c.deref-2.ensures.value ∙ c.in_ok-given.ensures)
-    (subst (λ (m : ℕ). All (IsPairOf m) c.fixed_pairs.result.now) same c.fixed_pairs.ensures.range)
+    given_are c.is_directed-directed.result n c.deref-2.result.now c.fixed.result.now (c.deref-2.ensures.value ∙ c.in_ok-given.ensures)
+    (subst (λ (m : ℕ). All (IsPairOf m) c.fixed.result.now) same c.fixed.ensures.range)
 
 pub judge_branches-requires-clause-given_once : goal.judge_branches-requires-clause-given_once
-judge_branches-requires-clause-given_once g c = given_once c.is_directed-directed.result c.deref-2.result.now c.fixed_pairs.result.now (c.deref-2.ensures.value ∙ c.in_ok-given.ensures)
+judge_branches-requires-clause-given_once g c = given_once c.is_directed-directed.result c.deref-2.result.now c.fixed.result.now (c.deref-2.ensures.value ∙ c.in_ok-given.ensures)
 
 pub judge_branches-requires-clause-even : goal.judge_branches-requires-clause-even
 judge_branches-requires-clause-even g c =
@@ -82,9 +82,9 @@ returns-in-Bound-Some g c =
     let given = c.deref-2.result.now in
     let steps = steps_of c.args.tree.now.steps.now in
     let scaled : FitsSigned w64 c.args.tree.now.scale = search rules in
-    let are = are_of inst tree c.is_directed-directed.result n (to_z w64 (of_z w64 c.args.tree.now.scale)) combs sets c.fixed_pairs.result.now given steps (directed_is c.is_directed-directed.result inst c.kind.result c.is_directed-directed.ensures c.kind.ensures.value) c.requires.keeps.count
+    let are = are_of inst tree c.is_directed-directed.result n (to_z w64 (of_z w64 c.args.tree.now.scale)) combs sets c.fixed.result.now given steps (directed_is c.is_directed-directed.result inst c.kind.result c.is_directed-directed.ensures c.kind.ensures.value) c.requires.keeps.count
     (to_z-of_z w64 c.args.tree.now.scale scaled ∙ c.requires.held.scale_is) c.requires.held.combs_are
-    (ap plain c.deref.ensures.value ∙ c.in_ok-sets.ensures) c.fixed_pairs.ensures.value (c.deref-2.ensures.value ∙ c.in_ok-given.ensures) (steps_are tree _ _ _ c.requires.held) in
+    (ap plain c.deref.ensures.value ∙ c.in_ok-sets.ensures) c.fixed.ensures.value (c.deref-2.ensures.value ∙ c.in_ok-given.ensures) (steps_are tree _ _ _ c.requires.held) in
     let bound = c.in-Bound-Some.bound in
     let is = subst (IsBranchVerdict c.is_directed-directed.result n costs (to_z w64 (of_z w64 c.args.tree.now.scale)) (length combs) sets given steps) whole c.in_ok-bound.ensures.verdict in
     let fits : FitsSigned w128 bound = search rules in
@@ -108,9 +108,9 @@ returns-in-Bound-None g c =
     let given = c.deref-2.result.now in
     let steps = steps_of c.args.tree.now.steps.now in
     let scaled : FitsSigned w64 c.args.tree.now.scale = search rules in
-    let are = are_of inst tree c.is_directed-directed.result n (to_z w64 (of_z w64 c.args.tree.now.scale)) combs sets c.fixed_pairs.result.now given steps (directed_is c.is_directed-directed.result inst c.kind.result c.is_directed-directed.ensures c.kind.ensures.value) c.requires.keeps.count
+    let are = are_of inst tree c.is_directed-directed.result n (to_z w64 (of_z w64 c.args.tree.now.scale)) combs sets c.fixed.result.now given steps (directed_is c.is_directed-directed.result inst c.kind.result c.is_directed-directed.ensures c.kind.ensures.value) c.requires.keeps.count
     (to_z-of_z w64 c.args.tree.now.scale scaled ∙ c.requires.held.scale_is) c.requires.held.combs_are
-    (ap plain c.deref.ensures.value ∙ c.in_ok-sets.ensures) c.fixed_pairs.ensures.value (c.deref-2.ensures.value ∙ c.in_ok-given.ensures) (steps_are tree _ _ _ c.requires.held) in
+    (ap plain c.deref.ensures.value ∙ c.in_ok-sets.ensures) c.fixed.ensures.value (c.deref-2.ensures.value ∙ c.in_ok-given.ensures) (steps_are tree _ _ _ c.requires.held) in
     let is = subst (IsBranchVerdict c.is_directed-directed.result n costs (to_z w64 (of_z w64 c.args.tree.now.scale)) (length combs) sets given steps) whole c.in_ok-bound.ensures.verdict in
     let all_told = told inst tree c.is_directed-directed.result n costs _ (length combs) sets given steps (found.Bound None) are is in
     let gone = no_tour inst tree costs c.certificates_bound_cycles.ensures.cycles c.requires.kind c.requires.some c.requires.even
@@ -128,9 +128,9 @@ returns-in-BadComb g c =
     let given = c.deref-2.result.now in
     let steps = steps_of c.args.tree.now.steps.now in
     let scaled : FitsSigned w64 c.args.tree.now.scale = search rules in
-    let are = are_of inst tree c.is_directed-directed.result n (to_z w64 (of_z w64 c.args.tree.now.scale)) combs sets c.fixed_pairs.result.now given steps (directed_is c.is_directed-directed.result inst c.kind.result c.is_directed-directed.ensures c.kind.ensures.value) c.requires.keeps.count
+    let are = are_of inst tree c.is_directed-directed.result n (to_z w64 (of_z w64 c.args.tree.now.scale)) combs sets c.fixed.result.now given steps (directed_is c.is_directed-directed.result inst c.kind.result c.is_directed-directed.ensures c.kind.ensures.value) c.requires.keeps.count
     (to_z-of_z w64 c.args.tree.now.scale scaled ∙ c.requires.held.scale_is) c.requires.held.combs_are
-    (ap plain c.deref.ensures.value ∙ c.in_ok-sets.ensures) c.fixed_pairs.ensures.value (c.deref-2.ensures.value ∙ c.in_ok-given.ensures) (steps_are tree _ _ _ c.requires.held) in
+    (ap plain c.deref.ensures.value ∙ c.in_ok-sets.ensures) c.fixed.ensures.value (c.deref-2.ensures.value ∙ c.in_ok-given.ensures) (steps_are tree _ _ _ c.requires.held) in
     let is = subst (IsBranchVerdict c.is_directed-directed.result n costs (to_z w64 (of_z w64 c.args.tree.now.scale)) (length combs) sets given steps) c.in-BadComb.is c.in_ok-bound.ensures.verdict in
     comb_first inst tree costs c.in-BadComb.index c.requires.sort c.requires.count (told inst tree c.is_directed-directed.result n costs _ (length combs) sets given steps (found.BadComb c.in-BadComb.index) are is)
 
@@ -152,9 +152,9 @@ returns-in-BranchTwice g c =
     let given = c.deref-2.result.now in
     let steps = steps_of c.args.tree.now.steps.now in
     let scaled : FitsSigned w64 c.args.tree.now.scale = search rules in
-    let are = are_of inst tree c.is_directed-directed.result n (to_z w64 (of_z w64 c.args.tree.now.scale)) combs sets c.fixed_pairs.result.now given steps (directed_is c.is_directed-directed.result inst c.kind.result c.is_directed-directed.ensures c.kind.ensures.value) c.requires.keeps.count
+    let are = are_of inst tree c.is_directed-directed.result n (to_z w64 (of_z w64 c.args.tree.now.scale)) combs sets c.fixed.result.now given steps (directed_is c.is_directed-directed.result inst c.kind.result c.is_directed-directed.ensures c.kind.ensures.value) c.requires.keeps.count
     (to_z-of_z w64 c.args.tree.now.scale scaled ∙ c.requires.held.scale_is) c.requires.held.combs_are
-    (ap plain c.deref.ensures.value ∙ c.in_ok-sets.ensures) c.fixed_pairs.ensures.value (c.deref-2.ensures.value ∙ c.in_ok-given.ensures) (steps_are tree _ _ _ c.requires.held) in
+    (ap plain c.deref.ensures.value ∙ c.in_ok-sets.ensures) c.fixed.ensures.value (c.deref-2.ensures.value ∙ c.in_ok-given.ensures) (steps_are tree _ _ _ c.requires.held) in
     let is = subst (IsBranchVerdict c.is_directed-directed.result n costs (to_z w64 (of_z w64 c.args.tree.now.scale)) (length combs) sets given steps) c.in-BranchTwice.is c.in_ok-bound.ensures.verdict in
     twice_first inst tree costs c.in-BranchTwice.index c.requires.sort c.requires.count
     (told inst tree c.is_directed-directed.result n costs _ (length combs) sets given steps (found.BranchTwice c.in-BranchTwice.index) are is)
@@ -178,8 +178,8 @@ returns g c =
     let given = c.deref-2.result.now in
     let steps = steps_of c.args.tree.now.steps.now in
     let scaled : FitsSigned w64 c.args.tree.now.scale = search rules in
-    let are = are_of inst tree c.is_directed-directed.result n (to_z w64 (of_z w64 c.args.tree.now.scale)) combs sets c.fixed_pairs.result.now given steps (directed_is c.is_directed-directed.result inst c.kind.result c.is_directed-directed.ensures c.kind.ensures.value) c.requires.keeps.count
+    let are = are_of inst tree c.is_directed-directed.result n (to_z w64 (of_z w64 c.args.tree.now.scale)) combs sets c.fixed.result.now given steps (directed_is c.is_directed-directed.result inst c.kind.result c.is_directed-directed.ensures c.kind.ensures.value) c.requires.keeps.count
     (to_z-of_z w64 c.args.tree.now.scale scaled ∙ c.requires.held.scale_is) c.requires.held.combs_are
-    (ap plain c.deref.ensures.value ∙ c.in_ok-sets.ensures) c.fixed_pairs.ensures.value (c.deref-2.ensures.value ∙ c.in_ok-given.ensures) (steps_are tree _ _ _ c.requires.held) in
+    (ap plain c.deref.ensures.value ∙ c.in_ok-sets.ensures) c.fixed.ensures.value (c.deref-2.ensures.value ∙ c.in_ok-given.ensures) (steps_are tree _ _ _ c.requires.held) in
     let is = subst (IsBranchVerdict c.is_directed-directed.result n costs (to_z w64 (of_z w64 c.args.tree.now.scale)) (length combs) sets given steps) c.in-BadLeaf.is c.in_ok-bound.ensures.verdict in
     leaf_first inst tree costs c.in-BadLeaf.index c.requires.sort c.requires.count (told inst tree c.is_directed-directed.result n costs _ (length combs) sets given steps (found.BadLeaf c.in-BadLeaf.index) are is)

@@ -2,6 +2,7 @@ use Rattle.std.proofs.Common.{ℤ, ◌≤ℤ◌, subst, w64}
 use Rattle.std.proofs.lemmas.Int.{to_z-of_z}
 use Rattle.tsp_distance.specs.declared.decimal.Point.{Point}
 use Rattle.tsp_file.specs.Cost.{distance}
+use Rattle.tsp_cost.specs.states.Metrics.{weight_kind_of}
 use Rattle.tsp_cost.specs.states.Views.{points_place}
 use Rattle.tsp_cost.proofs.Growing.{distance_grows, at_least_further, known_true}
 use Rattle.tsp_cost.proofs.places.PointsGrouped.is_beyond.Goals as goal
@@ -9,7 +10,7 @@ use Rattle.tsp_cost.proofs.places.PointsGrouped.is_beyond.Goals as goal
 pub returns : goal.returns
 returns g c = known_true c.is_at_least.result _ (λ true_is to node inside.
     let laws = c.monotone_laws.ensures in
-    let kind = c.args.self.now.kind in
+    let kind = weight_kind_of c.args.self.now.metric in
     let here : Point = c.place-here.result in
     let there : Point = points_place g.P.InSpace.place c.args.self.now to in
     let nearest = c.nearest.result in

@@ -1,4 +1,5 @@
 use Rattle.tsp_file.proofs.Distances.{DistanceLaws, distance_symmetric}
+use Rattle.tsp_cost.specs.states.Metrics.{weight_kind_of}
 use Rattle.tsp_cost.proofs.points.Points.of.Goals as goal
 
 pub invariant_of-result : goal.invariant_of-result
@@ -15,8 +16,7 @@ invariant_of-result g c =
       max_in_space = known.max_3d;
     } in
     record {
-      distances = c.requires.distances;
       some = c.requires.some;
       most = c.requires.most;
-      symmetric = distance_symmetric laws c.args.kind;
+      symmetric = distance_symmetric laws (weight_kind_of c.args.metric);
     }

@@ -1,5 +1,5 @@
-use Rattle.std.proofs.Common.{◌≡◌, ℕ, List, Some, sym, ap, ◌∙◌}
-use Rattle.std.specs.Prelude.{ℤ}
+use Rattle.std.proofs.Common.{◌≡◌, Some, sym, ap, ◌∙◌}
+use Rattle.std.specs.Prelude.{is_some}
 use Rattle.tsp_format.specs.declared.layout.Layout.{Layout}
 use Rattle.tsp_format.specs.declared.kinds.WeightFormat.TheVariants.{Listed}
 use Rattle.tsp_draft.specs.Fields.{Fields}
@@ -7,33 +7,29 @@ use Rattle.tsp_draft.specs.Valid.{AreWeights}
 use Rattle.tsp_file.proofs.Listed.{lists, not_by_function, not_missing}
 use Rattle.tsp_file.proofs.file.File.as_matrix.Goals as goal
 
-pub returns-in_default-dimension : goal.returns-in_default-dimension
-returns-in_default-dimension c = λ listed.
+pub unwrap-nodes-requires : goal.unwrap-nodes-requires
+unwrap-nodes-requires c =
     let f : Fields = c.args.self.now in
-    let weights : List ℤ = c.in-Some.weights.now in
-    let held : AreWeights f weights = (c.valid_fields_are_in_range.ensures f c.fields-valid.ensures.valid).weights weights (sym c.in-Some.ensures) in
-    c.in_default-dimension.not-Some held.n (c.dimension.ensures ∙ held.dimension)
+    let held : AreWeights f _ = c.fields-fields.ensures.held.range.weights _ (sym c.in_ok-weights.ensures) in
+    ap is_some (ap (λ (g : Fields). g.dimension) c.fields-fields.ensures.value ∙ held.dimension)
 
 pub of-requires : goal.of-requires
 of-requires c =
     let f : Fields = c.args.self.now in
-    let weights : List ℤ = c.in-Some.weights.now in
-    let nodes : ℕ = c.in-Some-dimension.nodes in
     let layout : Layout = c.in-Some-Listed.layout in
-    let range = c.valid_fields_are_in_range.ensures f c.fields-valid.ensures.valid in
     let format : f.weight_format ≡ Some (Listed layout) = sym c.weight_format.ensures ∙ c.in-Some-Listed.is ∙ ap (λ x. Some x) c.in-Some-Listed.field-0-is in
-    (f, lists f layout nodes weights range format (sym c.in-Some-dimension.ensures) (sym c.in-Some.ensures))
+    let dimension : f.dimension ≡ Some c.unwrap-nodes.result = sym (ap (λ (g : Fields). g.dimension) c.fields-fields.ensures.value) ∙ c.unwrap-nodes.ensures in
+    (f, lists f layout c.unwrap-nodes.result c.in_ok-weights.weights.now c.fields-fields.ensures.held.range format dimension (sym c.in_ok-weights.ensures))
 
 pub returns-in-Some-ByFunction : goal.returns-in-Some-ByFunction
 returns-in-Some-ByFunction c = λ listed.
     let f : Fields = c.args.self.now in
-    let weights : List ℤ = c.in-Some.weights.now in
-    let held : AreWeights f weights = (c.valid_fields_are_in_range.ensures f c.fields-valid.ensures.valid).weights weights (sym c.in-Some.ensures) in
-    not_by_function f.weight_format held.layout held.format (sym c.weight_format.ensures ∙ c.in-Some-ByFunction.is ∙ ap (λ x. Some x) c.in-Some-ByFunction.field-0-is)
+    let held : AreWeights f _ = c.fields-fields.ensures.held.range.weights _ (sym c.in_ok-weights.ensures) in
+    not_by_function f.weight_format held.layout held.format
+    (sym c.weight_format.ensures ∙ c.in-Some-ByFunction.is ∙ ap (λ x. Some x) c.in-Some-ByFunction.field-0-is)
 
 pub returns-in-None : goal.returns-in-None
 returns-in-None c = λ listed.
     let f : Fields = c.args.self.now in
-    let weights : List ℤ = c.in-Some.weights.now in
-    let held : AreWeights f weights = (c.valid_fields_are_in_range.ensures f c.fields-valid.ensures.valid).weights weights (sym c.in-Some.ensures) in
+    let held : AreWeights f _ = c.fields-fields.ensures.held.range.weights _ (sym c.in_ok-weights.ensures) in
     not_missing f.weight_format (Listed held.layout) held.format (sym c.weight_format.ensures ∙ c.in-None.is)

@@ -1,7 +1,11 @@
 use Rattle.std.proofs.Common.{◌≡◌, None, subst}
 use Rattle.tsp_draft.specs.Fields.{Fields}
 use Rattle.tsp_draft.specs.Rules.{fault_of}
+use Rattle.tsp_file.proofs.TypedFields.{holds_its_type}
 use Rattle.tsp_file.proofs.file.File.fields.Goals as goal
 
 pub returns-clause-valid : goal.returns-clause-valid
 returns-clause-valid c = subst (λ (f : Fields). fault_of f ≡ None) c.self.view_is c.self.invariant
+
+pub returns-clause-held : goal.returns-clause-held
+returns-clause-held c = holds_its_type c.args.self.now (subst (λ (f : Fields). fault_of f ≡ None) c.self.view_is c.self.invariant)

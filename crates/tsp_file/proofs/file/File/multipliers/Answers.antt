@@ -1,7 +1,12 @@
-use Rattle.std.proofs.Common.{sym}
+use Rattle.std.proofs.Common.{◌≡◌, Some, sym, ap, ◌∙◌}
+use Rattle.std.specs.Option.{option_map}
+use Rattle.tsp_draft.specs.Fields.{Fields}
 use Rattle.tsp_file.proofs.TypedFields.{multipliers_hold}
 use Rattle.tsp_file.proofs.file.File.multipliers.Goals as goal
 
 pub returns-in-Some-clause-are : goal.returns-in-Some-clause-are
-returns-in-Some-clause-are c = multipliers_hold c.args.self.now c.in-Some.triples.now
-    ((c.valid_fields_are_in_range.ensures c.args.self.now c.fields-valid.ensures.valid).fixed_potentials _ (sym c.in-Some.ensures))
+returns-in-Some-clause-are c =
+    let f : Fields = c.args.self.now in
+    let stand : f.fixed_potentials ≡ Some c.as_slice.result.now =
+    sym (ap (λ (g : Fields). g.fixed_potentials) c.fields.ensures.value) ∙ ap (option_map (λ triples. triples.items)) c.in-Some.is ∙ ap (λ x. Some x) (sym c.as_slice.ensures.value) in
+    multipliers_hold f c.as_slice.result.now (c.fields.ensures.held.range.fixed_potentials _ stand)

@@ -1,5 +1,5 @@
 use Rattle.std.proofs.Common.{◌≡◌, ℕ, List, Some, None, sym, ap, subst, ◌∙◌}
-use Rattle.std.specs.Prelude.{ℤ}
+use Rattle.std.specs.Prelude.{is_some, ℤ}
 use Rattle.std.specs.Option.{option_map}
 use Rattle.tsp_format.specs.declared.layout.Layout.{Layout}
 use Rattle.tsp_format.specs.declared.layout.Layout.TheVariants.{FullMatrix}
@@ -26,47 +26,46 @@ held : (f g : Fields) (n : ℕ) (weights : List ℤ) → f ≡ g → fault_of f 
 held f g n weights same valid full dimension stand =
     lists f FullMatrix n weights (in_range f valid) (subst (λ (h : Fields). h.weight_format ≡ Some (Listed FullMatrix)) (sym same) full) dimension stand
 
-pub returns-in_default : goal.returns-in_default
-returns-in_default c = absurd (
+pub unwrap-nodes-requires : goal.unwrap-nodes-requires
+unwrap-nodes-requires c =
     let f : Fields = fields_of c.self.inside.draft in
     let can = as_held f c.args.self c.args.to c.self.view_is c.requires.can_go in
     let old = some_is f.weights can.listed.1 in
-    let stand = (in_range f c.self.invariant).weights old.0 old.1 in
-    c.in_default.not-Some stand.n stand.dimension)
+    ap is_some ((in_range f c.self.invariant).weights old.0 old.1).dimension
 
 pub keep_half-requires-clause-few : goal.keep_half-requires-clause-few
 keep_half-requires-clause-few c =
     let f : Fields = fields_of c.self.inside.draft in
-    let stand = ap (option_map (λ w. w.items)) (sym (c.take.ensures.value) ∙ c.in-Some-take.is) in
-    (held f c.args.self c.in-Some.nodes c.in-Some-take.weights.items c.self.view_is c.self.invariant c.requires.full c.in-Some.is stand).most
+    let stand = ap (option_map (λ w. w.items)) (sym (c.take.ensures.value) ∙ c.unwrap-weights.ensures) in
+    (held f c.args.self c.unwrap-nodes.result c.unwrap-weights.result.items c.self.view_is c.self.invariant c.requires.full c.unwrap-nodes.ensures stand).most
 
 pub keep_half-requires-clause-filled : goal.keep_half-requires-clause-filled
 keep_half-requires-clause-filled c =
     let f : Fields = fields_of c.self.inside.draft in
-    let stand = ap (option_map (λ w. w.items)) (sym (c.take.ensures.value) ∙ c.in-Some-take.is) in
-    (held f c.args.self c.in-Some.nodes c.in-Some-take.weights.items c.self.view_is c.self.invariant c.requires.full c.in-Some.is stand).filled
+    let stand = ap (option_map (λ w. w.items)) (sym (c.take.ensures.value) ∙ c.unwrap-weights.ensures) in
+    (held f c.args.self c.unwrap-nodes.result c.unwrap-weights.result.items c.self.view_is c.self.invariant c.requires.full c.unwrap-nodes.ensures stand).filled
 
 pub keep_half-requires-clause-pairs : goal.keep_half-requires-clause-pairs
 keep_half-requires-clause-pairs c =
     let f : Fields = fields_of c.self.inside.draft in
     let can = as_held f c.args.self c.args.to c.self.view_is c.requires.can_go in
-    let stand = ap (option_map (λ w. w.items)) (sym (c.take.ensures.value) ∙ c.in-Some-take.is) in
-    of_weights (λ n costs. HoldsPairs c.args.to costs) f FullMatrix c.in-Some.nodes c.in-Some-take.weights.items can.listed.0
-    (held f c.args.self c.in-Some.nodes c.in-Some-take.weights.items c.self.view_is c.self.invariant c.requires.full c.in-Some.is stand) can.pairs
+    let stand = ap (option_map (λ w. w.items)) (sym (c.take.ensures.value) ∙ c.unwrap-weights.ensures) in
+    of_weights (λ n costs. HoldsPairs c.args.to costs) f FullMatrix c.unwrap-nodes.result c.unwrap-weights.result.items can.listed.0
+    (held f c.args.self c.unwrap-nodes.result c.unwrap-weights.result.items c.self.view_is c.self.invariant c.requires.full c.unwrap-nodes.ensures stand) can.pairs
 
-pub invariant_of-result-2 : goal.invariant_of-result-2
-invariant_of-result-2 c =
+pub invariant_of-result : goal.invariant_of-result
+invariant_of-result c =
     let f : Fields = fields_of c.self.inside.draft in
     let can = as_held f c.args.self c.args.to c.self.view_is c.requires.can_go in
-    let stand = ap (option_map (λ w. w.items)) (sym (c.take.ensures.value) ∙ c.in-Some-take.is) in
-    (laid_of f FullMatrix c.args.to c.in-Some.nodes c.in-Some-take.weights.items c.keep_half.new.weights.items c.self.invariant can
-    (held f c.args.self c.in-Some.nodes c.in-Some-take.weights.items c.self.view_is c.self.invariant c.requires.full c.in-Some.is stand) c.keep_half.ensures).0
+    let stand = ap (option_map (λ w. w.items)) (sym (c.take.ensures.value) ∙ c.unwrap-weights.ensures) in
+    (laid_of f FullMatrix c.args.to c.unwrap-nodes.result c.unwrap-weights.result.items c.keep_half.new.weights.items c.self.invariant can
+    (held f c.args.self c.unwrap-nodes.result c.unwrap-weights.result.items c.self.view_is c.self.invariant c.requires.full c.unwrap-nodes.ensures stand) c.keep_half.ensures).0
 
 pub returns : goal.returns
 returns c =
     let f : Fields = fields_of c.self.inside.draft in
     let can = as_held f c.args.self c.args.to c.self.view_is c.requires.can_go in
-    let stand = ap (option_map (λ w. w.items)) (sym (c.take.ensures.value) ∙ c.in-Some-take.is) in
-    let value = (laid_of f FullMatrix c.args.to c.in-Some.nodes c.in-Some-take.weights.items c.keep_half.new.weights.items c.self.invariant can
-    (held f c.args.self c.in-Some.nodes c.in-Some-take.weights.items c.self.view_is c.self.invariant c.requires.full c.in-Some.is stand) c.keep_half.ensures).1 in
+    let stand = ap (option_map (λ w. w.items)) (sym (c.take.ensures.value) ∙ c.unwrap-weights.ensures) in
+    let value = (laid_of f FullMatrix c.args.to c.unwrap-nodes.result c.unwrap-weights.result.items c.keep_half.new.weights.items c.self.invariant can
+    (held f c.args.self c.unwrap-nodes.result c.unwrap-weights.result.items c.self.view_is c.self.invariant c.requires.full c.unwrap-nodes.ensures stand) c.keep_half.ensures).1 in
     ap (with_weights f c.args.to) value ∙ ap (λ (g : Fields). with_weights g c.args.to (costs_in c.args.to (nodes_of g) (cost g))) c.self.view_is

@@ -1,5 +1,5 @@
 use Rattle.std.proofs.Common.{◌≡◌, rules, false, Result, Ok, Err, Some, sym, ap, subst, ◌∙◌}
-use Rattle.std.specs.Prelude.{OnOk}
+use Rattle.std.specs.Prelude.{OnOk, is_some}
 use Rattle.std.specs.Option.{option_map}
 use Rattle.std.specs.Result.{is_err}
 use Rattle.tsp_format.specs.declared.layout.Layout.TheVariants.{FullMatrix}
@@ -11,6 +11,7 @@ use Rattle.tsp_file.specs.Relayout.{CanGo, with_weights, costs_in}
 use Rattle.tsp_file.specs.Meant.{nodes_of}
 use Rattle.tsp_draft.proofs.ValidFields.{in_range}
 use Rattle.tsp_file.proofs.Listed.{lists}
+use Rattle.tsp_file.proofs.WithWeights.{some_is}
 use Rattle.tsp_file.proofs.Fronts.{laid_of}
 use Rattle.tsp_file.proofs.file.File.with_whole.Goals as goal
 
@@ -21,39 +22,46 @@ made : {A E : Type 0} (r : Result A E) (P : Type 0) → is_err r ≡ false → O
 made (Ok x) P ok h = h
 made (Err e) P ok h = absurd cc
 
+pub unwrap-nodes-requires : goal.unwrap-nodes-requires
+unwrap-nodes-requires c =
+    let f : Fields = fields_of c.self.inside.draft in
+    let can = can_go f c.args.self c.self.view_is c.requires.can_go in
+    let old = some_is f.weights can.listed.1 in
+    ap is_some ((in_range f c.self.invariant).weights old.0 old.1).dimension
+
 pub make_whole-requires-clause-few : goal.make_whole-requires-clause-few
 make_whole-requires-clause-few c =
     let f : Fields = fields_of c.self.inside.draft in
-    let stand = ap (option_map (λ w. w.items)) (sym (c.take.ensures.value) ∙ c.in-Some-take.is) in
-    let format : f.weight_format ≡ Some (Listed c.in-Some-Listed.from) = search rules in
-    let held = lists f c.in-Some-Listed.from c.in-Some.nodes c.in-Some-take.weights.items (in_range f c.self.invariant) format c.in-Some.is stand in
+    let stand = ap (option_map (λ w. w.items)) (sym (c.take.ensures.value) ∙ c.unwrap-weights.ensures) in
+    let format : f.weight_format ≡ Some (Listed c.args.from) = search rules in
+    let held = lists f c.args.from c.unwrap-nodes.result c.unwrap-weights.result.items (in_range f c.self.invariant) format c.unwrap-nodes.ensures stand in
     held.most
 
 pub make_whole-requires-clause-filled : goal.make_whole-requires-clause-filled
 make_whole-requires-clause-filled c =
     let f : Fields = fields_of c.self.inside.draft in
-    let stand = ap (option_map (λ w. w.items)) (sym (c.take.ensures.value) ∙ c.in-Some-take.is) in
-    let format : f.weight_format ≡ Some (Listed c.in-Some-Listed.from) = search rules in
-    let held = lists f c.in-Some-Listed.from c.in-Some.nodes c.in-Some-take.weights.items (in_range f c.self.invariant) format c.in-Some.is stand in
+    let stand = ap (option_map (λ w. w.items)) (sym (c.take.ensures.value) ∙ c.unwrap-weights.ensures) in
+    let format : f.weight_format ≡ Some (Listed c.args.from) = search rules in
+    let held = lists f c.args.from c.unwrap-nodes.result c.unwrap-weights.result.items (in_range f c.self.invariant) format c.unwrap-nodes.ensures stand in
     held.filled
 
 pub invariant_of-result-2 : goal.invariant_of-result-2
 invariant_of-result-2 c =
     let f : Fields = fields_of c.self.inside.draft in
-    let stand = ap (option_map (λ w. w.items)) (sym (c.take.ensures.value) ∙ c.in-Some-take.is) in
-    let format : f.weight_format ≡ Some (Listed c.in-Some-Listed.from) = search rules in
-    let held = lists f c.in-Some-Listed.from c.in-Some.nodes c.in-Some-take.weights.items (in_range f c.self.invariant) format c.in-Some.is stand in
+    let stand = ap (option_map (λ w. w.items)) (sym (c.take.ensures.value) ∙ c.unwrap-weights.ensures) in
+    let format : f.weight_format ≡ Some (Listed c.args.from) = search rules in
+    let held = lists f c.args.from c.unwrap-nodes.result c.unwrap-weights.result.items (in_range f c.self.invariant) format c.unwrap-nodes.ensures stand in
     let value = made c.make_whole.result _ (sym c.is_err.ensures.value ∙ c.if-is_err.false) c.make_whole.ensures.ok in
-    (laid_of f c.in-Some-Listed.from FullMatrix c.in-Some.nodes c.in-Some-take.weights.items c.make_whole.new.weights.items c.self.invariant
+    (laid_of f c.args.from FullMatrix c.unwrap-nodes.result c.unwrap-weights.result.items c.make_whole.new.weights.items c.self.invariant
     (can_go f c.args.self c.self.view_is c.requires.can_go) held value).0
 
 pub returns : goal.returns
 returns c =
     let f : Fields = fields_of c.self.inside.draft in
-    let stand = ap (option_map (λ w. w.items)) (sym (c.take.ensures.value) ∙ c.in-Some-take.is) in
-    let format : f.weight_format ≡ Some (Listed c.in-Some-Listed.from) = search rules in
-    let held = lists f c.in-Some-Listed.from c.in-Some.nodes c.in-Some-take.weights.items (in_range f c.self.invariant) format c.in-Some.is stand in
+    let stand = ap (option_map (λ w. w.items)) (sym (c.take.ensures.value) ∙ c.unwrap-weights.ensures) in
+    let format : f.weight_format ≡ Some (Listed c.args.from) = search rules in
+    let held = lists f c.args.from c.unwrap-nodes.result c.unwrap-weights.result.items (in_range f c.self.invariant) format c.unwrap-nodes.ensures stand in
     let value = made c.make_whole.result _ (sym c.is_err.ensures.value ∙ c.if-is_err.false) c.make_whole.ensures.ok in
-    let laid = (laid_of f c.in-Some-Listed.from FullMatrix c.in-Some.nodes c.in-Some-take.weights.items c.make_whole.new.weights.items c.self.invariant
+    let laid = (laid_of f c.args.from FullMatrix c.unwrap-nodes.result c.unwrap-weights.result.items c.make_whole.new.weights.items c.self.invariant
     (can_go f c.args.self c.self.view_is c.requires.can_go) held value).1 in
     ap (with_weights f FullMatrix) laid ∙ ap (λ (g : Fields). with_weights g FullMatrix (costs_in FullMatrix (nodes_of g) (cost g))) c.self.view_is

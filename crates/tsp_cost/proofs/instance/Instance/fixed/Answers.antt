@@ -1,0 +1,18 @@
+use Rattle.std.proofs.Common.{◌≡◌, ℕ, List, Some, sym, ap, subst, ◌∙◌}
+use Rattle.tsp_draft.specs.Fields.{Fields}
+use Rattle.tsp_draft.specs.Valid.{AreFixed}
+use Rattle.tsp_cost.specs.states.Sources.{HasFound}
+use Rattle.tsp_cost.proofs.Sources.{pairs_of}
+use Rattle.tsp_cost.proofs.instance.Instance.fixed.Goals as goal
+
+pub returns-in-Some-clause-few : goal.returns-in-Some-clause-few
+returns-in-Some-clause-few c = (c.self.invariant.range.fixed c.in-Some.pairs.now (sym c.in-Some.ensures)).few
+
+pub returns-in-Some-clause-range : goal.returns-in-Some-clause-range
+returns-in-Some-clause-range c =
+    let f : Fields = c.args.self.now in
+    let pairs : List (ℕ × ℕ) = c.in-Some.pairs.now in
+    let found = subst (λ (g : Fields). HasFound g c.self.inside.nodes c.self.inside.source) c.self.view_is c.self.invariant in
+    let stand : f.fixed ≡ Some pairs = ap (λ (g : Fields). g.fixed) (sym c.self.view_is) ∙ sym c.in-Some.ensures in
+    let held : AreFixed f pairs = found.range.fixed pairs stand in
+    pairs_of f pairs held

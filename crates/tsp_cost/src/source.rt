@@ -1,0 +1,13 @@
+//! Where the costs of an instance come from.
+
+use crate::metric::Metric;
+use tsp_format::Layout;
+
+/// Where the costs of an instance come from.
+#[derive(Clone, Copy, Debug)]
+pub(crate) enum Source {
+    /// Distances of its points.
+    Distances(Metric),
+    /// Weights that it lists in this layout.
+    Weights(Layout),
+}
