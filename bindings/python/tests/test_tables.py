@@ -1,11 +1,11 @@
 """Each row of tests/tables, by the package's calls and by its command in this process.
 
-The script tests/run-tables knows what a row is. Here what it starts as a process is done by the package.
+tests/rows.py knows what a row is. Here what it starts as a process is done by the package.
 """
 
 import io
 import os
-import subprocess
+import sys
 import tempfile
 import types
 import unittest
@@ -14,19 +14,8 @@ import yokecairn
 from support import ROOT
 from yokecairn.__main__ import Run, length_of
 
-SCRIPT = ROOT / "tests" / "run-tables"
-
-
-def script(run):
-    """The script as a module that calls `run` in the place of `subprocess.run`."""
-    lines = SCRIPT.read_text().rstrip("\n").split("\n")
-    module = types.ModuleType("run_tables")
-    module.__file__ = str(SCRIPT)
-    if lines[-1] == "main()":
-        lines.pop()
-    exec(compile("\n".join(lines), str(SCRIPT), "exec"), vars(module))
-    module.subprocess = types.SimpleNamespace(run=run, DEVNULL=subprocess.DEVNULL, PIPE=subprocess.PIPE)
-    return module
+sys.path.append(str(ROOT / "tests"))
+import rows  # noqa: E402
 
 
 def by_the_command(program_and_words, cwd, **_):
@@ -92,17 +81,16 @@ class Rows(unittest.TestCase):
         return "explain" in verb.split("-") and kind is by_calls
 
     def run_by(self, kind):
-        tables, test = script(kind), self
+        test = self
 
-        class Runner(tables.Runner):
+        class Runner(rows.Runner):
             def expect(self, where, verb, texts, wanted):
                 if not test.left_out(verb, kind):
                     super().expect(where, verb, texts, wanted)
 
         with tempfile.TemporaryDirectory() as scratch:
-            runner = Runner("tsp", scratch)
-            for path in sorted((ROOT / "tests" / "tables").glob("*.table")):
-                runner.file(str(path))
+            runner = Runner("tsp", scratch, run=kind)
+            runner.all()
         Rows.passed += runner.passed
         self.assertEqual(runner.failed, 0)
         self.assertGreater(runner.passed, 2000)

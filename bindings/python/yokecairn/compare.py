@@ -285,7 +285,8 @@ class Comparison(Sequence[Outcome]):
 
     def shortest(self) -> Optional[Tuple[str, Report]]:
         """The first shortest solution of those that are accepted; None where none is."""
-        return min(self.accepted(), key=lambda pair: pair[1].length or 0, default=None)
+        accepted = self.accepted()
+        return min(accepted, key=lambda pair: pair[1].length or 0) if accepted else None
 
     def summary(self) -> str:
         """What came of all, in one line."""
@@ -336,8 +337,8 @@ class Comparison(Sequence[Outcome]):
 
     def as_dict(self) -> Dict[str, Any]:
         """All of it as numbers, texts and lists that `json.dumps` takes."""
-        head = {**vars(self.basis), "not_judged": list(self.basis.not_judged), "numbers": list(self.basis.numbers)}
-        mine = {"instance": self.instance, **head, "best": self.best}
+        basis = {name: list(it) if isinstance(it, tuple) else it for name, it in vars(self.basis).items()}
+        mine: Dict[str, Any] = {"instance": self.instance, **basis, "best": self.best}
         return {**mine, "solutions": self.as_rows(), "summary": self.summary()}
 
     def to_csv(self, path: Optional[Path] = None, *, separator: str = ",") -> Optional[str]:

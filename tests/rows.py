@@ -1,0 +1,192 @@
+"""The rows of tests/tables, and how the program runs on one. tests/tables/README.md says what a table is."""
+
+import os
+import re
+import subprocess
+import sys
+
+from runner import HERE, Counts
+
+TABLES = HERE / "tables"
+WORD = re.compile(r'\s*(?:"((?:[^"\\]|\\.)*)"|(\S+))')
+ESCAPE = re.compile(r'\\(?:x([0-9a-f]{2})|u\{([0-9a-f]+)\}|\[(\d+)\*((?:[^\]\\]|\\.)*)\]|(.))')
+# The exit statuses of what is no fault of a file.
+STATUSES = {"relayout": 1, "unknown layout": 4, "not a length": 4}
+# The exit statuses of explained runs that don't end in the line `no` of a check.
+STATUS_OF_EXPLAINED = {"explain-fault": 2, "explain-fault-branches": 2, "explain-yes": 0}
+LETTERS = {"n": "\n", "r": "\r", "t": "\t", "0": "\0", "\\": "\\", '"': '"'}
+# The parts of the names of runs that judge: of a check, or of a bound.
+JUDGED = {"check", "branches", "length", "bound", "explain"}
+
+
+def unescaped(text):
+    """The text that is written in quotes."""
+
+    def one(match):
+        byte, character, count, part, letter = match.groups()
+        if count:
+            return int(count) * unescaped(part)
+        return LETTERS[letter] if letter else chr(int(byte or character, 16))
+
+    return ESCAPE.sub(one, text)
+
+
+def words(line, texts):
+    """The words of a line: texts in quotes, names of texts, and other words as they are."""
+    found = []
+    for quoted, plain in WORD.findall(line):
+        found.append(texts.get(plain, plain) if plain else unescaped(quoted))
+    return found
+
+
+class Table:
+    """Runs that are alike: see the README."""
+
+    def __init__(self, name):
+        self.name = name
+        self.runs = []
+        self.out = ""
+        self.columns = []
+        self.swap = None
+        self.rows = []
+
+
+def tables_of(path):
+    """The tables of a file."""
+    texts = {}
+    tables = []
+    with open(path, encoding="utf-8") as file:
+        for number, line in enumerate(file, 1):
+            line = line.rstrip("\n")
+            key, _, rest = line.partition(" ")
+            if not line or key == "#":
+                continue
+            if key == "let":
+                name, _, text = rest.partition(" = ")
+                texts[name] = words(text, texts)[0]
+            elif key == "==":
+                tables.append(Table(rest))
+            elif key == "run":
+                tables[-1].runs.append(words(rest, texts))
+            elif key == "out":
+                tables[-1].out = words(rest, texts)[0]
+            elif key == "columns":
+                tables[-1].columns = rest.split()
+            elif key == "swap":
+                tables[-1].swap = rest.split()
+            elif key == "row":
+                tables[-1].rows.append((number, words(rest, texts)))
+            else:
+                sys.exit(f"{path}:{number}: no line of a table")
+    return tables
+
+
+def filled(text, cells):
+    """A text with the cells in the places of their columns."""
+    for column, cell in cells.items():
+        text = text.replace("{" + column + "}", cell)
+    return text
+
+
+class Runner(Counts):
+    """The program, the folder in which its files lie, and how many rows have passed. `run` runs it as
+    `subprocess.run` does."""
+
+    def __init__(self, program, folder, run=subprocess.run):
+        super().__init__()
+        self.program = program
+        self.folder = folder
+        self.run_program = run
+
+    def outcome(self, verb, texts):
+        """The status of a run, and what it writes to its two streams."""
+        parts = set(verb.split("-"))
+        if verb == "convert":
+            layout, texts = texts[0], texts[1:]
+        if "length" in parts:
+            claim, texts = texts[0], texts[1:]
+        paths = []
+        for number, text in enumerate(texts, 1):
+            paths.append(f"file{number}")
+            with open(os.path.join(self.folder, paths[-1]), "wb") as file:
+                file.write(text.encode("utf-8"))
+        before = 1 if "bound" in parts else 2
+        if len(paths) > before:
+            paths.insert(before, "--branches" if "branches" in parts else "--potentials")
+        if verb == "convert" and layout:
+            paths += ["--layout", layout]
+        if "length" in parts:
+            paths.append(f"--length={claim}")
+        if "explain" in parts:
+            paths.append("--explain")
+        if "bound" in parts:
+            verb = "bound"
+        elif parts & JUDGED:
+            verb = "check" if len(texts) > 1 else "show"
+        ran = self.run_program(
+            [self.program, verb] + paths,
+            cwd=self.folder,
+            stdin=subprocess.DEVNULL,
+            capture_output=True,
+            timeout=60,
+        )
+        return ran.returncode, ran.stdout, ran.stderr
+
+    def explained(self, verb, texts):
+        """The status of a run with --explain, whether it writes what belongs to it (nothing for a
+        file's fault, which has a line of its own first, and else a report that ends in a no, or in a
+        yes), and what it says of that."""
+        status, out, said = self.outcome(verb, texts)
+        if STATUS_OF_EXPLAINED.get(verb, 2 if len(texts) == 1 else 1) == 2:
+            fault, _, told = said.partition(b"\n")
+            return status, out == b"" and fault.startswith(b"file "), told
+        end = b"\nyes\n" if status == 0 else b"\n"
+        return status, (status == 0 or b"\nno " in out) and out.endswith(end), said
+
+    def expect(self, where, verb, texts, wanted):
+        """Compares a run with the wanted result: a text that is written, what a fault prints, or what
+        explains it."""
+        run = self.outcome
+        if verb.startswith("explain"):
+            status = STATUS_OF_EXPLAINED.get(verb, 1 if len(texts) > 1 else 2)
+            run, right = self.explained, (status, True, wanted.encode("utf-8"))
+        elif wanted.endswith("\n"):
+            no = set(verb.split("-")) & JUDGED and not wanted.endswith("\nyes\n")
+            right = (int(bool(no)), wanted.encode("utf-8"), b"")
+        else:
+            status = STATUSES.get(wanted.partition(": ")[0], 2)
+            right = (status, b"", (wanted + "\n").encode("utf-8"))
+        found = run(verb, texts)
+        self.add(found == right, f"{where}\n    wanted {right}\n    found  {found}")
+
+    def row(self, where, table, cells):
+        """The runs of a row."""
+        wanted = filled(table.out, cells)
+        for verb, *texts in table.runs:
+            texts = [filled(text, cells) for text in texts]
+            if table.swap:
+                old, new = (cells[column] for column in table.swap)
+                if old not in texts[0]:
+                    sys.exit(f"{where}: nothing to swap")
+                texts[0] = texts[0].replace(old, new)
+            self.expect(where, verb, texts, wanted)
+            # a canonical text stays as it is
+            if verb == "convert" and wanted.endswith("\n"):
+                for layout in {"", texts[0]}:
+                    self.expect(where, verb, [layout, wanted], wanted)
+
+    def file(self, path):
+        """The rows of a file."""
+        for table in tables_of(path):
+            if not (table.runs and table.out and table.rows):
+                sys.exit(f"{path}: {table.name}: no runs, no outcome or no rows")
+            for number, row in table.rows:
+                if len(row) != len(table.columns):
+                    sys.exit(f"{path}:{number}: not a cell for each column")
+                where = f"{os.path.basename(path)}:{number}: {table.name}"
+                self.row(where, table, dict(zip(table.columns, row)))
+
+    def all(self):
+        """The rows of all tables."""
+        for path in sorted(TABLES.glob("*.table")):
+            self.file(str(path))
