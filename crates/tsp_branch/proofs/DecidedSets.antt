@@ -155,12 +155,12 @@ pushed_decided directed old new stack pushed given pair key is updates more has 
 -- ---- from the last decision down to the last one that takes its pair
 
 -- up to `kept` the stack has the same next case, and the set what that part decides
-pub record IsKept (directed : Bool) (first now : BTreeSet (ℕ × ℕ)) (stack : List Decision) (kept : ℕ) : Type 0 where
+pub record HoldsRows (directed : Bool) (first now : BTreeSet (ℕ × ℕ)) (stack : List Decision) (kept : ℕ) : Type 0 where
   pub most : kept ≤ length stack
   pub same : next_stack (stack_of stack) ≡ next_stack (stack_of (take kept stack))
   pub set : (given : List Decision) → HasStack directed first stack given → HasStack directed now (take kept stack) given
 
-pub kept_all : (directed : Bool) (set : BTreeSet (ℕ × ℕ)) (stack : List Decision) (kept : ℕ) → kept ≡ length stack → IsKept directed set set stack kept
+pub kept_all : (directed : Bool) (set : BTreeSet (ℕ × ℕ)) (stack : List Decision) (kept : ℕ) → kept ≡ length stack → HoldsRows directed set set stack kept
 kept_all directed set stack kept is =
     let whole : take kept stack ≡ stack = take_all kept stack (omega (arith, is)) in
     record {
@@ -170,8 +170,8 @@ kept_all directed set stack kept is =
     }
 
 pub kept_less : (directed : Bool) (first old new : BTreeSet (ℕ × ℕ)) (stack : List Decision) (kept : ℕ) (last : Decision) (key : ℕ × ℕ) → 0 < kept
-    → last ≡ get_or stack (kept - 1) last → last.taken ≡ false → key ≡ key_of directed last.pair → Updates pair_cmp old new key false → IsKept directed first old stack kept
-    → IsKept directed first new stack (kept - 1)
+    → last ≡ get_or stack (kept - 1) last → last.taken ≡ false → key ≡ key_of directed last.pair → Updates pair_cmp old new key false → HoldsRows directed first old stack kept
+    → HoldsRows directed first new stack (kept - 1)
 kept_less directed first old new stack kept last key some is avoided key_is updates h =
     let k : ℕ = kept - 1 in
     let one : kept ≡ k + 1 = omega (arith, some) in
@@ -185,7 +185,7 @@ kept_less directed first old new stack kept last key some is avoided key_is upda
     }
 
 pub kept_turned : (directed : Bool) (first now : BTreeSet (ℕ × ℕ)) (stack new : List Decision) (kept : ℕ) (last : Decision) (result : Bool) → 0 < kept
-    → last ≡ get_or stack (kept - 1) last → last.taken ≡ true → IsKept directed first now stack kept → IsNextStack stack result new → result ≡ true
+    → last ≡ get_or stack (kept - 1) last → last.taken ≡ true → HoldsRows directed first now stack kept → IsNextStack stack result new → result ≡ true
     → (given : List Decision) → HasStack directed first stack given → HasDecided directed now (stack_of new ++ given)
 kept_turned directed first now stack new kept last result some is taken h next found given whole =
     let k : ℕ = kept - 1 in
@@ -194,7 +194,7 @@ kept_turned directed first now stack new kept last result some is taken h next f
     stack_turned directed now stack new given k last last lt is taken (h.same ∙ ap (λ (n : ℕ). next_stack (stack_of (take n stack))) one)
     (subst (λ (b : Bool). IsNextStack stack b new) found next) (subst (λ (n : ℕ). HasStack directed now (take n stack) given) one (h.set given whole))
 
-pub kept_none : (directed : Bool) (first now : BTreeSet (ℕ × ℕ)) (stack new : List Decision) (kept : ℕ) (result : Bool) → kept ≡ 0 → IsKept directed first now stack kept → IsNextStack stack result new
+pub kept_none : (directed : Bool) (first now : BTreeSet (ℕ × ℕ)) (stack new : List Decision) (kept : ℕ) (result : Bool) → kept ≡ 0 → HoldsRows directed first now stack kept → IsNextStack stack result new
     → result ≡ true → (given : List Decision) → HasStack directed first stack given → HasDecided directed now (stack_of new ++ given)
 kept_none directed first now stack new kept result none h next found given whole =
     let nothing : next_stack (stack_of stack) ≡ None = h.same ∙ ap (λ (n : ℕ). next_stack (stack_of (take n stack))) none in

@@ -33,7 +33,7 @@ pub mod BranchesOnce
 pub mod SmallVerdicts
 pub mod SmallFamilies
 pub mod SmallRows
-pub mod CostRows
+pub mod KeptRows
 pub mod Links
 pub mod LeastLinks
 pub mod Families

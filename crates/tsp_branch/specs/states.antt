@@ -2,7 +2,7 @@ pub mod Rooms
 pub mod Numbers
 pub mod PairSets
 pub mod Marked
-pub mod Tabled
+pub mod Kept
 pub mod Sets
 pub mod Combed
 pub mod Closed

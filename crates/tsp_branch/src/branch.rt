@@ -15,13 +15,17 @@ ghost use Rattle.tsp_branch.specs.states.Decided.{IsDecision};
 ghost use Rattle.tsp_branch.specs.states.OpenCases.{IsOpenCase, decisions_in};
 ghost use Rattle.tsp_branch.specs.Listed.{no_numbers_of, listed_steps, AreSteps, IsJudged, BoundsCycles, IsJudgedSized, IsLowest};
 ghost use Rattle.tsp_branch.specs.states.Numbers.{AreSmallCrossings};
+ghost use Rattle.tsp_branch.specs.states.Kept.{HoldsRows};
 ghost use Rattle.tsp_branch.specs.states.Rooms.{IsRoom, AreSmall, IsJudgedLeaf, IsSizedLeaf};
 
 use crate::decision::Decision;
 use crate::judge::judge;
+use crate::kept::KeptRows;
 use crate::laws::certificates_bound_cycles;
+use crate::moved::fill_moved;
 use crate::numbers::add_differences;
 use crate::open_case::OpenCase;
+use crate::open_leaf::OpenLeaf;
 use crate::room::Room;
 use crate::sets::sets_by_node;
 use crate::setting::Setting;
@@ -85,7 +89,8 @@ pub fn branch_bound<C: Costs>(
     certificates_bound_cycles();
     let count = costs.count();
     let by_node = sets_by_node(alloc, count, sets)?;
-    let room = Room::new(alloc, count as usize, crossed.len())?;
+    let kept = KeptRows::new(alloc, costs, scale, crossed.len(), steps.len())?;
+    let room = Room::new(alloc, count as usize, crossed.len(), kept)?;
     let setting = Setting {
         costs,
         directed,
@@ -115,6 +120,8 @@ fn judge_leaves<C: Costs>(
     requires steps { AreSteps setting.now.directed (C.nodes setting.now.costs.now) setting.now.given.now
         (steps_of steps.now) (listed_steps (C.nodes setting.now.costs.now) (length setting.now.crossed.now) (steps_of steps.now)) }
     requires room { IsRoom (C.nodes setting.now.costs.now) (length setting.now.crossed.now) room }
+    requires kept { HoldsRows (C.nodes setting.now.costs.now) (length setting.now.crossed.now) setting.now.scale setting.now.sets.now
+        (C.at setting.now.costs.now) room.kept }
     requires start { room.numbers.items ≡ no_numbers_of (C.nodes setting.now.costs.now) (length setting.now.crossed.now) }
     ensures judged { IfOk result (IsJudged setting.now.directed (C.nodes setting.now.costs.now) (C.at setting.now.costs.now)
         setting.now.scale (families_of setting.now.crossed.now (plain setting.now.sets.now)) setting.now.crossed.now
@@ -166,6 +173,8 @@ fn judge_leaf<C: Costs>(
     requires given { case.now.given.now ≡ setting.now.given.now }
     requires once { DecideOnce setting.now.directed (decisions_in case.now) }
     requires room { IsRoom (C.nodes setting.now.costs.now) (length setting.now.crossed.now) room.old }
+    requires kept { HoldsRows (C.nodes setting.now.costs.now) (length setting.now.crossed.now) setting.now.scale setting.now.sets.now
+        (C.at setting.now.costs.now) room.old.kept }
     requires small { AreSmall room.old.numbers.items }
     ensures judged { IfOk result (IsJudgedLeaf (IsFoundAt setting.now.directed (C.nodes setting.now.costs.now)
         (C.at setting.now.costs.now) setting.now.scale decided_number
@@ -173,6 +182,8 @@ fn judge_leaf<C: Costs>(
         (decisions_in case.now) room.old.numbers.items changes.now
         room.new.numbers.items) }
     ensures room { IfOk result (λ own. IsRoom (C.nodes setting.now.costs.now) (length setting.now.crossed.now) room.new) }
+    ensures kept { IfOk result (λ own. HoldsRows (C.nodes setting.now.costs.now) (length setting.now.crossed.now) setting.now.scale
+        setting.now.sets.now (C.at setting.now.costs.now) room.new.kept) }
     ensures size { IfOk result IsSizedLeaf }
 {
     if !add_differences(&mut room.numbers, changes) {
@@ -186,14 +197,21 @@ fn judge_leaf<C: Costs>(
     ) {
         return Ok(JudgedLeaf::Bad);
     }
-    let bound = setting.case_bound(
-        alloc,
-        &room.potentials,
-        &room.multipliers,
-        case,
-        &mut room.row,
+    fill_moved(
         &mut room.moved,
-    )?;
+        &room.potentials,
+        setting.sets,
+        &room.multipliers,
+    );
+    room.kept
+        .bring_to(&room.multipliers, setting.by_node, setting.sets);
+    let leaf = OpenLeaf {
+        potentials: &room.potentials,
+        multipliers: &room.multipliers,
+        moved: &room.moved,
+        kept: &room.kept.rows,
+    };
+    let bound = setting.case_bound(alloc, &leaf, case, &mut room.row)?;
     Ok(JudgedLeaf::Found(bound))
 }
 

@@ -7,10 +7,13 @@ ghost use Rattle.tsp_theory.specs.Numbers.{IsFromTo, IsScale, ArePotentials, ent
 ghost use Rattle.tsp_theory.specs.states.Nearest.{least_at};
 ghost use Rattle.tsp_families.specs.FamilySets.{AreSetsOf};
 ghost use Rattle.tsp_branch.specs.states.Sets.{IsMoved, IsSetTable};
-ghost use Rattle.tsp_branch.specs.states.Combed.{plain, AreSmallMultipliers, AreMultipliedSets, multipliers_at, AreFewCrossings, set_weight};
+ghost use Rattle.tsp_branch.specs.states.Combed.{plain, AreSmallMultipliers, AreMultipliedSets, AreFewCrossings, set_weight};
+ghost use Rattle.tsp_branch.specs.states.Kept.{AreMoved, AreRowsIfAny, kept_weight};
 
 use crate::add_sets::{add_sets, sum_left};
-use crate::scaled::scale_row;
+use crate::open_leaf::OpenLeaf;
+use crate::scaled::{scale_row, shift_row};
+use crate::setting::Setting;
 use tsp_families::CombSet;
 use tsp_theory::Costs;
 use tsp_tree::{Weights, weight_in};
@@ -19,9 +22,9 @@ use tsp_tree::{Weights, weight_in};
 ///
 /// What two nodes cross of a set is 1 for each of them that it has, less 2 where it has both. So
 /// each multiplier is taken off the potentials of its sets' nodes, and a row needs besides these
-/// only the sets of its own node.
+/// only the sets of its own node. Where rows are kept, they have these and the costs.
 #[derive(Drop)]
-pub struct CombedWeights<'a, C: Costs> {
+pub(crate) struct CombedWeights<'a, C: Costs> {
     costs: &'a C,
     scale: i64,
     potentials: &'a [i64],
@@ -29,22 +32,23 @@ pub struct CombedWeights<'a, C: Costs> {
     sets: &'a [CombSet],
     by_node: &'a [Vec<u32>],
     moved: &'a [i64],
+    kept: &'a [Vec<i64>],
     ghost scaled: { IsScale scale },
     ghost small: { AreSmallMultipliers multipliers.now },
     ghost nodes: { AreSetsOf (C.nodes costs.now) sets.now },
     ghost combs: { AreMultipliedSets multipliers.now sets.now },
     ghost table: { IsSetTable (C.nodes costs.now) sets.now by_node.now },
     ghost places: { length moved.now ≡ C.nodes costs.now + 1 },
-    ghost are_moved: { (x : ℕ) → IsNode (C.nodes costs.now) x
-        → int_wrap w64 (least_at moved.now x)
-        ≡ int_wrap w64 (entry potentials.now x +ℤ neg_ℤ (multipliers_at multipliers.now (plain sets.now) x)) },
+    ghost are_moved: { AreMoved (C.nodes costs.now) potentials.now multipliers.now sets.now moved.now },
+    ghost are_kept: { AreRowsIfAny (C.nodes costs.now) (C.at costs.now)
+        (kept_weight scale sets.now (C.at costs.now) multipliers.now) kept.now },
     ghost long: { length potentials.now ≡ C.nodes costs.now },
     ghost potentials_are: { ArePotentials potentials.now },
     ghost crossed: { AreFewCrossings (C.nodes costs.now) multipliers.now (plain sets.now) },
 }
 
 impl<'a, C: Costs> CombedWeights<'a, C> {
-    ghost use Rattle.std.specs.Prelude.{◌≡◌, ◌<◌, ◌+◌, ◌+ℤ◌, ℕ, length, slice_index, pos, neg_ℤ};
+    ghost use Rattle.std.specs.Prelude.{◌≡◌, ◌<◌, ◌≤◌, ◌+◌, ◌+ℤ◌, ℕ, length, slice_index, pos, neg_ℤ};
     ghost use Rattle.std.specs.Int.{w64, int_wrap};
     ghost use Rattle.tsp_format.specs.Cells.{IsNode};
     ghost use Rattle.tsp_theory.specs.Numbers.{IsFromTo, IsScale, ArePotentials, entry};
@@ -53,51 +57,37 @@ impl<'a, C: Costs> CombedWeights<'a, C> {
     ghost use Rattle.tsp_families.specs.FamilySets.{AreSetsOf};
     ghost use Rattle.tsp_branch.specs.states.Sets.{IsMoved, IsSetTable};
     ghost use Rattle.tsp_branch.specs.states.Combed.{plain, AreSmallMultipliers, AreMultipliedSets, multipliers_at, AreFewCrossings, IsApart, most_combed, set_weight};
+    ghost use Rattle.tsp_branch.specs.states.Kept.{IsOpenLeaf};
 
-    /// The weights of these costs, potentials and sets.
+    /// The weights of a leaf without its decisions.
     ///
     /// # Requires
     ///
-    /// - a scale of 1 to 1,000,000;
     /// - as many potentials as nodes, each at most 10^15 in size;
-    /// - multipliers from 0 to 9 * 10^17;
-    /// - sets of different nodes, each with the number of a comb, of which no two nodes cross more
-    ///   than 9 * 10^17 with the multipliers;
-    /// - by node the numbers of its sets;
-    /// - by node its potential less its sets' multipliers, wrapped to 64 bits.
-    pub fn of(
-        costs: &'a C,
-        scale: i64,
-        potentials: &'a [i64],
-        multipliers: &'a [i64],
-        sets: &'a [CombSet],
-        by_node: &'a [Vec<u32>],
-        moved: &'a [i64],
-    ) -> CombedWeights<'a, C>
-        requires scaled { IsScale scale }
-        requires small { AreSmallMultipliers multipliers.now }
-        requires nodes { AreSetsOf (C.nodes costs.now) sets.now }
-        requires combs { AreMultipliedSets multipliers.now sets.now }
-        requires table { IsSetTable (C.nodes costs.now) sets.now by_node.now }
-        requires places { length moved.now ≡ C.nodes costs.now + 1 }
-        requires are_moved { (x : ℕ) → IsNode (C.nodes costs.now) x → int_wrap w64 (least_at moved.now x)
-            ≡ int_wrap w64 (entry potentials.now x +ℤ neg_ℤ (multipliers_at multipliers.now (plain sets.now) x)) }
-        requires long { length potentials.now ≡ C.nodes costs.now }
-        requires potentials_are { ArePotentials potentials.now }
-        requires crossed { AreFewCrossings (C.nodes costs.now) multipliers.now (plain sets.now) }
-        ensures nodes { C.nodes result.costs.now ≡ C.nodes costs.now }
+    /// - multipliers from 0 to 9 * 10^17, of which no two nodes cross more than 9 * 10^17.
+    pub(crate) fn of(setting: &Setting<'a, C>, leaf: &OpenLeaf<'a>) -> CombedWeights<'a, C>
+        requires leaf { IsOpenLeaf (C.nodes setting.now.costs.now) setting.now.scale setting.now.sets.now
+            (C.at setting.now.costs.now) leaf.now }
+        requires small { AreSmallMultipliers leaf.now.multipliers.now }
+        requires combs { AreMultipliedSets leaf.now.multipliers.now setting.now.sets.now }
+        requires long { length leaf.now.potentials.now ≡ C.nodes setting.now.costs.now }
+        requires potentials_are { ArePotentials leaf.now.potentials.now }
+        requires crossed { AreFewCrossings (C.nodes setting.now.costs.now) leaf.now.multipliers.now (plain setting.now.sets.now) }
+        ensures nodes { C.nodes result.costs.now ≡ C.nodes setting.now.costs.now }
         ensures weights { (i j : ℕ) → set_weight result.scale result.potentials.now result.multipliers.now
             (plain result.sets.now) (C.at result.costs.now) i j
-            ≡ set_weight scale potentials.now multipliers.now (plain sets.now) (C.at costs.now) i j }
+            ≡ set_weight setting.now.scale leaf.now.potentials.now leaf.now.multipliers.now (plain setting.now.sets.now)
+            (C.at setting.now.costs.now) i j }
     {
         CombedWeights {
-            costs,
-            scale,
-            potentials,
-            multipliers,
-            sets,
-            by_node,
-            moved,
+            costs: setting.costs,
+            scale: setting.scale,
+            potentials: leaf.potentials,
+            multipliers: leaf.multipliers,
+            sets: setting.sets,
+            by_node: setting.by_node,
+            moved: leaf.moved,
+            kept: leaf.kept,
         }
     }
 
@@ -116,7 +106,8 @@ impl<'a, C: Costs> CombedWeights<'a, C> {
             (weight_between self.now.scale self.now.potentials.now (C.at self.now.costs.now) from x) }
     {
         self.costs.costs_from(from, row);
-        scale_row(row, self.moved, self.scale, weight_in(self.moved, from));
+        scale_row(row, self.scale);
+        shift_row(row, self.moved, weight_in(self.moved, from));
     }
 
     /// What is left in 64 bits of a weight from a node as if no set had two nodes, where the caller
@@ -154,8 +145,8 @@ impl<'a, C: Costs> CombedWeights<'a, C> {
         }
     }
 
-    /// Writes a row as `fill_at` does, of weights that are at most 2 * 10^18 in size.
-    pub(crate) fn fill_combed_at(&self, from: u32, to: &[u32], row: &mut [i64])
+    /// A row of these at some nodes, by the sets of the node.
+    fn fill_by_sets_at(&self, from: u32, to: &[u32], row: &mut [i64])
         requires from { IsNode (C.nodes self.now.costs.now) from }
         requires to { (k : ℕ) → k < length to.now → IsNode (C.nodes self.now.costs.now) (slice_index to.now k) }
         requires room { length row.old ≡ C.nodes self.now.costs.now + 1 }
@@ -174,8 +165,8 @@ impl<'a, C: Costs> CombedWeights<'a, C> {
         );
     }
 
-    /// Writes a row as `fill` does, of weights that are at most 2 * 10^18 in size.
-    pub(crate) fn fill_combed(&self, from: u32, row: &mut [i64])
+    /// A row of these by the sets of the node.
+    fn fill_by_sets(&self, from: u32, row: &mut [i64])
         requires from { IsNode (C.nodes self.now.costs.now) from }
         requires room { length row.old ≡ C.nodes self.now.costs.now + 1 }
         ensures values { (x : ℕ) → IsNode (C.nodes self.now.costs.now) x → least_at row.new x
@@ -191,6 +182,57 @@ impl<'a, C: Costs> CombedWeights<'a, C> {
             self.sets,
             self.multipliers,
         );
+    }
+
+    /// A row of these by the one that is kept.
+    fn fill_by_kept(&self, from: u32, row: &mut [i64])
+        requires kept { 1 ≤ length self.now.kept.now }
+        requires from { IsNode (C.nodes self.now.costs.now) from }
+        requires room { length row.old ≡ C.nodes self.now.costs.now + 1 }
+        ensures values { (x : ℕ) → IsNode (C.nodes self.now.costs.now) x → least_at row.new x
+            ≡ set_weight self.now.scale self.now.potentials.now self.now.multipliers.now
+            (plain self.now.sets.now) (C.at self.now.costs.now) from x }
+        ensures sizes { (x : ℕ) → IsNode (C.nodes self.now.costs.now) x
+            → IsFromTo (neg_ℤ (pos most_combed)) (pos most_combed) (least_at row.new x) }
+    {
+        row.copy_from_slice(&self.kept[from as usize - 1]);
+        shift_row(row, self.moved, weight_in(self.moved, from));
+    }
+
+    /// Writes a row as `fill_at` does, of weights that are at most 2 * 10^18 in size.
+    pub(crate) fn fill_combed_at(&self, from: u32, to: &[u32], row: &mut [i64])
+        requires from { IsNode (C.nodes self.now.costs.now) from }
+        requires to { (k : ℕ) → k < length to.now → IsNode (C.nodes self.now.costs.now) (slice_index to.now k) }
+        requires room { length row.old ≡ C.nodes self.now.costs.now + 1 }
+        ensures values { (k : ℕ) → k < length to.now → least_at row.new (slice_index to.now k)
+            ≡ set_weight self.now.scale self.now.potentials.now self.now.multipliers.now
+            (plain self.now.sets.now) (C.at self.now.costs.now) from (slice_index to.now k) }
+        ensures sizes { (k : ℕ) → k < length to.now
+            → IsFromTo (neg_ℤ (pos most_combed)) (pos most_combed) (least_at row.new (slice_index to.now k)) }
+    {
+        if self.kept.is_empty() {
+            self.fill_by_sets_at(from, to, row);
+        } else {
+            // A whole row in order takes less time than half of it by node.
+            self.fill_by_kept(from, row);
+        }
+    }
+
+    /// Writes a row as `fill` does, of weights that are at most 2 * 10^18 in size.
+    pub(crate) fn fill_combed(&self, from: u32, row: &mut [i64])
+        requires from { IsNode (C.nodes self.now.costs.now) from }
+        requires room { length row.old ≡ C.nodes self.now.costs.now + 1 }
+        ensures values { (x : ℕ) → IsNode (C.nodes self.now.costs.now) x → least_at row.new x
+            ≡ set_weight self.now.scale self.now.potentials.now self.now.multipliers.now
+            (plain self.now.sets.now) (C.at self.now.costs.now) from x }
+        ensures sizes { (x : ℕ) → IsNode (C.nodes self.now.costs.now) x
+            → IsFromTo (neg_ℤ (pos most_combed)) (pos most_combed) (least_at row.new x) }
+    {
+        if self.kept.is_empty() {
+            self.fill_by_sets(from, row);
+        } else {
+            self.fill_by_kept(from, row);
+        }
     }
 }
 

@@ -20,6 +20,7 @@ mod family_examples;
 mod given_back;
 mod good_combs;
 mod judge;
+mod kept;
 mod laws;
 mod leaf;
 mod marks;
@@ -28,6 +29,7 @@ mod node_decisions;
 mod number_examples;
 mod numbers;
 mod open_case;
+mod open_leaf;
 mod other_families;
 mod pairs;
 mod room;
@@ -38,12 +40,10 @@ mod sets;
 mod setting;
 mod stack;
 mod steps;
-mod table;
 mod twice;
 mod verdict;
 
 pub use branch::branch_bound;
-pub use combed::CombedWeights;
 pub use decision::Decision;
 pub use examples::{
     examples_of_bounds, examples_of_crossings, examples_of_trees, examples_of_verdicts,
@@ -65,7 +65,6 @@ pub use pairs::key_of;
 pub use row_examples::{examples_of_arcs, examples_of_links, examples_of_rows};
 pub use stack::next_case;
 pub use steps::{BranchVerdict, Judged, JudgedFamilies};
-pub use table::CostTable;
 pub use tsp_families::{CombSet, Crossings};
 pub use twice::first_twice;
 pub use verdict::judge_branches;

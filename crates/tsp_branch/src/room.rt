@@ -1,8 +1,10 @@
 //! What a pass over the steps of a tree of cases writes over.
 
+use crate::kept::KeptRows;
 use std::alloc::{AllocError, Global};
 
-/// The numbers of the leaf before, and memory for those of a leaf and for two rows of its weights.
+/// The numbers of the leaf before and the rows that are kept at its multipliers, and memory for the
+/// numbers of a leaf and for two rows of its weights.
 #[derive(Drop)]
 pub(crate) struct Room {
     pub(crate) numbers: Vec<i128>,
@@ -10,6 +12,7 @@ pub(crate) struct Room {
     pub(crate) multipliers: Vec<i64>,
     pub(crate) row: Vec<i64>,
     pub(crate) moved: Vec<i64>,
+    pub(crate) kept: KeptRows,
 }
 
 impl Room {
@@ -17,15 +20,21 @@ impl Room {
     ghost use Rattle.tsp_branch.specs.Listed.{no_numbers_of};
     ghost use Rattle.tsp_branch.specs.states.Rooms.{IsRoom};
 
-    /// Memory for this many nodes and combs, where all numbers are 0.
+    /// Memory for this many nodes and for the combs of these rows, where all numbers are 0.
     ///
     /// # Errors
     ///
     /// Out of memory.
-    pub(crate) fn new(alloc: Global, nodes: usize, combs: usize) -> Result<Room, AllocError>
+    pub(crate) fn new(
+        alloc: Global,
+        nodes: usize,
+        combs: usize,
+        kept: KeptRows,
+    ) -> Result<Room, AllocError>
         requires few_nodes { nodes < 2 ^ 32 }
         requires few_combs { combs < 2 ^ 32 }
         ensures room { IfOk result (λ room. IsRoom nodes combs room) }
+        ensures kept { IfOk result (λ room. room.kept ≡ kept) }
         ensures start { IfOk result (λ room. room.numbers.items ≡ no_numbers_of nodes combs) }
     {
         Ok(Room {
@@ -34,6 +43,7 @@ impl Room {
             multipliers: vec![in alloc; 0; combs]?,
             row: vec![in alloc; 0; nodes + 1]?,
             moved: vec![in alloc; 0; nodes + 1]?,
+            kept,
         })
     }
 }

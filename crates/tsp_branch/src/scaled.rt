@@ -8,21 +8,33 @@ ghost use Rattle.tsp_theory.specs.states.Nearest.{least_at};
 
 use crate::add_sets::sum_left;
 
-/// Makes the costs of a row counts of 1 / scale, and adds a number to each, and at each place the
-/// other row's. Each sum is wrapped to 64 bits. The place 0 stays as it is.
+/// Makes the costs of a row counts of 1 / scale. The place 0 stays as it is.
 ///
 /// # Requires
 ///
-/// Costs of at most 10^12 in size, and rows of one length.
-pub(crate) fn scale_row(row: &mut [i64], moved: &[i64], scale: i64, number: i64)
+/// Costs of at most 10^12 in size.
+pub(crate) fn scale_row(row: &mut [i64], scale: i64)
     requires scale { IsScale scale }
-    requires long { length moved.now ≡ length row.old }
     requires costs { (x : ℕ) → 1 ≤ x → x < length row.old
         → IsFromTo (neg_ℤ (pos most_weight)) (pos most_weight) (least_at row.old x) }
-    ensures { (x : ℕ) → 1 ≤ x → x < length row.old → least_at row.new x
-        ≡ int_wrap w64 ((scale *ℤ least_at row.old x) +ℤ int_wrap w64 (number +ℤ least_at moved.now x)) }
+    ensures { (x : ℕ) → 1 ≤ x → x < length row.old → least_at row.new x ≡ scale *ℤ least_at row.old x }
 {
     'places: for place in 1..row.len() {
-        row[place] = sum_left(scale * row[place], sum_left(number, moved[place]));
+        row[place] = scale * row[place];
+    }
+}
+
+/// Adds a number to each of a row, and at each place the other row's. Each sum is wrapped to 64 bits.
+///
+/// # Requires
+///
+/// Rows of one length.
+pub(crate) fn shift_row(row: &mut [i64], moved: &[i64], number: i64)
+    requires { length moved.now ≡ length row.old }
+    ensures { (x : ℕ) → x < length row.old → least_at row.new x
+        ≡ int_wrap w64 (least_at row.old x +ℤ int_wrap w64 (number +ℤ least_at moved.now x)) }
+{
+    'places: for place in 0..row.len() {
+        row[place] = sum_left(row[place], sum_left(number, moved[place]));
     }
 }

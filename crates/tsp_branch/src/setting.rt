@@ -14,8 +14,8 @@ use crate::decided::DecidedWeights;
 use crate::decision::Decision;
 use crate::given_back::{given_back, taken_back};
 use crate::leaf::leaf_bound;
-use crate::moved::fill_moved;
 use crate::open_case::OpenCase;
+use crate::open_leaf::OpenLeaf;
 use crate::rows::row_bound;
 use std::alloc::{AllocError, Global};
 use tsp_families::{CombSet, Crossings};
@@ -59,10 +59,11 @@ impl<C: Costs> Setting<'_, C> {
     ghost use Rattle.tsp_branch.specs.states.Combed.{plain};
     ghost use Rattle.tsp_branch.specs.CombsOfSets.{families_of};
     ghost use Rattle.tsp_branch.specs.states.OpenCases.{IsOpenCase, decisions_in};
+    ghost use Rattle.tsp_branch.specs.states.Kept.{IsOpenLeaf};
     ghost use Rattle.tsp_branch.specs.Judged.{AreGoodNumbers, as_leaf_numbers};
 
-    /// The bound of the leaf with these numbers and decisions; `None` where it has none, since some
-    /// node has no link that these allow. Two rows are lent, which are written over.
+    /// The bound of a leaf under the decisions of a case; `None` where it has none, since some node
+    /// has no link that these allow. A row is lent, which is written over.
     ///
     /// # Requires
     ///
@@ -74,31 +75,30 @@ impl<C: Costs> Setting<'_, C> {
     pub(crate) fn case_bound(
         &self,
         alloc: Global,
-        potentials: &[i64],
-        multipliers: &[i64],
+        leaf: &OpenLeaf,
         case: &OpenCase,
         row: &mut [i64],
-        moved: &mut [i64],
     ) -> Result<Option<i128>, AllocError>
         requires are_families { All (IsFamily (C.nodes self.now.costs.now))
             (families_of self.now.crossed.now (plain self.now.sets.now)) }
         requires numbers { AreGoodNumbers (C.nodes self.now.costs.now) self.now.crossed.now
-            (as_leaf_numbers potentials.now multipliers.now) }
+            (as_leaf_numbers leaf.now.potentials.now leaf.now.multipliers.now) }
+        requires leaf { IsOpenLeaf (C.nodes self.now.costs.now) self.now.scale self.now.sets.now
+            (C.at self.now.costs.now) leaf.now }
         requires case { IsOpenCase (C.nodes self.now.costs.now) case.now }
         requires direction { case.now.by_node.directed ≡ self.now.directed }
         requires once { DecideOnce self.now.directed (decisions_in case.now) }
         requires few { length (decisions_in case.now) < 2 ^ 33 }
         requires row { length row.old ≡ C.nodes self.now.costs.now + 1 }
-        requires moved { length moved.old ≡ C.nodes self.now.costs.now + 1 }
         ensures bound { IfOk result (IsFoundAt self.now.directed (C.nodes self.now.costs.now) (C.at self.now.costs.now)
             self.now.scale decided_number (families_of self.now.crossed.now (plain self.now.sets.now))
-            (decisions_in case.now, as_leaf_numbers potentials.now multipliers.now)) }
+            (decisions_in case.now, as_leaf_numbers leaf.now.potentials.now leaf.now.multipliers.now)) }
         ensures size { IfOk result (λ bound. IfSome bound IsBoundSized) }
     {
         if self.directed {
-            return Ok(self.bound_by_rows(potentials, multipliers, case, row, moved));
+            return Ok(self.bound_by_rows(leaf, case, row));
         }
-        let bound = self.bound_by_trees(alloc, potentials, multipliers, case, row, moved)?;
+        let bound = self.bound_by_trees(alloc, leaf, case, row)?;
         Ok(Some(bound))
     }
 
@@ -110,84 +110,59 @@ impl<C: Costs> Setting<'_, C> {
     fn bound_by_trees(
         &self,
         alloc: Global,
-        potentials: &[i64],
-        multipliers: &[i64],
+        leaf: &OpenLeaf,
         case: &OpenCase,
         row: &mut [i64],
-        moved: &mut [i64],
     ) -> Result<i128, AllocError>
         requires undirected { self.now.directed ≡ false }
         requires are_families { All (IsFamily (C.nodes self.now.costs.now))
             (families_of self.now.crossed.now (plain self.now.sets.now)) }
         requires numbers { AreGoodNumbers (C.nodes self.now.costs.now) self.now.crossed.now
-            (as_leaf_numbers potentials.now multipliers.now) }
+            (as_leaf_numbers leaf.now.potentials.now leaf.now.multipliers.now) }
+        requires leaf { IsOpenLeaf (C.nodes self.now.costs.now) self.now.scale self.now.sets.now
+            (C.at self.now.costs.now) leaf.now }
         requires case { IsOpenCase (C.nodes self.now.costs.now) case.now }
         requires both { case.now.by_node.directed ≡ false }
         requires once { DecideOnce false (decisions_in case.now) }
         requires few { length (decisions_in case.now) < 2 ^ 33 }
         requires row { length row.old ≡ C.nodes self.now.costs.now + 1 }
-        requires moved { length moved.old ≡ C.nodes self.now.costs.now + 1 }
         ensures bound { IfOk result (λ bound. IsFoundAt false (C.nodes self.now.costs.now) (C.at self.now.costs.now)
             self.now.scale decided_number (families_of self.now.crossed.now (plain self.now.sets.now))
-            (decisions_in case.now, as_leaf_numbers potentials.now multipliers.now)
+            (decisions_in case.now, as_leaf_numbers leaf.now.potentials.now leaf.now.multipliers.now)
             (Some bound)) }
         ensures size { IfOk result (λ bound. IsBoundSized bound) }
     {
         // The count shows that there are at most 100,000 nodes.
         self.costs.count();
-        fill_moved(moved, potentials, self.sets, multipliers);
-        let combed = CombedWeights::of(
-            self.costs,
-            self.scale,
-            potentials,
-            multipliers,
-            self.sets,
-            self.by_node,
-            moved,
-        );
+        let combed = CombedWeights::of(self, leaf);
         let weights = DecidedWeights::of(&combed, case);
         let taken = taken_back(&case.by_node.taken);
-        let back = taken + given_back(potentials, multipliers, self.crossed);
+        let back = taken + given_back(leaf.potentials, leaf.multipliers, self.crossed);
         leaf_bound(alloc, &weights, row, self.scale, back)
     }
 
     /// The bound of the least link from each node; `None` where some node has no link that the
     /// decisions allow.
-    fn bound_by_rows(
-        &self,
-        potentials: &[i64],
-        multipliers: &[i64],
-        case: &OpenCase,
-        row: &mut [i64],
-        moved: &mut [i64],
-    ) -> Option<i128>
+    fn bound_by_rows(&self, leaf: &OpenLeaf, case: &OpenCase, row: &mut [i64]) -> Option<i128>
         requires are_families { All (IsFamily (C.nodes self.now.costs.now))
             (families_of self.now.crossed.now (plain self.now.sets.now)) }
         requires numbers { AreGoodNumbers (C.nodes self.now.costs.now) self.now.crossed.now
-            (as_leaf_numbers potentials.now multipliers.now) }
+            (as_leaf_numbers leaf.now.potentials.now leaf.now.multipliers.now) }
+        requires leaf { IsOpenLeaf (C.nodes self.now.costs.now) self.now.scale self.now.sets.now
+            (C.at self.now.costs.now) leaf.now }
         requires case { IsOpenCase (C.nodes self.now.costs.now) case.now }
         requires direction { case.now.by_node.directed ≡ true }
         requires row { length row.old ≡ C.nodes self.now.costs.now + 1 }
-        requires moved { length moved.old ≡ C.nodes self.now.costs.now + 1 }
         ensures bound { IsFoundAt true (C.nodes self.now.costs.now) (C.at self.now.costs.now)
             self.now.scale decided_number (families_of self.now.crossed.now (plain self.now.sets.now))
-            (decisions_in case.now, as_leaf_numbers potentials.now multipliers.now)
+            (decisions_in case.now, as_leaf_numbers leaf.now.potentials.now leaf.now.multipliers.now)
             result }
         ensures size { IfSome result IsBoundSized }
     {
         // The contract of `count` says that there are at most 100,000 nodes.
         self.costs.count();
-        fill_moved(moved, potentials, self.sets, multipliers);
-        let combed = CombedWeights::of(
-            self.costs,
-            self.scale,
-            potentials,
-            multipliers,
-            self.sets,
-            self.by_node,
-            moved,
-        );
-        let back = given_back(potentials, multipliers, self.crossed);
+        let combed = CombedWeights::of(self, leaf);
+        let back = given_back(leaf.potentials, leaf.multipliers, self.crossed);
         row_bound(&combed, case, row, self.scale, back)
     }
 }

@@ -18,15 +18,10 @@ use crate::decided::taken_once;
 use crate::numbered::numbered_sets;
 use crate::tour::is_directed;
 use std::alloc::{AllocError, Global};
-use tsp_branch::{
-    BranchVerdict, CostTable, certificates_bound_cycles, judge_branches, numbers_are_unique,
-};
+use tsp_branch::{BranchVerdict, certificates_bound_cycles, judge_branches, numbers_are_unique};
 use tsp_cost::{Costs, Instance, View};
 use tsp_file::{File, TreeData};
 use tsp_reason::{BoundVerdict, Reason};
-
-/// The most nodes of which distances are kept for each pair, in 32 MB.
-const MOST_TABLED: u32 = 2_000;
 
 /// The bound that a certificate by branching gives an instance of TYPE TSP or ATSP, or that it has no
 /// tour; or the first reason against the certificate.
@@ -51,8 +46,8 @@ pub(crate) fn bound_of_tree(
     };
     // A view has found once and for all where the costs are.
     match instance.view() {
-        View::Plane(points) => judge_distances(alloc, instance, branches, &tree, &points),
-        View::Space(points) => judge_distances(alloc, instance, branches, &tree, &points),
+        View::Plane(points) => judge_tree(alloc, instance, branches, &tree, &points),
+        View::Space(points) => judge_tree(alloc, instance, branches, &tree, &points),
         View::Triangle(triangle) => judge_tree(alloc, instance, branches, &tree, &triangle),
         View::Matrix(matrix) => judge_tree(alloc, instance, branches, &tree, &matrix),
     }
@@ -72,37 +67,6 @@ fn tree_of<'a>(instance: &Instance, branches: &'a File) -> Result<TreeData<'a>, 
         return Err(Reason::BranchesDimension);
     }
     Ok(tree)
-}
-
-/// The bound over distances, which are looked up once where the tree has several leaves and memory
-/// is given for them.
-///
-/// # Errors
-///
-/// Out of memory.
-fn judge_distances<C: Costs>(
-    alloc: Global,
-    instance: &Instance,
-    branches: &File,
-    tree: &TreeData<'_>,
-    costs: &C,
-) -> Result<BoundVerdict, AllocError>
-    requires keeps { HasCosts instance.now (C.nodes costs.now) (C.at costs.now) }
-    requires kind { (instance.now.kind ≡ Some kinds.Tsp) ⊎ (instance.now.kind ≡ Some kinds.Atsp) }
-    requires some { 3 ≤ nodes_of instance.now }
-    requires even { IsSymmetricTsp instance.now }
-    requires sort { is_tree branches.now.kind ≡ true }
-    requires count { nodes_of branches.now ≡ nodes_of instance.now }
-    requires held { HoldsCases branches.now tree.now.scale (combs_of tree.now.combs.now) (steps_of tree.now.steps.now) }
-    ensures { IfOk result (λ found. FindsBound certificates.Branches instance.now branches.now found) }
-{
-    if costs.count() > MOST_TABLED || tree.steps.len() == 1 {
-        return judge_tree(alloc, instance, branches, tree, costs);
-    }
-    match CostTable::of(alloc, costs) {
-        Ok(table) => judge_tree(alloc, instance, branches, tree, &table),
-        Err(_) => judge_tree(alloc, instance, branches, tree, costs),
-    }
 }
 
 /// The bound over the costs of a view, or the first reason against the families, the branches or the

@@ -26,6 +26,10 @@ plain sets = map as_numbered sets
 abbrev pub AreSmallMultipliers : List ℤ → Type 0
 AreSmallMultipliers multipliers = All (IsFromTo (pos 0) (pos most_crossed)) multipliers
 
+-- and by how much one multiplier differs from another
+abbrev pub AreSmallDifferences : List ℤ → Type 0
+AreSmallDifferences differences = All (IsFromTo (neg_ℤ (pos most_crossed)) (pos most_crossed)) differences
+
 -- the multiplier of a set's comb
 abbrev pub multiplier_of : List ℤ → NumberedSet → ℤ
 multiplier_of multipliers set = slice_index_or multipliers set.comb (pos 0)

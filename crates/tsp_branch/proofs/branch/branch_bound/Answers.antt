@@ -1,4 +1,4 @@
-use Rattle.std.proofs.Common.{ℕ, ℤ, subst, rules, FitsSigned}
+use Rattle.std.proofs.Common.{ℕ, ℤ, length, subst, sym, rules, FitsSigned, to_z, of_z}
 use Rattle.std.specs.Int.{w64}
 use Rattle.std.proofs.lemmas.Int.{to_z-of_z}
 use Rattle.std.proofs.lemmas.Result.{IfOk-weaker}
@@ -6,8 +6,18 @@ use Rattle.tsp_format.specs.states.TreeSteps.{steps_of}
 use Rattle.tsp_branch.specs.states.Combed.{plain}
 use Rattle.tsp_branch.specs.CombsOfSets.{families_of}
 use Rattle.tsp_branch.specs.Listed.{IsJudged}
+use Rattle.tsp_branch.specs.declared.kept.KeptRows.{KeptRows}
+use Rattle.tsp_branch.specs.states.Kept.{HoldsRows}
 use Rattle.tsp_branch.proofs.Judging.{cycles_of, costs_for}
 use Rattle.tsp_branch.proofs.branch.branch_bound.Goals as goal
+
+pub judge_leaves-requires-clause-kept : goal.judge_leaves-requires-clause-kept
+judge_leaves-requires-clause-kept g c =
+    let n : ℕ = g.C.Costs.nodes c.args.costs.now in
+    let cost = g.C.Costs.at c.args.costs.now in
+    let sets = c.args.sets.now in
+    subst (λ (kept : KeptRows). HoldsRows n (length c.args.crossed.now) (to_z w64 (of_z w64 c.args.scale)) sets cost kept) (sym c.in_ok-room.ensures.kept)
+    (c.in_ok-kept.ensures sets)
 
 pub returns-clause-cycles : goal.returns-clause-cycles
 returns-clause-cycles g c =

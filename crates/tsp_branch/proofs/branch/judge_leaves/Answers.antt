@@ -45,6 +45,7 @@ steps-init g c =
           (subst (λ (zs : List ℤ). IsAtStep found s.directed n s.crossed.now given told zs [] None 0 told) (sym c.requires.start)
           (at_start found s.directed n s.crossed.now given told c.requires.steps.whole c.requires.steps.once));
       room = c.requires.room;
+      kept = c.requires.kept;
       small = subst AreSmall (sym c.requires.start) (none_small n (length s.crossed.now));
       case = subst (λ (k : ℕ). IsOpenCase k case) c.count-count.ensures.value c.in_ok-case.ensures.case;
       given = c.in_ok-case.ensures.given;
@@ -143,6 +144,7 @@ steps-preserved g c =
             at = subst (λ (ds : List Decision). IsAtStep found s.directed n s.crossed.now given told st.room.numbers.items ds st.lowest st.leaf (steps_of (drop (st.step-index + 1) all))) (sym items)
                 (at_branch found s.directed n s.crossed.now given told st.room.numbers.items st.case.stack.items st.lowest st.leaf w.in-Branch.first w.in-Branch.second _ at);
             room = st.invariant.room;
+            kept = st.invariant.kept;
             small = st.invariant.small;
             case = w.in_ok-take-in-Branch.ensures.case n st.invariant.case own;
             given = w.in_ok-take-in-Branch.ensures.given ∙ st.invariant.given;
@@ -165,6 +167,7 @@ steps-preserved g c =
           rw (w.room-is, w.case-is, w.lowest-is, w.leaf-is) (record {
             at = more.0;
             room = w.in_ok-judged-in-Leaf.ensures.room;
+            kept = w.in_ok-judged-in-Leaf.ensures.kept;
             small = more.1;
             case = w.in_ok-is_open-in-Leaf.ensures.case n st.invariant.case;
             given = w.in_ok-is_open-in-Leaf.ensures.given ∙ st.invariant.given;

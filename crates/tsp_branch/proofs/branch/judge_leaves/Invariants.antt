@@ -7,6 +7,7 @@ use Rattle.tsp_branch.specs.CombsOfSets.{families_of}
 use Rattle.tsp_branch.specs.Certificate.{IsFoundAt}
 use Rattle.tsp_branch.specs.states.OpenCases.{IsOpenCase}
 use Rattle.tsp_branch.specs.Decisions.{decided_number}
+use Rattle.tsp_branch.specs.states.Kept.{HoldsRows}
 use Rattle.tsp_branch.specs.states.Rooms.{IsRoom, AreSmall}
 use Rattle.tsp_branch.proofs.Passes.{IsAtStep}
 use Rattle.tsp_branch.proofs.branch.judge_leaves.Given as goal
@@ -19,6 +20,7 @@ invariant-steps g l =
       at : IsAtStep (IsFoundAt s.directed n (g.C.Costs.at s.costs.now) s.scale decided_number (families_of s.crossed.now (plain s.sets.now))) s.directed n s.crossed.now s.given.now (steps_of l.steps) l.room.numbers.items l.case.stack.items l.lowest l.leaf
           (steps_of (drop l.step-index l.steps));
       room : IsRoom n (length s.crossed.now) l.room;
+      kept : HoldsRows n (length s.crossed.now) s.scale s.sets.now (g.C.Costs.at s.costs.now) l.room.kept;
       small : AreSmall l.room.numbers.items;
       case : IsOpenCase n l.case;
       given : l.case.given.now ≡ s.given.now;

@@ -1,8 +1,7 @@
-use Rattle.std.proofs.Common.{◌≡◌, ◌<◌, ◌≤◌, ℕ, ℤ, List, length, inl, inr, sym, subst, ap, ap₂, ◌∙◌, arith, rules, to_z, of_z, FitsSigned}
-use Rattle.std.specs.Prelude.{pos, neg_ℤ, ◌+ℤ◌, ◌*ℤ◌}
-use Rattle.std.specs.Int.{w64, int_wrap}
+use Rattle.std.proofs.Common.{◌≡◌, ◌<◌, ◌≤◌, ℕ, ℤ, List, length, inl, inr, sym, ap, ◌∙◌, arith, to_z, of_z}
+use Rattle.std.specs.Prelude.{pos, neg_ℤ, ◌*ℤ◌}
+use Rattle.std.specs.Int.{w64}
 use Rattle.std.proofs.lemmas.Bool.{cases_eq}
-use Rattle.std.proofs.lemmas.Int.{to_z-of_z}
 use Rattle.std.proofs.lemmas.List.{get_or-set_same, get_or-set_other}
 use Rattle.std.proofs.Math.ListN.{set}
 use Rattle.tsp_format.specs.Limits.{most_weight}
@@ -16,27 +15,17 @@ places-preserved c =
     let place : ℕ = c.places.place in
     let row : List ℤ = c.places.row in
     let scale : ℤ = to_z w64 (of_z w64 c.args.scale) in
-    let number : ℤ = to_z w64 (of_z w64 c.args.number) in
     let cost : ℤ = least_at c.args.row.now place in
-    let moved : ℤ = least_at c.args.moved.now place in
-    let whole : ℤ = int_wrap w64 ((scale *ℤ cost) +ℤ int_wrap w64 (number +ℤ moved)) in
-    let value : ℤ = to_z w64 (of_z w64 c.sum_left-in-places.result) in
     let some : 1 ≤ place = omega (arith, c.places.auto.place) in
     let inside : place < length row = omega (arith, c.places.auto.row, c.places-test.true) in
     let size : IsFromTo (neg_ℤ (pos most_weight)) (pos most_weight) cost = c.requires.costs place some (omega (arith, c.places-test.true)) in
-    let moved_in : FitsSigned w64 moved = search rules in
-    let inner_in : FitsSigned w64 c.sum_left.result = search rules in
-    let outer_in : FitsSigned w64 c.sum_left-in-places.result = search rules in
     let cost_is : least_at row place ≡ cost = c.places.invariant.rest place (omega arith) in
-    let product = ap (λ z. to_z w64 (of_z w64 (scale *ℤ to_z w64 (of_z w64 z)))) cost_is
+    let value : ℤ = to_z w64 (of_z w64 (scale *ℤ to_z w64 (of_z w64 (least_at row place)))) in
+    let here : value ≡ scale *ℤ cost = ap (λ z. to_z w64 (of_z w64 (scale *ℤ to_z w64 (of_z w64 z)))) cost_is
     ∙ product_is c.args.scale cost c.requires.scale size.0 size.1 ∙ ap (λ z. z *ℤ cost) (sym (same_scale c.args.scale c.requires.scale)) in
-    let sum = to_z-of_z w64 c.sum_left.result inner_in ∙ c.sum_left.ensures ∙ ap (λ z. int_wrap w64 (number +ℤ z)) (to_z-of_z w64 moved moved_in) in
-    let here : value ≡ whole = to_z-of_z w64 c.sum_left-in-places.result outer_in ∙ c.sum_left-in-places.ensures ∙ ap₂ (λ a b. int_wrap w64 (a +ℤ b)) product sum in
     record {
       done = λ x first below. elim (cases_eq x place) [
-        | inl same ↦ subst (λ (y : ℕ). least_at (set row place value) y
-            ≡ int_wrap w64 ((scale *ℤ least_at c.args.row.now y) +ℤ int_wrap w64 (number +ℤ least_at c.args.moved.now y)))
-            (sym same) (get_or-set_same row place value (pos 0) inside ∙ here)
+        | inl same ↦ ap (least_at (set row place value)) same ∙ get_or-set_same row place value (pos 0) inside ∙ here ∙ ap (λ (y : ℕ). scale *ℤ least_at c.args.row.now y) (sym same)
         | inr other ↦ get_or-set_other row place x value (pos 0) other ∙ c.places.invariant.done x first (omega (arith, below, other))
       ];
       rest = λ x past. get_or-set_other row place x value (pos 0) (λ e. absurd (omega (arith, past, e))) ∙ c.places.invariant.rest x (omega (arith, past));

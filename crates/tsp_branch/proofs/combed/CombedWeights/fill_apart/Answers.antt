@@ -22,12 +22,12 @@ returns g c = record {
       let own : ℤ = to_z w64 (of_z w64 m) in
       let m_in : FitsSigned w64 m = search rules in
       let entry_is : least_at c.costs_from.new.row x ≡ cost = (c.costs_from.ensures.values x x_in).is in
-      let scaled_is = ap₂ (λ a b. a *ℤ b) (same_scale p.scale p.scaled) entry_is in
-      let value_is : least_at c.scale_row.new.row x ≡ int_wrap w64 ((p.scale *ℤ cost) +ℤ int_wrap w64 (own +ℤ k)) =
-      c.scale_row.ensures x x_in.0 (omega (arith, x_in.1, c.requires.room, c.costs_from.auto.row)) ∙ ap (λ z. int_wrap w64 (z +ℤ int_wrap w64 (own +ℤ k))) scaled_is in
+      let scaled_is = c.scale_row.ensures x x_in.0 (omega (arith, x_in.1, c.requires.room, c.costs_from.auto.row)) ∙ ap₂ (λ a b. a *ℤ b) (same_scale p.scale p.scaled) entry_is in
+      let value_is : least_at c.shift_row.new.row x ≡ int_wrap w64 ((p.scale *ℤ cost) +ℤ int_wrap w64 (own +ℤ k)) =
+      c.shift_row.ensures x (omega (arith, x_in.1, c.requires.room, c.costs_from.auto.row, c.scale_row.auto.row)) ∙ ap (λ z. int_wrap w64 (z +ℤ int_wrap w64 (own +ℤ k))) scaled_is in
       inr (apart_is (p.scale *ℤ cost) (entry p.potentials.now c.args.from) (entry p.potentials.now x)
       (multipliers_at p.multipliers.now (plain p.sets.now) c.args.from) (multipliers_at p.multipliers.now (plain p.sets.now) x)
-      m k (int_wrap w64 (own +ℤ k)) (least_at c.scale_row.new.row x) (ap (int_wrap w64) c.weight_in.ensures ∙ p.are_moved c.args.from c.requires.from) (p.are_moved x x_in)
+      m k (int_wrap w64 (own +ℤ k)) (least_at c.shift_row.new.row x) (ap (int_wrap w64) c.weight_in.ensures ∙ p.are_moved c.args.from c.requires.from) (p.are_moved x x_in)
       (ap (λ z. int_wrap w64 (z +ℤ k)) (to_z-of_z w64 m m_in)) value_is);
   sizes = λ x x_in.
       let p = c.args.self.now in

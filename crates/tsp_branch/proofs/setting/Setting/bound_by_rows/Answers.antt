@@ -17,12 +17,8 @@ use Rattle.tsp_families.specs.declared.comb_set.CombSet.{CombSet}
 use Rattle.tsp_branch.proofs.CaseWeights.{few_multipliers, small_multipliers, all_some, few_crossings, sets_below_count, row_weight, found_by_rows}
 use Rattle.tsp_branch.proofs.setting.Setting.bound_by_rows.Goals as goal
 
-pub fill_moved-requires-clause-small : goal.fill_moved-requires-clause-small
-fill_moved-requires-clause-small g c = small_multipliers (g.C.Costs.nodes c.args.self.now.costs.now) c.args.self.now.crossed.now c.args.potentials.now c.args.multipliers.now
-    (all_some (g.C.Costs.nodes c.args.self.now.costs.now) c.args.self.now.crossed.now (plain c.args.self.now.sets.now) c.requires.are_families) c.requires.numbers
-
 pub of-combed-requires-clause-small : goal.of-combed-requires-clause-small
-of-combed-requires-clause-small g c = small_multipliers (g.C.Costs.nodes c.args.self.now.costs.now) c.args.self.now.crossed.now c.args.potentials.now c.args.multipliers.now
+of-combed-requires-clause-small g c = small_multipliers (g.C.Costs.nodes c.args.self.now.costs.now) c.args.self.now.crossed.now c.args.leaf.now.potentials.now c.args.leaf.now.multipliers.now
     (all_some (g.C.Costs.nodes c.args.self.now.costs.now) c.args.self.now.crossed.now (plain c.args.self.now.sets.now) c.requires.are_families) c.requires.numbers
 
 pub of-combed-requires-clause-crossed : goal.of-combed-requires-clause-crossed
@@ -30,16 +26,16 @@ of-combed-requires-clause-crossed g c =
     let p = c.args.self.now in
     let n = g.C.Costs.nodes p.costs.now in
     let sets : List CombSet = p.sets.now in
-    let ms : List ℤ = c.args.multipliers.now in
+    let ms : List ℤ = c.args.leaf.now.multipliers.now in
     let good = c.requires.numbers in
-    few_crossings n p.crossed.now c.args.potentials.now ms (plain sets) good c.requires.are_families
+    few_crossings n p.crossed.now c.args.leaf.now.potentials.now ms (plain sets) good c.requires.are_families
     (sets_below_count (length p.crossed.now) (length ms) sets good.each_comb p.of_combs)
 
 pub given_back-back-requires-clause-sum : goal.given_back-back-requires-clause-sum
 given_back-back-requires-clause-sum g c =
     let p = c.args.self.now in
     let good = c.requires.numbers in
-    few_multipliers p.crossed.now c.args.multipliers.now good.each_comb (all_some (g.C.Costs.nodes p.costs.now) p.crossed.now (plain p.sets.now) c.requires.are_families) good.signs good.sum
+    few_multipliers p.crossed.now c.args.leaf.now.multipliers.now good.each_comb (all_some (g.C.Costs.nodes p.costs.now) p.crossed.now (plain p.sets.now) c.requires.are_families) good.signs good.sum
 
 pub returns-clause-bound : goal.returns-clause-bound
 returns-clause-bound g c =
@@ -47,8 +43,8 @@ returns-clause-bound g c =
     let n : ℕ = g.C.Costs.nodes p.costs.now in
     let cost = g.C.Costs.at p.costs.now in
     let sets : List CombSet = p.sets.now in
-    let ps : List ℤ = c.args.potentials.now in
-    let ms : List ℤ = c.args.multipliers.now in
+    let ps : List ℤ = c.args.leaf.now.potentials.now in
+    let ms : List ℤ = c.args.leaf.now.multipliers.now in
     let case : List Decision = decisions_in c.args.case.now in
     let good = c.requires.numbers in
     let families : List (Family × ℤ) = multiplied (families_of p.crossed.now (plain sets)) ms in
@@ -56,9 +52,7 @@ returns-clause-bound g c =
     let w : ℕ → ℕ → ℤ = set_weight q.scale q.potentials.now q.multipliers.now (plain q.sets.now) (g.C.Costs.at q.costs.now) in
     let below = sets_below_count (length p.crossed.now) (length ms) sets good.each_comb p.of_combs in
     let agree : (i j : ℕ) → w i j ≡ combed families (weight_between p.scale ps cost) i j = λ i j.
-    c.of-combed.ensures.weights i j
-    ∙ ap (λ (z : ℤ). set_weight z ps ms (plain sets) cost i j) (same_scale p.scale p.scaled)
-    ∙ row_weight p.crossed.now p.scale ps ms (plain sets) cost i j good.each_comb below in
+    c.of-combed.ensures.weights i j ∙ row_weight p.crossed.now p.scale ps ms (plain sets) cost i j good.each_comb below in
     let back : ℤ = c.given_back-back.result in
     let fits : FitsSigned w128 c.given_back-back.result = search rules in
     let back_is : to_z w128 (of_z w128 back) ≡ least_of families -ℤ (pos 2 *ℤ total ps) =

@@ -20,12 +20,8 @@ use Rattle.tsp_branch.proofs.CaseWeights.{case_weight, few_multipliers, small_mu
 use Rattle.tsp_branch.proofs.GivenBack.{back_held, taken_listed, taken_few}
 use Rattle.tsp_branch.proofs.setting.Setting.bound_by_trees.Goals as goal
 
-pub fill_moved-requires-clause-small : goal.fill_moved-requires-clause-small
-fill_moved-requires-clause-small g c = small_multipliers (g.C.Costs.nodes c.args.self.now.costs.now) c.args.self.now.crossed.now c.args.potentials.now c.args.multipliers.now
-    (all_some (g.C.Costs.nodes c.args.self.now.costs.now) c.args.self.now.crossed.now (plain c.args.self.now.sets.now) c.requires.are_families) c.requires.numbers
-
 pub of-combed-requires-clause-small : goal.of-combed-requires-clause-small
-of-combed-requires-clause-small g c = small_multipliers (g.C.Costs.nodes c.args.self.now.costs.now) c.args.self.now.crossed.now c.args.potentials.now c.args.multipliers.now
+of-combed-requires-clause-small g c = small_multipliers (g.C.Costs.nodes c.args.self.now.costs.now) c.args.self.now.crossed.now c.args.leaf.now.potentials.now c.args.leaf.now.multipliers.now
     (all_some (g.C.Costs.nodes c.args.self.now.costs.now) c.args.self.now.crossed.now (plain c.args.self.now.sets.now) c.requires.are_families) c.requires.numbers
 
 pub of-combed-requires-clause-crossed : goal.of-combed-requires-clause-crossed
@@ -33,9 +29,9 @@ of-combed-requires-clause-crossed g c =
     let p = c.args.self.now in
     let n = g.C.Costs.nodes p.costs.now in
     let sets : List CombSet = p.sets.now in
-    let ms : List ℤ = c.args.multipliers.now in
+    let ms : List ℤ = c.args.leaf.now.multipliers.now in
     let good = c.requires.numbers in
-    few_crossings n p.crossed.now c.args.potentials.now ms (plain sets) good c.requires.are_families
+    few_crossings n p.crossed.now c.args.leaf.now.potentials.now ms (plain sets) good c.requires.are_families
     (sets_below_count (length p.crossed.now) (length ms) sets good.each_comb p.of_combs)
 
 pub of-weights-requires-clause-once : goal.of-weights-requires-clause-once
@@ -50,22 +46,22 @@ leaf_bound-requires-clause-even g c =
     let p = c.args.self.now in
     let cost = g.C.Costs.at p.costs.now in
     let sets : List CombSet = p.sets.now in
-    let ps : List ℤ = c.args.potentials.now in
-    let ms : List ℤ = c.args.multipliers.now in
+    let ps : List ℤ = c.args.leaf.now.potentials.now in
+    let ms : List ℤ = c.args.leaf.now.multipliers.now in
     let case : List Decision = decisions_in c.args.case.now in
     let q = c.of-combed.result in
     let w : ℕ → ℕ → ℤ = set_weight q.scale q.potentials.now q.multipliers.now (plain q.sets.now) (g.C.Costs.at q.costs.now) in
     let below = sets_below_count (length p.crossed.now) (length ms) sets c.requires.numbers.each_comb p.of_combs in
     let combs : List (Family × ℤ) = multiplied (families_of p.crossed.now (plain sets)) ms in
     let agree = λ (i j : ℕ). c.of-weights.ensures.weights i j ∙ case_weight w p.scale p.crossed.now ps ms (plain sets) case cost i j c.requires.numbers.each_comb below
-    (c.of-combed.ensures.weights i j ∙ ap (λ (z : ℤ). set_weight z ps ms (plain sets) cost i j) (same_scale p.scale p.scaled)) in
+    (c.of-combed.ensures.weights i j) in
     λ i j. agree i j ∙ leaf_even p.scale ps (on_taken decided_number case) (on_avoided decided_number case) combs cost (p.even c.requires.undirected) i j ∙ sym (agree j i)
 
 pub given_back-requires-clause-sum : goal.given_back-requires-clause-sum
 given_back-requires-clause-sum g c =
     let p = c.args.self.now in
     let good = c.requires.numbers in
-    few_multipliers p.crossed.now c.args.multipliers.now good.each_comb (all_some (g.C.Costs.nodes p.costs.now) p.crossed.now (plain p.sets.now) c.requires.are_families) good.signs good.sum
+    few_multipliers p.crossed.now c.args.leaf.now.multipliers.now good.each_comb (all_some (g.C.Costs.nodes p.costs.now) p.crossed.now (plain p.sets.now) c.requires.are_families) good.signs good.sum
 
 pub returns-clause-bound : goal.returns-clause-bound
 returns-clause-bound g c =
@@ -73,15 +69,15 @@ returns-clause-bound g c =
     let n : ℕ = g.C.Costs.nodes p.costs.now in
     let cost = g.C.Costs.at p.costs.now in
     let sets : List CombSet = p.sets.now in
-    let ps : List ℤ = c.args.potentials.now in
-    let ms : List ℤ = c.args.multipliers.now in
+    let ps : List ℤ = c.args.leaf.now.potentials.now in
+    let ms : List ℤ = c.args.leaf.now.multipliers.now in
     let case : List Decision = decisions_in c.args.case.now in
     let q = c.of-combed.result in
     let w : ℕ → ℕ → ℤ = set_weight q.scale q.potentials.now q.multipliers.now (plain q.sets.now) (g.C.Costs.at q.costs.now) in
     let below = sets_below_count (length p.crossed.now) (length ms) sets c.requires.numbers.each_comb p.of_combs in
     let combs : List (Family × ℤ) = multiplied (families_of p.crossed.now (plain sets)) ms in
     let agree = λ (i j : ℕ). c.of-weights.ensures.weights i j ∙ case_weight w p.scale p.crossed.now ps ms (plain sets) case cost i j c.requires.numbers.each_comb below
-    (c.of-combed.ensures.weights i j ∙ ap (λ (z : ℤ). set_weight z ps ms (plain sets) cost i j) (same_scale p.scale p.scaled)) in
+    (c.of-combed.ensures.weights i j) in
     let nodes_are = c.of-weights.ensures.nodes ∙ c.of-combed.ensures.nodes in
     let r = c.of-weights.result in
     let k : ℕ = g.C.Costs.nodes r.combed.now.costs.now in

@@ -1,0 +1,211 @@
+-- Rows that are kept: one row more, other multipliers, and the weights that they give.
+use Rattle.std.proofs.Common.{◌≡◌, ℕ, zero, suc, ◌+◌, ◌<◌, ◌≢◌, ◌==◌, List, [], ◌∷◌, ◌++◌, length, replicate, inl, inr, refl, sym, ap, subst, ◌∙◌, arith}
+use Rattle.std.specs.Prelude.{◌⊎◌, ◌≤◌, ℤ, pos, neg_ℤ, ◌+ℤ◌, ◌*ℤ◌, slice_index_or as get_or}
+use Rattle.std.specs.Int.{w64, int_wrap}
+use Rattle.std.specs.Global.{Vec}
+use Rattle.std.specs.List.{AllPairs}
+use Rattle.std.proofs.Math.ListN.{set}
+use Rattle.std.proofs.lemmas.Bool.{cases_Bool, cases_eq, cases_lt}
+use Rattle.std.proofs.lemmas.Int.{ints, int_wrap-add_left, int_wrap-add_same}
+use Rattle.std.proofs.lemmas.List.{length-append, length-set, get_or_append_left, get_or-set_same, get_or-set_other, get_or-replicate, get_or_past, length-replicate}
+use Rattle.std.proofs.Math.Seq.{get_or-append_seam}
+use Rattle.tsp_format.specs.Cells.{IsNode}
+use Rattle.tsp_theory.specs.NodeBound.{weight_between, most_between}
+use Rattle.tsp_theory.specs.Numbers.{IsFromTo, entry}
+use Rattle.tsp_theory.specs.states.Nearest.{least_at}
+use Rattle.tsp_families.specs.declared.comb_set.CombSet.{CombSet}
+use Rattle.tsp_branch.specs.CombsOfSets.{NumberedSet}
+use Rattle.tsp_branch.specs.Judged.{most_crossed}
+use Rattle.tsp_branch.specs.states.Sets.{IsMoved, added, sets_with, IsSetTable}
+use Rattle.tsp_branch.specs.states.Combed.{AreSmallMultipliers, AreMultipliedSets, no_set, plain, multipliers_at, twice_in, inside_both, set_crossings, most_combed, set_weight}
+use Rattle.tsp_branch.specs.states.Kept.{kept_weight, IsKeptRow, AreRows, AreRowsIfAny, AreAdded, AreDifferences}
+use Rattle.tsp_branch.proofs.CombedRows.{added_none}
+use Rattle.tsp_branch.proofs.CombedValues.{combed_at}
+use Rattle.tsp_branch.proofs.MovedSums.{wrapped_by}
+use Rattle.tsp_branch.proofs.SetAlgebra.{apart_is}
+
+-- ---- one row more
+
+-- a place below one more is below, or the last one
+last_or_below : (k n : ℕ) → k < n + 1 → (k < n) ⊎ (k ≡ n)
+last_or_below zero zero less = inr refl
+last_or_below zero (suc n) less = inl (omega arith)
+last_or_below (suc k) zero less = absurd (omega (arith, less))
+last_or_below (suc k) (suc n) less = one_more (last_or_below k n (omega (arith, less)))
+  where
+    one_more : (k < n) ⊎ (k ≡ n) → (suc k < suc n) ⊎ (suc k ≡ suc n)
+    one_more (inl below) = inl (omega (arith, below))
+    one_more (inr same) = inr (ap suc same)
+
+at_end : {A : Type 0} (xs : List A) (x d : A) (n : ℕ) → length xs ≡ n → get_or (xs ++ x ∷ []) n d ≡ x
+at_end xs x d n long = subst (λ (m : ℕ). get_or (xs ++ x ∷ []) m d ≡ x) long (get_or-append_seam xs x [] d)
+
+pub rows_more : (n : ℕ) (cost weight : ℕ → ℕ → ℤ) (count : ℕ) (rows : List (Vec ℤ)) (row : Vec ℤ) → AreRows n cost weight count rows
+    → IsKeptRow n (cost (count + 1)) (weight (count + 1)) row.items → AreRows n cost weight (count + 1) (rows ++ row ∷ [])
+rows_more n cost weight count rows row are last = record {
+  many = omega (arith, length-append rows (row ∷ []), are.many);
+  each = λ k default less. by_place k default (last_or_below k count less);
+}
+  where
+    by_place : (k : ℕ) (default : Vec ℤ) → (k < count) ⊎ (k ≡ count) → IsKeptRow n (cost (k + 1)) (weight (k + 1)) (get_or (rows ++ row ∷ []) k default).items
+    by_place k default (inl below) = subst (λ (r : Vec ℤ). IsKeptRow n (cost (k + 1)) (weight (k + 1)) r.items)
+        (sym (get_or_append_left rows (row ∷ []) default k (omega (arith, below, are.many)))) (are.each k default below)
+    by_place k default (inr same) = subst (λ (m : ℕ). IsKeptRow n (cost (m + 1)) (weight (m + 1)) (get_or (rows ++ row ∷ []) m default).items) (sym same)
+        (subst (λ (r : Vec ℤ). IsKeptRow n (cost (count + 1)) (weight (count + 1)) r.items) (sym (at_end rows row default count are.many)) last)
+
+-- ---- other multipliers
+
+added_sum : (a b : ℤ) (nodes : List ℕ) (x : ℕ) → added (a +ℤ b) nodes x ≡ added a nodes x +ℤ added b nodes x
+added_sum a b [] x = refl
+added_sum a b (node ∷ nodes) x =
+    let rest = added_sum a b nodes x in
+    elim (cases_Bool (node == x)) [
+      | inl here ↦ rw here (omega (arith, ints, rest))
+      | inr other ↦ rw other (omega (arith, ints, rest))
+    ]
+
+twice_sum : (old new differences : List ℤ) (sets : List NumberedSet) (number x : ℕ) → AreDifferences old new differences
+    → twice_in new sets number x ≡ twice_in old sets number x +ℤ twice_in differences sets number x
+twice_sum old new differences sets number x are =
+    let own : NumberedSet = get_or sets number no_set in
+    let more = are own.comb in
+    let twice : pos 2 *ℤ get_or new own.comb (pos 0) ≡ (pos 2 *ℤ get_or old own.comb (pos 0)) +ℤ (pos 2 *ℤ get_or differences own.comb (pos 0)) = omega (arith, ints, more) in
+    ap (λ (z : ℤ). added z own.nodes x) twice ∙ added_sum (pos 2 *ℤ get_or old own.comb (pos 0)) (pos 2 *ℤ get_or differences own.comb (pos 0)) own.nodes x
+
+inside_sum : (old new differences : List ℤ) (sets : List NumberedSet) (numbers : List ℕ) (x : ℕ) → AreDifferences old new differences
+    → inside_both new sets numbers x ≡ inside_both old sets numbers x +ℤ inside_both differences sets numbers x
+inside_sum old new differences sets [] x are = refl
+inside_sum old new differences sets (number ∷ numbers) x are =
+    let own = twice_sum old new differences sets number x are in
+    let rest = inside_sum old new differences sets numbers x are in
+    omega (arith, ints, own, rest)
+
+row_brought : (n : ℕ) (cost was is change : ℕ → ℤ) (old new : List ℤ) → length new ≡ length old → ((x : ℕ) → is x ≡ was x +ℤ change x)
+    → ((x : ℕ) → IsMoved (change x) (least_at old x) (least_at new x)) → IsKeptRow n cost was old → IsKeptRow n cost is new
+row_brought n cost was is change old new same sum moved kept = record {
+  long = same ∙ kept.long;
+  weights = λ x x_in. wrapped_by (change x) (least_at old x) (least_at new x) (least_at old x) (moved x) refl
+      ∙ int_wrap-add_same w64 (least_at old x) (was x) (change x) (kept.weights x x_in) ∙ ap (int_wrap w64) (sym (sum x));
+  costs = kept.costs;
+}
+
+some_of : {A : Type 0} (xs : List A) (k : ℕ) → k < length xs → A
+some_of [] k less = absurd (omega (arith, less))
+some_of (x ∷ xs) k less = x
+
+pub rows_brought : (n : ℕ) (scale : ℤ) (sets : List CombSet) (cost : ℕ → ℕ → ℤ) (old new differences : List ℤ) (by_node : List (Vec ℕ)) (rows brought : List (Vec ℤ))
+    → AreDifferences old new differences → IsSetTable n sets by_node → AreAdded differences sets by_node rows brought → AreRowsIfAny n cost (kept_weight scale sets cost old) rows
+    → AreRowsIfAny n cost (kept_weight scale sets cost new) brought
+rows_brought n scale sets cost old new differences by_node rows brought are table more all some =
+    let kept = all (omega (arith, some, more.many)) in
+    record {
+      many = more.many ∙ kept.many;
+      each = λ k default less.
+          let inside : k < length rows = omega (arith, less, kept.many) in
+          let list : Vec ℕ = some_of by_node (k + 1) (omega (arith, less, table.count)) in
+          let listed = table.said (k + 1) list (omega (arith, less)) in
+          row_brought n (cost (k + 1)) (kept_weight scale sets cost old (k + 1)) (kept_weight scale sets cost new (k + 1)) (λ x. inside_both differences (plain sets) (sets_with 0 sets (k + 1)) x)
+          (get_or rows k default).items (get_or brought k default).items (more.long k default default inside)
+          (λ x. let sum = inside_sum old new differences (plain sets) (sets_with 0 sets (k + 1)) x are in omega (arith, ints, sum))
+          (λ x. subst (λ (ns : List ℕ). IsMoved (inside_both differences (plain sets) ns x) (least_at (get_or rows k default).items x) (least_at (get_or brought k default).items x)) listed
+          (more.moved k x default default list inside)) (kept.each k default less);
+    }
+
+-- ---- no multipliers
+
+none_at : (count k : ℕ) → get_or (replicate count (pos 0)) k (pos 0) ≡ pos 0
+none_at count k = elim (cases_lt k count) [
+  | inl less ↦ get_or-replicate count k (pos 0) (pos 0) less
+  | inr past ↦ get_or_past (replicate count (pos 0)) k (pos 0) (omega (arith, past, length-replicate count (pos 0)))
+]
+
+twice_none : (count : ℕ) (sets : List NumberedSet) (number x : ℕ) → twice_in (replicate count (pos 0)) sets number x ≡ pos 0
+twice_none count sets number x =
+    let own : NumberedSet = get_or sets number no_set in
+    ap (λ (z : ℤ). added (pos 2 *ℤ z) own.nodes x) (none_at count own.comb) ∙ added_none own.nodes x
+
+inside_none : (count : ℕ) (sets : List NumberedSet) (numbers : List ℕ) (x : ℕ) → inside_both (replicate count (pos 0)) sets numbers x ≡ pos 0
+inside_none count sets [] x = refl
+inside_none count sets (number ∷ numbers) x =
+    let own = twice_none count sets number x in
+    let rest = inside_none count sets numbers x in
+    omega (arith, ints, own, rest)
+
+pub kept_at_start : (n combs : ℕ) (scale held : ℤ) (sets : List CombSet) (cost : ℕ → ℕ → ℤ) (rows : List (Vec ℤ)) → held ≡ scale
+    → AreRowsIfAny n cost (λ i x. held *ℤ cost i x) rows → AreRowsIfAny n cost (kept_weight scale sets cost (replicate combs (pos 0))) rows
+kept_at_start n combs scale held sets cost rows same all some =
+    let kept = all some in
+    record {
+      many = kept.many;
+      each = λ k default less.
+          let row = kept.each k default less in
+          record {
+            long = row.long;
+            costs = row.costs;
+            weights = λ x x_in. row.weights x x_in ∙ ap (int_wrap w64)
+                (let none = inside_none combs (plain sets) (sets_with 0 sets (k + 1)) x in let whole = ap (λ (z : ℤ). z *ℤ cost (k + 1) x) same in omega (arith, ints, none, whole));
+          };
+    }
+
+pub small_at_start : (combs : ℕ) → AreSmallMultipliers (replicate combs (pos 0))
+small_at_start combs k default less =
+    rw (get_or-replicate combs k (pos 0) default (omega (arith, less, length-replicate combs (pos 0)))) (omega (arith, ints), omega (arith, ints))
+
+-- ---- what the sets add, row by row
+
+-- the rows before this one have it, and the others are as they were
+pub record IsAddedTo (index : ℕ) (multipliers : List ℤ) (sets : List CombSet) (by_node : List (Vec ℕ)) (old new : List (Vec ℤ)) : Type 0 where
+  pub many : length new ≡ length old
+  pub long : (k : ℕ) (a b : Vec ℤ) → k < length old → length (get_or new k a).items ≡ length (get_or old k b).items
+  pub moved : (k x : ℕ) (a b : Vec ℤ) (c : Vec ℕ) → k < index → k < length old
+      → IsMoved (inside_both multipliers (plain sets) (get_or by_node (k + 1) c).items x) (least_at (get_or old k b).items x) (least_at (get_or new k a).items x)
+  pub rest : (k : ℕ) (a b : Vec ℤ) → index < k + 1 → k < length old → get_or new k a ≡ get_or old k b
+
+pub one_more_row : (index : ℕ) (multipliers : List ℤ) (sets : List CombSet) (by_node : List (Vec ℕ)) (old rows : List (Vec ℤ)) (slot row : Vec ℤ) (numbers : List ℕ) → index < length old
+    → IsAddedTo index multipliers sets by_node old rows → slot ≡ get_or rows index slot → ((c : Vec ℕ) → (get_or by_node (index + 1) c).items ≡ numbers)
+    → ((x : ℕ) → IsMoved (inside_both multipliers (plain sets) numbers x) (least_at slot.items x) (least_at row.items x)) → length row.items ≡ length slot.items
+    → IsAddedTo (index + 1) multipliers sets by_node old (set rows index row)
+one_more_row index multipliers sets by_node old rows slot row numbers less before slot_is listed moved same = record {
+  many = length-set rows index row ∙ before.many;
+  long = λ k a b inside. elim (cases_eq k index) [
+    | inl here ↦ ap (λ (v : Vec ℤ). length v.items) (row_at k a here) ∙ same ∙ ap (λ (v : Vec ℤ). length v.items) (slot_at k b here inside)
+    | inr other ↦ ap (λ (v : Vec ℤ). length v.items) (get_or-set_other rows index k row a other) ∙ before.long k a b inside
+  ];
+  moved = λ k x a b c below inside. elim (cases_eq k index) [
+    | inl here ↦
+        subst (λ (ns : List ℕ). IsMoved (inside_both multipliers (plain sets) ns x) (least_at (get_or old k b).items x) (least_at (get_or (set rows index row) k a).items x))
+        (sym (ap (λ (i : ℕ). (get_or by_node (i + 1) c).items) here ∙ listed c))
+        (subst (λ (v : Vec ℤ). IsMoved (inside_both multipliers (plain sets) numbers x) (least_at (get_or old k b).items x) (least_at v.items x)) (sym (row_at k a here))
+        (subst (λ (v : Vec ℤ). IsMoved (inside_both multipliers (plain sets) numbers x) (least_at v.items x) (least_at row.items x)) (slot_at k b here inside) (moved x)))
+    | inr other ↦
+        subst (λ (v : Vec ℤ). IsMoved (inside_both multipliers (plain sets) (get_or by_node (k + 1) c).items x) (least_at (get_or old k b).items x) (least_at v.items x))
+        (sym (get_or-set_other rows index k row a other)) (before.moved k x a b c (omega (arith, below, other)) inside)
+  ];
+  rest = λ k a b past inside. get_or-set_other rows index k row a (λ e. omega (arith, past, e)) ∙ before.rest k a b (omega (arith, past)) inside;
+}
+  where
+    row_at : (k : ℕ) (a : Vec ℤ) → k ≡ index → get_or (set rows index row) k a ≡ row
+    row_at k a here = ap (λ (i : ℕ). get_or (set rows index row) i a) here ∙ get_or-set_same rows index row a (omega (arith, less, before.many))
+
+    slot_at : (k : ℕ) (b : Vec ℤ) → k ≡ index → k < length old → slot ≡ get_or old k b
+    slot_at k b here inside = slot_is ∙ ap (λ (i : ℕ). get_or rows i slot) (sym here) ∙ before.rest k slot b (omega (arith, here)) inside
+
+-- ---- the weights
+
+pub kept_at : (scale : ℤ) (potentials multipliers : List ℤ) (sets : List CombSet) (cost : ℕ → ℕ → ℤ) (from x : ℕ) (m k kept value : ℤ)
+    → AreMultipliedSets multipliers sets → IsFromTo (pos 0) (pos most_crossed) (set_crossings multipliers (plain sets) from x)
+    → IsFromTo (neg_ℤ (pos most_between)) (pos most_between) (weight_between scale potentials cost from x)
+    → int_wrap w64 m ≡ int_wrap w64 (entry potentials from +ℤ neg_ℤ (multipliers_at multipliers (plain sets) from))
+    → int_wrap w64 k ≡ int_wrap w64 (entry potentials x +ℤ neg_ℤ (multipliers_at multipliers (plain sets) x))
+    → int_wrap w64 kept ≡ int_wrap w64 (kept_weight scale sets cost multipliers from x) → value ≡ int_wrap w64 (kept +ℤ int_wrap w64 (m +ℤ k))
+    → (value ≡ set_weight scale potentials multipliers (plain sets) cost from x) × IsFromTo (neg_ℤ (pos most_combed)) (pos most_combed) value
+kept_at scale potentials multipliers sets cost from x m k kept value combs crossed size m_is k_is kept_is value_is =
+    let scaled : ℤ = scale *ℤ cost from x in
+    let both : ℤ = int_wrap w64 (m +ℤ k) in
+    let inside : ℤ = inside_both multipliers (plain sets) (sets_with 0 sets from) x in
+    let apart : ℤ = int_wrap w64 (scaled +ℤ both) in
+    let first = apart_is scaled (entry potentials from) (entry potentials x) (multipliers_at multipliers (plain sets) from) (multipliers_at multipliers (plain sets) x) m k both apart m_is k_is refl refl in
+    let order : (scaled +ℤ inside) +ℤ both ≡ (scaled +ℤ both) +ℤ inside = omega (arith, ints) in
+    let gained : value ≡ int_wrap w64 (apart +ℤ inside) =
+    value_is ∙ int_wrap-add_same w64 kept (scaled +ℤ inside) both kept_is ∙ ap (int_wrap w64) order ∙ sym (int_wrap-add_left w64 (scaled +ℤ both) inside) in
+    combed_at scale potentials multipliers sets cost from x apart value combs crossed (inr first, size) (inr gained)

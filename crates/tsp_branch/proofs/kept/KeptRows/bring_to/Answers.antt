@@ -1,0 +1,52 @@
+use Rattle.std.proofs.Common.{◌≡◌, ◌∙◌, ◌<◌, ◌≤◌, ◌+◌, ℕ, ℤ, List, length, slice_index_or, ap, sym, subst, arith}
+use Rattle.std.specs.Global.{Vec}
+use Rattle.std.specs.List.{All}
+use Rattle.std.proofs.lemmas.Bool.Decides.{Decides-int_eq}
+use Rattle.std.proofs.lemmas.List.Elements.{All-from_recursion}
+use Rattle.std.proofs.lemmas.Slice.Eq.{slice_eq-Decides}
+use Rattle.tsp_branch.specs.states.Sets.{sets_with}
+use Rattle.tsp_branch.specs.states.Combed.{AreSmallMultipliers}
+use Rattle.tsp_branch.specs.states.Kept.{kept_weight, AreRowsIfAny, AreAdded, AreDifferences}
+use Rattle.tsp_families.specs.declared.comb_set.CombSet.{CombSet}
+use Rattle.tsp_branch.proofs.Judging.{written}
+use Rattle.tsp_branch.proofs.KeptRows.{rows_brought}
+use Rattle.tsp_branch.proofs.SetAlgebra.{sets_below}
+use Rattle.tsp_branch.proofs.kept.KeptRows.bring_to.Goals as goal
+
+pub returns-then-eq-clause-multipliers : goal.returns-then-eq-clause-multipliers
+returns-then-eq-clause-multipliers c =
+    sym c.as_slice.ensures.value ∙ (slice_eq-Decides Decides-int_eq c.as_slice.result.now c.args.multipliers.now c.eq.result c.eq.ensures).0 c.if-eq.true
+
+pub add_to_rows-requires-clause-numbers : goal.add_to_rows-requires-clause-numbers
+add_to_rows-requires-clause-numbers c = λ k d less.
+    let bound : ℕ = length c.args.sets.now in
+    let table = c.requires.kept.5 in
+    let listed = table.said k d (omega (arith, less, table.count)) in
+    subst (λ (ns : List ℕ). All (λ number. number < bound) ns) (sym listed)
+    (All-from_recursion (λ number. number < bound) (sets_with 0 c.args.sets.now k) (sets_below bound 0 c.args.sets.now k (omega arith)))
+
+pub returns-clause-kept : goal.returns-clause-kept
+returns-clause-kept c = λ n scale cost kept table.
+    let old : List ℤ = c.args.self.now.multipliers.items in
+    let new : List ℤ = c.args.multipliers.now in
+    let is : c.copy_from_slice.new.self.items ≡ new = c.copy_from_slice.ensures.items in
+    let differ : AreDifferences old new c.write_differences.new.differences =
+    subst (λ (zs : List ℤ). AreDifferences zs new c.write_differences.new.differences) c.deref.ensures.value c.write_differences.ensures.differences in
+    let differences : List ℤ = c.write_differences.new.differences in
+    let rows : List (Vec ℤ) = c.add_to_rows.new.rows in
+    let sets : List CombSet = c.args.sets.now in
+    let by_node : List (Vec ℕ) = c.args.by_node.now in
+    let differences_are = written c.args.self.now.differences.len differences _ (c.write_differences.auto.differences ∙ c.deref_mut.ensures.len) in
+    let rows_are = written c.args.self.now.rows.len rows _ (c.add_to_rows.auto.rows ∙ c.deref_mut-2.ensures.len) in
+    let added : AreAdded differences sets by_node c.args.self.now.rows.items rows =
+    subst (λ (ds : List ℤ). AreAdded ds sets by_node c.args.self.now.rows.items rows) (c.deref-2.ensures.value ∙ differences_are)
+    (subst (λ (rs : List (Vec ℤ)). AreAdded c.deref-2.result.now sets by_node rs rows) c.deref_mut-2.ensures.value c.add_to_rows.ensures) in
+    let brought : AreRowsIfAny n cost (kept_weight scale sets cost new) rows =
+    rows_brought n scale sets cost old new differences by_node c.args.self.now.rows.items rows differ table added kept.rows in
+    record {
+      multipliers = ap length is;
+      differences = ap length differences_are ∙ c.write_differences.auto.differences ∙ ap length c.deref_mut.ensures.value ∙ kept.differences;
+      small = subst AreSmallMultipliers (sym is) c.requires.small;
+      rows = subst (AreRowsIfAny n cost (kept_weight scale sets cost c.copy_from_slice.new.self.items)) (sym rows_are)
+          (subst (λ (ms : List ℤ). AreRowsIfAny n cost (kept_weight scale sets cost ms) rows) (sym is) brought);
+    }

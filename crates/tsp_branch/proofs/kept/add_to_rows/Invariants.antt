@@ -1,0 +1,5 @@
+use Rattle.tsp_branch.proofs.KeptRows.{IsAddedTo}
+use Rattle.tsp_branch.proofs.kept.add_to_rows.Given as goal
+
+abbrev pub invariant-rows : goal.invariant-rows
+invariant-rows l = IsAddedTo l.index l.multipliers l.sets l.by_node l.fn.rows l.rows

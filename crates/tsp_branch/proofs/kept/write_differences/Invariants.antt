@@ -1,0 +1,12 @@
+use Rattle.std.proofs.Common.{◌≡◌, ◌<◌, ℕ, length}
+use Rattle.std.specs.Prelude.{pos, neg_ℤ, ◌+ℤ◌}
+use Rattle.tsp_theory.specs.Numbers.{IsFromTo}
+use Rattle.tsp_theory.specs.states.Nearest.{least_at}
+use Rattle.tsp_branch.specs.Judged.{most_crossed}
+use Rattle.tsp_branch.proofs.kept.write_differences.Given as goal
+
+abbrev pub invariant-numbers : goal.invariant-numbers
+invariant-numbers l = record {
+  long : length l.differences ≡ length l.new;
+  done : (k : ℕ) → k < l.index → (least_at l.new k ≡ least_at l.old k +ℤ least_at l.differences k) × IsFromTo (neg_ℤ (pos most_crossed)) (pos most_crossed) (least_at l.differences k);
+}

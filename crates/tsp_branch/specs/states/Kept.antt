@@ -1,0 +1,61 @@
+-- Rows that are kept for all nodes while leaves change: of each two nodes what no potential changes.
+use Rattle.std.specs.Prelude.{◌≡◌, ℕ, ◌+◌, ◌<◌, ◌≤◌, List, length, slice_index_or, ℤ, pos, neg_ℤ, ◌+ℤ◌, ◌*ℤ◌}
+use Rattle.std.specs.Int.{w64, int_wrap}
+use Rattle.std.specs.Global.{Vec}
+use Rattle.tsp_format.specs.Cells.{IsNode}
+use Rattle.tsp_format.specs.Limits.{most_weight}
+use Rattle.tsp_theory.specs.Numbers.{IsFromTo, entry}
+use Rattle.tsp_theory.specs.states.Nearest.{least_at}
+use Rattle.tsp_families.specs.declared.comb_set.CombSet.{CombSet}
+use Rattle.tsp_branch.specs.states.Sets.{IsMoved, sets_with}
+use Rattle.tsp_branch.specs.states.Combed.{plain, inside_both, multipliers_at, AreSmallMultipliers}
+use Rattle.tsp_branch.specs.declared.kept.KeptRows.{KeptRows}
+use Rattle.tsp_branch.specs.declared.open_leaf.OpenLeaf.{OpenLeaf}
+
+-- the cost of two nodes at the scale, and what the sets of both add
+abbrev pub kept_weight : ℤ → List CombSet → (ℕ → ℕ → ℤ) → List ℤ → ℕ → ℕ → ℤ
+kept_weight scale sets cost multipliers i x = (scale *ℤ cost i x) +ℤ inside_both multipliers (plain sets) (sets_with 0 sets i) x
+
+-- the row of a node, with a place for 0 and for each node: what is left of each weight in 64 bits; and the costs aren't large
+pub record IsKeptRow (n : ℕ) (cost weight : ℕ → ℤ) (row : List ℤ) : Type 0 where
+  pub long : length row ≡ n + 1
+  pub weights : (x : ℕ) → IsNode n x → int_wrap w64 (least_at row x) ≡ int_wrap w64 (weight x)
+  pub costs : (x : ℕ) → IsNode n x → IsFromTo (neg_ℤ (pos most_weight)) (pos most_weight) (cost x)
+
+-- the rows of the first nodes
+pub record AreRows (n : ℕ) (cost weight : ℕ → ℕ → ℤ) (count : ℕ) (rows : List (Vec ℤ)) : Type 0 where
+  pub many : length rows ≡ count
+  pub each : (k : ℕ) (default : Vec ℤ) → k < count → IsKeptRow n (cost (k + 1)) (weight (k + 1)) (slice_index_or rows k default).items
+
+-- those of all nodes, where there are any
+abbrev pub AreRowsIfAny : ℕ → (ℕ → ℕ → ℤ) → (ℕ → ℕ → ℤ) → List (Vec ℤ) → Type 0
+AreRowsIfAny n cost weight rows = 1 ≤ length rows → AreRows n cost weight n rows
+
+-- rows to which the sets of each node, whose numbers are listed, have added
+pub record AreAdded (multipliers : List ℤ) (sets : List CombSet) (by_node : List (Vec ℕ)) (old new : List (Vec ℤ)) : Type 0 where
+  pub many : length new ≡ length old
+  pub long : (k : ℕ) (a b : Vec ℤ) → k < length old → length (slice_index_or new k a).items ≡ length (slice_index_or old k b).items
+  pub moved : (k x : ℕ) (a b : Vec ℤ) (c : Vec ℕ) → k < length old
+      → IsMoved (inside_both multipliers (plain sets) (slice_index_or by_node (k + 1) c).items x) (least_at (slice_index_or old k b).items x) (least_at (slice_index_or new k a).items x)
+
+-- numbers that are each the difference of two others
+abbrev pub AreDifferences : List ℤ → List ℤ → List ℤ → Type 0
+AreDifferences old new differences = (k : ℕ) → least_at new k ≡ least_at old k +ℤ least_at differences k
+
+-- rows, and the multipliers that they have been brought to
+pub record HoldsRows (n combs : ℕ) (scale : ℤ) (sets : List CombSet) (cost : ℕ → ℕ → ℤ) (kept : KeptRows) : Type 0 where
+  pub multipliers : length kept.multipliers.items ≡ combs
+  pub differences : length kept.differences.items ≡ combs
+  pub small : AreSmallMultipliers kept.multipliers.items
+  pub rows : AreRowsIfAny n cost (kept_weight scale sets cost kept.multipliers.items) kept.rows.items
+
+-- what is left in 64 bits of each node's potential less the multipliers of its sets
+abbrev pub AreMoved : ℕ → List ℤ → List ℤ → List CombSet → List ℤ → Type 0
+AreMoved n potentials multipliers sets moved = (x : ℕ) → IsNode n x → int_wrap w64 (least_at moved x)
+    ≡ int_wrap w64 (entry potentials x +ℤ neg_ℤ (multipliers_at multipliers (plain sets) x))
+
+-- what its weights need of a leaf's numbers
+pub record IsOpenLeaf (n : ℕ) (scale : ℤ) (sets : List CombSet) (cost : ℕ → ℕ → ℤ) (leaf : OpenLeaf) : Type 0 where
+  pub places : length leaf.moved.now ≡ n + 1
+  pub moved : AreMoved n leaf.potentials.now leaf.multipliers.now sets leaf.moved.now
+  pub kept : AreRowsIfAny n cost (kept_weight scale sets cost leaf.multipliers.now) leaf.kept.now

@@ -1,0 +1,161 @@
+//! Rows that are kept for all nodes while leaves change.
+
+ghost use Rattle.std.specs.Prelude.{◌≡◌, ◌≤◌, ◌<◌, ◌+◌, ℕ, length, slice_index_or, IfOk, pos, neg_ℤ, ◌*ℤ◌};
+ghost use Rattle.std.specs.Global.{Vec};
+ghost use Rattle.std.specs.List.{All};
+ghost use Rattle.tsp_format.specs.Cells.{IsNode};
+ghost use Rattle.tsp_theory.specs.Numbers.{IsScale};
+ghost use Rattle.tsp_theory.specs.states.Nearest.{least_at};
+ghost use Rattle.tsp_branch.specs.states.Combed.{AreSmallMultipliers, AreSmallDifferences, AreMultipliedSets};
+ghost use Rattle.tsp_branch.specs.states.Kept.{IsKeptRow, AreRows, AreRowsIfAny, AreAdded, AreDifferences};
+
+use crate::add_sets::add_to_row;
+use crate::scaled::scale_row;
+use std::alloc::{AllocError, Global};
+use tsp_families::CombSet;
+use tsp_theory::Costs;
+
+/// The most nodes of which rows are kept, in 32 MB.
+const MOST_KEPT: u32 = 2_000;
+
+/// For each node a row: its costs at the scale, each with what the sets of both nodes add. Leaves
+/// share them, since a leaf mostly changes potentials alone, of which nothing is in the rows. None
+/// where there are too many nodes.
+#[derive(Drop)]
+pub(crate) struct KeptRows {
+    pub(crate) rows: Vec<Vec<i64>>,
+    pub(crate) multipliers: Vec<i64>,
+    pub(crate) differences: Vec<i64>,
+}
+
+impl KeptRows {
+    ghost use Rattle.std.specs.Prelude.{◌≡◌, ◌<◌, ◌^◌, ℕ, ℤ, List, [], length, IfOk};
+    ghost use Rattle.tsp_theory.specs.Numbers.{IsScale};
+    ghost use Rattle.tsp_families.specs.FamilySets.{AreSetsOf};
+    ghost use Rattle.tsp_families.specs.declared.comb_set.CombSet.{CombSet};
+    ghost use Rattle.tsp_branch.specs.states.Sets.{IsSetTable};
+    ghost use Rattle.tsp_branch.specs.states.Combed.{AreSmallMultipliers, AreMultipliedSets};
+    ghost use Rattle.tsp_branch.specs.states.Kept.{HoldsRows};
+
+    /// The rows where all multipliers of this many combs are 0, for a tree of this many steps.
+    ///
+    /// # Errors
+    ///
+    /// Out of memory, where there is none for a number of each comb.
+    pub(crate) fn new<C: Costs>(
+        alloc: Global,
+        costs: &C,
+        scale: i64,
+        combs: usize,
+        steps: usize,
+    ) -> Result<KeptRows, AllocError>
+        requires scale { IsScale scale }
+        requires few { combs < 2 ^ 32 }
+        ensures { IfOk result (λ kept. (sets : List CombSet) → HoldsRows (C.nodes costs.now) combs scale sets (C.at costs.now) kept) }
+    {
+        let multipliers = vec![in alloc; 0; combs]?;
+        let differences = vec![in alloc; 0; combs]?;
+        Ok(KeptRows {
+            rows: rows_if_any(alloc, costs, scale, steps),
+            multipliers,
+            differences,
+        })
+    }
+
+    /// Brings the rows to other multipliers.
+    pub(crate) fn bring_to(&mut self, multipliers: &[i64], by_node: &[Vec<u32>], sets: &[CombSet])
+        requires kept { (n : ℕ) × (scale : ℤ) × (cost : ℕ → ℕ → ℤ) × HoldsRows n (length multipliers.now) scale sets.now cost self.old
+            × AreSetsOf n sets.now × IsSetTable n sets.now by_node.now }
+        requires small { AreSmallMultipliers multipliers.now }
+        requires combs { AreMultipliedSets multipliers.now sets.now }
+        ensures kept { (n : ℕ) (scale : ℤ) (cost : ℕ → ℕ → ℤ) → HoldsRows n (length multipliers.now) scale sets.now cost self.old
+            → IsSetTable n sets.now by_node.now → HoldsRows n (length multipliers.now) scale sets.now cost self.new }
+        ensures multipliers { self.new.multipliers.items ≡ multipliers.now }
+    {
+        if self.multipliers.as_slice() == multipliers {
+            return;
+        }
+        write_differences(&mut self.differences, &self.multipliers, multipliers);
+        self.multipliers.copy_from_slice(multipliers);
+        add_to_rows(&mut self.rows, by_node, sets, &self.differences);
+    }
+}
+
+/// The rows of all nodes without combs; none where the tree is a leaf, there are too many nodes, or no
+/// memory is left.
+fn rows_if_any<C: Costs>(alloc: Global, costs: &C, scale: i64, steps: usize) -> Vec<Vec<i64>>
+    requires scale { IsScale scale }
+    ensures { AreRowsIfAny (C.nodes costs.now) (C.at costs.now) (λ i x. scale *ℤ C.at costs.now i x) result.items }
+{
+    if steps <= 1 || costs.count() > MOST_KEPT {
+        return Vec::new(alloc);
+    }
+    match rows_of(alloc, costs, scale) {
+        Ok(rows) => rows,
+        Err(_) => Vec::new(alloc),
+    }
+}
+
+/// The rows of all nodes without combs.
+///
+/// # Errors
+///
+/// Out of memory.
+#[tactic(auto, using(crate::proofs::KeptRows::rows_more))]
+fn rows_of<C: Costs>(alloc: Global, costs: &C, scale: i64) -> Result<Vec<Vec<i64>>, AllocError>
+    requires scale { IsScale scale }
+    ensures { IfOk result (λ rows. AreRows (C.nodes costs.now) (C.at costs.now)
+        (λ i x. scale *ℤ C.at costs.now i x) (C.nodes costs.now) rows.items) }
+{
+    let count = costs.count();
+    let mut rows = Vec::with_capacity(alloc, count as usize)?;
+    'rows: for index in 0..count {
+        rows.push(row_of(alloc, costs, scale, index + 1)?)?;
+    }
+    Ok(rows)
+}
+
+/// The costs from a node to each at the scale, each at the place of its node.
+///
+/// # Errors
+///
+/// Out of memory.
+fn row_of<C: Costs>(alloc: Global, costs: &C, scale: i64, from: u32) -> Result<Vec<i64>, AllocError>
+    requires scale { IsScale scale }
+    requires from { IsNode (C.nodes costs.now) from }
+    ensures { IfOk result (λ row. IsKeptRow (C.nodes costs.now) (C.at costs.now from)
+        (λ x. scale *ℤ C.at costs.now from x) row.items) }
+{
+    let mut row = vec![in alloc; 0; costs.count() as usize + 1]?;
+    costs.costs_from(from, &mut row);
+    scale_row(&mut row, scale);
+    Ok(row)
+}
+
+/// Writes how much each number has grown.
+fn write_differences(differences: &mut [i64], old: &[i64], new: &[i64])
+    requires differences { length differences.old ≡ length new.now }
+    requires old { length old.now ≡ length new.now }
+    requires small_old { AreSmallMultipliers old.now }
+    requires small_new { AreSmallMultipliers new.now }
+    ensures differences { AreDifferences old.now new.now differences.new }
+    ensures small { AreSmallDifferences differences.new }
+{
+    'numbers: for index in 0..new.len() {
+        differences[index] = new[index] - old[index];
+    }
+}
+
+/// Adds to each row, at each node of the sets of its node, the set's multiplier twice.
+fn add_to_rows(rows: &mut [Vec<i64>], by_node: &[Vec<u32>], sets: &[CombSet], multipliers: &[i64])
+    requires table { length rows.old < length by_node.now }
+    requires numbers { All (λ list. All (λ number. number < length sets.now) list.items) by_node.now }
+    requires nodes { All (λ row. All (λ set. All (λ node. node < length row.items) set.nodes.items) sets.now) rows.old }
+    requires sets { AreMultipliedSets multipliers.now sets.now }
+    requires small { AreSmallDifferences multipliers.now }
+    ensures { AreAdded multipliers.now sets.now by_node.now rows.old rows.new }
+{
+    'rows: for index in 0..rows.len() {
+        add_to_row(&mut rows[index], &by_node[index + 1], sets, multipliers);
+    }
+}
