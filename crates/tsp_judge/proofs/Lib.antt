@@ -1,4 +1,5 @@
 pub mod Bounding
+pub mod Comparing
 pub mod Converts
 pub mod HandedOn
 pub mod Runs
