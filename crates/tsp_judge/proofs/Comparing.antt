@@ -1,27 +1,32 @@
 -- A comparison, put together from the lines of its solutions.
 use Rattle.std.proofs.Common.{◌≡◌, ℕ, suc, ◌+◌, ◌<◌, ◌≤◌, List, [], ◌∷◌, ◌++◌, length, take, Option, true, false, Bool, refl, sym, ap, subst, ◌∙◌, append_assoc, append-nil, arith, inl, inr}
-use Rattle.std.specs.Prelude.{max, Result, Ok, Err, slice_index_or, IsTrue, Some, None}
+use Rattle.std.specs.Prelude.{max, Result, Ok, Err, IfOk, slice_index_or, Some, None}
 use Rattle.std.specs.Io.KnownBytes.{Appends}
 use Rattle.std.proofs.KnownBytes.{Appends-nil, Appends-trans, Appends-kept}
 use Rattle.std.proofs.lemmas.Bool.{false≢true}
+use Rattle.tsp_stream.specs.declared.output.WriteFault.{WriteFault}
 use Rattle.tsp_stream.specs.declared.output.WriteFault.TheVariants as write_faults
 use Rattle.tsp_stream.specs.declared.watched.Watched.{Watched}
 use Rattle.tsp_stream.specs.states.Watched.{sink_of, watched, has_failed}
-use Rattle.tsp_stream.specs.Turn.{Turn, IsUnread}
-use Rattle.tsp_stream.specs.Sink.{Sink, IsUnwritten, HasWritten, HasStopped}
+use Rattle.tsp_stream.specs.Turn.{Turn}
+use Rattle.tsp_stream.specs.Sink.{Sink, IsUnwritten, HasWritten, HasStopped, Writes}
 use Rattle.tsp_draft.specs.Fields.{Fields}
 use Rattle.tsp_read.specs.declared.ReadFault.{ReadFault}
-use Rattle.tsp_read.specs.declared.ReadFault.TheVariants as read_faults
-use Rattle.tsp_read.specs.Reads.{IsFile, StopsAt}
+use Rattle.tsp_read.specs.Reads.{IsFile}
+use Rattle.tsp_cost.specs.ProblemLaws.{IsProblem}
 use Rattle.tsp_reason.specs.declared.certificate.Certificate.{Certificate}
 use Rattle.tsp_reason.specs.declared.verdict.Verdict.{Verdict}
+use Rattle.tsp_verdict.specs.Basis.{IsBasis, IsVerdictFrom}
 use Rattle.tsp_judge.specs.declared.common.Common.{Common}
 use Rattle.tsp_judge.specs.declared.common.Found.{Found}
 use Rattle.tsp_judge.specs.declared.fault.RunFault.{RunFault}
 use Rattle.tsp_judge.specs.declared.fault.RunFault.TheVariants.{File, WrongKind, Write, OutOfMemory, Relayout}
 use Rattle.tsp_judge.specs.Run.{Given, IsUnreadIn, IsFileIn, ReadsFile, ReadsGiven}
-use Rattle.tsp_judge.specs.CompareRun.{IsFoundIn, IsRefusedIn, result_of, status_of_found, ComparesOne, AreFound, solution_lines, largest_status, ComparesAll, ComparesNone, ComparesBy, ComparesOn, LacksBasis, AreReadOnce, EndsCompare}
+use Rattle.tsp_judge.specs.CompareRun.{IsFoundIn, Finds, result_of, status_of_found, ComparesOne, AreFound, solution_lines, largest_status, ComparesAll, ComparesBy, ComparesOn, LacksBasis, AreReadOnce, EndsCompare}
+use Rattle.tsp_judge.proofs.Runs.{sized}
+use Rattle.tsp_judge.proofs.Yeses.{accepted}
 use Rattle.tsp_report.specs.Compare.{solution_line, head_of}
+use Rattle.tsp_report.specs.Report.{IsSized}
 
 -- ---- one text after another
 
@@ -49,6 +54,33 @@ stopped_then contents a b c x y h k = (
 pub unwritten_then : {W : Type 0} (contents : W → Option (List ℕ)) (a b c : Watched W) (x : List ℕ) → HasWritten (sink_of contents a b) x → IsUnwritten (sink_of contents b c)
     → HasWritten (sink_of contents a c) x
 unwritten_then contents a b c x h k = (h.0, k.1 ∙ h.1, Appends-kept _ _ _ x h.2 k.0)
+
+-- ---- one solution
+
+-- the verdict from what is known of all is that of a check
+pub found_judged : (common : Common) (turn : Turn) (solution : Fields) (verdict : Verdict) → IsProblem common.instance → IsBasis common.certificate common.instance common.basis
+    → IsFile turn solution → IsVerdictFrom common.basis common.instance solution verdict → IsFoundIn common turn (Ok verdict)
+found_judged common turn solution verdict problem basis file v =
+    let checked = v.1 common.certificate basis in
+    (solution, file, checked, v.0, λ yes. accepted common.certificate None common.instance solution verdict problem basis.0 checked (sym yes))
+
+pub found_sized : (common : Common) (turn : Turn) (found : Result Verdict ReadFault) → IsFoundIn common turn found → IfOk found IsSized
+found_sized common turn (Ok verdict) h = sized common.certificate None common.instance h.0 verdict h.2
+found_sized common turn (Err fault) h = tt
+
+pub one_refused : (IsTurn : ℕ → Turn → Type 0) (paths : List (List ℕ)) (common : Common) (place : ℕ) (sink : Sink) (turn : Turn) (fault : RunFault) → IsTurn place turn
+    → Finds common turn (Err fault) → IsUnwritten sink → ComparesOne IsTurn paths common place sink (Err fault)
+one_refused IsTurn paths common place sink turn OutOfMemory is refused unwritten = ((turn, is, refused), unwritten)
+one_refused IsTurn paths common place sink turn (Write fault) is refused unwritten = absurd refused
+one_refused IsTurn paths common place sink turn WrongKind is refused unwritten = absurd refused
+one_refused IsTurn paths common place sink turn (File file fault) is refused unwritten = absurd refused
+one_refused IsTurn paths common place sink turn (Relayout fault) is refused unwritten = absurd refused
+
+pub one_stopped : (IsTurn : ℕ → Turn → Type 0) (paths : List (List ℕ)) (common : Common) (place : ℕ) (sink : Sink) (turn : Turn) (found : Result Verdict ReadFault) (fault : WriteFault)
+    → IsTurn place turn → IsFoundIn common turn found → Writes sink (solution_line found (slice_index_or paths place [])) (Err fault)
+    → ComparesOne IsTurn paths common place sink (Err (Write fault))
+one_stopped IsTurn paths common place sink turn found write_faults.Device is finds writes = (turn, is, (found, finds, writes))
+one_stopped IsTurn paths common place sink turn found write_faults.OutOfMemory is finds writes = absurd writes
 
 -- ---- one solution after another
 
@@ -156,10 +188,12 @@ after_head contents a b c IsTurn paths common head (Err (File file fault)) h k =
 after_head contents a b c IsTurn paths common head (Err (Relayout fault)) h k = absurd k
 
 -- where the writer fails in the head, it is a prefix of the text too
-pub head_stopped : (opened : Bool) (IsTurn : ℕ → Turn → Type 0) (paths : List (List ℕ)) (common : Common) (sink : Sink) → HasStopped sink (head_of common.instance common.basis)
-    → ComparesBy opened IsTurn paths common sink (Err (Write write_faults.Device))
-head_stopped true IsTurn paths common sink h = ([], tt, omega arith, subst (HasStopped sink) (sym (append-nil (head_of common.instance common.basis))) h)
-head_stopped false IsTurn paths common sink h = h
+pub head_stopped : (opened : Bool) (IsTurn : ℕ → Turn → Type 0) (paths : List (List ℕ)) (common : Common) (sink : Sink) (fault : WriteFault)
+    → Writes sink (head_of common.instance common.basis) (Err fault) → ComparesBy opened IsTurn paths common sink (Err (Write fault))
+head_stopped true IsTurn paths common sink write_faults.Device h =
+    ([], tt, omega arith, subst (HasStopped sink) (sym (append-nil (head_of common.instance common.basis))) h)
+head_stopped false IsTurn paths common sink write_faults.Device h = h
+head_stopped opened IsTurn paths common sink write_faults.OutOfMemory h = absurd h
 
 -- ---- the files that are read once
 

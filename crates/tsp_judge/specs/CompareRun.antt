@@ -8,7 +8,7 @@ use Rattle.tsp_draft.specs.Fields.{Fields}
 use Rattle.tsp_read.specs.declared.ReadFault.{ReadFault}
 use Rattle.tsp_read.specs.declared.ReadFault.TheVariants as read_faults
 use Rattle.tsp_read.specs.Reads.{IsFile, StopsAt, most_taken}
-use Rattle.tsp_reason.specs.declared.basis.Basis.{Basis}
+use Rattle.tsp_cost.specs.ProblemLaws.{IsProblem}
 use Rattle.tsp_reason.specs.declared.certificate.Certificate.{Certificate}
 use Rattle.tsp_reason.specs.declared.verdict.Verdict.{Verdict}
 use Rattle.tsp_reason.specs.Verdicts.{is_yes, is_clear}
@@ -160,9 +160,9 @@ LacksBasis certificate instance (Write fault) = ⊥
 LacksBasis certificate instance (File file fault) = ⊥
 LacksBasis certificate instance (Relayout fault) = ⊥
 
--- these are the files that are read once
+-- these are the files that are read once, and the instance is one problem
 abbrev pub AreReadOnce : Given → Turn → Common → Type 0
-AreReadOnce given first common = IsFile first common.instance × IsFileIn given common.certificate
+AreReadOnce given first common = IsFile first common.instance × IsFileIn given common.certificate × IsProblem common.instance
 
 -- no basis comes of the files that are read once, and nothing is written
 abbrev pub EndsLacking : Given → Turn → Sink → RunFault → Type 0

@@ -7,6 +7,7 @@ pub use Rattle.tsp_reason.specs.Verdicts
 pub mod Accepted
 pub mod BoundRun
 pub mod CompareRun
+pub mod Optimal
 pub mod ConvertRun
 pub mod FaultText
 pub mod Run

@@ -1,7 +1,7 @@
 //! A comparison of solutions, from the bytes read to the bytes written: the instance and the certificate
 //! are read once, then each solution is read, judged, and dropped.
 
-ghost use Rattle.std.specs.Prelude.{◌≡◌, ◌<◌, false, true, [], length, None};
+ghost use Rattle.std.specs.Prelude.{◌≡◌, ◌<◌, max, false, true, [], length, None};
 ghost use Rattle.tsp_stream.specs.states.Watched.{has_failed, sink_of, turn_of};
 ghost use Rattle.tsp_stream.specs.Turn.{Turn, IsUnread, TakesAtMost};
 ghost use Rattle.tsp_read.specs.Reads.{IsFile, most_taken};
@@ -133,10 +133,17 @@ fn compare_all<R: Read + Drop, S: Solutions<R>, W: Write, L: Follow>(
     let mut status = 0;
     'solutions: for index in 0..solutions.count() {
         let found = compare_one(alloc, common, solutions, index, out)?;
-        status = status_of_found(found.result()).max(status);
+        status = larger(status_of_found(found.result()), status);
         follower.written(common, index, &found);
     }
     Ok(status)
+}
+
+/// The larger of two statuses.
+fn larger(a: u8, b: u8) -> u8
+    ensures { result ≡ max a b }
+{
+    a.max(b)
 }
 
 /// Opens a solution, reads and judges it, and writes its line.

@@ -13,6 +13,7 @@ mod bound;
 mod check;
 mod checked;
 mod common;
+mod compare_laws;
 mod compared;
 mod convert;
 mod examples;
@@ -28,6 +29,7 @@ pub use bound::{Bounded, run_bound};
 pub use check::{run_bound_check, run_branch_check, run_check};
 pub use checked::run;
 pub use common::{Common, Found};
+pub use compare_laws::{lines_of_bounded_tours, lines_of_checks, solutions_without_a_basis};
 pub use compared::{Compared, run_compare};
 pub use convert::run_convert;
 pub use examples::{

@@ -8,6 +8,7 @@
 #![tactic(auto)]
 
 mod bound;
+mod compare_examples;
 mod compared;
 mod examples;
 mod fault;
@@ -18,6 +19,7 @@ mod shown;
 mod whole_examples;
 
 pub use bound::write_bound;
+pub use compare_examples::{examples_of_heads, examples_of_lines};
 pub use compared::{write_head, write_line};
 pub use examples::{examples_of_reasons, examples_of_reports, examples_of_shown_lines};
 pub use report::write_report;

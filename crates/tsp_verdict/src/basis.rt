@@ -1,6 +1,6 @@
 //! What is known of all solutions of an instance, before any is read, and the verdict on one of them.
 
-ghost use Rattle.std.specs.Prelude.{◌≡◌, ◌⊎◌, IsTrue, length, Some, MatchOption, MatchResult, option_map};
+ghost use Rattle.std.specs.Prelude.{◌≡◌, ◌⊎◌, ◌≤◌, true, IsTrue, length, Option, Some, MatchOption, MatchResult, option_map};
 ghost use Rattle.std.specs.List.{All};
 ghost use Rattle.tsp_format.specs.declared.kinds.Kind.TheVariants as kinds;
 ghost use Rattle.tsp_format.specs.Cells.{IsNode};
@@ -77,6 +77,9 @@ fn basis_of_routes(instance: &Instance) -> Basis
     requires { instance.now.kind ≡ Some kinds.Cvrp }
     ensures { IsBasisOfRoutes instance.now result }
 {
+    if instance.count() < FEWEST_NODES {
+        return Basis::No(Reason::TooFewNodes);
+    }
     let routing = routing(instance);
     if let Some(reason) = first_against_routing(instance, &routing) {
         return Basis::No(reason);
@@ -86,8 +89,9 @@ fn basis_of_routes(instance: &Instance) -> Basis
     }
 }
 
-/// The first reason against an instance, whatever the routes.
+/// The first reason against an instance of enough nodes, whatever the routes.
 fn first_against_routing(inst: &Instance, routing: &RoutingData<'_>) -> Option<Reason>
+    requires some { 2 ≤ nodes_of inst.now }
     requires demands { routing.now.demands.now ≡ demands_of inst.now }
     requires each { length routing.now.demands.now ≡ nodes_of inst.now }
     requires depots { routing.now.depots.now ≡ depots_of inst.now }
@@ -96,9 +100,6 @@ fn first_against_routing(inst: &Instance, routing: &RoutingData<'_>) -> Option<R
         (NoneAgainstRouting inst.now)
         (λ reason. IsFirstReason (StandsAgainstRouting inst.now) reason) }
 {
-    if inst.count() < FEWEST_NODES {
-        return Some(Reason::TooFewNodes);
-    }
     let [depot] = routing.depots else {
         return Some(Reason::DepotCount);
     };
