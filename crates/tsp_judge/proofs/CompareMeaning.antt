@@ -68,26 +68,26 @@ bounded_line common turn by certificate length bound problem is found = (
 -- ---- the answer of a check
 
 -- the first reason applies, and none where the solution is accepted
-by_type : (kind : Option Kind) (instance solution : Fields) (yes : Verdict) (reason : Reason) → is_yes yes ≡ true → IsVerdictBy kind instance solution yes
+by_type : (kind : Option Kind) (instance solution : Fields) (accepted : Verdict) (reason : Reason) → is_yes accepted ≡ true → IsVerdictBy kind instance solution accepted
     → IsVerdictBy kind instance solution (verdicts.No reason) → ⊥
-by_type (Some kinds.Tsp) instance solution (verdicts.Tour length bound) reason is v no = v.0 reason no.stands
-by_type (Some kinds.Tsp) instance solution (verdicts.Routes length routes least) reason is v no = absurd v
-by_type (Some kinds.Atsp) instance solution (verdicts.Tour length bound) reason is v no = v.0 reason no.stands
-by_type (Some kinds.Atsp) instance solution (verdicts.Routes length routes least) reason is v no = absurd v
-by_type (Some kinds.Cvrp) instance solution (verdicts.Tour length bound) reason is v no = absurd v
-by_type (Some kinds.Cvrp) instance solution (verdicts.Routes length routes least) reason is v no = v.0 reason no.stands
-by_type (Some kinds.Tour) instance solution yes reason is v no = no
-by_type (Some kinds.Potentials) instance solution yes reason is v no = no
-by_type (Some kinds.Branches) instance solution yes reason is v no = no
-by_type None instance solution yes reason is v no = no
-by_type kind instance solution (verdicts.No other) reason is v no = absurd (false≢true is)
+by_type (Some kinds.Tsp) instance solution (verdicts.Tour length bound) reason is v refused = v.0 reason refused.stands
+by_type (Some kinds.Tsp) instance solution (verdicts.Routes length routes least) reason is v refused = absurd v
+by_type (Some kinds.Atsp) instance solution (verdicts.Tour length bound) reason is v refused = v.0 reason refused.stands
+by_type (Some kinds.Atsp) instance solution (verdicts.Routes length routes least) reason is v refused = absurd v
+by_type (Some kinds.Cvrp) instance solution (verdicts.Tour length bound) reason is v refused = absurd v
+by_type (Some kinds.Cvrp) instance solution (verdicts.Routes length routes least) reason is v refused = v.0 reason refused.stands
+by_type (Some kinds.Tour) instance solution accepted reason is v refused = refused
+by_type (Some kinds.Potentials) instance solution accepted reason is v refused = refused
+by_type (Some kinds.Branches) instance solution accepted reason is v refused = refused
+by_type None instance solution accepted reason is v refused = refused
+by_type kind instance solution (verdicts.No other) reason is v refused = absurd (false≢true is)
 
-not_both : (given : Option (Certificate × Fields)) (instance solution : Fields) (yes : Verdict) (reason : Reason) → is_yes yes ≡ true
-    → IsVerdictWith given None instance solution yes → IsVerdictWith given None instance solution (verdicts.No reason) → ⊥
-not_both None instance solution yes reason is v no = by_type instance.kind instance solution yes reason is v no
-not_both (Some given) instance solution (verdicts.Tour length bound) reason is v no = v.0 reason no.stands
-not_both (Some given) instance solution (verdicts.Routes length routes least) reason is v no = absurd v
-not_both (Some given) instance solution (verdicts.No other) reason is v no = absurd (false≢true is)
+not_both : (given : Option (Certificate × Fields)) (instance solution : Fields) (accepted : Verdict) (reason : Reason) → is_yes accepted ≡ true
+    → IsVerdictWith given None instance solution accepted → IsVerdictWith given None instance solution (verdicts.No reason) → ⊥
+not_both None instance solution accepted reason is v refused = by_type instance.kind instance solution accepted reason is v refused
+not_both (Some given) instance solution (verdicts.Tour length bound) reason is v refused = v.0 reason refused.stands
+not_both (Some given) instance solution (verdicts.Routes length routes least) reason is v refused = absurd v
+not_both (Some given) instance solution (verdicts.No other) reason is v refused = absurd (false≢true is)
 
 pub one_answer : (given : Option (Certificate × Fields)) (instance solution : Fields) (a b : Verdict) → IsVerdictWith given None instance solution a
     → IsVerdictWith given None instance solution b → is_yes b ≡ is_yes a

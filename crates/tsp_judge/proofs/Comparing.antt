@@ -47,7 +47,7 @@ pub stopped_then : {W : Type 0} (contents : W → Option (List ℕ)) (a b c : Wa
 stopped_then contents a b c x y h k = (
   k.0,
   (λ had. absurd (false≢true (sym h.0 ∙ had))),
-  (length x + k.2.0, subst (λ t. Appends _ _ t) (sym (take-append-add x y k.2.0)) (Appends-trans _ _ _ x (take k.2.0 y) h.2 k.2.1)),
+  (length x + k.2.0, subst (λ t. Appends (contents (watched a)) (contents (watched c)) t) (sym (take-append-add x y k.2.0)) (Appends-trans (contents (watched a)) (contents (watched b)) (contents (watched c)) x (take k.2.0 y) h.2 k.2.1)),
 )
 
 -- a text was written, and then nothing
@@ -136,10 +136,10 @@ pub compared_next : {W : Type 0} (contents : W → Option (List ℕ)) (a b c : W
     → HasCompared IsTurn paths common (sink_of contents a c) (count + 1) (max (status_of_found (result_of found)) status)
 compared_next contents a b c IsTurn paths common count status found h more k =
     let next = result_of found in
-    let line = subst (λ n. HasWritten (sink_of contents b c) (solution_line next (slice_index_or paths n []))) (sym h.counted) k.2.2 in
+    let line = subst (λ n. HasWritten (sink_of contents b c) (solution_line next (slice_index_or paths n []))) (sym h.counted) k.3 in
     record {
       found = h.found ++ next ∷ [];
-      are = found_next IsTurn common 0 h.found next h.are (k.0, subst (λ n. IsTurn n k.0) (sym h.counted ∙ omega arith) k.1, k.2.0);
+      are = found_next IsTurn common 0 h.found next h.are (k.0, subst (λ n. IsTurn n k.0) (sym h.counted ∙ omega arith) k.1, k.2);
       counted = length_next h.found next ∙ ap (λ n. n + 1) h.counted;
       written = subst (HasWritten (sink_of contents a c)) (lines_next h.found paths next (omega (arith, h.counted, more)))
           (written_then contents a b c (solution_lines h.found paths) _ h.written line);

@@ -41,7 +41,7 @@ pub struct Compared {
 /// The instance and the certificate, where one is asked for, are read and judged once. The head of the
 /// text says what they are. Where a reason applies to one of them, it ends the text, and no solution is
 /// opened. Otherwise each solution in turn is opened, read, and judged as a check of the three files
-/// does. Its line is written, the follower is told, and the solution is dropped. A solution that is no
+/// does. Its line is written, its follower is told, and it is dropped. A solution that is no
 /// file, or can't be read, has a line with its fault, and the others follow.
 ///
 /// # Errors
@@ -51,59 +51,62 @@ pub struct Compared {
 /// `OutOfMemory` where the judgement runs out of memory, or the reading of a solution does: the head and
 /// the lines of the solutions before were written. `Write` where the writer fails, after a prefix of the
 /// text. Of each file at most 4,096 bytes past `MOST_FILE_BYTES` are read.
-pub fn run_compare<I: Read, C: Read, R: Read + Drop, S: Solutions<R>, W: Write, L: Follow>(
+pub fn run_compare<I: Read, C: Read, R: Read + Drop, E, S: Solutions<R> + Follow<E>, W: Write>(
     alloc: Global,
     inst: &mut Watched<I>,
     by: Option<Certificate>,
     cert: &mut Watched<C>,
     solutions: &S,
     out: &mut Watched<W>,
-    follower: &mut L,
+    to: &mut E,
 ) -> Result<Compared, RunFault>
-    ensures { TakesAtMost most_taken (turn_of I.remaining inst.old inst.new) (λ first.
+    ensures text { TakesAtMost most_taken (turn_of I.remaining inst.old inst.new) (λ first.
         TakesAtMost most_taken (turn_of C.remaining cert.old cert.new) (λ second.
         (by ≡ None → IsUnread second)
         × IsCompareRun R.remaining (S.opens solutions.now) (S.names solutions.now) (given_by by second) first
         (sink_of W.contents out.old out.new) result)) }
+    ensures told { S.tells solutions.now to.old to.new }
 {
     let instance = read_file(alloc, 1, inst)?;
     let certificate = read_certificate(alloc, 2, by, cert)?;
-    compare_read(alloc, instance, certificate, solutions, out, follower)
+    compare_read(alloc, instance, certificate, solutions, out, to)
 }
 
 /// The run on these files, whatever readers they came from.
-fn compare_read<R: Read + Drop, S: Solutions<R>, W: Write, L: Follow>(
+fn compare_read<R: Read + Drop, E, S: Solutions<R> + Follow<E>, W: Write>(
     alloc: Global,
     instance: File,
     certificate: Option<(Certificate, File)>,
     solutions: &S,
     out: &mut Watched<W>,
-    follower: &mut L,
+    to: &mut E,
 ) -> Result<Compared, RunFault>
-    ensures { (given : Given) (first : Turn) → IsFile first instance → IsFileIn given certificate
+    ensures text { (given : Given) (first : Turn) → IsFile first instance → IsFileIn given certificate
         → IsCompareRun R.remaining (S.opens solutions.now) (S.names solutions.now) given first
         (sink_of W.contents out.old out.new) result }
+    ensures told { S.tells solutions.now to.old to.new }
 {
     let Ok(instance) = Instance::of(instance) else {
         return Err(RunFault::WrongKind);
     };
     let common = common_of(alloc, instance, certificate)?;
-    let status = compare_with(alloc, &common, solutions, out, follower)?;
+    let status = compare_with(alloc, &common, solutions, out, to)?;
     Ok(Compared { common, status })
 }
 
 /// Writes the head, and compares the solutions where no reason applies to all of them.
-fn compare_with<R: Read + Drop, S: Solutions<R>, W: Write, L: Follow>(
+fn compare_with<R: Read + Drop, E, S: Solutions<R> + Follow<E>, W: Write>(
     alloc: Global,
     common: &Common,
     solutions: &S,
     out: &mut Watched<W>,
-    follower: &mut L,
+    to: &mut E,
 ) -> Result<u8, RunFault>
     requires basis { IsBasis common.now.certificate common.now.instance common.now.basis }
     requires problem { IsProblem common.now.instance }
-    ensures { ComparesBy (is_clear common.now.basis) (IsTurnAt R.remaining (S.opens solutions.now))
+    ensures text { ComparesBy (is_clear common.now.basis) (IsTurnAt R.remaining (S.opens solutions.now))
         (S.names solutions.now) common.now (sink_of W.contents out.old out.new) result }
+    ensures told { S.tells solutions.now to.old to.new }
 {
     match write_head(common.instance.file(), common.basis, out) {
         Ok(()) => {}
@@ -112,29 +115,30 @@ fn compare_with<R: Read + Drop, S: Solutions<R>, W: Write, L: Follow>(
     if !common.basis.is_clear() {
         return Ok(NO);
     }
-    compare_all(alloc, common, solutions, out, follower)
+    compare_all(alloc, common, solutions, out, to)
 }
 
 /// Compares all solutions, in order.
-fn compare_all<R: Read + Drop, S: Solutions<R>, W: Write, L: Follow>(
+fn compare_all<R: Read + Drop, E, S: Solutions<R> + Follow<E>, W: Write>(
     alloc: Global,
     common: &Common,
     solutions: &S,
     out: &mut Watched<W>,
-    follower: &mut L,
+    to: &mut E,
 ) -> Result<u8, RunFault>
     requires clear { is_clear common.now.basis ≡ true }
     requires basis { IsBasis common.now.certificate common.now.instance common.now.basis }
     requires problem { IsProblem common.now.instance }
     requires sound { has_failed out.old ≡ false }
-    ensures { ComparesAll (IsTurnAt R.remaining (S.opens solutions.now)) (S.names solutions.now) common.now []
+    ensures text { ComparesAll (IsTurnAt R.remaining (S.opens solutions.now)) (S.names solutions.now) common.now []
         (sink_of W.contents out.old out.new) result }
+    ensures told { S.tells solutions.now to.old to.new }
 {
     let mut status = 0;
     'solutions: for index in 0..solutions.count() {
         let found = compare_one(alloc, common, solutions, index, out)?;
         status = larger(status_of_found(found.result()), status);
-        follower.written(common, index, &found);
+        solutions.written(to, common, index, &found);
     }
     Ok(status)
 }

@@ -27,8 +27,20 @@ pub trait Solutions<R> {
         ensures { opens self.now index result };
 }
 
-/// Who follows a comparison, line by line: to explain a line, or to show how far it has come.
-pub trait Follow {
-    /// Takes note that the line of the solution at a place, counted from 0, was written.
-    fn written(&mut self, common: &Common, index: usize, found: &Found);
+/// Who follows a comparison, line by line, and tells of it: to explain a line, or to show how far it has
+/// come. `E` is what is told.
+pub trait Follow<E> {
+    /// What telling of lines, one after the other, may do to an `E`.
+    ghost tells: { Self → E → E → Type 0 };
+
+    /// Where there is none to tell of, it stays as it is.
+    ghost stays: { (follower : Self) (at : E) → Self.tells follower at at };
+
+    /// What may come of some and then of more may come of all.
+    ghost goes_on: { (follower : Self) (first next last : E) → Self.tells follower first next
+        → Self.tells follower next last → Self.tells follower first last };
+
+    /// Tells of the line of the solution at a place, counted from 0, which was written.
+    fn written(&self, to: &mut E, common: &Common, index: usize, found: &Found)
+        ensures { tells self.now to.old to.new };
 }

@@ -6,8 +6,8 @@ use Rattle.tsp_judge.proofs.Runs.{none_taken, unread_in}
 use Rattle.tsp_judge.proofs.Comparing.{compare_first_stops, compare_second_stops}
 use Rattle.tsp_judge.proofs.compared.run_compare.Goals as goal
 
-pub returns-in_err-instance : goal.returns-in_err-instance
-returns-in_err-instance g c =
+pub returns-in_err-instance-clause-text : goal.returns-in_err-instance-clause-text
+returns-in_err-instance-clause-text g c =
     let same : c.from_residual.result ≡ Err c.in_err-instance.field-0.0 = handed_on _ _ c.from_residual.ensures.1 in
     let one = c.in_err-instance.ensures in
     rw same (
@@ -24,8 +24,8 @@ returns-in_err-instance g c =
       ),
     )
 
-pub returns-in_err-certificate : goal.returns-in_err-certificate
-returns-in_err-certificate g c =
+pub returns-in_err-certificate-clause-text : goal.returns-in_err-certificate-clause-text
+returns-in_err-certificate-clause-text g c =
     let same : c.from_residual-in_err-certificate.result ≡ Err c.in_err-certificate.field-0.0 = handed_on _ _ c.from_residual-in_err-certificate.ensures.1 in
     let one = c.in_ok-instance.ensures in
     let two = c.in_err-certificate.ensures in
@@ -35,8 +35,14 @@ returns-in_err-certificate g c =
       (two.0, two.1, (two.2.0, compare_second_stops _ _ _ _ c.in_ok-instance.instance _ _ one.2 two.2.1 (Keeps-refl _, refl))),
     )
 
-pub returns : goal.returns
-returns g c =
+pub returns-clause-text : goal.returns-clause-text
+returns-clause-text g c =
     let one = c.in_ok-instance.ensures in
     let two = c.in_ok-certificate.ensures in
-    (one.0, one.1, (two.0, two.1, (two.2.0, c.compare_read.ensures _ _ one.2 two.2.1)))
+    (one.0, one.1, (two.0, two.1, (two.2.0, c.compare_read.ensures.text _ _ one.2 two.2.1)))
+
+pub returns-in_err-instance-clause-told : goal.returns-in_err-instance-clause-told
+returns-in_err-instance-clause-told g c = g.S.Follow.stays _ _
+
+pub returns-in_err-certificate-clause-told : goal.returns-in_err-certificate-clause-told
+returns-in_err-certificate-clause-told g c = g.S.Follow.stays _ _
