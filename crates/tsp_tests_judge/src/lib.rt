@@ -11,8 +11,6 @@ mod bytes;
 #[cfg(test)]
 mod claims;
 #[cfg(test)]
-mod compares;
-#[cfg(test)]
 mod failures;
 #[cfg(test)]
 mod files;
