@@ -17,7 +17,7 @@ ghost use Rattle.tsp_verdict.specs.Tours.{NoneOfTourBeforeRepeats};
 ghost use Rattle.tsp_verdict.specs.states.Costs.{IsLengthOf};
 
 use crate::bounded::{costs_of_tours, judge_bound};
-use crate::files::{fixed_pairs, routing};
+use crate::files::{routing, solution_tours};
 use crate::loads::least_routes;
 use crate::routes::{FEWEST_NODES, judge_routes};
 use crate::tour::length_after_files;
@@ -106,7 +106,7 @@ fn first_against_routing(inst: &Instance, routing: &RoutingData<'_>) -> Option<R
     if routing.demands[*depot as usize - 1] != 0 {
         return Some(Reason::DepotDemand);
     }
-    if !fixed_pairs(inst).is_empty() {
+    if !inst.fixed().is_empty() {
         return Some(Reason::FixedEdgesInRoutes);
     }
     None
@@ -150,6 +150,7 @@ pub fn judge_next(
     let bound = match basis {
         Basis::Routes { .. } => return judge_routes(alloc, instance, solution),
         Basis::Tours { bound } => bound,
+        // Then no solution has a tour, so that its length isn't reached.
         Basis::NoTour | Basis::No(_) => None,
     };
     match length_of_next(alloc, instance, solution)? {
@@ -171,11 +172,11 @@ fn length_of_next(
         (λ found. IsLengthOf inst.now sol.now found)
         (λ refused. NoneOfTourBeforeRepeats inst.now sol.now) }
 {
-    if sol.kind() != Kind::Tour {
+    let Some(tours) = solution_tours(sol) else {
         return Ok(Err(Reason::NotASolution));
-    }
+    };
     if sol.dimension().is_some_and(|stated| stated != inst.count()) {
         return Ok(Err(Reason::Dimension));
     }
-    length_after_files(alloc, inst, sol)
+    length_after_files(alloc, inst, sol, tours)
 }

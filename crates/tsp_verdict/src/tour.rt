@@ -121,11 +121,7 @@ pub(crate) fn length_after_files(
 
 /// The one tour of a solution, with as many nodes as the instance, or the first reason against it that
 /// is judged before its nodes are looked at.
-fn the_tour<'a>(
-    inst: &Instance,
-    sol: &File,
-    tours: &'a [Vec<u32>],
-) -> Result<&'a [u32], Reason>
+fn the_tour<'a>(inst: &Instance, sol: &File, tours: &'a [Vec<u32>]) -> Result<&'a [u32], Reason>
     requires tours { AreToursOf sol.now tours.now }
     requires before { NoneOfTourUpTo inst.now sol.now (rank_of TourCount) }
     ensures { MatchResult result
