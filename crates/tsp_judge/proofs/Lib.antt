@@ -1,4 +1,6 @@
 pub mod Bounding
+pub mod Comparing
+pub mod CompareMeaning
 pub mod Converts
 pub mod HandedOn
 pub mod Runs

@@ -103,7 +103,7 @@ second_stops given claimed first second instance sink OutOfMemory one stops thre
 second_stops given claimed first second instance sink (Relayout fault) one stops three unwritten = absurd stops
 
 pub third_stops : (given : Given) (claimed : Option ℤ) (first second : Turn) (instance solution : Fields) (sink : Sink) (fault : RunFault) → IsFile first instance
-    → IsFile second solution → ReadsGiven given (Err fault) → IsUnwritten sink → EndsWithout given claimed first second sink fault
+    → IsFile second solution → ReadsGiven 3 given (Err fault) → IsUnwritten sink → EndsWithout given claimed first second sink fault
 third_stops None claimed first second instance solution sink fault one two stops unwritten = absurd stops
 third_stops (Some third) claimed first second instance solution sink (File place fault) one two stops unwritten =
     (unwritten, inr (inr (third, refl, stops.0, (instance, one), (solution, two), stops.1)))

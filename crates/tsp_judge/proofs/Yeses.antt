@@ -103,7 +103,7 @@ present : (o : Option (List (List ℕ))) (tours : List (List ℕ)) → unwrap_or
 present None tours is some = absurd (some (sym is))
 present (Some held) tours is some = ap (λ ts. Some ts) is
 
-one_tour : (solution : Fields) (tour : List ℕ) → tours_of solution ≡ tour ∷ [] → solution.tours ≡ Some (tour ∷ [])
+pub one_tour : (solution : Fields) (tour : List ℕ) → tours_of solution ≡ tour ∷ [] → solution.tours ≡ Some (tour ∷ [])
 one_tour solution tour only = present solution.tours (tour ∷ []) only (λ none. cc)
 
 -- ---- without a certificate
@@ -225,7 +225,7 @@ bounded_tour by claimed instance solution certificate length bound problem type 
 
 -- ---- either
 
-accepted : (certificate : Option (Certificate × Fields)) (claimed : Option ℤ) (instance solution : Fields) (verdict : Verdict) → IsProblem instance
+pub accepted : (certificate : Option (Certificate × Fields)) (claimed : Option ℤ) (instance solution : Fields) (verdict : Verdict) → IsProblem instance
     → IsTrue (is_judged certificate instance.kind) → IsVerdictWith certificate claimed instance solution verdict → true ≡ is_yes verdict
     → IsAccepted certificate claimed instance solution (report_of instance verdict)
 accepted None claimed instance solution (verdicts.Tour length bound) problem type v is =

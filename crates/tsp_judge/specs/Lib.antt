@@ -6,6 +6,8 @@ pub use Rattle.tsp_format.specs.Layout
 pub use Rattle.tsp_reason.specs.Verdicts
 pub mod Accepted
 pub mod BoundRun
+pub mod CompareRun
+pub mod Optimal
 pub mod ConvertRun
 pub mod FaultText
 pub mod Run

@@ -51,11 +51,11 @@ IsFileIn None (Some certificate) = ⊥
 IsFileIn (Some given) None = ⊥
 IsFileIn (Some given) (Some certificate) = (certificate.0 ≡ given.0) × IsFile given.1 certificate.1
 
--- its file was read, or it is none and the run ends with its fault
-abbrev pub ReadsGiven : Given → Result (Option (Certificate × Fields)) RunFault → Type 0
-ReadsGiven given (Ok certificate) = IsFileIn given certificate
-ReadsGiven None (Err fault) = ⊥
-ReadsGiven (Some given) (Err fault) = ReadsFile 3 given.1 (Err fault)
+-- its file, with this number, was read, or it is none and the run ends with its fault
+abbrev pub ReadsGiven : ℕ → Given → Result (Option (Certificate × Fields)) RunFault → Type 0
+ReadsGiven number given (Ok certificate) = IsFileIn given certificate
+ReadsGiven number None (Err fault) = ⊥
+ReadsGiven number (Some given) (Err fault) = ReadsFile number given.1 (Err fault)
 
 -- these are the files
 pub record AreRead (given : Given) (first second : Turn) (instance solution : Fields)

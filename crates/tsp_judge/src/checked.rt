@@ -52,23 +52,24 @@ pub fn run<I: Read, S: Read, C: Read, W: Write>(
 {
     let instance = read_file(alloc, 1, inst)?;
     let solution = read_file(alloc, 2, sol)?;
-    let certificate = read_certificate(alloc, by, cert)?;
+    let certificate = read_certificate(alloc, 3, by, cert)?;
     judge_read(alloc, instance, solution, certificate, claimed, out)
 }
 
-/// Reads the file of the certificate that is asked for, where one is.
-fn read_certificate<C: Read>(
+/// Reads the file of the certificate that is asked for, where one is, which has this number.
+pub(crate) fn read_certificate<C: Read>(
     alloc: Global,
+    number: u32,
     by: Option<Certificate>,
     cert: &mut Watched<C>,
 ) -> Result<Option<(Certificate, File)>, RunFault>
     ensures { TakesAtMost most_taken (turn_of C.remaining cert.old cert.new) (λ third.
-        (by ≡ None → IsUnread third) × ReadsGiven (given_by by third) result) }
+        (by ≡ None → IsUnread third) × ReadsGiven number (given_by by third) result) }
 {
     let Some(by) = by else {
         return Ok(None);
     };
-    let file = read_file(alloc, 3, cert)?;
+    let file = read_file(alloc, number, cert)?;
     Ok(Some((by, file)))
 }
 

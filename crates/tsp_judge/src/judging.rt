@@ -52,7 +52,7 @@ pub(crate) fn judge_files<W: Write>(
 }
 
 /// Whether solutions of the instance are judged, with this certificate or with none.
-fn is_judged(certificate: &Option<(Certificate, File)>, instance: &Instance) -> bool
+pub(crate) fn is_judged(certificate: &Option<(Certificate, File)>, instance: &Instance) -> bool
     ensures { result ≡ is_judged certificate.now instance.now.kind }
 {
     let kind = instance.kind();
@@ -63,7 +63,7 @@ fn is_judged(certificate: &Option<(Certificate, File)>, instance: &Instance) -> 
 }
 
 /// The certificate, lent.
-fn lent(certificate: &Option<(Certificate, File)>) -> Option<(Certificate, &File)>
+pub(crate) fn lent(certificate: &Option<(Certificate, File)>) -> Option<(Certificate, &File)>
     ensures { option_map (λ given. (given.0, given.1.now)) result ≡ certificate.now }
 {
     match certificate {

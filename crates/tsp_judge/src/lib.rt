@@ -12,6 +12,10 @@
 mod bound;
 mod check;
 mod checked;
+mod common;
+mod compare_examples;
+mod compare_laws;
+mod compared;
 mod convert;
 mod examples;
 mod fault;
@@ -19,11 +23,19 @@ mod file;
 mod judging;
 mod run_examples;
 mod show;
+mod solutions;
 mod status;
 
 pub use bound::{Bounded, run_bound};
 pub use check::{run_bound_check, run_branch_check, run_check};
 pub use checked::run;
+pub use common::{Common, Found};
+pub use compare_examples::{
+    examples_of_faulty_files_of_comparisons, examples_of_largest_statuses,
+    examples_of_lines_of_solutions,
+};
+pub use compare_laws::{lines_of_bounded_tours, lines_of_checks, solutions_without_a_basis};
+pub use compared::{Compared, run_compare};
 pub use convert::run_convert;
 pub use examples::{
     examples_of_answers, examples_of_certificates, examples_of_fault_texts,
@@ -33,6 +45,7 @@ pub use fault::RunFault;
 pub use judging::Judged;
 pub use run_examples::{examples_of_runs_over_one_file, examples_of_wrong_kinds};
 pub use show::run_show;
+pub use solutions::{Follow, Solutions};
 pub use status::status_of;
 pub use tsp_draft::EndFault;
 pub use tsp_file::RelayoutFault;
@@ -40,6 +53,6 @@ pub use tsp_format::Layout;
 pub use tsp_read::{LineFault, ReadFault};
 pub use tsp_stream::{Watched, WriteFault};
 pub use tsp_verdict::{
-    BoundVerdict, Certificate, Reason, Verdict, judge_routes, judge_tour, judge_tour_bound,
+    Basis, BoundVerdict, Certificate, Reason, Verdict, judge_routes, judge_tour, judge_tour_bound,
     judge_tour_branches,
 };

@@ -1,5 +1,7 @@
 -- Which verdicts are accepted.
 use Rattle.std.specs.Prelude.{Bool, true, false}
+use Rattle.tsp_reason.specs.declared.basis.Basis.{Basis}
+use Rattle.tsp_reason.specs.declared.basis.Basis.TheVariants as bases
 use Rattle.tsp_reason.specs.declared.verdict.BoundVerdict.{BoundVerdict}
 use Rattle.tsp_reason.specs.declared.verdict.BoundVerdict.TheVariants as bounds
 use Rattle.tsp_reason.specs.declared.verdict.Verdict.{Verdict}
@@ -15,3 +17,10 @@ abbrev pub is_bound_yes : BoundVerdict → Bool
 is_bound_yes (bounds.Bound bound) = true
 is_bound_yes bounds.NoTour = true
 is_bound_yes (bounds.No reason) = false
+
+-- solutions are judged one by one, since no reason applies whatever the solution
+abbrev pub is_clear : Basis → Bool
+is_clear (bases.Tours bound) = true
+is_clear bases.NoTour = true
+is_clear (bases.Routes least) = true
+is_clear (bases.No reason) = false

@@ -8,8 +8,10 @@
 //! ```
 #![tactic(auto)]
 
+mod basis;
 mod certificate;
 mod verdict;
 
+pub use basis::Basis;
 pub use certificate::Certificate;
 pub use verdict::{BoundVerdict, Reason, Verdict};

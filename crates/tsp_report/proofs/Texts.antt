@@ -12,6 +12,14 @@ use Rattle.tsp_report.specs.Show.{name_line}
 pub two_parts : (a b c d : Way) (x y : List ℕ) → Carried a b x → Carried b c y → Carried c d [] → Carried a d (x ++ y)
 two_parts a b c d x y h k m = subst (Carried a d) (append-nil (x ++ y)) (carried_then a c d (x ++ y) [] (carried_then a b c x y h k) m)
 
+-- a text, then a path with the end of its line, and then the piece is handed over
+pub with_path : (a b c d : Way) (x path : List ℕ) → Carried a b x → Carried b c (codes " " ++ path ++ codes "\n") → Carried c d []
+    → Carried a d (x ++ codes " " ++ path ++ codes "\n")
+with_path a b c d x path h k m = subst (Carried a d) (sym whole) (two_parts a b c d x (codes " " ++ path ++ codes "\n") h k m)
+  where
+    whole : x ++ codes " " ++ path ++ codes "\n" ≡ x ++ (codes " " ++ path ++ codes "\n")
+    whole = ap (λ t. t ++ codes "\n") (append_assoc x (codes " ") path) ∙ append_assoc x (codes " " ++ path) (codes "\n")
+
 -- the part of the next node, where the entries are seen by g
 pub next_mapped : {X Y : Type 0} (f : ℕ × Y → List ℕ) (g : X → Y) (xs : List X) (i : ℕ) (x : X) (a b c : Way) → i < length xs → x ≡ get_or xs i x
     → Carried a b (flat_map f (take i (enumerate_from 1 (map g xs)))) → Carried b c (f (i + 1, g x))

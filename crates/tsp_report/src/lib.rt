@@ -8,7 +8,10 @@
 #![tactic(auto)]
 
 mod bound;
+mod compare_examples;
+mod compared;
 mod examples;
+mod fault;
 mod leaves;
 mod reason;
 mod report;
@@ -16,6 +19,8 @@ mod shown;
 mod whole_examples;
 
 pub use bound::write_bound;
+pub use compare_examples::{examples_of_heads, examples_of_lines};
+pub use compared::{write_head, write_line};
 pub use examples::{examples_of_reasons, examples_of_reports, examples_of_shown_lines};
 pub use report::write_report;
 pub use shown::write_shown;

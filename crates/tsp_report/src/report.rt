@@ -155,7 +155,7 @@ fn put_bound<W: Write>(piece: &mut Piece, out: &mut Watched<W>, length: i64, bou
 }
 
 /// By how much a length is more than a bound.
-fn gap_of(length: i64, bound: i128) -> i128
+pub(crate) fn gap_of(length: i64, bound: i128) -> i128
     requires { unsigned_abs bound ≤ 2 ^ 126 }
     ensures { result ≡ length -ℤ bound }
 {

@@ -11,6 +11,8 @@ mod bytes;
 #[cfg(test)]
 mod claims;
 #[cfg(test)]
+mod compares;
+#[cfg(test)]
 mod failures;
 #[cfg(test)]
 mod files;

@@ -20,3 +20,4 @@ pub mod GivenPairs
 pub mod TreeReasons
 pub mod Bounds
 pub mod Claims
+pub mod Bases

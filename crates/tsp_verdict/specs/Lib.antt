@@ -12,3 +12,4 @@ pub mod Certified
 pub mod Judged
 pub mod Bounded
 pub mod Examples
+pub mod Basis

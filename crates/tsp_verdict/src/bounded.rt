@@ -49,7 +49,7 @@ pub fn judge_bound(
 }
 
 /// The costs of an instance, or the first reason against it, whatever the tour.
-fn costs_of_tours(instance: &Instance) -> Result<TourCosts<'_>, Reason>
+pub(crate) fn costs_of_tours(instance: &Instance) -> Result<TourCosts<'_>, Reason>
     requires { (instance.now.kind ≡ Some kinds.Tsp) ⊎ (instance.now.kind ≡ Some kinds.Atsp) }
     ensures { MatchResult result
         (λ costs. (3 ≤ nodes_of instance.now) × AreTourCosts instance.now costs

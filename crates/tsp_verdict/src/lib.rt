@@ -10,6 +10,7 @@
 //! ```
 #![tactic(auto)]
 
+mod basis;
 mod bounded;
 mod certificate;
 mod certified;
@@ -29,6 +30,7 @@ mod tour;
 mod tree;
 mod visits;
 
+pub use basis::{judge_basis, judge_next};
 pub use bounded::judge_bound;
 pub use certified::{is_bounded, judge_certified, judge_tour_bound, judge_tour_branches};
 pub use claim_examples::{
@@ -43,4 +45,4 @@ pub use examples::{
 pub use judged::judge;
 pub use routes::judge_routes;
 pub use tour::judge_tour;
-pub use tsp_reason::{BoundVerdict, Certificate, Reason, Verdict};
+pub use tsp_reason::{Basis, BoundVerdict, Certificate, Reason, Verdict};

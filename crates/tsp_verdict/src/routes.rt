@@ -21,7 +21,7 @@ use tsp_file::{File, RoutingData};
 use tsp_reason::{Reason, Verdict};
 
 /// The fewest nodes of an instance whose routes are judged.
-const FEWEST_NODES: u32 = 2;
+pub(crate) const FEWEST_NODES: u32 = 2;
 
 /// The verdict on a solution of an instance of TYPE CVRP: rejected with the first reason against
 /// it, or accepted, where its tours are a plan of routes, with their length and number.

@@ -10,7 +10,7 @@ ghost use Rattle.tsp_file.specs.Meant.{nodes_of, tours_of};
 ghost use Rattle.tsp_verdict.specs.Tours.{NoneOfTourUpTo, NoneOfTourBeforeNodes, IsFirstAgainstTour, IsTourVerdict, NoneOfTourBeforeRepeats};
 ghost use Rattle.tsp_file.specs.Cost.{cost};
 ghost use Rattle.tsp_theory.specs.Costs.{IsFirstAsymmetric};
-ghost use Rattle.tsp_verdict.specs.states.Costs.{AreTourCosts, FindsLength};
+ghost use Rattle.tsp_verdict.specs.states.Costs.{AreTourCosts, IsLengthOf, FindsLength};
 ghost use Rattle.tsp_verdict.specs.states.Routes.{AreToursOf};
 
 use crate::files::solution_tours;
@@ -75,8 +75,33 @@ pub(crate) fn length_of_tour<'a>(
         (λ found. FindsLength inst.now sol.now found)
         (λ refused. NoneOfTourBeforeRepeats inst.now sol.now) }
 {
-    let (tour, costs) = match the_tour(inst, sol) {
+    let (tours, costs) = match first_against_files(inst, sol) {
         Ok(found) => found,
+        Err(reason) => return Ok(Err(reason)),
+    };
+    match length_after_files(alloc, inst, sol, tours)? {
+        Ok(length) => Ok(Ok((length, costs))),
+        Err(reason) => Ok(Err(reason)),
+    }
+}
+
+/// The length of a solution's one tour, or the first reason against it, where none applies that needs
+/// no look at the tours.
+pub(crate) fn length_after_files(
+    alloc: Global,
+    inst: &Instance,
+    sol: &File,
+    tours: &[Vec<u32>],
+) -> Result<Result<i64, Reason>, AllocError>
+    requires kind { (inst.now.kind ≡ Some kinds.Tsp) ⊎ (inst.now.kind ≡ Some kinds.Atsp) }
+    requires tours { AreToursOf sol.now tours.now }
+    requires before { NoneOfTourUpTo inst.now sol.now (rank_of TourCount) }
+    ensures { MatchResult result
+        (λ found. IsLengthOf inst.now sol.now found)
+        (λ refused. NoneOfTourBeforeRepeats inst.now sol.now) }
+{
+    let tour = match the_tour(inst, sol, tours) {
+        Ok(tour) => tour,
         Err(reason) => return Ok(Err(reason)),
     };
     let nodes = inst.count();
@@ -91,30 +116,26 @@ pub(crate) fn length_of_tour<'a>(
     if let Some(index) = first_unused(inst.fixed(), next.as_slice(), directed) {
         return Ok(Err(Reason::FixedEdgeUnused { index }));
     }
-    Ok(Ok((tour_length(inst, tour), costs)))
+    Ok(Ok(tour_length(inst, tour)))
 }
 
-/// The one tour of a solution, with as many nodes as the instance, and the costs of the instance, or
-/// the first reason against it that is judged before its nodes are looked at.
-fn the_tour<'a, 'b>(inst: &'a Instance, sol: &'b File) -> Result<(&'b [u32], TourCosts<'a>), Reason>
-    requires { (inst.now.kind ≡ Some kinds.Tsp) ⊎ (inst.now.kind ≡ Some kinds.Atsp) }
+/// The one tour of a solution, with as many nodes as the instance, or the first reason against it that
+/// is judged before its nodes are looked at.
+fn the_tour<'a>(inst: &Instance, sol: &File, tours: &'a [Vec<u32>]) -> Result<&'a [u32], Reason>
+    requires tours { AreToursOf sol.now tours.now }
+    requires before { NoneOfTourUpTo inst.now sol.now (rank_of TourCount) }
     ensures { MatchResult result
-        (λ found. (tours_of sol.now ≡ found.0.now ∷ []) × (length found.0.now ≡ nodes_of inst.now)
-        × All (λ node. 1 ≤ node) found.0.now × NoneOfTourBeforeNodes inst.now sol.now
-        × AreTourCosts inst.now found.1)
+        (λ tour. (tours_of sol.now ≡ tour.now ∷ []) × (length tour.now ≡ nodes_of inst.now)
+        × All (λ node. 1 ≤ node) tour.now × NoneOfTourBeforeNodes inst.now sol.now)
         (λ reason. IsFirstAgainstTour inst.now sol.now reason) }
 {
-    let (tours, costs) = match first_against_files(inst, sol) {
-        Ok(found) => found,
-        Err(reason) => return Err(reason),
-    };
     let [tour] = tours else {
         return Err(Reason::TourCount);
     };
     if tour.len() != inst.count() as usize {
         return Err(Reason::TourLength);
     }
-    Ok((tour.as_slice(), costs))
+    Ok(tour.as_slice())
 }
 
 /// The tours of a solution and the costs of an instance, or the first reason that needs no look at the

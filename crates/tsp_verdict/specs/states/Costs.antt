@@ -20,7 +20,12 @@ AreTourCosts inst (Directed view) = (inst.kind ≡ Some kinds.Atsp) × Shows ins
 abbrev pub IsSymmetricTsp : Fields → Type 0
 IsSymmetricTsp inst = inst.kind ≡ Some kinds.Tsp → IsSymmetric (cost inst)
 
--- the length of the one tour, where no reason applies, and the costs; or the first reason
+-- the length of the one tour, where no reason applies; or the first reason
+abbrev pub IsLengthOf : Fields → Fields → Result ℤ Reason → Type 0
+IsLengthOf inst sol (Ok length) = IsTourVerdict inst sol (verdicts.Tour length None)
+IsLengthOf inst sol (Err reason) = IsFirstAgainstTour inst sol reason
+
+-- the same with the costs
 abbrev pub FindsLength : Fields → Fields → Result (ℤ × TourCosts) Reason → Type 0
 FindsLength inst sol (Ok found) = IsTourVerdict inst sol (verdicts.Tour found.0 None) × AreTourCosts inst found.1
 FindsLength inst sol (Err reason) = IsFirstAgainstTour inst sol reason

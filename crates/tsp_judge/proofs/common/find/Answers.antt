@@ -1,0 +1,16 @@
+use Rattle.std.proofs.Common.{inr}
+use Rattle.tsp_stream.specs.states.Watched.{turn_of}
+use Rattle.tsp_judge.proofs.Comparing.{found_judged}
+use Rattle.tsp_judge.proofs.common.find.Goals as goal
+
+pub returns-in-Ok-judge_next : goal.returns-in-Ok-judge_next
+returns-in-Ok-judge_next g c =
+    let read = c.in-Ok.ensures.answer in (
+      read.0,
+      read.1,
+      found_judged c.args.common.now (turn_of g.R.Read.remaining c.args.reader.now c.read_from.new.reader read.0) c.in-Ok.solution c.in-Ok-judge_next.verdict
+          c.requires.problem c.requires.basis read.2 c.in-Ok-judge_next.ensures,
+    )
+
+pub returns-in-Err-judge_next : goal.returns-in-Err-judge_next
+returns-in-Err-judge_next g c = let read = c.in-Ok.ensures.answer in (read.0, read.1, inr (c.in-Ok.solution, read.2, c.in-Err-judge_next.ensures))

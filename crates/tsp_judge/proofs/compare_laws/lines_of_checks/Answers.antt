@@ -1,0 +1,6 @@
+use Rattle.tsp_judge.proofs.CompareMeaning.{one_answer}
+use Rattle.tsp_judge.proofs.compare_laws.lines_of_checks.Goals as goal
+
+pub returns : goal.returns
+returns c = λ common turn verdict found.
+    (found.0, found.1, λ other v. one_answer common.certificate common.instance found.0 verdict other found.2 v)

@@ -1,0 +1,8 @@
+use Rattle.tsp_judge.proofs.CompareMeaning.{none_accepted, none_without_tours}
+use Rattle.tsp_judge.proofs.compare_laws.solutions_without_a_basis.Goals as goal
+
+pub returns-clause-reason : goal.returns-clause-reason
+returns-clause-reason c = none_accepted
+
+pub returns-clause-no_tour : goal.returns-clause-no_tour
+returns-clause-no_tour c = none_without_tours

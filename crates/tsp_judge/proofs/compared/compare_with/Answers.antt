@@ -1,0 +1,18 @@
+use Rattle.std.proofs.Common.{◌≡◌, true, rules, sym, subst}
+use Rattle.tsp_stream.specs.states.Watched.{sink_of}
+use Rattle.tsp_stream.specs.Sink.{HasWritten}
+use Rattle.tsp_draft.specs.Fields.{Fields}
+use Rattle.tsp_reason.specs.Verdicts.{is_clear}
+use Rattle.tsp_judge.proofs.Comparing.{after_head}
+use Rattle.tsp_judge.specs.CompareRun.{IsTurnAt, ComparesBy}
+use Rattle.tsp_report.specs.Compare.{head_of}
+use Rattle.tsp_judge.proofs.compared.compare_with.Goals as goal
+
+pub returns-clause-text : goal.returns-clause-text
+returns-clause-text g c =
+    let written = subst (λ (f : Fields). HasWritten (sink_of g.W.Write.contents c.args.out.now c.write_head.new.out) (head_of f c.args.common.now.basis)) c.file.ensures.value c.in-Ok.ensures in
+    let clear : is_clear c.args.common.now.basis ≡ true = search rules in
+    subst (λ b. ComparesBy b (IsTurnAt g.R.Read.remaining (g.S.Solutions.opens c.args.solutions.now)) (g.S.Solutions.names c.args.solutions.now) c.args.common.now
+    (sink_of g.W.Write.contents c.args.out.now c.compare_all.new.out) c.compare_all.result) (sym clear)
+    (after_head g.W.Write.contents c.args.out.now c.write_head.new.out c.compare_all.new.out (IsTurnAt g.R.Read.remaining (g.S.Solutions.opens c.args.solutions.now))
+    (g.S.Solutions.names c.args.solutions.now) c.args.common.now (head_of c.args.common.now.instance c.args.common.now.basis) c.compare_all.result written c.compare_all.ensures.text)

@@ -1,0 +1,187 @@
+-- What a comparison does to its readers and its writer, and its result: an instance and a certificate that are read once, and
+-- solutions that are opened, judged and dropped one by one.
+use Rattle.std.specs.Prelude.{◌≡◌, ◌≢◌, ◌⊎◌, ℕ, suc, ◌<◌, ◌≤◌, max, Bool, true, false, List, [], ◌∷◌, ◌++◌, length, Option, None, Some, Result, Ok, Err, IsTrue, slice_index_or}
+use Rattle.tsp_stream.specs.declared.output.WriteFault.TheVariants as write_faults
+use Rattle.tsp_stream.specs.Turn.{Turn}
+use Rattle.tsp_stream.specs.Sink.{Sink, IsUnwritten, HasWritten, HasStopped}
+use Rattle.tsp_draft.specs.Fields.{Fields}
+use Rattle.tsp_read.specs.declared.ReadFault.{ReadFault}
+use Rattle.tsp_read.specs.declared.ReadFault.TheVariants as read_faults
+use Rattle.tsp_read.specs.Reads.{IsFile, StopsAt, most_taken}
+use Rattle.tsp_cost.specs.ProblemLaws.{IsProblem}
+use Rattle.tsp_reason.specs.declared.certificate.Certificate.{Certificate}
+use Rattle.tsp_reason.specs.declared.verdict.Verdict.{Verdict}
+use Rattle.tsp_reason.specs.Verdicts.{is_yes, is_clear}
+use Rattle.tsp_verdict.specs.Basis.{IsBasis, NoneOfBasisWithoutMemory, HasBasis}
+use Rattle.tsp_verdict.specs.Judged.{is_judged, NoneBeforeRepeatsOn, IsVerdictWith}
+use Rattle.tsp_judge.specs.declared.common.Common.{Common}
+use Rattle.tsp_judge.specs.declared.common.Found.{Found}
+use Rattle.tsp_judge.specs.declared.common.Found.TheVariants as founds
+use Rattle.tsp_judge.specs.declared.compared.Compared.{Compared}
+use Rattle.tsp_judge.specs.declared.fault.RunFault.{RunFault}
+use Rattle.tsp_judge.specs.declared.fault.RunFault.TheVariants.{File, WrongKind, Write, OutOfMemory, Relayout}
+use Rattle.tsp_judge.specs.Accepted.{IsAccepted}
+use Rattle.tsp_judge.specs.Run.{Given, IsUnreadIn, IsFileIn, IsSomeFile}
+use Rattle.tsp_judge.specs.Status.{status_of}
+use Rattle.tsp_report.specs.Compare.{head_of, solution_line}
+use Rattle.tsp_report.specs.Report.{report_of}
+
+-- ---- the instance and the certificate
+
+-- The first one that is none has this number and this fault. The certificate isn't read after an instance that is none.
+abbrev pub IsFaultOfCompare : Given → Turn → ℕ → ReadFault → Type 0
+IsFaultOfCompare given first file fault = ((file ≡ 1) × StopsAt fault first × IsUnreadIn given)
+    ⊎ ((second : Certificate × Turn) × (given ≡ Some second) × (file ≡ 2) × IsSomeFile first × StopsAt fault second.1)
+
+-- ---- one solution
+
+-- the turn of a reader that was opened for the solution at this place, counted from 0
+pub record IsTurnAt {R : Type 0} (remaining : R → Option (List ℕ)) (opens : ℕ → R → Type 0) (place : ℕ) (turn : Turn)
+    : Type 0 where
+  pub reader : R
+  pub opened : opens place reader
+  pub known : turn.known ≡ remaining reader
+  pub sound : turn.had_failed ≡ false
+  pub few : length turn.given ≤ most_taken
+
+-- What is found of the solution that a reader delivers. It is the verdict of a check of the three files, and where the solution is
+-- accepted, it means that. Or it is the fault of the file.
+abbrev pub IsFoundIn : Common → Turn → Result Verdict ReadFault → Type 0
+IsFoundIn common turn (Ok verdict) = (solution : Fields) × IsFile turn solution
+    × IsVerdictWith common.certificate None common.instance solution verdict × HasBasis verdict common.basis
+    × (is_yes verdict ≡ true → IsAccepted common.certificate None common.instance solution (report_of common.instance verdict))
+IsFoundIn common turn (Err fault) = StopsAt fault turn × (fault ≢ read_faults.OutOfMemory)
+
+-- Memory is refused for the solution: to read it, or to judge it, and then none of the reasons applies that are found without.
+abbrev pub IsRefusedIn : Common → Turn → Type 0
+IsRefusedIn common turn = StopsAt read_faults.OutOfMemory turn
+    ⊎ ((solution : Fields) × IsFile turn solution × NoneBeforeRepeatsOn common.instance solution)
+
+-- what is found, without the file
+abbrev pub result_of : Found → Result Verdict ReadFault
+result_of (founds.Judged verdict solution) = Ok verdict
+result_of (founds.Fault fault) = Err fault
+
+-- what is found, or that memory is refused
+abbrev pub Finds : Common → Turn → Result Found RunFault → Type 0
+Finds common turn (Ok found) = IsFoundIn common turn (result_of found)
+Finds common turn (Err OutOfMemory) = IsRefusedIn common turn
+Finds common turn (Err (Write fault)) = ⊥
+Finds common turn (Err WrongKind) = ⊥
+Finds common turn (Err (File file fault)) = ⊥
+Finds common turn (Err (Relayout fault)) = ⊥
+
+-- its exit status: that of a check of the solution, which is its second file
+abbrev pub status_of_found : Result Verdict ReadFault → ℕ
+status_of_found (Ok verdict) = status_of (Ok (is_yes verdict))
+status_of_found (Err fault) = status_of (Err (File 2 fault))
+
+-- what comes of the solution at a place: its line was written, or a prefix of that, or memory is refused
+abbrev pub ComparesOne : (ℕ → Turn → Type 0) → List (List ℕ) → Common → ℕ → Sink → Result Found RunFault → Type 0
+ComparesOne IsTurn paths common place sink (Ok found) = (turn : Turn) × IsTurn place turn
+    × IsFoundIn common turn (result_of found)
+    × HasWritten sink (solution_line (result_of found) (slice_index_or paths place []))
+ComparesOne IsTurn paths common place sink (Err OutOfMemory) = ((turn : Turn) × IsTurn place turn × IsRefusedIn common turn)
+    × IsUnwritten sink
+ComparesOne IsTurn paths common place sink (Err (Write write_faults.Device)) = (turn : Turn) × IsTurn place turn
+    × ((found : Result Verdict ReadFault) × IsFoundIn common turn found
+    × HasStopped sink (solution_line found (slice_index_or paths place [])))
+ComparesOne IsTurn paths common place sink (Err (Write write_faults.OutOfMemory)) = ⊥
+ComparesOne IsTurn paths common place sink (Err WrongKind) = ⊥
+ComparesOne IsTurn paths common place sink (Err (File file fault)) = ⊥
+ComparesOne IsTurn paths common place sink (Err (Relayout fault)) = ⊥
+
+-- ---- all solutions
+
+-- These were found, in order, of the solutions from this place on, each in a reader that was opened for its place.
+abbrev pub AreFound : (ℕ → Turn → Type 0) → Common → ℕ → List (Result Verdict ReadFault) → Type 0
+AreFound IsTurn common place [] = Unit {0}
+AreFound IsTurn common place (found ∷ rest) = ((turn : Turn) × IsTurn place turn × IsFoundIn common turn found)
+    × AreFound IsTurn common (suc place) rest
+
+-- the lines of what was found, each with its solution's path
+abbrev pub solution_lines : List (Result Verdict ReadFault) → List (List ℕ) → List ℕ
+solution_lines [] paths = []
+solution_lines (found ∷ rest) [] = []
+solution_lines (found ∷ rest) (path ∷ paths) = solution_line found path ++ solution_lines rest paths
+
+-- the largest status
+abbrev pub largest_status : List (Result Verdict ReadFault) → ℕ
+largest_status [] = 0
+largest_status (found ∷ rest) = max (status_of_found found) (largest_status rest)
+
+-- What comes of the solutions with these paths, whose lines follow a text that is written before. At Ok the line of each was
+-- written, and the result is the largest status. Out of memory, the lines of those before were, and nothing else. Where the writer
+-- fails, a prefix of such a text was written.
+abbrev pub ComparesAll : (ℕ → Turn → Type 0) → List (List ℕ) → Common → List ℕ → Sink → Result ℕ RunFault → Type 0
+ComparesAll IsTurn paths common before sink (Ok status) = (found : List (Result Verdict ReadFault))
+    × AreFound IsTurn common 0 found × (length found ≡ length paths) × HasWritten sink (before ++ solution_lines found paths)
+    × (status ≡ largest_status found)
+ComparesAll IsTurn paths common before sink (Err OutOfMemory) = (found : List (Result Verdict ReadFault))
+    × AreFound IsTurn common 0 found × (length found < length paths)
+    × ((turn : Turn) × IsTurn (length found) turn × IsRefusedIn common turn)
+    × HasWritten sink (before ++ solution_lines found paths)
+ComparesAll IsTurn paths common before sink (Err (Write write_faults.Device)) = (found : List (Result Verdict ReadFault))
+    × AreFound IsTurn common 0 found × (length found ≤ length paths) × HasStopped sink (before ++ solution_lines found paths)
+ComparesAll IsTurn paths common before sink (Err (Write write_faults.OutOfMemory)) = ⊥
+ComparesAll IsTurn paths common before sink (Err WrongKind) = ⊥
+ComparesAll IsTurn paths common before sink (Err (File file fault)) = ⊥
+ComparesAll IsTurn paths common before sink (Err (Relayout fault)) = ⊥
+
+-- Where a reason applies whatever the solution, the head is the whole text, and no solution is opened.
+abbrev pub ComparesNone : List ℕ → Sink → Result ℕ RunFault → Type 0
+ComparesNone head sink (Ok status) = HasWritten sink head × (status ≡ 1)
+ComparesNone head sink (Err (Write write_faults.Device)) = HasStopped sink head
+ComparesNone head sink (Err (Write write_faults.OutOfMemory)) = ⊥
+ComparesNone head sink (Err OutOfMemory) = ⊥
+ComparesNone head sink (Err WrongKind) = ⊥
+ComparesNone head sink (Err (File file fault)) = ⊥
+ComparesNone head sink (Err (Relayout fault)) = ⊥
+
+-- what comes of the solutions, by whether they are judged one by one
+abbrev pub ComparesBy : Bool → (ℕ → Turn → Type 0) → List (List ℕ) → Common → Sink → Result ℕ RunFault → Type 0
+ComparesBy true IsTurn paths common sink ended =
+    ComparesAll IsTurn paths common (head_of common.instance common.basis) sink ended
+ComparesBy false IsTurn paths common sink ended = ComparesNone (head_of common.instance common.basis) sink ended
+
+-- what comes of them after a basis that is that of the instance and the certificate
+abbrev pub ComparesOn : (ℕ → Turn → Type 0) → List (List ℕ) → Common → Sink → Result ℕ RunFault → Type 0
+ComparesOn IsTurn paths common sink ended = IsBasis common.certificate common.instance common.basis
+    × ComparesBy (is_clear common.basis) IsTurn paths common sink ended
+
+-- ---- the run
+
+-- the instance is of a TYPE that isn't judged so, or memory is refused for the bound
+abbrev pub LacksBasis : Option (Certificate × Fields) → Fields → RunFault → Type 0
+LacksBasis certificate instance WrongKind = is_judged certificate instance.kind ≡ false
+LacksBasis certificate instance OutOfMemory = IsTrue (is_judged certificate instance.kind)
+    × NoneOfBasisWithoutMemory certificate instance
+LacksBasis certificate instance (Write fault) = ⊥
+LacksBasis certificate instance (File file fault) = ⊥
+LacksBasis certificate instance (Relayout fault) = ⊥
+
+-- these are the files that are read once, and the instance is one problem
+abbrev pub AreReadOnce : Given → Turn → Common → Type 0
+AreReadOnce given first common = IsFile first common.instance × IsFileIn given common.certificate × IsProblem common.instance
+
+-- no basis comes of the files that are read once, and nothing is written
+abbrev pub EndsLacking : Given → Turn → Sink → RunFault → Type 0
+EndsLacking given first sink fault = (instance : Fields) × (certificate : Option (Certificate × Fields))
+    × IsFile first instance × IsFileIn given certificate × LacksBasis certificate instance fault × IsUnwritten sink
+
+-- why a comparison ends early
+abbrev pub EndsCompare : (ℕ → Turn → Type 0) → List (List ℕ) → Given → Turn → Sink → RunFault → Type 0
+EndsCompare IsTurn paths given first sink (File file fault) = IsUnwritten sink × IsFaultOfCompare given first file fault
+EndsCompare IsTurn paths given first sink fault = EndsLacking given first sink fault
+    ⊎ ((common : Common) × AreReadOnce given first common × ComparesOn IsTurn paths common sink (Err fault))
+
+-- The result of a comparison of the solutions with these paths, each of a reader that was opened for its place.
+abbrev pub IsComparison : (ℕ → Turn → Type 0) → List (List ℕ) → Given → Turn → Sink → Result Compared RunFault → Type 0
+IsComparison IsTurn paths given first sink (Ok compared) = AreReadOnce given first compared.common
+    × ComparesOn IsTurn paths compared.common sink (Ok compared.status)
+IsComparison IsTurn paths given first sink (Err fault) = EndsCompare IsTurn paths given first sink fault
+
+abbrev pub IsCompareRun : {R : Type 0} → (R → Option (List ℕ)) → (ℕ → R → Type 0) → List (List ℕ) → Given → Turn → Sink
+    → Result Compared RunFault → Type 0
+IsCompareRun remaining opens paths given first sink result =
+    IsComparison (IsTurnAt remaining opens) paths given first sink result

@@ -1,0 +1,118 @@
+//! What the solutions of a comparison are judged by, and what is found of each.
+
+ghost use Rattle.std.specs.Prelude.{◌≡◌, true, MatchResult};
+ghost use Rattle.tsp_stream.specs.states.Watched.{turn_of};
+ghost use Rattle.tsp_stream.specs.Turn.{TakesAtMost};
+ghost use Rattle.tsp_read.specs.Reads.{most_taken};
+ghost use Rattle.tsp_cost.specs.ProblemLaws.{IsProblem};
+ghost use Rattle.tsp_reason.specs.Verdicts.{is_clear};
+ghost use Rattle.tsp_verdict.specs.Basis.{IsBasis};
+ghost use Rattle.tsp_judge.specs.CompareRun.{LacksBasis, Finds, result_of, status_of_found};
+
+use crate::fault::RunFault;
+use crate::judging::{is_judged, lent};
+use crate::status::status_of;
+use std::alloc::{AllocError, Global};
+use std::io::Read;
+use tsp_cost::Instance;
+use tsp_file::File;
+use tsp_read::{ReadFault, read_from};
+use tsp_stream::Watched;
+use tsp_verdict::{Basis, Certificate, Verdict, judge_basis, judge_next};
+
+/// What all solutions of a comparison are judged by.
+#[derive(Drop)]
+pub struct Common {
+    /// What is known of them before any is read: the bound of the certificate, the least number of
+    /// routes, or the reason for which none is opened.
+    pub basis: Basis,
+    /// The first file.
+    pub instance: Instance,
+    /// The second file, where a certificate was asked for.
+    pub certificate: Option<(Certificate, File)>,
+}
+
+/// What is found of one solution.
+#[derive(Drop)]
+pub enum Found {
+    /// It is a file, and this is the verdict on it.
+    Judged { verdict: Verdict, solution: File },
+    /// It is none, or can't be read.
+    Fault(ReadFault),
+}
+
+impl Found {
+    /// The verdict, or the fault.
+    pub(crate) fn result(&self) -> Result<Verdict, ReadFault>
+        ensures { result ≡ result_of self.now }
+    {
+        match self {
+            Found::Judged { verdict, .. } => Ok(*verdict),
+            Found::Fault(fault) => Err(*fault),
+        }
+    }
+}
+
+/// The exit status of what is found of a solution: that of a check of it.
+pub(crate) fn status_of_found(found: Result<Verdict, ReadFault>) -> u8
+    ensures { result ≡ status_of_found found }
+{
+    match found {
+        Ok(verdict) => status_of(&Ok(verdict.is_yes())),
+        Err(fault) => status_of(&Err(RunFault::File { file: 2, fault })),
+    }
+}
+
+/// What all solutions of an instance are judged by.
+///
+/// # Errors
+///
+/// `WrongKind` where the solutions aren't judged so, and `OutOfMemory`.
+pub(crate) fn common_of(
+    alloc: Global,
+    instance: Instance,
+    certificate: Option<(Certificate, File)>,
+) -> Result<Common, RunFault>
+    ensures { MatchResult result
+        (λ common. (common.instance ≡ instance) × (common.certificate ≡ certificate)
+        × IsBasis common.certificate common.instance common.basis)
+        (λ fault. LacksBasis certificate instance fault) }
+{
+    if !is_judged(&certificate, &instance) {
+        return Err(RunFault::WrongKind);
+    }
+    match judge_basis(alloc, &instance, lent(&certificate)) {
+        Ok(basis) => Ok(Common {
+            basis,
+            instance,
+            certificate,
+        }),
+        Err(AllocError) => Err(RunFault::OutOfMemory),
+    }
+}
+
+/// Reads a solution, and judges it.
+///
+/// # Errors
+///
+/// `OutOfMemory`, to read it or to judge it.
+pub(crate) fn find<R: Read>(
+    alloc: Global,
+    common: &Common,
+    reader: &mut Watched<R>,
+) -> Result<Found, RunFault>
+    requires clear { is_clear common.now.basis ≡ true }
+    requires basis { IsBasis common.now.certificate common.now.instance common.now.basis }
+    requires problem { IsProblem common.now.instance }
+    ensures { TakesAtMost most_taken (turn_of R.remaining reader.old reader.new) (λ turn. Finds common.now turn result) }
+{
+    let solution = match read_from(alloc, reader) {
+        Ok(solution) => solution,
+        Err(ReadFault::OutOfMemory) => return Err(RunFault::OutOfMemory),
+        Err(fault) => return Ok(Found::Fault(fault)),
+    };
+    match judge_next(alloc, &common.instance, common.basis, &solution) {
+        Ok(verdict) => Ok(Found::Judged { verdict, solution }),
+        Err(AllocError) => Err(RunFault::OutOfMemory),
+    }
+}

@@ -1,0 +1,41 @@
+//! The exit status of a comparison, its lines, and which file a fault is of. No body is looked at here: a
+//! definition that is changed together with its code is refused by its examples.
+
+ghost use Rattle.std.specs.Prelude.{◌≡◌, [], ◌∷◌, None, Some, Ok, Err, pos, codes};
+ghost use Rattle.tsp_reason.specs.declared.certificate.Certificate.{Certificate};
+ghost use Rattle.tsp_reason.specs.declared.verdict.Reason.TheVariants as reasons;
+ghost use Rattle.tsp_reason.specs.declared.verdict.Verdict.TheVariants as verdicts;
+ghost use Rattle.tsp_read.specs.declared.ReadFault.{ReadFault};
+ghost use Rattle.tsp_read.specs.declared.ReadFault.TheVariants as read_faults;
+ghost use Rattle.tsp_read.specs.Reads.{StopsAt};
+ghost use Rattle.tsp_stream.specs.Turn.{Turn};
+ghost use Rattle.tsp_judge.specs.Run.{Given, IsUnreadIn, IsSomeFile};
+ghost use Rattle.tsp_judge.specs.CompareRun.{IsFaultOfCompare, largest_status, solution_lines};
+
+/// The largest status of the solutions, whichever comes first.
+pub fn examples_of_largest_statuses()
+    ensures none { largest_status [] ≡ 0 }
+    ensures yes { largest_status (Ok (verdicts.Tour (pos 14) None) ∷ Ok (verdicts.Routes (pos 20) 3 2) ∷ []) ≡ 0 }
+    ensures no { largest_status (Ok (verdicts.No reasons.TourCount) ∷ Ok (verdicts.Tour (pos 14) None) ∷ []) ≡ 1 }
+    ensures fault { largest_status (Ok (verdicts.No reasons.TourCount) ∷ Err read_faults.TooLong ∷ []) ≡ 2 }
+    ensures device { largest_status (Err read_faults.Device ∷ Err read_faults.TooLong ∷ []) ≡ 5 }
+{}
+
+/// Lines in the order of the solutions, each with its own path, and whole lines of the first ones alone.
+pub fn examples_of_lines_of_solutions()
+    ensures none { solution_lines [] (codes "a" ∷ []) ≡ [] }
+    ensures first { solution_lines (Ok (verdicts.No reasons.TourCount) ∷ []) (codes "a" ∷ codes "b" ∷ [])
+        ≡ codes "no TourCount a\n" }
+    ensures both { solution_lines (Ok (verdicts.No reasons.TourCount) ∷ Err read_faults.Device ∷ [])
+        (codes "a" ∷ codes "b" ∷ []) ≡ codes "no TourCount a\ndevice b\n" }
+{}
+
+/// Which file a fault is of: the first that is none. The certificate is the second one.
+pub fn examples_of_faulty_files_of_comparisons()
+    ensures first { (given : Given) (fault : ReadFault) (first : Turn) → StopsAt fault first → IsUnreadIn given
+        → IsFaultOfCompare given first 1 fault }
+    ensures second { (by : Certificate) (fault : ReadFault) (first second : Turn) → IsSomeFile first
+        → StopsAt fault second → IsFaultOfCompare (Some (by, second)) first 2 fault }
+    ensures no_second { (fault : ReadFault) (first : Turn) → ¬ IsFaultOfCompare None first 2 fault }
+    ensures no_third { (given : Given) (fault : ReadFault) (first : Turn) → ¬ IsFaultOfCompare given first 3 fault }
+{}

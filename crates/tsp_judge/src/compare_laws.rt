@@ -1,0 +1,55 @@
+//! What the lines of a comparison mean, as contracts of functions that do nothing.
+
+ghost use Rattle.std.specs.Prelude.{◌≡◌, ◌++◌, ℕ, List, true, false, Option, None, Some, Ok, IsTrue, ℤ, codes};
+ghost use Rattle.std.specs.Fmt.{signed_decimal};
+ghost use Rattle.tsp_stream.specs.Turn.{Turn};
+ghost use Rattle.tsp_draft.specs.Fields.{Fields};
+ghost use Rattle.tsp_cost.specs.ProblemLaws.{IsProblem};
+ghost use Rattle.tsp_read.specs.Reads.{IsFile};
+ghost use Rattle.tsp_reason.specs.declared.basis.Basis.{Basis};
+ghost use Rattle.tsp_reason.specs.declared.basis.Basis.TheVariants as bases;
+ghost use Rattle.tsp_reason.specs.declared.certificate.Certificate.{Certificate};
+ghost use Rattle.tsp_reason.specs.declared.verdict.Reason.{Reason};
+ghost use Rattle.tsp_reason.specs.declared.verdict.Verdict.{Verdict};
+ghost use Rattle.tsp_reason.specs.declared.verdict.Verdict.TheVariants as verdicts;
+ghost use Rattle.tsp_reason.specs.Verdicts.{is_yes};
+ghost use Rattle.tsp_verdict.specs.Basis.{IsBasis};
+ghost use Rattle.tsp_verdict.specs.Judged.{IsVerdictWith};
+ghost use Rattle.tsp_judge.specs.declared.common.Common.{Common};
+ghost use Rattle.tsp_judge.specs.CompareRun.{IsFoundIn};
+ghost use Rattle.tsp_judge.specs.Optimal.{IsBoundedTour};
+ghost use Rattle.tsp_report.specs.Compare.{solution_line};
+
+/// With a certificate, a line with a length and `optimal` means that the file of its solution has one
+/// tour of the instance, of this length, and that no tour of the instance is shorter. With a bound that
+/// isn't the length, no tour is shorter than the bound.
+pub fn lines_of_bounded_tours()
+    ensures optimal { (common : Common) (turn : Turn) (by : Certificate) (certificate : Fields) (length : ℤ)
+        → IsProblem common.instance → common.certificate ≡ Some (by, certificate)
+        → IsFoundIn common turn (Ok (verdicts.Tour length (Some length)))
+        → (solution : Fields) × IsFile turn solution × IsBoundedTour common.instance solution length length }
+    ensures bounded { (common : Common) (turn : Turn) (by : Certificate) (certificate : Fields) (length bound : ℤ)
+        → IsProblem common.instance → common.certificate ≡ Some (by, certificate)
+        → IsFoundIn common turn (Ok (verdicts.Tour length (Some bound)))
+        → (solution : Fields) × IsFile turn solution × IsBoundedTour common.instance solution length bound }
+    ensures words { (length : ℤ) (path : List ℕ) → solution_line (Ok (verdicts.Tour length (Some length))) path
+        ≡ signed_decimal length ++ codes " optimal" ++ codes " " ++ path ++ codes "\n" }
+{}
+
+/// A check of the same three files has the same answer as a line of a comparison.
+pub fn lines_of_checks()
+    ensures { (common : Common) (turn : Turn) (verdict : Verdict) → IsFoundIn common turn (Ok verdict)
+        → (solution : Fields) × IsFile turn solution × ((other : Verdict)
+        → IsVerdictWith common.certificate None common.instance solution other → is_yes other ≡ is_yes verdict) }
+{}
+
+/// Where a reason applies to the instance or to the certificate, and where the instance has no tour, a
+/// check accepts no solution at all.
+pub fn solutions_without_a_basis()
+    ensures reason { (given : Option (Certificate × Fields)) (instance solution : Fields) (reason : Reason) (verdict : Verdict)
+        → IsBasis given instance (bases.No reason) → IsVerdictWith given None instance solution verdict
+        → is_yes verdict ≡ false }
+    ensures no_tour { (given : Option (Certificate × Fields)) (instance solution : Fields) (verdict : Verdict)
+        → IsBasis given instance bases.NoTour → IsVerdictWith given None instance solution verdict
+        → is_yes verdict ≡ false }
+{}

@@ -1,0 +1,23 @@
+use Rattle.std.proofs.Common.{refl}
+use Rattle.std.specs.Fmt.{digits}
+use Rattle.tsp_report.proofs.compare_examples.examples_of_heads.Goals as goal
+
+pub returns-clause-alone : goal.returns-clause-alone
+unfolding digits
+returns-clause-alone c = refl
+
+pub returns-clause-bounded : goal.returns-clause-bounded
+unfolding digits
+returns-clause-bounded c = refl
+
+pub returns-clause-no_tour : goal.returns-clause-no_tour
+unfolding digits
+returns-clause-no_tour c = refl
+
+pub returns-clause-routes : goal.returns-clause-routes
+unfolding digits
+returns-clause-routes c = refl
+
+pub returns-clause-no : goal.returns-clause-no
+unfolding digits
+returns-clause-no c = refl

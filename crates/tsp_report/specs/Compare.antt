@@ -1,0 +1,50 @@
+-- The text of a comparison: a head on the instance, and a line for each solution.
+use Rattle.std.specs.Prelude.{ℕ, List, [], ◌++◌, codes, decimal, cond, ℤ, pos, ◌-ℤ◌, Option, None, Some, Result, Ok, Err}
+use Rattle.std.specs.Ordering.{int_eq}
+use Rattle.std.specs.Fmt.{signed_decimal}
+use Rattle.tsp_draft.specs.Fields.{Fields}
+use Rattle.tsp_text.specs.declared.fault.ReadFault.{ReadFault}
+use Rattle.tsp_text.specs.FaultText.{read_fault_text}
+use Rattle.tsp_reason.specs.declared.basis.Basis.{Basis}
+use Rattle.tsp_reason.specs.declared.basis.Basis.TheVariants as bases
+use Rattle.tsp_reason.specs.declared.verdict.Verdict.{Verdict}
+use Rattle.tsp_reason.specs.declared.verdict.Verdict.TheVariants.{Tour, Routes, No}
+use Rattle.tsp_report.specs.Report.{instance_lines, no_line, reason_text}
+
+-- ---- the head
+
+-- the bound, or `none` where the instance has no tour; the least number of routes; or the first reason against the instance or
+-- the certificate
+abbrev pub basis_lines : Basis → List ℕ
+basis_lines (bases.Tours None) = []
+basis_lines (bases.Tours (Some bound)) = codes "bound " ++ signed_decimal bound ++ codes "\n"
+basis_lines bases.NoTour = codes "bound none\n"
+basis_lines (bases.Routes least) = codes "least " ++ decimal least ++ codes "\n"
+basis_lines (bases.No reason) = no_line reason
+
+abbrev pub head_of : Fields → Basis → List ℕ
+head_of instance basis = instance_lines instance ++ basis_lines basis
+
+-- ---- a solution
+
+-- by how much a length is more than a bound; it is optimal where they are equal
+abbrev pub gap_words : ℤ → List ℕ
+gap_words gap = cond (int_eq gap (pos 0)) (codes " optimal") (codes " gap " ++ signed_decimal gap)
+
+abbrev pub bound_words : ℤ → Option ℤ → List ℕ
+bound_words length None = []
+bound_words length (Some bound) = gap_words (length -ℤ bound)
+
+abbrev pub verdict_words : Verdict → List ℕ
+verdict_words (Tour length bound) = signed_decimal length ++ bound_words length bound
+verdict_words (Routes length routes least) = signed_decimal length ++ codes " routes " ++ decimal routes
+verdict_words (No reason) = codes "no " ++ reason_text reason
+
+-- the verdict on a solution, or the fault of its file
+abbrev pub found_words : Result Verdict ReadFault → List ℕ
+found_words (Ok verdict) = verdict_words verdict
+found_words (Err fault) = read_fault_text fault
+
+-- the same with the path, as it was given, at the end of the line
+abbrev pub solution_line : Result Verdict ReadFault → List ℕ → List ℕ
+solution_line found path = found_words found ++ codes " " ++ path ++ codes "\n"

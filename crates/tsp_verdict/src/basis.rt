@@ -1,0 +1,182 @@
+//! What is known of all solutions of an instance, before any is read, and the verdict on one of them.
+
+ghost use Rattle.std.specs.Prelude.{◌≡◌, ◌⊎◌, ◌≤◌, true, IsTrue, length, Option, Some, MatchOption, MatchResult, option_map};
+ghost use Rattle.std.specs.List.{All};
+ghost use Rattle.tsp_format.specs.declared.kinds.Kind.TheVariants as kinds;
+ghost use Rattle.tsp_format.specs.Cells.{IsNode};
+ghost use Rattle.tsp_draft.specs.Fields.{Fields};
+ghost use Rattle.tsp_file.specs.Meant.{demands_of, depots_of, nodes_of};
+ghost use Rattle.tsp_reason.specs.declared.certificate.Certificate.{Certificate};
+ghost use Rattle.tsp_reason.specs.declared.verdict.Verdict.TheVariants as verdicts;
+ghost use Rattle.tsp_reason.specs.Verdicts.{is_clear};
+ghost use Rattle.tsp_verdict.specs.Basis.{IsBasis, IsBasisAlone, IsBasisBy, IsBasisOfRoutes, StandsAgainstRouting, NoneAgainstRouting, NoneOfBasisWithoutMemory, IsVerdictFrom};
+ghost use Rattle.tsp_verdict.specs.Bounded.{NoneAgainstInstance, IsBoundVerdict};
+ghost use Rattle.tsp_verdict.specs.Judged.{is_judged, NoneBeforeRepeatsOn};
+ghost use Rattle.tsp_verdict.specs.Reasons.{IsFirstReason};
+ghost use Rattle.tsp_verdict.specs.Tours.{NoneOfTourBeforeRepeats};
+ghost use Rattle.tsp_verdict.specs.states.Costs.{IsLengthOf};
+
+use crate::bounded::{costs_of_tours, judge_bound};
+use crate::files::{routing, solution_tours};
+use crate::loads::least_routes;
+use crate::routes::{FEWEST_NODES, judge_routes};
+use crate::tour::length_after_files;
+use std::alloc::{AllocError, Global};
+use tsp_cost::{Costs, Instance};
+use tsp_file::{File, RoutingData};
+use tsp_format::Kind;
+use tsp_reason::{Basis, BoundVerdict, Certificate, Reason, Verdict};
+
+/// What is known of all solutions of an instance, before any is read.
+///
+/// That is the first reason that applies whatever the solution: `TooFewNodes` and `NotSymmetric` of
+/// tours, or `TooFewNodes`, `DepotCount`, `DepotDemand` and `FixedEdgesInRoutes` of routes, or one
+/// against the certificate. Where none applies, it is the bound of the certificate, as of
+/// [`judge_bound`], and for TYPE CVRP the least number of routes.
+///
+/// # Requires
+///
+/// A TYPE whose solutions are judged so: with a certificate one that [`crate::is_bounded`] accepts.
+///
+/// # Errors
+///
+/// Out of memory, as of [`judge_bound`]. Without a certificate no memory is taken.
+pub fn judge_basis(
+    alloc: Global,
+    instance: &Instance,
+    certificate: Option<(Certificate, &File)>,
+) -> Result<Basis, AllocError>
+    requires { IsTrue (is_judged (option_map (λ given. (given.0, given.1.now)) certificate) instance.now.kind) }
+    ensures { MatchResult result
+        (λ basis. IsBasis (option_map (λ given. (given.0, given.1.now)) certificate.entry) instance.now basis)
+        (λ refused. NoneOfBasisWithoutMemory (option_map (λ given. (given.0, given.1.now)) certificate.entry)
+        instance.now) }
+{
+    match certificate {
+        None => Ok(basis_alone(instance)),
+        Some((by, file)) => Ok(basis_of(judge_bound(alloc, by, instance, file)?)),
+    }
+}
+
+/// What is known of all solutions without a certificate.
+fn basis_alone(instance: &Instance) -> Basis
+    ensures { IsBasisAlone instance.now.kind instance.now result }
+{
+    match instance.kind() {
+        Kind::Tsp | Kind::Atsp => match costs_of_tours(instance) {
+            Ok(_) => Basis::Tours { bound: None },
+            Err(reason) => Basis::No(reason),
+        },
+        Kind::Cvrp => basis_of_routes(instance),
+        Kind::Tour | Kind::Potentials | Kind::Branches => unreachable!(),
+    }
+}
+
+/// What is known of all routes.
+fn basis_of_routes(instance: &Instance) -> Basis
+    requires { instance.now.kind ≡ Some kinds.Cvrp }
+    ensures { IsBasisOfRoutes instance.now result }
+{
+    if instance.count() < FEWEST_NODES {
+        return Basis::No(Reason::TooFewNodes);
+    }
+    let routing = routing(instance);
+    if let Some(reason) = first_against_routing(instance, &routing) {
+        return Basis::No(reason);
+    }
+    Basis::Routes {
+        least: least_routes(routing.demands, routing.capacity),
+    }
+}
+
+/// The first reason against an instance of enough nodes, whatever the routes.
+fn first_against_routing(inst: &Instance, routing: &RoutingData<'_>) -> Option<Reason>
+    requires some { 2 ≤ nodes_of inst.now }
+    requires demands { routing.now.demands.now ≡ demands_of inst.now }
+    requires each { length routing.now.demands.now ≡ nodes_of inst.now }
+    requires depots { routing.now.depots.now ≡ depots_of inst.now }
+    requires each_depot { All (IsNode (nodes_of inst.now)) routing.now.depots.now }
+    ensures { MatchOption result
+        (NoneAgainstRouting inst.now)
+        (λ reason. IsFirstReason (StandsAgainstRouting inst.now) reason) }
+{
+    let [depot] = routing.depots else {
+        return Some(Reason::DepotCount);
+    };
+    if routing.demands[*depot as usize - 1] != 0 {
+        return Some(Reason::DepotDemand);
+    }
+    if !inst.fixed().is_empty() {
+        return Some(Reason::FixedEdgesInRoutes);
+    }
+    None
+}
+
+/// What is known of all tours by what a certificate gives.
+fn basis_of(found: BoundVerdict) -> Basis
+    ensures { (by : Certificate) (instance certificate : Fields) → IsBoundVerdict by instance certificate found
+        → IsBasisBy by instance certificate result }
+{
+    match found {
+        BoundVerdict::Bound(bound) => Basis::Tours { bound: Some(bound) },
+        BoundVerdict::NoTour => Basis::NoTour,
+        BoundVerdict::No(reason) => Basis::No(reason),
+    }
+}
+
+/// The verdict on a solution of an instance, by what [`judge_basis`] found: the same as that of
+/// [`crate::judge`] with the certificate that was judged there. Neither the costs of the instance nor
+/// the certificate are judged again.
+///
+/// # Requires
+///
+/// The basis of the instance, and no reason in it.
+///
+/// # Errors
+///
+/// Out of memory, and then no reason up to `NodeOutOfRange`, in the order of the TYPE, applies.
+pub fn judge_next(
+    alloc: Global,
+    instance: &Instance,
+    basis: Basis,
+    solution: &File,
+) -> Result<Verdict, AllocError>
+    requires clear { is_clear basis ≡ true }
+    requires basis { (given : Option (Certificate × Fields)) × IsBasis given instance.now basis }
+    ensures { MatchResult result
+        (λ verdict. IsVerdictFrom basis instance.now solution.now verdict)
+        (λ refused. NoneBeforeRepeatsOn instance.now solution.now) }
+{
+    let bound = match basis {
+        Basis::Routes { .. } => return judge_routes(alloc, instance, solution),
+        Basis::Tours { bound } => bound,
+        // Then no solution has a tour, so that its length isn't reached.
+        Basis::NoTour | Basis::No(_) => None,
+    };
+    match length_of_next(alloc, instance, solution)? {
+        Ok(length) => Ok(Verdict::Tour { length, bound }),
+        Err(reason) => Ok(Verdict::No(reason)),
+    }
+}
+
+/// The length of a solution's one tour, or the first reason against it, where none applies to the
+/// instance.
+fn length_of_next(
+    alloc: Global,
+    inst: &Instance,
+    sol: &File,
+) -> Result<Result<i64, Reason>, AllocError>
+    requires kind { (inst.now.kind ≡ Some kinds.Tsp) ⊎ (inst.now.kind ≡ Some kinds.Atsp) }
+    requires none { NoneAgainstInstance inst.now }
+    ensures { MatchResult result
+        (λ found. IsLengthOf inst.now sol.now found)
+        (λ refused. NoneOfTourBeforeRepeats inst.now sol.now) }
+{
+    let Some(tours) = solution_tours(sol) else {
+        return Ok(Err(Reason::NotASolution));
+    };
+    if sol.dimension().is_some_and(|stated| stated != inst.count()) {
+        return Ok(Err(Reason::Dimension));
+    }
+    length_after_files(alloc, inst, sol, tours)
+}
