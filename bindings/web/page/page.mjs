@@ -4,7 +4,7 @@ import { By, Status } from "./library.mjs";
 import { barOf, pictureOf } from "./picture.mjs";
 import { verdictOf } from "./report.mjs";
 import { roleOf } from "./roles.mjs";
-import { verbOf } from "./run.mjs";
+import { tableOf, verbOf } from "./run.mjs";
 
 const SVG = "http://www.w3.org/2000/svg";
 const SLOTS = /** @type {const} */ (["instance", "solution", "certificate"]);
@@ -197,7 +197,7 @@ function tell(kind, word, meaning) {
     find("verdict").className = kind;
     find("verdict").textContent = word;
     find("meaning").textContent = meaning;
-    for (const id of ["explanation", "not-judged", "no-drawing", "details", "figure", "bar", "converted", "rows"]) {
+    for (const id of ["explanation", "not-judged", "no-drawing", "details", "figure", "bar", "converted", "rows", "save-rows"]) {
         find(id).setAttribute("hidden", "");
     }
 }
@@ -227,9 +227,9 @@ function show(answered) {
  * @param {import("./run.mjs").Row[]} rows
  */
 function showRows(rows) {
-    find("rows").hidden = rows.length === 0;
+    find("rows").hidden = find("save-rows").hidden = rows.length === 0;
     find("rows-body").replaceChildren(
-        ...rows.map(({ name, word, length, gap }, at) => {
+        ...rows.map(({ name, word, length, gap, percent }, at) => {
             const row = document.createElement("tr");
             const button = document.createElement("button");
             button.type = "button";
@@ -238,7 +238,7 @@ function showRows(rows) {
                 given.solution = tours[at];
                 judge();
             });
-            row.append(...[button, word, length, gap].map((part) => {
+            row.append(...[button, word, length, gap, percent].map((part) => {
                 const cell = document.createElement("td");
                 cell.append(part);
                 return cell;
@@ -444,6 +444,7 @@ function listenToPage() {
         tell("none", "Stopped", "");
     });
     find("save-report").addEventListener("click", () => save(nameWith("report"), "text/plain", find("report").textContent ?? ""));
+    find("save-rows").addEventListener("click", () => save(nameWith("tsv"), "text/tab-separated-values", tableOf(outcome?.rows ?? [])));
     find("save-picture").addEventListener("click", () => save(nameWith("svg"), "image/svg+xml", drawing()));
     find("save-converted").addEventListener("click", () => {
         const read = outcome?.converted;

@@ -74,6 +74,20 @@ export function verdictOf(report) {
 }
 
 /**
+ * A gap in percent of the bound, with four decimals; empty where there is no bound above 0.
+ *
+ * @param {Report} report
+ * @returns {string}
+ */
+export function percentOf({ length, bound }) {
+    if (length === null || bound === null || bound <= 0n) {
+        return "";
+    }
+    const parts = (2_000_000n * (length - bound) + bound) / (2n * bound); // of 10^-6, to the nearest
+    return `${parts / 10_000n}.${String(parts % 10_000n).padStart(4, "0")}`;
+}
+
+/**
  * How much shorter a tour may be than one with this length and gap.
  *
  * @param {bigint} gap

@@ -1,7 +1,7 @@
 // What is done with the files that are given: the verb of the program that they ask for.
 
 import { By, Call, Status } from "./library.mjs";
-import { reportOf, verdictOf } from "./report.mjs";
+import { percentOf, reportOf, verdictOf } from "./report.mjs";
 import { sceneOf } from "./scene.mjs";
 import { NoSolution, converted } from "./solutions.mjs";
 
@@ -24,6 +24,7 @@ import { NoSolution, converted } from "./solutions.mjs";
  * @property {string} word
  * @property {string} length empty where there is none
  * @property {string} gap
+ * @property {string} percent the gap in percent of the bound
  *
  * @typedef {object} Outcome
  * @property {string} command the same call of the program
@@ -105,12 +106,24 @@ function rowsOfTours(library, job) {
         const { status, bytes } = answerOf(library, { ...job, solution: read?.given ?? solution }, "check");
         const text = new TextDecoder().decode(bytes);
         if (status !== Status.YES && status !== Status.NO) {
-            return { name: solution.name, word: text.trim() || "Out of memory", length: "", gap: "" };
+            return { name: solution.name, word: text.trim() || "Out of memory", length: "", gap: "", percent: "" };
         }
         const report = reportOf(text);
         const word = report.yes ? verdictOf(report).word : [`No: ${report.reason}`, ...report.numbers].join(" ");
-        return { name: solution.name, word, length: String(report.length ?? ""), gap: String(report.gap ?? "") };
+        const gap = report.optimal ? "0" : String(report.gap ?? "");
+        return { name: solution.name, word, length: String(report.length ?? ""), gap, percent: percentOf(report) };
     });
+}
+
+/**
+ * The rows as a text, a tab between the cells.
+ *
+ * @param {Row[]} rows
+ * @returns {string}
+ */
+export function tableOf(rows) {
+    const lines = rows.map(({ name, word, length, gap, percent }) => [name, word, length, gap, percent]);
+    return [["solution", "verdict", "length", "gap", "gap_percent"], ...lines].map((line) => `${line.join("\t")}\n`).join("");
 }
 
 /**

@@ -6,9 +6,9 @@ import { test } from "node:test";
 
 import { By, Section, Status } from "../page/library.mjs";
 import { barOf, pictureOf } from "../page/picture.mjs";
-import { reportOf, verdictOf } from "../page/report.mjs";
+import { percentOf, reportOf, verdictOf } from "../page/report.mjs";
 import { roleOf } from "../page/roles.mjs";
-import { run, verbOf } from "../page/run.mjs";
+import { run, tableOf, verbOf } from "../page/run.mjs";
 import { marksOf, missingOf, rowsOf, toursOf } from "../page/scene.mjs";
 import { NoSolution, converted } from "../page/solutions.mjs";
 import { libraryOf } from "./module.mjs";
@@ -108,6 +108,20 @@ test("which verb the files ask for", () => {
     assert.equal(verbOf({ ...HARBOUR, solution: null }), "show");
     assert.equal(verbOf({ ...HARBOUR, solution: null, certificate: HARBOUR.solution }), "bound");
     assert.equal(verbOf({ ...HARBOUR, instance: null, certificate: HARBOUR.solution }), null);
+});
+
+test("a gap in percent", () => {
+    const percent = (lines) => percentOf(reportOf(`type TSP\nnodes 4\n${lines}yes\n`));
+    assert.equal(percent("length 16\nbound 14\ngap 2\n"), "14.2857"); // 100 * 2 / 14 = 14.28571..
+    assert.equal(percent("length 14\nbound 14\noptimal\n"), "0.0000");
+    assert.equal(percent("length 3\nbound 2\ngap 1\n"), "50.0000");
+    assert.equal(percent("length 200003\nbound 200000\ngap 3\n"), "0.0015");
+    assert.deepEqual([percent("length 5\nbound -1\ngap 6\n"), percent("length 5\nbound 0\ngap 5\n"), percent("length 5\n")], ["", "", ""]);
+});
+
+test("a table that is saved", () => {
+    const row = { name: "a b", word: "Yes: gap 2", length: "16", gap: "2", percent: "14.2857" };
+    assert.equal(tableOf([row]), "solution\tverdict\tlength\tgap\tgap_percent\na b\tYes: gap 2\t16\t2\t14.2857\n");
 });
 
 test("a bar of length, bound and gap", () => {
