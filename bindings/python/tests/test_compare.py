@@ -190,12 +190,17 @@ class Command(unittest.TestCase):
             self.assertEqual(run(*words[:-4], stdin=TWICE)[:2], (1, lines.split(b"line 2")[0].replace(b"bound 14\n", b"")
                              .replace(b" optimal", b"").replace(b" gap 2", b"")))
             self.assertEqual(run("compare", RECT, bad, AROUND)[0], 2)
+        between = ("compare", "--potentials", ZERO, RECT, AROUND, "--explain", ACROSS, "-")
+        lines = f"type TSP\nnodes 4\nbound 14\n14 optimal {AROUND}\n16 gap 2 {ACROSS}\nno RepeatedNode 3 -\n".encode()
+        self.assertEqual(run(*between, stdin=TWICE)[:2], (1, lines))
         sol = EXAMPLES / "solvers/dairy.cvrplib.sol"
         lines = f"type CVRP\nnodes 8\nleast 2\n231 routes 2 {sol}\n".encode()
         self.assertEqual(run("compare", "--foreign", EXAMPLES / "dairy.vrp", sol), (0, lines, b""))
 
     def test_refused(self):
         self.assertEqual(run("compare", RECT)[0], 4)
+        self.assertIn(b"unrecognized arguments: --fast", run("compare", RECT, AROUND, "--fast", ACROSS)[2])
+        self.assertIn(b"unrecognized arguments: more", run("check", RECT, AROUND, "more")[2])
         twice = (4, b"", b"standard input is read once\n")
         self.assertEqual(run("compare", RECT, "-", "-"), twice)
         self.assertEqual(run("compare", "-", "-", "--potentials", ZERO), twice)

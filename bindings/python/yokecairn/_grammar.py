@@ -171,7 +171,13 @@ def task_of(words: Sequence[str]) -> Tuple[Task, bool]:
         Refused, Asked: they ask for nothing that is done.
     """
     words = [] if list(words) == ["--"] else words
-    given = _parser().parse_args(words)
+    parser = _parser()
+    given, others = parser.parse_known_args(words)
+    # (argparse takes no more solutions behind an option)
+    if given.verb == "compare" and not any(word.startswith("-") and word != "-" for word in others):
+        given.solutions += others
+    elif others:
+        parser.error(f"unrecognized arguments: {' '.join(others)}")
     if given.verb is None:
         if words:
             raise Refused("tsp: a verb is missing\n")
