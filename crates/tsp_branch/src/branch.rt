@@ -18,7 +18,7 @@ ghost use Rattle.tsp_branch.specs.states.Numbers.{AreSmallCrossings};
 ghost use Rattle.tsp_branch.specs.states.Kept.{HoldsRows};
 ghost use Rattle.tsp_branch.specs.states.Rooms.{IsRoom, AreSmall, IsJudgedLeaf, IsSizedLeaf};
 
-use crate::decision::Decision;
+use crate::case_tree::CaseTree;
 use crate::judge::judge;
 use crate::kept::KeptRows;
 use crate::laws::certificates_bound_cycles;
@@ -31,7 +31,7 @@ use crate::sets::sets_by_node;
 use crate::setting::Setting;
 use crate::steps::{Judged, JudgedLeaf};
 use std::alloc::{AllocError, Global};
-use tsp_families::{CombSet, Crossings};
+use tsp_families::Crossings;
 use tsp_format::TreeStep;
 use tsp_theory::Costs;
 
@@ -44,8 +44,7 @@ use tsp_theory::Costs;
 /// Where pairs have no direction the bound of a leaf is that of a least 1-tree, else that of the
 /// least link from each node.
 ///
-/// The families are given by their numbers and by their sets, each with the number of its family
-/// from 0 on, of a comb the handle before the teeth. A lone set is a handle without teeth.
+/// The families are given by their numbers too.
 ///
 /// # Requires
 ///
@@ -59,48 +58,51 @@ use tsp_theory::Costs;
 /// each decision of a case.
 pub fn branch_bound<C: Costs>(
     alloc: Global,
-    costs: &C,
-    directed: bool,
-    scale: i64,
+    tree: &CaseTree<C>,
     crossed: &[Crossings],
-    sets: &[CombSet],
-    given: &[Decision],
-    steps: &[TreeStep],
 ) -> Result<Judged, AllocError>
-    requires some { 3 ≤ C.nodes costs.now }
-    requires even { directed ≡ false → IsSymmetric (C.at costs.now) }
-    requires scaled { IsScale scale }
+    requires some { 3 ≤ C.nodes tree.now.costs.now }
+    requires even { tree.now.directed ≡ false → IsSymmetric (C.at tree.now.costs.now) }
+    requires scaled { IsScale tree.now.scale }
     requires few_combs { length crossed.now < 2 ^ 32 }
-    requires few_sets { length sets.now < 2 ^ 32 }
-    requires few_given { length given.now < 2 ^ 32 }
-    requires few_steps { length steps.now < 2 ^ 32 }
-    requires nodes { AreSetsOf (C.nodes costs.now) sets.now }
-    requires of_combs { All (λ set. (set.comb < length crossed.now) × AllPairs (λ a b. a ≢ b) set.nodes.items) sets.now }
-    requires are_families { All (IsFamily (C.nodes costs.now)) (families_of crossed.now (plain sets.now)) }
+    requires few_sets { length tree.now.sets.now < 2 ^ 32 }
+    requires few_given { length tree.now.given.now < 2 ^ 32 }
+    requires few_steps { length tree.now.steps.now < 2 ^ 32 }
+    requires nodes { AreSetsOf (C.nodes tree.now.costs.now) tree.now.sets.now }
+    requires of_combs { All (λ set. (set.comb < length crossed.now) × AllPairs (λ a b. a ≢ b) set.nodes.items) tree.now.sets.now }
+    requires are_families { All (IsFamily (C.nodes tree.now.costs.now)) (families_of crossed.now (plain tree.now.sets.now)) }
     requires small { AreSmallCrossings crossed.now }
-    requires given_are { All (IsDecision (C.nodes costs.now)) given.now }
-    requires steps { AreSteps directed (C.nodes costs.now) given.now (steps_of steps.now)
-        (listed_steps (C.nodes costs.now) (length crossed.now) (steps_of steps.now)) }
-    ensures judged { IfOk result (IsJudged directed (C.nodes costs.now) (C.at costs.now) scale
-        (families_of crossed.now (plain sets.now)) crossed.now given.now (steps_of steps.now)) }
-    ensures cycles { IfOk result (BoundsCycles directed (C.nodes costs.now) (C.at costs.now) given.now) }
+    requires given_are { All (IsDecision (C.nodes tree.now.costs.now)) tree.now.given.now }
+    requires steps { AreSteps tree.now.directed (C.nodes tree.now.costs.now) tree.now.given.now
+        (steps_of tree.now.steps.now)
+        (listed_steps (C.nodes tree.now.costs.now) (length crossed.now) (steps_of tree.now.steps.now)) }
+    ensures judged { IfOk result (IsJudged tree.now.directed (C.nodes tree.now.costs.now) (C.at tree.now.costs.now)
+        tree.now.scale (families_of crossed.now (plain tree.now.sets.now)) crossed.now tree.now.given.now (steps_of tree.now.steps.now)) }
+    ensures cycles { IfOk result (BoundsCycles tree.now.directed (C.nodes tree.now.costs.now) (C.at tree.now.costs.now)
+        tree.now.given.now) }
     ensures size { IfOk result IsJudgedSized }
 {
     certificates_bound_cycles();
-    let count = costs.count();
-    let by_node = sets_by_node(alloc, count, sets)?;
-    let kept = KeptRows::new(alloc, costs, scale, crossed.len(), steps.len())?;
+    let count = tree.costs.count();
+    let by_node = sets_by_node(alloc, count, tree.sets)?;
+    let kept = KeptRows::new(
+        alloc,
+        tree.costs,
+        tree.scale,
+        crossed.len(),
+        tree.steps.len(),
+    )?;
     let room = Room::new(alloc, count as usize, crossed.len(), kept)?;
     let setting = Setting {
-        costs,
-        directed,
-        scale,
-        sets,
+        costs: tree.costs,
+        directed: tree.directed,
+        scale: tree.scale,
+        sets: tree.sets,
         by_node: &by_node,
         crossed,
-        given,
+        given: tree.given,
     };
-    judge_leaves(alloc, &setting, steps, room)
+    judge_leaves(alloc, &setting, tree.steps, room)
 }
 
 /// The least of the bounds of the leaves, or the first leaf that isn't good.

@@ -5,12 +5,13 @@
 //! for no certificates, and knows costs by their traits only.
 //!
 //! ```text
-//! let verdict = judge_branches(alloc, &costs, directed, scale, combs, &sets, &given, &steps)?;
+//! let verdict = judge_branches(alloc, &tree)?;
 //! ```
 #![tactic(auto)]
 
 mod add_sets;
 mod branch;
+mod case_tree;
 mod closing;
 mod combed;
 mod decided;
@@ -44,6 +45,7 @@ mod twice;
 mod verdict;
 
 pub use branch::branch_bound;
+pub use case_tree::CaseTree;
 pub use decision::Decision;
 pub use examples::{
     examples_of_bounds, examples_of_crossings, examples_of_trees, examples_of_verdicts,

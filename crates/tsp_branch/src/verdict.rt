@@ -15,13 +15,11 @@ ghost use Rattle.tsp_branch.specs.Listed.{IsStepOf};
 ghost use Rattle.tsp_branch.specs.BranchVerdicts.{IsBranchVerdict, VerdictBoundsCycles, IsSizedVerdict};
 
 use crate::branch::branch_bound;
-use crate::decision::Decision;
+use crate::case_tree::CaseTree;
 use crate::good_combs::judge_families;
 use crate::steps::{BranchVerdict, Judged, JudgedFamilies};
 use crate::twice::first_twice;
 use std::alloc::{AllocError, Global};
-use tsp_families::CombSet;
-use tsp_format::TreeStep;
 use tsp_theory::Costs;
 
 /// The verdict on a certificate by branching: the first family that isn't good, or the first branch
@@ -31,8 +29,7 @@ use tsp_theory::Costs;
 /// cycle keeps them.
 ///
 /// Where pairs have no direction the bound of a leaf is that of a least 1-tree, else that of the
-/// least link from each node. The families are given by their sets, each with the number of its
-/// family from 0 on, family by family, of a comb the handle before the teeth.
+/// least link from each node.
 ///
 /// # Requires
 ///
@@ -46,41 +43,36 @@ use tsp_theory::Costs;
 /// each decision of a case.
 pub fn judge_branches<C: Costs>(
     alloc: Global,
-    costs: &C,
-    directed: bool,
-    scale: i64,
-    combs: usize,
-    sets: &[CombSet],
-    given: &[Decision],
-    steps: &[TreeStep],
+    tree: &CaseTree<C>,
 ) -> Result<BranchVerdict, AllocError>
-    requires some { 3 ≤ C.nodes costs.now }
-    requires even { directed ≡ false → IsSymmetric (C.at costs.now) }
-    requires scaled { IsScale scale }
-    requires few_combs { combs < 2 ^ 32 }
-    requires few_sets { length sets.now < 2 ^ 32 }
-    requires few_given { length given.now < 2 ^ 32 }
-    requires few_steps { length steps.now < 2 ^ 32 }
-    requires nodes { AreSetsOf (C.nodes costs.now) sets.now }
-    requires of_combs { All (λ set. set.comb < combs) sets.now }
-    requires in_order { AreInOrder sets.now }
-    requires given_are { All (IsDecision (C.nodes costs.now)) given.now }
-    requires given_once { DecideOnce directed given.now }
-    requires steps { All (IsStepOf (C.nodes costs.now)) (steps_of steps.now) }
-    requires whole { are_whole 1 (steps_of steps.now) ≡ true }
-    ensures verdict { IfOk result (IsBranchVerdict directed (C.nodes costs.now) (C.at costs.now) scale combs (plain sets.now)
-        given.now (steps_of steps.now)) }
-    ensures cycles { IfOk result (VerdictBoundsCycles directed (C.nodes costs.now) (C.at costs.now) given.now) }
+    requires some { 3 ≤ C.nodes tree.now.costs.now }
+    requires even { tree.now.directed ≡ false → IsSymmetric (C.at tree.now.costs.now) }
+    requires scaled { IsScale tree.now.scale }
+    requires few_combs { tree.now.combs < 2 ^ 32 }
+    requires few_sets { length tree.now.sets.now < 2 ^ 32 }
+    requires few_given { length tree.now.given.now < 2 ^ 32 }
+    requires few_steps { length tree.now.steps.now < 2 ^ 32 }
+    requires nodes { AreSetsOf (C.nodes tree.now.costs.now) tree.now.sets.now }
+    requires of_combs { All (λ set. set.comb < tree.now.combs) tree.now.sets.now }
+    requires in_order { AreInOrder tree.now.sets.now }
+    requires given_are { All (IsDecision (C.nodes tree.now.costs.now)) tree.now.given.now }
+    requires given_once { DecideOnce tree.now.directed tree.now.given.now }
+    requires steps { All (IsStepOf (C.nodes tree.now.costs.now)) (steps_of tree.now.steps.now) }
+    requires whole { are_whole 1 (steps_of tree.now.steps.now) ≡ true }
+    ensures verdict { IfOk result (IsBranchVerdict tree.now.directed (C.nodes tree.now.costs.now) (C.at tree.now.costs.now)
+        tree.now.scale tree.now.combs (plain tree.now.sets.now) tree.now.given.now (steps_of tree.now.steps.now)) }
+    ensures cycles { IfOk result (VerdictBoundsCycles tree.now.directed (C.nodes tree.now.costs.now) (C.at tree.now.costs.now)
+        tree.now.given.now) }
     ensures size { IfOk result IsSizedVerdict }
 {
-    let crossed = match judge_families(alloc, costs.count(), combs, sets)? {
+    let crossed = match judge_families(alloc, tree.costs.count(), tree.combs, tree.sets)? {
         JudgedFamilies::Good(crossed) => crossed,
         JudgedFamilies::Bad(comb) => return Ok(BranchVerdict::BadComb(comb)),
     };
-    if let Some(branch) = first_twice(alloc, directed, given, steps)? {
+    if let Some(branch) = first_twice(alloc, tree.directed, tree.given, tree.steps)? {
         return Ok(BranchVerdict::BranchTwice(branch));
     }
-    match branch_bound(alloc, costs, directed, scale, &crossed, sets, given, steps)? {
+    match branch_bound(alloc, tree, &crossed)? {
         Judged::Bound(bound) => Ok(BranchVerdict::Bound(bound)),
         Judged::BadLeaf(leaf) => Ok(BranchVerdict::BadLeaf(leaf)),
     }

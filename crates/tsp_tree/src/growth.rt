@@ -131,9 +131,9 @@ fn take_nearer(near: &mut u32, least: &mut i64, next: u32, weight: i64) -> i64
     ensures nearer { IsNearer weight next near.old least.old near.new least.new }
     ensures value { result ≡ least.new }
 {
-    if weight < *least {
-        *least = weight;
-        *near = next;
-    }
+    // No branch: it would be taken for some nodes of each row, which no processor foresees.
+    let is_nearer = weight < *least;
+    *near = if is_nearer { next } else { *near };
+    *least = if is_nearer { weight } else { *least };
     *least
 }

@@ -18,7 +18,9 @@ use crate::decided::taken_once;
 use crate::numbered::numbered_sets;
 use crate::tour::is_directed;
 use std::alloc::{AllocError, Global};
-use tsp_branch::{BranchVerdict, certificates_bound_cycles, judge_branches, numbers_are_unique};
+use tsp_branch::{
+    BranchVerdict, CaseTree, certificates_bound_cycles, judge_branches, numbers_are_unique,
+};
 use tsp_cost::{Costs, Instance, View};
 use tsp_file::{File, TreeData};
 use tsp_reason::{BoundVerdict, Reason};
@@ -96,10 +98,16 @@ fn judge_tree<C: Costs>(
     let directed = is_directed(instance.kind());
     let given = taken_once(alloc, directed, instance.fixed())?;
     let sets = numbered_sets(alloc, tree.combs)?;
-    let count = tree.combs.len();
-    match judge_branches(
-        alloc, costs, directed, tree.scale, count, &sets, &given, tree.steps,
-    )? {
+    let cases = CaseTree {
+        costs,
+        directed,
+        scale: tree.scale,
+        combs: tree.combs.len(),
+        sets: &sets,
+        given: &given,
+        steps: tree.steps,
+    };
+    match judge_branches(alloc, &cases)? {
         BranchVerdict::Bound(Some(bound)) => Ok(BoundVerdict::Bound(bound)),
         BranchVerdict::Bound(None) => Ok(BoundVerdict::NoTour),
         BranchVerdict::BadComb(index) => Ok(BoundVerdict::No(Reason::BadComb {

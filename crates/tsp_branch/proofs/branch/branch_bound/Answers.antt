@@ -13,22 +13,22 @@ use Rattle.tsp_branch.proofs.branch.branch_bound.Goals as goal
 
 pub judge_leaves-requires-clause-kept : goal.judge_leaves-requires-clause-kept
 judge_leaves-requires-clause-kept g c =
-    let n : ℕ = g.C.Costs.nodes c.args.costs.now in
-    let cost = g.C.Costs.at c.args.costs.now in
-    let sets = c.args.sets.now in
-    subst (λ (kept : KeptRows). HoldsRows n (length c.args.crossed.now) (to_z w64 (of_z w64 c.args.scale)) sets cost kept) (sym c.in_ok-room.ensures.kept)
+    let n : ℕ = g.C.Costs.nodes c.args.tree.now.costs.now in
+    let cost = g.C.Costs.at c.args.tree.now.costs.now in
+    let sets = c.args.tree.now.sets.now in
+    subst (λ (kept : KeptRows). HoldsRows n (length c.args.crossed.now) (to_z w64 (of_z w64 c.args.tree.now.scale)) sets cost kept) (sym c.in_ok-room.ensures.kept)
     (c.in_ok-kept.ensures sets)
 
 pub returns-clause-cycles : goal.returns-clause-cycles
 returns-clause-cycles g c =
-    let costs = c.args.costs.now in
+    let costs = c.args.tree.now.costs.now in
     let n : ℕ = g.C.Costs.nodes costs in
     let cost = g.C.Costs.at costs in
-    let combs = families_of c.args.crossed.now (plain c.args.sets.now) in
-    let given = c.args.given.now in
-    let fits : FitsSigned w64 c.args.scale = search rules in
+    let combs = families_of c.args.crossed.now (plain c.args.tree.now.sets.now) in
+    let given = c.args.tree.now.given.now in
+    let fits : FitsSigned w64 c.args.tree.now.scale = search rules in
     IfOk-weaker c.judge_leaves.result _ _ (λ found is.
-    cycles_of c.certificates_bound_cycles.ensures.cycles c.args.directed n cost c.args.scale combs c.args.crossed.now given (steps_of c.args.steps.now) found
-    (costs_for c.args.directed n cost c.requires.some c.requires.even) c.requires.scaled
-    (subst (λ (z : ℤ). IsJudged c.args.directed n cost z combs c.args.crossed.now given (steps_of c.args.steps.now) found) (to_z-of_z w64 c.args.scale fits) is))
+    cycles_of c.certificates_bound_cycles.ensures.cycles c.args.tree.now.directed n cost c.args.tree.now.scale combs c.args.crossed.now given (steps_of c.args.tree.now.steps.now) found
+    (costs_for c.args.tree.now.directed n cost c.requires.some c.requires.even) c.requires.scaled
+    (subst (λ (z : ℤ). IsJudged c.args.tree.now.directed n cost z combs c.args.crossed.now given (steps_of c.args.tree.now.steps.now) found) (to_z-of_z w64 c.args.tree.now.scale fits) is))
     c.judge_leaves.ensures.judged

@@ -17,37 +17,36 @@ use Rattle.tsp_branch.proofs.verdict.judge_branches.Goals as goal
 
 pub branch_bound-requires-clause-of_combs : goal.branch_bound-requires-clause-of_combs
 branch_bound-requires-clause-of_combs g c =
-    let sets : List CombSet = c.args.sets.now in
-    let families : AreFamilies c.count.result c.args.combs (plain sets) c.in-Good.crossed.items =
-    subst (AreFamiliesJudged c.count.result c.args.combs (plain sets)) c.in-Good.is c.in_ok-crossed.ensures.judged in
-    let many : length c.deref.result.now ≡ c.args.combs = ap length c.deref.ensures.value ∙ families.many in
-    subst (λ (k : ℕ). All (λ set. (set.comb < k) × HasEachOnce set.nodes.items) sets) (sym many) (sets_judged c.args.combs sets families.once c.requires.of_combs)
+    let sets : List CombSet = c.args.tree.now.sets.now in
+    let families : AreFamilies c.count.result c.args.tree.now.combs (plain sets) c.in-Good.crossed.items =
+    subst (AreFamiliesJudged c.count.result c.args.tree.now.combs (plain sets)) c.in-Good.is c.in_ok-crossed.ensures.judged in
+    let many : length c.deref.result.now ≡ c.args.tree.now.combs = ap length c.deref.ensures.value ∙ families.many in
+    subst (λ (k : ℕ). All (λ set. (set.comb < k) × HasEachOnce set.nodes.items) sets) (sym many) (sets_judged c.args.tree.now.combs sets families.once c.requires.of_combs)
 
 pub branch_bound-requires-clause-steps : goal.branch_bound-requires-clause-steps
 branch_bound-requires-clause-steps g c =
-    steps_judged c.args.directed (g.C.Costs.nodes c.args.costs.now) c.deref.result.now c.args.given.now (steps_of c.args.steps.now) c.in_ok-branch.field-0 c.requires.steps c.requires.whole
+    steps_judged c.args.tree.now.directed (g.C.Costs.nodes c.args.tree.now.costs.now) c.deref.result.now c.args.tree.now.given.now (steps_of c.args.tree.now.steps.now) c.in_ok-branch.field-0 c.requires.steps c.requires.whole
     c.in_ok-branch.ensures c.in_default.is
 
 pub returns-in-Bound-clause-verdict : goal.returns-in-Bound-clause-verdict
 returns-in-Bound-clause-verdict g c =
-    let n : ℕ = g.C.Costs.nodes c.args.costs.now in
-    let sets = plain c.args.sets.now in
-    let steps = steps_of c.args.steps.now in
-    let given = c.args.given.now in
+    let n : ℕ = g.C.Costs.nodes c.args.tree.now.costs.now in
+    let sets = plain c.args.tree.now.sets.now in
+    let steps = steps_of c.args.tree.now.steps.now in
+    let given = c.args.tree.now.given.now in
     let crossed : List Crossings = c.deref.result.now in
-    let scaled : FitsSigned w64 c.args.scale = search rules in
-    let found = subst (IsJudged c.args.directed n (g.C.Costs.at c.args.costs.now) _ (families_of crossed sets) crossed given steps) c.in-Bound.is c.in_ok-bound.ensures.judged in
-    let families : AreFamilies c.count.result c.args.combs sets c.in-Good.crossed.items =
-    subst (AreFamiliesJudged c.count.result c.args.combs sets) c.in-Good.is c.in_ok-crossed.ensures.judged in
+    let found = subst (IsJudged c.args.tree.now.directed n (g.C.Costs.at c.args.tree.now.costs.now) c.args.tree.now.scale (families_of crossed sets) crossed given steps) c.in-Bound.is c.in_ok-bound.ensures.judged in
+    let families : AreFamilies c.count.result c.args.tree.now.combs sets c.in-Good.crossed.items =
+    subst (AreFamiliesJudged c.count.result c.args.tree.now.combs sets) c.in-Good.is c.in_ok-crossed.ensures.judged in
     record {
       crossed = crossed;
-      are_families = subst (λ (m : ℕ). AreFamilies m c.args.combs sets crossed) c.count.ensures.value (subst (AreFamilies c.count.result c.args.combs sets) (sym c.deref.ensures.value) families);
-      are_once = subst (AreBranchesJudged c.args.directed given steps) c.in_default.is c.in_ok-branch.ensures;
-      leaves = subst (λ (z : ℤ). IsJudged c.args.directed n (g.C.Costs.at c.args.costs.now) z (families_of crossed sets) crossed given steps (judged.Bound c.in-Bound.bound)) (to_z-of_z w64 c.args.scale scaled) found;
+      are_families = subst (λ (m : ℕ). AreFamilies m c.args.tree.now.combs sets crossed) c.count.ensures.value (subst (AreFamilies c.count.result c.args.tree.now.combs sets) (sym c.deref.ensures.value) families);
+      are_once = subst (AreBranchesJudged c.args.tree.now.directed given steps) c.in_default.is c.in_ok-branch.ensures;
+      leaves = found;
     }
 
 pub returns-in-Bound-clause-cycles : goal.returns-in-Bound-clause-cycles
 returns-in-Bound-clause-cycles g c =
-    let n : ℕ = g.C.Costs.nodes c.args.costs.now in
-    let cost = g.C.Costs.at c.args.costs.now in
-    subst (BoundsCycles c.args.directed n cost c.args.given.now) c.in-Bound.is c.in_ok-bound.ensures.cycles
+    let n : ℕ = g.C.Costs.nodes c.args.tree.now.costs.now in
+    let cost = g.C.Costs.at c.args.tree.now.costs.now in
+    subst (BoundsCycles c.args.tree.now.directed n cost c.args.tree.now.given.now) c.in-Bound.is c.in_ok-bound.ensures.cycles
