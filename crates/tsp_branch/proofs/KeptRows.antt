@@ -6,7 +6,7 @@ use Rattle.std.specs.Global.{Vec}
 use Rattle.std.specs.List.{AllPairs}
 use Rattle.std.proofs.Math.ListN.{set}
 use Rattle.std.proofs.lemmas.Bool.{cases_Bool, cases_eq, cases_lt}
-use Rattle.std.proofs.lemmas.Int.{ints, int_wrap-add_left, int_wrap-add_same}
+use Rattle.std.proofs.lemmas.Int.{ints, int_wrap-add_left, int_wrap-add_same, int_wrap_fits, SFits-int_wrap}
 use Rattle.std.proofs.lemmas.List.{length-append, length-set, get_or_append_left, get_or-set_same, get_or-set_other, get_or-replicate, get_or_past, length-replicate}
 use Rattle.std.proofs.Math.Seq.{get_or-append_seam}
 use Rattle.tsp_format.specs.Cells.{IsNode}
@@ -18,7 +18,7 @@ use Rattle.tsp_branch.specs.CombsOfSets.{NumberedSet}
 use Rattle.tsp_branch.specs.Judged.{most_crossed}
 use Rattle.tsp_branch.specs.states.Sets.{IsMoved, added, sets_with, IsSetTable}
 use Rattle.tsp_branch.specs.states.Combed.{AreSmallMultipliers, AreMultipliedSets, no_set, plain, multipliers_at, twice_in, inside_both, set_crossings, most_combed, set_weight}
-use Rattle.tsp_branch.specs.states.Kept.{kept_weight, IsKeptRow, AreRows, AreRowsIfAny, AreAdded, AreDifferences}
+use Rattle.tsp_branch.specs.states.Kept.{kept_weight, IsKeptRow, AreRows, AreRowsIfAny, AreAdded, AreDifferences, AreEnds}
 use Rattle.tsp_branch.proofs.CombedRows.{added_none}
 use Rattle.tsp_branch.proofs.CombedValues.{combed_at}
 use Rattle.tsp_branch.proofs.MovedSums.{wrapped_by}
@@ -111,6 +111,34 @@ rows_brought n scale sets cost old new differences by_node rows brought are tabl
           (more.moved k x default default list inside)) (kept.each k default less);
     }
 
+ends_sum : (old new differences : List ℤ) (sets : List NumberedSet) (x : ℕ) → AreDifferences old new differences
+    → multipliers_at new sets x ≡ multipliers_at old sets x +ℤ multipliers_at differences sets x
+ends_sum old new differences [] x are = refl
+ends_sum old new differences (set ∷ sets) x are =
+    let own = ap (λ (z : ℤ). added z set.nodes x) (are set.comb) ∙ added_sum (get_or old set.comb (pos 0)) (get_or differences set.comb (pos 0)) set.nodes x in
+    let rest = ends_sum old new differences sets x are in
+    omega (arith, ints, own, rest)
+
+pub ends_brought : (n : ℕ) (sets : List CombSet) (old new differences ends brought : List ℤ) → AreDifferences old new differences → length brought ≡ length ends
+    → ((x : ℕ) → IsMoved (neg_ℤ (multipliers_at differences (plain sets) x)) (least_at ends x) (least_at brought x)) → AreEnds n old sets ends → AreEnds n new sets brought
+ends_brought n sets old new differences ends brought are same moved was = record {
+  places = same ∙ was.places;
+  taken = λ x x_in.
+      let change : ℤ = neg_ℤ (multipliers_at differences (plain sets) x) in
+      let sum : neg_ℤ (multipliers_at old (plain sets) x) +ℤ change ≡ neg_ℤ (multipliers_at new (plain sets) x) =
+      (let all = ends_sum old new differences (plain sets) x are in omega (arith, ints, all)) in
+      wrapped_by change (least_at ends x) (least_at brought x) (least_at ends x) (moved x) refl
+      ∙ int_wrap-add_same w64 (least_at ends x) (neg_ℤ (multipliers_at old (plain sets) x)) change (was.taken x x_in) ∙ ap (int_wrap w64) sum;
+}
+
+-- the potential of a node with its end
+pub moved_from_ends : (potential end held taken : ℤ) → held ≡ int_wrap w64 (potential +ℤ end) → int_wrap w64 end ≡ int_wrap w64 taken → int_wrap w64 held ≡ int_wrap w64 (potential +ℤ taken)
+moved_from_ends potential end held taken held_is end_is =
+    let turned : potential +ℤ end ≡ end +ℤ potential = omega (arith, ints) in
+    let back : taken +ℤ potential ≡ potential +ℤ taken = omega (arith, ints) in
+    ap (int_wrap w64) held_is ∙ int_wrap_fits w64 (int_wrap w64 (potential +ℤ end)) (SFits-int_wrap w64 (potential +ℤ end)) ∙ ap (int_wrap w64) turned
+    ∙ int_wrap-add_same w64 end taken potential end_is ∙ ap (int_wrap w64) back
+
 -- ---- no multipliers
 
 none_at : (count k : ℕ) → get_or (replicate count (pos 0)) k (pos 0) ≡ pos 0
@@ -146,6 +174,19 @@ kept_at_start n combs scale held sets cost rows same all some =
                 (let none = inside_none combs (plain sets) (sets_with 0 sets (k + 1)) x in let whole = ap (λ (z : ℤ). z *ℤ cost (k + 1) x) same in omega (arith, ints, none, whole));
           };
     }
+
+none_taken : (count : ℕ) (sets : List NumberedSet) (x : ℕ) → multipliers_at (replicate count (pos 0)) sets x ≡ pos 0
+none_taken count [] x = refl
+none_taken count (set ∷ sets) x =
+    let own = ap (λ (z : ℤ). added z set.nodes x) (none_at count set.comb) ∙ added_none set.nodes x in
+    let rest = none_taken count sets x in
+    omega (arith, ints, own, rest)
+
+pub ends_at_start : (n combs places : ℕ) (sets : List CombSet) → places ≡ n + 1 → AreEnds n (replicate combs (pos 0)) sets (replicate places (pos 0))
+ends_at_start n combs places sets same = record {
+  places = length-replicate places (pos 0) ∙ same;
+  taken = λ x x_in. ap (int_wrap w64) (let one = none_at places x in let two = none_taken combs (plain sets) x in omega (arith, ints, one, two));
+}
 
 pub small_at_start : (combs : ℕ) → AreSmallMultipliers (replicate combs (pos 0))
 small_at_start combs k default less =

@@ -55,7 +55,8 @@ use tsp_theory::Costs;
 /// # Errors
 ///
 /// Out of memory, of which it takes some for each node, each comb, each node of a set, and
-/// each decision of a case.
+/// each decision of a case. For trees of several leaves it also takes some for each pair of up to
+/// 2,000 nodes, where there is any.
 pub fn branch_bound<C: Costs>(
     alloc: Global,
     tree: &CaseTree<C>,
@@ -199,14 +200,9 @@ fn judge_leaf<C: Costs>(
     ) {
         return Ok(JudgedLeaf::Bad);
     }
-    fill_moved(
-        &mut room.moved,
-        &room.potentials,
-        setting.sets,
-        &room.multipliers,
-    );
     room.kept
         .bring_to(&room.multipliers, setting.by_node, setting.sets);
+    fill_moved(&mut room.moved, &room.potentials, &room.kept.ends);
     let leaf = OpenLeaf {
         potentials: &room.potentials,
         multipliers: &room.multipliers,

@@ -10,6 +10,7 @@ ghost use Rattle.tsp_branch.specs.states.Combed.{AreSmallMultipliers, AreSmallDi
 ghost use Rattle.tsp_branch.specs.states.Kept.{IsKeptRow, AreRows, AreRowsIfAny, AreAdded, AreDifferences};
 
 use crate::add_sets::add_to_row;
+use crate::moved::take_multipliers;
 use crate::scaled::scale_row;
 use std::alloc::{AllocError, Global};
 use tsp_families::CombSet;
@@ -20,10 +21,12 @@ const MOST_KEPT: u32 = 2_000;
 
 /// For each node a row: its costs at the scale, each with what the sets of both nodes add. Leaves
 /// share them, since a leaf mostly changes potentials alone, of which nothing is in the rows. None
-/// where there are too many nodes.
+/// where there are too many nodes. And by node what the multipliers of its sets take off its
+/// potential.
 #[derive(Drop)]
 pub(crate) struct KeptRows {
     pub(crate) rows: Vec<Vec<i64>>,
+    pub(crate) ends: Vec<i64>,
     pub(crate) multipliers: Vec<i64>,
     pub(crate) differences: Vec<i64>,
 }
@@ -41,7 +44,7 @@ impl KeptRows {
     ///
     /// # Errors
     ///
-    /// Out of memory, where there is none for a number of each comb.
+    /// Out of memory, where there is none for a number of each comb and each node.
     pub(crate) fn new<C: Costs>(
         alloc: Global,
         costs: &C,
@@ -55,8 +58,10 @@ impl KeptRows {
     {
         let multipliers = vec![in alloc; 0; combs]?;
         let differences = vec![in alloc; 0; combs]?;
+        let ends = vec![in alloc; 0; costs.count() as usize + 1]?;
         Ok(KeptRows {
             rows: rows_if_any(alloc, costs, scale, steps),
+            ends,
             multipliers,
             differences,
         })
@@ -77,6 +82,7 @@ impl KeptRows {
         }
         write_differences(&mut self.differences, &self.multipliers, multipliers);
         self.multipliers.copy_from_slice(multipliers);
+        take_multipliers(&mut self.ends, sets, &self.differences);
         add_to_rows(&mut self.rows, by_node, sets, &self.differences);
     }
 }

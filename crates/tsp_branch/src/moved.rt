@@ -1,4 +1,4 @@
-//! The potentials of a leaf, less the multipliers of its sets.
+//! The potentials of a leaf, and what the multipliers of its sets take off them.
 
 ghost use Rattle.std.specs.Prelude.{◌≡◌, ◌<◌, ◌+◌, ◌+ℤ◌, ℕ, length, neg_ℤ};
 ghost use Rattle.std.specs.Int.{w64, int_wrap};
@@ -6,42 +6,29 @@ ghost use Rattle.std.specs.List.{All};
 ghost use Rattle.tsp_format.specs.Cells.{IsNode};
 ghost use Rattle.tsp_theory.specs.Numbers.{entry};
 ghost use Rattle.tsp_theory.specs.states.Nearest.{least_at};
-ghost use Rattle.tsp_families.specs.FamilySets.{AreSetsOf};
 ghost use Rattle.tsp_branch.specs.states.Sets.{IsMoved};
-ghost use Rattle.tsp_branch.specs.states.Combed.{plain, AreSmallMultipliers, multipliers_at};
+ghost use Rattle.tsp_branch.specs.states.Combed.{plain, AreSmallDifferences, multipliers_at};
 
-use crate::add_sets::add_where_any;
+use crate::add_sets::{add_where_any, sum_left};
 use tsp_families::CombSet;
 
-/// Writes at the place of each node what is left in 64 bits of its potential less the multipliers
-/// of the sets that have it.
-pub(crate) fn fill_moved(row: &mut [i64], potentials: &[i64], sets: &[CombSet], multipliers: &[i64])
+/// Writes at the place of each node what is left in 64 bits of its potential and another number.
+pub(crate) fn fill_moved(row: &mut [i64], potentials: &[i64], ends: &[i64])
     requires room { length row.old ≡ length potentials.now + 1 }
-    requires nodes { AreSetsOf (length potentials.now) sets.now }
-    requires combs { All (λ set. set.comb < length multipliers.now) sets.now }
-    requires small { AreSmallMultipliers multipliers.now }
-    ensures { (x : ℕ) → IsNode (length potentials.now) x → int_wrap w64 (least_at row.new x)
-        ≡ int_wrap w64 (entry potentials.now x +ℤ neg_ℤ (multipliers_at multipliers.now (plain sets.now) x)) }
-{
-    place_potentials(row, potentials);
-    take_multipliers(row, sets, multipliers);
-}
-
-/// Writes the potential of each node at its place.
-fn place_potentials(row: &mut [i64], potentials: &[i64])
-    requires { length row.old ≡ length potentials.now + 1 }
-    ensures { (x : ℕ) → IsNode (length potentials.now) x → least_at row.new x ≡ entry potentials.now x }
+    requires ends { length ends.now ≡ length potentials.now + 1 }
+    ensures { (x : ℕ) → IsNode (length potentials.now) x
+        → least_at row.new x ≡ int_wrap w64 (entry potentials.now x +ℤ least_at ends.now x) }
 {
     'nodes: for index in 0..potentials.len() {
-        row[index + 1] = potentials[index];
+        row[index + 1] = sum_left(potentials[index], ends[index + 1]);
     }
 }
 
 /// Takes off each node of a set the multiplier of the set's comb.
-fn take_multipliers(row: &mut [i64], sets: &[CombSet], multipliers: &[i64])
+pub(crate) fn take_multipliers(row: &mut [i64], sets: &[CombSet], multipliers: &[i64])
     requires nodes { All (λ set. All (λ node. node < length row.old) set.nodes.items) sets.now }
     requires combs { All (λ set. set.comb < length multipliers.now) sets.now }
-    requires small { AreSmallMultipliers multipliers.now }
+    requires small { AreSmallDifferences multipliers.now }
     ensures { (x : ℕ) → IsMoved (neg_ℤ (multipliers_at multipliers.now (plain sets.now) x))
         (least_at row.old x) (least_at row.new x) }
 {

@@ -40,7 +40,8 @@ use tsp_theory::Costs;
 /// # Errors
 ///
 /// Out of memory, of which it takes some for each node, each comb, each node of a set, and
-/// each decision of a case.
+/// each decision of a case. For trees of several leaves it also takes some for each pair of up to
+/// 2,000 nodes, where there is any.
 pub fn judge_branches<C: Costs>(
     alloc: Global,
     tree: &CaseTree<C>,

@@ -42,11 +42,17 @@ pub record AreAdded (multipliers : List ℤ) (sets : List CombSet) (by_node : Li
 abbrev pub AreDifferences : List ℤ → List ℤ → List ℤ → Type 0
 AreDifferences old new differences = (k : ℕ) → least_at new k ≡ least_at old k +ℤ least_at differences k
 
--- rows, and the multipliers that they have been brought to
+-- by node what is left in 64 bits of what the multipliers of its sets take off its potential
+pub record AreEnds (n : ℕ) (multipliers : List ℤ) (sets : List CombSet) (ends : List ℤ) : Type 0 where
+  pub places : length ends ≡ n + 1
+  pub taken : (x : ℕ) → IsNode n x → int_wrap w64 (least_at ends x) ≡ int_wrap w64 (neg_ℤ (multipliers_at multipliers (plain sets) x))
+
+-- rows and ends, and the multipliers that they have been brought to
 pub record HoldsRows (n combs : ℕ) (scale : ℤ) (sets : List CombSet) (cost : ℕ → ℕ → ℤ) (kept : KeptRows) : Type 0 where
   pub multipliers : length kept.multipliers.items ≡ combs
   pub differences : length kept.differences.items ≡ combs
   pub small : AreSmallMultipliers kept.multipliers.items
+  pub ends : AreEnds n kept.multipliers.items sets kept.ends.items
   pub rows : AreRowsIfAny n cost (kept_weight scale sets cost kept.multipliers.items) kept.rows.items
 
 -- what is left in 64 bits of each node's potential less the multipliers of its sets

@@ -7,7 +7,7 @@ use Rattle.tsp_theory.specs.Numbers.{entry}
 use Rattle.tsp_theory.specs.states.Nearest.{least_at}
 use Rattle.tsp_families.specs.declared.comb_set.CombSet.{CombSet}
 use Rattle.tsp_branch.specs.states.Combed.{plain, AreSmallMultipliers, multipliers_at}
-use Rattle.tsp_branch.specs.states.Kept.{kept_weight, AreRowsIfAny, HoldsRows}
+use Rattle.tsp_branch.specs.states.Kept.{kept_weight, AreRowsIfAny, AreEnds, HoldsRows}
 use Rattle.tsp_branch.specs.CombsOfSets.{families_of}
 use Rattle.tsp_branch.specs.Cases.{LeafNumbers}
 use Rattle.tsp_branch.specs.Certificate.{IsFoundAt}
@@ -16,6 +16,7 @@ use Rattle.tsp_branch.specs.Decisions.{decided_number}
 use Rattle.tsp_branch.specs.states.OpenCases.{decisions_in}
 use Rattle.tsp_branch.specs.Listed.{all_grown}
 use Rattle.tsp_branch.proofs.CaseWeights.{all_some, small_multipliers}
+use Rattle.tsp_branch.proofs.KeptRows.{moved_from_ends}
 use Rattle.tsp_branch.proofs.Judging.{written, good_read, judged_leaf}
 use Rattle.tsp_branch.proofs.branch.judge_leaf.Goals as goal
 
@@ -24,21 +25,28 @@ judge-requires-clause-some g c =
     let s = c.args.setting.now in
     all_some (g.C.Costs.nodes s.costs.now) s.crossed.now (plain s.sets.now) c.requires.are_families
 
-pub fill_moved-requires-clause-small : goal.fill_moved-requires-clause-small
-fill_moved-requires-clause-small g c =
+pub bring_to-requires-clause-small : goal.bring_to-requires-clause-small
+bring_to-requires-clause-small g c =
     let s = c.args.setting.now in
-    let is = c.deref-3.ensures.value ∙ written c.args.room.now.multipliers.len c.judge.new.multipliers _ (c.judge.ensures.multipliers_len ∙ c.deref_mut-3.ensures.len)
+    let is = c.deref-2.ensures.value ∙ written c.args.room.now.multipliers.len c.judge.new.multipliers _ (c.judge.ensures.multipliers_len ∙ c.deref_mut-3.ensures.len)
     ∙ c.if-not-judge.ensures.multipliers refl in
     subst AreSmallMultipliers (sym is) (small_multipliers _ s.crossed.now _ _ (all_some (g.C.Costs.nodes s.costs.now) s.crossed.now (plain s.sets.now) c.requires.are_families)
     (c.if-not-judge.ensures.good.0 refl))
 
-pub bring_to-requires-clause-small : goal.bring_to-requires-clause-small
-bring_to-requires-clause-small g c =
+pub fill_moved-requires-clause-ends : goal.fill_moved-requires-clause-ends
+fill_moved-requires-clause-ends g c =
     let s = c.args.setting.now in
-    let is = c.deref-4.ensures.value ∙ written c.args.room.now.multipliers.len c.judge.new.multipliers _ (c.judge.ensures.multipliers_len ∙ c.deref_mut-3.ensures.len)
-    ∙ c.if-not-judge.ensures.multipliers refl in
-    subst AreSmallMultipliers (sym is) (small_multipliers _ s.crossed.now _ _ (all_some (g.C.Costs.nodes s.costs.now) s.crossed.now (plain s.sets.now) c.requires.are_families)
-    (c.if-not-judge.ensures.good.0 refl))
+    let n : ℕ = g.C.Costs.nodes s.costs.now in
+    let cost = g.C.Costs.at s.costs.now in
+    let room = c.args.room.now in
+    let ps_len : length c.deref-3.result.now ≡ n = ap length (c.deref-3.ensures.value ∙ written room.potentials.len c.judge.new.potentials _ (c.judge.ensures.potentials_len ∙ c.deref_mut-2.ensures.len))
+    ∙ c.judge.ensures.potentials_len ∙ ap length c.deref_mut-2.ensures.value ∙ c.requires.room.potentials in
+    let ms_len : length c.deref-2.result.now ≡ length s.crossed.now =
+    ap length (c.deref-2.ensures.value ∙ written room.multipliers.len c.judge.new.multipliers _ (c.judge.ensures.multipliers_len ∙ c.deref_mut-3.ensures.len))
+    ∙ c.judge.ensures.multipliers_len ∙ ap length c.deref_mut-3.ensures.value ∙ c.requires.room.multipliers in
+    let brought = c.bring_to.ensures.kept n s.scale cost (subst (λ (k : ℕ). HoldsRows n k s.scale s.sets.now cost room.kept) (sym ms_len) c.requires.kept) s.table in
+    let places = ap length c.deref-4.ensures.value ∙ brought.ends.places in
+    omega (arith, places, ps_len)
 
 pub case_bound-requires-clause-leaf : goal.case_bound-requires-clause-leaf
 case_bound-requires-clause-leaf g c =
@@ -47,26 +55,27 @@ case_bound-requires-clause-leaf g c =
     let cost = g.C.Costs.at s.costs.now in
     let room = c.args.room.now in
     let sets : List CombSet = s.sets.now in
-    let ps_len : length c.deref-2.result.now ≡ n = ap length (c.deref-2.ensures.value ∙ written room.potentials.len c.judge.new.potentials _ (c.judge.ensures.potentials_len ∙ c.deref_mut-2.ensures.len))
+    let ps_len : length c.deref-3.result.now ≡ n = ap length (c.deref-3.ensures.value ∙ written room.potentials.len c.judge.new.potentials _ (c.judge.ensures.potentials_len ∙ c.deref_mut-2.ensures.len))
     ∙ c.judge.ensures.potentials_len ∙ ap length c.deref_mut-2.ensures.value ∙ c.requires.room.potentials in
-    let ms_len : length c.deref-4.result.now ≡ length s.crossed.now =
-    ap length (c.deref-4.ensures.value ∙ written room.multipliers.len c.judge.new.multipliers _ (c.judge.ensures.multipliers_len ∙ c.deref_mut-3.ensures.len))
+    let ms_len : length c.deref-2.result.now ≡ length s.crossed.now =
+    ap length (c.deref-2.ensures.value ∙ written room.multipliers.len c.judge.new.multipliers _ (c.judge.ensures.multipliers_len ∙ c.deref_mut-3.ensures.len))
     ∙ c.judge.ensures.multipliers_len ∙ ap length c.deref_mut-3.ensures.value ∙ c.requires.room.multipliers in
-    let ps_same : c.deref-2.result.now ≡ c.deref-5.result.now = c.deref-2.ensures.value ∙ sym c.deref-5.ensures.value in
-    let ms_same : c.deref-3.result.now ≡ c.deref-6.result.now = c.deref-3.ensures.value ∙ sym c.deref-6.ensures.value in
-    let kept_same : c.deref-4.result.now ≡ c.deref-6.result.now = c.deref-4.ensures.value ∙ sym c.deref-6.ensures.value in
+    let ps_same : c.deref-3.result.now ≡ c.deref-5.result.now = c.deref-3.ensures.value ∙ sym c.deref-5.ensures.value in
+    let ms_same : c.deref-2.result.now ≡ c.deref-6.result.now = c.deref-2.ensures.value ∙ sym c.deref-6.ensures.value in
     let moved_is = c.deref-7.ensures.value ∙ written room.moved.len c.fill_moved.new.row _ (c.fill_moved.auto.row ∙ c.deref_mut-4.ensures.len) in
-    let brought : HoldsRows n (length c.deref-4.result.now) s.scale sets cost c.bring_to.new.self =
+    let brought : HoldsRows n (length c.deref-2.result.now) s.scale sets cost c.bring_to.new.self =
     c.bring_to.ensures.kept n s.scale cost (subst (λ (k : ℕ). HoldsRows n k s.scale sets cost room.kept) (sym ms_len) c.requires.kept) s.table in
+    let now_at : c.bring_to.new.self.multipliers.items ≡ c.deref-6.result.now = c.bring_to.ensures.multipliers ∙ ms_same in
+    let ends : AreEnds n c.deref-6.result.now sets c.bring_to.new.self.ends.items = subst (λ (ms : List ℤ). AreEnds n ms sets c.bring_to.new.self.ends.items) now_at brought.ends in
     let rows : AreRowsIfAny n cost (kept_weight s.scale sets cost c.deref-6.result.now) c.bring_to.new.self.rows.items =
-    subst (λ (ms : List ℤ). AreRowsIfAny n cost (kept_weight s.scale sets cost ms) c.bring_to.new.self.rows.items) (c.bring_to.ensures.multipliers ∙ kept_same) brought.rows in
+    subst (λ (ms : List ℤ). AreRowsIfAny n cost (kept_weight s.scale sets cost ms) c.bring_to.new.self.rows.items) now_at brought.rows in
     record {
       places = ap length moved_is ∙ c.fill_moved.auto.row ∙ ap length c.deref_mut-4.ensures.value ∙ c.requires.room.moved;
       moved = λ x x_in.
           ap (λ (zs : List ℤ). int_wrap w64 (least_at zs x)) moved_is
-          ∙ c.fill_moved.ensures x (x_in.0, omega (arith, x_in.1, ps_len))
-          ∙ ap (λ (ps : List ℤ). int_wrap w64 (entry ps x +ℤ neg_ℤ (multipliers_at c.deref-3.result.now (plain sets) x))) ps_same
-          ∙ ap (λ (ms : List ℤ). int_wrap w64 (entry c.deref-5.result.now x +ℤ neg_ℤ (multipliers_at ms (plain sets) x))) ms_same;
+          ∙ moved_from_ends (entry c.deref-3.result.now x) (least_at c.deref-4.result.now x) (least_at c.fill_moved.new.row x) (neg_ℤ (multipliers_at c.deref-6.result.now (plain sets) x))
+          (c.fill_moved.ensures x (x_in.0, omega (arith, x_in.1, ps_len))) (ap (λ (zs : List ℤ). int_wrap w64 (least_at zs x)) c.deref-4.ensures.value ∙ ends.taken x x_in)
+          ∙ ap (λ (ps : List ℤ). int_wrap w64 (entry ps x +ℤ neg_ℤ (multipliers_at c.deref-6.result.now (plain sets) x))) ps_same;
       kept = subst (AreRowsIfAny n cost (kept_weight s.scale sets cost c.deref-6.result.now)) (sym c.deref-8.ensures.value) rows;
     }
 
@@ -76,8 +85,8 @@ returns-clause-kept g c =
     let n : ℕ = g.C.Costs.nodes s.costs.now in
     let cost = g.C.Costs.at s.costs.now in
     let room = c.args.room.now in
-    let ms_len : length c.deref-4.result.now ≡ length s.crossed.now =
-    ap length (c.deref-4.ensures.value ∙ written room.multipliers.len c.judge.new.multipliers _ (c.judge.ensures.multipliers_len ∙ c.deref_mut-3.ensures.len))
+    let ms_len : length c.deref-2.result.now ≡ length s.crossed.now =
+    ap length (c.deref-2.ensures.value ∙ written room.multipliers.len c.judge.new.multipliers _ (c.judge.ensures.multipliers_len ∙ c.deref_mut-3.ensures.len))
     ∙ c.judge.ensures.multipliers_len ∙ ap length c.deref_mut-3.ensures.value ∙ c.requires.room.multipliers in
     let brought = c.bring_to.ensures.kept n s.scale cost (subst (λ (k : ℕ). HoldsRows n k s.scale s.sets.now cost room.kept) (sym ms_len) c.requires.kept) s.table in
     subst (λ (k : ℕ). HoldsRows n k s.scale s.sets.now cost c.bring_to.new.self) ms_len brought
