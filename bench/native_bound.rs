@@ -44,6 +44,11 @@ fn weights() -> Vec<i64> {
     list
 }
 
+/// The weights above the diagonal, by rows.
+fn upper_weights() -> Vec<i64> {
+    (1..=NODES).flat_map(|from| (from + 1..=NODES).map(move |to| weight(from, to))).collect()
+}
+
 fn points(count: usize) -> Vec<Point> {
     let mut state = 1;
     let mut coordinate = || (next(&mut state) % 10_000_000) as i64 * 1_000_000;
@@ -353,6 +358,16 @@ fn matrix_tree(weights: &[i64], potentials: &[i64]) -> i128 {
     bound
 }
 
+/// Over the weights above the diagonal, of which row i begins `starts[i]` places before its own node.
+#[inline(never)]
+fn upper_tree(weights: &[i64], potentials: &[i64]) -> i128 {
+    let starts: Vec<usize> = (0..NODES).map(|i| (i * (2 * NODES - i - 1) / 2).wrapping_sub(i + 1)).collect();
+    let place = |i: usize, j: usize| starts[i.min(j)].wrapping_add(i.max(j));
+    let (edges, bound) = one_tree(NODES, potentials, |i, j| if i == j { 0 } else { weights[place(i, j)] });
+    assert_eq!(edges.len(), NODES);
+    bound
+}
+
 #[inline(never)]
 fn points_tree(points: &[Point], potentials: &[i64], distance: impl Fn(Point, Point) -> i64) -> i128 {
     let (edges, bound) = one_tree(POINTS, potentials, |i, j| distance(points[i], points[j]));
@@ -363,12 +378,13 @@ fn points_tree(points: &[Point], potentials: &[i64], distance: impl Fn(Point, Po
 fn main() {
     let args: Vec<String> = env::args().collect();
     let [_, name, shape, rounds] = args.as_slice() else {
-        println!("usage: native dual_bound|one_tree matrix|instance|euc_2d|max_2d|boxes|many_boxes ROUNDS");
+        println!("usage: native dual_bound|one_tree matrix|instance|upper_row|euc_2d|max_2d|boxes|many_boxes ROUNDS");
         return;
     };
     let rounds: u64 = rounds.parse().unwrap_or(1);
     let (weights, points) = match shape.as_str() {
         "matrix" | "instance" => (weights(), Vec::new()),
+        "upper_row" => (upper_weights(), Vec::new()),
         "many_boxes" => (Vec::new(), points(MANY_POINTS)),
         _ => (Vec::new(), points(POINTS)),
     };
@@ -382,6 +398,7 @@ fn main() {
         sum += match (name.as_str(), shape.as_str()) {
             ("dual_bound", _) => dual_bound(weights, &rows, &columns).unwrap_or(0),
             (_, "matrix") => matrix_tree(weights, &rows),
+            (_, "upper_row") => upper_tree(weights, &rows),
             (_, "euc_2d") => points_tree(points, &rows, euc_2d),
             (_, "boxes" | "many_boxes") => boxes_tree(points, &rows),
             _ => points_tree(points, &rows, max_2d),

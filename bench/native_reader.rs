@@ -54,6 +54,15 @@ fn points() -> String {
     text
 }
 
+fn numbers() -> String {
+    let mut state = 1;
+    let mut text = String::from("TYPE : POTENTIALS\nDIMENSION : 100000\nNODE_POTENTIAL_SECTION\n");
+    for node in 1..=POINTS {
+        text += &format!("{node} {}\n", next(&mut state) % 1_000_000);
+    }
+    text
+}
+
 // ---- numbers
 
 /// How many digits eight bytes begin with, and their number.
@@ -147,6 +156,7 @@ struct Reader {
     weights: Vec<i64>,
     nodes: Vec<u32>,
     points: Vec<(i64, i64)>,
+    numbers: Vec<i64>,
     seen: Vec<bool>,
 }
 
@@ -156,6 +166,7 @@ enum Section {
     Weights,
     Tour,
     Points,
+    Numbers,
 }
 
 impl Reader {
@@ -168,6 +179,7 @@ impl Reader {
             weights: Vec::new(),
             nodes: Vec::new(),
             points: Vec::new(),
+            numbers: Vec::new(),
             seen: Vec::new(),
         }
     }
@@ -193,6 +205,7 @@ impl Reader {
             Section::Weights => self.take_weights(text),
             Section::Tour => self.take_nodes(text),
             Section::Points => self.take_points(text),
+            Section::Numbers => self.take_numbers(text),
         };
         if taken > 0 {
             return Some(taken);
@@ -212,11 +225,13 @@ impl Reader {
             "EDGE_WEIGHT_SECTION" => Section::Weights,
             "TOUR_SECTION" => Section::Tour,
             "NODE_COORD_SECTION" => Section::Points,
+            "NODE_POTENTIAL_SECTION" => Section::Numbers,
             _ => Section::Lines,
         };
         if keyword.trim() == "DIMENSION" {
             self.dimension = value.trim().parse().unwrap();
             self.points = vec![(0, 0); self.dimension];
+            self.numbers = vec![0; self.dimension];
             self.seen = vec![false; self.dimension];
         }
     }
@@ -245,6 +260,18 @@ impl Reader {
         at
     }
 
+    fn take_numbers(&mut self, text: &[u8]) -> usize {
+        let mut at = 0;
+        while let Some((node, number, end)) = front_pair(&text[at..]) {
+            let node = node as usize;
+            assert!(!std::mem::replace(&mut self.seen[node - 1], true));
+            assert!(number.abs() <= 1_000_000_000_000_000);
+            self.numbers[node - 1] = number;
+            at += end;
+        }
+        at
+    }
+
     fn take_points(&mut self, text: &[u8]) -> usize {
         let mut at = 0;
         while let Some((node, x, y, end)) = front_point(&text[at..]) {
@@ -255,6 +282,13 @@ impl Reader {
         }
         at
     }
+}
+
+#[inline(always)]
+fn front_pair(text: &[u8]) -> Option<(i64, i64, usize)> {
+    let (node, first) = front_whole(text)?;
+    let (number, second) = front_whole(&text[first..])?;
+    Some((node, number, first + second))
 }
 
 #[inline(always)]
@@ -273,7 +307,8 @@ fn read(text: &[u8]) -> i128 {
     let weights: i128 = reader.weights.iter().map(|weight| i128::from(*weight)).sum();
     let nodes: i128 = reader.nodes.iter().map(|node| i128::from(*node)).sum();
     let points: i128 = reader.points.iter().map(|(x, y)| i128::from(*x) + i128::from(*y)).sum();
-    weights + nodes + points
+    let numbers: i128 = reader.numbers.iter().map(|number| i128::from(*number)).sum();
+    weights + nodes + points + numbers
 }
 
 fn main() {
@@ -281,6 +316,7 @@ fn main() {
     let text = match args[2].as_str() {
         "weights" => weights(),
         "nodes" => nodes(),
+        "numbers" => numbers(),
         _ => points(),
     };
     let rounds: u64 = args[3].parse().unwrap();

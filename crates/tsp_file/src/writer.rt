@@ -8,6 +8,7 @@ ghost use Rattle.tsp_stream.specs.Sink.{Writes};
 ghost use Rattle.tsp_stream.specs.states.Way.{Puts};
 ghost use Rattle.tsp_file.specs.Text.{text_of, text_of_field, text_of_section, text_of_value};
 
+mod digits;
 mod keywords;
 mod matrix;
 mod sections;

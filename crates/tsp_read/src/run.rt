@@ -1,4 +1,4 @@
-//! A run of numbers: the words of a matrix, of tours or of points, each looked at once.
+//! A run of numbers: the words of a matrix, of tours, of points or of numbers by node, each looked at once.
 //!
 //! Most words there are plain numbers, and most of a matrix have a few digits. Such a word is read
 //! here where its end is found, so that it is not searched for first. Every other word, and every
@@ -254,6 +254,7 @@ fn take_part<'a>(part: &mut Part, alloc: Global, count: Count, text: &'a [u8]) -
     ensures { RunsTo part.old count text.now part.new result.0 result.1.now }
 {
     match part {
+        Part::Numbers(list) => take_all(list, count, text),
         Part::Weights(list) => take_weights(list, alloc, count, text),
         Part::Tours(list) => take_all(list, count, text),
         Part::Points(list) => take_all(list, count, text),
@@ -288,7 +289,7 @@ impl Intake {
     ghost use Rattle.tsp_read.specs.states.Intake.{IsReadTo};
 
     /// Takes the words that can be taken so at the beginning of a text, where the open section is
-    /// of weights, tours or points, and returns the rest.
+    /// of weights, tours, points or numbers by node, and returns the rest.
     pub(crate) fn take_run<'a>(&mut self, alloc: Global, text: &'a [u8]) -> &'a [u8]
         requires line { self.old.line + length text.now ≤ most_file_bytes + 1 }
         requires words { self.old.words + length text.now ≤ most_file_bytes }

@@ -8,6 +8,7 @@ ghost use Rattle.tsp_section.specs.declared.part.Part.TheVariants as parts;
 ghost use Rattle.tsp_section.specs.states.Parts.{IsNodeOf};
 ghost use Rattle.tsp_section.specs.states.Run.{in_group, groups_left, marks_of, TakesRead, KeepsWords};
 
+use crate::parts::numbers::NumberList;
 use crate::parts::points::PointList;
 use crate::parts::tours::TourList;
 use crate::parts::weights::Gathered;
@@ -64,6 +65,25 @@ impl RunList for Gathered {
 
 impl RunList for TourList {
     ghost part = { λ list. parts.Tours list };
+
+    #[inline(always)]
+    fn awaits_coordinate(&self) -> bool {
+        false
+    }
+
+    #[inline(always)]
+    fn take_whole(&mut self, number: i64) -> bool {
+        self.push_read(number)
+    }
+
+    #[inline(always)]
+    fn take_coordinate(&mut self, _coordinate: Decimal) -> bool {
+        false
+    }
+}
+
+impl RunList for NumberList {
+    ghost part = { λ list. parts.Numbers list };
 
     #[inline(always)]
     fn awaits_coordinate(&self) -> bool {

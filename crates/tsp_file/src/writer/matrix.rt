@@ -8,10 +8,11 @@ ghost use Rattle.tsp_format.specs.Cells.{nodes_to, cells_of_line};
 ghost use Rattle.tsp_file.specs.Text.{weight_line, matrix_lines, line_lens, section_text, optional};
 ghost use Rattle.tsp_stream.specs.states.Way.{Puts};
 
+use crate::writer::digits::put_next_weight;
 use crate::writer::sections::put_opening;
 use std::io::Write;
 use tsp_format::{Field, Layout, WeightFormat};
-use tsp_stream::{Piece, Watched, put, put_next_number, put_number};
+use tsp_stream::{Piece, Watched, put, put_number};
 
 /// Adds weights, each after a blank.
 fn put_more_weights<W: Write>(piece: &mut Piece, out: &mut Watched<W>, weights: &[i64])
@@ -19,7 +20,7 @@ fn put_more_weights<W: Write>(piece: &mut Piece, out: &mut Watched<W>, weights: 
         (flat_map (λ word. 32 ∷ word) (map signed_decimal weights.now)) }
 {
     'weights: for weight in weights {
-        put_next_number(piece, out, *weight);
+        put_next_weight(piece, out, *weight);
     }
 }
 

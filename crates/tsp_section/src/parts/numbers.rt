@@ -1,10 +1,10 @@
 //! By-node sections with a whole number for each node.
 
-ghost use Rattle.std.specs.Prelude.{◌≡◌, ◌<◌, ◌≤◌, ◌^◌, [], ℕ, ℤ, List, ◌∷◌, ◌++◌, vec_len, IfOk, IfErr, Err, ◌≢◌};
+ghost use Rattle.std.specs.Prelude.{◌≡◌, ◌<◌, ◌≤◌, ◌≤ℤ◌, ◌-◌, ◌^◌, None, Some, Ok, true, false, [], ℕ, ℤ, pos, List, ◌∷◌, ◌++◌, length, slice_index_or, vec_len, IfOk, IfErr, Err, ◌≢◌};
 ghost use Rattle.std.specs.Option.{ForSome};
 
 use crate::fault::StepFault;
-use crate::parts::nodes::{is_minus_one, new_node};
+use crate::parts::nodes::{is_minus_one, new_node, unmarked_node};
 use std::alloc::{AllocError, Global};
 use tsp_number::parse_whole;
 use tsp_text::LineFault;
@@ -26,8 +26,9 @@ pub struct NumberList {
 impl NumberList {
     ghost use Rattle.tsp_section.specs.declared.fault.StepFault.TheVariants.{Memory};
     ghost use Rattle.tsp_text.specs.Groups.{place_of_number, numbers_by_node};
+    ghost use Rattle.tsp_text.specs.Numbers.{IsWhole};
     ghost use Rattle.tsp_text.specs.Spells.{wants_more};
-    ghost use Rattle.tsp_section.specs.states.Parts.{Takes};
+    ghost use Rattle.tsp_section.specs.states.Parts.{Takes, IsNodeOf};
     ghost use Rattle.tsp_section.specs.states.Held.{HoldsNumbers};
 
     /// The section with no words so far, in a file of `n` nodes. Its numbers are from `low` to
@@ -89,6 +90,45 @@ impl NumberList {
                 }
                 Err(fault) => Err(StepFault::Fault(LineFault::Number(fault))),
             },
+        }
+    }
+
+    /// Takes the number of a word that was read, where a group can begin with it or end with it.
+    /// The answer is whether it was taken.
+    #[inline(always)]
+    pub fn push_read(&mut self, number: i64) -> bool
+        ensures taken { result ≡ true → (low high : ℤ) (n : ℕ) (words : List (List ℕ)) (word : List ℕ)
+            → IsWhole word number → HoldsNumbers self.old low high n words
+            → Takes n (place_of_number low high n words) word
+            (HoldsNumbers self.new low high n (words ++ word ∷ [])) (Ok tt) }
+        ensures kept { result ≡ false → self.new ≡ self.old }
+        ensures node { result ≡ false → 0 < self.old.left → self.old.begun ≡ None → (k : ℕ) → number ≡ pos k
+            → IsNodeOf (length self.old.seen.items) k
+            → slice_index_or self.old.seen.items (k - 1) false ≡ true }
+        ensures amount { result ≡ false → 0 < self.old.left → (node : ℕ) → self.old.begun ≡ Some node
+            → self.old.low ≤ℤ number → number ≤ℤ self.old.high → ⊥ }
+    {
+        if self.left == 0 {
+            return false;
+        }
+        match self.begun {
+            None => match unmarked_node(self.seen.as_slice(), number) {
+                Some(node) => {
+                    self.begun = Some(node);
+                    true
+                }
+                None => false,
+            },
+            Some(node) => {
+                if number < self.low || number > self.high {
+                    return false;
+                }
+                self.seen[node as usize - 1] = true;
+                self.entries[node as usize - 1] = number;
+                self.left -= 1;
+                self.begun = None;
+                true
+            }
         }
     }
 

@@ -13,9 +13,9 @@ weights-init g c = carried_none (way_of g.W.Write.contents c.args.out.now c.args
 pub weights-preserved : goal.weights-preserved
 weights-preserved g c =
     let fits : FitsSigned w64 (get_or c.args.weights.now c.weights.weight-index (pos 0)) = search rules in
-    let number = simp to_z-of_z at c.put_next_number.ensures in
+    let number = simp to_z-of_z at c.put_next_weight.ensures in
     let before = way_of g.W.Write.contents c.weights.out c.weights.piece.items in
-    let after = way_of g.W.Write.contents c.put_next_number.new.out c.put_next_number.new.piece.items in
+    let after = way_of g.W.Write.contents c.put_next_weight.new.out c.put_next_weight.new.piece.items in
     carried_next_or (λ (weight : ℤ). 32 ∷ signed_decimal weight) c.args.weights.now c.weights.weight-index (pos 0)
     (way_of g.W.Write.contents c.args.out.now c.args.piece.now.items) before after (omega arith) c.weights.invariant number
 

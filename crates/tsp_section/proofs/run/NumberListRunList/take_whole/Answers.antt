@@ -1,0 +1,11 @@
+use Rattle.std.proofs.Common.{Ok, refl, rules, FitsSigned, w64}
+use Rattle.std.proofs.lemmas.Int.{to_z-of_z}
+use Rattle.tsp_section.specs.declared.part.Part.TheVariants as parts
+use Rattle.tsp_section.proofs.PartSteps as steps
+use Rattle.tsp_section.proofs.run.NumberListRunList.take_whole.Goals as goal
+
+pub returns-clause-taken : goal.returns-clause-taken
+returns-clause-taken c = λ taken word read n words h.
+    let fits : FitsSigned w64 c.args.number = search rules in
+    steps.numbers (parts.Numbers c.args.self.now) c.args.self.now c.push_read.new.self n words word (Ok tt) refl
+    (λ low high m ws held. c.push_read.ensures.taken taken low high m ws word (rw (to_z-of_z w64 c.args.number fits) read) held) h
