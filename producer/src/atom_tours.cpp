@@ -134,6 +134,7 @@ std::vector<AtomTour> AtomTours::shortest(float below, std::size_t most) const {
   if (cells.size() < kLanes << points) cells.resize(kLanes << points, kFar);
   fill_ways(cells, rows, points);
   std::vector<std::pair<float, int>> ends;
+  ends.reserve(points);
   const std::size_t all = (std::size_t{1} << points) - 1;
   for (int j = 0; j < points; j++) {
     ends.emplace_back(cells[all * kLanes + j] + rows[static_cast<std::size_t>(points) * kLanes + j], j);

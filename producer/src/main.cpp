@@ -45,7 +45,7 @@ Start find_tours(const Instance& instance, const Options& options, const Clock& 
   start.seed = options.seed;
   start.upper = options.upper;
   start.named = options.tour.has_value();
-  start.families = options.families;
+  start.families = options.families && !instance.directed;  // of an ATSP their gain was never measured
   if (instance.directed) return find_arcs(instance, options, clock, std::move(start));
   const Matrix costs = with_fixed_lowered(instance.weights, instance.fixed);
   paths_of(instance.fixed, instance.nodes());

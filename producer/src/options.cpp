@@ -37,7 +37,9 @@ void declare(CLI::App& app, Options& options) {
          "the program tsp: a path, or a name that is looked for on PATH; else it is tsp on PATH, then in the "
          "folders above")
       ->type_name("PROGRAM");
-  app.add_flag("--families", options.families, "cuts may be families of any sets, for a tsp that takes them");
+  app.add_flag_callback(
+      "--no-families", [&options] { options.families = false; },
+      "cuts are sets and combs alone, as they are of an ATSP");
   app.add_option("--log", options.log, "where each event is written as a line of JSON")->type_name("FILE");
   app.footer(kFooter);
 }

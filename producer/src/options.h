@@ -14,7 +14,7 @@ struct Options {
   double seconds = 300;
   std::uint64_t seed = 1;
   std::optional<Weight> upper;
-  bool families = false;
+  bool families = true;
 };
 
 // What --help prints.

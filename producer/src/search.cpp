@@ -336,6 +336,7 @@ void Search::visit(int place) {
     return;
   }
   improve(cases_[place]);
+  here_ = cases_[place].value;
   if (clock_.over()) return;
   if (!choice_) choice_ = branching_.choose(relaxation_, static_cast<double>(target_));
   if (const auto pair = std::exchange(choice_, std::nullopt)) branch(place, *pair);

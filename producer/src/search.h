@@ -23,7 +23,7 @@ struct Start {
   std::optional<Weight> upper;
   std::uint64_t seed = 1;
   bool named = false;     // the tour was named, so that none is looked for again
-  bool families = false;  // cuts may be families of any sets
+  bool families = true;  // cuts may be families of any sets
 };
 
 // A branch on a pair, or a leaf with its numbers.

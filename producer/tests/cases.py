@@ -281,6 +281,31 @@ def overwriting():
     certify("a.tsp", "out.tour", "-o", "again.branches", "--tour-out", "again.tour")  # these may be written anew
 
 
+def sets_of_cuts(path):
+    """The sets of each cut of a certificate, in the order of the file."""
+    section = Path(path).read_text().partition("COMB_SECTION\n")[2].partition("-1\n-1\nBRANCH_SECTION")[0]
+    return [[set(map(int, line.split()[:-1])) for line in cut.splitlines()] for cut in section.split("\n-1\n") if cut]
+
+
+def is_comb(sets):
+    handle, *teeth = sets
+    across = all(tooth & handle and tooth - handle for tooth in teeth)
+    return len(teeth) % 2 == 1 and across and sum(map(len, teeth)) == len(set().union(*teeth))
+
+
+def families():
+    """No tour of the Petersen graph has ten edges of it. Combs don't show that, and a family does."""
+    ring = range(5)
+    edges = [pair for k in ring for pair in ((k, (k + 1) % 5), (k, k + 5), (k + 5, (k + 2) % 5 + 5))]
+    near = {frozenset(edge) for edge in edges}
+    rows = [" ".join(str(1 if frozenset((i, j)) in near else 2 * (i != j)) for j in range(10)) for i in range(10)]
+    write("a.tsp", "EXPLICIT", [10, "EDGE_WEIGHT_FORMAT : FULL_MATRIX", "EDGE_WEIGHT_SECTION", *rows])
+    for words, some in (([], True), (["--no-families"], False)):
+        need(need_optimal("a.tsp", *words) == 11, f"{words}: another length than 11")
+        found = [sets for sets in sets_of_cuts("out.branches") if len(sets) > 1 and not is_comb(sets)]
+        need(bool(found) == some, f"{words}: the families are {found}")
+
+
 def log():
     """Each line is of JSON, and no bound is above its length."""
     write_points("a.tsp", "EUC_2D", 120, random.Random(5), side=10**6)  # more than one leaf
@@ -289,7 +314,8 @@ def log():
     last = events[-1]
     need(last["event"] == "end" and last["gap"] == 0, f"the last event: {last}")
     need(last["length"] == int(judged("a.tsp")["length"]), f"another length: {last}")
-    need(all(event["bound"] <= event["length"] and event["cuts"]["combs"] >= 0 for event in events), "a bound is above")
+    need(all(0 <= event["bound"] <= event["length"] for event in events), "a bound is above, or none")
+    need(all(event["cuts"]["combs"] >= 0 for event in events), "no cuts are told")
     need([event["seconds"] for event in events] == sorted(event["seconds"] for event in events), "not in order")
     certify("a.tsp", "-o", "out.branches", "--tour-out", "out.tour", "--log", "no/folder/log", status=2)
 
@@ -383,7 +409,7 @@ def installing():
 
 
 CASES = [weights, fixed, small, matrix, atsp_small, atsp, atsp_named_tour, named_tour, upper, time_limit, same_bytes,
-         interrupt, rounding, overwriting, log, bad_input, finding_tsp, installing]
+         interrupt, rounding, overwriting, families, log, bad_input, finding_tsp, installing]
 
 
 def main():
