@@ -240,9 +240,14 @@ def report_of(
     by: int,
     length: Optional[int] = None,
     explain: bool = False,
+    handle: Optional[_library.Handle] = None,
 ) -> Report:
-    """The report of a check of these texts: of the instance, the solution and the certificate."""
-    status, told, result = _library.check_result(*texts, by, length)
+    """The report of a check of these texts: of the instance, the solution and the certificate. A handle has the
+    first and the third, where it is given."""
+    if handle is None:
+        status, told, result = _library.check_result(*texts, by, length)
+    else:
+        status, told, result = handle.check(texts[1], length)
 
     def more() -> str:
         return explained(_library.CHECK, texts, paths, by, length)

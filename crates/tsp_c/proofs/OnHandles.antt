@@ -146,7 +146,7 @@ reported_as_texts opened claimed two verdict sink (Err fault) written status tex
     write_is : (refused : RelayoutFault) → Write write_faults.Device ≡ Relayout refused → ⊥
     write_is refused e = cc
 
-    two_is : 3 ≡ 2 → ⊥
+    two_is : ◌≡◌ {A = ℕ} 3 2 → ⊥
     two_is n = omega (arith, n)
 
 pub not_two : (answer : Bool) (status : ℕ) → status ≡ status_of (Ok answer) → status ≡ 2 → ⊥
