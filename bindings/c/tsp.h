@@ -13,12 +13,20 @@
  * process with threads. malloc, realloc and free come from one allocator, and give blocks that are aligned
  * to 16 bytes. The processor is an x86-64-v2 (SSE4.2 and popcnt, as since 2009).
  *
- * What a call does. It has no state and keeps no pointer, so calls may run side by side. It takes memory
- * by malloc and frees it all before it returns. It never ends the process, and it always returns.
+ * What a call does. It keeps no pointer and has no state but that of a handle, so calls may run side by
+ * side. It takes memory by malloc and frees it all before it returns, but for what a handle holds. It never
+ * ends the process, and it always returns.
+ *
+ * Handles. A struct tsp_instance holds an instance that is read once. It is the caller's, and begins as all
+ * zeros, which is closed. Only the calls below write to it: it is not copied while it is open. A handle
+ * serves one call at a time, also one that only asks; another thread may call when that call has returned.
+ * Threads that ask at once open handles of their own, or lock. What an open handle holds is freed by
+ * tsp_close alone, and by a tsp_open that opens it anew.
  */
 #ifndef TSP_H
 #define TSP_H
 
+#include <stdbool.h>
 #include <stddef.h>
 #include <stdint.h>
 
@@ -102,6 +110,143 @@ uint32_t tsp_lengths(const uint8_t *instance, size_t instance_len, const uint32_
  * 8 MAX_3D. The plane's kinds take no notice of z. It is -1 if there is no such kind, or a coordinate is
  * beyond 10^18. */
 int64_t tsp_distance(uint32_t kind, int64_t ax, int64_t ay, int64_t az, int64_t bx, int64_t by, int64_t bz);
+
+/* ---- results in numbers */
+
+/* What a call answers; 0 is none. */
+struct tsp_result {
+    uint32_t kind;    /* the TYPE of the instance: 1 TSP, 2 ATSP, 3 CVRP */
+    uint32_t nodes;   /* how many nodes it has */
+    uint32_t verdict; /* one of TSP_TOUR, .. */
+    uint32_t reason;  /* of a TSP_REJECTED: one of TSP_NOT_A_SOLUTION, .. */
+    int64_t first;    /* the numbers of the reason */
+    int64_t second;
+    int64_t length; /* of the tour, or of all routes */
+    int64_t bound_high; /* if has_bound is 1, the bound is 2^64 times bound_high, and bound_low */
+    uint64_t bound_low;
+    uint64_t least; /* the least number of routes */
+    uint32_t has_bound;
+    uint32_t routes; /* how many there are */
+    uint32_t fault;  /* one of TSP_LONG_LINE, .. */
+    uint32_t file;   /* the text with the fault: 1 the instance, 2 the solution, 3 the certificate; 2 of a bound */
+    uint32_t line;   /* the line, from 1, if the fault is one of a line */
+    uint32_t word;   /* the word in it, from 1; 0 is the line as a whole */
+};
+
+/* Verdicts. */
+enum {
+    TSP_TOUR = 1,     /* accepted, with a length, and a bound if a certificate is bound */
+    TSP_ROUTES = 2,   /* accepted, with a length, their number and the least number */
+    TSP_REJECTED = 3, /* a no, with its reason */
+    TSP_BOUND = 4,    /* a certificate gives this bound */
+    TSP_NO_TOUR = 5   /* a certificate shows that the instance has no tour */
+};
+
+/* Reasons, in the order in which they are judged. docs/format.md says what they mean. */
+enum {
+    TSP_NOT_A_SOLUTION = 1,
+    TSP_TOO_FEW_NODES = 2,
+    TSP_NOT_SYMMETRIC = 3,
+    TSP_DIMENSION = 4,
+    TSP_TOUR_COUNT = 5,
+    TSP_TOUR_LENGTH = 6,
+    TSP_DEPOT_COUNT = 7,
+    TSP_DEPOT_DEMAND = 8,
+    TSP_FIXED_EDGES_IN_ROUTES = 9,
+    TSP_DEPOT_IN_ROUTE = 10,
+    TSP_NODE_OUT_OF_RANGE = 11,
+    TSP_REPEATED_NODE = 12,
+    TSP_FIXED_EDGE_UNUSED = 13,
+    TSP_UNSERVED = 14,
+    TSP_OVERLOAD = 15,
+    TSP_LENGTH_CLAIMED = 16,
+    TSP_NOT_POTENTIALS = 17,
+    TSP_POTENTIALS_DIMENSION = 18,
+    TSP_POTENTIALS_KIND = 19,
+    TSP_MULTIPLIER_NOT_FIXED = 20,
+    TSP_MULTIPLIER_REPEATED = 21,
+    TSP_DUAL_INFEASIBLE = 22,
+    TSP_NOT_BRANCHES = 23,
+    TSP_BRANCHES_DIMENSION = 24,
+    TSP_BAD_COMB = 25,
+    TSP_BRANCH_TWICE = 26,
+    TSP_BAD_LEAF = 27
+};
+
+/* Faults. Those up to TSP_LATE_SPACE are of a line, those up to TSP_WRONG_COUNT of the end of a text. */
+enum {
+    TSP_LONG_LINE = 1,
+    TSP_UNKNOWN_LINE = 2,
+    TSP_REPEATED = 3,
+    TSP_OUTSIDE = 4,
+    TSP_BAD_VALUE = 5,
+    TSP_SECTION_VALUE = 6,
+    TSP_SECTION_EARLY = 7,
+    TSP_TOO_MANY_NODES = 8,
+    TSP_STRAY_NUMBER = 9,
+    TSP_NUMBER = 10,
+    TSP_NODE_REPEATED = 11, /* RepeatedNode of a line */
+    TSP_SELF_EDGE = 12,
+    TSP_SURPLUS = 13,
+    TSP_AFTER_END = 14,
+    TSP_LATE_SPACE = 15,
+    TSP_MISSING = 16,
+    TSP_INCOMPLETE = 17,
+    TSP_WRONG_FORMAT = 18,
+    TSP_WRONG_COUNT = 19,
+    TSP_TOO_LONG = 20,
+    TSP_WRONG_KIND = 21
+};
+
+/* tsp_check and tsp_bound, with the result in numbers too: the verdict, if the status is TSP_YES or TSP_NO, and
+ * the fault, if it is TSP_FAULT. At TSP_TOO_SMALL they are those of the status that a larger buffer gives. */
+uint32_t tsp_check_result(const uint8_t *instance, size_t instance_len, const uint8_t *solution, size_t solution_len,
+                          const uint8_t *certificate, size_t certificate_len, uint32_t by, int64_t claimed,
+                          uint32_t has_claim, struct tsp_result *result, uint8_t *out, size_t out_len,
+                          size_t *written);
+uint32_t tsp_bound_result(const uint8_t *instance, size_t instance_len, const uint8_t *certificate,
+                          size_t certificate_len, uint32_t by, struct tsp_result *result, uint8_t *out,
+                          size_t out_len, size_t *written);
+
+/* ---- handles: one instance, many questions. Statuses are those of the calls above, and TSP_REFUSED also comes if
+ * the handle is closed. */
+
+/* A handle: struct tsp_instance handle = {0}; */
+struct tsp_instance {
+    bool is_open;
+    void *at;
+};
+
+/* Opens a handle on the instance that a text is. The text may be freed then. If the handle is open, it is closed
+ * first. If the status isn't TSP_YES, the handle is closed, and result has the fault, if it is TSP_FAULT. */
+uint32_t tsp_open(const uint8_t *instance, size_t instance_len, struct tsp_instance *handle,
+                  struct tsp_result *result);
+
+/* Closes a handle, and frees what it holds. A closed one stays closed. */
+void tsp_close(struct tsp_instance *handle);
+
+/* Binds a certificate to an open instance, in the place of the one before, and gives its bound: by 1 a file of
+ * potentials, by 2 a file of branches. At TSP_YES and at TSP_NO it is bound; then checks answer as tsp_check with
+ * this certificate, and don't judge it again. Else nothing changes. In a fault the certificate is file 2. */
+uint32_t tsp_bind(struct tsp_instance *handle, const uint8_t *certificate, size_t certificate_len, uint32_t by,
+                  struct tsp_result *result);
+
+/* Judges a solution, as tsp_check_result does of the texts that are open: the status, the report and the result are
+ * the same. */
+uint32_t tsp_instance_check(struct tsp_instance *handle, const uint8_t *solution, size_t solution_len,
+                            int64_t claimed, uint32_t has_claim, struct tsp_result *result, uint8_t *out,
+                            size_t out_len, size_t *written);
+
+/* How many nodes the instance has, at TSP_YES; else *count is as it was. */
+uint32_t tsp_instance_count(struct tsp_instance *handle, uint32_t *count);
+
+/* The numbers that tsp_points, tsp_weights, tsp_matrix and tsp_lengths fill in of a text. */
+uint32_t tsp_instance_points(struct tsp_instance *handle, uint32_t section, int64_t *out, size_t out_len);
+uint32_t tsp_instance_weights(struct tsp_instance *handle, const uint32_t *pairs, size_t pairs_len, int64_t *out,
+                              size_t out_len);
+uint32_t tsp_instance_matrix(struct tsp_instance *handle, uint32_t first_row, int64_t *out, size_t out_len);
+uint32_t tsp_instance_lengths(struct tsp_instance *handle, const uint32_t *nodes, size_t nodes_len, int64_t *out,
+                              size_t out_len);
 
 /* The version: 10000 for 1.0.0, 10203 for 1.2.3. */
 uint32_t tsp_version(void);

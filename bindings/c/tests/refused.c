@@ -53,6 +53,19 @@ static uint8_t out[1 << 20];
 static int64_t *const numbers = (int64_t *)out;
 static size_t written;
 
+/* A handle that is opened, bound, asked and closed; the first status that isn't TSP_YES. */
+static uint32_t handle(void) {
+    struct tsp_instance held = {0};
+    struct tsp_result result;
+    uint32_t status = tsp_open(texts[0].bytes, texts[0].len, &held, &result);
+    if (status == TSP_YES)
+        status = tsp_bind(&held, texts[2].bytes, texts[2].len, by, &result);
+    if (status == TSP_YES)
+        status = tsp_instance_check(&held, texts[1].bytes, texts[1].len, 0, 0, &result, out, sizeof out, &written);
+    tsp_close(&held);
+    return status;
+}
+
 static uint32_t call(int which) {
     static const uint32_t pairs[] = {1, 2, 2, 1};
     static const uint32_t lists[] = {1, 2, 3, 0};
@@ -86,6 +99,8 @@ static uint32_t call(int which) {
     case 11: /* why that length is refused */
         return tsp_explain(TSP_OF_CHECK, texts[0].bytes, texts[0].len, texts[1].bytes, texts[1].len, texts[2].bytes,
                            texts[2].len, (const uint8_t *)"a", 1, by, -1, 1, out, sizeof out, &written);
+    case 12:
+        return handle();
     default: /* a fault: the instance is a certificate */
         return tsp_check(texts[2].bytes, texts[2].len, texts[1].bytes, texts[1].len, texts[2].bytes, texts[2].len, 0,
                          0, 0, out, sizeof out, &written);
@@ -100,7 +115,7 @@ int main(int count, char **words) {
     by = (uint32_t)atoi(words[4]);
     static uint8_t expected[sizeof out];
     int failed = 0;
-    for (int which = 0; which < 13; which++) {
+    for (int which = 0; which < 14; which++) {
         memset(out, 0, sizeof out);
         written = 0;
         uint32_t right = call(which);

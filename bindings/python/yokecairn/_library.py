@@ -1,7 +1,8 @@
 """The calls of libtsp over ctypes. No other module knows their signatures.
 
-Each call takes and returns Python's own types. The library keeps no pointer and has no state, so calls
-may run side by side; ctypes releases Python's lock while one runs.
+Each call takes and returns Python's own types. The library keeps no pointer and has no state but that of a
+handle, so calls may run side by side; ctypes releases Python's lock while one runs. A handle serves one call
+at a time: `Handle` locks.
 
 The library is the file that the environment variable YOKECAIRN_LIBRARY names, else `libtsp.so` in this
 package, else `libtsp.so.0` as the system finds it.
@@ -9,8 +10,10 @@ package, else `libtsp.so.0` as the system finds it.
 
 import ctypes
 import os
+import threading
+import weakref
 from array import array
-from ctypes import POINTER, c_char_p, c_int64, c_size_t, c_uint32, c_void_p
+from ctypes import POINTER, byref, c_bool, c_char_p, c_int64, c_size_t, c_uint32, c_uint64, c_void_p
 from pathlib import Path
 from typing import Any, Optional, Sequence, Tuple
 
@@ -39,6 +42,41 @@ LAYOUTS = {
 
 # The calls that are explained, by their numbers.
 SHOW, CONVERT, CHECK, BOUND = range(4)
+
+# The verdicts, by their numbers.
+TOUR, ROUTES, REJECTED, BOUNDED, NO_TOUR = range(1, 6)
+
+# The TYPEs of instances by their numbers from 1, and the reasons, each with how many numbers it has.
+TYPES = ("TSP", "ATSP", "CVRP")
+REASONS = (
+    ("NotASolution", 0),
+    ("TooFewNodes", 0),
+    ("NotSymmetric", 2),
+    ("Dimension", 0),
+    ("TourCount", 0),
+    ("TourLength", 0),
+    ("DepotCount", 0),
+    ("DepotDemand", 0),
+    ("FixedEdgesInRoutes", 0),
+    ("DepotInRoute", 1),
+    ("NodeOutOfRange", 1),
+    ("RepeatedNode", 1),
+    ("FixedEdgeUnused", 1),
+    ("Unserved", 1),
+    ("Overload", 1),
+    ("LengthClaimed", 1),
+    ("NotPotentials", 0),
+    ("PotentialsDimension", 0),
+    ("PotentialsKind", 0),
+    ("MultiplierNotFixed", 1),
+    ("MultiplierRepeated", 1),
+    ("DualInfeasible", 2),
+    ("NotBranches", 0),
+    ("BranchesDimension", 0),
+    ("BadComb", 1),
+    ("BranchTwice", 1),
+    ("BadLeaf", 1),
+)
 
 # The most numbers that `lengths` takes.
 MOST_NODES = 1_000_000
@@ -72,12 +110,51 @@ def _call(name: str, result: Any, *words: Any) -> Any:
     return call
 
 
+class Result(ctypes.Structure):
+    """What a call answers, in numbers."""
+
+    _fields_ = [
+        ("kind", c_uint32),
+        ("nodes", c_uint32),
+        ("verdict", c_uint32),
+        ("reason", c_uint32),
+        ("first", c_int64),
+        ("second", c_int64),
+        ("length", c_int64),
+        ("bound_high", c_int64),
+        ("bound_low", c_uint64),
+        ("least", c_uint64),
+        ("has_bound", c_uint32),
+        ("routes", c_uint32),
+        ("fault", c_uint32),
+        ("file", c_uint32),
+        ("line", c_uint32),
+        ("word", c_uint32),
+    ]
+
+    @property
+    def bound(self) -> Optional[int]:
+        """The bound, where there is one."""
+        return (self.bound_high << 64) + self.bound_low if self.has_bound else None
+
+
+class _Instance(ctypes.Structure):
+    """What the library keeps of an instance. It begins as zeros, which is closed."""
+
+    _fields_ = [("is_open", c_bool), ("at", c_void_p)]
+
+
 _TEXT = (c_char_p, c_size_t)
 _OUT = (c_void_p, c_size_t, POINTER(c_size_t))
 _NUMBERS = (c_void_p, c_size_t)
 
-_check = _call("tsp_check", c_uint32, *_TEXT, *_TEXT, *_TEXT, c_uint32, c_int64, c_uint32, *_OUT)
-_bound = _call("tsp_bound", c_uint32, *_TEXT, *_TEXT, c_uint32, *_OUT)
+_RESULT = POINTER(Result)
+_HANDLE = POINTER(_Instance)
+
+_check = _call(
+    "tsp_check_result", c_uint32, *_TEXT * 3, c_uint32, c_int64, c_uint32, _RESULT, *_OUT
+)
+_bound = _call("tsp_bound_result", c_uint32, *_TEXT, *_TEXT, c_uint32, _RESULT, *_OUT)
 _explain = _call(
     "tsp_explain", c_uint32, c_uint32, *_TEXT * 4, c_uint32, c_int64, c_uint32, *_OUT
 )
@@ -85,10 +162,17 @@ _show = _call("tsp_show", c_uint32, *_TEXT, *_OUT)
 _convert = _call("tsp_convert", c_uint32, *_TEXT, c_uint32, *_OUT)
 _count = _call("tsp_count", c_uint32, *_TEXT)
 _points = _call("tsp_points", c_uint32, *_TEXT, c_uint32, *_NUMBERS)
-_weights = _call("tsp_weights", c_uint32, *_TEXT, *_NUMBERS, *_NUMBERS)
-_matrix = _call("tsp_matrix", c_uint32, *_TEXT, c_uint32, *_NUMBERS)
-_lengths = _call("tsp_lengths", c_uint32, *_TEXT, *_NUMBERS, *_NUMBERS)
 _version = _call("tsp_version", c_uint32)
+_open = _call("tsp_open", c_uint32, *_TEXT, _HANDLE, _RESULT)
+_close = _call("tsp_close", None, _HANDLE)
+_bind = _call("tsp_bind", c_uint32, _HANDLE, *_TEXT, c_uint32, _RESULT)
+_check_held = _call(
+    "tsp_instance_check", c_uint32, _HANDLE, *_TEXT, c_int64, c_uint32, _RESULT, *_OUT
+)
+_points_held = _call("tsp_instance_points", c_uint32, _HANDLE, c_uint32, *_NUMBERS)
+_weights_held = _call("tsp_instance_weights", c_uint32, _HANDLE, *_NUMBERS, *_NUMBERS)
+_matrix_held = _call("tsp_instance_matrix", c_uint32, _HANDLE, c_uint32, *_NUMBERS)
+_lengths_held = _call("tsp_instance_lengths", c_uint32, _HANDLE, *_NUMBERS, *_NUMBERS)
 
 # The distance of two points: distance(kind, x, y, z, x, y, z), in counts of 10^-9; -1 where it is
 # refused. It is called once for each weight, so nothing is wrapped around it.
@@ -119,8 +203,17 @@ def check(
     instance: bytes, solution: bytes, certificate: bytes, by: int, claimed: Optional[int]
 ) -> Tuple[int, bytes]:
     """The status of a check, and its report or the line of a fault."""
+    return check_result(instance, solution, certificate, by, claimed)[:2]
+
+
+def check_result(
+    instance: bytes, solution: bytes, certificate: bytes, by: int, claimed: Optional[int]
+) -> Tuple[int, bytes, Result]:
+    """The same with the result in numbers."""
     words = (instance, len(instance), solution, len(solution), certificate, len(certificate), by)
-    return _written(_check, *words, *_claim(claimed), capacity=REPORT)
+    result = Result()
+    status, told = _written(_check, *words, *_claim(claimed), byref(result), capacity=REPORT)
+    return status, told, result
 
 
 def _claim(claimed: Optional[int]) -> Tuple[int, int]:
@@ -130,9 +223,15 @@ def _claim(claimed: Optional[int]) -> Tuple[int, int]:
 
 def bound(instance: bytes, certificate: bytes, by: int) -> Tuple[int, bytes]:
     """The status of a bound without a tour, and its report or the line of a fault."""
-    return _written(
-        _bound, instance, len(instance), certificate, len(certificate), by, capacity=REPORT
-    )
+    return bound_result(instance, certificate, by)[:2]
+
+
+def bound_result(instance: bytes, certificate: bytes, by: int) -> Tuple[int, bytes, Result]:
+    """The same with the result in numbers."""
+    result = Result()
+    words = (instance, len(instance), certificate, len(certificate), by, byref(result))
+    status, told = _written(_bound, *words, capacity=REPORT)
+    return status, told, result
 
 
 def show(text: bytes) -> Tuple[int, bytes]:
@@ -156,22 +255,59 @@ def points(text: bytes, section: int, nodes: int) -> Tuple[int, "array[int]"]:
     return _points(text, len(text), section, *_slice(out)), out
 
 
-def weights(text: bytes, pairs: "array[int]") -> Tuple[int, "array[int]"]:
-    """The status, and the costs of the pairs, whose nodes follow each other."""
-    out = array("q", bytes(8 * (len(pairs) // 2)))
-    return _weights(text, len(text), *_slice(pairs), *_slice(out)), out
+class Handle:
+    """An instance that the library has read, and that is asked without reading it again.
 
+    Each call takes a lock, so threads may share a handle, and what it holds is freed with it.
 
-def matrix(text: bytes, nodes: int) -> Tuple[int, "array[int]"]:
-    """The status, and the costs from each node to each, row by row."""
-    out = array("q", bytes(8 * nodes * nodes))
-    return _matrix(text, len(text), 1, *_slice(out)), out
+    Attributes:
+        status: how the text opened.
+        result: the instance in numbers, or the fault.
+    """
 
+    def __init__(self, text: bytes) -> None:
+        self._held, self._lock, self.result = _Instance(), threading.Lock(), Result()
+        self._at = byref(self._held)
+        self.status = int(_open(text, len(text), self._at, byref(self.result)))
+        self.close = weakref.finalize(self, _close, self._at)
 
-def lengths(text: bytes, nodes: "array[int]", tours: int) -> Tuple[int, "array[int]"]:
-    """The status, and the length of each tour. A 0 ends a tour in `nodes`, which has at most MOST_NODES."""
-    out = array("q", bytes(8 * tours))
-    return _lengths(text, len(text), *_slice(nodes), *_slice(out)), out
+    def bind(self, certificate: bytes, by: int) -> Tuple[int, Result]:
+        """Binds a certificate, in the place of the one before; the status, and what it gives."""
+        result = Result()
+        with self._lock:
+            return _bind(self._at, certificate, len(certificate), by, byref(result)), result
+
+    def check(self, solution: bytes, claimed: Optional[int]) -> Tuple[int, bytes, Result]:
+        """The status of a check, its report or the line of a fault, and the result in numbers."""
+        result = Result()
+        words = (self._at, solution, len(solution), *_claim(claimed), byref(result))
+        with self._lock:
+            status, told = _written(_check_held, *words, capacity=REPORT)
+        return status, told, result
+
+    def points(self, section: int, nodes: int) -> Tuple[int, "array[int]"]:
+        """The status, and x, y and z of node 1, 2, .. in counts of 10^-9."""
+        out = array("q", bytes(24 * nodes))
+        with self._lock:
+            return _points_held(self._at, section, *_slice(out)), out
+
+    def weights(self, pairs: "array[int]") -> Tuple[int, "array[int]"]:
+        """The status, and the costs of the pairs, whose nodes follow each other."""
+        out = array("q", bytes(8 * (len(pairs) // 2)))
+        with self._lock:
+            return _weights_held(self._at, *_slice(pairs), *_slice(out)), out
+
+    def matrix(self, nodes: int) -> Tuple[int, "array[int]"]:
+        """The status, and the costs from each node to each, row by row."""
+        out = array("q", bytes(8 * nodes * nodes))
+        with self._lock:
+            return _matrix_held(self._at, 1, *_slice(out)), out
+
+    def lengths(self, nodes: "array[int]", tours: int) -> Tuple[int, "array[int]"]:
+        """The status, and the length of each tour. A 0 ends a tour in `nodes`, which has at most MOST_NODES."""
+        out = array("q", bytes(8 * tours))
+        with self._lock:
+            return _lengths_held(self._at, *_slice(nodes), *_slice(out)), out
 
 
 def explain(

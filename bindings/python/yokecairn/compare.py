@@ -11,7 +11,7 @@ from functools import cached_property
 from typing import Any, Callable, Dict, Iterable, Iterator, List, Mapping, Optional, Sequence, Tuple, Union, overload
 
 from . import _library
-from .faults import Error, OutOfMemory, text_of
+from .faults import Error, OutOfMemory, error_of, text_of
 from .many import Outcome
 from .problem import Path, Problem, parse
 from .report import (
@@ -141,6 +141,23 @@ class Judge:
             known.update(bound=report.bound, no_tour=report.no_tour)
         return Basis(report.type, report.nodes, report.not_judged, **known)
 
+    @cached_property
+    def handle(self) -> _library.Handle:
+        """The instance with its certificate, which the library reads once.
+
+        Raises:
+            Fault: as `basis` says.
+            MemoryError: out of memory.
+        """
+        _ = self.basis
+        handle = _library.Handle(self.instance)
+        status = handle.status
+        if self.by != _library.ALONE and status == _library.DONE:
+            status, _result = handle.bind(self.certificate, self.by)
+        if status not in (_library.DONE, _library.NO):
+            raise error_of(status, b"out of memory")
+        return handle
+
     def outcome(self, solution: Solution, explain: bool = False, path: Optional[str] = None) -> Outcome:
         """What comes of a solution: its report, or the exception that says why it has none. `path` is where it
         was, where it is a text."""
@@ -161,7 +178,8 @@ class Judge:
         if self.is_foreign:
             solution = solution_text(solution, self.basis.nodes)
         paths = (self.paths[0], path, self.paths[1])
-        return report_of((self.instance, solution, self.certificate), paths, self.by, explain=explain)
+        texts = (self.instance, solution, self.certificate)
+        return report_of(texts, paths, self.by, explain=explain, handle=self.handle)
 
     def best(self, best: Optional[Best]) -> Optional[int]:
         """The best-known length of the instance.

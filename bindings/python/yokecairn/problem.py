@@ -201,9 +201,10 @@ class Problem:
     _points: List[Tuple[int, ...]]
     _matrix: "array[int]"
     _kind: int
+    _handle: _library.Handle
 
     def __getattr__(self, name: str) -> Any:
-        """What is worked out when it is first asked for: a section, the points, the matrix."""
+        """What is worked out when it is first asked for: a section, the points, the matrix, the handle."""
         if name in _canonical.SECTIONS:
             made = self._section(name)
         elif name == "_sections":
@@ -214,6 +215,8 @@ class Problem:
             made = self._whole_matrix()
         elif name == "_kind":
             made = self._weight_kind()
+        elif name == "_handle":
+            made = self._open()
         else:
             raise AttributeError(f"a problem has no attribute {name!r}")
         self.__dict__[name] = made
@@ -395,8 +398,18 @@ class Problem:
             raise WrongKind("file 1: wrong kind")
         return _library.KINDS.get(self.edge_weight_type or "", 0)
 
+    def _open(self) -> _library.Handle:
+        """The instance, read by the library."""
+        handle = _library.Handle(self._text)
+        if handle.status != _library.DONE:
+            raise error_of(handle.status, b"file 1: wrong kind" if handle.status == _library.FAULT else b"out of memory")
+        return handle
+
     def _node_counts(self, section: int) -> "array[int]":
-        status, counts = _library.points(self._text, section, self._nodes())
+        if self.type in _WEIGHTED:
+            status, counts = self._handle.points(section, self._nodes())
+        else:
+            status, counts = _library.points(self._text, section, self._nodes())
         return self._numbers(status, counts)
 
     def _node_points(self) -> List[Tuple[int, ...]]:
@@ -416,7 +429,7 @@ class Problem:
         return _table(self._node_counts(_library.COORDS), self._nodes(), 3)
 
     def _whole_matrix(self) -> "array[int]":
-        return self._numbers(*_library.matrix(self._text, self._nodes()))
+        return self._numbers(*self._handle.matrix(self._nodes()))
 
     def matrix(self) -> memoryview:
         """All costs, row by row: 64-bit numbers.
@@ -467,7 +480,7 @@ class Problem:
         flat = _whole_nodes(pairs)
         if len(flat) % 2:
             raise ValueError("a pair has two nodes")
-        return self._numbers(*_library.weights(self._text, flat))
+        return self._numbers(*self._handle.weights(flat))
 
     def trace_tours(self, tours: Iterable[Sequence[int]]) -> List[int]:
         """The length of each tour: the sum of the costs from each node to the next, and from the last to
@@ -483,11 +496,11 @@ class Problem:
         for tour in _arrays.tours(tours):
             more = self._tour(tour)
             if len(nodes) + len(more) > _library.MOST_NODES:
-                found += self._numbers(*_library.lengths(self._text, nodes, count))
+                found += self._numbers(*self._handle.lengths(nodes, count))
                 nodes, count = array("I"), 0
             nodes.extend(more)
             count += 1
-        found += self._numbers(*_library.lengths(self._text, nodes, count))
+        found += self._numbers(*self._handle.lengths(nodes, count))
         return found
 
     def _tour(self, tour: Sequence[int]) -> "array[int]":

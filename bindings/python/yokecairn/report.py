@@ -92,6 +92,31 @@ class Report:
         return 100 * (self.length - length) / length
 
     @classmethod
+    def of_result(cls, result: _library.Result, text: str, explanation: str = "") -> "Report":
+        """The report of a result in numbers, whose text this is."""
+        reason, numbers = _library.REASONS[result.reason - 1] if result.reason else (None, 0)
+        is_routes = result.verdict == _library.ROUTES
+        length = result.length if is_routes or result.verdict == _library.TOUR else None
+        gap = None if result.bound is None or length is None else length - result.bound
+        return cls(
+            yes=reason is None,
+            type=_library.TYPES[result.kind - 1],
+            nodes=result.nodes,
+            not_judged=_not_judged(text.split("\n")),
+            length=length,
+            bound=result.bound,
+            gap=gap or None,
+            optimal=gap == 0,
+            no_tour=result.verdict == _library.NO_TOUR,
+            routes=result.routes if is_routes else None,
+            least=result.least if is_routes else None,
+            reason=reason,
+            numbers=(result.first, result.second)[:numbers],
+            text=text,
+            explanation=explanation,
+        )
+
+    @classmethod
     def of(cls, text: str, explanation: str = "") -> "Report":
         """The report that this text is."""
         first, *lines = text.split("\n")[:-1]
@@ -102,7 +127,7 @@ class Report:
         return cls(
             yes=is_yes,
             type=first[len("type ") :],
-            not_judged=tuple(it[len("not judged ") :] for it in lines if it.startswith("not judged ")),
+            not_judged=_not_judged(lines),
             optimal="optimal" in lines,
             no_tour="bound none" in lines,
             reason=None if is_yes else words[0],
@@ -111,6 +136,11 @@ class Report:
             explanation=explanation,
             **{word: found.get(word) for word in _NUMBERS},  # type: ignore[arg-type]
         )
+
+
+def _not_judged(lines: Sequence[str]) -> Tuple[str, ...]:
+    """The unknown keywords of an instance, by the lines of a report."""
+    return tuple(it[len("not judged ") :] for it in lines if it.startswith("not judged "))
 
 
 def text_and_path(source: Source) -> Tuple[bytes, Optional[str]]:
@@ -210,16 +240,21 @@ def report_of(
     by: int,
     length: Optional[int] = None,
     explain: bool = False,
+    handle: Optional[_library.Handle] = None,
 ) -> Report:
-    """The report of a check of these texts: of the instance, the solution and the certificate."""
-    status, told = _library.check(*texts, by, length)
+    """The report of a check of these texts: of the instance, the solution and the certificate. A handle has the
+    first and the third, where it is given."""
+    if handle is None:
+        status, told, result = _library.check_result(*texts, by, length)
+    else:
+        status, told, result = handle.check(texts[1], length)
 
     def more() -> str:
         return explained(_library.CHECK, texts, paths, by, length)
 
     if status not in (_library.DONE, _library.NO):
         raise error_of(status, told, more, paths)
-    report = Report.of(text_of(told), more() if explain else "")
+    report = Report.of_result(result, text_of(told), more() if explain else "")
     # such a solution is at most as long as it has edges, so others aren't looked at again
     if report.yes and 0 <= (report.length or 0) <= report.nodes + (report.routes or 0):
         told_more = report.explanation or more()
@@ -271,14 +306,14 @@ def bound_of(
     texts: Tuple[bytes, bytes], paths: Sequence[Optional[str]], by: int, explain: bool = False
 ) -> Report:
     """The report of a bound by these texts: of the instance and the certificate."""
-    status, told = _library.bound(*texts, by)
+    status, told, result = _library.bound_result(*texts, by)
 
     def more() -> str:
         return explained(_library.BOUND, (texts[0], b"", texts[1]), (paths[0], None, paths[1]), by)
 
     if status not in (_library.DONE, _library.NO):
         raise error_of(status, told, more, paths)
-    return Report.of(text_of(told), more() if explain else "")
+    return Report.of_result(result, text_of(told), more() if explain else "")
 
 
 def show(file: Source) -> str:

@@ -1,5 +1,8 @@
+pub mod AsBox
 mod Distances
 mod Ends
 mod Filled
+mod InNumbers
 pub mod Lists
+mod OnHandles
 mod OnTexts

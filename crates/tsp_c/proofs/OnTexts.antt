@@ -37,7 +37,7 @@ use Rattle.tsp_c.proofs.Ends.{yes_ends, no_ends, fault_ends}
 
 -- ---- a text
 
-spelled : (turn : Turn) (text : List ℕ) (file : Fields) → turn.known ≡ Some text → IsFile turn file → Spells text file
+pub spelled : (turn : Turn) (text : List ℕ) (file : Fields) → turn.known ≡ Some text → IsFile turn file → Spells text file
 spelled turn text file known is = subst (λ (k : Option (List ℕ)). IfSome k (λ xs. Spells xs file)) known is.3
 
 some_file : (turn : Turn) (text : List ℕ) → turn.known ≡ Some text → IsSomeFile turn → IsFileText text
@@ -60,7 +60,7 @@ pub record Collects (sink : Sink) (written : List ℕ) : Type 0 where
   pub held : sink.held ≡ Some []
   pub holds : sink.holds ≡ Some written
 
-printed_is : (sink : Sink) (written report : List ℕ) → Collects sink written → HasWritten sink report → written ≡ report
+pub printed_is : (sink : Sink) (written report : List ℕ) → Collects sink written → HasWritten sink report → written ≡ report
 printed_is sink written report is has =
     let a : Appends (Some []) sink.holds report = subst (λ (k : Option (List ℕ)). Appends k sink.holds report) is.held has.2 in
     subst (λ (k : Option (List ℕ)). Appends (Some []) k report) is.holds a
@@ -129,7 +129,7 @@ spelled_given None third three (Some certificate) known is = absurd is
 spelled_given (Some by) third three None known is = absurd is
 spelled_given (Some by) third three (Some certificate) known is = (is.0, spelled third three certificate.1 known is.1)
 
-are_spelled : (by : Option Certificate) (first second third : Turn) (one two three : List ℕ) (instance solution : Fields)
+pub are_spelled : (by : Option Certificate) (first second third : Turn) (one two three : List ℕ) (instance solution : Fields)
     (certificate : Option (Certificate × Fields)) → Reads3 first second third one two three
     → AreRead (given_by by third) first second instance solution certificate
     → AreSpelled (given_text by three) one two instance solution certificate
@@ -184,7 +184,7 @@ stopped_given (Some by) third three given file found is known stops two =
     some_is : (a b : Certificate × Turn) → Some a ≡ Some b → a ≡ b
     some_is a b e = cc
 
-unchecked : (by : Option Certificate) (claimed : Option ℤ) (first second third : Turn) (sink : Sink) (one two three : List ℕ)
+pub unchecked : (by : Option Certificate) (claimed : Option ℤ) (first second third : Turn) (sink : Sink) (one two three : List ℕ)
     (fault : RunFault) → Reads3 first second third one two three
     → EndsWithout (given_by by third) claimed first second sink fault
     → status_of_fault (without_devices fault) ≡ 2 → IsUnchecked (given_text by three) one two fault
@@ -208,7 +208,7 @@ unchecked by claimed first second third sink one two three (Relayout refused) re
 unchecked by claimed first second third sink one two three (Write write_faults.OutOfMemory) reads run s = absurd run.4
 unchecked by claimed first second third sink one two three (Write write_faults.Device) reads run s = let n : 3 ≡ 2 = s in absurd (omega arith)
 
-no_relayout : (by : Option Certificate) (claimed : Option ℤ) (first second third : Turn) (sink : Sink) (fault : RunFault)
+pub no_relayout : (by : Option Certificate) (claimed : Option ℤ) (first second third : Turn) (sink : Sink) (fault : RunFault)
     (refused : RelayoutFault) → fault ≡ Relayout refused → EndsWithout (given_by by third) claimed first second sink fault → ⊥
 no_relayout by claimed first second third sink fault refused is run =
     none (subst (λ (f : RunFault). EndsWithout (given_by by third) claimed first second sink f) is run)
@@ -270,7 +270,7 @@ bound_found by first second sink one two written status text instance certificat
       printed = printed_is sink written _ collects judged.2;
     }) e
 
-unbounded : (by : Certificate) (first second : Turn) (sink : Sink) (one two : List ℕ) (fault : RunFault)
+pub unbounded : (by : Certificate) (first second : Turn) (sink : Sink) (one two : List ℕ) (fault : RunFault)
     → Reads2 first second one two → EndsUnbounded by first second sink fault
     → status_of_fault (without_devices fault) ≡ 2 → IsUnbounded by one two fault
 unbounded by first second sink one two (File file found) reads run s = elim run.1 [
@@ -289,7 +289,7 @@ unbounded by first second sink one two (Relayout refused) reads run s = absurd r
 unbounded by first second sink one two (Write write_faults.OutOfMemory) reads run s = absurd run.4
 unbounded by first second sink one two (Write write_faults.Device) reads run s = let n : 3 ≡ 2 = s in absurd (omega arith)
 
-not_relaid : (by : Certificate) (first second : Turn) (sink : Sink) (fault : RunFault) (refused : RelayoutFault)
+pub not_relaid : (by : Certificate) (first second : Turn) (sink : Sink) (fault : RunFault) (refused : RelayoutFault)
     → fault ≡ Relayout refused → EndsUnbounded by first second sink fault → ⊥
 not_relaid by first second sink fault refused is run = none (subst (λ (f : RunFault). EndsUnbounded by first second sink f) is run)
   where

@@ -1,6 +1,7 @@
 -- How a call on texts ends: its status, and the text that goes to the caller's buffer.
 use Rattle.std.specs.Prelude.{◌≡◌, ◌⊎◌, ℕ, zero, suc, ◌≤◌, ◌<◌, Bool, true, List, [], ◌∷◌, ◌++◌, length, drop, Option, None, Some, Result, Ok, Err}
 use Rattle.tsp_stream.specs.declared.output.WriteFault.TheVariants as write_faults
+use Rattle.tsp_stream.specs.Sink.{Sink, HasWritten}
 use Rattle.tsp_text.specs.declared.fault.ReadFault.TheVariants as read_faults
 use Rattle.tsp_reason.specs.Verdicts.{is_bound_yes}
 use Rattle.tsp_judge.specs.declared.bound.Bounded.{Bounded}
@@ -60,6 +61,11 @@ EndsOnTexts (Ok answer) written status text = (status ≡ status_of (Ok answer))
 EndsOnTexts (Err fault) written status text =
     ((status ≡ status_of_fault (without_devices fault)) × (text ≡ fault_line (without_devices fault)))
     ⊎ ((status ≡ 3) × (text ≡ []))
+
+-- the whole report was written, and the answer is the one that it says; or the writer has failed
+abbrev pub Reports : Sink → List ℕ → Bool → Result Bool RunFault → Type 0
+Reports sink report accepts (Ok answer) = HasWritten sink report × (answer ≡ accepts)
+Reports sink report accepts (Err fault) = fault ≡ Write write_faults.Device
 
 -- ---- what a status says
 

@@ -1,3 +1,6 @@
 pub mod Ended
+pub mod Held
 pub mod Numbers
+pub mod Opened
 pub mod Texts
+pub mod Told

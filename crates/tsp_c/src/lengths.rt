@@ -30,7 +30,7 @@ pub(crate) fn fill_lengths(alloc: Global, text: &[u8], nodes: &[u32], out: &mut 
 
 /// The same of an instance.
 #[tactic(auto, using(crate::proofs::Lists::lists_counted))]
-fn lengths_of(instance: &Instance, nodes: &[u32], out: &mut [i64]) -> u32
+pub(crate) fn lengths_of(instance: &Instance, nodes: &[u32], out: &mut [i64]) -> u32
     ensures { EndsLengths instance.now nodes.now out.old out.new result }
 {
     if !are_lists(instance.count(), nodes) {

@@ -1,7 +1,8 @@
 //! The calls of Yokecairn for C, and for what speaks to C: over numbers and slices of bytes alone.
 //!
-//! No call has a state, keeps a pointer, or calls back. A call that gives a text answers a status as the
-//! program exits with it: 0 for a yes or for what is done, 1 for a no, 2 for a text with a fault, 3 out of
+//! A call on texts has no state. A handle holds an instance that is open, which calls on it don't read
+//! again. No call keeps a pointer, or calls back. A call that gives a text answers a status as the program
+//! exits with it: 0 for a yes or for what is done, 1 for a no, 2 for a text with a fault, 3 out of
 //! memory, 4 for a number that is refused. The text goes to the front of the buffer `out`, and `written` is
 //! its length. Where it doesn't fit, the status is 6, the buffer is as it was, and `written` is the length
 //! that is needed.
@@ -9,30 +10,44 @@
 
 ghost use Rattle.tsp_distance.specs.declared.decimal.Point.{Point};
 ghost use Rattle.tsp_c.specs.Ended.{PlacesText, nth};
-ghost use Rattle.tsp_c.specs.Numbers.{CountsNodes, FillsLengths, FillsMatrix, FillsPoints, FillsWeights, GivesDistance};
+ghost use Rattle.std.specs.Prelude.{◌≡◌, None};
+ghost use Rattle.tsp_c.specs.Told.{TellsBoundBy, TellsBy};
+ghost use Rattle.tsp_c.specs.Opened.{BindsText, ChecksHeld, EndsCount, EndsSection, OfHeld, OpensText};
+ghost use Rattle.tsp_c.specs.Numbers.{EndsLengths, EndsMatrix, EndsWeights, CountsNodes, FillsLengths, FillsMatrix, FillsPoints, FillsWeights, GivesDistance};
 ghost use Rattle.tsp_c.specs.Texts.{BoundsBy, ChecksBy, ConvertsBy, ExplainsTexts, ShowsText, certificates};
 
 mod distance;
 mod ended;
 mod explain;
 mod fill;
+mod handle;
 mod instance;
 mod lengths;
+mod loose;
+mod opened;
+mod parts;
 mod place;
 mod points;
 mod refused;
 mod status;
 mod texts;
+mod told;
 mod weights;
 
 use crate::distance::distance_of;
 use crate::explain::explained;
+use crate::handle::Handle;
 use crate::instance::node_count;
 use crate::lengths::fill_lengths;
+use crate::opened::{
+    bind_text, check_held, close, count_held, lengths_held, open_text, points_held, rows_held,
+    weights_held,
+};
 use crate::place::place;
 use crate::points::fill_points;
 use crate::refused::{bound_by, check_by, convert_by};
 use crate::texts::shown;
+use crate::told::Told;
 use crate::weights::{fill_matrix, fill_weights};
 use std::alloc::Global;
 
@@ -56,7 +71,7 @@ pub extern "C" fn tsp_check(
     ensures { PlacesText (ChecksBy by has_claim claimed instance.now solution.now certificate.now)
         out.old out.new written.new result }
 {
-    let (status, text) = check_by(
+    let (status, text, _) = check_by(
         alloc,
         instance,
         solution,
@@ -65,6 +80,39 @@ pub extern "C" fn tsp_check(
         claimed,
         has_claim,
     );
+    let answer = place(&text, status, out, written);
+    drop(text);
+    answer
+}
+
+/// The same as `tsp_check`, in numbers too.
+#[unsafe(no_mangle)]
+pub extern "C" fn tsp_check_result(
+    alloc: Global,
+    instance: &[u8],
+    solution: &[u8],
+    certificate: &[u8],
+    by: u32,
+    claimed: i64,
+    has_claim: u32,
+    told: &mut Told,
+    out: &mut [u8],
+    written: &mut usize,
+) -> u32
+    ensures { PlacesText (λ status text. ChecksBy by has_claim claimed instance.now solution.now certificate.now status text
+        × TellsBy by has_claim claimed instance.now solution.now certificate.now status told.new)
+        out.old out.new written.new result }
+{
+    let (status, text, numbers) = check_by(
+        alloc,
+        instance,
+        solution,
+        certificate,
+        by,
+        claimed,
+        has_claim,
+    );
+    *told = numbers;
     let answer = place(&text, status, out, written);
     drop(text);
     answer
@@ -82,7 +130,29 @@ pub extern "C" fn tsp_bound(
 ) -> u32
     ensures { PlacesText (BoundsBy (nth by certificates) instance.now certificate.now) out.old out.new written.new result }
 {
-    let (status, text) = bound_by(alloc, instance, certificate, by);
+    let (status, text, _) = bound_by(alloc, instance, certificate, by);
+    let answer = place(&text, status, out, written);
+    drop(text);
+    answer
+}
+
+/// The same as `tsp_bound`, in numbers too.
+#[unsafe(no_mangle)]
+pub extern "C" fn tsp_bound_result(
+    alloc: Global,
+    instance: &[u8],
+    certificate: &[u8],
+    by: u32,
+    told: &mut Told,
+    out: &mut [u8],
+    written: &mut usize,
+) -> u32
+    ensures { PlacesText (λ status text. BoundsBy (nth by certificates) instance.now certificate.now status text
+        × TellsBoundBy (nth by certificates) instance.now certificate.now status told.new)
+        out.old out.new written.new result }
+{
+    let (status, text, numbers) = bound_by(alloc, instance, certificate, by);
+    *told = numbers;
     let answer = place(&text, status, out, written);
     drop(text);
     answer
@@ -192,6 +262,137 @@ pub extern "C" fn tsp_lengths(alloc: Global, instance: &[u8], nodes: &[u32], out
     fill_lengths(alloc, instance, nodes, out)
 }
 
+/// Opens a handle on the instance that a text is. What the handle was open on before is freed first.
+#[unsafe(no_mangle)]
+pub extern "C" fn tsp_open(
+    alloc: Global,
+    instance: &[u8],
+    handle: &mut Handle,
+    told: &mut Told,
+) -> u32
+    ensures { OpensText instance.now handle.new.loose.value told.new result }
+{
+    open_text(alloc, instance, handle, told)
+}
+
+/// Closes a handle, and frees what it was open on.
+#[unsafe(no_mangle)]
+pub extern "C" fn tsp_close(alloc: Global, handle: &mut Handle)
+    ensures { handle.new.loose.value ≡ None }
+{
+    close(alloc, handle);
+}
+
+/// Binds a certificate to the instance of a handle, in the place of the one before: by 1 potentials, by 2
+/// branches.
+#[unsafe(no_mangle)]
+pub extern "C" fn tsp_bind(
+    alloc: Global,
+    handle: &mut Handle,
+    certificate: &[u8],
+    by: u32,
+    told: &mut Told,
+) -> u32
+    ensures { BindsText (nth by certificates) certificate.now handle.old.loose.value handle.new.loose.value
+        told.new result }
+{
+    bind_text(alloc, handle, certificate, by, told)
+}
+
+/// Judges a solution of the instance of a handle, as `tsp_check` does, with the certificate that is bound to
+/// it, where one is.
+#[unsafe(no_mangle)]
+pub extern "C" fn tsp_instance_check(
+    alloc: Global,
+    handle: &mut Handle,
+    solution: &[u8],
+    claimed: i64,
+    has_claim: u32,
+    told: &mut Told,
+    out: &mut [u8],
+    written: &mut usize,
+) -> u32
+    ensures same { handle.new.loose.value ≡ handle.old.loose.value }
+    ensures places { PlacesText (λ status text. ChecksHeld handle.old.loose.value has_claim claimed solution.now
+        status text told.new) out.old out.new written.new result }
+{
+    let (status, text, numbers) = check_held(alloc, handle, solution, claimed, has_claim);
+    *told = numbers;
+    let answer = place(&text, status, out, written);
+    drop(text);
+    answer
+}
+
+/// How many nodes the instance of a handle has.
+#[unsafe(no_mangle)]
+pub extern "C" fn tsp_instance_count(alloc: Global, handle: &mut Handle, count: &mut u32) -> u32
+    ensures same { handle.new.loose.value ≡ handle.old.loose.value }
+    ensures fills { OfHeld handle.old.loose.value (λ instance. EndsCount instance count.new result)
+        count.old count.new result }
+{
+    count_held(alloc, handle, count)
+}
+
+/// Fills in coordinates of the instance of a handle, as `tsp_points` does.
+#[unsafe(no_mangle)]
+pub extern "C" fn tsp_instance_points(
+    alloc: Global,
+    handle: &mut Handle,
+    section: u32,
+    out: &mut [i64],
+) -> u32
+    ensures same { handle.new.loose.value ≡ handle.old.loose.value }
+    ensures fills { OfHeld handle.old.loose.value (λ instance. EndsSection instance section out.old out.new result)
+        out.old out.new result }
+{
+    points_held(alloc, handle, section, out)
+}
+
+/// Fills in costs of the instance of a handle, as `tsp_weights` does.
+#[unsafe(no_mangle)]
+pub extern "C" fn tsp_instance_weights(
+    alloc: Global,
+    handle: &mut Handle,
+    pairs: &[u32],
+    out: &mut [i64],
+) -> u32
+    ensures same { handle.new.loose.value ≡ handle.old.loose.value }
+    ensures fills { OfHeld handle.old.loose.value (λ instance. EndsWeights instance pairs.now out.old out.new result)
+        out.old out.new result }
+{
+    weights_held(alloc, handle, pairs, out)
+}
+
+/// Fills in rows of costs of the instance of a handle, as `tsp_matrix` does.
+#[unsafe(no_mangle)]
+pub extern "C" fn tsp_instance_matrix(
+    alloc: Global,
+    handle: &mut Handle,
+    first_row: u32,
+    out: &mut [i64],
+) -> u32
+    ensures same { handle.new.loose.value ≡ handle.old.loose.value }
+    ensures fills { OfHeld handle.old.loose.value (λ instance. EndsMatrix instance first_row out.old out.new result)
+        out.old out.new result }
+{
+    rows_held(alloc, handle, first_row, out)
+}
+
+/// Fills in lengths of lists of nodes of the instance of a handle, as `tsp_lengths` does.
+#[unsafe(no_mangle)]
+pub extern "C" fn tsp_instance_lengths(
+    alloc: Global,
+    handle: &mut Handle,
+    nodes: &[u32],
+    out: &mut [i64],
+) -> u32
+    ensures same { handle.new.loose.value ≡ handle.old.loose.value }
+    ensures fills { OfHeld handle.old.loose.value (λ instance. EndsLengths instance nodes.now out.old out.new result)
+        out.old out.new result }
+{
+    lengths_held(alloc, handle, nodes, out)
+}
+
 /// The distance of two points, whose coordinates are counts of 10^-9; -1 where there is none. The kinds are
 /// 1 EUC_2D, 2 CEIL_2D, 3 MAN_2D, 4 MAX_2D, 5 ATT, 6 EUC_3D, 7 MAN_3D, 8 MAX_3D.
 #[unsafe(no_mangle)]
@@ -212,6 +413,8 @@ pub extern "C" fn tsp_distance(
 
 /// The version of the library.
 #[unsafe(no_mangle)]
-pub extern "C" fn tsp_version() -> u32 {
+pub extern "C" fn tsp_version() -> u32
+    ensures { result ≡ 10100 }
+{
     VERSION
 }

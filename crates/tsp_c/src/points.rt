@@ -31,7 +31,7 @@ pub(crate) fn fill_points(alloc: Global, text: &[u8], section: u32, out: &mut [i
 }
 
 /// The same of a file.
-fn points_of_file(file: &File, section: u32, out: &mut [i64]) -> u32
+pub(crate) fn points_of_file(file: &File, section: u32, out: &mut [i64]) -> u32
     requires { IsSection section }
     ensures { EndsPoints (section_points section file.now) out.old out.new result }
 {

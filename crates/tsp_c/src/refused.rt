@@ -4,8 +4,10 @@ ghost use Rattle.std.specs.Prelude.{◌≡◌, ◌≤◌};
 ghost use Rattle.tsp_format.specs.Words.{layouts};
 ghost use Rattle.tsp_c.specs.Ended.{nth};
 ghost use Rattle.tsp_c.specs.Texts.{BoundsBy, ChecksBy, ConvertsBy, certificates, claim_of};
+ghost use Rattle.tsp_c.specs.Told.{TellsBoundBy, TellsBy};
 
 use crate::texts::{bounded, checked, converted};
+use crate::told::Told;
 use std::alloc::Global;
 use tsp_judge::{Certificate, Layout};
 
@@ -13,7 +15,7 @@ use tsp_judge::{Certificate, Layout};
 pub(crate) const REFUSED: u8 = 4;
 
 /// The check by 0 alone, by 1 with potentials, by 2 with branches, and with a claimed length where
-/// `has_claim` is 1; with its status.
+/// `has_claim` is 1; with its status, and in numbers.
 pub(crate) fn check_by(
     alloc: Global,
     instance: &[u8],
@@ -22,26 +24,33 @@ pub(crate) fn check_by(
     by: u32,
     claimed: i64,
     has_claim: u32,
-) -> (u8, Vec<u8>)
-    ensures { ChecksBy by has_claim claimed instance.now solution.now certificate.now result.0 result.1.items }
+) -> (u8, Vec<u8>, Told)
+    ensures texts { ChecksBy by has_claim claimed instance.now solution.now certificate.now result.0 result.1.items }
+    ensures numbers { TellsBy by has_claim claimed instance.now solution.now certificate.now result.0 result.2 }
 {
     if by > 2 {
-        return (REFUSED, Vec::new(alloc));
+        return (REFUSED, Vec::new(alloc), Told::blank());
     }
     if has_claim > 1 {
-        return (REFUSED, Vec::new(alloc));
+        return (REFUSED, Vec::new(alloc), Told::blank());
     }
     let by = certificate_of(by);
     let claim = claim_of(has_claim, claimed);
     checked(alloc, instance, solution, by, certificate, claim)
 }
 
-/// The bound by 1 with potentials, by 2 with branches, with its status.
-pub(crate) fn bound_by(alloc: Global, instance: &[u8], certificate: &[u8], by: u32) -> (u8, Vec<u8>)
-    ensures { BoundsBy (nth by certificates) instance.now certificate.now result.0 result.1.items }
+/// The bound by 1 with potentials, by 2 with branches, with its status, and in numbers.
+pub(crate) fn bound_by(
+    alloc: Global,
+    instance: &[u8],
+    certificate: &[u8],
+    by: u32,
+) -> (u8, Vec<u8>, Told)
+    ensures texts { BoundsBy (nth by certificates) instance.now certificate.now result.0 result.1.items }
+    ensures numbers { TellsBoundBy (nth by certificates) instance.now certificate.now result.0 result.2 }
 {
     match certificate_of(by) {
-        None => (REFUSED, Vec::new(alloc)),
+        None => (REFUSED, Vec::new(alloc), Told::blank()),
         Some(by) => bounded(alloc, by, instance, certificate),
     }
 }

@@ -4,11 +4,14 @@ ghost use Rattle.std.specs.Prelude.{◌≡◌};
 ghost use Rattle.tsp_judge.specs.Run.{told};
 ghost use Rattle.tsp_c.specs.Ended.{done, has_bound};
 ghost use Rattle.tsp_c.specs.Texts.{BoundsTexts, ChecksTexts, ConvertsText, ShowsText, given_text};
+ghost use Rattle.tsp_c.specs.Told.{TellsBound, TellsTexts};
 
 use crate::ended::ended;
+use crate::told::Told;
 use std::alloc::Global;
 use tsp_judge::{
     Bounded, Certificate, Judged, Layout, RunFault, Watched, run, run_bound, run_convert, run_show,
+    verdicts_mean_reports,
 };
 
 /// What is shown of a text, with its status.
@@ -32,7 +35,7 @@ pub(crate) fn converted(alloc: Global, file: &[u8], to: Option<Layout>) -> (u8, 
 }
 
 /// The check of two texts, with the certificate that a third one is, where one is asked for, and with
-/// the length that is claimed, where one is; with its status.
+/// the length that is claimed, where one is; with its status, and in numbers.
 pub(crate) fn checked(
     alloc: Global,
     instance: &[u8],
@@ -40,9 +43,11 @@ pub(crate) fn checked(
     by: Option<Certificate>,
     certificate: &[u8],
     claimed: Option<i64>,
-) -> (u8, Vec<u8>)
-    ensures { ChecksTexts (given_text by certificate.now) claimed instance.now solution.now result.0 result.1.items }
+) -> (u8, Vec<u8>, Told)
+    ensures texts { ChecksTexts (given_text by certificate.now) claimed instance.now solution.now result.0 result.1.items }
+    ensures numbers { TellsTexts (given_text by certificate.now) claimed instance.now solution.now result.0 result.2 }
 {
+    verdicts_mean_reports();
     let mut first = Watched::new(instance);
     let mut second = Watched::new(solution);
     let mut third = Watched::new(certificate);
@@ -56,24 +61,29 @@ pub(crate) fn checked(
         claimed,
         &mut report,
     );
-    ended(told(judged), report)
+    let numbers = Told::of_run(&judged);
+    let (status, text) = ended(told(judged), report);
+    (status, text, numbers)
 }
 
 /// The bound of the tours of the instance that a text is, by the certificate that another one is; with
-/// its status.
+/// its status, and in numbers.
 pub(crate) fn bounded(
     alloc: Global,
     by: Certificate,
     instance: &[u8],
     certificate: &[u8],
-) -> (u8, Vec<u8>)
-    ensures { BoundsTexts by instance.now certificate.now result.0 result.1.items }
+) -> (u8, Vec<u8>, Told)
+    ensures texts { BoundsTexts by instance.now certificate.now result.0 result.1.items }
+    ensures numbers { TellsBound by instance.now certificate.now result.0 result.2 }
 {
     let mut first = Watched::new(instance);
     let mut second = Watched::new(certificate);
     let mut report = Watched::new(Vec::new(alloc));
     let found = run_bound(alloc, &mut first, by, &mut second, &mut report);
-    ended(has_bound(found), report)
+    let numbers = Told::of_bound_run(&found);
+    let (status, text) = ended(has_bound(found), report);
+    (status, text, numbers)
 }
 
 /// What is done is no no.

@@ -27,7 +27,7 @@ pub(crate) fn fill_weights(alloc: Global, text: &[u8], pairs: &[u32], out: &mut 
 }
 
 /// The same of an instance.
-fn weights_of(instance: &Instance, pairs: &[u32], out: &mut [i64]) -> u32
+pub(crate) fn weights_of(instance: &Instance, pairs: &[u32], out: &mut [i64]) -> u32
     ensures { EndsWeights instance.now pairs.now out.old out.new result }
 {
     if !are_pairs(instance.count(), pairs) {
@@ -80,7 +80,7 @@ pub(crate) fn fill_matrix(alloc: Global, text: &[u8], first_row: u32, out: &mut 
 }
 
 /// The same of an instance.
-fn rows_of(instance: &Instance, first_row: u32, out: &mut [i64]) -> u32
+pub(crate) fn rows_of(instance: &Instance, first_row: u32, out: &mut [i64]) -> u32
     ensures { EndsMatrix instance.now first_row out.old out.new result }
 {
     let count = instance.count();

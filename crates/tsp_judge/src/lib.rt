@@ -21,6 +21,7 @@ mod examples;
 mod fault;
 mod file;
 mod judging;
+mod laws;
 mod run_examples;
 mod show;
 mod solutions;
@@ -43,6 +44,7 @@ pub use examples::{
 };
 pub use fault::RunFault;
 pub use judging::Judged;
+pub use laws::verdicts_mean_reports;
 pub use run_examples::{examples_of_runs_over_one_file, examples_of_wrong_kinds};
 pub use show::run_show;
 pub use solutions::{Follow, Solutions};

@@ -3,6 +3,7 @@ pub mod Certificates
 pub mod FilesHold
 pub mod HeldNumbers
 pub mod FixedPairs
+mod FoundBounds
 pub mod Links
 pub mod MarkedNodes
 pub mod PairSets

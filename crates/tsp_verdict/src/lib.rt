@@ -19,6 +19,7 @@ mod decided;
 mod examples;
 mod files;
 mod fixed;
+mod found;
 mod judged;
 mod lengths;
 mod loads;
@@ -42,6 +43,7 @@ pub use examples::{
     examples_of_dimensions_of_routes, examples_of_multipliers, examples_of_order,
     examples_of_order_of_routes, examples_of_plans, examples_of_reasons_before_memory,
 };
+pub use found::judge_by_bound;
 pub use judged::judge;
 pub use routes::judge_routes;
 pub use tour::judge_tour;

@@ -3,4 +3,4 @@ use Rattle.tsp_c.proofs.tsp_bound.Goals as goal
 pub returns : goal.returns
 returns c =
     let made = c.bound_by-status.result in
-    (made.0, made.1.items, c.bound_by-status.ensures, rw c.deref.ensures.value at c.place-answer.ensures)
+    (made.0, made.1.items, c.bound_by-status.ensures.texts, rw c.deref.ensures.value at c.place-answer.ensures)

@@ -11,6 +11,6 @@ returns c =
       made.0,
       made.1.items,
       subst (λ (z : ℤ). ChecksBy c.args.by c.args.has_claim z c.args.instance.now c.args.solution.now c.args.certificate.now made.0 made.1.items)
-          (to_z-of_z w64 c.args.claimed fits) c.check_by-status.ensures,
+          (to_z-of_z w64 c.args.claimed fits) c.check_by-status.ensures.texts,
       rw c.deref.ensures.value at c.place-answer.ensures,
     )

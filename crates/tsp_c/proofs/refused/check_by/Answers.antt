@@ -3,10 +3,11 @@ use Rattle.std.specs.Prelude.{Option, ℤ}
 use Rattle.std.proofs.lemmas.Int.{to_z-of_z}
 use Rattle.tsp_reason.specs.declared.certificate.Certificate.{Certificate}
 use Rattle.tsp_c.specs.Texts.{ChecksTexts, claim_of, given_text}
+use Rattle.tsp_c.specs.Told.{TellsTexts}
 use Rattle.tsp_c.proofs.refused.check_by.Goals as goal
 
-pub returns : goal.returns
-returns c =
+pub returns-clause-texts : goal.returns-clause-texts
+returns-clause-texts c =
     let one = c.args.instance.now in
     let two = c.args.solution.now in
     let three = c.args.certificate.now in
@@ -20,7 +21,27 @@ returns c =
     claim.ensures ∙ ap (λ (z : ℤ). claim_of c.args.has_claim z) (to_z-of_z w64 c.args.claimed fits) in (
       λ known claims. subst (λ (b : Option Certificate). ChecksTexts (given_text b three) (claim_of c.args.has_claim c.args.claimed) one two made.0 made.1.items)
           by.ensures
-          (subst (λ (k : Option ℤ). ChecksTexts (given_text by.result three) k one two made.0 made.1.items) claim_is c.checked.ensures),
+          (subst (λ (k : Option ℤ). ChecksTexts (given_text by.result three) k one two made.0 made.1.items) claim_is c.checked.ensures.texts),
+      λ many. absurd (omega (arith, low, many)),
+      λ many. absurd (omega (arith, few, many)),
+    )
+
+pub returns-clause-numbers : goal.returns-clause-numbers
+returns-clause-numbers c =
+    let one = c.args.instance.now in
+    let two = c.args.solution.now in
+    let three = c.args.certificate.now in
+    let made = c.checked.result in
+    let low = c.if-by-gt2.false in
+    let few = c.if-has_claim-gt1.false in
+    let by = c.certificate_of-by in
+    let claim = c.claim_of-claim in
+    let fits : FitsSigned w64 c.args.claimed = c.ranges.claimed in
+    let claim_is : claim.result ≡ claim_of c.args.has_claim c.args.claimed =
+    claim.ensures ∙ ap (λ (z : ℤ). claim_of c.args.has_claim z) (to_z-of_z w64 c.args.claimed fits) in (
+      λ known claims. subst (λ (b : Option Certificate). TellsTexts (given_text b three) (claim_of c.args.has_claim c.args.claimed) one two made.0 made.2)
+          by.ensures
+          (subst (λ (k : Option ℤ). TellsTexts (given_text by.result three) k one two made.0 made.2) claim_is c.checked.ensures.numbers),
       λ many. absurd (omega (arith, low, many)),
       λ many. absurd (omega (arith, few, many)),
     )

@@ -1,0 +1,205 @@
+/* Handles: what is asked of them, and what is refused. Prints a line for each check that fails, and exits with 1
+ * then. */
+#include "../tsp.h"
+
+#include <stdio.h>
+#include <string.h>
+
+static int failed = 0;
+static int passed = 0;
+
+static void expect(int holds, const char *what) {
+    if (holds) {
+        passed++;
+        return;
+    }
+    failed++;
+    printf("failed: %s\n", what);
+}
+
+static const char SQUARE[] = "TYPE : TSP\nDIMENSION : 4\nEDGE_WEIGHT_TYPE : EUC_2D\nNODE_COORD_SECTION\n"
+                             "1 0 0\n2 3 0\n3 3 4\n4 0 4.5\nEOF\n";
+static const char MATRIX[] = "TYPE : ATSP\nDIMENSION : 3\nEDGE_WEIGHT_TYPE : EXPLICIT\nEDGE_WEIGHT_FORMAT : FULL_MATRIX\n"
+                             "EDGE_WEIGHT_SECTION\n7 1 5\n2 9 6\n3 4 8\nEOF\n";
+static const char CUSTOMERS[] = "TYPE : CVRP\nDIMENSION : 3\nCAPACITY : 5\nEDGE_WEIGHT_TYPE : EUC_2D\nNODE_COORD_SECTION\n"
+                                "1 0 0\n2 3 0\n3 3 4\nDEMAND_SECTION\n1 0\n2 4\n3 4\nDEPOT_SECTION\n1 -1\nEOF\n";
+static const char TOUR[] = "TYPE : TOUR\nTOUR_SECTION\n1 2 3 4 -1\nEOF\n";
+static const char TWICE[] = "TYPE : TOUR\nTOUR_SECTION\n1 2 2 4 -1\nEOF\n";
+static const char ROUTES[] = "TYPE : TOUR\nTOUR_SECTION\n2 -1\n3 -1\n-1\nEOF\n";
+static const char ZEROS[] = "TYPE : POTENTIALS\nDIMENSION : 4\nNODE_POTENTIAL_SECTION\n1 0\n2 0\n3 0\n4 0\nEOF\n";
+/* 4 nodes, each with the potential 10^15 at the scale 1: a bound below -2^63 takes more nodes, a negative one is enough */
+static const char LOW[] = "TYPE : POTENTIALS\nDIMENSION : 4\nNODE_POTENTIAL_SECTION\n1 1000000000000000\n"
+                          "2 -1000000000000000\n3 0\n4 0\nEOF\n";
+static const char NO_FILE[] = "TYPE : TSP\nDIMENSION : 4\n7\n";
+
+#define TEXT(text) (const uint8_t *)(text), sizeof(text) - 1
+
+static uint8_t out[512];
+static size_t written;
+
+static int says(const char *text) {
+    return written == strlen(text) && memcmp(out, text, written) == 0;
+}
+
+static uint32_t check(struct tsp_instance *handle, const char *solution, struct tsp_result *result) {
+    memset(result, 255, sizeof *result);
+    return tsp_instance_check(handle, (const uint8_t *)solution, strlen(solution), 0, 0, result, out, sizeof out, &written);
+}
+
+/* What opening answers, and what it leaves. */
+static void opens(void) {
+    struct tsp_instance handle = {0};
+    struct tsp_result r;
+    memset(&r, 255, sizeof r);
+    expect(tsp_open(TEXT(SQUARE), &handle, &r) == TSP_YES && handle.is_open, "an instance opens");
+    expect(r.kind == 1 && r.nodes == 4 && r.verdict == 0 && r.fault == 0 && r.length == 0, "what is told of it");
+    uint32_t count = 99;
+    expect(tsp_instance_count(&handle, &count) == TSP_YES && count == 4, "it has four nodes");
+    expect(tsp_open(TEXT(MATRIX), &handle, &r) == TSP_YES && handle.is_open && r.kind == 2 && r.nodes == 3, "an open handle opens anew");
+    expect(tsp_instance_count(&handle, &count) == TSP_YES && count == 3, "and has the new instance");
+    expect(tsp_open(TEXT(NO_FILE), &handle, &r) == TSP_FAULT && !handle.is_open && handle.at == NULL,
+           "a text with a fault leaves it closed");
+    expect(r.fault == TSP_STRAY_NUMBER && r.file == 1 && r.line == 3 && r.word == 1 && r.kind == 0, "the fault, its line and its word");
+    expect(tsp_open(TEXT(""), &handle, &r) == TSP_FAULT && r.fault == TSP_MISSING && r.file == 1 && r.line == 0, "no text at all");
+    expect(tsp_open(TEXT(TOUR), &handle, &r) == TSP_FAULT && !handle.is_open && r.fault == TSP_WRONG_KIND && r.file == 1,
+           "a tour is no instance");
+    tsp_close(&handle);
+    tsp_close(&handle);
+    expect(!handle.is_open && handle.at == NULL, "a closed handle stays closed");
+}
+
+/* A closed handle is refused, and nothing is written. */
+static void closed(void) {
+    struct tsp_instance handle = {0};
+    struct tsp_result r;
+    int64_t numbers[4] = {-7, -7, -7, -7};
+    uint32_t nodes[] = {1, 2, 0, 0}, count = 99;
+    expect(check(&handle, TOUR, &r) == TSP_REFUSED && written == 0 && r.verdict == 0 && r.fault == 0, "a check of a closed handle");
+    expect(tsp_bind(&handle, TEXT(ZEROS), 1, &r) == TSP_REFUSED && !handle.is_open, "a bound of a closed handle");
+    expect(tsp_instance_count(&handle, &count) == TSP_REFUSED && count == 99, "nodes of a closed handle");
+    expect(tsp_instance_points(&handle, 1, numbers, 4) == TSP_REFUSED && tsp_instance_weights(&handle, nodes, 2, numbers, 4) == TSP_REFUSED
+               && tsp_instance_matrix(&handle, 1, numbers, 4) == TSP_REFUSED
+               && tsp_instance_lengths(&handle, nodes, 3, numbers, 4) == TSP_REFUSED && numbers[0] == -7,
+           "numbers of a closed handle");
+}
+
+/* Verdicts in text and in numbers. */
+static void checks(void) {
+    struct tsp_instance handle = {0};
+    struct tsp_result r;
+    tsp_open(TEXT(SQUARE), &handle, &r);
+    expect(check(&handle, TOUR, &r) == TSP_YES && says("type TSP\nnodes 4\nlength 15\nyes\n"), "a tour");
+    expect(r.kind == 1 && r.nodes == 4 && r.verdict == TSP_TOUR && r.length == 15 && r.has_bound == 0 && r.reason == 0, "its numbers");
+    expect(check(&handle, TWICE, &r) == TSP_NO && says("type TSP\nnodes 4\nno RepeatedNode 3\n"), "a node twice");
+    expect(r.verdict == TSP_REJECTED && r.reason == TSP_REPEATED_NODE && r.first == 3 && r.second == 0 && r.length == 0, "the reason's numbers");
+    expect(check(&handle, "7\n", &r) == TSP_FAULT && says("file 2: line 1 word 1: StrayNumber\n"), "a solution with a fault");
+    expect(r.fault == TSP_STRAY_NUMBER && r.file == 2 && r.line == 1 && r.word == 1 && r.verdict == 0, "the fault's numbers");
+    expect(tsp_instance_check(&handle, TEXT(TOUR), 14, 1, &r, out, sizeof out, &written) == TSP_NO
+               && says("type TSP\nnodes 4\nno LengthClaimed 15\n") && r.reason == TSP_LENGTH_CLAIMED && r.first == 15,
+           "another length than the claimed one");
+    expect(tsp_instance_check(&handle, TEXT(TOUR), 15, 2, &r, out, sizeof out, &written) == TSP_REFUSED && written == 0
+               && r.verdict == 0, "has_claim is 0 or 1");
+    out[0] = '#';
+    expect(tsp_instance_check(&handle, TEXT(TOUR), 0, 0, &r, out, 5, &written) == TSP_TOO_SMALL && written == 31 && out[0] == '#'
+               && r.verdict == TSP_TOUR && r.length == 15, "numbers need no buffer");
+
+    expect(tsp_bind(&handle, TEXT(ZEROS), 1, &r) == TSP_YES && r.verdict == TSP_BOUND && r.has_bound == 1 && r.bound_high == 0
+               && r.bound_low == 15 && r.kind == 1, "a bound");
+    expect(check(&handle, TOUR, &r) == TSP_YES && says("type TSP\nnodes 4\nlength 15\nbound 15\noptimal\nyes\n"), "an optimal tour");
+    expect(r.verdict == TSP_TOUR && r.length == 15 && r.has_bound == 1 && r.bound_high == 0 && r.bound_low == 15, "its bound");
+    expect(tsp_bind(&handle, TEXT(TOUR), 0, &r) == TSP_REFUSED && tsp_bind(&handle, TEXT(TOUR), 3, &r) == TSP_REFUSED,
+           "a bound is by 1 or by 2");
+    expect(tsp_bind(&handle, TEXT(""), 1, &r) == TSP_FAULT && r.file == 2 && r.fault == TSP_MISSING, "a certificate with a fault");
+    expect(check(&handle, TOUR, &r) == TSP_YES && r.has_bound == 1 && r.bound_low == 15, "leaves the one before");
+    expect(tsp_bind(&handle, TEXT(LOW), 1, &r) == TSP_YES && r.has_bound == 1 && r.bound_high == -1, "a negative bound");
+    int64_t bound = (int64_t)r.bound_low;
+    char report[100];
+    snprintf(report, sizeof report, "type TSP\nnodes 4\nlength 15\nbound %lld\ngap %lld\nyes\n", (long long)bound, (long long)(15 - bound));
+    expect(bound < -1000 && check(&handle, TOUR, &r) == TSP_YES && says(report), "its report");
+    expect(tsp_bind(&handle, TEXT(ZEROS), 2, &r) == TSP_NO && r.verdict == TSP_REJECTED && r.reason == TSP_NOT_BRANCHES
+               && r.has_bound == 0, "potentials are no branches");
+    expect(check(&handle, TOUR, &r) == TSP_NO && says("type TSP\nnodes 4\nno NotBranches\n") && r.reason == TSP_NOT_BRANCHES,
+           "a check with a certificate that is refused");
+    expect(check(&handle, TWICE, &r) == TSP_NO && r.reason == TSP_REPEATED_NODE, "reasons against the tour come first");
+    tsp_open(TEXT(SQUARE), &handle, &r);
+    expect(check(&handle, TOUR, &r) == TSP_YES && r.has_bound == 0, "a handle that is opened anew has no certificate");
+
+    tsp_open(TEXT(CUSTOMERS), &handle, &r);
+    expect(check(&handle, ROUTES, &r) == TSP_YES && r.kind == 3 && r.verdict == TSP_ROUTES && r.length == 16 && r.routes == 2
+               && r.least == 2, "routes");
+    expect(tsp_bind(&handle, TEXT(ZEROS), 1, &r) == TSP_FAULT && r.fault == TSP_WRONG_KIND && r.file == 1, "routes have no bound");
+    tsp_close(&handle);
+}
+
+/* Results of calls on texts in numbers. */
+static void results(void) {
+    struct tsp_result r;
+    expect(tsp_check_result(TEXT(SQUARE), TEXT(TOUR), TEXT(ZEROS), 1, 0, 0, &r, out, sizeof out, &written) == TSP_YES
+               && says("type TSP\nnodes 4\nlength 15\nbound 15\noptimal\nyes\n") && r.kind == 1 && r.nodes == 4
+               && r.verdict == TSP_TOUR && r.length == 15 && r.has_bound == 1 && r.bound_high == 0 && r.bound_low == 15,
+           "a check in numbers");
+    expect(tsp_check_result(TEXT(SQUARE), TEXT(TOUR), TEXT("7"), 1, 0, 0, &r, out, sizeof out, &written) == TSP_FAULT
+               && r.fault == TSP_STRAY_NUMBER && r.file == 3 && r.line == 1 && r.word == 1 && r.kind == 0, "a certificate is file 3 of a check");
+    expect(tsp_check_result(TEXT(SQUARE), TEXT(TOUR), TEXT(ZEROS), 3, 0, 0, &r, out, sizeof out, &written) == TSP_REFUSED
+               && r.kind == 0 && r.fault == 0, "a check that is refused");
+    expect(tsp_check_result(TEXT(MATRIX), TEXT(TWICE), TEXT(""), 0, 0, 0, &r, out, sizeof out, &written) == TSP_NO
+               && r.kind == 2 && r.verdict == TSP_REJECTED && r.reason == TSP_TOUR_LENGTH, "a no in numbers");
+    expect(tsp_bound_result(TEXT(SQUARE), TEXT(ZEROS), 1, &r, out, sizeof out, &written) == TSP_YES
+               && says("type TSP\nnodes 4\nbound 15\nyes\n") && r.verdict == TSP_BOUND && r.bound_low == 15 && r.has_bound == 1,
+           "a bound in numbers");
+    expect(tsp_bound_result(TEXT(SQUARE), TEXT(""), 1, &r, out, sizeof out, &written) == TSP_FAULT && r.file == 2
+               && r.fault == TSP_MISSING, "a certificate is file 2 of a bound");
+    expect(tsp_bound_result(TEXT(TOUR), TEXT(ZEROS), 1, &r, out, sizeof out, &written) == TSP_FAULT && r.file == 1
+               && r.fault == TSP_WRONG_KIND, "a tour has no bound");
+}
+
+/* Numbers of two handles at once. */
+static void numbers(void) {
+    struct tsp_instance square = {0}, matrix = {0};
+    struct tsp_result r;
+    int64_t found[16];
+    uint32_t pairs[] = {1, 2, 2, 3}, lists[] = {1, 2, 3, 0, 3, 2, 1, 0};
+    tsp_open(TEXT(SQUARE), &square, &r);
+    tsp_open(TEXT(MATRIX), &matrix, &r);
+    expect(tsp_instance_weights(&square, pairs, 4, found, 2) == TSP_YES && found[0] == 3 && found[1] == 4, "weights of points");
+    expect(tsp_instance_weights(&matrix, pairs, 4, found, 2) == TSP_YES && found[0] == 1 && found[1] == 6, "weights of a matrix");
+    expect(tsp_instance_weights(&matrix, pairs, 4, found, 1) == TSP_TOO_SMALL && tsp_instance_weights(&matrix, pairs, 3, found, 2) == TSP_REFUSED,
+           "too few places, and half a pair");
+    expect(tsp_instance_matrix(&matrix, 2, found, 16) == TSP_YES && found[0] == 2 && found[5] == 8, "rows of the matrix");
+    expect(tsp_instance_lengths(&matrix, lists, 8, found, 2) == TSP_YES && found[0] == 10 && found[1] == 11, "lengths in either direction");
+    expect(tsp_instance_points(&square, 1, found, 12) == TSP_YES && found[10] == 4500000000, "coordinates");
+    expect(tsp_instance_points(&square, 2, found, 12) == TSP_NO && tsp_instance_points(&square, 3, found, 12) == TSP_REFUSED, "sections");
+    tsp_close(&square);
+    expect(tsp_instance_weights(&matrix, pairs, 4, found, 2) == TSP_YES && found[0] == 1, "the other handle stays open");
+    tsp_close(&matrix);
+}
+
+/* Many times: nothing is left over, which a checker of memory sees. */
+static void many(void) {
+    struct tsp_instance handle = {0};
+    struct tsp_result r;
+    int64_t sum = 0, found;
+    uint32_t pair[] = {2, 3};
+    for (int k = 0; k < 2000; k++) {
+        tsp_open(TEXT(SQUARE), &handle, &r);
+        tsp_bind(&handle, TEXT(ZEROS), 1, &r);
+        sum += check(&handle, TOUR, &r) == TSP_YES ? r.length : 0;
+        tsp_instance_weights(&handle, pair, 2, &found, 1);
+        sum += found;
+        if (k % 2)
+            tsp_close(&handle);
+    }
+    tsp_close(&handle);
+    expect(sum == 2000 * 19, "two thousand handles");
+}
+
+int main(void) {
+    opens();
+    closed();
+    checks();
+    results();
+    numbers();
+    many();
+    printf("%d passed, %d failed\n", passed, failed);
+    return failed != 0;
+}

@@ -1,0 +1,128 @@
+-- What the numbers of a run on texts say.
+use Rattle.std.proofs.Common.{◌≡◌, ℕ, ◌≤◌, ◌^◌, List, Result, Ok, Err, inl, inr, sym, ◌∙◌, arith}
+use Rattle.std.specs.Prelude.{Option, Some, ℤ, pos, negsuc, IfOk, unsigned_abs}
+use Rattle.std.proofs.lemmas.Int.{ints}
+use Rattle.tsp_stream.specs.Turn.{Turn}
+use Rattle.tsp_stream.specs.Sink.{Sink}
+use Rattle.tsp_draft.specs.Fields.{Fields}
+use Rattle.tsp_theory.specs.Numbers.{IsBoundSized}
+use Rattle.tsp_reason.specs.declared.certificate.Certificate.{Certificate}
+use Rattle.tsp_reason.specs.declared.verdict.BoundVerdict.{BoundVerdict}
+use Rattle.tsp_reason.specs.declared.verdict.BoundVerdict.TheVariants as bounds
+use Rattle.tsp_reason.specs.declared.verdict.Verdict.{Verdict}
+use Rattle.tsp_reason.specs.Verdicts.{is_yes, is_bound_yes}
+use Rattle.tsp_report.specs.Report.{IsSized}
+use Rattle.tsp_verdict.specs.Bounded.{IsBoundVerdict}
+use Rattle.tsp_verdict.specs.Judged.{IsVerdictWith}
+use Rattle.tsp_judge.specs.declared.bound.Bounded.{Bounded}
+use Rattle.tsp_judge.specs.declared.judging.Judged.{Judged}
+use Rattle.tsp_judge.specs.declared.fault.RunFault.{RunFault}
+use Rattle.tsp_judge.specs.Status.{status_of_fault}
+use Rattle.tsp_judge.specs.Run.{Given, given_by, EndsWithout, IsRun, told}
+use Rattle.tsp_judge.specs.BoundRun.{EndsUnbounded, IsBoundRun}
+use Rattle.tsp_c.specs.declared.told.Told.{Told}
+use Rattle.tsp_c.specs.Ended.{without_devices, has_bound, EndsOnTexts}
+use Rattle.tsp_c.specs.Texts.{given_text}
+use Rattle.tsp_c.specs.Told.{IsSizedBound, told_of_run, told_of_bound_run, TellsTexts, TellsBound}
+use Rattle.tsp_c.proofs.Ends.{fault_status}
+use Rattle.tsp_c.proofs.OnHandles.{not_two}
+use Rattle.tsp_c.proofs.OnTexts.{Reads2, Reads3, are_spelled, unchecked, no_relayout, unbounded, not_relaid, spelled}
+
+-- ---- bounds that fit
+
+small : (z : ℤ) → IsBoundSized z → unsigned_abs z ≤ 2 ^ 126
+small (pos n) sized = omega (arith, ints, sized.0, sized.1)
+small (negsuc n) sized = omega (arith, ints, sized.0, sized.1)
+
+pub sized_bound : (by : Certificate) (instance certificate : Fields) (found : BoundVerdict) → IsBoundVerdict by instance certificate found
+    → IsSizedBound found
+sized_bound by instance certificate (bounds.Bound bound) is = small bound is.1.2
+sized_bound by instance certificate bounds.NoTour is = tt
+sized_bound by instance certificate (bounds.No reason) is = tt
+
+pub sized_bound_run : (by : Certificate) (first second : Turn) (sink : Sink) (ended : Result Bounded RunFault)
+    → IsBoundRun by first second sink ended → IfOk ended (λ bounded. IsSizedBound bounded.found)
+sized_bound_run by first second sink (Ok bounded) run = sized_bound by bounded.instance bounded.certificate bounded.found run.2.1
+sized_bound_run by first second sink (Err fault) run = tt
+
+-- what a law says of each verdict
+abbrev AreSized : Type 0
+AreSized = (given : Option (Certificate × Fields)) (claimed : Option ℤ) (instance solution : Fields) (verdict : Verdict)
+    → IsVerdictWith given claimed instance solution verdict → IsSized verdict
+
+pub sized_run : (given : Given) (claimed : Option ℤ) (first second : Turn) (sink : Sink) (ended : Result Judged RunFault)
+    → AreSized → IsRun given claimed first second sink ended → IfOk ended (λ judged. IsSized judged.verdict)
+sized_run given claimed first second sink (Ok judged) sized run =
+    sized judged.certificate claimed judged.instance judged.solution judged.verdict run.1.1
+sized_run given claimed first second sink (Err fault) sized run = tt
+
+-- ---- a fault
+
+-- one whose status is 0 or 1 is a layout's
+low_status : (fault : RunFault) (written : List ℕ) (status : ℕ) (text : List ℕ) → EndsOnTexts (Err fault) written status text
+    → status ≤ 1 → status_of_fault (without_devices fault) ≡ 1
+low_status fault written status text (inl e) low =
+    let says = fault_status fault in
+    let some : 1 ≤ status_of_fault (without_devices fault) = says.some in
+    let is : status ≡ status_of_fault (without_devices fault) = e.0 in
+    omega (arith, some, is, low)
+low_status fault written status text (inr e) low = let three : status ≡ 3 = e.0 in absurd (omega (arith, three, low))
+
+fault_is : (fault : RunFault) (written : List ℕ) (status : ℕ) (text : List ℕ) → EndsOnTexts (Err fault) written status text
+    → status ≡ 2 → status_of_fault (without_devices fault) ≡ 2
+fault_is fault written status text (inl e) two = sym e.0 ∙ two
+fault_is fault written status text (inr e) two = let three : status ≡ 3 = e.0 in absurd (omega (arith, three, two))
+
+-- ---- the runs
+
+pub tells_texts : (by : Option Certificate) (claimed : Option ℤ) (first second third : Turn) (sink : Sink) (ended : Result Judged RunFault)
+    (one two three written : List ℕ) (status : ℕ) (text : List ℕ) (numbers : Told) → Reads3 first second third one two three
+    → IsRun (given_by by third) claimed first second sink ended → numbers ≡ told_of_run ended
+    → EndsOnTexts (told ended) written status text → TellsTexts (given_text by three) claimed one two status numbers
+tells_texts by claimed first second third sink (Ok judged) one two three written status text numbers reads run is e = record {
+  judged = λ low. record {
+    instance = judged.instance;
+    solution = judged.solution;
+    certificate = judged.certificate;
+    verdict = judged.verdict;
+    spelled = are_spelled by first second third one two three judged.instance judged.solution judged.certificate reads run.0;
+    of_type = run.1.0;
+    judged = run.1.1;
+    numbers = is;
+    status_is = e.0;
+  };
+  faulty = λ two_is. absurd (not_two (is_yes judged.verdict) status e.0 two_is);
+}
+tells_texts by claimed first second third sink (Err fault) one two three written status text numbers reads run is e = record {
+  judged = λ low.
+      let refused = (fault_status fault).relayout (low_status fault written status text e low) in
+      absurd (no_relayout by claimed first second third sink fault refused.0 refused.1 run);
+  faulty = λ two_is.
+      (fault, unchecked by claimed first second third sink one two three fault reads run (fault_is fault written status text e two_is), is);
+}
+
+pub tells_bound : (by : Certificate) (first second : Turn) (sink : Sink) (ended : Result Bounded RunFault)
+    (one two written : List ℕ) (status : ℕ) (text : List ℕ) (numbers : Told) → Reads2 first second one two
+    → IsBoundRun by first second sink ended → numbers ≡ told_of_bound_run ended
+    → EndsOnTexts (has_bound ended) written status text → TellsBound by one two status numbers
+tells_bound by first second sink (Ok bounded) one two written status text numbers reads run is e = record {
+  bounded = λ low. record {
+    instance = bounded.instance;
+    certificate = bounded.certificate;
+    found = bounded.found;
+    first_file = spelled first one bounded.instance reads.first_is run.0;
+    second_file = spelled second two bounded.certificate reads.second_is run.1;
+    of_type = run.2.0;
+    judged = run.2.1;
+    numbers = is;
+    status_is = e.0;
+  };
+  faulty = λ two_is. absurd (not_two (is_bound_yes bounded.found) status e.0 two_is);
+}
+tells_bound by first second sink (Err fault) one two written status text numbers reads run is e = record {
+  bounded = λ low.
+      let refused = (fault_status fault).relayout (low_status fault written status text e low) in
+      absurd (not_relaid by first second sink fault refused.0 refused.1 run);
+  faulty = λ two_is.
+      (fault, unbounded by first second sink one two fault reads run (fault_is fault written status text e two_is), is);
+}

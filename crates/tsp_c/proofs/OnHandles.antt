@@ -1,0 +1,168 @@
+-- From the verdict on a solution of an open instance to what is said of the texts that are open.
+use Rattle.std.proofs.Common.{◌≡◌, ℕ, ◌≤◌, List, [], Bool, true, false, Result, Ok, Err, inl, inr, refl, sym, ap, subst, ◌∙◌, arith}
+use Rattle.std.specs.Prelude.{◌⊎◌, Option, None, Some, ℤ, IsTrue}
+use Rattle.tsp_stream.specs.declared.output.WriteFault.TheVariants as write_faults
+use Rattle.tsp_stream.specs.Sink.{Sink}
+use Rattle.tsp_draft.specs.Fields.{Fields}
+use Rattle.tsp_file.specs.declared.fault.RelayoutFault.{RelayoutFault}
+use Rattle.tsp_text.specs.declared.fault.ReadFault.{ReadFault}
+use Rattle.tsp_text.specs.declared.fault.ReadFault.TheVariants as read_faults
+use Rattle.tsp_text.specs.Text.{fault}
+use Rattle.tsp_read.specs.Reads.{Reads}
+use Rattle.tsp_reason.specs.declared.verdict.Verdict.{Verdict}
+use Rattle.tsp_reason.specs.declared.verdict.Verdict.TheVariants.{Tour, Routes, No}
+use Rattle.tsp_reason.specs.Verdicts.{is_yes}
+use Rattle.tsp_report.specs.Report.{report_of}
+use Rattle.tsp_judge.specs.declared.fault.RunFault.{RunFault}
+use Rattle.tsp_judge.specs.declared.fault.RunFault.TheVariants.{File, WrongKind, Write, OutOfMemory, Relayout}
+use Rattle.tsp_judge.specs.Status.{status_of, status_of_fault}
+use Rattle.tsp_judge.specs.Accepted.{IsAccepted}
+use Rattle.tsp_open.specs.Open.{Open, IsHeldVerdict, IsNotJudged}
+use Rattle.tsp_c.specs.declared.told.Told.{Told}
+use Rattle.tsp_c.specs.Ended.{without_devices, EndsOnTexts, Reports}
+use Rattle.tsp_c.specs.Opened.{IsOpenOn, ChecksAsTexts, TellsJudged}
+use Rattle.tsp_c.specs.Texts.{GivenText, AreSpelled, IsAcceptedText, IsRejected, IsUnchecked, ChecksTexts}
+use Rattle.tsp_c.specs.Told.{told_of_verdict, told_of_fault}
+use Rattle.tsp_c.proofs.Ends.{yes_ends, no_ends, fault_ends, fault_status}
+use Rattle.tsp_c.proofs.OnTexts.{Collects, printed_is}
+
+-- ---- a solution that isn't judged
+
+-- a text that isn't read has a fault, where the status is that of a fault of a text
+faulty_text : (text : List ℕ) (file : ℕ) (found : ReadFault) → Reads text (Err found)
+    → status_of_fault (without_devices (File file found)) ≡ 2 → fault text ≡ Some found
+faulty_text text file (read_faults.Line line word found) reads two = reads
+faulty_text text file (read_faults.End found) reads two = reads
+faulty_text text file read_faults.TooLong reads two = reads
+faulty_text text file read_faults.OutOfMemory reads two = let n : 3 ≡ 2 = two in absurd (omega arith)
+faulty_text text file read_faults.Device reads two = absurd reads
+
+unjudged : (opened : Open) (two : List ℕ) (one : List ℕ) (given : GivenText) (fault : RunFault) → IsOpenOn one given opened
+    → IsNotJudged two opened fault → status_of_fault (without_devices fault) ≡ 2 → IsUnchecked given one two fault
+unjudged opened two one given (File file found) is ends s =
+    inr (inl ((opened.instance, is.0), (ends.0, faulty_text two file found ends.1 s)))
+unjudged opened two one given WrongKind is ends s = absurd ends
+unjudged opened two one given OutOfMemory is ends s = let n : 3 ≡ 2 = s in absurd (omega arith)
+unjudged opened two one given (Relayout refused) is ends s = absurd ends
+unjudged opened two one given (Write found) is ends s = absurd ends
+
+no_relayout : (opened : Open) (two : List ℕ) (fault : RunFault) (refused : RelayoutFault) → fault ≡ Relayout refused
+    → IsNotJudged two opened fault → ⊥
+no_relayout opened two fault refused is ends = none (subst (λ (f : RunFault). IsNotJudged two opened f) is ends)
+  where
+    none : IsNotJudged two opened (Relayout refused) → ⊥
+    none ended = ended
+
+pub fault_as_texts : (opened : Open) (claimed : Option ℤ) (two : List ℕ) (fault : RunFault) (written : List ℕ) (status : ℕ)
+    (text : List ℕ) → IsNotJudged two opened fault → EndsOnTexts (Err fault) written status text
+    → ChecksAsTexts opened claimed two status text
+fault_as_texts opened claimed two fault written status text ends e one given is = fault_ends fault written status text
+    (λ refused same line. absurd (no_relayout opened two fault refused same ends))
+    (λ s. unjudged opened two one given fault is ends s) e
+
+-- the status of a fault is neither that of a yes nor that of a no
+above_one : (opened : Open) (two : List ℕ) (fault : RunFault) (written : List ℕ) (status : ℕ) (text : List ℕ)
+    → IsNotJudged two opened fault → EndsOnTexts (Err fault) written status text → status ≤ 1 → ⊥
+above_one opened two fault written status text ends (inl e) low =
+    let says = fault_status fault in
+    let some : 1 ≤ status_of_fault (without_devices fault) = says.some in
+    let is : status ≡ status_of_fault (without_devices fault) = e.0 in
+    let one : status_of_fault (without_devices fault) ≡ 1 = omega (arith, some, is, low) in
+    let refused = says.relayout one in no_relayout opened two fault refused.0 refused.1 ends
+above_one opened two fault written status text ends (inr e) low = let three : status ≡ 3 = e.0 in omega (arith, three, low)
+
+pub fault_told : (opened : Open) (claimed : Option ℤ) (two : List ℕ) (fault : RunFault) (written : List ℕ) (status : ℕ)
+    (text : List ℕ) (told : Told) → IsNotJudged two opened fault → told ≡ told_of_fault fault
+    → EndsOnTexts (Err fault) written status text → TellsJudged opened claimed two status told
+fault_told opened claimed two fault written status text told ends is e = record {
+  judged = λ low. absurd (above_one opened two fault written status text ends e low);
+  faulty = λ two_is. (fault, ends, is);
+}
+
+-- ---- a verdict
+
+are_spelled : (opened : Open) (claimed : Option ℤ) (one two : List ℕ) (given : GivenText) (verdict : Verdict) (is : IsHeldVerdict two claimed opened verdict)
+    → IsOpenOn one given opened → AreSpelled given one two opened.instance is.solution opened.certificate
+are_spelled opened claimed one two given verdict is texts_are = record {
+  first_file = texts_are.0;
+  second_file = is.spelled;
+  third_file = texts_are.1;
+}
+
+-- what the line `yes` of the report means
+abbrev pub Means : Open → Option ℤ → Fields → Verdict → Type 0
+Means opened claimed solution verdict = true ≡ is_yes verdict
+    → IsAccepted opened.certificate claimed opened.instance solution (report_of opened.instance verdict)
+
+accepted : (opened : Open) (claimed : Option ℤ) (one two written : List ℕ) (given : GivenText) (verdict : Verdict)
+    (is : IsHeldVerdict two claimed opened verdict) → Means opened claimed is.solution verdict → written ≡ report_of opened.instance verdict
+    → IsOpenOn one given opened → true ≡ is_yes verdict → IsAcceptedText given claimed one two written
+accepted opened claimed one two written given verdict is means printed texts_are agrees = record {
+  instance = opened.instance;
+  solution = is.solution;
+  certificate = opened.certificate;
+  spelled = are_spelled opened claimed one two given verdict is texts_are;
+  meaning = subst (IsAccepted opened.certificate claimed opened.instance is.solution) (sym printed) (means agrees);
+}
+
+verdict_as_texts : (opened : Open) (claimed : Option ℤ) (one two written : List ℕ) (given : GivenText) (verdict : Verdict)
+    (status : ℕ) (text : List ℕ) (is : IsHeldVerdict two claimed opened verdict) → Means opened claimed is.solution verdict
+    → written ≡ report_of opened.instance verdict → IsOpenOn one given opened → EndsOnTexts (Ok (is_yes verdict)) written status text
+    → ChecksTexts given claimed one two status text
+verdict_as_texts opened claimed one two written given (Tour length_is bound) status text is means printed texts_are e =
+    yes_ends written status text (accepted opened claimed one two written given (Tour length_is bound) is means printed texts_are refl) e
+verdict_as_texts opened claimed one two written given (Routes length_is routes least) status text is means printed texts_are e =
+    yes_ends written status text (accepted opened claimed one two written given (Routes length_is routes least) is means printed texts_are refl) e
+verdict_as_texts opened claimed one two written given (No reason) status text is means printed texts_are e =
+    no_ends written status text (record {
+      instance = opened.instance;
+      solution = is.solution;
+      certificate = opened.certificate;
+      spelled = are_spelled opened claimed one two given (No reason) is texts_are;
+      of_type = is.of_type;
+      reason = reason;
+      judged = is.judged;
+      printed = printed;
+    }) e
+
+-- a writer that has failed is out of memory
+unwritten : (fault : RunFault) (written : List ℕ) (status : ℕ) (text : List ℕ)
+    → fault ≡ Write write_faults.Device → EndsOnTexts (Err fault) written status text → status ≡ 3
+unwritten fault written status text is (inl e) = e.0 ∙ ap (λ (f : RunFault). status_of_fault (without_devices f)) is
+unwritten fault written status text is (inr e) = e.0
+
+pub reported_as_texts : (opened : Open) (claimed : Option ℤ) (two : List ℕ) (verdict : Verdict) (sink : Sink) (answer : Result Bool RunFault)
+    (written : List ℕ) (status : ℕ) (text : List ℕ) (is : IsHeldVerdict two claimed opened verdict) → Means opened claimed is.solution verdict
+    → Collects sink written → Reports sink (report_of opened.instance verdict) (is_yes verdict) answer
+    → EndsOnTexts answer written status text → ChecksAsTexts opened claimed two status text
+reported_as_texts opened claimed two verdict sink (Ok answer) written status text is means collects reports e one given texts_are =
+    verdict_as_texts opened claimed one two written given verdict status text is means
+    (printed_is sink written (report_of opened.instance verdict) collects reports.0) texts_are
+    (subst (λ (b : Bool). EndsOnTexts (Ok b) written status text) reports.1 e)
+reported_as_texts opened claimed two verdict sink (Err fault) written status text is means collects reports e one given texts_are =
+    fault_ends fault written status text (λ refused same line. absurd (write_is refused (sym reports ∙ same)))
+    (λ s. absurd (two_is (sym (ap (λ (f : RunFault). status_of_fault (without_devices f)) reports) ∙ s))) e
+  where
+    write_is : (refused : RelayoutFault) → Write write_faults.Device ≡ Relayout refused → ⊥
+    write_is refused e = cc
+
+    two_is : ◌≡◌ {A = ℕ} 3 2 → ⊥
+    two_is n = omega (arith, n)
+
+pub not_two : (answer : Bool) (status : ℕ) → status ≡ status_of (Ok answer) → status ≡ 2 → ⊥
+not_two true status is two = let zero : status ≡ 0 = is in omega (arith, zero, two)
+not_two false status is two = let one : status ≡ 1 = is in omega (arith, one, two)
+
+pub reported_told : (opened : Open) (claimed : Option ℤ) (two : List ℕ) (verdict : Verdict) (sink : Sink) (answer : Result Bool RunFault)
+    (written : List ℕ) (status : ℕ) (text : List ℕ) (told : Told) → IsHeldVerdict two claimed opened verdict
+    → told ≡ told_of_verdict opened.instance verdict → Reports sink (report_of opened.instance verdict) (is_yes verdict) answer
+    → EndsOnTexts answer written status text → TellsJudged opened claimed two status told
+reported_told opened claimed two verdict sink (Ok answer) written status text told is told_is reports e = record {
+  judged = λ low. (verdict, is, told_is, e.0 ∙ ap (λ (b : Bool). status_of (Ok b)) reports.1);
+  faulty = λ two_is. absurd (not_two answer status e.0 two_is);
+}
+reported_told opened claimed two verdict sink (Err fault) written status text told is told_is reports e =
+    let three : status ≡ 3 = unwritten fault written status text reports e in record {
+      judged = λ low. absurd (omega (arith, three, low));
+      faulty = λ two_is. absurd (omega (arith, three, two_is));
+    }

@@ -1,0 +1,46 @@
+use Rattle.std.proofs.Common.{◌≡◌, ◌∙◌, [], ap, refl, subst}
+use Rattle.std.specs.Prelude.{Some}
+use Rattle.tsp_stream.specs.Sink.{Sink}
+use Rattle.tsp_stream.specs.states.Watched.{sink_of}
+use Rattle.tsp_draft.specs.Fields.{Fields}
+use Rattle.tsp_reason.specs.Verdicts.{is_yes}
+use Rattle.tsp_report.specs.Report.{report_of}
+use Rattle.tsp_c.specs.Ended.{Reports}
+use Rattle.tsp_c.specs.Told.{told_of_verdict}
+use Rattle.tsp_c.proofs.OnHandles.{fault_as_texts, fault_told, reported_as_texts, reported_told}
+use Rattle.tsp_c.proofs.opened.check_opened.Goals as goal
+
+pub returns-in-Err-clause-texts : goal.returns-in-Err-clause-texts
+returns-in-Err-clause-texts c = fault_as_texts c.args.opened.now c.args.claimed c.args.solution.now c.in-Err.fault []
+    c.ended-status.result.0 c.ended-status.result.1.items c.in-Err.ensures c.ended-status.ensures
+
+pub returns-in-Err-clause-numbers : goal.returns-in-Err-clause-numbers
+returns-in-Err-clause-numbers c = fault_told c.args.opened.now c.args.claimed c.args.solution.now c.in-Err.fault []
+    c.ended-status.result.0 c.ended-status.result.1.items c.of_fault.result c.in-Err.ensures c.of_fault.ensures c.ended-status.ensures
+
+pub returns-in-Ok-clause-texts : goal.returns-in-Ok-clause-texts
+returns-in-Ok-clause-texts c =
+    let opened = c.args.opened.now in
+    let is = c.in-Ok.ensures in
+    let answer = c.reported-answer in
+    let sink : Sink = sink_of (λ v. Some v.items) c.new-report.result answer.new.out in
+    let same : c.instance-in-Ok.result.now ≡ opened.instance = c.instance-in-Ok.ensures in
+    reported_as_texts opened c.args.claimed c.args.solution.now c.in-Ok.verdict sink answer.result answer.new.out.inner.items
+    c.ended-status-in-Ok.result.0 c.ended-status-in-Ok.result.1.items is
+    (λ agrees. c.verdicts_mean_reports.ensures.accepted opened.certificate c.args.claimed opened.instance is.solution c.in-Ok.verdict
+    is.problem is.of_type is.judged agrees)
+    (record { held = ap (λ v. Some v.items) c.new-report.ensures.inner ∙ ap Some c.new.ensures.items; holds = refl })
+    (subst (λ (f : Fields). Reports sink (report_of f c.in-Ok.verdict) (is_yes c.in-Ok.verdict) answer.result) same answer.ensures)
+    c.ended-status-in-Ok.ensures
+
+pub returns-in-Ok-clause-numbers : goal.returns-in-Ok-clause-numbers
+returns-in-Ok-clause-numbers c =
+    let opened = c.args.opened.now in
+    let answer = c.reported-answer in
+    let sink : Sink = sink_of (λ v. Some v.items) c.new-report.result answer.new.out in
+    let same : c.instance-in-Ok.result.now ≡ opened.instance = c.instance-in-Ok.ensures in
+    reported_told opened c.args.claimed c.args.solution.now c.in-Ok.verdict sink answer.result answer.new.out.inner.items
+    c.ended-status-in-Ok.result.0 c.ended-status-in-Ok.result.1.items c.of_verdict-told.result c.in-Ok.ensures
+    (c.of_verdict-told.ensures ∙ ap (λ (f : Fields). told_of_verdict f c.in-Ok.verdict) c.instance.ensures)
+    (subst (λ (f : Fields). Reports sink (report_of f c.in-Ok.verdict) (is_yes c.in-Ok.verdict) answer.result) same answer.ensures)
+    c.ended-status-in-Ok.ensures

@@ -1,0 +1,21 @@
+use Rattle.std.proofs.Common.{subst, FitsSigned, w64}
+use Rattle.std.specs.Prelude.{ℤ}
+use Rattle.std.proofs.lemmas.Int.{to_z-of_z}
+use Rattle.tsp_c.specs.Texts.{ChecksBy}
+use Rattle.tsp_c.specs.Told.{TellsBy}
+use Rattle.tsp_c.proofs.tsp_check_result.Goals as goal
+
+pub returns : goal.returns
+returns c =
+    let made = c.check_by-status.result in
+    let fits : FitsSigned w64 c.args.claimed = c.ranges.claimed in (
+      made.0,
+      made.1.items,
+      (
+        subst (λ (z : ℤ). ChecksBy c.args.by c.args.has_claim z c.args.instance.now c.args.solution.now c.args.certificate.now made.0 made.1.items)
+            (to_z-of_z w64 c.args.claimed fits) c.check_by-status.ensures.texts,
+        subst (λ (z : ℤ). TellsBy c.args.by c.args.has_claim z c.args.instance.now c.args.solution.now c.args.certificate.now made.0 made.2)
+            (to_z-of_z w64 c.args.claimed fits) c.check_by-status.ensures.numbers,
+      ),
+      rw c.deref.ensures.value at c.place-answer.ensures,
+    )

@@ -1,0 +1,16 @@
+use Rattle.std.proofs.Common.{subst, FitsSigned, w64}
+use Rattle.std.specs.Prelude.{ℤ}
+use Rattle.std.proofs.lemmas.Int.{to_z-of_z}
+use Rattle.tsp_c.specs.Opened.{ChecksHeld}
+use Rattle.tsp_c.proofs.tsp_instance_check.Goals as goal
+
+pub returns-clause-places : goal.returns-clause-places
+returns-clause-places c =
+    let made = c.check_held-status.result in
+    let fits : FitsSigned w64 c.args.claimed = c.ranges.claimed in (
+      made.0,
+      made.1.items,
+      subst (λ (z : ℤ). ChecksHeld c.args.handle.now.loose.value c.args.has_claim z c.args.solution.now made.0 made.1.items made.2)
+          (to_z-of_z w64 c.args.claimed fits) c.check_held-status.ensures.checks,
+      rw c.deref.ensures.value at c.place-answer.ensures,
+    )

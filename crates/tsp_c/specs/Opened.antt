@@ -1,0 +1,100 @@
+-- What the calls on a handle answer, over the instance on which it is open, and the certificate that is bound to it.
+use Rattle.std.specs.Prelude.{◌≡◌, ◌⊎◌, ℕ, ◌≤◌, ◌<◌, List, Option, None, Some, Ok, ℤ}
+use Rattle.tsp_draft.specs.Fields.{Fields}
+use Rattle.tsp_file.specs.Meant.{nodes_of}
+use Rattle.tsp_text.specs.Text.{Spells}
+use Rattle.tsp_reason.specs.declared.certificate.Certificate.{Certificate}
+use Rattle.tsp_reason.specs.declared.verdict.BoundVerdict.{BoundVerdict}
+use Rattle.tsp_reason.specs.declared.verdict.Verdict.{Verdict}
+use Rattle.tsp_reason.specs.Verdicts.{is_yes, is_bound_yes}
+use Rattle.tsp_judge.specs.declared.fault.RunFault.{RunFault}
+use Rattle.tsp_judge.specs.declared.fault.RunFault.TheVariants.{OutOfMemory}
+use Rattle.tsp_judge.specs.Status.{status_of, status_of_fault}
+use Rattle.tsp_open.specs.Open.{Open, IsOpened, IsUnopened, IsBoundTo, IsUnbound, IsHeldVerdict, IsNotJudged}
+use Rattle.tsp_c.specs.declared.told.Told.{Told}
+use Rattle.tsp_c.specs.Told.{blank_told, told_of_instance, told_of_verdict, told_of_bound, told_of_fault}
+use Rattle.tsp_c.specs.Numbers.{section_points, IsSection, EndsPoints}
+use Rattle.tsp_c.specs.Texts.{GivenText, SpellsGiven, ChecksTexts, IsRefusedNumber, claim_of}
+
+-- what a handle is open on
+abbrev pub Held : Type 0
+Held = Option Open
+
+-- ---- opening a handle, whatever it was open on
+
+-- the text is no file, or no instance; or memory ran out
+abbrev pub IsNotOpened : List ℕ → RunFault → Type 0
+IsNotOpened text OutOfMemory = Unit {0}
+IsNotOpened text fault = IsUnopened text fault
+
+-- 0, and the handle is open on the instance that the text is; or the handle is closed, with a fault and its status
+abbrev pub OpensText : List ℕ → Held → Told → ℕ → Type 0
+OpensText text held told status =
+    ((opened : Open) × (held ≡ Some opened) × IsOpened text opened × (told ≡ told_of_instance opened.instance) × (status ≡ 0))
+    ⊎ ((fault : RunFault) × (held ≡ None) × IsNotOpened text fault × (told ≡ told_of_fault fault)
+    × (status ≡ status_of_fault fault))
+
+-- ---- binding a certificate to it
+
+-- the certificate is bound, with what it gives; or nothing changes, with a fault and its status
+abbrev pub BindsOpen : Certificate → List ℕ → Open → Held → Told → ℕ → Type 0
+BindsOpen by text opened held told status =
+    ((new : Open) × (found : BoundVerdict) × (held ≡ Some new) × IsBoundTo by text opened new found
+    × (told ≡ told_of_bound opened.instance found) × (status ≡ status_of (Ok (is_bound_yes found))))
+    ⊎ ((fault : RunFault) × (held ≡ Some opened) × IsUnbound by text opened fault × (told ≡ told_of_fault fault)
+    × (status ≡ status_of_fault fault))
+
+-- a call that is refused: 4, and nothing is told
+abbrev pub IsRefusedCall : Held → Held → Told → ℕ → Type 0
+IsRefusedCall old new told status = (status ≡ 4) × (new ≡ old) × (told ≡ blank_told)
+
+-- by this certificate, where the number has one, and where the handle is open; else the call is refused
+abbrev pub BindsText : Option Certificate → List ℕ → Held → Held → Told → ℕ → Type 0
+BindsText None text old new told status = IsRefusedCall old new told status
+BindsText (Some by) text None new told status = IsRefusedCall None new told status
+BindsText (Some by) text (Some opened) new told status = BindsOpen by text opened new told status
+
+-- ---- the check of a solution
+
+-- the text is the instance, and the other one the certificate that is bound
+abbrev pub IsOpenOn : List ℕ → GivenText → Open → Type 0
+IsOpenOn one given opened = Spells one opened.instance × SpellsGiven given opened.certificate
+
+-- the status and the text are those of the check of these texts, whichever texts are open
+abbrev pub ChecksAsTexts : Open → Option ℤ → List ℕ → ℕ → List ℕ → Type 0
+ChecksAsTexts opened claimed two status text = (one : List ℕ) (given : GivenText) → IsOpenOn one given opened
+    → ChecksTexts given claimed one two status text
+
+-- the numbers are those of the verdict, at 0 and 1, and of the fault, at 2
+pub record TellsJudged (opened : Open) (claimed : Option ℤ) (two : List ℕ) (status : ℕ) (told : Told) : Type 0 where
+  pub judged : status ≤ 1 → (verdict : Verdict) × IsHeldVerdict two claimed opened verdict
+      × (told ≡ told_of_verdict opened.instance verdict) × (status ≡ status_of (Ok (is_yes verdict)))
+  pub faulty : status ≡ 2 → (fault : RunFault) × IsNotJudged two opened fault × (told ≡ told_of_fault fault)
+
+abbrev pub ChecksOpen : Open → Option ℤ → List ℕ → ℕ → List ℕ → Told → Type 0
+ChecksOpen opened claimed two status text told = ChecksAsTexts opened claimed two status text
+    × TellsJudged opened claimed two status told
+
+-- with a claimed length by has_claim 1, without one by 0; other numbers are refused, and so is a closed handle
+abbrev pub ChecksHeld : Held → ℕ → ℤ → List ℕ → ℕ → List ℕ → Told → Type 0
+ChecksHeld None has_claim claimed two status text told = IsRefusedNumber status text × (told ≡ blank_told)
+ChecksHeld (Some opened) has_claim claimed two status text told =
+    (has_claim ≤ 1 → ChecksOpen opened (claim_of has_claim claimed) two status text told)
+    × (1 < has_claim → IsRefusedNumber status text × (told ≡ blank_told))
+
+-- ---- numbers of the instance
+
+-- P of the instance on which the handle is open; or 4, the handle is closed, and the buffer is as it was
+abbrev pub OfHeld : {X : Type 0} → Held → (Fields → Type 0) → X → X → ℕ → Type 0
+OfHeld None P old new status = (status ≡ 4) × (new ≡ old)
+OfHeld (Some opened) P old new status = P opened.instance
+
+-- the coordinates of the points of a section; 4 where there is no such section
+abbrev pub EndsSection : Fields → ℕ → List ℤ → List ℤ → ℕ → Type 0
+EndsSection instance section old new status =
+    (IsSection section × EndsPoints (section_points section instance) old new status)
+    ⊎ ((status ≡ 4) × (new ≡ old) × ¬ IsSection section)
+
+-- 0, and how many nodes the instance has
+abbrev pub EndsCount : Fields → ℕ → ℕ → Type 0
+EndsCount instance count status = (status ≡ 0) × (count ≡ nodes_of instance)

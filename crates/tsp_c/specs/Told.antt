@@ -1,0 +1,224 @@
+-- The answer of a call in numbers. What isn't told is 0.
+use Rattle.std.specs.Prelude.{◌≡◌, ℕ, ◌≤◌, ◌<◌, ◌^◌, List, Option, None, Some, Result, Ok, Err, IsTrue, ℤ, pos, unsigned_abs}
+use Rattle.std.specs.Int.{int_div_euclid, int_rem_euclid}
+use Rattle.tsp_format.specs.declared.kinds.Kind.{Kind}
+use Rattle.tsp_format.specs.declared.kinds.Kind.TheVariants as kinds
+use Rattle.tsp_draft.specs.Fields.{Fields}
+use Rattle.tsp_draft.specs.declared.fault.EndFault.TheVariants as end_faults
+use Rattle.tsp_file.specs.Meant.{nodes_of}
+use Rattle.tsp_text.specs.declared.fault.LineFault.{LineFault}
+use Rattle.tsp_text.specs.declared.fault.LineFault.TheVariants as line_faults
+use Rattle.tsp_text.specs.declared.fault.ReadFault.{ReadFault}
+use Rattle.tsp_text.specs.declared.fault.ReadFault.TheVariants as read_faults
+use Rattle.tsp_text.specs.Text.{Spells}
+use Rattle.tsp_reason.specs.declared.certificate.Certificate.{Certificate}
+use Rattle.tsp_reason.specs.declared.verdict.BoundVerdict.{BoundVerdict}
+use Rattle.tsp_reason.specs.declared.verdict.BoundVerdict.TheVariants as bounds
+use Rattle.tsp_reason.specs.declared.verdict.Reason.{Reason}
+use Rattle.tsp_reason.specs.declared.verdict.Reason.TheVariants.{NotSymmetric, DepotInRoute, NodeOutOfRange, RepeatedNode, FixedEdgeUnused, Unserved, Overload, LengthClaimed, MultiplierNotFixed, MultiplierRepeated, DualInfeasible, BadComb, BranchTwice, BadLeaf}
+use Rattle.tsp_reason.specs.declared.verdict.Verdict.{Verdict}
+use Rattle.tsp_reason.specs.declared.verdict.Verdict.TheVariants as verdicts
+use Rattle.tsp_reason.specs.Verdicts.{is_yes, is_bound_yes}
+use Rattle.tsp_report.specs.Report.{IsGapSized}
+use Rattle.tsp_verdict.specs.Bounded.{IsBoundVerdict}
+use Rattle.tsp_verdict.specs.Certified.{is_bounded}
+use Rattle.tsp_verdict.specs.Judged.{is_judged, IsVerdictWith}
+use Rattle.tsp_verdict.specs.Reasons.{rank_of}
+use Rattle.tsp_judge.specs.declared.bound.Bounded.{Bounded}
+use Rattle.tsp_judge.specs.declared.judging.Judged.{Judged}
+use Rattle.tsp_judge.specs.declared.fault.RunFault.{RunFault}
+use Rattle.tsp_judge.specs.declared.fault.RunFault.TheVariants.{File, WrongKind}
+use Rattle.tsp_judge.specs.Status.{status_of}
+use Rattle.tsp_c.specs.declared.told.Told.{Told}
+use Rattle.tsp_c.specs.Ended.{nth}
+use Rattle.tsp_c.specs.Texts.{GivenText, AreSpelled, IsUnchecked, IsUnbounded, given_text, certificates, claim_of}
+
+abbrev pub blank_told : Told
+blank_told = record {
+  kind = 0;
+  nodes = 0;
+  verdict = 0;
+  reason = 0;
+  first = pos 0;
+  second = pos 0;
+  length = pos 0;
+  bound_high = pos 0;
+  bound_low = 0;
+  least = 0;
+  has_bound = 0;
+  routes = 0;
+  fault = 0;
+  file = 0;
+  line = 0;
+  word = 0;
+}
+
+-- ---- an instance: the number of its TYPE, and how many nodes it has
+
+abbrev pub kind_number : Option Kind → ℕ
+kind_number (Some kinds.Tsp) = 1
+kind_number (Some kinds.Atsp) = 2
+kind_number (Some kinds.Cvrp) = 3
+kind_number (Some kinds.Tour) = 0
+kind_number (Some kinds.Potentials) = 0
+kind_number (Some kinds.Branches) = 0
+kind_number None = 0
+
+abbrev pub told_of_instance : Fields → Told
+told_of_instance instance = record blank_told { kind = kind_number instance.kind; nodes = nodes_of instance }
+
+-- ---- a bound, in two halves: the first one times 2^64, and the second one
+
+abbrev pub high_half : ℤ → ℤ
+high_half bound = int_div_euclid bound (pos (2 ^ 64))
+
+abbrev pub low_half : ℤ → ℕ
+low_half bound = unsigned_abs (int_rem_euclid bound (pos (2 ^ 64)))
+
+abbrev pub with_bound : Told → ℤ → Told
+with_bound told bound = record told { bound_high = high_half bound; bound_low = low_half bound; has_bound = 1 }
+
+-- ---- a reason: its place in the order in which reasons are judged, and its numbers
+
+abbrev pub first_number : Reason → ℤ
+first_number (NotSymmetric i j) = pos i
+first_number (DepotInRoute place) = pos place
+first_number (NodeOutOfRange place) = pos place
+first_number (RepeatedNode place) = pos place
+first_number (FixedEdgeUnused index) = pos index
+first_number (Unserved node) = pos node
+first_number (Overload route) = pos route
+first_number (LengthClaimed length) = length
+first_number (MultiplierNotFixed index) = pos index
+first_number (MultiplierRepeated index) = pos index
+first_number (DualInfeasible i j) = pos i
+first_number (BadComb index) = pos index
+first_number (BranchTwice index) = pos index
+first_number (BadLeaf index) = pos index
+first_number reason = pos 0
+
+abbrev pub second_number : Reason → ℤ
+second_number (NotSymmetric i j) = pos j
+second_number (DualInfeasible i j) = pos j
+second_number reason = pos 0
+
+abbrev pub with_reason : Told → Reason → Told
+with_reason told reason = record told {
+  verdict = 3;
+  reason = rank_of reason;
+  first = first_number reason;
+  second = second_number reason;
+}
+
+-- ---- a verdict: 1 a tour, 2 routes, 3 rejected, 4 a bound, 5 that there is no tour
+
+abbrev pub told_of_verdict : Fields → Verdict → Told
+told_of_verdict instance (verdicts.Tour length_is None) =
+    record (told_of_instance instance) { verdict = 1; length = length_is }
+told_of_verdict instance (verdicts.Tour length_is (Some bound)) =
+    record (with_bound (told_of_instance instance) bound) { verdict = 1; length = length_is }
+told_of_verdict instance (verdicts.Routes length_is count least_is) =
+    record (told_of_instance instance) { verdict = 2; length = length_is; routes = count; least = least_is }
+told_of_verdict instance (verdicts.No reason) = with_reason (told_of_instance instance) reason
+
+abbrev pub told_of_bound : Fields → BoundVerdict → Told
+told_of_bound instance (bounds.Bound bound) = record (with_bound (told_of_instance instance) bound) { verdict = 4 }
+told_of_bound instance bounds.NoTour = record (told_of_instance instance) { verdict = 5 }
+told_of_bound instance (bounds.No reason) = with_reason (told_of_instance instance) reason
+
+-- its halves have 64 bits
+abbrev pub IsSizedBound : BoundVerdict → Type 0
+IsSizedBound (bounds.Bound bound) = IsGapSized (Some bound)
+IsSizedBound bounds.NoTour = Unit {0}
+IsSizedBound (bounds.No reason) = Unit {0}
+
+-- ---- a fault: its number, the text's number, the line and the word
+
+abbrev pub line_fault_number : LineFault → ℕ
+line_fault_number line_faults.LongLine = 1
+line_fault_number line_faults.UnknownLine = 2
+line_fault_number line_faults.Repeated = 3
+line_fault_number line_faults.Outside = 4
+line_fault_number line_faults.BadValue = 5
+line_fault_number line_faults.SectionValue = 6
+line_fault_number line_faults.SectionEarly = 7
+line_fault_number line_faults.TooManyNodes = 8
+line_fault_number line_faults.StrayNumber = 9
+line_fault_number (line_faults.Number found) = 10
+line_fault_number line_faults.RepeatedNode = 11
+line_fault_number line_faults.SelfEdge = 12
+line_fault_number line_faults.Surplus = 13
+line_fault_number line_faults.AfterEnd = 14
+line_fault_number line_faults.LateSpace = 15
+
+abbrev pub read_fault_number : ReadFault → ℕ
+read_fault_number (read_faults.Line line_is word_is found) = line_fault_number found
+read_fault_number (read_faults.End (end_faults.Missing field)) = 16
+read_fault_number (read_faults.End (end_faults.Incomplete field)) = 17
+read_fault_number (read_faults.End end_faults.WrongFormat) = 18
+read_fault_number (read_faults.End end_faults.WrongCount) = 19
+read_fault_number read_faults.TooLong = 20
+read_fault_number read_faults.OutOfMemory = 0
+read_fault_number read_faults.Device = 0
+
+abbrev pub told_of_fault : RunFault → Told
+told_of_fault (File number (read_faults.Line line_is word_is found)) =
+    record blank_told { fault = line_fault_number found; file = number; line = line_is; word = word_is }
+told_of_fault (File number found) = record blank_told { fault = read_fault_number found; file = number }
+told_of_fault WrongKind = record blank_told { fault = 21; file = 1 }
+told_of_fault other = blank_told
+
+-- ---- what a run came to
+
+abbrev pub told_of_run : Result Judged RunFault → Told
+told_of_run (Ok judged) = told_of_verdict judged.instance judged.verdict
+told_of_run (Err fault) = told_of_fault fault
+
+abbrev pub told_of_bound_run : Result Bounded RunFault → Told
+told_of_bound_run (Ok bounded) = told_of_bound bounded.instance bounded.found
+told_of_bound_run (Err fault) = told_of_fault fault
+
+-- ---- what the numbers of a call on texts say: at 0 and 1 they are those of the verdict, at 2 those of the fault
+
+-- the verdict on the files that the texts spell
+pub record IsTextVerdict (given : GivenText) (claimed : Option ℤ) (one two : List ℕ) (status : ℕ) (told : Told) : Type 0 where
+  pub instance : Fields
+  pub solution : Fields
+  pub certificate : Option (Certificate × Fields)
+  pub verdict : Verdict
+  pub spelled : AreSpelled given one two instance solution certificate
+  pub of_type : IsTrue (is_judged certificate instance.kind)
+  pub judged : IsVerdictWith certificate claimed instance solution verdict
+  pub numbers : told ≡ told_of_verdict instance verdict
+  pub status_is : status ≡ status_of (Ok (is_yes verdict))
+
+pub record TellsTexts (given : GivenText) (claimed : Option ℤ) (one two : List ℕ) (status : ℕ) (told : Told) : Type 0 where
+  pub judged : status ≤ 1 → IsTextVerdict given claimed one two status told
+  pub faulty : status ≡ 2 → (fault : RunFault) × IsUnchecked given one two fault × (told ≡ told_of_fault fault)
+
+abbrev pub TellsBy : ℕ → ℕ → ℤ → List ℕ → List ℕ → List ℕ → ℕ → Told → Type 0
+TellsBy by has_claim claimed one two three status told =
+    (by ≤ 2 → has_claim ≤ 1
+    → TellsTexts (given_text (nth by certificates) three) (claim_of has_claim claimed) one two status told)
+    × (2 < by → told ≡ blank_told)
+    × (1 < has_claim → told ≡ blank_told)
+
+-- what was found of the files that the texts spell
+pub record IsTextBound (by : Certificate) (one two : List ℕ) (status : ℕ) (told : Told) : Type 0 where
+  pub instance : Fields
+  pub certificate : Fields
+  pub found : BoundVerdict
+  pub first_file : Spells one instance
+  pub second_file : Spells two certificate
+  pub of_type : IsTrue (is_bounded by instance.kind)
+  pub judged : IsBoundVerdict by instance certificate found
+  pub numbers : told ≡ told_of_bound instance found
+  pub status_is : status ≡ status_of (Ok (is_bound_yes found))
+
+pub record TellsBound (by : Certificate) (one two : List ℕ) (status : ℕ) (told : Told) : Type 0 where
+  pub bounded : status ≤ 1 → IsTextBound by one two status told
+  pub faulty : status ≡ 2 → (fault : RunFault) × IsUnbounded by one two fault × (told ≡ told_of_fault fault)
+
+abbrev pub TellsBoundBy : Option Certificate → List ℕ → List ℕ → ℕ → Told → Type 0
+TellsBoundBy None one two status told = told ≡ blank_told
+TellsBoundBy (Some by) one two status told = TellsBound by one two status told

@@ -1,0 +1,272 @@
+//! The calls on a handle.
+
+ghost use Rattle.std.specs.Prelude.{◌≡◌, None, Some, MatchResult};
+ghost use Rattle.tsp_stream.specs.states.Watched.{sink_of};
+ghost use Rattle.tsp_reason.specs.Verdicts.{is_yes};
+ghost use Rattle.tsp_report.specs.Report.{report_of, IsSized};
+ghost use Rattle.tsp_c.specs.Ended.{Reports, nth};
+ghost use Rattle.tsp_c.specs.Numbers.{EndsLengths, EndsMatrix, EndsWeights};
+ghost use Rattle.tsp_c.specs.Opened.{BindsOpen, BindsText, ChecksAsTexts, ChecksHeld, EndsCount, EndsSection, IsNotOpened, OfHeld, OpensText, TellsJudged};
+ghost use Rattle.tsp_c.specs.Texts.{certificates};
+ghost use Rattle.tsp_open.specs.Open.{IsOpened};
+
+use crate::ended::ended;
+use crate::handle::Handle;
+use crate::lengths::lengths_of;
+use crate::points::points_of_file;
+use crate::refused::{REFUSED as REFUSED_NUMBER, certificate_of, claim_of};
+use crate::status::{DONE, REFUSED};
+use crate::told::Told;
+use crate::weights::{rows_of, weights_of};
+use std::alloc::Global;
+use std::boxed::Box;
+use std::io::Write;
+use tsp_cost::{Costs, Instance};
+use tsp_judge::{Certificate, RunFault, Verdict, Watched, status_of, verdicts_mean_reports};
+use tsp_open::Opened;
+use tsp_report::write_report;
+
+/// Opens a handle on the instance that a text is; the status. What it was open on before is freed first.
+pub(crate) fn open_text(alloc: Global, text: &[u8], handle: &mut Handle, told: &mut Told) -> u32
+    ensures { OpensText text.now handle.new.loose.value told.new result }
+{
+    drop(handle.take(alloc));
+    match boxed(alloc, text) {
+        Err(fault) => {
+            *told = Told::of_fault(fault);
+            u32::from(status_of(&Err(fault)))
+        }
+        Ok(opened) => {
+            *told = Told::of_instance(opened.instance());
+            handle.put(opened);
+            DONE
+        }
+    }
+}
+
+/// The instance that a text is, in a box.
+fn boxed(alloc: Global, text: &[u8]) -> Result<Box<Opened, Global>, RunFault>
+    ensures { MatchResult result (λ opened. IsOpened text.now opened.value) (λ fault. IsNotOpened text.now fault) }
+{
+    let opened = Opened::of(alloc, text)?;
+    match Box::new(alloc, opened) {
+        Ok(opened) => Ok(opened),
+        Err(refused) => {
+            drop(refused);
+            Err(RunFault::OutOfMemory)
+        }
+    }
+}
+
+/// Closes a handle, and frees what it was open on.
+pub(crate) fn close(alloc: Global, handle: &mut Handle)
+    ensures { handle.new.loose.value ≡ None }
+{
+    drop(handle.take(alloc));
+}
+
+/// Binds the certificate that a text is to the instance of a handle, by 1 potentials, by 2 branches; the
+/// status.
+pub(crate) fn bind_text(
+    alloc: Global,
+    handle: &mut Handle,
+    text: &[u8],
+    by: u32,
+    told: &mut Told,
+) -> u32
+    ensures { BindsText (nth by certificates) text.now handle.old.loose.value handle.new.loose.value told.new result }
+{
+    *told = Told::blank();
+    let Some(by) = certificate_of(by) else {
+        return REFUSED;
+    };
+    match handle.take(alloc) {
+        None => REFUSED,
+        Some(mut opened) => {
+            let status = bind_opened(alloc, &mut opened, by, text, told);
+            handle.put(opened);
+            status
+        }
+    }
+}
+
+/// Binds the certificate that a text is to an instance that is open; the status.
+fn bind_opened(
+    alloc: Global,
+    opened: &mut Opened,
+    by: Certificate,
+    text: &[u8],
+    told: &mut Told,
+) -> u32
+    ensures { BindsOpen by text.now opened.old (Some opened.new) told.new result }
+{
+    match opened.bind(alloc, by, text) {
+        Err(fault) => {
+            *told = Told::of_fault(fault);
+            u32::from(status_of(&Err(fault)))
+        }
+        Ok(found) => {
+            *told = Told::of_bound(opened.instance(), found);
+            u32::from(status_of(&Ok(found.is_yes())))
+        }
+    }
+}
+
+/// The check of the solution that a text is, of the instance of a handle, with the certificate that is
+/// bound, where one is, and with a claimed length where `has_claim` is 1; with its status, and in numbers.
+pub(crate) fn check_held(
+    alloc: Global,
+    handle: &mut Handle,
+    solution: &[u8],
+    claimed: i64,
+    has_claim: u32,
+) -> (u8, Vec<u8>, Told)
+    ensures same { handle.new.loose.value ≡ handle.old.loose.value }
+    ensures checks { ChecksHeld handle.old.loose.value has_claim claimed solution.now result.0 result.1.items result.2 }
+{
+    if has_claim > 1 {
+        return (REFUSED_NUMBER, Vec::new(alloc), Told::blank());
+    }
+    match handle.take(alloc) {
+        None => (REFUSED_NUMBER, Vec::new(alloc), Told::blank()),
+        Some(opened) => {
+            let answer = check_opened(alloc, &opened, solution, claim_of(has_claim, claimed));
+            handle.put(opened);
+            answer
+        }
+    }
+}
+
+/// The check of the solution that a text is, of an instance that is open.
+fn check_opened(
+    alloc: Global,
+    opened: &Opened,
+    solution: &[u8],
+    claimed: Option<i64>,
+) -> (u8, Vec<u8>, Told)
+    ensures texts { ChecksAsTexts opened.now claimed solution.now result.0 result.1.items }
+    ensures numbers { TellsJudged opened.now claimed solution.now result.0 result.2 }
+{
+    verdicts_mean_reports();
+    let mut report = Watched::new(Vec::new(alloc));
+    match opened.judge(alloc, solution, claimed) {
+        Err(fault) => {
+            let (status, text) = ended(Err(fault), report);
+            (status, text, Told::of_fault(fault))
+        }
+        Ok(verdict) => {
+            let told = Told::of_verdict(opened.instance(), verdict);
+            let answer = reported(opened.instance(), verdict, &mut report);
+            let (status, text) = ended(answer, report);
+            (status, text, told)
+        }
+    }
+}
+
+/// Writes the report on a verdict, and returns whether it accepts.
+fn reported<W: Write>(
+    instance: &Instance,
+    verdict: Verdict,
+    out: &mut Watched<W>,
+) -> Result<bool, RunFault>
+    requires { IsSized verdict }
+    ensures { Reports (sink_of W.contents out.old out.new) (report_of instance.now verdict) (is_yes verdict) result }
+{
+    match write_report(instance.file(), verdict, out) {
+        Ok(()) => Ok(verdict.is_yes()),
+        Err(fault) => Err(RunFault::Write(fault)),
+    }
+}
+
+/// Fills in the costs of pairs of nodes of the instance of a handle; the status.
+pub(crate) fn weights_held(
+    alloc: Global,
+    handle: &mut Handle,
+    pairs: &[u32],
+    out: &mut [i64],
+) -> u32
+    ensures same { handle.new.loose.value ≡ handle.old.loose.value }
+    ensures fills { OfHeld handle.old.loose.value (λ instance. EndsWeights instance pairs.now out.old out.new result)
+        out.old out.new result }
+{
+    match handle.take(alloc) {
+        None => REFUSED,
+        Some(opened) => {
+            let status = weights_of(opened.instance(), pairs, out);
+            handle.put(opened);
+            status
+        }
+    }
+}
+
+/// Fills in rows of the matrix of the instance of a handle; the status.
+pub(crate) fn rows_held(alloc: Global, handle: &mut Handle, first_row: u32, out: &mut [i64]) -> u32
+    ensures same { handle.new.loose.value ≡ handle.old.loose.value }
+    ensures fills { OfHeld handle.old.loose.value (λ instance. EndsMatrix instance first_row out.old out.new result)
+        out.old out.new result }
+{
+    match handle.take(alloc) {
+        None => REFUSED,
+        Some(opened) => {
+            let status = rows_of(opened.instance(), first_row, out);
+            handle.put(opened);
+            status
+        }
+    }
+}
+
+/// Fills in the lengths of lists of nodes of the instance of a handle; the status.
+pub(crate) fn lengths_held(
+    alloc: Global,
+    handle: &mut Handle,
+    nodes: &[u32],
+    out: &mut [i64],
+) -> u32
+    ensures same { handle.new.loose.value ≡ handle.old.loose.value }
+    ensures fills { OfHeld handle.old.loose.value (λ instance. EndsLengths instance nodes.now out.old out.new result)
+        out.old out.new result }
+{
+    match handle.take(alloc) {
+        None => REFUSED,
+        Some(opened) => {
+            let status = lengths_of(opened.instance(), nodes, out);
+            handle.put(opened);
+            status
+        }
+    }
+}
+
+/// Fills in the coordinates of the points of a section of the instance of a handle; the status.
+pub(crate) fn points_held(alloc: Global, handle: &mut Handle, section: u32, out: &mut [i64]) -> u32
+    ensures same { handle.new.loose.value ≡ handle.old.loose.value }
+    ensures fills { OfHeld handle.old.loose.value (λ instance. EndsSection instance section out.old out.new result)
+        out.old out.new result }
+{
+    if section < 1 || section > 2 {
+        return REFUSED;
+    }
+    match handle.take(alloc) {
+        None => REFUSED,
+        Some(opened) => {
+            let status = points_of_file(opened.instance().file(), section, out);
+            handle.put(opened);
+            status
+        }
+    }
+}
+
+/// How many nodes the instance of a handle has; the status.
+pub(crate) fn count_held(alloc: Global, handle: &mut Handle, count: &mut u32) -> u32
+    ensures same { handle.new.loose.value ≡ handle.old.loose.value }
+    ensures fills { OfHeld handle.old.loose.value (λ instance. EndsCount instance count.new result)
+        count.old count.new result }
+{
+    match handle.take(alloc) {
+        None => REFUSED,
+        Some(opened) => {
+            *count = opened.instance().count();
+            handle.put(opened);
+            DONE
+        }
+    }
+}

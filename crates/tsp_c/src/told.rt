@@ -1,0 +1,349 @@
+//! The answer of a call in numbers.
+
+ghost use Rattle.std.specs.Prelude.{◌≡◌, Some, IfOk};
+ghost use Rattle.tsp_report.specs.Report.{IsGapSized, IsSized};
+ghost use Rattle.tsp_verdict.specs.Reasons.{rank_of};
+ghost use Rattle.tsp_c.specs.Told.{IsSizedBound, blank_told, first_number, kind_number, line_fault_number, read_fault_number, second_number, told_of_bound, told_of_bound_run, told_of_fault, told_of_instance, told_of_run, told_of_verdict, with_bound, with_reason};
+
+use tsp_cost::{Costs, Instance};
+use tsp_format::Kind;
+use tsp_judge::{Bounded, EndFault, Judged, LineFault, ReadFault, RunFault};
+use tsp_reason::{BoundVerdict, Reason, Verdict};
+
+/// The verdicts by their numbers.
+const TOUR: u32 = 1;
+
+const ROUTES: u32 = 2;
+
+const REJECTED: u32 = 3;
+
+const BOUND: u32 = 4;
+
+const NO_TOUR: u32 = 5;
+
+/// The number of the fault that a file is of another TYPE.
+const WRONG_KIND: u32 = 21;
+
+/// The halves of a bound have 64 bits each.
+const TWO_TO_64: i128 = 18_446_744_073_709_551_616;
+
+/// What a call answers, in numbers. What isn't told is 0.
+#[repr(C)]
+#[derive(Clone, Copy, Debug, PartialEq, Eq)]
+pub struct Told {
+    /// The TYPE of the instance: 1 TSP, 2 ATSP, 3 CVRP.
+    pub kind: u32,
+    /// How many nodes it has.
+    pub nodes: u32,
+    /// 1 a tour, 2 routes, 3 rejected, 4 a bound, 5 that there is no tour.
+    pub verdict: u32,
+    /// The number of the reason.
+    pub reason: u32,
+    /// The numbers of the reason.
+    pub first: i64,
+    pub second: i64,
+    /// The length of the tour, or of all routes.
+    pub length: i64,
+    /// Where `has_bound` is 1, the bound is `bound_high` times 2^64, and `bound_low`.
+    pub bound_high: i64,
+    pub bound_low: u64,
+    /// The least number of routes.
+    pub least: u64,
+    pub has_bound: u32,
+    /// How many routes there are.
+    pub routes: u32,
+    /// The number of the fault.
+    pub fault: u32,
+    /// Where it is.
+    pub file: u32,
+    pub line: u32,
+    pub word: u32,
+}
+
+impl Told {
+    /// Nothing is told.
+    pub(crate) fn blank() -> Told
+        ensures { result ≡ blank_told }
+    {
+        Told {
+            kind: 0,
+            nodes: 0,
+            verdict: 0,
+            reason: 0,
+            first: 0,
+            second: 0,
+            length: 0,
+            bound_high: 0,
+            bound_low: 0,
+            least: 0,
+            has_bound: 0,
+            routes: 0,
+            fault: 0,
+            file: 0,
+            line: 0,
+            word: 0,
+        }
+    }
+
+    /// An instance.
+    pub(crate) fn of_instance(instance: &Instance) -> Told
+        ensures { result ≡ told_of_instance instance.now }
+    {
+        Told {
+            kind: kind_number(instance.kind()),
+            nodes: instance.count(),
+            ..Told::blank()
+        }
+    }
+
+    /// A verdict on a solution of an instance.
+    pub(crate) fn of_verdict(instance: &Instance, verdict: Verdict) -> Told
+        requires { IsSized verdict }
+        ensures { result ≡ told_of_verdict instance.now verdict }
+    {
+        let told = Told::of_instance(instance);
+        match verdict {
+            Verdict::Tour {
+                length,
+                bound: None,
+            } => Told {
+                verdict: TOUR,
+                length,
+                ..told
+            },
+            Verdict::Tour {
+                length,
+                bound: Some(bound),
+            } => Told {
+                verdict: TOUR,
+                length,
+                ..told.with_bound(bound)
+            },
+            Verdict::Routes {
+                length,
+                routes,
+                least,
+            } => Told {
+                verdict: ROUTES,
+                length,
+                routes,
+                least,
+                ..told
+            },
+            Verdict::No(reason) => told.with_reason(reason),
+        }
+    }
+
+    /// What was found of an instance with a certificate.
+    pub(crate) fn of_bound(instance: &Instance, found: BoundVerdict) -> Told
+        requires { IsSizedBound found }
+        ensures { result ≡ told_of_bound instance.now found }
+    {
+        let told = Told::of_instance(instance);
+        match found {
+            BoundVerdict::Bound(bound) => Told {
+                verdict: BOUND,
+                ..told.with_bound(bound)
+            },
+            BoundVerdict::NoTour => Told {
+                verdict: NO_TOUR,
+                ..told
+            },
+            BoundVerdict::No(reason) => told.with_reason(reason),
+        }
+    }
+
+    /// What a check has come to.
+    pub(crate) fn of_run(ended: &Result<Judged, RunFault>) -> Told
+        requires { IfOk ended.now (λ judged. IsSized judged.verdict) }
+        ensures { result ≡ told_of_run ended.now }
+    {
+        match ended {
+            Ok(judged) => Told::of_verdict(&judged.instance, judged.verdict),
+            Err(fault) => Told::of_fault(*fault),
+        }
+    }
+
+    /// What a bound without a solution has come to.
+    pub(crate) fn of_bound_run(ended: &Result<Bounded, RunFault>) -> Told
+        requires { IfOk ended.now (λ bounded. IsSizedBound bounded.found) }
+        ensures { result ≡ told_of_bound_run ended.now }
+    {
+        match ended {
+            Ok(bounded) => Told::of_bound(&bounded.instance, bounded.found),
+            Err(fault) => Told::of_fault(*fault),
+        }
+    }
+
+    /// A fault.
+    pub(crate) fn of_fault(fault: RunFault) -> Told
+        ensures { result ≡ told_of_fault fault }
+    {
+        match fault {
+            RunFault::File {
+                file,
+                fault: ReadFault::Line { line, word, fault },
+            } => Told {
+                fault: line_fault_number(fault),
+                file,
+                line,
+                word,
+                ..Told::blank()
+            },
+            RunFault::File { file, fault } => Told {
+                fault: read_fault_number(fault),
+                file,
+                ..Told::blank()
+            },
+            RunFault::WrongKind => Told {
+                fault: WRONG_KIND,
+                file: 1,
+                ..Told::blank()
+            },
+            RunFault::OutOfMemory | RunFault::Write(_) | RunFault::Relayout(_) => Told::blank(),
+        }
+    }
+
+    /// The same with a bound.
+    fn with_bound(self, bound: i128) -> Told
+        requires { IsGapSized (Some bound) }
+        ensures { result ≡ with_bound self bound }
+    {
+        Told {
+            bound_high: bound.div_euclid(TWO_TO_64) as i64,
+            bound_low: bound.rem_euclid(TWO_TO_64) as u64,
+            has_bound: 1,
+            ..self
+        }
+    }
+
+    /// The same with a reason.
+    fn with_reason(self, reason: Reason) -> Told
+        ensures { result ≡ with_reason self reason }
+    {
+        Told {
+            verdict: REJECTED,
+            reason: reason_number(reason),
+            first: first_number(reason),
+            second: second_number(reason),
+            ..self
+        }
+    }
+}
+
+/// The number of a TYPE.
+fn kind_number(kind: Kind) -> u32
+    ensures { result ≡ kind_number (Some kind) }
+{
+    match kind {
+        Kind::Tsp => 1,
+        Kind::Atsp => 2,
+        Kind::Cvrp => 3,
+        Kind::Tour | Kind::Potentials | Kind::Branches => 0,
+    }
+}
+
+/// The number of a reason: its place in the order in which reasons are judged.
+fn reason_number(reason: Reason) -> u32
+    ensures { result ≡ rank_of reason }
+{
+    match reason {
+        Reason::NotASolution => 1,
+        Reason::TooFewNodes => 2,
+        Reason::NotSymmetric { .. } => 3,
+        Reason::Dimension => 4,
+        Reason::TourCount => 5,
+        Reason::TourLength => 6,
+        Reason::DepotCount => 7,
+        Reason::DepotDemand => 8,
+        Reason::FixedEdgesInRoutes => 9,
+        Reason::DepotInRoute { .. } => 10,
+        Reason::NodeOutOfRange { .. } => 11,
+        Reason::RepeatedNode { .. } => 12,
+        Reason::FixedEdgeUnused { .. } => 13,
+        Reason::Unserved { .. } => 14,
+        Reason::Overload { .. } => 15,
+        Reason::LengthClaimed { .. } => 16,
+        Reason::NotPotentials => 17,
+        Reason::PotentialsDimension => 18,
+        Reason::PotentialsKind => 19,
+        Reason::MultiplierNotFixed { .. } => 20,
+        Reason::MultiplierRepeated { .. } => 21,
+        Reason::DualInfeasible { .. } => 22,
+        Reason::NotBranches => 23,
+        Reason::BranchesDimension => 24,
+        Reason::BadComb { .. } => 25,
+        Reason::BranchTwice { .. } => 26,
+        Reason::BadLeaf { .. } => 27,
+    }
+}
+
+/// The first number of a reason, or 0.
+fn first_number(reason: Reason) -> i64
+    ensures { result ≡ first_number reason }
+{
+    match reason {
+        Reason::NotSymmetric { i, .. } | Reason::DualInfeasible { i, .. } => i64::from(i),
+        Reason::DepotInRoute { place }
+        | Reason::NodeOutOfRange { place }
+        | Reason::RepeatedNode { place } => i64::from(place),
+        Reason::FixedEdgeUnused { index }
+        | Reason::MultiplierNotFixed { index }
+        | Reason::MultiplierRepeated { index }
+        | Reason::BadComb { index }
+        | Reason::BranchTwice { index }
+        | Reason::BadLeaf { index } => i64::from(index),
+        Reason::Unserved { node } => i64::from(node),
+        Reason::Overload { route } => i64::from(route),
+        Reason::LengthClaimed { length } => length,
+        _ => 0,
+    }
+}
+
+/// The second number of a reason, or 0.
+fn second_number(reason: Reason) -> i64
+    ensures { result ≡ second_number reason }
+{
+    match reason {
+        Reason::NotSymmetric { j, .. } | Reason::DualInfeasible { j, .. } => i64::from(j),
+        _ => 0,
+    }
+}
+
+/// The number of a fault of a line.
+fn line_fault_number(fault: LineFault) -> u32
+    ensures { result ≡ line_fault_number fault }
+{
+    match fault {
+        LineFault::LongLine => 1,
+        LineFault::UnknownLine => 2,
+        LineFault::Repeated => 3,
+        LineFault::Outside => 4,
+        LineFault::BadValue => 5,
+        LineFault::SectionValue => 6,
+        LineFault::SectionEarly => 7,
+        LineFault::TooManyNodes => 8,
+        LineFault::StrayNumber => 9,
+        LineFault::Number(_) => 10,
+        LineFault::RepeatedNode => 11,
+        LineFault::SelfEdge => 12,
+        LineFault::Surplus => 13,
+        LineFault::AfterEnd => 14,
+        LineFault::LateSpace => 15,
+    }
+}
+
+/// The number of a fault of a text; 0 where its reader has failed.
+fn read_fault_number(fault: ReadFault) -> u32
+    ensures { result ≡ read_fault_number fault }
+{
+    match fault {
+        ReadFault::Line { fault, .. } => line_fault_number(fault),
+        ReadFault::End(EndFault::Missing(_)) => 16,
+        ReadFault::End(EndFault::Incomplete(_)) => 17,
+        ReadFault::End(EndFault::WrongFormat) => 18,
+        ReadFault::End(EndFault::WrongCount) => 19,
+        ReadFault::TooLong => 20,
+        ReadFault::OutOfMemory | ReadFault::Device => 0,
+    }
+}

@@ -1,0 +1,9 @@
+use Rattle.tsp_judge.proofs.Runs.{sized}
+use Rattle.tsp_judge.proofs.Yeses.{accepted}
+use Rattle.tsp_judge.proofs.laws.verdicts_mean_reports.Goals as goal
+
+pub returns-clause-accepted : goal.returns-clause-accepted
+returns-clause-accepted c = accepted
+
+pub returns-clause-sized : goal.returns-clause-sized
+returns-clause-sized c = sized

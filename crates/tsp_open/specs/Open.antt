@@ -1,0 +1,79 @@
+-- An instance that is open, and what opening, binding and judging answer, over the bytes of the texts.
+use Rattle.std.specs.Prelude.{◌≡◌, ℕ, false, List, Option, None, Some, Result, Ok, Err, IsTrue, ℤ}
+use Rattle.tsp_draft.specs.Fields.{Fields}
+use Rattle.tsp_draft.specs.Rules.{is_instance}
+use Rattle.tsp_text.specs.Text.{Spells}
+use Rattle.tsp_read.specs.Reads.{Reads}
+use Rattle.tsp_cost.specs.ProblemLaws.{IsProblem}
+use Rattle.tsp_reason.specs.declared.certificate.Certificate.{Certificate}
+use Rattle.tsp_reason.specs.declared.verdict.BoundVerdict.{BoundVerdict}
+use Rattle.tsp_reason.specs.declared.verdict.Verdict.{Verdict}
+use Rattle.tsp_verdict.specs.Bounded.{IsBoundVerdict, NoneAgainstInstance}
+use Rattle.tsp_verdict.specs.Certified.{is_bounded, NoneWithoutMemory}
+use Rattle.tsp_verdict.specs.Judged.{is_judged, NoneBeforeRepeatsOn, IsVerdictWith}
+use Rattle.tsp_judge.specs.declared.fault.RunFault.{RunFault}
+use Rattle.tsp_judge.specs.declared.fault.RunFault.TheVariants.{File, WrongKind, OutOfMemory}
+
+-- an instance, and the certificate that is bound to it, where one is
+pub record Open : Type 0 where
+  pub instance : Fields
+  pub certificate : Option (Certificate × Fields)
+
+-- ---- a text, which has this number among those of a call
+
+-- the fault is the first of the text; out of memory says nothing of it
+abbrev pub IsTextFault : ℕ → List ℕ → RunFault → Type 0
+IsTextFault number text (File file found) = (file ≡ number) × Reads text (Err found)
+IsTextFault number text other = ⊥
+
+abbrev pub ReadsText : ℕ → List ℕ → Result Fields RunFault → Type 0
+ReadsText number text (Ok file) = Spells text file
+ReadsText number text (Err fault) = IsTextFault number text fault
+
+-- ---- opening
+
+-- the text is this instance, and no certificate is bound to it
+pub record IsOpened (text : List ℕ) (opened : Open) : Type 0 where
+  pub spelled : Spells text opened.instance
+  pub of_type : IsTrue (is_instance opened.instance.kind)
+  pub alone : opened.certificate ≡ None
+
+-- the text is no file, or no instance
+abbrev pub IsUnopened : List ℕ → RunFault → Type 0
+IsUnopened text WrongKind = (file : Fields) × Spells text file × (is_instance file.kind ≡ false)
+IsUnopened text fault = IsTextFault 1 text fault
+
+-- ---- binding a certificate
+
+-- the certificate that the text is, is bound to the same instance, and this is what it gives
+pub record IsBoundTo (by : Certificate) (text : List ℕ) (old new : Open) (found : BoundVerdict) : Type 0 where
+  pub same : new.instance ≡ old.instance
+  pub certificate : Fields
+  pub spelled : Spells text certificate
+  pub held : new.certificate ≡ Some (by, certificate)
+  pub of_type : IsTrue (is_bounded by old.instance.kind)
+  pub judged : IsBoundVerdict by old.instance certificate found
+
+-- The text is no file; or it is one, and tours of the instance have no bound by it, or memory ran out.
+abbrev pub IsUnbound : Certificate → List ℕ → Open → RunFault → Type 0
+IsUnbound by text opened WrongKind = (certificate : Fields) × Spells text certificate
+    × (is_bounded by opened.instance.kind ≡ false)
+IsUnbound by text opened OutOfMemory = (certificate : Fields) × Spells text certificate
+    × IsTrue (is_bounded by opened.instance.kind) × NoneAgainstInstance opened.instance
+    × NoneWithoutMemory by opened.instance certificate
+IsUnbound by text opened fault = IsTextFault 2 text fault
+
+-- ---- judging a solution
+
+-- the verdict on the solution that the text is
+pub record IsHeldVerdict (text : List ℕ) (claimed : Option ℤ) (opened : Open) (verdict : Verdict) : Type 0 where
+  pub solution : Fields
+  pub spelled : Spells text solution
+  pub of_type : IsTrue (is_judged opened.certificate opened.instance.kind)
+  pub judged : IsVerdictWith opened.certificate claimed opened.instance solution verdict
+  pub problem : IsProblem opened.instance
+
+-- The text is no file; or it is one, and memory ran out.
+abbrev pub IsNotJudged : List ℕ → Open → RunFault → Type 0
+IsNotJudged text opened OutOfMemory = (solution : Fields) × Spells text solution × NoneBeforeRepeatsOn opened.instance solution
+IsNotJudged text opened fault = IsTextFault 2 text fault
