@@ -128,7 +128,7 @@ ComparesAll IsTurn paths common before sink (Err WrongKind) = ⊥
 ComparesAll IsTurn paths common before sink (Err (File file fault)) = ⊥
 ComparesAll IsTurn paths common before sink (Err (Relayout fault)) = ⊥
 
--- Where a reason applies whatever the solution, the head is the whole text, and no solution is opened.
+-- Where a reason applies whatever the solution, the head is the whole text.
 abbrev pub ComparesNone : List ℕ → Sink → Result ℕ RunFault → Type 0
 ComparesNone head sink (Ok status) = HasWritten sink head × (status ≡ 1)
 ComparesNone head sink (Err (Write write_faults.Device)) = HasStopped sink head
