@@ -90,10 +90,11 @@ def filled(text, cells):
 
 class Runner(Counts):
     """The program, the folder in which its files lie, and how many rows have passed. `run` runs it as
-    `subprocess.run` does."""
+    `subprocess.run` does. Runs that have a word of `without` in their name are left out."""
 
-    def __init__(self, program, folder, run=subprocess.run):
+    def __init__(self, program, folder, run=subprocess.run, without=()):
         super().__init__()
+        self.without = set(without)
         self.program = program
         self.folder = folder
         self.run_program = run
@@ -163,6 +164,8 @@ class Runner(Counts):
         """The runs of a row."""
         wanted = filled(table.out, cells)
         for verb, *texts in table.runs:
+            if self.without & set(verb.split("-")):
+                continue
             texts = [filled(text, cells) for text in texts]
             if table.swap:
                 old, new = (cells[column] for column in table.swap)

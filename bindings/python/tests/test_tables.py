@@ -13,6 +13,7 @@ import unittest
 import yokecairn
 from support import ROOT
 from yokecairn.__main__ import Run, length_of
+from yokecairn.compare import line_of
 
 sys.path.append(str(ROOT / "tests"))
 import rows  # noqa: E402
@@ -33,23 +34,31 @@ def by_the_command(program_and_words, cwd, **_):
 def by_calls(program_and_words, cwd, **_):
     """Calls the package, and answers as a run of the program would."""
     verb, *words = program_and_words[1:]
-    options, texts = {}, []
+    options, names, texts = {}, [], []
     while words:
         word, _, value = words.pop(0).partition("=")
         if word.startswith("--"):
             options[word[2:]] = value or words.pop(0)
         else:
+            names.append(word)
             with open(os.path.join(cwd, word), "rb") as file:
                 texts.append(file.read())
     for name in options.keys() & {"potentials", "branches"}:
         with open(os.path.join(cwd, options[name]), "rb") as file:
             options[name] = file.read()
-    status, out, err = called(verb, texts, options)
+    status, out, err = called(verb, texts, options, names)
     codes = [text.encode("utf-8", "surrogateescape") for text in (out, err)]
     return types.SimpleNamespace(returncode=status, stdout=codes[0], stderr=codes[1])
 
 
-def called(verb, texts, options):
+def compared(texts, options, names):
+    """The status and the lines of a comparison."""
+    found = yokecairn.compare(texts[0], dict(zip(names[1:], texts[1:])), **options)
+    lines = (f"{line_of(name, outcome)}\n" for name, outcome in zip(found.names, found))
+    return found.status, found.basis.text + "".join(lines), ""
+
+
+def called(verb, texts, options, names):
     """The status, the report and the fault of one call."""
     layout, length = options.pop("layout", None), options.pop("length", None)
     try:
@@ -63,6 +72,8 @@ def called(verb, texts, options):
         if verb == "convert":
             problem = yokecairn.parse(*texts)
             return 0, (problem.relayout(layout) if layout else problem).render(), ""
+        if verb == "compare":
+            return compared(texts, options, names)
         report = (yokecairn.bound if verb == "bound" else yokecairn.check)(*texts, **options)
         return int(not report), report.text, ""
     except yokecairn.Fault as fault:
@@ -76,27 +87,16 @@ def called(verb, texts, options):
 class Rows(unittest.TestCase):
     passed = 0
 
-    def left_out(self, verb, kind):
-        """Whether rows of this verb are of the command alone."""
-        return "explain" in verb.split("-") and kind is by_calls
-
-    def run_by(self, kind):
-        test = self
-
-        class Runner(rows.Runner):
-            def expect(self, where, verb, texts, wanted):
-                if not test.left_out(verb, kind):
-                    super().expect(where, verb, texts, wanted)
-
+    def run_by(self, kind, without=()):
         with tempfile.TemporaryDirectory() as scratch:
-            runner = Runner("tsp", scratch, run=kind)
+            runner = rows.Runner("tsp", scratch, run=kind, without=without)
             runner.all()
         Rows.passed += runner.passed
         self.assertEqual(runner.failed, 0)
         self.assertGreater(runner.passed, 2000)
 
     def test_by_calls(self):
-        self.run_by(by_calls)
+        self.run_by(by_calls, without={"explain"})
 
     def test_by_the_command(self):
         self.run_by(by_the_command)
