@@ -8,3 +8,4 @@ pub mod Passed
 pub mod Renaming
 pub mod Tables
 pub mod Trees
+pub mod Inverses

@@ -6,7 +6,7 @@ ghost use Rattle.tsp_bound.specs.states.Potentials.{numbers_of, weight_under};
 ghost use Rattle.tsp_bound.specs.states.Boxes.{HoldsNode, AreHeld, IsSearched, no_best, node_of};
 
 use crate::potentials::Potentials;
-use crate::search::Search;
+use crate::search::{Search, inverse_of};
 use crate::seen::Seen;
 use tsp_theory::Grouped;
 
@@ -49,6 +49,7 @@ pub(crate) fn nearest_from<C: Grouped, S: Seen>(
         seen,
         from: order[place],
         own: p.number(order[place]),
+        inverse: inverse_of(p.scale),
     };
     let none = Best {
         weight: i64::MAX,

@@ -4,7 +4,7 @@ ghost use Rattle.std.specs.Prelude.{◌≡◌, ◌≤◌, ◌<◌, ◌+◌, ◌*
 ghost use Rattle.std.specs.Bool.{OnTrue};
 ghost use Rattle.tsp_format.specs.Cells.{IsNode};
 ghost use Rattle.tsp_theory.specs.Numbers.{IsScale, entry};
-ghost use Rattle.tsp_bound.specs.states.Potentials.{numbers_of, weight_under};
+ghost use Rattle.tsp_bound.specs.states.Potentials.{scale_of, numbers_of, weight_under, IsInverse};
 ghost use Rattle.tsp_bound.specs.states.Boxes.{HoldsNode, AreHeld, AreHeld-prop, IsBelowAll, IsSearched, node_of};
 
 use crate::nearest::Best;
@@ -12,10 +12,25 @@ use crate::potentials::Potentials;
 use crate::seen::Seen;
 use tsp_theory::Grouped;
 
-/// A cost that at the scale is no less than a weight.
-#[inline]
-fn cost_of(scale: i64, weight: i64) -> i64
+const TWO_TO_64: u128 = 18_446_744_073_709_551_616;
+
+/// 2^64 over a scale, rounded up; of the scale 1, nothing.
+pub(crate) fn inverse_of(scale: i64) -> u64
     requires { IsScale scale }
+    ensures { IsInverse scale result }
+{
+    if scale == 1 {
+        return 0;
+    }
+    u64::MAX / scale as u64 + 1
+}
+
+/// A cost that at the scale is no less than a weight: most often the least one.
+// (by the inverse of the scale, since a division takes longer than all else that is done for a box)
+#[inline]
+fn cost_of(scale: i64, inverse: u64, weight: i64) -> i64
+    requires scale { IsScale scale }
+    requires inverse { IsInverse scale inverse }
     ensures { weight ≤ℤ (scale *ℤ result) }
 {
     if weight < 1 {
@@ -24,8 +39,8 @@ fn cost_of(scale: i64, weight: i64) -> i64
     if scale == 1 {
         return weight;
     }
-    let most = weight as u64 + (scale as u64 - 1);
-    (most / scale as u64) as i64
+    let product = (weight as u128 - 1) * u128::from(inverse);
+    (product / TWO_TO_64) as i64 + 1
 }
 
 /// The node that a search is from with its potential, and the nodes and boxes that it looks at.
@@ -37,6 +52,7 @@ pub(crate) struct Search<'a, C: Grouped, S: Seen> {
     pub(crate) seen: &'a S,
     pub(crate) from: u32,
     pub(crate) own: i64,
+    pub(crate) inverse: u64,
     ghost count: { length (numbers_of p.now) ≡ C.nodes c.now },
     ghost nodes: { (j : ℕ) → j < length order.now → IsNode (C.nodes c.now) (node_of order.now j) },
     ghost few: { length order.now < 2 ^ 31 },
@@ -45,6 +61,7 @@ pub(crate) struct Search<'a, C: Grouped, S: Seen> {
         (S.area_of seen.now) } by { AreHeld-prop (C.place c.now) (numbers_of p.now) order.now (S.outside_of seen.now) (S.area_of seen.now) },
     ghost from_in: { IsNode (C.nodes c.now) from },
     ghost own_is: { own ≡ entry (numbers_of p.now) from },
+    ghost inverse_is: { IsInverse (scale_of p.now) inverse },
 }
 
 impl<C: Grouped, S: Seen> Search<'_, C, S> {
@@ -65,7 +82,7 @@ impl<C: Grouped, S: Seen> Search<'_, C, S> {
         match best.checked_sub(self.own + area.least) {
             None => false,
             Some(left) => {
-                let least = cost_of(self.p.scale, left);
+                let least = cost_of(self.p.scale, self.inverse, left);
                 self.c.is_beyond(self.from, &area.region, least)
             }
         }

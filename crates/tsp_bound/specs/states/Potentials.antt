@@ -1,5 +1,5 @@
 -- What potentials hold.
-use Rattle.std.specs.Prelude.{ℕ, List, ℤ}
+use Rattle.std.specs.Prelude.{ℕ, ◌≢◌, ◌*◌, ◌^◌, ◌≤◌, List, ℤ, pos, nat_abs}
 use Rattle.tsp_bound.specs.declared.potentials.Potentials.{Potentials}
 use Rattle.tsp_theory.specs.NodeBound.{weight_between}
 
@@ -12,3 +12,7 @@ numbers_of p = p.numbers.now
 -- the weight between two nodes
 abbrev pub weight_under : Potentials → (ℕ → ℕ → ℤ) → ℕ → ℕ → ℤ
 weight_under p cost = weight_between (scale_of p) (numbers_of p) cost
+
+-- a number that, times the scale, is 2^64 at least; any number for the scale 1
+abbrev pub IsInverse : ℤ → ℕ → Type 0
+IsInverse scale inverse = scale ≢ pos 1 → 2 ^ 64 ≤ nat_abs scale * inverse

@@ -6,7 +6,13 @@ use Rattle.tsp_bound.specs.states.Potentials.{numbers_of}
 use Rattle.tsp_bound.specs.declared.area.Area.{Area}
 use Rattle.tsp_bound.specs.states.Boxes.{HoldsNode}
 use Rattle.tsp_bound.proofs.Boxed.{on_true_still, left_is, enough_is, best_below}
+use Rattle.tsp_theory.proofs.Sizes.{same_scale}
 use Rattle.tsp_bound.proofs.search.Search.is_left_alone.Goals as goal
+
+pub cost_of-least-requires-clause-inverse : goal.cost_of-least-requires-clause-inverse
+cost_of-least-requires-clause-inverse g c =
+    let s = c.args.self.now in
+    rw (same_scale s.p.now.scale s.p.now.are.scale_is) s.inverse_is
 
 pub returns-in-Some-checked_sub : goal.returns-in-Some-checked_sub
 returns-in-Some-checked_sub g c = on_true_still c.is_beyond.result _ _ (λ far to node h.

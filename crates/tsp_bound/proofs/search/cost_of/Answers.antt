@@ -1,0 +1,11 @@
+use Rattle.std.proofs.Common.{◌≡◌, ◌<◌, ◌^◌, ◌≤ℤ◌, pos, ap, arith, rules, w64, of_z, SFits}
+use Rattle.std.proofs.lemmas.Int.{ints}
+use Rattle.tsp_bound.proofs.Inverses.{cost_enough}
+use Rattle.tsp_bound.proofs.search.cost_of.Goals as goal
+
+pub returns : goal.returns
+returns c =
+    let fits : SFits w64 c.args.weight = search rules in
+    let some : pos 1 ≤ℤ c.args.weight = omega (arith, ints, c.if-weight-lt1.false) in
+    let few : c.args.inverse < 2 ^ 64 = search rules in
+    rw c.from.ensures (cost_enough c.args.weight c.args.scale c.args.inverse fits some c.requires.scale (λ is. c.if-scale-eq1.false (ap (of_z w64) is)) c.requires.inverse few)
