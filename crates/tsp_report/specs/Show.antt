@@ -77,7 +77,7 @@ abbrev pub leaves_line : List Step → List ℕ
 leaves_line steps = codes "leaves " ++ decimal (leaf_count steps) ++ codes "\n"
 
 abbrev pub tree_lines : Fields → List ℕ
-tree_lines f = scale_line f.scale ++ (combs_line f.combs ++ leaves_line (steps_in f))
+tree_lines f = scale_line f.scale ++ (combs_line f.combs ++ leaves_line (unwrap_or f.branches []))
 
 -- ---- the whole
 
