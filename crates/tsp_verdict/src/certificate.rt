@@ -106,7 +106,7 @@ fn first_against_file(inst: &Instance, pot: &File) -> Option<Reason>
     if pot.kind() != Kind::Potentials {
         return Some(Reason::NotPotentials);
     }
-    if pot.dimension().unwrap_or(0) != inst.count() {
+    if pot.dimension() != Some(inst.count()) {
         return Some(Reason::PotentialsDimension);
     }
     None
