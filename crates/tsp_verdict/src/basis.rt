@@ -64,12 +64,11 @@ fn basis_alone(instance: &Instance) -> Basis
     ensures { IsBasisAlone instance.now.kind instance.now result }
 {
     match instance.kind() {
-        Kind::Tsp | Kind::Atsp => match costs_of_tours(instance) {
+        Kind::Cvrp => basis_of_routes(instance),
+        _ => match costs_of_tours(instance) {
             Ok(_) => Basis::Tours { bound: None },
             Err(reason) => Basis::No(reason),
         },
-        Kind::Cvrp => basis_of_routes(instance),
-        Kind::Tour | Kind::Potentials | Kind::Branches => unreachable!(),
     }
 }
 
