@@ -1,6 +1,6 @@
 -- Each valid instance is one problem.
 use Rattle.std.proofs.Common.{◌≡◌, ◌≢◌, ℕ, ◌-◌, ◌<◌, eqb, ltb-false, Bool, true, false, List, [], ◌∷◌, length, get_or, Option, None, Some, refl, sym, ap, subst, ◌∙◌, inl, inr, arith}
-use Rattle.std.specs.Prelude.{◌⊎◌, ℤ, pos, unsigned_abs, unwrap_or, is_some, IsTrue, IsSome, slice_index, nat_lt, nat_le, if◌then◌else◌}
+use Rattle.std.specs.Prelude.{◌⊎◌, ℤ, pos, unsigned_abs, unwrap_or, is_some, IsSome, slice_index, nat_lt, nat_le, if◌then◌else◌}
 use Rattle.std.specs.List.{slice_get}
 use Rattle.std.proofs.lemmas.Bool.{false≢true, leb-false}
 use Rattle.std.proofs.lemmas.Bool.Decides.{eqb_tells}
@@ -8,7 +8,6 @@ use Rattle.std.proofs.lemmas.Option.{get_or_from_slice_get, slice_get-get_or, sl
 use Rattle.tsp_distance.specs.declared.decimal.Point.{Point}
 use Rattle.tsp_format.specs.declared.kinds.Kind.{Kind}
 use Rattle.tsp_format.specs.declared.kinds.Kind.TheVariants as kinds
-use Rattle.tsp_format.specs.declared.kinds.WeightFormat.TheVariants.{Listed}
 use Rattle.tsp_format.specs.declared.kinds.WeightKind.{WeightKind}
 use Rattle.tsp_format.specs.declared.kinds.WeightKind.TheVariants.{Explicit}
 use Rattle.tsp_format.specs.declared.layout.Layout.{Layout}
@@ -22,15 +21,15 @@ use Rattle.tsp_draft.specs.Fields.{Fields}
 use Rattle.tsp_draft.specs.Rules.{is_explicit}
 use Rattle.tsp_draft.specs.Valid.{IsInRange, HasInstance, HasRouting}
 use Rattle.tsp_file.specs.ByInequalities.{IsDistanceBy}
-use Rattle.tsp_file.specs.Cost.{cost, cost_by, listed_cost, point_of}
-use Rattle.tsp_file.specs.Meant.{nodes_of, depots_of, layout_of}
+use Rattle.tsp_file.specs.Cost.{cost, cost_by, listed_cost, point_of, layout_of}
+use Rattle.tsp_file.specs.Meant.{nodes_of}
 use Rattle.tsp_file.specs.Listed.{UnlistedHaveNoPlace}
 use Rattle.tsp_file.proofs.Listed.{lists, cost_of_listed, cost_of_cell, cost_unlisted, triangle_even, unlisted_has_no_place}
 use Rattle.tsp_theory.specs.Routing.{RoutingProblem}
 use Rattle.tsp_theory.specs.Tour.{Problem}
 use Rattle.tsp_cost.specs.Problems.{CostsAreListed, CostsAreDistances, IsProblemOf, IsRoutingOf}
 use Rattle.tsp_cost.specs.ProblemLaws.{IsProblem, HaveSameCosts, AreSame, AreSameRouting}
-use Rattle.tsp_cost.specs.Tours.{is_directed, problem_of, routing_of}
+use Rattle.tsp_cost.specs.Tours.{is_directed, problem_of, routing_of, depots_of}
 use Rattle.tsp_cost.proofs.Instances.{distance_kind, is_listed_kind}
 
 -- what the law of the costs says

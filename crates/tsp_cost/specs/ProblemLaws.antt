@@ -1,14 +1,12 @@
 -- Each valid instance is one problem: that which its fields give as functions.
-use Rattle.std.specs.Prelude.{◌≡◌, ◌⊎◌, ℕ, length, None, Some, ℤ}
+use Rattle.std.specs.Prelude.{◌≡◌, ◌⊎◌, ℕ, length, Some, ℤ}
 use Rattle.tsp_format.specs.declared.kinds.Kind.TheVariants as kinds
 use Rattle.tsp_format.specs.Cells.{IsNode}
 use Rattle.tsp_draft.specs.Fields.{Fields}
-use Rattle.tsp_draft.specs.Rules.{fault_of}
-use Rattle.tsp_file.specs.Meant.{depots_of}
 use Rattle.tsp_theory.specs.Routing.{RoutingProblem}
 use Rattle.tsp_theory.specs.Tour.{Problem}
 use Rattle.tsp_cost.specs.Problems.{IsProblemOf, IsRoutingOf}
-use Rattle.tsp_cost.specs.Tours.{problem_of, routing_of}
+use Rattle.tsp_cost.specs.Tours.{problem_of, routing_of, depots_of}
 
 -- a valid instance is such a problem; a CVRP where it lists one depot
 pub record IsProblem (instance : Fields) : Type 0 where

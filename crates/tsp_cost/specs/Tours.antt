@@ -1,10 +1,10 @@
 -- The problems of instances as functions of their fields, which compute. Of a valid instance they are its problem (`Problems`).
-use Rattle.std.specs.Prelude.{ℕ, Bool, true, false, List, Option, None, Some, slice_index}
+use Rattle.std.specs.Prelude.{ℕ, Bool, true, false, List, [], Option, None, Some, unwrap_or, slice_index, ℤ, pos}
 use Rattle.tsp_format.specs.declared.kinds.Kind.{Kind}
 use Rattle.tsp_format.specs.declared.kinds.Kind.TheVariants.{Tsp, Atsp, Cvrp, Tour, Potentials, Branches}
 use Rattle.tsp_draft.specs.Fields.{Fields}
 use Rattle.tsp_file.specs.Cost.{cost}
-use Rattle.tsp_file.specs.Meant.{nodes_of, fixed_of, depots_of, demands_of, capacity_of}
+use Rattle.tsp_file.specs.Meant.{nodes_of, fixed_of}
 use Rattle.tsp_theory.specs.Routing.{RoutingProblem, IsPlan}
 use Rattle.tsp_theory.specs.Tour.{Problem, IsTour}
 
@@ -24,6 +24,16 @@ problem_of f = record { nodes = nodes_of f; directed = is_directed f.kind; cost 
 -- a tour of an instance
 abbrev pub IsTourOf : Fields → List ℕ → Type 0
 IsTourOf f nodes = IsTour (problem_of f) nodes
+
+-- what a routing problem lists; of another file nothing
+abbrev pub depots_of : Fields → List ℕ
+depots_of f = unwrap_or f.depots []
+
+abbrev pub demands_of : Fields → List ℤ
+demands_of f = unwrap_or f.demands []
+
+abbrev pub capacity_of : Fields → ℤ
+capacity_of f = unwrap_or f.capacity (pos 0)
 
 -- the depot of an instance that lists one
 abbrev pub depot_of : Fields → ℕ

@@ -16,8 +16,7 @@ use Rattle.tsp_format.specs.Place.{place_of}
 use Rattle.tsp_format.specs.Limits.{most_weight}
 use Rattle.tsp_draft.specs.Fields.{Fields}
 use Rattle.tsp_draft.specs.Valid.{IsWithin, IsInRange}
-use Rattle.tsp_file.specs.Cost.{weight_at, listed_cost, cost_by, cost}
-use Rattle.tsp_file.specs.Meant.{layout_of}
+use Rattle.tsp_file.specs.Cost.{weight_at, listed_cost, cost_by, cost, layout_of}
 use Rattle.tsp_format.specs.Symmetry.{IsSymmetric}
 use Rattle.tsp_file.specs.Listed.{ListsWeights, UnlistedHaveNoPlace}
 

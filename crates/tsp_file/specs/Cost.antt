@@ -1,18 +1,31 @@
--- The cost from one node of an instance to another.
+-- The cost from one node of an instance to another, as a function of its fields, which computes.
 -- Source: TSPLIB 95 (G. Reinelt), EDGE_WEIGHT_TYPE, EDGE_WEIGHT_FORMAT and the distance functions.
-use Rattle.std.specs.Prelude.{ℕ, ◌-◌, List, Option, None, Some, unwrap_or, slice_index_or, ℤ, pos}
+use Rattle.std.specs.Prelude.{ℕ, ◌-◌, List, [], Option, None, Some, unwrap_or, slice_index_or, ℤ, pos}
 use Rattle.std.specs.Option.{option_map, option_or}
 use Rattle.tsp_distance.specs.declared.decimal.Point.{Point}
 use Rattle.tsp_distance.specs.Distances.{euc_2d_of, ceil_2d_of, man_2d_of, max_2d_of, att_of, euc_3d_of, man_3d_of, max_3d_of}
 use Rattle.tsp_format.specs.declared.layout.Layout.{Layout}
+use Rattle.tsp_format.specs.declared.layout.Layout.TheVariants.{FullMatrix}
+use Rattle.tsp_format.specs.declared.kinds.WeightFormat.{WeightFormat}
+use Rattle.tsp_format.specs.declared.kinds.WeightFormat.TheVariants.{ByFunction, Listed}
 use Rattle.tsp_format.specs.declared.kinds.WeightKind.{WeightKind}
 use Rattle.tsp_format.specs.declared.kinds.WeightKind.TheVariants.{Explicit, Euc2d, Ceil2d, Man2d, Max2d, Att, Euc3d, Man3d, Max3d}
 use Rattle.tsp_format.specs.Place.{place_of}
 use Rattle.tsp_draft.specs.Coords.{origin}
 use Rattle.tsp_draft.specs.Fields.{Fields}
-use Rattle.tsp_file.specs.Meant.{nodes_of, listed_weights, layout_of, coords_in}
+use Rattle.tsp_file.specs.Meant.{nodes_of}
 
 -- ---- weights that are listed
+
+-- those of the file; none where it lists none
+abbrev pub listed_weights : Fields → List ℤ
+listed_weights f = unwrap_or f.weights []
+
+-- their layout; that of a full matrix where there is none
+abbrev pub layout_of : Option WeightFormat → Layout
+layout_of (Some (Listed layout)) = layout
+layout_of (Some ByFunction) = FullMatrix
+layout_of None = FullMatrix
 
 -- the weight at the place of a pair among the cells, if it is one of them
 abbrev pub weight_at : Layout → ℕ → List ℤ → ℕ × ℕ → Option ℤ
@@ -25,6 +38,10 @@ listed_cost layout n weights i j =
     unwrap_or (option_or (weight_at layout n weights (i, j)) (weight_at layout n weights (j, i))) (pos 0)
 
 -- ---- distances
+
+-- the points of the file; none where it has none
+abbrev pub coords_in : Fields → List Point
+coords_in f = unwrap_or f.coords []
 
 -- the point of a node
 abbrev pub point_of : List Point → ℕ → Point

@@ -8,8 +8,8 @@ use tsp_format::{CoordKind, DisplayKind, Kind, Layout, TreeStep, WeightFormat, W
 
 /// What a valid file holds.
 ///
-/// It is made from a draft by [`File::of`], which says what is valid. Each field has a call of its
-/// own that lends it.
+/// It is made from a draft by [`File::of`], which says what is valid, or by a reader. Each field has a
+/// call of its own that lends it.
 #[derive(Debug)]
 pub struct File {
     draft: Draft,
@@ -80,6 +80,14 @@ impl File {
             return Err((DraftFault::Rule(rule), d));
         }
         Ok(File { draft: d })
+    }
+
+    /// The file that a draft without a fault holds. No field is looked at.
+    pub fn of_valid(d: Draft) -> File
+        requires { fault_of (fields_of d) ≡ None }
+        ensures { result ≡ fields_of d }
+    {
+        File { draft: d }
     }
 
     /// This file with other weights, in a layout; every other field stays.

@@ -1,7 +1,8 @@
 //! The canonical text of a file, and its way to a writer.
 
-ghost use Rattle.std.specs.Prelude.{◌≡◌};
+ghost use Rattle.std.specs.Prelude.{◌≡◌, None};
 ghost use Rattle.std.specs.List.{flat_map};
+ghost use Rattle.tsp_draft.specs.Rules.{fault_of};
 ghost use Rattle.tsp_draft.specs.states.Drafts.{fields_of};
 ghost use Rattle.tsp_stream.specs.states.Watched.{sink_of};
 ghost use Rattle.tsp_stream.specs.Sink.{Writes};
@@ -31,13 +32,14 @@ use tsp_stream::{Piece, Watched, WriteFault, hand_over, put};
 /// Writes the canonical text of a file.
 ///
 /// At `Device` a prefix of the text was written, and nothing else. A writer that had failed before
-/// gets nothing. No memory is taken, and `OutOfMemory` is never returned.
+/// gets nothing. No memory is taken, and `OutOfMemory` is never returned. The file is a valid one.
 pub fn write_file<W: Write>(
     _alloc: Global,
     f: &File,
     out: &mut Watched<W>,
 ) -> Result<(), WriteFault>
-    ensures { Writes (sink_of W.contents out.old out.new) (text_of f.now) result }
+    ensures written { Writes (sink_of W.contents out.old out.new) (text_of f.now) result }
+    ensures valid { fault_of f.now ≡ None }
 {
     write_draft(f.fields(), out)
 }

@@ -1,6 +1,6 @@
 -- What an accepted check says, by its verdict.
 use Rattle.std.specs.Prelude.{ℤ, pos, ◌⊎◌, ◌≤ℤ◌, IsTrue, unwrap_or}
-use Rattle.std.proofs.Common.{◌≡◌, ◌≢◌, ℕ, ◌≤◌, ◌<◌, eqb, List, [], ◌∷◌, length, Bool, true, false, Option, Some, None, Result, Ok, Err, refl, sym, ap, subst, ◌∙◌, inl, inr, arith}
+use Rattle.std.proofs.Common.{◌≡◌, ◌≢◌, ℕ, ◌≤◌, ◌<◌, eqb, List, [], ◌∷◌, length, true, false, Option, Some, None, Ok, Err, refl, sym, ap, subst, ◌∙◌, inl, inr, arith}
 use Rattle.std.proofs.lemmas.Bool.{false≢true, cases_lt}
 use Rattle.std.proofs.lemmas.Bool.Decides.{eqb_tells}
 use Rattle.tsp_format.specs.declared.kinds.Kind.{Kind}
@@ -10,11 +10,12 @@ use Rattle.tsp_stream.specs.Sink.{Sink}
 use Rattle.tsp_draft.specs.Fields.{Fields}
 use Rattle.tsp_draft.specs.Rules.{is_tours, is_certificate, is_tree}
 use Rattle.tsp_file.specs.Cost.{cost}
-use Rattle.tsp_file.specs.Meant.{nodes_of, depots_of, tours_of}
+use Rattle.tsp_file.specs.Meant.{nodes_of}
+use Rattle.tsp_verdict.specs.Solution.{tours_of}
 use Rattle.tsp_theory.specs.Length.{length_of}
 use Rattle.tsp_theory.specs.Routing.{RoutingProblem, IsPlan, IsCustomer, plan_length}
 use Rattle.tsp_cost.specs.ProblemLaws.{IsProblem}
-use Rattle.tsp_cost.specs.Tours.{depot_of, problem_of, routing_of}
+use Rattle.tsp_cost.specs.Tours.{depot_of, problem_of, routing_of, depots_of}
 use Rattle.tsp_reason.specs.declared.certificate.Certificate.{Certificate}
 use Rattle.tsp_reason.specs.declared.certificate.Certificate.TheVariants.{Potentials, Branches}
 use Rattle.tsp_reason.specs.declared.verdict.Reason.{Reason}

@@ -38,7 +38,6 @@ pub fn run_convert<R: Read, W: Write>(
         Err(fault) => return Err(RunFault::Relayout(fault)),
         Ok(converted) => converted,
     };
-    let _valid = converted.fields();
     let written = write_file(alloc, &converted, out);
     drop(converted);
     match written {

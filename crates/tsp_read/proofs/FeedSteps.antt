@@ -1,6 +1,7 @@
 -- A file that is read in pieces: the effect of one piece more, and the settled part.
 use Rattle.std.proofs.Common.{◌≡◌, ℕ, ◌+◌, ◌-◌, ◌≤◌, ◌<◌, Bool, true, false, List, [], ◌∷◌, ◌++◌, length, take, reverse, refl, sym, ap, subst, ◌∙◌, arith, Option, Some, None, Result, Ok, Err, append-nil, append_assoc, length-append}
 use Rattle.std.specs.Prelude.{not, ◌&&◌, ◌==◌, IfErr}
+use Rattle.std.proofs.Math.Logic.{∥∥₁_map}
 use Rattle.std.proofs.Math.Seq.{take-append-add}
 use Rattle.std.proofs.lemmas.Bool.{true≢false, false≢true, eqb-true, lt-ltb, le-ltb}
 use Rattle.std.proofs.lemmas.List.{take_all, nil_from_length}
@@ -24,9 +25,9 @@ use Rattle.tsp_read.specs.states.Holds.{Holds}
 use Rattle.tsp_text.specs.Text.{is_too_long, settled_part, settled_fault}
 use Rattle.tsp_read.specs.states.Walk.{Walked}
 use Rattle.tsp_read.specs.states.Onward.{is_bare}
-use Rattle.tsp_read.specs.states.Intake.{IsReadTo, settled_so_far}
+use Rattle.tsp_read.specs.states.Intake.{IsReadTo, settled_so_far, HasEnded}
 use Rattle.tsp_read.specs.states.Begun.{kept, IsFedTo}
-use Rattle.tsp_read.specs.states.Paused.{IsPaused, FeedsOn, stage_after, outcome_of}
+use Rattle.tsp_read.specs.states.Paused.{IsPaused, FeedsOn, HasBytes, stage_after, outcome_of}
 use Rattle.tsp_read.specs.Feed.{IsGoing, IsEnded, HasSettled, HasTakenBy, HasTaken, refused_by, refusal, Feeds, ComesTo}
 use Rattle.tsp_read.proofs.IntakeSteps.{walked_so_far}
 use Rattle.tsp_read.proofs.Walks.{walked_all}
@@ -187,6 +188,35 @@ comes_to all read old new bytes piece front over stage is h parts few full e cou
     (comes_by all read new (bytes ++ piece) (bytes ++ front) over (fits bytes piece front over old.count h.count h.short parts few full) e
     (count ∙ ap (λ (n : ℕ). n + length front) h.count ∙ sym (length-append bytes front)) f)
 
+-- ---- that there are such bytes
+
+all_seen : (seen : List ℕ) → length seen ≤ most_file_bytes → settled_part seen ≡ settled_so_far seen
+all_seen seen short =
+    seen_part seen seen [] (record { parts = sym (append-nil seen); short = short; full = λ some. absurd (false≢true some) })
+
+has_ended : (intake : Intake) (seen : List ℕ) → length seen ≤ most_file_bytes → HasEnded intake.reading seen
+    → (bytes : List ℕ) × Holds intake.reading (settled_part bytes) × (has_end_line (settled_part bytes) ≡ true)
+has_ended intake seen short f =
+    (seen, subst (λ (xs : List Item). Holds intake.reading xs) (sym (all_seen seen short)) f.holds, ap has_end_line (all_seen seen short) ∙ f.ended)
+
+pub goes_on : (all : Bool) (read : Result Bool ReadFault) (intake : Intake) (begun : Begun) (seen : List ℕ) (count : ℕ) → length seen ≤ most_file_bytes → count ≡ length seen
+    → FeedsOn seen intake begun read → HasBytes (stage_after all read) intake begun count
+goes_on true (Ok true) intake begun seen count short is f = has_ended intake seen short f
+goes_on false (Ok true) intake begun seen count short is f = has_ended intake seen short f
+goes_on true (Ok false) intake begun seen count short is f = (seen, is, short, f)
+goes_on false (Ok false) intake begun seen count short is f = tt
+goes_on true (Err found) intake begun seen count short is f = tt
+goes_on false (Err found) intake begun seen count short is f = tt
+
+bytes_at : (feed : Feed) (stage : Stage) → feed.stage ≡ stage → ∥ HasBytes stage feed.intake feed.begun feed.count ∥₁
+bytes_at feed stage e = subst (λ (s : Stage). ∥ HasBytes s feed.intake feed.begun feed.count ∥₁) e feed.read
+
+pub going_bytes : (feed : Feed) → feed.stage ≡ Going → ∥ ((bytes : List ℕ) × IsGoing feed bytes) ∥₁
+going_bytes feed e = ∥∥₁_map (bytes_at feed Going e) (λ there. (there.0, record { count = there.1; short = there.2; paused = there.3 }))
+
+pub ended_bytes : (feed : Feed) → feed.stage ≡ Ended → ∥ ((bytes : List ℕ) × IsEnded feed.intake.reading bytes) ∥₁
+ended_bytes feed e = ∥∥₁_map (bytes_at feed Ended e) (λ there. (there.0, record { holds = there.1; ended = there.2 }))
+
 -- ---- the answers
 
 settled_more : (found : ReadFault) (bytes piece : List ℕ) → HasSettled found bytes → HasSettled found (bytes ++ piece)
@@ -199,7 +229,7 @@ settled_more faults.TooLong bytes piece h = settled_kept bytes piece faults.TooL
 pub taken_at : (feed : Feed) (bytes : List ℕ) (stage : Stage) → feed.stage ≡ stage → HasTaken feed bytes → HasTakenBy stage feed bytes
 taken_at feed bytes stage e h = subst (λ (s : Stage). HasTakenBy s feed bytes) e h
 
-taken_from : (feed : Feed) (bytes : List ℕ) (stage : Stage) → feed.stage ≡ stage → HasTakenBy stage feed bytes → HasTaken feed bytes
+pub taken_from : (feed : Feed) (bytes : List ℕ) (stage : Stage) → feed.stage ≡ stage → HasTakenBy stage feed bytes → HasTaken feed bytes
 taken_from feed bytes stage e h = subst (λ (s : Stage). HasTakenBy s feed bytes) (sym e) h
 
 refused_answer : (found : ReadFault) (feed : Feed) (bytes : List ℕ) → HasTaken feed bytes → HasSettled found bytes → Feeds bytes feed (Err found)

@@ -1,7 +1,12 @@
 -- The end: the first incomplete section by the flags, and the end table over the draft.
-use Rattle.std.proofs.Common.{◌≡◌, List, sym, ap, ◌∙◌, Option, Some, None, Result, Ok, Err, inl, inr}
+use Rattle.std.proofs.Common.{◌≡◌, false, List, refl, sym, ap, ◌∙◌, Option, Some, None, Ok, Err}
+use Rattle.std.specs.Prelude.{is_some}
+use Rattle.std.proofs.Math.Logic.{∥∥₁_elim}
+use mathlib.Core.Bool.{Bool-set}
+use Rattle.std.proofs.lemmas.Bool.{false≢true}
 use Rattle.tsp_format.specs.declared.field.Field.{Field}
 use Rattle.tsp_draft.specs.declared.fault.DraftFault.{DraftFault}
+use Rattle.tsp_draft.specs.declared.fault.EndFault.{EndFault}
 use Rattle.tsp_draft.specs.Fields.{Fields}
 use Rattle.tsp_draft.specs.states.Drafts.{fields_of}
 use Rattle.tsp_draft.specs.Rules.{standing_of, end_fault, fault_of}
@@ -9,8 +14,7 @@ use Rattle.tsp_read.specs.declared.state.reading.Reading.{Reading}
 use Rattle.tsp_text.specs.Items.{Item}
 use Rattle.tsp_text.specs.Spells.{spelled, fault_at_end}
 use Rattle.tsp_text.specs.Cuts.{AreCut}
-use Rattle.tsp_read.specs.states.Holds.{Closed}
-use Rattle.tsp_read.specs.declared.state.finish.FinishFault.{FinishFault}
+use Rattle.tsp_read.specs.states.Holds.{Holds, Closed, IsReadFrom}
 use Rattle.tsp_read.specs.declared.state.finish.FinishFault.TheVariants as finishes
 use Rattle.tsp_read.specs.states.Finishes.{Finishes, FileOf}
 use Rattle.tsp_text.proofs.ValidItems.{is_file}
@@ -21,16 +25,24 @@ end_is reading items h =
     ap (λ (fields : Fields). end_fault (standing_of fields) reading.incomplete) h.spelled
     ∙ ap (λ (o : Option Field). end_fault (standing_of (spelled items)) o) h.incomplete
 
--- a draft that was read is never refused
-pub never_refused : (reading : Reading) (items : List Item) (fault : DraftFault) → Closed reading items → AreCut items → fault_at_end items ≡ None
-    → fault_of (fields_of reading.draft) ≡ Some fault → ⊥
-never_refused reading items fault h cut ended e =
-    let none : fault_of (fields_of reading.draft) ≡ None = ap fault_of h.spelled ∙ is_file items cut h.clean ended in cc
+-- a draft that was read has no fault where the end table has none
+is_valid : (reading : Reading) (items : List Item) → Closed reading items → AreCut items → end_fault (standing_of (fields_of reading.draft)) reading.incomplete ≡ None
+    → is_some (fault_of (fields_of reading.draft)) ≡ false
+is_valid reading items h cut ended = ap is_some (ap fault_of h.spelled ∙ is_file items cut h.clean (sym (end_is reading items h) ∙ ended))
+
+none_of : (found : Option DraftFault) → is_some found ≡ false → found ≡ None
+none_of None is = refl
+none_of (Some fault) is = absurd (false≢true (sym is))
+
+pub valid_draft : (old new : Reading) → IsReadFrom old → ((earlier : List Item) → Holds old earlier → Closed new earlier)
+    → end_fault (standing_of (fields_of new.draft)) new.incomplete ≡ None → fault_of (fields_of new.draft) ≡ None
+valid_draft old new read closed ended =
+    none_of (fault_of (fields_of new.draft)) (∥∥₁_elim read (Bool-set _ _) (λ there. is_valid new there.0 (closed there.0 there.1) there.2 ended))
 
 -- what the draft gives is what the items give
-pub finish_answer : (reading : Reading) (items : List Item) (r : Result Fields FinishFault) → Closed reading items → AreCut items
-    → FileOf (fields_of reading.draft) reading.incomplete r → Finishes items r
-finish_answer reading items (Ok file) h cut of = (h.clean, sym (end_is reading items h) ∙ of.0, of.1 ∙ h.spelled)
-finish_answer reading items (Err finishes.Memory) h cut of = tt
-finish_answer reading items (Err (finishes.End fault)) h cut (inl e) = (h.clean, sym (end_is reading items h) ∙ e)
-finish_answer reading items (Err (finishes.End fault)) h cut (inr e) = absurd (never_refused reading items e.1 h cut (sym (end_is reading items h) ∙ e.0) e.2)
+pub file_found : (reading : Reading) (items : List Item) (file : Fields) → Closed reading items → FileOf (fields_of reading.draft) reading.incomplete (Ok file) → Finishes items (Ok file)
+file_found reading items file h of = (h.clean, sym (end_is reading items h) ∙ of.0, of.1 ∙ h.spelled)
+
+pub fault_found : (reading : Reading) (items : List Item) (fault : EndFault) → Closed reading items → FileOf (fields_of reading.draft) reading.incomplete (Err fault)
+    → Finishes items (Err (finishes.End fault))
+fault_found reading items fault h of = (h.clean, sym (end_is reading items h) ∙ of)

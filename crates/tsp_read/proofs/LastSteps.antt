@@ -1,6 +1,7 @@
 -- The end of a text that came in pieces.
 use Rattle.std.proofs.Common.{◌≡◌, ℕ, Bool, true, false, List, [], ◌∷◌, ◌++◌, length, take, drop, take-append-drop, reverse, refl, sym, ap, subst, ◌∙◌, Option, Some, None, Result, Ok, Err, append-nil}
 use Rattle.std.specs.Prelude.{not, ◌&&◌, ◌||◌, ◌==◌, is_some}
+use Rattle.std.proofs.Math.Logic.{∥∥₁_map}
 use Rattle.std.proofs.lemmas.Bool.{false≢true, le-ltb}
 use Rattle.tsp_format.specs.Limits.{most_file_bytes}
 use Rattle.tsp_text.specs.declared.fault.ReadFault.{ReadFault}
@@ -19,7 +20,7 @@ use Rattle.tsp_text.specs.Text.{is_too_long, part, fault, settled_part}
 use Rattle.tsp_read.specs.Feed.{IsGoing, IsEnded, HasSettled, HasTaken, SpellsWhole, EndsReading}
 use Rattle.tsp_text.proofs.ValidCuts.{part_cut}
 use Rattle.tsp_text.proofs.SettledFaults.{part_long, part_short, part_kept, fault_kept}
-use Rattle.tsp_read.proofs.FeedSteps.{taken_at}
+use Rattle.tsp_read.proofs.FeedSteps.{taken_at, taken_from, going_bytes, ended_bytes}
 use Rattle.std.specs.List.{list_all}
 use Rattle.std.proofs.lemmas.List.{reverse-append}
 use Rattle.std.proofs.lemmas.List.Folds.{list_all-append}
@@ -27,7 +28,7 @@ use Rattle.std.proofs.lemmas.Option.{none-some}
 use Rattle.tsp_text.specs.Items.{Item, Line, NumberWord, LineEnd, items_of, is_end_line, has_end_line, to_end_line}
 use Rattle.tsp_read.specs.states.Left.{items_left, ends_word, up_to_first, from, is_settled}
 use Rattle.tsp_read.specs.states.Token.{ends, most_bytes, token_item}
-use Rattle.tsp_read.specs.states.Holds.{OpenHolds, Holds}
+use Rattle.tsp_read.specs.states.Holds.{OpenHolds, Holds, IsReadFrom}
 use Rattle.tsp_read.specs.states.Walk.{Walked}
 use Rattle.tsp_read.specs.states.Onward.{is_bare, is_line_end}
 use Rattle.tsp_read.specs.Reads.{Reads, Completes}
@@ -238,3 +239,17 @@ pub refused_fault : (feed : Feed) (bytes : List ℕ) (found : ReadFault) → fee
 refused_fault feed bytes found e taken =
     let h = taken_at feed bytes (Refused found) e taken in
     (settled_reads found bytes h, λ same. absurd (subst (λ (f : ReadFault). HasSettled f bytes) same h))
+
+-- ---- that a reading comes from a text
+
+whole_read : (bytes : List ℕ) (reading : Reading) → SpellsWhole reading bytes → (earlier : List Item) × Holds reading earlier × AreCut earlier
+whole_read bytes reading h = (part bytes, h.holds, part_cut bytes)
+
+pub going_read : (feed : Feed) (reading : Reading) (ended : Bool) → feed.stage ≡ Going
+    → ((bytes : List ℕ) → IsPaused feed.intake feed.begun bytes → TakesAll bytes reading (Ok ended)) → IsReadFrom reading
+going_read feed reading ended e last =
+    ∥∥₁_map (going_bytes feed e) (λ there. whole_read there.0 reading (taken_whole feed there.0 reading ended e (taken_from feed there.0 Going e there.1) (last there.0)))
+
+pub ended_read : (feed : Feed) → feed.stage ≡ Ended → IsReadFrom feed.intake.reading
+ended_read feed e =
+    ∥∥₁_map (ended_bytes feed e) (λ there. whole_read there.0 feed.intake.reading (ended_whole feed there.0 e (taken_from feed there.0 Ended e there.1)))

@@ -4,7 +4,7 @@ ghost use Rattle.std.specs.Prelude.{◌≡◌, ◌+◌, ◌≤◌, ◌++◌, [],
 ghost use Rattle.tsp_format.specs.Limits.{most_file_bytes};
 ghost use Rattle.tsp_read.specs.states.Begun.{IsFedTo, most_lines, most_words, KeepRoom};
 ghost use Rattle.tsp_text.specs.Lines.{is_filled};
-ghost use Rattle.tsp_read.specs.states.Paused.{FeedsOn, HasRoom, stage_after, outcome_of};
+ghost use Rattle.tsp_read.specs.states.Paused.{FeedsOn, HasRoom, HasBytes, stage_after, outcome_of};
 
 use crate::begun::Begun;
 use crate::intake::Intake;
@@ -102,6 +102,7 @@ pub struct Feed {
     stage: Stage,
     ghost short: { count ≤ most_file_bytes },
     ghost room: { HasRoom stage intake begun count },
+    ghost read: { ∥ HasBytes stage intake begun count ∥₁ },
 }
 
 /// As a derive would do it. A function that drops a feed calls this.
@@ -118,12 +119,13 @@ impl Drop for Feed {
 }
 
 impl Feed {
-    ghost use Rattle.std.specs.Prelude.{Some, None, Err, IfErr, ◌≢◌};
+    ghost use Rattle.std.specs.Prelude.{Some, None, Err, IfOk, IfErr, ◌≢◌};
     ghost use Rattle.tsp_text.specs.declared.fault.ReadFault.{ReadFault};
     ghost use Rattle.tsp_read.specs.declared.stage.Stage.TheVariants.{Going};
     ghost use Rattle.tsp_text.specs.Items.{has_end_line};
     ghost use Rattle.tsp_text.specs.Text.{settled_part, settled_fault};
     ghost use Rattle.tsp_text.specs.declared.fault.ReadFault.TheVariants.{OutOfMemory};
+    ghost use Rattle.tsp_read.specs.states.Holds.{IsReadFrom};
     ghost use Rattle.tsp_read.specs.states.Onward.{is_bare};
     ghost use Rattle.tsp_read.specs.Reads.{Reads};
     ghost use Rattle.tsp_read.specs.Timely.{is_going};
@@ -195,6 +197,7 @@ impl Feed {
         ensures again { (found : ReadFault) → refusal self ≡ Some found → result ≡ Err found }
         ensures ended { (bytes : List ℕ) → HasTaken self bytes → settled_fault bytes ≡ None
             → has_end_line (settled_part bytes) ≡ true → EndsClosed result }
+        ensures real { IfOk result (λ reading. IsReadFrom reading) }
     {
         let Feed {
             alloc,

@@ -1,5 +1,5 @@
 -- The lines of `show` for a file. Each line ends with byte 10, and one blank is between words.
-use Rattle.std.specs.Prelude.{ℕ, List, [], ◌∷◌, ◌++◌, length, codes, decimal, cond, ℤ, Option, None, Some}
+use Rattle.std.specs.Prelude.{ℕ, List, [], ◌∷◌, ◌++◌, length, codes, decimal, cond, ℤ, Option, None, Some, unwrap_or}
 use Rattle.std.specs.List.{flat_map, enumerate_from}
 use Rattle.std.specs.Option.{option_map_or}
 use Rattle.std.specs.Fmt.{signed_decimal}
@@ -12,7 +12,7 @@ use Rattle.tsp_format.specs.Cells.{nodes_to}
 use Rattle.tsp_format.specs.Steps.{Step, leaf_count}
 use Rattle.tsp_draft.specs.Fields.{Fields}
 use Rattle.tsp_draft.specs.Rules.{is_explicit}
-use Rattle.tsp_file.specs.Meant.{nodes_of, meant_scale, steps_in, tours_of}
+use Rattle.tsp_file.specs.Meant.{nodes_of, meant_scale}
 use Rattle.tsp_file.specs.Cost.{cost}
 use Rattle.tsp_theory.specs.Length.{length_of}
 use Rattle.tsp_report.specs.Report.{type_line, nodes_line, not_judged}
@@ -77,7 +77,7 @@ abbrev pub leaves_line : List Step → List ℕ
 leaves_line steps = codes "leaves " ++ decimal (leaf_count steps) ++ codes "\n"
 
 abbrev pub tree_lines : Fields → List ℕ
-tree_lines f = scale_line f.scale ++ (combs_line f.combs ++ leaves_line (steps_in f))
+tree_lines f = scale_line f.scale ++ (combs_line f.combs ++ leaves_line (unwrap_or f.branches []))
 
 -- ---- the whole
 
@@ -85,7 +85,7 @@ abbrev pub lines_by_type : Option Kind → Fields → List ℕ
 lines_by_type (Some Tsp) f = cost_lines f
 lines_by_type (Some Atsp) f = cost_lines f
 lines_by_type (Some Cvrp) f = cost_lines f
-lines_by_type (Some Tour) f = tour_lines (tours_of f)
+lines_by_type (Some Tour) f = tour_lines (unwrap_or f.tours [])
 lines_by_type (Some Potentials) f = scale_line f.scale
 lines_by_type (Some Branches) f = tree_lines f
 lines_by_type None f = []

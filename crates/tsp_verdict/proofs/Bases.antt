@@ -19,7 +19,7 @@ use Rattle.tsp_verdict.specs.Bounded.{NoneAgainstInstance, IsBoundVerdict}
 use Rattle.tsp_verdict.specs.Certified.{FindsBound}
 use Rattle.tsp_verdict.specs.Judged.{IsVerdictBy, IsVerdictWith}
 use Rattle.tsp_verdict.specs.Plan.{total_of, IsLeast}
-use Rattle.tsp_file.specs.Meant.{capacity_of}
+use Rattle.tsp_cost.specs.Tours.{capacity_of}
 use Rattle.tsp_verdict.specs.Routes.{IsRoutesVerdict}
 use Rattle.tsp_verdict.specs.Tours.{NoneOfTourUpTo, IsFirstAgainstTour, IsTourVerdict}
 use Rattle.tsp_verdict.proofs.Certificates.{kinds_bounded}

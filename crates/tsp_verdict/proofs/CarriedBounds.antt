@@ -19,8 +19,8 @@ use Rattle.tsp_theory.specs.Adjusted.{pair_of, numbers_on, adjusted, UsesEach, I
 use Rattle.tsp_theory.specs.Assignment.{AreGood, IsFirstBroken, IsDualBound, DualsBoundCycles}
 use Rattle.tsp_reason.specs.declared.verdict.Reason.TheVariants.{DualInfeasible}
 use Rattle.tsp_verdict.specs.Multiplied.{AreListed}
-use Rattle.tsp_file.specs.Meant.{nodes_of, fixed_of, scale_in, potentials_in, rows_in, columns_in, multipliers_in}
-use Rattle.tsp_verdict.specs.Certificate.{StandsAgainstPotentials}
+use Rattle.tsp_file.specs.Meant.{nodes_of, fixed_of, scale_in, multipliers_in}
+use Rattle.tsp_verdict.specs.Certificate.{StandsAgainstPotentials, IsBoundByNodes, IsBoundByDuals}
 use Rattle.tsp_verdict.specs.Certified.{IsBoundBy, IsCertified}
 use Rattle.tsp_reason.specs.declared.certificate.Certificate.TheVariants.{Potentials}
 
@@ -70,16 +70,15 @@ keeps_on f m n a b same_count same keeps = record {
 -- the bound that a view's costs give is that of the certificate
 pub certified : (inst pot : Fields) (n : ℕ) (costs : ℕ → ℕ → ℤ) (scale : ℤ) (potentials : List ℤ) (triples : List (ℕ × ℕ × ℤ)) (bound : ℤ) → AdjustedBoundsBoundCycles
     → triples ≡ multipliers_in pot → AreListed (fixed_of inst) (multipliers_in pot) → inst.kind ≡ Some kinds.Tsp → IsSymmetric (cost inst) → 3 ≤ nodes_of inst
-    → IsScale scale → scale ≡ scale_in pot → potentials ≡ potentials_in pot → length potentials ≡ nodes_of inst
+    → IsScale scale → scale ≡ scale_in pot → pot.node_potentials ≡ Some potentials → length potentials ≡ nodes_of inst
     → HasCosts inst n costs → IsAdjustedBound n costs scale potentials triples [] bound × IsBoundSized bound → IsCertified Potentials inst pot bound
 certified inst pot n costs scale potentials triples bound law triples_are listed kind even some scale_is scale_in_is potentials_are count keeps found =
     let same : nodes_of inst ≡ n = ap (λ o. unwrap_or o 0) keeps.count in
     let here : IsAdjustedBound (nodes_of inst) (cost inst) scale potentials triples [] bound =
     subst (λ m. IsAdjustedBound m (cost inst) scale potentials triples [] bound) (sym same) (bound_same n costs (cost inst) scale potentials triples bound keeps.every found.0) in
-    let by_numbers : IsAdjustedBound (nodes_of inst) (cost inst) (scale_in pot) (potentials_in pot) triples [] bound =
-    subst₂ (λ s p. IsAdjustedBound (nodes_of inst) (cost inst) s p triples [] bound) scale_in_is potentials_are here in
-    let by_certificate : IsAdjustedBound (nodes_of inst) (cost inst) (scale_in pot) (potentials_in pot) (multipliers_in pot) [] bound =
-    subst (λ ts. IsAdjustedBound (nodes_of inst) (cost inst) (scale_in pot) (potentials_in pot) ts [] bound) triples_are by_numbers in
+    let by_numbers : IsAdjustedBound (nodes_of inst) (cost inst) (scale_in pot) potentials (multipliers_in pot) [] bound =
+    subst₂ (λ s ts. IsAdjustedBound (nodes_of inst) (cost inst) s potentials ts [] bound) scale_in_is triples_are here in
+    let by_certificate : IsBoundByNodes inst pot bound = record { potentials = potentials; potentials_are = potentials_are; of_tree = by_numbers } in
     let cycles : (nodes : List ℕ) → IsCycle (nodes_of inst) nodes → UsesEach (multipliers_in pot) nodes → bound ≤ℤ length_of (cost inst) nodes = λ nodes cycle used.
     law (nodes_of inst) (cost inst) scale potentials triples [] bound nodes some even scale_is count here cycle
     (subst (λ ts. UsesEach ts nodes) (sym triples_are) used) (λ k d lt. absurd (omega arith)) in (
@@ -106,8 +105,8 @@ broken_same n a b scale rows columns i j same pair = record {
 -- duals that are those of the certificate
 pub record AreOf (pot : Fields) (scale : ℤ) (rows columns : List ℤ) : Type 0 where
   pub scale_is : scale ≡ scale_in pot
-  pub rows_are : rows ≡ rows_in pot
-  pub columns_are : columns ≡ columns_in pot
+  pub rows_are : pot.row_potentials ≡ Some rows
+  pub columns_are : pot.column_potentials ≡ Some columns
 
 -- the bound that a view's costs give is that of the certificate
 pub assigned : (inst pot : Fields) (n : ℕ) (costs : ℕ → ℕ → ℤ) (scale : ℤ) (rows columns : List ℤ) (bound : ℤ) → DualsBoundCycles → inst.kind ≡ Some kinds.Atsp → 3 ≤ nodes_of inst → IsScale scale
@@ -117,9 +116,14 @@ assigned inst pot n costs scale rows columns bound law kind some scaled are as_r
     let nodes : nodes_of inst ≡ n = ap (λ o. unwrap_or o 0) keeps.count in
     let good : AreGood (nodes_of inst) (cost inst) scale rows columns =
     subst (λ m. AreGood m (cost inst) scale rows columns) (sym nodes) (good_same n costs (cost inst) scale rows columns keeps.every found.0) in
-    let by_certificate : AreGood (nodes_of inst) (cost inst) (scale_in pot) (rows_in pot) (columns_in pot) × IsDualBound (scale_in pot) (rows_in pot) (columns_in pot) bound =
-    subst (λ s. AreGood (nodes_of inst) (cost inst) s (rows_in pot) (columns_in pot) × IsDualBound s (rows_in pot) (columns_in pot) bound) are.scale_is
-    (subst₂ (λ r c. AreGood (nodes_of inst) (cost inst) scale r c × IsDualBound scale r c bound) are.rows_are are.columns_are (good, found.1)) in (
+    let by_certificate : IsBoundByDuals inst pot bound = record {
+      rows = rows;
+      rows_are = are.rows_are;
+      columns = columns;
+      columns_are = are.columns_are;
+      good = subst (λ s. AreGood (nodes_of inst) (cost inst) s rows columns) are.scale_is good;
+      of_duals = subst (λ s. IsDualBound s rows columns bound) are.scale_is found.1;
+    } in (
       subst (λ k. IsBoundBy Potentials k inst pot bound) (sym kind) by_certificate,
       λ cycle tour. law (nodes_of inst) (cost inst) scale rows columns bound cycle (omega (arith, some)) scaled as_rows as_columns good found.1 tour.cycle,
       small,
@@ -133,6 +137,11 @@ broken_stands inst pot n costs scale rows columns i j kind are keeps pair =
     let here : IsFirstBroken (nodes_of inst) (cost inst) scale rows columns i j =
     subst (λ m. IsFirstBroken m (cost inst) scale rows columns i j) (sym nodes) (broken_same n costs (cost inst) scale rows columns i j keeps.every pair) in (
       kind,
-      subst (λ s. IsFirstBroken (nodes_of inst) (cost inst) s (rows_in pot) (columns_in pot) i j) are.scale_is
-          (subst₂ (λ r c. IsFirstBroken (nodes_of inst) (cost inst) scale r c i j) are.rows_are are.columns_are here),
+      record {
+        rows = rows;
+        rows_are = are.rows_are;
+        columns = columns;
+        columns_are = are.columns_are;
+        first = subst (λ s. IsFirstBroken (nodes_of inst) (cost inst) s rows columns i j) are.scale_is here;
+      },
     )

@@ -1,6 +1,6 @@
 -- Reasons against a certificate, ruled out one by one, and how they join those against the tour.
-use Rattle.std.proofs.Common.{◌≡◌, ℕ, ◌-◌, ◌<◌, ◌≤◌, Bool, true, false, List, Option, None, Some, refl, ap, sym, subst, subst₂, ◌∙◌, arith, inl, inr}
-use Rattle.std.specs.Prelude.{◌⊎◌, ℤ, pos, IsTrue}
+use Rattle.std.proofs.Common.{◌≡◌, ℕ, ◌-◌, ◌<◌, ◌≤◌, Bool, true, false, List, [], Option, None, Some, refl, ap, sym, subst, subst₂, ◌∙◌, arith, inl, inr}
+use Rattle.std.specs.Prelude.{◌⊎◌, ℤ, pos, IsTrue, unwrap_or}
 use Rattle.std.specs.List.{All, AllPairs}
 use Rattle.std.proofs.lemmas.Bool.{false≢true}
 use Rattle.std.proofs.lemmas.Int.{ints}
@@ -15,11 +15,11 @@ use Rattle.tsp_reason.specs.declared.verdict.Reason.TheVariants.{TooFewNodes, No
 use Rattle.tsp_verdict.specs.Multiplied.{AreListed, IsUnlisted, IsPairRepeated, pair_at}
 use Rattle.tsp_verdict.specs.Places.{IsFirstPlace}
 use Rattle.tsp_verdict.specs.Reasons.{rank_of, NoneBefore, IsFirstReason}
-use Rattle.tsp_file.specs.Meant.{nodes_of, fixed_of, scale_in, rows_in, columns_in, multipliers_in}
+use Rattle.tsp_file.specs.Meant.{nodes_of, fixed_of, scale_in, multipliers_in}
 use Rattle.tsp_verdict.specs.Tours.{IsFirstAgainstTour, StandsAgainstTour}
 use Rattle.tsp_file.specs.Cost.{cost}
-use Rattle.tsp_theory.specs.Assignment.{IsFirstBroken}
-use Rattle.tsp_verdict.specs.Certificate.{has_wanted, StandsAgainstPotentials, IsBoundByDuals}
+use Rattle.tsp_theory.specs.Assignment.{AreGood}
+use Rattle.tsp_verdict.specs.Certificate.{has_wanted, BreaksDuals, StandsAgainstPotentials, IsBoundByDuals}
 use Rattle.tsp_verdict.specs.Certified.{is_bounded, IsBoundBy, IsCertified, StandsAgainstCertificate, NoneWithoutMemory, StandsAgainstCertified, IsFirstAgainstCertified}
 use Rattle.tsp_verdict.specs.Tree.{IsBoundByTree}
 use Rattle.tsp_verdict.specs.declared.tour.TourCosts.{TourCosts}
@@ -128,7 +128,7 @@ not_undirected kind atsp tsp = cc
 
 -- the first pair that breaks the duals of an ATSP is the first reason
 pub broken_first : (inst pot : Fields) (i j : ℕ) → inst.kind ≡ Some kinds.Atsp → is_certificate pot.kind ≡ true → nodes_of pot ≡ nodes_of inst
-    → has_wanted (Some kinds.Atsp) pot ≡ true → IsFirstBroken (nodes_of inst) (cost inst) (scale_in pot) (rows_in pot) (columns_in pot) i j
+    → has_wanted (Some kinds.Atsp) pot ≡ true → BreaksDuals inst pot i j
     → IsFirstReason (StandsAgainstPotentials inst pot) (DualInfeasible i j)
 broken_first inst pot i j kind sort size wanted broken = record {
   stands = (kind, broken);
@@ -136,13 +136,25 @@ broken_first inst pot i j kind sort size wanted broken = record {
       (λ low index stands. not_undirected inst.kind kind stands.0) (λ low. absurd (omega (arith, low)));
 }
 
+-- a file has one list of potentials
+one_list : (o : Option (List ℤ)) (xs ys : List ℤ) → o ≡ Some xs → o ≡ Some ys → xs ≡ ys
+one_list o xs ys a b = sym (ap (λ p. unwrap_or p []) a) ∙ ap (λ p. unwrap_or p []) b
+
+-- no pair breaks duals that give a bound
+none_broken : (inst pot : Fields) (bound : ℤ) (i j : ℕ) → IsBoundByDuals inst pot bound → BreaksDuals inst pot i j → ⊥
+none_broken inst pot bound i j good bad =
+    let pair = bad.first in
+    let fits = subst₂ (λ (rows columns : List ℤ). AreGood (nodes_of inst) (cost inst) (scale_in pot) rows columns) (one_list pot.row_potentials good.rows bad.rows good.rows_are bad.rows_are)
+    (one_list pot.column_potentials good.columns bad.columns good.columns_are bad.columns_are) good.good in
+    omega (arith, ints, pair.broken, fits i j pair.row pair.column pair.other)
+
 -- no reason applies to duals that give a bound
 pub none_of_atsp : (inst pot : Fields) (bound : ℤ) → inst.kind ≡ Some kinds.Atsp → is_certificate pot.kind ≡ true → nodes_of pot ≡ nodes_of inst
     → has_wanted (Some kinds.Atsp) pot ≡ true → IsCertified Potentials inst pot bound → (reason : Reason) → StandsAgainstPotentials inst pot reason → ⊥
 none_of_atsp inst pot bound kind sort size wanted certified =
     let by_duals : IsBoundByDuals inst pot bound = subst (λ k. IsBoundBy Potentials k inst pot bound) kind certified.0 in
     none_stands inst pot sort size (rw kind wanted) (λ index stands. not_undirected inst.kind kind stands.0) (λ index stands. not_undirected inst.kind kind stands.0)
-    (λ i j stands. let pair = stands.1 in omega (arith, ints, pair.broken, by_duals.0 i j pair.row pair.column pair.other))
+    (λ i j stands. none_broken inst pot bound i j by_duals stands.1)
 
 -- ---- with those against the tour
 

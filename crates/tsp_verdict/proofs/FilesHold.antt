@@ -18,8 +18,8 @@ use Rattle.tsp_draft.specs.Fields.{Fields}
 use Rattle.tsp_draft.specs.Rules.{is_tours}
 use Rattle.tsp_draft.specs.Valid.{AreTours, AreDepots, IsNodeList, IsStep, AreTreeSteps}
 use Rattle.tsp_branch.specs.Listed.{IsStepOf}
-use Rattle.tsp_file.specs.Meant.{nodes_of, tours_of}
-use Rattle.tsp_verdict.specs.Solution.{visited}
+use Rattle.tsp_file.specs.Meant.{nodes_of}
+use Rattle.tsp_verdict.specs.Solution.{visited, tours_of}
 use Rattle.tsp_verdict.specs.states.Routes.{nodes_in, AreToursOf}
 use Rattle.tsp_verdict.proofs.Pieces.{nodes_in_is}
 

@@ -4,10 +4,10 @@ use Rattle.std.specs.Prelude.{ℤ, pos, is_some, IsSome, unwrap_or}
 use Rattle.std.specs.List.{All}
 use Rattle.tsp_format.specs.Cells.{IsNode}
 use Rattle.tsp_draft.specs.Fields.{Fields}
-use Rattle.tsp_file.specs.Typed.{AreMultipliersIn, HoldsRouting, HoldsNodeNumbers, HoldsDuals, HoldsCases}
+use Rattle.tsp_file.specs.Typed.{AreMultipliersIn, HoldsRouting, HoldsNodeNumbers, HoldsDuals}
 use Rattle.tsp_theory.specs.Numbers.{AreDuals, AreNodePotentials, AreMultipliers}
-use Rattle.tsp_file.specs.Meant.{potentials_in, depots_of, demands_of, capacity_of, nodes_of, steps_in}
-use Rattle.tsp_format.specs.Steps.{Step}
+use Rattle.tsp_file.specs.Meant.{nodes_of}
+use Rattle.tsp_cost.specs.Tours.{depots_of, demands_of, capacity_of}
 use Rattle.tsp_verdict.proofs.CarriedBounds.{AreOf}
 
 pub not_some : {A : Type 0} (o : Option A) → (IsSome o → ⊥) → is_some o ≡ false
@@ -18,9 +18,6 @@ counted : {A : Type 0} (pot : Fields) (entries : List A) → pot.dimension ≡ S
 counted pot entries dimension = sym (ap (λ (o : Option ℕ). unwrap_or o 0) dimension)
 
 -- ---- potentials of nodes
-
-pub numbers_are : (pot : Fields) (scale : ℤ) (numbers : List ℤ) (triples : List (ℕ × ℕ × ℤ)) → HoldsNodeNumbers pot scale numbers triples → numbers ≡ potentials_in pot
-numbers_are pot scale numbers triples held = sym (ap (λ (o : Option (List ℤ)). unwrap_or o []) held.numbers_are)
 
 pub numbers_counted : (pot : Fields) (scale : ℤ) (numbers : List ℤ) (triples : List (ℕ × ℕ × ℤ)) → HoldsNodeNumbers pot scale numbers triples → length numbers ≡ nodes_of pot
 numbers_counted pot scale numbers triples held = counted pot numbers held.each_number.0
@@ -39,8 +36,8 @@ multiplied_nodes pot triples held k d lt = let pair = (held.each k d lt).0 in (p
 pub duals_are : (pot : Fields) (scale : ℤ) (rows columns : List ℤ) → HoldsDuals pot scale rows columns → AreOf pot scale rows columns
 duals_are pot scale rows columns held = record {
   scale_is = held.scale_is;
-  rows_are = sym (ap (λ (o : Option (List ℤ)). unwrap_or o []) held.rows_are);
-  columns_are = sym (ap (λ (o : Option (List ℤ)). unwrap_or o []) held.columns_are);
+  rows_are = held.rows_are;
+  columns_are = held.columns_are;
 }
 
 pub rows_counted : (pot : Fields) (scale : ℤ) (rows columns : List ℤ) → HoldsDuals pot scale rows columns → length rows ≡ nodes_of pot
@@ -56,11 +53,6 @@ are_duals pot scale rows columns held = record {
   columns_are = held.each_column.1;
   as_many = counted pot rows held.each_row.0 ∙ sym (counted pot columns held.each_column.0);
 }
-
--- ---- a tree of cases
-
-pub steps_are : (tree : Fields) (scale : ℤ) (combs : List (List (List ℕ))) (steps : List Step) → HoldsCases tree scale combs steps → steps ≡ steps_in tree
-steps_are tree scale combs steps held = sym (ap (λ (o : Option (List Step)). unwrap_or o []) held.steps_are)
 
 -- ---- a routing problem
 

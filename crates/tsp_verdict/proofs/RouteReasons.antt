@@ -5,8 +5,9 @@ use Rattle.tsp_reason.specs.declared.verdict.Reason.{Reason}
 use Rattle.tsp_reason.specs.declared.verdict.Reason.TheVariants.{NotPotentials, PotentialsDimension, PotentialsKind, MultiplierNotFixed, MultiplierRepeated, DualInfeasible, NotSymmetric, TourCount, TourLength, NodeOutOfRange, RepeatedNode, FixedEdgeUnused, DepotInRoute, Unserved, Overload, NotBranches, BranchesDimension, BadComb, BranchTwice, BadLeaf, LengthClaimed}
 use Rattle.tsp_verdict.specs.Places.{IsFirstPlace, IsLarger, IsAt, IsRepeated}
 use Rattle.tsp_verdict.specs.Plan.{depot_of}
-use Rattle.tsp_file.specs.Meant.{demands_of, capacity_of, nodes_of, tours_of}
-use Rattle.tsp_verdict.specs.Solution.{visited}
+use Rattle.tsp_file.specs.Meant.{nodes_of}
+use Rattle.tsp_cost.specs.Tours.{demands_of, capacity_of}
+use Rattle.tsp_verdict.specs.Solution.{visited, tours_of}
 use Rattle.tsp_verdict.specs.Routes.{IsFirstUnserved, IsOverloaded, StandsAgainstRoutes, NoneOfRoutesUpTo}
 
 pub after_depot : (inst sol : Fields) → NoneOfRoutesUpTo inst sol 10 → ((place : ℕ) → IsFirstPlace (IsAt (depot_of inst) (visited sol)) (visited sol) place → ⊥) → NoneOfRoutesUpTo inst sol 11

@@ -10,8 +10,8 @@ use Rattle.tsp_cost.specs.Tours.{is_directed}
 use Rattle.tsp_reason.specs.declared.verdict.Reason.{Reason}
 use Rattle.tsp_reason.specs.declared.verdict.Reason.TheVariants.{NotASolution, TooFewNodes, NotSymmetric, Dimension, TourCount, TourLength, NodeOutOfRange, RepeatedNode, FixedEdgeUnused, NotPotentials, PotentialsDimension, PotentialsKind, MultiplierNotFixed, MultiplierRepeated, DualInfeasible, DepotCount, DepotDemand, FixedEdgesInRoutes, DepotInRoute, Unserved, Overload, NotBranches, BranchesDimension, BadComb, BranchTwice, BadLeaf, LengthClaimed}
 use Rattle.tsp_verdict.specs.Places.{IsFirstPlace, IsLarger, IsRepeated, IsUnused}
-use Rattle.tsp_file.specs.Meant.{nodes_of, fixed_of, tours_of}
-use Rattle.tsp_verdict.specs.Solution.{visited}
+use Rattle.tsp_file.specs.Meant.{nodes_of, fixed_of}
+use Rattle.tsp_verdict.specs.Solution.{visited, tours_of}
 use Rattle.tsp_verdict.specs.Tours.{StandsAgainstTour, NoneOfTourUpTo}
 
 pub after_solution : (inst sol : Fields) → is_tours sol.kind ≡ true → NoneOfTourUpTo inst sol 2

@@ -13,8 +13,8 @@ use Rattle.tsp_theory.specs.Cycle.{IsCycle}
 use Rattle.tsp_reason.specs.declared.verdict.Reason.{Reason}
 use Rattle.tsp_reason.specs.declared.verdict.Reason.TheVariants.{NodeOutOfRange, RepeatedNode, FixedEdgeUnused}
 use Rattle.tsp_verdict.specs.Places.{IsFirstPlace, HoldsAtNone, IsLarger, IsRepeated, IsUnused}
-use Rattle.tsp_file.specs.Meant.{nodes_of, fixed_of, tours_of}
-use Rattle.tsp_verdict.specs.Solution.{visited}
+use Rattle.tsp_file.specs.Meant.{nodes_of, fixed_of}
+use Rattle.tsp_verdict.specs.Solution.{visited, tours_of}
 use Rattle.tsp_verdict.specs.Tours.{StandsAgainstTour, NoneOfTourUpTo, IsFirstAgainstTour}
 use Rattle.tsp_verdict.proofs.MarkedNodes.{all_apart}
 use Rattle.tsp_verdict.proofs.TourReasons.{after_count, after_length, after_range, after_repeats, after_fixed}

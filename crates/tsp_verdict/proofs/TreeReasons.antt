@@ -1,5 +1,5 @@
 -- Reasons against a certificate by branching, ruled out one by one, and its bound.
-use Rattle.std.proofs.Common.{◌≡◌, ◌∙◌, ℕ, ◌-◌, ◌<◌, ◌≤◌, Bool, true, false, List, [], ◌∷◌, get_or, length, inl, inr, refl, sym, ap, subst, arith}
+use Rattle.std.proofs.Common.{◌≡◌, ◌∙◌, ℕ, ◌-◌, ◌<◌, ◌≤◌, Bool, true, false, List, [], ◌∷◌, get_or, length, inl, inr, refl, sym, ap, subst, subst₂, arith}
 use Rattle.std.specs.Prelude.{◌⊎◌, Option, None, Some, unwrap_or, ℤ}
 use Rattle.std.specs.Global.{Vec}
 use Rattle.std.specs.List.{All}
@@ -33,7 +33,7 @@ use Rattle.tsp_branch.specs.Listed.{leaf_changes, listed_steps, AreGoodLeaves, I
 use Rattle.tsp_branch.specs.Twice.{divided, IsFirstTwice}
 use Rattle.tsp_reason.specs.declared.verdict.Reason.{Reason}
 use Rattle.tsp_reason.specs.declared.verdict.Reason.TheVariants.{NotBranches, BranchesDimension, BadComb, BranchTwice, BadLeaf}
-use Rattle.tsp_file.specs.Meant.{scale_in, nodes_of, fixed_of, combs_in, steps_in}
+use Rattle.tsp_file.specs.Meant.{scale_in, nodes_of, fixed_of, combs_in}
 use Rattle.tsp_verdict.specs.states.Numbered.{numbered_from}
 use Rattle.tsp_verdict.specs.Places.{IsFirstPlace}
 use Rattle.tsp_verdict.specs.Reasons.{NoneBefore, IsFirstReason}
@@ -74,8 +74,14 @@ bad_within n crossed steps bad h =
 
 -- ---- the verdict of tsp_branch, over what the files hold
 
-abbrev pub IsTold : Fields → Fields → (ℕ → ℕ → ℤ) → BranchVerdict → Type 0
-IsTold inst tree costs verdict = IsBranchVerdict (is_directed inst.kind) (nodes_of inst) costs (scale_in tree) (length (combs_in tree)) (numbered_from 0 (combs_in tree)) (given_in inst) (steps_in tree) verdict
+pub record IsTold (inst tree : Fields) (costs : ℕ → ℕ → ℤ) (verdict : BranchVerdict) : Type 0 where
+  pub steps : List listed.Step
+  pub steps_are : tree.branches ≡ Some steps
+  pub by_steps : IsBranchVerdict (is_directed inst.kind) (nodes_of inst) costs (scale_in tree) (length (combs_in tree)) (numbered_from 0 (combs_in tree)) (given_in inst) steps verdict
+
+-- a file has one list of steps
+one_list : {A : Type 0} (o : Option (List A)) (xs ys : List A) → o ≡ Some xs → o ≡ Some ys → xs ≡ ys
+one_list o xs ys a b = sym (ap (λ p. unwrap_or p []) a) ∙ ap (λ p. unwrap_or p []) b
 
 -- the values that the code passes are those of the files
 pub record AreOf (inst tree : Fields) (directed : Bool) (n : ℕ) (scale : ℤ) (count : ℕ) (sets : List NumberedSet) (given : List Decision) (steps : List listed.Step) : Type 0 where
@@ -85,11 +91,11 @@ pub record AreOf (inst tree : Fields) (directed : Bool) (n : ℕ) (scale : ℤ) 
   pub count_is : count ≡ length (combs_in tree)
   pub sets_are : sets ≡ numbered_from 0 (combs_in tree)
   pub given_is : given ≡ given_in inst
-  pub steps_are : steps ≡ steps_in tree
+  pub steps_are : tree.branches ≡ Some steps
 
 pub are_of : (inst tree : Fields) (directed : Bool) (n : ℕ) (scale : ℤ) (combs : List (Vec (Vec ℕ))) (sets : List NumberedSet) (fixed : List (ℕ × ℕ)) (given : List Decision) (steps : List listed.Step)
     → directed ≡ is_directed inst.kind → inst.dimension ≡ Some n → scale ≡ scale_in tree → lists_of_combs combs ≡ combs_in tree → sets ≡ numbered_from 0 (lists_of_combs combs) → fixed ≡ fixed_of inst
-    → given ≡ take_pairs (each_once directed fixed) → steps ≡ steps_in tree → AreOf inst tree directed n scale (length combs) sets given steps
+    → given ≡ take_pairs (each_once directed fixed) → tree.branches ≡ Some steps → AreOf inst tree directed n scale (length combs) sets given steps
 are_of inst tree directed n scale combs sets fixed given steps directed_is count scale_is combs_are sets_are fixed_are given_is steps_are = record {
   directed_is = directed_is;
   nodes_are = sym (ap (λ (d : Option ℕ). unwrap_or d 0) count);
@@ -104,13 +110,14 @@ pub told : (inst tree : Fields) (directed : Bool) (n : ℕ) (costs : ℕ → ℕ
     → AreOf inst tree directed n scale count sets given steps → IsBranchVerdict directed n costs scale count sets given steps verdict → IsTold inst tree costs verdict
 told inst tree directed n costs scale count sets given steps verdict are h =
     let to : Bool = is_directed inst.kind in
-    subst (λ (m : ℕ). IsBranchVerdict to m costs (scale_in tree) (length (combs_in tree)) (numbered_from 0 (combs_in tree)) (given_in inst) (steps_in tree) verdict) are.nodes_are
-    (subst (λ (z : ℤ). IsBranchVerdict to n costs z (length (combs_in tree)) (numbered_from 0 (combs_in tree)) (given_in inst) (steps_in tree) verdict) are.scale_is
-    (subst (λ (m : ℕ). IsBranchVerdict to n costs scale m (numbered_from 0 (combs_in tree)) (given_in inst) (steps_in tree) verdict) are.count_is
-    (subst (λ (ss : List NumberedSet). IsBranchVerdict to n costs scale count ss (given_in inst) (steps_in tree) verdict) are.sets_are
-    (subst (λ (ds : List Decision). IsBranchVerdict to n costs scale count sets ds (steps_in tree) verdict) are.given_is
-    (subst (λ (ss : List listed.Step). IsBranchVerdict to n costs scale count sets given ss verdict) are.steps_are
-    (subst (λ (d : Bool). IsBranchVerdict d n costs scale count sets given steps verdict) are.directed_is h))))))
+    let by_steps =
+    subst (λ (m : ℕ). IsBranchVerdict to m costs (scale_in tree) (length (combs_in tree)) (numbered_from 0 (combs_in tree)) (given_in inst) steps verdict) are.nodes_are
+    (subst (λ (z : ℤ). IsBranchVerdict to n costs z (length (combs_in tree)) (numbered_from 0 (combs_in tree)) (given_in inst) steps verdict) are.scale_is
+    (subst (λ (m : ℕ). IsBranchVerdict to n costs scale m (numbered_from 0 (combs_in tree)) (given_in inst) steps verdict) are.count_is
+    (subst (λ (ss : List NumberedSet). IsBranchVerdict to n costs scale count ss (given_in inst) steps verdict) are.sets_are
+    (subst (λ (ds : List Decision). IsBranchVerdict to n costs scale count sets ds steps verdict) are.given_is
+    (subst (λ (d : Bool). IsBranchVerdict d n costs scale count sets given steps verdict) are.directed_is h))))) in
+    record { steps = steps; steps_are = are.steps_are; by_steps = by_steps }
 
 -- ---- which reasons apply
 
@@ -139,14 +146,21 @@ numbers_told inst tree crossed are = record {
 }
 
 -- where all leaves are good, none is bad, by whichever numbers
-no_bad_leaf : NumbersAreUnique → (inst tree : Fields) (crossed : List Crossings) → AreNumbersOf inst tree crossed → AreGoodLeaves (nodes_of inst) crossed (steps_in tree) → (index : ℕ)
-    → StandsAgainstTree inst tree (BadLeaf index) → ⊥
-no_bad_leaf unique inst tree crossed are good index stands =
+no_bad_leaf : NumbersAreUnique → (inst tree : Fields) (steps : List listed.Step) (crossed : List Crossings) → tree.branches ≡ Some steps → AreNumbersOf inst tree crossed
+    → AreGoodLeaves (nodes_of inst) crossed steps → (index : ℕ) → StandsAgainstTree inst tree (BadLeaf index) → ⊥
+no_bad_leaf unique inst tree steps crossed steps_are are good index stands =
     let n : ℕ = nodes_of inst in
-    let same : stands.0 ≡ crossed = one_numbers unique n stands.0 crossed (combs_in tree) stands.1.many are.many
-    (recursion_from_All (IsFamily n) (told_families tree stands.0) stands.1.are) (recursion_from_All (IsFamily n) (told_families tree crossed) are.are) in
-    let bad = subst (λ (cs : List Crossings). IsFirstBadLeaf n cs (steps_in tree) index) same stands.2 in
+    let others = stands.2 in
+    let same : others ≡ crossed = one_numbers unique n others crossed (combs_in tree) stands.3.many are.many
+    (recursion_from_All (IsFamily n) (told_families tree others) stands.3.are) (recursion_from_All (IsFamily n) (told_families tree crossed) are.are) in
+    let bad = subst₂ (λ (cs : List Crossings) (ss : List listed.Step). IsFirstBadLeaf n cs ss index) same (one_list tree.branches stands.0 steps stands.1 steps_are) stands.4 in
     bad.bad (good index bad.least bad.most)
+
+-- where no case is divided twice, none is, as the file lists its steps
+no_twice : (inst tree : Fields) (steps : List listed.Step) → tree.branches ≡ Some steps → ((index : ℕ) → IsFirstTwice (is_directed inst.kind) (given_in inst) steps index → ⊥) → (index : ℕ)
+    → StandsAgainstTree inst tree (BranchTwice index) → ⊥
+no_twice inst tree steps steps_are none index stands =
+    none index (subst (λ (ss : List listed.Step). IsFirstTwice (is_directed inst.kind) (given_in inst) ss index) (one_list tree.branches stands.0 steps stands.1 steps_are) stands.2)
 
 -- the facts before a rank rule out the reasons before it
 none_before : (inst tree : Fields) (rank : ℕ) → (23 < rank → is_tree tree.kind ≡ true) → (24 < rank → nodes_of tree ≡ nodes_of inst)
@@ -166,31 +180,32 @@ none_of_tree inst tree sort size = none_before inst tree 25 (λ low. sort) (λ l
 pub comb_first : (inst tree : Fields) (costs : ℕ → ℕ → ℤ) (index : ℕ) → is_tree tree.kind ≡ true → nodes_of tree ≡ nodes_of inst → IsTold inst tree costs (found.BadComb index)
     → IsFirstReason (StandsAgainstTree inst tree) (BadComb index)
 comb_first inst tree costs index sort size is = record {
-  stands = bad_comb inst tree index is;
+  stands = bad_comb inst tree index is.by_steps;
   none_before = none_before inst tree 25 (λ low. sort) (λ low. size) (λ low. absurd (omega (arith, low))) (λ low. absurd (omega (arith, low))) (λ low. absurd (omega (arith, low)));
 }
 
 pub twice_first : (inst tree : Fields) (costs : ℕ → ℕ → ℤ) (index : ℕ) → is_tree tree.kind ≡ true → nodes_of tree ≡ nodes_of inst → IsTold inst tree costs (found.BranchTwice index)
     → IsFirstReason (StandsAgainstTree inst tree) (BranchTwice index)
 twice_first inst tree costs index sort size is = record {
-  stands = is.2;
-  none_before = none_before inst tree 26 (λ low. sort) (λ low. size) (λ low. no_bad_comb inst tree is.1.good) (λ low. absurd (omega (arith, low))) (λ low. absurd (omega (arith, low)));
+  stands = (is.steps, is.steps_are, is.by_steps.2);
+  none_before = none_before inst tree 26 (λ low. sort) (λ low. size) (λ low. no_bad_comb inst tree is.by_steps.1.good) (λ low. absurd (omega (arith, low))) (λ low. absurd (omega (arith, low)));
 }
 
 pub leaf_first : (inst tree : Fields) (costs : ℕ → ℕ → ℤ) (index : ℕ) → is_tree tree.kind ≡ true → nodes_of tree ≡ nodes_of inst → IsTold inst tree costs (found.BadLeaf index)
     → IsFirstReason (StandsAgainstTree inst tree) (BadLeaf index)
 leaf_first inst tree costs index sort size is = record {
-  stands = (is.crossed, numbers_told inst tree is.crossed is.are_families, is.leaves);
-  none_before = none_before inst tree 27 (λ low. sort) (λ low. size) (λ low. no_bad_comb inst tree is.are_families.good) (λ low. is.are_once.0) (λ low. absurd (omega (arith, low)));
+  stands = (is.steps, is.steps_are, is.by_steps.crossed, numbers_told inst tree is.by_steps.crossed is.by_steps.are_families, is.by_steps.leaves);
+  none_before = none_before inst tree 27 (λ low. sort) (λ low. size) (λ low. no_bad_comb inst tree is.by_steps.are_families.good) (λ low. no_twice inst tree is.steps is.steps_are is.by_steps.are_once.0) (λ low. absurd (omega (arith, low)));
 }
 
 pub none_stands : NumbersAreUnique → (inst tree : Fields) (costs : ℕ → ℕ → ℤ) (bound : Option ℤ) → is_tree tree.kind ≡ true → nodes_of tree ≡ nodes_of inst → IsTold inst tree costs (found.Bound bound)
     → (reason : Reason) → StandsAgainstTree inst tree reason → ⊥
 none_stands unique inst tree costs bound sort size is NotBranches stands = false≢true (sym stands ∙ sort)
 none_stands unique inst tree costs bound sort size is BranchesDimension stands = stands size
-none_stands unique inst tree costs bound sort size is (BadComb index) stands = no_bad_comb inst tree is.are_families.good index stands
-none_stands unique inst tree costs bound sort size is (BranchTwice index) stands = is.are_once.0 index stands
-none_stands unique inst tree costs bound sort size is (BadLeaf index) stands = no_bad_leaf unique inst tree is.crossed (numbers_told inst tree is.crossed is.are_families) is.leaves.2 index stands
+none_stands unique inst tree costs bound sort size is (BadComb index) stands = no_bad_comb inst tree is.by_steps.are_families.good index stands
+none_stands unique inst tree costs bound sort size is (BranchTwice index) stands = no_twice inst tree is.steps is.steps_are is.by_steps.are_once.0 index stands
+none_stands unique inst tree costs bound sort size is (BadLeaf index) stands =
+    no_bad_leaf unique inst tree is.steps is.by_steps.crossed is.steps_are (numbers_told inst tree is.by_steps.crossed is.by_steps.are_families) is.by_steps.leaves.2 index stands
 none_stands unique inst tree costs bound sort size is reason stands = stands
 
 -- ---- the bound, carried to costs that are the same between all nodes
@@ -219,31 +234,31 @@ even_view inst directed costs kind is even same undirected i j differ =
 
 -- what is found for the costs of a view is found for those of the instance
 module _ (inst tree : Fields) (costs : ℕ → ℕ → ℤ) (bound : Option ℤ) (same : Same costs (cost inst)) (is : IsTold inst tree costs (found.Bound bound)) where
-  numbers_are : AreNumbersOf inst tree is.crossed
-  numbers_are = numbers_told inst tree is.crossed is.are_families
+  numbers_are : AreNumbersOf inst tree is.by_steps.crossed
+  numbers_are = numbers_told inst tree is.by_steps.crossed is.by_steps.are_families
 
-  certificate_is : IsCertificate (nodes_of inst) (told_families tree is.crossed) (given_in inst) (tree_in inst tree)
+  certificate_is : IsCertificate (nodes_of inst) (told_families tree is.by_steps.crossed) (given_in inst) (tree_in inst tree is.steps)
   certificate_is =
-      subst (λ (k : ℕ). IsCertificate (nodes_of inst) (told_families tree is.crossed) (given_in inst) (listed_steps (nodes_of inst) k (steps_in tree))) numbers_are.many
-      (subst (λ (fs : List Family). IsCertificate (nodes_of inst) fs (given_in inst) (listed_steps (nodes_of inst) (length is.crossed) (steps_in tree)))
-      (families_told is.crossed (combs_in tree) numbers_are.many) is.leaves.0)
+      subst (λ (k : ℕ). IsCertificate (nodes_of inst) (told_families tree is.by_steps.crossed) (given_in inst) (listed_steps (nodes_of inst) k is.steps)) numbers_are.many
+      (subst (λ (fs : List Family). IsCertificate (nodes_of inst) fs (given_in inst) (listed_steps (nodes_of inst) (length is.by_steps.crossed) is.steps))
+      (families_told is.by_steps.crossed (combs_in tree) numbers_are.many) is.by_steps.leaves.0)
 
-  bound_is : IsCertificateBound (is_directed inst.kind) (nodes_of inst) (cost inst) (scale_in tree) decided_number (told_families tree is.crossed) (given_in inst) (tree_in inst tree) bound
+  bound_is : IsCertificateBound (is_directed inst.kind) (nodes_of inst) (cost inst) (scale_in tree) decided_number (told_families tree is.by_steps.crossed) (given_in inst) (tree_in inst tree is.steps) bound
   bound_is =
-      subst (λ (f : ℕ → ℕ → ℤ). IsCertificateBound (is_directed inst.kind) (nodes_of inst) f (scale_in tree) decided_number (told_families tree is.crossed) (given_in inst) (tree_in inst tree) bound)
+      subst (λ (f : ℕ → ℕ → ℤ). IsCertificateBound (is_directed inst.kind) (nodes_of inst) f (scale_in tree) decided_number (told_families tree is.by_steps.crossed) (given_in inst) (tree_in inst tree is.steps) bound)
       (fun_ext (λ i. fun_ext (same i)))
-      (subst (λ (k : ℕ). IsCertificateBound (is_directed inst.kind) (nodes_of inst) costs (scale_in tree) decided_number (told_families tree is.crossed) (given_in inst)
-      (listed_steps (nodes_of inst) k (steps_in tree)) bound) numbers_are.many
+      (subst (λ (k : ℕ). IsCertificateBound (is_directed inst.kind) (nodes_of inst) costs (scale_in tree) decided_number (told_families tree is.by_steps.crossed) (given_in inst)
+      (listed_steps (nodes_of inst) k is.steps) bound) numbers_are.many
       (subst (λ (fs : List Family). IsCertificateBound (is_directed inst.kind) (nodes_of inst) costs (scale_in tree) decided_number fs (given_in inst)
-      (listed_steps (nodes_of inst) (length is.crossed) (steps_in tree)) bound)
-      (families_told is.crossed (combs_in tree) numbers_are.many) is.leaves.1))
+      (listed_steps (nodes_of inst) (length is.by_steps.crossed) is.steps) bound)
+      (families_told is.by_steps.crossed (combs_in tree) numbers_are.many) is.by_steps.leaves.1))
 
   has_bound : HasBoundByTree inst tree bound
-  has_bound = record { crossed = is.crossed; numbers = numbers_are; certificate = certificate_is; bound = bound_is }
+  has_bound = record { steps = is.steps; steps_are = is.steps_are; crossed = is.by_steps.crossed; numbers = numbers_are; certificate = certificate_is; bound = bound_is }
 
   cycles_bounded : CertificatesBoundCycles → HasArcsOrEdges inst → 3 ≤ nodes_of inst → IsSymmetricTsp inst → IsScale (scale_in tree) → BoundsIfAny (is_directed inst.kind) (nodes_of inst) (cost inst) (given_in inst) bound
   cycles_bounded law kind some even scaled =
-      law (is_directed inst.kind) (nodes_of inst) (cost inst) (scale_in tree) decided_number (told_families tree is.crossed) (given_in inst) (tree_in inst tree) bound
+      law (is_directed inst.kind) (nodes_of inst) (cost inst) (scale_in tree) decided_number (told_families tree is.by_steps.crossed) (given_in inst) (tree_in inst tree is.steps) bound
       (costs_for (is_directed inst.kind) (nodes_of inst) (cost inst) some (λ undirected. even (tsp_of_undirected inst kind undirected))) scaled certificate_is bound_is
 
 tour_keeps : (inst : Fields) (nodes : List ℕ) → IsTourOf inst nodes → KeepsAll (is_directed inst.kind) nodes (given_in inst)

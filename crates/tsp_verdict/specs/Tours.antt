@@ -14,8 +14,8 @@ use Rattle.tsp_reason.specs.declared.verdict.Verdict.{Verdict}
 use Rattle.tsp_reason.specs.declared.verdict.Verdict.TheVariants as verdicts
 use Rattle.tsp_verdict.specs.Places.{IsFirstPlace, IsLarger, IsRepeated, IsUnused}
 use Rattle.tsp_verdict.specs.Reasons.{rank_of, NoneBefore, IsFirstReason}
-use Rattle.tsp_file.specs.Meant.{nodes_of, fixed_of, tours_of}
-use Rattle.tsp_verdict.specs.Solution.{visited}
+use Rattle.tsp_file.specs.Meant.{nodes_of, fixed_of}
+use Rattle.tsp_verdict.specs.Solution.{visited, tours_of}
 
 -- When a reason applies to a tour: those of the files, of the tour and of the nodes of it. No other reason does.
 abbrev pub StandsAgainstTour : Fields → Fields → Reason → Type 0

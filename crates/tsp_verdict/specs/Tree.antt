@@ -4,7 +4,7 @@ use Rattle.std.specs.List.{All}
 use Rattle.tsp_format.specs.Steps as listed
 use Rattle.tsp_draft.specs.Fields.{Fields}
 use Rattle.tsp_draft.specs.Rules.{is_tree}
-use Rattle.tsp_file.specs.Meant.{nodes_of, fixed_of, scale_in, combs_in, steps_in}
+use Rattle.tsp_file.specs.Meant.{nodes_of, fixed_of, scale_in, combs_in}
 use Rattle.tsp_file.specs.Cost.{cost}
 use Rattle.tsp_cost.specs.Tours.{is_directed}
 use Rattle.tsp_families.specs.declared.family.Crossings.{Crossings}
@@ -32,9 +32,9 @@ each_once directed (pair ∷ pairs) = pair ∷ filter (λ other. not (is_same di
 abbrev pub given_in : Fields → List Decision
 given_in inst = take_pairs (each_once (is_directed inst.kind) (fixed_of inst))
 
--- the steps of its tree, with the potentials and the multipliers of each leaf
-abbrev pub tree_in : Fields → Fields → List CaseStep
-tree_in inst tree = listed_steps (nodes_of inst) (length (combs_in tree)) (steps_in tree)
+-- steps of its tree, with the potentials and the multipliers of each leaf
+abbrev pub tree_in : Fields → Fields → List listed.Step → List CaseStep
+tree_in inst tree steps = listed_steps (nodes_of inst) (length (combs_in tree)) steps
 
 -- its families, with these numbers
 abbrev pub families_with : List Crossings → List (List (List ℕ)) → List Family
@@ -60,9 +60,10 @@ abbrev pub StandsAgainstTree : Fields → Fields → Reason → Type 0
 StandsAgainstTree inst tree NotBranches = is_tree tree.kind ≡ false
 StandsAgainstTree inst tree BranchesDimension = nodes_of tree ≢ nodes_of inst
 StandsAgainstTree inst tree (BadComb index) = IsFirstPlace (IsBadComb (nodes_of inst) (combs_in tree)) (combs_in tree) index
-StandsAgainstTree inst tree (BranchTwice index) = IsFirstTwice (is_directed inst.kind) (given_in inst) (steps_in tree) index
-StandsAgainstTree inst tree (BadLeaf index) =
-    (crossed : List Crossings) × AreNumbersOf inst tree crossed × IsFirstBadLeaf (nodes_of inst) crossed (steps_in tree) index
+StandsAgainstTree inst tree (BranchTwice index) = (steps : List listed.Step) × (tree.branches ≡ Some steps)
+    × IsFirstTwice (is_directed inst.kind) (given_in inst) steps index
+StandsAgainstTree inst tree (BadLeaf index) = (steps : List listed.Step) × (tree.branches ≡ Some steps)
+    × (crossed : List Crossings) × AreNumbersOf inst tree crossed × IsFirstBadLeaf (nodes_of inst) crossed steps index
 StandsAgainstTree inst tree reason = ⊥
 
 -- ---- its bound
@@ -70,11 +71,13 @@ StandsAgainstTree inst tree reason = ⊥
 -- families, a whole tree and good numbers at its leaves, and what is the least of the bounds of these: by least 1-trees, for an ATSP
 -- by the least link from each node
 pub record HasBoundByTree (inst tree : Fields) (found : Option ℤ) : Type 0 where
+  pub steps : List listed.Step
+  pub steps_are : tree.branches ≡ Some steps
   pub crossed : List Crossings
   pub numbers : AreNumbersOf inst tree crossed
-  pub certificate : IsCertificate (nodes_of inst) (told_families tree crossed) (given_in inst) (tree_in inst tree)
+  pub certificate : IsCertificate (nodes_of inst) (told_families tree crossed) (given_in inst) (tree_in inst tree steps)
   pub bound : IsCertificateBound (is_directed inst.kind) (nodes_of inst) (cost inst) (scale_in tree) decided_number
-      (told_families tree crossed) (given_in inst) (tree_in inst tree) found
+      (told_families tree crossed) (given_in inst) (tree_in inst tree steps) found
 
 -- a bound
 abbrev pub IsBoundByTree : Fields → Fields → ℤ → Type 0

@@ -5,7 +5,8 @@ ghost use Rattle.std.specs.List.{All};
 ghost use Rattle.tsp_format.specs.declared.kinds.Kind.TheVariants as kinds;
 ghost use Rattle.tsp_format.specs.Cells.{IsNode};
 ghost use Rattle.tsp_draft.specs.Fields.{Fields};
-ghost use Rattle.tsp_file.specs.Meant.{demands_of, depots_of, nodes_of};
+ghost use Rattle.tsp_file.specs.Meant.{nodes_of};
+ghost use Rattle.tsp_cost.specs.Tours.{demands_of, depots_of};
 ghost use Rattle.tsp_reason.specs.declared.certificate.Certificate.{Certificate};
 ghost use Rattle.tsp_reason.specs.declared.verdict.Verdict.TheVariants as verdicts;
 ghost use Rattle.tsp_reason.specs.Verdicts.{is_clear};
@@ -63,12 +64,11 @@ fn basis_alone(instance: &Instance) -> Basis
     ensures { IsBasisAlone instance.now.kind instance.now result }
 {
     match instance.kind() {
-        Kind::Tsp | Kind::Atsp => match costs_of_tours(instance) {
+        Kind::Cvrp => basis_of_routes(instance),
+        _ => match costs_of_tours(instance) {
             Ok(_) => Basis::Tours { bound: None },
             Err(reason) => Basis::No(reason),
         },
-        Kind::Cvrp => basis_of_routes(instance),
-        Kind::Tour | Kind::Potentials | Kind::Branches => unreachable!(),
     }
 }
 

@@ -9,15 +9,14 @@ ghost use Rattle.tsp_draft.specs.Rules.{is_certificate};
 ghost use Rattle.tsp_file.specs.Cost.{cost};
 ghost use Rattle.tsp_file.specs.Typed.{HoldsNodeNumbers, HoldsDuals};
 ghost use Rattle.tsp_theory.specs.Costs.{IsSymmetric};
-ghost use Rattle.tsp_theory.specs.Assignment.{IsFirstBroken};
 ghost use Rattle.tsp_cost.specs.states.Views.{HasCosts, Shows, ShowsEven};
 ghost use Rattle.tsp_theory.specs.Adjusted.{AreOnPairs};
 ghost use Rattle.tsp_bound.specs.states.Duals.{dual_scale as scale_of_duals, rows_of, columns_of};
 ghost use Rattle.tsp_bound.specs.states.Multipliers.{triples_of};
 ghost use Rattle.tsp_bound.specs.states.Potentials.{scale_of, numbers_of};
 ghost use Rattle.tsp_verdict.specs.Reasons.{IsFirstReason};
-ghost use Rattle.tsp_file.specs.Meant.{nodes_of, fixed_of, scale_in, rows_in, columns_in, multipliers_in};
-ghost use Rattle.tsp_verdict.specs.Certificate.{has_wanted, StandsAgainstPotentials};
+ghost use Rattle.tsp_file.specs.Meant.{nodes_of, fixed_of, multipliers_in};
+ghost use Rattle.tsp_verdict.specs.Certificate.{has_wanted, BreaksDuals, StandsAgainstPotentials};
 ghost use Rattle.tsp_reason.specs.declared.certificate.Certificate.TheVariants as certificates;
 ghost use Rattle.tsp_verdict.specs.Certified.{IsCertified, FindsBound, NoneWithoutMemory};
 ghost use Rattle.tsp_verdict.specs.Multiplied.{AreListed};
@@ -107,7 +106,7 @@ fn first_against_file(inst: &Instance, pot: &File) -> Option<Reason>
     if pot.kind() != Kind::Potentials {
         return Some(Reason::NotPotentials);
     }
-    if pot.dimension().unwrap_or(0) != inst.count() {
+    if pot.dimension() != Some(inst.count()) {
         return Some(Reason::PotentialsDimension);
     }
     None
@@ -195,8 +194,7 @@ fn bound_of_duals(
     requires held { HoldsDuals pot.now (scale_of_duals duals.now) (rows_of duals.now) (columns_of duals.now) }
     ensures { MatchResult result
         (λ bound. IsCertified certificates.Potentials inst.now pot.now bound)
-        (λ pair. IsFirstBroken (nodes_of inst.now) (cost inst.now)
-        (scale_in pot.now) (rows_in pot.now) (columns_in pot.now) pair.i pair.j) }
+        (λ pair. BreaksDuals inst.now pot.now pair.i pair.j) }
 {
     // A view has found once and for all where the costs are.
     match view {
@@ -221,8 +219,7 @@ fn assignment_bound<C: Costs>(
     requires held { HoldsDuals pot.now (scale_of_duals duals.now) (rows_of duals.now) (columns_of duals.now) }
     ensures { MatchResult result
         (λ bound. IsCertified certificates.Potentials inst.now pot.now bound)
-        (λ pair. IsFirstBroken (nodes_of inst.now) (cost inst.now)
-        (scale_in pot.now) (rows_in pot.now) (columns_in pot.now) pair.i pair.j) }
+        (λ pair. BreaksDuals inst.now pot.now pair.i pair.j) }
 {
     duals_bound_cycles();
     match dual_bound(c, duals) {

@@ -65,7 +65,7 @@ fn tree_of<'a>(instance: &Instance, branches: &'a File) -> Result<TreeData<'a>, 
     let Some(tree) = branches.as_tree() else {
         return Err(Reason::NotBranches);
     };
-    if branches.dimension().unwrap_or(0) != instance.count() {
+    if branches.dimension() != Some(instance.count()) {
         return Err(Reason::BranchesDimension);
     }
     Ok(tree)

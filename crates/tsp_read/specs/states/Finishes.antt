@@ -1,9 +1,9 @@
 -- What the reader answers at the end of the items (nearest first).
-use Rattle.std.specs.Prelude.{◌≡◌, List, Option, None, Some, Result, Ok, Err, ◌⊎◌}
+use Rattle.std.specs.Prelude.{◌≡◌, List, Option, None, Some, Result, Ok, Err}
 use Rattle.tsp_format.specs.declared.field.Field.{Field}
-use Rattle.tsp_draft.specs.declared.fault.DraftFault.{DraftFault}
+use Rattle.tsp_draft.specs.declared.fault.EndFault.{EndFault}
 use Rattle.tsp_draft.specs.Fields.{Fields}
-use Rattle.tsp_draft.specs.Rules.{standing_of, end_fault, fault_of}
+use Rattle.tsp_draft.specs.Rules.{standing_of, end_fault}
 use Rattle.tsp_read.specs.declared.state.finish.FinishFault.{FinishFault}
 use Rattle.tsp_read.specs.declared.state.finish.FinishFault.TheVariants as faults
 use Rattle.tsp_text.specs.Items.{Item}
@@ -15,10 +15,7 @@ Finishes items (Ok file) = IsClean items × (fault_at_end items ≡ None) × (fi
 Finishes items (Err faults.Memory) = Unit {0}
 Finishes items (Err (faults.End fault)) = IsClean items × (fault_at_end items ≡ Some fault)
 
--- The file of these fields, with this first section that is incomplete, or the fault of the end table. (A draft that was read
--- is never refused.)
-abbrev pub FileOf : Fields → Option Field → Result Fields FinishFault → Type 0
+-- The file of these fields, with this first section that is incomplete, or the fault of the end table.
+abbrev pub FileOf : Fields → Option Field → Result Fields EndFault → Type 0
 FileOf fields incomplete (Ok file) = (end_fault (standing_of fields) incomplete ≡ None) × (file ≡ fields)
-FileOf fields incomplete (Err faults.Memory) = ⊥
-FileOf fields incomplete (Err (faults.End fault)) = (end_fault (standing_of fields) incomplete ≡ Some fault)
-    ⊎ ((end_fault (standing_of fields) incomplete ≡ None) × (refused : DraftFault) × (fault_of fields ≡ Some refused))
+FileOf fields incomplete (Err fault) = end_fault (standing_of fields) incomplete ≡ Some fault

@@ -12,6 +12,7 @@ use Rattle.tsp_read.specs.declared.state.reading.Reading.{Reading}
 use Rattle.tsp_format.specs.declared.keyword.Keyword.TheVariants.{Known, Unknown}
 use Rattle.tsp_format.specs.Limits.{most_line_bytes}
 use Rattle.tsp_text.specs.Items.{WordLine, Item, Line}
+use Rattle.tsp_text.specs.Cuts.{AreCut}
 use Rattle.tsp_text.specs.Earlier.{has_line, open_section, is_open, words_of}
 use Rattle.tsp_text.specs.Values.{spatial_after}
 use Rattle.tsp_text.specs.Sections.{dimension_in}
@@ -63,6 +64,10 @@ pub record Closed (reading : Reading) (earlier : List Item) : Type 0 where
   pub spelled : fields_of reading.draft ≡ fields_by (λ field. has_line field earlier) earlier
   pub incomplete : reading.incomplete ≡ first_incomplete earlier
   pub part : reading.opened ≡ None
+
+-- it was read from some items, whose lines and words are cut as those of a text
+abbrev pub IsReadFrom : Reading → Type 0
+IsReadFrom reading = ∥ ((earlier : List Item) × Holds reading earlier × AreCut earlier) ∥₁
 
 -- What a step answers for an item: its fault, or none and the state holds that item too.
 abbrev pub AnswersItem : List Item → Item → Reading → Result (Unit {0}) StepFault → Type 0

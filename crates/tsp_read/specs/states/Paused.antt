@@ -1,5 +1,6 @@
 -- A text that goes on after a piece.
-use Rattle.std.specs.Prelude.{◌≡◌, ℕ, ◌+◌, ◌≤◌, Bool, true, false, List, [], Result, Ok, Err}
+use Rattle.std.specs.Prelude.{◌≡◌, ℕ, ◌+◌, ◌≤◌, Bool, true, false, List, [], length, Result, Ok, Err}
+use Rattle.tsp_format.specs.Limits.{most_file_bytes}
 use Rattle.tsp_text.specs.declared.fault.ReadFault.{ReadFault}
 use Rattle.tsp_text.specs.declared.fault.ReadFault.TheVariants as faults
 use Rattle.tsp_read.specs.declared.state.reading.Reading.{Reading}
@@ -7,7 +8,9 @@ use Rattle.tsp_read.specs.declared.intake.Intake.{Intake}
 use Rattle.tsp_read.specs.declared.begun.Begun.{Begun}
 use Rattle.tsp_read.specs.declared.stage.Stage.{Stage}
 use Rattle.tsp_read.specs.declared.stage.Stage.TheVariants.{Going, Ended, Refused}
-use Rattle.tsp_text.specs.Items.{items_of}
+use Rattle.tsp_text.specs.Items.{items_of, has_end_line}
+use Rattle.tsp_text.specs.Text.{settled_part}
+use Rattle.tsp_read.specs.states.Holds.{Holds}
 use Rattle.tsp_read.specs.states.Left.{items_left}
 use Rattle.tsp_read.specs.states.Onward.{is_bare}
 use Rattle.tsp_read.specs.states.Taken.{ReadsItems}
@@ -50,3 +53,9 @@ outcome_of (Refused found) = Err found
 -- while a text goes on, no more lines and words can be counted than bytes have come
 abbrev pub HasRoom : Stage → Intake → Begun → ℕ → Type 0
 HasRoom stage intake begun count = stage ≡ Going → (most_lines intake begun 0 ≤ count + 1) × (most_words intake begun 0 ≤ count)
+
+-- there are bytes, this many, that were taken so far; of a refused text nothing is said
+abbrev pub HasBytes : Stage → Intake → Begun → ℕ → Type 0
+HasBytes Going intake begun count = (bytes : List ℕ) × (count ≡ length bytes) × (length bytes ≤ most_file_bytes) × IsPaused intake begun bytes
+HasBytes Ended intake begun count = (bytes : List ℕ) × Holds intake.reading (settled_part bytes) × (has_end_line (settled_part bytes) ≡ true)
+HasBytes (Refused found) intake begun count = Unit {0}

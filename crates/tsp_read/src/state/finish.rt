@@ -1,17 +1,18 @@
 //! The end of the text.
 
-ghost use Rattle.std.specs.Prelude.{◌≡◌, List, Err, is_some, true};
+ghost use Rattle.std.specs.Prelude.{◌≡◌, List, None, Err, is_some, true};
 ghost use Rattle.tsp_text.specs.declared.fault.ReadFault.TheVariants.{OutOfMemory};
 ghost use Rattle.tsp_text.specs.Items.{Item};
-ghost use Rattle.tsp_read.specs.states.Holds.{Holds};
+ghost use Rattle.tsp_read.specs.states.Holds.{Holds, IsReadFrom};
 ghost use Rattle.tsp_text.specs.Cuts.{AreCut};
 ghost use Rattle.tsp_read.specs.Reads.{Completes};
 ghost use Rattle.tsp_draft.specs.states.Drafts.{fields_of};
+ghost use Rattle.tsp_draft.specs.Rules.{standing_of, end_fault, fault_of};
 ghost use Rattle.tsp_read.specs.states.Finishes.{FileOf};
 
 use crate::state::reading::Reading;
 use std::alloc::Global;
-use tsp_draft::{Draft, DraftFault, EndFault, end_fault};
+use tsp_draft::{Draft, EndFault, end_fault};
 use tsp_file::File;
 use tsp_format::Field;
 use tsp_text::ReadFault;
@@ -25,30 +26,18 @@ pub(crate) enum FinishFault {
     End(EndFault),
 }
 
-/// The fault of a refused draft. The drafts that are read are never refused.
-fn refused(fault: DraftFault) -> EndFault {
-    match fault {
-        DraftFault::Rule(fault) => fault,
-        DraftFault::BadField(field) => EndFault::Missing(field),
-    }
-}
-
 /// The file of the fields that were read, or the fault of the end table.
-fn file_of(draft: Draft, incomplete: Option<Field>) -> Result<File, FinishFault>
+fn file_of(draft: Draft, incomplete: Option<Field>) -> Result<File, EndFault>
+    requires { end_fault (standing_of (fields_of draft)) incomplete ≡ None
+        → fault_of (fields_of draft) ≡ None }
     ensures { FileOf (fields_of draft) incomplete result }
 {
     match end_fault(&draft, incomplete) {
         Some(fault) => {
             drop(draft);
-            Err(FinishFault::End(fault))
+            Err(fault)
         }
-        None => match File::of(draft) {
-            Ok(file) => Ok(file),
-            Err((fault, draft)) => {
-                drop(draft);
-                Err(FinishFault::End(refused(fault)))
-            }
-        },
+        None => Ok(File::of_valid(draft)),
     }
 }
 
@@ -57,7 +46,13 @@ impl Reading {
     ghost use Rattle.tsp_read.specs.states.Finishes.{Finishes};
 
     /// The file that was read, or the fault of its end.
+    ///
+    /// # Requires
+    ///
+    /// Lines and words that it was read from: the fields of such are valid, so that they aren't judged
+    /// again.
     pub(crate) fn finish(mut self, alloc: Global) -> Result<File, FinishFault>
+        requires { IsReadFrom self }
         ensures file { (earlier : List Item) → Holds self earlier → AreCut earlier
             → Finishes earlier result }
         ensures stood { result ≡ Err Memory → is_some self.opened ≡ true }
@@ -70,12 +65,16 @@ impl Reading {
             }
         }
         let (draft, incomplete) = self.into_draft();
-        file_of(draft, incomplete)
+        match file_of(draft, incomplete) {
+            Ok(file) => Ok(file),
+            Err(fault) => Err(FinishFault::End(fault)),
+        }
     }
 }
 
 /// The file of all that was read.
 pub(crate) fn completed(reading: Reading, alloc: Global) -> Result<File, ReadFault>
+    requires { IsReadFrom reading }
     ensures file { (earlier : List Item) → Holds reading earlier → AreCut earlier
         → Completes earlier result }
     ensures stood { result ≡ Err OutOfMemory → is_some reading.opened ≡ true }

@@ -5,8 +5,7 @@ use Rattle.std.specs.List.{All, flat_map}
 use Rattle.tsp_format.specs.Limits.{most_tour_nodes}
 use Rattle.tsp_draft.specs.Fields.{Fields}
 use Rattle.tsp_draft.specs.Rules.{is_tours}
-use Rattle.tsp_file.specs.Meant.{tours_of}
-use Rattle.tsp_verdict.specs.Solution.{visited}
+use Rattle.tsp_verdict.specs.Solution.{visited, tours_of}
 
 -- the nodes of several vectors, one after the other
 abbrev pub nodes_in : List (Vec ℕ) → List ℕ

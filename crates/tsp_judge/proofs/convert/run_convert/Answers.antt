@@ -20,6 +20,6 @@ returns-in-Err-written g c = let read = c.in_ok-file.ensures in
       read.0,
       read.1,
       convert_stopped c.args.to turn (sink_of g.W.Write.contents c.args.out.now c.write_file-written.new.out) c.in-Ok.converted c.in-Err-written.fault
-          (converted c.args.to turn c.in_ok-file.file c.in-Ok.converted read.2 c.in-Ok.ensures c.fields-valid.ensures.valid)
-          c.in-Err-written.ensures,
+          (converted c.args.to turn c.in_ok-file.file c.in-Ok.converted read.2 c.in-Ok.ensures c.write_file-written.ensures.valid)
+          c.in-Err-written.ensures.written,
     )

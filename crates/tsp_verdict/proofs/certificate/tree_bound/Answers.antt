@@ -2,7 +2,7 @@ use Rattle.std.proofs.Common.{◌∙◌, rules, FitsSigned}
 use Rattle.std.specs.Int.{w128}
 use Rattle.std.proofs.lemmas.Int.{to_z-of_z}
 use Rattle.tsp_verdict.proofs.CarriedBounds.{certified}
-use Rattle.tsp_verdict.proofs.HeldNumbers.{numbers_are, numbers_counted}
+use Rattle.tsp_verdict.proofs.HeldNumbers.{numbers_counted}
 use Rattle.tsp_verdict.proofs.certificate.tree_bound.Goals as goal
 
 pub returns-in-Ok : goal.returns-in-Ok
@@ -14,5 +14,5 @@ returns-in-Ok g c =
     rw (to_z-of_z w128 c.in-Ok.found.bound fits) (certified c.args.inst.now pot (g.C.Costs.nodes c.args.c.now) (g.C.Costs.at c.args.c.now)
     numbers.potentials.scale numbers.potentials.numbers.now numbers.multipliers.triples.now c.in-Ok.found.bound
     c.adjusted_bounds_bound_cycles.ensures.cycles held.multipliers_are c.requires.listed c.requires.kind c.requires.even c.requires.some
-    held.scaled held.scale_is (numbers_are pot _ _ _ held) (numbers_counted pot _ _ _ held ∙ c.requires.count) c.requires.keeps
+    held.scaled held.scale_is held.numbers_are (numbers_counted pot _ _ _ held ∙ c.requires.count) c.requires.keeps
     (c.in-Ok.ensures.bound, c.in-Ok.ensures.size))

@@ -12,13 +12,15 @@ returns-clause-node_twice c = record {
 }
 
 pub returns-clause-again : goal.returns-clause-again
-returns-clause-again c = first_twice_by_place _ _ _ 2 (inr (refl, inl (refl, refl)))
+returns-clause-again c = (_, refl, first_twice_by_place _ _ _ 2 (inr (refl, inl (refl, refl))))
 
 pub returns-clause-fixed : goal.returns-clause-fixed
-returns-clause-fixed c = first_twice_by_place _ _ _ 1 (inl (refl, refl))
+returns-clause-fixed c = (_, refl, first_twice_by_place _ _ _ 1 (inl (refl, refl)))
 
 pub returns-clause-past_the_nodes : goal.returns-clause-past_the_nodes
 returns-clause-past_the_nodes c = (
+  _,
+  refl,
   [],
   record { many = refl; are = All-nil (IsFamily 4) },
   first_bad_by_place _ _ _ 1 (inl (refl, λ good. let inside = (good.indexes 0 (0, pos 0) (omega arith)).1 in omega (arith, inside))),

@@ -1,5 +1,6 @@
 use Rattle.std.proofs.Common.{◌≡◌, List, ℕ, ◌∷◌, [], length, sym, ap, ◌∙◌, arith}
-use Rattle.tsp_file.specs.Meant.{tours_of, nodes_of}
+use Rattle.tsp_file.specs.Meant.{nodes_of}
+use Rattle.tsp_verdict.specs.Solution.{tours_of}
 use Rattle.tsp_verdict.proofs.TourVerdicts.{one_tour, tour_found}
 use Rattle.tsp_verdict.proofs.tour.the_tour.Goals as goal
 

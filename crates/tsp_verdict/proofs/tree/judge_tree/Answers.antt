@@ -16,7 +16,6 @@ use Rattle.tsp_branch.specs.Listed.{IsStepOf}
 use Rattle.tsp_families.specs.FamilySets.{AreSetsOf}
 use Rattle.tsp_file.specs.Meant.{nodes_of}
 use Rattle.tsp_verdict.proofs.FilesHold.{steps_hold, steps_few}
-use Rattle.tsp_verdict.proofs.HeldNumbers.{steps_are}
 use Rattle.tsp_verdict.proofs.GivenPairs.{given_once, given_are, given_few}
 use Rattle.tsp_verdict.proofs.NumberedSets.{sets_of_nodes, sets_of_combs, sets_in_order, sets_few}
 use Rattle.tsp_verdict.proofs.TreeReasons.{directed_is, even_view, no_tour, are_of, told, twice_within, bad_within, comb_first, twice_first, leaf_first, none_stands, certified}
@@ -84,7 +83,7 @@ returns-in-Bound-Some g c =
     let scaled : FitsSigned w64 c.args.tree.now.scale = search rules in
     let are = are_of inst tree c.is_directed-directed.result n (to_z w64 (of_z w64 c.args.tree.now.scale)) combs sets c.fixed.result.now given steps (directed_is c.is_directed-directed.result inst c.kind.result c.is_directed-directed.ensures c.kind.ensures.value) c.requires.keeps.count
     (to_z-of_z w64 c.args.tree.now.scale scaled ∙ c.requires.held.scale_is) c.requires.held.combs_are
-    (ap plain c.deref.ensures.value ∙ c.in_ok-sets.ensures) c.fixed.ensures.value (c.deref-2.ensures.value ∙ c.in_ok-given.ensures) (steps_are tree _ _ _ c.requires.held) in
+    (ap plain c.deref.ensures.value ∙ c.in_ok-sets.ensures) c.fixed.ensures.value (c.deref-2.ensures.value ∙ c.in_ok-given.ensures) c.requires.held.steps_are in
     let bound = c.in-Bound-Some.bound in
     let is = subst (IsBranchVerdict c.is_directed-directed.result n costs (to_z w64 (of_z w64 c.args.tree.now.scale)) (length combs) sets given steps) whole c.in_ok-bound.ensures.verdict in
     let fits : FitsSigned w128 bound = search rules in
@@ -110,7 +109,7 @@ returns-in-Bound-None g c =
     let scaled : FitsSigned w64 c.args.tree.now.scale = search rules in
     let are = are_of inst tree c.is_directed-directed.result n (to_z w64 (of_z w64 c.args.tree.now.scale)) combs sets c.fixed.result.now given steps (directed_is c.is_directed-directed.result inst c.kind.result c.is_directed-directed.ensures c.kind.ensures.value) c.requires.keeps.count
     (to_z-of_z w64 c.args.tree.now.scale scaled ∙ c.requires.held.scale_is) c.requires.held.combs_are
-    (ap plain c.deref.ensures.value ∙ c.in_ok-sets.ensures) c.fixed.ensures.value (c.deref-2.ensures.value ∙ c.in_ok-given.ensures) (steps_are tree _ _ _ c.requires.held) in
+    (ap plain c.deref.ensures.value ∙ c.in_ok-sets.ensures) c.fixed.ensures.value (c.deref-2.ensures.value ∙ c.in_ok-given.ensures) c.requires.held.steps_are in
     let is = subst (IsBranchVerdict c.is_directed-directed.result n costs (to_z w64 (of_z w64 c.args.tree.now.scale)) (length combs) sets given steps) whole c.in_ok-bound.ensures.verdict in
     let all_told = told inst tree c.is_directed-directed.result n costs _ (length combs) sets given steps (found.Bound None) are is in
     let gone = no_tour inst tree costs c.certificates_bound_cycles.ensures.cycles c.requires.kind c.requires.some c.requires.even
@@ -130,7 +129,7 @@ returns-in-BadComb g c =
     let scaled : FitsSigned w64 c.args.tree.now.scale = search rules in
     let are = are_of inst tree c.is_directed-directed.result n (to_z w64 (of_z w64 c.args.tree.now.scale)) combs sets c.fixed.result.now given steps (directed_is c.is_directed-directed.result inst c.kind.result c.is_directed-directed.ensures c.kind.ensures.value) c.requires.keeps.count
     (to_z-of_z w64 c.args.tree.now.scale scaled ∙ c.requires.held.scale_is) c.requires.held.combs_are
-    (ap plain c.deref.ensures.value ∙ c.in_ok-sets.ensures) c.fixed.ensures.value (c.deref-2.ensures.value ∙ c.in_ok-given.ensures) (steps_are tree _ _ _ c.requires.held) in
+    (ap plain c.deref.ensures.value ∙ c.in_ok-sets.ensures) c.fixed.ensures.value (c.deref-2.ensures.value ∙ c.in_ok-given.ensures) c.requires.held.steps_are in
     let is = subst (IsBranchVerdict c.is_directed-directed.result n costs (to_z w64 (of_z w64 c.args.tree.now.scale)) (length combs) sets given steps) c.in-BadComb.is c.in_ok-bound.ensures.verdict in
     comb_first inst tree costs c.in-BadComb.index c.requires.sort c.requires.count (told inst tree c.is_directed-directed.result n costs _ (length combs) sets given steps (found.BadComb c.in-BadComb.index) are is)
 
@@ -154,7 +153,7 @@ returns-in-BranchTwice g c =
     let scaled : FitsSigned w64 c.args.tree.now.scale = search rules in
     let are = are_of inst tree c.is_directed-directed.result n (to_z w64 (of_z w64 c.args.tree.now.scale)) combs sets c.fixed.result.now given steps (directed_is c.is_directed-directed.result inst c.kind.result c.is_directed-directed.ensures c.kind.ensures.value) c.requires.keeps.count
     (to_z-of_z w64 c.args.tree.now.scale scaled ∙ c.requires.held.scale_is) c.requires.held.combs_are
-    (ap plain c.deref.ensures.value ∙ c.in_ok-sets.ensures) c.fixed.ensures.value (c.deref-2.ensures.value ∙ c.in_ok-given.ensures) (steps_are tree _ _ _ c.requires.held) in
+    (ap plain c.deref.ensures.value ∙ c.in_ok-sets.ensures) c.fixed.ensures.value (c.deref-2.ensures.value ∙ c.in_ok-given.ensures) c.requires.held.steps_are in
     let is = subst (IsBranchVerdict c.is_directed-directed.result n costs (to_z w64 (of_z w64 c.args.tree.now.scale)) (length combs) sets given steps) c.in-BranchTwice.is c.in_ok-bound.ensures.verdict in
     twice_first inst tree costs c.in-BranchTwice.index c.requires.sort c.requires.count
     (told inst tree c.is_directed-directed.result n costs _ (length combs) sets given steps (found.BranchTwice c.in-BranchTwice.index) are is)
@@ -180,6 +179,6 @@ returns g c =
     let scaled : FitsSigned w64 c.args.tree.now.scale = search rules in
     let are = are_of inst tree c.is_directed-directed.result n (to_z w64 (of_z w64 c.args.tree.now.scale)) combs sets c.fixed.result.now given steps (directed_is c.is_directed-directed.result inst c.kind.result c.is_directed-directed.ensures c.kind.ensures.value) c.requires.keeps.count
     (to_z-of_z w64 c.args.tree.now.scale scaled ∙ c.requires.held.scale_is) c.requires.held.combs_are
-    (ap plain c.deref.ensures.value ∙ c.in_ok-sets.ensures) c.fixed.ensures.value (c.deref-2.ensures.value ∙ c.in_ok-given.ensures) (steps_are tree _ _ _ c.requires.held) in
+    (ap plain c.deref.ensures.value ∙ c.in_ok-sets.ensures) c.fixed.ensures.value (c.deref-2.ensures.value ∙ c.in_ok-given.ensures) c.requires.held.steps_are in
     let is = subst (IsBranchVerdict c.is_directed-directed.result n costs (to_z w64 (of_z w64 c.args.tree.now.scale)) (length combs) sets given steps) c.in-BadLeaf.is c.in_ok-bound.ensures.verdict in
     leaf_first inst tree costs c.in-BadLeaf.index c.requires.sort c.requires.count (told inst tree c.is_directed-directed.result n costs _ (length combs) sets given steps (found.BadLeaf c.in-BadLeaf.index) are is)

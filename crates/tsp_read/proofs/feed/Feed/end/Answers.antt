@@ -6,7 +6,8 @@ use Rattle.std.proofs.Common.{◌≡◌, false}
 use Rattle.tsp_read.proofs.FeedSteps.{taken_at, not_refused, still_going}
 use Rattle.tsp_read.proofs.EndLines.{ended_none}
 use Rattle.tsp_read.specs.declared.stage.Stage.TheVariants.{Ended}
-use Rattle.tsp_read.proofs.LastSteps.{ended_whole, taken_whole, taken_fault, refused_fault}
+use Rattle.tsp_read.specs.states.Holds.{IsReadFrom}
+use Rattle.tsp_read.proofs.LastSteps.{ended_read, going_read, ended_whole, taken_whole, taken_fault, refused_fault}
 use Rattle.tsp_read.proofs.feed.Feed.end.Goals as goal
 
 pub returns-in-Refused-clause-ends : goal.returns-in-Refused-clause-ends
@@ -37,3 +38,10 @@ returns-in-Ok-clause-ended c = λ bytes h none ended. absurd (still_going c.args
 
 pub returns-in-Err-clause-ended : goal.returns-in-Err-clause-ended
 returns-in-Err-clause-ended c = λ bytes h none ended. absurd (still_going c.args.self bytes c.in-Going.is h ended)
+
+pub returns-in-Ended-clause-real : goal.returns-in-Ended-clause-real
+returns-in-Ended-clause-real c = subst IsReadFrom (sym c.into_reading.ensures) (ended_read c.args.self c.in-Ended.is)
+
+pub returns-in-Ok-clause-real : goal.returns-in-Ok-clause-real
+returns-in-Ok-clause-real c =
+    subst IsReadFrom (sym c.into_reading-in-Ok.ensures) (going_read c.args.self c.take_last.new.intake.reading c.in-Ok.field-0 c.in-Going.is c.in-Ok.ensures)

@@ -1,6 +1,27 @@
-use Rattle.std.proofs.Common.{refl, ◌++◌}
-use Rattle.tsp_read.proofs.FeedSteps.{fed_longer, comes_to}
+use Rattle.std.proofs.Common.{refl, sym, ap, subst, ◌∙◌, ◌+◌, ◌++◌, length, arith, rules, length-append}
+use Rattle.std.proofs.Math.Logic.{∥∥₁_map}
+use Rattle.tsp_read.specs.declared.stage.Stage.{Stage}
+use Rattle.tsp_read.specs.states.Paused.{HasBytes}
+use Rattle.tsp_read.proofs.FeedSteps.{fed_longer, comes_to, going_bytes, goes_on}
 use Rattle.tsp_read.proofs.feed.Feed.go_on.Goals as goal
+
+-- there are bytes that have come with the piece, too
+pub invariant_of-self : goal.invariant_of-self
+invariant_of-self c =
+    let old = c.args.self.now in
+    let front = c.split_at_most.result.0.now in
+    let intake = c.read_on-read.new.intake in
+    let begun = c.read_on-read.new.begun in
+    record {
+      short = search rules;
+      room = search rules;
+      read = ∥∥₁_map (going_bytes old c.requires) (λ there.
+          subst (λ (stage : Stage). HasBytes stage intake begun (old.count + length front)) (sym c.stage_after-self.ensures)
+          (goes_on c.is_empty.result c.read_on-read.result intake begun (there.0 ++ front) (old.count + length front)
+          (omega (arith, length-append there.0 front, there.1.count, there.1.short, c.split_at_most.ensures.front))
+          (ap (λ n. n + length front) there.1.count ∙ sym (length-append there.0 front))
+          (c.read_on-read.ensures.read (there.0 ++ front) (fed_longer old.intake old.begun there.0 front there.1.paused))));
+    }
 
 pub returns : goal.returns
 returns c = λ bytes h.

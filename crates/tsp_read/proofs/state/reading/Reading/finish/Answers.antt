@@ -1,12 +1,12 @@
-use Rattle.std.proofs.Common.{Option, subst}
+use Rattle.std.proofs.Common.{◌≡◌, None, Option, sym, subst}
 use Rattle.tsp_draft.specs.declared.draft.Draft.{Draft}
 use Rattle.tsp_draft.specs.states.Drafts.{fields_of}
+use Rattle.tsp_draft.specs.Rules.{standing_of, end_fault, fault_of}
 use Rattle.tsp_format.specs.declared.field.Field.{Field}
-use Rattle.tsp_read.specs.states.Finishes.{FileOf}
-use Rattle.tsp_read.proofs.FinishSteps.{finish_answer}
+use Rattle.tsp_read.proofs.FinishSteps.{valid_draft}
 use Rattle.tsp_read.proofs.state.reading.Reading.finish.Goals as goal
 
-pub returns-clause-file : goal.returns-clause-file
-returns-clause-file c = λ earlier h cut.
-    let file = subst (λ (it : Draft × Option Field). FileOf (fields_of it.0) it.1 c.file_of.result) c.into_draft-draft.ensures c.file_of.ensures in
-    finish_answer c.close.new.self earlier c.file_of.result (c.in-Ok.ensures.closed earlier h) cut file
+pub file_of-requires : goal.file_of-requires
+file_of-requires c =
+    subst (λ (it : Draft × Option Field). end_fault (standing_of (fields_of it.0)) it.1 ≡ None → fault_of (fields_of it.0) ≡ None) (sym c.into_draft-draft.ensures)
+    (valid_draft c.args.self c.close.new.self c.requires c.in-Ok.ensures.closed)
