@@ -111,8 +111,8 @@ class Runner(Counts):
             paths.append(f"file{number}")
             with open(os.path.join(self.folder, paths[-1]), "wb") as file:
                 file.write(text.encode("utf-8"))
-        before = 1 if "bound" in parts else 2
-        if len(paths) > before:
+        before = 1 if parts & {"bound", "compare"} else 2
+        if parts & {"potentials", "branches"} if "compare" in parts else len(paths) > before:
             paths.insert(before, "--branches" if "branches" in parts else "--potentials")
         if verb == "convert" and layout:
             paths += ["--layout", layout]
@@ -120,8 +120,8 @@ class Runner(Counts):
             paths.append(f"--length={claim}")
         if "explain" in parts:
             paths.append("--explain")
-        if "bound" in parts:
-            verb = "bound"
+        if parts & {"bound", "compare"}:
+            verb = "bound" if "bound" in parts else "compare"
         elif parts & JUDGED:
             verb = "check" if len(texts) > 1 else "show"
         ran = self.run_program(
@@ -144,16 +144,17 @@ class Runner(Counts):
         end = b"\nyes\n" if status == 0 else b"\n"
         return status, (status == 0 or b"\nno " in out) and out.endswith(end), said
 
-    def expect(self, where, verb, texts, wanted):
+    def expect(self, where, verb, texts, wanted, status=None):
         """Compares a run with the wanted result: a text that is written, what a fault prints, or what
-        explains it."""
+        explains it; and with the wanted exit status, where a row gives it."""
         run = self.outcome
         if verb.startswith("explain"):
             status = STATUS_OF_EXPLAINED.get(verb, 1 if len(texts) > 1 else 2)
             run, right = self.explained, (status, True, wanted.encode("utf-8"))
         elif wanted.endswith("\n"):
             no = set(verb.split("-")) & JUDGED and not wanted.endswith("\nyes\n")
-            right = (int(bool(no)), wanted.encode("utf-8"), b"")
+            status = int(bool(no)) if status is None else int(status)
+            right = (status, wanted.encode("utf-8"), b"")
         else:
             status = STATUSES.get(wanted.partition(": ")[0], 2)
             right = (status, b"", (wanted + "\n").encode("utf-8"))
@@ -172,7 +173,7 @@ class Runner(Counts):
                 if old not in texts[0]:
                     sys.exit(f"{where}: nothing to swap")
                 texts[0] = texts[0].replace(old, new)
-            self.expect(where, verb, texts, wanted)
+            self.expect(where, verb, texts, wanted, cells.get("status"))
             # a canonical text stays as it is
             if verb == "convert" and wanted.endswith("\n"):
                 for layout in {"", texts[0]}:

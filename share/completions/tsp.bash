@@ -4,17 +4,18 @@ _tsp() {
     local words=
     COMPREPLY=()
     if [ "$COMP_CWORD" -eq 1 ]; then
-        words='show convert check bound help -h --help -V --version'
+        words='show convert check compare bound help -h --help -V --version'
     elif [ "$before" = --layout ]; then
         words='FULL_MATRIX UPPER_ROW LOWER_ROW UPPER_DIAG_ROW LOWER_DIAG_ROW
             UPPER_COL LOWER_COL UPPER_DIAG_COL LOWER_DIAG_COL'
     elif [ "$verb" = help ]; then
-        words='show convert check bound help'
+        words='show convert check compare bound help'
     elif [ "${word#-}" != "$word" ]; then
         case $verb in
         show) words='--explain -h --help' ;;
         convert) words='--layout --explain -h --help' ;;
         check) words='--potentials --branches --length --explain -h --help' ;;
+        compare) words='--potentials --branches --explain -h --help' ;;
         bound) words='--potentials --branches --explain -h --help' ;;
         esac
     fi

@@ -3,13 +3,10 @@
 use crate::refused::{REFUSED, certificate_of, claim_of, layout_of};
 use std::alloc::{AllocError, Global};
 use std::str;
-use tsp_explain::{
-    Names, Role, explain_bound, explain_file, explain_verdict, explain_wrong_kind, push_lines,
-    relayout_sentence,
-};
-use tsp_judge::{
-    Certificate, Layout, ReadFault, RunFault, Watched, run, run_bound, run_convert, run_show,
-};
+use tsp_explain::Names;
+use tsp_judge::{ReadFault, RunFault, Watched};
+use tsp_perform::{explain_fault, explain_outcome, perform};
+use tsp_task::Task;
 
 /// Done.
 const DONE: u8 = 0;
@@ -26,48 +23,39 @@ const CHECK: u32 = 2;
 
 const BOUND: u32 = 3;
 
-/// The texts of a call, and what the user calls them.
+/// The numbers of a call.
 #[derive(Clone, Copy)]
-struct Texts<'a> {
-    instance: &'a [u8],
-    solution: &'a [u8],
-    certificate: &'a [u8],
-    names: Names<'a>,
+pub(crate) struct Numbers {
+    pub(crate) call: u32,
+    pub(crate) number: u32,
+    pub(crate) claimed: i64,
+    pub(crate) has_claim: u32,
 }
 
-/// What is explained.
+/// The texts of a call. `names` has what the user calls them, one behind the other, and a byte 0 between
+/// them.
 #[derive(Clone, Copy)]
-enum Call {
-    Show,
-    Convert(Option<Layout>),
-    Check(Option<Certificate>, Option<i64>),
-    Bound(Certificate),
+pub(crate) struct Texts<'a> {
+    pub(crate) instance: &'a [u8],
+    pub(crate) solution: &'a [u8],
+    pub(crate) certificate: &'a [u8],
+    pub(crate) names: &'a [u8],
 }
 
-/// What explains the answer of a call on these texts, with its status. `names` has what the user calls
-/// them, one behind the other, and a byte 0 between them.
-pub(crate) fn explained(
-    alloc: Global,
-    call: u32,
-    instance: &[u8],
-    solution: &[u8],
-    certificate: &[u8],
-    names: &[u8],
-    number: u32,
-    claimed: i64,
-    has_claim: u32,
-) -> (u8, Vec<u8>) {
+/// A text, and what the user calls it.
+#[derive(Clone, Copy)]
+struct Named<'a> {
+    bytes: &'a [u8],
+    name: &'a str,
+}
+
+/// What explains the answer of a call on these texts, with its status.
+pub(crate) fn explained(alloc: Global, numbers: Numbers, texts: Texts<'_>) -> (u8, Vec<u8>) {
     let mut text = Vec::new(alloc);
-    let texts = Texts {
-        instance,
-        solution,
-        certificate,
-        names: names_in(names),
-    };
-    let Some(call) = call_of(call, number, claimed, has_claim) else {
+    let Some(task) = task_of(numbers, texts) else {
         return (REFUSED, text);
     };
-    match explain(alloc, &mut text, call, texts) {
+    match explain(alloc, &mut text, &task) {
         Ok(()) => (DONE, text),
         Err(AllocError) => {
             text.clear();
@@ -76,151 +64,125 @@ pub(crate) fn explained(
     }
 }
 
-/// The call with these numbers, or `None` where one is refused.
-fn call_of(call: u32, number: u32, claimed: i64, has_claim: u32) -> Option<Call> {
-    match call {
-        SHOW => Some(Call::Show),
-        CONVERT if number <= 9 => Some(Call::Convert(layout_of(number))),
-        CHECK if number <= 2 && has_claim <= 1 => {
-            let by = certificate_of(number);
-            Some(Call::Check(by, claim_of(has_claim, claimed)))
+/// The task of a call, or `None` where a number is refused.
+fn task_of<'a>(numbers: Numbers, texts: Texts<'a>) -> Option<Task<Named<'a>>> {
+    let (instance, solution, certificate) = named(texts);
+    let number = numbers.number;
+    match numbers.call {
+        SHOW => Some(Task::Show(instance)),
+        CONVERT if number <= 9 => Some(Task::Convert(instance, layout_of(number))),
+        CHECK if number <= 2 && numbers.has_claim <= 1 => {
+            let claimed = claim_of(numbers.has_claim, numbers.claimed);
+            Some(match certificate_of(number) {
+                None => Task::Check(instance, solution, claimed),
+                Some(by) => Task::CheckBy(by, instance, solution, certificate, claimed),
+            })
         }
-        BOUND => Some(Call::Bound(certificate_of(number)?)),
+        BOUND => Some(Task::Bound(certificate_of(number)?, instance, certificate)),
         _ => None,
     }
 }
 
-/// Appends what explains the answer of a call on these texts.
-fn explain(
-    alloc: Global,
-    text: &mut Vec<u8>,
-    call: Call,
-    texts: Texts<'_>,
-) -> Result<(), AllocError> {
-    let mut first = Watched::new(texts.instance);
-    let mut second = Watched::new(texts.solution);
-    let mut third = Watched::new(texts.certificate);
+/// Appends what explains the answer of a task on texts.
+fn explain(alloc: Global, text: &mut Vec<u8>, task: &Task<Named<'_>>) -> Result<(), AllocError> {
+    let mut readers = opened(task);
     let mut report = Watched::new(Vec::new(alloc));
-    let answer = match call {
-        Call::Show => match run_show(alloc, &mut first, &mut report) {
-            Ok(()) => Ok(()),
-            Err(fault) => explain_fault(alloc, text, call, texts, fault),
-        },
-        Call::Convert(to) => match run_convert(alloc, &mut first, to, &mut report) {
-            Ok(()) => Ok(()),
-            Err(fault) => explain_fault(alloc, text, call, texts, fault),
-        },
-        Call::Check(by, claimed) => {
-            let ended = run(
-                alloc,
-                &mut first,
-                &mut second,
-                by,
-                &mut third,
-                claimed,
-                &mut report,
-            );
-            match ended {
-                Err(fault) => explain_fault(alloc, text, call, texts, fault),
-                Ok(judged) => {
-                    let certificate = match &judged.certificate {
-                        Some((_, certificate)) => Some(certificate),
-                        None => None,
-                    };
-                    explain_verdict(
-                        alloc,
-                        text,
-                        texts.names,
-                        judged.verdict,
-                        &judged.instance,
-                        &judged.solution,
-                        certificate,
-                    )
-                }
-            }
-        }
-        Call::Bound(by) => match run_bound(alloc, &mut first, by, &mut third, &mut report) {
-            Err(fault) => explain_fault(alloc, text, call, texts, fault),
-            Ok(bounded) => explain_bound(
-                alloc,
-                text,
-                texts.names,
-                bounded.found,
-                &bounded.instance,
-                &bounded.certificate,
-            ),
-        },
-    };
+    let ended = perform(alloc, &mut readers, &mut report);
     drop(report);
-    answer
+    match ended {
+        Ok(outcome) => explain_outcome(alloc, text, names_of(task), &outcome),
+        Err(fault) => explain_ended(alloc, text, task, fault),
+    }
+}
+
+/// The task, with a reader of each text.
+fn opened<'a>(task: &Task<Named<'a>>) -> Task<Watched<&'a [u8]>> {
+    match task {
+        Task::Show(file) => Task::Show(Watched::new(file.bytes)),
+        Task::Convert(file, to) => Task::Convert(Watched::new(file.bytes), *to),
+        Task::Check(instance, solution, claimed) => Task::Check(
+            Watched::new(instance.bytes),
+            Watched::new(solution.bytes),
+            *claimed,
+        ),
+        Task::CheckBy(by, instance, solution, certificate, claimed) => Task::CheckBy(
+            *by,
+            Watched::new(instance.bytes),
+            Watched::new(solution.bytes),
+            Watched::new(certificate.bytes),
+            *claimed,
+        ),
+        Task::Bound(by, instance, certificate) => Task::Bound(
+            *by,
+            Watched::new(instance.bytes),
+            Watched::new(certificate.bytes),
+        ),
+    }
 }
 
 /// Appends what explains a fault. One for which there was no memory can't be explained.
-fn explain_fault(
+fn explain_ended(
     alloc: Global,
     text: &mut Vec<u8>,
-    call: Call,
-    texts: Texts<'_>,
+    task: &Task<Named<'_>>,
     fault: RunFault,
 ) -> Result<(), AllocError> {
-    match fault {
+    let number = match fault {
         RunFault::File {
             file: _,
             fault: ReadFault::OutOfMemory | ReadFault::Device,
         }
         | RunFault::OutOfMemory
-        | RunFault::Write(_) => Err(AllocError),
-        RunFault::File { file, fault } => {
-            let (name, given, again) = file_of(call, texts, file);
-            explain_file(alloc, text, name, given, Some(again), fault)
-        }
-        RunFault::WrongKind => {
-            explain_wrong_kind(alloc, text, texts.names.instance, is_bound(call))
-        }
-        RunFault::Relayout(fault) => push_lines(text, relayout_sentence(fault)),
+        | RunFault::Write(_) => return Err(AllocError),
+        RunFault::File { file, fault: _ } => file,
+        RunFault::WrongKind | RunFault::Relayout(_) => 1,
+    };
+    match task.file(number) {
+        None => Ok(()),
+        Some((_, file)) => explain_fault(alloc, text, task, file.name, Some(file.bytes), fault),
     }
 }
 
-/// Whether the call bounds tours.
-fn is_bound(call: Call) -> bool {
-    match call {
-        Call::Bound(_) => true,
-        Call::Show | Call::Convert(_) | Call::Check(..) => false,
+/// What the texts of a task are called. The certificate is the last one.
+fn names_of<'a>(task: &Task<Named<'a>>) -> Names<'a> {
+    let second = name_at(task, 2);
+    Names {
+        instance: name_at(task, 1),
+        solution: second,
+        certificate: match task.file(3) {
+            Some((_, certificate)) => certificate.name,
+            None => second,
+        },
     }
 }
 
-/// What the text with this number in a call is called, what it is given for, and its bytes.
-fn file_of<'a>(call: Call, texts: Texts<'a>, file: u32) -> (&'a str, Option<Role>, &'a [u8]) {
-    let names = texts.names;
-    match (call, file) {
-        (Call::Show | Call::Convert(_), _) => (names.instance, None, texts.instance),
-        (Call::Check(..) | Call::Bound(_), 1) => {
-            (names.instance, Some(Role::Instance), texts.instance)
-        }
-        (Call::Check(..), 2) => (names.solution, Some(Role::Solution), texts.solution),
-        (Call::Check(by, _), _) => (names.certificate, role_of(by), texts.certificate),
-        (Call::Bound(by), _) => (names.certificate, role_of(Some(by)), texts.certificate),
+/// What the text with this number is called; nothing where a task has fewer.
+fn name_at<'a>(task: &Task<Named<'a>>, number: u32) -> &'a str {
+    match task.file(number) {
+        Some((_, file)) => file.name,
+        None => "",
     }
 }
 
-/// What the text of a certificate is given for.
-fn role_of(by: Option<Certificate>) -> Option<Role> {
-    match by? {
-        Certificate::Potentials => Some(Role::Potentials),
-        Certificate::Branches => Some(Role::Branches),
-    }
-}
-
-/// The names of an instance, a solution and a certificate.
-fn names_in(names: &[u8]) -> Names<'_> {
-    let (instance, rest) = cut(names);
+/// The texts of an instance, a solution and a certificate with their names.
+fn named(texts: Texts<'_>) -> (Named<'_>, Named<'_>, Named<'_>) {
+    let (instance, rest) = cut(texts.names);
     let (solution, rest) = cut(rest);
     let (certificate, _) = cut(rest);
-    Names {
-        instance: name_or(instance, "file 1"),
-        solution: name_or(solution, "file 2"),
-        certificate: name_or(certificate, "file 3"),
-    }
+    (
+        Named {
+            bytes: texts.instance,
+            name: name_or(instance, "file 1"),
+        },
+        Named {
+            bytes: texts.solution,
+            name: name_or(solution, "file 2"),
+        },
+        Named {
+            bytes: texts.certificate,
+            name: name_or(certificate, "file 3"),
+        },
+    )
 }
 
 /// What comes before the first byte 0, and what comes after it.

@@ -35,7 +35,7 @@ mod told;
 mod weights;
 
 use crate::distance::distance_of;
-use crate::explain::explained;
+use crate::explain::{Numbers, Texts, explained};
 use crate::handle::Handle;
 use crate::instance::node_count;
 use crate::lengths::fill_lengths;
@@ -205,17 +205,19 @@ pub extern "C" fn tsp_explain(
 ) -> u32
     ensures { PlacesText ExplainsTexts out.old out.new written.new result }
 {
-    let (status, text) = explained(
-        alloc,
+    let numbers = Numbers {
         call,
+        number,
+        claimed,
+        has_claim,
+    };
+    let texts = Texts {
         instance,
         solution,
         certificate,
         names,
-        number,
-        claimed,
-        has_claim,
-    );
+    };
+    let (status, text) = explained(alloc, numbers, texts);
     let answer = place(&text, status, out, written);
     drop(text);
     answer

@@ -3,6 +3,7 @@ use Rattle.std.specs.Prelude.{◌≡◌, List, [], Option, None, Some}
 use Rattle.std.specs.Option.{option_map, option_map_or}
 use Rattle.clap.specs.Words.{Text, first_of, fault_of, subcommand_of}
 use Rattle.tsp_cli.specs.Grammar.{tsp}
+use Rattle.tsp_cli.specs.Words.{values_of}
 
 -- the words are accepted, and are of this verb
 abbrev pub IsWholeLine : Text → List Text → Type 0
@@ -11,3 +12,7 @@ IsWholeLine verb words = (fault_of tsp words ≡ []) × (option_map (λ found. f
 -- the value that the words give to an argument or option
 abbrev pub found_value : Text → List Text → Option Text
 found_value id words = option_map_or (λ found. first_of id found.1) (subcommand_of tsp words) None
+
+-- the values that the words give to an argument, in order
+abbrev pub found_values : Text → List Text → List Text
+found_values id words = option_map_or (λ found. values_of id found.1) (subcommand_of tsp words) []

@@ -2,13 +2,17 @@
 use Rattle.std.specs.Prelude.{◌≡◌, Bool, true, false, Some, codes}
 use Rattle.clap.specs.Words.{App, Rule, Text, app_of, new_app, new_rule, with_rule, with_subcommand}
 use Rattle.clap.specs.Simple.{on_top}
-use Rattle.clap.specs.declared.builder.action.ArgAction.TheVariants.{SetTrue}
+use Rattle.clap.specs.declared.builder.action.ArgAction.TheVariants.{Append, SetTrue}
 use Rattle.clap.specs.declared.builder.command.Command.{Command}
 use Rattle.clap.specs.declared.builder.command.Command.TheViews.{out-Command}
 
 -- a path: an argument with no name among the words, that has to be there
 abbrev pub path : Text → Rule
 path id = record (new_rule id) { required = true }
+
+-- paths: one at least, and each word more is one more
+abbrev pub paths : Text → Rule
+paths id = record (path id) { action = Some Append }
 
 -- an option with a value: the two words `--long VALUE`, or the one `--long=VALUE`
 abbrev pub option : Text → Text → Rule
@@ -50,6 +54,18 @@ check_certified = with_rule (with_rule check_files of_potentials) of_branches
 abbrev pub check : App
 check = with_rule (with_rule check_certified (option (codes "N") (codes "length"))) explain
 
+-- compare F T..
+abbrev pub compare_files : App
+compare_files = with_rule (with_rule (new_app (codes "compare")) (path (codes "F"))) (paths (codes "T"))
+
+-- compare F T.. [--potentials P] [--branches B]
+abbrev pub compare_certified : App
+compare_certified = with_rule (with_rule compare_files of_potentials) of_branches
+
+-- compare F T.. [--potentials P] [--branches B] [--explain]
+abbrev pub compare : App
+compare = with_rule compare_certified explain
+
 -- bound F
 abbrev pub bound_files : App
 bound_files = with_rule (new_app (codes "bound")) (path (codes "F"))
@@ -62,9 +78,10 @@ bound = with_rule (with_rule (with_rule bound_files of_potentials) of_branches) 
 abbrev pub start : App
 start = on_top (λ top. record top { no_binary_name = true; has_version = true }) (new_app (codes "tsp"))
 
--- and its four subcommands, at one level
+-- and its five subcommands, at one level
 abbrev pub tsp : App
-tsp = with_subcommand (with_subcommand (with_subcommand (with_subcommand start show.top) convert.top) check.top) bound.top
+tsp = with_subcommand (with_subcommand (with_subcommand (with_subcommand (with_subcommand start show.top) convert.top) check.top)
+    compare.top) bound.top
 
 -- an argument of the command counts in its subcommands too
 abbrev pub has_globals : Command → Bool

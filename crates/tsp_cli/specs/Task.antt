@@ -1,5 +1,8 @@
 -- What is done with which files.
-use Rattle.std.specs.Prelude.{◌≡◌, ◌≢◌, ◌⊎◌, ◌≤◌, ◌+◌, ℕ, Option, None, Some, Result, Ok, Err, String, codes, ℤ, pos, negsuc}
+use Rattle.std.specs.Prelude.{◌≡◌, ◌≢◌, ◌⊎◌, ◌≤◌, ◌+◌, ℕ, Bool, List, [], Option, None, Some, Result, Ok, Err, String, codes, map, slice_get, ℤ, pos, negsuc}
+use Rattle.std.specs.List.{count_by, sum_by}
+use Rattle.std.specs.Str.{bytes_eq}
+use Rattle.std.specs.String.{string_bytes}
 use Rattle.clap.specs.Words.{Text}
 use Rattle.tsp_number.specs.declared.fault.NumberFault.{NumberFault}
 use Rattle.tsp_number.specs.NumberWord.{ReadsWhole}
@@ -7,13 +10,17 @@ use Rattle.tsp_format.specs.declared.layout.Layout.{Layout}
 use Rattle.tsp_format.specs.Layout.{layout_word}
 use Rattle.tsp_reason.specs.declared.certificate.Certificate.{Certificate}
 use Rattle.tsp_reason.specs.declared.certificate.Certificate.TheVariants.{Potentials, Branches}
+use Rattle.tsp_task.specs.Files.{files_of}
 use Rattle.tsp_cli.specs.Words.{text_in}
 use Rattle.tsp_cli.specs.declared.words.Job.{Job}
 use Rattle.tsp_cli.specs.declared.words.Verb.TheVariants as verbs
 use Rattle.tsp_cli.specs.declared.task.Place.{Place}
 use Rattle.tsp_cli.specs.declared.task.Place.TheVariants.{Input, Path}
-use Rattle.tsp_cli.specs.declared.task.Task.{Task}
-use Rattle.tsp_cli.specs.declared.task.Task.TheVariants.{Show, Convert, Check, CheckBy, Bound}
+use Rattle.tsp_task.specs.declared.task.Task.{Task}
+use Rattle.tsp_task.specs.declared.task.Task.TheVariants.{Show, Convert, Check, CheckBy, Bound}
+use Rattle.tsp_cli.specs.declared.task.Comparison.{Comparison}
+use Rattle.tsp_cli.specs.declared.task.Work.{Work}
+use Rattle.tsp_cli.specs.declared.task.Work.TheVariants as works
 use Rattle.tsp_cli.specs.declared.task.TaskFault.{TaskFault}
 use Rattle.tsp_cli.specs.declared.task.TaskFault.TheVariants.{UnknownLayout, MissingPath, TwoCertificates, NoCertificate, NotALength, InputTwice}
 
@@ -23,8 +30,15 @@ IsPlaceAt path Input = path ≡ codes "-"
 IsPlaceAt path (Path text) = (text.now ≡ path) × (path ≢ codes "-")
 
 -- the text is there, and names this place
-abbrev pub IsPlaceOf : {Z : Type 0} → Option (String Z) → Place → Type 0
-IsPlaceOf path place = (text : Text) × (text_in path ≡ Some text) × IsPlaceAt text place
+abbrev pub IsPlaceOf : Option Text → Place → Type 0
+IsPlaceOf path place = (text : Text) × (path ≡ Some text) × IsPlaceAt text place
+
+-- the paths of a job's solutions, in the order given, and the first of them
+abbrev pub solutions_of : Job → List Text
+solutions_of job = map string_bytes job.solutions.items
+
+abbrev pub solution_of : Job → Option Text
+solution_of job = slice_get (solutions_of job) 0
 
 -- the text is that of this layout; no layout where there is no text
 abbrev pub IsLayout : {Z : Type 0} → Option (String Z) → Option Layout → Type 0
@@ -54,8 +68,8 @@ IsNoLength word = (text : Text) × (text_in word ≡ Some text)
 
 -- potentials or branches are named, and this is their place
 abbrev pub IsNamed : Job → Certificate → Place → Type 0
-IsNamed job Potentials place = IsPlaceOf job.potentials place × (job.branches ≡ None)
-IsNamed job Branches place = (job.potentials ≡ None) × IsPlaceOf job.branches place
+IsNamed job Potentials place = IsPlaceOf (text_in job.potentials) place × (job.branches ≡ None)
+IsNamed job Branches place = (job.potentials ≡ None) × IsPlaceOf (text_in job.branches) place
 
 abbrev pub NamesNone : Job → Type 0
 NamesNone job = (job.potentials ≡ None) × (job.branches ≡ None)
@@ -63,7 +77,7 @@ NamesNone job = (job.potentials ≡ None) × (job.branches ≡ None)
 abbrev pub NamesBoth : Job → Type 0
 NamesBoth job = (job.potentials ≢ None) × (job.branches ≢ None)
 
-abbrev pub GivesPlace : {Z : Type 0} → Option (String Z) → Result Place TaskFault → Type 0
+abbrev pub GivesPlace : Option Text → Result Place TaskFault → Type 0
 GivesPlace path (Ok place) = IsPlaceOf path place
 GivesPlace path (Err fault) = (fault ≡ MissingPath) × (path ≡ None)
 
@@ -82,26 +96,70 @@ GivesCertificate job (Err fault) = (fault ≡ TwoCertificates) × NamesBoth job
 
 -- the verb's task, with the files in the order F, T, and P or B; standard input is shown where there is no verb
 abbrev pub IsTask : Job → Task Place → Type 0
-IsTask job (Show Input) = (job.verb ≡ None) ⊎ ((job.verb ≡ Some verbs.Show) × IsPlaceOf job.file Input)
-IsTask job (Show (Path path)) = (job.verb ≡ Some verbs.Show) × IsPlaceOf job.file (Path path)
-IsTask job (Convert file to) = (job.verb ≡ Some verbs.Convert) × IsPlaceOf job.file file × IsLayout job.layout to
-IsTask job (Check instance solution claimed) = (job.verb ≡ Some verbs.Check) × IsPlaceOf job.file instance
-    × IsPlaceOf job.solution solution × IsClaim job.length claimed × NamesNone job
-IsTask job (CheckBy by instance solution certificate claimed) = (job.verb ≡ Some verbs.Check) × IsPlaceOf job.file instance
-    × IsPlaceOf job.solution solution × IsClaim job.length claimed × IsNamed job by certificate
-IsTask job (Bound by instance certificate) = (job.verb ≡ Some verbs.Bound) × IsPlaceOf job.file instance
+IsTask job (Show Input) = (job.verb ≡ None) ⊎ ((job.verb ≡ Some verbs.Show) × IsPlaceOf (text_in job.file) Input)
+IsTask job (Show (Path path)) = (job.verb ≡ Some verbs.Show) × IsPlaceOf (text_in job.file) (Path path)
+IsTask job (Convert file to) = (job.verb ≡ Some verbs.Convert) × IsPlaceOf (text_in job.file) file × IsLayout job.layout to
+IsTask job (Check instance solution claimed) = (job.verb ≡ Some verbs.Check) × IsPlaceOf (text_in job.file) instance
+    × IsPlaceOf (solution_of job) solution × IsClaim job.length claimed × NamesNone job
+IsTask job (CheckBy by instance solution certificate claimed) = (job.verb ≡ Some verbs.Check)
+    × IsPlaceOf (text_in job.file) instance × IsPlaceOf (solution_of job) solution × IsClaim job.length claimed
+    × IsNamed job by certificate
+IsTask job (Bound by instance certificate) = (job.verb ≡ Some verbs.Bound) × IsPlaceOf (text_in job.file) instance
     × IsNamed job by certificate
 
--- the task, whose files may be standard input several times
-abbrev pub NamesTask : Job → Result (Task Place) TaskFault → Type 0
-NamesTask job (Ok task) = IsTask job task
-NamesTask job (Err UnknownLayout) = (job.verb ≡ Some verbs.Convert) × IsNoLayout job.layout
-NamesTask job (Err NotALength) = (job.verb ≡ Some verbs.Check) × IsNoLength job.length
-NamesTask job (Err TwoCertificates) = ((job.verb ≡ Some verbs.Check) ⊎ (job.verb ≡ Some verbs.Bound)) × NamesBoth job
-NamesTask job (Err NoCertificate) = (job.verb ≡ Some verbs.Bound) × NamesNone job
-NamesTask job (Err MissingPath) = (job.verb ≢ None)
-    × ((job.file ≡ None) ⊎ ((job.verb ≡ Some verbs.Check) × (job.solution ≡ None)))
-NamesTask job (Err InputTwice) = ⊥
+-- the comparison of these solutions, all those of the job in their order, and one at least
+abbrev pub IsComparisonOf : Job → Comparison → Type 0
+IsComparisonOf job comparison = (job.verb ≡ Some verbs.Compare) × IsPlaceOf (text_in job.file) comparison.instance
+    × GivesCertificate job (Ok comparison.certificate) × (comparison.solutions.now ≡ job.solutions.items)
+    × (job.solutions.items ≢ [])
+
+abbrev pub IsWork : Job → Work → Type 0
+IsWork job (works.Task task) = IsTask job task
+IsWork job (works.Compare comparison) = IsComparisonOf job comparison
+
+-- the verb takes one certificate at most
+abbrev pub TakesCertificate : Job → Type 0
+TakesCertificate job = (job.verb ≡ Some verbs.Check) ⊎ ((job.verb ≡ Some verbs.Compare) ⊎ (job.verb ≡ Some verbs.Bound))
+
+-- the work, whose files may be standard input several times
+abbrev pub NamesWork : Job → Result Work TaskFault → Type 0
+NamesWork job (Ok work) = IsWork job work
+NamesWork job (Err UnknownLayout) = (job.verb ≡ Some verbs.Convert) × IsNoLayout job.layout
+NamesWork job (Err NotALength) = (job.verb ≡ Some verbs.Check) × IsNoLength job.length
+NamesWork job (Err TwoCertificates) = TakesCertificate job × NamesBoth job
+NamesWork job (Err NoCertificate) = (job.verb ≡ Some verbs.Bound) × NamesNone job
+NamesWork job (Err MissingPath) = (job.verb ≢ None) × ((job.file ≡ None)
+    ⊎ (((job.verb ≡ Some verbs.Check) ⊎ (job.verb ≡ Some verbs.Compare)) × (job.solutions.items ≡ [])))
+NamesWork job (Err InputTwice) = ⊥
+
+-- ---- the work of one verb, with the instance at this place
+
+abbrev pub NamesCheck : Job → Place → Result (Task Place) TaskFault → Type 0
+NamesCheck job at (Ok (Check instance solution claimed)) = (instance ≡ at) × IsPlaceOf (solution_of job) solution
+    × IsClaim job.length claimed × NamesNone job
+NamesCheck job at (Ok (CheckBy by instance solution certificate claimed)) = (instance ≡ at)
+    × IsPlaceOf (solution_of job) solution × IsClaim job.length claimed × IsNamed job by certificate
+NamesCheck job at (Ok other) = ⊥
+NamesCheck job at (Err MissingPath) = job.solutions.items ≡ []
+NamesCheck job at (Err NotALength) = IsNoLength job.length
+NamesCheck job at (Err TwoCertificates) = NamesBoth job
+NamesCheck job at (Err other) = ⊥
+
+abbrev pub NamesComparison : Job → Place → Result Comparison TaskFault → Type 0
+NamesComparison job at (Ok comparison) = (comparison.instance ≡ at) × GivesCertificate job (Ok comparison.certificate)
+    × (comparison.solutions.now ≡ job.solutions.items) × (job.solutions.items ≢ [])
+NamesComparison job at (Err MissingPath) = job.solutions.items ≡ []
+NamesComparison job at (Err TwoCertificates) = NamesBoth job
+NamesComparison job at (Err other) = ⊥
+
+abbrev pub NamesBound : Job → Place → Result (Task Place) TaskFault → Type 0
+NamesBound job at (Ok (Bound by instance certificate)) = (instance ≡ at) × IsNamed job by certificate
+NamesBound job at (Ok other) = ⊥
+NamesBound job at (Err NoCertificate) = NamesNone job
+NamesBound job at (Err TwoCertificates) = NamesBoth job
+NamesBound job at (Err other) = ⊥
+
+-- ---- standard input
 
 -- how many files are standard input
 abbrev pub input : Place → ℕ
@@ -109,18 +167,30 @@ input Input = 1
 input (Path path) = 0
 
 abbrev pub inputs_of : Task Place → ℕ
-inputs_of (Show file) = input file
-inputs_of (Convert file to) = input file
-inputs_of (Check instance solution claimed) = input instance + input solution
-inputs_of (CheckBy by instance solution certificate claimed) = input instance + input solution + input certificate
-inputs_of (Bound by instance certificate) = input instance + input certificate
+inputs_of task = sum_by (λ file. input file.1) (files_of task)
 
--- the task, of whose files one at most is standard input, since that gives its bytes once
-abbrev pub GivesTask : Job → Result (Task Place) TaskFault → Type 0
-GivesTask job (Ok task) = IsTask job task × (inputs_of task ≤ 1)
-GivesTask job (Err InputTwice) = (task : Task Place) × IsTask job task × (2 ≤ inputs_of task)
-GivesTask job (Err UnknownLayout) = NamesTask job (Err UnknownLayout)
-GivesTask job (Err NotALength) = NamesTask job (Err NotALength)
-GivesTask job (Err TwoCertificates) = NamesTask job (Err TwoCertificates)
-GivesTask job (Err NoCertificate) = NamesTask job (Err NoCertificate)
-GivesTask job (Err MissingPath) = NamesTask job (Err MissingPath)
+-- how many of the paths are `-`
+abbrev pub is_dash : Text → Bool
+is_dash path = bytes_eq path (codes "-")
+
+abbrev pub inputs_at : {Z : Type 0} → List (String Z) → ℕ
+inputs_at paths = count_by (λ path. is_dash (string_bytes path)) paths
+
+abbrev pub input_of : Option (Certificate × Place) → ℕ
+input_of None = 0
+input_of (Some named) = input named.1
+
+abbrev pub inputs_of_work : Work → ℕ
+inputs_of_work (works.Task task) = inputs_of task
+inputs_of_work (works.Compare comparison) = input comparison.instance + input_of comparison.certificate
+    + inputs_at comparison.solutions.now
+
+-- the work, of whose files one at most is standard input, since that gives its bytes once
+abbrev pub GivesWork : Job → Result Work TaskFault → Type 0
+GivesWork job (Ok work) = IsWork job work × (inputs_of_work work ≤ 1)
+GivesWork job (Err InputTwice) = (work : Work) × IsWork job work × (2 ≤ inputs_of_work work)
+GivesWork job (Err UnknownLayout) = NamesWork job (Err UnknownLayout)
+GivesWork job (Err NotALength) = NamesWork job (Err NotALength)
+GivesWork job (Err TwoCertificates) = NamesWork job (Err TwoCertificates)
+GivesWork job (Err NoCertificate) = NamesWork job (Err NoCertificate)
+GivesWork job (Err MissingPath) = NamesWork job (Err MissingPath)

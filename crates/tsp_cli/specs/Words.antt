@@ -1,13 +1,13 @@
 -- What the words of a command line ask for.
-use Rattle.std.specs.Prelude.{◌≡◌, ◌≢◌, List, [], Option, None, Some, Result, Ok, Err, ⊤, codes, option_map, String, IsTrue, ◌↔◌}
+use Rattle.std.specs.Prelude.{◌≡◌, ◌≢◌, List, [], Option, None, Some, Result, Ok, Err, ⊤, codes, map, option_map, unwrap_or, String, IsTrue, ◌↔◌}
 use Rattle.std.specs.String.{string_bytes}
-use Rattle.clap.specs.Words.{Row, Text, first_of, kind_of, fault_of, subcommand_of}
+use Rattle.clap.specs.Words.{Row, Text, all_of, first_of, kind_of, fault_of, subcommand_of}
 use Rattle.clap.specs.Kinds.{IsAmong}
 use Rattle.clap.specs.declared.error.kind.ErrorKind.{ErrorKind}
 use Rattle.clap.specs.declared.error.kind.ErrorKind.TheVariants as kinds
 use Rattle.tsp_cli.specs.Grammar.{tsp}
 use Rattle.tsp_cli.specs.declared.words.Verb.{Verb}
-use Rattle.tsp_cli.specs.declared.words.Verb.TheVariants.{Show, Convert, Check, Bound}
+use Rattle.tsp_cli.specs.declared.words.Verb.TheVariants.{Show, Convert, Check, Compare, Bound}
 use Rattle.tsp_cli.specs.declared.words.Job.{Job}
 use Rattle.tsp_cli.specs.declared.words.JobFault.{JobFault}
 use Rattle.tsp_cli.specs.declared.words.JobFault.TheVariants.{Refused, OutOfMemory}
@@ -17,6 +17,7 @@ abbrev pub word_of : Verb → Text
 word_of Show = codes "show"
 word_of Convert = codes "convert"
 word_of Check = codes "check"
+word_of Compare = codes "compare"
 word_of Bound = codes "bound"
 
 -- the verb has this word, or no verb has
@@ -27,9 +28,14 @@ IsVerbOf word None = (verb : Verb) → word ≢ word_of verb
 abbrev pub text_in : {Z : Type 0} → Option (String Z) → Option Text
 text_in = option_map string_bytes
 
--- the job has the values of F, T, L, P, B and N, where they were found, and is to be explained where E was given
+-- the values that were found for an argument, in order
+abbrev pub values_of : Text → List Row → List Text
+values_of id rows = unwrap_or (all_of id rows) []
+
+-- the job has the values of F, L, P, B and N, where they were found, and all of T, and is to be explained where E was given
 abbrev pub HasValues : List Row → Job → Type 0
-HasValues rows job = (text_in job.file ≡ first_of (codes "F") rows) × (text_in job.solution ≡ first_of (codes "T") rows)
+HasValues rows job = (text_in job.file ≡ first_of (codes "F") rows)
+    × (map string_bytes job.solutions.items ≡ values_of (codes "T") rows)
     × (text_in job.layout ≡ first_of (codes "L") rows) × (text_in job.potentials ≡ first_of (codes "P") rows)
     × (text_in job.branches ≡ first_of (codes "B") rows) × (text_in job.length ≡ first_of (codes "N") rows)
     × (IsTrue job.explain ↔ (first_of (codes "E") rows ≡ Some (codes "true")))

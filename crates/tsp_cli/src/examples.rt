@@ -10,5 +10,6 @@ pub fn examples_of_verbs()
     ensures show { word_of verbs.Show ≡ codes "show" }
     ensures convert { word_of verbs.Convert ≡ codes "convert" }
     ensures check { word_of verbs.Check ≡ codes "check" }
+    ensures compare { word_of verbs.Compare ≡ codes "compare" }
     ensures bound { word_of verbs.Bound ≡ codes "bound" }
 {}

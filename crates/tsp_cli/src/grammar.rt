@@ -1,8 +1,8 @@
-//! The command line as `clap` knows it: four subcommands, what each takes, and the texts of help.
+//! The command line as `clap` knows it: five subcommands, what each takes, and the texts of help.
 
 ghost use Rattle.std.specs.Prelude.{◌≡◌, IfOk, false};
 ghost use Rattle.clap.specs.Words.{app_of, new_app, rule_of, shape_of, with_rule, with_subcommand};
-ghost use Rattle.tsp_cli.specs.Grammar.{IsCommandOf, has_globals, path, option, flag, explain, show, convert, check_files, check_certified, check, bound_files, bound, start, tsp};
+ghost use Rattle.tsp_cli.specs.Grammar.{IsCommandOf, has_globals, path, paths, option, flag, explain, show, convert, check_files, check_certified, check, compare_files, compare_certified, compare, bound_files, bound, start, tsp};
 
 use clap::{Arg, ArgAction, Command};
 use std::alloc::{AllocError, Global};
@@ -34,6 +34,7 @@ Examples:
   tsp check a.tsp a.tour --potentials a.potentials
   tsp check a.tsp a.tour --branches a.branches
   tsp check a.tsp a.tour --length 426
+  tsp compare a.tsp a.tour b.tour --potentials a.potentials
   tsp bound a.tsp --potentials a.potentials";
 
 /// What the options of the certificates are.
@@ -80,6 +81,21 @@ Examples:
   tsp check a.tsp a.tour --branches a.branches
   tsp check a.tsp a.tour --length 426";
 
+/// The end of the help of `compare`.
+const COMPARE_NOTES: &str = "\
+Reads the instance and the certificate once, then each solution in turn, and
+prints a line for each: its length and path, or why it is rejected or isn't
+read. With potentials or branches there is a bound too, and a line says
+optimal or the gap to it.
+
+Exit status: the largest of 0 all accepted, 1 a no, 2 a fault of a file or
+the wrong kind, 5 a device. 3 out of memory, 4 both potentials and branches.
+
+Examples:
+  tsp compare a.tsp a.tour b.tour
+  tsp compare a.tsp *.tour --potentials a.potentials
+  tsp compare a.tsp *.tour --branches a.branches";
+
 /// The end of the help of `bound`.
 const BOUND_NOTES: &str = "\
 Prints yes with the bound, or no with the first reason against the instance
@@ -92,7 +108,7 @@ Examples:
   tsp bound a.tsp --potentials a.potentials
   tsp bound a.tsp --branches a.branches";
 
-/// The program's command with its four subcommands. Its words are those after the program's own
+/// The program's command with its five subcommands. Its words are those after the program's own
 /// name.
 pub(crate) fn tsp<'a>(alloc: Global) -> Result<Command<'a>, AllocError>
     ensures { IfOk result (IsCommandOf tsp) }
@@ -100,7 +116,8 @@ pub(crate) fn tsp<'a>(alloc: Global) -> Result<Command<'a>, AllocError>
     let one = with_command(top(alloc)?, show(alloc)?)?;
     let two = with_command(one, convert(alloc)?)?;
     let three = with_command(two, check(alloc)?)?;
-    with_command(three, bound(alloc)?)
+    let four = with_command(three, compare(alloc)?)?;
+    with_command(four, bound(alloc)?)
 }
 
 /// The program's command without its subcommands.
@@ -169,6 +186,37 @@ fn check_files<'a>(alloc: Global) -> Result<Command<'a>, AllocError>
     with(one, path(alloc, "T", "The path of the solution: TYPE TOUR"))
 }
 
+/// `compare F T.. [--potentials P] [--branches B] [--explain]`.
+fn compare<'a>(alloc: Global) -> Result<Command<'a>, AllocError>
+    ensures { IfOk result (IsCommandOf compare) }
+{
+    let one = compare_certified(alloc)?;
+    with(one, explain(alloc))
+}
+
+/// `compare F T.. [--potentials P] [--branches B]`.
+fn compare_certified<'a>(alloc: Global) -> Result<Command<'a>, AllocError>
+    ensures { IfOk result (IsCommandOf compare_certified) }
+{
+    let files = compare_files(alloc)?;
+    let one = with(files, option(alloc, "P", "potentials", POTENTIALS))?;
+    with(one, option(alloc, "B", "branches", BRANCHES))
+}
+
+/// `compare F T..`, which has the files.
+fn compare_files<'a>(alloc: Global) -> Result<Command<'a>, AllocError>
+    ensures { IfOk result (IsCommandOf compare_files) }
+{
+    let about = "Judges many solutions of one instance, a line for each";
+    let bare = command(alloc, "compare", about, COMPARE_NOTES);
+    let instance = "The path of the instance: TYPE TSP, ATSP or CVRP";
+    let one = with(bare, path(alloc, "F", instance))?;
+    with(
+        one,
+        paths(alloc, "T", "The paths of the solutions: TYPE TOUR"),
+    )
+}
+
 /// `bound F [--potentials P] [--branches B] [--explain]`.
 fn bound<'a>(alloc: Global) -> Result<Command<'a>, AllocError>
     ensures { IfOk result (IsCommandOf bound) }
@@ -225,6 +273,14 @@ fn path<'a>(alloc: Global, id: &'a str, help: &'a str) -> Arg<'a>
     ensures local { result.global ≡ false }
 {
     Arg::new(alloc, id).required(true).help(help)
+}
+
+/// Paths, of which the words have to contain one at least.
+fn paths<'a>(alloc: Global, id: &'a str, help: &'a str) -> Arg<'a>
+    ensures rule { rule_of result ≡ paths id.now }
+    ensures local { result.global ≡ false }
+{
+    path(alloc, id, help).action(ArgAction::Append)
 }
 
 /// An option with one value.

@@ -8,10 +8,12 @@ ghost use Rattle.tsp_format.specs.declared.layout.Layout.{Layout};
 ghost use Rattle.tsp_cli.specs.declared.words.Job.{Job};
 ghost use Rattle.tsp_cli.specs.declared.words.Verb.TheVariants as verbs;
 ghost use Rattle.tsp_cli.specs.declared.task.Place.{Place};
-ghost use Rattle.tsp_cli.specs.declared.task.Task.TheVariants as tasks;
+ghost use Rattle.tsp_task.specs.declared.task.Task.TheVariants as tasks;
+ghost use Rattle.tsp_cli.specs.declared.task.Comparison.{Comparison};
+ghost use Rattle.tsp_cli.specs.declared.task.Work.TheVariants as works;
 ghost use Rattle.tsp_reason.specs.declared.certificate.Certificate.TheVariants as certificates;
-ghost use Rattle.tsp_cli.specs.Task.{IsTask};
-ghost use Rattle.tsp_cli.specs.Examples.{IsWholeLine, found_value};
+ghost use Rattle.tsp_cli.specs.Task.{IsTask, IsWork};
+ghost use Rattle.tsp_cli.specs.Examples.{IsWholeLine, found_value, found_values};
 
 /// A whole line of each verb, with each of its options.
 #[tactic(auto, unfolding(clap::specs::Faults::flags_fault, clap::specs::Faults::walk_fault, clap::specs::Faults::defaults_fault, clap::specs::Walk::bundle_met, clap::specs::Walk::walked))]
@@ -32,14 +34,23 @@ pub fn examples_of_lines()
         ≡ None }
     ensures length { found_value (codes "N") (codes "check" ∷ codes "a" ∷ codes "b" ∷ codes "--length" ∷ codes "9" ∷ [])
         ≡ Some (codes "9") }
+    ensures compare { IsWholeLine (codes "compare") (codes "compare" ∷ codes "a" ∷ codes "b" ∷ codes "c" ∷ []) }
+    ensures solutions { found_values (codes "T") (codes "compare" ∷ codes "a" ∷ codes "b" ∷ codes "c" ∷ [])
+        ≡ codes "b" ∷ codes "c" ∷ [] }
+    ensures around_an_option { found_values (codes "T") (codes "compare" ∷ codes "a" ∷ codes "b" ∷ codes "--branches" ∷ codes "d" ∷ codes "c" ∷ [])
+        ≡ codes "b" ∷ codes "c" ∷ [] }
+    ensures compared_by { found_value (codes "B") (codes "compare" ∷ codes "a" ∷ codes "b" ∷ codes "--branches" ∷ codes "d" ∷ codes "c" ∷ [])
+        ≡ Some (codes "d") }
     ensures bound { IsWholeLine (codes "bound") (codes "bound" ∷ codes "a" ∷ codes "--branches" ∷ codes "c" ∷ []) }
     ensures no_file { fault_of tsp (codes "show" ∷ []) ≢ [] }
     ensures no_solution { fault_of tsp (codes "check" ∷ codes "a" ∷ []) ≢ [] }
+    ensures two_solutions { fault_of tsp (codes "check" ∷ codes "a" ∷ codes "b" ∷ codes "c" ∷ []) ≢ [] }
+    ensures none_compared { fault_of tsp (codes "compare" ∷ codes "a" ∷ []) ≢ [] }
     ensures no_layout { fault_of tsp (codes "convert" ∷ codes "a" ∷ codes "--layout" ∷ []) ≢ [] }
 {}
 
-/// With both certificates a check or a bound is no task: with either one it is without the other, and the
-/// plain check is without both. A bound has one of them.
+/// With both certificates a check, a comparison or a bound is no work: with either one it is without the
+/// other, and the plain check is without both. A bound has one of them.
 pub fn examples_of_two_certificates()
     ensures plain_with_potentials { (job : Job) (a b : Place) (claimed : Option ℤ) → job.potentials ≢ None
         → ¬ IsTask job (tasks.Check a b claimed) }
@@ -53,6 +64,13 @@ pub fn examples_of_two_certificates()
         → ¬ IsTask job (tasks.Bound certificates.Potentials a b) }
     ensures bound_with_potentials { (job : Job) (a b : Place) → job.potentials ≢ None
         → ¬ IsTask job (tasks.Bound certificates.Branches a b) }
+    ensures compared_by_potentials { (job : Job) (c : Comparison) (a : Place) → job.branches ≢ None
+        → c.certificate ≡ Some (certificates.Potentials, a) → ¬ IsWork job (works.Compare c) }
+    ensures compared_by_branches { (job : Job) (c : Comparison) (a : Place) → job.potentials ≢ None
+        → c.certificate ≡ Some (certificates.Branches, a) → ¬ IsWork job (works.Compare c) }
+    ensures compared_by_none { (job : Job) (c : Comparison) → job.potentials ≢ None → c.certificate ≡ None
+        → ¬ IsWork job (works.Compare c) }
+    ensures another_verb { (job : Job) (c : Comparison) → job.verb ≡ Some verbs.Check → ¬ IsWork job (works.Compare c) }
     ensures shown { (job : Job) (a : Place) → job.verb ≡ Some verbs.Check → ¬ IsTask job (tasks.Show a) }
     ensures converted { (job : Job) (a : Place) (to : Option Layout) → job.verb ≡ Some verbs.Check
         → ¬ IsTask job (tasks.Convert a to) }

@@ -1,13 +1,14 @@
 //! Standard input, which gives its bytes once.
 
 ghost use Rattle.std.specs.Prelude.{◌≡◌};
-ghost use Rattle.tsp_cli.specs.Task.{GivesTask, input, inputs_of};
+ghost use Rattle.tsp_cli.specs.Task.{GivesWork, input, inputs_of, inputs_of_work, inputs_at};
 
-use crate::task::{Place, Task, TaskFault, named_task};
+use crate::task::{Place, TaskFault, Work, named_work};
 use crate::words::Job;
+use tsp_task::Task;
 
-/// The task of a job. A path `-` is standard input, which one file at most can be. With no verb,
-/// standard input is shown.
+/// The work that a job asks for. A path `-` is standard input, which one file at most can be. With no
+/// verb, standard input is shown.
 ///
 /// # Errors
 ///
@@ -15,14 +16,32 @@ use crate::words::Job;
 /// `NotALength` where the word of a length isn't one; `TwoCertificates` where both potentials and
 /// branches are named; `NoCertificate` where a bound has neither; `MissingPath` where a path is missing,
 /// as in no job that words ask for.
-pub fn task_of(job: &Job) -> Result<Task<Place<'_>>, TaskFault>
-    ensures { GivesTask job.now result }
+pub fn work_of(job: &Job) -> Result<Work<'_>, TaskFault>
+    ensures { GivesWork job.now result }
 {
-    let task = named_task(job)?;
-    if inputs_of(&task) > 1 {
+    let work = named_work(job)?;
+    if inputs_of_work(&work) > 1 {
         return Err(TaskFault::InputTwice);
     }
-    Ok(task)
+    Ok(work)
+}
+
+/// How many files of a work are standard input.
+fn inputs_of_work(work: &Work<'_>) -> u128
+    ensures { result ≡ inputs_of_work work.now }
+{
+    match work {
+        Work::Task(task) => u128::from(inputs_of(task)),
+        Work::Compare(comparison) => {
+            let certificate = match comparison.certificate {
+                None => 0,
+                Some((_, certificate)) => input(certificate),
+            };
+            u128::from(input(comparison.instance))
+                + u128::from(certificate)
+                + u128::from(inputs_at(comparison.solutions))
+        }
+    }
 }
 
 /// How many files of a task are standard input.
@@ -37,6 +56,19 @@ fn inputs_of(task: &Task<Place<'_>>) -> u32
         }
         Task::Bound(_, instance, certificate) => input(*instance) + input(*certificate),
     }
+}
+
+/// How many of these paths are standard input.
+fn inputs_at(paths: &[String]) -> u64
+    ensures { result ≡ inputs_at paths.now }
+{
+    let mut count = 0u64;
+    'paths: for path in paths {
+        if path.as_str() == "-" {
+            count += 1;
+        }
+    }
+    count
 }
 
 /// 1 for standard input, and 0 for a path.

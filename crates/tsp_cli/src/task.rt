@@ -1,12 +1,14 @@
 //! What is done with which files.
 
-ghost use Rattle.std.specs.Prelude.{◌≡◌, Some};
-ghost use Rattle.tsp_cli.specs.Task.{GivesPlace, GivesLayout, GivesClaim, GivesCertificate, IsPlaceAt, NamesTask};
+ghost use Rattle.std.specs.Prelude.{◌≡◌, Some, option_map};
+ghost use Rattle.std.specs.String.{string_bytes};
+ghost use Rattle.tsp_cli.specs.Task.{GivesPlace, GivesLayout, GivesClaim, GivesCertificate, IsPlaceAt, NamesWork, NamesCheck, NamesComparison, NamesBound};
 
 use crate::words::{Job, Verb};
 use tsp_format::Layout;
 use tsp_number::parse_whole;
 use tsp_reason::Certificate;
+use tsp_task::Task;
 
 /// Where a file is.
 #[derive(Clone, Copy)]
@@ -17,23 +19,28 @@ pub enum Place<'a> {
     Path(&'a str),
 }
 
-/// The action on files, in the order in which they are read. `F` is the knowledge of a file: its
-/// place, or a reader.
-#[derive(Drop)]
-pub enum Task<F> {
-    /// Show the contents of a file.
-    Show(F),
-    /// Write a file anew, its matrix in this layout where one is named.
-    Convert(F, Option<Layout>),
-    /// Judge the solution of an instance, with this length where one is claimed.
-    Check(F, F, Option<i64>),
-    /// The same, and to bound every tour by a certificate, whose file is the third.
-    CheckBy(Certificate, F, F, F, Option<i64>),
-    /// Bound every tour of an instance by a certificate, whose file is the second.
-    Bound(Certificate, F, F),
+/// The solutions that are compared, and by which files. A solution is opened when its turn comes, so
+/// the paths stay as they are given: `-` is standard input.
+#[derive(Clone, Copy)]
+pub struct Comparison<'a> {
+    /// The place of the instance.
+    pub instance: Place<'a>,
+    /// The certificate, and the place of its file, where one is named.
+    pub certificate: Option<(Certificate, Place<'a>)>,
+    /// The paths of the solutions, one at least, in the order in which they are judged.
+    pub solutions: &'a [String],
 }
 
-/// Why a job is no task.
+/// What a job asks for.
+#[derive(Drop)]
+pub enum Work<'a> {
+    /// A task on files.
+    Task(Task<Place<'a>>),
+    /// To compare solutions.
+    Compare(Comparison<'a>),
+}
+
+/// Why a job is no work that can be done.
 #[derive(Clone, Copy)]
 pub enum TaskFault {
     /// No layout has the word.
@@ -50,44 +57,71 @@ pub enum TaskFault {
     InputTwice,
 }
 
-/// The task of a job, whose files may be standard input several times. With no verb, standard input is
-/// shown.
+/// The work that a job asks for, whose files may be standard input several times. With no verb, standard
+/// input is shown.
 ///
 /// # Errors
 ///
 /// `UnknownLayout` where no layout has the given word; `NotALength` where the word of a length isn't one;
 /// `TwoCertificates` where both potentials and branches are named; `NoCertificate` where a bound has
 /// neither; `MissingPath` where a path is missing, as in no job that words ask for.
-pub(crate) fn named_task(job: &Job) -> Result<Task<Place<'_>>, TaskFault>
-    ensures { NamesTask job.now result }
+pub(crate) fn named_work(job: &Job) -> Result<Work<'_>, TaskFault>
+    ensures { NamesWork job.now result }
 {
     let Some(verb) = job.verb else {
-        return Ok(Task::Show(Place::Input));
+        return Ok(Work::Task(Task::Show(Place::Input)));
     };
-    let file = place_of(&job.file)?;
+    let file = place_of(job.file.as_ref())?;
     match verb {
-        Verb::Show => Ok(Task::Show(file)),
-        Verb::Convert => Ok(Task::Convert(file, layout_of(&job.layout)?)),
-        Verb::Check => {
-            let solution = place_of(&job.solution)?;
-            let claimed = length_of(&job.length)?;
-            match certificate_of(job)? {
-                None => Ok(Task::Check(file, solution, claimed)),
-                Some((by, certificate)) => {
-                    Ok(Task::CheckBy(by, file, solution, certificate, claimed))
-                }
-            }
+        Verb::Show => Ok(Work::Task(Task::Show(file))),
+        Verb::Convert => Ok(Work::Task(Task::Convert(file, layout_of(&job.layout)?))),
+        Verb::Check => Ok(Work::Task(check_of(job, file)?)),
+        Verb::Compare => Ok(Work::Compare(comparison_of(job, file)?)),
+        Verb::Bound => Ok(Work::Task(bound_of(job, file)?)),
+    }
+}
+
+/// The check of a job with this instance.
+fn check_of<'a>(job: &'a Job, instance: Place<'a>) -> Result<Task<Place<'a>>, TaskFault>
+    ensures { NamesCheck job.now instance.entry result }
+{
+    let solution = place_of(job.solutions.first())?;
+    let claimed = length_of(&job.length)?;
+    match certificate_of(job)? {
+        None => Ok(Task::Check(instance, solution, claimed)),
+        Some((by, certificate)) => {
+            Ok(Task::CheckBy(by, instance, solution, certificate, claimed))
         }
-        Verb::Bound => match certificate_of(job)? {
-            None => Err(TaskFault::NoCertificate),
-            Some((by, certificate)) => Ok(Task::Bound(by, file, certificate)),
-        },
+    }
+}
+
+/// The comparison of a job with this instance.
+fn comparison_of<'a>(job: &'a Job, instance: Place<'a>) -> Result<Comparison<'a>, TaskFault>
+    ensures { NamesComparison job.now instance.entry result }
+{
+    if job.solutions.is_empty() {
+        return Err(TaskFault::MissingPath);
+    }
+    Ok(Comparison {
+        instance,
+        certificate: certificate_of(job)?,
+        solutions: &job.solutions,
+    })
+}
+
+/// The bound of a job with this instance.
+fn bound_of<'a>(job: &'a Job, instance: Place<'a>) -> Result<Task<Place<'a>>, TaskFault>
+    ensures { NamesBound job.now instance.entry result }
+{
+    match certificate_of(job)? {
+        None => Err(TaskFault::NoCertificate),
+        Some((by, certificate)) => Ok(Task::Bound(by, instance, certificate)),
     }
 }
 
 /// The place of a path that has to be there.
-fn place_of(path: &Option<String>) -> Result<Place<'_>, TaskFault>
-    ensures { GivesPlace path.now result }
+fn place_of(path: Option<&String>) -> Result<Place<'_>, TaskFault>
+    ensures { GivesPlace (option_map (λ text. string_bytes text.now) path.entry) result }
 {
     match path {
         Some(path) => Ok(place_at(path)),
@@ -96,7 +130,7 @@ fn place_of(path: &Option<String>) -> Result<Place<'_>, TaskFault>
 }
 
 /// The place that a path names. `-` is standard input.
-fn place_at(path: &str) -> Place<'_>
+pub fn place_at(path: &str) -> Place<'_>
     ensures { IsPlaceAt path.now result }
 {
     match path {

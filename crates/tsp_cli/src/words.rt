@@ -2,8 +2,9 @@
 
 ghost use Rattle.std.specs.Prelude.{◌≡◌, ◌≢◌, ◌↔◌, IfOk, IsTrue, Some, codes, map, option_map};
 ghost use Rattle.std.specs.IoError.{error_kind};
+ghost use Rattle.std.specs.String.{string_bytes};
 ghost use Rattle.clap.specs.Words.{first_of, found_of, kind_of, rows_of};
-ghost use Rattle.tsp_cli.specs.Words.{GivesJob, IsFaultOf, IsOtherRefusal, IsVerbOf, HasValues, text_in};
+ghost use Rattle.tsp_cli.specs.Words.{GivesJob, IsFaultOf, IsOtherRefusal, IsVerbOf, HasValues, text_in, values_of};
 
 use crate::grammar;
 use clap::error::ErrorKind;
@@ -21,6 +22,8 @@ pub enum Verb {
     Convert,
     /// Judge a solution of an instance.
     Check,
+    /// Judge many solutions of an instance.
+    Compare,
     /// Bound every tour of an instance.
     Bound,
 }
@@ -34,6 +37,7 @@ impl Verb {
             "show" => Some(Verb::Show),
             "convert" => Some(Verb::Convert),
             "check" => Some(Verb::Check),
+            "compare" => Some(Verb::Compare),
             "bound" => Some(Verb::Bound),
             _ => None,
         }
@@ -47,8 +51,8 @@ pub struct Job {
     pub verb: Option<Verb>,
     /// The path of the file, or of the instance.
     pub file: Option<String>,
-    /// The path of the solution.
-    pub solution: Option<String>,
+    /// The paths of the solutions, in the order given. A check has one.
+    pub solutions: Vec<String>,
     /// The word of the layout that a matrix gets.
     pub layout: Option<String>,
     /// The path of the potentials.
@@ -83,7 +87,7 @@ impl JobFault {
 
 /// Reads the words of a command line, those after the program's own name: `show F`,
 /// `convert F [--layout L]`, `check F T [--potentials P] [--branches B] [--length N]`,
-/// `bound F [--potentials P] [--branches B]`, each with `--explain` or without, or no words at all.
+/// `compare F T.. [--potentials P] [--branches B]`, `bound F [--potentials P] [--branches B]`, each with `--explain` or without, or no words at all.
 ///
 /// # Errors
 ///
@@ -102,7 +106,7 @@ pub fn job_of(alloc: Global, words: &[&str]) -> Result<Job, JobFault>
         return Ok(Job {
             verb: None,
             file: None,
-            solution: None,
+            solutions: Vec::new(alloc),
             layout: None,
             potentials: None,
             branches: None,
@@ -149,7 +153,7 @@ fn job_with(alloc: Global, verb: Option<Verb>, found: &ArgMatches<'_>) -> Result
     Ok(Job {
         verb,
         file: value(alloc, found, "F")?,
-        solution: value(alloc, found, "T")?,
+        solutions: values(alloc, found, "T")?,
         layout: value(alloc, found, "L")?,
         potentials: value(alloc, found, "P")?,
         branches: value(alloc, found, "B")?,
@@ -166,6 +170,27 @@ fn value(alloc: Global, found: &ArgMatches<'_>, id: &str) -> Result<Option<Strin
         Some(text) => Ok(Some(String::from_str(alloc, text)?)),
         None => Ok(None),
     }
+}
+
+/// The values that were found for an argument, in order.
+fn values(alloc: Global, found: &ArgMatches<'_>, id: &str) -> Result<Vec<String>, AllocError>
+    ensures { IfOk result (λ texts. map string_bytes texts.items ≡ values_of id.now (rows_of (found_of found.now))) }
+{
+    match found.get_strs(id) {
+        Some(texts) => owned(alloc, texts),
+        None => Ok(Vec::new(alloc)),
+    }
+}
+
+/// The texts, in memory of their own.
+fn owned(alloc: Global, texts: &[&str]) -> Result<Vec<String>, AllocError>
+    ensures { IfOk result (λ owned. map string_bytes owned.items ≡ map (λ text. text.now) texts.now) }
+{
+    let mut owned = Vec::new(alloc);
+    'texts: for text in texts {
+        owned.push(String::from_str(alloc, text)?)?;
+    }
+    Ok(owned)
 }
 
 /// Whether an option without a value was given.

@@ -1,8 +1,8 @@
 -- Which file a reason is about.
 use Rattle.tsp_reason.specs.declared.verdict.Reason.{Reason}
 use Rattle.tsp_reason.specs.declared.verdict.Reason.TheVariants.{NotASolution, TooFewNodes, NotSymmetric, Dimension, TourCount, TourLength, NodeOutOfRange, RepeatedNode, FixedEdgeUnused, NotPotentials, PotentialsDimension, PotentialsKind, MultiplierNotFixed, MultiplierRepeated, DualInfeasible, DepotCount, DepotDemand, FixedEdgesInRoutes, DepotInRoute, Unserved, Overload, NotBranches, BranchesDimension, BadComb, BranchTwice, BadLeaf, LengthClaimed}
-use Rattle.tsp_explain.specs.declared.role.Role.{Role}
-use Rattle.tsp_explain.specs.declared.role.Role.TheVariants.{Instance, Solution, Potentials, Branches}
+use Rattle.tsp_task.specs.declared.role.Role.{Role}
+use Rattle.tsp_task.specs.declared.role.Role.TheVariants.{Instance, Solution, Potentials, Branches}
 
 abbrev pub role_of : Reason → Role
 role_of TooFewNodes = Instance

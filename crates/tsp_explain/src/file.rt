@@ -6,7 +6,6 @@ use crate::cause::{cause, cause_of_first_byte};
 use crate::foreign::{begins, foreign_form, push_foreign};
 use crate::guess::{UNKNOWN, guess_at, push_guess};
 use crate::look::{Look, Sought, look_for};
-use crate::role::Role;
 use crate::sentences::{end_sentence, line_sentence};
 use crate::text::{append, begin, end, push, push_lines, push_number, push_shown};
 use crate::wanted::{asked, group, wanted};
@@ -15,6 +14,7 @@ use std::io;
 use std::io::Read;
 use tsp_draft::EndFault;
 use tsp_format::{Field, Word};
+use tsp_task::Role;
 use tsp_text::{LineFault, ReadFault};
 
 /// Appends why a file isn't read. `name` is what the user calls it, `given` what it is given for in a
@@ -77,14 +77,7 @@ fn explain_seen(
     fault: ReadFault,
 ) -> Result<(), AllocError> {
     push_place(alloc, text, name, fault)?;
-    if let ReadFault::Line {
-        line: _,
-        word,
-        fault: _,
-    } = fault
-    {
-        seen.excerpt.push_to(text, word > 0)?;
-    }
+    push_excerpt(text, seen, fault)?;
     if let (ReadFault::End(_), None) = (fault, seen.head.first()) {
         push_lines(text, "The file is empty.")?;
         return push_lines(text, begins(given));
@@ -113,6 +106,20 @@ fn explain_seen(
             },
         ) => push_guess(text, guess, seen, fault),
         _ => push_rules(text, seen, fault, cause),
+    }
+}
+
+/// Appends the line that has the fault, where one has it.
+fn push_excerpt(text: &mut Vec<u8>, seen: &Look, fault: ReadFault) -> Result<(), AllocError> {
+    match fault {
+        ReadFault::Line {
+            line: _,
+            word,
+            fault: _,
+        } => seen.excerpt.push_to(text, word > 0),
+        ReadFault::End(_) | ReadFault::TooLong | ReadFault::Device | ReadFault::OutOfMemory => {
+            Ok(())
+        }
     }
 }
 

@@ -1,10 +1,10 @@
 //! Files in the forms of other programs: what one looks like, and which file is required in its place.
 
 use crate::look::Look;
-use crate::role::Role;
 use crate::text::{begin, end, push, push_lines};
 use std::alloc::AllocError;
 use tsp_format::is_blank;
+use tsp_task::Role;
 use tsp_text::{LineFault, ReadFault};
 
 /// A form in which another program writes.

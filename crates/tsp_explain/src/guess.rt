@@ -150,54 +150,44 @@ pub(crate) fn push_guess(
     look: &Look,
     fault: LineFault,
 ) -> Result<(), AllocError> {
+    push_rule(text, guess, fault)?;
     match guess {
-        Guess::Letters(known) => {
-            push_lines(text, UNKNOWN)?;
-            push_with(
-                text,
-                "Keywords are written in capital letters: ",
-                known,
-                ".",
-            )
-        }
-        Guess::Near(known) => {
-            push_lines(text, UNKNOWN)?;
+        Guess::Letters(known) => push_with(text, IN_CAPITALS, known, "."),
+        Guess::Near(known) | Guess::ValueNear(_, known) => {
             push_with(text, "Did you mean ", known, "?")
         }
-        Guess::Section => {
-            push_lines(text, UNKNOWN)?;
-            push_unread(text, look)
+        Guess::Section => push_unread(text, look),
+        Guess::Numbers(field) => push_open(text, field, look.dimension),
+        Guess::Zero(nodes) => push_number_in(
+            text,
+            "A node is 1 to DIMENSION (",
+            nodes,
+            "). Nodes count from 1.",
+        ),
+        Guess::Surplus(nodes) => push_surplus(text, nodes),
+        Guess::ValueLetters(_, known) => push_with(text, VALUE_IN_CAPITALS, known, "."),
+        Guess::NoValue(_) | Guess::LongValue(_) | Guess::Value(_) => Ok(()),
+    }
+}
+
+/// Appends the rule that the line breaks.
+fn push_rule(text: &mut Vec<u8>, guess: Guess, fault: LineFault) -> Result<(), AllocError> {
+    match guess {
+        Guess::Letters(_) | Guess::Near(_) | Guess::Section | Guess::Numbers(_) => {
+            push_lines(text, UNKNOWN)
         }
-        Guess::Numbers(field) => {
-            push_lines(text, UNKNOWN)?;
-            push_open(text, field, look.dimension)
-        }
-        Guess::Zero(nodes) => {
-            push_lines(text, line_sentence(fault))?;
-            push_number_in(
-                text,
-                "A node is 1 to DIMENSION (",
-                nodes,
-                "). Nodes count from 1.",
-            )
-        }
-        Guess::Surplus(nodes) => {
-            push_lines(text, line_sentence(fault))?;
-            push_surplus(text, nodes)
-        }
+        Guess::Zero(_) | Guess::Surplus(_) => push_lines(text, line_sentence(fault)),
         Guess::NoValue(field) => push_value(text, "The keyword has no value here.", field),
         Guess::LongValue(field) => push_value(text, "The value has too many bytes.", field),
-        Guess::Value(field) => push_value(text, "The keyword doesn't take this value.", field),
-        Guess::ValueLetters(field, known) => {
-            push_value(text, "The keyword doesn't take this value.", field)?;
-            push_with(text, "Values are written in capital letters: ", known, ".")
-        }
-        Guess::ValueNear(field, known) => {
-            push_value(text, "The keyword doesn't take this value.", field)?;
-            push_with(text, "Did you mean ", known, "?")
+        Guess::Value(field) | Guess::ValueLetters(field, _) | Guess::ValueNear(field, _) => {
+            push_value(text, "The keyword doesn't take this value.", field)
         }
     }
 }
+
+const IN_CAPITALS: &str = "Keywords are written in capital letters: ";
+
+const VALUE_IN_CAPITALS: &str = "Values are written in capital letters: ";
 
 /// The rule of a line that begins with an unknown word.
 pub(crate) const UNKNOWN: &str =

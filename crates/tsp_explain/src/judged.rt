@@ -4,13 +4,14 @@ ghost use Rattle.std.specs.Io.{StartsWith};
 
 use crate::claims::push_claim;
 use crate::refusal::{explain_reason, push_details};
-use crate::role::{Role, blamed};
+use crate::role::blamed;
 use crate::rounding::push_rounding;
 use crate::text::{append, end, push, push_lines};
 use std::alloc::{AllocError, Global};
 use tsp_cost::Instance;
 use tsp_file::File;
 use tsp_reason::{BoundVerdict, Reason, Verdict};
+use tsp_task::Role;
 
 /// What a user calls the files of a check, or of a bound.
 #[derive(Clone, Copy)]
@@ -18,6 +19,15 @@ pub struct Names<'a> {
     pub instance: &'a str,
     pub solution: &'a str,
     pub certificate: &'a str,
+}
+
+/// The files that were judged, as far as they were read, and what a user calls them.
+#[derive(Clone, Copy)]
+pub struct Files<'a> {
+    pub names: Names<'a>,
+    pub instance: &'a Instance,
+    pub solution: Option<&'a File>,
+    pub certificate: Option<&'a File>,
 }
 
 /// What the first file of a check is.
@@ -42,29 +52,15 @@ const NO_TOUR: &str =
 pub fn explain_verdict(
     alloc: Global,
     text: &mut Vec<u8>,
-    names: Names<'_>,
+    files: Files<'_>,
     verdict: Verdict,
-    instance: &Instance,
-    solution: &File,
-    certificate: Option<&File>,
 ) -> Result<(), AllocError>
     ensures { StartsWith text.new.items text.old.items }
 {
     let mut told = Vec::new(alloc);
     let answer = match length_of(verdict) {
-        Ok(length) => push_yes(alloc, &mut told, names, length, instance, solution),
-        Err(reason) => {
-            let solution = Some(solution);
-            push_no(
-                alloc,
-                &mut told,
-                names,
-                reason,
-                instance,
-                solution,
-                certificate,
-            )
-        }
+        Ok(length) => push_yes(alloc, &mut told, files, length),
+        Err(reason) => push_no(alloc, &mut told, files, reason),
     };
     append(text, told, answer)
 }
@@ -73,13 +69,15 @@ pub fn explain_verdict(
 fn push_yes(
     alloc: Global,
     text: &mut Vec<u8>,
-    names: Names<'_>,
+    files: Files<'_>,
     length: i64,
-    instance: &Instance,
-    solution: &File,
 ) -> Result<(), AllocError> {
+    let Some(solution) = files.solution else {
+        return Ok(());
+    };
+    let names = files.names;
     push_claim(alloc, text, names.solution, solution.comments(), length)?;
-    push_rounding(text, names.instance, instance, solution)
+    push_rounding(text, names.instance, files.instance, solution)
 }
 
 /// The length of a solution that is accepted, or the reason against it.
@@ -103,10 +101,8 @@ fn length_of(verdict: Verdict) -> Result<i64, Reason> {
 pub fn explain_bound(
     alloc: Global,
     text: &mut Vec<u8>,
-    names: Names<'_>,
+    files: Files<'_>,
     found: BoundVerdict,
-    instance: &Instance,
-    certificate: &File,
 ) -> Result<(), AllocError>
     ensures { StartsWith text.new.items text.old.items }
 {
@@ -114,15 +110,7 @@ pub fn explain_bound(
     let answer = match found {
         BoundVerdict::Bound(_) => Ok(()),
         BoundVerdict::NoTour => push_lines(&mut told, NO_TOUR),
-        BoundVerdict::No(reason) => push_no(
-            alloc,
-            &mut told,
-            names,
-            reason,
-            instance,
-            None,
-            Some(certificate),
-        ),
+        BoundVerdict::No(reason) => push_no(alloc, &mut told, files, reason),
     };
     append(text, told, answer)
 }
@@ -159,17 +147,21 @@ fn push_wrong_kind(text: &mut Vec<u8>, name: &str, kinds: &str) -> Result<(), Al
 fn push_no(
     alloc: Global,
     text: &mut Vec<u8>,
-    names: Names<'_>,
+    files: Files<'_>,
     reason: Reason,
-    instance: &Instance,
-    solution: Option<&File>,
-    certificate: Option<&File>,
 ) -> Result<(), AllocError> {
     let name = match blamed(reason) {
-        Role::Instance => names.instance,
-        Role::Solution => names.solution,
-        Role::Potentials | Role::Branches => names.certificate,
+        Role::Instance => files.names.instance,
+        Role::Solution => files.names.solution,
+        Role::Potentials | Role::Branches => files.names.certificate,
     };
     explain_reason(alloc, text, name, reason)?;
-    push_details(alloc, text, reason, instance, solution, certificate)
+    push_details(
+        alloc,
+        text,
+        reason,
+        files.instance,
+        files.solution,
+        files.certificate,
+    )
 }

@@ -29,7 +29,6 @@ mod wanted;
 
 pub use examples::examples_of_shown_bytes;
 pub use file::{explain_file, push_error};
-pub use judged::{Names, explain_bound, explain_verdict, explain_wrong_kind};
-pub use role::Role;
+pub use judged::{Files, Names, explain_bound, explain_verdict, explain_wrong_kind};
 pub use sentences::{relayout_sentence, write_sentence};
-pub use text::push_lines;
+pub use text::{explain_lines, push_lines};

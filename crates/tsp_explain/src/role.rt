@@ -1,22 +1,10 @@
-//! What a file is given for.
+//! Which file a reason is about.
 
 ghost use Rattle.std.specs.Prelude.{◌≡◌};
 ghost use Rattle.tsp_explain.specs.Roles.{role_of};
 
 use tsp_reason::Reason;
-
-/// What a file of a check is given for.
-#[derive(Clone, Copy, Debug, PartialEq, Eq)]
-pub enum Role {
-    /// The instance.
-    Instance,
-    /// The solution.
-    Solution,
-    /// The potentials, which certify a bound.
-    Potentials,
-    /// The tree of cases, which certifies a bound.
-    Branches,
-}
+use tsp_task::Role;
 
 /// The file that a reason is about.
 pub fn blamed(reason: Reason) -> Role

@@ -122,68 +122,110 @@ pub fn write_sentence(fault: WriteFault) -> &'static str
 /// Why a solution is refused.
 pub(crate) fn reason_sentence(reason: Reason) -> &'static str {
     match reason {
-        Reason::NotASolution => "The second file has to be of TYPE TOUR.",
-        Reason::TooFewNodes => {
-            "A tour has at least 3 nodes, and routes have a depot and at least 1 customer."
-        }
-        Reason::NotSymmetric { i: _, j: _ } => {
-            "In a TSP the cost between two nodes is the same in both directions. Where it isn't, TYPE is ATSP."
-        }
-        Reason::Dimension => "DIMENSION of the solution isn't that of the instance.",
-        Reason::TourCount => "The second file has to hold exactly one tour, which -1 ends.",
-        Reason::TourLength => "A tour lists each node of the instance once.",
-        Reason::NodeOutOfRange { place: _ } => "The nodes of the instance are 1 to DIMENSION.",
-        Reason::RepeatedNode { place: _ } => "Each node is in a tour, or in the routes, once.",
-        Reason::FixedEdgeUnused { index: _ } => {
-            "The tour has to use every pair of FIXED_EDGES_SECTION: as neighbours,\n\
-             under TYPE ATSP from the pair's first node to its second."
-        }
-        Reason::NotPotentials => "The certificate has to be of TYPE POTENTIALS.",
-        Reason::PotentialsDimension => "DIMENSION of the potentials isn't that of the instance.",
-        Reason::PotentialsKind => {
-            "A TSP wants a NODE_POTENTIAL_SECTION, an ATSP a ROW_POTENTIAL_SECTION and a COLUMN_POTENTIAL_SECTION."
-        }
-        Reason::MultiplierNotFixed { index: _ } => {
-            "A multiplier of FIXED_EDGE_POTENTIAL_SECTION is on a pair of FIXED_EDGES_SECTION of the instance, in either direction.\n\
-             Other pairs need not be in a tour, so a multiplier on one bounds nothing."
-        }
-        Reason::MultiplierRepeated { index: _ } => {
-            "FIXED_EDGE_POTENTIAL_SECTION has at most one multiplier for each pair, whichever node comes first."
-        }
-        Reason::DualInfeasible { i: _, j: _ } => {
-            "The potentials of a row and a column may sum to at most SCALE times the cost from the one node to the other.\n\
-             Here they sum to more, so they bound nothing."
-        }
-        Reason::DepotCount => "DEPOT_SECTION of the instance has to list exactly one depot.",
-        Reason::DepotDemand => "The depot's demand has to be 0.",
-        Reason::FixedEdgesInRoutes => "Routes aren't judged where the instance lists a fixed edge.",
-        Reason::DepotInRoute { place: _ } => {
-            "A route lists its customers alone: it begins and ends at the depot, which isn't listed."
-        }
-        Reason::Unserved { node: _ } => "Every node but the depot is in a route.",
-        Reason::Overload { route: _ } => "The demands of a route sum to at most CAPACITY.",
-        Reason::LengthClaimed { length: _ } => {
-            "No other reason applies to the solution, but its length isn't the one that --length claims."
-        }
-        Reason::NotBranches => "The certificate has to be of TYPE BRANCHES.",
-        Reason::BranchesDimension => "DIMENSION of the tree of cases isn't that of the instance.",
-        Reason::BadComb { index: _ } => {
-            "This family of COMB_SECTION isn't taken. No set may have a node twice. A family is a lone set, which leaves a node out;\n\
-             or a comb: a handle and an odd number of teeth, 3 or more, which don't meet,\n\
-             each with a node inside the handle and one outside; or any other sets, at most 63, whose nodes make 2 to 14 parts.\n\
-             Two nodes are in one part if they are in the same sets. The nodes in no set are a part too."
-        }
-        Reason::BranchTwice { index: _ } => {
-            "This branch of BRANCH_SECTION is on a pair that a branch above it decides, or that is a fixed edge of the instance,\n\
-             whichever node comes first. For an ATSP it is the arc from the first node to the second one."
-        }
-        Reason::BadLeaf { index: _ } => {
-            "This leaf of BRANCH_SECTION has a number that isn't taken. Indices are 1 to DIMENSION for the potentials of nodes,\n\
-             and go on from there for the multipliers of families, in the order of COMB_SECTION.\n\
-             A potential is at most 1,000,000,000,000,000 in size; multipliers aren't below 0,\n\
-             and sum to at most 300,000,000,000,000,000, where there are lone sets and combs alone. In general the sum of each\n\
-             times 3, or for other sets times the most of them that two nodes cross, is at most 900,000,000,000,000,000.\n\
-             Numbers are written as their differences to those of the leaf before."
-        }
+        Reason::NotASolution => NOT_A_SOLUTION,
+        Reason::TooFewNodes => TOO_FEW_NODES,
+        Reason::NotSymmetric { .. } => NOT_SYMMETRIC,
+        Reason::Dimension => DIMENSION,
+        Reason::TourCount => TOUR_COUNT,
+        Reason::TourLength => TOUR_LENGTH,
+        Reason::NodeOutOfRange { .. } => NODE_OUT_OF_RANGE,
+        Reason::RepeatedNode { .. } => REPEATED_NODE,
+        Reason::FixedEdgeUnused { .. } => FIXED_EDGE_UNUSED,
+        Reason::NotPotentials => NOT_POTENTIALS,
+        Reason::PotentialsDimension => POTENTIALS_DIMENSION,
+        Reason::PotentialsKind => POTENTIALS_KIND,
+        Reason::MultiplierNotFixed { .. } => MULTIPLIER_NOT_FIXED,
+        Reason::MultiplierRepeated { .. } => MULTIPLIER_REPEATED,
+        Reason::DualInfeasible { .. } => DUAL_INFEASIBLE,
+        Reason::DepotCount => DEPOT_COUNT,
+        Reason::DepotDemand => DEPOT_DEMAND,
+        Reason::FixedEdgesInRoutes => FIXED_EDGES_IN_ROUTES,
+        Reason::DepotInRoute { .. } => DEPOT_IN_ROUTE,
+        Reason::Unserved { .. } => UNSERVED,
+        Reason::Overload { .. } => OVERLOAD,
+        Reason::LengthClaimed { .. } => LENGTH_CLAIMED,
+        Reason::NotBranches => NOT_BRANCHES,
+        Reason::BranchesDimension => BRANCHES_DIMENSION,
+        Reason::BadComb { .. } => BAD_COMB,
+        Reason::BranchTwice { .. } => BRANCH_TWICE,
+        Reason::BadLeaf { .. } => BAD_LEAF,
     }
 }
+
+const NOT_A_SOLUTION: &str = "The second file has to be of TYPE TOUR.";
+
+const TOO_FEW_NODES: &str =
+    "A tour has at least 3 nodes, and routes have a depot and at least 1 customer.";
+
+const NOT_SYMMETRIC: &str =
+    "In a TSP the cost between two nodes is the same in both directions. Where it isn't, TYPE is ATSP.";
+
+const DIMENSION: &str = "DIMENSION of the solution isn't that of the instance.";
+
+const TOUR_COUNT: &str = "The second file has to hold exactly one tour, which -1 ends.";
+
+const TOUR_LENGTH: &str = "A tour lists each node of the instance once.";
+
+const NODE_OUT_OF_RANGE: &str = "The nodes of the instance are 1 to DIMENSION.";
+
+const REPEATED_NODE: &str = "Each node is in a tour, or in the routes, once.";
+
+const FIXED_EDGE_UNUSED: &str =
+    "The tour has to use every pair of FIXED_EDGES_SECTION: as neighbours,\n\
+    under TYPE ATSP from the pair's first node to its second.";
+
+const NOT_POTENTIALS: &str = "The certificate has to be of TYPE POTENTIALS.";
+
+const POTENTIALS_DIMENSION: &str = "DIMENSION of the potentials isn't that of the instance.";
+
+const POTENTIALS_KIND: &str =
+    "A TSP wants a NODE_POTENTIAL_SECTION, an ATSP a ROW_POTENTIAL_SECTION and a COLUMN_POTENTIAL_SECTION.";
+
+const MULTIPLIER_NOT_FIXED: &str =
+    "A multiplier of FIXED_EDGE_POTENTIAL_SECTION is on a pair of FIXED_EDGES_SECTION of the instance, in either direction.\n\
+    Other pairs need not be in a tour, so a multiplier on one bounds nothing.";
+
+const MULTIPLIER_REPEATED: &str =
+    "FIXED_EDGE_POTENTIAL_SECTION has at most one multiplier for each pair, whichever node comes first.";
+
+const DUAL_INFEASIBLE: &str =
+    "The potentials of a row and a column may sum to at most SCALE times the cost from the one node to the other.\n\
+    Here they sum to more, so they bound nothing.";
+
+const DEPOT_COUNT: &str = "DEPOT_SECTION of the instance has to list exactly one depot.";
+
+const DEPOT_DEMAND: &str = "The depot's demand has to be 0.";
+
+const FIXED_EDGES_IN_ROUTES: &str = "Routes aren't judged where the instance lists a fixed edge.";
+
+const DEPOT_IN_ROUTE: &str =
+    "A route lists its customers alone: it begins and ends at the depot, which isn't listed.";
+
+const UNSERVED: &str = "Every node but the depot is in a route.";
+
+const OVERLOAD: &str = "The demands of a route sum to at most CAPACITY.";
+
+const LENGTH_CLAIMED: &str =
+    "No other reason applies to the solution, but its length isn't the one that --length claims.";
+
+const NOT_BRANCHES: &str = "The certificate has to be of TYPE BRANCHES.";
+
+const BRANCHES_DIMENSION: &str = "DIMENSION of the tree of cases isn't that of the instance.";
+
+const BAD_COMB: &str =
+    "This family of COMB_SECTION isn't taken. No set may have a node twice. A family is a lone set, which leaves a node out;\n\
+    or a comb: a handle and an odd number of teeth, 3 or more, which don't meet,\n\
+    each with a node inside the handle and one outside; or any other sets, at most 63, whose nodes make 2 to 14 parts.\n\
+    Two nodes are in one part if they are in the same sets. The nodes in no set are a part too.";
+
+const BRANCH_TWICE: &str =
+    "This branch of BRANCH_SECTION is on a pair that a branch above it decides, or that is a fixed edge of the instance,\n\
+    whichever node comes first. For an ATSP it is the arc from the first node to the second one.";
+
+const BAD_LEAF: &str =
+    "This leaf of BRANCH_SECTION has a number that isn't taken. Indices are 1 to DIMENSION for the potentials of nodes,\n\
+    and go on from there for the multipliers of families, in the order of COMB_SECTION.\n\
+    A potential is at most 1,000,000,000,000,000 in size; multipliers aren't below 0,\n\
+    and sum to at most 300,000,000,000,000,000, where there are lone sets and combs alone. In general the sum of each\n\
+    times 3, or for other sets times the most of them that two nodes cross, is at most 900,000,000,000,000,000.\n\
+    Numbers are written as their differences to those of the leaf before.";

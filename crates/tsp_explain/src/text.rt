@@ -7,7 +7,7 @@ ghost use Rattle.tsp_explain.specs.Shown.{shown_byte, shown_low, shown_high, all
 ghost use Rattle.tsp_explain.specs.Indented.{indented, indented_byte};
 
 use itoa::{Buffer, Integer};
-use std::alloc::AllocError;
+use std::alloc::{AllocError, Global};
 
 /// What a line begins with.
 const INDENT: &[u8] = b"  ";
@@ -80,6 +80,19 @@ pub(crate) fn append(
 {
     text.extend_from_slice(&told)?;
     answer
+}
+
+/// Appends sentences, as `push_lines` does.
+///
+/// # Errors
+///
+/// Out of memory; part of the lines may be appended then.
+pub fn explain_lines(alloc: Global, text: &mut Vec<u8>, sentences: &str) -> Result<(), AllocError>
+    ensures { StartsWith text.new.items text.old.items }
+{
+    let mut told = Vec::new(alloc);
+    let answer = push_lines(&mut told, sentences);
+    append(text, told, answer)
 }
 
 /// Appends bytes of a file as `cat -v` shows them, so that none of them reaches a terminal as a

@@ -5,87 +5,113 @@ use tsp_format::{Field, Shape};
 /// What a keyword or a section takes.
 pub(crate) fn wanted(field: Field) -> &'static str {
     match field {
-        Field::NameKey => "NAME keeps its whole value, with the keyword at most 4,000 bytes.",
-        Field::CommentKey => {
-            "COMMENT keeps its whole value, with the keyword at most 4,000 bytes. At most 1,000 lines have it."
-        }
-        Field::OtherKey => {
-            "An unknown keyword keeps its whole value, with the keyword at most 4,000 bytes. At most 1,000 lines have one."
-        }
-        Field::TypeKey => {
-            "TYPE is TSP, ATSP, CVRP, TOUR, POTENTIALS or BRANCHES. Of TSPLIB 95's, tsp doesn't read HCP and SOP."
-        }
-        Field::DimensionKey => {
-            "DIMENSION is the number of nodes: a whole number from 1 to 100,000."
-        }
-        Field::CapacityKey => "CAPACITY is a whole number from 1 to 1,000,000,000,000.",
-        Field::ScaleKey => "SCALE is a whole number from 1 to 1,000,000.",
-        Field::EdgeWeightTypeKey => {
-            "EDGE_WEIGHT_TYPE is EXPLICIT, EUC_2D, CEIL_2D, MAN_2D, MAX_2D, ATT, EUC_3D, MAN_3D or MAX_3D.\n\
-             tsp doesn't read the other types of TSPLIB 95.\n\
-             Written as an EXPLICIT matrix of whole numbers, the file could be read with up to 5,000 nodes."
-        }
-        Field::EdgeWeightFormatKey => {
-            "EDGE_WEIGHT_FORMAT is FUNCTION, FULL_MATRIX, UPPER_ROW, LOWER_ROW, UPPER_DIAG_ROW, LOWER_DIAG_ROW,\n\
-             UPPER_COL, LOWER_COL, UPPER_DIAG_COL or LOWER_DIAG_COL."
-        }
-        Field::NodeCoordTypeKey => { "NODE_COORD_TYPE is TWOD_COORDS, THREED_COORDS or NO_COORDS." }
-        Field::DisplayDataTypeKey => {
-            "DISPLAY_DATA_TYPE is COORD_DISPLAY, TWOD_DISPLAY or NO_DISPLAY."
-        }
-        Field::NodeCoordPart => {
-            "NODE_COORD_SECTION has for each node from 1 to DIMENSION a group: the node, x and y; and z where an earlier line\n\
-             says THREED_COORDS, EUC_3D, MAN_3D or MAX_3D. They are from -1,000,000,000 to 1,000,000,000, with at most 9 decimals."
-        }
-        Field::DisplayDataPart => {
-            "DISPLAY_DATA_SECTION has for each node from 1 to DIMENSION a group: the node, x and y.\n\
-             x and y are from -1,000,000,000 to 1,000,000,000, with at most 9 decimals."
-        }
-        Field::DemandPart => {
-            "DEMAND_SECTION has for each node from 1 to DIMENSION a group: the node and its demand,\n\
-             a whole number from 0 to 1,000,000,000."
-        }
-        Field::DepotPart => {
-            "DEPOT_SECTION lists nodes from 1 to DIMENSION, at most 100,000, and -1 at its end."
-        }
-        Field::FixedEdgesPart => {
-            "FIXED_EDGES_SECTION lists pairs of different nodes from 1 to DIMENSION, at most 100,000, and -1 at its end."
-        }
-        Field::EdgeWeightPart => {
-            "EDGE_WEIGHT_SECTION lists whole numbers from -1,000,000,000,000 to 1,000,000,000,000,\n\
-             at most DIMENSION * DIMENSION of them."
-        }
-        Field::TourPart => {
-            "TOUR_SECTION lists nodes from 1 to 100,000, at most 1,000,000, and -1 at the end of each tour."
-        }
-        Field::NodePotentialPart => {
-            "NODE_POTENTIAL_SECTION has for each node from 1 to DIMENSION a group: the node and its number,\n\
-             a whole number from -1,000,000,000,000,000 to 1,000,000,000,000,000."
-        }
-        Field::RowPotentialPart => {
-            "ROW_POTENTIAL_SECTION has for each node from 1 to DIMENSION a group: the node and its number,\n\
-             a whole number from -1,000,000,000,000,000 to 1,000,000,000,000,000."
-        }
-        Field::ColumnPotentialPart => {
-            "COLUMN_POTENTIAL_SECTION has for each node from 1 to DIMENSION a group: the node and its number,\n\
-             a whole number from -1,000,000,000,000,000 to 1,000,000,000,000,000."
-        }
-        Field::FixedEdgePotentialPart => {
-            "FIXED_EDGE_POTENTIAL_SECTION lists two different nodes from 1 to DIMENSION and their multiplier,\n\
-             a whole number from 0 to 1,000,000,000,000,000: at most 100,000 such triples, and -1 at its end."
-        }
-        Field::CombPart => {
-            "COMB_SECTION lists combs of nodes from 1 to DIMENSION: a handle and its teeth, -1 at the end of each of these,\n\
-             one more -1 after each comb, and one after the last: at most 10,000 combs, with 1,000,000 nodes in all."
-        }
-        Field::BranchPart => {
-            "BRANCH_SECTION has one tree. Two different nodes from 1 to DIMENSION are a branch, before the tree of the tours\n\
-             that use the pair and that of the tours that don't. 0 begins a leaf: pairs of an index from 1 to DIMENSION + 10,000\n\
-             and a whole difference from -2,000,000,000,000,000 to 2,000,000,000,000,000, and -1 at its end.\n\
-             There are at most 1,000,000 branches, and 10,000,000 differences."
-        }
+        Field::NameKey => NAME,
+        Field::CommentKey => COMMENT,
+        Field::OtherKey => OTHER,
+        Field::TypeKey => TYPE,
+        Field::DimensionKey => DIMENSION,
+        Field::CapacityKey => CAPACITY,
+        Field::ScaleKey => SCALE,
+        Field::EdgeWeightTypeKey => EDGE_WEIGHT_TYPE,
+        Field::EdgeWeightFormatKey => EDGE_WEIGHT_FORMAT,
+        Field::NodeCoordTypeKey => NODE_COORD_TYPE,
+        Field::DisplayDataTypeKey => DISPLAY_DATA_TYPE,
+        Field::NodeCoordPart => NODE_COORD,
+        Field::DisplayDataPart => DISPLAY_DATA,
+        Field::DemandPart => DEMAND,
+        Field::DepotPart => DEPOT,
+        Field::FixedEdgesPart => FIXED_EDGES,
+        Field::EdgeWeightPart => EDGE_WEIGHT,
+        Field::TourPart => TOUR,
+        Field::NodePotentialPart => NODE_POTENTIAL,
+        Field::RowPotentialPart => ROW_POTENTIAL,
+        Field::ColumnPotentialPart => COLUMN_POTENTIAL,
+        Field::FixedEdgePotentialPart => FIXED_EDGE_POTENTIAL,
+        Field::CombPart => COMB,
+        Field::BranchPart => BRANCH,
     }
 }
+
+const NAME: &str = "NAME keeps its whole value, with the keyword at most 4,000 bytes.";
+
+const COMMENT: &str =
+    "COMMENT keeps its whole value, with the keyword at most 4,000 bytes. At most 1,000 lines have it.";
+
+const OTHER: &str =
+    "An unknown keyword keeps its whole value, with the keyword at most 4,000 bytes. At most 1,000 lines have one.";
+
+const TYPE: &str =
+    "TYPE is TSP, ATSP, CVRP, TOUR, POTENTIALS or BRANCHES. Of TSPLIB 95's, tsp doesn't read HCP and SOP.";
+
+const DIMENSION: &str = "DIMENSION is the number of nodes: a whole number from 1 to 100,000.";
+
+const CAPACITY: &str = "CAPACITY is a whole number from 1 to 1,000,000,000,000.";
+
+const SCALE: &str = "SCALE is a whole number from 1 to 1,000,000.";
+
+const EDGE_WEIGHT_TYPE: &str =
+    "EDGE_WEIGHT_TYPE is EXPLICIT, EUC_2D, CEIL_2D, MAN_2D, MAX_2D, ATT, EUC_3D, MAN_3D or MAX_3D.\n\
+    tsp doesn't read the other types of TSPLIB 95.\n\
+    Written as an EXPLICIT matrix of whole numbers, the file could be read with up to 5,000 nodes.";
+
+const EDGE_WEIGHT_FORMAT: &str =
+    "EDGE_WEIGHT_FORMAT is FUNCTION, FULL_MATRIX, UPPER_ROW, LOWER_ROW, UPPER_DIAG_ROW, LOWER_DIAG_ROW,\n\
+    UPPER_COL, LOWER_COL, UPPER_DIAG_COL or LOWER_DIAG_COL.";
+
+const NODE_COORD_TYPE: &str = "NODE_COORD_TYPE is TWOD_COORDS, THREED_COORDS or NO_COORDS.";
+
+const DISPLAY_DATA_TYPE: &str = "DISPLAY_DATA_TYPE is COORD_DISPLAY, TWOD_DISPLAY or NO_DISPLAY.";
+
+const NODE_COORD: &str =
+    "NODE_COORD_SECTION has for each node from 1 to DIMENSION a group: the node, x and y; and z where an earlier line\n\
+    says THREED_COORDS, EUC_3D, MAN_3D or MAX_3D. They are from -1,000,000,000 to 1,000,000,000, with at most 9 decimals.";
+
+const DISPLAY_DATA: &str =
+    "DISPLAY_DATA_SECTION has for each node from 1 to DIMENSION a group: the node, x and y.\n\
+    x and y are from -1,000,000,000 to 1,000,000,000, with at most 9 decimals.";
+
+const DEMAND: &str =
+    "DEMAND_SECTION has for each node from 1 to DIMENSION a group: the node and its demand,\n\
+    a whole number from 0 to 1,000,000,000.";
+
+const DEPOT: &str =
+    "DEPOT_SECTION lists nodes from 1 to DIMENSION, at most 100,000, and -1 at its end.";
+
+const FIXED_EDGES: &str =
+    "FIXED_EDGES_SECTION lists pairs of different nodes from 1 to DIMENSION, at most 100,000, and -1 at its end.";
+
+const EDGE_WEIGHT: &str =
+    "EDGE_WEIGHT_SECTION lists whole numbers from -1,000,000,000,000 to 1,000,000,000,000,\n\
+    at most DIMENSION * DIMENSION of them.";
+
+const TOUR: &str =
+    "TOUR_SECTION lists nodes from 1 to 100,000, at most 1,000,000, and -1 at the end of each tour.";
+
+const NODE_POTENTIAL: &str =
+    "NODE_POTENTIAL_SECTION has for each node from 1 to DIMENSION a group: the node and its number,\n\
+    a whole number from -1,000,000,000,000,000 to 1,000,000,000,000,000.";
+
+const ROW_POTENTIAL: &str =
+    "ROW_POTENTIAL_SECTION has for each node from 1 to DIMENSION a group: the node and its number,\n\
+    a whole number from -1,000,000,000,000,000 to 1,000,000,000,000,000.";
+
+const COLUMN_POTENTIAL: &str =
+    "COLUMN_POTENTIAL_SECTION has for each node from 1 to DIMENSION a group: the node and its number,\n\
+    a whole number from -1,000,000,000,000,000 to 1,000,000,000,000,000.";
+
+const FIXED_EDGE_POTENTIAL: &str =
+    "FIXED_EDGE_POTENTIAL_SECTION lists two different nodes from 1 to DIMENSION and their multiplier,\n\
+    a whole number from 0 to 1,000,000,000,000,000: at most 100,000 such triples, and -1 at its end.";
+
+const COMB: &str =
+    "COMB_SECTION lists combs of nodes from 1 to DIMENSION: a handle and its teeth, -1 at the end of each of these,\n\
+    one more -1 after each comb, and one after the last: at most 10,000 combs, with 1,000,000 nodes in all.";
+
+const BRANCH: &str =
+    "BRANCH_SECTION has one tree. Two different nodes from 1 to DIMENSION are a branch, before the tree of the tours\n\
+    that use the pair and that of the tours that don't. 0 begins a leaf: pairs of an index from 1 to DIMENSION + 10,000\n\
+    and a whole difference from -2,000,000,000,000,000 to 2,000,000,000,000,000, and -1 at its end.\n\
+    There are at most 1,000,000 branches, and 10,000,000 differences.";
 
 /// Which files have to have a keyword or a section.
 pub(crate) fn asked(field: Field) -> &'static str {

@@ -6,13 +6,15 @@ use Rattle.tsp_judge.specs.FaultText.{run_fault_text}
 use Rattle.tsp_judge.specs.Status.{status_of}
 use Rattle.tsp_cli.specs.declared.words.JobFault.TheVariants as job_faults
 use Rattle.tsp_cli.specs.declared.task.TaskFault.TheVariants.{UnknownLayout, MissingPath, TwoCertificates, NoCertificate, NotALength, InputTwice}
-use Rattle.tsp_run.specs.Engines.{is_accepted}
+use Rattle.tsp_perform.specs.Done.{is_accepted}
+use Rattle.tsp_run.specs.Telling.{MayTell}
 use Rattle.tsp_run.specs.declared.ending.Ending.{Ending}
-use Rattle.tsp_run.specs.declared.ending.Ending.TheVariants.{NoJob, Version, NoTask, Ended}
+use Rattle.tsp_run.specs.declared.ending.Ending.TheVariants.{NoJob, Version, NoTask, Ended, Compared}
 use Rattle.tsp_run.specs.declared.ending.Line.{Line}
 use Rattle.tsp_run.specs.declared.ending.Line.TheVariants as lines
 
--- 3 is out of memory for the words, 4 a command line that is refused; a task has the status of its answer
+-- 3 is out of memory for the words, 4 a command line that is refused; a task has the status of its answer, and a comparison the
+-- largest of its solutions'
 abbrev pub status_of_ending : Ending → ℕ
 status_of_ending (NoJob (job_faults.Refused refusal)) = 4
 status_of_ending (NoJob job_faults.OutOfMemory) = 3
@@ -20,6 +22,8 @@ status_of_ending (Version build) = 4
 status_of_ending (NoTask fault) = 4
 status_of_ending (Ended (Ok outcome)) = status_of (Ok (is_accepted outcome))
 status_of_ending (Ended (Err fault)) = status_of (Err fault)
+status_of_ending (Compared (Ok compared)) = compared.status
+status_of_ending (Compared (Err fault)) = status_of (Err fault)
 
 -- the line of an ending; an answer has none, since what it says is on standard output
 abbrev pub IsLineOf : Ending → Option Line → Type 0
@@ -29,6 +33,8 @@ IsLineOf (Version build) line = line ≡ Some (lines.Version build)
 IsLineOf (NoTask fault) line = line ≡ Some (lines.NoTask fault)
 IsLineOf (Ended (Ok answer)) line = line ≡ None
 IsLineOf (Ended (Err fault)) line = line ≡ Some (lines.Fault fault)
+IsLineOf (Compared (Ok compared)) line = line ≡ None
+IsLineOf (Compared (Err fault)) line = line ≡ Some (lines.Fault fault)
 IsLineOf (NoJob (job_faults.Refused refusal)) _ = ⊥
 
 -- a line of this program's own, with its end
@@ -65,6 +71,12 @@ abbrev pub Tells : Ending → Option (List ℕ) → Option (List ℕ) → Type 0
 Tells ending old new = (line : Option Line) × IsLineOf ending line × IsWritten line old new
 
 -- the same, and after the line a text and nothing else, where the ending is explained
+abbrev pub TellsAfter : Bool → Ending → Option (List ℕ) → Option (List ℕ) → Type 0
+TellsAfter false ending old new = Tells ending old new
+TellsAfter true ending old new = (between : Option (List ℕ)) × (text : List ℕ) × Tells ending old between × Appends between new text
+
+-- A comparison may tell of its solutions before, each when its own line was written.
 abbrev pub TellsAll : Bool → Ending → Option (List ℕ) → Option (List ℕ) → Type 0
-TellsAll false ending old new = Tells ending old new
-TellsAll true ending old new = (between : Option (List ℕ)) × (text : List ℕ) × Tells ending old between × Appends between new text
+TellsAll explained (Compared answer) old new = (first : Option (List ℕ)) × MayTell explained old first
+    × TellsAfter explained (Compared answer) first new
+TellsAll explained ending old new = TellsAfter explained ending old new

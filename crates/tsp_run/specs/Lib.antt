@@ -1,5 +1,6 @@
 pub mod states
 pub mod Ending
-pub mod Engines
+pub mod Compare
 pub mod Run
+pub mod Telling
 pub mod Waiting

@@ -6,24 +6,26 @@ use Rattle.std.specs.declared.io.ErrorKind.TheVariants as io_kinds
 use Rattle.clap.specs.Words.{Text, kind_of}
 use Rattle.clap.specs.declared.error.kind.ErrorKind.TheVariants as kinds
 use Rattle.tsp_judge.specs.declared.Watched.{Watched}
-use Rattle.tsp_judge.specs.Watched.{watched, has_failed}
 use Rattle.tsp_judge.specs.Sink.{Sink, IsUnwritten}
 use Rattle.tsp_run.specs.declared.ending.Ending.{Ending}
 use Rattle.tsp_run.specs.declared.ending.Ending.TheVariants.{NoJob, Version, NoTask, Ended}
+use Rattle.tsp_run.specs.declared.ending.Ending.TheVariants as endings
+use Rattle.tsp_perform.specs.declared.outcome.Outcome.{Outcome}
+use Rattle.tsp_judge.specs.declared.compared.Compared.{Compared}
+use Rattle.tsp_judge.specs.declared.fault.RunFault.{RunFault}
 use Rattle.tsp_cli.specs.declared.words.Job.{Job}
 use Rattle.tsp_cli.specs.declared.words.JobFault.{JobFault}
 use Rattle.tsp_cli.specs.declared.task.Place.{Place}
-use Rattle.tsp_cli.specs.declared.task.Task.{Task}
-use Rattle.tsp_cli.specs.declared.task.Task.TheVariants.{Show, Convert, Check, CheckBy, Bound}
+use Rattle.tsp_task.specs.declared.task.Task.{Task}
+use Rattle.tsp_task.specs.declared.task.Task.TheVariants.{Show, Convert, Check, CheckBy, Bound}
 use Rattle.tsp_cli.specs.declared.words.JobFault.TheVariants.{OutOfMemory, Refused}
 use Rattle.tsp_cli.specs.Words.{GivesJob, IsOtherRefusal}
-use Rattle.tsp_cli.specs.Task.{GivesTask}
-use Rattle.tsp_run.specs.Engines.{IsDone}
+use Rattle.tsp_cli.specs.declared.task.Comparison.{Comparison}
+use Rattle.tsp_cli.specs.declared.task.Work.TheVariants as works
+use Rattle.tsp_cli.specs.Task.{GivesWork}
+use Rattle.tsp_run.specs.Compare.{IsComparedAs, IsFresh}
+use Rattle.tsp_perform.specs.Done.{IsDone}
 use Rattle.tsp_run.specs.Ending.{status_of_ending, TellsAll}
-
--- the reader is that of the opened place, and hasn't failed
-abbrev pub IsFresh : {F : Type 0} → (Place → F → Type 0) → Place → Watched F → Type 0
-IsFresh opens place reader = opens place (watched reader) × (has_failed reader ≡ false)
 
 -- the same task, each of its files opened in its place
 abbrev pub AreFresh : {F : Type 0} → (Place → F → Type 0) → Task Place → Task (Watched F) → Type 0
@@ -35,15 +37,22 @@ AreFresh opens (CheckBy by a b c claimed) (CheckBy kept x y z same) = (kept ≡ 
 AreFresh opens (Bound by a c) (Bound kept x z) = (kept ≡ by) × IsFresh opens a x × IsFresh opens c z
 AreFresh opens _ _ = ⊥
 
--- How a run ends that has this job: it is no task, and then nothing is written; or the task was done on its files, opened in
--- their places.
+-- the task is done on its files, opened in their places
+abbrev pub IsDoneAs : {F : Type 0} → (F → Option (List ℕ)) → (Place → F → Type 0) → Task Place → Sink
+    → Result Outcome RunFault → Type 0
+IsDoneAs {F = F} remaining opens task sink answer = (old new : Task (Watched F)) × AreFresh opens task old
+    × IsDone remaining old new sink answer
+
+-- How a run ends that has this job: it is no work, and then nothing is written; or the task was done on its files, opened in
+-- their places; or the solutions were compared.
 abbrev pub EndsWith : {F : Type 0} → (F → Option (List ℕ)) → (Place → F → Type 0) → Job → Sink → Ending → Type 0
 EndsWith remaining opens job sink (NoJob fault) = ⊥
 EndsWith remaining opens job sink (Version build) = ⊥
-EndsWith remaining opens job sink (NoTask fault) = GivesTask job (Err fault) × IsUnwritten sink
-EndsWith {F = F} remaining opens job sink (Ended answer) = (task : Task Place) × (old new : Task (Watched F))
-    × GivesTask job (Ok task)
-    × AreFresh opens task old × IsDone remaining old new sink answer
+EndsWith remaining opens job sink (NoTask fault) = GivesWork job (Err fault) × IsUnwritten sink
+EndsWith remaining opens job sink (Ended answer) = (task : Task Place) × GivesWork job (Ok (works.Task task))
+    × IsDoneAs remaining opens task sink answer
+EndsWith remaining opens job sink (endings.Compared answer) = (comparison : Comparison) × GivesWork job (Ok (works.Compare comparison))
+    × IsComparedAs remaining opens comparison sink answer
 
 -- the words ask for the version
 abbrev pub AsksVersion : JobFault → Type 0
@@ -64,6 +73,8 @@ Ends remaining opens on_terminal build words sink explained (NoTask fault) = (jo
     × EndsWith remaining opens job sink (NoTask fault) × (explained ≡ (job.explain || on_terminal))
 Ends remaining opens on_terminal build words sink explained (Ended answer) = (job : Job) × GivesJob (drop 1 words) (Ok job)
     × EndsWith remaining opens job sink (Ended answer) × (explained ≡ (job.explain || on_terminal))
+Ends remaining opens on_terminal build words sink explained (endings.Compared answer) = (job : Job) × GivesJob (drop 1 words) (Ok job)
+    × EndsWith remaining opens job sink (endings.Compared answer) × (explained ≡ (job.explain || on_terminal))
 
 -- the end where the words can't be had: out of memory, or a word is no text, which is reported as refused words are
 abbrev pub HasNoWords : ErrorKind → Bool → Ending → Type 0
@@ -72,14 +83,26 @@ HasNoWords kind explained (NoJob fault) = (kind ≡ io_kinds.OutOfMemory → fau
 HasNoWords kind explained (Version build) = ⊥
 HasNoWords kind explained (NoTask fault) = ⊥
 HasNoWords kind explained (Ended answer) = ⊥
+HasNoWords kind explained (endings.Compared answer) = ⊥
 
--- the exit status is that of an ending with Q, whose line is written, and more where it is explained
+-- the exit status is that of the ending, and its line is written, where that succeeded, and more where it is explained
+abbrev pub IsTold : Bool → Ending → Option (List ℕ) → Option (List ℕ) → ℕ × Result (Unit {0}) Error → Type 0
+IsTold explained ending old new answer = (answer.0 ≡ status_of_ending ending) × OnOk answer.1 (TellsAll explained ending old new)
+
+-- some ending with Q is told, of a job, of a task, or of a comparison
 abbrev pub RunsJob : (Ending → Type 0) → Bool → Option (List ℕ) → Option (List ℕ) → ℕ × Result (Unit {0}) Error → Type 0
-RunsJob Q explained old new answer = (ending : Ending) × Q ending × (answer.0 ≡ status_of_ending ending)
-    × OnOk answer.1 (TellsAll explained ending old new)
+RunsJob Q explained old new answer = (ending : Ending) × Q ending × IsTold explained ending old new answer
+
+abbrev pub RunsTask : (Result Outcome RunFault → Type 0) → Bool → Option (List ℕ) → Option (List ℕ)
+    → ℕ × Result (Unit {0}) Error → Type 0
+RunsTask Q explained old new answer = (done : Result Outcome RunFault) × Q done × IsTold explained (Ended done) old new answer
+
+abbrev pub RunsComparison : (Result Compared RunFault → Type 0) → Bool → Option (List ℕ) → Option (List ℕ)
+    → ℕ × Result (Unit {0}) Error → Type 0
+RunsComparison Q explained old new answer = (found : Result Compared RunFault) × Q found
+    × IsTold explained (endings.Compared found) old new answer
 
 -- the exit status is that of an ending with Q, and its line is written, where that succeeded; more follows the line where the
 -- ending is explained
 abbrev pub Runs : (Bool → Ending → Type 0) → Option (List ℕ) → Option (List ℕ) → ℕ × Result (Unit {0}) Error → Type 0
-Runs Q old new answer = (explained : Bool) × (ending : Ending) × Q explained ending × (answer.0 ≡ status_of_ending ending)
-    × OnOk answer.1 (TellsAll explained ending old new)
+Runs Q old new answer = (explained : Bool) × (ending : Ending) × Q explained ending × IsTold explained ending old new answer

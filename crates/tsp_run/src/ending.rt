@@ -6,14 +6,14 @@ ghost use Rattle.tsp_judge.specs.FaultText.{run_fault_text};
 ghost use Rattle.tsp_judge.specs.Status.{status_of};
 ghost use Rattle.tsp_run.specs.Ending.{IsLineOf, Tells, status_of_ending};
 
-use crate::engines::{Outcome, is_accepted};
 use arrayvec::ArrayString;
 use clap::Error as Refusal;
 use std::fmt::{Display, Formatter, Write as _};
 use std::io::Write;
 use std::{fmt, io};
 use tsp_cli::{JobFault, TaskFault, VERSION};
-use tsp_judge::{RunFault, status_of};
+use tsp_judge::{Compared, RunFault, status_of};
+use tsp_perform::{Outcome, is_accepted};
 
 /// How many bytes of a fault's line are written at once.
 const MOST_TEXT: usize = 256;
@@ -29,6 +29,8 @@ pub enum Ending {
     NoTask(TaskFault),
     /// A task was done, or ended with a fault.
     Ended(Result<Outcome, RunFault>),
+    /// Solutions were compared, or that ended with a fault.
+    Compared(Result<Compared, RunFault>),
 }
 
 /// What goes to standard error.
@@ -94,7 +96,8 @@ pub fn status_of_ending(ending: &Ending) -> u8
         Ending::NoJob(JobFault::Refused(_)) | Ending::Version(_) | Ending::NoTask(_) => REFUSED,
         Ending::NoJob(JobFault::OutOfMemory) => OUT_OF_MEMORY,
         Ending::Ended(Ok(outcome)) => status_of(&Ok(is_accepted(outcome))),
-        Ending::Ended(Err(fault)) => status_of(&Err(*fault)),
+        Ending::Compared(Ok(compared)) => compared.status,
+        Ending::Ended(Err(fault)) | Ending::Compared(Err(fault)) => status_of(&Err(*fault)),
     }
 }
 
@@ -107,8 +110,8 @@ pub fn line_of(ending: &Ending) -> Option<Line<'_>>
         Ending::NoJob(JobFault::OutOfMemory) => Some(Line::OutOfMemory),
         Ending::Version(build) => Some(Line::Version(build)),
         Ending::NoTask(fault) => Some(Line::NoTask(*fault)),
-        Ending::Ended(Ok(_)) => None,
-        Ending::Ended(Err(fault)) => Some(Line::Fault(*fault)),
+        Ending::Ended(Ok(_)) | Ending::Compared(Ok(_)) => None,
+        Ending::Ended(Err(fault)) | Ending::Compared(Err(fault)) => Some(Line::Fault(*fault)),
     }
 }
 

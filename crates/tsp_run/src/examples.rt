@@ -14,15 +14,17 @@ ghost use Rattle.tsp_cli.specs.declared.words.JobFault.TheVariants as job_faults
 ghost use Rattle.tsp_cli.specs.declared.task.TaskFault.TheVariants as task_faults;
 ghost use Rattle.tsp_run.specs.declared.ending.Ending.TheVariants as endings;
 ghost use Rattle.tsp_run.specs.declared.ending.Line.TheVariants as lines;
-ghost use Rattle.tsp_run.specs.declared.engines.Outcome.{Outcome};
-ghost use Rattle.tsp_run.specs.declared.engines.Outcome.TheVariants as outcomes;
-ghost use Rattle.tsp_run.specs.Engines.{is_accepted};
+ghost use Rattle.tsp_perform.specs.declared.outcome.Outcome.{Outcome};
+ghost use Rattle.tsp_perform.specs.declared.outcome.Outcome.TheVariants as outcomes;
+ghost use Rattle.tsp_perform.specs.Done.{is_accepted};
 ghost use Rattle.tsp_judge.specs.Status.{status_of, status_of_fault};
+ghost use Rattle.tsp_judge.specs.declared.compared.Compared.{Compared};
+ghost use Rattle.tsp_run.specs.Telling.{MayTell};
 ghost use Rattle.tsp_judge.specs.declared.Watched.{Watched};
 ghost use Rattle.tsp_judge.specs.Watched.{watched};
 ghost use Rattle.tsp_judge.specs.declared.Certificate.{Certificate};
 ghost use Rattle.tsp_cli.specs.declared.task.Place.{Place};
-ghost use Rattle.tsp_cli.specs.declared.task.Task.TheVariants as tasks;
+ghost use Rattle.tsp_task.specs.declared.task.Task.TheVariants as tasks;
 ghost use Rattle.tsp_run.specs.Run.{AreFresh};
 ghost use Rattle.tsp_run.specs.Ending.{status_of_ending, line_text, ended, IsWritten};
 
@@ -55,6 +57,9 @@ pub fn examples_of_statuses()
     ensures device_in { status_of_fault (run_faults.File 2 read_faults.Device) ≡ 5 }
     ensures device_out { status_of_fault (run_faults.Write write_faults.Device) ≡ 5 }
     ensures of_fault { status_of_ending (endings.Ended (Err run_faults.WrongKind)) ≡ 2 }
+    ensures compared { (compared : Compared) → status_of_ending (endings.Compared (Ok compared)) ≡ compared.status }
+    ensures not_compared { status_of_ending (endings.Compared (Err run_faults.WrongKind)) ≡ 2 }
+    ensures memory_while_compared { status_of_ending (endings.Compared (Err run_faults.OutOfMemory)) ≡ 3 }
     ensures line { ended (codes "missing path") ≡ Some (codes "missing path\n") }
 {}
 
@@ -80,6 +85,8 @@ pub fn examples_of_lines()
     ensures fault_told { IsWritten (Some (lines.Fault run_faults.OutOfMemory)) (Some []) (Some (codes "out of memory\n")) }
     ensures fault_untold { ¬ IsWritten (Some (lines.Fault run_faults.OutOfMemory)) (Some []) (Some []) }
     ensures nothing_told { IsWritten None (Some []) (Some []) }
+    ensures untold_unless_explained { ¬ MayTell false (Some []) (Some (codes "x\n")) }
+    ensures told_at_the_end { ¬ MayTell true (Some (codes "x\n")) (Some []) }
     ensures none_made_up { ¬ IsWritten None (Some []) (Some (codes "x\n")) }
 {}
 

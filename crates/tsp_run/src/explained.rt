@@ -1,52 +1,28 @@
 //! What a run's end means, for a person.
 
 use crate::ending::Ending;
-use crate::engines::Outcome;
 use crate::source::Open;
 use std::alloc::{AllocError, Global};
 use std::io;
 use std::io::Read;
-use tsp_cli::{Job, TaskFault, Verb};
-use tsp_explain::{
-    Names, Role, explain_bound, explain_file, explain_verdict, explain_wrong_kind, push_error,
-    push_lines, relayout_sentence, write_sentence,
-};
+use tsp_cli::{Place, TaskFault};
+use tsp_explain::{Names, push_error, push_lines, write_sentence};
 use tsp_judge::{RunFault, WriteFault};
+use tsp_perform::{explain_fault, explain_outcome};
+use tsp_task::Task;
 
-/// What explains how a job ended, line by line. Files that can be are looked at once more for it;
-/// `write_error` is what the system said of a write that failed. It is cut short where there is no
-/// memory for more.
-pub(crate) fn explanation<F: Read + Drop, O: Open<F>>(
-    alloc: Global,
-    job: &Job,
-    ending: &Ending,
-    files: &O,
-    write_error: Option<&io::Error>,
-) -> Vec<u8> {
+/// What explains why a job is no work, line by line. It is cut short where there is no memory for more.
+pub(crate) fn task_explanation(alloc: Global, fault: TaskFault) -> Vec<u8> {
     let mut text = Vec::new(alloc);
-    let _ = push_explanation(alloc, &mut text, job, ending, files, write_error);
+    let _ = match fault {
+        TaskFault::MissingPath => Ok(()),
+        TaskFault::UnknownLayout => push_lines(&mut text, LAYOUTS),
+        TaskFault::TwoCertificates => push_lines(&mut text, CERTIFICATES),
+        TaskFault::InputTwice => push_lines(&mut text, INPUT),
+        TaskFault::NoCertificate => push_lines(&mut text, NO_CERTIFICATE),
+        TaskFault::NotALength => push_lines(&mut text, LENGTHS),
+    };
     text
-}
-
-/// Appends what explains how a job ended.
-fn push_explanation<F: Read + Drop, O: Open<F>>(
-    alloc: Global,
-    text: &mut Vec<u8>,
-    job: &Job,
-    ending: &Ending,
-    files: &O,
-    write_error: Option<&io::Error>,
-) -> Result<(), AllocError> {
-    match ending {
-        Ending::NoJob(_) | Ending::Version(_) | Ending::NoTask(TaskFault::MissingPath) => Ok(()),
-        Ending::NoTask(TaskFault::UnknownLayout) => push_lines(text, LAYOUTS),
-        Ending::NoTask(TaskFault::TwoCertificates) => push_lines(text, CERTIFICATES),
-        Ending::NoTask(TaskFault::InputTwice) => push_lines(text, INPUT),
-        Ending::NoTask(TaskFault::NoCertificate) => push_lines(text, NO_CERTIFICATE),
-        Ending::NoTask(TaskFault::NotALength) => push_lines(text, LENGTHS),
-        Ending::Ended(Ok(outcome)) => push_outcome(alloc, text, job, outcome),
-        Ending::Ended(Err(fault)) => push_fault(alloc, text, job, *fault, files, write_error),
-    }
 }
 
 /// What a layout is.
@@ -71,40 +47,39 @@ const LENGTHS: &str =
     "A length is a whole number that fits 64 bits, as 426 or 12.0. One below 0 is written --length=-34.\n\
     Lengths of TSPLIB are whole. A cost in real numbers, as 524.61, can't be compared with them.";
 
-/// Appends what explains a fault of a task.
-fn push_fault<F: Read + Drop, O: Open<F>>(
-    alloc: Global,
-    text: &mut Vec<u8>,
-    job: &Job,
-    fault: RunFault,
-    files: &O,
-    write_error: Option<&io::Error>,
-) -> Result<(), AllocError> {
-    match fault {
-        RunFault::File { file, fault } => {
-            let path = path_of(job, file);
-            let given = given_for(job, file);
-            explain_file(alloc, text, name_of(path), given, again(path, files), fault)
-        }
-        RunFault::WrongKind => {
-            explain_wrong_kind(alloc, text, name_of(path_of(job, 1)), is_bound(job))
-        }
-        RunFault::Write(fault) => push_write_fault(alloc, text, fault, write_error),
-        RunFault::OutOfMemory => push_lines(text, "There is no memory for what is to be done."),
-        RunFault::Relayout(fault) => push_lines(text, relayout_sentence(fault)),
-    }
+/// A task that is asked for, and whether its end is explained.
+#[derive(Drop)]
+pub(crate) struct Asked<'a, O> {
+    pub(crate) task: &'a Task<Place<'a>>,
+    pub(crate) files: &'a O,
+    pub(crate) explain: bool,
 }
 
-/// Whether the job's verb is `bound`.
-fn is_bound(job: &Job) -> bool {
-    match job.verb {
-        Some(Verb::Bound) => true,
-        Some(Verb::Show | Verb::Convert | Verb::Check) | None => false,
-    }
+/// What explains how a task ended, line by line. Files that can be are looked at once more for it;
+/// `write_error` is what the system said of a write that failed. It is cut short where there is no
+/// memory for more.
+pub(crate) fn explanation<F: Read + Drop, O: Open<F>>(
+    alloc: Global,
+    asked: &Asked<'_, O>,
+    ending: &Ending,
+    write_error: Option<&io::Error>,
+) -> Vec<u8> {
+    let mut text = Vec::new(alloc);
+    let _ = match ending {
+        Ending::Ended(Ok(outcome)) => {
+            explain_outcome(alloc, &mut text, names_of(asked.task), outcome)
+        }
+        Ending::Ended(Err(RunFault::Write(fault))) => {
+            push_write_fault(alloc, &mut text, *fault, write_error)
+        }
+        Ending::Ended(Err(fault)) => push_fault(alloc, &mut text, asked, *fault),
+        Ending::NoJob(_) | Ending::Version(_) | Ending::NoTask(_) | Ending::Compared(_) => Ok(()),
+    };
+    text
 }
 
 /// Appends what explains that a text could not be written, and what the system said of that.
-fn push_write_fault(
+pub(crate) fn push_write_fault(
     alloc: Global,
     text: &mut Vec<u8>,
     fault: WriteFault,
@@ -117,97 +92,54 @@ fn push_write_fault(
     }
 }
 
-/// Appends what explains the line `no`, from the files that were judged, and after `yes` whether a
-/// comment of the solution claims another length.
-fn push_outcome(
+/// Appends what explains a fault of a task.
+fn push_fault<F: Read + Drop, O: Open<F>>(
     alloc: Global,
     text: &mut Vec<u8>,
-    job: &Job,
-    outcome: &Outcome,
+    asked: &Asked<'_, O>,
+    fault: RunFault,
 ) -> Result<(), AllocError> {
-    let names = names_of(job);
-    match outcome {
-        Outcome::Done => Ok(()),
-        Outcome::Judged(judged) => {
-            let certificate = match &judged.certificate {
-                Some((_, certificate)) => Some(certificate),
-                None => None,
-            };
-            explain_verdict(
-                alloc,
-                text,
-                names,
-                judged.verdict,
-                &judged.instance,
-                &judged.solution,
-                certificate,
-            )
-        }
-        Outcome::Bounded(bounded) => explain_bound(
-            alloc,
-            text,
-            names,
-            bounded.found,
-            &bounded.instance,
-            &bounded.certificate,
-        ),
-    }
+    let number = match fault {
+        RunFault::File { file, fault: _ } => file,
+        RunFault::WrongKind | RunFault::Write(_) | RunFault::OutOfMemory | RunFault::Relayout(_) =>
+            1,
+    };
+    let place = place_of(asked.task, number);
+    let again = again(place, asked.files);
+    explain_fault(alloc, text, asked.task, name_of(place), again, fault)
 }
 
-/// What the files of a check, or of a bound, are called.
-fn names_of(job: &Job) -> Names<'_> {
+/// What the files of a task are called. The certificate is the last one.
+fn names_of<'a>(task: &Task<Place<'a>>) -> Names<'a> {
+    let second = name_of(place_of(task, 2));
     Names {
-        instance: name_of(place_of(&job.file)),
-        solution: name_of(place_of(&job.solution)),
-        certificate: name_of(place_of(certificate_of(job))),
+        instance: name_of(place_of(task, 1)),
+        solution: second,
+        certificate: match place_of(task, 3) {
+            Some(certificate) => name_of(Some(certificate)),
+            None => second,
+        },
     }
 }
 
-/// What the file with this number is given for, or `None` where it may be any.
-fn given_for(job: &Job, file: u32) -> Option<Role> {
-    match (job.verb?, file) {
-        (Verb::Show | Verb::Convert, _) => None,
-        (Verb::Check | Verb::Bound, 1) => Some(Role::Instance),
-        (Verb::Check, 2) => Some(Role::Solution),
-        (Verb::Check | Verb::Bound, _) => Some(match &job.potentials {
-            Some(_) => Role::Potentials,
-            None => Role::Branches,
-        }),
-    }
-}
-
-/// The path of the file with this number, or `None` where it is standard input. A bound has its
-/// certificate in the place of a solution.
-fn path_of(job: &Job, file: u32) -> Option<&str> {
-    match (file, job.verb) {
-        (1, _) => place_of(&job.file),
-        (2, Some(Verb::Show | Verb::Convert | Verb::Check) | None) => place_of(&job.solution),
-        _ => place_of(certificate_of(job)),
-    }
-}
-
-/// A path, where there is one.
-fn place_of(path: &Option<String>) -> Option<&str> {
-    match path {
-        Some(path) if path.as_str() != "-" => Some(path.as_str()),
-        Some(_) | None => None,
-    }
-}
-
-/// The path of the certificate.
-fn certificate_of(job: &Job) -> &Option<String> {
-    match &job.potentials {
-        Some(_) => &job.potentials,
-        None => &job.branches,
-    }
+/// The place of the file with this number.
+fn place_of<'a>(task: &Task<Place<'a>>, number: u32) -> Option<Place<'a>> {
+    let (_, place) = task.file(number)?;
+    Some(*place)
 }
 
 /// What a file is called.
-fn name_of(path: Option<&str>) -> &str {
-    path.unwrap_or("standard input")
+pub(crate) fn name_of(place: Option<Place<'_>>) -> &str {
+    match place {
+        Some(Place::Path(path)) => path,
+        Some(Place::Input) | None => "standard input",
+    }
 }
 
 /// The file opened once more, where it can be.
-fn again<F: Read, O: Open<F>>(path: Option<&str>, files: &O) -> Option<F> {
-    files.open_again(path?)
+pub(crate) fn again<F: Read, O: Open<F>>(place: Option<Place<'_>>, files: &O) -> Option<F> {
+    match place? {
+        Place::Path(path) => files.open_again(path),
+        Place::Input => None,
+    }
 }

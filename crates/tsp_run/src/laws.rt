@@ -6,13 +6,14 @@ ghost use Rattle.clap.specs.Words.{Text};
 ghost use Rattle.tsp_judge.specs.Sink.{Sink};
 ghost use Rattle.tsp_judge.specs.FaultText.{run_fault_text};
 ghost use Rattle.tsp_judge.specs.declared.fault.RunFault.{RunFault};
+ghost use Rattle.tsp_judge.specs.declared.compared.Compared.{Compared};
 ghost use Rattle.tsp_run.specs.declared.ending.Line.TheVariants as lines;
 ghost use Rattle.tsp_cli.specs.declared.task.TaskFault.{TaskFault};
 ghost use Rattle.tsp_cli.specs.declared.words.Job.{Job};
 ghost use Rattle.tsp_cli.specs.declared.words.JobFault.{JobFault};
 ghost use Rattle.tsp_cli.specs.Words.{GivesJob};
 ghost use Rattle.tsp_run.specs.declared.ending.Ending.TheVariants as endings;
-ghost use Rattle.tsp_run.specs.declared.engines.Outcome.{Outcome};
+ghost use Rattle.tsp_perform.specs.declared.outcome.Outcome.{Outcome};
 ghost use Rattle.tsp_run.specs.Ending.{is_one_line, IsWritten, EndsLine};
 ghost use Rattle.tsp_run.specs.Run.{Ends};
 
@@ -30,6 +31,8 @@ pub fn faults_are_told_on_one_line()
 pub fn explained_on_a_terminal<F: Read + Drop, O: Open<F>>(files: &O)
     ensures answer { (build : Text) (words : List Text) (sink : Sink) (explained : Bool) (answer : Result Outcome RunFault)
         → Ends F.remaining (O.opens files.now) true build words sink explained (endings.Ended answer) → explained ≡ true }
+    ensures comparison { (build : Text) (words : List Text) (sink : Sink) (explained : Bool) (answer : Result Compared RunFault)
+        → Ends F.remaining (O.opens files.now) true build words sink explained (endings.Compared answer) → explained ≡ true }
     ensures task { (build : Text) (words : List Text) (sink : Sink) (explained : Bool) (fault : TaskFault)
         → Ends F.remaining (O.opens files.now) true build words sink explained (endings.NoTask fault) → explained ≡ true }
     ensures no_job { (build : Text) (words : List Text) (sink : Sink) (explained : Bool) (fault : JobFault)

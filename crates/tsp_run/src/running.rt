@@ -1,40 +1,58 @@
 //! A run of the program, from the words of its command line to its exit status.
 
-ghost use Rattle.std.specs.Prelude.{◌≡◌, IfOk, OnOk, drop, map};
+ghost use Rattle.std.specs.Prelude.{◌≡◌, ◌||◌, IfOk, OnOk, drop, map};
 ghost use Rattle.std.specs.IoError.{error_kind};
 ghost use Rattle.std.specs.String.{string_bytes};
+ghost use Rattle.std.specs.Io.KnownBytes.{Appends};
 ghost use Rattle.tsp_judge.specs.Watched.{sink_of};
-ghost use Rattle.tsp_run.specs.Ending.{status_of_ending, Tells, TellsAll};
-ghost use Rattle.tsp_run.specs.Run.{AreFresh, IsFresh, Ends, EndsWith, HasNoWords, Runs, RunsJob};
+ghost use Rattle.tsp_run.specs.Compare.{IsComparedAs};
+ghost use Rattle.tsp_run.specs.Ending.{status_of_ending, Tells, TellsAfter, TellsAll};
+ghost use Rattle.tsp_run.specs.Run.{AreFresh, Ends, EndsWith, HasNoWords, IsDoneAs, Runs, RunsComparison, RunsJob, RunsTask};
 
+use crate::compare_explained::comparison_explanation;
+use crate::compared::{compare, fresh};
 use crate::ending::{Ending, status_of_ending, tell};
-use crate::engines::perform;
-use crate::explained::explanation;
+use crate::explained::{Asked, explanation, task_explanation};
+use crate::followed::{ANEW, Followed, send_what_goes};
 use crate::source::Open;
 use clap::error::ErrorKind;
 use std::alloc::{AllocError, Global};
 use std::io;
 use std::io::{Read, Write};
-use tsp_cli::{Job, JobFault, Place, Task, job_of, task_of, unread};
+use std::marker::PhantomData;
+use tsp_cli::{Job, JobFault, Place, TaskFault, Work, job_of, unread, work_of};
 use tsp_judge::Watched;
+use tsp_perform::perform;
+use tsp_task::Task;
+
+/// What a run knows of its surroundings.
+#[derive(Clone, Copy)]
+pub struct Setting {
+    /// Whether standard error is a terminal: what isn't a yes is explained then.
+    pub on_terminal: bool,
+    /// Whether standard output is another place, so that a comparison counts there.
+    pub counts: bool,
+    /// The text of the build.
+    pub build: &'static str,
+}
 
 /// Does what the words of a command line ask for, of which the first is the program's own name; what
 /// comes of it goes to the writer `out`, and where there is no answer the reason to `errors`.
 ///
 /// The result is the exit status, and whether the reason could be written. Files are opened in the order
-/// in which they are read, each as `files` opens its place. The reason is explained where the words ask
-/// for that, and wherever `errors` is a terminal, as `on_terminal` says. Where they ask for the version,
-/// that is printed with the text `build`.
+/// in which they are read, each as `files` opens its place; a comparison opens each solution when its turn
+/// comes. The reason is explained where the words ask for that, and wherever `errors` is a terminal. Of a
+/// comparison each line that isn't a yes is explained when it was written, and on a terminal its
+/// solutions are counted. Where the words ask for the version, that is printed with the text of the build.
 pub fn run<F: Read + Drop, O: Open<F>, W: Write, E: Write>(
     alloc: Global,
     line: &[String],
     files: &O,
     out: &mut Watched<W>,
     errors: &mut E,
-    on_terminal: bool,
-    build: &'static str,
+    setting: Setting,
 ) -> (u8, io::Result<()>)
-    ensures { Runs (Ends F.remaining (O.opens files.now) on_terminal build.now (map string_bytes line.now)
+    ensures { Runs (Ends F.remaining (O.opens files.now) setting.on_terminal setting.build.now (map string_bytes line.now)
         (sink_of W.contents out.old out.new)) (E.contents errors.old) (E.contents errors.new) result }
 {
     let Ok(words) = words_after_first(alloc, line) else {
@@ -43,12 +61,11 @@ pub fn run<F: Read + Drop, O: Open<F>, W: Write, E: Write>(
     match job_of(alloc, &words) {
         Err(JobFault::OutOfMemory) => end(&Ending::NoJob(JobFault::OutOfMemory), errors),
         Err(JobFault::Refused(refusal)) => match refusal.kind() {
-            ErrorKind::DisplayVersion => end(&Ending::Version(build), errors),
+            ErrorKind::DisplayVersion => end(&Ending::Version(setting.build), errors),
             _ => end(&Ending::NoJob(JobFault::Refused(refusal)), errors),
         },
         Ok(job) => {
-            let explain = job.explain || on_terminal;
-            let answer = run_job(alloc, &job, files, out, errors, explain);
+            let answer = run_job(alloc, &job, files, out, errors, setting);
             drop(job);
             answer
         }
@@ -83,56 +100,134 @@ fn run_job<F: Read + Drop, O: Open<F>, W: Write, E: Write>(
     files: &O,
     out: &mut Watched<W>,
     errors: &mut E,
-    explain: bool,
+    setting: Setting,
 ) -> (u8, io::Result<()>)
     ensures { RunsJob (EndsWith F.remaining (O.opens files.now) job.now (sink_of W.contents out.old out.new))
-        explain (E.contents errors.old) (E.contents errors.new) result }
+        (job.now.explain || setting.on_terminal) (E.contents errors.old) (E.contents errors.new) result }
 {
-    let ending = ended_with(alloc, job, files, out);
-    let told = tell_all(alloc, job, &ending, files, out.error(), errors, explain);
-    (status_of_ending(&ending), told)
+    let explain = job.explain || setting.on_terminal;
+    match work_of(job) {
+        Err(fault) => {
+            let told = tell_fault_of_job(alloc, fault, errors, explain);
+            (status_of_ending(&Ending::NoTask(fault)), told)
+        }
+        Ok(Work::Task(task)) => {
+            let asked = Asked {
+                task: &task,
+                files,
+                explain,
+            };
+            run_task(alloc, &asked, out, errors)
+        }
+        Ok(Work::Compare(comparison)) => {
+            let followed = Followed {
+                alloc,
+                comparison,
+                files,
+                explain,
+                counts: setting.on_terminal && setting.counts,
+                file: PhantomData,
+            };
+            run_comparison(alloc, &followed, out, errors)
+        }
+    }
 }
 
-/// Reports how a job ended, and explains it where that is wanted, with the system's words on a
-/// write that failed. Where there is no memory for the explanation, it is left out.
-fn tell_all<F: Read + Drop, O: Open<F>, E: Write>(
+/// Tells why a job is no work, and explains it where that is wanted.
+fn tell_fault_of_job<E: Write>(
     alloc: Global,
-    job: &Job,
-    ending: &Ending,
-    files: &O,
-    write_error: Option<&io::Error>,
+    fault: TaskFault,
     errors: &mut E,
     explain: bool,
 ) -> io::Result<()>
-    ensures { OnOk result (TellsAll explain ending.now (E.contents errors.old) (E.contents errors.new)) }
+    ensures { OnOk result (TellsAll explain (Ending.NoTask fault) (E.contents errors.old) (E.contents errors.new)) }
 {
-    tell(ending, errors)?;
+    tell(&Ending::NoTask(fault), errors)?;
     if !explain {
         return Ok(());
     }
-    let text = explanation(alloc, job, ending, files, write_error);
+    append(errors, task_explanation(alloc, fault))
+}
+
+/// Does a task on its files, each opened in its place, and tells how that ended.
+fn run_task<F: Read + Drop, O: Open<F>, W: Write, E: Write>(
+    alloc: Global,
+    asked: &Asked<'_, O>,
+    out: &mut Watched<W>,
+    errors: &mut E,
+) -> (u8, io::Result<()>)
+    ensures { RunsTask (IsDoneAs F.remaining (O.opens asked.now.files.now) asked.now.task.now (sink_of W.contents out.old out.new))
+        asked.now.explain (E.contents errors.old) (E.contents errors.new) result }
+{
+    let mut readers = opened(asked.task, asked.files);
+    let ending = Ending::Ended(perform(alloc, &mut readers, out));
+    let told = tell_task(alloc, asked, &ending, out.error(), errors);
+    (status_of_ending(&ending), told)
+}
+
+/// Reports how a task ended, and explains it where that is wanted, with the system's words on a write
+/// that failed. Where there is no memory for the explanation, it is left out.
+fn tell_task<F: Read + Drop, O: Open<F>, E: Write>(
+    alloc: Global,
+    asked: &Asked<'_, O>,
+    ending: &Ending,
+    write_error: Option<&io::Error>,
+    errors: &mut E,
+) -> io::Result<()>
+    ensures { OnOk result (TellsAfter asked.now.explain ending.now (E.contents errors.old) (E.contents errors.new)) }
+{
+    tell(ending, errors)?;
+    if !asked.explain {
+        return Ok(());
+    }
+    append(errors, explanation(alloc, asked, ending, write_error))
+}
+
+/// Compares solutions, and tells how that ended.
+fn run_comparison<F: Read + Drop, O: Open<F>, W: Write, E: Write>(
+    alloc: Global,
+    followed: &Followed<'_, F, O>,
+    out: &mut Watched<W>,
+    errors: &mut E,
+) -> (u8, io::Result<()>)
+    ensures { RunsComparison (IsComparedAs F.remaining (O.opens followed.now.files.now) followed.now.comparison
+        (sink_of W.contents out.old out.new)) followed.now.explain (E.contents errors.old) (E.contents errors.new) result }
+{
+    let ending = Ending::Compared(compare(alloc, followed, out, errors));
+    if followed.explain && followed.counts {
+        send_what_goes(errors, ANEW);
+    }
+    let told = tell_comparison(alloc, followed, &ending, out.error(), errors);
+    (status_of_ending(&ending), told)
+}
+
+/// Reports how a comparison ended, and explains it where that is wanted, as `tell_task` does.
+fn tell_comparison<F: Read + Drop, O: Open<F>, E: Write>(
+    alloc: Global,
+    followed: &Followed<'_, F, O>,
+    ending: &Ending,
+    write_error: Option<&io::Error>,
+    errors: &mut E,
+) -> io::Result<()>
+    ensures { OnOk result (TellsAfter followed.now.explain ending.now (E.contents errors.old) (E.contents errors.new)) }
+{
+    tell(ending, errors)?;
+    if !followed.explain {
+        return Ok(());
+    }
+    append(
+        errors,
+        comparison_explanation(alloc, followed, ending, write_error),
+    )
+}
+
+/// Writes a text.
+fn append<E: Write>(errors: &mut E, text: Vec<u8>) -> io::Result<()>
+    ensures { OnOk result (Appends (E.contents errors.old) (E.contents errors.new) text.entry.items) }
+{
     let told = errors.write_all(&text);
     drop(text);
     told
-}
-
-/// How the run ends of which this is the job.
-fn ended_with<F: Read + Drop, O: Open<F>, W: Write>(
-    alloc: Global,
-    job: &Job,
-    files: &O,
-    out: &mut Watched<W>,
-) -> Ending
-    ensures { EndsWith F.remaining (O.opens files.now) job.now
-        (sink_of W.contents out.old out.new) result }
-{
-    match task_of(job) {
-        Err(fault) => Ending::NoTask(fault),
-        Ok(task) => {
-            let mut opened = opened(task, files);
-            Ending::Ended(perform(alloc, &mut opened, out))
-        }
-    }
 }
 
 /// The words after the program's own name.
@@ -157,31 +252,26 @@ fn texts<'a>(alloc: Global, words: &'a [String]) -> Result<Vec<&'a str>, AllocEr
 }
 
 /// The task with each file opened, and nothing read yet.
-fn opened<F: Read + Drop, O: Open<F>>(task: Task<Place<'_>>, files: &O) -> Task<Watched<F>>
-    ensures { AreFresh (O.opens files.now) task.entry result }
+fn opened<F: Read + Drop, O: Open<F>>(task: &Task<Place<'_>>, files: &O) -> Task<Watched<F>>
+    ensures { AreFresh (O.opens files.now) task.now result }
 {
     match task {
-        Task::Show(file) => Task::Show(fresh(file, files)),
-        Task::Convert(file, to) => Task::Convert(fresh(file, files), to),
-        Task::Check(instance, solution, claimed) => {
-            Task::Check(fresh(instance, files), fresh(solution, files), claimed)
-        }
+        Task::Show(file) => Task::Show(fresh(*file, files)),
+        Task::Convert(file, to) => Task::Convert(fresh(*file, files), *to),
+        Task::Check(instance, solution, claimed) => Task::Check(
+            fresh(*instance, files),
+            fresh(*solution, files),
+            *claimed,
+        ),
         Task::CheckBy(by, instance, solution, certificate, claimed) => Task::CheckBy(
-            by,
-            fresh(instance, files),
-            fresh(solution, files),
-            fresh(certificate, files),
-            claimed,
+            *by,
+            fresh(*instance, files),
+            fresh(*solution, files),
+            fresh(*certificate, files),
+            *claimed,
         ),
         Task::Bound(by, instance, certificate) => {
-            Task::Bound(by, fresh(instance, files), fresh(certificate, files))
+            Task::Bound(*by, fresh(*instance, files), fresh(*certificate, files))
         }
     }
-}
-
-/// The file at a place, opened, and nothing read yet.
-fn fresh<F: Read + Drop, O: Open<F>>(place: Place<'_>, files: &O) -> Watched<F>
-    ensures { IsFresh (O.opens files.now) place.entry result }
-{
-    Watched::new(files.open(place))
 }

@@ -1,4 +1,4 @@
-//! The program `tsp`, which shows, converts, checks and bounds TSPLIB 95 files.
+//! The program `tsp`, which shows, converts, checks, compares and bounds TSPLIB 95 files.
 //!
 //! It has the calls of the host alone: the words of the command line, the opening of files, and the
 //! streams. All else is tsp_run's. What a task writes goes to standard output.
@@ -17,12 +17,16 @@ use std::os::fd::AsRawFd;
 use std::process::ExitCode;
 use std::rt::Stdin;
 use std::{env, fs, io};
-use tsp_run::{Open, Place, Source, Watched, run, tell_unread, tell_waiting};
+use tsp_run::{Open, Place, Setting, Source, Watched, run, tell_unread, tell_waiting};
 
 fn main(rt: HostRuntime) -> ExitCode {
     let mut out = Watched::new(rt.stdout());
     let mut errors = rt.stderr();
-    let on_terminal = errors.is_terminal();
+    let setting = Setting {
+        on_terminal: errors.is_terminal(),
+        counts: !rt.stdout().is_terminal(),
+        build: BUILD,
+    };
     // Where the reason can't be written, only the status reports it.
     let (status, _) = match words_of_line(&rt) {
         Ok(line) => {
@@ -33,8 +37,7 @@ fn main(rt: HostRuntime) -> ExitCode {
                 &Host { rt: &rt },
                 &mut out,
                 &mut errors,
-                on_terminal,
-                BUILD,
+                setting,
             )
         }
         Err(error) => tell_unread(rt.alloc(), &error, &mut errors),

@@ -13,6 +13,9 @@ or_false false = refl
 pub returns-clause-answer : goal.returns-clause-answer
 returns-clause-answer g c = λ build words sink explained answer ends. ends.3 ∙ or_true ends.0.explain
 
+pub returns-clause-comparison : goal.returns-clause-comparison
+returns-clause-comparison g c = λ build words sink explained answer ends. ends.3 ∙ or_true ends.0.explain
+
 pub returns-clause-task : goal.returns-clause-task
 returns-clause-task g c = λ build words sink explained fault ends. ends.3 ∙ or_true ends.0.explain
 

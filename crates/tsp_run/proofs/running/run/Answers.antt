@@ -11,7 +11,7 @@ pub returns-in-DisplayVersion : goal.returns-in-DisplayVersion
 returns-in-DisplayVersion g c =
     let gives = subst (λ fault. GivesJob (map (λ word. word.now) c.deref.result.now) (Err fault)) c.in-Err-Refused.field-0-is c.in-Err-Refused.ensures in (
       false,
-      Version c.args.build,
+      Version c.args.setting.build,
       (
         Refused c.in-Err-Refused.refusal,
         subst (λ words. GivesJob words (Err (Refused c.in-Err-Refused.refusal))) (ap (map (λ word. word.now)) c.deref.ensures.value ∙ c.in-Ok.ensures) gives,

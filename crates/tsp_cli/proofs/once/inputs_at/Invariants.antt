@@ -1,0 +1,6 @@
+use Rattle.std.proofs.Common.{◌≡◌, ◌≤◌, take}
+use Rattle.tsp_cli.specs.Task.{inputs_at}
+use Rattle.tsp_cli.proofs.once.inputs_at.Given as goal
+
+abbrev pub invariant-paths : goal.invariant-paths
+invariant-paths l = (l.count ≡ inputs_at (take l.path-index l.paths)) × (l.count ≤ l.path-index)

@@ -1,0 +1,14 @@
+use Rattle.std.proofs.Common.{rules, ◌≡◌, ap, option_map, map}
+use Rattle.clap.specs.Words.{found_of}
+use Rattle.clap.proofs.WalkLemmas.{raw_values-rows}
+use Rattle.tsp_cli.proofs.words.values.Goals as goal
+
+pub returns-in-Some : goal.returns-in-Some
+returns-in-Some c =
+    let rows = raw_values-rows (found_of c.args.found.now) c.args.id.now in
+    search rules
+
+pub returns-in-None : goal.returns-in-None
+returns-in-None c =
+    let rows = raw_values-rows (found_of c.args.found.now) c.args.id.now in
+    search rules

@@ -1,0 +1,13 @@
+//! A task on files that are read, done by the call of its verb, and explained to a person.
+//!
+//! ```text
+//! let outcome = perform(alloc, &mut task, &mut out)?;
+//! explain_outcome(alloc, &mut text, names, &outcome)?;
+//! ```
+#![tactic(auto)]
+
+mod explained;
+mod outcome;
+
+pub use explained::{explain_fault, explain_outcome};
+pub use outcome::{Outcome, is_accepted, perform};

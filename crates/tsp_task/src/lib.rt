@@ -1,0 +1,13 @@
+//! A task on files: what is done with which. A command line asks for one, and so does a call for C.
+//!
+//! ```text
+//! let task = Task::Check(instance, solution, None);
+//! let (given, solution) = task.file(2)?;
+//! ```
+#![tactic(auto)]
+
+mod role;
+mod task;
+
+pub use role::{Role, role_by};
+pub use task::Task;
