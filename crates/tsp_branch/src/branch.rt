@@ -85,7 +85,6 @@ pub fn branch_bound<C: Costs>(
 {
     certificates_bound_cycles();
     let count = tree.costs.count();
-    let by_node = sets_by_node(alloc, count, tree.sets)?;
     let kept = KeptRows::new(
         alloc,
         tree.costs,
@@ -93,6 +92,7 @@ pub fn branch_bound<C: Costs>(
         crossed.len(),
         tree.steps.len(),
     )?;
+    let by_node = sets_by_node(alloc, count, tree.sets)?;
     let room = Room::new(alloc, count as usize, crossed.len(), kept)?;
     let setting = Setting {
         costs: tree.costs,
