@@ -8,10 +8,10 @@ import os
 import re
 from dataclasses import dataclass
 from functools import cached_property
-from typing import Any, Callable, Dict, Iterable, Iterator, List, Mapping, Optional, Sequence, Tuple, Union, overload
+from typing import Any, Callable, Dict, Iterable, Iterator, List, Mapping, NoReturn, Optional, Sequence, Tuple, Union, overload
 
 from . import _library
-from .faults import Error, OutOfMemory, error_of, text_of
+from .faults import Error, OutOfMemory, text_of
 from .many import Outcome
 from .problem import Path, Problem, parse
 from .report import (
@@ -104,6 +104,7 @@ class Judge:
         self.paths = paths
         self.by = by
         self.is_foreign = foreign
+        self._bound: Optional[_library.Result] = None
 
     @classmethod
     def of(
@@ -121,6 +122,29 @@ class Judge:
         return first[len("name ") :] if first.startswith("name ") else ""
 
     @cached_property
+    def _handle(self) -> _library.Handle:
+        """The instance, with its certificate.
+
+        Raises:
+            Error: a text is no file, or the first is of the wrong kind.
+        """
+        handle = _library.Handle(self.instance)
+        status = handle.status
+        if status == _library.DONE and self.by:
+            status, self._bound = handle.bind(self.certificate, self.by)
+        if status not in (_library.DONE, _library.NO):
+            self._refuse()
+        return handle
+
+    def _refuse(self) -> NoReturn:
+        """Raises what the calls by texts say of the instance and the certificate."""
+        if self.by == _library.ALONE:
+            report_of((self.instance, _NO_TOUR, b""), self.paths[:1], self.by)
+        else:
+            bound_of((self.instance, self.certificate), self.paths, self.by)
+        raise OutOfMemory("out of memory")
+
+    @cached_property
     def basis(self) -> Basis:
         """What is known of all solutions.
 
@@ -128,35 +152,19 @@ class Judge:
             Fault: a text is no file, or the first is of the wrong kind. The certificate is file 2.
             MemoryError: out of memory.
         """
-        if self.by == _library.ALONE:
-            report = report_of((self.instance, _NO_TOUR, b""), self.paths[:1], self.by)
-        else:
-            report = bound_of((self.instance, self.certificate), self.paths, self.by)
+        handle, bound = self._handle, self._bound
+        report = report_of((self.instance, _NO_TOUR, b""), self.paths[:1], _library.ALONE, handle=handle)
         known: Dict[str, Any] = {}
-        if report.reason is not None and (self.by != _library.ALONE or report.reason in _OF_INSTANCE):
+        if report.reason in _OF_INSTANCE:
             known.update(reason=report.reason, numbers=report.numbers)
+        elif bound is not None and bound.reason:
+            reason, count = _library.REASONS[bound.reason - 1]
+            known.update(reason=reason, numbers=(bound.first, bound.second)[:count])
         elif report.type == "CVRP":
             known.update(least=_least(parse(self.instance)))
-        else:
-            known.update(bound=report.bound, no_tour=report.no_tour)
+        elif bound is not None:
+            known.update(bound=bound.bound, no_tour=bound.verdict == _library.NO_TOUR)
         return Basis(report.type, report.nodes, report.not_judged, **known)
-
-    @cached_property
-    def handle(self) -> _library.Handle:
-        """The instance with its certificate, which the library reads once.
-
-        Raises:
-            Fault: as `basis` says.
-            MemoryError: out of memory.
-        """
-        _ = self.basis
-        handle = _library.Handle(self.instance)
-        status = handle.status
-        if self.by != _library.ALONE and status == _library.DONE:
-            status, _result = handle.bind(self.certificate, self.by)
-        if status not in (_library.DONE, _library.NO):
-            raise error_of(status, b"out of memory")
-        return handle
 
     def outcome(self, solution: Solution, explain: bool = False, path: Optional[str] = None) -> Outcome:
         """What comes of a solution: its report, or the exception that says why it has none. `path` is where it
@@ -179,7 +187,7 @@ class Judge:
             solution = solution_text(solution, self.basis.nodes)
         paths = (self.paths[0], path, self.paths[1])
         texts = (self.instance, solution, self.certificate)
-        return report_of(texts, paths, self.by, explain=explain, handle=self.handle)
+        return report_of(texts, paths, self.by, explain=explain, handle=self._handle)
 
     def best(self, best: Optional[Best]) -> Optional[int]:
         """The best-known length of the instance.
