@@ -1,3 +1,4 @@
+-- The goals of `ended_with` in src/running.rt: what it ensures.
 use Rattle.std.proofs.Common.{refl}
 use Rattle.std.proofs.KnownBytes.{Keeps-refl}
 use Rattle.tsp_run.proofs.running.ended_with.Goals as goal

@@ -1,3 +1,4 @@
+-- The goals of `Feed::go_on` in src/feed.rt: what it ensures.
 use Rattle.std.proofs.Common.{refl, ◌++◌}
 use Rattle.tsp_read.proofs.FeedSteps.{fed_longer, comes_to}
 use Rattle.tsp_read.proofs.feed.Feed.go_on.Goals as goal
