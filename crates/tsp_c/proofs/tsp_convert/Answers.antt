@@ -1,3 +1,4 @@
+-- The goals of `tsp_convert` in src/lib.rt: what it ensures.
 use Rattle.tsp_c.proofs.tsp_convert.Goals as goal
 
 pub returns : goal.returns

@@ -1,3 +1,4 @@
+-- The goals of `tsp_distance` in src/lib.rt: what it ensures.
 use Rattle.std.proofs.Common.{◌≡◌, ℕ, subst, rules, FitsSigned, w64}
 use Rattle.std.specs.Prelude.{ℤ}
 use Rattle.std.proofs.lemmas.Int.{to_z-of_z}

@@ -1,3 +1,4 @@
+-- The goals of `tsp_show` in src/lib.rt: what it ensures.
 use Rattle.tsp_c.proofs.tsp_show.Goals as goal
 
 pub returns : goal.returns

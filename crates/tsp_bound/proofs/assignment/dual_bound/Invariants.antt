@@ -1,3 +1,4 @@
+-- The loop of `dual_bound` in src/assignment.rt.
 use Rattle.std.proofs.Common.{◌≢◌, ℕ, ◌<◌}
 use Rattle.std.specs.Prelude.{◌≤ℤ◌}
 use Rattle.tsp_format.specs.Cells.{IsNode}

@@ -1,3 +1,4 @@
+-- The goals of `first_broken_of_row` in src/assignment.rt: its loop, what its calls require and what it ensures.
 use Rattle.std.proofs.Common.{ℕ, ◌-◌, ◌<◌, length, refl, arith}
 use Rattle.std.specs.Prelude.{pos, ◌≤ℤ◌, slice_index_or}
 use Rattle.std.proofs.lemmas.Bool.{false≢true}

@@ -1,3 +1,4 @@
+-- The loop of `first_broken_of_row` in src/assignment.rt.
 use Rattle.std.proofs.Common.{◌≢◌, ℕ, ◌<◌, ◌≤◌}
 use Rattle.std.specs.Prelude.{◌≤ℤ◌}
 use Rattle.tsp_bound.specs.states.Duals.{dual_of, scaled}

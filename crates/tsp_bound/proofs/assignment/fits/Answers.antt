@@ -1,3 +1,4 @@
+-- The goals of `fits` in src/assignment.rt: what it ensures.
 use Rattle.std.proofs.Common.{◌-◌, ◌<◌, length, arith}
 use Rattle.std.specs.Prelude.{pos, slice_index_or}
 use Rattle.tsp_theory.proofs.Sizes.{fit_decided}

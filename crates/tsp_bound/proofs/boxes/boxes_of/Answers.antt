@@ -1,3 +1,4 @@
+-- The goals of `boxes_of` in src/boxes.rt: its loop and what it ensures.
 use Rattle.std.proofs.Common.{◌≡◌, ◌-◌, ◌+◌, ℕ, Option, None, Some, length, arith, subst, ◌∙◌}
 use Rattle.std.proofs.Math.ListN.{length-set}
 use Rattle.tsp_bound.specs.states.Potentials.{numbers_of}

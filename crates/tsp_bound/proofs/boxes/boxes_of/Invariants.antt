@@ -1,3 +1,4 @@
+-- The loop of `boxes_of` in src/boxes.rt.
 use Rattle.std.proofs.Common.{◌≡◌, ◌≤◌, ◌<◌, ◌+◌, ◌*◌, ℕ, Bool, length}
 use Rattle.tsp_bound.specs.states.Potentials.{numbers_of}
 use Rattle.tsp_bound.specs.states.Boxes.{HoldsNode, AreHeldFrom, area_at, node_of}

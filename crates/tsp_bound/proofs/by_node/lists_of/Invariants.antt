@@ -1,3 +1,4 @@
+-- The loop of `lists_of` in src/by_node.rt.
 use Rattle.std.proofs.Common.{take}
 use Rattle.tsp_bound.specs.states.ByNode.{IsTable}
 use Rattle.tsp_bound.proofs.by_node.lists_of.Given as goal

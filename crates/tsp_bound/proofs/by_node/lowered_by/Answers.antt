@@ -1,3 +1,4 @@
+-- The goals of `lowered_by` in src/by_node.rt: what it ensures.
 use Rattle.std.proofs.Common.{◌≡◌, ◌≢◌, ◌∙◌, ℕ, ap, sym, arith, w64, to_z, of_z}
 use Rattle.std.specs.Prelude.{ℤ, pos, slice_index_or}
 use Rattle.std.proofs.lemmas.Int.{ints}

@@ -1,3 +1,4 @@
+-- The loop of `best_of` in src/joins.rt.
 use Rattle.tsp_bound.specs.states.Components.{AreLeaving}
 use Rattle.tsp_bound.proofs.joins.best_of.Given as goal
 

@@ -1,3 +1,4 @@
+-- The loop of `join` in src/joins.rt.
 use Rattle.std.proofs.Common.{◌≡◌, ◌<◌, ℕ, false, length}
 use Rattle.tsp_bound.specs.states.Boxes.{box_at}
 use Rattle.tsp_bound.specs.states.Components.{label_at}

@@ -1,3 +1,4 @@
+-- The goals of `nearest_from` in src/nearest.rt: its loop.
 use Rattle.std.proofs.Common.{ℕ, ◌≡◌, ◌≢◌, ◌/◌, Option, arith, rules, w64, SFits}
 use Rattle.tsp_format.specs.Cells.{IsNode}
 use Rattle.tsp_bound.specs.states.Potentials.{numbers_of, weight_under}

@@ -1,3 +1,4 @@
+-- The loop of `nearest_from` in src/nearest.rt.
 use Rattle.std.proofs.Common.{◌≤◌, ◌<◌, ◌*◌, length}
 use Rattle.tsp_bound.specs.states.Potentials.{weight_under}
 use Rattle.tsp_bound.specs.states.Boxes.{IsSearched, no_best}

@@ -1,3 +1,4 @@
+-- The loop of `total_of` in src/numbers.rt.
 use Rattle.std.proofs.Common.{◌≡◌, ◌*◌, drop}
 use Rattle.std.specs.Prelude.{pos, ◌+ℤ◌}
 use Rattle.tsp_format.specs.Limits.{most_multiplier}

@@ -1,3 +1,4 @@
+-- The goals of `grow` in src/part.rt: what it ensures.
 use Rattle.std.proofs.Common.{arith}
 use Rattle.tsp_theory.proofs.Forests.{growth_is_forest}
 use Rattle.tsp_theory.specs.Forest.{IsWholeForest}

@@ -1,3 +1,4 @@
+-- The goals of `weighed` in src/part.rt: that no sum overflows, its loop and what its calls require.
 use Rattle.std.proofs.Common.{◌≡◌, ◌≤◌, ◌+◌, ◌++◌, ◌∷◌, [], ℕ, List, length, get_or, length-append, arith, ap, sym, ◌∙◌, to_z, of_z}
 use Rattle.std.specs.Prelude.{ℤ, ◌+ℤ◌, ◌-ℤ◌}
 use Rattle.std.specs.Int.{w64, w128}

@@ -1,3 +1,4 @@
+-- The loop of `first_links` in src/rounds.rt.
 use Rattle.std.proofs.Common.{◌≡◌, ◌<◌, ℕ, length}
 use Rattle.std.specs.Prelude.{slice_index_or}
 use Rattle.tsp_bound.specs.declared.link.Link.{Link}

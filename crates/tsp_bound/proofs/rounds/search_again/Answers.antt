@@ -1,3 +1,4 @@
+-- The goals of `search_again` in src/rounds.rt: its loop, what its calls require and what it ensures.
 use Rattle.std.proofs.Common.{◌≡◌, ◌<◌, ◌+◌, ℕ, pos, Option, None, Some, IfSome, set, arith, sym, subst}
 use Rattle.std.proofs.lemmas.List.{get_or_read}
 use Rattle.tsp_bound.specs.declared.link.Link.{Link}

@@ -1,3 +1,4 @@
+-- The goals of `scaled_cost` in src/scaled.rt: that no sum overflows and what it ensures.
 use Rattle.std.proofs.Common.{ap, ◌∙◌}
 use Rattle.std.specs.Prelude.{◌*ℤ◌}
 use Rattle.tsp_theory.proofs.Sizes.{product_fits, product_is, scaled_size}

@@ -1,3 +1,4 @@
+-- The loop of `tag_boxes` in src/tags.rt.
 use Rattle.std.proofs.Common.{◌≡◌, ◌≤◌, ◌<◌, ◌*◌, ◌+◌, ℕ, true, length}
 use Rattle.tsp_bound.specs.states.Boxes.{AreHeldFrom, box_at}
 use Rattle.tsp_bound.specs.states.Components.{IsTagOf, label_at}

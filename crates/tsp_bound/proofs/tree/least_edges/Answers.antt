@@ -1,3 +1,4 @@
+-- The goals of `least_edges` in src/tree.rt: that no sum overflows and what it ensures.
 use Rattle.std.proofs.Common.{◌≡◌, ◌∙◌, [], ap, ap₂, sym, arith, rules, FitsSigned}
 use Rattle.std.specs.Prelude.{◌+ℤ◌}
 use Rattle.std.specs.Int.{w64}

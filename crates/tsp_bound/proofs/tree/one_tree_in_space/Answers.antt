@@ -1,3 +1,4 @@
+-- The goals of `one_tree_in_space` in src/tree.rt: what its calls require and what it ensures.
 use Rattle.std.proofs.Common.{◌≡◌, ℕ, List, [], subst, ◌∙◌, arith, rules, FitsSigned, to_z, of_z}
 use Rattle.std.specs.Prelude.{ℤ}
 use Rattle.std.specs.Int.{w128}

@@ -1,3 +1,4 @@
+-- The loop of `lower` in src/weights.rt.
 use Rattle.std.proofs.Common.{ℕ, ℤ, drop}
 use Rattle.std.specs.Prelude.{neg_ℤ}
 use Rattle.tsp_theory.specs.states.Nearest.{least_at}

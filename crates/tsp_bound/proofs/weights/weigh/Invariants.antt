@@ -1,3 +1,4 @@
+-- The loop of `weigh` in src/weights.rt.
 use Rattle.std.proofs.Common.{◌≡◌, ◌<◌, ℕ, length, slice_index}
 use Rattle.std.specs.Prelude.{pos, neg_ℤ}
 use Rattle.tsp_theory.specs.NodeBound.{most_between}

@@ -1,3 +1,4 @@
+-- The loop of `weigh_all` in src/weights.rt.
 use Rattle.std.proofs.Common.{◌≡◌, ◌<◌, ℕ}
 use Rattle.std.specs.Prelude.{pos, neg_ℤ}
 use Rattle.tsp_format.specs.Cells.{IsNode}

@@ -1,3 +1,4 @@
+-- The goals of `add_sets` in src/add_sets.rt: its loop and what it ensures.
 use Rattle.std.proofs.Common.{◌≡◌, ◌≤◌, ◌<◌, ℕ, ℤ, List, length, get_or, refl, ap, sym, subst, inl, ◌∙◌, arith, to_z, of_z}
 use Rattle.std.specs.Int.{w64}
 use Rattle.std.specs.Prelude.{pos, ◌*ℤ◌}

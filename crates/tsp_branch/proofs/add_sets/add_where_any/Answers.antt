@@ -1,3 +1,4 @@
+-- The goals of `add_where_any` in src/add_sets.rt: what it ensures.
 use Rattle.std.proofs.Common.{◌≡◌, ℤ, inl, refl, ap, sym, rules, ◌∙◌, FitsSigned, to_z}
 use Rattle.std.specs.Int.{w64}
 use Rattle.std.specs.Prelude.{pos}

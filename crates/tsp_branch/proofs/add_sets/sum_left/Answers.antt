@@ -1,3 +1,4 @@
+-- The goals of `sum_left` in src/add_sets.rt: what it ensures.
 use Rattle.std.proofs.Common.{rules, FitsSigned}
 use Rattle.std.specs.Int.{w64}
 use Rattle.std.proofs.lemmas.Int.{wrapping_add_is}

@@ -1,3 +1,4 @@
+-- The goals of `branch_bound` in src/branch.rt: what its calls require and what it ensures.
 use Rattle.std.proofs.Common.{ℕ, ℤ, length, subst, sym, rules, FitsSigned, to_z, of_z}
 use Rattle.std.specs.Int.{w64}
 use Rattle.std.proofs.lemmas.Int.{to_z-of_z}

@@ -1,3 +1,4 @@
+-- The goals of `judge_leaves` in src/branch.rt: its loop, what its calls require and what it ensures.
 use Rattle.std.proofs.Common.{ℕ, ℤ, Bool, true, List, [], Option, None, ◌++◌, ◌+◌, ◌^◌, ◌<◌, length, drop, sym, ap, subst, ◌∙◌, arith}
 use Rattle.std.specs.Prelude.{pos}
 use Rattle.std.proofs.lemmas.Int.{ints}

@@ -1,3 +1,4 @@
+-- The loop of `close_all` in src/closing.rt.
 use Rattle.std.proofs.Common.{◌<◌, ℕ, length}
 use Rattle.tsp_theory.specs.states.Nearest.{least_at}
 use Rattle.tsp_branch.specs.Rows.{Allows}

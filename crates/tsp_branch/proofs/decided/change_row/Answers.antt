@@ -1,3 +1,4 @@
+-- The goals of `change_row` in src/decided.rt: its loop and what it ensures.
 use Rattle.std.proofs.Common.{◌≤◌, List, false, length, refl, ap, inl, arith}
 use Rattle.std.proofs.lemmas.List.{drop_all}
 use Rattle.tsp_theory.specs.states.Nearest.{least_at}

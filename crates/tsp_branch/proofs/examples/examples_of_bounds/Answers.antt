@@ -1,3 +1,4 @@
+-- The goals of `examples_of_bounds` in src/examples.rt: what it ensures.
 use Rattle.tsp_branch.proofs.SmallBounds.{four_have_five, four_have_six, six_have_nine, six_have_ten}
 use Rattle.tsp_branch.proofs.examples.examples_of_bounds.Goals as goal
 

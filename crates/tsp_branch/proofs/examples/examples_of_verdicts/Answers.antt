@@ -1,3 +1,4 @@
+-- The goals of `examples_of_verdicts` in src/examples.rt: what it ensures.
 use Rattle.std.proofs.Common.{refl, inl, inr}
 use Rattle.tsp_branch.proofs.SmallVerdicts.{no_sets, one_tooth, two_teeth, node_twice, teeth_meet, tooth_inside, tooth_outside, lone_set, no_node, all_nodes, lone_node_twice, never_twice}
 use Rattle.tsp_branch.proofs.OnePass.{first_twice_by_place}

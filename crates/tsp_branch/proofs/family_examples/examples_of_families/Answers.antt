@@ -1,3 +1,4 @@
+-- The goals of `examples_of_families` in src/family_examples.rt: what it ensures.
 use Rattle.std.proofs.Common.{arith}
 use Rattle.tsp_branch.proofs.SmallFamilies.{lone_set, set_twice, not_others, all_nodes, node_twice}
 use Rattle.tsp_branch.proofs.family_examples.examples_of_families.Goals as goal

@@ -1,3 +1,4 @@
+-- The goals of `given_back` in src/given_back.rt: that no sum overflows and what it ensures.
 use Rattle.std.proofs.Common.{◌∙◌, ℤ, List, ap, sym}
 use Rattle.std.specs.Prelude.{pos, ◌-ℤ◌, ◌*ℤ◌}
 use Rattle.tsp_branch.specs.LeafBound.{least_of}

@@ -1,3 +1,4 @@
+-- The loop of `multiplied_crossings` in src/given_back.rt.
 use Rattle.std.proofs.Common.{◌≡◌, ◌*◌, ◌^◌, drop}
 use Rattle.std.specs.Prelude.{pos, ◌+ℤ◌, ◌*ℤ◌, ◌≤ℤ◌}
 use Rattle.tsp_theory.specs.Numbers.{total}

@@ -1,3 +1,4 @@
+-- The loop of `taken_back` in src/given_back.rt.
 use Rattle.std.proofs.Common.{◌≡◌, ◌*◌, drop}
 use Rattle.std.specs.Prelude.{pos, ◌+ℤ◌}
 use Rattle.tsp_theory.specs.Numbers.{IsFromTo}

@@ -1,3 +1,4 @@
+-- The goals of `total` in src/given_back.rt: its loop.
 use Rattle.std.proofs.Common.{◌≡◌, ◌+◌, ◌<◌, ◌^◌, ℕ, ℤ, List, drop, ap, sym, rules, FitsSigned, ◌∙◌, arith, to_z, get_or}
 use Rattle.std.specs.Prelude.{pos, ◌+ℤ◌}
 use Rattle.std.specs.Int.{w64, w128}

@@ -1,3 +1,4 @@
+-- The loop of `total` in src/given_back.rt.
 use Rattle.std.proofs.Common.{◌≡◌, ◌*◌, ◌^◌, drop}
 use Rattle.std.specs.Prelude.{pos, neg_ℤ, ◌+ℤ◌}
 use Rattle.tsp_theory.specs.Numbers.{IsFromTo, total}

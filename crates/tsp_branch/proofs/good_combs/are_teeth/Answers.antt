@@ -1,3 +1,4 @@
+-- The goals of `are_teeth` in src/good_combs.rt: its loop and what it ensures.
 use Rattle.std.proofs.Common.{◌∙◌, ℕ, Bool, refl, false}
 use Rattle.std.proofs.lemmas.Bool.{both_ways, iff_false}
 use Rattle.tsp_branch.specs.states.Marked.{is_marked}

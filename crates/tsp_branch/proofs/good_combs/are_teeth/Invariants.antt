@@ -1,3 +1,4 @@
+-- The loop of `are_teeth` in src/good_combs.rt.
 use Rattle.std.proofs.Common.{◌≡◌, ℕ, length, drop}
 use Rattle.std.specs.Prelude.{◌↔◌}
 use Rattle.tsp_families.specs.FamilySets.{AreSetsOf, lists_of}

@@ -1,3 +1,4 @@
+-- The goals of `count_of` in src/good_combs.rt: its loop.
 use Rattle.std.proofs.Common.{◌≡◌, arith}
 use Rattle.std.proofs.lemmas.List.Elements.{All-more}
 use Rattle.tsp_branch.proofs.good_combs.count_of.Goals as goal

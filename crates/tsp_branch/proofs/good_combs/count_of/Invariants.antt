@@ -1,3 +1,4 @@
+-- The loop of `count_of` in src/good_combs.rt.
 use Rattle.std.proofs.Common.{◌≡◌, ◌≤◌, ◌-◌, length, take}
 use Rattle.std.specs.List.{All}
 use Rattle.tsp_branch.proofs.good_combs.count_of.Given as goal

@@ -1,3 +1,4 @@
+-- The goals of `crossings_of` in src/good_combs.rt: what it ensures.
 use Rattle.std.proofs.Common.{length}
 use Rattle.std.proofs.lemmas.Bool.{iff_false}
 use Rattle.tsp_families.specs.FamilySets.{lists_of}

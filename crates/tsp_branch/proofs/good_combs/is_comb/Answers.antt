@@ -1,3 +1,4 @@
+-- The goals of `is_comb` in src/good_combs.rt: what its calls require and what it ensures.
 use Rattle.std.proofs.Common.{◌≡◌, ◌∙◌, [], ◌<◌, rules, ℕ, Bool, List, length, subst, sym, refl, false}
 use Rattle.std.specs.Prelude.{◌↔◌, IsTrue}
 use Rattle.std.specs.List.{All}

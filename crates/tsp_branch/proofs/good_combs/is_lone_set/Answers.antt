@@ -1,3 +1,4 @@
+-- The goals of `is_lone_set` in src/good_combs.rt: what it ensures.
 use Rattle.std.proofs.Common.{length, rules}
 use Rattle.tsp_branch.specs.states.Marked.{is_marked}
 use Rattle.tsp_branch.proofs.Teeth.{lone_by_marks, lone_left_out}

@@ -1,3 +1,4 @@
+-- The goals of `is_tooth` in src/good_combs.rt: what it ensures.
 use Rattle.std.proofs.lemmas.Bool.{both_ways, iff_false}
 use Rattle.tsp_branch.specs.states.Marked.{is_marked}
 use Rattle.tsp_branch.proofs.Teeth.{tooth_found, tooth_inside, tooth_outside}

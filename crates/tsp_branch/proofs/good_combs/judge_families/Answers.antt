@@ -1,3 +1,4 @@
+-- The goals of `judge_families` in src/good_combs.rt: its loop and what it ensures.
 use Rattle.std.proofs.Common.{◌≡◌, ◌∙◌, ◌+◌, ◌<◌, ◌≤◌, ◌++◌, [], ◌∷◌, ℕ, List, length, ap, sym, subst, arith, length-append}
 use Rattle.std.specs.Prelude.{None, Some, Option}
 use Rattle.std.specs.List.{All}

@@ -1,3 +1,4 @@
+-- The loop of `judge_families` in src/good_combs.rt.
 use Rattle.std.proofs.Common.{◌≡◌, ◌≤◌, ◌<◌, ◌+◌, ℕ, length}
 use Rattle.std.specs.List.{All}
 use Rattle.tsp_families.specs.FamilySets.{AreSetsOf}

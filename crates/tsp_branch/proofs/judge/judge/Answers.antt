@@ -1,3 +1,4 @@
+-- The goals of `judge` in src/judge.rt: what it ensures.
 use Rattle.std.proofs.Common.{false, refl, length, take, drop, ℤ, List}
 use Rattle.std.proofs.lemmas.Bool.{both_ways}
 use Rattle.tsp_branch.proofs.CaseWeights.{small_multipliers}

@@ -1,3 +1,4 @@
+-- The loop of `most_crossings` in src/judge.rt.
 use Rattle.std.proofs.Common.{◌≡◌, ◌*◌, ◌^◌, drop}
 use Rattle.std.specs.Prelude.{pos, ◌+ℤ◌}
 use Rattle.tsp_theory.specs.Numbers.{IsFromTo}

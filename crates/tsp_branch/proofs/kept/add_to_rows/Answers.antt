@@ -1,3 +1,4 @@
+-- The goals of `add_to_rows` in src/kept.rt: what its calls require.
 use Rattle.std.proofs.Common.{◌≡◌, ◌<◌, ℕ, List, subst, arith, sym, ap, ◌∙◌, length, slice_index_or}
 use Rattle.std.specs.Global.{Vec}
 use Rattle.std.specs.Prelude.{ℤ}

@@ -1,3 +1,4 @@
+-- The loop of `add_to_rows` in src/kept.rt.
 use Rattle.tsp_branch.proofs.KeptRows.{IsAddedTo}
 use Rattle.tsp_branch.proofs.kept.add_to_rows.Given as goal
 

@@ -1,3 +1,4 @@
+-- The goals of `rows_if_any` in src/kept.rt: what it ensures.
 use Rattle.std.proofs.Common.{ℕ, ℤ, subst}
 use Rattle.std.specs.Prelude.{◌*ℤ◌}
 use Rattle.tsp_theory.proofs.Sizes.{same_scale}

@@ -1,3 +1,4 @@
+-- The goals of `rows_of` in src/kept.rt: what it ensures.
 use Rattle.std.proofs.Common.{◌≡◌, ℕ, ℤ, subst, arith, to_z, of_z}
 use Rattle.std.specs.Int.{w64}
 use Rattle.std.specs.Prelude.{◌*ℤ◌}

@@ -1,3 +1,4 @@
+-- The loop of `rows_of` in src/kept.rt.
 use Rattle.std.specs.Prelude.{◌*ℤ◌}
 use Rattle.tsp_branch.specs.states.Kept.{AreRows}
 use Rattle.tsp_branch.proofs.kept.rows_of.Given as goal

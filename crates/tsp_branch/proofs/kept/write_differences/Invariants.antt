@@ -1,3 +1,4 @@
+-- The loop of `write_differences` in src/kept.rt.
 use Rattle.std.proofs.Common.{◌≡◌, ◌<◌, ℕ, length}
 use Rattle.std.specs.Prelude.{pos, neg_ℤ, ◌+ℤ◌}
 use Rattle.tsp_theory.specs.Numbers.{IsFromTo}

@@ -1,3 +1,4 @@
+-- The goals of `certificates_bound_cycles` in src/laws.rt: what it ensures.
 use Rattle.tsp_branch.proofs.Certificates.{LeafLaws, certificates_bound_cycles, certificates_bound_tours, no_bound_no_tour}
 use Rattle.tsp_branch.proofs.laws.certificates_bound_cycles.Goals as goal
 

@@ -1,3 +1,4 @@
+-- The goals of `cycles_cross_combs` in src/laws.rt: what it ensures.
 use Rattle.tsp_theory.proofs.CostLaws.{Laws}
 use Rattle.tsp_branch.proofs.Combs.{cycles_cross_combs}
 use Rattle.tsp_branch.proofs.laws.cycles_cross_combs.Goals as goal

@@ -1,3 +1,4 @@
+-- The goals of `leaf_bounds_bound_cycles` in src/laws.rt: what it ensures.
 use Rattle.tsp_theory.proofs.CostLaws.{Laws}
 use Rattle.tsp_branch.proofs.LeafBounds.{leaf_bounds_bound_cycles, uncombed_bounds_are_adjusted_bounds}
 use Rattle.tsp_branch.proofs.laws.leaf_bounds_bound_cycles.Goals as goal

@@ -1,3 +1,4 @@
+-- The goals of `links_are_allowed` in src/laws.rt: what it ensures.
 use Rattle.tsp_theory.proofs.CostLaws.{Laws}
 use Rattle.tsp_branch.proofs.Links.{links_are_allowed}
 use Rattle.tsp_branch.proofs.LeastLinks.{no_link_no_cycle}

@@ -1,3 +1,4 @@
+-- The goals of `row_leaf_bounds_bound_cycles` in src/laws.rt: what it ensures.
 use Rattle.tsp_theory.proofs.CostLaws.{Laws}
 use Rattle.tsp_branch.proofs.RowLeaves.{row_leaf_bounds_bound_cycles}
 use Rattle.tsp_branch.proofs.laws.row_leaf_bounds_bound_cycles.Goals as goal

@@ -1,3 +1,4 @@
+-- The goals of `sums_are_below_cycles` in src/laws.rt: what it ensures.
 use Rattle.tsp_theory.proofs.CostLaws.{Laws}
 use Rattle.tsp_branch.proofs.LeastLinks.{sums_are_below_cycles}
 use Rattle.tsp_branch.proofs.laws.sums_are_below_cycles.Goals as goal

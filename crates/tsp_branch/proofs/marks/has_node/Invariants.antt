@@ -1,3 +1,4 @@
+-- The loop of `has_node` in src/marks.rt.
 use Rattle.std.proofs.Common.{◌≡◌, ◌<◌, ℕ, get_or}
 use Rattle.tsp_branch.specs.states.Marked.{is_marked}
 use Rattle.tsp_branch.proofs.marks.has_node.Given as goal

@@ -1,3 +1,4 @@
+-- The loop of `leaves_one_out` in src/marks.rt.
 use Rattle.std.proofs.Common.{◌≡◌, ◌≤◌, ◌<◌, ℕ, true}
 use Rattle.tsp_branch.specs.states.Marked.{is_marked}
 use Rattle.tsp_branch.proofs.marks.leaves_one_out.Given as goal

@@ -1,3 +1,4 @@
+-- The loop of `mark_nodes` in src/marks.rt.
 use Rattle.std.proofs.Common.{◌≡◌, ◌||◌, ℕ, length, take}
 use Rattle.tsp_families.specs.Crossed.{has}
 use Rattle.tsp_branch.specs.states.Marked.{is_marked, AreNew, AddsNoOther}

@@ -1,3 +1,4 @@
+-- The goals of `fill_moved` in src/moved.rt: its loop.
 use Rattle.std.proofs.Common.{◌≡◌, ◌∙◌, ◌<◌, ◌+◌, ◌-◌, ℕ, ℤ, List, length, inl, inr, ap, ap₂, sym, arith, rules, to_z, of_z, FitsSigned}
 use Rattle.std.specs.Prelude.{pos, ◌+ℤ◌}
 use Rattle.std.specs.Int.{w64, int_wrap}

@@ -1,3 +1,4 @@
+-- The loop of `empty_lists` in src/node_decisions.rt.
 use Rattle.std.proofs.Common.{◌≡◌, ◌<◌, ℕ, [], length, get_or}
 use Rattle.std.specs.Global.{Vec}
 use Rattle.tsp_branch.specs.declared.decision.Decision.{Decision}

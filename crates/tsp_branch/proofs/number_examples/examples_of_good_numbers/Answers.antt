@@ -1,3 +1,4 @@
+-- The goals of `examples_of_good_numbers` in src/number_examples.rt: what it ensures.
 use Rattle.std.proofs.Common.{arith}
 use Rattle.std.specs.Prelude.{pos, negsuc, ◌≤ℤ◌}
 use Rattle.tsp_branch.proofs.number_examples.examples_of_good_numbers.Goals as goal

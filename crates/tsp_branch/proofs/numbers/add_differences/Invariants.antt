@@ -1,3 +1,4 @@
+-- The loop of `add_differences` in src/numbers.rt.
 use Rattle.std.proofs.Common.{◌≡◌, ◌<◌, ℕ, ℤ, drop, length, get_or}
 use Rattle.tsp_format.specs.Cells.{IsNode}
 use Rattle.tsp_branch.specs.Listed.{all_grown}

@@ -1,3 +1,4 @@
+-- The goals of `have_each_once` in src/other_families.rt: its loop and what it ensures.
 use Rattle.std.proofs.Common.{◌≡◌, ◌∙◌, ◌+◌, ◌<◌, ℕ, List, [], length, get_or, false, refl, ap, sym, subst, arith}
 use Rattle.std.specs.List.{All}
 use Rattle.std.proofs.lemmas.Bool.{both_ways, iff_false}

@@ -1,3 +1,4 @@
+-- The goals of `other_crossings` in src/other_families.rt: what it ensures.
 use Rattle.std.proofs.Common.{◌≡◌, ℕ, List, arith}
 use Rattle.std.proofs.lemmas.Bool.{iff_false}
 use Rattle.tsp_families.specs.FamilySets.{lists_of}

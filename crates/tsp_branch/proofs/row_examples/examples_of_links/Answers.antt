@@ -1,3 +1,4 @@
+-- The goals of `examples_of_links` in src/row_examples.rt: what it ensures.
 use Rattle.tsp_branch.proofs.SmallRows.{row_of_taken, column_of_taken, avoided, second_decision}
 use Rattle.tsp_branch.proofs.row_examples.examples_of_links.Goals as goal
 

@@ -1,3 +1,4 @@
+-- The goals of `examples_of_rows` in src/row_examples.rt: what it ensures.
 use Rattle.tsp_branch.proofs.SmallRows.{none_left, without_decisions, with_arc, without_arc, rounded_up, given_back}
 use Rattle.tsp_branch.proofs.row_examples.examples_of_rows.Goals as goal
 

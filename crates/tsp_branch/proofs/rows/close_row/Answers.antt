@@ -1,3 +1,4 @@
+-- The goals of `close_row` in src/rows.rt: what it ensures.
 use Rattle.std.proofs.Common.{arith, length}
 use Rattle.tsp_branch.proofs.OpenRows.{opened}
 use Rattle.tsp_branch.proofs.rows.close_row.Goals as goal

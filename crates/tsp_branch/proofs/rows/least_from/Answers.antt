@@ -1,3 +1,4 @@
+-- The goals of `least_from` in src/rows.rt: what its calls require and what it ensures.
 use Rattle.std.proofs.Common.{◌≡◌, ◌+◌, ◌∙◌, Bool, length, inl, inr, arith, rules, FitsSigned, to_z, of_z, ap, sym, subst}
 use Rattle.std.specs.List.{filter}
 use Rattle.std.specs.Int.{w64}

@@ -1,3 +1,4 @@
+-- The loop of `least_in` in src/rows.rt.
 use Rattle.std.proofs.Common.{◌≡◌, ◌≤◌, ◌<◌, ℕ}
 use Rattle.std.specs.Prelude.{◌⊎◌, ◌≤ℤ◌}
 use Rattle.tsp_theory.specs.states.Nearest.{least_at}

@@ -1,3 +1,4 @@
+-- The goals of `row_bound` in src/rows.rt: what it ensures.
 use Rattle.std.proofs.Common.{ℤ, rules, FitsSigned, to_z, of_z, subst, sym}
 use Rattle.std.specs.Prelude.{◌+ℤ◌}
 use Rattle.std.specs.Int.{w128}

@@ -1,3 +1,4 @@
+-- The goals of `sum_of_least` in src/rows.rt: its loop and what it ensures.
 use Rattle.std.proofs.Common.{◌+◌, ◌≤◌, ◌∙◌, ℤ, arith, rules, FitsSigned, to_z}
 use Rattle.std.specs.Int.{w64, w128}
 use Rattle.std.proofs.lemmas.Int.{ints, to_z-of_z}

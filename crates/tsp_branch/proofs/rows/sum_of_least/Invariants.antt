@@ -1,3 +1,4 @@
+-- The loop of `sum_of_least` in src/rows.rt.
 use Rattle.tsp_theory.specs.Numbers.{IsSumSized}
 use Rattle.tsp_branch.specs.Rows.{IsSumOfLeast}
 use Rattle.tsp_branch.specs.states.OpenCases.{decisions_in}

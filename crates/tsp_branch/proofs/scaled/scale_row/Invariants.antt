@@ -1,3 +1,4 @@
+-- The loop of `scale_row` in src/scaled.rt.
 use Rattle.std.proofs.Common.{◌≡◌, ◌≤◌, ◌<◌, ℕ}
 use Rattle.std.specs.Prelude.{◌*ℤ◌}
 use Rattle.tsp_theory.specs.states.Nearest.{least_at}

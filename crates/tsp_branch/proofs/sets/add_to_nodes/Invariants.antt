@@ -1,3 +1,4 @@
+-- The loop of `add_to_nodes` in src/sets.rt.
 use Rattle.std.proofs.Common.{ℕ, ℤ, drop}
 use Rattle.tsp_theory.specs.states.Nearest.{least_at}
 use Rattle.tsp_branch.specs.states.Sets.{IsMoved, added}

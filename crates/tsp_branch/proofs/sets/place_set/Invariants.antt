@@ -1,3 +1,4 @@
+-- The loop of `place_set` in src/sets.rt.
 use Rattle.std.proofs.Common.{◌≡◌, ◌<◌, ℕ, ◌++◌, drop, length, get_or}
 use Rattle.std.specs.Global.{Vec}
 use Rattle.tsp_branch.specs.states.Sets.{times}

@@ -1,3 +1,4 @@
+-- The goals of `sets_by_node` in src/sets.rt: its loop.
 use Rattle.std.proofs.Common.{◌<◌, ◌++◌, length, get_or, ap, sym, ◌∙◌, arith}
 use Rattle.tsp_branch.specs.states.Sets.{times}
 use Rattle.tsp_families.specs.declared.comb_set.CombSet.{CombSet}

@@ -1,3 +1,4 @@
+-- The loop of `length_to_taken` in src/stack.rt.
 use Rattle.std.proofs.Common.{◌≡◌, ◌≤◌, take, length}
 use Rattle.tsp_branch.specs.Cases.{next_stack}
 use Rattle.tsp_branch.specs.states.Decided.{stack_of}

@@ -1,3 +1,4 @@
+-- The goals of `next_case` in src/stack.rt: what it ensures.
 use Rattle.std.proofs.Common.{◌≡◌, ◌≤◌, ℕ, List, true, take, length, get_or, ◌+◌, ◌-◌, subst}
 use Rattle.tsp_branch.specs.declared.decision.Decision.{Decision}
 use Rattle.tsp_branch.specs.Cases.{next_stack}

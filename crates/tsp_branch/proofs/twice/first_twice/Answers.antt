@@ -1,3 +1,4 @@
+-- The goals of `first_twice` in src/twice.rt: its loop and what it ensures.
 use Rattle.std.proofs.Common.{◌∙◌, ◌+◌, ◌++◌, not, List, drop, arith, ap, refl, sym}
 use Rattle.tsp_format.specs.declared.steps.TreeStep.{TreeStep}
 use Rattle.tsp_format.specs.declared.steps.TreeStep.TheVariants as code

@@ -1,3 +1,4 @@
+-- The loop of `first_twice` in src/twice.rt.
 use Rattle.std.proofs.Common.{◌≤◌, ◌++◌, drop}
 use Rattle.tsp_format.specs.states.TreeSteps.{steps_of}
 use Rattle.tsp_branch.specs.states.Decided.{stack_of}

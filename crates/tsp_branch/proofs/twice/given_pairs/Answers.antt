@@ -1,3 +1,4 @@
+-- The goals of `given_pairs` in src/twice.rt: its loop and what it ensures.
 use Rattle.std.proofs.Common.{true, false, arith, subst}
 use Rattle.std.specs.BTreeSet.{Updates}
 use Rattle.tsp_branch.specs.states.PairSets.{pair_cmp}

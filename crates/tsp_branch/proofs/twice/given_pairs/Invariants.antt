@@ -1,3 +1,4 @@
+-- The loop of `given_pairs` in src/twice.rt.
 use Rattle.std.proofs.Common.{take}
 use Rattle.tsp_branch.specs.states.PairSets.{HasDecided}
 use Rattle.tsp_branch.proofs.twice.given_pairs.Given as goal

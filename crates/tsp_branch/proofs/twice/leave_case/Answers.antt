@@ -1,3 +1,4 @@
+-- The goals of `leave_case` in src/twice.rt: its loop and what it ensures.
 use Rattle.std.proofs.Common.{List, refl, sym, subst, arith}
 use Rattle.tsp_branch.specs.declared.decision.Decision.{Decision}
 use Rattle.tsp_branch.specs.states.Decided.{IsNextStack}

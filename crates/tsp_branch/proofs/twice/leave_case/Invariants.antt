@@ -1,3 +1,4 @@
+-- The loop of `leave_case` in src/twice.rt.
 use Rattle.std.proofs.Common.{◌≡◌}
 use Rattle.tsp_branch.proofs.DecidedSets.{HoldsRows}
 use Rattle.tsp_branch.proofs.twice.leave_case.Given as goal

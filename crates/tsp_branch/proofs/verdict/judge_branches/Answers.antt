@@ -1,3 +1,4 @@
+-- The goals of `judge_branches` in src/verdict.rt: what its calls require and what it ensures.
 use Rattle.std.proofs.Common.{◌≡◌, ◌∙◌, ◌<◌, ℕ, ℤ, List, length, ap, sym, subst, rules, FitsSigned}
 use Rattle.std.specs.Int.{w64}
 use Rattle.std.specs.List.{All}

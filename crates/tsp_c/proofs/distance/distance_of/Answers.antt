@@ -1,3 +1,4 @@
+-- The goals of `distance_of` in src/distance.rt: what it ensures.
 use Rattle.std.proofs.Common.{◌≡◌, ◌∙◌, ap, inl, rules, FitsSigned, w64}
 use Rattle.std.proofs.lemmas.Int.{to_z-of_z}
 use Rattle.tsp_distance.specs.declared.decimal.Point.{Point}

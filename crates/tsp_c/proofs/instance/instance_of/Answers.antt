@@ -1,3 +1,4 @@
+-- The goals of `instance_of` in src/instance.rt: what it ensures.
 use Rattle.std.proofs.Common.{inl, inr, refl}
 use Rattle.tsp_c.proofs.instance.instance_of.Goals as goal
 

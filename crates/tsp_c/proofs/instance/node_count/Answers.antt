@@ -1,3 +1,4 @@
+-- The goals of `node_count` in src/instance.rt: what it ensures.
 use Rattle.std.proofs.Common.{◌≡◌, ℕ, ◌≤◌, sym, ap, inr, arith}
 use Rattle.std.specs.Prelude.{Option, Some, None, unwrap_or}
 use Rattle.tsp_c.proofs.instance.node_count.Goals as goal

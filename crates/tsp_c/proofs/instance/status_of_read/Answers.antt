@@ -1,3 +1,4 @@
+-- The goals of `status_of_read` in src/instance.rt: what it ensures.
 use Rattle.std.proofs.Common.{inl, refl}
 use Rattle.tsp_c.proofs.instance.status_of_read.Goals as goal
 

@@ -1,3 +1,4 @@
+-- The goals of `fill_lengths` in src/lengths.rt: what it ensures.
 use Rattle.std.proofs.Common.{inl, inr, refl}
 use Rattle.tsp_c.proofs.lengths.fill_lengths.Goals as goal
 

@@ -1,3 +1,4 @@
+-- The loop of `put_lengths` in src/lengths.rt.
 use Rattle.std.proofs.Common.{◌≡◌, ◌≤◌, length, drop}
 use Rattle.std.specs.List.{All}
 use Rattle.tsp_c.specs.Numbers.{IsFilled, list_length, lists_in}

@@ -1,3 +1,4 @@
+-- The goals of `check_by` in src/refused.rt: what it ensures.
 use Rattle.std.proofs.Common.{◌≡◌, ◌∙◌, ap, subst, arith, FitsSigned, w64}
 use Rattle.std.specs.Prelude.{Option, ℤ}
 use Rattle.std.proofs.lemmas.Int.{to_z-of_z}

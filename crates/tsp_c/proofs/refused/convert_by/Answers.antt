@@ -1,3 +1,4 @@
+-- The goals of `convert_by` in src/refused.rt: what it ensures.
 use Rattle.std.proofs.Common.{subst, arith}
 use Rattle.std.specs.Prelude.{Option}
 use Rattle.tsp_format.specs.declared.layout.Layout.{Layout}

@@ -1,3 +1,4 @@
+-- The goals of `fill_weights` in src/weights.rt: what it ensures.
 use Rattle.std.proofs.Common.{inl, inr, refl}
 use Rattle.tsp_c.proofs.weights.fill_weights.Goals as goal
 

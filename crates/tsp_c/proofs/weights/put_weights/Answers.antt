@@ -1,3 +1,4 @@
+-- The goals of `put_weights` in src/weights.rt: its loop.
 use Rattle.std.proofs.Common.{◌∙◌, rules, FitsSigned, w64}
 use Rattle.std.proofs.lemmas.Int.{to_z-of_z}
 use Rattle.tsp_c.specs.Numbers.{pair_cost}

@@ -1,3 +1,4 @@
+-- The loop of `put_weights` in src/weights.rt.
 use Rattle.tsp_c.specs.Numbers.{IsFilled, pair_cost}
 use Rattle.tsp_c.proofs.weights.put_weights.Given as goal
 

@@ -1,3 +1,4 @@
+-- The goals of `text_of` in src/words.rt: what it ensures.
 use Rattle.std.proofs.Common.{◌∙◌}
 use Rattle.clap.specs.Words.{found_of}
 use Rattle.clap.proofs.WalkLemmas.{first_value-rows}

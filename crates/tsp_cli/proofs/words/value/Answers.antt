@@ -1,3 +1,4 @@
+-- The goals of `value` in src/words.rt: what it ensures.
 use Rattle.std.proofs.Common.{rules}
 use Rattle.clap.specs.Words.{found_of}
 use Rattle.clap.proofs.WalkLemmas.{first_value-rows}

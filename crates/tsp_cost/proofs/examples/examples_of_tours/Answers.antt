@@ -1,3 +1,4 @@
+-- The goals of `examples_of_tours` in src/examples.rt: what it ensures.
 use Rattle.std.proofs.Common.{◌≡◌, ℕ, zero, suc, ◌<◌, inl, inr, arith, ap}
 use Rattle.std.specs.Prelude.{slice_index_or}
 use Rattle.tsp_theory.specs.Cycle.{links, Follows, AreNeighbours}

@@ -1,3 +1,4 @@
+-- The goals of `instances_are_problems` in src/laws.rt: what it ensures.
 use Rattle.std.proofs.Common.{sym, subst, refl}
 use Rattle.std.specs.Prelude.{IsTrue}
 use Rattle.tsp_format.specs.declared.kinds.Kind.TheVariants as kinds

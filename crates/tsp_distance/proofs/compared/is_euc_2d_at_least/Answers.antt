@@ -1,3 +1,4 @@
+-- The goals of `is_euc_2d_at_least` in src/compared.rt: what it ensures.
 use Rattle.std.proofs.Common.{w64}
 use Rattle.std.proofs.lemmas.Int.{to_z-of_z}
 use Rattle.tsp_distance.proofs.AtLeast.{euc_2d_cover}

@@ -1,3 +1,4 @@
+-- The goals of `is_euc_3d_at_least` in src/compared.rt: what it ensures.
 use Rattle.std.proofs.Common.{◌≡◌, ◌+◌, ◌≤ℤ◌, ℕ, ℤ, pos, subst, sym, w64}
 use Rattle.std.specs.Prelude.{◌↔◌, IsTrue}
 use Rattle.std.proofs.lemmas.Int.{to_z-of_z}

@@ -1,3 +1,4 @@
+-- The goals of `euc_2d` in src/distance.rt: what it ensures.
 use Rattle.std.proofs.Common.{arith, ◌≡◌, ◌≤ℤ◌, ℕ, pos, unsigned_abs, to_z, of_z, w64, subst, sym}
 use Rattle.std.proofs.lemmas.Int.{ints}
 use Rattle.tsp_distance.specs.Distances.{IsEuc2d}

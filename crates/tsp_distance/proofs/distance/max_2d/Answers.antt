@@ -1,3 +1,4 @@
+-- The goals of `max_2d` in src/distance.rt: what it ensures.
 use Rattle.std.proofs.Common.{arith, rules, ◌≤ℤ◌, pos, to_z, of_z, w64}
 use Rattle.std.proofs.lemmas.Int.{ints}
 use Rattle.tsp_distance.proofs.DistanceLaws.{max_2d-is, signed_is}

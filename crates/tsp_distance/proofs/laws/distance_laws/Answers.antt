@@ -1,3 +1,4 @@
+-- The goals of `distance_laws` in src/laws.rt: what it ensures.
 use Rattle.tsp_distance.proofs.DistanceLaws.{euc_2d_laws, ceil_2d_laws, man_2d_laws, max_2d_laws, att_laws}
 use Rattle.tsp_distance.proofs.SpaceLaws.{euc_3d_laws, man_3d_laws, max_3d_laws}
 use Rattle.tsp_distance.proofs.laws.distance_laws.Goals as goal

@@ -1,3 +1,4 @@
+-- The goals of `monotone_laws` in src/monotone.rt: what it ensures.
 use Rattle.tsp_distance.proofs.MonotoneLaws.{euc_2d-grows, ceil_2d-grows, man_2d-grows, max_2d-grows, att-grows, euc_3d-grows, man_3d-grows, max_3d-grows}
 use Rattle.tsp_distance.proofs.monotone.monotone_laws.Goals as goal
 

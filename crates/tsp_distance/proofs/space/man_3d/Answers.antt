@@ -1,3 +1,4 @@
+-- The goals of `man_3d` in src/space.rt: what it ensures.
 use Rattle.std.proofs.Common.{arith, rules, ◌≤ℤ◌, pos, to_z, of_z, w64}
 use Rattle.std.proofs.lemmas.Int.{ints}
 use Rattle.tsp_distance.proofs.DistanceLaws.{signed_is}

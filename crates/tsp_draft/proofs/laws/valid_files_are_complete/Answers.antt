@@ -1,3 +1,4 @@
+-- The goals of `valid_files_are_complete` in src/laws.rt: what it ensures.
 use Rattle.tsp_draft.proofs.ValidFields.{has_kind, has_instance, has_routing, has_tours, has_potentials, has_branches}
 use Rattle.tsp_draft.proofs.laws.valid_files_are_complete.Goals as goal
 

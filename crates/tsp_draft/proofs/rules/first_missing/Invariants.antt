@@ -1,3 +1,4 @@
+-- The loop of `first_missing` in src/rules.rt.
 use Rattle.std.proofs.Common.{◌≡◌, drop}
 use Rattle.tsp_draft.specs.states.Drafts.{fields_of}
 use Rattle.tsp_draft.specs.Validity.{first_failing}

@@ -1,3 +1,4 @@
+-- The goals of `are_comments` in src/table.rt: what it ensures.
 use Rattle.std.proofs.Common.{ℕ, ◌∙◌}
 use Rattle.std.specs.Global.{Vec}
 use Rattle.tsp_format.specs.declared.field.Field.TheVariants.{CommentKey}

@@ -1,3 +1,4 @@
+-- The goals of `are_others` in src/table.rt: what it ensures.
 use Rattle.std.proofs.Common.{ℕ, ◌∙◌}
 use Rattle.std.specs.Global.{Vec}
 use Rattle.tsp_format.specs.Limits.{most_others}

@@ -1,3 +1,4 @@
+-- The goals of `are_tours` in src/table.rt: what it ensures.
 use Rattle.tsp_draft.proofs.Mapped.{mapped_tours}
 use Rattle.tsp_draft.proofs.table.are_tours.Goals as goal
 

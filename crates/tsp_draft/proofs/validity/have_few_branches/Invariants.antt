@@ -1,3 +1,4 @@
+-- The loop of `have_few_branches` in src/validity.rt.
 use Rattle.std.proofs.Common.{◌≡◌, ◌+◌, ◌≤◌, drop}
 use Rattle.tsp_format.specs.Steps.{branch_count}
 use Rattle.tsp_format.specs.states.TreeSteps.{steps_of}

@@ -1,3 +1,4 @@
+-- The loop of `have_few_nodes` in src/validity.rt.
 use Rattle.std.proofs.Common.{◌≡◌, ◌≤◌, length, take}
 use Rattle.std.specs.List.{sum_by}
 use Rattle.tsp_format.specs.Limits.{most_tour_nodes}

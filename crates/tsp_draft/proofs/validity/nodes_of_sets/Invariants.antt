@@ -1,3 +1,4 @@
+-- The loop of `nodes_of_sets` in src/validity.rt.
 use Rattle.std.proofs.Common.{◌≡◌, ◌≤◌, length, take}
 use Rattle.std.specs.List.{sum_by}
 use Rattle.tsp_draft.proofs.validity.nodes_of_sets.Given as goal

@@ -1,3 +1,4 @@
+-- The loop of `look_for` in src/look.rt.
 use Rattle.std.proofs.Common.{◌+◌, ◌-◌}
 use Rattle.tsp_explain.proofs.look.look_for.Given as goal
 

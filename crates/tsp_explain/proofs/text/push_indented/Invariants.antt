@@ -1,3 +1,4 @@
+-- The loop of `push_indented` in src/text.rt.
 use Rattle.std.proofs.Common.{◌≡◌, ◌++◌, drop, map}
 use Rattle.std.specs.List.{concat}
 use Rattle.tsp_explain.specs.Indented.{indented_byte}

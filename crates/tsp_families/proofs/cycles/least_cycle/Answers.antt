@@ -1,3 +1,4 @@
+-- The goals of `least_cycle` in src/cycles.rt: what it ensures.
 use Rattle.std.proofs.Common.{ℕ, ◌-◌, ◌*◌, ◌≤◌, List, sym, subst, arith}
 use Rattle.std.specs.Prelude.{pos}
 use Rattle.tsp_families.specs.Crossed.{IsLeastLength}

@@ -1,3 +1,4 @@
+-- The loop of `crossings_between` in src/differences.rt.
 use Rattle.std.proofs.Common.{◌≡◌, ◌≤◌, ◌+◌, ◌*◌, length, get_or, bit_xor, count_ones}
 use Rattle.std.specs.List.{All}
 use Rattle.tsp_families.proofs.Tables.{HoldsByRows}

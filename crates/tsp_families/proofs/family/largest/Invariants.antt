@@ -1,3 +1,4 @@
+-- The loop of `largest` in src/family.rt.
 use Rattle.std.proofs.Common.{◌≡◌, ◌<◌, ◌≤◌, ◌⊎◌, ℕ, get_or}
 use Rattle.tsp_families.proofs.family.largest.Given as goal
 

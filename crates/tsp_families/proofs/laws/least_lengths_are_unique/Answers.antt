@@ -1,3 +1,4 @@
+-- The goals of `least_lengths_are_unique` in src/laws.rt: what it ensures.
 use Rattle.tsp_families.proofs.PartWalks.{least_lengths_are_unique}
 use Rattle.tsp_families.proofs.laws.least_lengths_are_unique.Goals as goal
 

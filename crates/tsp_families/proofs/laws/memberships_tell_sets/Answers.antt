@@ -1,3 +1,4 @@
+-- The goals of `memberships_tell_sets` in src/laws.rt: what it ensures.
 use Rattle.tsp_families.proofs.NodeMembers.{memberships_tell_sets}
 use Rattle.tsp_families.proofs.laws.memberships_tell_sets.Goals as goal
 

@@ -1,3 +1,4 @@
+-- The goals of `most_costs_are_unique` in src/laws.rt: what it ensures.
 use Rattle.tsp_families.proofs.PartWalks.{most_costs_are_unique}
 use Rattle.tsp_families.proofs.laws.most_costs_are_unique.Goals as goal
 

@@ -1,3 +1,4 @@
+-- The goals of `parts_tell_cycles` in src/laws.rt: what it ensures.
 use Rattle.tsp_families.proofs.Widened.{parts_tell_cycles}
 use Rattle.tsp_families.proofs.laws.parts_tell_cycles.Goals as goal
 

@@ -1,3 +1,4 @@
+-- The goals of `unlike_nodes_need_parts` in src/laws.rt: what it ensures.
 use Rattle.tsp_families.proofs.PartWalks.{unlike_nodes_need_parts}
 use Rattle.tsp_families.proofs.laws.unlike_nodes_need_parts.Goals as goal
 

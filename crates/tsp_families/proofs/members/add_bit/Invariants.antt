@@ -1,3 +1,4 @@
+-- The loop of `add_bit` in src/members.rt.
 use Rattle.std.proofs.Common.{◌≡◌, ℕ, ◌<◌, length, get_or, take}
 use Rattle.tsp_families.proofs.NodeMembers.{with_bit}
 use Rattle.tsp_families.proofs.members.add_bit.Given as goal

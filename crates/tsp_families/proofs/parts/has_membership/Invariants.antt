@@ -1,3 +1,4 @@
+-- The loop of `has_membership` in src/parts.rt.
 use Rattle.std.proofs.Common.{◌≢◌, ℕ, ◌<◌, get_or}
 use Rattle.tsp_families.proofs.parts.has_membership.Given as goal
 

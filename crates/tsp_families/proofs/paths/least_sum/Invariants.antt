@@ -1,3 +1,4 @@
+-- The loop of `least_sum` in src/paths.rt.
 use Rattle.tsp_families.specs.Paths.{IsLeastSum}
 use Rattle.tsp_families.proofs.paths.least_sum.Given as goal
 

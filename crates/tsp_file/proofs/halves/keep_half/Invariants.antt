@@ -1,3 +1,4 @@
+-- The loop of `keep_half` in src/halves.rt.
 use Rattle.tsp_file.proofs.Fronts.{HasKept}
 use Rattle.tsp_file.proofs.halves.keep_half.Given as goal
 

@@ -1,3 +1,4 @@
+-- The goals of `a_valid_text_is_short` in src/laws.rt: what it ensures.
 use Rattle.tsp_file.proofs.FieldLengths.{text_short, text_short_without_trees}
 use Rattle.tsp_file.proofs.laws.a_valid_text_is_short.Goals as goal
 

@@ -1,3 +1,4 @@
+-- The goals of `costs_are_by_inequalities` in src/laws.rt: what it ensures.
 use Rattle.tsp_file.proofs.Distances.{DistanceLaws, cost_defined, cost_unique}
 use Rattle.tsp_file.proofs.laws.costs_are_by_inequalities.Goals as goal
 

@@ -1,3 +1,4 @@
+-- The goals of `examples_of_lines` in src/text_examples.rt: what it ensures.
 use Rattle.std.proofs.Common.{rules}
 use Rattle.std.specs.Fmt.{digits}
 use Rattle.tsp_file.proofs.text_examples.examples_of_lines.Goals as goal

@@ -1,3 +1,4 @@
+-- The goals of `examples_of_sections` in src/text_examples.rt: what it ensures.
 use Rattle.std.proofs.Common.{rules, refl}
 use Rattle.std.specs.Fmt.{digits}
 use Rattle.tsp_number.specs.Spelling.{decimals}

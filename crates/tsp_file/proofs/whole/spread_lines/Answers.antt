@@ -1,3 +1,4 @@
+-- The goals of `spread_lines` in src/whole.rt: that no sum overflows, its loop and what its calls require.
 use Rattle.std.proofs.Common.{◌≡◌, ◌+◌, ◌-◌, sym, ◌∙◌, arith}
 use Rattle.std.proofs.lemmas.Nat.{mul-le}
 use Rattle.tsp_format.specs.Cells.{IsNode}

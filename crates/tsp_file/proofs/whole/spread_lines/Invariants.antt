@@ -1,3 +1,4 @@
+-- The loop of `spread_lines` in src/whole.rt.
 use Rattle.std.proofs.Common.{◌≡◌, ◌≤◌, ◌*◌, List, length, take}
 use Rattle.std.specs.Prelude.{ℤ}
 use Rattle.tsp_file.proofs.Spread.{before, SpreadTo}

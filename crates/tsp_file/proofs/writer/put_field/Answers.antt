@@ -1,3 +1,4 @@
+-- The goals of `put_field` in src/writer.rt: what it ensures.
 use Rattle.tsp_file.proofs.writer.put_field.Goals as goal
 
 pub returns-in-OtherKey : goal.returns-in-OtherKey

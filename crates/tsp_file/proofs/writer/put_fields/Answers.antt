@@ -1,3 +1,4 @@
+-- The goals of `put_fields` in src/writer.rt: its loop and what it ensures.
 use Rattle.std.proofs.Common.{arith}
 use Rattle.tsp_draft.specs.states.Drafts.{fields_of}
 use Rattle.tsp_file.specs.Text.{text_of_field}

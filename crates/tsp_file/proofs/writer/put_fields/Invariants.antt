@@ -1,3 +1,4 @@
+-- The loop of `put_fields` in src/writer.rt.
 use Rattle.std.proofs.Common.{take}
 use Rattle.std.specs.List.{flat_map}
 use Rattle.tsp_draft.specs.states.Drafts.{fields_of}

@@ -1,3 +1,4 @@
+-- The goals of `cells_go_line_by_line` in src/layout.rt: what it ensures.
 use Rattle.tsp_format.proofs.Lines.{cells-lines}
 use Rattle.tsp_format.proofs.layout.cells_go_line_by_line.Goals as goal
 

@@ -1,3 +1,4 @@
+-- The goals of `only_cells_have_places` in src/place.rt: what it ensures.
 use Rattle.tsp_format.proofs.Places.{no_place}
 use Rattle.tsp_format.proofs.place.only_cells_have_places.Goals as goal
 

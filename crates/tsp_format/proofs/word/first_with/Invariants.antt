@@ -1,3 +1,4 @@
+-- The loop of `first_with` in src/word.rt.
 use Rattle.std.proofs.Common.{◌≡◌, drop}
 use Rattle.std.specs.List.{find}
 use Rattle.std.specs.Str.{bytes_eq}

@@ -1,3 +1,4 @@
+-- The goals of `run_check` in src/check.rt: what it ensures.
 use Rattle.std.proofs.Common.{sym, subst}
 use Rattle.tsp_judge.specs.Yes.{IsCheck}
 use Rattle.tsp_judge.proofs.check.run_check.Goals as goal

@@ -1,3 +1,4 @@
+-- The goals of `read_certificate` in src/checked.rt: what it ensures.
 use Rattle.std.proofs.Common.{◌≡◌, Err, [], refl}
 use Rattle.std.proofs.KnownBytes.{Keeps-refl}
 use Rattle.tsp_judge.proofs.HandedOn.{handed_on}

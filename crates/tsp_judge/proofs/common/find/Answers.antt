@@ -1,3 +1,4 @@
+-- The goals of `find` in src/common.rt: what it ensures.
 use Rattle.std.proofs.Common.{inr}
 use Rattle.tsp_stream.specs.states.Watched.{turn_of}
 use Rattle.tsp_judge.proofs.Comparing.{found_judged}

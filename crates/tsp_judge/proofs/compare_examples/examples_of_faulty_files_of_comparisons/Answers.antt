@@ -1,3 +1,4 @@
+-- The goals of `examples_of_faulty_files_of_comparisons` in src/compare_examples.rt: what it ensures.
 use Rattle.std.proofs.Common.{◌≡◌, ◌⊎◌, ℕ, None, Some, refl, inl, inr, arith}
 use Rattle.tsp_stream.specs.Turn.{Turn}
 use Rattle.tsp_read.specs.Reads.{StopsAt}

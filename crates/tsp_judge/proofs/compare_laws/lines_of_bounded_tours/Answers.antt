@@ -1,3 +1,4 @@
+-- The goals of `lines_of_bounded_tours` in src/compare_laws.rt: what it ensures.
 use Rattle.tsp_judge.proofs.CompareMeaning.{bounded_line}
 use Rattle.tsp_judge.proofs.compare_laws.lines_of_bounded_tours.Goals as goal
 

@@ -1,3 +1,4 @@
+-- The goals of `lines_of_checks` in src/compare_laws.rt: what it ensures.
 use Rattle.tsp_judge.proofs.CompareMeaning.{one_answer}
 use Rattle.tsp_judge.proofs.compare_laws.lines_of_checks.Goals as goal
 

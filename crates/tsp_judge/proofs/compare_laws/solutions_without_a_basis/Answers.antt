@@ -1,3 +1,4 @@
+-- The goals of `solutions_without_a_basis` in src/compare_laws.rt: what it ensures.
 use Rattle.tsp_judge.proofs.CompareMeaning.{none_accepted, none_without_tours}
 use Rattle.tsp_judge.proofs.compare_laws.solutions_without_a_basis.Goals as goal
 

@@ -1,3 +1,4 @@
+-- The goals of `compare_one` in src/compared.rt: what it ensures.
 use Rattle.std.proofs.Common.{◌≡◌, List, [], ap, sym, subst, subst₂}
 use Rattle.std.specs.Prelude.{IfOk, Result, Err, slice_index_or}
 use Rattle.tsp_stream.specs.states.Watched.{sink_of, turn_of}

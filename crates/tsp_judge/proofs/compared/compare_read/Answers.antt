@@ -1,3 +1,4 @@
+-- The goals of `compare_read` in src/compared.rt: what it ensures.
 use Rattle.std.proofs.Common.{◌≡◌, Err, refl, sym, subst, ◌∙◌}
 use Rattle.std.proofs.KnownBytes.{Keeps-refl}
 use Rattle.tsp_read.specs.Reads.{IsFile}

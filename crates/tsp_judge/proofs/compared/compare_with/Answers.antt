@@ -1,3 +1,4 @@
+-- The goals of `compare_with` in src/compared.rt: what it ensures.
 use Rattle.std.proofs.Common.{◌≡◌, true, rules, sym, subst}
 use Rattle.tsp_stream.specs.states.Watched.{sink_of}
 use Rattle.tsp_stream.specs.Sink.{HasWritten}

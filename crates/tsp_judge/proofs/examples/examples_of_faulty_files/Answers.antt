@@ -1,3 +1,4 @@
+-- The goals of `examples_of_faulty_files` in src/examples.rt: what it ensures.
 use Rattle.std.proofs.Common.{◌≡◌, ◌⊎◌, ℕ, Option, None, Some, refl, inl, inr, arith}
 use Rattle.tsp_stream.specs.Turn.{Turn, IsUnread}
 use Rattle.tsp_read.specs.Reads.{StopsAt}

@@ -1,3 +1,4 @@
+-- The goals of `front_decimal` in src/front.rt: that no sum overflows and what it ensures.
 use Rattle.std.proofs.Common.{◌+◌, ◌<◌, ◌≤◌, arith, rules, FitsSigned, w64}
 use Rattle.std.proofs.lemmas.Int.{to_z-of_z}
 use Rattle.std.proofs.lemmas.List.{take_rest}

@@ -1,3 +1,4 @@
+-- The goals of `front_digits` in src/front.rt: that no sum overflows and what it ensures.
 use Rattle.std.proofs.Common.{◌≡◌, ◌+◌, ◌*◌, ◌<◌, ◌≤◌, ◌^◌, drop, arith, rules}
 use Rattle.std.proofs.lemmas.List.{take_rest}
 use Rattle.tsp_number.proofs.FrontNumbers.{ReadsFront, counts_on, eight_more, eight_and_more, few_fit}

@@ -1,3 +1,4 @@
+-- The goals of `single_digits` in src/front.rt: that no sum overflows, its loop and what it ensures.
 use Rattle.std.proofs.Common.{◌<◌, length, arith, rules, sym, ◌∙◌}
 use Rattle.std.proofs.lemmas.List.Sums.{prefix_len-le-length}
 use Rattle.std.specs.Char.{is_ascii_digit}

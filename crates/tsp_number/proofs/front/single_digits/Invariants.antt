@@ -1,3 +1,4 @@
+-- The loop of `single_digits` in src/front.rt.
 use Rattle.std.proofs.Common.{◌≤◌, ◌-◌}
 use Rattle.std.specs.Char.{is_ascii_digit}
 use Rattle.std.specs.List.{prefix_len}

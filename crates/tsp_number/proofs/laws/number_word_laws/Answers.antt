@@ -1,3 +1,4 @@
+-- The goals of `number_word_laws` in src/laws.rt: what it ensures.
 use Rattle.tsp_number.proofs.WordLaws.{stands_once, decimal_once, decimal_of-reads, whole_once, whole_of-reads}
 use Rattle.tsp_number.proofs.laws.number_word_laws.Goals as goal
 

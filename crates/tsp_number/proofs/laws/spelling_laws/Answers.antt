@@ -1,3 +1,4 @@
+-- The goals of `spelling_laws` in src/laws.rt: what it ensures.
 use Rattle.tsp_number.proofs.Spelled.{stands_for, round_trip}
 use Rattle.tsp_number.proofs.laws.spelling_laws.Goals as goal
 

@@ -1,3 +1,4 @@
+-- The goals of `add_zeros` in src/scale.rt: what it ensures.
 use Rattle.std.proofs.Common.{arith}
 use Rattle.tsp_number.proofs.Scaling.{saturated-past}
 use Rattle.tsp_number.proofs.scale.add_zeros.Goals as goal

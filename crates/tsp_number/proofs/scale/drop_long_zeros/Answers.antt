@@ -1,3 +1,4 @@
+-- The goals of `drop_long_zeros` in src/scale.rt: what it ensures.
 use Rattle.std.proofs.Common.{◌≡◌, Bool, true, false, ◌&&◌, ◌++◌, ◌+◌, ◌-◌, length, arith, refl, sym, ◌∙◌, ◌⊎◌, inl, inr, length-append}
 use Rattle.tsp_number.proofs.Scaling.{CutsWhole, CutsFraction, all_dropped, whole_cut_zeros, whole_cut_rest, fraction_cut_zeros, fraction_cut_rest}
 use Rattle.tsp_number.proofs.scale.drop_long_zeros.Goals as goal

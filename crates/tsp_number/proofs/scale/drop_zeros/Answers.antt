@@ -1,3 +1,4 @@
+-- The goals of `drop_zeros` in src/scale.rt: what it ensures.
 use Rattle.std.proofs.Common.{arith}
 use Rattle.tsp_number.proofs.Scaling.{pow_above_zero, too_few_zeros, rest_left, no_rest}
 use Rattle.tsp_number.proofs.scale.drop_zeros.Goals as goal

@@ -1,3 +1,4 @@
+-- The goals of `shifted` in src/scale.rt: what it ensures.
 use Rattle.std.proofs.Common.{◌≡◌, ℕ, ◌<◌, ℤ, pos, ◌+ℤ◌, ◌-ℤ◌, ◌++◌, length, arith, ap, sym, subst, refl, ◌∙◌}
 use Rattle.std.proofs.lemmas.Int.{ints}
 use Rattle.std.specs.Str.Parse.{digits_value}

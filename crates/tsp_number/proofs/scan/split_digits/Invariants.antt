@@ -1,3 +1,4 @@
+-- The loop of `split_digits` in src/scan.rt.
 use Rattle.std.proofs.Common.{length, ◌-◌}
 use Rattle.tsp_number.proofs.Scanning.{HasRead}
 use Rattle.tsp_number.proofs.scan.split_digits.Given as goal

@@ -1,3 +1,4 @@
+-- The goals of `push_decimal` in src/spelling.rt: what it ensures.
 use Rattle.tsp_number.proofs.Spelled.{stands_for}
 use Rattle.tsp_number.proofs.spelling.push_decimal.Goals as goal
 

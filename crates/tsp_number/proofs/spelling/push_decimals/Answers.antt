@@ -1,3 +1,4 @@
+-- The goals of `push_decimals` in src/spelling.rt: what it ensures.
 use Rattle.std.proofs.Common.{arith, append_assoc}
 use Rattle.tsp_number.proofs.Spellings.{decimals-zeros, decimals-first, decimals-second, decimals-second_zeros}
 use Rattle.tsp_number.proofs.spelling.push_decimals.Goals as goal

@@ -1,3 +1,4 @@
+-- The goals of `push_last` in src/spelling.rt: what it ensures.
 use Rattle.std.proofs.Common.{arith, sym, append-nil}
 use Rattle.tsp_number.proofs.Spellings.{last_three, last_two, last_one, last_none}
 use Rattle.tsp_number.proofs.spelling.push_last.Goals as goal

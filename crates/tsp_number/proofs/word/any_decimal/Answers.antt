@@ -1,3 +1,4 @@
+-- The goals of `any_decimal` in src/word.rt: what it ensures.
 use Rattle.std.proofs.Common.{◌≡◌, ℤ, arith, rules, subst, ◌∙◌, FitsSigned, unsigned_abs, ◌≤◌}
 use Rattle.std.specs.Int.{w128}
 use Rattle.std.proofs.lemmas.Int.{to_z-of_z}

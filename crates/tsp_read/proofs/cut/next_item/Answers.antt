@@ -1,3 +1,4 @@
+-- The goals of `next_item` in src/cut.rt: what it ensures.
 use Rattle.tsp_read.proofs.NextSteps.{none_next, end_next, token_next, token_missing_next}
 use Rattle.tsp_read.proofs.Onwards.{end_follows, token_follows, token_short}
 use Rattle.tsp_read.proofs.cut.next_item.Goals as goal

@@ -1,3 +1,4 @@
+-- The loop of `feed_all` in src/input.rt.
 use Rattle.std.proofs.Common.{◌≡◌, ◌+◌, ◌-◌, ◌≤◌, false}
 use Rattle.tsp_format.specs.Limits.{most_file_bytes}
 use Rattle.tsp_stream.specs.states.Watched.{watched, has_failed}

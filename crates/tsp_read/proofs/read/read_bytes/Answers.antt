@@ -1,3 +1,4 @@
+-- The goals of `read_bytes` in src/read.rt: what it ensures.
 use Rattle.std.proofs.Common.{[], refl}
 use Rattle.tsp_read.proofs.InTime.{bytes_fault, bytes_memory}
 use Rattle.tsp_read.proofs.read.read_bytes.Goals as goal

@@ -1,3 +1,4 @@
+-- The goals of `read_from` in src/read.rt: what it ensures.
 use Rattle.tsp_stream.specs.states.Watched.{turn_of}
 use Rattle.tsp_read.proofs.InTime.{in_time, answer_of}
 use Rattle.tsp_read.proofs.read.read_from.Goals as goal

@@ -1,3 +1,4 @@
+-- The goals of `take_coordinate` in src/run.rt: what it ensures.
 use Rattle.std.proofs.Common.{refl}
 use Rattle.tsp_read.specs.states.Front.{front_word}
 use Rattle.tsp_read.proofs.RunSteps.{word_runs}

@@ -1,3 +1,4 @@
+-- The goals of `take_number` in src/run.rt: what it ensures.
 use Rattle.std.proofs.Common.{refl, rules, FitsSigned, w64}
 use Rattle.std.proofs.lemmas.Int.{to_z-of_z}
 use Rattle.tsp_text.specs.Numbers.{IsWhole}

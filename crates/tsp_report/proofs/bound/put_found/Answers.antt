@@ -1,3 +1,4 @@
+-- The goals of `put_found` in src/bound.rt: what it ensures.
 use Rattle.std.proofs.Common.{◌++◌, rules}
 use Rattle.std.specs.Prelude.{codes, FitsSigned}
 use Rattle.std.specs.Int.{w128}

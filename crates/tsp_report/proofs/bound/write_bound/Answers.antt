@@ -1,3 +1,4 @@
+-- The goals of `write_bound` in src/bound.rt: what it ensures.
 use Rattle.std.proofs.Common.{◌∙◌, sym}
 use Rattle.tsp_stream.specs.states.Way.{way_of}
 use Rattle.tsp_stream.proofs.Carrying.{text_stopped, text_written}

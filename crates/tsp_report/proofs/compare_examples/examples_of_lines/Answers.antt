@@ -1,3 +1,4 @@
+-- The goals of `examples_of_lines` in src/compare_examples.rt: what it ensures.
 use Rattle.std.proofs.Common.{refl}
 use Rattle.std.specs.Fmt.{digits}
 use Rattle.tsp_report.proofs.compare_examples.examples_of_lines.Goals as goal

@@ -1,3 +1,4 @@
+-- The goals of `write_line` in src/compared.rt: what it ensures.
 use Rattle.std.proofs.Common.{◌∙◌, ◌++◌, sym}
 use Rattle.std.specs.Prelude.{codes}
 use Rattle.tsp_stream.specs.states.Way.{way_of}

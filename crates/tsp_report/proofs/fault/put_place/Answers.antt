@@ -1,3 +1,4 @@
+-- The goals of `put_place` in src/fault.rt: what it ensures.
 use Rattle.std.proofs.Common.{◌++◌}
 use Rattle.std.specs.Prelude.{codes, decimal}
 use Rattle.tsp_text.specs.FaultText.{line_fault_text}

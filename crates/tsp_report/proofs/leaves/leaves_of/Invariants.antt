@@ -1,3 +1,4 @@
+-- The loop of `leaves_of` in src/leaves.rt.
 use Rattle.std.proofs.Common.{◌≡◌, ◌+◌, ◌≤◌, drop}
 use Rattle.tsp_format.specs.Steps.{leaf_count}
 use Rattle.tsp_format.specs.states.TreeSteps.{steps_of}

@@ -1,3 +1,4 @@
+-- The goals of `put_length` in src/reason.rt: what it ensures.
 use Rattle.std.proofs.Common.{rules}
 use Rattle.std.specs.Prelude.{FitsSigned}
 use Rattle.std.specs.Int.{w64}

@@ -1,3 +1,4 @@
+-- The goals of `put_reason` in src/reason.rt: what it ensures.
 use Rattle.std.proofs.Common.{◌++◌, Option, ℕ, subst}
 use Rattle.std.specs.Prelude.{ℤ}
 use Rattle.tsp_stream.specs.states.Way.{Carried, way_of}

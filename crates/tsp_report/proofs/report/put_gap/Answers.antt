@@ -1,3 +1,4 @@
+-- The goals of `put_gap` in src/report.rt: what it ensures.
 use Rattle.std.proofs.Common.{◌≡◌, ◌++◌, rules, false, arith}
 use Rattle.std.specs.Prelude.{codes, FitsSigned, pos}
 use Rattle.std.specs.Ordering.{int_eq}

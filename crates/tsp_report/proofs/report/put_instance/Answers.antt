@@ -1,3 +1,4 @@
+-- The goals of `put_instance` in src/report.rt: what it ensures.
 use Rattle.std.proofs.Common.{◌++◌, ◌∙◌, ap, subst, Option, ℕ, List}
 use Rattle.std.specs.Prelude.{unwrap_or}
 use Rattle.tsp_stream.specs.states.Way.{Carried, way_of}

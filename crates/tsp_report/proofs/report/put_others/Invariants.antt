@@ -1,3 +1,4 @@
+-- The loop of `put_others` in src/report.rt.
 use Rattle.std.proofs.Common.{take}
 use Rattle.std.specs.List.{flat_map}
 use Rattle.tsp_stream.specs.states.Way.{way_of, Carried}

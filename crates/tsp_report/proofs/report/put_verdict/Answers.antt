@@ -1,3 +1,4 @@
+-- The goals of `put_verdict` in src/report.rt: what it ensures.
 use Rattle.std.proofs.Common.{◌++◌, rules}
 use Rattle.std.specs.Prelude.{codes, decimal, FitsSigned}
 use Rattle.std.specs.Fmt.{signed_decimal}

@@ -1,3 +1,4 @@
+-- The goals of `put_combs` in src/shown.rt: what it ensures.
 use Rattle.std.proofs.Common.{◌++◌, length, ℕ, subst, sym, map}
 use Rattle.std.specs.Prelude.{codes}
 use Rattle.tsp_stream.specs.states.Way.{Carried, way_of}

@@ -1,3 +1,4 @@
+-- The goals of `put_costs` in src/shown.rt: what it ensures.
 use Rattle.std.proofs.Common.{◌++◌, ◌∙◌, ap, subst, Option, ℕ, List, rules}
 use Rattle.std.specs.Prelude.{ℤ, FitsSigned}
 use Rattle.std.specs.Int.{w64}

@@ -1,3 +1,4 @@
+-- The goals of `put_each_tour` in src/shown.rt: its loop and what it ensures.
 use Rattle.std.proofs.Common.{rules, map, arith}
 use Rattle.std.proofs.lemmas.List.{length-map}
 use Rattle.tsp_stream.specs.states.Way.{way_of}

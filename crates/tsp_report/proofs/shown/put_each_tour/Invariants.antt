@@ -1,3 +1,4 @@
+-- The loop of `put_each_tour` in src/shown.rt.
 use Rattle.std.proofs.Common.{take, map}
 use Rattle.std.specs.List.{flat_map, enumerate_from}
 use Rattle.tsp_stream.specs.states.Way.{way_of, Carried}

@@ -1,3 +1,4 @@
+-- The goals of `put_head` in src/shown.rt: what it ensures.
 use Rattle.std.proofs.Common.{◌++◌, subst, Option, ℕ, List, []}
 use Rattle.std.specs.Option.{option_map_or}
 use Rattle.tsp_stream.specs.states.Way.{Carried, way_of}

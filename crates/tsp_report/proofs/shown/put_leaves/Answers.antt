@@ -1,3 +1,4 @@
+-- The goals of `put_leaves` in src/shown.rt: what it ensures.
 use Rattle.std.proofs.Common.{◌++◌}
 use Rattle.std.specs.Prelude.{codes}
 use Rattle.tsp_stream.specs.states.Way.{way_of}

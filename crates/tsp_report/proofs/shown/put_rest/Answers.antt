@@ -1,3 +1,4 @@
+-- The goals of `put_rest` in src/shown.rt: what it ensures.
 use Rattle.std.proofs.Common.{ap, ◌∙◌, map}
 use Rattle.tsp_draft.specs.Fields.{Fields}
 use Rattle.tsp_stream.specs.states.Way.{way_of}

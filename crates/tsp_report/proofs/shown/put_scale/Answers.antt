@@ -1,3 +1,4 @@
+-- The goals of `put_scale` in src/shown.rt: what it ensures.
 use Rattle.std.proofs.Common.{◌++◌, rules}
 use Rattle.std.specs.Prelude.{codes, FitsSigned, unwrap_or, pos}
 use Rattle.tsp_stream.specs.states.Way.{way_of}

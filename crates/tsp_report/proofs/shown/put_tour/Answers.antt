@@ -1,3 +1,4 @@
+-- The goals of `put_tour` in src/shown.rt: what it ensures.
 use Rattle.std.proofs.Common.{◌++◌, length}
 use Rattle.std.specs.Prelude.{codes}
 use Rattle.std.specs.Fmt.{decimal}

@@ -1,3 +1,4 @@
+-- The goals of `put_tree` in src/shown.rt: what it ensures.
 use Rattle.std.proofs.Common.{◌≡◌, ◌++◌, subst, Option, ℕ, List, [], rules}
 use Rattle.std.specs.Prelude.{unwrap_or, ℤ}
 use Rattle.tsp_stream.specs.states.Way.{Carried, way_of}

@@ -1,3 +1,4 @@
+-- The goals of `put_weights` in src/shown.rt: what it ensures.
 use Rattle.std.proofs.Common.{◌++◌, []}
 use Rattle.std.specs.Prelude.{codes}
 use Rattle.std.specs.Option.{option_map_or}

@@ -1,3 +1,4 @@
+-- The goals of `write_shown` in src/shown.rt: what it ensures.
 use Rattle.std.proofs.Common.{◌++◌, ◌∙◌, sym, subst, append_assoc}
 use Rattle.tsp_stream.specs.states.Way.{way_of, Carried}
 use Rattle.tsp_stream.proofs.Carrying.{text_stopped, text_written}

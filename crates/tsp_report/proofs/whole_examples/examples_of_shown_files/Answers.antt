@@ -1,3 +1,4 @@
+-- The goals of `examples_of_shown_files` in src/whole_examples.rt: what it ensures.
 use Rattle.std.proofs.Common.{refl}
 use Rattle.std.specs.Fmt.{digits}
 use Rattle.tsp_file.specs.Cost.{cost, listed_cost}

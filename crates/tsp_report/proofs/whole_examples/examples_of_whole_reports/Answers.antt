@@ -1,3 +1,4 @@
+-- The goals of `examples_of_whole_reports` in src/whole_examples.rt: what it ensures.
 use Rattle.std.proofs.Common.{refl}
 use Rattle.std.specs.Fmt.{digits}
 use Rattle.tsp_report.proofs.whole_examples.examples_of_whole_reports.Goals as goal

@@ -1,3 +1,4 @@
+-- The goals of `explained_on_a_terminal` in src/laws.rt: what it ensures.
 use Rattle.std.proofs.Common.{◌≡◌, Bool, true, false, refl, ◌∙◌}
 use Rattle.std.specs.Prelude.{◌||◌}
 use Rattle.tsp_run.proofs.laws.explained_on_a_terminal.Goals as goal

@@ -1,3 +1,4 @@
+-- The goals of `run` in src/running.rt: what it ensures.
 use Rattle.std.proofs.Common.{◌≡◌, false, refl, sym, ◌∙◌, ap, subst, map, Err}
 use Rattle.std.proofs.KnownBytes.{Keeps-refl}
 use Rattle.clap.specs.Words.{kind_of}

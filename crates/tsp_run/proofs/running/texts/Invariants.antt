@@ -1,3 +1,4 @@
+-- The loop of `texts` in src/running.rt.
 use Rattle.std.proofs.Common.{◌≡◌, map, take}
 use Rattle.std.specs.String.{string_bytes}
 use Rattle.tsp_run.proofs.running.texts.Given as goal

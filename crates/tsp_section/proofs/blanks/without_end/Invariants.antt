@@ -1,3 +1,4 @@
+-- The loop of `without_end` in src/blanks.rt.
 use Rattle.std.proofs.Common.{◌≡◌, length}
 use Rattle.tsp_text.specs.Lines.{without_end}
 use Rattle.tsp_section.proofs.blanks.without_end.Given as goal

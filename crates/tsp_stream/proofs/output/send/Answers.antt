@@ -1,3 +1,4 @@
+-- The goals of `send` in src/output.rt: its loop and what it ensures.
 use Rattle.std.proofs.Common.{[], refl, ◌∙◌, arith}
 use Rattle.std.proofs.KnownBytes.{Appends-nil}
 use Rattle.tsp_stream.specs.states.Watched.{watched}

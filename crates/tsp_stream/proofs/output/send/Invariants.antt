@@ -1,3 +1,4 @@
+-- The loop of `send` in src/output.rt.
 use Rattle.std.proofs.Common.{◌≡◌, false, length}
 use Rattle.tsp_stream.specs.states.Watched.{watched, has_failed}
 use Rattle.tsp_stream.proofs.Sinks.{Sent}

@@ -1,3 +1,4 @@
+-- The goals of `examples_of_cycles` in src/cycle_examples.rt: what it ensures.
 use Rattle.std.proofs.Common.{arith, refl}
 use Rattle.tsp_theory.proofs.cycle_examples.examples_of_cycles.Goals as goal
 

@@ -1,3 +1,4 @@
+-- The goals of `cycles_are_permutations` in src/cycle_laws.rt: what it ensures.
 use Rattle.tsp_theory.proofs.CycleLinks.{cycle_permutation, sum_of_cycle}
 use Rattle.tsp_theory.proofs.cycle_laws.cycles_are_permutations.Goals as goal
 

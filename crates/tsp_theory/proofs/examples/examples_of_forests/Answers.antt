@@ -1,3 +1,4 @@
+-- The goals of `examples_of_forests` in src/examples.rt: what it ensures.
 use Rattle.std.proofs.Common.{◌≡◌, ◌==◌, false, [], ◌∷◌, inl, inr, rules, arith, refl, ◌∙◌}
 use Rattle.std.specs.Prelude.{◌≤ℤ◌}
 use Rattle.std.proofs.lemmas.Bool.{cases_Bool, both_ways}

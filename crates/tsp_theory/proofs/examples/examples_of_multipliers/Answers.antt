@@ -1,3 +1,4 @@
+-- The goals of `examples_of_multipliers` in src/examples.rt: what it ensures.
 use Rattle.std.proofs.Common.{rules, arith, refl, inl, inr, [], ◌∷◌}
 use Rattle.std.specs.Prelude.{pos}
 use Rattle.std.proofs.lemmas.List.Elements.{All-from_recursion}

@@ -1,3 +1,4 @@
+-- The goals of `examples_of_numbers` in src/examples.rt: what it ensures.
 use Rattle.std.proofs.Common.{arith}
 use Rattle.std.specs.Prelude.{pos, ◌≤ℤ◌}
 use Rattle.std.proofs.lemmas.Int.{ints}

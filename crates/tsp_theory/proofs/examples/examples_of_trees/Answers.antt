@@ -1,3 +1,4 @@
+-- The goals of `examples_of_trees` in src/examples.rt: what it ensures.
 use Rattle.std.proofs.Common.{◌==◌, rules, arith, refl}
 use Rattle.std.specs.Prelude.{pos, negsuc}
 use Rattle.std.specs.List.{list_any}

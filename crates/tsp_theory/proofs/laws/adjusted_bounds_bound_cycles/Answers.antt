@@ -1,3 +1,4 @@
+-- The goals of `adjusted_bounds_bound_cycles` in src/laws.rt: what it ensures.
 use Rattle.tsp_theory.proofs.CostLaws.{Laws}
 use Rattle.tsp_theory.proofs.Adjustments.{adjusted_bounds_bound_cycles, unadjusted_bounds_are_node_bounds}
 use Rattle.tsp_theory.proofs.laws.adjusted_bounds_bound_cycles.Goals as goal

@@ -1,3 +1,4 @@
+-- The goals of `bounds_are_unique` in src/laws.rt: what it ensures.
 use Rattle.tsp_theory.proofs.Duality.{one_bound, one_node_bound}
 use Rattle.tsp_theory.proofs.laws.bounds_are_unique.Goals as goal
 

@@ -1,3 +1,4 @@
+-- The goals of `duals_bound_cycles` in src/laws.rt: what it ensures.
 use Rattle.tsp_theory.proofs.CostLaws.{Laws}
 use Rattle.tsp_theory.proofs.Duality.{duals_bound_cycles}
 use Rattle.tsp_theory.proofs.laws.duals_bound_cycles.Goals as goal

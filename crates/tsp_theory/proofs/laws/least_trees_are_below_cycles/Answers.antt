@@ -1,3 +1,4 @@
+-- The goals of `least_trees_are_below_cycles` in src/laws.rt: what it ensures.
 use Rattle.tsp_theory.proofs.CostLaws.{Laws}
 use Rattle.tsp_theory.proofs.Cycles.{least_tree_below}
 use Rattle.tsp_theory.proofs.laws.least_trees_are_below_cycles.Goals as goal

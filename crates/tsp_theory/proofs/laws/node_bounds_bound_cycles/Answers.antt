@@ -1,3 +1,4 @@
+-- The goals of `node_bounds_bound_cycles` in src/laws.rt: what it ensures.
 use Rattle.tsp_theory.proofs.CostLaws.{Laws}
 use Rattle.tsp_theory.proofs.Cycles.{node_bounds_bound_cycles}
 use Rattle.tsp_theory.proofs.laws.node_bounds_bound_cycles.Goals as goal

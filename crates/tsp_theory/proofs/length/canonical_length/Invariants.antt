@@ -1,3 +1,4 @@
+-- The loop of `canonical_length` in src/length.rt.
 use Rattle.std.proofs.Common.{◌≡◌, ◌+◌, ◌-◌}
 use Rattle.std.specs.Prelude.{◌+ℤ◌}
 use Rattle.std.specs.List.{range_with_len}

@@ -1,3 +1,4 @@
+-- The goals of `tour_length` in src/length.rt: its loop and what its calls require.
 use Rattle.std.proofs.Common.{◌≤◌, List, ℕ, subst, arith, to_z, drop-cons, add-one}
 use Rattle.std.specs.Prelude.{ℤ, slice_index_or}
 use Rattle.std.specs.Int.{w64}

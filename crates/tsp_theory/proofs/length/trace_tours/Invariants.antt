@@ -1,3 +1,4 @@
+-- The loop of `trace_tours` in src/length.rt.
 use Rattle.std.proofs.Common.{◌≡◌, map, take}
 use Rattle.tsp_theory.specs.Length.{length_of}
 use Rattle.tsp_theory.proofs.length.trace_tours.Given as goal

@@ -1,3 +1,4 @@
+-- The loop of `bring` in src/growth.rt.
 use Rattle.tsp_theory.specs.states.Nearest.{least_at}
 use Rattle.tsp_tree.proofs.Outside.{IsPassed, FindsLeast}
 use Rattle.tsp_tree.proofs.growth.bring.Given as goal

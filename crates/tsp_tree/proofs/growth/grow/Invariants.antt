@@ -1,3 +1,4 @@
+-- The loop of `grow` in src/growth.rt.
 use Rattle.std.proofs.Common.{◌≡◌, ◌-◌, ◌*◌, ◌^◌, length, MatchOption}
 use Rattle.std.specs.Prelude.{pos, neg_ℤ}
 use Rattle.tsp_theory.specs.Numbers.{IsFromTo}

@@ -1,3 +1,4 @@
+-- The loop of `nodes_from_three` in src/growth.rt.
 use Rattle.std.proofs.Common.{◌≡◌, ◌+◌, length}
 use Rattle.tsp_tree.proofs.Outside.{AreCounted}
 use Rattle.tsp_tree.proofs.growth.nodes_from_three.Given as goal

@@ -1,3 +1,4 @@
+-- The goals of `nearest_two` in src/spokes.rt: its loop and what it ensures.
 use Rattle.std.proofs.Common.{◌-◌, ◌<◌, ◌≤◌, ℕ, length, arith, rules, FitsSigned}
 use Rattle.std.specs.Prelude.{ℤ, ◌≤ℤ◌, ◌<ℤ◌}
 use Rattle.std.specs.Int.{w64}

@@ -1,3 +1,4 @@
+-- The loop of `nearest_two` in src/spokes.rt.
 use Rattle.std.proofs.Common.{◌-◌, length}
 use Rattle.tsp_theory.specs.states.Nearest.{least_at}
 use Rattle.tsp_theory.proofs.TwoNearest.{AreNearestBefore}

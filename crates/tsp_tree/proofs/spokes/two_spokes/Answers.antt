@@ -1,3 +1,4 @@
+-- The goals of `two_spokes` in src/spokes.rt: what its calls require and what it ensures.
 use Rattle.std.proofs.Common.{◌≡◌, ◌∙◌, ◌-◌, ℕ, List, length, subst, arith}
 use Rattle.std.specs.Prelude.{ℤ}
 use Rattle.tsp_theory.specs.Growth.{AreNearest}

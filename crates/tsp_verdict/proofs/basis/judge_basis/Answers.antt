@@ -1,3 +1,4 @@
+-- The goals of `judge_basis` in src/basis.rt: what it ensures.
 use Rattle.tsp_verdict.proofs.basis.judge_basis.Goals as goal
 
 pub returns-in_ok-judge_bound-in-Some : goal.returns-in_ok-judge_bound-in-Some

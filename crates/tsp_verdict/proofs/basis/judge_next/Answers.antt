@@ -1,3 +1,4 @@
+-- The goals of `judge_next` in src/basis.rt: what it ensures.
 use Rattle.std.proofs.Common.{rules, subst}
 use Rattle.tsp_verdict.specs.states.Costs.{IsLengthOf}
 use Rattle.tsp_verdict.proofs.Bases.{IsOfTours, tour_rejected}

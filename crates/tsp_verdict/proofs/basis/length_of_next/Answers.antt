@@ -1,3 +1,4 @@
+-- The goals of `length_of_next` in src/basis.rt: what its calls require and what it ensures.
 use Rattle.std.proofs.Common.{◌≡◌, ℕ, true, Some, rules}
 use Rattle.tsp_draft.specs.Rules.{is_tours}
 use Rattle.tsp_file.specs.Meant.{nodes_of}

@@ -1,3 +1,4 @@
+-- The goals of `assignment_bound` in src/certificate.rt: what it ensures.
 use Rattle.std.proofs.Common.{◌∙◌, rules, FitsSigned}
 use Rattle.std.specs.Int.{w128}
 use Rattle.std.proofs.lemmas.Int.{to_z-of_z}

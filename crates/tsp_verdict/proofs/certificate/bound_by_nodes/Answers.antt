@@ -1,3 +1,4 @@
+-- The goals of `bound_by_nodes` in src/certificate.rt: what it ensures.
 use Rattle.std.proofs.Common.{◌≡◌, true, Some, subst, sym, rules, FitsSigned}
 use Rattle.std.specs.Prelude.{MatchOption}
 use Rattle.std.specs.Int.{w128}

@@ -1,3 +1,4 @@
+-- The goals of `first_against_multipliers` in src/certificate.rt: what it ensures.
 use Rattle.std.proofs.Common.{◌≡◌, false, subst}
 use Rattle.std.specs.Prelude.{MatchOption}
 use Rattle.std.specs.List.{AllPairs}

@@ -1,3 +1,4 @@
+-- The goals of `judge_with_claim` in src/certified.rt: what its calls require and what it ensures.
 use Rattle.std.proofs.Common.{rules, subst}
 use Rattle.std.specs.Int.{w64}
 use Rattle.std.specs.Prelude.{FitsSigned}

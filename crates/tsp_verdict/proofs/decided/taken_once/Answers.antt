@@ -1,3 +1,4 @@
+-- The goals of `taken_once` in src/decided.rt: its loop and what it ensures.
 use Rattle.std.proofs.Common.{◌≡◌, ◌∙◌, true, false, sym, subst, arith}
 use Rattle.std.specs.BTreeSet.{contains, Updates}
 use Rattle.std.specs.Prelude.{slice_index_or}

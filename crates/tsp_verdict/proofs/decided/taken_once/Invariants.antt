@@ -1,3 +1,4 @@
+-- The loop of `taken_once` in src/decided.rt.
 use Rattle.std.proofs.Common.{take}
 use Rattle.tsp_branch.specs.states.PairSets.{HasKeys}
 use Rattle.tsp_verdict.proofs.GivenPairs.{IsTakenSoFar}

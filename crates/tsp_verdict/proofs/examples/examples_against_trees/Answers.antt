@@ -1,3 +1,4 @@
+-- The goals of `examples_against_trees` in src/examples.rt: what it ensures.
 use Rattle.std.proofs.Common.{[], refl, inl, inr, arith, pos}
 use Rattle.std.proofs.lemmas.List.Elements.{All-nil}
 use Rattle.tsp_branch.specs.Families.{IsFamily}

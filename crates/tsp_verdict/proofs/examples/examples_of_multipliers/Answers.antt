@@ -1,3 +1,4 @@
+-- The goals of `examples_of_multipliers` in src/examples.rt: what it ensures.
 use Rattle.std.proofs.Common.{inl, inr, refl, arith, rules}
 use Rattle.tsp_verdict.proofs.examples.examples_of_multipliers.Goals as goal
 

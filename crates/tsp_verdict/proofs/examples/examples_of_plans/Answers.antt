@@ -1,3 +1,4 @@
+-- The goals of `examples_of_plans` in src/examples.rt: what it ensures.
 use Rattle.std.proofs.Common.{[], ◌∷◌, rules, arith, refl}
 use Rattle.std.specs.List.{Contains}
 use Rattle.tsp_verdict.proofs.SmallPlans.{customer}

@@ -1,3 +1,4 @@
+-- The goals of `solution_tours` in src/files.rt: what it ensures.
 use Rattle.std.proofs.Common.{Option, None, Some}
 use Rattle.std.specs.Prelude.{MatchOption}
 use Rattle.tsp_verdict.proofs.FilesHold.{tours_held, no_tours}

@@ -1,3 +1,4 @@
+-- The loop of `first_unused` in src/fixed.rt.
 use Rattle.std.proofs.Common.{◌≡◌, ◌<◌, ℕ, List}
 use Rattle.std.specs.Prelude.{slice_index_or}
 use Rattle.tsp_theory.specs.Tour.{Uses}

@@ -1,3 +1,4 @@
+-- The goals of `next_nodes` in src/fixed.rt: that indices are in range, its loop and what it ensures.
 use Rattle.std.proofs.Common.{◌≡◌, ◌+◌, ◌∷◌, [], ◌++◌, List, ℕ, suc, length, get_or, set, sym, ap, subst, ◌∙◌, arith}
 use Rattle.std.specs.Prelude.{vec_len}
 use Rattle.tsp_theory.specs.Cycle.{IsCycle}

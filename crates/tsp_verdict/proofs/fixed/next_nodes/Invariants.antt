@@ -1,3 +1,4 @@
+-- The loop of `next_nodes` in src/fixed.rt.
 use Rattle.std.proofs.Common.{◌≡◌, ◌+◌, ◌∷◌, [], ◌++◌, get_or}
 use Rattle.std.specs.Prelude.{vec_len}
 use Rattle.tsp_verdict.proofs.Links.{SetUpTo}

@@ -1,3 +1,4 @@
+-- The loop of `plan_length` in src/lengths.rt.
 use Rattle.std.proofs.Common.{◌≡◌, ◌+◌, length, take, drop, map}
 use Rattle.std.specs.Prelude.{◌+ℤ◌}
 use Rattle.tsp_file.specs.Cost.{cost}

@@ -1,3 +1,4 @@
+-- The loop of `route_length` in src/lengths.rt.
 use Rattle.std.proofs.Common.{◌≡◌, drop}
 use Rattle.std.specs.Prelude.{◌+ℤ◌}
 use Rattle.tsp_format.specs.Cells.{IsNode}

@@ -1,3 +1,4 @@
+-- The loop of `first_overload` in src/loads.rt.
 use Rattle.std.proofs.Common.{◌≡◌, ◌<◌, ℕ, List, map}
 use Rattle.std.specs.Prelude.{slice_index_or, ◌≤ℤ◌}
 use Rattle.tsp_verdict.specs.Plan.{load_of}

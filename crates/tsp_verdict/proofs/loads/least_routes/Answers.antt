@@ -1,3 +1,4 @@
+-- The goals of `least_routes` in src/loads.rt: what it ensures.
 use Rattle.std.proofs.Common.{◌+◌, ◌-◌, ◌/◌, rules, subst}
 use Rattle.std.specs.Prelude.{FitsSigned, nat_abs, ℤ}
 use Rattle.std.specs.Int.{w64}

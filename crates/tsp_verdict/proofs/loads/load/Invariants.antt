@@ -1,3 +1,4 @@
+-- The loop of `load` in src/loads.rt.
 use Rattle.std.proofs.Common.{◌≡◌, drop}
 use Rattle.std.specs.Prelude.{◌+ℤ◌}
 use Rattle.tsp_verdict.specs.Plan.{load_of}

@@ -1,3 +1,4 @@
+-- The loop of `first_outside` in src/multiplied.rt.
 use Rattle.std.proofs.Common.{◌≡◌, ◌<◌, ℕ, true}
 use Rattle.std.specs.Prelude.{slice_index_or, ℤ}
 use Rattle.std.specs.BTreeSet.{contains}

@@ -1,3 +1,4 @@
+-- The goals of `first_repeated_pair` in src/multiplied.rt: its loop and what it ensures.
 use Rattle.std.proofs.Common.{◌≡◌, ◌+◌, false, true, sym, subst, ◌∙◌, arith}
 use Rattle.std.specs.BTreeSet.{contains, Updates}
 use Rattle.std.specs.Prelude.{pos, slice_index_or}

@@ -1,3 +1,4 @@
+-- The loop of `first_repeated_pair` in src/multiplied.rt.
 use Rattle.std.proofs.Common.{◌≡◌, ◌<◌, ℕ, false, take}
 use Rattle.std.specs.Prelude.{slice_index_or, pos}
 use Rattle.tsp_theory.specs.Adjusted.{pair_of, is_same_pair}

@@ -1,3 +1,4 @@
+-- The goals of `set_of` in src/multiplied.rt: its loop and what it ensures.
 use Rattle.std.proofs.Common.{true, subst, arith}
 use Rattle.std.specs.BTreeSet.{Updates}
 use Rattle.std.proofs.lemmas.List.{take_all}

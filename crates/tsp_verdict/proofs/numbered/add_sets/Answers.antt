@@ -1,3 +1,4 @@
+-- The goals of `add_sets` in src/numbered.rt: its loop and what it ensures.
 use Rattle.std.proofs.Common.{◌∙◌, arith}
 use Rattle.tsp_verdict.proofs.NumberedSets.{added_more, added_all}
 use Rattle.tsp_verdict.proofs.numbered.add_sets.Goals as goal

@@ -1,3 +1,4 @@
+-- The loop of `add_sets` in src/numbered.rt.
 use Rattle.std.proofs.Common.{take}
 use Rattle.tsp_verdict.proofs.NumberedSets.{IsAdded}
 use Rattle.tsp_verdict.proofs.numbered.add_sets.Given as goal

@@ -1,3 +1,4 @@
+-- The loop of `numbered_sets` in src/numbered.rt.
 use Rattle.std.proofs.Common.{◌≡◌, drop}
 use Rattle.tsp_verdict.proofs.NumberedSets.{IsNumbered}
 use Rattle.tsp_verdict.proofs.numbered.numbered_sets.Given as goal

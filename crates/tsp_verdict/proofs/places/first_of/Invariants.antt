@@ -1,3 +1,4 @@
+-- The loop of `first_of` in src/places.rt.
 use Rattle.std.proofs.Common.{◌≡◌, ◌≢◌, ◌<◌, ℕ}
 use Rattle.std.specs.Prelude.{slice_index_or}
 use Rattle.tsp_verdict.proofs.places.first_of.Given as goal

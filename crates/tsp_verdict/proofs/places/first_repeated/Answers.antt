@@ -1,3 +1,4 @@
+-- The goals of `first_repeated` in src/places.rt: what it ensures.
 use Rattle.std.proofs.Common.{◌≡◌, ◌+◌, ℕ, Bool, false, List, replicate, sym, subst, rules}
 use Rattle.tsp_verdict.specs.states.Marks.{Marked}
 use Rattle.tsp_verdict.proofs.MarkedNodes.{none_marked, stands_whole, found_whole}

@@ -1,3 +1,4 @@
+-- The goals of `mark` in src/places.rt: that indices are in range, its loop and what it ensures.
 use Rattle.std.proofs.Common.{◌≡◌, ◌<◌, ◌+◌, ℕ, true, false, length, get_or, sym, subst, arith}
 use Rattle.tsp_verdict.specs.Places.{IsFirstPlace, IsRepeated}
 use Rattle.tsp_verdict.proofs.MarkedNodes.{mark_next, repeated_next, mark_is}

@@ -1,3 +1,4 @@
+-- The loop of `mark` in src/places.rt.
 use Rattle.std.proofs.Common.{◌≡◌, ◌+◌, ℕ, List}
 use Rattle.std.specs.Prelude.{vec_len}
 use Rattle.tsp_verdict.specs.states.Marks.{Marked, StandsAfter}

@@ -1,3 +1,4 @@
+-- The goals of `judge_routes` in src/routes.rt: what it ensures.
 use Rattle.std.proofs.Common.{◌≡◌, ◌+◌, Bool, List, map, length, sym, arith, rules}
 use Rattle.std.specs.Prelude.{FitsSigned, vec_len}
 use Rattle.std.specs.Int.{w64}

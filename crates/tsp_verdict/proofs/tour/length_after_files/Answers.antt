@@ -1,3 +1,4 @@
+-- The goals of `length_after_files` in src/tour.rt: what it ensures.
 use Rattle.std.proofs.Common.{◌≡◌, List, ℕ, ◌≤◌, refl, sym, ap, subst, ◌∙◌, rules}
 use Rattle.std.specs.Prelude.{FitsSigned}
 use Rattle.std.specs.Int.{w64}

@@ -1,3 +1,4 @@
+-- The goals of `the_tour` in src/tour.rt: what it ensures.
 use Rattle.std.proofs.Common.{◌≡◌, List, ℕ, ◌∷◌, [], length, sym, ap, ◌∙◌, arith}
 use Rattle.tsp_file.specs.Meant.{nodes_of}
 use Rattle.tsp_verdict.specs.Solution.{tours_of}

@@ -1,3 +1,4 @@
+-- The goals of `judge_tree` in src/tree.rt: that no sum overflows, what its calls require and what it ensures.
 use Rattle.std.proofs.Common.{◌≡◌, ◌∙◌, ℕ, ℤ, length, ap, subst, arith, rules, FitsSigned, to_z, of_z}
 use Rattle.std.specs.Int.{w64, w128}
 use Rattle.std.specs.Prelude.{Option, None, Some, unwrap_or}

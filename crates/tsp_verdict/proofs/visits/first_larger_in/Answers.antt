@@ -1,3 +1,4 @@
+-- The goals of `first_larger_in` in src/visits.rt: that no sum overflows, its loop and what it ensures.
 use Rattle.std.proofs.Common.{◌<◌, ◌≤◌, ℕ, List, arith}
 use Rattle.tsp_verdict.specs.states.Marks.{StandsAfter}
 use Rattle.tsp_verdict.specs.states.Routes.{nodes_in}

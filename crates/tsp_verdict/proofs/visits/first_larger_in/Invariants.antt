@@ -1,3 +1,4 @@
+-- The loop of `first_larger_in` in src/visits.rt.
 use Rattle.std.proofs.Common.{◌≡◌, ◌≤◌, ◌<◌, ℕ, length, take}
 use Rattle.std.specs.Prelude.{slice_index_or}
 use Rattle.tsp_verdict.specs.states.Routes.{nodes_in}

@@ -1,3 +1,4 @@
+-- The loop of `first_unmarked` in src/visits.rt.
 use Rattle.std.proofs.Common.{◌≡◌, ◌≢◌, ◌≤◌, ◌<◌, ℕ, true, false}
 use Rattle.std.specs.Prelude.{slice_index_or}
 use Rattle.tsp_verdict.proofs.visits.first_unmarked.Given as goal

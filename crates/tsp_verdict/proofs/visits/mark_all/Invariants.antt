@@ -1,3 +1,4 @@
+-- The loop of `mark_all` in src/visits.rt.
 use Rattle.std.proofs.Common.{◌≡◌, length, take}
 use Rattle.std.specs.Prelude.{vec_len}
 use Rattle.tsp_verdict.specs.states.Marks.{Marked}

@@ -1,0 +1,1 @@
+-- The goals of `ByNode::between` in src/by_node.rt.

@@ -1,3 +1,4 @@
+-- The goals of `Labelled::new` in src/labelled.rt: the invariants of its types.
 use Rattle.std.proofs.Common.{◌≡◌, ◌<◌, ℕ, true, length, arith, sym, subst}
 use Rattle.tsp_bound.specs.states.Components.{AreTags}
 use Rattle.tsp_bound.proofs.labelled.Labelled.new.Goals as goal

@@ -1,3 +1,4 @@
+-- The goals of `Placed::lowered` in src/placed.rt: that no sum overflows, its loop and what it ensures.
 use Rattle.std.proofs.Common.{◌≡◌, ◌≤ℤ◌, ◌∙◌, ℕ, ℤ, arith, ap, sym, subst, w64, to_z, of_z, FitsSigned}
 use Rattle.std.specs.Prelude.{pos, ◌-ℤ◌, slice_index_or}
 use Rattle.std.proofs.lemmas.Bool.{false≢true}

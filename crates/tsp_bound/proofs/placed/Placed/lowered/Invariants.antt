@@ -1,3 +1,4 @@
+-- The loop of `Placed::lowered` in src/placed.rt.
 use Rattle.tsp_bound.specs.states.Multipliers.{triples_in, weight_less}
 use Rattle.tsp_bound.specs.states.Potentials.{weight_under}
 use Rattle.tsp_bound.proofs.Lowest.{IsLowest}

@@ -1,3 +1,4 @@
+-- The goals of `Placed::nearest` in src/placed.rt: what its calls require and what it ensures.
 use Rattle.std.proofs.Common.{◌≢◌, pos, rules, ap, w64, to_z, of_z, SFits}
 use Rattle.std.proofs.lemmas.Int.{to_z-of_z}
 use Rattle.tsp_bound.specs.states.Multipliers.{triples_in, weight_less}

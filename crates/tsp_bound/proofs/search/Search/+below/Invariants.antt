@@ -1,3 +1,4 @@
+-- The loop of `Search::+below` in src/search.rt.
 use Rattle.std.proofs.Common.{◌-◌, ◌*◌, length}
 use Rattle.tsp_bound.proofs.search.Search.+below.Given as goal
 

@@ -1,3 +1,4 @@
+-- The goals of `Search::is_left_alone` in src/search.rt: what it ensures.
 use Rattle.std.proofs.Common.{ℤ, length, Option, Some, ◌≡◌, ◌≤ℤ◌, ◌-◌, ◌<◌, pos, neg_ℤ, rules, sym, arith, w64, SFits, subst}
 use Rattle.std.proofs.lemmas.Int.{to_z-of_z}
 use Rattle.tsp_format.specs.Limits.{most_potential}

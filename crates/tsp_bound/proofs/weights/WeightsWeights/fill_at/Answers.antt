@@ -1,3 +1,4 @@
+-- The goals of `WeightsWeights::fill_at` in src/weights.rt: what it ensures.
 use Rattle.std.proofs.Common.{◌≡◌, ◌<◌, length, slice_index, ℕ, arith}
 use Rattle.std.specs.Prelude.{◌<ℤ◌}
 use Rattle.std.proofs.lemmas.Int.{ints}

@@ -1,3 +1,4 @@
+-- The loop of `CombedWeights::fill_apart_at` in src/combed.rt.
 use Rattle.std.proofs.Common.{◌<◌, ℕ, length, slice_index}
 use Rattle.tsp_theory.specs.states.Nearest.{least_at}
 use Rattle.tsp_branch.specs.states.Combed.{IsApart, plain}

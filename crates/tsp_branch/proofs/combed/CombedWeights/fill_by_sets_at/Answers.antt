@@ -1,3 +1,4 @@
+-- The goals of `CombedWeights::fill_by_sets_at` in src/combed.rt: what its calls require and what it ensures.
 use Rattle.std.proofs.Common.{◌≡◌, ◌<◌, ℕ, ℤ, List, length, slice_index, arith, sym, subst, ◌∙◌}
 use Rattle.std.specs.Prelude.{pos, neg_ℤ}
 use Rattle.std.specs.List.{All}

@@ -1,3 +1,4 @@
+-- The goals of `CombedWeights::weight_apart` in src/combed.rt: that no sum overflows and what it ensures.
 use Rattle.std.proofs.Common.{◌≡◌, ◌-◌, ◌*◌, ℕ, ℤ, arith, rules, subst, inr, ap, ap₂, ◌∙◌, to_z, of_z, FitsSigned}
 use Rattle.std.specs.Int.{w64, int_wrap}
 use Rattle.std.specs.Prelude.{pos, neg_ℤ, ◌+ℤ◌, ◌*ℤ◌}

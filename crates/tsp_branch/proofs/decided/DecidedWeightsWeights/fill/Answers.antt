@@ -1,3 +1,4 @@
+-- The goals of `DecidedWeightsWeights::fill` in src/decided.rt: what it ensures.
 use Rattle.std.proofs.Common.{◌≡◌, ◌∙◌, ℕ, ℤ, Bool, List, arith, sym, subst}
 use Rattle.std.specs.Prelude.{◌+ℤ◌, pos, neg_ℤ, ◌<ℤ◌}
 use Rattle.std.specs.List.{filter}

@@ -1,3 +1,4 @@
+-- The goals of `KeptRows::bring_to` in src/kept.rt: what its calls require and what it ensures.
 use Rattle.std.proofs.Common.{◌≡◌, ◌∙◌, ◌<◌, ◌≤◌, ◌+◌, ℕ, ℤ, List, length, slice_index_or, ap, sym, subst, arith}
 use Rattle.std.specs.Global.{Vec}
 use Rattle.std.specs.Prelude.{neg_ℤ}

@@ -1,3 +1,4 @@
+-- The goals of `KeptRows::new` in src/kept.rt: what it ensures.
 use Rattle.std.proofs.Common.{◌≡◌, ◌∙◌, ◌+◌, arith, ℤ, List, replicate, length, ap, sym, subst}
 use Rattle.std.specs.Prelude.{pos}
 use Rattle.std.proofs.lemmas.List.{length-replicate}

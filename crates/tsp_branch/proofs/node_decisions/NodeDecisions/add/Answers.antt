@@ -1,3 +1,4 @@
+-- The goals of `NodeDecisions::add` in src/node_decisions.rt: what it ensures.
 use Rattle.std.proofs.Common.{◌∙◌, ◌∷◌, inl, inr, refl, sym, ap}
 use Rattle.tsp_branch.specs.declared.decision.Decision.{Decision}
 use Rattle.tsp_branch.specs.states.Decided.{stack_of}

@@ -1,3 +1,4 @@
+-- The goals of `NodeDecisions::drop_last` in src/node_decisions.rt: what it ensures.
 use Rattle.std.proofs.Common.{◌∙◌, ◌-◌, ◌≡◌, length, inl, inr, refl, sym, ap, arith}
 use Rattle.tsp_branch.specs.declared.decision.Decision.{Decision}
 use Rattle.tsp_branch.specs.states.Decided.{stack_of}

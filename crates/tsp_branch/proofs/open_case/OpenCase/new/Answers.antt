@@ -1,3 +1,4 @@
+-- The goals of `OpenCase::new` in src/open_case.rt: its loop.
 use Rattle.std.proofs.Common.{◌≡◌, ◌∙◌, ◌+◌, ◌-◌, ◌<◌, ℕ, List, ◌∷◌, false, drop, get_or, length, ap, sym, subst, arith, drop-cons, add-one}
 use Rattle.tsp_branch.specs.declared.decision.Decision.{Decision}
 use Rattle.tsp_branch.specs.states.OpenCases.{AreByNode}

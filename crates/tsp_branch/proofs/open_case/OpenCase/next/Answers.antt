@@ -1,3 +1,4 @@
+-- The goals of `OpenCase::next` in src/open_case.rt: its loop, what its calls require and what it ensures.
 use Rattle.std.proofs.Common.{◌∙◌, ◌∷◌, [], List, false, length, refl, ap, subst, arith, length-append}
 use Rattle.std.proofs.lemmas.List.{append-nil}
 use Rattle.tsp_branch.specs.declared.decision.Decision.{Decision}

@@ -1,3 +1,4 @@
+-- The loop of `OpenCase::next` in src/open_case.rt.
 use Rattle.std.proofs.Common.{◌≡◌, ◌≤◌, ℕ, length}
 use Rattle.tsp_branch.specs.Cases.{next_stack}
 use Rattle.tsp_branch.specs.states.Decided.{stack_of}

@@ -1,3 +1,4 @@
+-- The goals of `OpenCase::take` in src/open_case.rt: what it ensures.
 use Rattle.std.proofs.Common.{true, refl}
 use Rattle.tsp_branch.specs.states.OpenCases.{decisions_in}
 use Rattle.tsp_branch.proofs.OpenCases.{case_more}

@@ -1,3 +1,4 @@
+-- The goals of `Setting::case_bound` in src/setting.rt: what its calls require.
 use Rattle.std.proofs.Common.{Bool, subst}
 use Rattle.tsp_branch.specs.Decisions.{DecideOnce}
 use Rattle.tsp_branch.specs.states.OpenCases.{decisions_in}

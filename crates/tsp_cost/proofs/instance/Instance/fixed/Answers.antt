@@ -1,3 +1,4 @@
+-- The goals of `Instance::fixed` in src/instance.rt: what it ensures.
 use Rattle.std.proofs.Common.{◌≡◌, ℕ, List, Some, sym, ap, subst, ◌∙◌}
 use Rattle.tsp_draft.specs.Fields.{Fields}
 use Rattle.tsp_draft.specs.Valid.{AreFixed}

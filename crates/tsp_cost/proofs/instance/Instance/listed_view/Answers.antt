@@ -1,3 +1,4 @@
+-- The goals of `Instance::listed_view` in src/instance.rt: what its calls require and what it ensures.
 use Rattle.std.proofs.Common.{Some, ap, sym, subst, ◌∙◌}
 use Rattle.std.specs.Option.{option_map}
 use Rattle.tsp_format.specs.declared.layout.Layout.TheVariants.{FullMatrix}

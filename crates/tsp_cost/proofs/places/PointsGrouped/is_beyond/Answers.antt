@@ -1,3 +1,4 @@
+-- The goals of `PointsGrouped::is_beyond` in src/places.rt: what it ensures.
 use Rattle.std.proofs.Common.{ℤ, ◌≤ℤ◌, subst, w64}
 use Rattle.std.proofs.lemmas.Int.{to_z-of_z}
 use Rattle.tsp_distance.specs.declared.decimal.Point.{Point}

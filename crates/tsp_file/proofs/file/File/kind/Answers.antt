@@ -1,3 +1,4 @@
+-- The goals of `File::kind` in src/file.rt.
 use Rattle.tsp_draft.proofs.ValidFields.{has_kind}
 use Rattle.tsp_draft.specs.states.Drafts.{fields_of}
 use Rattle.tsp_file.proofs.file.File.kind.Goals as goal

@@ -1,3 +1,4 @@
+-- The goals of `File::with_half` in src/file.rt: what its calls require, what it ensures and the invariants of its types.
 use Rattle.std.proofs.Common.{◌≡◌, ℕ, List, Some, None, sym, ap, subst, ◌∙◌}
 use Rattle.std.specs.Prelude.{is_some, ℤ}
 use Rattle.std.specs.Option.{option_map}

@@ -1,3 +1,4 @@
+-- The goals of `File::with_weights` in src/file.rt: the invariants of its types.
 use Rattle.std.proofs.Common.{◌≡◌, None, sym, subst}
 use Rattle.tsp_draft.specs.Fields.{Fields}
 use Rattle.tsp_draft.specs.Rules.{fault_of}

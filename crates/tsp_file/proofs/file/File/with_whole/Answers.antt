@@ -1,3 +1,4 @@
+-- The goals of `File::with_whole` in src/file.rt: what its calls require, what it ensures and the invariants of its types.
 use Rattle.std.proofs.Common.{◌≡◌, rules, false, Result, Ok, Err, Some, sym, ap, subst, ◌∙◌}
 use Rattle.std.specs.Prelude.{OnOk, is_some}
 use Rattle.std.specs.Option.{option_map}

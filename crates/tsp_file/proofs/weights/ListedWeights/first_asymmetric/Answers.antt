@@ -1,3 +1,4 @@
+-- The goals of `ListedWeights::first_asymmetric` in src/weights.rt: what it ensures.
 use Rattle.tsp_file.proofs.Listed.{even_between_nodes}
 use Rattle.tsp_file.proofs.Relaid.{outside}
 use Rattle.tsp_file.proofs.weights.ListedWeights.first_asymmetric.Goals as goal

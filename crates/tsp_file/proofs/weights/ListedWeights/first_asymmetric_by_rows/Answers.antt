@@ -1,3 +1,4 @@
+-- The goals of `ListedWeights::first_asymmetric_by_rows` in src/weights.rt: what it ensures.
 use Rattle.std.proofs.Common.{◌<◌, arith}
 use Rattle.tsp_file.proofs.Listed.{even_between_nodes}
 use Rattle.tsp_file.proofs.Relaid.{outside}

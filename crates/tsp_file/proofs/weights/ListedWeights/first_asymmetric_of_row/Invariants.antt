@@ -1,3 +1,4 @@
+-- The loop of `ListedWeights::first_asymmetric_of_row` in src/weights.rt.
 use Rattle.std.proofs.Common.{◌≡◌, ℕ, ◌<◌}
 use Rattle.tsp_file.specs.states.Weights.{costs_of}
 use Rattle.tsp_file.proofs.weights.ListedWeights.first_asymmetric_of_row.Given as goal

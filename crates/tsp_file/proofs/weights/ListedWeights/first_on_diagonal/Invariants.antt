@@ -1,3 +1,4 @@
+-- The loop of `ListedWeights::first_on_diagonal` in src/weights.rt.
 use Rattle.std.proofs.Common.{◌≡◌, ℕ, ◌<◌}
 use Rattle.std.specs.Prelude.{pos}
 use Rattle.tsp_format.specs.Cells.{IsNode}

@@ -1,3 +1,4 @@
+-- The loop of `ListedWeights::is_symmetric` in src/weights.rt.
 use Rattle.std.proofs.Common.{◌≡◌, ℕ, ◌<◌, ◌≤◌, ◌*◌}
 use Rattle.tsp_format.specs.Cells.{IsNode}
 use Rattle.tsp_file.specs.states.Weights.{costs_of}

@@ -1,3 +1,4 @@
+-- The goals of `ListedWeights::laid_out` in src/weights.rt: its loop and what it ensures.
 use Rattle.std.proofs.Common.{sym, subst, arith}
 use Rattle.std.specs.List.{All}
 use Rattle.tsp_format.specs.Limits.{most_weight}

@@ -1,3 +1,4 @@
+-- The loop of `ListedWeights::laid_out` in src/weights.rt.
 use Rattle.std.proofs.Common.{◌≡◌, ◌-◌, map, take}
 use Rattle.std.specs.List.{flat_map}
 use Rattle.tsp_format.specs.Cells.{nodes_to, cells_of_line}

@@ -1,3 +1,4 @@
+-- The goals of `put_eight` in src/writer/digits.rt: what it ensures.
 use Rattle.tsp_file.proofs.Digits.{eight_digits}
 use Rattle.tsp_file.proofs.writer.digits.put_eight.Goals as goal
 

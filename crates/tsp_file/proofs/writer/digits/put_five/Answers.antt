@@ -1,3 +1,4 @@
+-- The goals of `put_five` in src/writer/digits.rt: what it ensures.
 use Rattle.tsp_file.proofs.Digits.{five_digits}
 use Rattle.tsp_file.proofs.writer.digits.put_five.Goals as goal
 

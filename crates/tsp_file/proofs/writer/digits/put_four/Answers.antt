@@ -1,3 +1,4 @@
+-- The goals of `put_four` in src/writer/digits.rt: what it ensures.
 use Rattle.tsp_file.proofs.Digits.{four_digits}
 use Rattle.tsp_file.proofs.writer.digits.put_four.Goals as goal
 

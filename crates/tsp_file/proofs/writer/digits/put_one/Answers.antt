@@ -1,3 +1,4 @@
+-- The goals of `put_one` in src/writer/digits.rt: what it ensures.
 use Rattle.tsp_file.proofs.Digits.{one_digit}
 use Rattle.tsp_file.proofs.writer.digits.put_one.Goals as goal
 

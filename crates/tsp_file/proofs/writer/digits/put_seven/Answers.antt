@@ -1,3 +1,4 @@
+-- The goals of `put_seven` in src/writer/digits.rt: what it ensures.
 use Rattle.tsp_file.proofs.Digits.{seven_digits}
 use Rattle.tsp_file.proofs.writer.digits.put_seven.Goals as goal
 

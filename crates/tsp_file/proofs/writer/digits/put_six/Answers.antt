@@ -1,3 +1,4 @@
+-- The goals of `put_six` in src/writer/digits.rt: what it ensures.
 use Rattle.tsp_file.proofs.Digits.{six_digits}
 use Rattle.tsp_file.proofs.writer.digits.put_six.Goals as goal
 

@@ -1,3 +1,4 @@
+-- The goals of `put_three` in src/writer/digits.rt: what it ensures.
 use Rattle.tsp_file.proofs.Digits.{three_digits}
 use Rattle.tsp_file.proofs.writer.digits.put_three.Goals as goal
 

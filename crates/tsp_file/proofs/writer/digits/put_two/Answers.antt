@@ -1,3 +1,4 @@
+-- The goals of `put_two` in src/writer/digits.rt: what it ensures.
 use Rattle.tsp_file.proofs.Digits.{two_digits}
 use Rattle.tsp_file.proofs.writer.digits.put_two.Goals as goal
 

@@ -1,3 +1,4 @@
+-- The goals of `put_comments` in src/writer/keywords.rt: its loop and what it ensures.
 use Rattle.std.proofs.Common.{arith}
 use Rattle.tsp_format.specs.declared.field.Field.TheVariants.{CommentKey}
 use Rattle.tsp_file.specs.Text.{keyword_line}

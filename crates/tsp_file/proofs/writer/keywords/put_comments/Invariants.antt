@@ -1,3 +1,4 @@
+-- The loop of `put_comments` in src/writer/keywords.rt.
 use Rattle.std.proofs.Common.{take}
 use Rattle.std.specs.List.{flat_map}
 use Rattle.tsp_format.specs.declared.field.Field.TheVariants.{CommentKey}

@@ -1,3 +1,4 @@
+-- The goals of `put_others` in src/writer/keywords.rt: its loop and what it ensures.
 use Rattle.std.proofs.Common.{arith}
 use Rattle.tsp_file.specs.Text.{other_line, value_line}
 use Rattle.tsp_stream.specs.states.Way.{way_of}

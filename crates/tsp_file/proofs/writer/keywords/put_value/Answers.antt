@@ -1,3 +1,4 @@
+-- The goals of `put_value` in src/writer/keywords.rt: what it ensures.
 use Rattle.std.proofs.Common.{[], ◌∷◌, ◌++◌, sym, ◌∙◌}
 use Rattle.std.specs.Prelude.{codes}
 use Rattle.tsp_stream.specs.states.Way.{Carried, way_of}

@@ -1,3 +1,4 @@
+-- The goals of `put_lines` in src/writer/matrix.rt: its loop and what it ensures.
 use Rattle.std.proofs.Common.{◌≡◌, ◌∙◌, sym, length, map, min, arith}
 use Rattle.tsp_format.specs.Cells.{nodes_to, cells_of_line}
 use Rattle.tsp_file.specs.Text.{matrix_lines}

@@ -1,3 +1,4 @@
+-- The loop of `put_lines` in src/writer/matrix.rt.
 use Rattle.std.proofs.Common.{◌+◌, ◌-◌, length, map}
 use Rattle.tsp_format.specs.Cells.{nodes_to, cells_of_line}
 use Rattle.tsp_file.specs.Text.{matrix_lines}

@@ -1,3 +1,4 @@
+-- The goals of `put_more_weights` in src/writer/matrix.rt: its loop and what it ensures.
 use Rattle.std.proofs.Common.{List, ℕ, ◌∷◌, arith, rules, get_or}
 use Rattle.std.specs.Prelude.{ℤ, pos, FitsSigned}
 use Rattle.std.specs.Int.{w64}

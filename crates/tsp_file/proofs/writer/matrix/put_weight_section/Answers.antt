@@ -1,3 +1,4 @@
+-- The goals of `put_weight_section` in src/writer/matrix.rt: what it ensures.
 use Rattle.std.proofs.Common.{append_assoc}
 use Rattle.tsp_file.proofs.writer.matrix.put_weight_section.Goals as goal
 

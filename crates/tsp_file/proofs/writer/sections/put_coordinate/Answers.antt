@@ -1,3 +1,4 @@
+-- The goals of `put_coordinate` in src/writer/sections.rt: what it ensures.
 use Rattle.std.proofs.Common.{[], ◌∷◌, refl}
 use Rattle.tsp_number.specs.Spelling.{spelling}
 use Rattle.tsp_stream.specs.states.Way.{way_of}

@@ -1,3 +1,4 @@
+-- The goals of `put_nodes` in src/writer/sections.rt: its loop and what it ensures.
 use Rattle.std.proofs.Common.{ℕ, []}
 use Rattle.std.specs.Prelude.{codes}
 use Rattle.std.specs.List.{flat_map}

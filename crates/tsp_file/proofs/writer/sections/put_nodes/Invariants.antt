@@ -1,3 +1,4 @@
+-- The loop of `put_nodes` in src/writer/sections.rt.
 use Rattle.std.proofs.Common.{[], take}
 use Rattle.std.specs.List.{flat_map}
 use Rattle.std.specs.Fmt.{decimal}

@@ -1,3 +1,4 @@
+-- The goals of `put_numbers` in src/writer/sections.rt: its loop and what it ensures.
 use Rattle.std.proofs.Common.{ℕ, arith, rules, get_or}
 use Rattle.std.specs.Prelude.{ℤ, pos, FitsSigned}
 use Rattle.std.specs.Int.{w64}

@@ -1,3 +1,4 @@
+-- The loop of `put_numbers` in src/writer/sections.rt.
 use Rattle.std.proofs.Common.{take}
 use Rattle.std.specs.List.{flat_map, enumerate_from}
 use Rattle.std.specs.Fmt.{decimal}

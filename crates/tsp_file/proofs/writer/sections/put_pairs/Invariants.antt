@@ -1,3 +1,4 @@
+-- The loop of `put_pairs` in src/writer/sections.rt.
 use Rattle.std.proofs.Common.{[], ◌∷◌, ℕ, take}
 use Rattle.std.specs.List.{flat_map}
 use Rattle.std.specs.Fmt.{decimal}

@@ -1,3 +1,4 @@
+-- The goals of `put_point_line` in src/writer/sections.rt: what it ensures.
 use Rattle.std.proofs.Common.{◌∷◌}
 use Rattle.std.specs.Fmt.{decimal}
 use Rattle.tsp_number.specs.Spelling.{spelling}

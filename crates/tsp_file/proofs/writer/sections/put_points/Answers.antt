@@ -1,3 +1,4 @@
+-- The goals of `put_points` in src/writer/sections.rt: its loop and what it ensures.
 use Rattle.std.proofs.Common.{◌≡◌, ◌∙◌, ℕ, ◌+◌, List, map, get_or, sym, ap, subst, arith}
 use Rattle.std.proofs.lemmas.List.{length-map, get_or-map}
 use Rattle.tsp_distance.specs.declared.decimal.Point.{Point}

@@ -1,3 +1,4 @@
+-- The goals of `put_tour_section` in src/writer/sections.rt: what it ensures.
 use Rattle.std.proofs.Common.{append_assoc}
 use Rattle.tsp_file.proofs.writer.sections.put_tour_section.Goals as goal
 

@@ -1,3 +1,4 @@
+-- The goals of `put_tours` in src/writer/sections.rt: its loop and what it ensures.
 use Rattle.std.proofs.Common.{arith}
 use Rattle.tsp_file.specs.Text.{node_list}
 use Rattle.tsp_stream.specs.states.Way.{way_of}

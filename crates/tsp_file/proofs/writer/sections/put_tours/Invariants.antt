@@ -1,3 +1,4 @@
+-- The loop of `put_tours` in src/writer/sections.rt.
 use Rattle.std.proofs.Common.{take}
 use Rattle.std.specs.List.{flat_map}
 use Rattle.tsp_file.specs.Text.{node_list}

@@ -1,3 +1,4 @@
+-- The goals of `put_triple_line` in src/writer/sections.rt: what it ensures.
 use Rattle.std.proofs.Common.{rules}
 use Rattle.std.specs.Fmt.{decimal, signed_decimal}
 use Rattle.tsp_stream.specs.states.Way.{way_of}

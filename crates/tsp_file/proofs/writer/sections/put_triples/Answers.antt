@@ -1,3 +1,4 @@
+-- The goals of `put_triples` in src/writer/sections.rt: its loop and what it ensures.
 use Rattle.std.proofs.Common.{ℕ, [], ◌∷◌, rules, get_or}
 use Rattle.std.specs.Prelude.{ℤ, pos, codes, FitsSigned}
 use Rattle.std.specs.List.{flat_map}

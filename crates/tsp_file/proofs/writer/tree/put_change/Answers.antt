@@ -1,3 +1,4 @@
+-- The goals of `put_change` in src/writer/tree.rt: what it ensures.
 use Rattle.std.proofs.Common.{[], ◌++◌, rules}
 use Rattle.std.specs.Fmt.{decimal, signed_decimal}
 use Rattle.tsp_stream.specs.states.Way.{way_of}

@@ -1,3 +1,4 @@
+-- The loop of `put_changes` in src/writer/tree.rt.
 use Rattle.std.proofs.Common.{take, ℕ, ℤ}
 use Rattle.std.specs.List.{flat_map}
 use Rattle.tsp_file.specs.Text.{before_blank, change_words}

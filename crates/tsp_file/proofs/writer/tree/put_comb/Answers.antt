@@ -1,3 +1,4 @@
+-- The goals of `put_comb` in src/writer/tree.rt: its loop and what it ensures.
 use Rattle.std.proofs.Common.{map, arith}
 use Rattle.std.specs.Prelude.{codes}
 use Rattle.std.specs.List.{flat_map}

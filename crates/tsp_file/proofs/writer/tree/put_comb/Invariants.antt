@@ -1,3 +1,4 @@
+-- The loop of `put_comb` in src/writer/tree.rt.
 use Rattle.std.proofs.Common.{take}
 use Rattle.std.specs.List.{flat_map}
 use Rattle.tsp_file.specs.Text.{set_line}

@@ -1,3 +1,4 @@
+-- The goals of `put_comb_section` in src/writer/tree.rt: what it ensures.
 use Rattle.std.proofs.Common.{append_assoc}
 use Rattle.tsp_file.proofs.writer.tree.put_comb_section.Goals as goal
 

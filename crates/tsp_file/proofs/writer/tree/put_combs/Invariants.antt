@@ -1,3 +1,4 @@
+-- The loop of `put_combs` in src/writer/tree.rt.
 use Rattle.std.proofs.Common.{take, map}
 use Rattle.std.specs.List.{flat_map}
 use Rattle.tsp_file.specs.Text.{comb_lines}

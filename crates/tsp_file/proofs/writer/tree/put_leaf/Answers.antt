@@ -1,3 +1,4 @@
+-- The goals of `put_leaf` in src/writer/tree.rt: what it ensures.
 use Rattle.std.proofs.Common.{◌++◌}
 use Rattle.std.specs.Prelude.{codes}
 use Rattle.std.specs.List.{flat_map}

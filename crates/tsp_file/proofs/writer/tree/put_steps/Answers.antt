@@ -1,3 +1,4 @@
+-- The goals of `put_steps` in src/writer/tree.rt: its loop and what it ensures.
 use Rattle.std.proofs.Common.{arith}
 use Rattle.tsp_format.specs.states.TreeSteps.{step_of}
 use Rattle.tsp_file.specs.Text.{step_line}

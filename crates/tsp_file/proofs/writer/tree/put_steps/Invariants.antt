@@ -1,3 +1,4 @@
+-- The loop of `put_steps` in src/writer/tree.rt.
 use Rattle.std.proofs.Common.{take}
 use Rattle.std.specs.List.{flat_map}
 use Rattle.tsp_format.specs.states.TreeSteps.{step_of}

@@ -1,3 +1,4 @@
+-- The goals of `Begun::join` in src/begun.rt: what it ensures.
 use Rattle.std.proofs.Common.{◌≡◌, Ok, Err, true, sym, ap, ◌∙◌, ◌<◌, ◌≤◌, ◌+◌, ◌++◌, List, ℕ, length, subst, length-append, refl, arith}
 use Rattle.tsp_text.specs.Lines.{is_filled}
 use Rattle.tsp_text.specs.Items.{Item}

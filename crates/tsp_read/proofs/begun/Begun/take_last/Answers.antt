@@ -1,3 +1,4 @@
+-- The goals of `Begun::take_last` in src/begun.rt: what it ensures.
 use Rattle.std.proofs.Common.{sym, ◌∙◌, subst, List}
 use Rattle.tsp_text.specs.Items.{Item}
 use Rattle.tsp_read.specs.states.Intake.{Stands, TakesNext}

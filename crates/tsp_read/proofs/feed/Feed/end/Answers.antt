@@ -1,3 +1,4 @@
+-- The goals of `Feed::end` in src/feed.rt: what it ensures.
 use Rattle.std.proofs.Common.{subst, sym}
 use Rattle.tsp_read.specs.declared.state.reading.Reading.{Reading}
 use Rattle.tsp_read.specs.Feed.{SpellsWhole}

@@ -1,3 +1,4 @@
+-- The goals of `Feed::feed` in src/feed.rt: what it ensures.
 use Rattle.tsp_read.proofs.FeedSteps.{feeds_refused, feeds_ended, feeds_going, not_refused, still_going}
 use Rattle.tsp_read.proofs.feed.Feed.feed.Goals as goal
 

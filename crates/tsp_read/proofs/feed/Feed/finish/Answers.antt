@@ -1,3 +1,4 @@
+-- The goals of `Feed::finish` in src/feed.rt: what it ensures.
 use Rattle.std.proofs.Common.{sym, ◌∙◌}
 use Rattle.std.proofs.lemmas.Bool.{false≢true}
 use Rattle.tsp_read.proofs.LastSteps.{whole_answer, open_not_bare}

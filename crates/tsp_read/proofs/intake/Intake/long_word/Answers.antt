@@ -1,3 +1,4 @@
+-- The goals of `Intake::long_word` in src/intake.rt: what it ensures.
 use Rattle.std.proofs.Common.{refl}
 use Rattle.tsp_text.specs.Items.{NumberWord}
 use Rattle.tsp_read.proofs.IntakeSteps.{same_long, never_long}

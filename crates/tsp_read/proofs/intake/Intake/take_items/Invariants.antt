@@ -1,3 +1,4 @@
+-- The loop of `Intake::take_items` in src/intake.rt.
 use Rattle.std.proofs.Common.{ℕ, ◌+◌, ◌≤◌, List, length}
 use Rattle.tsp_read.specs.states.Intake.{IsReadTo}
 use Rattle.tsp_read.proofs.intake.Intake.take_items.Given as goal

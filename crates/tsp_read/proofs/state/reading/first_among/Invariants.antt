@@ -1,3 +1,4 @@
+-- The loop of `first_among` in src/state/reading.rt.
 use Rattle.std.proofs.Common.{◌≡◌, drop}
 use Rattle.tsp_read.specs.states.Incomplete.{first_of}
 use Rattle.tsp_read.proofs.state.reading.first_among.Given as goal

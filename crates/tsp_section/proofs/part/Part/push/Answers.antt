@@ -1,3 +1,4 @@
+-- The goals of `Part::push` in src/part.rt: what it ensures.
 use Rattle.std.proofs.Common.{refl}
 use Rattle.tsp_section.specs.declared.part.Part.TheVariants as parts
 use Rattle.tsp_section.proofs.PartSteps as steps

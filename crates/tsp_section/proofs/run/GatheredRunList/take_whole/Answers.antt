@@ -1,3 +1,4 @@
+-- The goals of `GatheredRunList::take_whole` in src/run.rt: what it ensures.
 use Rattle.std.proofs.Common.{refl, rules, FitsSigned, w64}
 use Rattle.std.proofs.lemmas.Int.{to_z-of_z}
 use Rattle.tsp_section.proofs.run.GatheredRunList.take_whole.Goals as goal

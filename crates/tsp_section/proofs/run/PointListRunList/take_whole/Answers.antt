@@ -1,3 +1,4 @@
+-- The goals of `PointListRunList::take_whole` in src/run.rt: what it ensures.
 use Rattle.std.proofs.Common.{Ok, refl, rules, FitsSigned, w64}
 use Rattle.std.proofs.lemmas.Int.{to_z-of_z}
 use Rattle.tsp_section.specs.declared.part.Part.TheVariants as parts

@@ -1,3 +1,4 @@
+-- The loop of `Costs::costs_from` in src/costs.rt.
 use Rattle.std.proofs.Common.{◌<◌, ℕ}
 use Rattle.std.specs.Prelude.{pos, slice_index_or}
 use Rattle.tsp_format.specs.Cells.{IsNode}

@@ -1,3 +1,4 @@
+-- The goals of `Reading::known` in src/state/reading.rt: what it ensures.
 use Rattle.std.proofs.Common.{refl, sym, ap, ◌∙◌, map, Some}
 use Rattle.std.specs.Option.{option_map}
 use Rattle.tsp_format.specs.declared.field.ValueShape.{ValueShape}

@@ -1,3 +1,4 @@
+-- The goals of `Reading::named` in src/state/reading.rt: what it ensures.
 use Rattle.std.proofs.Common.{refl}
 use Rattle.tsp_section.specs.states.CutLine.{seen}
 use Rattle.tsp_read.proofs.KeywordSteps as keywords

@@ -1,3 +1,4 @@
+-- The goals of `FixedList::finish` in src/parts/fixed.rt: what it ensures.
 use Rattle.std.proofs.Common.{◌∙◌}
 use Rattle.tsp_section.proofs.FixedSteps.{pair_cut_short}
 use Rattle.tsp_section.proofs.parts.fixed.FixedList.finish.Goals as goal

@@ -1,3 +1,4 @@
+-- The goals of `FixedList::push` in src/parts/fixed.rt: what it ensures.
 use Rattle.std.proofs.Common.{◌∙◌, sym}
 use Rattle.tsp_section.proofs.FixedSteps.{pair_past_end}
 use Rattle.tsp_section.proofs.parts.fixed.FixedList.push.Goals as goal

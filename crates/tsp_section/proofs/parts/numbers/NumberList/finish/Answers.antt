@@ -1,3 +1,4 @@
+-- The goals of `NumberList::finish` in src/parts/numbers.rt: what it ensures.
 use Rattle.tsp_section.proofs.NumberSteps.{numbers_finish, numbers_to_come}
 use Rattle.tsp_section.proofs.parts.numbers.NumberList.finish.Goals as goal
 

@@ -1,3 +1,4 @@
+-- The goals of `NumberList::push_read` in src/parts/numbers.rt: what it ensures.
 use Rattle.std.proofs.Common.{◌≡◌, Ok, arith, rules, w64, FitsSigned}
 use mir.Val.{SFits}
 use Rattle.std.specs.Prelude.{◌≤ℤ◌}

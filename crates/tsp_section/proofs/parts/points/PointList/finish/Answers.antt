@@ -1,3 +1,4 @@
+-- The goals of `PointList::finish` in src/parts/points.rt: what it ensures.
 use Rattle.tsp_draft.specs.states.Drafts.{points_of}
 use Rattle.tsp_section.proofs.CoordSteps.{all_taken}
 use Rattle.tsp_section.proofs.parts.points.PointList.finish.Goals as goal

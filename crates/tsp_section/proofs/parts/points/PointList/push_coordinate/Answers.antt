@@ -1,3 +1,4 @@
+-- The goals of `PointList::push_coordinate` in src/parts/points.rt: what it ensures.
 use Rattle.tsp_section.proofs.parts.points.PointList.push_coordinate.Goals as goal
 
 pub returns-in-Some-clause-taken : goal.returns-in-Some-clause-taken

@@ -1,3 +1,4 @@
+-- The goals of `PointList::push_read` in src/parts/points.rt: what it ensures.
 use Rattle.std.proofs.Common.{rules, arith, FitsSigned, w64}
 use Rattle.std.proofs.lemmas.Int.{to_z-of_z}
 use Rattle.tsp_draft.specs.states.Drafts.{points_of}

@@ -1,3 +1,4 @@
+-- The goals of `TourList::push_read` in src/parts/tours.rt: what it ensures.
 use Rattle.std.proofs.Common.{◌+◌, ◌≡◌, ◌++◌, ◌∷◌, [], false, refl, arith, tests, rules, Ok, FitsSigned, w64}
 use Rattle.std.specs.Prelude.{nat_le, pos}
 use Rattle.std.proofs.lemmas.Int.{to_z-of_z}

@@ -1,3 +1,4 @@
+-- The goals of `TreeList::end_leaf` in src/parts/tree.rt: what it ensures.
 use Rattle.std.proofs.Common.{◌≡◌, ◌∙◌, ap, ◌∷◌, ◌++◌, [], refl, arith}
 use Rattle.std.proofs.lemmas.List.{map_push}
 use Rattle.tsp_format.specs.declared.steps.TreeStep.TheVariants as tree

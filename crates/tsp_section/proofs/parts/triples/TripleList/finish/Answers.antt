@@ -1,3 +1,4 @@
+-- The goals of `TripleList::finish` in src/parts/triples.rt: what it ensures.
 use Rattle.std.proofs.Common.{◌∙◌}
 use Rattle.tsp_section.proofs.TripleSteps.{triple_cut_short}
 use Rattle.tsp_section.proofs.parts.triples.TripleList.finish.Goals as goal

@@ -1,3 +1,4 @@
+-- The goals of `TripleList::push` in src/parts/triples.rt: what it ensures.
 use Rattle.std.proofs.Common.{◌∙◌, sym}
 use Rattle.tsp_section.proofs.TripleSteps.{triple_past_end}
 use Rattle.tsp_section.proofs.parts.triples.TripleList.push.Goals as goal

@@ -1,3 +1,4 @@
+-- The goals of `TripleList::push_first` in src/parts/triples.rt: what it ensures.
 use Rattle.std.proofs.Common.{◌≡◌, ◌∙◌, ap, Ok, Err, arith}
 use Rattle.std.specs.Prelude.{pos, negsuc}
 use Rattle.tsp_text.specs.Numbers.{node_or_end}

@@ -1,3 +1,4 @@
+-- The goals of `TripleList::push_multiplier` in src/parts/triples.rt: what it ensures.
 use Rattle.std.proofs.Common.{◌≡◌, ◌∙◌, sym, Ok, Err, FitsSigned, rules, w64}
 use Rattle.std.specs.Prelude.{pos}
 use Rattle.std.proofs.lemmas.Int.{to_z-of_z}

@@ -1,3 +1,4 @@
+-- The goals of `TripleList::push_second` in src/parts/triples.rt: what it ensures.
 use Rattle.std.proofs.Common.{◌≡◌, ◌∙◌, ap, Ok, Err}
 use Rattle.std.specs.Prelude.{pos}
 use Rattle.tsp_text.specs.Numbers.{node}
