@@ -8,7 +8,8 @@ ghost use Rattle.tsp_bound.specs.states.Boxes.{HoldsNode, AreHeld, IsRefit, node
 
 use crate::area::Area;
 use crate::potentials::Potentials;
-use std::alloc::{AllocError, Global};
+use std::alloc::Global;
+use tsp_memory::{Refused, filled};
 use tsp_theory::Grouped;
 
 /// The smaller number.
@@ -79,7 +80,7 @@ pub(crate) fn boxes_of<C: Grouped>(
     c: &C,
     p: &Potentials,
     order: &[u32],
-) -> Result<Option<Vec<Option<Area>>>, AllocError>
+) -> Result<Option<Vec<Option<Area>>>, Refused>
     requires count { length (numbers_of p.now) ≡ C.nodes c.now }
     requires nodes { (j : ℕ) → j < length order.now → IsNode (C.nodes c.now) (node_of order.now j) }
     requires few { length order.now < 2 ^ 31 }
@@ -88,7 +89,7 @@ pub(crate) fn boxes_of<C: Grouped>(
         → AreHeld (HoldsNode (C.place c.now) (numbers_of p.now)) order.now outside (area_at areas.items))) }
 {
     let count = order.len();
-    let mut areas: Vec<Option<Area>> = vec![in alloc; None; 2 * count]?;
+    let mut areas: Vec<Option<Area>> = filled(alloc, None, 2 * count)?;
     'leaves: for place in 0..count {
         let Some(area) = area_of(c, p, order[place]) else {
             return Ok(None);

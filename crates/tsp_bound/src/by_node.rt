@@ -8,7 +8,8 @@ ghost use Rattle.tsp_theory.specs.Adjusted.{AreOnPairs};
 ghost use Rattle.tsp_bound.specs.states.ByNode.{IsTable, lowered_by};
 
 use crate::multipliers::Multipliers;
-use std::alloc::{AllocError, Global};
+use std::alloc::Global;
+use tsp_memory::{Refused, push, with_capacity};
 
 /// Multipliers, and for each node those of its pairs.
 #[derive(Drop)]
@@ -33,11 +34,7 @@ impl<'a> ByNode<'a> {
     /// # Errors
     ///
     /// Out of memory, of which it takes some for each node and each pair.
-    pub(crate) fn of(
-        alloc: Global,
-        nodes: u32,
-        m: &Multipliers<'a>,
-    ) -> Result<ByNode<'a>, AllocError>
+    pub(crate) fn of(alloc: Global, nodes: u32, m: &Multipliers<'a>) -> Result<ByNode<'a>, Refused>
         requires few { nodes < 2 ^ 32 - 1 }
         requires on_pairs { AreOnPairs nodes (triples_of m.now) }
         ensures nodes { IfOk result (λ made. node_count made ≡ nodes) }
@@ -96,7 +93,7 @@ fn lists_of(
     alloc: Global,
     nodes: u32,
     triples: &[(u32, u32, i64)],
-) -> Result<Vec<Vec<(u32, i64)>>, AllocError>
+) -> Result<Vec<Vec<(u32, i64)>>, Refused>
     requires few { nodes < 2 ^ 32 - 1 }
     requires each { All IsMultiplier triples.now }
     requires on_pairs { AreOnPairs nodes triples.now }
@@ -105,20 +102,20 @@ fn lists_of(
     let mut lists = empty_lists(alloc, nodes)?;
     'triples: for triple in triples {
         let (a, b, number) = *triple;
-        lists[a as usize].push((b, number))?;
-        lists[b as usize].push((a, number))?;
+        push(&mut lists[a as usize], (b, number))?;
+        push(&mut lists[b as usize], (a, number))?;
     }
     Ok(lists)
 }
 
 /// An empty list for each node from 0 to `nodes`.
-fn empty_lists(alloc: Global, nodes: u32) -> Result<Vec<Vec<(u32, i64)>>, AllocError>
+fn empty_lists(alloc: Global, nodes: u32) -> Result<Vec<Vec<(u32, i64)>>, Refused>
     requires { nodes < 2 ^ 32 - 1 }
     ensures { IfOk result (λ lists. IsTable nodes [] lists.items) }
 {
-    let mut lists = Vec::with_capacity(alloc, nodes as usize + 1)?;
+    let mut lists = with_capacity(alloc, nodes as usize + 1)?;
     'lists: for _ in 0..nodes + 1 {
-        lists.push(Vec::new(alloc))?;
+        push(&mut lists, Vec::new(alloc))?;
     }
     Ok(lists)
 }

@@ -6,7 +6,8 @@ ghost use Rattle.tsp_bound.specs.states.Components.{AreKept, AreLeast, AreLeavin
 use crate::components::Components;
 use crate::labelled::own_labels;
 use crate::link::Link;
-use std::alloc::{AllocError, Global};
+use std::alloc::Global;
+use tsp_memory::{Refused, filled, push};
 
 /// Whether a link weighs less than the best one, if there is one.
 #[inline]
@@ -50,12 +51,12 @@ pub(crate) fn best_of<P: Components>(
     alloc: Global,
     nodes: &P,
     known: &[Link],
-) -> Result<Vec<Option<Link>>, AllocError>
+) -> Result<Vec<Option<Link>>, Refused>
     requires known { AreKept (P.count_of nodes.now) (P.weight_of nodes.now) (P.label_of nodes.now) known.now }
     ensures { IfOk result (λ best.
         AreLeaving (P.count_of nodes.now) (P.weight_of nodes.now) (P.label_of nodes.now) best.items) }
 {
-    let mut best: Vec<Option<Link>> = vec![in alloc; None; nodes.count() as usize]?;
+    let mut best: Vec<Option<Link>> = filled(alloc, None, nodes.count() as usize)?;
     'nodes: for node in 0..nodes.count() {
         let link = known[node as usize];
         let label = nodes.label(node);
@@ -78,7 +79,7 @@ pub(crate) fn join<P: Components>(
     nodes: &P,
     best: &[Option<Link>],
     added: &mut Vec<(u32, u32)>,
-) -> Result<Vec<u32>, AllocError>
+) -> Result<Vec<u32>, Refused>
     requires best { AreLeast (P.count_of nodes.now) (P.weight_of nodes.now) (P.label_of nodes.now) best.now }
     requires forest { IsForest (P.count_of nodes.now) (P.weight_of nodes.now) (P.label_of nodes.now) added.old.items }
     ensures len { IfOk result (λ labels. length labels.items ≡ P.count_of nodes.now) }
@@ -88,14 +89,14 @@ pub(crate) fn join<P: Components>(
         (λ x. label_at labels.items (P.label_of nodes.now x)) added.new.items) }
 {
     let mut labels = own_labels(alloc, nodes.count())?;
-    let mut met = vec![in alloc; false; nodes.count() as usize]?;
+    let mut met = filled(alloc, false, nodes.count() as usize)?;
     'components: for label in 0..nodes.count() {
         if met[label as usize] {
             continue;
         }
         if let Some(link) = best[label as usize] {
             let other = nodes.label(link.to);
-            added.push((link.from, link.to))?;
+            push(added, (link.from, link.to))?;
             met[label as usize] = true;
             met[other as usize] = true;
             labels[label as usize] = labels[other as usize];

@@ -12,7 +12,8 @@ use crate::link::Link;
 use crate::placed::Placed;
 use crate::seen::Seen;
 use crate::tags::tag_boxes;
-use std::alloc::{AllocError, Global};
+use std::alloc::Global;
+use tsp_memory::{Refused, filled, push, with_capacity};
 use tsp_theory::Grouped;
 
 /// Nodes in an order with labels, and the tree of boxes over all of them with its tags.
@@ -36,13 +37,13 @@ pub(crate) struct Labelled<'a, C: Grouped> {
 /// # Errors
 ///
 /// Out of memory.
-pub(crate) fn own_labels(alloc: Global, count: u32) -> Result<Vec<u32>, AllocError>
+pub(crate) fn own_labels(alloc: Global, count: u32) -> Result<Vec<u32>, Refused>
     ensures len { IfOk result (λ labels. length labels.items ≡ count) }
     ensures own { IfOk result (λ labels. (x : ℕ) → x < count → label_at labels.items x ≡ x) }
 {
-    let mut labels = Vec::with_capacity(alloc, count as usize)?;
+    let mut labels = with_capacity(alloc, count as usize)?;
     'labels: for label in 0..count {
-        labels.push(label)?;
+        push(&mut labels, label)?;
     }
     Ok(labels)
 }
@@ -69,7 +70,7 @@ impl<'a, C: Grouped> Labelled<'a, C> {
     pub(crate) fn new(
         alloc: Global,
         placed: Placed<'a, C>,
-    ) -> Result<Option<Labelled<'a, C>>, AllocError>
+    ) -> Result<Option<Labelled<'a, C>>, Refused>
         ensures order { IfOk result (λ made. IfSome made (λ labelled. labelled.placed.order.now ≡ placed.entry.order.now)) }
         ensures costs { IfOk result (λ made. IfSome made (λ labelled. labelled.placed.c.now ≡ placed.entry.c.now)) }
         ensures potentials { IfOk result (λ made. IfSome made (λ labelled. labelled.placed.p ≡ placed.entry.p)) }
@@ -82,7 +83,7 @@ impl<'a, C: Grouped> Labelled<'a, C> {
         };
         let count = placed.order.len();
         let labels = own_labels(alloc, count as u32)?;
-        let mut tags = vec![in alloc; 0; 2 * count]?;
+        let mut tags = filled(alloc, 0, 2 * count)?;
         tag_boxes(&labels, &mut tags);
         Ok(Some(Labelled {
             placed,

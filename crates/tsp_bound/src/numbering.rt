@@ -4,7 +4,8 @@ ghost use Rattle.std.specs.Prelude.{◌≡◌, ◌<◌, ◌+◌, ◌^◌, length
 ghost use Rattle.tsp_theory.specs.Tree.{IsInner};
 ghost use Rattle.tsp_bound.specs.states.Numbering.{IsNumbering};
 
-use std::alloc::{AllocError, Global};
+use std::alloc::Global;
+use tsp_memory::{Refused, filled};
 
 /// The place of each node of 2..last in the list; none where the list doesn't have each of them
 /// just once. How the list was put in order needs no proof then.
@@ -16,14 +17,14 @@ pub(crate) fn places_in(
     alloc: Global,
     order: &[u32],
     last: u32,
-) -> Result<Option<Vec<u32>>, AllocError>
+) -> Result<Option<Vec<u32>>, Refused>
     requires few { length order.now < 2 ^ 31 }
     requires some { last < 2 ^ 31 }
     ensures len { IfOk result (λ found. IfSome found (λ places. length places.items ≡ last + 1)) }
     ensures numbering { IfOk result (λ found. IfSome found (λ places. IsNumbering (length order.now) (IsInner last)
         (λ i. slice_index_or order.now i 0) (λ x. slice_index_or places.items x 0))) }
 {
-    let mut places: Vec<u32> = vec![in alloc; 0; last as usize + 1]?;
+    let mut places: Vec<u32> = filled(alloc, 0, last as usize + 1)?;
     'write: for i in 0..order.len() {
         let node = order[i];
         if node < 2 || last < node {

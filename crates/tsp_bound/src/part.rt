@@ -17,7 +17,8 @@ use crate::numbering::places_in;
 use crate::placed::Placed;
 use crate::rounds::grow_by_rounds;
 use crate::weights::Weights;
-use std::alloc::{AllocError, Global};
+use std::alloc::Global;
+use tsp_memory::{Refused, push, with_capacity};
 use tsp_theory::{Costs, Grouped};
 use tsp_tree::Grown;
 
@@ -34,7 +35,7 @@ pub(crate) fn grow<C: Grouped>(
     alloc: Global,
     w: &Weights<C>,
     row: &mut [i64],
-) -> Result<Grown, AllocError>
+) -> Result<Grown, Refused>
     requires { length row.old ≡ C.nodes w.now.c.now + 1 }
     ensures whole { IfOk result (λ grown. IsWholeForest (C.nodes w.now.c.now)
         (weight_less w.now.p.now (triples_in w.now.m.now) (C.at w.now.c.now)) grown.pairs.items) }
@@ -55,7 +56,7 @@ pub(crate) fn grow<C: Grouped>(
 /// # Errors
 ///
 /// Out of memory.
-fn inner_order<C: Grouped>(alloc: Global, c: &C) -> Result<Option<Vec<u32>>, AllocError>
+fn inner_order<C: Grouped>(alloc: Global, c: &C) -> Result<Option<Vec<u32>>, Refused>
     ensures { IfOk result (λ found. IfSome found (λ order. length order.items + 1 ≡ C.nodes c.now)) }
 {
     let mut order = c.order(alloc)?;
@@ -73,7 +74,7 @@ fn inner_order<C: Grouped>(alloc: Global, c: &C) -> Result<Option<Vec<u32>>, All
 /// # Errors
 ///
 /// Out of memory.
-fn joined<C: Grouped>(alloc: Global, w: &Weights<C>) -> Result<Option<Grown>, AllocError>
+fn joined<C: Grouped>(alloc: Global, w: &Weights<C>) -> Result<Option<Grown>, Refused>
     ensures { IfOk result (λ found. IfSome found (λ grown. IsWeighedForest (C.nodes w.now.c.now)
         (weight_less w.now.p.now (triples_in w.now.m.now) (C.at w.now.c.now)) grown.pairs.items grown.weight)) }
 {
@@ -88,7 +89,7 @@ fn joined_over<C: Grouped>(
     alloc: Global,
     w: &Weights<C>,
     order: &[u32],
-) -> Result<Option<Grown>, AllocError>
+) -> Result<Option<Grown>, Refused>
     requires count { length order.now + 1 ≡ C.nodes w.now.c.now }
     ensures { IfOk result (λ found. IfSome found (λ grown. IsWeighedForest (C.nodes w.now.c.now)
         (weight_less w.now.p.now (triples_in w.now.m.now) (C.at w.now.c.now)) grown.pairs.items grown.weight)) }
@@ -124,7 +125,7 @@ fn weighed<C: Costs>(
     w: &Weights<C>,
     order: &[u32],
     pairs: &[(u32, u32)],
-) -> Result<Grown, AllocError>
+) -> Result<Grown, Refused>
     requires nodes { (j : ℕ) → j < length order.now → IsNode (C.nodes w.now.c.now) (node_of order.now j) }
     requires places { All (λ pair. (pair.0 < length order.now) × (pair.1 < length order.now)) pairs.now }
     requires few { length pairs.now ≤ most_nodes }
@@ -133,12 +134,12 @@ fn weighed<C: Costs>(
         ≡ weight_of (weight_less w.now.p.now (triples_in w.now.m.now) (C.at w.now.c.now)) grown.pairs.items) }
     ensures size { IfOk result (λ grown. IsSumSized (length grown.pairs.items) grown.weight) }
 {
-    let mut named = Vec::with_capacity(alloc, w.c.count() as usize + 1)?;
+    let mut named = with_capacity(alloc, w.c.count() as usize + 1)?;
     let mut weight: i128 = 0;
     'pairs: for pair in pairs {
         let from = order[pair.0 as usize];
         let to = order[pair.1 as usize];
-        named.push((from, to))?;
+        push(&mut named, (from, to))?;
         let number = w.m.between(from, to);
         weight += i128::from(w.p.weight(w.c, from, to) - number);
     }

@@ -7,7 +7,8 @@ ghost use Rattle.tsp_bound.specs.states.Components.{AreKept, AreLeast, AreLeavin
 use crate::components::Components;
 use crate::joins::{best_of, better, end_of, is_better, join};
 use crate::link::Link;
-use std::alloc::{AllocError, Global};
+use std::alloc::Global;
+use tsp_memory::{Refused, push, with_capacity};
 
 /// As many rounds as any tree takes: in each one at least half of the components vanish.
 const MOST_ROUNDS: u32 = 32;
@@ -27,7 +28,7 @@ pub(crate) fn grow_by_rounds<P: Components>(
     alloc: Global,
     nodes: &mut P,
     most_steps: u64,
-) -> Result<Option<Vec<(u32, u32)>>, AllocError>
+) -> Result<Option<Vec<(u32, u32)>>, Refused>
     requires own { (x : ℕ) → x < P.count_of nodes.old → P.label_of nodes.old x ≡ x }
     ensures { IfOk result (λ grown. IfSome grown (λ added.
         IsSpanning (P.count_of nodes.old) (P.weight_of nodes.old) added.items)) }
@@ -62,11 +63,11 @@ fn first_links<P: Components>(
     nodes: &P,
     most_steps: u64,
     steps: &mut u64,
-) -> Result<Option<Vec<Link>>, AllocError>
+) -> Result<Option<Vec<Link>>, Refused>
     ensures { IfOk result (λ found. IfSome found (λ known.
         AreKept (P.count_of nodes.now) (P.weight_of nodes.now) (P.label_of nodes.now) known.items)) }
 {
-    let mut known = Vec::with_capacity(alloc, nodes.count() as usize)?;
+    let mut known = with_capacity(alloc, nodes.count() as usize)?;
     let mut near = 0;
     'nodes: for node in 0..nodes.count() {
         let Some(link) = nodes.nearest(node, near, steps) else {
@@ -76,7 +77,7 @@ fn first_links<P: Components>(
             return Ok(None);
         }
         near = link.to;
-        known.push(link)?;
+        push(&mut known, link)?;
     }
     Ok(Some(known))
 }

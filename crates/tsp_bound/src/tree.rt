@@ -19,6 +19,7 @@ use crate::potentials::Potentials;
 use crate::unplaced::Unplaced;
 use crate::weights::Weights;
 use std::alloc::{AllocError, Global};
+use tsp_memory::{Refused, filled, push, with_capacity};
 use tsp_theory::{Costs, Grouped, Symmetric, adjusted_bounds_bound_cycles};
 use tsp_tree::two_spokes;
 
@@ -74,7 +75,7 @@ pub fn one_tree<C: Symmetric>(
     ensures cycles { IfOk result (λ found. (nodes : List ℕ) → IsCycle (C.nodes c.now) nodes
         → UsesEach (triples_of m.now) nodes → found.bound ≤ℤ length_of (C.at c.now) nodes) }
 {
-    one_tree_in_space(alloc, &Unplaced { costs: c }, p, m)
+    Ok(one_tree_in_space(alloc, &Unplaced { costs: c }, p, m)?)
 }
 
 /// What [`one_tree`] returns, over costs whose nodes may have places in space: regions of them then
@@ -88,7 +89,7 @@ pub fn one_tree_in_space<C: Grouped>(
     c: &C,
     p: &Potentials,
     m: &Multipliers,
-) -> Result<OneTree, AllocError>
+) -> Result<OneTree, Refused>
     requires some { 3 ≤ C.nodes c.now }
     requires count { length (numbers_of p.now) ≡ C.nodes c.now }
     requires on_pairs { AreOnPairs (C.nodes c.now) (triples_of m.now) }
@@ -132,7 +133,7 @@ fn least_edges<'a, C: Grouped>(
     c: &'a C,
     p: &'a Potentials<'a>,
     m: &'a ByNode<'a>,
-) -> Result<Weighed, AllocError>
+) -> Result<Weighed, Refused>
     requires some { 3 ≤ C.nodes c.now }
     requires count { length (numbers_of p.now) ≡ C.nodes c.now }
     requires over { node_count m.now ≡ C.nodes c.now }
@@ -144,7 +145,7 @@ fn least_edges<'a, C: Grouped>(
         (pos ((most_nodes + 2) * 2 ^ 63)) found.weight) }
 {
     let weights = Weights { c, p, m };
-    let mut row = vec![in alloc; 0; c.count() as usize + 1]?;
+    let mut row = filled(alloc, 0, c.count() as usize + 1)?;
     let (first, second) = two_spokes(&weights, &mut row);
     let grown = grow(alloc, &weights, &mut row)?;
     let edges = tree_of(
@@ -168,18 +169,21 @@ fn tree_of(
     first: u32,
     second: u32,
     added: &[(u32, u32)],
-) -> Result<Vec<(u32, u32)>, AllocError>
+) -> Result<Vec<(u32, u32)>, Refused>
     ensures { IfOk result (λ edges. edges.items ≡ tree_of first second added.now) }
 {
-    let mut edges = Vec::with_capacity(alloc, room)?;
-    edges.push((1, first))?;
-    edges.push((1, second))?;
+    let mut edges = with_capacity(alloc, room)?;
+    push(&mut edges, (1, first))?;
+    push(&mut edges, (1, second))?;
     'added: for pair in added {
-        edges.push(if pair.0 < pair.1 {
-            *pair
-        } else {
-            (pair.1, pair.0)
-        })?;
+        push(
+            &mut edges,
+            if pair.0 < pair.1 {
+                *pair
+            } else {
+                (pair.1, pair.0)
+            },
+        )?;
     }
     Ok(edges)
 }

@@ -30,9 +30,10 @@ use crate::room::Room;
 use crate::sets::sets_by_node;
 use crate::setting::Setting;
 use crate::steps::{Judged, JudgedLeaf};
-use std::alloc::{AllocError, Global};
+use std::alloc::Global;
 use tsp_families::Crossings;
 use tsp_format::TreeStep;
+use tsp_memory::Refused;
 use tsp_theory::Costs;
 
 /// The bound of a tree of cases: the least of the bounds of its leaves, which is at most the length
@@ -61,7 +62,7 @@ pub fn branch_bound<C: Costs>(
     alloc: Global,
     tree: &CaseTree<C>,
     crossed: &[Crossings],
-) -> Result<Judged, AllocError>
+) -> Result<Judged, Refused>
     requires some { 3 ≤ C.nodes tree.now.costs.now }
     requires even { tree.now.directed ≡ false → IsSymmetric (C.at tree.now.costs.now) }
     requires scaled { IsScale tree.now.scale }
@@ -116,7 +117,7 @@ fn judge_leaves<C: Costs>(
     setting: &Setting<C>,
     steps: &[TreeStep],
     mut room: Room,
-) -> Result<Judged, AllocError>
+) -> Result<Judged, Refused>
     requires few_steps { length steps.now < 2 ^ 32 }
     requires are_families { All (IsFamily (C.nodes setting.now.costs.now))
         (families_of setting.now.crossed.now (plain setting.now.sets.now)) }
@@ -166,7 +167,7 @@ fn judge_leaf<C: Costs>(
     changes: &[(u32, i64)],
     case: &OpenCase,
     room: &mut Room,
-) -> Result<JudgedLeaf, AllocError>
+) -> Result<JudgedLeaf, Refused>
     requires are_families { All (IsFamily (C.nodes setting.now.costs.now))
         (families_of setting.now.crossed.now (plain setting.now.sets.now)) }
     requires few_changes { length changes.now < 2 ^ 32 }

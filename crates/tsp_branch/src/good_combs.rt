@@ -17,8 +17,9 @@ ghost use Rattle.tsp_branch.specs.states.Marked.{is_marked, AreUnmarked, HavePla
 use crate::marks::{has_node, leaves_one_out, mark_nodes};
 use crate::other_families::other_crossings;
 use crate::steps::JudgedFamilies;
-use std::alloc::{AllocError, Global};
+use std::alloc::Global;
 use tsp_families::{CombSet, Crossings};
+use tsp_memory::{Refused, filled, push};
 
 /// The numbers of families, or the first one that isn't good, counted from 1: one with a node twice
 /// in a set, or one that is neither a lone set nor a comb and that has more than 63 sets, or whose
@@ -40,7 +41,7 @@ pub fn judge_families(
     nodes: u32,
     combs: usize,
     sets: &[CombSet],
-) -> Result<JudgedFamilies, AllocError>
+) -> Result<JudgedFamilies, Refused>
     requires some { 1 ≤ nodes }
     requires few_nodes { nodes < 2 ^ 32 - 1 }
     requires few_combs { combs < 2 ^ 32 }
@@ -51,8 +52,8 @@ pub fn judge_families(
     ensures judged { IfOk result (AreFamiliesJudged nodes combs (plain sets.now)) }
     ensures small { IfOk result AreSmallFamilies }
 {
-    let mut handles = vec![in alloc; 0; nodes as usize + 1]?;
-    let mut teeth = vec![in alloc; 0; nodes as usize + 1]?;
+    let mut handles = filled(alloc, 0, nodes as usize + 1)?;
+    let mut teeth = filled(alloc, 0, nodes as usize + 1)?;
     let mut crossed = Vec::new(alloc);
     let mut rest = sets;
     'combs: for comb in 0..combs as u32 {
@@ -62,7 +63,7 @@ pub fn judge_families(
         let Some(numbers) = found else {
             return Ok(JudgedFamilies::Bad(comb as usize + 1));
         };
-        crossed.push(numbers)?;
+        push(&mut crossed, numbers)?;
         rest = later;
     }
     Ok(JudgedFamilies::Good(crossed))
@@ -81,7 +82,7 @@ fn crossings_of(
     used: &mut [u32],
     mark: u32,
     sets: &[CombSet],
-) -> Result<Option<Crossings>, AllocError>
+) -> Result<Option<Crossings>, Refused>
     requires some { 1 ≤ nodes }
     requires few_nodes { nodes < 2 ^ 32 - 1 }
     requires few_sets { length sets.now < 2 ^ 32 }

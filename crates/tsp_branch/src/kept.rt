@@ -12,8 +12,9 @@ ghost use Rattle.tsp_branch.specs.states.Kept.{IsKeptRow, AreRows, AreRowsIfAny,
 use crate::add_sets::add_to_row;
 use crate::moved::take_multipliers;
 use crate::scaled::scale_row;
-use std::alloc::{AllocError, Global};
+use std::alloc::Global;
 use tsp_families::CombSet;
+use tsp_memory::{Refused, filled, push, with_capacity};
 use tsp_theory::Costs;
 
 /// The most nodes of which rows are kept, in 32 MB.
@@ -51,14 +52,14 @@ impl KeptRows {
         scale: i64,
         combs: usize,
         steps: usize,
-    ) -> Result<KeptRows, AllocError>
+    ) -> Result<KeptRows, Refused>
         requires scale { IsScale scale }
         requires few { combs < 2 ^ 32 }
         ensures { IfOk result (λ kept. (sets : List CombSet) → HoldsRows (C.nodes costs.now) combs scale sets (C.at costs.now) kept) }
     {
-        let multipliers = vec![in alloc; 0; combs]?;
-        let differences = vec![in alloc; 0; combs]?;
-        let ends = vec![in alloc; 0; costs.count() as usize + 1]?;
+        let multipliers = filled(alloc, 0, combs)?;
+        let differences = filled(alloc, 0, combs)?;
+        let ends = filled(alloc, 0, costs.count() as usize + 1)?;
         Ok(KeptRows {
             rows: rows_if_any(alloc, costs, scale, steps),
             ends,
@@ -108,15 +109,15 @@ fn rows_if_any<C: Costs>(alloc: Global, costs: &C, scale: i64, steps: usize) -> 
 ///
 /// Out of memory.
 #[tactic(auto, using(crate::proofs::KeptRows::rows_more))]
-fn rows_of<C: Costs>(alloc: Global, costs: &C, scale: i64) -> Result<Vec<Vec<i64>>, AllocError>
+fn rows_of<C: Costs>(alloc: Global, costs: &C, scale: i64) -> Result<Vec<Vec<i64>>, Refused>
     requires scale { IsScale scale }
     ensures { IfOk result (λ rows. AreRows (C.nodes costs.now) (C.at costs.now)
         (λ i x. scale *ℤ C.at costs.now i x) (C.nodes costs.now) rows.items) }
 {
     let count = costs.count();
-    let mut rows = Vec::with_capacity(alloc, count as usize)?;
+    let mut rows = with_capacity(alloc, count as usize)?;
     'rows: for index in 0..count {
-        rows.push(row_of(alloc, costs, scale, index + 1)?)?;
+        push(&mut rows, row_of(alloc, costs, scale, index + 1)?)?;
     }
     Ok(rows)
 }
@@ -126,13 +127,13 @@ fn rows_of<C: Costs>(alloc: Global, costs: &C, scale: i64) -> Result<Vec<Vec<i64
 /// # Errors
 ///
 /// Out of memory.
-fn row_of<C: Costs>(alloc: Global, costs: &C, scale: i64, from: u32) -> Result<Vec<i64>, AllocError>
+fn row_of<C: Costs>(alloc: Global, costs: &C, scale: i64, from: u32) -> Result<Vec<i64>, Refused>
     requires scale { IsScale scale }
     requires from { IsNode (C.nodes costs.now) from }
     ensures { IfOk result (λ row. IsKeptRow (C.nodes costs.now) (C.at costs.now from)
         (λ x. scale *ℤ C.at costs.now from x) row.items) }
 {
-    let mut row = vec![in alloc; 0; costs.count() as usize + 1]?;
+    let mut row = filled(alloc, 0, costs.count() as usize + 1)?;
     costs.costs_from(from, &mut row);
     scale_row(&mut row, scale);
     Ok(row)

@@ -4,7 +4,8 @@ ghost use Rattle.std.specs.Prelude.{◌≡◌, ◌≤◌, ◌+◌, ◌^◌, ℕ,
 ghost use Rattle.tsp_theory.specs.Numbers.{IsFromTo, IsScale, IsLeastBound, IsBoundSized};
 ghost use Rattle.tsp_branch.specs.Weighed.{IsBoundOfWeights, BoundsEachLeaf};
 
-use std::alloc::{AllocError, Global};
+use std::alloc::Global;
+use tsp_memory::Refused;
 use tsp_tree::{Weights, least_weight};
 
 /// The bound of a leaf whose weights are given by rows: the least whole number that at the scale is
@@ -28,7 +29,7 @@ pub fn leaf_bound<W: Weights>(
     row: &mut [i64],
     scale: i64,
     given_back: i128,
-) -> Result<i128, AllocError>
+) -> Result<i128, Refused>
     requires some { 3 ≤ W.nodes w.now }
     requires room { length row.old ≡ W.nodes w.now + 1 }
     requires even { (i j : ℕ) → W.at w.now i j ≡ W.at w.now j i }

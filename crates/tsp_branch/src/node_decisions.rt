@@ -6,7 +6,8 @@ ghost use Rattle.tsp_branch.specs.declared.decision.Decision.{Decision};
 ghost use Rattle.tsp_branch.specs.states.OpenCases.{HaveOneMore, HaveOneLess};
 
 use crate::decision::Decision;
-use std::alloc::{AllocError, Global};
+use std::alloc::Global;
+use tsp_memory::{Refused, push, with_capacity};
 
 /// For each node the decisions that bear on its row, and all that take their pair, the last one
 /// last.
@@ -30,11 +31,7 @@ impl NodeDecisions {
     /// # Errors
     ///
     /// Out of memory, of which it takes some for each node.
-    pub(crate) fn new(
-        alloc: Global,
-        directed: bool,
-        count: u32,
-    ) -> Result<NodeDecisions, AllocError>
+    pub(crate) fn new(alloc: Global, directed: bool, count: u32) -> Result<NodeDecisions, Refused>
         requires { count < 2 ^ 32 - 1 }
         ensures none { IfOk result (λ made. AreByNode count made []) }
         ensures directed { IfOk result (λ made. made.directed ≡ directed) }
@@ -51,7 +48,7 @@ impl NodeDecisions {
     /// # Errors
     ///
     /// Out of memory.
-    pub(crate) fn add(&mut self, decision: Decision) -> Result<(), AllocError>
+    pub(crate) fn add(&mut self, decision: Decision) -> Result<(), Refused>
         requires first { decision.pair.0 < length self.old.lists.items }
         requires second { decision.pair.1 < length self.old.lists.items }
         requires differ { decision.pair.0 ≢ decision.pair.1 }
@@ -66,7 +63,7 @@ impl NodeDecisions {
             list_at(&mut self.lists, second, decision)?;
         }
         if decision.taken {
-            self.taken.push(decision)?;
+            push(&mut self.taken, decision)?;
         }
         Ok(())
     }
@@ -93,11 +90,11 @@ impl NodeDecisions {
 }
 
 /// Adds a decision to the list of a node.
-fn list_at(lists: &mut Vec<Vec<Decision>>, node: u32, decision: Decision) -> Result<(), AllocError>
+fn list_at(lists: &mut Vec<Vec<Decision>>, node: u32, decision: Decision) -> Result<(), Refused>
     requires { node < length lists.old.items }
     ensures { IfOk result (λ unit. HaveOneMore node decision lists.old.items lists.new.items) }
 {
-    lists[node as usize].push(decision)?;
+    push(&mut lists[node as usize], decision)?;
     Ok(())
 }
 
@@ -110,15 +107,15 @@ fn unlist_at(lists: &mut Vec<Vec<Decision>>, node: u32)
 }
 
 /// An empty list for each node from 0 to `count`.
-fn empty_lists(alloc: Global, count: u32) -> Result<Vec<Vec<Decision>>, AllocError>
+fn empty_lists(alloc: Global, count: u32) -> Result<Vec<Vec<Decision>>, Refused>
     requires { count < 2 ^ 32 - 1 }
     ensures many { IfOk result (λ lists. length lists.items ≡ count + 1) }
     ensures empty { IfOk result (λ lists. (x : ℕ) (default : Vec Decision) → x ≤ count
         → (slice_index_or lists.items x default).items ≡ []) }
 {
-    let mut lists = Vec::with_capacity(alloc, count as usize + 1)?;
+    let mut lists = with_capacity(alloc, count as usize + 1)?;
     'lists: for _ in 0..count + 1 {
-        lists.push(Vec::new(alloc))?;
+        push(&mut lists, Vec::new(alloc))?;
     }
     Ok(lists)
 }

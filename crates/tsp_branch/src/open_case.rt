@@ -6,7 +6,8 @@ ghost use Rattle.tsp_branch.specs.states.Decided.{IsDecision, IsNextStack};
 
 use crate::decision::Decision;
 use crate::node_decisions::NodeDecisions;
-use std::alloc::{AllocError, Global};
+use std::alloc::Global;
+use tsp_memory::{Refused, push};
 
 /// The decisions of the open case: those that are given for all cases, above them a stack of those
 /// of its branches, and all of them by node.
@@ -34,7 +35,7 @@ impl<'a> OpenCase<'a> {
         directed: bool,
         count: u32,
         given: &'a [Decision],
-    ) -> Result<OpenCase<'a>, AllocError>
+    ) -> Result<OpenCase<'a>, Refused>
         requires few { count < 2 ^ 32 - 1 }
         requires pairs { All (IsDecision count) given.now }
         ensures case { IfOk result (λ case. IsOpenCase count case) }
@@ -60,7 +61,7 @@ impl<'a> OpenCase<'a> {
     /// # Errors
     ///
     /// Out of memory.
-    pub(crate) fn take(&mut self, pair: (u32, u32)) -> Result<(), AllocError>
+    pub(crate) fn take(&mut self, pair: (u32, u32)) -> Result<(), Refused>
         requires case { (n : ℕ) × IsOpenCase n self.old × IsDecision n (record { pair = pair; taken = true }) }
         ensures case { IfOk result (λ unit. (n : ℕ) → IsOpenCase n self.old
             → IsDecision n (record { pair = pair; taken = true }) → IsOpenCase n self.new) }
@@ -71,7 +72,7 @@ impl<'a> OpenCase<'a> {
     {
         let decision = Decision { pair, taken: true };
         self.by_node.add(decision)?;
-        self.stack.push(decision)?;
+        push(&mut self.stack, decision)?;
         Ok(())
     }
 
@@ -91,7 +92,7 @@ impl<'a> OpenCase<'a> {
     /// # Errors
     ///
     /// Out of memory.
-    pub(crate) fn next(&mut self) -> Result<bool, AllocError>
+    pub(crate) fn next(&mut self) -> Result<bool, Refused>
         requires { (n : ℕ) × IsOpenCase n self.old }
         ensures case { IfOk result (λ found. (n : ℕ) → IsOpenCase n self.old → IsOpenCase n self.new) }
         ensures next { IfOk result (λ found. IsNextStack self.old.stack.items found self.new.stack.items) }
@@ -107,7 +108,7 @@ impl<'a> OpenCase<'a> {
                     taken: false,
                 };
                 self.by_node.add(turned)?;
-                self.stack.push(turned)?;
+                push(&mut self.stack, turned)?;
                 return Ok(true);
             }
         }

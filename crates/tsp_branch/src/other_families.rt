@@ -7,8 +7,9 @@ ghost use Rattle.tsp_branch.specs.GoodCombs.{HasEachOnce, IsGoodComb};
 ghost use Rattle.tsp_branch.specs.states.Numbers.{HasNumbers, IsSmall};
 
 use crate::marks::mark_nodes;
-use std::alloc::{AllocError, Global};
+use std::alloc::Global;
 use tsp_families::{CombSet, Crossings, family_crossings, most_costs_are_unique};
+use tsp_memory::{Refused, filled};
 
 /// The numbers of sets that are neither a lone set nor a comb. `None` where one has a node twice,
 /// where there are more than 63, or where their nodes make more than 14 parts or one alone.
@@ -20,7 +21,7 @@ pub(crate) fn other_crossings(
     alloc: Global,
     nodes: u32,
     sets: &[CombSet],
-) -> Result<Option<Crossings>, AllocError>
+) -> Result<Option<Crossings>, Refused>
     requires some { 1 ≤ nodes }
     requires few_nodes { nodes < 2 ^ 32 - 1 }
     requires few_sets { length sets.now < 2 ^ 32 }
@@ -49,13 +50,13 @@ pub(crate) fn other_crossings(
 /// # Errors
 ///
 /// Out of memory, of which it takes some for each node.
-fn have_each_once(alloc: Global, nodes: u32, sets: &[CombSet]) -> Result<bool, AllocError>
+fn have_each_once(alloc: Global, nodes: u32, sets: &[CombSet]) -> Result<bool, Refused>
     requires few_nodes { nodes < 2 ^ 32 - 1 }
     requires few_sets { length sets.now < 2 ^ 32 }
     requires nodes { AreSetsOf nodes sets.now }
     ensures { IfOk result (λ once. IsTrue once ↔ All HasEachOnce (lists_of sets.now)) }
 {
-    let mut marks = vec![in alloc; 0; nodes as usize + 1]?;
+    let mut marks = filled(alloc, 0, nodes as usize + 1)?;
     'sets: for index in 0..sets.len() {
         // Marks from 1 on, since 0 means no mark.
         if !mark_nodes(&mut marks, index as u32 + 1, &sets[index].nodes) {

@@ -1,7 +1,8 @@
 //! What a pass over the steps of a tree of cases writes over.
 
 use crate::kept::KeptRows;
-use std::alloc::{AllocError, Global};
+use std::alloc::Global;
+use tsp_memory::{Refused, filled};
 
 /// The numbers of the leaf before and the rows that are kept at its multipliers, and memory for the
 /// numbers of a leaf and for two rows of its weights.
@@ -30,7 +31,7 @@ impl Room {
         nodes: usize,
         combs: usize,
         kept: KeptRows,
-    ) -> Result<Room, AllocError>
+    ) -> Result<Room, Refused>
         requires few_nodes { nodes < 2 ^ 32 }
         requires few_combs { combs < 2 ^ 32 }
         ensures room { IfOk result (λ room. IsRoom nodes combs room) }
@@ -38,11 +39,11 @@ impl Room {
         ensures start { IfOk result (λ room. room.numbers.items ≡ no_numbers_of nodes combs) }
     {
         Ok(Room {
-            numbers: vec![in alloc; 0; nodes + combs]?,
-            potentials: vec![in alloc; 0; nodes]?,
-            multipliers: vec![in alloc; 0; combs]?,
-            row: vec![in alloc; 0; nodes + 1]?,
-            moved: vec![in alloc; 0; nodes + 1]?,
+            numbers: filled(alloc, 0, nodes + combs)?,
+            potentials: filled(alloc, 0, nodes)?,
+            multipliers: filled(alloc, 0, combs)?,
+            row: filled(alloc, 0, nodes + 1)?,
+            moved: filled(alloc, 0, nodes + 1)?,
             kept,
         })
     }

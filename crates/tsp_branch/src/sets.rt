@@ -6,8 +6,9 @@ ghost use Rattle.tsp_theory.specs.states.Nearest.{least_at};
 ghost use Rattle.tsp_families.specs.FamilySets.{AreSetsOf};
 ghost use Rattle.tsp_branch.specs.states.Sets.{IsMoved, added, times, AreLengthened, IsSetTable};
 
-use std::alloc::{AllocError, Global};
+use std::alloc::Global;
 use tsp_families::CombSet;
+use tsp_memory::{Refused, push, with_capacity};
 use tsp_tree::add_at;
 
 /// Adds a number at each node of a list.
@@ -31,7 +32,7 @@ pub(crate) fn sets_by_node(
     alloc: Global,
     count: u32,
     sets: &[CombSet],
-) -> Result<Vec<Vec<u32>>, AllocError>
+) -> Result<Vec<Vec<u32>>, Refused>
     requires few { count < 2 ^ 32 - 1 }
     requires fewer { length sets.now < 2 ^ 32 }
     requires nodes { AreSetsOf count sets.now }
@@ -45,24 +46,24 @@ pub(crate) fn sets_by_node(
 }
 
 /// Adds a set's number to the list of each of its nodes.
-fn place_set(lists: &mut Vec<Vec<u32>>, number: u32, nodes: &[u32]) -> Result<(), AllocError>
+fn place_set(lists: &mut Vec<Vec<u32>>, number: u32, nodes: &[u32]) -> Result<(), Refused>
     requires { All (λ node. node < length lists.old.items) nodes.now }
     ensures { IfOk result (λ unit. AreLengthened (times number nodes.now) lists.old.items lists.new.items) }
 {
     'nodes: for node in nodes {
-        lists[*node as usize].push(number)?;
+        push(&mut lists[*node as usize], number)?;
     }
     Ok(())
 }
 
 /// An empty list for each node from 0 to `count`.
-fn empty_lists(alloc: Global, count: u32) -> Result<Vec<Vec<u32>>, AllocError>
+fn empty_lists(alloc: Global, count: u32) -> Result<Vec<Vec<u32>>, Refused>
     requires { count < 2 ^ 32 - 1 }
     ensures { IfOk result (λ lists. IsSetTable count [] lists.items) }
 {
-    let mut lists = Vec::with_capacity(alloc, count as usize + 1)?;
+    let mut lists = with_capacity(alloc, count as usize + 1)?;
     'lists: for _ in 0..count + 1 {
-        lists.push(Vec::new(alloc))?;
+        push(&mut lists, Vec::new(alloc))?;
     }
     Ok(lists)
 }

@@ -17,8 +17,9 @@ use crate::leaf::leaf_bound;
 use crate::open_case::OpenCase;
 use crate::open_leaf::OpenLeaf;
 use crate::rows::row_bound;
-use std::alloc::{AllocError, Global};
+use std::alloc::Global;
 use tsp_families::{CombSet, Crossings};
+use tsp_memory::Refused;
 use tsp_theory::Costs;
 
 /// What all leaves share: costs, and whether pairs have a direction; a scale; families by their
@@ -78,7 +79,7 @@ impl<C: Costs> Setting<'_, C> {
         leaf: &OpenLeaf,
         case: &OpenCase,
         row: &mut [i64],
-    ) -> Result<Option<i128>, AllocError>
+    ) -> Result<Option<i128>, Refused>
         requires are_families { All (IsFamily (C.nodes self.now.costs.now))
             (families_of self.now.crossed.now (plain self.now.sets.now)) }
         requires numbers { AreGoodNumbers (C.nodes self.now.costs.now) self.now.crossed.now
@@ -113,7 +114,7 @@ impl<C: Costs> Setting<'_, C> {
         leaf: &OpenLeaf,
         case: &OpenCase,
         row: &mut [i64],
-    ) -> Result<i128, AllocError>
+    ) -> Result<i128, Refused>
         requires undirected { self.now.directed ≡ false }
         requires are_families { All (IsFamily (C.nodes self.now.costs.now))
             (families_of self.now.crossed.now (plain self.now.sets.now)) }

@@ -11,9 +11,10 @@ ghost use Rattle.tsp_branch.specs.Twice.{AreBranchesJudged};
 use crate::decision::Decision;
 use crate::pairs::key_of;
 use crate::stack::next_case;
-use std::alloc::{AllocError, Global};
+use std::alloc::Global;
 use std::collections::BTreeSet;
 use tsp_format::TreeStep;
+use tsp_memory::{Refused, insert, push};
 
 /// The first branch on a pair that is decided above it or given, counted from 1. `None` where each
 /// case decides a pair at most once. Directed pairs are the same in the same order of their nodes
@@ -31,7 +32,7 @@ pub fn first_twice(
     directed: bool,
     given: &[Decision],
     steps: &[TreeStep],
-) -> Result<Option<usize>, AllocError>
+) -> Result<Option<usize>, Refused>
     requires { DecideOnce directed given.now }
     ensures { IfOk result (AreBranchesJudged directed given.now (steps_of steps.now)) }
 {
@@ -43,11 +44,11 @@ pub fn first_twice(
             TreeStep::Branch(first, second) => {
                 count += 1;
                 let pair = (*first, *second);
-                let is_new = decided.insert(key_of(directed, pair))?;
+                let is_new = insert(&mut decided, key_of(directed, pair))?;
                 if !is_new {
                     return Ok(Some(count));
                 }
-                stack.push(Decision { pair, taken: true })?;
+                push(&mut stack, Decision { pair, taken: true })?;
             }
             TreeStep::Leaf(_) => {
                 if !leave_case(directed, &mut stack, &mut decided) {
@@ -83,12 +84,12 @@ fn given_pairs(
     alloc: Global,
     directed: bool,
     given: &[Decision],
-) -> Result<BTreeSet<(u32, u32)>, AllocError>
+) -> Result<BTreeSet<(u32, u32)>, Refused>
     ensures { IfOk result (λ decided. HasDecided directed decided given.now) }
 {
     let mut decided = BTreeSet::new(alloc);
     'given: for decision in given {
-        decided.insert(key_of(directed, decision.pair))?;
+        insert(&mut decided, key_of(directed, decision.pair))?;
     }
     Ok(decided)
 }

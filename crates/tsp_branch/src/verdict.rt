@@ -19,7 +19,8 @@ use crate::case_tree::CaseTree;
 use crate::good_combs::judge_families;
 use crate::steps::{BranchVerdict, Judged, JudgedFamilies};
 use crate::twice::first_twice;
-use std::alloc::{AllocError, Global};
+use std::alloc::Global;
+use tsp_memory::Refused;
 use tsp_theory::Costs;
 
 /// The verdict on a certificate by branching: the first family that isn't good, or the first branch
@@ -42,10 +43,7 @@ use tsp_theory::Costs;
 /// Out of memory, of which it takes some for each node, each comb, each node of a set, and
 /// each decision of a case. For trees of several leaves it also takes some for each pair of up to
 /// 2,000 nodes, where there is any.
-pub fn judge_branches<C: Costs>(
-    alloc: Global,
-    tree: &CaseTree<C>,
-) -> Result<BranchVerdict, AllocError>
+pub fn judge_branches<C: Costs>(alloc: Global, tree: &CaseTree<C>) -> Result<BranchVerdict, Refused>
     requires some { 3 ≤ C.nodes tree.now.costs.now }
     requires even { tree.now.directed ≡ false → IsSymmetric (C.at tree.now.costs.now) }
     requires scaled { IsScale tree.now.scale }

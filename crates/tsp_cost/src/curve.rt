@@ -2,8 +2,9 @@
 
 ghost use Rattle.std.specs.Prelude.{◌<◌, ◌≤◌, ◌^◌, length};
 
-use std::alloc::{AllocError, Global};
+use std::alloc::Global;
 use tsp_distance::{Decimal, InSpace, Point};
+use tsp_memory::{Refused, push, sort, with_capacity};
 use tsp_theory::Region;
 
 /// How many cells a grid has along each axis.
@@ -15,7 +16,7 @@ const CELLS: u64 = 65536;
 /// # Errors
 ///
 /// Out of memory.
-pub(crate) fn along_curve<P: InSpace>(alloc: Global, points: &[P]) -> Result<Vec<u32>, AllocError>
+pub(crate) fn along_curve<P: InSpace>(alloc: Global, points: &[P]) -> Result<Vec<u32>, Refused>
     requires some { 1 ≤ length points.now }
     requires few { length points.now < 2 ^ 31 }
 {
@@ -23,15 +24,18 @@ pub(crate) fn along_curve<P: InSpace>(alloc: Global, points: &[P]) -> Result<Vec
     let corner = region.low;
     let side = widest(&region) / CELLS + 1;
     let is_flat = gap(region.low.z, region.high.z) == 0;
-    let mut keyed: Vec<(u64, u32)> = Vec::with_capacity(alloc, points.len())?;
+    let mut keyed: Vec<(u64, u32)> = with_capacity(alloc, points.len())?;
     'points: for i in 0..points.len() {
         let point = points[i].in_space();
-        keyed.push((key_of(&corner, &point, side, is_flat), i as u32 + 1))?;
+        push(
+            &mut keyed,
+            (key_of(&corner, &point, side, is_flat), i as u32 + 1),
+        )?;
     }
-    keyed.sort()?;
-    let mut nodes = Vec::with_capacity(alloc, keyed.len())?;
+    sort(&mut keyed)?;
+    let mut nodes = with_capacity(alloc, keyed.len())?;
     'keyed: for pair in &keyed {
-        nodes.push(pair.1)?;
+        push(&mut nodes, pair.1)?;
     }
     Ok(nodes)
 }

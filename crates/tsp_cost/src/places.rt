@@ -7,8 +7,9 @@ use crate::curve::along_curve;
 use crate::matrix::EvenMatrix;
 use crate::points::Points;
 use crate::triangle::Triangle;
-use std::alloc::{AllocError, Global};
+use std::alloc::Global;
 use tsp_distance::{InSpace, Point, monotone_laws};
+use tsp_memory::Refused;
 use tsp_theory::{Grouped, Region};
 
 impl<P: InSpace> Points<'_, P> {
@@ -29,7 +30,7 @@ impl<P: InSpace> Grouped for Points<'_, P> {
 
     ghost place = { points_place P.place };
 
-    fn order(&self, alloc: Global) -> Result<Vec<u32>, AllocError> {
+    fn order(&self, alloc: Global) -> Result<Vec<u32>, Refused> {
         along_curve(alloc, self.points)
     }
 

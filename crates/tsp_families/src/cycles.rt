@@ -5,14 +5,15 @@ ghost use Rattle.tsp_families.specs.Crossed.{IsLeastLength};
 ghost use Rattle.tsp_families.specs.Paths.{cost_by_rows, as_whole};
 
 use crate::paths::{NO_PATH, best_paths, least_sum, power};
-use std::alloc::{AllocError, Global};
+use std::alloc::Global;
+use tsp_memory::Refused;
 
 /// The least length of a cycle of at most 14 nodes, of which the costs are listed by rows.
 ///
 /// # Errors
 ///
 /// Out of memory.
-pub fn least_cycle(alloc: Global, costs: &[u32], nodes: usize) -> Result<u64, AllocError>
+pub fn least_cycle(alloc: Global, costs: &[u32], nodes: usize) -> Result<u64, Refused>
     requires some { 1 ≤ nodes }
     requires few { nodes ≤ 14 }
     requires square { length costs.now ≡ nodes * nodes }

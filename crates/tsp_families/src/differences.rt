@@ -4,7 +4,8 @@ ghost use Rattle.std.specs.Prelude.{◌≡◌, ◌≤◌, ◌<◌, ◌+◌, ◌*
 ghost use Rattle.std.specs.List.{All};
 ghost use Rattle.tsp_families.specs.Memberships.{IsNodePlace};
 
-use std::alloc::{AllocError, Global};
+use std::alloc::Global;
+use tsp_memory::{Refused, push};
 
 /// The crossings between nodes, by rows: in how many bits their memberships differ.
 ///
@@ -15,7 +16,7 @@ pub(crate) fn crossings_between(
     alloc: Global,
     memberships: &[u64],
     firsts: &[u32],
-) -> Result<Vec<u32>, AllocError>
+) -> Result<Vec<u32>, Refused>
     requires few { length firsts.now ≤ 14 }
     requires places { All (IsNodePlace memberships.now) firsts.now }
     ensures long { IfOk result (λ costs. length costs.items ≡ length firsts.now * length firsts.now) }
@@ -29,7 +30,7 @@ pub(crate) fn crossings_between(
         'columns: for b in 0..firsts.len() {
             let from = memberships[firsts[a] as usize];
             let to = memberships[firsts[b] as usize];
-            costs.push((from ^ to).count_ones())?;
+            push(&mut costs, (from ^ to).count_ones())?;
         }
     }
     Ok(costs)

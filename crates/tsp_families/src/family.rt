@@ -10,7 +10,8 @@ use crate::cycles::least_cycle;
 use crate::differences::crossings_between;
 use crate::laws::parts_tell_cycles;
 use crate::parts::parts_of;
-use std::alloc::{AllocError, Global};
+use std::alloc::Global;
+use tsp_memory::Refused;
 
 /// How many sets a family may have.
 const MOST_SETS: usize = 63;
@@ -35,7 +36,7 @@ pub fn family_crossings(
     alloc: Global,
     nodes: u32,
     sets: &[CombSet],
-) -> Result<Option<Crossings>, AllocError>
+) -> Result<Option<Crossings>, Refused>
     requires some { 1 ≤ nodes }
     requires few { nodes < 2 ^ 32 - 1 }
     requires nodes { AreSetsOf nodes sets.now }

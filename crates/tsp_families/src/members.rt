@@ -7,7 +7,8 @@ ghost use Rattle.tsp_families.specs.Memberships.{AreMemberships};
 ghost use Rattle.tsp_families.specs.FamilySets.{AreSetsOf, lists_of};
 
 use crate::comb_set::CombSet;
-use std::alloc::{AllocError, Global};
+use std::alloc::Global;
+use tsp_memory::{Refused, filled};
 
 /// The memberships of nodes.
 ///
@@ -18,13 +19,13 @@ pub(crate) fn memberships_of(
     alloc: Global,
     nodes: u32,
     sets: &[CombSet],
-) -> Result<Vec<u64>, AllocError>
+) -> Result<Vec<u64>, Refused>
     requires few { nodes < 2 ^ 32 - 1 }
     requires few_sets { length sets.now ≤ 63 }
     requires nodes { AreSetsOf nodes sets.now }
     ensures { IfOk result (λ memberships. AreMemberships nodes (sets_of (lists_of sets.now)) memberships.items) }
 {
-    let mut memberships = vec![in alloc; 0; nodes as usize + 1]?;
+    let mut memberships = filled(alloc, 0, nodes as usize + 1)?;
     'sets: for set in 0..sets.len() {
         add_bit(&mut memberships, 1 << set, &sets[set].nodes);
     }

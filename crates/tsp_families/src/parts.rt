@@ -9,7 +9,8 @@ ghost use Rattle.tsp_families.specs.FamilySets.{AreSetsOf, lists_of};
 
 use crate::comb_set::CombSet;
 use crate::members::memberships_of;
-use std::alloc::{AllocError, Global};
+use std::alloc::Global;
+use tsp_memory::{Refused, push};
 
 /// How many parts there may be.
 const MOST_PARTS: usize = 14;
@@ -29,7 +30,7 @@ pub struct Parts {
 /// # Errors
 ///
 /// Out of memory, of which it takes some for each node.
-pub fn parts_of(alloc: Global, nodes: u32, sets: &[CombSet]) -> Result<Option<Parts>, AllocError>
+pub fn parts_of(alloc: Global, nodes: u32, sets: &[CombSet]) -> Result<Option<Parts>, Refused>
     requires few { nodes < 2 ^ 32 - 1 }
     requires few_sets { length sets.now ≤ 63 }
     requires nodes { AreSetsOf nodes sets.now }
@@ -51,7 +52,7 @@ pub fn parts_of(alloc: Global, nodes: u32, sets: &[CombSet]) -> Result<Option<Pa
 }
 
 /// A node of each membership, from node 1 on. `None` where there are more than 14.
-fn firsts_of(alloc: Global, memberships: &[u64]) -> Result<Option<Vec<u32>>, AllocError>
+fn firsts_of(alloc: Global, memberships: &[u64]) -> Result<Option<Vec<u32>>, Refused>
     requires { length memberships.now < 2 ^ 32 }
     ensures firsts { IfOk result (λ found. MatchOption found
         ((nodes : List ℕ) × (length nodes ≡ 15) × All (IsNodePlace memberships.now) nodes × AreDifferent memberships.now nodes)
@@ -64,7 +65,7 @@ fn firsts_of(alloc: Global, memberships: &[u64]) -> Result<Option<Vec<u32>>, All
             if firsts.len() >= MOST_PARTS {
                 return Ok(None);
             }
-            firsts.push(node as u32)?;
+            push(&mut firsts, node as u32)?;
         }
     }
     Ok(Some(firsts))

@@ -4,7 +4,8 @@ ghost use Rattle.std.specs.Prelude.{◌≡◌, ℕ, ◌+◌, ◌-◌, ◌*◌, �
 ghost use Rattle.std.specs.List.{All};
 ghost use Rattle.tsp_families.specs.Paths.{cost_by_rows, no_path, IsBestPath, AreBestPaths, IsLeastSum};
 
-use std::alloc::{AllocError, Global};
+use std::alloc::Global;
+use tsp_memory::{Refused, push};
 
 /// What stands where there is no path.
 pub(crate) const NO_PATH: u64 = 1_152_921_504_606_846_976;
@@ -74,7 +75,7 @@ pub(crate) fn power(exponent: usize) -> usize
 /// # Errors
 ///
 /// Out of memory.
-pub(crate) fn best_paths(alloc: Global, costs: &[u32], nodes: usize) -> Result<Vec<u64>, AllocError>
+pub(crate) fn best_paths(alloc: Global, costs: &[u32], nodes: usize) -> Result<Vec<u64>, Refused>
     requires some { 2 ≤ nodes }
     requires few { nodes ≤ 14 }
     requires square { length costs.now ≡ nodes * nodes }
@@ -88,7 +89,7 @@ pub(crate) fn best_paths(alloc: Global, costs: &[u32], nodes: usize) -> Result<V
     'sets: for set in 0..count {
         'nodes: for other in 0..others {
             let best = best_path(costs, nodes, &paths, set, other);
-            paths.push(best)?;
+            push(&mut paths, best)?;
         }
     }
     Ok(paths)

@@ -8,7 +8,8 @@ ghost use Rattle.tsp_theory.specs.Regions.{IsIn};
 
 use crate::costs::Symmetric;
 use crate::region::Region;
-use std::alloc::{AllocError, Global};
+use std::alloc::Global;
+use tsp_memory::Refused;
 
 /// Costs whose nodes may have places in space, so that a region says of all nodes in it at once that
 /// they are far. By itself no node has a region, nothing is known of one, and the order is empty.
@@ -21,7 +22,7 @@ pub trait Grouped: Symmetric {
     /// # Errors
     ///
     /// Out of memory.
-    fn order(&self, alloc: Global) -> Result<Vec<u32>, AllocError> {
+    fn order(&self, alloc: Global) -> Result<Vec<u32>, Refused> {
         Ok(Vec::new(alloc))
     }
 

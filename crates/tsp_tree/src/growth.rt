@@ -11,7 +11,8 @@ ghost use Rattle.tsp_tree.specs.states.Outside.{AreFromThree, AreBroughtNearer, 
 
 use crate::row::weight_in;
 use crate::weights::Weights;
-use std::alloc::{AllocError, Global};
+use std::alloc::Global;
+use tsp_memory::{Refused, filled, push, with_capacity};
 
 /// The pairs of a growth, and the sum of their weights.
 #[derive(Drop)]
@@ -33,7 +34,7 @@ pub struct Grown {
 /// # Errors
 ///
 /// Out of memory, of which it takes some for each node.
-pub fn grow<W: Weights>(alloc: Global, w: &W, row: &mut [i64]) -> Result<Grown, AllocError>
+pub fn grow<W: Weights>(alloc: Global, w: &W, row: &mut [i64]) -> Result<Grown, Refused>
     requires some { 3 ≤ W.nodes w.now }
     requires room { length row.old ≡ W.nodes w.now + 1 }
     ensures whole { IfOk result (λ grown. IsWholeGrowth (W.nodes w.now) (W.at w.now) grown.pairs.items) }
@@ -42,15 +43,15 @@ pub fn grow<W: Weights>(alloc: Global, w: &W, row: &mut [i64]) -> Result<Grown, 
         (pos (most_nodes * 2 ^ 63)) grown.weight) }
 {
     let mut outside = nodes_from_three(alloc, w.count())?;
-    let mut near: Vec<u32> = vec![in alloc; 2; outside.len()]?;
+    let mut near: Vec<u32> = filled(alloc, 2, outside.len())?;
     // Every weight is below the one that means none.
-    let mut least = vec![in alloc; i64::MAX; outside.len()]?;
-    let mut pairs = Vec::with_capacity(alloc, outside.len())?;
+    let mut least = filled(alloc, i64::MAX, outside.len())?;
+    let mut pairs = with_capacity(alloc, outside.len())?;
     let mut weight = 0;
     let mut nearest = reach(w, row, &outside, &mut near, &mut least, 2);
     'grow: while let Some(place) = nearest {
         let next = outside.swap_remove(place);
-        pairs.push((near.swap_remove(place), next))?;
+        push(&mut pairs, (near.swap_remove(place), next))?;
         weight += i128::from(least.swap_remove(place));
         nearest = reach(w, row, &outside, &mut near, &mut least, next);
     }
@@ -58,14 +59,14 @@ pub fn grow<W: Weights>(alloc: Global, w: &W, row: &mut [i64]) -> Result<Grown, 
 }
 
 /// The nodes from 3 on.
-fn nodes_from_three(alloc: Global, count: u32) -> Result<Vec<u32>, AllocError>
+fn nodes_from_three(alloc: Global, count: u32) -> Result<Vec<u32>, Refused>
     requires some { 2 ≤ count }
     requires most { count ≤ most_nodes }
     ensures { IfOk result (λ nodes. AreFromThree count nodes.items) }
 {
-    let mut nodes = Vec::with_capacity(alloc, count as usize)?;
+    let mut nodes = with_capacity(alloc, count as usize)?;
     'nodes: for node in 3..count + 1 {
-        nodes.push(node)?;
+        push(&mut nodes, node)?;
     }
     Ok(nodes)
 }

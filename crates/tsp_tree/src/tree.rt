@@ -8,7 +8,8 @@ ghost use Rattle.tsp_tree.specs.Weighed.{IsLeastWeight};
 use crate::growth::grow;
 use crate::spokes::two_spokes;
 use crate::weights::Weights;
-use std::alloc::{AllocError, Global};
+use std::alloc::Global;
+use tsp_memory::Refused;
 
 /// The weight of a 1-tree than which none weighs less, under symmetric weights.
 ///
@@ -23,7 +24,7 @@ use std::alloc::{AllocError, Global};
 /// # Errors
 ///
 /// Out of memory, of which it takes some for each node.
-pub fn least_weight<W: Weights>(alloc: Global, w: &W, row: &mut [i64]) -> Result<i128, AllocError>
+pub fn least_weight<W: Weights>(alloc: Global, w: &W, row: &mut [i64]) -> Result<i128, Refused>
     requires some { 3 ≤ W.nodes w.now }
     requires room { length row.old ≡ W.nodes w.now + 1 }
     requires even { (i j : ℕ) → W.at w.now i j ≡ W.at w.now j i }

@@ -20,12 +20,13 @@ ghost use Rattle.tsp_verdict.specs.states.Costs.{IsLengthOf};
 use crate::bounded::{costs_of_tours, judge_bound};
 use crate::files::{routing, solution_tours};
 use crate::loads::least_routes;
-use crate::routes::{FEWEST_NODES, judge_routes};
+use crate::routes::{FEWEST_NODES, verdict_on_routes};
 use crate::tour::length_after_files;
 use std::alloc::{AllocError, Global};
 use tsp_cost::{Costs, Instance};
 use tsp_file::{File, RoutingData};
 use tsp_format::Kind;
+use tsp_memory::Refused;
 use tsp_reason::{Basis, BoundVerdict, Certificate, Reason, Verdict};
 
 /// What is known of all solutions of an instance, before any is read.
@@ -148,7 +149,7 @@ pub fn judge_next(
         (λ refused. NoneBeforeRepeatsOn instance.now solution.now) }
 {
     let bound = match basis {
-        Basis::Routes { .. } => return judge_routes(alloc, instance, solution),
+        Basis::Routes { .. } => return Ok(verdict_on_routes(alloc, instance, solution)?),
         Basis::Tours { bound } => bound,
         // Then no solution has a tour, so that its length isn't reached.
         Basis::NoTour | Basis::No(_) => None,
@@ -165,7 +166,7 @@ fn length_of_next(
     alloc: Global,
     inst: &Instance,
     sol: &File,
-) -> Result<Result<i64, Reason>, AllocError>
+) -> Result<Result<i64, Reason>, Refused>
     requires kind { (inst.now.kind ≡ Some kinds.Tsp) ⊎ (inst.now.kind ≡ Some kinds.Atsp) }
     requires none { NoneAgainstInstance inst.now }
     ensures { MatchResult result

@@ -45,7 +45,7 @@ pub fn judge_bound(
         Ok(costs) => costs,
         Err(reason) => return Ok(BoundVerdict::No(reason)),
     };
-    bound_of(alloc, by, instance, costs, certificate)
+    Ok(bound_of(alloc, by, instance, costs, certificate)?)
 }
 
 /// The costs of an instance, or the first reason against it, whatever the tour.

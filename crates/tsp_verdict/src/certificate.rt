@@ -22,7 +22,7 @@ ghost use Rattle.tsp_verdict.specs.Certified.{IsCertified, FindsBound, NoneWitho
 ghost use Rattle.tsp_verdict.specs.Multiplied.{AreListed};
 
 use crate::multiplied::{first_repeated_pair, first_unlisted};
-use std::alloc::{AllocError, Global};
+use std::alloc::Global;
 use tsp_bound::{
     Duals, Infeasible, Multipliers, Potentials, adjusted_bounds_bound_cycles, dual_bound,
     duals_bound_cycles, one_tree_in_space,
@@ -30,6 +30,7 @@ use tsp_bound::{
 use tsp_cost::{Costs, EvenView, Grouped, Instance, View};
 use tsp_file::File;
 use tsp_format::Kind;
+use tsp_memory::Refused;
 use tsp_reason::{BoundVerdict, Reason};
 
 /// The potentials of nodes that a certificate holds, and its multipliers of fixed pairs.
@@ -52,7 +53,7 @@ pub(crate) fn bound_by_nodes(
     inst: &Instance,
     view: EvenView<'_>,
     pot: &File,
-) -> Result<BoundVerdict, AllocError>
+) -> Result<BoundVerdict, Refused>
     requires kind { inst.now.kind ≡ Some kinds.Tsp }
     requires some { 3 ≤ nodes_of inst.now }
     requires shows { ShowsEven inst.now view }
@@ -153,7 +154,7 @@ fn first_against_multipliers(
     inst: &Instance,
     pot: &File,
     triples: &[(u32, u32, i64)],
-) -> Result<Option<Reason>, AllocError>
+) -> Result<Option<Reason>, Refused>
     requires kind { inst.now.kind ≡ Some kinds.Tsp }
     requires sort { is_certificate pot.now.kind ≡ true }
     requires count { nodes_of pot.now ≡ nodes_of inst.now }
@@ -235,7 +236,7 @@ fn bound_of_potentials(
     view: EvenView<'_>,
     pot: &File,
     numbers: &NodeNumbers<'_>,
-) -> Result<i128, AllocError>
+) -> Result<i128, Refused>
     requires kind { inst.now.kind ≡ Some kinds.Tsp }
     requires some { 3 ≤ nodes_of inst.now }
     requires shows { ShowsEven inst.now view }
@@ -262,7 +263,7 @@ fn tree_bound<C: Grouped>(
     c: &C,
     pot: &File,
     numbers: &NodeNumbers<'_>,
-) -> Result<i128, AllocError>
+) -> Result<i128, Refused>
     requires keeps { HasCosts inst.now (C.nodes c.now) (C.at c.now) }
     requires kind { inst.now.kind ≡ Some kinds.Tsp }
     requires some { 3 ≤ nodes_of inst.now }

@@ -19,6 +19,7 @@ use std::alloc::{AllocError, Global};
 use tsp_cost::Instance;
 use tsp_file::File;
 use tsp_format::Kind;
+use tsp_memory::Refused;
 use tsp_reason::{BoundVerdict, Certificate, Reason, Verdict};
 
 /// The verdict on a solution of an instance with a certificate: rejected with the first reason
@@ -46,7 +47,7 @@ pub fn judge_certified(
         (λ verdict. IsCertifiedVerdict by instance.now solution.now certificate.now verdict)
         (λ refused. NoneOfTourBeforeRepeats instance.now solution.now) }
 {
-    judge_with_claim(alloc, by, instance, solution, certificate, None)
+    Ok(judge_with_claim(alloc, by, instance, solution, certificate, None)?)
 }
 
 /// The verdict of [`judge_certified`], where a length may be claimed: another one than the tour's is
@@ -58,7 +59,7 @@ pub(crate) fn judge_with_claim(
     solution: &File,
     certificate: &File,
     claimed: Option<i64>,
-) -> Result<Verdict, AllocError>
+) -> Result<Verdict, Refused>
     requires { IsTrue (is_bounded by instance.now.kind) }
     ensures { MatchResult result
         (λ verdict. IsVerdictWith (Some (by, certificate.now)) claimed instance.now solution.now verdict)
@@ -161,7 +162,7 @@ pub(crate) fn bound_of(
     instance: &Instance,
     costs: TourCosts<'_>,
     certificate: &File,
-) -> Result<BoundVerdict, AllocError>
+) -> Result<BoundVerdict, Refused>
     requires some { 3 ≤ nodes_of instance.now }
     requires kind { (instance.now.kind ≡ Some kinds.Tsp) ⊎ (instance.now.kind ≡ Some kinds.Atsp) }
     requires costs { AreTourCosts instance.now costs }

@@ -4,9 +4,10 @@ ghost use Rattle.std.specs.Prelude.{◌≡◌, ◌≤◌, IfOk};
 ghost use Rattle.tsp_branch.specs.Decisions.{take_pairs};
 ghost use Rattle.tsp_verdict.specs.Tree.{each_once};
 
-use std::alloc::{AllocError, Global};
+use std::alloc::Global;
 use std::collections::BTreeSet;
 use tsp_branch::{Decision, key_of};
+use tsp_memory::{Refused, insert, push};
 
 /// Pairs as decisions that take them, each once: without those that are an earlier one; where pairs
 /// have no direction, in either.
@@ -18,18 +19,21 @@ pub(crate) fn taken_once(
     alloc: Global,
     directed: bool,
     pairs: &[(u32, u32)],
-) -> Result<Vec<Decision>, AllocError>
+) -> Result<Vec<Decision>, Refused>
     ensures { IfOk result (λ taken. taken.items ≡ take_pairs (each_once directed pairs.now)) }
 {
     let mut seen = BTreeSet::new(alloc);
     let mut taken = Vec::new(alloc);
     'pairs: for pair in pairs {
-        let is_new = seen.insert(key_of(directed, *pair))?;
+        let is_new = insert(&mut seen, key_of(directed, *pair))?;
         if is_new {
-            taken.push(Decision {
-                pair: *pair,
-                taken: true,
-            })?;
+            push(
+                &mut taken,
+                Decision {
+                    pair: *pair,
+                    taken: true,
+                },
+            )?;
         }
     }
     Ok(taken)

@@ -8,18 +8,19 @@ ghost use Rattle.tsp_theory.specs.Cycle.{IsCycle};
 ghost use Rattle.tsp_verdict.specs.Places.{IsFirstPlace, IsUnused};
 ghost use Rattle.tsp_verdict.specs.states.Next.{AreNext};
 
-use std::alloc::{AllocError, Global};
+use std::alloc::Global;
+use tsp_memory::{Refused, filled};
 
 /// For each node of a cycle of n nodes the one that comes next, the first one after the last.
 ///
 /// # Errors
 ///
 /// Out of memory for a number for each node.
-pub(crate) fn next_nodes(alloc: Global, cycle: &[u32], n: u32) -> Result<Vec<u32>, AllocError>
+pub(crate) fn next_nodes(alloc: Global, cycle: &[u32], n: u32) -> Result<Vec<u32>, Refused>
     requires { IsCycle n cycle.now }
     ensures { IfOk result (λ next. (vec_len next ≡ n + 1) × AreNext cycle.now next.items) }
 {
-    let mut next = vec![in alloc; 0; n as usize + 1]?;
+    let mut next = filled(alloc, 0, n as usize + 1)?;
     let Some((first, others)) = cycle.split_first() else {
         return Ok(next);
     };

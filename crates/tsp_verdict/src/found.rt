@@ -7,9 +7,10 @@ ghost use Rattle.tsp_verdict.specs.Judged.{NoneBeforeRepeatsOn, IsVerdictWith};
 
 use crate::judged::is_other;
 use crate::tour::length_of_tour;
-use std::alloc::{AllocError, Global};
+use std::alloc::Global;
 use tsp_cost::Instance;
 use tsp_file::File;
+use tsp_memory::Refused;
 use tsp_reason::{BoundVerdict, Certificate, Reason, Verdict};
 
 /// The verdict of [`crate::judge`] on a solution of an instance with a certificate, by what
@@ -30,7 +31,7 @@ pub fn judge_by_bound(
     certificate: (Certificate, &File),
     found: BoundVerdict,
     claimed: Option<i64>,
-) -> Result<Verdict, AllocError>
+) -> Result<Verdict, Refused>
     requires kind { IsTrue (is_bounded certificate.0 instance.now.kind) }
     requires found { IsBoundVerdict certificate.0 instance.now certificate.1.now found }
     ensures { MatchResult result

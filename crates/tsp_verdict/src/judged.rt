@@ -6,12 +6,13 @@ ghost use Rattle.tsp_verdict.specs.Judged.{is_judged, IsVerdictOn, NoneBeforeRep
 ghost use Rattle.tsp_draft.specs.Fields.{Fields};
 
 use crate::certified::judge_with_claim;
-use crate::routes::judge_routes;
-use crate::tour::judge_tour;
+use crate::routes::verdict_on_routes;
+use crate::tour::verdict_on_tour;
 use std::alloc::{AllocError, Global};
 use tsp_cost::Instance;
 use tsp_file::File;
 use tsp_format::Kind;
+use tsp_memory::Refused;
 use tsp_reason::{Certificate, Reason, Verdict};
 
 /// The verdict on a solution of an instance: on a tour, or for TYPE CVRP on routes.
@@ -45,20 +46,20 @@ pub fn judge(
             let verdict = judge_alone(alloc, instance, solution)?;
             Ok(with_claim(verdict, claimed))
         }
-        Some((by, file)) => judge_with_claim(alloc, by, instance, solution, file, claimed),
+        Some((by, file)) => Ok(judge_with_claim(alloc, by, instance, solution, file, claimed)?),
     }
 }
 
 /// The verdict on a solution on its own. Out of memory, none of the reasons applies that are found
 /// without memory.
-fn judge_alone(alloc: Global, instance: &Instance, solution: &File) -> Result<Verdict, AllocError>
+fn judge_alone(alloc: Global, instance: &Instance, solution: &File) -> Result<Verdict, Refused>
     ensures { MatchResult result
         (λ verdict. IsVerdictOn instance.now solution.now verdict)
         (λ refused. NoneBeforeRepeatsOn instance.now solution.now) }
 {
     match instance.kind() {
-        Kind::Cvrp => judge_routes(alloc, instance, solution),
-        _ => judge_tour(alloc, instance, solution),
+        Kind::Cvrp => verdict_on_routes(alloc, instance, solution),
+        _ => verdict_on_tour(alloc, instance, solution),
     }
 }
 

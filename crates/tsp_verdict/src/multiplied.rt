@@ -7,9 +7,10 @@ ghost use Rattle.tsp_verdict.specs.Multiplied.{AreListed, IsUnlisted, IsPairRepe
 ghost use Rattle.tsp_branch.specs.states.PairSets.{HasPairs};
 ghost use Rattle.tsp_verdict.specs.Places.{IsFirstPlace};
 
-use std::alloc::{AllocError, Global};
+use std::alloc::Global;
 use std::collections::BTreeSet;
 use tsp_branch::key_of;
+use tsp_memory::{Refused, insert};
 
 /// The first triple, counted from 1, whose pair isn't among the fixed ones, in either direction.
 ///
@@ -20,7 +21,7 @@ pub(crate) fn first_unlisted(
     alloc: Global,
     fixed: &[(u32, u32)],
     triples: &[(u32, u32, i64)],
-) -> Result<Option<u32>, AllocError>
+) -> Result<Option<u32>, Refused>
     requires { length triples.now < 2 ^ 32 }
     ensures { IfOk result (λ found. MatchOption found
         (AreListed fixed.now triples.now)
@@ -38,7 +39,7 @@ pub(crate) fn first_unlisted(
 pub(crate) fn first_repeated_pair(
     alloc: Global,
     triples: &[(u32, u32, i64)],
-) -> Result<Option<u32>, AllocError>
+) -> Result<Option<u32>, Refused>
     requires { length triples.now < 2 ^ 32 }
     ensures { IfOk result (λ found. MatchOption found
         (AllPairs (λ s t. is_same_pair (pair_of s) (pair_of t) ≡ false) triples.now)
@@ -48,7 +49,7 @@ pub(crate) fn first_repeated_pair(
     let mut index = 0;
     'triples: for triple in triples {
         index += 1;
-        let is_new = seen.insert(key_of(false, (triple.0, triple.1)))?;
+        let is_new = insert(&mut seen, key_of(false, (triple.0, triple.1)))?;
         if !is_new {
             return Ok(Some(index));
         }
@@ -57,12 +58,12 @@ pub(crate) fn first_repeated_pair(
 }
 
 /// The pairs, each with its smaller node first.
-fn set_of(alloc: Global, pairs: &[(u32, u32)]) -> Result<BTreeSet<(u32, u32)>, AllocError>
+fn set_of(alloc: Global, pairs: &[(u32, u32)]) -> Result<BTreeSet<(u32, u32)>, Refused>
     ensures { IfOk result (λ set. HasPairs (λ pair. pair) set pairs.now) }
 {
     let mut set = BTreeSet::new(alloc);
     'pairs: for pair in pairs {
-        set.insert(key_of(false, *pair))?;
+        insert(&mut set, key_of(false, *pair))?;
     }
     Ok(set)
 }

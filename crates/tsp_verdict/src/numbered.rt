@@ -5,18 +5,16 @@ ghost use Rattle.tsp_draft.specs.states.Drafts.{combs_of};
 ghost use Rattle.tsp_branch.specs.states.Combed.{plain};
 ghost use Rattle.tsp_verdict.specs.states.Numbered.{numbered_from, with_number};
 
-use std::alloc::{AllocError, Global};
+use std::alloc::Global;
 use tsp_branch::CombSet;
+use tsp_memory::{Refused, copied, push};
 
 /// The sets of combs, comb by comb, each with the number of its comb from 0 on.
 ///
 /// # Errors
 ///
 /// Out of memory, of which it takes some for each set and each of its nodes.
-pub(crate) fn numbered_sets(
-    alloc: Global,
-    combs: &[Vec<Vec<u32>>],
-) -> Result<Vec<CombSet>, AllocError>
+pub(crate) fn numbered_sets(alloc: Global, combs: &[Vec<Vec<u32>>]) -> Result<Vec<CombSet>, Refused>
     requires { length combs.now < 2 ^ 32 }
     ensures { IfOk result (λ sets. plain sets.items ≡ numbered_from 0 (combs_of combs.now)) }
 {
@@ -39,16 +37,19 @@ fn add_sets(
     sets: &mut Vec<CombSet>,
     number: u32,
     comb: &[Vec<u32>],
-) -> Result<(), AllocError>
+) -> Result<(), Refused>
     ensures { IfOk result (λ done. plain sets.new.items
         ≡ plain sets.old.items ++ with_number number (map (λ set. set.items) comb.now)) }
 {
     'sets: for set in comb {
-        let nodes = set.to_vec(alloc)?;
-        sets.push(CombSet {
-            comb: number,
-            nodes,
-        })?;
+        let nodes = copied(alloc, set)?;
+        push(
+            sets,
+            CombSet {
+                comb: number,
+                nodes,
+            },
+        )?;
     }
     Ok(())
 }

@@ -5,7 +5,8 @@ ghost use Rattle.std.specs.List.{All};
 ghost use Rattle.tsp_verdict.specs.states.Marks.{Marked, StandsAfter};
 ghost use Rattle.tsp_verdict.specs.Places.{IsFirstPlace, IsLarger, IsAt, IsRepeated, HoldsAtNone};
 
-use std::alloc::{AllocError, Global};
+use std::alloc::Global;
+use tsp_memory::{Refused, filled};
 
 /// The first place whose node is larger than n.
 pub(crate) fn first_larger(nodes: &[u32], n: u32) -> Option<u32>
@@ -46,18 +47,14 @@ pub(crate) fn first_of(nodes: &[u32], sought: u32) -> Option<u32>
 /// # Errors
 ///
 /// Out of memory for a mark for each node.
-pub(crate) fn first_repeated(
-    alloc: Global,
-    nodes: &[u32],
-    n: u32,
-) -> Result<Option<u32>, AllocError>
+pub(crate) fn first_repeated(alloc: Global, nodes: &[u32], n: u32) -> Result<Option<u32>, Refused>
     requires size { length nodes.now < 2 ^ 32 }
     requires range { All (λ node. node ≤ n) nodes.now }
     ensures { IfOk result (λ found. MatchOption found
         (HoldsAtNone (IsRepeated nodes.now) (length nodes.now))
         (λ place. IsFirstPlace (IsRepeated nodes.now) nodes.now place)) }
 {
-    let mut seen = vec![in alloc; false; n as usize + 1]?;
+    let mut seen = filled(alloc, false, n as usize + 1)?;
     Ok(mark(&mut seen, nodes))
 }
 

@@ -19,6 +19,7 @@ use crate::visits::{first_larger_in, first_of_in, first_unmarked, mark_all};
 use std::alloc::{AllocError, Global};
 use tsp_cost::{Costs, Instance};
 use tsp_file::{File, RoutingData};
+use tsp_memory::{Refused, filled};
 use tsp_reason::{Reason, Verdict};
 
 /// The fewest nodes of an instance whose routes are judged.
@@ -46,6 +47,24 @@ pub fn judge_routes(alloc: Global, inst: &Instance, sol: &File) -> Result<Verdic
         (λ verdict. IsRoutesVerdict inst.now sol.now verdict)
         (λ refused. NoneOfRoutesBeforeRepeats inst.now sol.now) }
 {
+    Ok(verdict_on_routes(alloc, inst, sol)?)
+}
+
+/// What [`judge_routes`] returns.
+///
+/// # Errors
+///
+/// Those of [`judge_routes`].
+pub(crate) fn verdict_on_routes(
+    alloc: Global,
+    inst: &Instance,
+    sol: &File,
+) -> Result<Verdict, Refused>
+    requires { inst.now.kind ≡ Some kinds.Cvrp }
+    ensures { MatchResult result
+        (λ verdict. IsRoutesVerdict inst.now sol.now verdict)
+        (λ refused. NoneOfRoutesBeforeRepeats inst.now sol.now) }
+{
     let routing = routing(inst);
     let (depot, routes) = match the_depot(inst, &routing, sol) {
         Ok(found) => found,
@@ -54,7 +73,7 @@ pub fn judge_routes(alloc: Global, inst: &Instance, sol: &File) -> Result<Verdic
     if let Some(reason) = first_against_places(inst, sol, depot, routes) {
         return Ok(Verdict::No(reason));
     }
-    let mut seen = vec![in alloc; false; inst.count() as usize + 1]?;
+    let mut seen = filled(alloc, false, inst.count() as usize + 1)?;
     if let Some(place) = mark_all(&mut seen, routes) {
         return Ok(Verdict::No(Reason::RepeatedNode { place }));
     }

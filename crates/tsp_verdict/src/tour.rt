@@ -21,6 +21,7 @@ use std::alloc::{AllocError, Global};
 use tsp_cost::{Costs, EvenView, Instance, View, even_view, tour_length};
 use tsp_file::File;
 use tsp_format::Kind;
+use tsp_memory::Refused;
 use tsp_reason::{Reason, Verdict};
 
 /// The fewest nodes of an instance whose tours are judged.
@@ -42,6 +43,24 @@ pub(crate) const FEWEST_NODES: u32 = 3;
 /// Out of memory for a mark and a number for each node, and then no reason up to `NodeOutOfRange`
 /// applies: those are found without memory.
 pub fn judge_tour(alloc: Global, inst: &Instance, sol: &File) -> Result<Verdict, AllocError>
+    requires { (inst.now.kind ≡ Some kinds.Tsp) ⊎ (inst.now.kind ≡ Some kinds.Atsp) }
+    ensures { MatchResult result
+        (λ verdict. IsTourVerdict inst.now sol.now verdict)
+        (λ refused. NoneOfTourBeforeRepeats inst.now sol.now) }
+{
+    Ok(verdict_on_tour(alloc, inst, sol)?)
+}
+
+/// What [`judge_tour`] returns.
+///
+/// # Errors
+///
+/// Those of [`judge_tour`].
+pub(crate) fn verdict_on_tour(
+    alloc: Global,
+    inst: &Instance,
+    sol: &File,
+) -> Result<Verdict, Refused>
     requires { (inst.now.kind ≡ Some kinds.Tsp) ⊎ (inst.now.kind ≡ Some kinds.Atsp) }
     ensures { MatchResult result
         (λ verdict. IsTourVerdict inst.now sol.now verdict)
@@ -70,7 +89,7 @@ pub(crate) fn length_of_tour<'a>(
     alloc: Global,
     inst: &'a Instance,
     sol: &File,
-) -> Result<Result<(i64, TourCosts<'a>), Reason>, AllocError>
+) -> Result<Result<(i64, TourCosts<'a>), Reason>, Refused>
     requires { (inst.now.kind ≡ Some kinds.Tsp) ⊎ (inst.now.kind ≡ Some kinds.Atsp) }
     ensures { MatchResult result
         (λ found. FindsLength inst.now sol.now found)
@@ -93,7 +112,7 @@ pub(crate) fn length_after_files(
     inst: &Instance,
     sol: &File,
     tours: &[Vec<u32>],
-) -> Result<Result<i64, Reason>, AllocError>
+) -> Result<Result<i64, Reason>, Refused>
     requires kind { (inst.now.kind ≡ Some kinds.Tsp) ⊎ (inst.now.kind ≡ Some kinds.Atsp) }
     requires tours { AreToursOf sol.now tours.now }
     requires before { NoneOfTourUpTo inst.now sol.now (rank_of TourCount) }

@@ -17,12 +17,13 @@ ghost use Rattle.tsp_verdict.specs.Certified.{FindsBound, NoneWithoutMemory};
 use crate::decided::taken_once;
 use crate::numbered::numbered_sets;
 use crate::tour::is_directed;
-use std::alloc::{AllocError, Global};
+use std::alloc::Global;
 use tsp_branch::{
     BranchVerdict, CaseTree, certificates_bound_cycles, judge_branches, numbers_are_unique,
 };
 use tsp_cost::{Costs, Instance, View};
 use tsp_file::{File, TreeData};
+use tsp_memory::Refused;
 use tsp_reason::{BoundVerdict, Reason};
 
 /// The bound that a certificate by branching gives an instance of TYPE TSP or ATSP, or that it has no
@@ -35,7 +36,7 @@ pub(crate) fn bound_of_tree(
     alloc: Global,
     instance: &Instance,
     branches: &File,
-) -> Result<BoundVerdict, AllocError>
+) -> Result<BoundVerdict, Refused>
     requires kind { (instance.now.kind ≡ Some kinds.Tsp) ⊎ (instance.now.kind ≡ Some kinds.Atsp) }
     requires some { 3 ≤ nodes_of instance.now }
     requires even { IsSymmetricTsp instance.now }
@@ -83,7 +84,7 @@ fn judge_tree<C: Costs>(
     branches: &File,
     tree: &TreeData<'_>,
     costs: &C,
-) -> Result<BoundVerdict, AllocError>
+) -> Result<BoundVerdict, Refused>
     requires keeps { HasCosts instance.now (C.nodes costs.now) (C.at costs.now) }
     requires kind { (instance.now.kind ≡ Some kinds.Tsp) ⊎ (instance.now.kind ≡ Some kinds.Atsp) }
     requires some { 3 ≤ nodes_of instance.now }

@@ -14,6 +14,6 @@ triples-preserved c =
     let own : IsMultiplier t = c.requires.each index (0, 0, pos 0) c.triples-test.true in
     let number : to_z w64 (of_z w64 t.2) ≡ t.2 = omega (arith, ints, own.1.0, own.1.1) in
     table_pushed c.args.nodes c.args.triples.now index c.triples.lists.items t (to_z w64 (of_z w64 t.2)) c.index_mut.result.now
-    c.index_mut-in-triples.result.now c.push.new.self c.push-in-triples.new.self
+    c.index_mut-in-triples.result.now c.push.new.list c.push-in-triples.new.list
     c.triples-test.true refl number c.requires.each c.requires.on_pairs c.triples.invariant c.index_mut.ensures.value c.in_ok-push.ensures.items
     c.index_mut-in-triples.ensures.value c.in_ok-push-2.ensures.items

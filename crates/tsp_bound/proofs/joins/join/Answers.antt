@@ -47,7 +47,7 @@ components-preserved g c =
           let new : ℕ = u.index-in-Some.result.now in
           let read : new ≡ label_at labels other = get_or_read labels other new in_labels u.index-in-Some.ensures 0 in
           let free : box_at false met here ≡ false = sym (get_or_read met here c.index.result.now here_in_met c.index.ensures false) ∙ c.if-index.false in
-          let pushed : u.push.new.self.items ≡ c.components.added.items ++ (link.from, link.to) ∷ [] = u.in_ok-push.ensures.items in
+          let pushed : u.push.new.list.items ≡ c.components.added.items ++ (link.from, link.to) ∷ [] = u.in_ok-push.ensures.items in
           rw (u.added-is, u.labels-is, u.met-is) (record {
             len = length-set labels here new ∙ h.len;
             met_len = length-set (set met here true) other true ∙ (length-set met here true ∙ h.met_len);

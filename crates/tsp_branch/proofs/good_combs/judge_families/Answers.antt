@@ -46,7 +46,7 @@ combs-preserved c =
     subst (λ (o : Option Crossings). HasNumbers n (lists_of c.split_at.result.0.now) o) c.in-Some.is c.in_ok-found.ensures.found in
     let here : HasNumbers n (of_comb (length crossed) (plain sets)) (Some c.in-Some.numbers) =
     subst (λ (k : ℕ). HasNumbers n (of_comb k (plain sets)) (Some c.in-Some.numbers)) (sym h.many) (subst (λ (ss : List (List ℕ)). HasNumbers n ss (Some c.in-Some.numbers)) own.1 found) in
-    let pushed : c.push.new.self.items ≡ crossed ++ c.in-Some.numbers ∷ [] = c.in_ok-push.ensures.items in
+    let pushed : c.push.new.list.items ≡ crossed ++ c.in-Some.numbers ∷ [] = c.in_ok-push.ensures.items in
     record {
       handles_long = ap length handles ∙ c.in_ok-found.ensures.handle_length ∙ ap length c.deref_mut.ensures.value ∙ h.handles_long;
       teeth_long = ap length teeth ∙ c.in_ok-found.ensures.tooth_length ∙ ap length c.deref_mut-in-combs.ensures.value ∙ h.teeth_long;

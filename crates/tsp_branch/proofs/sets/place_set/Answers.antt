@@ -12,9 +12,9 @@ nodes-preserved c =
     let node : ℕ = get_or c.args.nodes.now index 0 in
     let inside : node < length c.nodes.lists.items = subst (λ (k : ℕ). node < k) (sym c.nodes.invariant.count) (c.requires index 0 c.nodes-test.true) in
     record {
-      count = length-set c.nodes.lists.items node c.push.new.self ∙ c.nodes.invariant.count;
+      count = length-set c.nodes.lists.items node c.push.new.list ∙ c.nodes.invariant.count;
       said = λ x a b below.
-          listed_more c.args.number c.args.nodes.now index node c.nodes.lists.items c.index_mut.result.now c.push.new.self x a
+          listed_more c.args.number c.args.nodes.now index node c.nodes.lists.items c.index_mut.result.now c.push.new.list x a
           ((get_or c.args.lists.now.items x b).items ++ times c.args.number c.args.nodes.now x)
           c.nodes-test.true refl inside c.index_mut.ensures.value c.in_ok-push.ensures.items (λ d. c.nodes.invariant.said x d b below);
     }

@@ -47,9 +47,9 @@ steps-preserved c =
           let found = decided_by_set c.args.directed st.decided (stack_of st.stack.items ++ given) (w.in-Branch.first, w.in-Branch.second) w.key_of.result w.in_ok-is_new-in-Branch.is_new st.invariant.has w.key_of.ensures
           w.in_ok-is_new-in-Branch.ensures.added in
           rw (w.stack-is, w.count-is, w.decided-is) (record {
-            so_far = once_pushed c.args.directed given told st.stack.items w.push.new.self.items st.count w.in-Branch.first w.in-Branch.second (steps_of (drop (st.step-index + 1) all))
+            so_far = once_pushed c.args.directed given told st.stack.items w.push.new.list.items st.count w.in-Branch.first w.in-Branch.second (steps_of (drop (st.step-index + 1) all))
                 at (sym found ∙ ap not w.if-not-is_new.false) w.in_ok-push-in-Branch.ensures.items;
-            has = pushed_decided c.args.directed st.decided w.insert.new.self st.stack.items w.push.new.self.items given (w.in-Branch.first, w.in-Branch.second) w.key_of.result w.key_of.ensures
+            has = pushed_decided c.args.directed st.decided w.insert.new.set st.stack.items w.push.new.list.items given (w.in-Branch.first, w.in-Branch.second) w.key_of.result w.key_of.ensures
                 w.in_ok-is_new-in-Branch.ensures.updates w.in_ok-push-in-Branch.ensures.items st.invariant.has;
             few = omega (arith, st.invariant.few);
           })

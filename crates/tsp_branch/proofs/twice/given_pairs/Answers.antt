@@ -11,8 +11,8 @@ given-init c = decided_none c.args.directed c.new-decided.result c.new-decided.e
 pub given-preserved : goal.given-preserved
 given-preserved c =
     let st = c.given in
-    given_more c.args.directed st.decided c.insert.new.self c.args.given.now st.decision-index (record { pair = (0, 0); taken = false }) c.given-test.true
-    (subst (λ p. Updates pair_cmp st.decided c.insert.new.self p true) c.key_of.ensures c.in_ok-insert.ensures.updates) st.invariant
+    given_more c.args.directed st.decided c.insert.new.set c.args.given.now st.decision-index (record { pair = (0, 0); taken = false }) c.given-test.true
+    (subst (λ p. Updates pair_cmp st.decided c.insert.new.set p true) c.key_of.ensures c.in_ok-insert.ensures.updates) st.invariant
 
 pub returns : goal.returns
 returns c = given_all c.args.directed c.given.decided c.args.given.now c.given.decision-index (omega (arith, c.given-test.false)) c.given.invariant

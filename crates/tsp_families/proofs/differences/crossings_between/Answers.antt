@@ -13,7 +13,7 @@ columns-preserved c =
     let h = c.columns.invariant in
     let membership : ℕ → ℕ = λ a. get_or c.args.memberships.now (get_or c.args.firsts.now a 0) 0 in
     let value : ℕ = count_ones (bit_xor (membership c.rows.a) (membership c.columns.b)) in
-    let pushed : c.push.new.self.items ≡ costs ++ value ∷ [] = c.in_ok-push.ensures.items in
+    let pushed : c.push.new.list.items ≡ costs ++ value ∷ [] = c.in_ok-push.ensures.items in
     let long = length-append costs (value ∷ []) in
     let fits : (a : ℕ) → membership a < 2 ^ 64 = λ a. let f = c.type_inv.memberships (get_or c.args.firsts.now a 0) in omega (arith, f) in
     let few : value ≤ 64 = ones-le 64 (bit_xor (membership c.rows.a) (membership c.columns.b)) (xor_lt 64 (membership c.rows.a) (membership c.columns.b) (fits c.rows.a) (fits c.columns.b)) in

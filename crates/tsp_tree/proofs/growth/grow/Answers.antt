@@ -104,7 +104,7 @@ grow-preserved g c =
     let computed = sum_computed sum here c.from-weight.result index few c.grow.invariant.size fits c.from-weight.ensures in
     let more : n - length new_outside ≡ index + 1 = omega (arith, shorter, inside, s.count) in
     record {
-      state = rw (near_kept, kept, computed) (state_more n w outside new_outside near near_left new_near least left new_least c.grow.pairs.items c.push.new.self.items sum place next joint here
+      state = rw (near_kept, kept, computed) (state_more n w outside new_outside near near_left new_near least left new_least c.grow.pairs.items c.push.new.list.items sum place next joint here
           s is_least next_is joint_is here_is c.swap_remove-next.ensures.items c.swap_remove.ensures.items c.swap_remove-in-Some.ensures.items nearer near_same same c.in_ok-push.ensures.items);
       nearest = rw kept (subst (λ (k : ℕ). MatchOption c.reach-nearest-in-Some.result (k ≡ 0) (IsLeastPlace new_least)) (ap length seen) reached.nearest);
       size = rw (computed, more) (sum_more sum here index c.grow.invariant.size fits);

@@ -23,8 +23,8 @@ triples-preserved c =
     subst (λ p. contains pair_cmp c.triples.seen p ≡ false) c.key_of.ensures (not-true _ (sym c.in_ok-is_new.ensures.added ∙ c.if-not-is_new.false)) in
     record {
       counted = omega (arith, c.triples.invariant.counted);
-      has = has_more pair_of c.triples.seen c.insert.new.self c.args.triples.now c.triples.triple-index (0, 0, pos 0) c.triples-test.true
-          (subst (λ p. Updates pair_cmp c.triples.seen c.insert.new.self p true) c.key_of.ensures c.in_ok-is_new.ensures.updates) c.triples.invariant.has;
+      has = has_more pair_of c.triples.seen c.insert.new.set c.args.triples.now c.triples.triple-index (0, 0, pos 0) c.triples-test.true
+          (subst (λ p. Updates pair_cmp c.triples.seen c.insert.new.set p true) c.key_of.ensures c.in_ok-is_new.ensures.updates) c.triples.invariant.has;
       apart = apart_more c.args.triples.now c.triples.seen c.triples.triple-index c.triples-test.true c.triples.invariant.has c.triples.invariant.apart lacks;
     }
 

@@ -7,7 +7,7 @@ use Rattle.tsp_draft.specs.Fields.{Fields}
 use Rattle.tsp_file.specs.Meant.{nodes_of}
 use Rattle.tsp_verdict.proofs.FilesHold.{as_many}
 use Rattle.tsp_verdict.proofs.RouteVerdicts.{IsMarked, is_marked, repeated_first, unserved_first, all_served, none_unserved, overload_first, is_planned}
-use Rattle.tsp_verdict.proofs.routes.judge_routes.Goals as goal
+use Rattle.tsp_verdict.proofs.routes.verdict_on_routes.Goals as goal
 
 pub returns-in-Some-mark_all : goal.returns-in-Some-mark_all
 returns-in-Some-mark_all c = repeated_first c.args.inst.now c.args.sol.now _ c.in-Some-mark_all.place c.in-Ok.ensures.4.nodes

@@ -1,0 +1,90 @@
+//! Lists.
+
+ghost use Rattle.std.specs.Prelude.{◌≡◌, ◌+◌, ◌++◌, [], ◌∷◌, IfOk, OnOk, MatchResult, length, vec_len, vec_capacity, replicate};
+ghost use Rattle.std.specs.List.Sorted.{IsPermutation, IsSorted};
+
+use crate::refused::Refused;
+use std::alloc::{AllocError, Global};
+
+/// An empty list with memory for this many elements.
+///
+/// # Errors
+///
+/// Out of memory.
+pub fn with_capacity<T>(alloc: Global, capacity: usize) -> Result<Vec<T>, Refused>
+    ensures items { IfOk result (λ list. list.items ≡ []) }
+    ensures len { IfOk result (λ list. vec_len list ≡ 0) }
+    ensures exact { IfOk result (λ list. vec_capacity list ≡ capacity) }
+{
+    match Vec::with_capacity(alloc, capacity) {
+        Ok(list) => Ok(list),
+        Err(error) => Err(Refused::of(error)),
+    }
+}
+
+/// A list of this many elements, each the same.
+///
+/// # Errors
+///
+/// Out of memory.
+pub fn filled<T: Copy + Clone>(alloc: Global, element: T, count: usize) -> Result<Vec<T>, Refused>
+    ensures len { IfOk result (λ list. vec_len list ≡ count) }
+    ensures items_if_clones_equal { IfOk result (λ list.
+        ((other : T) → T.is_clone element other → other ≡ element) → list.items ≡ replicate count element) }
+{
+    match vec![in alloc; element; count] {
+        Ok(list) => Ok(list),
+        Err(error) => Err(Refused::of(error)),
+    }
+}
+
+/// Adds an element at the end.
+///
+/// # Errors
+///
+/// Out of memory; the list stays as it was.
+pub fn push<T: Drop>(list: &mut Vec<T>, element: T) -> Result<(), Refused>
+    ensures items { MatchResult result
+        (λ done. list.new.items ≡ list.old.items ++ element ∷ [])
+        (λ refused. list.new.items ≡ list.old.items) }
+    ensures len { MatchResult result
+        (λ done. vec_len list.new ≡ vec_len list.old + 1)
+        (λ refused. vec_len list.new ≡ vec_len list.old) }
+{
+    match list.push(element) {
+        Ok(()) => Ok(()),
+        Err(failed) => Err(Refused::of(AllocError::from(failed))),
+    }
+}
+
+/// The elements once more.
+///
+/// # Errors
+///
+/// Out of memory.
+pub fn copied<T: Copy + Clone>(alloc: Global, elements: &[T]) -> Result<Vec<T>, Refused>
+    ensures len { IfOk result (λ list. vec_len list ≡ length elements.now) }
+    ensures items_if_clones_equal { IfOk result (λ list.
+        ((element other : T) → T.is_clone element other → other ≡ element) → list.items ≡ elements.now) }
+{
+    match elements.to_vec(alloc) {
+        Ok(list) => Ok(list),
+        Err(error) => Err(Refused::of(error)),
+    }
+}
+
+/// Sorts a list, whose equal elements keep their order.
+///
+/// # Errors
+///
+/// Out of memory; the list stays as it was.
+pub fn sort<T: Ord>(list: &mut Vec<T>) -> Result<(), Refused>
+    ensures permutation { IsPermutation list.old.items list.new.items }
+    ensures len { vec_len list.new ≡ vec_len list.old }
+    ensures sorted { OnOk result (IsSorted T.cmp list.new.items) }
+{
+    match list.sort() {
+        Ok(()) => Ok(()),
+        Err(error) => Err(Refused::of(error)),
+    }
+}
