@@ -38,6 +38,7 @@ std::vector<int> atoms_of(const std::vector<NodeSet>& sets, int nodes) {
   }
   std::map<std::vector<std::size_t>, int> numbers;
   std::vector<int> atoms;
+  atoms.reserve(sets_of.size());
   for (const auto& own : sets_of) {
     atoms.push_back(numbers.emplace(own, static_cast<int>(numbers.size())).first->second);
   }

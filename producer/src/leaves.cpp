@@ -144,6 +144,7 @@ std::vector<int> Leaves::differing_places(const Numbers& numbers) const {
   }
   std::sort(differing.begin(), differing.end());
   std::vector<int> sorted;
+  sorted.reserve(differing.size());
   for (const auto& [difference, place] : differing) sorted.push_back(place);
   return sorted;
 }

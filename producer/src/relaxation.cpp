@@ -314,6 +314,7 @@ std::vector<Pair> Relaxation::missing_edges(
   std::sort(missing.begin(), missing.end());
   missing.resize(std::min(missing.size(), static_cast<std::size_t>(2 * nodes_)));
   std::vector<Pair> edges;
+  edges.reserve(missing.size());
   for (const auto& [cost, edge] : missing) edges.push_back(edge);
   return edges;
 }

@@ -22,7 +22,7 @@ struct Start {
   std::vector<Pair> edges;    // likely edges
   std::optional<Weight> upper;
   std::uint64_t seed = 1;
-  bool named = false;     // the tour was named, so that none is looked for again
+  bool named = false;    // the tour was named, so that none is looked for again
   bool families = true;  // cuts may be families of any sets
 };
 

@@ -99,6 +99,7 @@ std::optional<std::vector<NodeSet>> tightened(const Cut& cut, const Graph& graph
   Tightening tightening(cut, graph);
   if (!tightening.run()) return std::nullopt;
   std::vector<NodeSet> sets;
+  sets.reserve(cut.sets.size());
   for (std::size_t k = 0; k < cut.sets.size(); k++) sets.push_back(tightening.set(k));
   return sets;
 }

@@ -22,6 +22,7 @@ bool runnable(const fs::path& path) {
   close(output);
   if (with_errors) dup2(STDOUT_FILENO, STDERR_FILENO);
   std::vector<char*> pointers;
+  pointers.reserve(words.size() + 1);
   for (const std::string& word : words) pointers.push_back(const_cast<char*>(word.c_str()));
   pointers.push_back(nullptr);
   execv(pointers[0], pointers.data());
