@@ -33,11 +33,11 @@ pub(crate) fn comparison_explanation<F: Read + Drop, O: Open<F>>(
 }
 
 /// Appends what explains why no solution was opened, where none was.
-fn push_basis(
+fn push_basis<'a>(
     alloc: Global,
     text: &mut Vec<u8>,
-    comparison: Comparison<'_>,
-    common: &Common,
+    comparison: Comparison<'a>,
+    common: &'a Common,
 ) -> Result<(), AllocError> {
     let Basis::No(reason) = common.basis else {
         return Ok(());

@@ -1,7 +1,7 @@
 //! The solutions of a comparison, each opened when its turn comes, and what standard error is told of
 //! each.
 
-ghost use Rattle.std.specs.Prelude.{map};
+ghost use Rattle.std.specs.Prelude.{map, true};
 ghost use Rattle.std.specs.String.{string_bytes};
 ghost use Rattle.tsp_run.specs.Compare.{IsOpenedAt};
 ghost use Rattle.tsp_run.specs.Telling.{MayTell, tells_none, tells_more};

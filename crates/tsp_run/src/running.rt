@@ -223,7 +223,7 @@ fn tell_comparison<F: Read + Drop, O: Open<F>, E: Write>(
 
 /// Writes a text.
 fn append<E: Write>(errors: &mut E, text: Vec<u8>) -> io::Result<()>
-    ensures { OnOk result (Appends (E.contents errors.old) (E.contents errors.new) text.entry.items) }
+    ensures { OnOk result (Appends (E.contents errors.old) (E.contents errors.new) text.items) }
 {
     let told = errors.write_all(&text);
     drop(text);
