@@ -86,7 +86,7 @@ Output output_of(const std::vector<std::string>& words, bool with_errors) {
 
 // Debian's task-spooler is called tsp too.
 std::string find_tsp(const std::optional<std::string>& named) {
-  const std::string tsp = place_of_tsp(named);
+  std::string tsp = place_of_tsp(named);
   const std::string answer = output_of({tsp, "--version"}, true).text;
   if (answer.starts_with("tsp ") && answer.size() > 4 &&
       std::isdigit(static_cast<unsigned char>(answer[4])) != 0) {
