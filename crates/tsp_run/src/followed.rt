@@ -67,7 +67,7 @@ impl<F: Read + Drop, O: Open<F>, E: Write> Follow<E> for Followed<'_, F, O> {
 }
 
 /// What a terminal is sent to begin its line anew.
-pub(crate) const ANEW: &[u8] = b"\r\x1b[K";
+const ANEW: &[u8] = b"\r\x1b[K";
 
 impl<F: Read + Drop, O: Open<F>> Followed<'_, F, O> {
     /// Appends what is told of a solution.
@@ -138,8 +138,25 @@ pub(crate) fn names_of<'a>(comparison: Comparison<'a>, solution: Option<Place<'a
     }
 }
 
+/// Ends the line that counts, where there is one.
+pub(crate) fn end_count<F: Read + Drop, O: Open<F>, E: Write>(
+    followed: &Followed<'_, F, O>,
+    to: &mut E,
+)
+    ensures { MayTell followed.now.explain (E.contents to.old) (E.contents to.new) }
+{
+    if !followed.explain {
+        return;
+    }
+    if followed.counts {
+        send_what_goes(to, ANEW);
+    } else {
+        send_what_goes(to, &[]);
+    }
+}
+
 /// Sends as much of a text as goes. Where standard error can't be written, lines and status tell.
-pub(crate) fn send_what_goes<E: Write>(to: &mut E, text: &[u8])
+fn send_what_goes<E: Write>(to: &mut E, text: &[u8])
     ensures { MayTell true (E.contents to.old) (E.contents to.new) }
 {
     let mut rest = text;

@@ -13,7 +13,7 @@ use crate::compare_explained::comparison_explanation;
 use crate::compared::{compare, fresh};
 use crate::ending::{Ending, status_of_ending, tell};
 use crate::explained::{Asked, explanation, task_explanation};
-use crate::followed::{ANEW, Followed, send_what_goes};
+use crate::followed::{Followed, end_count};
 use crate::source::Open;
 use clap::error::ErrorKind;
 use std::alloc::{AllocError, Global};
@@ -30,7 +30,7 @@ use tsp_task::Task;
 pub struct Setting {
     /// Whether standard error is a terminal: what isn't a yes is explained then.
     pub on_terminal: bool,
-    /// Whether standard output is another place, so that a comparison counts there.
+    /// Whether a comparison counts there: it is a terminal, and standard output is another place.
     pub counts: bool,
     /// The text of the build.
     pub build: &'static str,
@@ -105,7 +105,7 @@ fn run_job<F: Read + Drop, O: Open<F>, W: Write, E: Write>(
     ensures { RunsJob (EndsWith F.remaining (O.opens files.now) job.now (sink_of W.contents out.old out.new))
         (job.now.explain || setting.on_terminal) (E.contents errors.old) (E.contents errors.new) result }
 {
-    let explain = job.explain || setting.on_terminal;
+    let explain = is_explained(job, setting);
     match work_of(job) {
         Err(fault) => {
             let told = tell_fault_of_job(alloc, fault, errors, explain);
@@ -125,12 +125,19 @@ fn run_job<F: Read + Drop, O: Open<F>, W: Write, E: Write>(
                 comparison,
                 files,
                 explain,
-                counts: setting.on_terminal && setting.counts,
+                counts: setting.counts,
                 file: PhantomData,
             };
             run_comparison(alloc, &followed, out, errors)
         }
     }
+}
+
+/// Whether the job's end is explained.
+fn is_explained(job: &Job, setting: Setting) -> bool
+    ensures { result ≡ (job.now.explain || setting.on_terminal) }
+{
+    job.explain || setting.on_terminal
 }
 
 /// Tells why a job is no work, and explains it where that is wanted.
@@ -194,9 +201,7 @@ fn run_comparison<F: Read + Drop, O: Open<F>, W: Write, E: Write>(
         (sink_of W.contents out.old out.new)) followed.now.explain (E.contents errors.old) (E.contents errors.new) result }
 {
     let ending = Ending::Compared(compare(alloc, followed, out, errors));
-    if followed.explain && followed.counts {
-        send_what_goes(errors, ANEW);
-    }
+    end_count(followed, errors);
     let told = tell_comparison(alloc, followed, &ending, out.error(), errors);
     (status_of_ending(&ending), told)
 }

@@ -24,7 +24,7 @@ fn main(rt: HostRuntime) -> ExitCode {
     let mut errors = rt.stderr();
     let setting = Setting {
         on_terminal: errors.is_terminal(),
-        counts: !rt.stdout().is_terminal(),
+        counts: errors.is_terminal() && !rt.stdout().is_terminal(),
         build: BUILD,
     };
     // Where the reason can't be written, only the status reports it.
