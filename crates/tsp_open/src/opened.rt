@@ -133,14 +133,14 @@ impl Opened {
             None => judge(alloc, &self.instance, solution, None, claimed),
             Some(bound) => {
                 let certificate = (bound.by, &bound.file);
-                judge_by_bound(
+                Ok(judge_by_bound(
                     alloc,
                     &self.instance,
                     solution,
                     certificate,
                     bound.found,
                     claimed,
-                )
+                )?)
             }
         }
     }
