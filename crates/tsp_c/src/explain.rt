@@ -66,7 +66,7 @@ pub(crate) fn explained(alloc: Global, numbers: Numbers, texts: Texts<'_>) -> (u
 
 /// The task of a call, or `None` where a number is refused.
 fn task_of<'a>(numbers: Numbers, texts: Texts<'a>) -> Option<Task<Named<'a>>> {
-    let (instance, solution, certificate) = named(texts);
+    let (instance, solution, certificate) = texts_with_names(texts);
     let number = numbers.number;
     match numbers.call {
         SHOW => Some(Task::Show(instance)),
@@ -165,7 +165,7 @@ fn name_at<'a>(task: &Task<Named<'a>>, number: u32) -> &'a str {
 }
 
 /// The texts of an instance, a solution and a certificate with their names.
-fn named(texts: Texts<'_>) -> (Named<'_>, Named<'_>, Named<'_>) {
+fn texts_with_names(texts: Texts<'_>) -> (Named<'_>, Named<'_>, Named<'_>) {
     let (instance, rest) = cut(texts.names);
     let (solution, rest) = cut(rest);
     let (certificate, _) = cut(rest);
