@@ -12,7 +12,7 @@ use Rattle.tsp_verdict.specs.Bounded.{NoneAgainstInstance, IsBoundVerdict}
 use Rattle.tsp_verdict.specs.Certified.{is_bounded, NoneWithoutMemory}
 use Rattle.tsp_judge.specs.declared.bound.Bounded.{Bounded}
 use Rattle.tsp_judge.specs.declared.fault.RunFault.{RunFault}
-use Rattle.tsp_judge.specs.declared.fault.RunFault.TheVariants.{File, WrongKind, Write, OutOfMemory, Relayout}
+use Rattle.tsp_judge.specs.declared.fault.RunFault.TheVariants.{File, WrongKind, Write, OutOfMemory}
 use Rattle.tsp_judge.specs.Accepted.{IsBoundAccepted}
 use Rattle.tsp_judge.specs.Run.{IsSomeFile}
 use Rattle.tsp_report.specs.Report.{bound_report_of}
@@ -31,9 +31,7 @@ BoundsFiles by instance certificate sink (Err OutOfMemory) = IsTrue (is_bounded 
 BoundsFiles by instance certificate sink (Err (Write write_faults.Device)) = IsTrue (is_bounded by instance.kind)
     × ((found : BoundVerdict) × IsBoundVerdict by instance certificate found
     × HasStopped sink (bound_report_of instance found))
-BoundsFiles by instance certificate sink (Err (Write write_faults.OutOfMemory)) = ⊥
-BoundsFiles by instance certificate sink (Err (File file fault)) = ⊥
-BoundsFiles by instance certificate sink (Err (Relayout fault)) = ⊥
+BoundsFiles by instance certificate sink (Err other) = ⊥
 
 -- Why a run has no bound and no reason. The first file, in order, that is none decides, and then nothing is written.
 abbrev pub EndsUnbounded : Certificate → Turn → Turn → Sink → RunFault → Type 0

@@ -19,7 +19,7 @@ use Rattle.tsp_judge.specs.declared.common.Found.{Found}
 use Rattle.tsp_judge.specs.declared.common.Found.TheVariants as founds
 use Rattle.tsp_judge.specs.declared.compared.Compared.{Compared}
 use Rattle.tsp_judge.specs.declared.fault.RunFault.{RunFault}
-use Rattle.tsp_judge.specs.declared.fault.RunFault.TheVariants.{File, WrongKind, Write, OutOfMemory, Relayout}
+use Rattle.tsp_judge.specs.declared.fault.RunFault.TheVariants.{File, WrongKind, Write, OutOfMemory}
 use Rattle.tsp_judge.specs.Accepted.{IsAccepted}
 use Rattle.tsp_judge.specs.Run.{Given, IsUnreadIn, IsFileIn, IsSomeFile}
 use Rattle.tsp_judge.specs.Status.{status_of}
@@ -66,10 +66,7 @@ result_of (founds.Fault fault) = Err fault
 abbrev pub Finds : Common → Turn → Result Found RunFault → Type 0
 Finds common turn (Ok found) = IsFoundIn common turn (result_of found)
 Finds common turn (Err OutOfMemory) = IsRefusedIn common turn
-Finds common turn (Err (Write fault)) = ⊥
-Finds common turn (Err WrongKind) = ⊥
-Finds common turn (Err (File file fault)) = ⊥
-Finds common turn (Err (Relayout fault)) = ⊥
+Finds common turn (Err other) = ⊥
 
 -- its exit status: that of a check of the solution, which is its second file
 abbrev pub status_of_found : Result Verdict ReadFault → ℕ
@@ -86,10 +83,7 @@ ComparesOne IsTurn paths common place sink (Err OutOfMemory) = ((turn : Turn) ×
 ComparesOne IsTurn paths common place sink (Err (Write write_faults.Device)) = (turn : Turn) × IsTurn place turn
     × ((found : Result Verdict ReadFault) × IsFoundIn common turn found
     × HasStopped sink (solution_line found (slice_index_or paths place [])))
-ComparesOne IsTurn paths common place sink (Err (Write write_faults.OutOfMemory)) = ⊥
-ComparesOne IsTurn paths common place sink (Err WrongKind) = ⊥
-ComparesOne IsTurn paths common place sink (Err (File file fault)) = ⊥
-ComparesOne IsTurn paths common place sink (Err (Relayout fault)) = ⊥
+ComparesOne IsTurn paths common place sink (Err other) = ⊥
 
 -- ---- all solutions
 
@@ -123,20 +117,13 @@ ComparesAll IsTurn paths common before sink (Err OutOfMemory) = (found : List (R
     × HasWritten sink (before ++ solution_lines found paths)
 ComparesAll IsTurn paths common before sink (Err (Write write_faults.Device)) = (found : List (Result Verdict ReadFault))
     × AreFound IsTurn common 0 found × (length found ≤ length paths) × HasStopped sink (before ++ solution_lines found paths)
-ComparesAll IsTurn paths common before sink (Err (Write write_faults.OutOfMemory)) = ⊥
-ComparesAll IsTurn paths common before sink (Err WrongKind) = ⊥
-ComparesAll IsTurn paths common before sink (Err (File file fault)) = ⊥
-ComparesAll IsTurn paths common before sink (Err (Relayout fault)) = ⊥
+ComparesAll IsTurn paths common before sink (Err other) = ⊥
 
 -- Where a reason applies whatever the solution, the head is the whole text.
 abbrev pub ComparesNone : List ℕ → Sink → Result ℕ RunFault → Type 0
 ComparesNone head sink (Ok status) = HasWritten sink head × (status ≡ 1)
 ComparesNone head sink (Err (Write write_faults.Device)) = HasStopped sink head
-ComparesNone head sink (Err (Write write_faults.OutOfMemory)) = ⊥
-ComparesNone head sink (Err OutOfMemory) = ⊥
-ComparesNone head sink (Err WrongKind) = ⊥
-ComparesNone head sink (Err (File file fault)) = ⊥
-ComparesNone head sink (Err (Relayout fault)) = ⊥
+ComparesNone head sink (Err other) = ⊥
 
 -- what comes of the solutions, by whether they are judged one by one
 abbrev pub ComparesBy : Bool → (ℕ → Turn → Type 0) → List (List ℕ) → Common → Sink → Result ℕ RunFault → Type 0
@@ -156,9 +143,7 @@ abbrev pub LacksBasis : Option (Certificate × Fields) → Fields → RunFault �
 LacksBasis certificate instance WrongKind = is_judged certificate instance.kind ≡ false
 LacksBasis certificate instance OutOfMemory = IsTrue (is_judged certificate instance.kind)
     × NoneOfBasisWithoutMemory certificate instance
-LacksBasis certificate instance (Write fault) = ⊥
-LacksBasis certificate instance (File file fault) = ⊥
-LacksBasis certificate instance (Relayout fault) = ⊥
+LacksBasis certificate instance other = ⊥
 
 -- these are the files that are read once, and the instance is one problem
 abbrev pub AreReadOnce : Given → Turn → Common → Type 0

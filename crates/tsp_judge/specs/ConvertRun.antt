@@ -11,7 +11,7 @@ use Rattle.tsp_file.specs.Relayout.{IsRelaid, IsRefused}
 use Rattle.tsp_file.specs.Text.{text_of}
 use Rattle.tsp_read.specs.Reads.{IsFile, StopsAt}
 use Rattle.tsp_judge.specs.declared.fault.RunFault.{RunFault}
-use Rattle.tsp_judge.specs.declared.fault.RunFault.TheVariants.{File, WrongKind, Write, OutOfMemory, Relayout}
+use Rattle.tsp_judge.specs.declared.fault.RunFault.TheVariants.{File, Write, Relayout}
 
 -- What becomes of a file: it goes into the layout that is wanted, or not, for a reason. Where none is wanted it stays as it is.
 abbrev pub Becomes : Option Layout → Fields → Result Fields RelayoutFault → Type 0
@@ -33,10 +33,8 @@ pub record IsConverted (to : Option Layout) (turn : Turn) (new : Fields) : Type 
 abbrev pub IsConvertRun : Option Layout → Turn → Sink → Result (Unit {0}) RunFault → Type 0
 IsConvertRun to turn sink (Ok done) = (new : Fields) × IsConverted to turn new × HasWritten sink (text_of new)
 IsConvertRun to turn sink (Err (File place fault)) = (place ≡ 1) × StopsAt fault turn × IsUnwritten sink
-IsConvertRun to turn sink (Err WrongKind) = ⊥
-IsConvertRun to turn sink (Err OutOfMemory) = ⊥
 IsConvertRun to turn sink (Err (Relayout fault)) =
     (old : Fields) × IsFile turn old × Becomes to old (Err fault) × IsUnwritten sink
-IsConvertRun to turn sink (Err (Write write_faults.OutOfMemory)) = ⊥
 IsConvertRun to turn sink (Err (Write write_faults.Device)) =
     (new : Fields) × IsConverted to turn new × HasStopped sink (text_of new)
+IsConvertRun to turn sink (Err other) = ⊥

@@ -13,7 +13,7 @@ use Rattle.tsp_reason.specs.Verdicts.{is_yes}
 use Rattle.tsp_verdict.specs.Judged.{is_judged, NoneBeforeRepeatsOn, IsVerdictWith}
 use Rattle.tsp_judge.specs.declared.judging.Judged.{Judged}
 use Rattle.tsp_judge.specs.declared.fault.RunFault.{RunFault}
-use Rattle.tsp_judge.specs.declared.fault.RunFault.TheVariants.{File, WrongKind, Write, OutOfMemory, Relayout}
+use Rattle.tsp_judge.specs.declared.fault.RunFault.TheVariants.{File, WrongKind, Write, OutOfMemory}
 use Rattle.tsp_report.specs.Report.{report_of}
 
 -- ---- the files
@@ -26,10 +26,7 @@ IsSomeFile turn = (file : Fields) × IsFile turn file
 abbrev pub ReadsFile : ℕ → Turn → Result Fields RunFault → Type 0
 ReadsFile number turn (Ok file) = IsFile turn file
 ReadsFile number turn (Err (File place fault)) = (place ≡ number) × StopsAt fault turn
-ReadsFile number turn (Err WrongKind) = ⊥
-ReadsFile number turn (Err (Write fault)) = ⊥
-ReadsFile number turn (Err OutOfMemory) = ⊥
-ReadsFile number turn (Err (Relayout fault)) = ⊥
+ReadsFile number turn (Err other) = ⊥
 
 -- A certificate may be given, with the turn of the reader of its file.
 abbrev pub Given : Type 0
@@ -87,9 +84,7 @@ JudgesFiles certificate claimed instance solution sink (Err (Write write_faults.
     IsTrue (is_judged certificate instance.kind)
     × ((verdict : Verdict) × IsVerdictWith certificate claimed instance solution verdict
     × HasStopped sink (report_of instance verdict))
-JudgesFiles certificate claimed instance solution sink (Err (Write write_faults.OutOfMemory)) = ⊥
-JudgesFiles certificate claimed instance solution sink (Err (File file fault)) = ⊥
-JudgesFiles certificate claimed instance solution sink (Err (Relayout fault)) = ⊥
+JudgesFiles certificate claimed instance solution sink (Err other) = ⊥
 
 -- ---- the run
 

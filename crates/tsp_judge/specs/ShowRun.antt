@@ -6,7 +6,7 @@ use Rattle.tsp_stream.specs.Sink.{Sink, IsUnwritten, HasWritten, HasStopped}
 use Rattle.tsp_draft.specs.Fields.{Fields}
 use Rattle.tsp_read.specs.Reads.{IsFile, StopsAt}
 use Rattle.tsp_judge.specs.declared.fault.RunFault.{RunFault}
-use Rattle.tsp_judge.specs.declared.fault.RunFault.TheVariants.{File, WrongKind, Write, OutOfMemory, Relayout}
+use Rattle.tsp_judge.specs.declared.fault.RunFault.TheVariants.{File, Write}
 use Rattle.tsp_report.specs.Show.{shown}
 
 -- The result of `show`. At Ok all its lines were written. Where the reader gives no file nothing is written. Where the writer
@@ -14,8 +14,5 @@ use Rattle.tsp_report.specs.Show.{shown}
 abbrev pub IsShowRun : Turn → Sink → Result (Unit {0}) RunFault → Type 0
 IsShowRun turn sink (Ok done) = (file : Fields) × IsFile turn file × HasWritten sink (shown file)
 IsShowRun turn sink (Err (File place fault)) = (place ≡ 1) × StopsAt fault turn × IsUnwritten sink
-IsShowRun turn sink (Err WrongKind) = ⊥
-IsShowRun turn sink (Err OutOfMemory) = ⊥
-IsShowRun turn sink (Err (Relayout fault)) = ⊥
-IsShowRun turn sink (Err (Write write_faults.OutOfMemory)) = ⊥
 IsShowRun turn sink (Err (Write write_faults.Device)) = (file : Fields) × IsFile turn file × HasStopped sink (shown file)
+IsShowRun turn sink (Err other) = ⊥

@@ -50,10 +50,7 @@ abbrev pub IsBasisAlone : Option Kind → Fields → Basis → Type 0
 IsBasisAlone (Some kinds.Tsp) inst basis = IsBasisOfTours inst basis
 IsBasisAlone (Some kinds.Atsp) inst basis = IsBasisOfTours inst basis
 IsBasisAlone (Some kinds.Cvrp) inst basis = IsBasisOfRoutes inst basis
-IsBasisAlone (Some kinds.Tour) inst basis = ⊥
-IsBasisAlone (Some kinds.Potentials) inst basis = ⊥
-IsBasisAlone (Some kinds.Branches) inst basis = ⊥
-IsBasisAlone None inst basis = ⊥
+IsBasisAlone other inst basis = ⊥
 
 -- ---- with a certificate: what a bound without a solution says
 

@@ -19,11 +19,7 @@ use Rattle.tsp_verdict.specs.Places.{IsFirstPlace}
 abbrev pub has_wanted : Option Kind → Fields → Bool
 has_wanted (Some kinds.Tsp) f = is_some f.node_potentials
 has_wanted (Some kinds.Atsp) f = is_some f.row_potentials && is_some f.column_potentials
-has_wanted (Some kinds.Cvrp) f = false
-has_wanted (Some kinds.Tour) f = false
-has_wanted (Some kinds.Potentials) f = false
-has_wanted (Some kinds.Branches) f = false
-has_wanted None f = false
+has_wanted other f = false
 
 -- the first pair whose cost breaks the duals of the file
 pub record BreaksDuals (inst pot : Fields) (i j : ℕ) : Type 0 where

@@ -32,15 +32,9 @@ kind_of Branches = kinds.Branches
 
 -- the TYPEs whose tours have a bound by it
 abbrev pub is_bounded : Certificate → Option Kind → Bool
-is_bounded Potentials (Some kinds.Tsp) = true
-is_bounded Potentials (Some kinds.Atsp) = true
-is_bounded Branches (Some kinds.Tsp) = true
-is_bounded Branches (Some kinds.Atsp) = true
-is_bounded by (Some kinds.Cvrp) = false
-is_bounded by (Some kinds.Tour) = false
-is_bounded by (Some kinds.Potentials) = false
-is_bounded by (Some kinds.Branches) = false
-is_bounded by None = false
+is_bounded by (Some kinds.Tsp) = true
+is_bounded by (Some kinds.Atsp) = true
+is_bounded by other = false
 
 -- the bound that it gives tours of this TYPE
 abbrev pub IsBoundBy : Certificate → Option Kind → Fields → Fields → ℤ → Type 0
@@ -48,11 +42,7 @@ IsBoundBy Potentials (Some kinds.Tsp) inst cert bound = IsBoundByNodes inst cert
 IsBoundBy Potentials (Some kinds.Atsp) inst cert bound = IsBoundByDuals inst cert bound
 IsBoundBy Branches (Some kinds.Tsp) inst cert bound = IsBoundByTree inst cert bound
 IsBoundBy Branches (Some kinds.Atsp) inst cert bound = IsBoundByTree inst cert bound
-IsBoundBy by (Some kinds.Cvrp) inst cert bound = ⊥
-IsBoundBy by (Some kinds.Tour) inst cert bound = ⊥
-IsBoundBy by (Some kinds.Potentials) inst cert bound = ⊥
-IsBoundBy by (Some kinds.Branches) inst cert bound = ⊥
-IsBoundBy by None inst cert bound = ⊥
+IsBoundBy by other inst cert bound = ⊥
 
 -- the bound that it gives the instance
 abbrev pub IsBoundOf : Certificate → Fields → Fields → ℤ → Type 0

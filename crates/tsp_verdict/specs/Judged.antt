@@ -22,10 +22,7 @@ abbrev pub IsVerdictBy : Option Kind → Fields → Fields → Verdict → Type 
 IsVerdictBy (Some kinds.Tsp) instance solution verdict = IsTourVerdict instance solution verdict
 IsVerdictBy (Some kinds.Atsp) instance solution verdict = IsTourVerdict instance solution verdict
 IsVerdictBy (Some kinds.Cvrp) instance solution verdict = IsRoutesVerdict instance solution verdict
-IsVerdictBy (Some kinds.Tour) instance solution verdict = ⊥
-IsVerdictBy (Some kinds.Potentials) instance solution verdict = ⊥
-IsVerdictBy (Some kinds.Branches) instance solution verdict = ⊥
-IsVerdictBy None instance solution verdict = ⊥
+IsVerdictBy other instance solution verdict = ⊥
 
 abbrev pub IsVerdictOn : Fields → Fields → Verdict → Type 0
 IsVerdictOn instance solution verdict = IsVerdictBy instance.kind instance solution verdict
@@ -36,10 +33,7 @@ abbrev pub NoneBeforeRepeatsBy : Option Kind → Fields → Fields → Type 0
 NoneBeforeRepeatsBy (Some kinds.Tsp) instance solution = NoneOfTourBeforeRepeats instance solution
 NoneBeforeRepeatsBy (Some kinds.Atsp) instance solution = NoneOfTourBeforeRepeats instance solution
 NoneBeforeRepeatsBy (Some kinds.Cvrp) instance solution = NoneOfRoutesBeforeRepeats instance solution
-NoneBeforeRepeatsBy (Some kinds.Tour) instance solution = ⊥
-NoneBeforeRepeatsBy (Some kinds.Potentials) instance solution = ⊥
-NoneBeforeRepeatsBy (Some kinds.Branches) instance solution = ⊥
-NoneBeforeRepeatsBy None instance solution = ⊥
+NoneBeforeRepeatsBy other instance solution = ⊥
 
 abbrev pub NoneBeforeRepeatsOn : Fields → Fields → Type 0
 NoneBeforeRepeatsOn instance solution = NoneBeforeRepeatsBy instance.kind instance solution
