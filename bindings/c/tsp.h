@@ -8,10 +8,10 @@
  * from 1.
  *
  * What a caller owes. No pointer is NULL, also where the length is 0. Pointers are aligned for their type,
- * and point to as many elements as the length says. What a call writes to (out, written) overlaps nothing
- * else that the call is given. No call is made from a signal handler, or in the child of a fork of a
- * process with threads. malloc, realloc and free come from one allocator, and give blocks that are aligned
- * to 16 bytes. The processor is an x86-64-v2 (SSE4.2 and popcnt, as since 2009).
+ * and point to as many elements as the length says. What a call writes to (out, written, count, result,
+ * handle) overlaps nothing else that the call is given. No call is made from a signal handler, or in the
+ * child of a fork of a process with threads. malloc, realloc and free come from one allocator, and give
+ * blocks that are aligned to 16 bytes. The processor is an x86-64-v2 (SSE4.2 and popcnt, as since 2009).
  *
  * What a call does. It keeps no pointer and has no state but that of a handle, so calls may run side by
  * side. It takes memory by malloc and frees it all before it returns, but for what a handle holds. It never
@@ -39,7 +39,7 @@ enum {
     TSP_YES = 0,           /* a yes, or done */
     TSP_NO = 1,            /* a no: the text is the report with its reason, or says why a layout can't be had */
     TSP_FAULT = 2,         /* a text has a fault, or is of the wrong TYPE: the text is one line that says so */
-    TSP_OUT_OF_MEMORY = 3, /* the text is a line that says so, or is empty */
+    TSP_OUT_OF_MEMORY = 3, /* memory was refused: the text is a line that says for what, or is empty */
     TSP_REFUSED = 4,       /* a number that the call doesn't take */
     TSP_TOO_SMALL = 6      /* the buffer is too small, and as it was */
 };
@@ -81,8 +81,8 @@ uint32_t tsp_explain(uint32_t call, const uint8_t *instance, size_t instance_len
                      const uint8_t *names, size_t names_len, uint32_t number, int64_t claimed,
                      uint32_t has_claim, uint8_t *out, size_t out_len, size_t *written);
 
-/* How many nodes an instance has, 1 to 100000; 0 if the text is no instance, or memory ran out. */
-uint32_t tsp_count(const uint8_t *instance, size_t instance_len);
+/* How many nodes an instance has, 1 to 100000, at TSP_YES; else *count is as it was. */
+uint32_t tsp_count(const uint8_t *instance, size_t instance_len, uint32_t *count);
 
 /* Calls that fill in numbers. At TSP_YES they are at the front of out; else out is as it was. */
 

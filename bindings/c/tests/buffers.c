@@ -118,8 +118,10 @@ static void numbers(void) {
     uint32_t pairs[] = {1, 2, 2, 4, 3, 3};
     for (int k = 0; k < 16; k++)
         out[k] = -7;
-    expect(tsp_count(TEXT(SQUARE)) == 4, "four nodes");
-    expect(tsp_count(TEXT(TOUR)) == 0, "a tour is no instance");
+    uint32_t count = 99;
+    expect(tsp_count(TEXT(TOUR), &count) == TSP_FAULT && count == 99, "a tour is no instance");
+    expect(tsp_count(TEXT("1"), &count) == TSP_FAULT && count == 99, "the nodes of no file");
+    expect(tsp_count(TEXT(SQUARE), &count) == TSP_YES && count == 4, "four nodes");
     expect(tsp_weights(TEXT(SQUARE), pairs, 6, out, 2) == TSP_TOO_SMALL && out[0] == -7, "one place too few for pairs");
     expect(tsp_weights(TEXT(SQUARE), pairs, 5, out, 16) == TSP_REFUSED && out[0] == -7, "half a pair");
     expect(tsp_weights(TEXT(TOUR), pairs, 6, out, 16) == TSP_FAULT && out[0] == -7, "pairs of a tour");

@@ -79,7 +79,7 @@ static uint32_t call(int which) {
     case 2:
         return tsp_convert(texts[0].bytes, texts[0].len, 0, out, sizeof out, &written);
     case 3:
-        return tsp_count(texts[0].bytes, texts[0].len) > 0 ? TSP_YES : TSP_OUT_OF_MEMORY;
+        return tsp_count(texts[0].bytes, texts[0].len, (uint32_t *)out);
     case 4:
         return tsp_points(texts[0].bytes, texts[0].len, 1, numbers, places);
     case 5:

@@ -75,7 +75,10 @@ class Run:
             return self.compare(task, texts)
         try:
             if task.is_foreign:
-                texts[1] = solution_text(texts[1], _library.count(texts[0]) or None)
+                status, nodes = _library.count(texts[0])
+                if status == _library.OUT_OF_MEMORY:
+                    return self.tell(status, b"file 1: out of memory\n")
+                texts[1] = solution_text(texts[1], nodes)
             done = task.done(texts)
         except SolutionError as fault:
             self.say(f"{task.paths[1 if task.is_foreign else 0]}: {fault}\n".encode("utf-8", "surrogateescape"))

@@ -160,7 +160,7 @@ _explain = _call(
 )
 _show = _call("tsp_show", c_uint32, *_TEXT, *_OUT)
 _convert = _call("tsp_convert", c_uint32, *_TEXT, c_uint32, *_OUT)
-_count = _call("tsp_count", c_uint32, *_TEXT)
+_count = _call("tsp_count", c_uint32, *_TEXT, POINTER(c_uint32))
 _points = _call("tsp_points", c_uint32, *_TEXT, c_uint32, *_NUMBERS)
 _version = _call("tsp_version", c_uint32)
 _open = _call("tsp_open", c_uint32, *_TEXT, _HANDLE, _RESULT)
@@ -244,9 +244,11 @@ def convert(text: bytes, layout: int) -> Tuple[int, bytes]:
     return _written(_convert, text, len(text), layout, capacity=len(text) + REPORT)
 
 
-def count(text: bytes) -> int:
-    """How many nodes an instance has; 0 where the text is none."""
-    return int(_count(text, len(text)))
+def count(text: bytes) -> Tuple[int, Optional[int]]:
+    """The status, and how many nodes an instance has; None where the text is none, or out of memory."""
+    nodes = c_uint32()
+    status = int(_count(text, len(text), byref(nodes)))
+    return status, nodes.value if status == DONE else None
 
 
 def points(text: bytes, section: int, nodes: int) -> Tuple[int, "array[int]"]:

@@ -1,4 +1,5 @@
 pub mod AsBox
+mod Counted
 mod Distances
 mod Ends
 mod Filled

@@ -1,14 +1,11 @@
 -- From the verdict on a solution of an open instance to what is said of the texts that are open.
-use Rattle.std.proofs.Common.{◌≡◌, ℕ, ◌≤◌, List, [], Bool, true, false, Result, Ok, Err, inl, inr, refl, sym, ap, subst, ◌∙◌, arith}
-use Rattle.std.specs.Prelude.{◌⊎◌, Option, None, Some, ℤ, IsTrue}
+use Rattle.std.proofs.Common.{◌≡◌, ℕ, ◌≤◌, List, Bool, true, false, Result, Ok, Err, inl, inr, refl, sym, ap, subst, ◌∙◌, arith}
+use Rattle.std.specs.Prelude.{Option, ℤ}
 use Rattle.tsp_stream.specs.declared.output.WriteFault.TheVariants as write_faults
 use Rattle.tsp_stream.specs.Sink.{Sink}
 use Rattle.tsp_draft.specs.Fields.{Fields}
 use Rattle.tsp_file.specs.declared.fault.RelayoutFault.{RelayoutFault}
-use Rattle.tsp_text.specs.declared.fault.ReadFault.{ReadFault}
 use Rattle.tsp_text.specs.declared.fault.ReadFault.TheVariants as read_faults
-use Rattle.tsp_text.specs.Text.{fault}
-use Rattle.tsp_read.specs.Reads.{Reads}
 use Rattle.tsp_reason.specs.declared.verdict.Verdict.{Verdict}
 use Rattle.tsp_reason.specs.declared.verdict.Verdict.TheVariants.{Tour, Routes, No}
 use Rattle.tsp_reason.specs.Verdicts.{is_yes}
@@ -21,30 +18,33 @@ use Rattle.tsp_open.specs.Open.{Open, IsHeldVerdict, IsNotJudged}
 use Rattle.tsp_c.specs.declared.told.Told.{Told}
 use Rattle.tsp_c.specs.Ended.{without_devices, EndsOnTexts, Reports}
 use Rattle.tsp_c.specs.Opened.{IsOpenOn, ChecksAsTexts, TellsJudged}
-use Rattle.tsp_c.specs.Texts.{GivenText, AreSpelled, IsAcceptedText, IsRejected, IsUnchecked, ChecksTexts}
+use Rattle.tsp_c.specs.Texts.{GivenText, AreSpelled, IsAcceptedText, StopsCheck, ChecksTexts}
 use Rattle.tsp_c.specs.Told.{told_of_verdict, told_of_fault}
 use Rattle.tsp_c.proofs.Ends.{yes_ends, no_ends, fault_ends, fault_status}
 use Rattle.tsp_c.proofs.OnTexts.{Collects, printed_is}
 
 -- ---- a solution that isn't judged
 
--- a text that isn't read has a fault, where the status is that of a fault of a text
-faulty_text : (text : List ℕ) (file : ℕ) (found : ReadFault) → Reads text (Err found)
-    → status_of_fault (without_devices (File file found)) ≡ 2 → fault text ≡ Some found
-faulty_text text file (read_faults.Line line word found) reads two = reads
-faulty_text text file (read_faults.End found) reads two = reads
-faulty_text text file read_faults.TooLong reads two = reads
-faulty_text text file read_faults.OutOfMemory reads two = let n : 3 ≡ 2 = two in absurd (omega arith)
-faulty_text text file read_faults.Device reads two = absurd reads
-
-unjudged : (opened : Open) (two : List ℕ) (one : List ℕ) (given : GivenText) (fault : RunFault) → IsOpenOn one given opened
-    → IsNotJudged two opened fault → status_of_fault (without_devices fault) ≡ 2 → IsUnchecked given one two fault
-unjudged opened two one given (File file found) is ends s =
-    inr (inl ((opened.instance, is.0), (ends.0, faulty_text two file found ends.1 s)))
-unjudged opened two one given WrongKind is ends s = absurd ends
-unjudged opened two one given OutOfMemory is ends s = let n : 3 ≡ 2 = s in absurd (omega arith)
-unjudged opened two one given (Relayout refused) is ends s = absurd ends
-unjudged opened two one given (Write found) is ends s = absurd ends
+stops_held : (opened : Open) (claimed : Option ℤ) (two : List ℕ) (one : List ℕ) (given : GivenText) (fault : RunFault)
+    → IsOpenOn one given opened → IsNotJudged two opened fault → StopsCheck given claimed one two (without_devices fault)
+stops_held opened claimed two one given (File file (read_faults.Line line word found)) is ends =
+    inr (inl ((opened.instance, is.0), (ends.0, ends.1)))
+stops_held opened claimed two one given (File file (read_faults.End found)) is ends =
+    inr (inl ((opened.instance, is.0), (ends.0, ends.1)))
+stops_held opened claimed two one given (File file read_faults.TooLong) is ends =
+    inr (inl ((opened.instance, is.0), (ends.0, ends.1)))
+stops_held opened claimed two one given (File file read_faults.OutOfMemory) is ends = inr (inl (ends.0, (opened.instance, is.0)))
+stops_held opened claimed two one given (File file read_faults.Device) is ends = absurd ends.1
+stops_held opened claimed two one given WrongKind is ends = absurd ends
+stops_held opened claimed two one given OutOfMemory is ends = (
+  opened.instance,
+  ends.0,
+  opened.certificate,
+  record { first_file = is.0; second_file = ends.1; third_file = is.1 },
+  ends.2,
+)
+stops_held opened claimed two one given (Relayout refused) is ends = absurd ends
+stops_held opened claimed two one given (Write found) is ends = absurd ends
 
 no_relayout : (opened : Open) (two : List ℕ) (fault : RunFault) (refused : RelayoutFault) → fault ≡ Relayout refused
     → IsNotJudged two opened fault → ⊥
@@ -56,9 +56,8 @@ no_relayout opened two fault refused is ends = none (subst (λ (f : RunFault). I
 pub fault_as_texts : (opened : Open) (claimed : Option ℤ) (two : List ℕ) (fault : RunFault) (written : List ℕ) (status : ℕ)
     (text : List ℕ) → IsNotJudged two opened fault → EndsOnTexts (Err fault) written status text
     → ChecksAsTexts opened claimed two status text
-fault_as_texts opened claimed two fault written status text ends e one given is = fault_ends fault written status text
-    (λ refused same line. absurd (no_relayout opened two fault refused same ends))
-    (λ s. unjudged opened two one given fault is ends s) e
+fault_as_texts opened claimed two fault written status text ends e one given is =
+    fault_ends fault written status text (stops_held opened claimed two one given fault is ends) e
 
 -- the status of a fault is neither that of a yes nor that of a no
 above_one : (opened : Open) (two : List ℕ) (fault : RunFault) (written : List ℕ) (status : ℕ) (text : List ℕ)
@@ -140,14 +139,18 @@ reported_as_texts opened claimed two verdict sink (Ok answer) written status tex
     (printed_is sink written (report_of opened.instance verdict) collects reports.0) texts_are
     (subst (λ (b : Bool). EndsOnTexts (Ok b) written status text) reports.1 e)
 reported_as_texts opened claimed two verdict sink (Err fault) written status text is means collects reports e one given texts_are =
-    fault_ends fault written status text (λ refused same line. absurd (write_is refused (sym reports ∙ same)))
-    (λ s. absurd (two_is (sym (ap (λ (f : RunFault). status_of_fault (without_devices f)) reports) ∙ s))) e
-  where
-    write_is : (refused : RelayoutFault) → Write write_faults.Device ≡ Relayout refused → ⊥
-    write_is refused e = cc
-
-    two_is : ◌≡◌ {A = ℕ} 3 2 → ⊥
-    two_is n = omega (arith, n)
+    fault_ends fault written status text
+    (subst (λ (f : RunFault). StopsCheck given claimed one two (without_devices f)) (sym reports) (
+      verdict,
+      (
+        opened.instance,
+        is.solution,
+        opened.certificate,
+        are_spelled opened claimed one two given verdict is texts_are,
+        is.of_type,
+        is.judged,
+      ),
+    )) e
 
 pub not_two : (answer : Bool) (status : ℕ) → status ≡ status_of (Ok answer) → status ≡ 2 → ⊥
 not_two true status is two = let zero : status ≡ 0 = is in omega (arith, zero, two)

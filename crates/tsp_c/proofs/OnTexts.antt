@@ -1,5 +1,5 @@
 -- From runs on readers to what is said of the texts that they read.
-use Rattle.std.proofs.Common.{◌≡◌, ℕ, List, [], Bool, true, false, Result, Ok, Err, inl, inr, refl, sym, ap, subst, ◌∙◌, arith}
+use Rattle.std.proofs.Common.{◌≡◌, ℕ, List, [], Bool, true, false, Result, Ok, Err, inl, inr, refl, sym, subst, arith}
 use Rattle.std.specs.Prelude.{Option, None, Some, IfSome, ℤ}
 use Rattle.std.specs.Io.KnownBytes.{Appends}
 use Rattle.std.proofs.lemmas.Bool.{false≢true}
@@ -9,7 +9,6 @@ use Rattle.tsp_stream.specs.Turn.{Turn}
 use Rattle.tsp_stream.specs.Sink.{Sink, HasWritten}
 use Rattle.tsp_draft.specs.Fields.{Fields}
 use Rattle.tsp_file.specs.declared.fault.RelayoutFault.{RelayoutFault}
-use Rattle.tsp_file.specs.declared.fault.RelayoutFault.TheVariants as relayout_faults
 use Rattle.tsp_text.specs.declared.fault.ReadFault.{ReadFault}
 use Rattle.tsp_text.specs.declared.fault.ReadFault.TheVariants as read_faults
 use Rattle.tsp_text.specs.Text.{fault, Spells}
@@ -24,15 +23,16 @@ use Rattle.tsp_judge.specs.declared.bound.Bounded.{Bounded}
 use Rattle.tsp_judge.specs.declared.fault.RunFault.{RunFault}
 use Rattle.tsp_judge.specs.declared.fault.RunFault.TheVariants.{File, WrongKind, Write, OutOfMemory, Relayout}
 use Rattle.tsp_judge.specs.Status.{status_of_fault}
-use Rattle.tsp_judge.specs.Run.{given_by, IsSomeFile, IsFileIn, AreRead, JudgesFiles, EndsWithout}
+use Rattle.tsp_judge.specs.Run.{given_by, IsSomeFile, IsFileIn, AreRead, JudgesFiles, IsFaultOfRun, EndsWithout}
 use Rattle.tsp_judge.specs.Accepted.{IsAccepted, IsBoundAccepted}
 use Rattle.tsp_judge.specs.Yes.{SaysYes, IsCheckOf}
 use Rattle.tsp_judge.specs.BoundRun.{BoundsFiles, EndsUnbounded, SaysBound, IsBoundRunOf}
 use Rattle.tsp_judge.specs.ShowRun.{IsShowRun}
-use Rattle.tsp_judge.specs.ConvertRun.{IsConvertRun}
-use Rattle.tsp_c.specs.Ended.{without_devices, done, has_bound, fault_line, EndsOnTexts}
-use Rattle.tsp_c.specs.Texts.{IsFileText, ShowsText, ConvertsText, given_text, SpellsGiven}
-use Rattle.tsp_c.specs.Texts.{AreSpelled, IsAcceptedText, IsRejected, IsUnchecked, ChecksTexts, IsBoundText, IsUnbounded, BoundsTexts}
+use Rattle.tsp_judge.specs.ConvertRun.{IsConverted, IsConvertRun}
+use Rattle.tsp_open.specs.Open.{IsTextFault}
+use Rattle.tsp_c.specs.Ended.{without_devices, done, has_bound, EndsOnTexts}
+use Rattle.tsp_c.specs.Texts.{IsFileText, StopsShowing, ShowsText, BecomesFile, StopsConverting, ConvertsText, given_text, SpellsGiven}
+use Rattle.tsp_c.specs.Texts.{AreSpelled, IsAcceptedText, IsRejected, IsUnchecked, IsReached, StopsCheck, ChecksTexts, IsBoundText, IsUnbounded, StopsBound, BoundsTexts}
 use Rattle.tsp_c.proofs.Ends.{yes_ends, no_ends, fault_ends}
 
 -- ---- a text
@@ -55,6 +55,19 @@ stopped turn text file read_faults.TooLong known stops two = faulty turn text re
 stopped turn text file read_faults.OutOfMemory known stops two = let n : 3 ≡ 2 = two in absurd (omega arith)
 stopped turn text file read_faults.Device known stops two = let n : 3 ≡ 2 = two in absurd (omega arith)
 
+-- a file at which a run stops in memory is its text, which has the fault, or there is no memory for it
+text_stops : (P : RunFault → Type 0) (turn : Turn) (text : List ℕ) (number file : ℕ) (found : ReadFault)
+    → ((other : ReadFault) → IsTextFault number text (File file other) → P (File file other)) → turn.known ≡ Some text
+    → file ≡ number → StopsAt found turn → P (without_devices (File file found))
+text_stops P turn text number file (read_faults.Line line word found) holds known is stops =
+    holds (read_faults.Line line word found) (is, faulty turn text (read_faults.Line line word found) known stops)
+text_stops P turn text number file (read_faults.End found) holds known is stops =
+    holds (read_faults.End found) (is, faulty turn text (read_faults.End found) known stops)
+text_stops P turn text number file read_faults.TooLong holds known is stops =
+    holds read_faults.TooLong (is, faulty turn text read_faults.TooLong known stops)
+text_stops P turn text number file read_faults.OutOfMemory holds known is stops = holds read_faults.OutOfMemory (is, tt)
+text_stops P turn text number file read_faults.Device holds known is stops = holds read_faults.OutOfMemory (is, tt)
+
 -- what is known of the writer of a run on texts: it held nothing, and holds what was written
 pub record Collects (sink : Sink) (written : List ℕ) : Type 0 where
   pub held : sink.held ≡ Some []
@@ -73,46 +86,34 @@ pub shows : (turn : Turn) (sink : Sink) (ended : Result (Unit {0}) RunFault) (on
 shows turn sink (Ok is) one written status text run known collects e =
     yes_ends written status text (run.0, spelled turn one run.0 known run.1, printed_is sink written _ collects run.2) e
 shows turn sink (Err (File file found)) one written status text run known collects e =
-    fault_ends (File file found) written status text (λ refused is line. absurd cc) (λ two. (run.0, stopped turn one file found known run.1 two)) e
+    fault_ends (File file found) written status text
+    (text_stops (StopsShowing one) turn one 1 file found (λ other is. is) known run.0 run.1) e
 shows turn sink (Err WrongKind) one written status text run known collects e = absurd run
 shows turn sink (Err OutOfMemory) one written status text run known collects e = absurd run
 shows turn sink (Err (Relayout refused)) one written status text run known collects e = absurd run
 shows turn sink (Err (Write write_faults.OutOfMemory)) one written status text run known collects e = absurd run
 shows turn sink (Err (Write write_faults.Device)) one written status text run known collects e =
-    fault_ends (Write write_faults.Device) written status text (λ refused is line. absurd cc)
-    (λ two. let n : 3 ≡ 2 = two in absurd (omega arith)) e
+    fault_ends (Write write_faults.Device) written status text (run.0, spelled turn one run.0 known run.1) e
+
+becomes : (to : Option Layout) (turn : Turn) (one : List ℕ) (new : Fields) → turn.known ≡ Some one → IsConverted to turn new
+    → BecomesFile to one new
+becomes to turn one new known is = (is.old, spelled turn one is.old known is.whole, is.becomes, is.valid)
 
 pub converts : (to : Option Layout) (turn : Turn) (sink : Sink) (ended : Result (Unit {0}) RunFault) (one written : List ℕ) (status : ℕ)
     (text : List ℕ) → turn.known ≡ Some one → Collects sink written → IsConvertRun to turn sink ended
     → EndsOnTexts (done ended) written status text → ConvertsText to one status text
 converts to turn sink (Ok is) one written status text known collects run e =
-    let new = run.0 in let converted = run.1 in
-    yes_ends written status text (
-      converted.old,
-      new,
-      spelled turn one converted.old known converted.whole,
-      converted.becomes,
-      converted.valid,
-      printed_is sink written _ collects run.2,
-    ) e
+    yes_ends written status text (run.0, becomes to turn one run.0 known run.1, printed_is sink written _ collects run.2) e
 converts to turn sink (Err (File file found)) one written status text known collects run e =
-    fault_ends (File file found) written status text (λ refused is line. absurd cc) (λ two. (run.0, stopped turn one file found known run.1 two)) e
+    fault_ends (File file found) written status text
+    (text_stops (StopsConverting to one) turn one 1 file found (λ other is. is) known run.0 run.1) e
 converts to turn sink (Err WrongKind) one written status text known collects run e = absurd run
 converts to turn sink (Err OutOfMemory) one written status text known collects run e = absurd run
 converts to turn sink (Err (Relayout refused)) one written status text known collects run e =
-    fault_ends (Relayout refused) written status text
-    (λ other is line. (run.0, refused, spelled turn one run.0 known run.1, run.2, line ∙ ap fault_line (sym is)))
-    (λ two. absurd (not_two refused two)) e
-  where
-    not_two : (refused : RelayoutFault) → status_of_fault (without_devices (Relayout refused)) ≡ 2 → ⊥
-    not_two relayout_faults.OutOfMemory two = let n : 3 ≡ 2 = two in omega arith
-    not_two relayout_faults.NotExplicit two = let n : 1 ≡ 2 = two in omega arith
-    not_two (relayout_faults.NotSymmetric i j) two = let n : 1 ≡ 2 = two in omega arith
-    not_two (relayout_faults.DiagonalLost i) two = let n : 1 ≡ 2 = two in omega arith
+    fault_ends (Relayout refused) written status text (run.0, spelled turn one run.0 known run.1, run.2) e
 converts to turn sink (Err (Write write_faults.OutOfMemory)) one written status text known collects run e = absurd run
 converts to turn sink (Err (Write write_faults.Device)) one written status text known collects run e =
-    fault_ends (Write write_faults.Device) written status text (λ refused is line. absurd cc)
-    (λ two. let n : 3 ≡ 2 = two in absurd (omega arith)) e
+    fault_ends (Write write_faults.Device) written status text (run.0, becomes to turn one run.0 known run.1) e
 
 -- ---- the check of texts
 
@@ -216,6 +217,60 @@ no_relayout by claimed first second third sink fault refused is run =
     none : EndsWithout (given_by by third) claimed first second sink (Relayout refused) → ⊥
     none ended = ended.4
 
+-- the texts before the one at which a run stops are files
+reached : (by : Option Certificate) (first second third : Turn) (one two three : List ℕ) (file : ℕ) (found : ReadFault)
+    → Reads3 first second third one two three → IsFaultOfRun (given_by by third) first second file found
+    → IsReached (given_text by three) one two file
+reached by first second third one two three file found reads run = elim run [
+  | inl a ↦ inl a.0
+  | inr rest ↦ elim rest [
+    | inl b ↦ inr (inl (b.0, some_file first one reads.first_is b.1))
+    | inr c ↦ let given = given_is by third three c.0 c.1 in inr (inr (
+      given.0,
+      given.1,
+      c.2,
+      some_file first one reads.first_is c.3,
+      some_file second two reads.second_is c.4,
+    ))
+  ]
+]
+  where
+    given_is : (by : Option Certificate) (third : Turn) (three : List ℕ) (given : Certificate × Turn) → given_by by third ≡ Some given
+        → (text : Certificate × List ℕ) × (given_text by three ≡ Some text)
+    given_is None third three given is = absurd cc
+    given_is (Some by) third three given is = ((by, three), refl)
+
+stops_check : (by : Option Certificate) (claimed : Option ℤ) (first second third : Turn) (sink : Sink) (one two three : List ℕ)
+    (fault : RunFault) → Reads3 first second third one two three → EndsWithout (given_by by third) claimed first second sink fault
+    → StopsCheck (given_text by three) claimed one two (without_devices fault)
+stops_check by claimed first second third sink one two three (File file (read_faults.Line line word found)) reads run =
+    unchecked by claimed first second third sink one two three (File file (read_faults.Line line word found)) reads run refl
+stops_check by claimed first second third sink one two three (File file (read_faults.End found)) reads run =
+    unchecked by claimed first second third sink one two three (File file (read_faults.End found)) reads run refl
+stops_check by claimed first second third sink one two three (File file read_faults.TooLong) reads run =
+    unchecked by claimed first second third sink one two three (File file read_faults.TooLong) reads run refl
+stops_check by claimed first second third sink one two three (File file read_faults.OutOfMemory) reads run =
+    reached by first second third one two three file read_faults.OutOfMemory reads run.1
+stops_check by claimed first second third sink one two three (File file read_faults.Device) reads run =
+    reached by first second third one two three file read_faults.Device reads run.1
+stops_check by claimed first second third sink one two three WrongKind reads run =
+    unchecked by claimed first second third sink one two three WrongKind reads run refl
+stops_check by claimed first second third sink one two three OutOfMemory reads run =
+    (run.0, run.1, run.2, are_spelled by first second third one two three run.0 run.1 run.2 reads run.3, run.4.1)
+stops_check by claimed first second third sink one two three (Relayout refused) reads run = absurd run.4
+stops_check by claimed first second third sink one two three (Write write_faults.OutOfMemory) reads run = absurd run.4
+stops_check by claimed first second third sink one two three (Write write_faults.Device) reads run = (
+  run.4.1.0,
+  (
+    run.0,
+    run.1,
+    run.2,
+    are_spelled by first second third one two three run.0 run.1 run.2 reads run.3,
+    run.4.0,
+    run.4.1.1,
+  ),
+)
+
 pub checks : (by : Option Certificate) (claimed : Option ℤ) (first second third : Turn) (sink : Sink) (answer : Result Bool RunFault)
     (one two three written : List ℕ) (status : ℕ) (text : List ℕ) → Reads3 first second third one two three → Collects sink written
     → IsCheckOf (given_by by third) claimed first second sink answer → EndsOnTexts answer written status text
@@ -226,9 +281,7 @@ checks by claimed first second third sink (Ok false) one two three written statu
     let run = check.0 in no_ends written status text
     (rejected by claimed first second third sink one two three written run.0 run.1 run.2 run.3 reads collects run.4 run.5 run.6) e
 checks by claimed first second third sink (Err fault) one two three written status text reads collects check e =
-    fault_ends fault written status text
-    (λ refused is line. absurd (no_relayout by claimed first second third sink fault refused is check.0))
-    (λ s. unchecked by claimed first second third sink one two three fault reads check.0 s) e
+    fault_ends fault written status text (stops_check by claimed first second third sink one two three fault reads check.0) e
 
 -- ---- a bound
 
@@ -296,12 +349,51 @@ not_relaid by first second sink fault refused is run = none (subst (λ (f : RunF
     none : EndsUnbounded by first second sink (Relayout refused) → ⊥
     none ended = ended.4
 
+stops_bound : (by : Certificate) (first second : Turn) (sink : Sink) (one two : List ℕ) (fault : RunFault)
+    → Reads2 first second one two → EndsUnbounded by first second sink fault → StopsBound by one two (without_devices fault)
+stops_bound by first second sink one two (File file (read_faults.Line line word found)) reads run =
+    unbounded by first second sink one two (File file (read_faults.Line line word found)) reads run refl
+stops_bound by first second sink one two (File file (read_faults.End found)) reads run =
+    unbounded by first second sink one two (File file (read_faults.End found)) reads run refl
+stops_bound by first second sink one two (File file read_faults.TooLong) reads run =
+    unbounded by first second sink one two (File file read_faults.TooLong) reads run refl
+stops_bound by first second sink one two (File file read_faults.OutOfMemory) reads run = elim run.1 [
+  | inl a ↦ inl a.0
+  | inr b ↦ inr (b.0, some_file first one reads.first_is b.1)
+]
+stops_bound by first second sink one two (File file read_faults.Device) reads run = elim run.1 [
+  | inl a ↦ inl a.0
+  | inr b ↦ inr (b.0, some_file first one reads.first_is b.1)
+]
+stops_bound by first second sink one two WrongKind reads run = unbounded by first second sink one two WrongKind reads run refl
+stops_bound by first second sink one two OutOfMemory reads run = (
+  run.0,
+  run.1,
+  spelled first one run.0 reads.first_is run.2,
+  spelled second two run.1 reads.second_is run.3,
+  run.4.0,
+  run.4.1,
+  run.4.2,
+)
+stops_bound by first second sink one two (Relayout refused) reads run = absurd run.4
+stops_bound by first second sink one two (Write write_faults.OutOfMemory) reads run = absurd run.4
+stops_bound by first second sink one two (Write write_faults.Device) reads run = (
+  run.4.1.0,
+  (
+    run.0,
+    run.1,
+    spelled first one run.0 reads.first_is run.2,
+    spelled second two run.1 reads.second_is run.3,
+    run.4.0,
+    run.4.1.1,
+  ),
+)
+
 pub bounds_texts : (by : Certificate) (first second : Turn) (sink : Sink) (ended : Result Bounded RunFault) (one two written : List ℕ)
     (status : ℕ) (text : List ℕ) → Reads2 first second one two → Collects sink written → IsBoundRunOf by first second sink ended
     → EndsOnTexts (has_bound ended) written status text → BoundsTexts by one two status text
 bounds_texts by first second sink (Ok bounded) one two written status text reads collects run e =
     let is = run.0 in bound_found by first second sink one two written status text bounded.instance bounded.certificate bounded.found
     reads collects is.0 is.1 is.2 (λ yes. run.1 bounded refl yes) e
-bounds_texts by first second sink (Err fault) one two written status text reads collects run e = fault_ends fault written status text
-    (λ refused is line. absurd (not_relaid by first second sink fault refused is run.0))
-    (λ s. unbounded by first second sink one two fault reads run.0 s) e
+bounds_texts by first second sink (Err fault) one two written status text reads collects run e =
+    fault_ends fault written status text (stops_bound by first second sink one two fault reads run.0) e

@@ -1,5 +1,5 @@
 -- How a call on texts ends: its status, and the text that goes to the caller's buffer.
-use Rattle.std.specs.Prelude.{◌≡◌, ◌⊎◌, ℕ, zero, suc, ◌≤◌, ◌<◌, Bool, true, List, [], ◌∷◌, ◌++◌, length, drop, Option, None, Some, Result, Ok, Err}
+use Rattle.std.specs.Prelude.{◌≡◌, ◌⊎◌, ℕ, zero, suc, ◌≤◌, ◌<◌, Bool, true, false, List, [], ◌∷◌, ◌++◌, length, drop, Option, None, Some, Result, Ok, Err}
 use Rattle.tsp_stream.specs.declared.output.WriteFault.TheVariants as write_faults
 use Rattle.tsp_stream.specs.Sink.{Sink, HasWritten}
 use Rattle.tsp_text.specs.declared.fault.ReadFault.TheVariants as read_faults
@@ -54,8 +54,14 @@ without_devices fault = fault
 abbrev pub fault_line : RunFault → List ℕ
 fault_line fault = run_fault_text fault ++ 10 ∷ []
 
--- A run that has an answer ends with its status, and with what it wrote. One that has none ends with the status and the line of
--- its fault, or with nothing, where there is no memory for the line.
+-- A run that has an answer ends with its status, and with what it wrote; one that has none, with the status and the line of its
+-- fault.
+abbrev pub IsPrinted : Result Bool RunFault → List ℕ → ℕ → List ℕ → Type 0
+IsPrinted (Ok answer) written status text = (status ≡ status_of (Ok answer)) × (text ≡ written)
+IsPrinted (Err fault) written status text =
+    (status ≡ status_of_fault (without_devices fault)) × (text ≡ fault_line (without_devices fault))
+
+-- the same; or out of memory, without a text, where there is no memory for the line of a fault
 abbrev pub EndsOnTexts : Result Bool RunFault → List ℕ → ℕ → List ℕ → Type 0
 EndsOnTexts (Ok answer) written status text = (status ≡ status_of (Ok answer)) × (text ≡ written)
 EndsOnTexts (Err fault) written status text =
@@ -69,11 +75,16 @@ Reports sink report accepts (Err fault) = fault ≡ Write write_faults.Device
 
 -- ---- what a status says
 
--- 0 comes with a text of which Yes holds, 1 with one of which No holds, 2 with the line of a fault of which Faulty holds, and 3
--- with the line of a fault, or with nothing.
-pub record EndsWithText (Yes No : List ℕ → Type 0) (Faulty : RunFault → Type 0) (status : ℕ) (text : List ℕ) : Type 0 where
-  pub most : status ≤ 3
-  pub yes : status ≡ 0 → Yes text
-  pub no : status ≡ 1 → No text
-  pub faulty : status ≡ 2 → (fault : RunFault) × Faulty fault × (text ≡ fault_line fault)
-  pub memory : status ≡ 3 → (text ≡ []) ⊎ ((fault : RunFault) × (text ≡ fault_line fault))
+-- A yes comes with a text of which Yes holds, a no with one of which No holds, and a fault with its line, where Stops holds of the
+-- fault.
+abbrev pub SaysEnding : (List ℕ → Type 0) → (List ℕ → Type 0) → (RunFault → Type 0) → Result Bool RunFault → List ℕ → Type 0
+SaysEnding Yes No Stops (Ok true) text = Yes text
+SaysEnding Yes No Stops (Ok false) text = No text
+SaysEnding Yes No Stops (Err fault) text = Stops fault × (text ≡ fault_line fault)
+
+-- The status is that of an ending of the run, and the text says it. Or the run ends with a fault, and there is no memory for the
+-- line of it: then the status is 3, and there is no text.
+abbrev pub EndsWithText : (List ℕ → Type 0) → (List ℕ → Type 0) → (RunFault → Type 0) → ℕ → List ℕ → Type 0
+EndsWithText Yes No Stops status text =
+    ((ending : Result Bool RunFault) × (status ≡ status_of ending) × SaysEnding Yes No Stops ending text)
+    ⊎ ((fault : RunFault) × Stops fault × (status ≡ 3) × (text ≡ []))

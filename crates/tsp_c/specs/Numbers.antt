@@ -11,12 +11,12 @@ use Rattle.tsp_draft.specs.Fields.{Fields}
 use Rattle.tsp_draft.specs.Rules.{is_instance}
 use Rattle.tsp_file.specs.Meant.{nodes_of}
 use Rattle.tsp_file.specs.Cost.{cost, distance, point_of}
-use Rattle.tsp_text.specs.Text.{fault, Spells}
-use Rattle.tsp_read.specs.Reads.{Reads}
+use Rattle.tsp_text.specs.Text.{Spells}
 use Rattle.tsp_theory.specs.Length.{length_of}
+use Rattle.tsp_judge.specs.declared.fault.RunFault.{RunFault}
+use Rattle.tsp_judge.specs.Status.{status_of_fault}
+use Rattle.tsp_open.specs.Open.{IsTextFault, IsUnopened}
 use Rattle.tsp_c.specs.Ended.{nth}
-use Rattle.tsp_text.specs.declared.fault.ReadFault.{ReadFault}
-use Rattle.tsp_c.specs.Texts.{IsOtherText}
 
 -- ---- a buffer of numbers
 
@@ -28,25 +28,33 @@ pub record IsFilled (count : ℕ) (number : ℕ → ℤ) (old new : List ℤ) : 
 
 -- ---- an instance in memory
 
--- the text has a first fault
-abbrev pub HasSomeFault : List ℕ → Type 0
-HasSomeFault text = (found : ReadFault) × (fault text ≡ Some found)
-
--- 2 is the status of a text with this first fault; 3 is out of memory
-abbrev pub SaysFault : ReadFault → ℕ → Type 0
-SaysFault found status = (text : List ℕ) → Reads text (Err found) → ((status ≡ 2) × HasSomeFault text) ⊎ (status ≡ 3)
-
 abbrev pub IsInstanceText : List ℕ → Fields → Type 0
 IsInstanceText text instance = Spells text instance × IsTrue (is_instance instance.kind)
 
--- the instance of a text; or the status 2, of a text that is none, or 3, out of memory
-abbrev pub FindsInstance : List ℕ → Result Fields ℕ → Type 0
+-- the instance of a text, or why it has none
+abbrev pub FindsInstance : List ℕ → Result Fields RunFault → Type 0
 FindsInstance text (Ok instance) = IsInstanceText text instance
-FindsInstance text (Err status) = ((status ≡ 2) × (HasSomeFault text ⊎ IsOtherText text)) ⊎ (status ≡ 3)
+FindsInstance text (Err fault) = IsUnopened text fault
 
--- how many nodes the instance of a text has; 0 where the text is none, or memory ran out
-abbrev pub CountsNodes : List ℕ → ℕ → Type 0
-CountsNodes text result = (result ≡ 0) ⊎ ((instance : Fields) × IsInstanceText text instance × (instance.dimension ≡ Some result))
+-- a call ends with this fault: its status is that of the fault, and what it fills in is as it was
+abbrev pub StopsWith : {X : Type 0} → RunFault → X → X → ℕ → Type 0
+StopsWith fault old new status = (status ≡ status_of_fault fault) × (new ≡ old)
+
+-- The text is an instance, of which P holds; or the call ends with the fault of a text that is none.
+abbrev pub OfInstance : {X : Type 0} → List ℕ → (Fields → Type 0) → X → X → ℕ → Type 0
+OfInstance text P old new status = ((instance : Fields) × IsInstanceText text instance × P instance)
+    ⊎ ((fault : RunFault) × IsUnopened text fault × StopsWith fault old new status)
+
+-- ---- how many nodes
+
+-- 0, and how many nodes the instance has
+abbrev pub EndsCount : Fields → ℕ → ℕ → Type 0
+EndsCount instance count status = (status ≡ 0) × (instance.dimension ≡ Some count)
+
+abbrev pub FillsCount : List ℕ → ℕ → ℕ → ℕ → Type 0
+FillsCount text old new status = OfInstance text (λ instance. EndsCount instance new status) old new status
+
+-- ---- a buffer that is filled for an instance
 
 -- How a call ends that is asked for numbers of an instance: 0, and the buffer is filled; 4, what is asked for isn't there; 6, the
 -- buffer has too few places. But for 0 the buffer is as it was.
@@ -55,12 +63,6 @@ EndsBuffer Asked least count number old new status =
     ((status ≡ 0) × Asked × (least ≤ length old) × IsFilled count number old new)
     ⊎ ((status ≡ 4) × (new ≡ old) × ¬ Asked)
     ⊎ ((status ≡ 6) × (new ≡ old) × Asked × (length old < least))
-
--- The text is an instance, of which P holds; or 2, it is none; or 3, out of memory. In both of these the buffer is as it was.
-abbrev pub OfInstance : List ℕ → (Fields → Type 0) → List ℤ → List ℤ → ℕ → Type 0
-OfInstance text P old new status = ((instance : Fields) × IsInstanceText text instance × P instance)
-    ⊎ ((status ≡ 2) × (new ≡ old) × (HasSomeFault text ⊎ IsOtherText text))
-    ⊎ ((status ≡ 3) × (new ≡ old))
 
 -- ---- costs of pairs
 
@@ -162,8 +164,7 @@ EndsPoints (Some points) old new status =
 abbrev pub FillsPoints : List ℕ → ℕ → List ℤ → List ℤ → ℕ → Type 0
 FillsPoints text section old new status =
     (IsSection section × ((file : Fields) × Spells text file × EndsPoints (section_points section file) old new status))
-    ⊎ ((status ≡ 2) × (new ≡ old) × HasSomeFault text)
-    ⊎ ((status ≡ 3) × (new ≡ old))
+    ⊎ (IsSection section × ((fault : RunFault) × IsTextFault 1 text fault × StopsWith fault old new status))
     ⊎ ((status ≡ 4) × (new ≡ old) × ¬ IsSection section)
 
 -- ---- distances

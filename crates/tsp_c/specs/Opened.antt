@@ -1,7 +1,6 @@
 -- What the calls on a handle answer, over the instance on which it is open, and the certificate that is bound to it.
 use Rattle.std.specs.Prelude.{◌≡◌, ◌⊎◌, ℕ, ◌≤◌, ◌<◌, List, Option, None, Some, Ok, ℤ}
 use Rattle.tsp_draft.specs.Fields.{Fields}
-use Rattle.tsp_file.specs.Meant.{nodes_of}
 use Rattle.tsp_text.specs.Text.{Spells}
 use Rattle.tsp_reason.specs.declared.certificate.Certificate.{Certificate}
 use Rattle.tsp_reason.specs.declared.verdict.BoundVerdict.{BoundVerdict}
@@ -22,9 +21,9 @@ Held = Option Open
 
 -- ---- opening a handle, whatever it was open on
 
--- the text is no file, or no instance; or memory ran out
+-- The text is no file, or no instance; or it is one, and there is no memory for the handle.
 abbrev pub IsNotOpened : List ℕ → RunFault → Type 0
-IsNotOpened text OutOfMemory = Unit {0}
+IsNotOpened text OutOfMemory = (opened : Open) × IsOpened text opened
 IsNotOpened text fault = IsUnopened text fault
 
 -- 0, and the handle is open on the instance that the text is; or the handle is closed, with a fault and its status
@@ -94,7 +93,3 @@ abbrev pub EndsSection : Fields → ℕ → List ℤ → List ℤ → ℕ → Ty
 EndsSection instance section old new status =
     (IsSection section × EndsPoints (section_points section instance) old new status)
     ⊎ ((status ≡ 4) × (new ≡ old) × ¬ IsSection section)
-
--- 0, and how many nodes the instance has
-abbrev pub EndsCount : Fields → ℕ → ℕ → Type 0
-EndsCount instance count status = (status ≡ 0) × (count ≡ nodes_of instance)

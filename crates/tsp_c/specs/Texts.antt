@@ -3,26 +3,29 @@ use Rattle.std.specs.Prelude.{◌≡◌, ◌⊎◌, ℕ, zero, suc, ◌≤◌, �
 use Rattle.tsp_format.specs.declared.layout.Layout.{Layout}
 use Rattle.tsp_format.specs.Words.{layouts}
 use Rattle.tsp_draft.specs.Fields.{Fields}
-use Rattle.tsp_draft.specs.Rules.{fault_of, is_instance}
+use Rattle.tsp_draft.specs.Rules.{fault_of}
 use Rattle.tsp_file.specs.Text.{text_of}
-use Rattle.tsp_file.specs.declared.fault.RelayoutFault.{RelayoutFault}
+use Rattle.tsp_stream.specs.declared.output.WriteFault.TheVariants as write_faults
+use Rattle.tsp_text.specs.declared.fault.ReadFault.TheVariants as read_faults
 use Rattle.tsp_text.specs.Text.{fault, Spells}
 use Rattle.tsp_reason.specs.declared.certificate.Certificate.{Certificate}
 use Rattle.tsp_reason.specs.declared.certificate.Certificate.TheVariants.{Potentials, Branches}
 use Rattle.tsp_reason.specs.declared.verdict.BoundVerdict.{BoundVerdict}
 use Rattle.tsp_reason.specs.declared.verdict.BoundVerdict.TheVariants as bounds
 use Rattle.tsp_reason.specs.declared.verdict.Reason.{Reason}
+use Rattle.tsp_reason.specs.declared.verdict.Verdict.{Verdict}
 use Rattle.tsp_reason.specs.declared.verdict.Verdict.TheVariants.{No}
-use Rattle.tsp_verdict.specs.Bounded.{IsBoundVerdict}
-use Rattle.tsp_verdict.specs.Certified.{is_bounded}
-use Rattle.tsp_verdict.specs.Judged.{is_judged, IsVerdictWith}
+use Rattle.tsp_verdict.specs.Bounded.{NoneAgainstInstance, IsBoundVerdict}
+use Rattle.tsp_verdict.specs.Certified.{is_bounded, NoneWithoutMemory}
+use Rattle.tsp_verdict.specs.Judged.{is_judged, NoneBeforeRepeatsOn, IsVerdictWith}
 use Rattle.tsp_report.specs.Report.{report_of, bound_report_of}
 use Rattle.tsp_report.specs.Show.{shown}
 use Rattle.tsp_judge.specs.Accepted.{IsAccepted, IsBoundAccepted}
 use Rattle.tsp_judge.specs.ConvertRun.{Becomes}
 use Rattle.tsp_judge.specs.declared.fault.RunFault.{RunFault}
-use Rattle.tsp_judge.specs.declared.fault.RunFault.TheVariants.{File, WrongKind, Relayout}
-use Rattle.tsp_c.specs.Ended.{EndsWithText, fault_line, nth}
+use Rattle.tsp_judge.specs.declared.fault.RunFault.TheVariants.{File, WrongKind, Write, OutOfMemory, Relayout}
+use Rattle.tsp_open.specs.Open.{IsTextFault}
+use Rattle.tsp_c.specs.Ended.{EndsWithText, nth}
 
 -- ---- a number that is refused
 
@@ -40,26 +43,36 @@ abbrev pub IsFaultyText : ℕ → List ℕ → RunFault → Type 0
 IsFaultyText number text (File file found) = (file ≡ number) × (fault text ≡ Some found)
 IsFaultyText number text other = ⊥
 
--- it spells a file that is no instance
-abbrev pub IsOtherText : List ℕ → Type 0
-IsOtherText text = (file : Fields) × Spells text file × (is_instance file.kind ≡ false)
-
 -- ---- what is shown of a text, and the text written anew
+
+-- The text is no file; or it is one, and there is no memory for what is shown of it.
+abbrev pub StopsShowing : List ℕ → RunFault → Type 0
+StopsShowing one (Write write_faults.OutOfMemory) = IsFileText one
+StopsShowing one fault = IsTextFault 1 one fault
 
 abbrev pub ShowsText : List ℕ → ℕ → List ℕ → Type 0
 ShowsText one status text = EndsWithText
     (λ out. (file : Fields) × Spells one file × (out ≡ shown file))
     (λ out. ⊥)
-    (IsFaultyText 1 one) status text
+    (StopsShowing one) status text
+
+-- the text is a file, which becomes a valid one
+abbrev pub BecomesFile : Option Layout → List ℕ → Fields → Type 0
+BecomesFile to one new = (old : Fields) × Spells one old × Becomes to old (Ok new) × (fault_of new ≡ None)
+
+-- The text is no file; or its weights can't go into the layout, or there is no memory for that; or there is none for the text of
+-- the new file.
+abbrev pub StopsConverting : Option Layout → List ℕ → RunFault → Type 0
+StopsConverting to one (Relayout refused) = (old : Fields) × Spells one old × Becomes to old (Err refused)
+StopsConverting to one (Write write_faults.OutOfMemory) = (new : Fields) × BecomesFile to one new
+StopsConverting to one fault = IsTextFault 1 one fault
 
 -- 1 where the weights can't go into the layout
 abbrev pub ConvertsText : Option Layout → List ℕ → ℕ → List ℕ → Type 0
 ConvertsText to one status text = EndsWithText
-    (λ out. (old : Fields) × (new : Fields) × Spells one old × Becomes to old (Ok new) × (fault_of new ≡ None)
-    × (out ≡ text_of new))
-    (λ out. (old : Fields) × (refused : RelayoutFault) × Spells one old × Becomes to old (Err refused)
-    × (out ≡ fault_line (Relayout refused)))
-    (IsFaultyText 1 one) status text
+    (λ out. (new : Fields) × BecomesFile to one new × (out ≡ text_of new))
+    (λ out. ⊥)
+    (StopsConverting to one) status text
 
 -- by the layout with a number, counted from 1; 0 leaves a file in its own, and numbers above 9 are refused
 abbrev pub ConvertsBy : ℕ → List ℕ → ℕ → List ℕ → Type 0
@@ -131,11 +144,35 @@ IsUnchecked given one two fault = IsFaultyText 1 one fault
     ⊎ (IsFileText one × IsFaultyText 2 two fault)
     ⊎ ((third : Certificate × List ℕ) × (given ≡ Some third) × IsFileText one × IsFileText two × IsFaultyText 3 third.1 fault)
 
+-- the texts before the one with this number are files
+abbrev pub IsReached : GivenText → List ℕ → List ℕ → ℕ → Type 0
+IsReached given one two number = (number ≡ 1)
+    ⊎ ((number ≡ 2) × IsFileText one)
+    ⊎ ((third : Certificate × List ℕ) × (given ≡ Some third) × (number ≡ 3) × IsFileText one × IsFileText two)
+
+-- all texts are files, and none of the reasons applies that are found without memory
+abbrev pub IsUndecided : GivenText → List ℕ → List ℕ → Type 0
+IsUndecided given one two = (instance solution : Fields) × (certificate : Option (Certificate × Fields))
+    × AreSpelled given one two instance solution certificate × NoneBeforeRepeatsOn instance solution
+
+-- all texts are files, with this verdict
+abbrev pub HasVerdict : GivenText → Option ℤ → List ℕ → List ℕ → Verdict → Type 0
+HasVerdict given claimed one two verdict = (instance solution : Fields) × (certificate : Option (Certificate × Fields))
+    × AreSpelled given one two instance solution certificate
+    × IsTrue (is_judged certificate instance.kind) × IsVerdictWith certificate claimed instance solution verdict
+
+-- Why a check has no answer: out of memory for a file, for the verdict or for the report; or a text.
+abbrev pub StopsCheck : GivenText → Option ℤ → List ℕ → List ℕ → RunFault → Type 0
+StopsCheck given claimed one two (File number read_faults.OutOfMemory) = IsReached given one two number
+StopsCheck given claimed one two OutOfMemory = IsUndecided given one two
+StopsCheck given claimed one two (Write write_faults.OutOfMemory) = (verdict : Verdict) × HasVerdict given claimed one two verdict
+StopsCheck given claimed one two fault = IsUnchecked given one two fault
+
 abbrev pub ChecksTexts : GivenText → Option ℤ → List ℕ → List ℕ → ℕ → List ℕ → Type 0
 ChecksTexts given claimed one two status text = EndsWithText
     (IsAcceptedText given claimed one two)
     (IsRejected given claimed one two)
-    (IsUnchecked given one two) status text
+    (StopsCheck given claimed one two) status text
 
 -- By 0 without a certificate, by 1 with potentials, by 2 with branches; without a claimed length by has_claim 0, with one by 1.
 -- Other numbers are refused.
@@ -174,11 +211,28 @@ IsUnbounded by one two WrongKind = (instance certificate : Fields) × Spells one
     × (is_bounded by instance.kind ≡ false)
 IsUnbounded by one two fault = IsFaultyText 1 one fault ⊎ (IsFileText one × IsFaultyText 2 two fault)
 
+-- both texts are files, and no reason applies to the instance, nor one to the certificate that is found without memory
+abbrev pub IsUndecidedBound : Certificate → List ℕ → List ℕ → Type 0
+IsUndecidedBound by one two = (instance certificate : Fields) × Spells one instance × Spells two certificate
+    × IsTrue (is_bounded by instance.kind) × NoneAgainstInstance instance × NoneWithoutMemory by instance certificate
+
+-- both texts are files, of which this is found
+abbrev pub HasBound : Certificate → List ℕ → List ℕ → BoundVerdict → Type 0
+HasBound by one two found = (instance certificate : Fields) × Spells one instance × Spells two certificate
+    × IsTrue (is_bounded by instance.kind) × IsBoundVerdict by instance certificate found
+
+-- Why there is no bound and no reason: out of memory for a file, for the bound or for the report; or a text.
+abbrev pub StopsBound : Certificate → List ℕ → List ℕ → RunFault → Type 0
+StopsBound by one two (File number read_faults.OutOfMemory) = (number ≡ 1) ⊎ ((number ≡ 2) × IsFileText one)
+StopsBound by one two OutOfMemory = IsUndecidedBound by one two
+StopsBound by one two (Write write_faults.OutOfMemory) = (found : BoundVerdict) × HasBound by one two found
+StopsBound by one two fault = IsUnbounded by one two fault
+
 abbrev pub BoundsTexts : Certificate → List ℕ → List ℕ → ℕ → List ℕ → Type 0
 BoundsTexts by one two status text = EndsWithText
     (IsBoundText by one two)
     (IsBoundRejected by one two)
-    (IsUnbounded by one two) status text
+    (StopsBound by one two) status text
 
 -- by this certificate; where the number has none, it is refused
 abbrev pub BoundsBy : Option Certificate → List ℕ → List ℕ → ℕ → List ℕ → Type 0
@@ -187,6 +241,15 @@ BoundsBy (Some by) one two status text = BoundsTexts by one two status text
 
 -- ---- an explanation
 
--- the text of an explanation has no contract; a call that can't be explained is refused
-abbrev pub ExplainsTexts : ℕ → List ℕ → Type 0
-ExplainsTexts status text = Unit {0}
+-- the calls that are explained, by their numbers: 0 shows, 1 converts, 2 checks, 3 bounds; and the other numbers that each takes
+abbrev pub IsExplained : ℕ → ℕ → ℕ → Type 0
+IsExplained call number has_claim = (call ≡ 0)
+    ⊎ ((call ≡ 1) × (number ≤ 9))
+    ⊎ ((call ≡ 2) × (number ≤ 2) × (has_claim ≤ 1))
+    ⊎ ((call ≡ 3) × (1 ≤ number) × (number ≤ 2))
+
+-- What an explanation says has no contract. Out of memory there is none; and a call that isn't explained is refused.
+abbrev pub ExplainsTexts : ℕ → ℕ → ℕ → ℕ → List ℕ → Type 0
+ExplainsTexts call number has_claim status text =
+    (IsExplained call number has_claim × ((status ≡ 0) ⊎ ((status ≡ 3) × (text ≡ []))))
+    ⊎ (¬ IsExplained call number has_claim × IsRefusedNumber status text)

@@ -12,25 +12,33 @@ use tsp_distance::{Decimal, Point, att, ceil_2d, euc_2d, euc_3d, man_2d, man_3d,
 /// There is no such distance.
 const NO_DISTANCE: i64 = -1;
 
-/// The point with these counts of 10^-9, or `None` where one is too large.
-fn point_of(x: i64, y: i64, z: i64) -> Option<Point>
-    ensures { let p : Point = record { x = x; y = y; z = z } in SomeIff result (IsInSpace p) p }
+/// The coordinates of a point, as counts of 10^-9.
+#[derive(Clone, Copy)]
+pub(crate) struct Counts {
+    pub(crate) x: i64,
+    pub(crate) y: i64,
+    pub(crate) z: i64,
+}
+
+/// The point with these coordinates, or `None` where one is too large.
+fn point_of(counts: Counts) -> Option<Point>
+    ensures { let p : Point = record { x = counts.x; y = counts.y; z = counts.z } in SomeIff result (IsInSpace p) p }
 {
-    let x = Decimal::of_count(i128::from(x))?;
-    let y = Decimal::of_count(i128::from(y))?;
-    let z = Decimal::of_count(i128::from(z))?;
+    let x = Decimal::of_count(i128::from(counts.x))?;
+    let y = Decimal::of_count(i128::from(counts.y))?;
+    let z = Decimal::of_count(i128::from(counts.z))?;
     Some(Point { x, y, z })
 }
 
 /// The distance of two points by a number, or -1.
-pub(crate) fn distance_of(number: u32, ax: i64, ay: i64, az: i64, bx: i64, by: i64, bz: i64) -> i64
-    ensures { let a : Point = record { x = ax; y = ay; z = az } in let b : Point = record { x = bx; y = by; z = bz } in
-        GivesDistance number a b result }
+pub(crate) fn distance_of(number: u32, from: Counts, to: Counts) -> i64
+    ensures { let a : Point = record { x = from.x; y = from.y; z = from.z } in
+        let b : Point = record { x = to.x; y = to.y; z = to.z } in GivesDistance number a b result }
 {
-    let Some(a) = point_of(ax, ay, az) else {
+    let Some(a) = point_of(from) else {
         return NO_DISTANCE;
     };
-    let Some(b) = point_of(bx, by, bz) else {
+    let Some(b) = point_of(to) else {
         return NO_DISTANCE;
     };
     match between(number, a, b) {

@@ -1,10 +1,10 @@
 //! How a run on texts ends.
 
-ghost use Rattle.std.specs.Prelude.{◌≡◌};
+ghost use Rattle.std.specs.Prelude.{◌≡◌, IsErr, MatchResult};
 ghost use Rattle.tsp_stream.specs.states.Watched.{watched};
-ghost use Rattle.tsp_c.specs.Ended.{EndsOnTexts, without_devices};
+ghost use Rattle.tsp_c.specs.Ended.{EndsOnTexts, IsPrinted, without_devices};
 
-use std::io::Write;
+use crate::line::{NoLine, line_of};
 use tsp_judge::{ReadFault, RunFault, Watched, WriteFault, status_of};
 
 /// Out of memory.
@@ -15,20 +15,32 @@ const OUT_OF_MEMORY: u8 = 3;
 pub(crate) fn ended(answer: Result<bool, RunFault>, report: Watched<Vec<u8>>) -> (u8, Vec<u8>)
     ensures { EndsOnTexts answer (watched report).items result.0 result.1.items }
 {
-    let mut text = report.into_inner();
+    match printed(answer, report) {
+        Ok(printed) => printed,
+        Err(no_line) => (OUT_OF_MEMORY, no_line.into_text()),
+    }
+}
+
+/// The same.
+///
+/// # Errors
+///
+/// Out of memory for the line of a fault.
+fn printed(
+    answer: Result<bool, RunFault>,
+    report: Watched<Vec<u8>>,
+) -> Result<(u8, Vec<u8>), NoLine>
+    ensures { MatchResult result
+        (λ printed. IsPrinted answer (watched report).items printed.0 printed.1.items)
+        (λ no_line. IsErr answer) }
+{
+    let text = report.into_inner();
     match answer {
-        Ok(_) => (status_of(&answer), text),
+        Ok(_) => Ok((status_of(&answer), text)),
         Err(fault) => {
             let fault = without_devices(fault);
-            text.clear();
-            match writeln!(text, "{fault}") {
-                Ok(()) => (status_of(&Err(fault)), text),
-                Err(error) => {
-                    drop(error);
-                    text.clear();
-                    (OUT_OF_MEMORY, text)
-                }
-            }
+            let line = line_of(text, fault)?;
+            Ok((status_of(&Err(fault)), line))
         }
     }
 }

@@ -1,5 +1,8 @@
 //! What the answer of a call on texts means, for a person.
 
+ghost use Rattle.std.specs.Prelude.{◌↔◌, IsSome};
+ghost use Rattle.tsp_c.specs.Texts.{ExplainsTexts, IsExplained};
+
 use crate::refused::{REFUSED, certificate_of, claim_of, layout_of};
 use std::alloc::{AllocError, Global};
 use std::str;
@@ -50,7 +53,9 @@ struct Named<'a> {
 }
 
 /// What explains the answer of a call on these texts, with its status.
-pub(crate) fn explained(alloc: Global, numbers: Numbers, texts: Texts<'_>) -> (u8, Vec<u8>) {
+pub(crate) fn explained(alloc: Global, numbers: Numbers, texts: Texts<'_>) -> (u8, Vec<u8>)
+    ensures { ExplainsTexts numbers.call numbers.number numbers.has_claim result.0 result.1.items }
+{
     let mut text = Vec::new(alloc);
     let Some(task) = task_of(numbers, texts) else {
         return (REFUSED, text);
@@ -65,7 +70,9 @@ pub(crate) fn explained(alloc: Global, numbers: Numbers, texts: Texts<'_>) -> (u
 }
 
 /// The task of a call, or `None` where a number is refused.
-fn task_of<'a>(numbers: Numbers, texts: Texts<'a>) -> Option<Task<Named<'a>>> {
+fn task_of<'a>(numbers: Numbers, texts: Texts<'a>) -> Option<Task<Named<'a>>>
+    ensures { IsSome result ↔ IsExplained numbers.call numbers.number numbers.has_claim }
+{
     let (instance, solution, certificate) = texts_with_names(texts);
     let number = numbers.number;
     match numbers.call {

@@ -1,56 +1,57 @@
-//! The instance of a text.
+//! The file and the instance of a text.
 
-ghost use Rattle.tsp_c.specs.Numbers.{FindsInstance, CountsNodes, SaysFault};
+ghost use Rattle.tsp_open.specs.Open.{ReadsText};
+ghost use Rattle.tsp_c.specs.Numbers.{FillsCount, FindsInstance};
 
-use crate::status::{NO_FILE, OUT_OF_MEMORY};
+use crate::status::{DONE, status_of_fault};
 use std::alloc::Global;
 use tsp_cost::{Costs, Instance};
 use tsp_file::File;
-use tsp_read::{ReadFault, read_bytes};
+use tsp_judge::RunFault;
+use tsp_read::read_bytes;
+
+/// The file that a text spells.
+///
+/// # Errors
+///
+/// `File` with the number 1 where it spells none.
+pub(crate) fn file_of(alloc: Global, text: &[u8]) -> Result<File, RunFault>
+    ensures { ReadsText 1 text.now result }
+{
+    match read_bytes(alloc, text) {
+        Ok(file) => Ok(file),
+        Err(fault) => Err(RunFault::File { file: 1, fault }),
+    }
+}
 
 /// The instance that a text spells.
 ///
 /// # Errors
 ///
-/// The status 2 where the text is no instance, and 3 out of memory.
-pub(crate) fn instance_of(alloc: Global, text: &[u8]) -> Result<Instance, u32>
+/// `File` with the number 1 where the text spells no file; `WrongKind` where the file is no instance.
+pub(crate) fn instance_of(alloc: Global, text: &[u8]) -> Result<Instance, RunFault>
     ensures { FindsInstance text.now result }
 {
-    match read_bytes(alloc, text) {
-        Err(fault) => Err(status_of_read(fault)),
-        Ok(file) => match Instance::of(file) {
-            Ok(instance) => Ok(instance),
-            Err((_, other)) => {
-                drop(other);
-                Err(NO_FILE)
-            }
-        },
+    let file = file_of(alloc, text)?;
+    match Instance::of(file) {
+        Ok(instance) => Ok(instance),
+        Err((_, other)) => {
+            drop(other);
+            Err(RunFault::WrongKind)
+        }
     }
 }
 
-/// The status of a text that is no file: 2, or 3 out of memory.
-pub(crate) fn status_of_read(fault: ReadFault) -> u32
-    ensures { SaysFault fault result }
-{
-    match fault {
-        ReadFault::Line { .. } => NO_FILE,
-        ReadFault::End(_) => NO_FILE,
-        ReadFault::TooLong => NO_FILE,
-        ReadFault::OutOfMemory => OUT_OF_MEMORY,
-        ReadFault::Device => OUT_OF_MEMORY,
-    }
-}
-
-/// How many nodes the instance of a text has, or 0.
-pub(crate) fn node_count(alloc: Global, text: &[u8]) -> u32
-    ensures { CountsNodes text.now result }
+/// Fills in how many nodes the instance of a text has; the status.
+pub(crate) fn fill_count(alloc: Global, text: &[u8], count: &mut u32) -> u32
+    ensures { FillsCount text.now count.old count.new result }
 {
     match instance_of(alloc, text) {
-        Err(_) => 0,
+        Err(fault) => status_of_fault(fault),
         Ok(instance) => {
-            let count = instance.count();
+            *count = instance.count();
             drop(instance);
-            count
+            DONE
         }
     }
 }

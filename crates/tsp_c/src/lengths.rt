@@ -7,7 +7,7 @@ ghost use Rattle.tsp_file.specs.Meant.{nodes_of};
 
 use crate::fill::put;
 use crate::instance::instance_of;
-use crate::status::{DONE, REFUSED, TOO_SMALL};
+use crate::status::{DONE, REFUSED, TOO_SMALL, status_of_fault};
 use std::alloc::Global;
 use tsp_cost::{Costs, Instance, tour_length};
 
@@ -19,7 +19,7 @@ pub(crate) fn fill_lengths(alloc: Global, text: &[u8], nodes: &[u32], out: &mut 
     ensures { FillsLengths text.now nodes.now out.old out.new result }
 {
     match instance_of(alloc, text) {
-        Err(status) => status,
+        Err(fault) => status_of_fault(fault),
         Ok(instance) => {
             let status = lengths_of(&instance, nodes, out);
             drop(instance);

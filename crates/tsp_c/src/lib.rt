@@ -12,8 +12,8 @@ ghost use Rattle.tsp_distance.specs.declared.decimal.Point.{Point};
 ghost use Rattle.tsp_c.specs.Ended.{PlacesText, nth};
 ghost use Rattle.std.specs.Prelude.{◌≡◌, None};
 ghost use Rattle.tsp_c.specs.Told.{TellsBoundBy, TellsBy};
-ghost use Rattle.tsp_c.specs.Opened.{BindsText, ChecksHeld, EndsCount, EndsSection, OfHeld, OpensText};
-ghost use Rattle.tsp_c.specs.Numbers.{EndsLengths, EndsMatrix, EndsWeights, CountsNodes, FillsLengths, FillsMatrix, FillsPoints, FillsWeights, GivesDistance};
+ghost use Rattle.tsp_c.specs.Opened.{BindsText, ChecksHeld, EndsSection, OfHeld, OpensText};
+ghost use Rattle.tsp_c.specs.Numbers.{EndsCount, EndsLengths, EndsMatrix, EndsWeights, FillsCount, FillsLengths, FillsMatrix, FillsPoints, FillsWeights, GivesDistance};
 ghost use Rattle.tsp_c.specs.Texts.{BoundsBy, ChecksBy, ConvertsBy, ExplainsTexts, ShowsText, certificates};
 
 mod distance;
@@ -23,6 +23,7 @@ mod fill;
 mod handle;
 mod instance;
 mod lengths;
+mod line;
 mod loose;
 mod opened;
 mod parts;
@@ -34,10 +35,10 @@ mod texts;
 mod told;
 mod weights;
 
-use crate::distance::distance_of;
+use crate::distance::{Counts, distance_of};
 use crate::explain::{Numbers, Texts, explained};
 use crate::handle::Handle;
-use crate::instance::node_count;
+use crate::instance::fill_count;
 use crate::lengths::fill_lengths;
 use crate::opened::{
     bind_text, check_held, close, count_held, lengths_held, open_text, points_held, rows_held,
@@ -45,7 +46,7 @@ use crate::opened::{
 };
 use crate::place::place;
 use crate::points::fill_points;
-use crate::refused::{bound_by, check_by, convert_by};
+use crate::refused::{Claim, bound_by, check_by, convert_by};
 use crate::texts::shown;
 use crate::told::Told;
 use crate::weights::{fill_matrix, fill_weights};
@@ -71,15 +72,8 @@ pub extern "C" fn tsp_check(
     ensures { PlacesText (ChecksBy by has_claim claimed instance.now solution.now certificate.now)
         out.old out.new written.new result }
 {
-    let (status, text, _) = check_by(
-        alloc,
-        instance,
-        solution,
-        certificate,
-        by,
-        claimed,
-        has_claim,
-    );
+    let claim = Claim { claimed, has_claim };
+    let (status, text, _) = check_by(alloc, instance, solution, certificate, by, claim);
     let answer = place(&text, status, out, written);
     drop(text);
     answer
@@ -103,15 +97,8 @@ pub extern "C" fn tsp_check_result(
         × TellsBy by has_claim claimed instance.now solution.now certificate.now status told.new)
         out.old out.new written.new result }
 {
-    let (status, text, numbers) = check_by(
-        alloc,
-        instance,
-        solution,
-        certificate,
-        by,
-        claimed,
-        has_claim,
-    );
+    let claim = Claim { claimed, has_claim };
+    let (status, text, numbers) = check_by(alloc, instance, solution, certificate, by, claim);
     *told = numbers;
     let answer = place(&text, status, out, written);
     drop(text);
@@ -203,7 +190,7 @@ pub extern "C" fn tsp_explain(
     out: &mut [u8],
     written: &mut usize,
 ) -> u32
-    ensures { PlacesText ExplainsTexts out.old out.new written.new result }
+    ensures { PlacesText (ExplainsTexts call number has_claim) out.old out.new written.new result }
 {
     let numbers = Numbers {
         call,
@@ -223,12 +210,12 @@ pub extern "C" fn tsp_explain(
     answer
 }
 
-/// How many nodes an instance has; 0 where the text is no instance, or memory ran out.
+/// Fills in how many nodes an instance has.
 #[unsafe(no_mangle)]
-pub extern "C" fn tsp_count(alloc: Global, instance: &[u8]) -> u32
-    ensures { CountsNodes instance.now result }
+pub extern "C" fn tsp_count(alloc: Global, instance: &[u8], count: &mut u32) -> u32
+    ensures { FillsCount instance.now count.old count.new result }
 {
-    node_count(alloc, instance)
+    fill_count(alloc, instance, count)
 }
 
 /// Fills in the coordinates of each node, as counts of 10^-9: section 1 is NODE_COORD_SECTION, 2 is
@@ -410,7 +397,17 @@ pub extern "C" fn tsp_distance(
     ensures { let a : Point = record { x = ax; y = ay; z = az } in let b : Point = record { x = bx; y = by; z = bz } in
         GivesDistance kind a b result }
 {
-    distance_of(kind, ax, ay, az, bx, by, bz)
+    let a = Counts {
+        x: ax,
+        y: ay,
+        z: az,
+    };
+    let b = Counts {
+        x: bx,
+        y: by,
+        z: bz,
+    };
+    distance_of(kind, a, b)
 }
 
 /// The version of the library.

@@ -1,17 +1,17 @@
 //! The coordinates of the points of a section.
 
-ghost use Rattle.std.specs.Prelude.{◌≡◌, ◌≤◌, ◌*◌, length, option_map};
+ghost use Rattle.std.specs.Prelude.{◌≡◌, ◌≤◌, ◌<◌, ◌*◌, length, option_map, slice_index_or};
+ghost use Rattle.tsp_draft.specs.Coords.{origin};
 ghost use Rattle.tsp_draft.specs.states.Drafts.{points_of};
 ghost use Rattle.tsp_c.specs.Numbers.{EndsPoints, FillsPoints, IsFilled, IsSection, coordinate, point_number, section_points};
 
 use crate::fill::put;
-use crate::instance::status_of_read;
-use crate::status::{DONE, NO, REFUSED, TOO_SMALL};
+use crate::instance::file_of;
+use crate::status::{DONE, NO, REFUSED, TOO_SMALL, status_of_fault};
 use std::alloc::Global;
-use tsp_distance::Point;
+use tsp_distance::{InSpace, Point};
 use tsp_draft::Coords;
 use tsp_file::File;
-use tsp_read::read_bytes;
 
 /// Fills in the coordinates of the points of a section of a text; the status.
 pub(crate) fn fill_points(alloc: Global, text: &[u8], section: u32, out: &mut [i64]) -> u32
@@ -20,8 +20,8 @@ pub(crate) fn fill_points(alloc: Global, text: &[u8], section: u32, out: &mut [i
     if section < 1 || section > 2 {
         return REFUSED;
     }
-    match read_bytes(alloc, text) {
-        Err(fault) => status_of_read(fault),
+    match file_of(alloc, text) {
+        Err(fault) => status_of_fault(fault),
         Ok(file) => {
             let status = points_of_file(&file, section, out);
             drop(file);
@@ -64,10 +64,18 @@ fn put_points(points: &Coords, out: &mut [i64])
     ensures { IsFilled (3 * length (points_of points.now)) (point_number (points_of points.now)) out.old out.new }
 {
     'places: for k in 0..3 * points.len() {
-        let Some(point) = points.get(k / 3) else {
-            unreachable!();
-        };
-        put(out, k, coordinate(point, k % 3));
+        put(out, k, coordinate(point_at(points, k / 3), k % 3));
+    }
+}
+
+/// The point at an index, from 0 on.
+fn point_at(points: &Coords, index: usize) -> Point
+    requires { index < length (points_of points.now) }
+    ensures { result ≡ slice_index_or (points_of points.now) index origin }
+{
+    match points {
+        Coords::Plane(points) => points[index].in_space(),
+        Coords::Space(points) => points[index],
     }
 }
 

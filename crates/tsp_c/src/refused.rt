@@ -14,28 +14,36 @@ use tsp_judge::{Certificate, Layout};
 /// No run has the number.
 pub(crate) const REFUSED: u8 = 4;
 
-/// The check by 0 alone, by 1 with potentials, by 2 with branches, and with a claimed length where
-/// `has_claim` is 1; with its status, and in numbers.
+/// A claimed length by its numbers: it counts where `has_claim` is 1, and not where that is 0.
+#[derive(Clone, Copy)]
+pub(crate) struct Claim {
+    pub(crate) claimed: i64,
+    pub(crate) has_claim: u32,
+}
+
+/// The check by 0 alone, by 1 with potentials, by 2 with branches, and with a claimed length, where there
+/// is one; with its status, and in numbers.
 pub(crate) fn check_by(
     alloc: Global,
     instance: &[u8],
     solution: &[u8],
     certificate: &[u8],
     by: u32,
-    claimed: i64,
-    has_claim: u32,
+    claim: Claim,
 ) -> (u8, Vec<u8>, Told)
-    ensures texts { ChecksBy by has_claim claimed instance.now solution.now certificate.now result.0 result.1.items }
-    ensures numbers { TellsBy by has_claim claimed instance.now solution.now certificate.now result.0 result.2 }
+    ensures texts { ChecksBy by claim.has_claim claim.claimed instance.now solution.now certificate.now
+        result.0 result.1.items }
+    ensures numbers { TellsBy by claim.has_claim claim.claimed instance.now solution.now certificate.now
+        result.0 result.2 }
 {
     if by > 2 {
         return (REFUSED, Vec::new(alloc), Told::blank());
     }
-    if has_claim > 1 {
+    if claim.has_claim > 1 {
         return (REFUSED, Vec::new(alloc), Told::blank());
     }
     let by = certificate_of(by);
-    let claim = claim_of(has_claim, claimed);
+    let claim = claim_of(claim.has_claim, claim.claimed);
     checked(alloc, instance, solution, by, certificate, claim)
 }
 

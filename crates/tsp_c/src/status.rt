@@ -1,19 +1,25 @@
 //! The statuses of the calls on numbers.
 
+ghost use Rattle.std.specs.Prelude.{◌≡◌};
+ghost use Rattle.tsp_judge.specs.Status.{status_of_fault};
+
+use tsp_judge::{RunFault, status_of};
+
 /// Done.
 pub(crate) const DONE: u32 = 0;
 
 /// The file has no such section.
 pub(crate) const NO: u32 = 1;
 
-/// The text is no file, or no instance.
-pub(crate) const NO_FILE: u32 = 2;
-
-/// Out of memory.
-pub(crate) const OUT_OF_MEMORY: u32 = 3;
-
 /// What is asked for isn't there.
 pub(crate) const REFUSED: u32 = 4;
 
 /// The buffer has too few places.
 pub(crate) const TOO_SMALL: u32 = 6;
+
+/// The status of a fault: 2 of a text, 3 out of memory.
+pub(crate) fn status_of_fault(fault: RunFault) -> u32
+    ensures { result ≡ status_of_fault fault }
+{
+    u32::from(status_of(&Err(fault)))
+}

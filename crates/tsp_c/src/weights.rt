@@ -8,7 +8,7 @@ ghost use Rattle.tsp_file.specs.Meant.{nodes_of};
 
 use crate::fill::put;
 use crate::instance::instance_of;
-use crate::status::{DONE, REFUSED, TOO_SMALL};
+use crate::status::{DONE, REFUSED, TOO_SMALL, status_of_fault};
 use std::alloc::Global;
 use tsp_cost::{Costs, Instance};
 
@@ -17,7 +17,7 @@ pub(crate) fn fill_weights(alloc: Global, text: &[u8], pairs: &[u32], out: &mut 
     ensures { FillsWeights text.now pairs.now out.old out.new result }
 {
     match instance_of(alloc, text) {
-        Err(status) => status,
+        Err(fault) => status_of_fault(fault),
         Ok(instance) => {
             let status = weights_of(&instance, pairs, out);
             drop(instance);
@@ -70,7 +70,7 @@ pub(crate) fn fill_matrix(alloc: Global, text: &[u8], first_row: u32, out: &mut 
     ensures { FillsMatrix text.now first_row out.old out.new result }
 {
     match instance_of(alloc, text) {
-        Err(status) => status,
+        Err(fault) => status_of_fault(fault),
         Ok(instance) => {
             let status = rows_of(&instance, first_row, out);
             drop(instance);

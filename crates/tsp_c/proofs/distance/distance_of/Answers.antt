@@ -11,8 +11,8 @@ use Rattle.tsp_c.proofs.distance.distance_of.Goals as goal
 
 pub returns-in-Some-between : goal.returns-in-Some-between
 returns-in-Some-between c =
-    let a : Point = record { x = c.args.ax; y = c.args.ay; z = c.args.az } in
-    let b : Point = record { x = c.args.bx; y = c.args.by; z = c.args.bz } in
+    let a : Point = record { x = c.args.from.x; y = c.args.from.y; z = c.args.from.z } in
+    let b : Point = record { x = c.args.to.x; y = c.args.to.y; z = c.args.to.z } in
     let fits : FitsSigned w64 c.in-Some-between.distance = search rules in
     let a_in : IsInSpace a = search rules in
     let b_in : IsInSpace b = search rules in

@@ -12,8 +12,7 @@ places-preserved c =
     let fits : FitsSigned w64 c.coordinate.result = search rules in
     let k : ℕ = c.places.k in
     let back : k / 3 ≡ k / 3 + 1 - 1 = omega arith in
-    let point : c.in-Some.point ≡ slice_index_or (points_of c.args.points.now) (k / 3) origin = search rules in
     c.put.ensures (point_number (points_of c.args.points.now)) c.args.out.now
-    (to_z-of_z w64 c.coordinate.result fits ∙ c.coordinate.ensures ∙ ap (coordinate (k % 3)) point
+    (to_z-of_z w64 c.coordinate.result fits ∙ c.coordinate.ensures ∙ ap (coordinate (k % 3)) c.point_at.ensures
     ∙ ap (λ (i : ℕ). coordinate (k % 3) (slice_index_or (points_of c.args.points.now) i origin)) back)
     c.places.invariant

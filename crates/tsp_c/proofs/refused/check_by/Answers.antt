@@ -1,5 +1,5 @@
 -- The goals of `check_by` in src/refused.rt: what it ensures.
-use Rattle.std.proofs.Common.{◌≡◌, ◌∙◌, ap, subst, arith, FitsSigned, w64}
+use Rattle.std.proofs.Common.{◌≡◌, ◌∙◌, ap, subst, arith, rules, FitsSigned, w64}
 use Rattle.std.specs.Prelude.{Option, ℤ}
 use Rattle.std.proofs.lemmas.Int.{to_z-of_z}
 use Rattle.tsp_reason.specs.declared.certificate.Certificate.{Certificate}
@@ -14,13 +14,13 @@ returns-clause-texts c =
     let three = c.args.certificate.now in
     let made = c.checked.result in
     let low = c.if-by-gt2.false in
-    let few = c.if-has_claim-gt1.false in
+    let few = c.if-claim-gt1.false in
     let by = c.certificate_of-by in
     let claim = c.claim_of-claim in
-    let fits : FitsSigned w64 c.args.claimed = c.ranges.claimed in
-    let claim_is : claim.result ≡ claim_of c.args.has_claim c.args.claimed =
-    claim.ensures ∙ ap (λ (z : ℤ). claim_of c.args.has_claim z) (to_z-of_z w64 c.args.claimed fits) in (
-      λ known claims. subst (λ (b : Option Certificate). ChecksTexts (given_text b three) (claim_of c.args.has_claim c.args.claimed) one two made.0 made.1.items)
+    let fits : FitsSigned w64 c.args.claim.claimed = search rules in
+    let claim_is : claim.result ≡ claim_of c.args.claim.has_claim c.args.claim.claimed =
+    claim.ensures ∙ ap (λ (z : ℤ). claim_of c.args.claim.has_claim z) (to_z-of_z w64 c.args.claim.claimed fits) in (
+      λ known claims. subst (λ (b : Option Certificate). ChecksTexts (given_text b three) (claim_of c.args.claim.has_claim c.args.claim.claimed) one two made.0 made.1.items)
           by.ensures
           (subst (λ (k : Option ℤ). ChecksTexts (given_text by.result three) k one two made.0 made.1.items) claim_is c.checked.ensures.texts),
       λ many. absurd (omega (arith, low, many)),
@@ -34,13 +34,13 @@ returns-clause-numbers c =
     let three = c.args.certificate.now in
     let made = c.checked.result in
     let low = c.if-by-gt2.false in
-    let few = c.if-has_claim-gt1.false in
+    let few = c.if-claim-gt1.false in
     let by = c.certificate_of-by in
     let claim = c.claim_of-claim in
-    let fits : FitsSigned w64 c.args.claimed = c.ranges.claimed in
-    let claim_is : claim.result ≡ claim_of c.args.has_claim c.args.claimed =
-    claim.ensures ∙ ap (λ (z : ℤ). claim_of c.args.has_claim z) (to_z-of_z w64 c.args.claimed fits) in (
-      λ known claims. subst (λ (b : Option Certificate). TellsTexts (given_text b three) (claim_of c.args.has_claim c.args.claimed) one two made.0 made.2)
+    let fits : FitsSigned w64 c.args.claim.claimed = search rules in
+    let claim_is : claim.result ≡ claim_of c.args.claim.has_claim c.args.claim.claimed =
+    claim.ensures ∙ ap (λ (z : ℤ). claim_of c.args.claim.has_claim z) (to_z-of_z w64 c.args.claim.claimed fits) in (
+      λ known claims. subst (λ (b : Option Certificate). TellsTexts (given_text b three) (claim_of c.args.claim.has_claim c.args.claim.claimed) one two made.0 made.2)
           by.ensures
           (subst (λ (k : Option ℤ). TellsTexts (given_text by.result three) k one two made.0 made.2) claim_is c.checked.ensures.numbers),
       λ many. absurd (omega (arith, low, many)),

@@ -1,0 +1,7 @@
+-- How many nodes an instance has.
+use Rattle.std.proofs.Common.{◌≡◌, ℕ, ◌≤◌, sym, ap, arith}
+use Rattle.std.specs.Prelude.{Option, Some, None, unwrap_or}
+
+pub some_count : (dimension : Option ℕ) (count : ℕ) → count ≡ unwrap_or dimension 0 → 1 ≤ count → dimension ≡ Some count
+some_count None count is some = absurd (omega (arith, is, some))
+some_count (Some nodes) count is some = sym (ap (λ (k : ℕ). Some k) is)

@@ -1,0 +1,14 @@
+-- The goals of `fill_count` in src/instance.rt: what it ensures.
+use Rattle.std.proofs.Common.{inl, inr, refl}
+use Rattle.tsp_c.proofs.Counted.{some_count}
+use Rattle.tsp_c.proofs.instance.fill_count.Goals as goal
+
+pub returns-in-Err : goal.returns-in-Err
+returns-in-Err c = inr (c.in-Err.fault, c.in-Err.ensures, (c.status_of_fault.ensures, refl))
+
+pub returns-in-Ok : goal.returns-in-Ok
+returns-in-Ok c = inl (
+  c.in-Ok.instance,
+  c.in-Ok.ensures,
+  (refl, some_count c.in-Ok.instance.dimension c.count.result c.count.ensures.value c.count.ensures.some),
+)

@@ -1,0 +1,20 @@
+-- The goals of `count_held` in src/opened.rt: what it ensures.
+use Rattle.std.proofs.Common.{◌≡◌, ◌∙◌, ap, refl, subst, rules}
+use Rattle.std.specs.Prelude.{Some, unwrap_or}
+use Rattle.tsp_draft.specs.Fields.{Fields}
+use Rattle.tsp_open.specs.Open.{Open}
+use Rattle.tsp_c.specs.Numbers.{EndsCount}
+use Rattle.tsp_c.specs.Opened.{Held, OfHeld}
+use Rattle.tsp_c.proofs.Counted.{some_count}
+use Rattle.tsp_c.proofs.opened.count_held.Goals as goal
+
+pub returns-in-Some-clause-fills : goal.returns-in-Some-clause-fills
+returns-in-Some-clause-fills c =
+    let held : Open = c.in-Some.opened.value in
+    let old : Some held ≡ c.args.handle.now.loose.value = search rules in
+    let lent : c.instance.result.now ≡ held.instance = search rules in
+    subst (λ (h : Held). OfHeld h (λ instance. EndsCount instance c.count.result 0) c.args.count.now c.count.result 0) old (
+      refl,
+      some_count held.instance.dimension c.count.result
+          (c.count.ensures.value ∙ ap (λ (f : Fields). unwrap_or f.dimension 0) lent) c.count.ensures.some,
+    )
