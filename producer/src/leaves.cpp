@@ -10,6 +10,7 @@ namespace {
 constexpr Weight kLargestGrid = 1000000;
 constexpr int kTrials = 60;  // of bounds for a leaf that is made like the last
 constexpr int kChecks = 3;   // of what they made
+constexpr int kCoarseSteps = 100;
 constexpr double kSurplus = 0.005;
 
 Weight rounded(double number, Weight grid) {
@@ -54,7 +55,7 @@ Numbers Leaves::extract(const Relaxation& relaxation, Weight grid) {
 }
 
 // One step of subgradient ascent. False where the links are a tour that crosses each cut as often.
-bool Leaves::step(Numbers& numbers, double length_times_square) const {
+bool Leaves::step(Numbers& numbers, double length_times_square, Weight grid) const {
   const std::vector<Pair>& links = bound_.links();
   std::vector<int> degree(numbers.potentials.size(), -2);
   for (const auto& [i, j] : links) {
@@ -71,24 +72,25 @@ bool Leaves::step(Numbers& numbers, double length_times_square) const {
     square += static_cast<double>(lack) * lack;
   }
   if (square == 0) return false;
-  const double length = std::max(1.0, length_times_square / square);
-  for (std::size_t v = 0; v < degree.size(); v++) numbers.potentials[v] += std::llround(length * degree[v]);
+  const double length = std::max(static_cast<double>(grid), length_times_square / square);
+  for (std::size_t v = 0; v < degree.size(); v++) numbers.potentials[v] += rounded(length * degree[v], grid);
   for (auto [cut, lack] : lacking) {
     Weight& multiplier = numbers.multipliers[cut];
-    multiplier = std::max<Weight>(0, multiplier + std::llround(length * lack));
+    multiplier = std::max<Weight>(0, multiplier + rounded(length * lack, grid));
   }
   return true;
 }
 
-bool Leaves::ascend(Numbers& numbers, const std::vector<Decision>& decisions, Weight target, int tries) {
+bool Leaves::ascend(Numbers& numbers, const std::vector<Decision>& decisions, Weight target,
+                    const Ascent& ascent) {
   const Value least = goal(target);
   double shrink = 1;
-  for (int k = 0; k < tries; k++, shrink *= 0.97) {
+  for (int k = 0; k < ascent.tries; k++, shrink *= 0.97) {
     Value value = bound_.likely_value(numbers, decisions);
     if (value >= least) value = bound_.value(numbers, decisions);
     if (value >= least) return true;
     const double missing = static_cast<double>(least - value) + static_cast<double>(bound_.scale()) / 2;
-    if (value == ExactBound::nothing() || !step(numbers, missing * shrink)) return false;
+    if (value == ExactBound::nothing() || !step(numbers, missing * shrink, ascent.grid)) return false;
   }
   return false;
 }
@@ -108,7 +110,22 @@ bool Leaves::reach(const Relaxation& relaxation, const std::vector<Decision>& de
     if (bound_.reaches(numbers, decisions, goal(target))) return true;
   }
   numbers = extract(relaxation, 1);
-  return ascend(numbers, decisions, target, surplus > 0.02 ? 20 : 60);
+  return ascend(numbers, decisions, target, {surplus > 0.02 ? 20 : 60});
+}
+
+std::optional<Numbers> Leaves::coarse(const Numbers& numbers, const std::vector<Decision>& decisions,
+                                      Weight target, Weight grid) {
+  Numbers coarse;
+  coarse.potentials.reserve(numbers.potentials.size());
+  for (const Weight potential : numbers.potentials) {
+    coarse.potentials.push_back(rounded(static_cast<double>(potential), grid));
+  }
+  for (const auto& [cut, multiplier] : numbers.multipliers) {
+    const Weight whole = rounded(static_cast<double>(multiplier), grid);
+    if (whole > 0) coarse.multipliers[cut] = whole;
+  }
+  if (!ascend(coarse, decisions, target, {kCoarseSteps, grid})) return std::nullopt;
+  return coarse;
 }
 
 // A place is a node, or behind the nodes a cut.

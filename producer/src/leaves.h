@@ -16,12 +16,20 @@ class Leaves {
              Numbers& numbers);
   // The numbers of a leaf that reaches the target, near those of the leaf before.
   Numbers near_last(Numbers numbers, const std::vector<Decision>& decisions, Weight target);
+  // Numbers near these that reach the target as multiples of a grid. Nothing where none were found.
+  std::optional<Numbers> coarse(const Numbers& numbers, const std::vector<Decision>& decisions, Weight target,
+                                Weight grid);
   Value goal(Weight target) const { return static_cast<Value>(bound_.scale()) * (target - 1) + 1; }
   void set_last(const Numbers& numbers) { last_ = numbers; }
 
  private:
-  bool ascend(Numbers& numbers, const std::vector<Decision>& decisions, Weight target, int tries);
-  bool step(Numbers& numbers, double length_times_square) const;
+  // As many steps at most, by multiples of the grid.
+  struct Ascent {
+    int tries;
+    Weight grid = 1;
+  };
+  bool ascend(Numbers& numbers, const std::vector<Decision>& decisions, Weight target, const Ascent& ascent);
+  bool step(Numbers& numbers, double length_times_square, Weight grid) const;
   std::vector<int> differing_places(const Numbers& numbers) const;
   void keep_last(Numbers& numbers, const std::vector<int>& places, std::size_t from, std::size_t to,
                  const std::vector<Decision>& decisions, Value goal, int& budget);

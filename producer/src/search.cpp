@@ -21,12 +21,12 @@ constexpr double kPartForTree = 0.95;  // of the time; the rest is for short num
 constexpr double kTrial = 0.1;         // of the time, before the size of the tree is guessed
 constexpr int kRootClimbs = 400, kNodeClimbs = 100, kLevels = 2;
 constexpr int kFamilyAtoms = 14, kFamilyChunks = 800, kFamilyClimbs = 1600;  // at the root
-constexpr int kLightAtoms = 12, kLightChunks = 300, kLightClimbs = 200;      // where the gap is large
+constexpr int kLightAtoms = 12, kLightChunks = 800, kLightClimbs = 200;      // where the gap is large
 constexpr int kNodeAtoms = 12, kNodeChunks = 60;
 constexpr int kMostMisses = 3;                   // rounds in a row without a cut
 constexpr double kLargeTree = 300;               // leaves, from which families are looked for in the tree
 constexpr double kVeryLargeTree = 1000;          // and at the root
-constexpr double kLargeGap = 0.0025;             // of the length, from which they are too
+constexpr double kLargeGap = 0.0025;             // of the length, where they are before further climbs
 constexpr int kManyLeaves = 10;                  // that are done, after which they are looked for
 constexpr double kPartOfRootGap = 0.3;           // cases with more of it get families of their own
 constexpr int kArcRuns = 2, kArcPatience = 100;  // of the second search for a tour of an ATSP
@@ -209,7 +209,7 @@ bool Search::tighten(Numbers& numbers) {
     large_tree_ = large_tree_ || leaves_ >= kManyLeaves;
     const bool stall = stalled(values, patience);
     if (!stall && add_cuts(level, round)) continue;
-    if (!root() || level == kLevels) return false;
+    if (!root() || level == kLevels || (families_ && has_large_gap())) return false;
     level++;
     if (stall) values.clear();
     if (stall && !add_cuts(level, round) && level == kLevels) return false;
@@ -218,7 +218,7 @@ bool Search::tighten(Numbers& numbers) {
 
 // The same at the root with families. Rounds that met many subtours aren't counted.
 bool Search::tighten_by_families(Numbers& numbers) {
-  const bool light = gap() >= kLargeGap * std::abs(static_cast<double>(length_));
+  const bool light = has_large_gap();
   Effort effort{kFamilyClimbs, 2, 0.01, 2, 200, true, kFamilyAtoms, kFamilyChunks};
   if (light) effort = {kLightClimbs, 1, 0.01, 2, 200, true, kLightAtoms, kLightChunks};
   std::vector<double> values;
@@ -234,14 +234,16 @@ bool Search::tighten_by_families(Numbers& numbers) {
   return false;
 }
 
-// Whether the root is worth families: where the tree would be large by what the best branch gains.
+bool Search::has_large_gap() const { return gap() >= kLargeGap * std::abs(static_cast<double>(length_)); }
+
+// Whether the root is worth families: where the gap is large, or the tree by what the best branch gains.
 bool Search::wants_families() {
   if (!families_ || clock_.over()) return false;
+  if (has_large_gap()) return true;
   choice_ = branching_.choose(relaxation_, static_cast<double>(target_));
   const double leaves = branching_.leaves();
   large_tree_ = leaves >= kLargeTree;
-  const bool large_gap = gap() >= kLargeGap * std::abs(static_cast<double>(length_));
-  return leaves >= kVeryLargeTree || large_gap;
+  return leaves >= kVeryLargeTree;
 }
 
 // With one more search for a tour where a gap is left.
@@ -353,6 +355,37 @@ void Search::add_leaf(const Case& leaf, const std::vector<Decision>& decisions) 
   steps_.emplace_back(numbers);
 }
 
+// Whether each leaf reaches the target by multiples of a grid, which all then have. One that doesn't is the
+// first that is tried next time.
+bool Search::coarsen_to(Weight grid, std::vector<int>& leaves) {
+  std::vector<Numbers> coarse;
+  coarse.reserve(leaves.size());
+  for (auto leaf = leaves.begin(); leaf != leaves.end(); ++leaf) {
+    auto numbers = made_.coarse(cases_[*leaf].numbers, decisions_of(*leaf), target_, grid);
+    if (!numbers) {
+      std::rotate(leaves.begin(), leaf, leaf + 1);
+      return false;
+    }
+    coarse.push_back(std::move(*numbers));
+  }
+  for (std::size_t k = 0; k < leaves.size(); k++) cases_[leaves[k]].numbers = std::move(coarse[k]);
+  return true;
+}
+
+// Where all leaves are done, their numbers become multiples of as large a divisor of the scale as lets them
+// reach the target. A file has them divided by it, which makes it short.
+void Search::coarsen() {
+  std::vector<int> leaves;
+  for (std::size_t place = 0; place < cases_.size(); place++) {
+    if (cases_[place].branch) continue;
+    if (!cases_[place].done) return;
+    leaves.push_back(static_cast<int>(place));
+  }
+  for (Weight parts = 1; parts < scale() && !clock_.over(); parts++) {
+    if (scale() % parts == 0 && coarsen_to(scale() / parts, leaves)) return;
+  }
+}
+
 // The tree from the root on, a branch before its cases.
 void Search::list_steps() {
   leaves_ = 0;
@@ -400,6 +433,7 @@ void Search::run() {
   root_gap_ = gap();
   begun_ = clock_.used();
   while (!open_.empty() && !clock_.over(kPartForTree)) visit(next_case());
+  coarsen();
   list_steps();
   Standing last = standing();
   last.bound = std::min(bound(), length_);

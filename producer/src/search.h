@@ -74,6 +74,7 @@ class Search {
   bool tighten_by_families(Numbers& numbers);
   bool settle(Numbers& numbers);
   bool settle_root(Numbers& numbers);
+  bool has_large_gap() const;
   bool wants_families();
   bool add_cuts(int level, int round);
   bool add_cuts(const Effort& effort, int round);
@@ -86,6 +87,8 @@ class Search {
   void branch(int place, const Pair& pair);
   void finish(int place);
   int next_case();
+  bool coarsen_to(Weight grid, std::vector<int>& leaves);
+  void coarsen();
   void list_steps();
   void add_leaf(const Case& leaf, const std::vector<Decision>& decisions);
   void offer_tour();

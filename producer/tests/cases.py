@@ -218,6 +218,14 @@ def same_bytes():
     need(texts[0] == texts[1], "the same seed gives other bytes")
 
 
+def short_numbers():
+    """The numbers of leaves that are done are multiples of as much as lets them be."""
+    write_points("a.tsp", "EUC_2D", 120, random.Random(5), side=10**6)
+    need_optimal("a.tsp")
+    scale = int(re.search(r"^SCALE : ([0-9]+)$", Path("out.branches").read_text(), re.M)[1])
+    need(scale < 840, f"the scale is {scale}")
+
+
 def signalled(*signals):
     """The status of a run that gets these signals, each so many seconds after the one before."""
     words = [CERTIFY, "a.tsp", "-o", "out.branches", "--tour-out", "out.tour", "--seconds", "0", "--tsp", TSP]
@@ -409,7 +417,7 @@ def installing():
 
 
 CASES = [weights, fixed, small, matrix, atsp_small, atsp, atsp_named_tour, named_tour, upper, time_limit, same_bytes,
-         interrupt, rounding, overwriting, families, log, bad_input, finding_tsp, installing]
+         short_numbers, interrupt, rounding, overwriting, families, log, bad_input, finding_tsp, installing]
 
 
 def main():

@@ -1,6 +1,7 @@
 #include <algorithm>
 
 #include "fixtures.h"
+#include "leaves.h"
 #include "tree_bound.h"
 
 using namespace certify;
@@ -47,4 +48,27 @@ TEST_CASE("any numbers bound every tour") {
   TreeBound bound(weights, pool, 10);
   CHECK((bound.bound_of(21) == 3 && bound.bound_of(20) == 2));      // bounds are rounded up
   CHECK((bound.bound_of(-21) == -2 && bound.bound_of(-20) == -2));  // bounds below 0 too
+}
+
+// A rectangle of 3 by 4, whose tours have the lengths 14, 16 and 18. At the scale 10, multiples of 10 near
+// these potentials give 13 only, until a step along the 1-tree mends them.
+TEST_CASE("numbers become multiples of a grid") {
+  Matrix weights(4);
+  const std::vector<std::pair<Pair, Weight>> lengths{{{0, 1}, 3}, {{2, 3}, 3}, {{1, 2}, 4},
+                                                     {{0, 3}, 4}, {{0, 2}, 5}, {{1, 3}, 5}};
+  CutPool pool(4);
+  TreeBound bound(weights, pool, 10);
+  for (const auto& [pair, length] : lengths) {
+    weights.set(pair.first, pair.second, length);
+    bound.add_likely({pair});
+  }
+  Leaves leaves(bound, pool, false);
+  const Numbers numbers{{7, -7, 7, -7}, {}};
+  CHECK(bound.bound_of(bound.value(numbers, {})) == 14);                          // as they are
+  CHECK(bound.bound_of(bound.value(Numbers{{10, -10, 10, -10}, {}}, {})) == 13);  // rounded alone
+  const auto coarse = leaves.coarse(numbers, {}, 14, 10);
+  REQUIRE(coarse);
+  CHECK(bound.bound_of(bound.value(*coarse, {})) == 14);
+  for (const Weight potential : coarse->potentials) CHECK(potential % 10 == 0);
+  CHECK(!leaves.coarse(numbers, {}, 15, 10));  // no numbers bound a tour of 14 by 15
 }
