@@ -10,7 +10,7 @@ namespace {
 constexpr Weight kLargestGrid = 1000000;
 constexpr int kTrials = 60;  // of bounds for a leaf that is made like the last
 constexpr int kChecks = 3;   // of what they made
-constexpr int kCoarseSteps = 100;
+constexpr int kCoarseSteps = 40;
 constexpr double kSurplus = 0.005;
 
 Weight rounded(double number, Weight grid) {

@@ -376,6 +376,24 @@ void Relaxation::solve() {
   read_solution();
 }
 
+bool Relaxation::is_whole() const {
+  return std::all_of(solution_.begin(), solution_.end(),
+                     [](double value) { return value < kTiny || std::abs(value - 1) < kTiny; });
+}
+
+void Relaxation::take_margin(double margin) {
+  std::vector<std::pair<int, double>> used;
+  for (int column = 0; column < columns(); column++) {
+    if (solution_[column] < 0.5) continue;
+    used.emplace_back(column + kElastic, program_.getObjCoefficients()[column + kElastic]);
+  }
+  for (const auto& [place, cost] : used) program_.setObjectiveCoefficient(place, cost + margin / unit_);
+  do {
+    program_.primal(0);
+  } while (program_.status() == 0 && price() > 0);
+  for (const auto& [place, cost] : used) program_.setObjectiveCoefficient(place, cost);
+}
+
 std::array<double*, 4> Relaxation::Probe::places() const {
   return {program_.primalColumnSolution(), program_.primalRowSolution(), program_.dualColumnSolution(),
           program_.dualRowSolution()};

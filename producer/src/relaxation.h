@@ -38,6 +38,11 @@ class Relaxation {
   // needed.
   void drop_edges();
   void solve();
+  // Whether each edge is used wholly or not at all.
+  bool is_whole() const;
+  // Takes duals for which the edges of a whole solution are the best ones even where each costs as much more,
+  // if there are any. The next call is solve().
+  void take_margin(double margin);
   Basis basis() const;
   // Takes the cuts and the basis. No pair may be decided.
   void restore(const Basis& basis);

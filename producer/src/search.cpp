@@ -23,13 +23,14 @@ constexpr int kRootClimbs = 400, kNodeClimbs = 100, kLevels = 2;
 constexpr int kFamilyAtoms = 14, kFamilyChunks = 800, kFamilyClimbs = 1600;  // at the root
 constexpr int kLightAtoms = 12, kLightChunks = 800, kLightClimbs = 200;      // where the gap is large
 constexpr int kNodeAtoms = 12, kNodeChunks = 60;
-constexpr int kMostMisses = 3;                   // rounds in a row without a cut
-constexpr double kLargeTree = 300;               // leaves, from which families are looked for in the tree
-constexpr double kVeryLargeTree = 1000;          // and at the root
-constexpr double kLargeGap = 0.0025;             // of the length, where they are before further climbs
-constexpr int kManyLeaves = 10;                  // that are done, after which they are looked for
-constexpr double kPartOfRootGap = 0.3;           // cases with more of it get families of their own
-constexpr int kArcRuns = 2, kArcPatience = 100;  // of the second search for a tour of an ATSP
+constexpr int kMostMisses = 3;           // rounds in a row without a cut
+constexpr double kLargeTree = 300;       // leaves, from which families are looked for in the tree
+constexpr double kVeryLargeTree = 1000;  // and at the root
+constexpr double kLargeGap = 0.0025;     // of the length, where they are before further climbs
+constexpr int kManyLeaves = 10;          // that are done, after which they are looked for
+constexpr double kPartOfRootGap = 0.3;   // cases with more of it get families of their own
+constexpr double kMostMargin = 256, kLeastMargin = 0.25;  // of the edges of a whole solution
+constexpr int kArcRuns = 2, kArcPatience = 100;           // of the second search for a tour of an ATSP
 
 // Whole multiples of many fractions, coarser for long tours, whose numbers are long as they are.
 Weight scale_for(const Matrix& weights, Weight length) {
@@ -194,7 +195,22 @@ bool Search::solve(int round, Numbers& numbers) {
   if (root() && round % 6 == 0) relaxation_.drop_edges();
   progress_.show(standing());
   if (root()) log("round");
-  return made_.reach(relaxation_, decisions_, target_, numbers);
+  if (!made_.reach(relaxation_, decisions_, target_, numbers)) return false;
+  if (relaxation_.is_whole()) widen(numbers);
+  return true;
+}
+
+// A whole solution is a tour that just reaches the target. Its numbers become ones that bear rounding: for
+// them its edges are the best ones by a margin.
+void Search::widen(Numbers& numbers) {
+  for (double margin = kMostMargin; margin >= kLeastMargin && !clock_.over(); margin /= 4) {
+    relaxation_.take_margin(margin);
+    Numbers wide = made_.extract(relaxation_, 1);
+    relaxation_.solve();
+    if (!bound_->reaches(wide, decisions_, made_.goal(target_))) continue;
+    numbers = std::move(wide);
+    return;
+  }
 }
 
 // Adds cuts while they help. Whether numbers were found that reach the target.
@@ -372,7 +388,7 @@ bool Search::coarsen_to(Weight grid, std::vector<int>& leaves) {
   return true;
 }
 
-// Where all leaves are done, their numbers become multiples of as large a divisor of the scale as lets them
+// Where all leaves are done, their numbers become multiples of a large divisor of the scale that lets them
 // reach the target. A file has them divided by it, which makes it short.
 void Search::coarsen() {
   std::vector<int> leaves;
@@ -381,8 +397,11 @@ void Search::coarsen() {
     if (!cases_[place].done) return;
     leaves.push_back(static_cast<int>(place));
   }
+  Weight tried = 0;
   for (Weight parts = 1; parts < scale() && !clock_.over(); parts++) {
-    if (scale() % parts == 0 && coarsen_to(scale() / parts, leaves)) return;
+    if (scale() % parts != 0 || parts < 2 * tried) continue;
+    if (coarsen_to(scale() / parts, leaves)) return;
+    tried = parts;
   }
 }
 

@@ -91,6 +91,7 @@ class Search {
   void coarsen();
   void list_steps();
   void add_leaf(const Case& leaf, const std::vector<Decision>& decisions);
+  void widen(Numbers& numbers);
   void offer_tour();
   void take_tour(const Tour& tour);
   void look_for_tour();

@@ -71,3 +71,28 @@ TEST_CASE("a solution is found again from its basis") {
     }
   }
 }
+
+// A rectangle of 3 by 4. Its sides are the best tour until each of them costs 1 more: by 14 + 4 against 16
+// + 2.
+TEST_CASE("the edges of a whole solution are the best ones by a margin") {
+  Matrix weights(4);
+  const std::vector<Pair> sides{{0, 1}, {1, 2}, {2, 3}, {0, 3}}, diagonals{{0, 2}, {1, 3}};
+  for (const Pair& side : sides) weights.set(side.first, side.second, side.first % 2 == 0 ? 3 : 4);
+  weights.set(0, 3, 4);
+  for (const Pair& diagonal : diagonals) weights.set(diagonal.first, diagonal.second, 5);
+  CutPool pool(4);
+  const Instance instance{weights, {}, false};
+  Relaxation relaxation(instance, pool, {0, 1, 2, 3});
+  relaxation.add_edges(sides);
+  relaxation.solve();
+  CHECK(relaxation.is_whole());
+  relaxation.take_margin(0.9);
+  const auto reduced = [&](const Pair& pair) {
+    return static_cast<double>(weights(pair.first, pair.second)) - relaxation.leaving_dual(pair.first) -
+           relaxation.leaving_dual(pair.second);
+  };
+  for (const Pair& side : sides) CHECK(reduced(side) < -0.9 + 1e-6);
+  for (const Pair& diagonal : diagonals) CHECK(reduced(diagonal) > -1e-6);
+  relaxation.solve();
+  CHECK(std::abs(relaxation.value() - 14) < 1e-6);  // the weights are as they were
+}
