@@ -5,4 +5,5 @@ pub mod Converts
 pub mod HandedOn
 pub mod Runs
 pub mod Shows
+pub mod Tellings
 pub mod Yeses

@@ -10,6 +10,7 @@ pub mod CompareRun
 pub mod Optimal
 pub mod ConvertRun
 pub mod FaultText
+pub mod Following
 pub mod Run
 pub mod ShowRun
 pub mod Status

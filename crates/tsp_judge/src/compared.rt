@@ -10,6 +10,7 @@ ghost use Rattle.tsp_reason.specs.Verdicts.{is_clear};
 ghost use Rattle.tsp_verdict.specs.Basis.{IsBasis};
 ghost use Rattle.tsp_judge.specs.Run.{Given, given_by, IsFileIn};
 ghost use Rattle.tsp_judge.specs.CompareRun.{IsTurnAt, ComparesOne, ComparesAll, ComparesBy, IsCompareRun};
+ghost use Rattle.tsp_judge.specs.Following.{IsFollowedBy, IsFollowed};
 
 use crate::checked::read_certificate;
 use crate::common::{Common, Found, common_of, find, status_of_found};
@@ -42,7 +43,8 @@ pub struct Compared {
 /// text says what they are. Where a reason applies to one of them, it ends the text, and no solution is
 /// opened. Otherwise each solution in turn is opened, read, and judged as a check of the three files
 /// does. Its line is written, its follower is told, and it is dropped. A solution that is no
-/// file, or can't be read, has a line with its fault, and the others follow.
+/// file, or can't be read, has a line with its fault, and the others follow. The follower is told of each
+/// line once, in order.
 ///
 /// # Errors
 ///
@@ -65,7 +67,7 @@ pub fn run_compare<I: Read, C: Read, R: Read + Drop, E, S: Solutions<R> + Follow
         (by ≡ None → IsUnread second)
         × IsCompareRun R.remaining (S.opens solutions.now) (S.names solutions.now) (given_by by second) first
         (sink_of W.contents out.old out.new) result)) }
-    ensures told { S.tells solutions.now to.old to.new }
+    ensures told { IsFollowed (S.tells solutions.now) (length (S.names solutions.now)) to.old to.new result }
 {
     let instance = read_file(alloc, 1, inst)?;
     let certificate = read_certificate(alloc, 2, by, cert)?;
@@ -84,7 +86,7 @@ fn compare_read<R: Read + Drop, E, S: Solutions<R> + Follow<E>, W: Write>(
     ensures text { (given : Given) (first : Turn) → IsFile first instance → IsFileIn given certificate
         → IsCompareRun R.remaining (S.opens solutions.now) (S.names solutions.now) given first
         (sink_of W.contents out.old out.new) result }
-    ensures told { S.tells solutions.now to.old to.new }
+    ensures told { IsFollowed (S.tells solutions.now) (length (S.names solutions.now)) to.old to.new result }
 {
     let Ok(instance) = Instance::of(instance) else {
         return Err(RunFault::WrongKind);
@@ -106,7 +108,8 @@ fn compare_with<R: Read + Drop, E, S: Solutions<R> + Follow<E>, W: Write>(
     requires problem { IsProblem common.now.instance }
     ensures text { ComparesBy (is_clear common.now.basis) (IsTurnAt R.remaining (S.opens solutions.now))
         (S.names solutions.now) common.now (sink_of W.contents out.old out.new) result }
-    ensures told { S.tells solutions.now to.old to.new }
+    ensures told { IsFollowedBy (is_clear common.now.basis) (S.tells solutions.now) (length (S.names solutions.now))
+        to.old to.new result }
 {
     match write_head(common.instance.file(), common.basis, out) {
         Ok(()) => {}
@@ -132,7 +135,7 @@ fn compare_all<R: Read + Drop, E, S: Solutions<R> + Follow<E>, W: Write>(
     requires sound { has_failed out.old ≡ false }
     ensures text { ComparesAll (IsTurnAt R.remaining (S.opens solutions.now)) (S.names solutions.now) common.now []
         (sink_of W.contents out.old out.new) result }
-    ensures told { S.tells solutions.now to.old to.new }
+    ensures told { IsFollowedBy true (S.tells solutions.now) (length (S.names solutions.now)) to.old to.new result }
 {
     let mut status = 0;
     'solutions: for index in 0..solutions.count() {

@@ -30,17 +30,10 @@ pub trait Solutions<R> {
 /// Who follows a comparison, line by line, and tells of it: to explain a line, or to show how far it has
 /// come. `E` is what is told.
 pub trait Follow<E> {
-    /// What telling of lines, one after the other, may do to an `E`.
-    ghost tells: { Self → E → E → Type 0 };
-
-    /// Where there is none to tell of, it stays as it is.
-    ghost stays: { (follower : Self) (at : E) → Self.tells follower at at };
-
-    /// What may come of some and then of more may come of all.
-    ghost goes_on: { (follower : Self) (first next last : E) → Self.tells follower first next
-        → Self.tells follower next last → Self.tells follower first last };
+    /// What telling of the line of the solution at a place, counted from 0, may do to an `E`.
+    ghost tells: { Self → ℕ → E → E → Type 0 };
 
     /// Tells of the line of the solution at a place, counted from 0, which was written.
     fn written(&self, to: &mut E, common: &Common, index: usize, found: &Found)
-        ensures { tells self.now to.old to.new };
+        ensures { tells self.now index to.old to.new };
 }

@@ -1,1 +1,2 @@
 mod OneLines
+mod Tellings

@@ -4,7 +4,7 @@
 ghost use Rattle.std.specs.Prelude.{map, true};
 ghost use Rattle.std.specs.String.{string_bytes};
 ghost use Rattle.tsp_run.specs.Compare.{IsOpenedAt};
-ghost use Rattle.tsp_run.specs.Telling.{MayTell, tells_none, tells_more};
+ghost use Rattle.tsp_run.specs.Telling.{MayTell};
 
 use crate::explained::{again, name_of};
 use crate::source::Open;
@@ -48,12 +48,7 @@ impl<F: Read + Drop, O: Open<F>> Solutions<F> for Followed<'_, F, O> {
 }
 
 impl<F: Read + Drop, O: Open<F>, E: Write> Follow<E> for Followed<'_, F, O> {
-    ghost tells = { λ followed old new. MayTell followed.explain (E.contents old) (E.contents new) };
-
-    ghost stays = { λ followed at. tells_none followed.explain (E.contents at) };
-
-    ghost goes_on = { λ followed first next last. tells_more followed.explain (E.contents first) (E.contents next)
-        (E.contents last) };
+    ghost tells = { λ followed _ old new. MayTell followed.explain (E.contents old) (E.contents new) };
 
     fn written(&self, to: &mut E, common: &Common, index: usize, found: &Found) {
         if !self.explain {

@@ -57,11 +57,7 @@ struct Counts {
 impl Follow<Counts> for Four {
     ghost use Rattle.std.specs.Prelude.{⊤};
 
-    ghost tells = { λ _ _ _. ⊤ };
-
-    ghost stays = { λ _ _. tt };
-
-    ghost goes_on = { λ _ _ _ _ _ _. tt };
+    ghost tells = { λ _ _ _ _. ⊤ };
 
     fn written(&self, to: &mut Counts, _: &Common, _: usize, found: &Found) {
         to.lines = to.lines.saturating_add(1);

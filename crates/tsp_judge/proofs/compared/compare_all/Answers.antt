@@ -4,7 +4,9 @@ use Rattle.std.specs.Prelude.{max}
 use Rattle.tsp_stream.specs.states.Watched.{sink_of}
 use Rattle.tsp_judge.proofs.HandedOn.{handed_on}
 use Rattle.tsp_judge.proofs.Comparing.{HasCompared, compared_none, compared_next, compared_ends, compared_all}
+use Rattle.tsp_judge.proofs.Tellings.{told_next}
 use Rattle.tsp_judge.specs.CompareRun.{IsTurnAt, status_of_found}
+use Rattle.tsp_judge.specs.Following.{AreTold}
 use Rattle.tsp_judge.proofs.compared.compare_all.Goals as goal
 
 pub returns-in_err-found-clause-text : goal.returns-in_err-found-clause-text
@@ -23,5 +25,15 @@ solutions-preserved g c =
     record {
       compared = subst (λ s. HasCompared (IsTurnAt g.R.Read.remaining (g.S.Solutions.opens c.args.solutions.now)) (g.S.Solutions.names c.args.solutions.now) c.args.common.now
           (sink_of g.W.Write.contents c.args.out.now c.compare_one.new.out) (c.solutions.index + 1) s) (sym status) next;
-      told = g.S.Follow.goes_on _ _ _ _ c.solutions.invariant.told c.written.ensures;
+      told = told_next (g.S.Follow.tells c.args.solutions.now) c.solutions.index c.args.to.now c.solutions.to c.written.new.to c.solutions.invariant.told c.written.ensures;
     }
+
+pub returns-in_err-found-clause-told : goal.returns-in_err-found-clause-told
+returns-in_err-found-clause-told g c =
+    let same : c.from_residual.result ≡ Err c.in_err-found.field-0.0 = handed_on _ _ c.from_residual.ensures.1 in
+    rw same (c.solutions.index, omega (arith, c.solutions-test.true, c.count-index-end.ensures), c.solutions.invariant.told)
+
+pub returns-clause-told : goal.returns-clause-told
+returns-clause-told g c =
+    let all : c.solutions.index ≡ length (g.S.Solutions.names c.args.solutions.now) = omega (arith, c.solutions-test.false, c.solutions.auto.index-end, c.count-index-end.ensures) in
+    subst (λ n. AreTold (g.S.Follow.tells c.args.solutions.now) n c.args.to.now c.solutions.to) all c.solutions.invariant.told

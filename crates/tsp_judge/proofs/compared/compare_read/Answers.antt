@@ -1,5 +1,5 @@
 -- The goals of `compare_read` in src/compared.rt: what it ensures.
-use Rattle.std.proofs.Common.{◌≡◌, Err, refl, sym, subst, ◌∙◌}
+use Rattle.std.proofs.Common.{◌≡◌, Err, arith, refl, sym, subst, ◌∙◌}
 use Rattle.std.proofs.KnownBytes.{Keeps-refl}
 use Rattle.tsp_read.specs.Reads.{IsFile}
 use Rattle.tsp_stream.specs.states.Watched.{sink_of}
@@ -33,7 +33,14 @@ returns-in_err-status-clause-text g c = λ given first one two.
     ) (common.2, c.in_err-status.ensures.text))
 
 pub returns-in_default-clause-told : goal.returns-in_default-clause-told
-returns-in_default-clause-told g c = g.S.Follow.stays _ _
+returns-in_default-clause-told g c = (0, omega arith, refl)
 
 pub returns-in_err-common-clause-told : goal.returns-in_err-common-clause-told
-returns-in_err-common-clause-told g c = g.S.Follow.stays _ _
+returns-in_err-common-clause-told g c =
+    let same : c.from_residual.result ≡ Err c.in_err-common.field-0.0 = handed_on _ _ c.from_residual.ensures.1 in
+    rw same (0, omega arith, refl)
+
+pub returns-in_err-status-clause-told : goal.returns-in_err-status-clause-told
+returns-in_err-status-clause-told g c =
+    let same : c.from_residual-in_err-status.result ≡ Err c.in_err-status.field-0.0 = handed_on _ _ c.from_residual-in_err-status.ensures.1 in
+    rw same c.in_err-status.ensures.told

@@ -1,11 +1,12 @@
 -- The goals of `compare_with` in src/compared.rt: what it ensures.
-use Rattle.std.proofs.Common.{◌≡◌, true, rules, sym, subst}
+use Rattle.std.proofs.Common.{◌≡◌, true, false, length, refl, arith, rules, sym, subst}
 use Rattle.tsp_stream.specs.states.Watched.{sink_of}
 use Rattle.tsp_stream.specs.Sink.{HasWritten}
 use Rattle.tsp_draft.specs.Fields.{Fields}
 use Rattle.tsp_reason.specs.Verdicts.{is_clear}
 use Rattle.tsp_judge.proofs.Comparing.{after_head}
 use Rattle.tsp_judge.specs.CompareRun.{IsTurnAt, ComparesBy}
+use Rattle.tsp_judge.specs.Following.{AreAllTold, IsFollowedBy}
 use Rattle.tsp_report.specs.Compare.{head_of}
 use Rattle.tsp_judge.proofs.compared.compare_with.Goals as goal
 
@@ -17,3 +18,17 @@ returns-clause-text g c =
     (sink_of g.W.Write.contents c.args.out.now c.compare_all.new.out) c.compare_all.result) (sym clear)
     (after_head g.W.Write.contents c.args.out.now c.write_head.new.out c.compare_all.new.out (IsTurnAt g.R.Read.remaining (g.S.Solutions.opens c.args.solutions.now))
     (g.S.Solutions.names c.args.solutions.now) c.args.common.now (head_of c.args.common.now.instance c.args.common.now.basis) c.compare_all.result written c.compare_all.ensures.text)
+
+pub returns-in-Err-clause-told : goal.returns-in-Err-clause-told
+returns-in-Err-clause-told g c = (0, omega arith, refl)
+
+pub returns-then-not-is_clear-clause-told : goal.returns-then-not-is_clear-clause-told
+returns-then-not-is_clear-clause-told g c =
+    let unclear : is_clear c.args.common.now.basis ≡ false = search rules in
+    subst (λ b. AreAllTold b (g.S.Follow.tells c.args.solutions.now) (length (g.S.Solutions.names c.args.solutions.now)) c.args.to.now c.args.to.now) (sym unclear) refl
+
+pub returns-clause-told : goal.returns-clause-told
+returns-clause-told g c =
+    let clear : is_clear c.args.common.now.basis ≡ true = search rules in
+    subst (λ b. IsFollowedBy b (g.S.Follow.tells c.args.solutions.now) (length (g.S.Solutions.names c.args.solutions.now)) c.args.to.now c.compare_all.new.to c.compare_all.result)
+    (sym clear) c.compare_all.ensures.told

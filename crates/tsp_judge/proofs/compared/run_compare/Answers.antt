@@ -1,5 +1,5 @@
 -- The goals of `run_compare` in src/compared.rt: what it ensures.
-use Rattle.std.proofs.Common.{◌≡◌, Err, [], refl}
+use Rattle.std.proofs.Common.{◌≡◌, Err, [], arith, refl}
 use Rattle.std.proofs.KnownBytes.{Keeps-refl}
 use Rattle.tsp_stream.specs.states.Watched.{turn_of}
 use Rattle.tsp_judge.proofs.HandedOn.{handed_on}
@@ -43,7 +43,11 @@ returns-clause-text g c =
     (one.0, one.1, (two.0, two.1, (two.2.0, c.compare_read.ensures.text _ _ one.2 two.2.1)))
 
 pub returns-in_err-instance-clause-told : goal.returns-in_err-instance-clause-told
-returns-in_err-instance-clause-told g c = g.S.Follow.stays _ _
+returns-in_err-instance-clause-told g c =
+    let same : c.from_residual.result ≡ Err c.in_err-instance.field-0.0 = handed_on _ _ c.from_residual.ensures.1 in
+    rw same (0, omega arith, refl)
 
 pub returns-in_err-certificate-clause-told : goal.returns-in_err-certificate-clause-told
-returns-in_err-certificate-clause-told g c = g.S.Follow.stays _ _
+returns-in_err-certificate-clause-told g c =
+    let same : c.from_residual-in_err-certificate.result ≡ Err c.in_err-certificate.field-0.0 = handed_on _ _ c.from_residual-in_err-certificate.ensures.1 in
+    rw same (0, omega arith, refl)

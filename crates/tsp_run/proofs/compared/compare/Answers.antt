@@ -1,3 +1,5 @@
+-- The goals of `compare` in src/compared.rt: what it ensures.
+use Rattle.tsp_run.proofs.Tellings.{tells_compared}
 use Rattle.tsp_run.proofs.compared.compare.Goals as goal
 
 pub returns-in-None-clause-text : goal.returns-in-None-clause-text
@@ -28,3 +30,11 @@ returns-clause-text g c =
         ),
       ),
     )
+
+pub returns-in-None-clause-told : goal.returns-in-None-clause-told
+returns-in-None-clause-told g c =
+    tells_compared c.args.followed.now.explain g.E.Write.contents _ c.args.errors.now c.run_compare.new.to c.run_compare.result c.run_compare.ensures.told
+
+pub returns-clause-told : goal.returns-clause-told
+returns-clause-told g c =
+    tells_compared c.args.followed.now.explain g.E.Write.contents _ c.args.errors.now c.run_compare-in-Some.new.to c.run_compare-in-Some.result c.run_compare-in-Some.ensures.told

@@ -1,5 +1,5 @@
 use Rattle.std.proofs.Common.{Result, Ok, Err, OnOk}
-use Rattle.tsp_run.specs.Telling.{tells_more}
+use Rattle.tsp_run.proofs.Tellings.{tells_more}
 use Rattle.tsp_run.proofs.running.run_comparison.Goals as goal
 
 on_ok : {A B : Type 0} (r : Result A B) (P Q : Type 0) → (P → Q) → OnOk r P → OnOk r Q

@@ -1,0 +1,25 @@
+-- What who follows a comparison is told of its lines.
+use Rattle.std.specs.Prelude.{◌≡◌, ℕ, zero, suc, ◌≤◌, Bool, true, false, Result, Ok, Err}
+use Rattle.tsp_reason.specs.Verdicts.{is_clear}
+use Rattle.tsp_judge.specs.declared.compared.Compared.{Compared}
+use Rattle.tsp_judge.specs.declared.fault.RunFault.{RunFault}
+
+-- of the first lines, as many as this, each once and in their order
+abbrev pub AreTold : {E : Type 0} → (ℕ → E → E → Type 0) → ℕ → E → E → Type 0
+AreTold tells zero old new = new ≡ old
+AreTold {E = E} tells (suc count) old new = (next : E) × AreTold tells count old next × tells count next new
+
+-- of all lines, or of none where a reason applies whatever the solution
+abbrev pub AreAllTold : {E : Type 0} → Bool → (ℕ → E → E → Type 0) → ℕ → E → E → Type 0
+AreAllTold true tells count old new = AreTold tells count old new
+AreAllTold false tells count old new = new ≡ old
+
+-- of all lines, as far as the comparison came
+abbrev pub IsFollowedBy : {E : Type 0} → Bool → (ℕ → E → E → Type 0) → ℕ → E → E → Result ℕ RunFault → Type 0
+IsFollowedBy clear tells count old new (Ok status) = AreAllTold clear tells count old new
+IsFollowedBy clear tells count old new (Err fault) = (told : ℕ) × (told ≤ count) × AreTold tells told old new
+
+-- by the result of a comparison of so many solutions
+abbrev pub IsFollowed : {E : Type 0} → (ℕ → E → E → Type 0) → ℕ → E → E → Result Compared RunFault → Type 0
+IsFollowed tells count old new (Ok compared) = AreAllTold (is_clear compared.common.basis) tells count old new
+IsFollowed tells count old new (Err fault) = (told : ℕ) × (told ≤ count) × AreTold tells told old new

@@ -1,0 +1,40 @@
+-- What standard error is told of solutions, line by line.
+use Rattle.std.proofs.Common.{ℕ, zero, suc, Bool, true, false, List, [], ◌++◌, Option, refl, sym, subst, ◌∙◌}
+use Rattle.std.specs.Prelude.{Result, Ok, Err}
+use Rattle.std.proofs.KnownBytes.{Appends-nil, Appends-trans}
+use Rattle.tsp_judge.specs.Following.{AreTold, AreAllTold, IsFollowed}
+use Rattle.tsp_judge.specs.declared.compared.Compared.{Compared}
+use Rattle.tsp_judge.specs.declared.fault.RunFault.{RunFault}
+use Rattle.tsp_run.specs.Telling.{MayTell}
+
+-- of none of the solutions
+tells_none : (explained : Bool) (at : Option (List ℕ)) → MayTell explained at at
+tells_none false at = refl
+tells_none true at = ([], Appends-nil at)
+
+-- of some, and then of more
+pub tells_more : (explained : Bool) (first next last : Option (List ℕ)) → MayTell explained first next → MayTell explained next last
+    → MayTell explained first last
+tells_more false first next last some more = more ∙ some
+tells_more true first next last some more = (some.0 ++ more.0, Appends-trans first next last some.0 more.0 some.1 more.1)
+
+-- what telling of one line may do, where its bytes are these
+abbrev pub TellsLine : {E : Type 0} → Bool → (E → Option (List ℕ)) → ℕ → E → E → Type 0
+TellsLine explained contents index old new = MayTell explained (contents old) (contents new)
+
+tells_first : {E : Type 0} (explained : Bool) (contents : E → Option (List ℕ)) (count : ℕ) (old new : E) → AreTold (TellsLine explained contents) count old new
+    → MayTell explained (contents old) (contents new)
+tells_first explained contents zero old new told = subst (λ e. MayTell explained (contents old) (contents e)) (sym told) (tells_none explained (contents old))
+tells_first explained contents (suc count) old new told =
+    tells_more explained (contents old) (contents told.0) (contents new) (tells_first explained contents count old told.0 told.1) told.2
+
+tells_all : {E : Type 0} (explained clear : Bool) (contents : E → Option (List ℕ)) (count : ℕ) (old new : E) → AreAllTold clear (TellsLine explained contents) count old new
+    → MayTell explained (contents old) (contents new)
+tells_all explained true contents count old new told = tells_first explained contents count old new told
+tells_all explained false contents count old new told = subst (λ e. MayTell explained (contents old) (contents e)) (sym told) (tells_none explained (contents old))
+
+-- of all that were compared
+pub tells_compared : {E : Type 0} (explained : Bool) (contents : E → Option (List ℕ)) (count : ℕ) (old new : E) (ended : Result Compared RunFault)
+    → IsFollowed (TellsLine explained contents) count old new ended → MayTell explained (contents old) (contents new)
+tells_compared explained contents count old new (Ok compared) told = tells_all explained _ contents count old new told
+tells_compared explained contents count old new (Err fault) told = tells_first explained contents told.0 old new told.2
