@@ -7,6 +7,7 @@ pub mod Types
 pub mod WithWeights
 pub mod Spread
 pub mod AllFit
+pub mod Blocks
 pub mod Digits
 pub mod FieldLengths
 pub mod KeywordLengths

@@ -1,8 +1,11 @@
 -- The lines of a matrix of weights, one after the other.
-use Rattle.std.proofs.Common.{◌≡◌, ℕ, ◌+◌, ◌-◌, ◌<◌, ◌≤◌, suc, List, [], ◌++◌, length, take, drop, map, min, true, refl, sym, ap, subst, ◌∙◌, append_assoc, arith}
+use Rattle.std.proofs.Common.{◌≡◌, ℕ, ◌+◌, ◌-◌, ◌<◌, ◌≤◌, ◌==◌, suc, List, [], ◌∷◌, ◌++◌, length, take, drop, map, min, true, refl, sym, ap, subst, ◌∙◌, append_assoc, arith}
 use Rattle.std.specs.Prelude.{ℤ}
-use Rattle.std.specs.List.{range_with_len}
-use Rattle.std.proofs.lemmas.List.{take_min, drop_min}
+use Rattle.std.specs.List.{range_with_len, flat_map}
+use Rattle.std.specs.Fmt.{signed_decimal}
+use Rattle.std.proofs.lemmas.Bool.Decides.{nat_tests}
+use Rattle.std.proofs.lemmas.List.{take_min, drop_min, take-append-drop}
+use Rattle.std.proofs.lemmas.Grind.{flat_map-append}
 use Rattle.tsp_format.specs.Cells.{nodes_to}
 use Rattle.tsp_file.specs.Text.{weight_line, matrix_lines}
 use Rattle.tsp_stream.specs.states.Way.{Way, Carried}
@@ -63,3 +66,29 @@ pub comes_last : (f : ℕ → ℕ) (n index : ℕ) (rest : List ℤ) (whole : Li
 comes_last f n index rest whole a b c all h k =
     let count : n - index ≡ 0 = omega arith in
     comes_all a b c (weight_line rest) whole (subst (λ m. Comes a b (lines_from f (index + 1) m rest) whole) count h) k
+
+-- ---- weights by blocks
+
+-- each weight after a blank
+abbrev pub after_blanks : List ℤ → List ℕ
+after_blanks weights = flat_map (λ weight. 32 ∷ signed_decimal weight) weights
+
+-- some of the weights, and the others
+pub comes_block : (count : ℕ) (rest now later : List ℤ) (whole : List ℕ) (a b c : Way) → now ≡ take count rest → later ≡ drop count rest
+    → Comes a b (after_blanks rest) whole → Carried b c (after_blanks now) → Comes a c (after_blanks later) whole
+comes_block count rest now later whole a b c front back h k =
+    let parts : after_blanks rest ≡ after_blanks now ++ after_blanks later =
+    ap after_blanks (sym (take-append-drop count rest)) ∙ flat_map-append (λ weight. 32 ∷ signed_decimal weight) (take count rest) (drop count rest)
+    ∙ ap (λ (ws : List ℤ). after_blanks ws ++ after_blanks (drop count rest)) (sym front) ∙ ap (λ (ws : List ℤ). after_blanks now ++ after_blanks ws) (sym back) in
+    comes_more a b c (after_blanks rest) whole (after_blanks now) (after_blanks later) h k parts
+
+-- none of the weights is left
+pub comes_blocks : (weights rest : List ℤ) (a b : Way) → (length rest == 0) ≡ true → Comes a b (after_blanks rest) (after_blanks weights)
+    → Carried a b (flat_map (λ word. 32 ∷ word) (map signed_decimal weights))
+comes_blocks weights [] a b empty h =
+    subst (λ t. Carried a b t) (sym (words weights)) (comes_all a b b [] (after_blanks weights) h (carried_none b))
+  where
+    words : (weights : List ℤ) → flat_map (λ word. 32 ∷ word) (map signed_decimal weights) ≡ after_blanks weights
+    words [] = refl
+    words (x ∷ weights) = ap (λ t. (32 ∷ signed_decimal x) ++ t) (words weights)
+comes_blocks weights (x ∷ rest) a b empty h = absurd (grind (arith, nat_tests))

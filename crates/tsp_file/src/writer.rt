@@ -9,6 +9,7 @@ ghost use Rattle.tsp_stream.specs.Sink.{Writes};
 ghost use Rattle.tsp_stream.specs.states.Way.{Puts};
 ghost use Rattle.tsp_file.specs.Text.{text_of, text_of_field, text_of_section, text_of_value};
 
+mod block;
 mod digits;
 mod keywords;
 mod matrix;

@@ -8,7 +8,7 @@ ghost use Rattle.tsp_format.specs.Cells.{nodes_to, cells_of_line};
 ghost use Rattle.tsp_file.specs.Text.{weight_line, matrix_lines, line_lens, section_text, optional};
 ghost use Rattle.tsp_stream.specs.states.Way.{Puts};
 
-use crate::writer::digits::put_next_weight;
+use crate::writer::block::{BLOCK, MOST_WEIGHTS, put_block};
 use crate::writer::sections::put_opening;
 use std::io::Write;
 use tsp_format::{Field, Layout, WeightFormat};
@@ -19,8 +19,12 @@ fn put_more_weights<W: Write>(piece: &mut Piece, out: &mut Watched<W>, weights: 
     ensures { Puts W.contents out.old piece.old out.new piece.new
         (flat_map (λ word. 32 ∷ word) (map signed_decimal weights.now)) }
 {
-    'weights: for weight in weights {
-        put_next_weight(piece, out, *weight);
+    let mut block = [0; BLOCK];
+    let mut rest = weights;
+    'parts: while !rest.is_empty() {
+        let (front, later) = rest.split_at(rest.len().min(MOST_WEIGHTS));
+        put_block(piece, out, front, &mut block);
+        rest = later;
     }
 }
 

@@ -1,25 +1,21 @@
 -- The goals of `put_more_weights` in src/writer/matrix.rt: its loop and what it ensures.
-use Rattle.std.proofs.Common.{List, ℕ, ◌∷◌, arith, rules, get_or}
-use Rattle.std.specs.Prelude.{ℤ, pos, FitsSigned}
-use Rattle.std.specs.Int.{w64}
-use Rattle.std.proofs.lemmas.Int.{to_z-of_z}
-use Rattle.std.specs.Fmt.{signed_decimal}
+use Rattle.std.proofs.Common.{[], refl}
 use Rattle.tsp_stream.specs.states.Way.{way_of}
-use Rattle.tsp_stream.proofs.Carrying.{carried_next_or, carried_mapped, carried_none}
+use Rattle.tsp_stream.proofs.Carrying.{carried_none}
+use Rattle.tsp_file.proofs.Matrices.{after_blanks, comes_block, comes_blocks}
 use Rattle.tsp_file.proofs.writer.matrix.put_more_weights.Goals as goal
 
-pub weights-init : goal.weights-init
-weights-init g c = carried_none (way_of g.W.Write.contents c.args.out.now c.args.piece.now.items)
+pub parts-init : goal.parts-init
+parts-init g c = record { done = []; carried = carried_none (way_of g.W.Write.contents c.args.out.now c.args.piece.now.items); parts = refl }
 
-pub weights-preserved : goal.weights-preserved
-weights-preserved g c =
-    let fits : FitsSigned w64 (get_or c.args.weights.now c.weights.weight-index (pos 0)) = search rules in
-    let number = simp to_z-of_z at c.put_next_weight.ensures in
-    let before = way_of g.W.Write.contents c.weights.out c.weights.piece.items in
-    let after = way_of g.W.Write.contents c.put_next_weight.new.out c.put_next_weight.new.piece.items in
-    carried_next_or (λ (weight : ℤ). 32 ∷ signed_decimal weight) c.args.weights.now c.weights.weight-index (pos 0)
-    (way_of g.W.Write.contents c.args.out.now c.args.piece.now.items) before after (omega arith) c.weights.invariant number
+pub parts-preserved : goal.parts-preserved
+parts-preserved g c =
+    comes_block c.min.result c.parts.rest.now c.split_at.result.0.now c.split_at.result.1.now (after_blanks c.args.weights.now)
+    (way_of g.W.Write.contents c.args.out.now c.args.piece.now.items) (way_of g.W.Write.contents c.parts.out c.parts.piece.items)
+    (way_of g.W.Write.contents c.put_block.new.out c.put_block.new.piece.items)
+    c.split_at.ensures.front c.split_at.ensures.back c.parts.invariant c.put_block.ensures
 
 pub returns : goal.returns
-returns g c = carried_mapped (λ (word : List ℕ). 32 ∷ word) signed_decimal c.args.weights.now c.weights.weight-index
-    (way_of g.W.Write.contents c.args.out.now c.args.piece.now.items) (way_of g.W.Write.contents c.weights.out c.weights.piece.items) (omega arith) c.weights.invariant
+returns g c =
+    comes_blocks c.args.weights.now c.parts.rest.now (way_of g.W.Write.contents c.args.out.now c.args.piece.now.items)
+    (way_of g.W.Write.contents c.parts.out c.parts.piece.items) (cc) c.parts.invariant

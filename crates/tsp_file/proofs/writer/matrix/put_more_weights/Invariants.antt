@@ -1,10 +1,15 @@
 -- The loop of `put_more_weights` in src/writer/matrix.rt.
-use Rattle.std.proofs.Common.{◌∷◌, take}
+use Rattle.std.proofs.Common.{◌∷◌, length}
 use Rattle.std.specs.List.{flat_map}
 use Rattle.std.specs.Fmt.{signed_decimal}
-use Rattle.tsp_stream.specs.states.Way.{way_of, Carried}
+use Rattle.tsp_stream.specs.states.Way.{way_of}
+use Rattle.tsp_file.proofs.Matrices.{Comes}
 use Rattle.tsp_file.proofs.writer.matrix.put_more_weights.Given as goal
 
-abbrev pub invariant-weights : goal.invariant-weights
-invariant-weights g l = Carried (way_of g.W.Write.contents l.initial.out l.initial.piece.items) (way_of g.W.Write.contents l.out l.piece.items)
-    (flat_map (λ weight. 32 ∷ signed_decimal weight) (take l.weight-index l.weights))
+abbrev pub invariant-parts : goal.invariant-parts
+invariant-parts g l = Comes (way_of g.W.Write.contents l.initial.out l.initial.piece.items) (way_of g.W.Write.contents l.out l.piece.items)
+    (flat_map (λ weight. 32 ∷ signed_decimal weight) l.rest)
+    (flat_map (λ weight. 32 ∷ signed_decimal weight) l.weights)
+
+abbrev pub decreases-parts : goal.decreases-parts
+decreases-parts g l = length l.rest

@@ -1,0 +1,9 @@
+-- The goals of `fill` in src/writer/block.rt: that its loop begins.
+use Rattle.std.proofs.Common.{◌≡◌, length, rules, arith}
+use Rattle.tsp_file.proofs.Blocks.{block_begins}
+use Rattle.tsp_file.proofs.writer.block.fill.Goals as goal
+
+pub weights-init : goal.weights-init
+weights-init c =
+    let long : length c.args.block.now ≡ 576 = search rules in
+    (omega (arith, c.requires), omega arith, block_begins c.args.weights.now c.args.block.now long)
