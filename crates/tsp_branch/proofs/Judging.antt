@@ -3,7 +3,7 @@ use Rattle.std.proofs.Common.{◌≡◌, ◌∙◌, ℕ, zero, suc, ◌+◌, ◌
 use Rattle.std.specs.Prelude.{Option, None, Some, IfSome, pos, neg_ℤ}
 use Rattle.std.specs.List.{All}
 use Rattle.std.proofs.lemmas.Int.{ints}
-use Rattle.std.proofs.lemmas.List.{get_or-map, length-map, take-append-drop, take-append-le, take_all}
+use Rattle.std.proofs.lemmas.List.{get_or-map, length-map, take-append-drop, take-append-le, take_all, drop_all}
 use Rattle.std.proofs.lemmas.List.Elements.{All-append, All-weaker}
 use Rattle.tsp_format.specs.Cells.{IsNode}
 use Rattle.tsp_format.specs.Limits.{most_potential}
@@ -23,30 +23,34 @@ use Rattle.tsp_branch.specs.declared.steps.JudgedLeaf.{JudgedLeaf}
 use Rattle.tsp_branch.specs.declared.steps.JudgedLeaf.TheVariants as leaves
 use Rattle.tsp_branch.specs.Cases.{LeafNumbers, are_trees, leaves_of, next_stack}
 use Rattle.tsp_branch.specs.Certificate.{IsCertificate, IsLeastFound, AreCostsFor, CertificatesBoundCycles}
-use Rattle.tsp_branch.specs.states.Decided.{stack_of}
+use Rattle.tsp_branch.specs.states.Decided.{stack_of, IsLeftStack}
 use Rattle.tsp_branch.specs.Judged.{AreGoodNumbers, as_leaf_numbers, most_crossed}
 use Rattle.tsp_branch.specs.Listed.{all_grown, split_at, steps_from, no_numbers_of, listed_steps, IsStepOf, AreSteps, AreGoodLeaves, IsFirstBadLeaf, IsJudged, BoundsCycles, IsLowest}
 use Rattle.tsp_branch.specs.Twice.{AreBranchesJudged}
 use Rattle.tsp_branch.specs.states.Rooms.{AreSmall, IsJudgedLeaf, IsSizedLeaf}
 use Rattle.tsp_branch.proofs.CaseWeights.{small_multipliers}
 use Rattle.tsp_branch.proofs.OnePass.{first_bad_by_place}
-use Rattle.tsp_branch.proofs.Passes.{IsAtStep, at_leaf, at_last}
+use Rattle.tsp_branch.proofs.Passes.{IsAtStep, IsPassing, at_leaf, at_step, passed}
 
 -- a list that was written over whole
 pub written : {A : Type 0} (len : ℕ) (xs rest : List A) → length xs ≡ len → take len (xs ++ rest) ≡ xs
 written len xs rest long = take-append-le len xs rest (omega (arith, long)) ∙ take_all len xs (omega (arith, long))
 
-pub good_are_small : (n : ℕ) (crossed : List Crossings) (numbers : List ℤ) → All (λ own. 1 ≤ own.most) crossed → AreGoodNumbers n crossed (split_at n numbers) → AreSmall numbers
+pub good_are_small : (n : ℕ) (crossed : List Crossings) (numbers : List ℤ) → All (λ own. 1 ≤ own.most) crossed
+    → AreGoodNumbers n crossed (split_at n numbers) → AreSmall numbers
 good_are_small n crossed numbers some good =
     subst AreSmall (take-append-drop n numbers)
     (All-append (IsFromTo (neg_ℤ (pos (2 ^ 64))) (pos (2 ^ 64))) (take n numbers) (drop n numbers)
     (All-weaker (IsFromTo (neg_ℤ (pos most_potential)) (pos most_potential)) (IsFromTo (neg_ℤ (pos (2 ^ 64))) (pos (2 ^ 64)))
     (λ z is. (omega (arith, ints, is.0), omega (arith, ints, is.1))) (take n numbers) good.potentials_are)
     (All-weaker (IsFromTo (pos 0) (pos most_crossed)) (IsFromTo (neg_ℤ (pos (2 ^ 64))) (pos (2 ^ 64)))
-    (λ z is. (omega (arith, ints, is.0), omega (arith, ints, is.1))) (drop n numbers) (small_multipliers n crossed (take n numbers) (drop n numbers) some good)))
+    (λ z is. (omega (arith, ints, is.0), omega (arith, ints, is.1))) (drop n numbers)
+    (small_multipliers n crossed (take n numbers) (drop n numbers) some good)))
 
-pub judged_leaf : (Found : List Decision × LeafNumbers → Option ℤ → Type 0) (n : ℕ) (crossed : List Crossings) (case : List Decision) (old : List ℤ) (changes : List (ℕ × ℤ)) (new potentials multipliers : List ℤ) (own : Option ℤ)
-    → length old ≡ n + length crossed → All (λ own. 1 ≤ own.most) crossed → All (λ change. IsNode (length old) change.0) changes → new ≡ all_grown changes old → AreGoodNumbers n crossed (split_at n new)
+pub judged_leaf : (Found : List Decision × LeafNumbers → Option ℤ → Type 0) (n : ℕ) (crossed : List Crossings)
+    (case : List Decision) (old : List ℤ) (changes : List (ℕ × ℤ)) (new potentials multipliers : List ℤ) (own : Option ℤ)
+    → length old ≡ n + length crossed → All (λ own. 1 ≤ own.most) crossed → All (λ change. IsNode (length old) change.0) changes
+    → new ≡ all_grown changes old → AreGoodNumbers n crossed (split_at n new)
     → potentials ≡ take n new → multipliers ≡ drop n new → Found (case, as_leaf_numbers potentials multipliers) own
     → IsJudgedLeaf Found n crossed case old changes new (leaves.Found own)
 judged_leaf Found n crossed case old changes new potentials multipliers own long some inside grown good of_nodes of_combs is = (
@@ -62,15 +66,18 @@ judged_leaf Found n crossed case old changes new potentials multipliers own long
 )
 
 -- good numbers, as they are read
-pub good_read : (n p : ℕ) (crossed : List Crossings) (read numbers : List ℤ) → p ≡ n → read ≡ numbers → AreGoodNumbers p crossed (as_leaf_numbers (take p read) (drop p read))
+pub good_read : (n p : ℕ) (crossed : List Crossings) (read numbers : List ℤ) → p ≡ n → read ≡ numbers → AreGoodNumbers p crossed
+    (as_leaf_numbers (take p read) (drop p read))
     → AreGoodNumbers n crossed (split_at n numbers)
 good_read n p crossed read numbers at same good =
-    subst (λ (zs : List ℤ). AreGoodNumbers n crossed (split_at n zs)) same (subst (λ (k : ℕ). AreGoodNumbers k crossed (split_at k read)) at good)
+    subst (λ (zs : List ℤ). AreGoodNumbers n crossed (split_at n zs)) same
+    (subst (λ (k : ℕ). AreGoodNumbers k crossed (split_at k read)) at good)
 
 -- ---- the steps
 
 -- a whole tree, whatever its numbers
-pub whole_trees : (n : ℕ) (numbers : List ℤ) (count : ℕ) (steps : List listed.Step) → are_whole count steps ≡ are_trees count (steps_from n numbers steps)
+pub whole_trees : (n : ℕ) (numbers : List ℤ) (count : ℕ) (steps : List listed.Step) → are_whole count steps ≡ are_trees count
+    (steps_from n numbers steps)
 whole_trees n numbers zero [] = refl
 whole_trees n numbers zero (listed.Branch a b ∷ steps) = refl
 whole_trees n numbers zero (listed.Leaf changes ∷ steps) = refl
@@ -79,8 +86,10 @@ whole_trees n numbers (suc count) (listed.Branch a b ∷ steps) = whole_trees n 
 whole_trees n numbers (suc count) (listed.Leaf changes ∷ steps) = whole_trees n (all_grown changes numbers) count steps
 
 -- what the bound of a tree of cases asks of the steps
-pub steps_judged : (directed : Bool) (n : ℕ) (crossed : List Crossings) (given : List Decision) (steps : List listed.Step) (found : Option ℕ) → All (IsStepOf n) steps → are_whole 1 steps ≡ true
-    → AreBranchesJudged directed given steps found → found ≡ None → AreSteps directed n given steps (listed_steps n (length crossed) steps)
+pub steps_judged : (directed : Bool) (n : ℕ) (crossed : List Crossings) (given : List Decision) (steps : List listed.Step)
+    (found : Option ℕ) → All (IsStepOf n) steps → are_whole 1 steps ≡ true
+    → AreBranchesJudged directed given steps found → found ≡ None → AreSteps directed n given steps
+    (listed_steps n (length crossed) steps)
 steps_judged directed n crossed given steps found each whole judged none = record {
   each = each;
   whole = sym (whole_trees n (no_numbers_of n (length crossed)) 1 steps) ∙ whole;
@@ -89,70 +98,105 @@ steps_judged directed n crossed given steps found each whole judged none = recor
 
 -- ---- the step that is next
 
-pub left_at : (steps : List TreeStep) (index : ℕ) (step : TreeStep) → index < length steps → step ≡ get_or steps index step → drop index steps ≡ step ∷ drop (index + 1) steps
+pub left_at : (steps : List TreeStep) (index : ℕ) (step : TreeStep) → index < length steps → step ≡ get_or steps index step
+    → drop index steps ≡ step ∷ drop (index + 1) steps
 left_at steps index step lt is =
-    drop-cons steps index step lt ∙ ap (λ (k : ℕ). get_or steps index step ∷ drop k steps) (sym (add-one index)) ∙ ap (λ (s : TreeStep). s ∷ drop (index + 1) steps) (sym is)
+    drop-cons steps index step lt ∙ ap (λ (k : ℕ). get_or steps index step ∷ drop k steps) (sym (add-one index)) ∙ ap
+    (λ (s : TreeStep). s ∷ drop (index + 1) steps) (sym is)
 
-pub own_step : (n : ℕ) (steps : List TreeStep) (index : ℕ) (step other : TreeStep) → All (IsStepOf n) (steps_of steps) → index < length steps → step ≡ get_or steps index step → step ≡ other
+pub own_step : (n : ℕ) (steps : List TreeStep) (index : ℕ) (step other : TreeStep) → All (IsStepOf n) (steps_of steps)
+    → index < length steps → step ≡ get_or steps index step → step ≡ other
     → IsStepOf n (step_of other)
 own_step n steps index step other each lt is same =
     subst (λ (s : TreeStep). IsStepOf n (step_of s)) (sym is ∙ same)
-    (subst (IsStepOf n) (get_or-map step_of steps index step (step_of step) lt) (each index (step_of step) (subst (λ (k : ℕ). index < k) (sym (length-map steps step_of)) lt)))
+    (subst (IsStepOf n) (get_or-map step_of steps index step (step_of step) lt)
+    (each index (step_of step) (subst (λ (k : ℕ). index < k) (sym (length-map steps step_of)) lt)))
 
-module _ (Found : List Decision × LeafNumbers → Option ℤ → Type 0) (directed : Bool) (n : ℕ) (crossed : List Crossings) (given : List Decision) where
+module _ (Found : List Decision × LeafNumbers → Option ℤ → Type 0) (directed : Bool) (n : ℕ) (crossed : List Crossings)
+    (given : List Decision) where
   pub at_next : (all : List TreeStep) (numbers : List ℤ) (stack : List Decision) (lowest : Option ℤ)
       (leaf index : ℕ) (step other : TreeStep) → index < length all → step ≡ get_or all index step → step ≡ other
-      → IsAtStep Found directed n crossed given (steps_of all) numbers stack lowest leaf (steps_of (drop index all))
-      → IsAtStep Found directed n crossed given (steps_of all) numbers stack lowest leaf (step_of other ∷ steps_of (drop (index + 1) all))
+      → IsPassing Found directed n crossed given (steps_of all) numbers stack lowest leaf (steps_of (drop index all))
+      → IsAtStep Found directed n crossed given (steps_of all) numbers (Some (stack_of stack)) lowest leaf
+      (step_of other ∷ steps_of (drop (index + 1) all))
   at_next all numbers stack lowest leaf index step other lt is same at =
-      subst (λ (steps : List TreeStep). IsAtStep Found directed n crossed given (steps_of all) numbers stack lowest leaf (steps_of steps))
-      (left_at all index step lt is ∙ ap (λ (s : TreeStep). s ∷ drop (index + 1) all) same) at
+      at_step Found directed n crossed given (steps_of all) numbers stack lowest leaf (step_of other)
+      (steps_of (drop (index + 1) all))
+      (subst (λ (steps : List TreeStep). IsPassing Found directed n crossed given (steps_of all) numbers stack lowest leaf
+      (steps_of steps))
+      (left_at all index step lt is ∙ ap (λ (s : TreeStep). s ∷ drop (index + 1) all) same) at)
 
-module _ (Found : List Decision × LeafNumbers → Option ℤ → Type 0) (directed : Bool) (n : ℕ) (crossed : List Crossings) (given : List Decision) (all : List listed.Step) where
+  -- where no step is left
+  pub all_passed : (families : List Family) (all : List TreeStep) (numbers : List ℤ) (stack : List Decision) (lowest : Option ℤ)
+      (leaf index : ℕ) → length all ≤ index
+      → IsPassing Found directed n crossed given (steps_of all) numbers stack lowest leaf (steps_of (drop index all))
+      → All (IsFamily n) families → are_trees 1 (listed_steps n (length crossed) (steps_of all)) ≡ true
+      → IsCertificate n families given (listed_steps n (length crossed) (steps_of all))
+      × IsLeastFound Found (leaves_of (given ∷ []) (listed_steps n (length crossed) (steps_of all))) lowest
+      × AreGoodLeaves n crossed (steps_of all)
+  all_passed families all numbers stack lowest leaf index past at are whole =
+      passed Found directed n crossed given (steps_of all) families numbers stack lowest leaf
+      (subst (λ (steps : List TreeStep). IsPassing Found directed n crossed given (steps_of all) numbers stack lowest leaf
+      (steps_of steps)) (drop_all index all past) at) are whole
+
+module _ (Found : List Decision × LeafNumbers → Option ℤ → Type 0) (directed : Bool) (n : ℕ) (crossed : List Crossings)
+    (given : List Decision) (all : List listed.Step) where
   abbrev pub AtNext : List ℤ → List Decision → Option ℤ → ℕ → List listed.Step → Type 0
-  AtNext numbers stack lowest leaf steps = IsAtStep Found directed n crossed given all numbers stack lowest leaf steps
+  AtNext numbers stack lowest leaf steps = IsAtStep Found directed n crossed given all numbers
+      (Some (stack_of stack)) lowest leaf steps
 
   abbrev JudgedAs : List ℤ → List Decision → List (ℕ × ℤ) → List ℤ → JudgedLeaf → Type 0
   JudgedAs numbers stack changes new found = IsJudgedLeaf Found n crossed (stack_of stack ++ given) numbers changes new found
 
-  pub bad_here : (numbers : List ℤ) (stack : List Decision) (lowest : Option ℤ) (leaf : ℕ) (changes : List (ℕ × ℤ)) (rest : List listed.Step) (new : List ℤ) (found : JudgedLeaf)
-      → AtNext numbers stack lowest leaf (listed.Leaf changes ∷ rest) → JudgedAs numbers stack changes new found → found ≡ leaves.Bad
+  pub bad_here : (numbers : List ℤ) (stack : List Decision) (lowest : Option ℤ) (leaf : ℕ) (changes : List (ℕ × ℤ))
+      (rest : List listed.Step) (new : List ℤ) (found : JudgedLeaf)
+      → AtNext numbers stack lowest leaf (listed.Leaf changes ∷ rest) → JudgedAs numbers stack changes new found
+      → found ≡ leaves.Bad
       → IsFirstBadLeaf n crossed all (leaf + 1)
   bad_here numbers stack lowest leaf changes rest new found at judged none =
-      first_bad_by_place n crossed all (leaf + 1) (at.bad (leaf + 1) (inl (add-one leaf, subst (JudgedAs numbers stack changes new) none judged)))
+      first_bad_by_place n crossed all (leaf + 1) (at.bad (leaf + 1)
+      (inl (add-one leaf, subst (JudgedAs numbers stack changes new) none judged)))
 
-  pub last_found : (families : List Family) (numbers : List ℤ) (stack : List Decision) (lowest : Option ℤ) (leaf : ℕ) (changes : List (ℕ × ℤ)) (rest : List listed.Step) (new : List ℤ)
-      (found : JudgedLeaf) (own lower : Option ℤ)
-      → AtNext numbers stack lowest leaf (listed.Leaf changes ∷ rest) → All (IsFamily n) families → are_trees 1 (listed_steps n (length crossed) all) ≡ true
-      → JudgedAs numbers stack changes new found → found ≡ leaves.Found own → IsLowest lowest own lower → next_stack (stack_of stack) ≡ None
-      → IsCertificate n families given (listed_steps n (length crossed) all) × IsLeastFound Found (leaves_of (given ∷ []) (listed_steps n (length crossed) all)) lower
-      × AreGoodLeaves n crossed all
-  last_found families numbers stack lowest leaf changes rest new found own lower at are whole judged some low turned =
-      let is = subst (JudgedAs numbers stack changes new) some judged in
-      at_last Found directed n crossed given all families numbers stack lowest leaf changes rest own lower at are whole is.0 is.3 low turned
-
-  pub more_found : (numbers : List ℤ) (stack : List Decision) (lowest : Option ℤ) (leaf : ℕ) (changes : List (ℕ × ℤ)) (rest : List listed.Step) (new : List ℤ) (next : List Decision)
+  after_leaf : (numbers : List ℤ) (stack : List Decision) (lowest : Option ℤ) (leaf : ℕ) (changes : List (ℕ × ℤ))
+      (rest : List listed.Step) (new : List ℤ) (next : Option (List Decision))
       (found : JudgedLeaf) (own lower : Option ℤ) → AtNext numbers stack lowest leaf (listed.Leaf changes ∷ rest)
-      → JudgedAs numbers stack changes new found → found ≡ leaves.Found own → IsLowest lowest own lower → next_stack (stack_of stack) ≡ Some (stack_of next)
-      → AtNext new next lower (leaf + 1) rest × AreSmall new
-  more_found numbers stack lowest leaf changes rest new next found own lower at judged some low turned =
-      let is = subst (JudgedAs numbers stack changes new) some judged in (
-        subst (λ (k : ℕ). AtNext new next lower k rest) (sym (add-one leaf))
-            (subst (λ (ns : List ℤ). AtNext ns next lower (suc leaf) rest) (sym is.1)
-            (at_leaf Found directed n crossed given all numbers stack lowest leaf changes rest next own lower at is.0 is.3 low turned)),
-        is.2,
-      )
+      → JudgedAs numbers stack changes new found → found ≡ leaves.Found own → IsLowest lowest own lower → next_stack
+      (stack_of stack) ≡ next
+      → IsAtStep Found directed n crossed given all new next lower (leaf + 1) rest
+  after_leaf numbers stack lowest leaf changes rest new next found own lower at judged some low turned =
+      let is = subst (JudgedAs numbers stack changes new) some judged in
+      subst (λ (k : ℕ). IsAtStep Found directed n crossed given all new next lower k rest) (sym (add-one leaf))
+      (subst (λ (ns : List ℤ). IsAtStep Found directed n crossed given all ns next lower (suc leaf) rest) (sym is.1)
+      (at_leaf Found directed n crossed given all numbers stack lowest leaf changes rest next own lower at is.0 is.3 low turned))
+
+  pub after_found : (numbers : List ℤ) (stack : List Decision) (lowest : Option ℤ) (leaf : ℕ) (changes : List (ℕ × ℤ))
+      (rest : List listed.Step) (new : List ℤ) (next : List Decision)
+      (found : JudgedLeaf) (own lower : Option ℤ) → AtNext numbers stack lowest leaf (listed.Leaf changes ∷ rest)
+      → JudgedAs numbers stack changes new found → found ≡ leaves.Found own → IsLowest lowest own lower → IsLeftStack stack next
+      → IsPassing Found directed n crossed given all new next lower (leaf + 1) rest
+  after_found numbers stack lowest leaf changes rest new next found own lower at judged some low (inl turned) =
+      inl (after_leaf numbers stack lowest leaf changes rest new (Some (stack_of next)) found own lower at judged some low turned)
+  after_found numbers stack lowest leaf changes rest new next found own lower at judged some low (inr turned) =
+      inr (after_leaf numbers stack lowest leaf changes rest new None found own lower at judged some low turned.0)
+
+  pub small_found : (numbers : List ℤ) (stack : List Decision) (changes : List (ℕ × ℤ)) (new : List ℤ) (found : JudgedLeaf)
+      (own : Option ℤ) → JudgedAs numbers stack changes new found → found ≡ leaves.Found own
+      → AreSmall new
+  small_found numbers stack changes new found own judged some = (subst (JudgedAs numbers stack changes new) some judged).2
 
   -- the case of a leaf decides each pair once
-  pub once_here : (numbers : List ℤ) (stack : List Decision) (lowest : Option ℤ) (leaf : ℕ) (changes : List (ℕ × ℤ)) (rest : List listed.Step)
+  pub once_here : (numbers : List ℤ) (stack : List Decision) (lowest : Option ℤ) (leaf : ℕ) (changes : List (ℕ × ℤ))
+      (rest : List listed.Step)
       → AtNext numbers stack lowest leaf (listed.Leaf changes ∷ rest) → DecideOnce directed (stack_of stack ++ given)
   once_here numbers stack lowest leaf changes rest at = at.once.0
 
 -- the lowest bound so far is as small as each
-pub low_sized : (lowest own lower : Option ℤ) (found : JudgedLeaf) → IfSome lowest IsBoundSized → IsSizedLeaf found → found ≡ leaves.Found own → IsLowest lowest own lower → IfSome lower IsBoundSized
+pub low_sized : (lowest own lower : Option ℤ) (found : JudgedLeaf) → IfSome lowest IsBoundSized → IsSizedLeaf found
+    → found ≡ leaves.Found own → IsLowest lowest own lower → IfSome lower IsBoundSized
 low_sized lowest own lower found before here some is = sized lowest own before (subst IsSizedLeaf some here) is
   where
-    sized : (lowest own : Option ℤ) → IfSome lowest IsBoundSized → IfSome own IsBoundSized → IsLowest lowest own lower → IfSome lower IsBoundSized
+    sized : (lowest own : Option ℤ) → IfSome lowest IsBoundSized → IfSome own IsBoundSized → IsLowest lowest own lower
+        → IfSome lower IsBoundSized
     sized None own p q is = subst (λ (o : Option ℤ). IfSome o IsBoundSized) (sym is) q
     sized (Some low) None p q is = subst (λ (o : Option ℤ). IfSome o IsBoundSized) (sym is) p
     sized (Some low) (Some own) p q (inl is) = subst (λ (o : Option ℤ). IfSome o IsBoundSized) (sym is.0) p
@@ -160,13 +204,17 @@ low_sized lowest own lower found before here some is = sized lowest own before (
 
 -- ---- the whole
 
-pub cycles_of : CertificatesBoundCycles → (directed : Bool) (n : ℕ) (cost : ℕ → ℕ → ℤ) (scale : ℤ) (families : List Family) (crossed : List Crossings) (given : List Decision) (steps : List listed.Step) (found : Judged)
-    → AreCostsFor directed n cost → IsScale scale → IsJudged directed n cost scale families crossed given steps found → BoundsCycles directed n cost given found
+pub cycles_of : CertificatesBoundCycles → (directed : Bool) (n : ℕ) (cost : ℕ → ℕ → ℤ) (scale : ℤ) (families : List Family)
+    (crossed : List Crossings) (given : List Decision) (steps : List listed.Step) (found : Judged)
+    → AreCostsFor directed n cost → IsScale scale → IsJudged directed n cost scale families crossed given steps found
+    → BoundsCycles directed n cost given found
 cycles_of bounds directed n cost scale families crossed given steps (judged.Bound found) costs_are scale_in is =
-    bounds directed n cost scale decided_number families given (listed_steps n (length crossed) steps) found costs_are scale_in is.0 is.1
+    bounds directed n cost scale decided_number families given
+    (listed_steps n (length crossed) steps) found costs_are scale_in is.0 is.1
 cycles_of bounds directed n cost scale families crossed given steps (judged.BadLeaf leaf) costs_are scale_in is = tt
 
 -- three nodes, and costs that are the same in both directions where pairs have none
-pub costs_for : (directed : Bool) (n : ℕ) (cost : ℕ → ℕ → ℤ) → 3 ≤ n → (directed ≡ false → IsSymmetric cost) → AreCostsFor directed n cost
+pub costs_for : (directed : Bool) (n : ℕ) (cost : ℕ → ℕ → ℤ) → 3 ≤ n → (directed ≡ false → IsSymmetric cost)
+    → AreCostsFor directed n cost
 costs_for false n cost some even = (some, even refl)
 costs_for true n cost some even = omega (arith, some)

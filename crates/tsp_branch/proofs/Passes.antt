@@ -31,10 +31,12 @@ module _ (Found : List Decision × LeafNumbers → Option ℤ → Type 0) where
   done None = (refl, tt)
   done (Some low) = (tt, omega (arith, ints), inl refl)
 
-  later : (bound : ℤ) (leaf : List Decision × LeafNumbers) (leaves : List (List Decision × LeafNumbers)) → Any (λ leaf. Found leaf (Some bound)) leaves → Any (λ leaf. Found leaf (Some bound)) (leaf ∷ leaves)
+  later : (bound : ℤ) (leaf : List Decision × LeafNumbers) (leaves : List (List Decision × LeafNumbers)) → Any
+      (λ leaf. Found leaf (Some bound)) leaves → Any (λ leaf. Found leaf (Some bound)) (leaf ∷ leaves)
   later bound leaf leaves a = (suc a.0, a.1, omega (arith, a.2), a.3, a.4)
 
-  without : (lowest final : Option ℤ) (leaf : List Decision × LeafNumbers) (leaves : List (List Decision × LeafNumbers)) → Found leaf None → ComesTo lowest leaves final → ComesTo lowest (leaf ∷ leaves) final
+  without : (lowest final : Option ℤ) (leaf : List Decision × LeafNumbers) (leaves : List (List Decision × LeafNumbers))
+      → Found leaf None → ComesTo lowest leaves final → ComesTo lowest (leaf ∷ leaves) final
   without lowest None leaf leaves none rest = (rest.0, (none, rest.1))
   without lowest (Some bound) leaf leaves none rest = (
     (inl none, rest.0),
@@ -45,7 +47,8 @@ module _ (Found : List Decision × LeafNumbers → Option ℤ → Type 0) where
     ],
   )
 
-  with_first : (own : ℤ) (final : Option ℤ) (leaf : List Decision × LeafNumbers) (leaves : List (List Decision × LeafNumbers)) → Found leaf (Some own) → ComesTo (Some own) leaves final
+  with_first : (own : ℤ) (final : Option ℤ) (leaf : List Decision × LeafNumbers) (leaves : List (List Decision × LeafNumbers))
+      → Found leaf (Some own) → ComesTo (Some own) leaves final
       → ComesTo None (leaf ∷ leaves) final
   with_first own None leaf leaves is rest = absurd (let none = rest.0 in cc)
   with_first own (Some bound) leaf leaves is rest = (
@@ -57,7 +60,8 @@ module _ (Found : List Decision × LeafNumbers → Option ℤ → Type 0) where
     ]),
   )
 
-  with_more : (low own lower : ℤ) (final : Option ℤ) (leaf : List Decision × LeafNumbers) (leaves : List (List Decision × LeafNumbers)) → Found leaf (Some own) → lower ≤ℤ low → lower ≤ℤ own
+  with_more : (low own lower : ℤ) (final : Option ℤ) (leaf : List Decision × LeafNumbers)
+      (leaves : List (List Decision × LeafNumbers)) → Found leaf (Some own) → lower ≤ℤ low → lower ≤ℤ own
       → (lower ≡ low) ⊎ (lower ≡ own) → ComesTo (Some lower) leaves final → ComesTo (Some low) (leaf ∷ leaves) final
   with_more low own lower None leaf leaves is p q one rest = absurd (let none = rest.0 in cc)
   with_more low own lower (Some bound) leaf leaves is p q one rest = (
@@ -66,24 +70,38 @@ module _ (Found : List Decision × LeafNumbers → Option ℤ → Type 0) where
     elim rest.2 [
       | inl same ↦ elim one [
         | inl a ↦ inl (cc)
-        | inr b ↦ inr (0, leaf, omega arith, refl, subst (λ (z : Option ℤ). Found leaf z) (ap (λ (z : ℤ). Some z) (sym b) ∙ same) is)
+        | inr b ↦ inr (
+          0,
+          leaf,
+          omega arith,
+          refl,
+          subst (λ (z : Option ℤ). Found leaf z)
+              (ap (λ (z : ℤ). Some z) (sym b) ∙ same) is,
+        )
       ]
       | inr there ↦ inr (later bound leaf leaves there)
     ],
   )
 
   -- one leaf more
-  on_leaf : (lowest found lower final : Option ℤ) (leaf : List Decision × LeafNumbers) (leaves : List (List Decision × LeafNumbers)) → Found leaf found
+  on_leaf : (lowest found lower final : Option ℤ) (leaf : List Decision × LeafNumbers)
+      (leaves : List (List Decision × LeafNumbers)) → Found leaf found
       → IsLowest lowest found lower → ComesTo lower leaves final → ComesTo lowest (leaf ∷ leaves) final
-  on_leaf None None lower final leaf leaves none is rest = without None final leaf leaves none (subst (λ (o : Option ℤ). ComesTo o leaves final) is rest)
-  on_leaf None (Some own) lower final leaf leaves here is rest = with_first own final leaf leaves here (subst (λ (o : Option ℤ). ComesTo o leaves final) is rest)
-  on_leaf (Some low) None lower final leaf leaves none is rest = without (Some low) final leaf leaves none (subst (λ (o : Option ℤ). ComesTo o leaves final) is rest)
+  on_leaf None None lower final leaf leaves none is rest = without None final leaf leaves none
+      (subst (λ (o : Option ℤ). ComesTo o leaves final) is rest)
+  on_leaf None (Some own) lower final leaf leaves here is rest = with_first own final leaf leaves here
+      (subst (λ (o : Option ℤ). ComesTo o leaves final) is rest)
+  on_leaf (Some low) None lower final leaf leaves none is rest = without (Some low) final leaf leaves none
+      (subst (λ (o : Option ℤ). ComesTo o leaves final) is rest)
   on_leaf (Some low) (Some own) lower final leaf leaves here (inl is) rest =
-      with_more low own low final leaf leaves here (omega (arith, ints)) is.1 (inl refl) (subst (λ (o : Option ℤ). ComesTo o leaves final) is.0 rest)
+      with_more low own low final leaf leaves here (omega (arith, ints)) is.1 (inl refl)
+      (subst (λ (o : Option ℤ). ComesTo o leaves final) is.0 rest)
   on_leaf (Some low) (Some own) lower final leaf leaves here (inr is) rest =
-      with_more low own own final leaf leaves here is.1 (omega (arith, ints)) (inr refl) (subst (λ (o : Option ℤ). ComesTo o leaves final) is.0 rest)
+      with_more low own own final leaf leaves here is.1 (omega (arith, ints)) (inr refl)
+      (subst (λ (o : Option ℤ). ComesTo o leaves final) is.0 rest)
 
-  least_of : (leaves : List (List Decision × LeafNumbers)) (final : Option ℤ) → ComesTo None leaves final → IsLeastFound Found leaves final
+  least_of : (leaves : List (List Decision × LeafNumbers)) (final : Option ℤ) → ComesTo None leaves final
+      → IsLeastFound Found leaves final
   least_of leaves None rest = All-from_recursion (λ leaf. Found leaf None) leaves rest.1
   least_of leaves (Some bound) rest = (
     All-from_recursion (IsAbove Found bound) leaves rest.0,
@@ -95,15 +113,15 @@ module _ (Found : List Decision × LeafNumbers → Option ℤ → Type 0) where
 
 -- ---- at a step
 
-abbrev open_leaves : ℕ → List ℤ → List Decision → List Decision → List listed.Step → List (List Decision × LeafNumbers)
-open_leaves n numbers given stack steps = leaves_of (open_cases given (Some (stack_of stack))) (steps_from n numbers steps)
+abbrev open_leaves : ℕ → List ℤ → List Decision → Option (List Decision) → List listed.Step → List (List Decision × LeafNumbers)
+open_leaves n numbers given stack steps = leaves_of (open_cases given stack) (steps_from n numbers steps)
 
-none_left : (n : ℕ) (crossed : List Crossings) (numbers : List ℤ) (steps : List listed.Step) → are_trees 0 (steps_from n numbers steps) ≡ true → AreGoodFrom n crossed numbers steps
-none_left n crossed numbers [] h = tt
-none_left n crossed numbers (listed.Branch a b ∷ steps) h = absurd (both_ways false refl h)
-none_left n crossed numbers (listed.Leaf changes ∷ steps) h = absurd (both_ways false refl h)
+no_leaves : (cases : List (List Decision)) → leaves_of cases [] ≡ []
+no_leaves [] = refl
+no_leaves (case ∷ cases) = refl
 
-leaf_numbers : (n : ℕ) (crossed : List Crossings) (numbers : List ℤ) (steps : List listed.Step) (cases : List (List Decision)) → AreGoodFrom n crossed numbers steps
+leaf_numbers : (n : ℕ) (crossed : List Crossings) (numbers : List ℤ) (steps : List listed.Step) (cases : List (List Decision))
+    → AreGoodFrom n crossed numbers steps
     → AllByRecursion (λ leaf. AreLeafNumbers n leaf.1) (leaves_of cases (steps_from n numbers steps))
 leaf_numbers n crossed numbers steps [] good = tt
 leaf_numbers n crossed numbers [] (case ∷ cases) good = tt
@@ -114,78 +132,119 @@ leaf_numbers n crossed numbers (listed.Leaf changes ∷ steps) (case ∷ cases) 
   leaf_numbers n crossed (all_grown changes numbers) steps cases good.1,
 )
 
--- what is left to do from a step on, and that it settles the whole
-pub record IsAtStep (Found : List Decision × LeafNumbers → Option ℤ → Type 0) (directed : Bool) (n : ℕ) (crossed : List Crossings) (given : List Decision) (all : List listed.Step) (numbers : List ℤ)
-    (stack : List Decision) (lowest : Option ℤ) (leaf : ℕ) (steps : List listed.Step) : Type 0 where
-  pub least : (final : Option ℤ) → ComesTo Found lowest (open_leaves n numbers given stack steps) final → ComesTo Found None (leaves_of (given ∷ []) (listed_steps n (length crossed) all)) final
-  pub whole : are_trees (length (open_cases given (Some (stack_of stack)))) (steps_from n numbers steps) ≡ true
+-- what is left to do from a step on, with the stack of the open case or none, and that it settles the whole
+pub record IsAtStep (Found : List Decision × LeafNumbers → Option ℤ → Type 0) (directed : Bool) (n : ℕ) (crossed : List Crossings)
+    (given : List Decision) (all : List listed.Step) (numbers : List ℤ)
+    (stack : Option (List Decision)) (lowest : Option ℤ) (leaf : ℕ) (steps : List listed.Step) : Type 0 where
+  pub least : (final : Option ℤ) → ComesTo Found lowest (open_leaves n numbers given stack steps) final → ComesTo Found None
+      (leaves_of (given ∷ []) (listed_steps n (length crossed) all)) final
+  pub whole : are_trees (length (open_cases given stack)) (steps_from n numbers steps) ≡ true
   pub good : AreGoodFrom n crossed numbers steps → AreGoodFrom n crossed (no_numbers_of n (length crossed)) all
-  pub bad : (first : ℕ) → IsFirstBadFrom n crossed numbers leaf steps first → IsFirstBadFrom n crossed (no_numbers_of n (length crossed)) 0 all first
+  pub bad : (first : ℕ) → IsFirstBadFrom n crossed numbers leaf steps first → IsFirstBadFrom n crossed
+      (no_numbers_of n (length crossed)) 0 all first
   pub once : AllByRecursion (DecideOnce directed) (cases_of (open_leaves n numbers given stack steps))
 
-module _ (Found : List Decision × LeafNumbers → Option ℤ → Type 0) (directed : Bool) (n : ℕ) (crossed : List Crossings) (given : List Decision) (all : List listed.Step) where
-  pub at_start : are_trees 1 (listed_steps n (length crossed) all) ≡ true → All (DecideOnce directed) (cases_of (leaves_of (given ∷ []) (listed_steps n (length crossed) all)))
-      → IsAtStep Found directed n crossed given all (no_numbers_of n (length crossed)) [] None 0 all
+module _ (Found : List Decision × LeafNumbers → Option ℤ → Type 0) (directed : Bool) (n : ℕ) (crossed : List Crossings)
+    (given : List Decision) (all : List listed.Step) where
+  pub at_start : are_trees 1 (listed_steps n (length crossed) all) ≡ true → All (DecideOnce directed)
+      (cases_of (leaves_of (given ∷ []) (listed_steps n (length crossed) all)))
+      → IsAtStep Found directed n crossed given all (no_numbers_of n (length crossed)) (Some []) None 0 all
   at_start whole once = record {
     least = λ final h. h;
     whole = whole;
     good = λ h. h;
     bad = λ first h. h;
-    once = recursion_from_All (DecideOnce directed) (cases_of (leaves_of (given ∷ []) (listed_steps n (length crossed) all))) once;
+    once = recursion_from_All (DecideOnce directed) (cases_of (leaves_of (given ∷ []) (listed_steps n (length crossed) all)))
+        once;
   }
 
   pub at_branch : (numbers : List ℤ) (stack : List Decision) (lowest : Option ℤ) (leaf a b : ℕ) (steps : List listed.Step)
-      → IsAtStep Found directed n crossed given all numbers stack lowest leaf (listed.Branch a b ∷ steps)
-      → IsAtStep Found directed n crossed given all numbers (stack ++ decide (a, b) true []) lowest leaf steps
+      → IsAtStep Found directed n crossed given all numbers (Some (stack_of stack)) lowest leaf (listed.Branch a b ∷ steps)
+      → IsAtStep Found directed n crossed given all numbers (Some (stack_of (stack ++ decide (a, b) true []))) lowest leaf steps
   at_branch numbers stack lowest leaf a b steps h =
       let same = sym (stack_more stack (record { pair = (a, b); taken = true })) in
       record {
-        least = λ final. subst (λ (st : List Decision). ComesTo Found lowest (leaves_of (open_cases given (Some st)) (steps_from n numbers steps)) final
+        least = λ final. subst (λ (st : List Decision). ComesTo Found lowest
+            (leaves_of (open_cases given (Some st)) (steps_from n numbers steps)) final
             → ComesTo Found None (leaves_of (given ∷ []) (listed_steps n (length crossed) all)) final) same (h.least final);
-        whole = subst (λ (st : List Decision). are_trees (length (open_cases given (Some st))) (steps_from n numbers steps) ≡ true) same h.whole;
+        whole = subst (λ (st : List Decision). are_trees (length (open_cases given (Some st)))
+            (steps_from n numbers steps) ≡ true) same h.whole;
         good = h.good;
         bad = h.bad;
-        once = subst (λ (st : List Decision). AllByRecursion (DecideOnce directed) (cases_of (leaves_of (open_cases given (Some st)) (steps_from n numbers steps)))) same h.once;
+        once = subst (λ (st : List Decision). AllByRecursion (DecideOnce directed)
+            (cases_of (leaves_of (open_cases given (Some st)) (steps_from n numbers steps)))) same h.once;
       }
 
-  pub at_leaf : (numbers : List ℤ) (stack : List Decision) (lowest : Option ℤ) (leaf : ℕ) (changes : List (ℕ × ℤ)) (steps : List listed.Step) (next : List Decision) (own lower : Option ℤ)
-      → IsAtStep Found directed n crossed given all numbers stack lowest leaf (listed.Leaf changes ∷ steps)
-      → IsGoodLeaf n crossed numbers changes → Found (stack_of stack ++ given, split_at n (all_grown changes numbers)) own → IsLowest lowest own lower
-      → next_stack (stack_of stack) ≡ Some (stack_of next) → IsAtStep Found directed n crossed given all (all_grown changes numbers) next lower (suc leaf) steps
+  pub at_leaf : (numbers : List ℤ) (stack : List Decision) (lowest : Option ℤ) (leaf : ℕ) (changes : List (ℕ × ℤ))
+      (steps : List listed.Step) (next : Option (List Decision)) (own lower : Option ℤ)
+      → IsAtStep Found directed n crossed given all numbers (Some (stack_of stack)) lowest leaf (listed.Leaf changes ∷ steps)
+      → IsGoodLeaf n crossed numbers changes → Found (stack_of stack ++ given, split_at n (all_grown changes numbers)) own
+      → IsLowest lowest own lower
+      → next_stack (stack_of stack) ≡ next → IsAtStep Found directed n crossed given all (all_grown changes numbers) next lower
+      (suc leaf) steps
   at_leaf numbers stack lowest leaf changes steps next own lower h good is low turned =
-      let later_are : later_cases given (stack_of stack) ≡ open_cases given (Some (stack_of next)) = sym (stacks_hold_cases given (stack_of stack)) ∙ ap (open_cases given) turned in
+      let later_are : later_cases given (stack_of stack) ≡ open_cases given next = sym (stacks_hold_cases given (stack_of stack))
+      ∙ ap (open_cases given) turned in
       let ns : List ℤ = all_grown changes numbers in
       record {
         least = λ final rest. h.least final
-            (on_leaf Found lowest own lower final (stack_of stack ++ given, split_at n ns) (leaves_of (later_cases given (stack_of stack)) (steps_from n ns steps)) is low
-            (subst (λ (cs : List (List Decision)). ComesTo Found lower (leaves_of cs (steps_from n ns steps)) final) (sym later_are) rest));
+            (on_leaf Found lowest own lower final (stack_of stack ++ given, split_at n ns)
+            (leaves_of (later_cases given (stack_of stack)) (steps_from n ns steps)) is low
+            (subst (λ (cs : List (List Decision)). ComesTo Found lower (leaves_of cs (steps_from n ns steps)) final)
+            (sym later_are) rest));
         whole = subst (λ (cs : List (List Decision)). are_trees (length cs) (steps_from n ns steps) ≡ true) later_are h.whole;
         good = λ rest. h.good (good, rest);
         bad = λ first rest. h.bad first (inr (good, rest));
-        once = subst (λ (cs : List (List Decision)). AllByRecursion (DecideOnce directed) (cases_of (leaves_of cs (steps_from n ns steps)))) later_are h.once.1;
+        once = subst (λ (cs : List (List Decision)). AllByRecursion (DecideOnce directed)
+            (cases_of (leaves_of cs (steps_from n ns steps)))) later_are h.once.1;
       }
 
-  pub at_last : (families : List Family) (numbers : List ℤ) (stack : List Decision) (lowest : Option ℤ) (leaf : ℕ) (changes : List (ℕ × ℤ)) (steps : List listed.Step) (own lower : Option ℤ)
-      → IsAtStep Found directed n crossed given all numbers stack lowest leaf (listed.Leaf changes ∷ steps)
+  -- where no case is open, no step is left
+  none_open : (numbers : List ℤ) (lowest : Option ℤ) (leaf : ℕ) (step : listed.Step) (steps : List listed.Step)
+      → IsAtStep Found directed n crossed given all numbers None lowest leaf (step ∷ steps) → ⊥
+  none_open numbers lowest leaf (listed.Branch a b) steps h = both_ways false refl h.whole
+  none_open numbers lowest leaf (listed.Leaf changes) steps h = both_ways false refl h.whole
+
+  at_end : (families : List Family) (numbers : List ℤ) (stack : Option (List Decision)) (lowest : Option ℤ) (leaf : ℕ)
+      → IsAtStep Found directed n crossed given all numbers stack lowest leaf []
       → All (IsFamily n) families → are_trees 1 (listed_steps n (length crossed) all) ≡ true
-      → IsGoodLeaf n crossed numbers changes → Found (stack_of stack ++ given, split_at n (all_grown changes numbers)) own → IsLowest lowest own lower
-      → next_stack (stack_of stack) ≡ None
-      → IsCertificate n families given (listed_steps n (length crossed) all) × IsLeastFound Found (leaves_of (given ∷ []) (listed_steps n (length crossed) all)) lower
+      → IsCertificate n families given (listed_steps n (length crossed) all) × IsLeastFound Found
+      (leaves_of (given ∷ []) (listed_steps n (length crossed) all)) lowest
       × AreGoodLeaves n crossed all
-  at_last families numbers stack lowest leaf changes steps own lower h are whole good is low turned =
-      let none : later_cases given (stack_of stack) ≡ [] = sym (stacks_hold_cases given (stack_of stack)) ∙ ap (open_cases given) turned in
-      let ns : List ℤ = all_grown changes numbers in
-      let left = subst (λ (cs : List (List Decision)). are_trees (length cs) (steps_from n ns steps) ≡ true) none h.whole in
-      let all_good = h.good (good, none_left n crossed ns steps left) in
+  at_end families numbers stack lowest leaf h are whole =
+      let all_good = h.good tt in
       let leaves = leaves_of (given ∷ []) (listed_steps n (length crossed) all) in
-      let least = h.least lower
-      (on_leaf Found lowest own lower lower (stack_of stack ++ given, split_at n ns) (leaves_of (later_cases given (stack_of stack)) (steps_from n ns steps)) is low
-      (subst (λ (cs : List (List Decision)). ComesTo Found lower (leaves_of cs (steps_from n ns steps)) lower) (sym none) (done Found lower))) in (
+      let none : open_leaves n numbers given stack [] ≡ [] = no_leaves (open_cases given stack) in
+      let least = h.least lowest (subst (λ (left : List (List Decision × LeafNumbers)). ComesTo Found lowest left lowest)
+      (sym none) (done Found lowest)) in (
         record {
           families_are = are;
           whole = whole;
-          numbers_are = All-from_recursion (λ leaf. AreLeafNumbers n leaf.1) leaves (leaf_numbers n crossed (no_numbers_of n (length crossed)) all (given ∷ []) all_good);
+          numbers_are = All-from_recursion (λ leaf. AreLeafNumbers n leaf.1) leaves
+              (leaf_numbers n crossed (no_numbers_of n (length crossed)) all (given ∷ []) all_good);
         },
-        least_of Found leaves lower least,
+        least_of Found leaves lowest least,
         all_good_by_place n crossed all all_good,
       )
+
+  -- the same with the stack of code, whether its case is open or none is
+  abbrev pub IsPassing : List ℤ → List Decision → Option ℤ → ℕ → List listed.Step → Type 0
+  IsPassing numbers stack lowest leaf steps = IsAtStep Found directed n crossed given all numbers
+      (Some (stack_of stack)) lowest leaf steps
+      ⊎ IsAtStep Found directed n crossed given all numbers None lowest leaf steps
+
+  pub at_step : (numbers : List ℤ) (stack : List Decision) (lowest : Option ℤ) (leaf : ℕ) (step : listed.Step)
+      (steps : List listed.Step) → IsPassing numbers stack lowest leaf (step ∷ steps)
+      → IsAtStep Found directed n crossed given all numbers (Some (stack_of stack)) lowest leaf (step ∷ steps)
+  at_step numbers stack lowest leaf step steps (inl h) = h
+  at_step numbers stack lowest leaf step steps (inr h) = absurd (none_open numbers lowest leaf step steps h)
+
+  pub passed : (families : List Family) (numbers : List ℤ) (stack : List Decision) (lowest : Option ℤ) (leaf : ℕ)
+      → IsPassing numbers stack lowest leaf []
+      → All (IsFamily n) families → are_trees 1 (listed_steps n (length crossed) all) ≡ true
+      → IsCertificate n families given (listed_steps n (length crossed) all) × IsLeastFound Found
+      (leaves_of (given ∷ []) (listed_steps n (length crossed) all)) lowest
+      × AreGoodLeaves n crossed all
+  passed families numbers stack lowest leaf (inl h) are whole = at_end families numbers
+      (Some (stack_of stack)) lowest leaf h are whole
+  passed families numbers stack lowest leaf (inr h) are whole = at_end families numbers None lowest leaf h are whole

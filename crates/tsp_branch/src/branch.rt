@@ -79,7 +79,8 @@ pub fn branch_bound<C: Costs>(
         (steps_of tree.now.steps.now)
         (listed_steps (C.nodes tree.now.costs.now) (length crossed.now) (steps_of tree.now.steps.now)) }
     ensures judged { IfOk result (IsJudged tree.now.directed (C.nodes tree.now.costs.now) (C.at tree.now.costs.now)
-        tree.now.scale (families_of crossed.now (plain tree.now.sets.now)) crossed.now tree.now.given.now (steps_of tree.now.steps.now)) }
+        tree.now.scale (families_of crossed.now (plain tree.now.sets.now)) crossed.now tree.now.given.now
+        (steps_of tree.now.steps.now)) }
     ensures cycles { IfOk result (BoundsCycles tree.now.directed (C.nodes tree.now.costs.now) (C.at tree.now.costs.now)
         tree.now.given.now) }
     ensures size { IfOk result IsJudgedSized }
@@ -122,10 +123,11 @@ fn judge_leaves<C: Costs>(
     requires are_families { All (IsFamily (C.nodes setting.now.costs.now))
         (families_of setting.now.crossed.now (plain setting.now.sets.now)) }
     requires steps { AreSteps setting.now.directed (C.nodes setting.now.costs.now) setting.now.given.now
-        (steps_of steps.now) (listed_steps (C.nodes setting.now.costs.now) (length setting.now.crossed.now) (steps_of steps.now)) }
+        (steps_of steps.now)
+        (listed_steps (C.nodes setting.now.costs.now) (length setting.now.crossed.now) (steps_of steps.now)) }
     requires room { IsRoom (C.nodes setting.now.costs.now) (length setting.now.crossed.now) room }
-    requires kept { HoldsRows (C.nodes setting.now.costs.now) (length setting.now.crossed.now) setting.now.scale setting.now.sets.now
-        (C.at setting.now.costs.now) room.kept }
+    requires kept { HoldsRows (C.nodes setting.now.costs.now) (length setting.now.crossed.now) setting.now.scale
+        setting.now.sets.now (C.at setting.now.costs.now) room.kept }
     requires start { room.numbers.items ≡ no_numbers_of (C.nodes setting.now.costs.now) (length setting.now.crossed.now) }
     ensures judged { IfOk result (IsJudged setting.now.directed (C.nodes setting.now.costs.now) (C.at setting.now.costs.now)
         setting.now.scale (families_of setting.now.crossed.now (plain setting.now.sets.now)) setting.now.crossed.now
@@ -146,14 +148,11 @@ fn judge_leaves<C: Costs>(
                     return Ok(Judged::BadLeaf(leaf));
                 };
                 lowest = lower(lowest, own);
-                let is_open = case.next()?;
-                if !is_open {
-                    return Ok(Judged::Bound(lowest));
-                }
+                case.next()?;
             }
         }
     }
-    unreachable!()
+    Ok(Judged::Bound(lowest))
 }
 
 /// The judgement on a leaf, whose numbers are kept where they are good.
@@ -177,17 +176,18 @@ fn judge_leaf<C: Costs>(
     requires given { case.now.given.now ≡ setting.now.given.now }
     requires once { DecideOnce setting.now.directed (decisions_in case.now) }
     requires room { IsRoom (C.nodes setting.now.costs.now) (length setting.now.crossed.now) room.old }
-    requires kept { HoldsRows (C.nodes setting.now.costs.now) (length setting.now.crossed.now) setting.now.scale setting.now.sets.now
-        (C.at setting.now.costs.now) room.old.kept }
+    requires kept { HoldsRows (C.nodes setting.now.costs.now) (length setting.now.crossed.now) setting.now.scale
+        setting.now.sets.now (C.at setting.now.costs.now) room.old.kept }
     requires small { AreSmall room.old.numbers.items }
     ensures judged { IfOk result (IsJudgedLeaf (IsFoundAt setting.now.directed (C.nodes setting.now.costs.now)
         (C.at setting.now.costs.now) setting.now.scale decided_number
-        (families_of setting.now.crossed.now (plain setting.now.sets.now))) (C.nodes setting.now.costs.now) setting.now.crossed.now
+        (families_of setting.now.crossed.now (plain setting.now.sets.now)))
+        (C.nodes setting.now.costs.now) setting.now.crossed.now
         (decisions_in case.now) room.old.numbers.items changes.now
         room.new.numbers.items) }
     ensures room { IfOk result (λ own. IsRoom (C.nodes setting.now.costs.now) (length setting.now.crossed.now) room.new) }
-    ensures kept { IfOk result (λ own. HoldsRows (C.nodes setting.now.costs.now) (length setting.now.crossed.now) setting.now.scale
-        setting.now.sets.now (C.at setting.now.costs.now) room.new.kept) }
+    ensures kept { IfOk result (λ own. HoldsRows (C.nodes setting.now.costs.now)
+        (length setting.now.crossed.now) setting.now.scale setting.now.sets.now (C.at setting.now.costs.now) room.new.kept) }
     ensures size { IfOk result IsSizedLeaf }
 {
     if !add_differences(&mut room.numbers, changes) {

@@ -2,7 +2,7 @@
 
 ghost use Rattle.std.specs.Prelude.{◌≡◌, ◌<◌, ◌+◌, ◌^◌, length};
 ghost use Rattle.std.specs.List.{All};
-ghost use Rattle.tsp_branch.specs.states.Decided.{IsDecision, IsNextStack};
+ghost use Rattle.tsp_branch.specs.states.Decided.{IsDecision, IsLeftStack};
 
 use crate::decision::Decision;
 use crate::node_decisions::NodeDecisions;
@@ -22,7 +22,7 @@ impl<'a> OpenCase<'a> {
     ghost use Rattle.std.specs.Prelude.{◌≡◌, ◌≤◌, ◌<◌, ◌+◌, ◌-◌, ◌^◌, ◌++◌, ℕ, [], ◌∷◌, true, length, IfOk};
     ghost use Rattle.std.specs.List.{All, filter};
     ghost use Rattle.tsp_branch.specs.declared.decision.Decision.{Decision};
-    ghost use Rattle.tsp_branch.specs.states.Decided.{IsDecision, IsNextStack, stack_of};
+    ghost use Rattle.tsp_branch.specs.states.Decided.{IsDecision, IsLeftStack, stack_of};
     ghost use Rattle.tsp_branch.specs.states.OpenCases.{IsOpenCase, bears_on, decisions_in};
 
     /// The case of the given decisions alone.
@@ -86,19 +86,18 @@ impl<'a> OpenCase<'a> {
     }
 
     /// Leaves a leaf for the next open case: the decisions after the last taken pair are dropped,
-    /// and that pair is avoided. Where no pair is taken no case is open: the stack is emptied, and
-    /// the result is `false`.
+    /// and that pair is avoided. Where no pair is taken no case is open, and the stack is emptied.
     ///
     /// # Errors
     ///
     /// Out of memory.
-    pub(crate) fn next(&mut self) -> Result<bool, Refused>
+    pub(crate) fn next(&mut self) -> Result<(), Refused>
         requires { (n : ℕ) × IsOpenCase n self.old }
-        ensures case { IfOk result (λ found. (n : ℕ) → IsOpenCase n self.old → IsOpenCase n self.new) }
-        ensures next { IfOk result (λ found. IsNextStack self.old.stack.items found self.new.stack.items) }
-        ensures few { IfOk result (λ found. length self.new.stack.items ≤ length self.old.stack.items) }
-        ensures given { IfOk result (λ found. self.new.given.now ≡ self.old.given.now) }
-        ensures directed { IfOk result (λ found. self.new.by_node.directed ≡ self.old.by_node.directed) }
+        ensures case { IfOk result (λ unit. (n : ℕ) → IsOpenCase n self.old → IsOpenCase n self.new) }
+        ensures next { IfOk result (λ unit. IsLeftStack self.old.stack.items self.new.stack.items) }
+        ensures few { IfOk result (λ unit. length self.new.stack.items ≤ length self.old.stack.items) }
+        ensures given { IfOk result (λ unit. self.new.given.now ≡ self.old.given.now) }
+        ensures directed { IfOk result (λ unit. self.new.by_node.directed ≡ self.old.by_node.directed) }
     {
         'leave: while let Some(last) = self.stack.pop() {
             self.by_node.drop_last(last);
@@ -109,9 +108,9 @@ impl<'a> OpenCase<'a> {
                 };
                 self.by_node.add(turned)?;
                 push(&mut self.stack, turned)?;
-                return Ok(true);
+                return Ok(());
             }
         }
-        Ok(false)
+        Ok(())
     }
 }

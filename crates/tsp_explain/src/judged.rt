@@ -43,8 +43,8 @@ const BOUND_KINDS: &str =
 const NO_TOUR: &str =
     "The instance has no tour: at each leaf of the tree its decisions and the fixed arcs leave some node no arc.";
 
-/// Appends what explains a no, and of a yes whether a comment of the solution claims another length, and
-/// whether rounding leaves distances of 0 and 1 alone.
+/// Appends why a solution is rejected; of an accepted one whether one of its comments claims another
+/// length, and whether rounding leaves distances of 0 and 1 alone.
 ///
 /// # Errors
 ///
@@ -143,7 +143,7 @@ fn push_wrong_kind(text: &mut Vec<u8>, name: &str, kinds: &str) -> Result<(), Al
     push_lines(text, kinds)
 }
 
-/// Appends the reason of a no, and what the files show of it.
+/// Appends the reason why a solution is rejected, and what the files show of it.
 fn push_no(
     alloc: Global,
     text: &mut Vec<u8>,

@@ -60,4 +60,5 @@ pub record SaysBound (by : Certificate) (first second : Turn) (sink : Sink) (fou
 -- what the run does, and what its line `yes` means
 abbrev pub IsBoundRunOf : Certificate → Turn → Turn → Sink → Result Bounded RunFault → Type 0
 IsBoundRunOf by first second sink result = IsBoundRun by first second sink result
-    × ((bounded : Bounded) → result ≡ Ok bounded → is_bound_yes bounded.found ≡ true → SaysBound by first second sink bounded.found)
+    × ((bounded : Bounded) → result ≡ Ok bounded → is_bound_yes bounded.found ≡ true
+    → SaysBound by first second sink bounded.found)

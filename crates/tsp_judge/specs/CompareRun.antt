@@ -44,8 +44,8 @@ pub record IsTurnAt {R : Type 0} (remaining : R → Option (List ℕ)) (opens : 
   pub sound : turn.had_failed ≡ false
   pub few : length turn.given ≤ most_taken
 
--- What is found of the solution that a reader delivers. It is the verdict of a check of the three files, and where the solution is
--- accepted, it means that. Or it is the fault of the file.
+-- What is found of the solution that a reader delivers. It is the verdict of a check of the three files, and where the solution
+-- is accepted, it means that. Or it is the fault of the file.
 abbrev pub IsFoundIn : Common → Turn → Result Verdict ReadFault → Type 0
 IsFoundIn common turn (Ok verdict) = (solution : Fields) × IsFile turn solution
     × IsVerdictWith common.certificate None common.instance solution verdict × HasBasis verdict common.basis
@@ -105,8 +105,8 @@ largest_status [] = 0
 largest_status (found ∷ rest) = max (status_of_found found) (largest_status rest)
 
 -- What comes of the solutions with these paths, whose lines follow a text that is written before. At Ok the line of each was
--- written, and the result is the largest status. Out of memory, the lines of those before were, and nothing else. Where the writer
--- fails, a prefix of such a text was written.
+-- written, and the result is the largest status. Out of memory, the lines of those before were, and nothing else. Where the
+-- writer fails, a prefix of such a text was written.
 abbrev pub ComparesAll : (ℕ → Turn → Type 0) → List (List ℕ) → Common → List ℕ → Sink → Result ℕ RunFault → Type 0
 ComparesAll IsTurn paths common before sink (Ok status) = (found : List (Result Verdict ReadFault))
     × AreFound IsTurn common 0 found × (length found ≡ length paths) × HasWritten sink (before ++ solution_lines found paths)

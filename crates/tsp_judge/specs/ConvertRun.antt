@@ -1,4 +1,4 @@
--- What converting a file does to its reader and its writer, and what it answers.
+-- What converting a file does to its reader and its writer, and what it returns.
 use Rattle.std.specs.Prelude.{◌≡◌, Option, None, Some, Result, Ok, Err}
 use Rattle.tsp_format.specs.declared.layout.Layout.{Layout}
 use Rattle.tsp_stream.specs.declared.output.WriteFault.TheVariants as write_faults

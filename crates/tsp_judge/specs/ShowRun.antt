@@ -1,4 +1,4 @@
--- What showing a file does to its reader and its writer, and what it answers.
+-- What showing a file does to its reader and its writer, and what it returns.
 use Rattle.std.specs.Prelude.{◌≡◌, Result, Ok, Err}
 use Rattle.tsp_stream.specs.declared.output.WriteFault.TheVariants as write_faults
 use Rattle.tsp_stream.specs.Turn.{Turn}

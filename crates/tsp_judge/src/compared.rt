@@ -42,8 +42,8 @@ pub struct Compared {
 /// The instance and the certificate, where one is asked for, are read and judged once. The head of the
 /// text says what they are. Where a reason applies to one of them, it ends the text, and no solution is
 /// opened. Otherwise each solution in turn is opened, read, and judged as a check of the three files
-/// does. Its line is written, its follower is told, and it is dropped. A solution that is no
-/// file, or can't be read, has a line with its fault, and the others follow. The follower is told of each
+/// does. Its line is written, the follower tells of it, and it is dropped. A solution that is no
+/// file, or can't be read, has a line with its fault, and the others follow. The follower tells of each
 /// line once, in order.
 ///
 /// # Errors

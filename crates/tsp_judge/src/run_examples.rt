@@ -1,5 +1,5 @@
-//! Which faults the runs over one file may have, and what a file of the wrong kind is answered. No body
-//! is looked at here: a definition that is changed together with its code is refused by its examples.
+//! Which faults the runs over one file may have, and which one a file of the wrong kind has. No body is
+//! looked at here: a definition that is changed together with its code is refused by its examples.
 
 ghost use Rattle.std.specs.Prelude.{[], Option, None, Some, Ok, Err, ℤ};
 ghost use Rattle.tsp_draft.specs.Fields.{Fields};

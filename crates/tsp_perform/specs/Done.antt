@@ -42,13 +42,15 @@ abbrev pub IsDone : {R : Type 0} → (R → Option (List ℕ)) → Task (Watched
     → Result Outcome RunFault → Type 0
 IsDone remaining (Show file) (Show left) sink outcome = TakesAtMost most_taken (turn_of remaining file left) (λ turn.
     (ended : Result (Unit {0}) RunFault) × (outcome ≡ counts ended) × IsShowRun turn sink ended)
-IsDone remaining (Convert file to) (Convert left same) sink outcome = TakesAtMost most_taken (turn_of remaining file left) (λ turn.
+IsDone remaining (Convert file to) (Convert left same) sink outcome = TakesAtMost most_taken (turn_of remaining file left)
+    (λ turn.
     (ended : Result (Unit {0}) RunFault) × (outcome ≡ counts ended) × IsConvertRun to turn sink ended)
 IsDone remaining (Check instance solution claimed) (Check instance_left solution_left same) sink outcome =
     TakesAtMost most_taken (turn_of remaining instance instance_left) (λ first.
     TakesAtMost most_taken (turn_of remaining solution solution_left) (λ second.
     (ended : Result Judged RunFault) × (outcome ≡ judges ended) × IsRunOf None claimed first second sink ended))
-IsDone remaining (CheckBy by instance solution certificate claimed) (CheckBy kept instance_left solution_left certificate_left same) sink outcome =
+IsDone remaining (CheckBy by instance solution certificate claimed)
+    (CheckBy kept instance_left solution_left certificate_left same) sink outcome =
     TakesAtMost most_taken (turn_of remaining instance instance_left) (λ first.
     TakesAtMost most_taken (turn_of remaining solution solution_left) (λ second.
     TakesAtMost most_taken (turn_of remaining certificate certificate_left) (λ third.

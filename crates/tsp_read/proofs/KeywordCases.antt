@@ -57,48 +57,30 @@ by_number P p0 p1 p2 f low high e = by_keyword (λ field shape. shape ≡ Number
     (ranged (P CapacityKey) _ _ low high p1) (ranged (P ScaleKey) _ _ low high p2) (λ is. absurd cc) (λ is. absurd cc)
     (λ is. absurd cc) (λ is. absurd cc) f (Number low high) e refl
 
-pub kept_is_name : (f : Field) → value_shape_of f ≡ Some Kept → f ≡ NameKey
-kept_is_name f e = by_keyword (λ field shape. shape ≡ Kept → field ≡ NameKey)
-    (λ is. refl) (λ is. absurd cc) (λ is. absurd cc) (λ is. absurd cc) (λ is. absurd cc)
-    (λ is. absurd cc) (λ is. absurd cc) (λ is. absurd cc) (λ is. absurd cc) (λ is. absurd cc) f Kept e refl
-
-pub each_is_comment : (f : Field) → value_shape_of f ≡ Some KeptEach → f ≡ CommentKey
-each_is_comment f e = by_keyword (λ field shape. shape ≡ KeptEach → field ≡ CommentKey)
-    (λ is. absurd cc) (λ is. absurd cc) (λ is. refl) (λ is. absurd cc) (λ is. absurd cc)
-    (λ is. absurd cc) (λ is. absurd cc) (λ is. absurd cc) (λ is. absurd cc) (λ is. absurd cc) f KeptEach e refl
-
--- each keyword with a word has a type of its own
-pub word_is_one : (f : Field) → value_shape_of f ≡ Some Word → f ≢ TypeKey → f ≢ EdgeWeightTypeKey → f ≢ EdgeWeightFormatKey
-    → f ≢ NodeCoordTypeKey → f ≢ DisplayDataTypeKey → ⊥
-word_is_one f e = by_keyword (λ field shape. shape ≡ Word → field ≢ TypeKey → field ≢ EdgeWeightTypeKey → field ≢ EdgeWeightFormatKey
-    → field ≢ NodeCoordTypeKey → field ≢ DisplayDataTypeKey → ⊥)
-    (λ is k0 k1 k2 k3 k4. cc) (λ is k0 k1 k2 k3 k4. k0 refl) (λ is k0 k1 k2 k3 k4. cc) (λ is k0 k1 k2 k3 k4. cc)
-    (λ is k0 k1 k2 k3 k4. cc) (λ is k0 k1 k2 k3 k4. cc) (λ is k0 k1 k2 k3 k4. k1 refl) (λ is k0 k1 k2 k3 k4. k2 refl)
-    (λ is k0 k1 k2 k3 k4. k3 refl) (λ is k0 k1 k2 k3 k4. k4 refl) f Word e refl
-
--- a field that is no keyword and no section
-pub unnamed : (in_space : Bool) (f : Field) → shape_of in_space f ≡ None → value_shape_of f ≡ None → f ≡ OtherKey
-unnamed in_space NameKey no_shape no_value = cc
-unnamed in_space TypeKey no_shape no_value = cc
-unnamed in_space CommentKey no_shape no_value = cc
-unnamed in_space OtherKey no_shape no_value = refl
-unnamed in_space DimensionKey no_shape no_value = cc
-unnamed in_space CapacityKey no_shape no_value = cc
-unnamed in_space ScaleKey no_shape no_value = cc
-unnamed in_space EdgeWeightTypeKey no_shape no_value = cc
-unnamed in_space EdgeWeightFormatKey no_shape no_value = cc
-unnamed in_space NodeCoordTypeKey no_shape no_value = cc
-unnamed in_space DisplayDataTypeKey no_shape no_value = cc
-unnamed in_space NodeCoordPart no_shape no_value = cc
-unnamed in_space DisplayDataPart no_shape no_value = cc
-unnamed in_space DemandPart no_shape no_value = cc
-unnamed in_space DepotPart no_shape no_value = cc
-unnamed in_space FixedEdgesPart no_shape no_value = cc
-unnamed in_space EdgeWeightPart no_shape no_value = cc
-unnamed in_space TourPart no_shape no_value = cc
-unnamed in_space NodePotentialPart no_shape no_value = cc
-unnamed in_space RowPotentialPart no_shape no_value = cc
-unnamed in_space ColumnPotentialPart no_shape no_value = cc
-unnamed in_space FixedEdgePotentialPart no_shape no_value = cc
-unnamed in_space CombPart no_shape no_value = cc
-unnamed in_space BranchPart no_shape no_value = cc
+-- a field that is no section, no keyword with a number, and none with a place of its own
+pub other_alone : (in_space : Bool) (f : Field) → shape_of in_space f ≡ None → f ≢ NameKey → f ≢ TypeKey → f ≢ CommentKey → f ≢ EdgeWeightTypeKey → f ≢ EdgeWeightFormatKey
+    → f ≢ NodeCoordTypeKey → f ≢ DisplayDataTypeKey → ((low high : ℤ) → value_shape_of f ≢ Some (Number low high)) → f ≡ OtherKey
+other_alone in_space NameKey shape k0 k1 k2 k3 k4 k5 k6 numbered = absurd (k0 refl)
+other_alone in_space TypeKey shape k0 k1 k2 k3 k4 k5 k6 numbered = absurd (k1 refl)
+other_alone in_space CommentKey shape k0 k1 k2 k3 k4 k5 k6 numbered = absurd (k2 refl)
+other_alone in_space OtherKey shape k0 k1 k2 k3 k4 k5 k6 numbered = refl
+other_alone in_space DimensionKey shape k0 k1 k2 k3 k4 k5 k6 numbered = absurd (numbered (pos 1) (pos most_nodes) refl)
+other_alone in_space CapacityKey shape k0 k1 k2 k3 k4 k5 k6 numbered = absurd (numbered (pos 1) (pos most_capacity) refl)
+other_alone in_space ScaleKey shape k0 k1 k2 k3 k4 k5 k6 numbered = absurd (numbered (pos 1) (pos most_scale) refl)
+other_alone in_space EdgeWeightTypeKey shape k0 k1 k2 k3 k4 k5 k6 numbered = absurd (k3 refl)
+other_alone in_space EdgeWeightFormatKey shape k0 k1 k2 k3 k4 k5 k6 numbered = absurd (k4 refl)
+other_alone in_space NodeCoordTypeKey shape k0 k1 k2 k3 k4 k5 k6 numbered = absurd (k5 refl)
+other_alone in_space DisplayDataTypeKey shape k0 k1 k2 k3 k4 k5 k6 numbered = absurd (k6 refl)
+other_alone in_space NodeCoordPart shape k0 k1 k2 k3 k4 k5 k6 numbered = cc
+other_alone in_space DisplayDataPart shape k0 k1 k2 k3 k4 k5 k6 numbered = cc
+other_alone in_space DemandPart shape k0 k1 k2 k3 k4 k5 k6 numbered = cc
+other_alone in_space DepotPart shape k0 k1 k2 k3 k4 k5 k6 numbered = cc
+other_alone in_space FixedEdgesPart shape k0 k1 k2 k3 k4 k5 k6 numbered = cc
+other_alone in_space EdgeWeightPart shape k0 k1 k2 k3 k4 k5 k6 numbered = cc
+other_alone in_space TourPart shape k0 k1 k2 k3 k4 k5 k6 numbered = cc
+other_alone in_space NodePotentialPart shape k0 k1 k2 k3 k4 k5 k6 numbered = cc
+other_alone in_space RowPotentialPart shape k0 k1 k2 k3 k4 k5 k6 numbered = cc
+other_alone in_space ColumnPotentialPart shape k0 k1 k2 k3 k4 k5 k6 numbered = cc
+other_alone in_space FixedEdgePotentialPart shape k0 k1 k2 k3 k4 k5 k6 numbered = cc
+other_alone in_space CombPart shape k0 k1 k2 k3 k4 k5 k6 numbered = cc
+other_alone in_space BranchPart shape k0 k1 k2 k3 k4 k5 k6 numbered = cc

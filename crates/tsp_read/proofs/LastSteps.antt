@@ -187,7 +187,7 @@ open_not_bare bytes reading h some = by_case (is_bare bytes) refl
     by_case true e = absurd (stands_open reading.opened (part bytes) h.holds.part some (part_closed bytes (is_too_long bytes) refl e))
     by_case false e = e
 
--- ---- what a feed answers at the end
+-- ---- what a feed returns at the end
 
 and_none : (b : Bool) → (b && false) ≡ false
 and_none true = refl

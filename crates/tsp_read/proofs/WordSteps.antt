@@ -33,7 +33,7 @@ open_more section after earlier word o shape same h =
       (ap (shape_of (spatial_after earlier)) same ∙ shape ∙ ap (λ s. Some s) (sym h.0), subst (λ (ws : List (List ℕ)). HoldsPart after.part (dimension_in earlier) ws) (sym words) h.1),
     )
 
--- what the part of the open section answers
+-- what the part of the open section returns
 abbrev pub SectionTakes : OpenSection → OpenSection → List ℕ → Result (Unit {0}) StepFault → Type 0
 SectionTakes section after word r = (n : ℕ) (words : List (List ℕ)) → HoldsPart section.part n words
     → Takes n (place_by (shape_by section.part) n words) word (HoldsShape (shape_by section.part) after.part n (words ++ word ∷ [])) r
@@ -42,7 +42,7 @@ place_is : (in_space : Bool) (field : Field) (shape : Shape) (n : ℕ) (words : 
     → place_in in_space field n words ≡ place_by shape n words
 place_is in_space field shape n words is = ap (λ o. option_map_or (λ shape. place_by shape n words) o PastEnd) is
 
--- What the part answers is what the reader answers. The new state is the old one with the part after the word.
+-- What the part returns is what the reader returns. The new state is the old one with the part after the word.
 pub word_answer : (old new : Reading) (section after : OpenSection) (word : List ℕ) (r : Result (Unit {0}) StepFault) (earlier : List Item)
     → old.opened ≡ Some section → after.field ≡ section.field → new.draft ≡ old.draft → new.incomplete ≡ old.incomplete → new.opened ≡ Some after
     → SectionTakes section after word r → Holds old earlier → AnswersItem earlier (NumberWord word) new r

@@ -1,4 +1,4 @@
--- What reading answers for a whole text.
+-- What reading a whole text returns.
 use Rattle.std.specs.Prelude.{◌≡◌, ℕ, ◌+◌, List, Some, Result, Ok, Err}
 use Rattle.tsp_format.specs.Limits.{most_file_bytes}
 use Rattle.tsp_stream.specs.Turn.{Turn, Gave, IsSound, GaveAll, HasBrokenOff, TakesAtMost}

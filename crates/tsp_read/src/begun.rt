@@ -87,8 +87,8 @@ impl Begun {
         Ok(Some(rest))
     }
 
-    /// Takes what has begun as the last item of the text, if anything has. The answer is whether it
-    /// is an end line.
+    /// Takes what has begun as the last item of the text, if anything has. Returns whether it is
+    /// an end line.
     pub(crate) fn take_last(&self, intake: &mut Intake, alloc: Global) -> Result<bool, ReadFault>
         requires lines { most_lines intake.old self.now 0 ≤ most_file_bytes + 1 }
         requires words { most_words intake.old self.now 0 ≤ most_file_bytes }

@@ -1,4 +1,4 @@
-//! Bytes on which the definitions of what a reader answers are evaluated. No body is looked at here: a
+//! Bytes on which the definitions of what a reader returns are evaluated. No body is looked at here: a
 //! definition that is changed together with its code is refused by its examples.
 
 ghost use Rattle.std.specs.Prelude.{◌≡◌, ◌+◌, ◌^◌, true, false, [], ◌∷◌, replicate};

@@ -17,7 +17,7 @@ use tsp_format::MOST_FILE_BYTES;
 use tsp_text::ReadFault;
 
 /// Reads on with a piece that the limit of a file's bytes doesn't cut: all that what follows can't
-/// change. What hasn't ended in it is kept. The answer is whether an end line was taken.
+/// change. What hasn't ended in it is kept. Returns whether an end line was taken.
 fn read_on(
     intake: &mut Intake,
     begun: &mut Begun,

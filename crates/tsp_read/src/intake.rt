@@ -63,7 +63,7 @@ impl Intake {
         reading
     }
 
-    /// Takes the next item. The answer is whether it is an end line.
+    /// Takes the next item. Returns whether it is an end line.
     pub(crate) fn take_next(&mut self, alloc: Global, next: &Next<'_>) -> Result<bool, ReadFault>
         requires line { self.old.line ≤ most_file_bytes }
         requires words { self.old.words < most_file_bytes }

@@ -14,7 +14,7 @@ use std::alloc::Global;
 use tsp_format::Keyword;
 use tsp_section::{CutLine, StepFault};
 
-/// Takes an item. The answer is whether it is an end line.
+/// Takes an item. Returns whether it is an end line.
 pub(crate) fn take(reading: &mut Reading, alloc: Global, next: &Next<'_>) -> Result<bool, StepFault>
     ensures item { (earlier : List Item) → Holds reading.old earlier
         → TakesItem earlier (item_next next.now) reading.new result }
@@ -43,8 +43,7 @@ fn is_end(key: Keyword) -> bool
     }
 }
 
-/// Takes a word line, from its first byte that isn't blank on. The answer is whether it is an end
-/// line.
+/// Takes a word line, from its first byte that isn't blank on. Returns whether it is an end line.
 fn take_line(reading: &mut Reading, alloc: Global, text: &[u8]) -> Result<bool, StepFault>
     ensures { (earlier : List Item) → Holds reading.old earlier
         → TakesItem earlier (line_item text.now) reading.new result }

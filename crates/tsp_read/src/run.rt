@@ -5,7 +5,7 @@
 //! other part of a text but the ends of these lines, is left to `Intake::take_next`.
 //!
 //! Which list takes the words is found out once for a run. The loop over them is one for all lists,
-//! and has its counts in a place of their own.
+//! and has its counts in one place.
 
 ghost use Rattle.std.specs.Prelude.{◌≡◌, ◌+◌, ◌≤◌, length, IfSome, Ok};
 ghost use Rattle.std.specs.Option.{option_map};

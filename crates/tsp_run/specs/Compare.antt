@@ -35,7 +35,7 @@ HasGiven remaining opens None Q = Q None
 HasGiven {F = F} remaining opens (Some named) Q = (old new : Watched F) × IsFresh opens named.1 old
     × TakesAtMost most_taken (turn_of remaining old new) (λ turn. Q (Some (named.0, turn)))
 
--- The instance is opened in its place, and the certificate, and after them each solution in its own, when its turn comes.
+-- The instance is opened in its place, and the certificate, and after them each solution in its own, when it is to be read.
 abbrev pub IsComparedAs : {F : Type 0} → (F → Option (List ℕ)) → (Place → F → Type 0) → Comparison → Sink
     → Result Compared RunFault → Type 0
 IsComparedAs {F = F} remaining opens comparison sink answer = (old new : Watched F) × IsFresh opens comparison.instance old

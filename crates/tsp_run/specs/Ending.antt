@@ -73,7 +73,8 @@ Tells ending old new = (line : Option Line) × IsLineOf ending line × IsWritten
 -- the same, and after the line a text and nothing else, where the ending is explained
 abbrev pub TellsAfter : Bool → Ending → Option (List ℕ) → Option (List ℕ) → Type 0
 TellsAfter false ending old new = Tells ending old new
-TellsAfter true ending old new = (between : Option (List ℕ)) × (text : List ℕ) × Tells ending old between × Appends between new text
+TellsAfter true ending old new = (between : Option (List ℕ)) × (text : List ℕ) × Tells ending old between
+    × Appends between new text
 
 -- A comparison may tell of its solutions before, each when its own line was written.
 abbrev pub TellsAll : Bool → Ending → Option (List ℕ) → Option (List ℕ) → Type 0

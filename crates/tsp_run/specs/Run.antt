@@ -51,7 +51,8 @@ EndsWith remaining opens job sink (Version build) = ⊥
 EndsWith remaining opens job sink (NoTask fault) = GivesWork job (Err fault) × IsUnwritten sink
 EndsWith remaining opens job sink (Ended answer) = (task : Task Place) × GivesWork job (Ok (works.Task task))
     × IsDoneAs remaining opens task sink answer
-EndsWith remaining opens job sink (endings.Compared answer) = (comparison : Comparison) × GivesWork job (Ok (works.Compare comparison))
+EndsWith remaining opens job sink (endings.Compared answer) = (comparison : Comparison) × GivesWork job
+    (Ok (works.Compare comparison))
     × IsComparedAs remaining opens comparison sink answer
 
 -- the words ask for the version
@@ -73,7 +74,8 @@ Ends remaining opens on_terminal build words sink explained (NoTask fault) = (jo
     × EndsWith remaining opens job sink (NoTask fault) × (explained ≡ (job.explain || on_terminal))
 Ends remaining opens on_terminal build words sink explained (Ended answer) = (job : Job) × GivesJob (drop 1 words) (Ok job)
     × EndsWith remaining opens job sink (Ended answer) × (explained ≡ (job.explain || on_terminal))
-Ends remaining opens on_terminal build words sink explained (endings.Compared answer) = (job : Job) × GivesJob (drop 1 words) (Ok job)
+Ends remaining opens on_terminal build words sink explained (endings.Compared answer) = (job : Job) × GivesJob (drop 1 words)
+    (Ok job)
     × EndsWith remaining opens job sink (endings.Compared answer) × (explained ≡ (job.explain || on_terminal))
 
 -- the end where the words can't be had: out of memory, or a word is no text, which is reported as refused words are
@@ -89,7 +91,7 @@ HasNoWords kind explained (endings.Compared answer) = ⊥
 abbrev pub IsTold : Bool → Ending → Option (List ℕ) → Option (List ℕ) → ℕ × Result (Unit {0}) Error → Type 0
 IsTold explained ending old new answer = (answer.0 ≡ status_of_ending ending) × OnOk answer.1 (TellsAll explained ending old new)
 
--- some ending with Q is told, of a job, of a task, or of a comparison
+-- the run tells some ending with Q, of a job, of a task, or of a comparison
 abbrev pub RunsJob : (Ending → Type 0) → Bool → Option (List ℕ) → Option (List ℕ) → ℕ × Result (Unit {0}) Error → Type 0
 RunsJob Q explained old new answer = (ending : Ending) × Q ending × IsTold explained ending old new answer
 

@@ -1,4 +1,4 @@
--- What standard error is told of solutions that are compared.
+-- What standard error has of solutions that are compared.
 use Rattle.std.specs.Prelude.{◌≡◌, ℕ, Bool, true, false, List, Option}
 use Rattle.std.specs.Io.KnownBytes.{Appends}
 

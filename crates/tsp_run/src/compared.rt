@@ -1,4 +1,4 @@
-//! Solutions compared: each is opened when its turn comes.
+//! Solutions compared: each is opened when it is to be read.
 
 ghost use Rattle.tsp_judge.specs.Watched.{sink_of};
 ghost use Rattle.tsp_run.specs.Compare.{IsComparedAs, IsFresh};

@@ -33,7 +33,8 @@ pub fn examples_of_statuses()
     ensures done { status_of_ending (endings.Ended (Ok outcomes.Done)) ≡ 0 }
     ensures yes { status_of (Ok true) ≡ 0 }
     ensures no { status_of (Ok false) ≡ 1 }
-    ensures of_outcome { (outcome : Outcome) → status_of_ending (endings.Ended (Ok outcome)) ≡ status_of (Ok (is_accepted outcome)) }
+    ensures of_outcome { (outcome : Outcome) → status_of_ending (endings.Ended (Ok outcome)) ≡ status_of
+        (Ok (is_accepted outcome)) }
     ensures not_explicit { status_of_fault (run_faults.Relayout relayout_faults.NotExplicit) ≡ 1 }
     ensures not_symmetric { status_of_fault (run_faults.Relayout (relayout_faults.NotSymmetric 1 2)) ≡ 1 }
     ensures diagonal_lost { status_of_fault (run_faults.Relayout (relayout_faults.DiagonalLost 1)) ≡ 1 }

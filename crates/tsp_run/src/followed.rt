@@ -1,4 +1,4 @@
-//! The solutions of a comparison, each opened when its turn comes, and what standard error is told of
+//! The solutions of a comparison, each opened when it is to be read, and what standard error has of
 //! each.
 
 ghost use Rattle.std.specs.Prelude.{map, true};
@@ -16,13 +16,13 @@ use tsp_explain::{Files, Names, explain_file, explain_verdict};
 use tsp_judge::{Common, Follow, Found, Solutions};
 use tsp_task::Role;
 
-/// The solutions of a comparison, and how standard error is told of them.
+/// The solutions of a comparison, and how standard error tells of them.
 #[derive(Drop)]
 pub(crate) struct Followed<'a, F, O> {
     pub(crate) alloc: Global,
     pub(crate) comparison: Comparison<'a>,
     pub(crate) files: &'a O,
-    /// Whether each line that isn't a yes is explained.
+    /// Whether each line that accepts no solution is explained.
     pub(crate) explain: bool,
     /// Whether they are counted besides, on a terminal.
     pub(crate) counts: bool,
@@ -65,7 +65,7 @@ impl<F: Read + Drop, O: Open<F>, E: Write> Follow<E> for Followed<'_, F, O> {
 const ANEW: &[u8] = b"\r\x1b[K";
 
 impl<F: Read + Drop, O: Open<F>> Followed<'_, F, O> {
-    /// Appends what is told of a solution.
+    /// Appends what standard error has of a solution.
     fn push_told(
         &self,
         text: &mut Vec<u8>,

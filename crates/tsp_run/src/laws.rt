@@ -1,4 +1,4 @@
-//! What always holds of the lines of a run and of what is explained, as contracts of functions that do
+//! What always holds of the lines of a run and of explanations, as contracts of functions that do
 //! nothing.
 
 ghost use Rattle.std.specs.Prelude.{◌≡◌, ℕ, Bool, List, true, false, Option, Some, Ok, drop, Result};
@@ -20,10 +20,11 @@ ghost use Rattle.tsp_run.specs.Run.{Ends};
 use crate::source::Open;
 use std::io::Read;
 
-/// The text of a fault is one line, and what is written of it is that line with its end.
+/// The text of a fault is one line, and it is written with its end.
 pub fn faults_are_told_on_one_line()
     ensures one { (fault : RunFault) → is_one_line (run_fault_text fault) ≡ true }
-    ensures ended { (fault : RunFault) (old new : Option (List ℕ)) → IsWritten (Some (lines.Fault fault)) old new → EndsLine old new }
+    ensures ended { (fault : RunFault) (old new : Option (List ℕ)) → IsWritten (Some (lines.Fault fault)) old new
+        → EndsLine old new }
 {}
 
 /// On a terminal every answer is explained, and every task that can't be begun; elsewhere where the job

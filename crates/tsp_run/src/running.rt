@@ -28,7 +28,7 @@ use tsp_task::Task;
 /// What a run knows of its surroundings.
 #[derive(Clone, Copy)]
 pub struct Setting {
-    /// Whether standard error is a terminal: what isn't a yes is explained then.
+    /// Whether standard error is a terminal: then every outcome but the line `yes` is explained.
     pub on_terminal: bool,
     /// Whether a comparison counts there: it is a terminal, and standard output is another place.
     pub counts: bool,
@@ -40,9 +40,9 @@ pub struct Setting {
 /// comes of it goes to the writer `out`, and where there is no answer the reason to `errors`.
 ///
 /// The result is the exit status, and whether the reason could be written. Files are opened in the order
-/// in which they are read, each as `files` opens its place; a comparison opens each solution when its turn
-/// comes. The reason is explained where the words ask for that, and wherever `errors` is a terminal. Of a
-/// comparison each line that isn't a yes is explained when it was written, and on a terminal its
+/// in which they are read, each as `files` opens its place; a comparison opens each solution when it is
+/// to be read. The reason is explained where the words ask for that, and wherever `errors` is a terminal. Of a
+/// comparison each line that accepts no solution is explained when it was written, and on a terminal its
 /// solutions are counted. Where the words ask for the version, that is printed with the text of the build.
 pub fn run<F: Read + Drop, O: Open<F>, W: Write, E: Write>(
     alloc: Global,
@@ -72,7 +72,7 @@ pub fn run<F: Read + Drop, O: Open<F>, W: Write, E: Write>(
     }
 }
 
-/// Tells why words that can't be had ask for nothing. The answer is as that of `run`.
+/// Tells why words that can't be had ask for nothing. The result is as that of `run`.
 pub fn tell_unread<E: Write>(
     alloc: Global,
     error: &io::Error,
@@ -92,7 +92,7 @@ fn end<E: Write>(ending: &Ending, errors: &mut E) -> (u8, io::Result<()>)
     (status_of_ending(ending), told)
 }
 
-/// Does the job, and tells how that ended, with its explanation where that is wanted. The answer is as
+/// Does the job, and tells how that ended, with its explanation where that is wanted. The result is as
 /// that of `run`.
 fn run_job<F: Read + Drop, O: Open<F>, W: Write, E: Write>(
     alloc: Global,
@@ -163,7 +163,8 @@ fn run_task<F: Read + Drop, O: Open<F>, W: Write, E: Write>(
     out: &mut Watched<W>,
     errors: &mut E,
 ) -> (u8, io::Result<()>)
-    ensures { RunsTask (IsDoneAs F.remaining (O.opens asked.now.files.now) asked.now.task.now (sink_of W.contents out.old out.new))
+    ensures { RunsTask (IsDoneAs F.remaining (O.opens asked.now.files.now) asked.now.task.now
+        (sink_of W.contents out.old out.new))
         asked.now.explain (E.contents errors.old) (E.contents errors.new) result }
 {
     let mut readers = opened(asked.task, asked.files);

@@ -46,7 +46,7 @@ impl<I, F> Source<I, F> {
 }
 
 impl<I, F> Source<I, F> {
-    /// Asks standard input or the file once, with a buffer for its bytes, and returns its answer as
+    /// Asks standard input or the file once, with a buffer for its bytes, and returns its result as
     /// it is. A missing file returns its error, and nothing is asked.
     fn ask<A, OfInput, OfFile>(
         &mut self,

@@ -37,7 +37,7 @@ fn laid_out(alloc: Global, file: File, to: Layout) -> Result<File, RelayoutFault
     }
 }
 
-/// What writing a file to memory answers.
+/// What writing a file to memory returns.
 fn written(alloc: Global, file: &File) -> Result<(), WriteFault> {
     let mut out = Watched::new(Vec::new(alloc));
     write_file(alloc, file, &mut out)

@@ -13,7 +13,7 @@ use tsp_tests_support::devices::{Drip, Flood};
 /// The most bytes that are taken from a reader that gives all that it is asked for.
 const MOST_TAKEN: u64 = 1_073_741_824 + 4_096;
 
-/// What a check with a certificate that never ends answers. (It has no contract, which the proof of
+/// What a check with a certificate that never ends returns. (It has no contract, which the proof of
 /// the test would go through.)
 fn judged(
     alloc: Global,

@@ -5,7 +5,7 @@ use std::alloc::Global;
 use tsp_judge::{RunFault, run_convert, run_show};
 use tsp_stream::Watched;
 
-/// What the conversion of these bytes answers, and what it writes.
+/// What the conversion of these bytes returns, and what it writes.
 fn converted(alloc: Global, bytes: &[u8]) -> (Result<(), RunFault>, Vec<u8>) {
     let mut out = Watched::new(Vec::new(alloc));
     let answer = run_convert(alloc, &mut Watched::new(bytes), None, &mut out);
@@ -20,7 +20,7 @@ fn bytes_of_kept_values_stay_as_they_are(rt: HostRuntime) {
     same(&rt, written.as_slice(), wanted.as_slice());
 }
 
-/// What showing these bytes answers, and what it writes.
+/// What showing these bytes returns, and what it writes.
 fn shown(alloc: Global, bytes: &[u8]) -> (Result<(), RunFault>, Vec<u8>) {
     let mut out = Watched::new(Vec::new(alloc));
     let answer = run_show(alloc, &mut Watched::new(bytes), &mut out);

@@ -47,7 +47,7 @@ impl Solutions<Trickle<'static>> for Four {
     }
 }
 
-/// Counts the lines, and how many of them aren't a yes.
+/// Counts the lines, and how many of them accept no solution.
 #[derive(Clone, Copy, Debug, PartialEq, Eq)]
 struct Counts {
     lines: usize,

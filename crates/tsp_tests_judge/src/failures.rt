@@ -127,7 +127,7 @@ fn each_read_may_fail(rt: HostRuntime) {
     }
 }
 
-/// Runs, what they answer and what they write.
+/// Runs, what they return and what they write.
 pub(crate) const WRITTEN: &[(Job, bool, &str)] = &[
     (CHECK, true, REPORT),
     (NO, false, "type ATSP\nnodes 3\nno TourLength\n"),

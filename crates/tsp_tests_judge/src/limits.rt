@@ -18,7 +18,7 @@ const MOST_TAKEN: u64 = 1_073_741_824 + 4_096;
 /// How many bytes a unit of blanks has.
 const UNIT: usize = 4_096;
 
-/// What a check answers. (It has no contract, which the proofs of the tests would go through.)
+/// What a check returns. (It has no contract, which the proofs of the tests would go through.)
 fn judged<I: Read, S: Read>(
     alloc: Global,
     inst: &mut Watched<I>,

@@ -82,7 +82,7 @@ fn failing(text: &str, fails_at: usize) -> Watched<Trickle<'_>> {
     Watched::new(Trickle::new(text.as_bytes(), fails_at, ErrorKind::Interrupted))
 }
 
-/// What a check answers. (It has no contract, which the proofs of the tests would go through; nor
+/// What a check returns. (It has no contract, which the proofs of the tests would go through; nor
 /// have the four below.)
 fn checked(
     alloc: Global,

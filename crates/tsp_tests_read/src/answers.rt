@@ -1,4 +1,4 @@
-//! What reading answers, with the file as its canonical text.
+//! What reading returns, with the file as its canonical text.
 
 use std::alloc::Global;
 use std::io::Read;
@@ -8,7 +8,7 @@ use tsp_read::{Feed, ReadFault, read_bytes, read_from};
 use tsp_stream::Watched;
 use tsp_tests_support::devices::Drip;
 
-/// What a reading answers: the canonical text of its file, or its fault.
+/// What a reading returns: the canonical text of its file, or its fault.
 pub(crate) type Answer = Result<Vec<u8>, ReadFault>;
 
 /// The answer of a reading.

@@ -1,3 +1,4 @@
+-- The goals of `tsp_bound_result` in src/lib.rt: what it ensures.
 use Rattle.tsp_c.proofs.tsp_bound_result.Goals as goal
 
 pub returns : goal.returns

@@ -69,7 +69,7 @@ pub record Closed (reading : Reading) (earlier : List Item) : Type 0 where
 abbrev pub IsReadFrom : Reading → Type 0
 IsReadFrom reading = ∥ ((earlier : List Item) × Holds reading earlier × AreCut earlier) ∥₁
 
--- What a step answers for an item: its fault, or none and the state holds that item too.
+-- What a step returns for an item: its fault, or none and the state holds that item too.
 abbrev pub AnswersItem : List Item → Item → Reading → Result (Unit {0}) StepFault → Type 0
 AnswersItem earlier item new (Ok done) = Holds new (item ∷ earlier)
 AnswersItem earlier item new (Err steps.Memory) = Unit {0}

@@ -37,7 +37,7 @@ TakesAll bytes reading (Err faults.OutOfMemory) = is_bare bytes ≡ false
 TakesAll bytes reading (Err faults.Device) = ⊥
 TakesAll bytes reading (Err faults.TooLong) = ⊥
 
--- the stage after a piece, by whether all of it could be read, and what reading it answered
+-- the stage after a piece, by whether all of it could be read, and what reading it returned
 abbrev pub stage_after : Bool → Result Bool ReadFault → Stage
 stage_after all (Ok true) = Ended
 stage_after true (Ok false) = Going

@@ -10,7 +10,7 @@ use tsp_text::LineFault;
 
 impl Reading {
     ghost use Rattle.std.specs.Prelude.{◌≡◌, ◌&&◌, not, is_some, Some, None, List};
-    ghost use Rattle.tsp_format.specs.declared.field.ValueShape.TheVariants.{Number, Word};
+    ghost use Rattle.tsp_format.specs.declared.field.ValueShape.TheVariants.{Number};
     ghost use Rattle.tsp_format.specs.Shapes.{shape_of, value_shape_of};
     ghost use Rattle.tsp_draft.specs.states.Drafts.{fields_of};
     ghost use Rattle.tsp_draft.specs.Fields.{spatial};
@@ -49,17 +49,27 @@ impl Reading {
         says_space(field, value) && self.draft.coords.is_some() && !self.draft.is_spatial()
     }
 
-    /// Takes the line of a keyword, where no section is open.
+    /// Takes the line of a keyword, where no section is open. Those with numbers are taken by their
+    /// range, the others each by its own place in the draft.
     fn known(&mut self, alloc: Global, field: Field, line: &CutLine<'_>) -> Result<(), StepFault>
         requires { shape_of (spatial (fields_of self.old.draft)) field ≡ None }
         ensures { LineAnswers self.old field (seen line.now) self.new result }
     {
-        match field.value_shape() {
-            Some(ValueShape::Kept) => set_name(alloc, &mut self.draft.name, line),
-            Some(ValueShape::KeptEach) => add_comment(alloc, &mut self.draft.comments, line),
-            Some(ValueShape::Number { low, high }) => self.number(field, low, high, line),
-            Some(ValueShape::Word) => self.named(field, line),
-            None => Ok(()),
+        let value = line.value;
+        let late = self.is_late(field, value);
+        let draft = &mut self.draft;
+        match field {
+            Field::NameKey => set_name(alloc, &mut draft.name, line),
+            Field::TypeKey => set_named(&mut draft.kind, field, value, late),
+            Field::CommentKey => add_comment(alloc, &mut draft.comments, line),
+            Field::EdgeWeightTypeKey => set_named(&mut draft.weight_kind, field, value, late),
+            Field::EdgeWeightFormatKey => set_named(&mut draft.weight_format, field, value, late),
+            Field::NodeCoordTypeKey => set_named(&mut draft.coord_kind, field, value, late),
+            Field::DisplayDataTypeKey => set_named(&mut draft.display_kind, field, value, late),
+            _ => match field.value_shape() {
+                Some(ValueShape::Number { low, high }) => self.number(field, low, high, line),
+                _ => Ok(()),
+            },
         }
     }
 
@@ -80,25 +90,6 @@ impl Reading {
                 Ok(())
             }
             Err(fault) => Err(StepFault::Fault(fault)),
-        }
-    }
-
-    /// Takes the line of a keyword with one of a list of words, where no section is open. Each such
-    /// keyword has a type of its own.
-    fn named(&mut self, field: Field, line: &CutLine<'_>) -> Result<(), StepFault>
-        requires { value_shape_of field ≡ Some Word }
-        ensures { LineAnswers self.old field (seen line.now) self.new result }
-    {
-        let value = line.value;
-        let late = self.is_late(field, value);
-        let draft = &mut self.draft;
-        match field {
-            Field::TypeKey => set_named(&mut draft.kind, field, value, late),
-            Field::EdgeWeightTypeKey => set_named(&mut draft.weight_kind, field, value, late),
-            Field::EdgeWeightFormatKey => set_named(&mut draft.weight_format, field, value, late),
-            Field::NodeCoordTypeKey => set_named(&mut draft.coord_kind, field, value, late),
-            Field::DisplayDataTypeKey => set_named(&mut draft.display_kind, field, value, late),
-            _ => unreachable!(),
         }
     }
 }

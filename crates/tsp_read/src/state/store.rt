@@ -13,7 +13,7 @@ use std::alloc::Global;
 use tsp_draft::Draft;
 use tsp_section::{Part, StepFault};
 
-/// Stores what a section has. The answer is whether it is incomplete.
+/// Stores what a section has. Returns whether it is incomplete.
 pub(crate) fn store(
     draft: &mut Draft,
     alloc: Global,

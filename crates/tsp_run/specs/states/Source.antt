@@ -44,7 +44,7 @@ IsSameError error other = HasNumber (raw_os_error error) error other
 abbrev pub Asking : Type 0 → Type 0 → Type 0 → Type 0 → Type 1
 Asking Call T B R = Once Call (MutBor T × (MutBor B × Unit {0})) (R × (MutBor T × (MutBor B × Unit {0})))
 
--- Standard input or the file is asked by its call, once, and its answer is this one, as it is. A missing file answers an error
+-- Standard input or the file is asked by its call, once, and this is its result, as it is. A missing file returns an error
 -- that is the same as its own.
 abbrev pub IsAsked : {I F B A OfInput OfFile : Type 0} → Asking OfInput I B (Result A Error) → OfInput
     → Asking OfFile F B (Result A Error) → OfFile → Source I F → B → Result A Error → Source I F → B → Type 0
@@ -60,7 +60,7 @@ IsAsked asks_input of_input asks_file of_file old room answer new filled = ⊥
 abbrev pub Giving : Type 0 → Type 1
 Giving R = R → List ℕ → Result ℕ Error → List ℕ → R → Type 0
 
--- A read is one of standard input or of the file, and answers what that answers. A missing file answers its own error.
+-- A read is one of standard input or of the file, and returns what that returns. A missing file returns its own error.
 abbrev pub GivesOnce : {I F : Type 0} → Giving I → Giving F → Source I F → List ℕ → Result ℕ Error → List ℕ → Source I F → Type 0
 GivesOnce of_input of_file (Input old) room answer filled (Input new) = of_input old room answer filled new
 GivesOnce of_input of_file (Opened old) room answer filled (Opened new) = of_file old room answer filled new

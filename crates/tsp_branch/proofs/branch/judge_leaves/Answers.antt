@@ -1,5 +1,5 @@
 -- The goals of `judge_leaves` in src/branch.rt: its loop, what its calls require and what it ensures.
-use Rattle.std.proofs.Common.{ℕ, ℤ, Bool, true, List, [], Option, None, ◌++◌, ◌+◌, ◌^◌, ◌<◌, length, drop, sym, ap, subst, ◌∙◌, arith}
+use Rattle.std.proofs.Common.{ℕ, ℤ, true, List, [], Option, None, Some, inl, ◌++◌, ◌+◌, ◌^◌, ◌<◌, length, drop, sym, ap, subst, ◌∙◌, arith}
 use Rattle.std.specs.Prelude.{pos}
 use Rattle.std.proofs.lemmas.Int.{ints}
 use Rattle.std.proofs.lemmas.List.{length_push, length-replicate, get_or-replicate}
@@ -14,37 +14,42 @@ use Rattle.tsp_branch.specs.Certificate.{IsFoundAt}
 use Rattle.tsp_branch.specs.Listed.{no_numbers_of}
 use Rattle.tsp_branch.specs.declared.decision.Decision.{Decision}
 use Rattle.tsp_branch.specs.Decisions.{DecideOnce, decided_number}
-use Rattle.tsp_branch.specs.states.Decided.{stack_of, IsNextStack}
+use Rattle.tsp_branch.specs.states.Decided.{stack_of}
 use Rattle.tsp_branch.specs.states.OpenCases.{IsOpenCase}
 use Rattle.tsp_branch.specs.states.Rooms.{AreSmall, IsJudgedLeaf}
 use Rattle.tsp_branch.proofs.Passes.{IsAtStep, at_start, at_branch}
-use Rattle.tsp_branch.proofs.Judging.{own_step, at_next, bad_here, last_found, more_found, once_here, low_sized}
+use Rattle.tsp_branch.proofs.Judging.{own_step, at_next, all_passed, bad_here, after_found, small_found, once_here, low_sized}
 use Rattle.tsp_branch.proofs.branch.judge_leaves.Goals as goal
-use Rattle.tsp_branch.proofs.branch.judge_leaves.Goals.{in-Branch+in_ok-take-in-Branch, in-Leaf+in_ok-judged-in-Leaf+in-Found+in_ok-is_open-in-Leaf+else-not-is_open}
+use Rattle.tsp_branch.proofs.branch.judge_leaves.Goals.{in-Branch+in_ok-take-in-Branch, in-Leaf+in_ok-judged-in-Leaf+in-Found+in_ok-next-in-Leaf}
 
 pub judge_leaf-requires-clause-few_changes : goal.judge_leaf-requires-clause-few_changes
 judge_leaf-requires-clause-few_changes g c =
     let st = c.steps in
-    let own : length c.in-Leaf.changes.items < 2 ^ 32 = own_step (g.C.Costs.nodes c.args.setting.now.costs.now) c.args.steps.now st.step-index c.step-item.result
+    let own : length c.in-Leaf.changes.items < 2 ^ 32 = own_step
+    (g.C.Costs.nodes c.args.setting.now.costs.now) c.args.steps.now st.step-index c.step-item.result
     (code.Leaf c.in-Leaf.changes) c.requires.steps.each c.steps-test.true c.step-item.is c.in-Leaf.is in
     subst (λ (cs : List (ℕ × ℤ)). length cs < 2 ^ 32) (sym c.deref.ensures.value) own
 
 none_small : (n combs : ℕ) → AreSmall (no_numbers_of n combs)
 none_small n combs k default lt =
-    rw (get_or-replicate (n + combs) k (pos 0) default (omega (arith, lt, length-replicate (n + combs) (pos 0)))) (omega (arith, ints), omega (arith, ints))
+    rw (get_or-replicate (n + combs) k (pos 0) default (omega (arith, lt, length-replicate (n + combs) (pos 0))))
+    (omega (arith, ints), omega (arith, ints))
 
 pub steps-init : goal.steps-init
 steps-init g c =
     let s = c.args.setting.now in
     let n : ℕ = g.C.Costs.nodes s.costs.now in
-    let found : List Decision × LeafNumbers → Option ℤ → Type 0 = IsFoundAt s.directed n (g.C.Costs.at s.costs.now) s.scale decided_number (families_of s.crossed.now (plain s.sets.now)) in
+    let found : List Decision × LeafNumbers → Option ℤ → Type 0 = IsFoundAt s.directed n
+    (g.C.Costs.at s.costs.now) s.scale decided_number (families_of s.crossed.now (plain s.sets.now)) in
     let given = s.given.now in
     let told : List listed.Step = steps_of c.args.steps.now in
     let case = c.in_ok-case.case in
     record {
-      at = subst (λ (ds : List Decision). IsAtStep found s.directed n s.crossed.now given told c.args.room.numbers.items ds None 0 told) (sym c.in_ok-case.ensures.stack)
-          (subst (λ (zs : List ℤ). IsAtStep found s.directed n s.crossed.now given told zs [] None 0 told) (sym c.requires.start)
-          (at_start found s.directed n s.crossed.now given told c.requires.steps.whole c.requires.steps.once));
+      at = inl (subst (λ (ds : List Decision). IsAtStep found s.directed n s.crossed.now given told c.args.room.numbers.items
+          (Some (stack_of ds)) None 0 told) (sym c.in_ok-case.ensures.stack)
+          (subst (λ (zs : List ℤ). IsAtStep found s.directed n s.crossed.now given told zs (Some []) None 0 told)
+          (sym c.requires.start)
+          (at_start found s.directed n s.crossed.now given told c.requires.steps.whole c.requires.steps.once)));
       room = c.requires.room;
       kept = c.requires.kept;
       small = subst AreSmall (sym c.requires.start) (none_small n (length s.crossed.now));
@@ -64,7 +69,9 @@ take-requires g c =
       case = (
         n,
         st.invariant.case,
-        own_step n c.args.steps.now st.step-index c.step-item.result (code.Branch c.in-Branch.first c.in-Branch.second) c.requires.steps.each c.steps-test.true c.step-item.is c.in-Branch.is,
+        own_step n c.args.steps.now st.step-index c.step-item.result
+            (code.Branch c.in-Branch.first c.in-Branch.second) c.requires.steps.each c.steps-test.true c.step-item.is
+            c.in-Branch.is,
       );
     }
 
@@ -72,78 +79,68 @@ pub judge_leaf-requires-clause-once : goal.judge_leaf-requires-clause-once
 judge_leaf-requires-clause-once g c =
     let s = c.args.setting.now in
     let n : ℕ = g.C.Costs.nodes s.costs.now in
-    let found : List Decision × LeafNumbers → Option ℤ → Type 0 = IsFoundAt s.directed n (g.C.Costs.at s.costs.now) s.scale decided_number (families_of s.crossed.now (plain s.sets.now)) in
+    let found : List Decision × LeafNumbers → Option ℤ → Type 0 = IsFoundAt s.directed n
+    (g.C.Costs.at s.costs.now) s.scale decided_number (families_of s.crossed.now (plain s.sets.now)) in
     let given = s.given.now in
     let all : List TreeStep = c.args.steps.now in
     let told : List listed.Step = steps_of all in
     let st = c.steps in
-    let at = at_next found s.directed n s.crossed.now given all st.room.numbers.items st.case.stack.items st.lowest st.leaf st.step-index c.step-item.result
+    let at = at_next found s.directed n s.crossed.now given all st.room.numbers.items st.case.stack.items st.lowest st.leaf
+    st.step-index c.step-item.result
     (code.Leaf c.in-Leaf.changes) c.steps-test.true c.step-item.is c.in-Leaf.is st.invariant.at in
     subst (λ (ds : List Decision). DecideOnce s.directed (stack_of st.case.stack.items ++ ds)) (sym st.invariant.given)
-    (once_here found s.directed n s.crossed.now given told st.room.numbers.items st.case.stack.items st.lowest st.leaf c.in-Leaf.changes.items _ at)
+    (once_here found s.directed n s.crossed.now given told st.room.numbers.items st.case.stack.items st.lowest st.leaf
+    c.in-Leaf.changes.items _ at)
 
 pub returns-in_default-clause-judged : goal.returns-in_default-clause-judged
 returns-in_default-clause-judged g c =
     let s = c.args.setting.now in
     let n : ℕ = g.C.Costs.nodes s.costs.now in
-    let found : List Decision × LeafNumbers → Option ℤ → Type 0 = IsFoundAt s.directed n (g.C.Costs.at s.costs.now) s.scale decided_number (families_of s.crossed.now (plain s.sets.now)) in
+    let found : List Decision × LeafNumbers → Option ℤ → Type 0 = IsFoundAt s.directed n
+    (g.C.Costs.at s.costs.now) s.scale decided_number (families_of s.crossed.now (plain s.sets.now)) in
     let given = s.given.now in
     let all : List TreeStep = c.args.steps.now in
     let told : List listed.Step = steps_of all in
     let st = c.steps in
-    let at = at_next found s.directed n s.crossed.now given all st.room.numbers.items st.case.stack.items st.lowest st.leaf st.step-index c.step-item.result
+    let at = at_next found s.directed n s.crossed.now given all st.room.numbers.items st.case.stack.items st.lowest st.leaf
+    st.step-index c.step-item.result
     (code.Leaf c.in-Leaf.changes) c.steps-test.true c.step-item.is c.in-Leaf.is st.invariant.at in
     let judged = subst (λ (cs : List (ℕ × ℤ)). IsJudgedLeaf found n s.crossed.now
-    (stack_of st.case.stack.items ++ given) st.room.numbers.items cs c.judge_leaf.new.room.numbers.items c.in_ok-judged-in-Leaf.judged) c.deref.ensures.value
+    (stack_of st.case.stack.items ++ given) st.room.numbers.items cs c.judge_leaf.new.room.numbers.items
+    c.in_ok-judged-in-Leaf.judged) c.deref.ensures.value
     (subst (λ (ds : List Decision). IsJudgedLeaf found n s.crossed.now
-    (stack_of st.case.stack.items ++ ds) st.room.numbers.items c.deref.result.now c.judge_leaf.new.room.numbers.items c.in_ok-judged-in-Leaf.judged) st.invariant.given
+    (stack_of st.case.stack.items ++ ds) st.room.numbers.items c.deref.result.now c.judge_leaf.new.room.numbers.items
+    c.in_ok-judged-in-Leaf.judged) st.invariant.given
     c.in_ok-judged-in-Leaf.ensures.judged) in
-    bad_here found s.directed n s.crossed.now given told st.room.numbers.items st.case.stack.items st.lowest st.leaf c.in-Leaf.changes.items _ _ c.in_ok-judged-in-Leaf.judged at judged c.in_default.is
-
-pub returns-then-not-is_open-clause-judged : goal.returns-then-not-is_open-clause-judged
-returns-then-not-is_open-clause-judged g c =
-    let s = c.args.setting.now in
-    let n : ℕ = g.C.Costs.nodes s.costs.now in
-    let found : List Decision × LeafNumbers → Option ℤ → Type 0 = IsFoundAt s.directed n (g.C.Costs.at s.costs.now) s.scale decided_number (families_of s.crossed.now (plain s.sets.now)) in
-    let given = s.given.now in
-    let all : List TreeStep = c.args.steps.now in
-    let told : List listed.Step = steps_of all in
-    let st = c.steps in
-    let at = at_next found s.directed n s.crossed.now given all st.room.numbers.items st.case.stack.items st.lowest st.leaf st.step-index c.step-item.result
-    (code.Leaf c.in-Leaf.changes) c.steps-test.true c.step-item.is c.in-Leaf.is st.invariant.at in
-    let judged = subst (λ (cs : List (ℕ × ℤ)). IsJudgedLeaf found n s.crossed.now
-    (stack_of st.case.stack.items ++ given) st.room.numbers.items cs c.judge_leaf.new.room.numbers.items c.in_ok-judged-in-Leaf.judged) c.deref.ensures.value
-    (subst (λ (ds : List Decision). IsJudgedLeaf found n s.crossed.now
-    (stack_of st.case.stack.items ++ ds) st.room.numbers.items c.deref.result.now c.judge_leaf.new.room.numbers.items c.in_ok-judged-in-Leaf.judged) st.invariant.given
-    c.in_ok-judged-in-Leaf.ensures.judged) in
-    last_found found s.directed n s.crossed.now given told (families_of s.crossed.now (plain s.sets.now)) st.room.numbers.items st.case.stack.items st.lowest st.leaf c.in-Leaf.changes.items _ _ c.in_ok-judged-in-Leaf.judged c.in-Found.own
-    c.lower-lowest.result at c.requires.are_families c.requires.steps.whole judged c.in-Found.is c.lower-lowest.ensures
-    (subst (λ (b : Bool). IsNextStack st.case.stack.items b c.next.new.self.stack.items) c.if-not-is_open.true c.in_ok-is_open-in-Leaf.ensures.next).0
-
-pub returns-then-not-is_open-clause-size : goal.returns-then-not-is_open-clause-size
-returns-then-not-is_open-clause-size g c =
-    low_sized c.steps.lowest c.in-Found.own c.lower-lowest.result c.in_ok-judged-in-Leaf.judged c.steps.invariant.sized c.in_ok-judged-in-Leaf.ensures.size c.in-Found.is c.lower-lowest.ensures
+    bad_here found s.directed n s.crossed.now given told st.room.numbers.items st.case.stack.items st.lowest st.leaf
+    c.in-Leaf.changes.items _ _ c.in_ok-judged-in-Leaf.judged at judged c.in_default.is
 
 pub steps-preserved : goal.steps-preserved
 steps-preserved g c =
     let s = c.args.setting.now in
     let n : ℕ = g.C.Costs.nodes s.costs.now in
-    let found : List Decision × LeafNumbers → Option ℤ → Type 0 = IsFoundAt s.directed n (g.C.Costs.at s.costs.now) s.scale decided_number (families_of s.crossed.now (plain s.sets.now)) in
+    let found : List Decision × LeafNumbers → Option ℤ → Type 0 = IsFoundAt s.directed n
+    (g.C.Costs.at s.costs.now) s.scale decided_number (families_of s.crossed.now (plain s.sets.now)) in
     let given = s.given.now in
     let all : List TreeStep = c.args.steps.now in
     let told : List listed.Step = steps_of all in
     let st = c.steps in
     elim c.match-step.branch [
       | in-Branch+in_ok-take-in-Branch w ↦
-          let at = at_next found s.directed n s.crossed.now given all st.room.numbers.items st.case.stack.items st.lowest st.leaf st.step-index c.step-item.result
+          let at = at_next found s.directed n s.crossed.now given all st.room.numbers.items st.case.stack.items st.lowest st.leaf
+          st.step-index c.step-item.result
           (code.Branch w.in-Branch.first w.in-Branch.second) c.steps-test.true c.step-item.is w.in-Branch.is st.invariant.at in
           let items = w.in_ok-take-in-Branch.ensures.stack in
           let decision : Decision = record { pair = (w.in-Branch.first, w.in-Branch.second); taken = true } in
-          let own = own_step n all st.step-index c.step-item.result (code.Branch w.in-Branch.first w.in-Branch.second) c.requires.steps.each c.steps-test.true c.step-item.is w.in-Branch.is in
+          let own = own_step n all st.step-index c.step-item.result
+          (code.Branch w.in-Branch.first w.in-Branch.second) c.requires.steps.each c.steps-test.true c.step-item.is
+          w.in-Branch.is in
           let longer = length_push st.case.stack.items decision in
           rw (w.room-is, w.case-is, w.lowest-is, w.leaf-is) (record {
-            at = subst (λ (ds : List Decision). IsAtStep found s.directed n s.crossed.now given told st.room.numbers.items ds st.lowest st.leaf (steps_of (drop (st.step-index + 1) all))) (sym items)
-                (at_branch found s.directed n s.crossed.now given told st.room.numbers.items st.case.stack.items st.lowest st.leaf w.in-Branch.first w.in-Branch.second _ at);
+            at = inl (subst (λ (ds : List Decision). IsAtStep found s.directed n s.crossed.now given told st.room.numbers.items
+                (Some (stack_of ds)) st.lowest st.leaf (steps_of (drop (st.step-index + 1) all))) (sym items)
+                (at_branch found s.directed n s.crossed.now given told st.room.numbers.items st.case.stack.items st.lowest st.leaf
+                w.in-Branch.first w.in-Branch.second _ at));
             room = st.invariant.room;
             kept = st.invariant.kept;
             small = st.invariant.small;
@@ -154,27 +151,44 @@ steps-preserved g c =
             leaves = omega (arith, st.invariant.leaves);
             sized = st.invariant.sized;
           })
-      | in-Leaf+in_ok-judged-in-Leaf+in-Found+in_ok-is_open-in-Leaf+else-not-is_open w ↦
-          let at = at_next found s.directed n s.crossed.now given all st.room.numbers.items st.case.stack.items st.lowest st.leaf st.step-index c.step-item.result
+      | in-Leaf+in_ok-judged-in-Leaf+in-Found+in_ok-next-in-Leaf w ↦
+          let at = at_next found s.directed n s.crossed.now given all st.room.numbers.items st.case.stack.items st.lowest st.leaf
+          st.step-index c.step-item.result
           (code.Leaf w.in-Leaf.changes) c.steps-test.true c.step-item.is w.in-Leaf.is st.invariant.at in
           let judged = subst (λ (cs : List (ℕ × ℤ)). IsJudgedLeaf found n s.crossed.now
-          (stack_of st.case.stack.items ++ given) st.room.numbers.items cs w.judge_leaf.new.room.numbers.items w.in_ok-judged-in-Leaf.judged) w.deref.ensures.value
+          (stack_of st.case.stack.items ++ given) st.room.numbers.items cs w.judge_leaf.new.room.numbers.items
+          w.in_ok-judged-in-Leaf.judged) w.deref.ensures.value
           (subst (λ (ds : List Decision). IsJudgedLeaf found n s.crossed.now
-          (stack_of st.case.stack.items ++ ds) st.room.numbers.items w.deref.result.now w.judge_leaf.new.room.numbers.items w.in_ok-judged-in-Leaf.judged) st.invariant.given
+          (stack_of st.case.stack.items ++ ds) st.room.numbers.items w.deref.result.now w.judge_leaf.new.room.numbers.items
+          w.in_ok-judged-in-Leaf.judged) st.invariant.given
           w.in_ok-judged-in-Leaf.ensures.judged) in
-          let more = more_found found s.directed n s.crossed.now given told st.room.numbers.items st.case.stack.items st.lowest st.leaf w.in-Leaf.changes.items _ _ w.next.new.self.stack.items
-          w.in_ok-judged-in-Leaf.judged w.in-Found.own w.lower-lowest.result at judged w.in-Found.is w.lower-lowest.ensures
-          (subst (λ (b : Bool). IsNextStack st.case.stack.items b w.next.new.self.stack.items) w.if-not-is_open.false w.in_ok-is_open-in-Leaf.ensures.next) in
           rw (w.room-is, w.case-is, w.lowest-is, w.leaf-is) (record {
-            at = more.0;
+            at = after_found found s.directed n s.crossed.now given told st.room.numbers.items st.case.stack.items st.lowest
+                st.leaf w.in-Leaf.changes.items _ _ w.next.new.self.stack.items
+                w.in_ok-judged-in-Leaf.judged w.in-Found.own w.lower-lowest.result at judged w.in-Found.is w.lower-lowest.ensures
+                w.in_ok-next-in-Leaf.ensures.next;
             room = w.in_ok-judged-in-Leaf.ensures.room;
             kept = w.in_ok-judged-in-Leaf.ensures.kept;
-            small = more.1;
-            case = w.in_ok-is_open-in-Leaf.ensures.case n st.invariant.case;
-            given = w.in_ok-is_open-in-Leaf.ensures.given ∙ st.invariant.given;
-            direction = w.in_ok-is_open-in-Leaf.ensures.directed ∙ st.invariant.direction;
-            few = omega (arith, w.in_ok-is_open-in-Leaf.ensures.few, st.invariant.few);
+            small = small_found found s.directed n s.crossed.now given told st.room.numbers.items st.case.stack.items
+                w.in-Leaf.changes.items _ w.in_ok-judged-in-Leaf.judged w.in-Found.own judged w.in-Found.is;
+            case = w.in_ok-next-in-Leaf.ensures.case n st.invariant.case;
+            given = w.in_ok-next-in-Leaf.ensures.given ∙ st.invariant.given;
+            direction = w.in_ok-next-in-Leaf.ensures.directed ∙ st.invariant.direction;
+            few = omega (arith, w.in_ok-next-in-Leaf.ensures.few, st.invariant.few);
             leaves = omega (arith, st.invariant.leaves);
-            sized = low_sized st.lowest w.in-Found.own w.lower-lowest.result w.in_ok-judged-in-Leaf.judged st.invariant.sized w.in_ok-judged-in-Leaf.ensures.size w.in-Found.is w.lower-lowest.ensures;
+            sized = low_sized st.lowest w.in-Found.own w.lower-lowest.result w.in_ok-judged-in-Leaf.judged st.invariant.sized
+                w.in_ok-judged-in-Leaf.ensures.size w.in-Found.is w.lower-lowest.ensures;
           })
     ]
+
+pub returns-clause-judged : goal.returns-clause-judged
+returns-clause-judged g c =
+    let s = c.args.setting.now in
+    let n : ℕ = g.C.Costs.nodes s.costs.now in
+    let found : List Decision × LeafNumbers → Option ℤ → Type 0 = IsFoundAt s.directed n
+    (g.C.Costs.at s.costs.now) s.scale decided_number (families_of s.crossed.now (plain s.sets.now)) in
+    let st = c.steps in
+    all_passed found s.directed n s.crossed.now s.given.now
+    (families_of s.crossed.now (plain s.sets.now)) c.args.steps.now st.room.numbers.items st.case.stack.items st.lowest
+    st.leaf st.step-index
+    (omega (arith, c.steps-test.false)) st.invariant.at c.requires.are_families c.requires.steps.whole

@@ -10,7 +10,7 @@ use Rattle.tsp_branch.specs.states.OpenCases.{IsOpenCase}
 use Rattle.tsp_branch.specs.Decisions.{decided_number}
 use Rattle.tsp_branch.specs.states.Kept.{HoldsRows}
 use Rattle.tsp_branch.specs.states.Rooms.{IsRoom, AreSmall}
-use Rattle.tsp_branch.proofs.Passes.{IsAtStep}
+use Rattle.tsp_branch.proofs.Passes.{IsPassing}
 use Rattle.tsp_branch.proofs.branch.judge_leaves.Given as goal
 
 abbrev pub invariant-steps : goal.invariant-steps
@@ -18,7 +18,9 @@ invariant-steps g l =
     let s = l.setting in
     let n : ℕ = g.C.Costs.nodes s.costs.now in
     record {
-      at : IsAtStep (IsFoundAt s.directed n (g.C.Costs.at s.costs.now) s.scale decided_number (families_of s.crossed.now (plain s.sets.now))) s.directed n s.crossed.now s.given.now (steps_of l.steps) l.room.numbers.items l.case.stack.items l.lowest l.leaf
+      at : IsPassing (IsFoundAt s.directed n (g.C.Costs.at s.costs.now) s.scale decided_number
+          (families_of s.crossed.now (plain s.sets.now))) s.directed n s.crossed.now s.given.now
+          (steps_of l.steps) l.room.numbers.items l.case.stack.items l.lowest l.leaf
           (steps_of (drop l.step-index l.steps));
       room : IsRoom n (length s.crossed.now) l.room;
       kept : HoldsRows n (length s.crossed.now) s.scale s.sets.now (g.C.Costs.at s.costs.now) l.room.kept;

@@ -1,3 +1,4 @@
+-- The loop of `inputs_at` in src/once.rt.
 use Rattle.std.proofs.Common.{◌≡◌, ◌≤◌, take}
 use Rattle.tsp_cli.specs.Task.{inputs_at}
 use Rattle.tsp_cli.proofs.once.inputs_at.Given as goal

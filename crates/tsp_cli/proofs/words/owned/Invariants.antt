@@ -1,3 +1,4 @@
+-- The loop of `owned` in src/words.rt.
 use Rattle.std.proofs.Common.{◌≡◌, map, take}
 use Rattle.std.specs.String.{string_bytes}
 use Rattle.tsp_cli.proofs.words.owned.Given as goal

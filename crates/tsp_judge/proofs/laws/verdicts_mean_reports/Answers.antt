@@ -1,3 +1,4 @@
+-- The goals of `verdicts_mean_reports` in src/laws.rt: what it ensures.
 use Rattle.tsp_judge.proofs.Runs.{sized}
 use Rattle.tsp_judge.proofs.Yeses.{accepted}
 use Rattle.tsp_judge.proofs.laws.verdicts_mean_reports.Goals as goal

@@ -1,4 +1,4 @@
--- The goals of `perform` in src/engines.rt: what it ensures.
+-- The goals of `perform` in src/outcome.rt: what it ensures.
 use Rattle.std.proofs.Common.{sym, subst}
 use Rattle.tsp_judge.specs.Watched.{sink_of}
 use Rattle.tsp_perform.specs.Done.{IsDone}

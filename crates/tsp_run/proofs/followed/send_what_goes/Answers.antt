@@ -1,3 +1,4 @@
+-- The goals of `send_what_goes` in src/followed.rt: its loop.
 use Rattle.std.proofs.Common.{rules, ◌++◌, take}
 use Rattle.std.proofs.KnownBytes.{Appends-trans}
 use Rattle.tsp_run.proofs.followed.send_what_goes.Goals as goal

@@ -1,3 +1,4 @@
+-- The loop of `send_what_goes` in src/followed.rt.
 use Rattle.std.proofs.Common.{ℕ, List, length}
 use Rattle.std.specs.Io.KnownBytes.{Appends}
 use Rattle.tsp_run.proofs.followed.send_what_goes.Given as goal

@@ -1,3 +1,4 @@
+-- The goals of `run_task` in src/running.rt: what it ensures.
 use Rattle.tsp_run.proofs.running.run_task.Goals as goal
 
 pub returns : goal.returns

@@ -1,4 +1,4 @@
--- One call, and what it answers.
+-- One call, and what it returns.
 use Rattle.std.proofs.Common.{refl, sym, subst}
 use Rattle.tsp_run.specs.declared.source.Source.{Source}
 use Rattle.tsp_run.specs.declared.source.Source.TheVariants.{Input, Opened}

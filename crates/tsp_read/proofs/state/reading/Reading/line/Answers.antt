@@ -1,4 +1,4 @@
--- The goals of `Reading::line` in src/state/reading.rt: what it ensures.
+-- The goals of `Reading::line` in src/state/lines.rt: what it ensures.
 use Rattle.std.proofs.Common.{◌≡◌, false, refl, map, tests, rules}
 use Rattle.std.specs.Prelude.{nat_lt}
 use Rattle.tsp_section.specs.states.CutLine.{seen}

@@ -1,4 +1,4 @@
--- The goals of `Reading::take_run` in src/state/reading.rt: what it ensures.
+-- The goals of `Reading::take_run` in src/run.rt: what it ensures.
 use Rattle.tsp_read.proofs.RunSteps.{opened_run}
 use Rattle.tsp_read.proofs.state.reading.Reading.take_run.Goals as goal
 
