@@ -131,6 +131,8 @@ struct tsp_result {
     uint32_t file;   /* the text with the fault: 1 the instance, 2 the solution, 3 the certificate; 2 of a bound */
     uint32_t line;   /* the line, from 1, if the fault is one of a line */
     uint32_t word;   /* the word in it, from 1; 0 is the line as a whole */
+    uint32_t number; /* of a TSP_NUMBER: one of TSP_LONG_WORD, .. */
+    uint32_t field;  /* of a TSP_MISSING or TSP_INCOMPLETE: one of TSP_FIELD_NAME, .. */
 };
 
 /* Verdicts. */
@@ -196,6 +198,37 @@ enum {
     TSP_WRONG_COUNT = 19,
     TSP_TOO_LONG = 20,
     TSP_WRONG_KIND = 21
+};
+
+/* What is wrong with a number. */
+enum { TSP_LONG_WORD = 1, TSP_BAD_NUMBER = 2, TSP_TOO_FINE = 3, TSP_OUT_OF_RANGE = 4, TSP_NOT_WHOLE = 5 };
+
+/* Keywords and sections, in canonical order. */
+enum {
+    TSP_FIELD_NAME = 1,
+    TSP_FIELD_TYPE = 2,
+    TSP_FIELD_COMMENT = 3,
+    TSP_FIELD_OTHERS = 4, /* the unknown keywords */
+    TSP_FIELD_DIMENSION = 5,
+    TSP_FIELD_CAPACITY = 6,
+    TSP_FIELD_SCALE = 7,
+    TSP_FIELD_EDGE_WEIGHT_TYPE = 8,
+    TSP_FIELD_EDGE_WEIGHT_FORMAT = 9,
+    TSP_FIELD_NODE_COORD_TYPE = 10,
+    TSP_FIELD_DISPLAY_DATA_TYPE = 11,
+    TSP_FIELD_NODE_COORD_SECTION = 12,
+    TSP_FIELD_DISPLAY_DATA_SECTION = 13,
+    TSP_FIELD_DEMAND_SECTION = 14,
+    TSP_FIELD_DEPOT_SECTION = 15,
+    TSP_FIELD_FIXED_EDGES_SECTION = 16,
+    TSP_FIELD_EDGE_WEIGHT_SECTION = 17,
+    TSP_FIELD_TOUR_SECTION = 18,
+    TSP_FIELD_NODE_POTENTIAL_SECTION = 19,
+    TSP_FIELD_ROW_POTENTIAL_SECTION = 20,
+    TSP_FIELD_COLUMN_POTENTIAL_SECTION = 21,
+    TSP_FIELD_FIXED_EDGE_POTENTIAL_SECTION = 22,
+    TSP_FIELD_COMB_SECTION = 23,
+    TSP_FIELD_BRANCH_SECTION = 24
 };
 
 /* tsp_check and tsp_bound, with the result in numbers too: the verdict, if the status is TSP_YES or TSP_NO, and

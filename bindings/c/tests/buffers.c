@@ -1,31 +1,11 @@
 /* Buffers that are too small by one byte or number and more, what stays as it was, and numbers that are
  * refused. Prints a line for each check that fails, and exits with 1 then. */
-#include "../tsp.h"
+#include "expect.h"
 
-#include <stdio.h>
-#include <string.h>
-
-static int failed = 0;
-static int passed = 0;
-
-static void expect(int holds, const char *what) {
-    if (holds) {
-        passed++;
-        return;
-    }
-    failed++;
-    printf("failed: %s\n", what);
-}
-
-static const char SQUARE[] = "TYPE : TSP\nDIMENSION : 4\nEDGE_WEIGHT_TYPE : EUC_2D\nNODE_COORD_SECTION\n"
-                             "1 0 0\n2 3 0\n3 3 4\n4 0 4.5\nEOF\n";
 static const char MATRIX[] = "TYPE : ATSP\nDIMENSION : 2\nEDGE_WEIGHT_TYPE : EXPLICIT\nEDGE_WEIGHT_FORMAT : FULL_MATRIX\n"
                              "EDGE_WEIGHT_SECTION\n7 1\n2 9\nEOF\n";
-static const char TOUR[] = "TYPE : TOUR\nTOUR_SECTION\n1 2 3 4 -1\nEOF\n";
 static const char SHOWN[] = "type TSP\nnodes 4\nweights EUC_2D\ncanonical 15\n";
 static const char REPORT[] = "type TSP\nnodes 4\nlength 15\nyes\n";
-
-#define TEXT(text) (const uint8_t *)(text), sizeof(text) - 1
 
 /* Each length of buffer from 0 to two bytes more than the text. */
 static void texts(void) {
@@ -60,7 +40,6 @@ static void texts(void) {
                && written == 22 && memcmp(out, "relayout: NotExplicit\n", 22) == 0, "points have no layout");
 }
 
-static const char ZEROS[] = "TYPE : POTENTIALS\nDIMENSION : 4\nNODE_POTENTIAL_SECTION\n1 0\n2 0\n3 0\n4 0\nEOF\n";
 static const char BOUND[] = "type TSP\nnodes 4\nbound 15\nyes\n";
 static const char EXPLAINED[] = "  a.tour:\n";
 
@@ -94,7 +73,6 @@ static void answers(void) {
     expect(tsp_bound(TEXT(SQUARE), TEXT(""), 1, out, sizeof out, &written) == TSP_FAULT
                && written == sizeof FAULT - 1 && memcmp(out, FAULT, written) == 0, "a certificate is file 2 of a bound");
 
-    static const char TWICE[] = "TYPE : TOUR\nTOUR_SECTION\n1 2 2 4 -1\nEOF\n";
     uint32_t status = tsp_explain(TSP_OF_CHECK, TEXT(SQUARE), TEXT(TWICE), TEXT(""), NAMES, 0, 0, 0, out, 16, &written);
     expect(status == TSP_TOO_SMALL && written > 16 && written < sizeof out, "an explanation that is too long");
     status = tsp_explain(TSP_OF_CHECK, TEXT(SQUARE), TEXT(TWICE), TEXT(""), NAMES, 0, 0, 0, out, written, &written);
@@ -181,6 +159,5 @@ int main(void) {
     texts();
     answers();
     numbers();
-    printf("%d passed, %d failed\n", passed, failed);
-    return failed != 0;
+    return counts();
 }

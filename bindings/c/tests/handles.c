@@ -1,38 +1,24 @@
 /* Handles: what is asked of them, and what is refused. Prints a line for each check that fails, and exits with 1
  * then. */
-#include "../tsp.h"
+#include "expect.h"
 
-#include <stdio.h>
-#include <string.h>
-
-static int failed = 0;
-static int passed = 0;
-
-static void expect(int holds, const char *what) {
-    if (holds) {
-        passed++;
-        return;
-    }
-    failed++;
-    printf("failed: %s\n", what);
-}
-
-static const char SQUARE[] = "TYPE : TSP\nDIMENSION : 4\nEDGE_WEIGHT_TYPE : EUC_2D\nNODE_COORD_SECTION\n"
-                             "1 0 0\n2 3 0\n3 3 4\n4 0 4.5\nEOF\n";
 static const char MATRIX[] = "TYPE : ATSP\nDIMENSION : 3\nEDGE_WEIGHT_TYPE : EXPLICIT\nEDGE_WEIGHT_FORMAT : FULL_MATRIX\n"
                              "EDGE_WEIGHT_SECTION\n7 1 5\n2 9 6\n3 4 8\nEOF\n";
 static const char CUSTOMERS[] = "TYPE : CVRP\nDIMENSION : 3\nCAPACITY : 5\nEDGE_WEIGHT_TYPE : EUC_2D\nNODE_COORD_SECTION\n"
                                 "1 0 0\n2 3 0\n3 3 4\nDEMAND_SECTION\n1 0\n2 4\n3 4\nDEPOT_SECTION\n1 -1\nEOF\n";
-static const char TOUR[] = "TYPE : TOUR\nTOUR_SECTION\n1 2 3 4 -1\nEOF\n";
-static const char TWICE[] = "TYPE : TOUR\nTOUR_SECTION\n1 2 2 4 -1\nEOF\n";
 static const char ROUTES[] = "TYPE : TOUR\nTOUR_SECTION\n2 -1\n3 -1\n-1\nEOF\n";
-static const char ZEROS[] = "TYPE : POTENTIALS\nDIMENSION : 4\nNODE_POTENTIAL_SECTION\n1 0\n2 0\n3 0\n4 0\nEOF\n";
 /* 4 nodes, each with the potential 10^15 at the scale 1: a bound below -2^63 takes more nodes, a negative one is enough */
 static const char LOW[] = "TYPE : POTENTIALS\nDIMENSION : 4\nNODE_POTENTIAL_SECTION\n1 1000000000000000\n"
                           "2 -1000000000000000\n3 0\n4 0\nEOF\n";
+/* costs 5 and 4 between nodes 1 and 3 */
+static const char UNEVEN[] = "TYPE : TSP\nDIMENSION : 3\nEDGE_WEIGHT_TYPE : EXPLICIT\nEDGE_WEIGHT_FORMAT : FULL_MATRIX\n"
+                             "EDGE_WEIGHT_SECTION\n0 1 5\n1 0 6\n4 6 0\nEOF\n";
+static const char PAIR[] = "TYPE : TSP\nDIMENSION : 2\nEDGE_WEIGHT_TYPE : EUC_2D\nNODE_COORD_SECTION\n1 0 0\n2 3 0\nEOF\n";
+/* the depot has a demand */
+static const char LOADED[] = "TYPE : CVRP\nDIMENSION : 3\nCAPACITY : 5\nEDGE_WEIGHT_TYPE : EUC_2D\nNODE_COORD_SECTION\n"
+                             "1 0 0\n2 3 0\n3 3 4\nDEMAND_SECTION\n1 1\n2 4\n3 4\nDEPOT_SECTION\n1 -1\nEOF\n";
+static const char OF_FOUR[] = "TYPE : TOUR\nDIMENSION : 4\nTOUR_SECTION\n2 3 -1\nEOF\n";
 static const char NO_FILE[] = "TYPE : TSP\nDIMENSION : 4\n7\n";
-
-#define TEXT(text) (const uint8_t *)(text), sizeof(text) - 1
 
 static uint8_t out[512];
 static size_t written;
@@ -59,8 +45,10 @@ static void opens(void) {
     expect(tsp_instance_count(&handle, &count) == TSP_YES && count == 3, "and has the new instance");
     expect(tsp_open(TEXT(NO_FILE), &handle, &r) == TSP_FAULT && !handle.is_open && handle.at == NULL,
            "a text with a fault leaves it closed");
-    expect(r.fault == TSP_STRAY_NUMBER && r.file == 1 && r.line == 3 && r.word == 1 && r.kind == 0, "the fault, its line and its word");
-    expect(tsp_open(TEXT(""), &handle, &r) == TSP_FAULT && r.fault == TSP_MISSING && r.file == 1 && r.line == 0, "no text at all");
+    expect(r.fault == TSP_STRAY_NUMBER && r.file == 1 && r.line == 3 && r.word == 1 && r.kind == 0 && r.number == 0
+               && r.field == 0, "the fault, its line and its word");
+    expect(tsp_open(TEXT(""), &handle, &r) == TSP_FAULT && r.fault == TSP_MISSING && r.file == 1 && r.line == 0
+               && r.field == TSP_FIELD_TYPE, "no text at all");
     expect(tsp_open(TEXT(TOUR), &handle, &r) == TSP_FAULT && !handle.is_open && r.fault == TSP_WRONG_KIND && r.file == 1,
            "a tour is no instance");
     tsp_close(&handle);
@@ -131,6 +119,76 @@ static void checks(void) {
     tsp_close(&handle);
 }
 
+/* Reasons that are known before a solution is read: those that are judged before them still come first. */
+static void known(void) {
+    struct tsp_instance handle = {0};
+    struct tsp_result r;
+    tsp_open(TEXT(UNEVEN), &handle, &r);
+    expect(check(&handle, TOUR, &r) == TSP_NO && says("type TSP\nnodes 3\nno NotSymmetric 1 3\n")
+               && r.reason == TSP_NOT_SYMMETRIC && r.first == 1 && r.second == 3, "costs that differ by direction");
+    expect(check(&handle, OF_FOUR, &r) == TSP_NO && r.reason == TSP_NOT_SYMMETRIC, "come before the solution's dimension");
+    expect(check(&handle, ZEROS, &r) == TSP_NO && r.reason == TSP_NOT_A_SOLUTION, "and after a file that is no solution");
+    expect(tsp_instance_check(&handle, TEXT(TOUR), 1, 1, &r, out, sizeof out, &written) == TSP_NO
+               && r.reason == TSP_NOT_SYMMETRIC, "and before a claimed length");
+    expect(tsp_bind(&handle, TEXT(ZEROS), 1, &r) == TSP_NO && r.reason == TSP_NOT_SYMMETRIC && r.second == 3,
+           "and before a certificate");
+    expect(check(&handle, ZEROS, &r) == TSP_NO && r.reason == TSP_NOT_A_SOLUTION, "with a certificate too");
+    tsp_open(TEXT(PAIR), &handle, &r);
+    expect(check(&handle, TOUR, &r) == TSP_NO && r.reason == TSP_TOO_FEW_NODES, "too few nodes");
+    expect(check(&handle, ZEROS, &r) == TSP_NO && r.reason == TSP_NOT_A_SOLUTION, "come second");
+
+    tsp_open(TEXT(LOADED), &handle, &r);
+    expect(check(&handle, ROUTES, &r) == TSP_NO && r.reason == TSP_DEPOT_DEMAND, "a depot with a demand");
+    expect(check(&handle, OF_FOUR, &r) == TSP_NO && r.reason == TSP_DIMENSION, "comes after the solution's dimension");
+    tsp_open(TEXT(CUSTOMERS), &handle, &r);
+    expect(tsp_instance_check(&handle, TEXT(ROUTES), 17, 1, &r, out, sizeof out, &written) == TSP_NO
+               && r.reason == TSP_LENGTH_CLAIMED && r.first == 16, "routes of another length than the claimed one");
+
+    tsp_open(TEXT(SQUARE), &handle, &r);
+    tsp_bind(&handle, TEXT(ZEROS), 2, &r);
+    expect(tsp_instance_check(&handle, TEXT(TOUR), 14, 1, &r, out, sizeof out, &written) == TSP_NO
+               && r.reason == TSP_LENGTH_CLAIMED && r.first == 15, "a claimed length comes before the certificate");
+    expect(tsp_instance_check(&handle, TEXT(TOUR), 15, 1, &r, out, sizeof out, &written) == TSP_NO
+               && r.reason == TSP_NOT_BRANCHES, "which comes last");
+    tsp_close(&handle);
+}
+
+#define POINTS "TYPE : TSP\nDIMENSION : 3\nEDGE_WEIGHT_TYPE : EUC_2D\nNODE_COORD_SECTION\n"
+#define TEN "1234567890"
+
+/* Faults in numbers: which, its line and word, and what is wrong with a number, or which field isn't whole. */
+static const struct {
+    const char *text;
+    uint32_t fault, line, word, number, field;
+} FAULTS[] = {
+    {POINTS "1 0 " TEN TEN TEN TEN TEN TEN "12345\n", TSP_NUMBER, 5, 3, TSP_LONG_WORD, 0},
+    {POINTS "1 0 0x0\n", TSP_NUMBER, 5, 3, TSP_BAD_NUMBER, 0},
+    {POINTS "1 0.0000000001 0\n", TSP_NUMBER, 5, 2, TSP_TOO_FINE, 0},
+    {POINTS "1 0 0\n4 0 0\n", TSP_NUMBER, 6, 1, TSP_OUT_OF_RANGE, 0},
+    {POINTS "1.5 0 0\n", TSP_NUMBER, 5, 1, TSP_NOT_WHOLE, 0},
+    {POINTS "1 0 0\n1 0 0\n", TSP_NODE_REPEATED, 6, 1, 0, 0},
+    {"TYPE : TSP\nDIMENSION : x\n", TSP_BAD_VALUE, 2, 0, 0, 0},
+    {"NAME : x\n", TSP_MISSING, 0, 0, 0, TSP_FIELD_TYPE},
+    {"TYPE : TSP\n", TSP_MISSING, 0, 0, 0, TSP_FIELD_DIMENSION},
+    {"TYPE : TSP\nDIMENSION : 3\n", TSP_MISSING, 0, 0, 0, TSP_FIELD_EDGE_WEIGHT_TYPE},
+    {"TYPE : TOUR\n", TSP_MISSING, 0, 0, 0, TSP_FIELD_TOUR_SECTION},
+    {"TYPE : BRANCHES\nDIMENSION : 3\n", TSP_MISSING, 0, 0, 0, TSP_FIELD_BRANCH_SECTION},
+    {POINTS "1 0 0\n2 0 0\n", TSP_INCOMPLETE, 0, 0, 0, TSP_FIELD_NODE_COORD_SECTION},
+    {"TYPE : POTENTIALS\nDIMENSION : 2\nROW_POTENTIAL_SECTION\n1 0\n", TSP_INCOMPLETE, 0, 0, 0, TSP_FIELD_ROW_POTENTIAL_SECTION},
+};
+
+static void faults(void) {
+    struct tsp_instance handle = {0};
+    for (size_t k = 0; k < sizeof FAULTS / sizeof FAULTS[0]; k++) {
+        struct tsp_result r;
+        memset(&r, 255, sizeof r);
+        uint32_t status = tsp_open((const uint8_t *)FAULTS[k].text, strlen(FAULTS[k].text), &handle, &r);
+        expect(status == TSP_FAULT && r.file == 1 && r.fault == FAULTS[k].fault && r.line == FAULTS[k].line
+                   && r.word == FAULTS[k].word && r.number == FAULTS[k].number && r.field == FAULTS[k].field,
+               FAULTS[k].text);
+    }
+}
+
 /* Results of calls on texts in numbers. */
 static void results(void) {
     struct tsp_result r;
@@ -197,9 +255,10 @@ int main(void) {
     opens();
     closed();
     checks();
+    known();
+    faults();
     results();
     numbers();
     many();
-    printf("%d passed, %d failed\n", passed, failed);
-    return failed != 0;
+    return counts();
 }

@@ -45,6 +45,26 @@ def fault_of(text):
     return None
 
 
+def report_in(text):
+    """The report that a text is, by its lines as docs/format.md has them."""
+    first, *lines = text.split("\n")[:-1]
+    parts = [line.partition(" ") for line in lines]
+    words = ("nodes", "routes", "least", "length", "bound", "gap")
+    found = {word: int(rest) for word, _, rest in parts if word in words and rest != "none"}
+    verdict, *reason = lines[-1].split(" ")
+    return yokecairn.Report(
+        yes=verdict == "yes",
+        type=first.partition(" ")[2],
+        not_judged=tuple(line.partition(" judged ")[2] for line in lines if line.startswith("not judged ")),
+        optimal="optimal" in lines,
+        no_tour="bound none" in lines,
+        reason=reason[0] if reason else None,
+        numbers=tuple(map(int, reason[1:])),
+        text=text,
+        **{word: found.get(word) for word in words},
+    )
+
+
 @functools.lru_cache(None)
 def python_with(*modules):
     """A Python that has these modules: this one, the first on the PATH, or the system's; else a test is

@@ -9,7 +9,7 @@ from array import array
 from unittest import mock
 
 import yokecairn
-from support import EXAMPLES, RECTANGLE
+from support import EXAMPLES, RECTANGLE, report_in
 from yokecairn import _library
 from yokecairn.report import Report
 
@@ -94,7 +94,7 @@ class Results(unittest.TestCase):
         status, told, result = _library.check_result(instance, solution, certificate, by, claimed)
         text = told.decode()
         self.assertIn(status, (_library.DONE, _library.NO), text)
-        self.assertEqual(Report.of_result(result, text), Report.of(text))
+        self.assertEqual(Report.of_result(result, text), report_in(text))
         handle = _library.Handle(instance)
         if by:
             handle.bind(certificate, by)
@@ -118,6 +118,25 @@ class Results(unittest.TestCase):
             self.same(*files[:2])
             self.same(*files, 3 - by)
 
+    def test_faults(self):
+        """What is wrong with a number, and which field isn't whole, beside the line that says so."""
+        points = "TYPE : TSP\nDIMENSION : 3\nEDGE_WEIGHT_TYPE : EUC_2D\nNODE_COORD_SECTION\n"
+        for text, line, numbers in (
+            (points + "1 0 " + 65 * "7", "line 5 word 3: Number LongWord", (10, 5, 3, 1, 0)),
+            (points + "1 0 0x0", "line 5 word 3: Number BadNumber", (10, 5, 3, 2, 0)),
+            (points + "1 0 0.0000000001", "line 5 word 3: Number TooFine", (10, 5, 3, 3, 0)),
+            (points + "0 0 0", "line 5 word 1: Number OutOfRange", (10, 5, 1, 4, 0)),
+            (points + "1.5 0 0", "line 5 word 1: Number NotWhole", (10, 5, 1, 5, 0)),
+            (points + "1 0 0\n1 0 0", "line 6 word 1: RepeatedNode", (11, 6, 1, 0, 0)),
+            (points + "1 0 0", "end: Incomplete NODE_COORD_SECTION", (17, 0, 0, 0, 12)),
+            ("TYPE : TSP", "end: Missing DIMENSION", (16, 0, 0, 0, 5)),
+            ("TYPE : TOUR", "end: Missing TOUR_SECTION", (16, 0, 0, 0, 18)),
+        ):
+            status, told, result = _library.check_result(text.encode(), TOUR, b"", _library.ALONE, None)
+            self.assertEqual((status, told.decode()), (_library.FAULT, f"file 1: {line}\n"))
+            found = (result.fault, result.line, result.word, result.number, result.field)
+            self.assertEqual((result.file, *found), (1, *numbers), line)
+
     def test_the_version_is_that_of_the_project(self):
         cited = re.search(r"^version: (\S+)$", (EXAMPLES.parent / "CITATION.cff").read_text(), re.MULTILINE)
         self.assertEqual(yokecairn.__version__, cited[1])
@@ -138,7 +157,7 @@ class Results(unittest.TestCase):
         ):
             instance, certificate = text_of(f"{name}.tsp"), text_of(f"{name}.{word}")
             status, told, result = _library.bound_result(instance, certificate, by)
-            self.assertEqual(Report.of_result(result, told.decode()), Report.of(told.decode()))
+            self.assertEqual(Report.of_result(result, told.decode()), report_in(told.decode()))
             bound_status, bound = _library.Handle(instance).bind(certificate, by)
             self.assertEqual((bound_status, bytes(bound)), (status, bytes(result)))
 

@@ -130,6 +130,8 @@ class Result(ctypes.Structure):
         ("file", c_uint32),
         ("line", c_uint32),
         ("word", c_uint32),
+        ("number", c_uint32),
+        ("field", c_uint32),
     ]
 
     @property

@@ -116,27 +116,6 @@ class Report:
             explanation=explanation,
         )
 
-    @classmethod
-    def of(cls, text: str, explanation: str = "") -> "Report":
-        """The report that this text is."""
-        first, *lines = text.split("\n")[:-1]
-        parts = [line.partition(" ") for line in lines]
-        found = {word: int(rest) for word, _, rest in parts if word in _NUMBERS and rest != "none"}
-        verdict, *words = lines[-1].split(" ")
-        is_yes = verdict == "yes"
-        return cls(
-            yes=is_yes,
-            type=first[len("type ") :],
-            not_judged=_not_judged(lines),
-            optimal="optimal" in lines,
-            no_tour="bound none" in lines,
-            reason=None if is_yes else words[0],
-            numbers=() if is_yes else tuple(map(int, words[1:])),
-            text=text,
-            explanation=explanation,
-            **{word: found.get(word) for word in _NUMBERS},  # type: ignore[arg-type]
-        )
-
 
 def _not_judged(lines: Sequence[str]) -> Tuple[str, ...]:
     """The unknown keywords of an instance, by the lines of a report."""

@@ -103,12 +103,10 @@ function rowsOfTours(library, job) {
     const tours = job.instance && (job.tours ?? []).length > 1 ? (job.tours ?? []) : [];
     return tours.map((solution) => {
         const read = readOf(library, { ...job, solution });
-        const { status, bytes } = answerOf(library, { ...job, solution: read?.given ?? solution }, "check");
-        const text = new TextDecoder().decode(bytes);
-        if (status !== Status.YES && status !== Status.NO) {
+        const { text, report } = answerOf(library, { ...job, solution: read?.given ?? solution }, "check");
+        if (report === null) {
             return { name: solution.name, word: text.trim() || "Out of memory", length: "", gap: "", percent: "" };
         }
-        const report = reportOf(text);
         const word = report.yes ? verdictOf(report).word : [`No: ${report.reason}`, ...report.numbers].join(" ");
         const gap = report.optimal ? "0" : String(report.gap ?? "");
         return { name: solution.name, word, length: String(report.length ?? ""), gap, percent: percentOf(report) };
@@ -135,10 +133,7 @@ export function tableOf(rows) {
  */
 function judged(library, job) {
     const verb = verbOf(job);
-    const { status, bytes } = answerOf(library, job, verb);
-    const text = new TextDecoder().decode(bytes);
-    const isJudged = verb !== "show" && (status === Status.YES || status === Status.NO);
-    const report = isJudged ? reportOf(text) : null;
+    const { status, bytes, text, report } = answerOf(library, job, verb);
     const solution = job.solution?.bytes ?? null;
     return {
         command: commandOf(job, verb),
@@ -152,20 +147,38 @@ function judged(library, job) {
 }
 
 /**
+ * What a verb answers: with its report, where files are judged.
+ *
  * @param {import("./library.mjs").Library} library
  * @param {Job} job
  * @param {string | null} verb
- * @returns {import("./library.mjs").Answer}
+ * @returns {{ status: number, bytes: Uint8Array, text: string, report: import("./report.mjs").Report | null }}
  */
 function answerOf(library, job, verb) {
+    if (verb === "show") {
+        const { status, bytes } = library.show(oneOf(job).bytes);
+        return { status, bytes, text: new TextDecoder().decode(bytes), report: null };
+    }
+    const { status, bytes, result } = judgedBy(library, job, verb);
+    const text = new TextDecoder().decode(bytes);
+    const isJudged = status === Status.YES || status === Status.NO;
+    return { status, bytes, text, report: isJudged ? reportOf(result, text) : null };
+}
+
+/**
+ * What a check or a bound answers.
+ *
+ * @param {import("./library.mjs").Library} library
+ * @param {Job} job
+ * @param {string | null} verb
+ * @returns {import("./library.mjs").Judged}
+ */
+function judgedBy(library, job, verb) {
     const [instance, solution, certificate] = textsOf(job);
     if (verb === "check") {
         return library.check(instance, solution, certificate, byOf(job), job.claimed);
     }
-    if (verb === "bound") {
-        return library.bound(instance, certificate, byOf(job));
-    }
-    return library.show(oneOf(job).bytes);
+    return library.bound(instance, certificate, byOf(job));
 }
 
 /**

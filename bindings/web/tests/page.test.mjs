@@ -4,7 +4,7 @@ import assert from "node:assert/strict";
 import { readFileSync } from "node:fs";
 import { test } from "node:test";
 
-import { By, Section, Status } from "../page/library.mjs";
+import { By, Section, Status, Verdict } from "../page/library.mjs";
 import { barOf, pictureOf } from "../page/picture.mjs";
 import { percentOf, reportOf, verdictOf } from "../page/report.mjs";
 import { roleOf } from "../page/roles.mjs";
@@ -19,27 +19,37 @@ const bytesOf = (text) => new TextEncoder().encode(text);
 const example = (name) => ({ name, bytes: new Uint8Array(readFileSync(new URL(name, EXAMPLES))) });
 const text = (words) => ({ name: "text", bytes: bytesOf(words) });
 const alone = { instance: null, solution: null, certificate: null, by: By.POTENTIALS, claimed: null };
+const NUMBERS = { kind: 1, nodes: 8, verdict: Verdict.TOUR, reason: 0, first: 0n, second: 0n, length: 0n, bound: null, routes: 0 };
+const reportWith = (numbers, words = "") => reportOf({ ...NUMBERS, ...numbers }, words);
+const tourReport = (length, bound = null) => reportWith({ length, bound });
+const refusedReport = (reason, first = 0n, second = 0n) => reportWith({ verdict: Verdict.REJECTED, reason, first, second });
 const HARBOUR = { ...alone, instance: example("harbour.tsp"), solution: example("harbour.tour") };
 
-test("a report as values", () => {
-    const report = reportOf("type TSP\nnodes 8\nnot judged DISTANCE\nlength 226\nbound 220\ngap 6\nyes\n");
-    assert.deepEqual([report.yes, report.length, report.bound, report.gap], [true, 226n, 220n, 6n]);
+test("a report of a result in numbers", () => {
+    const words = "type TSP\nnodes 8\nnot judged DISTANCE\nlength 226\nbound 220\ngap 6\nyes\n";
+    const report = reportWith({ length: 226n, bound: 220n }, words);
+    assert.deepEqual([report.yes, report.type, report.length, report.bound, report.gap], [true, "TSP", 226n, 220n, 6n]);
     assert.deepEqual([report.optimal, report.noTour, report.routes], [false, false, null]);
     assert.deepEqual(report.notJudged, ["DISTANCE"]);
-    const refused = reportOf("type TSP\nnodes 3\nno NotSymmetric 1 2\n");
+    const refused = refusedReport(3, 1n, 2n);
     assert.deepEqual([refused.yes, refused.reason, refused.numbers], [false, "NotSymmetric", [1, 2]]);
+    assert.deepEqual([refused.length, refused.bound, refused.gap, refused.optimal], [null, null, null, false]);
+    const last = refusedReport(27, 4n);
+    assert.deepEqual([last.reason, last.numbers], ["BadLeaf", [4]]);
+    assert.equal(reportWith({ kind: 3 }).type, "CVRP");
 });
 
 test("what a verdict means", () => {
-    const word = (lines) => verdictOf(reportOf(`type TSP\nnodes 8\n${lines}\n`)).word;
-    assert.equal(word("length 5\nyes"), "Yes: a tour");
-    assert.equal(word("length 5\nbound 5\noptimal\nyes"), "Yes: optimal");
-    assert.equal(word("length 5\nbound -1\ngap 6\nyes"), "Yes: gap 6");
-    assert.equal(word("bound 5\nyes"), "Yes: a bound");
-    assert.equal(word("bound none\nyes"), "Yes: no tour");
-    assert.equal(word("routes 2\nleast 2\nlength 9\nyes"), "Yes");
-    assert.equal(word("no TourLength"), "No");
-    const { meaning } = verdictOf(reportOf("type TSP\nnodes 8\nlength 300\nbound 299\ngap 1\nyes\n"));
+    const word = (numbers) => verdictOf(reportWith(numbers)).word;
+    assert.equal(word({ length: 5n }), "Yes: a tour");
+    assert.equal(word({ length: 5n, bound: 5n }), "Yes: optimal");
+    assert.equal(word({ length: 0n, bound: 0n }), "Yes: optimal");
+    assert.equal(word({ length: 5n, bound: -1n }), "Yes: gap 6");
+    assert.equal(word({ verdict: Verdict.BOUND, bound: 5n }), "Yes: a bound");
+    assert.equal(word({ verdict: Verdict.NO_TOUR }), "Yes: no tour");
+    assert.equal(word({ verdict: Verdict.ROUTES, routes: 2, length: 9n }), "Yes");
+    assert.equal(word({ verdict: Verdict.REJECTED, reason: 6 }), "No");
+    const { meaning } = verdictOf(tourReport(300n, 299n));
     assert.match(meaning, /No tour is more than 1 shorter, which is 0\.34 %\.$/, "a share is rounded up");
 });
 
@@ -51,13 +61,13 @@ test("sections of a canonical text", () => {
 });
 
 test("what a reason is about", () => {
-    const marks = (line) => marksOf(reportOf(`type TSP\nnodes 4\nno ${line}\n`), [[1, 3], [3, 4]], [[2, 4]]);
-    assert.deepEqual(marks("RepeatedNode 3").nodes, [3]);
-    assert.deepEqual(marks("Unserved 2").nodes, [2]);
-    assert.deepEqual(marks("FixedEdgeUnused 1").pair, [2, 4]);
-    assert.deepEqual(marks("NotSymmetric 1 2").pair, [1, 2]);
-    assert.equal(marks("Overload 2").route, 2);
-    assert.deepEqual(marks("TourLength"), { nodes: [], pair: null, route: null });
+    const marks = (...numbers) => marksOf(refusedReport(...numbers), [[1, 3], [3, 4]], [[2, 4]]);
+    assert.deepEqual(marks(12, 3n).nodes, [3], "RepeatedNode");
+    assert.deepEqual(marks(14, 2n).nodes, [2], "Unserved");
+    assert.deepEqual(marks(13, 1n).pair, [2, 4], "FixedEdgeUnused");
+    assert.deepEqual(marks(3, 1n, 2n).pair, [1, 2], "NotSymmetric");
+    assert.equal(marks(15, 2n).route, 2, "Overload");
+    assert.deepEqual(marks(6), { nodes: [], pair: null, route: null }, "TourLength");
     assert.deepEqual(missingOf(5, [[1, 3], [3, 4]], null), [2, 5]);
     assert.deepEqual(missingOf(5, [[3, 4]], 1), [2, 5]);
     assert.deepEqual(missingOf(5, [], null), [], "without a tour no node is missing");
@@ -98,7 +108,7 @@ test("a page that isn't shown has pictures of some width", () => {
     const scene = { points: Float64Array.of(0, 0, 3, 4), note: "", tours: [], fixed: [], depot: null, missing: [], marks: { nodes: [], pair: null, route: null } };
     const { width, height } = pictureOf(scene, 0, "plain");
     assert.ok(width > 0 && height > 0);
-    const bar = barOf(reportOf("type TSP\nnodes 3\nlength 10\nbound 9\ngap 1\nyes\n"), 0);
+    const bar = barOf(tourReport(10n, 9n), 0);
     assert.ok(bar.shapes.every(({ attributes }) => attributes.width === undefined || attributes.width >= 0));
 });
 
@@ -111,12 +121,12 @@ test("which verb the files ask for", () => {
 });
 
 test("a gap in percent", () => {
-    const percent = (lines) => percentOf(reportOf(`type TSP\nnodes 4\n${lines}yes\n`));
-    assert.equal(percent("length 16\nbound 14\ngap 2\n"), "14.2857"); // 100 * 2 / 14 = 14.28571..
-    assert.equal(percent("length 14\nbound 14\noptimal\n"), "0.0000");
-    assert.equal(percent("length 3\nbound 2\ngap 1\n"), "50.0000");
-    assert.equal(percent("length 200003\nbound 200000\ngap 3\n"), "0.0015");
-    assert.deepEqual([percent("length 5\nbound -1\ngap 6\n"), percent("length 5\nbound 0\ngap 5\n"), percent("length 5\n")], ["", "", ""]);
+    const percent = (length, bound) => percentOf(tourReport(length, bound));
+    assert.equal(percent(16n, 14n), "14.2857"); // 100 * 2 / 14 = 14.28571..
+    assert.equal(percent(14n, 14n), "0.0000");
+    assert.equal(percent(3n, 2n), "50.0000");
+    assert.equal(percent(200003n, 200000n), "0.0015");
+    assert.deepEqual([percent(5n, -1n), percent(5n, 0n), percent(5n)], ["", "", ""]);
 });
 
 test("a table that is saved", () => {
@@ -125,11 +135,11 @@ test("a table that is saved", () => {
 });
 
 test("a bar of length, bound and gap", () => {
-    const bar = (lines) => barOf(reportOf(`type TSP\nnodes 3\n${lines}\nyes\n`), 100);
-    assert.deepEqual(bar("length 10\nbound 9\ngap 1").shapes.slice(0, 2).map((it) => it.attributes.width), [90, 10]);
-    assert.equal(bar("length 10\nbound 10\noptimal").shapes[0].attributes.width, 100);
-    assert.equal(bar("length 10"), null);
-    assert.equal(bar("length 10\nbound -1\ngap 11"), null);
+    const bar = (length, bound) => barOf(tourReport(length, bound), 100);
+    assert.deepEqual(bar(10n, 9n).shapes.slice(0, 2).map((it) => it.attributes.width), [90, 10]);
+    assert.equal(bar(10n, 10n).shapes[0].attributes.width, 100);
+    assert.equal(bar(10n), null);
+    assert.equal(bar(10n, -1n), null);
 });
 
 test("a check, from files to the drawing", async () => {
@@ -148,6 +158,19 @@ test("a check, from files to the drawing", async () => {
     const numbers = shapes.flatMap(({ attributes: { d = "" } }) => [...d.matchAll(/[ML](\S+) ([^MLZh]+)/g)]);
     assert.equal(numbers.length, 16, "each node is drawn, and is in the tour");
     assert.ok(numbers.every(([, x, y]) => x >= 0 && x <= width && y >= 0 && y <= height));
+});
+
+test("a bound below 0, and a claimed length", async () => {
+    const library = await libraryOf(PAGE);
+    const instance = text("TYPE : TSP\nDIMENSION : 4\nEDGE_WEIGHT_TYPE : EUC_2D\nNODE_COORD_SECTION\n1 0 0\n2 3 0\n3 3 4\n4 0 4.5\nEOF\n");
+    const certificate = text("TYPE : POTENTIALS\nDIMENSION : 4\nNODE_POTENTIAL_SECTION\n1 1000\n2 -1000\n3 0\n4 0\nEOF\n");
+    const job = { ...alone, instance, certificate, solution: text("TYPE : TOUR\nTOUR_SECTION\n1 2 3 4 -1\nEOF\n") };
+    // 2-3 and 2-4 weigh 4 - 1000 and 5 - 1000, 1-2 weighs 3, and 1-3 weighs 5 + 1000
+    const { report } = run(library, job);
+    assert.deepEqual([report.length, report.bound, report.gap], [15n, -983n, 998n]);
+    assert.equal(run(library, { ...job, solution: null }).report.bound, -983n);
+    const claimed = run(library, { ...job, certificate: null, claimed: 14n });
+    assert.deepEqual([claimed.report.reason, claimed.report.numbers, claimed.report.length], ["LengthClaimed", [15], null]);
 });
 
 test("a tour of Concorde is read by itself, and can be saved", async () => {

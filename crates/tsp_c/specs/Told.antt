@@ -3,6 +3,10 @@ use Rattle.std.specs.Prelude.{◌≡◌, ℕ, ◌≤◌, ◌<◌, ◌^◌, List,
 use Rattle.std.specs.Int.{int_div_euclid, int_rem_euclid}
 use Rattle.tsp_format.specs.declared.kinds.Kind.{Kind}
 use Rattle.tsp_format.specs.declared.kinds.Kind.TheVariants as kinds
+use Rattle.tsp_format.specs.declared.field.Field.{Field}
+use Rattle.tsp_format.specs.declared.field.Field.TheVariants as fields
+use Rattle.tsp_number.specs.declared.fault.NumberFault.{NumberFault}
+use Rattle.tsp_number.specs.declared.fault.NumberFault.TheVariants as number_faults
 use Rattle.tsp_draft.specs.Fields.{Fields}
 use Rattle.tsp_draft.specs.declared.fault.EndFault.TheVariants as end_faults
 use Rattle.tsp_file.specs.Meant.{nodes_of}
@@ -51,6 +55,8 @@ blank_told = record {
   file = 0;
   line = 0;
   word = 0;
+  number = 0;
+  field = 0;
 }
 
 -- ---- an instance: the number of its TYPE, and how many nodes it has
@@ -132,7 +138,7 @@ IsSizedBound (bounds.Bound bound) = IsGapSized (Some bound)
 IsSizedBound bounds.NoTour = Unit {0}
 IsSizedBound (bounds.No reason) = Unit {0}
 
--- ---- a fault: its number, the text's number, the line and the word
+-- ---- a fault: its number, the text's number, the line and the word; what is wrong with a number; the field that isn't whole
 
 abbrev pub line_fault_number : LineFault → ℕ
 line_fault_number line_faults.LongLine = 1
@@ -161,10 +167,64 @@ read_fault_number read_faults.TooLong = 20
 read_fault_number read_faults.OutOfMemory = 0
 read_fault_number read_faults.Device = 0
 
+abbrev pub number_fault_number : NumberFault → ℕ
+number_fault_number number_faults.LongWord = 1
+number_fault_number number_faults.BadNumber = 2
+number_fault_number number_faults.TooFine = 3
+number_fault_number number_faults.OutOfRange = 4
+number_fault_number number_faults.NotWhole = 5
+
+-- of a line whose fault is one of a number
+abbrev pub told_number : LineFault → ℕ
+told_number (line_faults.Number found) = number_fault_number found
+told_number found = 0
+
+-- its place in canonical order
+abbrev pub field_number : Field → ℕ
+field_number fields.NameKey = 1
+field_number fields.TypeKey = 2
+field_number fields.CommentKey = 3
+field_number fields.OtherKey = 4
+field_number fields.DimensionKey = 5
+field_number fields.CapacityKey = 6
+field_number fields.ScaleKey = 7
+field_number fields.EdgeWeightTypeKey = 8
+field_number fields.EdgeWeightFormatKey = 9
+field_number fields.NodeCoordTypeKey = 10
+field_number fields.DisplayDataTypeKey = 11
+field_number fields.NodeCoordPart = 12
+field_number fields.DisplayDataPart = 13
+field_number fields.DemandPart = 14
+field_number fields.DepotPart = 15
+field_number fields.FixedEdgesPart = 16
+field_number fields.EdgeWeightPart = 17
+field_number fields.TourPart = 18
+field_number fields.NodePotentialPart = 19
+field_number fields.RowPotentialPart = 20
+field_number fields.ColumnPotentialPart = 21
+field_number fields.FixedEdgePotentialPart = 22
+field_number fields.CombPart = 23
+field_number fields.BranchPart = 24
+
+-- of a text at whose end a field is missing, or has too few places
+abbrev pub told_field : ReadFault → ℕ
+told_field (read_faults.End (end_faults.Missing found)) = field_number found
+told_field (read_faults.End (end_faults.Incomplete found)) = field_number found
+told_field found = 0
+
 abbrev pub told_of_fault : RunFault → Told
-told_of_fault (File number (read_faults.Line line_is word_is found)) =
-    record blank_told { fault = line_fault_number found; file = number; line = line_is; word = word_is }
-told_of_fault (File number found) = record blank_told { fault = read_fault_number found; file = number }
+told_of_fault (File file_is (read_faults.Line line_is word_is found)) = record blank_told {
+  fault = line_fault_number found;
+  file = file_is;
+  line = line_is;
+  word = word_is;
+  number = told_number found;
+}
+told_of_fault (File file_is found) = record blank_told {
+  fault = read_fault_number found;
+  file = file_is;
+  field = told_field found;
+}
 told_of_fault WrongKind = record blank_told { fault = 21; file = 1 }
 told_of_fault other = blank_told
 

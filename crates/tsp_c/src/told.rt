@@ -3,11 +3,12 @@
 ghost use Rattle.std.specs.Prelude.{◌≡◌, Some, IfOk};
 ghost use Rattle.tsp_report.specs.Report.{IsGapSized, IsSized};
 ghost use Rattle.tsp_verdict.specs.Reasons.{rank_of};
-ghost use Rattle.tsp_c.specs.Told.{IsSizedBound, blank_told, first_number, kind_number, line_fault_number, read_fault_number, second_number, told_of_bound, told_of_bound_run, told_of_fault, told_of_instance, told_of_run, told_of_verdict, with_bound, with_reason};
+ghost use Rattle.tsp_c.specs.Told.{IsSizedBound, blank_told, told_field, field_number, first_number, kind_number, line_fault_number, number_fault_number, told_number, read_fault_number, second_number, told_of_bound, told_of_bound_run, told_of_fault, told_of_instance, told_of_run, told_of_verdict, with_bound, with_reason};
 
 use tsp_cost::{Costs, Instance};
-use tsp_format::Kind;
+use tsp_format::{Field, Kind};
 use tsp_judge::{Bounded, EndFault, Judged, LineFault, ReadFault, RunFault};
+use tsp_number::NumberFault;
 use tsp_reason::{BoundVerdict, Reason, Verdict};
 
 /// The verdicts by their numbers.
@@ -58,6 +59,10 @@ pub struct Told {
     pub file: u32,
     pub line: u32,
     pub word: u32,
+    /// The number of what is wrong with a number.
+    pub number: u32,
+    /// The number of the keyword or section that is missing, or has too few places.
+    pub field: u32,
 }
 
 impl Told {
@@ -82,6 +87,8 @@ impl Told {
             file: 0,
             line: 0,
             word: 0,
+            number: 0,
+            field: 0,
         }
     }
 
@@ -188,11 +195,13 @@ impl Told {
                 file,
                 line,
                 word,
+                number: told_number(fault),
                 ..Told::blank()
             },
             RunFault::File { file, fault } => Told {
                 fault: read_fault_number(fault),
                 file,
+                field: told_field(fault),
                 ..Told::blank()
             },
             RunFault::WrongKind => Told {
@@ -345,5 +354,72 @@ fn read_fault_number(fault: ReadFault) -> u32
         ReadFault::End(EndFault::WrongCount) => 19,
         ReadFault::TooLong => 20,
         ReadFault::OutOfMemory | ReadFault::Device => 0,
+    }
+}
+
+/// The number of what is wrong with a number, where that is the fault of a line; else 0.
+fn told_number(fault: LineFault) -> u32
+    ensures { result ≡ told_number fault }
+{
+    match fault {
+        LineFault::Number(found) => number_fault_number(found),
+        _ => 0,
+    }
+}
+
+/// The number of what is wrong with a number.
+fn number_fault_number(fault: NumberFault) -> u32
+    ensures { result ≡ number_fault_number fault }
+{
+    match fault {
+        NumberFault::LongWord => 1,
+        NumberFault::BadNumber => 2,
+        NumberFault::TooFine => 3,
+        NumberFault::OutOfRange => 4,
+        NumberFault::NotWhole => 5,
+    }
+}
+
+/// The number of the field that a fault of a text's end names, or 0.
+fn told_field(fault: ReadFault) -> u32
+    ensures { result ≡ told_field fault }
+{
+    match fault {
+        ReadFault::End(EndFault::Missing(field) | EndFault::Incomplete(field)) => {
+            field_number(field)
+        }
+        _ => 0,
+    }
+}
+
+/// The number of a field: its place in canonical order.
+fn field_number(field: Field) -> u32
+    ensures { result ≡ field_number field }
+{
+    match field {
+        Field::NameKey => 1,
+        Field::TypeKey => 2,
+        Field::CommentKey => 3,
+        Field::OtherKey => 4,
+        Field::DimensionKey => 5,
+        Field::CapacityKey => 6,
+        Field::ScaleKey => 7,
+        Field::EdgeWeightTypeKey => 8,
+        Field::EdgeWeightFormatKey => 9,
+        Field::NodeCoordTypeKey => 10,
+        Field::DisplayDataTypeKey => 11,
+        Field::NodeCoordPart => 12,
+        Field::DisplayDataPart => 13,
+        Field::DemandPart => 14,
+        Field::DepotPart => 15,
+        Field::FixedEdgesPart => 16,
+        Field::EdgeWeightPart => 17,
+        Field::TourPart => 18,
+        Field::NodePotentialPart => 19,
+        Field::RowPotentialPart => 20,
+        Field::ColumnPotentialPart => 21,
+        Field::FixedEdgePotentialPart => 22,
+        Field::CombPart => 23,
+        Field::BranchPart => 24,
     }
 }
