@@ -7,14 +7,17 @@
 //! Which list takes the words is found out once for a run. The loop over them is one for all lists,
 //! and has its counts in one place.
 
-ghost use Rattle.std.specs.Prelude.{◌≡◌, ◌+◌, ◌≤◌, length, IfSome, Ok};
+ghost use Rattle.std.specs.Prelude.{◌≡◌, ◌+◌, ◌<◌, ◌≤◌, ℕ, Bool, true, List, length, Some, IfSome, Ok};
 ghost use Rattle.std.specs.Option.{option_map};
 ghost use Rattle.tsp_format.specs.Limits.{most_file_bytes};
 ghost use Rattle.tsp_number.specs.Reading.{decimal_of};
+ghost use Rattle.tsp_text.specs.Items.{NumberWord};
 ghost use Rattle.tsp_text.specs.Numbers.{IsWhole};
 ghost use Rattle.tsp_section.specs.declared.part.Part.{Part};
 ghost use Rattle.tsp_section.specs.declared.part.Part.TheVariants as parts;
-ghost use Rattle.tsp_read.specs.states.Front.{front_word, IsFrontWord, LeavesEnd};
+ghost use Rattle.tsp_section.specs.states.Run.{TakesRead};
+ghost use Rattle.tsp_read.specs.states.Front.{front_word, left_from, IsFrontWord, LeavesEnd};
+ghost use Rattle.tsp_read.specs.states.Onward.{GivesNext};
 ghost use Rattle.tsp_read.specs.states.Run.{RunsTo, StepsTo};
 
 use crate::count::Count;
@@ -29,72 +32,107 @@ use tsp_section::{Gathered, Part, RunList, WeightList};
 
 // ---- a number at the beginning of a text
 
-/// What is left where a word has ended: without the blank that ended it, or from byte 10 on.
-/// Nothing where no word ends here.
+/// The byte that ends a word, and the text after it.
+#[derive(Clone, Copy)]
+pub(crate) enum End<'a> {
+    /// A blank.
+    Blank(&'a [u8]),
+    /// A byte 10, which ends the line too.
+    Line(&'a [u8]),
+}
+
+/// The end of a word that a text begins with. Nothing where no word ends here.
 #[inline(always)]
-fn past_end(rest: &[u8]) -> Option<&[u8]>
-    ensures left { IfSome result (λ left. LeavesEnd rest.now left.now) }
-    ensures within { IfSome result (λ left. length left.now ≤ length rest.now) }
+fn word_end(rest: &[u8]) -> Option<End<'_>>
+    ensures left { IfSome result (λ end. LeavesEnd rest.now (left_from end)) }
+    ensures within { IfSome result (λ end. length (left_from end) ≤ length rest.now) }
 {
     match rest.split_first() {
-        Some((end, left)) if is_blank(*end) => Some(left),
-        Some((b'\n', _)) => Some(rest),
+        Some((end, left)) if is_blank(*end) => Some(End::Blank(left)),
+        Some((b'\n', left)) => Some(End::Line(left)),
         _ => None,
     }
 }
 
-/// The whole number of a few digits that a text begins with, and what follows its word and the
-/// blank that ends it; or nothing where the text begins with no such word whose end has come.
+/// The whole number of a few digits that a text begins with, and the end of its word; or nothing where
+/// the text begins with no such word whose end has come.
 #[inline(always)]
-pub(crate) fn few_number(text: &[u8]) -> Option<(i64, &[u8])>
-    ensures { IfSome result (λ found. IsFrontWord text.now (IsWhole (front_word text.now) found.0) found.1.now) }
+pub(crate) fn few_number(text: &[u8]) -> Option<(i64, End<'_>)>
+    ensures { IfSome result (λ found.
+        IsFrontWord text.now (IsWhole (front_word text.now) found.0) (left_from found.1)) }
 {
     let Some((number, end)) = front_few(text) else {
         return None;
     };
     let rest = text.split_at(end).1;
-    match past_end(rest) {
-        Some(left) => Some((number, left)),
+    match word_end(rest) {
+        Some(end) => Some((number, end)),
         None => None,
     }
 }
 
-/// The whole number at the beginning of a text, and the rest after its word and the blank that ends
-/// it. Nothing where the text begins with no word of at most 18 digits whose end has come.
+/// The whole number at the beginning of a text, and the end of its word. Nothing where the text begins
+/// with no word of at most 18 digits whose end has come.
 #[inline(never)]
-pub(crate) fn front_number(text: &[u8]) -> Option<(i64, &[u8])>
-    ensures { IfSome result (λ found. IsFrontWord text.now (IsWhole (front_word text.now) found.0) found.1.now) }
+pub(crate) fn front_number(text: &[u8]) -> Option<(i64, End<'_>)>
+    ensures { IfSome result (λ found.
+        IsFrontWord text.now (IsWhole (front_word text.now) found.0) (left_from found.1)) }
 {
     let filled = without_start(text);
     let Some((number, end)) = front_whole(filled) else {
         return None;
     };
     let rest = filled.split_at(end).1;
-    match past_end(rest) {
-        Some(left) => Some((number, left)),
+    match word_end(rest) {
+        Some(end) => Some((number, end)),
         None => None,
     }
 }
 
-/// The coordinate at the beginning of a text, and the rest after its word and the blank that ends
-/// it. Nothing where the text begins with no word of at most nine digits, a point and nine more
-/// whose end has come.
+/// The coordinate at the beginning of a text, and the end of its word. Nothing where the text begins
+/// with no word of at most nine digits, a point and nine more whose end has come.
 #[inline(always)]
-pub(crate) fn front_coordinate(text: &[u8]) -> Option<(Decimal, &[u8])>
-    ensures { IfSome result (λ found. IsFrontWord text.now (decimal_of (front_word text.now) ≡ Ok found.0) found.1.now) }
+pub(crate) fn front_coordinate(text: &[u8]) -> Option<(Decimal, End<'_>)>
+    ensures { IfSome result (λ found.
+        IsFrontWord text.now (decimal_of (front_word text.now) ≡ Ok found.0) (left_from found.1)) }
 {
     let filled = without_start(text);
     let Some(found) = front_decimal(filled) else {
         return None;
     };
     let rest = filled.split_at(found.1).1;
-    match past_end(rest) {
-        Some(left) => Some((found.0, left)),
+    match word_end(rest) {
+        Some(end) => Some((found.0, end)),
         None => None,
     }
 }
 
 // ---- one item, taken
+
+/// Counts a word that was taken, and the line's end where that ends it. The result is the text after it.
+#[inline(always)]
+fn count_word<'a>(count: &mut Count, end: End<'a>) -> &'a [u8]
+    requires line { count.old.line + length (left_from end) ≤ most_file_bytes }
+    requires words { count.old.words + length (left_from end) < most_file_bytes }
+    ensures { (old new : Part) (text word : List ℕ) → TakesRead old new word
+        → ((inside : Bool) → GivesNext inside text (NumberWord word) true (left_from end.entry))
+        → length (left_from end.entry) < length text
+        → StepsTo old count.old text new count.new (Some result.now) }
+{
+    match end {
+        End::Blank(rest) => {
+            count.words += 1;
+            count.inside = true;
+            rest
+        }
+        End::Line(rest) => {
+            count.line += 1;
+            count.words = 0;
+            count.inside = false;
+            rest
+        }
+    }
+}
 
 /// Takes the whole number that was found at the beginning of a text, if one was, where the list
 /// takes it, and returns the rest.
@@ -102,23 +140,23 @@ pub(crate) fn front_coordinate(text: &[u8]) -> Option<(Decimal, &[u8])>
 fn take_number<'a, L: RunList>(
     list: &mut L,
     count: &mut Count,
-    text: &'a [u8],
-    found: Option<(i64, &'a [u8])>,
+    text: &[u8],
+    found: Option<(i64, End<'a>)>,
 ) -> Option<&'a [u8]>
-    requires count { count.old.words + length text.now ≤ most_file_bytes }
-    requires found { IfSome found (λ found. IsFrontWord text.now (IsWhole (front_word text.now) found.0) found.1.now) }
+    requires line { count.old.line + length text.now ≤ most_file_bytes + 1 }
+    requires words { count.old.words + length text.now ≤ most_file_bytes }
+    requires found { IfSome found (λ found.
+        IsFrontWord text.now (IsWhole (front_word text.now) found.0) (left_from found.1)) }
     ensures { StepsTo (L.part list.old) count.old text.now (L.part list.new) count.new
         (option_map (λ rest. rest.now) result) }
 {
-    let Some((number, rest)) = found else {
+    let Some((number, end)) = found else {
         return None;
     };
     if !list.take_whole(number) {
         return None;
     }
-    count.words += 1;
-    count.inside = true;
-    Some(rest)
+    Some(count_word(count, end))
 }
 
 /// Takes the coordinate that a text begins with, where the list takes it, and gives what follows it.
@@ -128,7 +166,8 @@ fn take_coordinate<'a, L: RunList>(
     count: &mut Count,
     text: &'a [u8],
 ) -> Option<&'a [u8]>
-    requires { count.old.words + length text.now ≤ most_file_bytes }
+    requires line { count.old.line + length text.now ≤ most_file_bytes + 1 }
+    requires words { count.old.words + length text.now ≤ most_file_bytes }
     ensures { StepsTo (L.part list.old) count.old text.now (L.part list.new) count.new
         (option_map (λ rest. rest.now) result) }
 {
@@ -138,9 +177,7 @@ fn take_coordinate<'a, L: RunList>(
     if !list.take_coordinate(found.0) {
         return None;
     }
-    count.words += 1;
-    count.inside = true;
-    Some(found.1)
+    Some(count_word(count, found.1))
 }
 
 /// Counts the line's end that a text begins with, and gives what follows it.

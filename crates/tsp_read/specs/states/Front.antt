@@ -5,6 +5,8 @@ use Rattle.tsp_text.specs.Lines.{ends_line, without_start}
 use Rattle.tsp_text.specs.Items.{NumberWord}
 use Rattle.tsp_read.specs.states.Left.{ends_word, up_to_first}
 use Rattle.tsp_read.specs.states.Onward.{GivesNext}
+use Rattle.tsp_read.specs.declared.run.End.{End}
+use Rattle.tsp_read.specs.declared.run.End.TheVariants.{Blank, Line}
 
 -- its bytes from the first that isn't blank to the first blank or byte 10
 abbrev pub front_word : List ℕ → List ℕ
@@ -14,6 +16,11 @@ front_word text = up_to_first ends_word (without_start text)
 abbrev pub LeavesEnd : List ℕ → List ℕ → Type 0
 LeavesEnd [] left = ⊥
 LeavesEnd (b ∷ later) left = ((is_blank b ≡ true) × (left ≡ later)) ⊎ ((ends_line b ≡ true) × (left ≡ b ∷ later))
+
+-- what is left of a text behind its word: all after the blank that ends it, or from byte 10 on
+abbrev pub left_from : End → List ℕ
+left_from (Blank later) = later.now
+left_from (Line later) = 10 ∷ later.now
 
 -- The word at the front was found, and its end has come: it is the next item, whether or not a line or word has begun before it,
 -- it is read as `Reads` says, and what is left behind it is shorter.

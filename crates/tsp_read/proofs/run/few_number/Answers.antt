@@ -4,20 +4,21 @@ use Rattle.std.proofs.lemmas.Grind.{common_steps}
 use Rattle.std.specs.Prelude.{pos, ◌*ℤ◌}
 use Rattle.std.proofs.lemmas.Int.{to_z-of_z}
 use Rattle.tsp_distance.specs.Decimal.{unit}
+use Rattle.tsp_read.specs.states.Front.{left_from}
 use Rattle.tsp_read.proofs.FrontSteps.{EndsNumber, begins_filled, front_gives, front_reads}
 use Rattle.tsp_read.proofs.run.few_number.Goals as goal
 
-number_at_front : (c : goal.In-Some-past_end) → EndsNumber c.args.text.now c.args.text.now c.in-Some.end (c.in-Some.number *ℤ pos unit)
-    c.split_at.result.1.now c.in-Some-past_end.left.now
+number_at_front : (c : goal.In-Some-word_end) → EndsNumber c.args.text.now c.args.text.now c.in-Some.end (c.in-Some.number *ℤ pos unit)
+    c.split_at.result.1.now (left_from c.in-Some-word_end.end)
 number_at_front c = record {
   filled_is = begins_filled _ _ _ c.in-Some.ensures.number;
   number = c.in-Some.ensures.number;
   rest_is = c.split_at.ensures.back;
-  leaves = c.in-Some-past_end.ensures.left;
+  leaves = c.in-Some-word_end.ensures.left;
 }
 
-pub returns-in-Some-past_end : goal.returns-in-Some-past_end
-returns-in-Some-past_end c =
+pub returns-in-Some-word_end : goal.returns-in-Some-word_end
+returns-in-Some-word_end c =
     let fits : FitsSigned w64 c.in-Some.number = search rules in
     record {
       word = front_gives _ _ _ _ _ _ (number_at_front c);

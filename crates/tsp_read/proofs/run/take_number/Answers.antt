@@ -1,17 +1,14 @@
 -- The goals of `take_number` in src/run.rt: what it ensures.
-use Rattle.std.proofs.Common.{refl, rules, FitsSigned, w64}
+use Rattle.std.proofs.Common.{rules, FitsSigned, w64}
 use Rattle.std.proofs.lemmas.Int.{to_z-of_z}
 use Rattle.tsp_text.specs.Numbers.{IsWhole}
-use Rattle.tsp_read.specs.states.Front.{front_word, IsFrontWord}
-use Rattle.tsp_read.proofs.RunSteps.{word_runs}
+use Rattle.tsp_read.specs.states.Front.{front_word, left_from, IsFrontWord}
 use Rattle.tsp_read.proofs.run.take_number.Goals as goal
 
 pub returns : goal.returns
 returns g c =
     let fits : FitsSigned w64 c.in-Some.number = search rules in
     let word = front_word c.args.text.now in
-    let found : IsFrontWord c.args.text.now (IsWhole word c.in-Some.number) c.in-Some.rest.now = rw c.in-Some.is at c.requires.found in (
-      word_runs _ _ c.args.count.now _ c.args.text.now c.in-Some.rest.now word
-          (c.take_whole.ensures.taken c.if-not-take_whole.false word (rw (to_z-of_z w64 c.in-Some.number fits) found.reads)) found.word refl refl refl found.shorter,
-      found.shorter,
-    )
+    let found : IsFrontWord c.args.text.now (IsWhole word c.in-Some.number) (left_from c.in-Some.end) = rw c.in-Some.is at c.requires.found in
+    c.count_word.ensures _ _ c.args.text.now word
+    (c.take_whole.ensures.taken c.if-not-take_whole.false word (rw (to_z-of_z w64 c.in-Some.number fits) found.reads)) found.word found.shorter
