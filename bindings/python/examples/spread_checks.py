@@ -15,7 +15,8 @@ a tab between its fields:
 
     INSTANCE  SOLUTION  STATUS  TYPE  NODES  LENGTH  BOUND  VERDICT
 
-The statuses are those of the program `tsp`, and the exit status is the largest of all.
+The statuses are those of the program `tsp`, and the exit status is the largest of all. Lines with the same instance
+and certificate, and without a length, are compared together, up to 100 of them by a worker.
 
 It needs distributed. On Debian and Ubuntu this one command installs it, for /usr/bin/python3:
 
@@ -31,6 +32,8 @@ except ImportError:
     sys.exit(f"spread_checks: {sys.executable} has no distributed: apt-get install python3-distributed")
 
 import yokecairn
+
+MOST = 100  # jobs of a group
 
 
 def jobs_of(path):
@@ -50,12 +53,36 @@ def jobs_of(path):
     return jobs
 
 
+def groups_of(jobs):
+    """The places of jobs that are judged together, up to MOST in a group."""
+    found = {}
+    for place, job in enumerate(jobs):
+        alone = place if job.length is not None else None
+        found.setdefault((job.instance, job.potentials, job.branches, alone), []).append(place)
+    return [places[first : first + MOST] for places in found.values() for first in range(0, len(places), MOST)]
+
+
 def outcome(job):
-    """The report of a job, or the exception that its check raised. A worker calls it."""
+    """The report of a job, or the exception that its check raised."""
     try:
         return yokecairn.check(*job)
     except Exception as fault:
         return fault
+
+
+def outcomes(jobs):
+    """What comes of each job of a group. A worker calls it. The instance and the certificate are read once; where they
+    have a fault, each check says so."""
+    first = jobs[0]
+    if len(jobs) > 1:
+        try:
+            solutions = [job.solution for job in jobs]
+            found = yokecairn.compare(first.instance, solutions, potentials=first.potentials, branches=first.branches)
+            if found.basis.reason is None:
+                return list(found)
+        except Exception:
+            pass
+    return [outcome(job) for job in jobs]
 
 
 def fields_of(outcome):
@@ -78,11 +105,17 @@ def fields_of(outcome):
 
 def outcomes_of(client, jobs):
     """What comes of each job, in the order of the jobs; how far it is, on a terminal."""
-    futures = client.map(outcome, jobs, pure=False)
-    for done, _ in enumerate(as_completed(futures), 1):
+    groups = groups_of(jobs)
+    futures = client.map(outcomes, [[jobs[place] for place in places] for places in groups], pure=False)
+    sizes, done = dict(zip((future.key for future in futures), map(len, groups))), 0
+    for future in as_completed(futures):
+        done += sizes[future.key]
         if sys.stderr.isatty():
             print(f"\r{done} of {len(jobs)}", end="\n" if done == len(jobs) else "", file=sys.stderr)
-    return client.gather(futures)
+    found = {}
+    for places, group in zip(groups, client.gather(futures)):
+        found.update(zip(places, group))
+    return [found[place] for place in range(len(jobs))]
 
 
 def main():
