@@ -59,7 +59,7 @@ unwritten_then contents a b c x h k = (h.0, k.1 ∙ h.1, Appends-kept _ _ _ x h.
 
 -- the verdict from what is known of all is that of a check
 pub found_judged : (common : Common) (turn : Turn) (solution : Fields) (verdict : Verdict) → IsProblem common.instance → IsBasis common.certificate common.instance common.basis
-    → IsFile turn solution → IsVerdictFrom common.basis common.instance solution verdict → IsFoundIn common turn (Ok verdict)
+    → IsFile turn solution → IsVerdictFrom common.basis None common.instance solution verdict → IsFoundIn common turn (Ok verdict)
 found_judged common turn solution verdict problem basis file v =
     let checked = v.1 common.certificate basis in
     (solution, file, checked, v.0, λ yes. accepted common.certificate None common.instance solution verdict problem basis.0 checked (sym yes))

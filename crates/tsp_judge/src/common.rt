@@ -111,7 +111,7 @@ pub(crate) fn find<R: Read>(
         Err(ReadFault::OutOfMemory) => return Err(RunFault::OutOfMemory),
         Err(fault) => return Ok(Found::Fault(fault)),
     };
-    match judge_next(alloc, &common.instance, common.basis, &solution) {
+    match judge_next(alloc, &common.instance, common.basis, &solution, None) {
         Ok(verdict) => Ok(Found::Judged { verdict, solution }),
         Err(AllocError) => Err(RunFault::OutOfMemory),
     }

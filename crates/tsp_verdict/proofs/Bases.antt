@@ -1,6 +1,6 @@
 -- The verdict on a solution by what is known of all.
-use Rattle.std.proofs.Common.{◌≡◌, ◌⊎◌, ℕ, inl, inr, true, Option, Some, None, refl, sym, ap, subst, ◌∙◌, arith}
-use Rattle.std.specs.Prelude.{ℤ}
+use Rattle.std.proofs.Common.{◌≡◌, ◌⊎◌, ◌<◌, ◌≤◌, ℕ, inl, inr, true, Option, Some, None, refl, sym, ap, subst, ◌∙◌, arith}
+use Rattle.std.specs.Prelude.{ℤ, IsTrue, MatchOption}
 use Rattle.std.proofs.lemmas.Bool.{false≢true}
 use Rattle.tsp_format.specs.declared.kinds.Kind.{Kind}
 use Rattle.tsp_format.specs.declared.kinds.Kind.TheVariants as kinds
@@ -11,162 +11,240 @@ use Rattle.tsp_reason.specs.declared.basis.Basis.TheVariants as bases
 use Rattle.tsp_reason.specs.declared.certificate.Certificate.{Certificate}
 use Rattle.tsp_reason.specs.declared.verdict.BoundVerdict.TheVariants as bounds
 use Rattle.tsp_reason.specs.declared.verdict.Reason.{Reason}
-use Rattle.tsp_reason.specs.declared.verdict.Reason.TheVariants.{NotASolution, TooFewNodes, NotSymmetric}
+use Rattle.tsp_reason.specs.declared.verdict.Reason.TheVariants.{NotASolution, TooFewNodes, NotSymmetric, DepotCount, DepotDemand, FixedEdgesInRoutes, LengthClaimed}
 use Rattle.tsp_reason.specs.declared.verdict.Verdict.{Verdict}
 use Rattle.tsp_reason.specs.declared.verdict.Verdict.TheVariants as verdicts
-use Rattle.tsp_verdict.specs.Basis.{IsBasisAlone, IsBasisBy, IsBasis, HasBasis, IsVerdictFrom}
-use Rattle.tsp_verdict.specs.Bounded.{NoneAgainstInstance, IsBoundVerdict}
-use Rattle.tsp_verdict.specs.Certified.{FindsBound}
-use Rattle.tsp_verdict.specs.Judged.{IsVerdictBy, IsVerdictWith}
+use Rattle.tsp_verdict.specs.Basis.{StandsAgainstRouting, IsBasisOfTours, IsBasisOfRoutes, IsBasisAlone, IsBasisBy, IsBasis, HasBasis, IsVerdictFrom}
+use Rattle.tsp_verdict.specs.Bounded.{StandsAgainstInstance, NoneAgainstInstance, StandsAgainstBounded}
+use Rattle.tsp_verdict.specs.Certified.{is_bounded, StandsAgainstCertificate}
+use Rattle.tsp_verdict.specs.Judged.{IsVerdictBy, IsVerdictOn, IsAsClaimed, IsOtherClaimed, IsVerdictWith}
 use Rattle.tsp_verdict.specs.Plan.{total_of, IsLeast}
+use Rattle.tsp_verdict.specs.Reasons.{rank_of, NoneBefore, IsFirstReason}
 use Rattle.tsp_cost.specs.Tours.{capacity_of}
-use Rattle.tsp_verdict.specs.Routes.{IsRoutesVerdict}
+use Rattle.tsp_verdict.specs.Routes.{StandsAgainstRoutes, IsRoutesVerdict}
 use Rattle.tsp_verdict.specs.Tours.{NoneOfTourUpTo, IsFirstAgainstTour, IsTourVerdict}
-use Rattle.tsp_verdict.proofs.Certificates.{kinds_bounded}
-use Rattle.tsp_verdict.proofs.Claims.{tour_refused, tour_bounded}
+use Rattle.tsp_verdict.specs.states.Known.{against_instance, KnowsInstance}
+use Rattle.tsp_verdict.proofs.Certificates.{certificate_rank, kinds_bounded}
+use Rattle.tsp_verdict.proofs.Claims.{refused_alone, other_alone, accepted_alone, tour_refused, tour_of_another_length, certificate_refused, tour_bounded}
+use Rattle.tsp_verdict.proofs.FoundBounds.{against_tour, found_by_certificate}
 
--- tours are judged by it, one by one
-abbrev pub IsOfTours : Basis → Type 0
-IsOfTours (bases.Tours bound) = Unit {0}
-IsOfTours bases.NoTour = Unit {0}
-IsOfTours (bases.Routes least) = ⊥
-IsOfTours (bases.No reason) = ⊥
+-- tours are judged
+abbrev pub HasTours : Fields → Type 0
+HasTours inst = (inst.kind ≡ Some kinds.Tsp) ⊎ (inst.kind ≡ Some kinds.Atsp)
 
--- ---- what it says of the instance
+-- ---- what a basis of tours says of the instance
 
-alone_tours : (kind : Option Kind) (inst : Fields) (basis : Basis) → IsOfTours basis → IsBasisAlone kind inst basis
-    → ((kind ≡ Some kinds.Tsp) ⊎ (kind ≡ Some kinds.Atsp)) × NoneAgainstInstance inst
-alone_tours (Some kinds.Tsp) inst (bases.Tours None) tours b = (inl refl, b)
-alone_tours (Some kinds.Atsp) inst (bases.Tours None) tours b = (inr refl, b)
-alone_tours (Some kinds.Tsp) inst (bases.Tours (Some bound)) tours b = absurd b
-alone_tours (Some kinds.Atsp) inst (bases.Tours (Some bound)) tours b = absurd b
-alone_tours (Some kinds.Tsp) inst bases.NoTour tours b = absurd b
-alone_tours (Some kinds.Atsp) inst bases.NoTour tours b = absurd b
-alone_tours (Some kinds.Cvrp) inst (bases.Tours bound) tours b = absurd b
-alone_tours (Some kinds.Cvrp) inst bases.NoTour tours b = absurd b
-alone_tours (Some kinds.Tour) inst basis tours b = absurd b
-alone_tours (Some kinds.Potentials) inst basis tours b = absurd b
-alone_tours (Some kinds.Branches) inst basis tours b = absurd b
-alone_tours None inst basis tours b = absurd b
-alone_tours kind inst (bases.Routes least) tours b = absurd tours
-alone_tours kind inst (bases.No reason) tours b = absurd tours
+alone_of_tours : (inst : Fields) (basis : Basis) → HasTours inst → IsBasisAlone inst.kind inst basis → IsBasisOfTours inst basis
+alone_of_tours inst basis (inl tsp) b = subst (λ kind. IsBasisAlone kind inst basis) tsp b
+alone_of_tours inst basis (inr atsp) b = subst (λ kind. IsBasisAlone kind inst basis) atsp b
 
-by_tours : (by : Certificate) (inst cert : Fields) (basis : Basis) → IsOfTours basis → IsBasisBy by inst cert basis → NoneAgainstInstance inst
-by_tours by inst cert (bases.Tours None) tours b = absurd b
-by_tours by inst cert (bases.Tours (Some bound)) tours b = λ reason stands. b.0 reason (inl stands)
-by_tours by inst cert bases.NoTour tours b = λ reason stands. b.0 reason (inl stands)
-by_tours by inst cert (bases.Routes least) tours b = absurd tours
-by_tours by inst cert (bases.No reason) tours b = absurd tours
+instance_rank : (inst : Fields) (reason : Reason) → StandsAgainstInstance inst reason → rank_of reason < 4
+instance_rank inst TooFewNodes stands = omega arith
+instance_rank inst (NotSymmetric i j) stands = omega arith
+instance_rank inst reason stands = absurd stands
 
--- the instance has tours, and no reason applies to it
-pub tours_judged : (given : Option (Certificate × Fields)) (inst : Fields) (basis : Basis) → IsOfTours basis → IsBasis given inst basis
-    → ((inst.kind ≡ Some kinds.Tsp) ⊎ (inst.kind ≡ Some kinds.Atsp)) × NoneAgainstInstance inst
-tours_judged None inst basis tours b = alone_tours inst.kind inst basis tours b.1
-tours_judged (Some given) inst basis tours b = (kinds_bounded given.0 inst.kind b.0, by_tours given.0 inst given.1 basis tours b.1)
+-- the first of all is the first against the instance, where it comes before those against the certificate
+of_instance : (by : Certificate) (inst cert : Fields) (reason : Reason) → rank_of reason < 17 → IsFirstReason (StandsAgainstBounded by inst cert) reason
+    → IsFirstReason (StandsAgainstInstance inst) reason
+of_instance by inst cert reason early first = record {
+  stands = by_side first.stands;
+  none_before = λ other low stands. first.none_before other low (inl stands);
+}
+  where
+    by_side : StandsAgainstInstance inst reason ⊎ StandsAgainstCertificate by inst cert reason → StandsAgainstInstance inst reason
+    by_side (inl stands) = stands
+    by_side (inr stands) = absurd (omega (arith, early, certificate_rank by inst cert reason stands))
 
-alone_routes : (kind : Option Kind) (inst : Fields) (least : ℕ) → IsBasisAlone kind inst (bases.Routes least)
-    → (kind ≡ Some kinds.Cvrp) × IsLeast (total_of inst) (capacity_of inst) least
-alone_routes (Some kinds.Tsp) inst least b = absurd b
-alone_routes (Some kinds.Atsp) inst least b = absurd b
-alone_routes (Some kinds.Cvrp) inst least b = (refl, b.1)
-alone_routes (Some kinds.Tour) inst least b = absurd b
-alone_routes (Some kinds.Potentials) inst least b = absurd b
-alone_routes (Some kinds.Branches) inst least b = absurd b
-alone_routes None inst least b = absurd b
+-- none applies to the instance, where the first of all comes after those
+after_instance : (by : Certificate) (inst cert : Fields) (reason : Reason) → 4 ≤ rank_of reason → IsFirstReason (StandsAgainstBounded by inst cert) reason → NoneAgainstInstance inst
+after_instance by inst cert reason late first = λ other stands. first.none_before other (omega (arith, late, instance_rank inst other stands)) (inl stands)
 
--- the instance has routes
-pub routes_judged : (given : Option (Certificate × Fields)) (inst : Fields) (least : ℕ) → IsBasis given inst (bases.Routes least)
-    → (inst.kind ≡ Some kinds.Cvrp) × IsLeast (total_of inst) (capacity_of inst) least
-routes_judged None inst least b = alone_routes inst.kind inst least b.1
-routes_judged (Some given) inst least b = absurd b.1
+-- whether the file is a solution is judged of that alone
+no_solution : (by : Certificate) (inst cert : Fields) → StandsAgainstInstance inst NotASolution ⊎ StandsAgainstCertificate by inst cert NotASolution → ⊥
+no_solution by inst cert (inl stands) = stands
+no_solution by inst cert (inr stands) = omega (arith, certificate_rank by inst cert NotASolution stands)
 
--- ---- tours
+reason_alone : (inst : Fields) (reason : Reason) → IsFirstReason (StandsAgainstInstance inst) reason → KnowsInstance inst (bases.No reason)
+reason_alone inst TooFewNodes first = first
+reason_alone inst (NotSymmetric i j) first = first
+reason_alone inst reason first = absurd first.stands
 
--- no reason before those against the tours
+reason_by : (by : Certificate) (inst cert : Fields) (reason : Reason) → IsFirstReason (StandsAgainstBounded by inst cert) reason → KnowsInstance inst (bases.No reason)
+reason_by by inst cert TooFewNodes first = of_instance by inst cert TooFewNodes (omega arith) first
+reason_by by inst cert (NotSymmetric i j) first = of_instance by inst cert (NotSymmetric i j) (omega arith) first
+reason_by by inst cert NotASolution first = absurd (no_solution by inst cert first.stands)
+reason_by by inst cert reason first = after_instance by inst cert reason (omega arith) first
+
+knows_alone : (inst : Fields) (basis : Basis) → IsBasisOfTours inst basis → KnowsInstance inst basis
+knows_alone inst (bases.Tours None) b = b
+knows_alone inst (bases.Tours (Some bound)) b = absurd b
+knows_alone inst bases.NoTour b = absurd b
+knows_alone inst (bases.Routes least) b = absurd b
+knows_alone inst (bases.No reason) b = reason_alone inst reason b
+
+knows_by : (by : Certificate) (inst cert : Fields) (basis : Basis) → IsBasisBy by inst cert basis → KnowsInstance inst basis
+knows_by by inst cert (bases.Tours None) b = absurd b
+knows_by by inst cert (bases.Tours (Some bound)) b = λ reason stands. b.0 reason (inl stands)
+knows_by by inst cert bases.NoTour b = λ reason stands. b.0 reason (inl stands)
+knows_by by inst cert (bases.Routes least) b = absurd b
+knows_by by inst cert (bases.No reason) b = reason_by by inst cert reason b
+
+-- a basis of tours has the reason against the instance, where one applies
+pub knows_instance : (given : Option (Certificate × Fields)) (inst : Fields) (basis : Basis) → HasTours inst → IsBasis given inst basis → KnowsInstance inst basis
+knows_instance None inst basis kind b = knows_alone inst basis (alone_of_tours inst basis kind b.1)
+knows_instance (Some given) inst basis kind b = knows_by given.0 inst given.1 basis b.1
+
+-- where it has none, none applies to the instance
+pub none_known : (inst : Fields) (basis : Basis) (found : Option Reason) → found ≡ against_instance basis → found ≡ None → KnowsInstance inst basis → NoneAgainstInstance inst
+none_known inst basis found is none knows =
+    subst (λ (it : Option Reason). MatchOption it (NoneAgainstInstance inst) (λ reason. IsFirstReason (StandsAgainstInstance inst) reason)) (sym is ∙ none) knows
+
+-- the one that it has is the first
+pub first_known : (inst : Fields) (basis : Basis) (found : Option Reason) (reason : Reason) → found ≡ against_instance basis → found ≡ Some reason → KnowsInstance inst basis
+    → IsFirstReason (StandsAgainstInstance inst) reason
+first_known inst basis found reason is some knows =
+    subst (λ (it : Option Reason). MatchOption it (NoneAgainstInstance inst) (λ r. IsFirstReason (StandsAgainstInstance inst) r)) (sym is ∙ some) knows
+
+-- ---- the reasons before those against the tours
+
+up_to_instance : (inst sol : Fields) (rank : ℕ) → rank ≤ 3 → is_tours sol.kind ≡ true → NoneBefore (StandsAgainstInstance inst) rank → NoneOfTourUpTo inst sol rank
+up_to_instance inst sol rank few is none NotASolution low stands = false≢true (sym stands ∙ is)
+up_to_instance inst sol rank few is none TooFewNodes low stands = none TooFewNodes low stands
+up_to_instance inst sol rank few is none reason low stands = absurd (omega (arith, few, low))
+
+-- the first reason against the instance is the first against a solution that has tours
+pub instance_first : (inst sol : Fields) (reason : Reason) → is_tours sol.kind ≡ true → IsFirstReason (StandsAgainstInstance inst) reason → IsFirstAgainstTour inst sol reason
+instance_first inst sol TooFewNodes is first = record { stands = first.stands; none_before = up_to_instance inst sol 2 (omega arith) is first.none_before }
+instance_first inst sol (NotSymmetric i j) is first = record { stands = first.stands; none_before = up_to_instance inst sol 3 (omega arith) is first.none_before }
+instance_first inst sol reason is first = absurd first.stands
+
+-- where none applies to the instance
 pub up_to_dimension : (inst sol : Fields) → is_tours sol.kind ≡ true → NoneAgainstInstance inst → NoneOfTourUpTo inst sol 4
 up_to_dimension inst sol is none NotASolution low stands = false≢true (sym stands ∙ is)
 up_to_dimension inst sol is none TooFewNodes low stands = none TooFewNodes stands
 up_to_dimension inst sol is none (NotSymmetric i j) low stands = none (NotSymmetric i j) stands
 up_to_dimension inst sol is none reason low stands = absurd (omega (arith, low))
 
-tour_alone : (kind : Option Kind) (inst sol : Fields) (basis : Basis) (verdict : Verdict) → IsOfTours basis → IsBasisAlone kind inst basis → IsTourVerdict inst sol verdict
-    → IsVerdictBy kind inst sol verdict
-tour_alone (Some kinds.Tsp) inst sol basis verdict tours b v = v
-tour_alone (Some kinds.Atsp) inst sol basis verdict tours b v = v
-tour_alone (Some kinds.Cvrp) inst sol (bases.Tours bound) verdict tours b v = absurd b
-tour_alone (Some kinds.Cvrp) inst sol bases.NoTour verdict tours b v = absurd b
-tour_alone (Some kinds.Cvrp) inst sol (bases.Routes least) verdict tours b v = absurd tours
-tour_alone (Some kinds.Cvrp) inst sol (bases.No reason) verdict tours b v = absurd tours
-tour_alone (Some kinds.Tour) inst sol basis verdict tours b v = absurd b
-tour_alone (Some kinds.Potentials) inst sol basis verdict tours b v = absurd b
-tour_alone (Some kinds.Branches) inst sol basis verdict tours b v = absurd b
-tour_alone None inst sol basis verdict tours b v = absurd b
+-- ---- a tour
+
+tour_alone : (inst sol : Fields) (verdict : Verdict) → HasTours inst → IsTourVerdict inst sol verdict → IsVerdictOn inst sol verdict
+tour_alone inst sol verdict (inl tsp) v = subst (λ kind. IsVerdictBy kind inst sol verdict) (sym tsp) v
+tour_alone inst sol verdict (inr atsp) v = subst (λ kind. IsVerdictBy kind inst sol verdict) (sym atsp) v
 
 -- the first reason against a tour is that of the verdict
-pub tour_rejected : (inst sol : Fields) (basis : Basis) (reason : Reason) → IsOfTours basis → IsFirstAgainstTour inst sol reason
-    → IsVerdictFrom basis inst sol (verdicts.No reason)
-tour_rejected inst sol basis reason tours first = (tt, λ given b. by_given given b)
+pub tour_rejected : (inst sol : Fields) (basis : Basis) (claimed : Option ℤ) (reason : Reason) → HasTours inst → IsFirstAgainstTour inst sol reason
+    → IsVerdictFrom basis claimed inst sol (verdicts.No reason)
+tour_rejected inst sol basis claimed reason kind first = (tt, λ given b. by_given given b)
   where
-    by_given : (given : Option (Certificate × Fields)) → IsBasis given inst basis → IsVerdictWith given None inst sol (verdicts.No reason)
-    by_given None b = tour_alone inst.kind inst sol basis (verdicts.No reason) tours b.1 first
-    by_given (Some given) b = tour_refused given.0 inst sol given.1 None reason b.0 first
+    by_given : (given : Option (Certificate × Fields)) → IsBasis given inst basis → IsVerdictWith given claimed inst sol (verdicts.No reason)
+    by_given None b = refused_alone claimed inst sol (verdicts.No reason) tt (tour_alone inst sol (verdicts.No reason) kind first)
+    by_given (Some given) b = tour_refused given.0 inst sol given.1 claimed reason b.0 first
 
--- what the bound without a solution finds, the certificate gives
-finds : (by : Certificate) (inst cert : Fields) (bound : ℤ) → IsBoundVerdict by inst cert (bounds.Bound bound) → FindsBound by inst cert (bounds.Bound bound)
-finds by inst cert bound b = (λ reason stands. b.0 reason (inr stands), b.1)
+-- another length than the claimed one
+pub tour_disclaimed : (inst sol : Fields) (basis : Basis) (claimed : Option ℤ) (found : ℤ) → HasTours inst → IsTourVerdict inst sol (verdicts.Tour found None)
+    → IsOtherClaimed claimed found → IsVerdictFrom basis claimed inst sol (verdicts.No (LengthClaimed found))
+tour_disclaimed inst sol basis claimed found kind v other = (tt, λ given b. by_given given b)
+  where
+    by_given : (given : Option (Certificate × Fields)) → IsBasis given inst basis → IsVerdictWith given claimed inst sol (verdicts.No (LengthClaimed found))
+    by_given None b = other_alone claimed inst sol (verdicts.Tour found None) found refl other (tour_alone inst sol (verdicts.Tour found None) kind v)
+    by_given (Some given) b = tour_of_another_length given.0 inst sol given.1 claimed found b.0 v other
 
 -- a tour to which no reason applies has the bound
-pub tour_accepted : (inst sol : Fields) (bound : Option ℤ) (found : ℤ) → IsTourVerdict inst sol (verdicts.Tour found None)
-    → IsVerdictFrom (bases.Tours bound) inst sol (verdicts.Tour found bound)
-tour_accepted inst sol bound found v = (refl, λ given b. by_given bound given b)
+pub tour_accepted : (inst sol : Fields) (bound claimed : Option ℤ) (found : ℤ) → HasTours inst → IsTourVerdict inst sol (verdicts.Tour found None)
+    → IsAsClaimed claimed found → IsVerdictFrom (bases.Tours bound) claimed inst sol (verdicts.Tour found bound)
+tour_accepted inst sol bound claimed found kind v claims = (refl, λ given b. by_given bound given b)
   where
-    none_alone : (kind : Option Kind) (b : ℤ) → IsBasisAlone kind inst (bases.Tours (Some b)) → ⊥
-    none_alone (Some kinds.Tsp) b basis = basis
-    none_alone (Some kinds.Atsp) b basis = basis
-    none_alone (Some kinds.Cvrp) b basis = basis
-    none_alone (Some kinds.Tour) b basis = basis
-    none_alone (Some kinds.Potentials) b basis = basis
-    none_alone (Some kinds.Branches) b basis = basis
-    none_alone None b basis = basis
-
     by_given : (bound : Option ℤ) (given : Option (Certificate × Fields)) → IsBasis given inst (bases.Tours bound)
-        → IsVerdictWith given None inst sol (verdicts.Tour found bound)
-    by_given None None b = tour_alone inst.kind inst sol (bases.Tours None) (verdicts.Tour found None) tt b.1 v
+        → IsVerdictWith given claimed inst sol (verdicts.Tour found bound)
+    by_given None None b = accepted_alone claimed inst sol (verdicts.Tour found None) found refl claims (tour_alone inst sol (verdicts.Tour found None) kind v)
     by_given None (Some given) b = absurd b.1
-    by_given (Some least) None b = absurd (none_alone inst.kind least b.1)
-    by_given (Some least) (Some given) b = tour_bounded given.0 inst sol given.1 None found least v tt (finds given.0 inst given.1 least b.1)
+    by_given (Some least) None b = absurd (alone_of_tours inst (bases.Tours (Some least)) kind b.1)
+    by_given (Some least) (Some given) b =
+        tour_bounded given.0 inst sol given.1 claimed found least v claims (found_by_certificate given.0 inst sol given.1 (bounds.Bound least) v.0 b.1)
+
+-- the reason against the certificate, where none applies to the tour
+pub tour_uncertified : (inst sol : Fields) (claimed : Option ℤ) (found : ℤ) (reason : Reason) → HasTours inst → IsTourVerdict inst sol (verdicts.Tour found None)
+    → IsAsClaimed claimed found → IsVerdictFrom (bases.No reason) claimed inst sol (verdicts.No reason)
+tour_uncertified inst sol claimed found reason kind v claims = (tt, λ given b. by_given given b)
+  where
+    by_given : (given : Option (Certificate × Fields)) → IsBasis given inst (bases.No reason) → IsVerdictWith given claimed inst sol (verdicts.No reason)
+    by_given None b = absurd (v.0 reason (against_tour inst sol reason (alone_of_tours inst (bases.No reason) kind b.1).stands))
+    by_given (Some given) b =
+        certificate_refused given.0 inst sol given.1 claimed found reason b.0 v claims (found_by_certificate given.0 inst sol given.1 (bounds.No reason) v.0 b.1)
 
 -- an instance without tours has no tour of a solution
-pub no_tour : (given : Option (Certificate × Fields)) (inst sol : Fields) (found : ℤ) → IsBasis given inst bases.NoTour → IsTourVerdict inst sol (verdicts.Tour found None) → ⊥
-no_tour None inst sol found b v = none_alone inst.kind b.1
-  where
-    none_alone : (kind : Option Kind) → IsBasisAlone kind inst bases.NoTour → ⊥
-    none_alone (Some kinds.Tsp) basis = basis
-    none_alone (Some kinds.Atsp) basis = basis
-    none_alone (Some kinds.Cvrp) basis = basis
-    none_alone (Some kinds.Tour) basis = basis
-    none_alone (Some kinds.Potentials) basis = basis
-    none_alone (Some kinds.Branches) basis = basis
-    none_alone None basis = basis
-no_tour (Some given) inst sol found b v = b.1.2 v.1.0 v.1.2
+pub no_tour : (given : Option (Certificate × Fields)) (inst sol : Fields) (found : ℤ) → HasTours inst → IsBasis given inst bases.NoTour
+    → IsTourVerdict inst sol (verdicts.Tour found None) → ⊥
+no_tour None inst sol found kind b v = alone_of_tours inst bases.NoTour kind b.1
+no_tour (Some given) inst sol found kind b v = b.1.2 v.1.0 v.1.2
+
+-- an instance with tours has no routes
+pub no_routes : (given : Option (Certificate × Fields)) (inst : Fields) (least : ℕ) → HasTours inst → IsBasis given inst (bases.Routes least) → ⊥
+no_routes None inst least kind b = alone_of_tours inst (bases.Routes least) kind b.1
+no_routes (Some given) inst least kind b = b.1
 
 -- ---- routes
+
+cvrp_apart : (kind : Option Kind) → kind ≡ Some kinds.Cvrp → (kind ≡ Some kinds.Tsp) ⊎ (kind ≡ Some kinds.Atsp) → ⊥
+cvrp_apart kind cvrp (inl tsp) = cc
+cvrp_apart kind cvrp (inr atsp) = cc
+
+-- routes have no certificate
+alone_of_routes : (given : Option (Certificate × Fields)) (inst : Fields) (basis : Basis) → inst.kind ≡ Some kinds.Cvrp → IsBasis given inst basis → IsBasisOfRoutes inst basis
+alone_of_routes None inst basis cvrp b = subst (λ kind. IsBasisAlone kind inst basis) cvrp b.1
+alone_of_routes (Some given) inst basis cvrp b = absurd (cvrp_apart inst.kind cvrp (kinds_bounded given.0 inst.kind b.0))
 
 -- the least number is one
 same_least : (total capacity : ℤ) (a b : ℕ) → IsLeast total capacity a → IsLeast total capacity b → a ≡ b
 same_least total capacity a b first second = omega (arith, first.none_less b second.enough, second.none_less a first.enough)
 
--- the verdict on routes is that of the solution
-pub routes_verdict : (given : Option (Certificate × Fields)) (inst sol : Fields) (least : ℕ) (verdict : Verdict) → IsBasis given inst (bases.Routes least)
-    → IsRoutesVerdict inst sol verdict → IsVerdictFrom (bases.Routes least) inst sol verdict
-routes_verdict given inst sol least verdict b routes = (has verdict routes, λ other basis. by_given other basis)
-  where
-    has : (found : Verdict) → IsRoutesVerdict inst sol found → HasBasis found (bases.Routes least)
-    has (verdicts.Tour length bound) r = absurd r
-    has (verdicts.Routes length count other) r =
-        ap (λ n. bases.Routes n) (same_least (total_of inst) (capacity_of inst) least other (routes_judged given inst least b).1 r.1.least_is)
-    has (verdicts.No reason) r = tt
+-- a reason against the instance is one against all routes
+against_routes : (inst sol : Fields) (reason : Reason) → StandsAgainstRouting inst reason → StandsAgainstRoutes inst sol reason
+against_routes inst sol TooFewNodes stands = stands
+against_routes inst sol DepotCount stands = stands
+against_routes inst sol DepotDemand stands = stands
+against_routes inst sol FixedEdgesInRoutes stands = stands
+against_routes inst sol reason stands = absurd stands
 
-    by_given : (other : Option (Certificate × Fields)) → IsBasis other inst (bases.Routes least) → IsVerdictWith other None inst sol verdict
-    by_given None basis = subst (λ kind. IsVerdictBy kind inst sol verdict) (sym (routes_judged given inst least b).0) routes
-    by_given (Some other) basis = absurd basis.1
+accepted_basis : (inst sol : Fields) (basis : Basis) (found : ℤ) (count least : ℕ) → IsBasisOfRoutes inst basis → IsRoutesVerdict inst sol (verdicts.Routes found count least)
+    → basis ≡ bases.Routes least
+accepted_basis inst sol (bases.Tours bound) found count least b v = absurd b
+accepted_basis inst sol bases.NoTour found count least b v = absurd b
+accepted_basis inst sol (bases.Routes other) found count least b v = ap bases.Routes (same_least (total_of inst) (capacity_of inst) other least b.1 v.1.least_is)
+accepted_basis inst sol (bases.No reason) found count least b v = absurd (v.0 reason (against_routes inst sol reason b.stands))
+
+-- without the claim a solution is accepted too
+own_tour : (claimed : Option ℤ) (inst sol : Fields) (found : ℤ) (bound : Option ℤ) → IsVerdictWith None claimed inst sol (verdicts.Tour found bound)
+    → IsVerdictOn inst sol (verdicts.Tour found bound)
+own_tour None inst sol found bound v = v
+own_tour (Some claim) inst sol found bound v = v.0
+
+own_routes : (claimed : Option ℤ) (inst sol : Fields) (found : ℤ) (count least : ℕ) → IsVerdictWith None claimed inst sol (verdicts.Routes found count least)
+    → IsVerdictOn inst sol (verdicts.Routes found count least)
+own_routes None inst sol found count least v = v
+own_routes (Some claim) inst sol found count least v = v.0
+
+routes_have : (inst sol : Fields) (basis : Basis) (claimed : Option ℤ) (verdict : Verdict) → inst.kind ≡ Some kinds.Cvrp → IsBasisOfRoutes inst basis
+    → IsVerdictWith None claimed inst sol verdict → HasBasis verdict basis
+routes_have inst sol basis claimed (verdicts.Tour found bound) cvrp b v =
+    absurd (subst (λ kind. IsVerdictBy kind inst sol (verdicts.Tour found bound)) cvrp (own_tour claimed inst sol found bound v))
+routes_have inst sol basis claimed (verdicts.Routes found count least) cvrp b v =
+    accepted_basis inst sol basis found count least b
+    (subst (λ kind. IsVerdictBy kind inst sol (verdicts.Routes found count least)) cvrp (own_routes claimed inst sol found count least v))
+routes_have inst sol basis claimed (verdicts.No reason) cvrp b v = tt
+
+with_either : (given : Option (Certificate × Fields)) (inst sol : Fields) (basis : Basis) (claimed : Option ℤ) (verdict : Verdict) → inst.kind ≡ Some kinds.Cvrp
+    → IsVerdictWith None claimed inst sol verdict → IsBasis given inst basis → IsVerdictWith given claimed inst sol verdict
+with_either None inst sol basis claimed verdict cvrp v b = v
+with_either (Some given) inst sol basis claimed verdict cvrp v b = absurd (cvrp_apart inst.kind cvrp (kinds_bounded given.0 inst.kind b.0))
+
+-- the verdict on routes is that of the solution
+pub routes_verdict : (given : Option (Certificate × Fields)) (inst sol : Fields) (basis : Basis) (claimed : Option ℤ) (verdict next : Verdict)
+    → inst.kind ≡ Some kinds.Cvrp → IsBasis given inst basis → IsRoutesVerdict inst sol verdict
+    → ((instance solution : Fields) → IsVerdictOn instance solution verdict → IsVerdictWith None claimed instance solution next)
+    → IsVerdictFrom basis claimed inst sol next
+routes_verdict given inst sol basis claimed verdict next cvrp b routes claims =
+    let own : IsVerdictWith None claimed inst sol next = claims inst sol (subst (λ kind. IsVerdictBy kind inst sol verdict) (sym cvrp) routes) in (
+      routes_have inst sol basis claimed next cvrp (alone_of_routes given inst basis cvrp b) own,
+      λ other is. with_either other inst sol basis claimed next cvrp own is,
+    )

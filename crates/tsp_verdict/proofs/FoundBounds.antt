@@ -13,7 +13,7 @@ use Rattle.tsp_verdict.specs.Reasons.{rank_of, IsFirstReason}
 use Rattle.tsp_verdict.specs.Tours.{StandsAgainstTour}
 
 -- a reason against the instance is one against each tour too
-against_tour : (inst sol : Fields) (reason : Reason) → StandsAgainstInstance inst reason → StandsAgainstTour inst sol reason
+pub against_tour : (inst sol : Fields) (reason : Reason) → StandsAgainstInstance inst reason → StandsAgainstTour inst sol reason
 against_tour inst sol TooFewNodes stands = stands
 against_tour inst sol (NotSymmetric i j) stands = stands
 against_tour inst sol reason stands = absurd stands

@@ -1,6 +1,6 @@
 -- What is known of all solutions of an instance, before any is read: the first reason that applies whatever the solution, or what
 -- their lengths or their routes have in common. And the verdict on a solution, by that.
-use Rattle.std.specs.Prelude.{◌≡◌, ◌≢◌, ◌<◌, ◌≤◌, length, Option, None, Some, IsTrue, pos}
+use Rattle.std.specs.Prelude.{◌≡◌, ◌≢◌, ◌<◌, ◌≤◌, length, Option, None, Some, IsTrue, ℤ, pos}
 use Rattle.tsp_format.specs.declared.kinds.Kind.{Kind}
 use Rattle.tsp_format.specs.declared.kinds.Kind.TheVariants as kinds
 use Rattle.tsp_draft.specs.Fields.{Fields}
@@ -85,7 +85,8 @@ HasBasis (Tour length bound) basis = basis ≡ bases.Tours bound
 HasBasis (Routes length routes least) basis = basis ≡ bases.Routes least
 HasBasis (No reason) basis = Unit {0}
 
--- the verdict on a solution of the instance: that with each certificate which gives the instance this basis
-abbrev pub IsVerdictFrom : Basis → Fields → Fields → Verdict → Type 0
-IsVerdictFrom basis inst sol verdict = HasBasis verdict basis
-    × ((given : Option (Certificate × Fields)) → IsBasis given inst basis → IsVerdictWith given None inst sol verdict)
+-- the verdict on a solution of the instance, with the length that is claimed, where one is: that with each certificate which gives
+-- the instance this basis
+abbrev pub IsVerdictFrom : Basis → Option ℤ → Fields → Fields → Verdict → Type 0
+IsVerdictFrom basis claimed inst sol verdict = HasBasis verdict basis
+    × ((given : Option (Certificate × Fields)) → IsBasis given inst basis → IsVerdictWith given claimed inst sol verdict)

@@ -1,4 +1,5 @@
 pub mod Costs
+pub mod Known
 pub mod Marks
 pub mod Next
 pub mod Numbered

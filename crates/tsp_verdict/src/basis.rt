@@ -1,6 +1,6 @@
 //! What is known of all solutions of an instance, before any is read, and the verdict on one of them.
 
-ghost use Rattle.std.specs.Prelude.{◌≡◌, ◌⊎◌, ◌≤◌, true, IsTrue, length, Option, Some, MatchOption, MatchResult, option_map};
+ghost use Rattle.std.specs.Prelude.{◌≡◌, ◌⊎◌, ◌≤◌, IsTrue, length, Option, None, Some, MatchOption, MatchResult, option_map};
 ghost use Rattle.std.specs.List.{All};
 ghost use Rattle.tsp_format.specs.declared.kinds.Kind.TheVariants as kinds;
 ghost use Rattle.tsp_format.specs.Cells.{IsNode};
@@ -8,17 +8,17 @@ ghost use Rattle.tsp_draft.specs.Fields.{Fields};
 ghost use Rattle.tsp_file.specs.Meant.{nodes_of};
 ghost use Rattle.tsp_cost.specs.Tours.{demands_of, depots_of};
 ghost use Rattle.tsp_reason.specs.declared.certificate.Certificate.{Certificate};
-ghost use Rattle.tsp_reason.specs.declared.verdict.Verdict.TheVariants as verdicts;
-ghost use Rattle.tsp_reason.specs.Verdicts.{is_clear};
-ghost use Rattle.tsp_verdict.specs.Basis.{IsBasis, IsBasisAlone, IsBasisBy, IsBasisOfRoutes, StandsAgainstRouting, NoneAgainstRouting, NoneOfBasisWithoutMemory, IsVerdictFrom};
-ghost use Rattle.tsp_verdict.specs.Bounded.{NoneAgainstInstance, IsBoundVerdict};
+ghost use Rattle.tsp_verdict.specs.Basis.{IsBasis, IsBasisBy, IsBasisOfRoutes, StandsAgainstRouting, NoneAgainstRouting, NoneOfBasisWithoutMemory, IsVerdictFrom};
+ghost use Rattle.tsp_verdict.specs.Bounded.{IsBoundVerdict};
 ghost use Rattle.tsp_verdict.specs.Judged.{is_judged, NoneBeforeRepeatsOn};
 ghost use Rattle.tsp_verdict.specs.Reasons.{IsFirstReason};
 ghost use Rattle.tsp_verdict.specs.Tours.{NoneOfTourBeforeRepeats};
 ghost use Rattle.tsp_verdict.specs.states.Costs.{IsLengthOf};
+ghost use Rattle.tsp_verdict.specs.states.Known.{KnowsInstance, against_instance};
 
 use crate::bounded::{costs_of_tours, judge_bound};
 use crate::files::{routing, solution_tours};
+use crate::judged::{is_other, with_claim};
 use crate::loads::least_routes;
 use crate::routes::{FEWEST_NODES, verdict_on_routes};
 use crate::tour::length_after_files;
@@ -60,9 +60,9 @@ pub fn judge_basis(
     }
 }
 
-/// What is known of all solutions without a certificate.
-fn basis_alone(instance: &Instance) -> Basis
-    ensures { IsBasisAlone instance.now.kind instance.now result }
+/// What [`judge_basis`] finds of an instance without a certificate. No memory is taken.
+pub fn basis_alone(instance: &Instance) -> Basis
+    ensures { IsBasis None instance.now result }
 {
     match instance.kind() {
         Kind::Cvrp => basis_of_routes(instance),
@@ -113,8 +113,9 @@ fn first_against_routing(inst: &Instance, routing: &RoutingData<'_>) -> Option<R
     None
 }
 
-/// What is known of all tours by what a certificate gives.
-fn basis_of(found: BoundVerdict) -> Basis
+/// What [`judge_basis`] finds of an instance with a certificate, by what [`judge_bound`] has found of
+/// the two.
+pub fn basis_of(found: BoundVerdict) -> Basis
     ensures { (by : Certificate) (instance certificate : Fields) → IsBoundVerdict by instance certificate found
         → IsBasisBy by instance certificate result }
 {
@@ -131,7 +132,7 @@ fn basis_of(found: BoundVerdict) -> Basis
 ///
 /// # Requires
 ///
-/// The basis of the instance, and no reason in it.
+/// The basis of the instance, with any certificate or without one.
 ///
 /// # Errors
 ///
@@ -141,34 +142,63 @@ pub fn judge_next(
     instance: &Instance,
     basis: Basis,
     solution: &File,
+    claimed: Option<i64>,
 ) -> Result<Verdict, AllocError>
-    requires clear { is_clear basis ≡ true }
-    requires basis { (given : Option (Certificate × Fields)) × IsBasis given instance.now basis }
+    requires { (given : Option (Certificate × Fields)) × IsBasis given instance.now basis }
     ensures { MatchResult result
-        (λ verdict. IsVerdictFrom basis instance.now solution.now verdict)
+        (λ verdict. IsVerdictFrom basis claimed instance.now solution.now verdict)
         (λ refused. NoneBeforeRepeatsOn instance.now solution.now) }
 {
-    let bound = match basis {
-        Basis::Routes { .. } => return Ok(verdict_on_routes(alloc, instance, solution)?),
-        Basis::Tours { bound } => bound,
-        // Then no solution has a tour, so that its length isn't reached.
-        Basis::NoTour | Basis::No(_) => None,
-    };
-    match length_of_next(alloc, instance, solution)? {
-        Ok(length) => Ok(Verdict::Tour { length, bound }),
-        Err(reason) => Ok(Verdict::No(reason)),
+    match instance.kind() {
+        Kind::Cvrp => {
+            let verdict = verdict_on_routes(alloc, instance, solution)?;
+            Ok(with_claim(verdict, claimed))
+        }
+        _ => Ok(next_tour(alloc, instance, basis, solution, claimed)?),
     }
 }
 
-/// The length of a solution's one tour, or the first reason against it, where none applies to the
-/// instance.
+/// The verdict on a solution that should be a tour.
+fn next_tour(
+    alloc: Global,
+    instance: &Instance,
+    basis: Basis,
+    solution: &File,
+    claimed: Option<i64>,
+) -> Result<Verdict, Refused>
+    requires kind { (instance.now.kind ≡ Some kinds.Tsp) ⊎ (instance.now.kind ≡ Some kinds.Atsp) }
+    requires basis { (given : Option (Certificate × Fields)) × IsBasis given instance.now basis }
+    ensures { MatchResult result
+        (λ verdict. IsVerdictFrom basis claimed instance.now solution.now verdict)
+        (λ refused. NoneOfTourBeforeRepeats instance.now solution.now) }
+{
+    let length = match length_of_next(alloc, instance, basis, solution)? {
+        Ok(length) => length,
+        Err(reason) => return Ok(Verdict::No(reason)),
+    };
+    if is_other(claimed, length) {
+        return Ok(Verdict::No(Reason::LengthClaimed { length }));
+    }
+    match basis {
+        Basis::Tours { bound } => Ok(Verdict::Tour { length, bound }),
+        Basis::No(reason) => Ok(Verdict::No(reason)),
+        // Then no solution has a tour, so that its length isn't reached.
+        Basis::NoTour | Basis::Routes { .. } => Ok(Verdict::Tour {
+            length,
+            bound: None,
+        }),
+    }
+}
+
+/// The length of a solution's one tour, or the first reason against the instance or the solution.
 fn length_of_next(
     alloc: Global,
     inst: &Instance,
+    basis: Basis,
     sol: &File,
 ) -> Result<Result<i64, Reason>, Refused>
     requires kind { (inst.now.kind ≡ Some kinds.Tsp) ⊎ (inst.now.kind ≡ Some kinds.Atsp) }
-    requires none { NoneAgainstInstance inst.now }
+    requires knows { KnowsInstance inst.now basis }
     ensures { MatchResult result
         (λ found. IsLengthOf inst.now sol.now found)
         (λ refused. NoneOfTourBeforeRepeats inst.now sol.now) }
@@ -176,8 +206,22 @@ fn length_of_next(
     let Some(tours) = solution_tours(sol) else {
         return Ok(Err(Reason::NotASolution));
     };
+    if let Some(reason) = against_instance(basis) {
+        return Ok(Err(reason));
+    }
     if sol.dimension().is_some_and(|stated| stated != inst.count()) {
         return Ok(Err(Reason::Dimension));
     }
     length_after_files(alloc, inst, sol, tours)
+}
+
+/// The reason of a basis that applies to the instance, whatever the tour and the certificate.
+fn against_instance(basis: Basis) -> Option<Reason>
+    ensures { result ≡ against_instance basis }
+{
+    match basis {
+        Basis::No(Reason::TooFewNodes) => Some(Reason::TooFewNodes),
+        Basis::No(Reason::NotSymmetric { i, j }) => Some(Reason::NotSymmetric { i, j }),
+        _ => None,
+    }
 }

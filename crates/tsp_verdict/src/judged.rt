@@ -64,7 +64,7 @@ fn judge_alone(alloc: Global, instance: &Instance, solution: &File) -> Result<Ve
 }
 
 /// The verdict on a solution on its own, with the length that is claimed, by the one without it.
-fn with_claim(verdict: Verdict, claimed: Option<i64>) -> Verdict
+pub(crate) fn with_claim(verdict: Verdict, claimed: Option<i64>) -> Verdict
     ensures { (instance solution : Fields) → IsVerdictOn instance solution verdict
         → IsVerdictWith None claimed instance solution result }
 {

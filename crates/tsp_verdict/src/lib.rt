@@ -19,7 +19,6 @@ mod decided;
 mod examples;
 mod files;
 mod fixed;
-mod found;
 mod judged;
 mod lengths;
 mod loads;
@@ -31,7 +30,7 @@ mod tour;
 mod tree;
 mod visits;
 
-pub use basis::{judge_basis, judge_next};
+pub use basis::{basis_alone, basis_of, judge_basis, judge_next};
 pub use bounded::judge_bound;
 pub use certified::{is_bounded, judge_certified, judge_tour_bound, judge_tour_branches};
 pub use claim_examples::{
@@ -43,7 +42,6 @@ pub use examples::{
     examples_of_dimensions_of_routes, examples_of_multipliers, examples_of_order,
     examples_of_order_of_routes, examples_of_plans, examples_of_reasons_before_memory,
 };
-pub use found::judge_by_bound;
 pub use judged::judge;
 pub use routes::judge_routes;
 pub use tour::judge_tour;

@@ -1,0 +1,20 @@
+-- What a basis of tours says of the instance alone.
+use Rattle.std.specs.Prelude.{Option, None, Some, MatchOption}
+use Rattle.tsp_draft.specs.Fields.{Fields}
+use Rattle.tsp_reason.specs.declared.basis.Basis.{Basis}
+use Rattle.tsp_reason.specs.declared.basis.Basis.TheVariants as bases
+use Rattle.tsp_reason.specs.declared.verdict.Reason.{Reason}
+use Rattle.tsp_reason.specs.declared.verdict.Reason.TheVariants.{TooFewNodes, NotSymmetric}
+use Rattle.tsp_verdict.specs.Bounded.{StandsAgainstInstance, NoneAgainstInstance}
+use Rattle.tsp_verdict.specs.Reasons.{IsFirstReason}
+
+-- the reason of a basis that is one against the instance
+abbrev pub against_instance : Basis → Option Reason
+against_instance (bases.No TooFewNodes) = Some TooFewNodes
+against_instance (bases.No (NotSymmetric i j)) = Some (NotSymmetric i j)
+against_instance basis = None
+
+-- it is the first one against the instance, or none applies to that
+abbrev pub KnowsInstance : Fields → Basis → Type 0
+KnowsInstance inst basis = MatchOption (against_instance basis) (NoneAgainstInstance inst)
+    (λ reason. IsFirstReason (StandsAgainstInstance inst) reason)
