@@ -1,2 +1,1 @@
 pub mod Open
-pub mod states

@@ -2,38 +2,38 @@
 
 ghost use Rattle.tsp_open.specs.Open.{ReadsText};
 
-use crate::bound::Bound;
 use std::alloc::{AllocError, Global};
 use std::marker::Model;
 use tsp_cost::Instance;
 use tsp_file::File;
 use tsp_judge::RunFault;
 use tsp_read::read_bytes;
-use tsp_reason::{BoundVerdict, Certificate, Verdict};
-use tsp_verdict::{is_bounded, judge, judge_bound, judge_by_bound};
+use tsp_reason::{Basis, BoundVerdict, Certificate, Verdict};
+use tsp_verdict::{basis_alone, basis_of, is_bounded, judge_bound, judge_next};
 
-/// An instance, and the certificate that is bound to it, where one is.
+/// An instance, the certificate that is bound to it, where one is, and what is known of all solutions by
+/// the two: that is found once, when the certificate is bound or the instance is opened.
 #[derive(Drop)]
 pub struct Opened {
     instance: Instance,
-    bound: Option<Bound>,
+    certificate: Option<(Certificate, File)>,
+    basis: Basis,
 }
 
 impl Model for Opened {
+    ghost use Rattle.tsp_cost.specs.ProblemLaws.{IsProblem};
+    ghost use Rattle.tsp_verdict.specs.Basis.{IsBasis};
     ghost use Rattle.tsp_open.specs.Open.{Open};
-    ghost use Rattle.tsp_open.specs.states.Bounds.{certificate_in, IsHeld};
 
     ghost Value = { Open };
 
-    ghost view = { λ o. record { instance = o.instance; certificate = certificate_in o.bound } };
+    ghost view = { λ o. record { instance = o.instance; certificate = o.certificate } };
 
-    ghost invariant = { λ o. IsHeld o.instance o.bound };
+    ghost invariant = { λ o. IsProblem o.instance × IsBasis o.certificate o.instance o.basis };
 }
 
 impl Opened {
-    ghost use Rattle.std.specs.Prelude.{◌≡◌, IsTrue, MatchResult};
-    ghost use Rattle.tsp_cost.specs.ProblemLaws.{IsProblem};
-    ghost use Rattle.tsp_verdict.specs.Judged.{is_judged, IsVerdictWith, NoneBeforeRepeatsOn};
+    ghost use Rattle.std.specs.Prelude.{◌≡◌, MatchResult};
     ghost use Rattle.tsp_open.specs.Open.{IsOpened, IsUnopened, IsBoundTo, IsUnbound, IsHeldVerdict, IsNotJudged};
 
     /// Opens the instance that a text is. No certificate is bound to it.
@@ -47,8 +47,9 @@ impl Opened {
         let file = read_text(alloc, 1, text)?;
         match Instance::of(file) {
             Ok(instance) => Ok(Opened {
+                basis: basis_alone(&instance),
                 instance,
-                bound: None,
+                certificate: None,
             }),
             Err((_, other)) => {
                 drop(other);
@@ -89,7 +90,8 @@ impl Opened {
             Ok(found) => found,
             Err(AllocError) => return Err(RunFault::OutOfMemory),
         };
-        self.bound = Some(Bound { by, file, found });
+        self.basis = basis_of(found);
+        self.certificate = Some((by, file));
         Ok(found)
     }
 
@@ -110,38 +112,9 @@ impl Opened {
             (λ fault. IsNotJudged text.now self.now fault) }
     {
         let solution = read_text(alloc, 2, text)?;
-        match self.verdict_on(alloc, &solution, claimed) {
+        match judge_next(alloc, &self.instance, self.basis, &solution, claimed) {
             Ok(verdict) => Ok(verdict),
             Err(AllocError) => Err(RunFault::OutOfMemory),
-        }
-    }
-
-    /// The verdict on a solution.
-    fn verdict_on(
-        &self,
-        alloc: Global,
-        solution: &File,
-        claimed: Option<i64>,
-    ) -> Result<Verdict, AllocError>
-        ensures verdict { MatchResult result
-            (λ verdict. IsVerdictWith self.now.certificate claimed self.now.instance solution.now verdict)
-            (λ refused. NoneBeforeRepeatsOn self.now.instance solution.now) }
-        ensures of_type { IsTrue (is_judged self.now.certificate self.now.instance.kind) }
-        ensures problem { IsProblem self.now.instance }
-    {
-        match &self.bound {
-            None => judge(alloc, &self.instance, solution, None, claimed),
-            Some(bound) => {
-                let certificate = (bound.by, &bound.file);
-                Ok(judge_by_bound(
-                    alloc,
-                    &self.instance,
-                    solution,
-                    certificate,
-                    bound.found,
-                    claimed,
-                )?)
-            }
         }
     }
 }
