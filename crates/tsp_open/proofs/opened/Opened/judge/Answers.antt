@@ -1,14 +1,17 @@
 -- The goals of `Opened::judge` in src/opened.rt: what its calls require and what it ensures.
+use Rattle.std.proofs.Common.{subst}
+use Rattle.tsp_open.specs.Open.{Open, IsHeldVerdict}
 use Rattle.tsp_open.proofs.opened.Opened.judge.Goals as goal
 
 pub judge_next-requires : goal.judge_next-requires
 judge_next-requires c = (c.self.inside.certificate, c.self.invariant.1)
 
 pub returns-in-Ok : goal.returns-in-Ok
-returns-in-Ok c = record {
-  solution = c.in_ok-solution.solution;
-  spelled = c.in_ok-solution.ensures;
-  of_type = c.self.invariant.1.0;
-  judged = c.in-Ok.ensures.1 c.self.inside.certificate c.self.invariant.1;
-  problem = c.self.invariant.0;
-}
+returns-in-Ok c =
+    subst (λ (o : Open). IsHeldVerdict c.args.text.now c.args.claimed o c.in-Ok.verdict) c.self.view_is (record {
+      solution = c.in_ok-solution.solution;
+      spelled = c.in_ok-solution.ensures;
+      of_type = c.self.invariant.1.0;
+      judged = c.in-Ok.ensures.1 c.self.inside.certificate c.self.invariant.1;
+      problem = c.self.invariant.0;
+    })

@@ -1,0 +1,24 @@
+-- The goals of `Opened::bind` in src/opened.rt: that what it keeps is the basis, and what it ensures.
+use Rattle.std.proofs.Common.{ap, refl, rules, subst}
+use Rattle.std.specs.Prelude.{IsTrue}
+use Rattle.tsp_verdict.specs.Bounded.{IsBoundVerdict}
+use Rattle.tsp_verdict.specs.Certified.{is_bounded}
+use Rattle.tsp_open.specs.Open.{Open}
+use Rattle.tsp_open.proofs.opened.Opened.bind.Goals as goal
+
+pub invariant_of-self : goal.invariant_of-self
+invariant_of-self c =
+    let bounded : IsTrue (is_bounded c.args.by c.self.inside.instance.kind) = search rules in
+    (c.self.invariant.0, (bounded, c.basis_of-self-inside.ensures c.args.by c.self.inside.instance c.in_ok-file.file c.in-Ok.ensures))
+
+pub returns : goal.returns
+returns c =
+    let bounded : IsTrue (is_bounded c.args.by c.self.inside.instance.kind) = search rules in
+    record {
+      same = ap (λ (o : Open). o.instance) c.self.view_is;
+      certificate = c.in_ok-file.file;
+      spelled = c.in_ok-file.ensures;
+      held = refl;
+      of_type = subst (λ (o : Open). IsTrue (is_bounded c.args.by o.instance.kind)) c.self.view_is bounded;
+      judged = subst (λ (o : Open). IsBoundVerdict c.args.by o.instance c.in_ok-file.file c.in-Ok.found) c.self.view_is c.in-Ok.ensures;
+    }
