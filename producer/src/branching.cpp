@@ -8,6 +8,7 @@ namespace {
 constexpr std::size_t kCandidates = 12, kFinalists = 4;
 constexpr int kFewIterations = 25, kManyIterations = 300;
 constexpr int kFreshChoices = 30;
+constexpr int kSlackSolutions = 3;                    // in a row; a row that is slack in more isn't passed on
 constexpr double kLeastPart = 1e-4, kMostPart = 1.2;  // of the gap, that a branch gains
 }  // namespace
 
@@ -88,7 +89,7 @@ double Branching::leaves() const {
 }
 
 std::optional<Pair> Branching::choose(Relaxation& relaxation, double target) {
-  relaxation.purge(0);
+  relaxation.purge(kSlackSolutions);
   relaxation.solve();
   const double gap = std::max(target - relaxation.value(), 1e-6);
   relaxation.drop_edges();

@@ -109,7 +109,7 @@ class MinimumCuts {
 }  // namespace
 
 std::vector<NodeSet> crossed_too_little(const Graph& graph, double least_violation) {
-  const std::vector<NodeSet> parts = components(graph, [](double value) { return value > 1e-7; });
+  std::vector<NodeSet> parts = components(graph, [](double value) { return value > 1e-7; });
   if (parts.size() > 1) return parts;
   return MinimumCuts(graph, least_violation).find();
 }
