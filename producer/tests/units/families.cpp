@@ -50,6 +50,7 @@ Graph prism() {
 
 std::vector<NodeSet> single_nodes(int count) {
   std::vector<NodeSet> sets;
+  sets.reserve(count);
   for (int v = 0; v < count; v++) sets.push_back({v});
   return sets;
 }
@@ -121,6 +122,7 @@ TEST_CASE("the shortest tours of atoms") {
   for (int trial = 0; trial < 30; trial++) {
     const int atoms = 7;
     std::vector<std::pair<std::uint32_t, double>> multipliers;
+    multipliers.reserve(6);
     for (int k = 0; k < 6; k++) multipliers.emplace_back(1 + random.below(62), 0.25 * (1 + random.below(3)));
     const auto length = [&](const AtomTour& tour) {
       double sum = 0;
