@@ -50,8 +50,8 @@ pub(crate) fn grow<C: Grouped>(
     tsp_tree::grow(alloc, w, row)
 }
 
-/// The nodes 2..n in an order in which near ones are near each other; none where it isn't one of
-/// all the nodes.
+/// The nodes 2..n in an order in which near ones are near each other; none where there are more or
+/// fewer of them.
 ///
 /// # Errors
 ///
@@ -59,8 +59,7 @@ pub(crate) fn grow<C: Grouped>(
 fn inner_order<C: Grouped>(alloc: Global, c: &C) -> Result<Option<Vec<u32>>, Refused>
     ensures { IfOk result (λ found. IfSome found (λ order. length order.items + 1 ≡ C.nodes c.now)) }
 {
-    let mut order = c.order(alloc)?;
-    order.retain(|node| *node != 1);
+    let order = c.order(alloc)?;
     if order.len() + 1 == c.count() as usize {
         Ok(Some(order))
     } else {

@@ -9,9 +9,9 @@
 //! ```
 #![tactic(auto)]
 
-mod curve;
 mod examples;
 mod fault;
+mod halves;
 mod instance;
 mod laws;
 mod matrix;

@@ -3,7 +3,7 @@
 ghost use Rattle.std.specs.Prelude.{◌≡◌};
 ghost use Rattle.tsp_format.specs.Cells.{IsNode};
 
-use crate::curve::along_curve;
+use crate::halves::by_halves;
 use crate::matrix::EvenMatrix;
 use crate::points::Points;
 use crate::triangle::Triangle;
@@ -31,7 +31,7 @@ impl<P: InSpace> Grouped for Points<'_, P> {
     ghost place = { points_place P.place };
 
     fn order(&self, alloc: Global) -> Result<Vec<u32>, Refused> {
-        along_curve(alloc, self.points)
+        by_halves(alloc, self.points)
     }
 
     #[inline]

@@ -16,8 +16,8 @@ use tsp_memory::Refused;
 pub trait Grouped: Symmetric {
     ghost place: { Self → ℕ → Point };
 
-    /// The nodes in an order in which neighbours are near each other, as a help alone: nothing is
-    /// promised of it.
+    /// The nodes 2..n in an order in which neighbours are near each other, as a help alone: nothing
+    /// is promised of it. Best are the leaves of a tree of boxes, each of which has the halves of one.
     ///
     /// # Errors
     ///
