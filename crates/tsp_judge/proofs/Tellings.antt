@@ -1,4 +1,4 @@
--- Who follows a comparison was told of some lines, and then of the next.
+-- The follower of a comparison got some lines, and then the next one.
 use Rattle.std.proofs.Common.{ℕ, ◌+◌, add-one}
 use Rattle.tsp_judge.specs.Following.{AreTold}
 
