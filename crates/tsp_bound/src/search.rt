@@ -109,8 +109,8 @@ impl<C: Grouped, S: Seen> Search<'_, C, S> {
     /// The best of the nodes outside below the box `v` and of the best so far. `steps` counts the
     /// boxes that it looks at.
     ///
-    /// The halves are in the order of their numbers: with near nodes beside each other, the one that
-    /// is nearer by its region isn't better first.
+    /// The halves are in the order of their numbers: with near nodes beside each other, the one
+    /// that is nearer by its region isn't better first.
     pub(crate) fn below(&self, v: usize, best: Best, steps: &mut u64) -> Best
         requires low { 1 ≤ v }
         requires high { v < 2 * length self.now.order.now }

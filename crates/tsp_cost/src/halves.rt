@@ -40,8 +40,8 @@ pub(crate) fn by_halves<P: InSpace>(alloc: Global, points: &[P]) -> Result<Vec<u
     Ok(order)
 }
 
-/// Puts the nodes of the box `v` in their order. The boxes from `order.len()` on are its leaves, each
-/// with its place; the box `v` has the halves `2 * v` and `2 * v + 1`.
+/// Puts the nodes of the box `v` in their order. The box `v` has the halves `2 * v` and
+/// `2 * v + 1`; those from `order.len()` on are leaves, each with its place.
 fn arrange(items: &mut [Item], v: usize, order: &mut [u32])
     requires low { 1 ≤ v }
     requires high { v < 2 * length order.old }
@@ -65,8 +65,8 @@ fn arrange(items: &mut [Item], v: usize, order: &mut [u32])
     arrange(second, 2 * v + 1, order);
 }
 
-/// How many of the leaves of a box are in its first half, where the leaves fill their last level from
-/// its begin.
+/// How many of the leaves of a box are in its first half, where they fill their last level from the
+/// first place on.
 fn first_half(leaves: usize) -> usize
     requires { 2 ≤ leaves }
     ensures { result < leaves }

@@ -18,7 +18,8 @@ pub trait Grouped: Symmetric {
     ghost place: { Self → ℕ → Point };
 
     /// The nodes 2..n in an order in which neighbours are near each other, as a help alone: nothing
-    /// is promised of it. Best are the leaves of a tree of boxes, each of which has the halves of one.
+    /// is promised of it. In a tree of boxes, where box v has the halves 2v and 2v + 1, the node at
+    /// place i is the leaf n - 1 + i.
     ///
     /// # Errors
     ///
