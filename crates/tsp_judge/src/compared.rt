@@ -129,7 +129,6 @@ fn compare_all<R: Read + Drop, E, S: Solutions<R> + Follow<E>, W: Write>(
     out: &mut Watched<W>,
     to: &mut E,
 ) -> Result<u8, RunFault>
-    requires clear { is_clear common.now.basis ≡ true }
     requires basis { IsBasis common.now.certificate common.now.instance common.now.basis }
     requires problem { IsProblem common.now.instance }
     requires sound { has_failed out.old ≡ false }
@@ -161,7 +160,6 @@ fn compare_one<R: Read + Drop, S: Solutions<R>, W: Write>(
     index: usize,
     out: &mut Watched<W>,
 ) -> Result<Found, RunFault>
-    requires clear { is_clear common.now.basis ≡ true }
     requires basis { IsBasis common.now.certificate common.now.instance common.now.basis }
     requires problem { IsProblem common.now.instance }
     requires index { index < length (S.names solutions.now) }
