@@ -1,7 +1,7 @@
 //! Lower bounds on the length of every cycle, from certificates that nobody has to trust.
 //!
-//! It computes the bound of potentials, with multipliers or without, and of duals. It knows costs by
-//! their traits only, no files, and searches for no certificates. The theorems are those of
+//! It computes the bound of potentials, with multipliers or without, and of duals. It knows costs
+//! by their traits only, no files, and searches for no certificates. The theorems are those of
 //! tsp_theory, which are re-exported.
 //!
 //! ```text

@@ -25,8 +25,8 @@ use tsp_tree::Grown;
 /// A least tree over the nodes 2..n: each pair leads from a part that no earlier pair leaves to a
 /// node outside it, and no such pair weighs less.
 ///
-/// All nodes are joined in rounds. Where that takes too many steps, a tree grows from node 2 pair by
-/// pair, for which a row of one place more than there are nodes is lent.
+/// All nodes are joined in rounds. Where that takes too many steps, a tree grows from node 2 pair
+/// by pair, for which a row of one place more than there are nodes is lent.
 ///
 /// # Errors
 ///

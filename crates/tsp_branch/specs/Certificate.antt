@@ -1,5 +1,5 @@
--- A certificate by branching: families of sets, and a tree of cases with numbers at its leaves. Two relaxations give the bound of a
--- leaf: for undirected pairs a least 1-tree, and for directed ones the least link from each node.
+-- A certificate by branching: families of sets, and a tree of cases with numbers at its leaves. Two relaxations give the bound of
+-- a leaf: for undirected pairs a least 1-tree, and for directed ones the least link from each node.
 use Rattle.std.specs.Prelude.{◌≡◌, ◌⊎◌, ℕ, ◌≤◌, Bool, true, false, List, [], ◌∷◌, length, Option, Some, None, ℤ, pos, ◌≤ℤ◌}
 use Rattle.std.specs.List.{All, Any}
 use Rattle.tsp_theory.specs.Costs.{IsSymmetric}
@@ -32,8 +32,8 @@ pub record IsCertificate (n : ℕ) (families : List Family) (given : List Decisi
 
 -- ---- the bound of a leaf
 
--- What is found of a leaf. Undirected: the bound of a least 1-tree, where all decisions have the same number. Directed: the bound by
--- the least link from each node, or none where some node has no link that the decisions allow.
+-- What is found of a leaf. Undirected: the bound of a least 1-tree, where all decisions have the same number. Directed: the bound
+-- by the least link from each node, or none where some node has no link that the decisions allow.
 abbrev pub IsFoundAt : Bool → ℕ → (ℕ → ℕ → ℤ) → ℤ → ℤ → List Family → List Decision × LeafNumbers → Option ℤ → Type 0
 IsFoundAt false n cost scale number families (case, numbers) (Some bound) =
     IsLeafBound n cost scale numbers.potentials (on_taken number case) (on_avoided number case)

@@ -7,8 +7,8 @@ use Rattle.tsp_families.specs.Crossed.{IsLeastLength, IsMostCost, AreTooMany}
 use Rattle.tsp_families.specs.declared.family.Crossings.{Crossings}
 use Rattle.tsp_branch.specs.Combs.{Comb, IsComb, crossings}
 
--- sets, the first as a handle and the others as its teeth, whatever they are; and two numbers: how often a cycle crosses them at the
--- least, and how many of them two nodes cross at the most
+-- sets, the first as a handle and the others as its teeth, whatever they are; and two numbers: how often a cycle crosses them at
+-- the least, and how many of them two nodes cross at the most
 pub record Family : Type 0 where
   pub sets : Comb
   pub numbers : Crossings

@@ -14,8 +14,8 @@ most_with [] multipliers = pos 0
 most_with (own ∷ crossed) [] = pos 0
 most_with (own ∷ crossed) (multiplier ∷ multipliers) = (multiplier *ℤ pos own.most) +ℤ most_with crossed multipliers
 
--- as many potentials as nodes, none too large; as many multipliers as families, none negative, with which two nodes don't cross too
--- much
+-- as many potentials as nodes, none too large; as many multipliers as families, none negative, with which two nodes don't cross
+-- too much
 pub record AreGoodNumbers (n : ℕ) (crossed : List Crossings) (numbers : LeafNumbers) : Type 0 where
   pub each_node : length numbers.potentials ≡ n
   pub each_comb : length numbers.multipliers ≡ length crossed

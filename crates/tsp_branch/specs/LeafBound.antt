@@ -32,8 +32,8 @@ abbrev pub leaf_weight : ℤ → List ℤ → List (ℕ × ℕ × ℤ) → List 
 leaf_weight scale potentials taken avoided families cost =
     combed families (adjusted taken avoided (weight_between scale potentials cost))
 
--- the bound of a 1-tree of this weight: each potential is taken off twice, and what the numbers of taken pairs and the families take
--- off every cycle is given back
+-- the bound of a 1-tree of this weight: each potential is taken off twice, and what the numbers of taken pairs and the families
+-- take off every cycle is given back
 abbrev pub IsLeafBoundOf : ℤ → List ℤ → List (ℕ × ℕ × ℤ) → List (Family × ℤ) → ℤ → ℤ → Type 0
 IsLeafBoundOf scale potentials taken families weight bound =
     IsLeastBound scale (((weight -ℤ (pos 2 *ℤ total potentials)) +ℤ triples_total taken) +ℤ least_of families) bound

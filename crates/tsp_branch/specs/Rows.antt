@@ -55,8 +55,8 @@ abbrev pub LinksAreAllowed : Type 0
 LinksAreAllowed = (n : ℕ) (decisions : List Decision) (nodes : List ℕ) (i j : ℕ)
     → 2 ≤ n → IsCycle n nodes → KeepsAll true nodes decisions → Follows nodes (i, j) → IsNode n i × IsAllowed n decisions i j
 
--- So where no link from some node is allowed, no cycle keeps the decisions; and else the least weights sum to no more than a cycle
--- weighs that does.
+-- So where no link from some node is allowed, no cycle keeps the decisions; and else the least weights sum to no more than a
+-- cycle weighs that does.
 abbrev pub NoLinkNoCycle : Type 0
 NoLinkNoCycle = (n : ℕ) (decisions : List Decision) → 2 ≤ n → HasNoLink n decisions → HasNoCycle true n decisions
 

@@ -49,9 +49,9 @@ use tsp_theory::Costs;
 ///
 /// # Requires
 ///
-/// Three or more nodes, costs that are the same in both directions where pairs have none, a scale of
-/// 1 to 1,000,000, combs, sets and decisions of nodes, one whole tree of branches, and that no case
-/// decides a pair twice.
+/// Three or more nodes, costs that are the same in both directions where pairs have none, a scale
+/// of 1 to 1,000,000, combs, sets and decisions of nodes, one whole tree of branches, and that no
+/// case decides a pair twice.
 ///
 /// # Errors
 ///

@@ -14,8 +14,8 @@ pub struct CaseTree<'a, C: Costs> {
     pub scale: i64,
     /// How many families there are.
     pub combs: usize,
-    /// The sets of the families, each with the number of its family from 0 on, family by family, of a
-    /// comb the handle before the teeth. A lone set is a handle without teeth.
+    /// The sets of the families, each with the number of its family from 0 on, family by family, of
+    /// a comb the handle before the teeth. A lone set is a handle without teeth.
     pub sets: &'a [CombSet],
     /// The decisions of all cases.
     pub given: &'a [Decision],

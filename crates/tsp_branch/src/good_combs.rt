@@ -69,8 +69,8 @@ pub fn judge_families(
     Ok(JudgedFamilies::Good(crossed))
 }
 
-/// The numbers of the family that sets are, the handle first; `None` where they are none, or one has
-/// a node twice.
+/// The numbers of the family that sets are, the handle first; `None` where they are none, or one
+/// has a node twice.
 ///
 /// # Errors
 ///

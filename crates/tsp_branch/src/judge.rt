@@ -10,12 +10,13 @@ use crate::numbers::copy_within;
 use tsp_families::Crossings;
 use tsp_format::MOST_POTENTIAL;
 
-/// How often two nodes cross the sets of all families at most, each as often as its multiplier says.
+/// How often two nodes cross the sets of all families at most, each as often as its multiplier
+/// says.
 const MOST_CROSSED: i64 = 900_000_000_000_000_000;
 
-/// Whether the numbers, of the nodes and then of the families, are good: no potential is above 10^15
-/// in size, no multiplier is negative, and these, each times the most that two nodes cross of its
-/// family, sum to at most 9 * 10^17. Then they are copied.
+/// Whether the numbers, of the nodes and then of the families, are good: no potential is above
+/// 10^15 in size, no multiplier is negative, and these, each times the most that two nodes cross of
+/// its family, sum to at most 9 * 10^17. Then they are copied.
 pub(crate) fn judge(
     numbers: &[i128],
     crossed: &[Crossings],

@@ -88,8 +88,8 @@ impl KeptRows {
     }
 }
 
-/// The rows of all nodes without combs; none where the tree is a leaf, there are too many nodes, or no
-/// memory is left.
+/// The rows of all nodes without combs; none where the tree is a leaf, there are too many nodes, or
+/// no memory is left.
 fn rows_if_any<C: Costs>(alloc: Global, costs: &C, scale: i64, steps: usize) -> Vec<Vec<i64>>
     requires scale { IsScale scale }
     ensures { AreRowsIfAny (C.nodes costs.now) (C.at costs.now) (λ i x. scale *ℤ C.at costs.now i x) result.items }

@@ -41,8 +41,8 @@ pub fn cycles_cross_combs()
     cycles_have_no_loops();
 }
 
-/// Each cycle crosses a family at least as often as its number says: a lone set twice, and a comb of k
-/// teeth 3k + 1 times.
+/// Each cycle crosses a family at least as often as its number says: a lone set twice, and a comb
+/// of k teeth 3k + 1 times.
 pub fn cycles_cross_families()
     ensures { CyclesCrossFamilies }
 {
@@ -70,8 +70,9 @@ pub fn sets_tell_combs()
     ensures leaves { SetsGiveLeaves }
 {}
 
-/// The bound of potentials, of numbers on pairs and of families is at most the length of every cycle
-/// that uses each taken pair and no avoided one. With no family it is the bound of tsp_theory.
+/// The bound of potentials, of numbers on pairs and of families is at most the length of every
+/// cycle that uses each taken pair and no avoided one. With no family it is the bound of
+/// tsp_theory.
 pub fn leaf_bounds_bound_cycles()
     ensures cycles { LeafBoundsBoundCycles }
     ensures uncombed { UncombedBoundsAreAdjustedBounds }
@@ -82,8 +83,8 @@ pub fn leaf_bounds_bound_cycles()
     cycles_cross_families();
 }
 
-/// Each link of a cycle is allowed by the decisions that the cycle keeps; so where no link from some
-/// node is allowed, no cycle keeps them.
+/// Each link of a cycle is allowed by the decisions that the cycle keeps; so where no link from
+/// some node is allowed, no cycle keeps them.
 pub fn links_are_allowed()
     ensures links { LinksAreAllowed }
     ensures none { NoLinkNoCycle }

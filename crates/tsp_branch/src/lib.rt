@@ -1,5 +1,5 @@
-//! Lower bounds by branching: families of sets of nodes, and cases by pairs of nodes, as theorems and
-//! as code. There are two relaxations: least 1-trees, and the least arc from each node.
+//! Lower bounds by branching: families of sets of nodes, and cases by pairs of nodes, as theorems
+//! and as code. There are two relaxations: least 1-trees, and the least arc from each node.
 //!
 //! [`judge_branches`] finds the bound of a certificate, or what is wrong with it first. It searches
 //! for no certificates, and knows costs by their traits only.

@@ -20,7 +20,8 @@ pub fn examples_of_good_numbers()
     ensures lower_potential { ¬ AreGoodNumbers 3 [] (moved_at_three (negsuc (10 ^ 15))) }
 {}
 
-/// Each leaf has the numbers of the leaf before it, changed by its differences; the first one those of 0.
+/// Each leaf has the numbers of the leaf before it, changed by its differences; the first one those
+/// of 0.
 pub fn examples_of_differences()
     ensures { listed_steps 3 1 by_differences ≡ by_numbers }
 {}

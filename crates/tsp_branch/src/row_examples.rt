@@ -22,8 +22,8 @@ pub fn examples_of_links()
     ensures past_the_last { ¬ IsAllowed 3 [] 2 4 }
 {}
 
-/// Bounds by rows: the costs of the least allowed links, and none where a node has no link. The arcs of node 1 go to
-/// the nodes 2 and 3, which two taken arcs enter elsewhere.
+/// Bounds by rows: the costs of the least allowed links, and none where a node has no link. The
+/// arcs of node 1 go to the nodes 2 and 3, which two taken arcs enter elsewhere.
 pub fn examples_of_rows()
     ensures none_left { HasNoLink 3 (with_pair 3 2 ∷ with_pair 2 3 ∷ []) }
     ensures some_left { ¬ HasNoLink 3 [] }

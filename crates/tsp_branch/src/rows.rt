@@ -84,8 +84,8 @@ fn least_from<W: Weights>(w: &W, case: &OpenCase, from: u32, row: &mut [i64]) ->
     Some(least)
 }
 
-/// Closes in the row of a node the place of the node itself, and what some decision doesn't allow: one
-/// that begins at the node, or one that takes its pair.
+/// Closes in the row of a node the place of the node itself, and what some decision doesn't allow:
+/// one that begins at the node, or one that takes its pair.
 fn close_row(row: &mut [i64], own: &[Decision], taken: &[Decision], from: u32)
     requires own { All (λ decision. decision.pair.1 < length row.old) own.now }
     requires taken { All (λ decision. decision.pair.1 < length row.old) taken.now }

@@ -24,7 +24,8 @@ pub(crate) fn scale_row(row: &mut [i64], scale: i64)
     }
 }
 
-/// Adds a number to each of a row, and at each place the other row's. Each sum is wrapped to 64 bits.
+/// Adds a number to each of a row, and at each place the other row's. Each sum is wrapped to 64
+/// bits.
 ///
 /// # Requires
 ///

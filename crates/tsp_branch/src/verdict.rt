@@ -34,9 +34,9 @@ use tsp_theory::Costs;
 ///
 /// # Requires
 ///
-/// Three or more nodes, costs that are the same in both directions where pairs have none, a scale of
-/// 1 to 1,000,000, sets and decisions of nodes, no pair that is given twice, and one whole tree of
-/// branches.
+/// Three or more nodes, costs that are the same in both directions where pairs have none, a scale
+/// of 1 to 1,000,000, sets and decisions of nodes, no pair that is given twice, and one whole tree
+/// of branches.
 ///
 /// # Errors
 ///

@@ -59,7 +59,7 @@ pub fault_as_texts : (opened : Open) (claimed : Option ℤ) (two : List ℕ) (fa
 fault_as_texts opened claimed two fault written status text ends e one given is =
     fault_ends fault written status text (stops_held opened claimed two one given fault is ends) e
 
--- the status of a fault is neither that of a yes nor that of a no
+-- the status of a fault is neither that of the line `yes` nor that of the line `no`
 above_one : (opened : Open) (two : List ℕ) (fault : RunFault) (written : List ℕ) (status : ℕ) (text : List ℕ)
     → IsNotJudged two opened fault → EndsOnTexts (Err fault) written status text → status ≤ 1 → ⊥
 above_one opened two fault written status text ends (inl e) low =

@@ -68,7 +68,7 @@ text_stops P turn text number file read_faults.TooLong holds known is stops =
 text_stops P turn text number file read_faults.OutOfMemory holds known is stops = holds read_faults.OutOfMemory (is, tt)
 text_stops P turn text number file read_faults.Device holds known is stops = holds read_faults.OutOfMemory (is, tt)
 
--- what is known of the writer of a run on texts: it held nothing, and holds what was written
+-- what is known of the writer of a run on texts: it held nothing, and holds the text
 pub record Collects (sink : Sink) (written : List ℕ) : Type 0 where
   pub held : sink.held ≡ Some []
   pub holds : sink.holds ≡ Some written
@@ -78,7 +78,7 @@ printed_is sink written report is has =
     let a : Appends (Some []) sink.holds report = subst (λ (k : Option (List ℕ)). Appends k sink.holds report) is.held has.2 in
     subst (λ (k : Option (List ℕ)). Appends (Some []) k report) is.holds a
 
--- ---- what is shown, and what is converted
+-- ---- a text that is shown or converted
 
 pub shows : (turn : Turn) (sink : Sink) (ended : Result (Unit {0}) RunFault) (one written : List ℕ) (status : ℕ) (text : List ℕ)
     → IsShowRun turn sink ended → turn.known ≡ Some one → Collects sink written → EndsOnTexts (done ended) written status text

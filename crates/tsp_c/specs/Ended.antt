@@ -12,8 +12,8 @@ use Rattle.tsp_judge.specs.Status.{status_of, status_of_fault}
 
 -- ---- the caller's buffer
 
--- The text's length is written. Where the text fits it is the front of the buffer, and the answer is its status; else the
--- buffer is as it was, and the answer is 6.
+-- The text's length is written. Where the text fits the buffer begins with it, and the result is its status; else the
+-- buffer is as it was, and the result is 6.
 abbrev pub IsPlaced : List ℕ → ℕ → List ℕ → List ℕ → ℕ → ℕ → Type 0
 IsPlaced text status old new written answer = (written ≡ length text)
     × (length text ≤ length old → (new ≡ text ++ drop (length text) old) × (answer ≡ status))
@@ -54,7 +54,7 @@ without_devices fault = fault
 abbrev pub fault_line : RunFault → List ℕ
 fault_line fault = run_fault_text fault ++ 10 ∷ []
 
--- A run that has an answer ends with its status, and with what it wrote; one that has none, with the status and the line of its
+-- A run that has a result ends with its status, and with what it wrote; one that has none, with the status and the line of its
 -- fault.
 abbrev pub IsPrinted : Result Bool RunFault → List ℕ → ℕ → List ℕ → Type 0
 IsPrinted (Ok answer) written status text = (status ≡ status_of (Ok answer)) × (text ≡ written)
@@ -68,15 +68,15 @@ EndsOnTexts (Err fault) written status text =
     ((status ≡ status_of_fault (without_devices fault)) × (text ≡ fault_line (without_devices fault)))
     ⊎ ((status ≡ 3) × (text ≡ []))
 
--- the whole report was written, and the answer is the one that it says; or the writer has failed
+-- the whole report was written, and the result is the one that it says; or the writer has failed
 abbrev pub Reports : Sink → List ℕ → Bool → Result Bool RunFault → Type 0
 Reports sink report accepts (Ok answer) = HasWritten sink report × (answer ≡ accepts)
 Reports sink report accepts (Err fault) = fault ≡ Write write_faults.Device
 
 -- ---- what a status says
 
--- A yes comes with a text of which Yes holds, a no with one of which No holds, and a fault with its line, where Stops holds of the
--- fault.
+-- The line `yes` comes with a text of which Yes holds, `no` with one of which No holds, and a fault with its line, where Stops
+-- holds of the fault.
 abbrev pub SaysEnding : (List ℕ → Type 0) → (List ℕ → Type 0) → (RunFault → Type 0) → Result Bool RunFault → List ℕ → Type 0
 SaysEnding Yes No Stops (Ok true) text = Yes text
 SaysEnding Yes No Stops (Ok false) text = No text

@@ -18,7 +18,7 @@ held_owns alloc p (Some x) = box_owns (ghosts.dealloc_token alloc) the_row p x
 abbrev pub held_coded : Coded (Option Open)
 held_coded = coded_option the_row.coded
 
--- what is open; blank where nothing is
+-- the open instance; blank where none is open
 abbrev pub open_of : Option Open → Open
 open_of None = record { instance = blank_fields; certificate = None }
 open_of (Some opened) = opened

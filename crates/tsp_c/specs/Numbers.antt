@@ -1,4 +1,4 @@
--- What the calls on numbers answer. Each number that they fill in is the one that the definitions give.
+-- The results of the calls on numbers. Each number that they fill in is the one that the definitions give.
 use Rattle.std.specs.Prelude.{◌≡◌, ◌⊎◌, ℕ, zero, suc, ◌+◌, ◌-◌, ◌*◌, ◌/◌, ◌%◌, ◌≤◌, ◌<◌, ◌==◌, min, cond, List, [], ◌∷◌, length, slice_index_or, Option, None, Some, Result, Ok, Err, IsTrue, ℤ, pos, negsuc}
 use Rattle.std.specs.List.{All}
 use Rattle.tsp_distance.specs.declared.decimal.Point.{Point}
@@ -56,8 +56,8 @@ FillsCount text old new status = OfInstance text (λ instance. EndsCount instanc
 
 -- ---- a buffer that is filled for an instance
 
--- How a call ends that is asked for numbers of an instance: 0, and the buffer is filled; 4, what is asked for isn't there; 6, the
--- buffer has too few places. But for 0 the buffer is as it was.
+-- How a call ends that is asked for numbers of an instance: 0, and the buffer is filled; 4, the instance doesn't have them; 6,
+-- the buffer has too few places. But for 0 the buffer is as it was.
 abbrev pub EndsBuffer : Type 0 → ℕ → ℕ → (ℕ → ℤ) → List ℤ → List ℤ → ℕ → Type 0
 EndsBuffer Asked least count number old new status =
     ((status ≡ 0) × Asked × (least ≤ length old) × IsFilled count number old new)

@@ -1,4 +1,4 @@
--- What the calls on a handle answer, over the instance on which it is open, and the certificate that is bound to it.
+-- The results of the calls on a handle, over the instance on which it is open, and the certificate that is bound to it.
 use Rattle.std.specs.Prelude.{◌≡◌, ◌⊎◌, ℕ, ◌≤◌, ◌<◌, List, Option, None, Some, Ok, ℤ}
 use Rattle.tsp_draft.specs.Fields.{Fields}
 use Rattle.tsp_text.specs.Text.{Spells}
@@ -43,7 +43,7 @@ BindsOpen by text opened held told status =
     ⊎ ((fault : RunFault) × (held ≡ Some opened) × IsUnbound by text opened fault × (told ≡ told_of_fault fault)
     × (status ≡ status_of_fault fault))
 
--- a call that is refused: 4, and nothing is told
+-- a call that is refused: 4, and no number is filled in
 abbrev pub IsRefusedCall : Held → Held → Told → ℕ → Type 0
 IsRefusedCall old new told status = (status ≡ 4) × (new ≡ old) × (told ≡ blank_told)
 

@@ -1,4 +1,4 @@
--- What the calls on texts answer, over the bytes of these texts alone.
+-- The results of the calls on texts, over the bytes of these texts alone.
 use Rattle.std.specs.Prelude.{◌≡◌, ◌⊎◌, ℕ, zero, suc, ◌≤◌, ◌<◌, false, List, [], ◌∷◌, Option, None, Some, Ok, Err, IsTrue, ℤ}
 use Rattle.tsp_format.specs.declared.layout.Layout.{Layout}
 use Rattle.tsp_format.specs.Words.{layouts}
@@ -34,7 +34,7 @@ IsRefusedNumber status text = (status ≡ 4) × (text ≡ [])
 
 -- ---- a text
 
--- it spells a file
+-- it parses to a file
 abbrev pub IsFileText : List ℕ → Type 0
 IsFileText text = (file : Fields) × Spells text file
 
@@ -43,9 +43,9 @@ abbrev pub IsFaultyText : ℕ → List ℕ → RunFault → Type 0
 IsFaultyText number text (File file found) = (file ≡ number) × (fault text ≡ Some found)
 IsFaultyText number text other = ⊥
 
--- ---- what is shown of a text, and the text written anew
+-- ---- the text of `show`, and the canonical text
 
--- The text is no file; or it is one, and there is no memory for what is shown of it.
+-- The text is no file; or it is one, and there is no memory for the text of `show`.
 abbrev pub StopsShowing : List ℕ → RunFault → Type 0
 StopsShowing one (Write write_faults.OutOfMemory) = IsFileText one
 StopsShowing one fault = IsTextFault 1 one fault
@@ -79,7 +79,7 @@ abbrev pub ConvertsBy : ℕ → List ℕ → ℕ → List ℕ → Type 0
 ConvertsBy number one status text = (number ≤ 9 → ConvertsText (nth number layouts) one status text)
     × (9 < number → IsRefusedNumber status text)
 
--- ---- a check: what is given, and what is claimed
+-- ---- a check: the files, and a claimed length
 
 -- the certificates by their numbers
 abbrev pub certificates : List Certificate
@@ -93,7 +93,7 @@ abbrev pub given_text : Option Certificate → List ℕ → GivenText
 given_text None three = None
 given_text (Some by) three = Some (by, three)
 
--- its text spells this file
+-- its text parses to this file
 abbrev pub SpellsGiven : GivenText → Option (Certificate × Fields) → Type 0
 SpellsGiven None None = Unit {0}
 SpellsGiven None (Some certificate) = ⊥
@@ -105,7 +105,7 @@ abbrev pub claim_of : ℕ → ℤ → Option ℤ
 claim_of zero claimed = None
 claim_of (suc has) claimed = Some claimed
 
--- these are the files that the texts spell
+-- these are the files that the texts parse to
 pub record AreSpelled (given : GivenText) (one two : List ℕ) (instance solution : Fields)
     (certificate : Option (Certificate × Fields)) : Type 0 where
   pub first_file : Spells one instance
@@ -161,7 +161,7 @@ HasVerdict given claimed one two verdict = (instance solution : Fields) × (cert
     × AreSpelled given one two instance solution certificate
     × IsTrue (is_judged certificate instance.kind) × IsVerdictWith certificate claimed instance solution verdict
 
--- Why a check has no answer: out of memory for a file, for the verdict or for the report; or a text.
+-- Why a check has no result: out of memory for a file, for the verdict or for the report; or a text.
 abbrev pub StopsCheck : GivenText → Option ℤ → List ℕ → List ℕ → RunFault → Type 0
 StopsCheck given claimed one two (File number read_faults.OutOfMemory) = IsReached given one two number
 StopsCheck given claimed one two OutOfMemory = IsUndecided given one two

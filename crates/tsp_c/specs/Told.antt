@@ -1,4 +1,4 @@
--- The answer of a call in numbers. What isn't told is 0.
+-- The result of a call in numbers. A number that it doesn't have is 0.
 use Rattle.std.specs.Prelude.{◌≡◌, ℕ, ◌≤◌, ◌<◌, ◌^◌, List, Option, None, Some, Result, Ok, Err, IsTrue, ℤ, pos, unsigned_abs}
 use Rattle.std.specs.Int.{int_div_euclid, int_rem_euclid}
 use Rattle.tsp_format.specs.declared.kinds.Kind.{Kind}
@@ -240,7 +240,7 @@ told_of_bound_run (Err fault) = told_of_fault fault
 
 -- ---- what the numbers of a call on texts say: at 0 and 1 they are those of the verdict, at 2 those of the fault
 
--- the verdict on the files that the texts spell
+-- the verdict on the files that the texts parse to
 pub record IsTextVerdict (given : GivenText) (claimed : Option ℤ) (one two : List ℕ) (status : ℕ) (told : Told) : Type 0 where
   pub instance : Fields
   pub solution : Fields
@@ -263,7 +263,7 @@ TellsBy by has_claim claimed one two three status told =
     × (2 < by → told ≡ blank_told)
     × (1 < has_claim → told ≡ blank_told)
 
--- what was found of the files that the texts spell
+-- what was found of the files that the texts parse to
 pub record IsTextBound (by : Certificate) (one two : List ℕ) (status : ℕ) (told : Told) : Type 0 where
   pub instance : Fields
   pub certificate : Fields

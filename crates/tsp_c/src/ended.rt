@@ -10,8 +10,8 @@ use tsp_judge::{ReadFault, RunFault, Watched, WriteFault, status_of};
 /// Out of memory.
 const OUT_OF_MEMORY: u8 = 3;
 
-/// The status with which a run on texts ends, and the text that goes to the caller: what the run wrote, or
-/// the line of its fault. Where there is no memory for a line, the text is empty.
+/// The status with which a run on texts ends, and the text that goes to the caller: what the run
+/// wrote, or the line of its fault. Where there is no memory for a line, the text is empty.
 pub(crate) fn ended(answer: Result<bool, RunFault>, report: Watched<Vec<u8>>) -> (u8, Vec<u8>)
     ensures { EndsOnTexts answer (watched report).items result.0 result.1.items }
 {

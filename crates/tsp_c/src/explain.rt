@@ -1,4 +1,4 @@
-//! What the answer of a call on texts means, for a person.
+//! What the result of a call on texts means, for a person.
 
 ghost use Rattle.std.specs.Prelude.{◌↔◌, IsSome};
 ghost use Rattle.tsp_c.specs.Texts.{ExplainsTexts, IsExplained};
@@ -35,8 +35,8 @@ pub(crate) struct Numbers {
     pub(crate) has_claim: u32,
 }
 
-/// The texts of a call. `names` has what the user calls them, one behind the other, and a byte 0 between
-/// them.
+/// The texts of a call. `names` has what the user calls them, one behind the other, and a byte 0
+/// between them.
 #[derive(Clone, Copy)]
 pub(crate) struct Texts<'a> {
     pub(crate) instance: &'a [u8],
@@ -52,7 +52,7 @@ struct Named<'a> {
     name: &'a str,
 }
 
-/// What explains the answer of a call on these texts, with its status.
+/// The explanation of the result of a call on these texts, with its status.
 pub(crate) fn explained(alloc: Global, numbers: Numbers, texts: Texts<'_>) -> (u8, Vec<u8>)
     ensures { ExplainsTexts numbers.call numbers.number numbers.has_claim result.0 result.1.items }
 {
@@ -90,7 +90,7 @@ fn task_of<'a>(numbers: Numbers, texts: Texts<'a>) -> Option<Task<Named<'a>>>
     }
 }
 
-/// Appends what explains the answer of a task on texts.
+/// Appends the explanation of the result of a task on texts.
 fn explain(alloc: Global, text: &mut Vec<u8>, task: &Task<Named<'_>>) -> Result<(), AllocError> {
     let mut readers = opened(task);
     let mut report = Watched::new(Vec::new(alloc));

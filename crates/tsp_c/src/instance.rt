@@ -10,11 +10,11 @@ use tsp_file::File;
 use tsp_judge::RunFault;
 use tsp_read::read_bytes;
 
-/// The file that a text spells.
+/// The file that a text parses to.
 ///
 /// # Errors
 ///
-/// `File` with the number 1 where it spells none.
+/// `File` with the number 1 where it parses to none.
 pub(crate) fn file_of(alloc: Global, text: &[u8]) -> Result<File, RunFault>
     ensures { ReadsText 1 text.now result }
 {
@@ -24,11 +24,12 @@ pub(crate) fn file_of(alloc: Global, text: &[u8]) -> Result<File, RunFault>
     }
 }
 
-/// The instance that a text spells.
+/// The instance that a text parses to.
 ///
 /// # Errors
 ///
-/// `File` with the number 1 where the text spells no file; `WrongKind` where the file is no instance.
+/// `File` with the number 1 where the text parses to no file; `WrongKind` where the file is no
+/// instance.
 pub(crate) fn instance_of(alloc: Global, text: &[u8]) -> Result<Instance, RunFault>
     ensures { FindsInstance text.now result }
 {

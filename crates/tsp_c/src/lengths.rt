@@ -71,7 +71,7 @@ fn count_of(nodes: &[u32]) -> usize
     nodes.iter().filter(|node| **node == 0).count()
 }
 
-/// Puts the lengths of lists to the front of a buffer that has a place for each.
+/// Puts the lengths of lists at the start of a buffer that has a place for each.
 fn put_lengths(instance: &Instance, nodes: &[u32], out: &mut [i64])
     requires lists { AreLists nodes.now (nodes_of instance.now) }
     requires room { list_count nodes.now ≤ length out.old }

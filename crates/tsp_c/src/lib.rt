@@ -1,11 +1,11 @@
 //! The calls of Yokecairn for C, and for what speaks to C: over numbers and slices of bytes alone.
 //!
-//! A call on texts has no state. A handle holds an instance that is open, which calls on it don't read
-//! again. No call keeps a pointer, or calls back. A call that gives a text answers a status as the program
-//! exits with it: 0 for a yes or for what is done, 1 for a no, 2 for a text with a fault, 3 out of
-//! memory, 4 for a number that is refused. The text goes to the front of the buffer `out`, and `written` is
-//! its length. Where it doesn't fit, the status is 6, the buffer is as it was, and `written` is the length
-//! that is needed.
+//! A call on texts has no state. A handle holds an instance that is open, which calls on it don't
+//! read again. No call keeps a pointer, or calls back. A call that writes a text returns the status
+//! with which the program exits: 0 for the line `yes` or a call that succeeded, 1 for the line
+//! `no`, 2 for a text with a fault, 3 out of memory, 4 for a number that is refused. The text is at
+//! the start of the buffer `out`, and `written` is its length. Where it doesn't fit, the status is
+//! 6, the buffer is as it was, and `written` is the length that is needed.
 #![tactic(auto)]
 
 ghost use Rattle.tsp_distance.specs.declared.decimal.Point.{Point};
@@ -173,9 +173,9 @@ pub extern "C" fn tsp_convert(
     answer
 }
 
-/// Explains what a call on texts answers: 0 `tsp_show`, 1 `tsp_convert`, 2 `tsp_check`, 3 `tsp_bound`.
-/// `number` is the layout or the kind of certificate of the call. `names` has what the user calls the
-/// texts, one behind the other, and a byte 0 between them.
+/// Explains the result of a call on texts: 0 `tsp_show`, 1 `tsp_convert`, 2 `tsp_check`, 3
+/// `tsp_bound`. `number` is the layout or the kind of certificate of the call. `names` has what the
+/// user calls the texts, one behind the other, and a byte 0 between them.
 #[unsafe(no_mangle)]
 pub extern "C" fn tsp_explain(
     alloc: Global,
@@ -251,7 +251,8 @@ pub extern "C" fn tsp_lengths(alloc: Global, instance: &[u8], nodes: &[u32], out
     fill_lengths(alloc, instance, nodes, out)
 }
 
-/// Opens a handle on the instance that a text is. What the handle was open on before is freed first.
+/// Opens a handle on the instance that a text is. What the handle was open on before is freed
+/// first.
 #[unsafe(no_mangle)]
 pub extern "C" fn tsp_open(
     alloc: Global,
@@ -272,8 +273,8 @@ pub extern "C" fn tsp_close(alloc: Global, handle: &mut Handle)
     close(alloc, handle);
 }
 
-/// Binds a certificate to the instance of a handle, in the place of the one before: by 1 potentials, by 2
-/// branches.
+/// Binds a certificate to the instance of a handle, in the place of the one before: by 1
+/// potentials, by 2 branches.
 #[unsafe(no_mangle)]
 pub extern "C" fn tsp_bind(
     alloc: Global,
@@ -288,8 +289,8 @@ pub extern "C" fn tsp_bind(
     bind_text(alloc, handle, certificate, by, told)
 }
 
-/// Judges a solution of the instance of a handle, as `tsp_check` does, with the certificate that is bound to
-/// it, where one is.
+/// Judges a solution of the instance of a handle, as `tsp_check` does, with the certificate that is
+/// bound to it, where one is.
 #[unsafe(no_mangle)]
 pub extern "C" fn tsp_instance_check(
     alloc: Global,
@@ -382,8 +383,8 @@ pub extern "C" fn tsp_instance_lengths(
     lengths_held(alloc, handle, nodes, out)
 }
 
-/// The distance of two points, whose coordinates are counts of 10^-9; -1 where there is none. The kinds are
-/// 1 EUC_2D, 2 CEIL_2D, 3 MAN_2D, 4 MAX_2D, 5 ATT, 6 EUC_3D, 7 MAN_3D, 8 MAX_3D.
+/// The distance of two points, whose coordinates are counts of 10^-9; -1 where there is none. The
+/// kinds are 1 EUC_2D, 2 CEIL_2D, 3 MAN_2D, 4 MAX_2D, 5 ATT, 6 EUC_3D, 7 MAN_3D, 8 MAX_3D.
 #[unsafe(no_mangle)]
 pub extern "C" fn tsp_distance(
     kind: u32,

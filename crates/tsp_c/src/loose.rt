@@ -9,8 +9,8 @@ use std::alloc::Global;
 use std::marker::Model;
 use tsp_open::Opened;
 
-/// A box at the border to C, where its type may not be named: its pointer, and the ownership that goes
-/// with it. It is ended by hand, and has no drop.
+/// A box at the border to C, where its type may not be named: its pointer, and the ownership that
+/// goes with it. It is ended by hand, and has no drop.
 #[repr(C)]
 pub struct Loose {
     at: *mut u8,

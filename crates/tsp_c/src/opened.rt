@@ -26,7 +26,8 @@ use tsp_judge::{Certificate, RunFault, Verdict, Watched, status_of, verdicts_mea
 use tsp_open::Opened;
 use tsp_report::write_report;
 
-/// Opens a handle on the instance that a text is; the status. What it was open on before is freed first.
+/// Opens a handle on the instance that a text is; the status. What it was open on before is freed
+/// first.
 pub(crate) fn open_text(alloc: Global, text: &[u8], handle: &mut Handle, told: &mut Told) -> u32
     ensures { OpensText text.now handle.new.loose.value told.new result }
 {
@@ -65,8 +66,8 @@ pub(crate) fn close(alloc: Global, handle: &mut Handle)
     drop(handle.take(alloc));
 }
 
-/// Binds the certificate that a text is to the instance of a handle, by 1 potentials, by 2 branches; the
-/// status.
+/// Binds the certificate that a text is to the instance of a handle, by 1 potentials, by 2
+/// branches; the status.
 pub(crate) fn bind_text(
     alloc: Global,
     handle: &mut Handle,
@@ -112,8 +113,9 @@ fn bind_opened(
     }
 }
 
-/// The check of the solution that a text is, of the instance of a handle, with the certificate that is
-/// bound, where one is, and with a claimed length where `has_claim` is 1; with its status, and in numbers.
+/// The check of the solution that a text is, of the instance of a handle, with the certificate that
+/// is bound, where one is, and with a claimed length where `has_claim` is 1; with its status, and
+/// in numbers.
 pub(crate) fn check_held(
     alloc: Global,
     handle: &mut Handle,

@@ -5,8 +5,8 @@ ghost use Rattle.tsp_c.specs.Ended.{IsPlaced};
 /// The text doesn't fit.
 const TOO_LONG: u32 = 6;
 
-/// Puts a text to the front of a buffer where it fits, and writes its length. Returns the text's status,
-/// or that the text doesn't fit.
+/// Puts a text at the start of a buffer where it fits, and writes its length. Returns the text's
+/// status, or that the text doesn't fit.
 pub(crate) fn place(text: &[u8], status: u8, out: &mut [u8], written: &mut usize) -> u32
     ensures { IsPlaced text.now status out.old out.new written.new result }
 {

@@ -58,7 +58,7 @@ fn section_of(file: &File, section: u32) -> Option<&Coords>
     }
 }
 
-/// Puts coordinates to the front of a buffer that has a place for each.
+/// Puts coordinates at the start of a buffer that has a place for each.
 fn put_points(points: &Coords, out: &mut [i64])
     requires room { 3 * length (points_of points.now) ≤ length out.old }
     ensures { IsFilled (3 * length (points_of points.now)) (point_number (points_of points.now)) out.old out.new }

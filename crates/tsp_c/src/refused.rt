@@ -21,8 +21,8 @@ pub(crate) struct Claim {
     pub(crate) has_claim: u32,
 }
 
-/// The check by 0 alone, by 1 with potentials, by 2 with branches, and with a claimed length, where there
-/// is one; with its status, and in numbers.
+/// The check by 0 alone, by 1 with potentials, by 2 with branches, and with a claimed length, where
+/// there is one; with its status, and in numbers.
 pub(crate) fn check_by(
     alloc: Global,
     instance: &[u8],

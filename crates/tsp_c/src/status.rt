@@ -11,7 +11,7 @@ pub(crate) const DONE: u32 = 0;
 /// The file has no such section.
 pub(crate) const NO: u32 = 1;
 
-/// What is asked for isn't there.
+/// The instance doesn't have it.
 pub(crate) const REFUSED: u32 = 4;
 
 /// The buffer has too few places.

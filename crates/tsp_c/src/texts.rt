@@ -14,7 +14,7 @@ use tsp_judge::{
     verdicts_mean_reports,
 };
 
-/// What is shown of a text, with its status.
+/// The text of `show` for a text, with its status.
 pub(crate) fn shown(alloc: Global, file: &[u8]) -> (u8, Vec<u8>)
     ensures { ShowsText file.now result.0 result.1.items }
 {
@@ -34,8 +34,8 @@ pub(crate) fn converted(alloc: Global, file: &[u8], to: Option<Layout>) -> (u8, 
     ended(answer, report)
 }
 
-/// The check of two texts, with the certificate that a third one is, where one is asked for, and with
-/// the length that is claimed, where one is; with its status, and in numbers.
+/// The check of two texts, with the certificate that a third one is, where one is asked for, and
+/// with the length that is claimed, where one is; with its status, and in numbers.
 pub(crate) fn checked(
     alloc: Global,
     instance: &[u8],
@@ -66,8 +66,8 @@ pub(crate) fn checked(
     (status, text, numbers)
 }
 
-/// The bound of the tours of the instance that a text is, by the certificate that another one is; with
-/// its status, and in numbers.
+/// The bound of the tours of the instance that a text is, by the certificate that another one is;
+/// with its status, and in numbers.
 pub(crate) fn bounded(
     alloc: Global,
     by: Certificate,

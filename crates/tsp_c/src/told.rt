@@ -1,4 +1,4 @@
-//! The answer of a call in numbers.
+//! The result of a call in numbers.
 
 ghost use Rattle.std.specs.Prelude.{◌≡◌, Some, IfOk};
 ghost use Rattle.tsp_report.specs.Report.{IsGapSized, IsSized};
@@ -28,7 +28,7 @@ const WRONG_KIND: u32 = 21;
 /// The halves of a bound have 64 bits each.
 const TWO_TO_64: i128 = 18_446_744_073_709_551_616;
 
-/// What a call answers, in numbers. What isn't told is 0.
+/// The result of a call, in numbers. A number that it doesn't have is 0.
 #[repr(C)]
 #[derive(Clone, Copy, Debug, PartialEq, Eq)]
 pub struct Told {
@@ -66,7 +66,7 @@ pub struct Told {
 }
 
 impl Told {
-    /// Nothing is told.
+    /// No number: all are 0.
     pub(crate) fn blank() -> Told
         ensures { result ≡ blank_told }
     {

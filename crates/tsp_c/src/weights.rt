@@ -54,7 +54,7 @@ fn are_nodes(count: u32, nodes: &[u32]) -> bool
     nodes.iter().all(|node| *node >= 1 && *node <= count)
 }
 
-/// Puts the costs of pairs to the front of a buffer that has a place for each.
+/// Puts the costs of pairs at the start of a buffer that has a place for each.
 fn put_weights(instance: &Instance, pairs: &[u32], out: &mut [i64])
     requires pairs { ArePairs pairs.now (nodes_of instance.now) }
     requires room { pair_count pairs.now ≤ length out.old }
@@ -95,7 +95,7 @@ pub(crate) fn rows_of(instance: &Instance, first_row: u32, out: &mut [i64]) -> u
     DONE
 }
 
-/// Puts rows of costs to the front of a buffer that has a place for each.
+/// Puts rows of costs at the start of a buffer that has a place for each.
 fn put_rows(instance: &Instance, first_row: u32, rows: usize, out: &mut [i64])
     requires first { 1 ≤ first_row }
     requires last { first_row + rows ≤ nodes_of instance.now + 1 }

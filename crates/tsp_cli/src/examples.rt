@@ -1,5 +1,5 @@
-//! The words of the verbs. No body is looked at here: a definition that is changed together with its
-//! code is refused by its examples.
+//! The words of the verbs. No body is looked at here: a definition that is changed together with
+//! its code is refused by its examples.
 
 ghost use Rattle.std.specs.Prelude.{◌≡◌, codes};
 ghost use Rattle.tsp_cli.specs.declared.words.Verb.TheVariants as verbs;

@@ -1,7 +1,7 @@
 //! The words of the command line of the program `tsp`, as work on files.
 //!
-//! The words are a job (`words`), by the commands that the program has (`grammar`). A job asks for a task
-//! on files, or to compare solutions (`task`). It opens no files and runs nothing.
+//! The words are a job (`words`), by the commands that the program has (`grammar`). A job asks for
+//! a task on files, or to compare solutions (`task`). It opens no files and runs nothing.
 //!
 //! ```text
 //! let job = job_of(alloc, &["check", "a.tsp", "a.tour"])?;

@@ -1,5 +1,6 @@
-//! Whole command lines: what they ask for, or that they are refused; and jobs that are no task. No body is looked at here: a
-//! definition that is changed together with its code is refused by its examples.
+//! Whole command lines: what they ask for, or that they are refused; and jobs that are no task. No
+//! body is looked at here: a definition that is changed together with its code is refused by its
+//! examples.
 
 ghost use Rattle.std.specs.Prelude.{◌≡◌, ◌≢◌, [], ◌∷◌, Option, None, Some, ℤ, codes};
 ghost use Rattle.clap.specs.Words.{fault_of};
@@ -49,8 +50,8 @@ pub fn examples_of_lines()
     ensures no_layout { fault_of tsp (codes "convert" ∷ codes "a" ∷ codes "--layout" ∷ []) ≢ [] }
 {}
 
-/// With both certificates a check, a comparison or a bound is no work: with either one it is without the
-/// other, and the plain check is without both. A bound has one of them.
+/// With both certificates a check, a comparison or a bound is no work: with either one it is
+/// without the other, and the plain check is without both. A bound has one of them.
 pub fn examples_of_two_certificates()
     ensures plain_with_potentials { (job : Job) (a b : Place) (claimed : Option ℤ) → job.potentials ≢ None
         → ¬ IsTask job (tasks.Check a b claimed) }

@@ -7,15 +7,15 @@ use crate::task::{Place, TaskFault, Work, named_work};
 use crate::words::Job;
 use tsp_task::Task;
 
-/// The work that a job asks for. A path `-` is standard input, which one file at most can be. With no
-/// verb, standard input is shown.
+/// The work that a job asks for. A path `-` is standard input, which one file at most can be. With
+/// no verb, standard input is shown.
 ///
 /// # Errors
 ///
-/// `InputTwice` where two files are standard input; `UnknownLayout` where no layout has the given word;
-/// `NotALength` where the word of a length isn't one; `TwoCertificates` where both potentials and
-/// branches are named; `NoCertificate` where a bound has neither; `MissingPath` where a path is missing,
-/// as in no job that words ask for.
+/// `InputTwice` where two files are standard input; `UnknownLayout` where no layout has the given
+/// word; `NotALength` where the word of a length isn't one; `TwoCertificates` where both potentials
+/// and branches are named; `NoCertificate` where a bound has neither; `MissingPath` where a path is
+/// missing, as in no job that words ask for.
 pub fn work_of(job: &Job) -> Result<Work<'_>, TaskFault>
     ensures { GivesWork job.now result }
 {

@@ -19,8 +19,8 @@ pub enum Place<'a> {
     Path(&'a str),
 }
 
-/// The solutions that are compared, and by which files. A solution is opened when its turn comes, so
-/// the paths stay as they are given: `-` is standard input.
+/// The solutions that are compared, and by which files. They are opened one after the other, so the
+/// paths stay as they are given: `-` is standard input.
 #[derive(Clone, Copy)]
 pub struct Comparison<'a> {
     /// The place of the instance.
@@ -57,14 +57,14 @@ pub enum TaskFault {
     InputTwice,
 }
 
-/// The work that a job asks for, whose files may be standard input several times. With no verb, standard
-/// input is shown.
+/// The work that a job asks for, whose files may be standard input several times. With no verb,
+/// standard input is shown.
 ///
 /// # Errors
 ///
-/// `UnknownLayout` where no layout has the given word; `NotALength` where the word of a length isn't one;
-/// `TwoCertificates` where both potentials and branches are named; `NoCertificate` where a bound has
-/// neither; `MissingPath` where a path is missing, as in no job that words ask for.
+/// `UnknownLayout` where no layout has the given word; `NotALength` where the word of a length
+/// isn't one; `TwoCertificates` where both potentials and branches are named; `NoCertificate` where
+/// a bound has neither; `MissingPath` where a path is missing, as in no job that words ask for.
 pub(crate) fn named_work(job: &Job) -> Result<Work<'_>, TaskFault>
     ensures { NamesWork job.now result }
 {

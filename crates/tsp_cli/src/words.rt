@@ -87,8 +87,8 @@ impl JobFault {
 
 /// Reads the words of a command line, those after the program's own name: `show F`,
 /// `convert F [--layout L]`, `check F T [--potentials P] [--branches B] [--length N]`,
-/// `compare F T.. [--potentials P] [--branches B]`, `bound F [--potentials P] [--branches B]`, each with `--explain` or without,
-/// or no words at all.
+/// `compare F T.. [--potentials P] [--branches B]`, `bound F [--potentials P] [--branches B]`, each
+/// with `--explain` or without, or no words at all.
 ///
 /// # Errors
 ///

@@ -207,10 +207,11 @@ impl Costs for Instance {
     }
 }
 
-/// What the costs of an instance are taken from, where they are the same in both directions; else the
-/// first pair of nodes, the smaller one first, by rows, whose two costs differ.
+/// What the costs of an instance are taken from, where they are the same in both directions; else
+/// the first pair of nodes, the smaller one first, by rows, whose two costs differ.
 ///
-/// Costs from a node to itself aren't compared. No pair is looked at under a distance or a triangle.
+/// Costs from a node to itself aren't compared. No pair is looked at under a distance or a
+/// triangle.
 pub fn even_view(inst: &Instance) -> Result<EvenView<'_>, (u32, u32)>
     ensures { MatchResult result
         (λ view. ShowsEven inst.now view × IsSymmetric (cost inst.now))
@@ -229,7 +230,8 @@ pub fn even_view(inst: &Instance) -> Result<EvenView<'_>, (u32, u32)>
 
 /// The first pair of nodes, the smaller one first, by rows, whose two costs differ.
 ///
-/// Costs from a node to itself aren't compared. No pair is looked at under a distance or a triangle.
+/// Costs from a node to itself aren't compared. No pair is looked at under a distance or a
+/// triangle.
 pub fn symmetric_fault(inst: &Instance) -> Option<(u32, u32)>
     ensures { FindsAsymmetric (unwrap_or inst.now.dimension 0) (cost inst.now) result }
 {

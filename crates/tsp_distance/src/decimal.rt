@@ -41,7 +41,8 @@ impl Decimal {
         i128::from(self.nanos)
     }
 
-    /// The decimal with this count of 10^-9, or `None` where the count is larger than 10^18 in size.
+    /// The decimal with this count of 10^-9, or `None` where the count is larger than 10^18 in
+    /// size.
     pub fn of_count(count: i128) -> Option<Decimal>
         ensures { SomeIff result (unsigned_abs count ≤ most_count) count }
     {

@@ -1,8 +1,8 @@
 //! The distances of TSPLIB 95, over exact decimals.
 //!
-//! A [`Decimal`] is a number with at most nine places after the point, kept as a count of 10^-9. The
-//! eight calls compute Reinelt's distances between two [`Point`]s, exact over the decimals as written.
-//! It reads no text and takes no memory: number words are tsp_number's.
+//! A [`Decimal`] is a number with at most nine places after the point, kept as a count of 10^-9.
+//! The eight calls compute Reinelt's distances between two [`Point`]s, exact over the decimals as
+//! written. It reads no text and takes no memory: number words are tsp_number's.
 //!
 //! ```text
 //! let length = euc_2d(from, to);

@@ -10,8 +10,8 @@ use crate::root::nearest_root_in_space;
 /// The distance EUC_3D: the straight distance in space, rounded to the nearest whole number, a half
 /// upward.
 ///
-/// It is `nint(sqrt(dx^2 + dy^2 + dz^2))` of Reinelt's TSPLIB 95, over the exact coordinates: from 0
-/// to 3,464,101,615.
+/// It is `nint(sqrt(dx^2 + dy^2 + dz^2))` of Reinelt's TSPLIB 95, over the exact coordinates: from
+/// 0 to 3,464,101,615.
 pub fn euc_3d(a: Point, b: Point) -> i64
     ensures value { IsEuc3d a b (unsigned_abs result) }
     ensures distance { result ≡ pos (euc_3d_of a b) }
@@ -32,7 +32,8 @@ pub fn man_3d(a: Point, b: Point) -> i64
     ensures low { pos 0 ≤ℤ result }
     ensures high { result ≤ℤ pos 6000000000 }
 {
-    // Each gap is at most 2 * 10^18, and their sum 6 * 10^18: below 2^64, which is above 18 * 10^18.
+    // Each gap is at most 2 * 10^18, and their sum 6 * 10^18: below 2^64, which is above 18 *
+    // 10^18.
     nearest_whole(gap(a.x, b.x) + gap(a.y, b.y) + gap(a.z, b.z))
 }
 

@@ -131,7 +131,8 @@ impl Draft {
         }
     }
 
-    /// Whether the nodes have three coordinates each: the coordinate kind or the weight kind says so.
+    /// Whether the nodes have three coordinates each: the coordinate kind or the weight kind says
+    /// so.
     pub fn is_spatial(&self) -> bool
         ensures { result ≡ spatial (fields_of self.now) }
     {

@@ -1,7 +1,7 @@
 //! The fields of a TSPLIB 95 file, as a draft, and when they are valid.
 //!
-//! It knows no bytes of a file's text, and judges no tours: a draft with a field of each sort is made
-//! by hand or by tsp_read.
+//! It knows no bytes of a file's text, and judges no tours: a draft with a field of each sort is
+//! made by hand or by tsp_read.
 //!
 //! ```text
 //! let mut draft = Draft::new(alloc);

@@ -108,7 +108,8 @@ fn is_third(spatial: bool, coordinate: Decimal) -> bool
     }
 }
 
-/// Whether it is a point of a spatial file, or of another, with coordinates of a size of at most 10^9.
+/// Whether it is a point of a spatial file, or of another, with coordinates of a size of at most
+/// 10^9.
 fn is_point(spatial: bool, point: Point) -> bool
     ensures { result ≡ is_point spatial point }
 {

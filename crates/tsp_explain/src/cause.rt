@@ -63,7 +63,8 @@ pub(crate) fn cause_of_first_byte(look: &Look, fault: ReadFault) -> Option<&'sta
     }
 }
 
-/// Whether a text of TSPLIB 95 may begin with the byte: a letter, a number, a blank or an empty line.
+/// Whether a text of TSPLIB 95 may begin with the byte: a letter, a number, a blank or an empty
+/// line.
 fn is_usual(byte: u8) -> bool {
     is_letter(byte)
         || is_blank(byte)

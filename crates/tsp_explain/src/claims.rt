@@ -16,8 +16,8 @@ enum Claim<'a> {
 }
 
 /// Appends one sentence where a comment of a solution claims another length than its own: the first
-/// comment that ends in `Length = N`, `(N)` or `Cost N` with another number. `name` is what the user
-/// calls the solution.
+/// comment that ends in `Length = N`, `(N)` or `Cost N` with another number. `name` is what the
+/// user calls the solution.
 ///
 /// # Errors
 ///

@@ -17,9 +17,9 @@ use tsp_format::{Field, Word};
 use tsp_task::Role;
 use tsp_text::{LineFault, ReadFault};
 
-/// Appends why a file isn't read. `name` is what the user calls it, `given` what it is given for in a
-/// check, and `again` the file opened once more, where it can be. The text at the fault is shown as far
-/// as that second look shows it.
+/// Appends why a file isn't read. `name` is what the user calls it, `given` what it is given for in
+/// a check, and `again` the file opened once more, where it can be. The text at the fault is shown
+/// as far as that second look shows it.
 ///
 /// # Errors
 ///
@@ -187,8 +187,8 @@ fn push_near(text: &mut Vec<u8>, seen: &Look, fault: ReadFault) -> Result<(), Al
     end(text)
 }
 
-/// Appends the explanation of a file that can't be read a second time, with what the system says. Of a
-/// file that couldn't be read the first time either, that comes first.
+/// Appends the explanation of a file that can't be read a second time, with what the system says.
+/// Of a file that couldn't be read the first time either, that comes first.
 fn explain_failed(
     alloc: Global,
     text: &mut Vec<u8>,
@@ -249,7 +249,8 @@ fn explain_unseen(
     push_rule(text, fault, None)
 }
 
-/// Appends where the fault is, as compilers do: the path, the line, and the fault. Editors jump to it.
+/// Appends where the fault is, as compilers do: the path, the line, and the fault. Editors jump to
+/// it.
 fn push_place(
     alloc: Global,
     text: &mut Vec<u8>,

@@ -1,4 +1,5 @@
-//! Files in the forms of other programs: what one looks like, and which file is required in its place.
+//! Files in the forms of other programs: what one looks like, and which file is required in its
+//! place.
 
 use crate::look::Look;
 use crate::text::{begin, end, push, push_lines};
@@ -42,7 +43,8 @@ pub(crate) enum Form {
     Routes,
 }
 
-/// The form of another program that a file seems to have, which is given for this, where it has one.
+/// The form of another program that a file seems to have, which is given for this, where it has
+/// one.
 pub(crate) fn foreign_form(look: &Look, given: Option<Role>, fault: ReadFault) -> Option<Form> {
     match fault {
         ReadFault::Line {
@@ -164,7 +166,8 @@ fn has_mark(text: &[u8]) -> bool {
     false
 }
 
-/// Appends what a file looks like, which one is required in its place, and the recipe that converts it.
+/// Appends what a file looks like, which one is required in its place, and the recipe that converts
+/// it.
 pub(crate) fn push_foreign(
     text: &mut Vec<u8>,
     form: Form,

@@ -43,8 +43,8 @@ const BOUND_KINDS: &str =
 const NO_TOUR: &str =
     "The instance has no tour: at each leaf of the tree its decisions and the fixed arcs leave some node no arc.";
 
-/// Appends why a solution is rejected; of an accepted one whether one of its comments claims another
-/// length, and whether rounding leaves distances of 0 and 1 alone.
+/// Appends why a solution is rejected; of an accepted one whether one of its comments claims
+/// another length, and whether rounding leaves distances of 0 and 1 alone.
 ///
 /// # Errors
 ///
@@ -115,8 +115,8 @@ pub fn explain_bound(
     append(text, told, answer)
 }
 
-/// Appends what explains that files aren't judged, or don't bound tours, for the TYPE of the first one.
-/// `name` is what the user calls that file.
+/// Appends what explains that files aren't judged, or don't bound tours, for the TYPE of the first
+/// one. `name` is what the user calls that file.
 ///
 /// # Errors
 ///

@@ -71,8 +71,8 @@ pub(crate) struct Look {
     pub(crate) near_line: u32,
     /// Whether a byte 13 is anywhere but before a byte 10 or at the end.
     pub(crate) has_returns: bool,
-    /// Whether there is a byte that a text hasn't: a control byte other than a tab, an escape or the end of
-    /// a line or page.
+    /// Whether there is a byte that a text hasn't: a control byte other than a tab, an escape or
+    /// the end of a line or page.
     pub(crate) has_controls: bool,
     /// The last byte.
     last: u8,
@@ -175,8 +175,8 @@ impl Look {
         }
     }
 
-    /// Ends the line, and begins the next one. Of the line after the one that was looked for only the
-    /// words count.
+    /// Ends the line, and begins the next one. Of the line after the one that was looked for only
+    /// the words count.
     fn end_line(&mut self) {
         if self.is_past() {
             self.next_words = self.line.words;
@@ -233,7 +233,7 @@ impl Look {
 }
 
 impl Line {
-    /// Takes its next byte, and answers whether a word begins with it.
+    /// Takes its next byte, and returns whether a word begins with it.
     fn take(&mut self, byte: u8) -> bool {
         if is_blank(byte) {
             self.is_in_word = false;

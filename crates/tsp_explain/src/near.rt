@@ -1,4 +1,5 @@
-//! Words that differ from one of TSPLIB 95 by a letter or two, or by small and capital letters alone.
+//! Words that differ from one of TSPLIB 95 by a letter or two, or by small and capital letters
+//! alone.
 
 use tsp_format::{Field, Word};
 
@@ -54,8 +55,8 @@ pub(crate) fn is_in_other_letters(left: &[u8], right: &[u8]) -> bool {
     left.eq_ignore_ascii_case(right)
 }
 
-/// Whether a word comes from a known one by leaving out, adding or changing a letter, or two letters of
-/// a long word.
+/// Whether a word comes from a known one by leaving out, adding or changing a letter, or two
+/// letters of a long word.
 pub(crate) fn is_near(word: &[u8], known: &[u8]) -> bool {
     if known.len() < LONG {
         is_within_one(word, known)

@@ -42,8 +42,8 @@ fn push_reason(text: &mut Vec<u8>, name: &str, reason: Reason) -> Result<(), All
 }
 
 /// Appends the nodes and numbers that a reason is about, as the files show them: the instance, the
-/// solution and the certificate, where they are there. The caller may have read them a second time, so
-/// they may be others than those that were judged.
+/// solution and the certificate, where they are there. The caller may have read them a second time,
+/// so they may be others than those that were judged.
 ///
 /// # Errors
 ///
@@ -207,7 +207,8 @@ pub(crate) fn push_dimensions(
     end(text)
 }
 
-/// Appends how many nodes the tour has and how many the instance, and which are missing or repeated.
+/// Appends how many nodes the tour has and how many the instance, and which are missing or
+/// repeated.
 fn push_lengths(text: &mut Vec<u8>, instance: &File, solution: &File) -> Result<(), AllocError> {
     let Some(tour) = solution.tours().unwrap_or(&[]).first() else {
         return Ok(());

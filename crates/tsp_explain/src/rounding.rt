@@ -12,8 +12,8 @@ const ROUNDED: &str =
     ": every distance along the solution is 0 or 1, since TSPLIB rounds distances to whole numbers; \
     multiply the coordinates by a power of ten, and say so where the length is published.\n";
 
-/// Appends that distances are rounded, where each one along the solution is 0 or 1 and some points of it
-/// differ. `name` is what the user calls the instance.
+/// Appends that distances are rounded, where each one along the solution is 0 or 1 and some points
+/// of it differ. `name` is what the user calls the instance.
 pub(crate) fn push_rounding(
     text: &mut Vec<u8>,
     name: &str,
@@ -51,8 +51,8 @@ fn are_rounded(instance: &Instance, points: &Coords, tours: &[Vec<u32>]) -> bool
     some_differ
 }
 
-/// Whether points differ along a tour, or `None` where a distance is more than 1. A route begins and ends
-/// at the depot.
+/// Whether points differ along a tour, or `None` where a distance is more than 1. A route begins
+/// and ends at the depot.
 fn step_of_tour(instance: &Instance, points: &Coords, tour: &[u32]) -> Option<bool> {
     let (first, last) = (*tour.first()?, *tour.last()?);
     let begun = match depot_of(instance) {

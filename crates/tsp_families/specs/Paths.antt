@@ -32,7 +32,7 @@ pub record IsOrderOf (n set : ℕ) (nodes : List ℕ) : Type 0 where
   pub once : AllApart nodes
   pub set_is : number_of nodes ≡ set
 
--- what stands where there is no path
+-- the number where there is no path
 abbrev pub no_path : ℕ
 no_path = 2 ^ 60
 

@@ -25,9 +25,9 @@ pub struct Crossings {
     pub most: u64,
 }
 
-/// How often the sets of a family are crossed. `None` where there are more than 63 of them, or where
-/// they divide the nodes into more than 14 parts: two nodes are in one part exactly where they are
-/// in the same sets.
+/// How often the sets of a family are crossed. `None` where there are more than 63 of them, or
+/// where they divide the nodes into more than 14 parts: two nodes are in one part exactly where
+/// they are in the same sets.
 ///
 /// # Errors
 ///

@@ -1,5 +1,5 @@
-//! How often cycles cross families of sets of nodes: the least number of crossings of any cycle, for
-//! all sets that divide the nodes into few parts.
+//! How often cycles cross families of sets of nodes: the least number of crossings of any cycle,
+//! for all sets that divide the nodes into few parts.
 //!
 //! ```text
 //! let crossings = family_crossings(alloc, nodes, &sets)?;

@@ -7,7 +7,7 @@ ghost use Rattle.tsp_families.specs.Paths.{cost_by_rows, no_path, IsBestPath, Ar
 use std::alloc::Global;
 use tsp_memory::{Refused, push};
 
-/// What stands where there is no path.
+/// The number where there is no path.
 pub(crate) const NO_PATH: u64 = 1_152_921_504_606_846_976;
 
 /// The least of a number and of the sums of two lists, from a place of each on.

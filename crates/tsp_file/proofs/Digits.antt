@@ -46,7 +46,7 @@ length_by_power (suc k) n small low high =
 length_one : (n : ℕ) → n < 10 → length (decimal n) ≡ 1
 length_one n h = ap length (decimal_digit n h)
 
--- by the largest power of ten that is not above it, where 1 stands for 0
+-- by the largest power of ten that is not above it, with 1 in place of 0
 pub counted : (n k m : ℕ) → m < 2 ^ 64 → m ≡ max n 1 → 10 ^ k ≤ m → m < 10 * 10 ^ k → k + 1 ≡ length (decimal n)
 counted n k m small is low high =
     elim (cases_lt n 1) [

@@ -8,8 +8,8 @@ use tsp_format::{CoordKind, DisplayKind, Kind, Layout, TreeStep, WeightFormat, W
 
 /// What a valid file holds.
 ///
-/// It is made from a draft by [`File::of`], which says what is valid, or by a reader. Each field has a
-/// call of its own that lends it.
+/// It is made from a draft by [`File::of`], which says what is valid, or by a reader. Each field
+/// has a call of its own that lends it.
 #[derive(Debug)]
 pub struct File {
     draft: Draft,
@@ -52,8 +52,8 @@ impl File {
     ghost use Rattle.tsp_format.specs.states.TreeSteps.{steps_of};
     ghost use Rattle.tsp_draft.specs.Rules.{fault_of};
 
-    /// The fields of this file, as a draft that has no fault: those are there that its TYPE asks for,
-    /// and each is in its range.
+    /// The fields of this file, as a draft that has no fault: those are there that its TYPE asks
+    /// for, and each is in its range.
     pub fn fields(&self) -> &Draft
         ensures value { fields_of result.now ≡ self.now }
         ensures valid { fault_of self.now ≡ None }
@@ -107,7 +107,8 @@ impl File {
         File { draft }
     }
 
-    /// This file, whose weights are a full matrix, with them in another layout that holds their costs.
+    /// This file, whose weights are a full matrix, with them in another layout that holds their
+    /// costs.
     pub(crate) fn with_half(self, to: Layout) -> File
         requires full { self.weight_format ≡ Some (Listed FullMatrix) }
         requires can_go { CanGo self to }
@@ -122,8 +123,8 @@ impl File {
         File { draft }
     }
 
-    /// This file, whose weights are half of a matrix in a layout, with the full matrix of their costs;
-    /// or the file as it was where memory was refused.
+    /// This file, whose weights are half of a matrix in a layout, with the full matrix of their
+    /// costs; or the file as it was where memory was refused.
     pub(crate) fn with_whole(self, from: Layout) -> Result<File, File>
         requires half { from ≢ FullMatrix }
         requires format { self.weight_format ≡ Some (Listed from) }

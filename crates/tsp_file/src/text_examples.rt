@@ -49,7 +49,8 @@ pub fn examples_of_sections()
     ensures nothing { text_of blank_fields ≡ codes "EOF\n" }
 {}
 
-/// The text of each fault of weights that are put into another layout. Digits are as `decimal` writes them.
+/// The text of each fault of weights that are put into another layout. Digits are as `decimal`
+/// writes them.
 pub fn examples_of_fault_texts()
     ensures not_explicit { relayout_fault_text faults.NotExplicit ≡ codes "NotExplicit" }
     ensures not_symmetric { relayout_fault_text (faults.NotSymmetric 1 2)

@@ -12,7 +12,8 @@ ghost use Rattle.tsp_file.specs.Cost.{listed_cost};
 use std::alloc::{AllocError, Global};
 use tsp_format::Layout;
 
-/// How many rows and columns a block of cells has, which with its mirrored block stays in the cache.
+/// How many rows and columns a block of cells has, which with its mirrored block stays in the
+/// cache.
 const BLOCK: u32 = 64;
 
 /// The first pair of a full matrix, the smaller node first, by rows, whose two costs differ.
@@ -139,8 +140,8 @@ impl<'a> ListedWeights<'a> {
 
     /// The first pair, the smaller node first, by rows, whose two costs differ.
     ///
-    /// Most matrices that come here are even, and show it by blocks: going by rows steps down a
-    /// column of the whole matrix for each, so it is left to those that aren't.
+    /// Most matrices that come here are symmetric, and show it by blocks: going by rows steps down
+    /// a column of the whole matrix for each, so it is left to those that aren't.
     fn first_asymmetric(&self) -> Option<(u32, u32)>
         requires { self.now.layout ≡ FullMatrix }
         ensures { FindsAsymmetric self.now.nodes (costs_of self.now) result }

@@ -13,7 +13,8 @@ use crate::halves::line_start;
 use std::alloc::AllocError;
 use tsp_format::Layout;
 
-/// How many columns are filled at a time, so that what is read across the diagonal stays in the cache.
+/// How many columns are filled at a time, so that what is read across the diagonal stays in the
+/// cache.
 const BAND: u32 = 64;
 
 /// Makes the full matrix of the listed half: the lines go to their rows, from the last to the
@@ -117,8 +118,8 @@ fn fill_band(above: bool, nodes: u32, weights: &mut Vec<i64>, left: u32)
     }
 }
 
-/// The columns of a row that lie across the diagonal, in the band that begins with a column: the first,
-/// and the one past the last.
+/// The columns of a row that lie across the diagonal, in the band that begins with a column: the
+/// first, and the one past the last.
 #[inline]
 fn across_in_band(above: bool, nodes: u32, row: u32, left: u32) -> (u32, u32)
     requires few { nodes ≤ most_matrix_nodes }

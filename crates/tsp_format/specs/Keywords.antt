@@ -10,7 +10,7 @@ use Rattle.tsp_format.specs.declared.keyword.Keyword.TheVariants.{Known, EdgeDat
 use Rattle.tsp_format.specs.Words.{field_word}
 use Rattle.tsp_format.specs.Words.{fields_in_order}
 
--- the unknown keywords are the one field without a word of its own
+-- the unknown keywords are the only field without its own word
 abbrev pub is_others : Field → Bool
 is_others field = bytes_eq (field_word field) (field_word OtherKey)
 

@@ -1,4 +1,4 @@
--- Who follows a comparison was told of some lines, and then of the next.
+-- The follower of a comparison got some lines, and then the next one.
 use Rattle.std.proofs.Common.{ℕ, ◌+◌, ◌<◌, ◌≤◌, List, add-one, arith}
 use Rattle.std.specs.Prelude.{Err}
 use Rattle.tsp_stream.specs.Turn.{Turn}

@@ -1,4 +1,4 @@
--- What who follows a comparison is told of its lines.
+-- Which lines of a comparison its follower gets.
 use Rattle.std.specs.Prelude.{◌≡◌, ℕ, zero, suc, ◌-◌, ◌≤◌, Bool, true, false, Result, Ok, Err}
 use Rattle.tsp_reason.specs.Verdicts.{is_clear}
 use Rattle.tsp_judge.specs.declared.compared.Compared.{Compared}
@@ -27,7 +27,7 @@ abbrev pub IsFollowedBy : {E : Type 0} → Bool → (ℕ → E → E → Type 0)
 IsFollowedBy clear tells count old new (Ok status) = AreAllTold clear tells count old new
 IsFollowedBy clear tells count old new (Err fault) = (told : ℕ) × (told ≤ most_told fault count) × AreTold tells told old new
 
--- by the result of a comparison of so many solutions
+-- by the result of a comparison of as many solutions as this
 abbrev pub IsFollowed : {E : Type 0} → (ℕ → E → E → Type 0) → ℕ → E → E → Result Compared RunFault → Type 0
 IsFollowed tells count old new (Ok compared) = AreAllTold (is_clear compared.common.basis) tells count old new
 IsFollowed tells count old new (Err fault) = (told : ℕ) × (told ≤ most_told fault count) × AreTold tells told old new

@@ -1,4 +1,5 @@
-//! A bound on the tours of an instance, without a solution, from the bytes read to the bytes written.
+//! A bound on the tours of an instance, without a solution, from the bytes read to the bytes
+//! written.
 
 ghost use Rattle.tsp_stream.specs.states.Watched.{sink_of, turn_of};
 ghost use Rattle.tsp_stream.specs.Turn.{Turn, TakesAtMost};
@@ -18,8 +19,8 @@ use tsp_verdict::{BoundVerdict, Certificate, is_bounded, judge_bound};
 /// The files that a run has read, and the bound that it found.
 #[derive(Drop)]
 pub struct Bounded {
-    /// The bound, or that the instance has no tour; or the first reason against the files. The report is
-    /// of it.
+    /// The bound, or that the instance has no tour; or the first reason against the files. The
+    /// report is of it.
     pub found: BoundVerdict,
     /// The first file.
     pub instance: Instance,
@@ -27,23 +28,23 @@ pub struct Bounded {
     pub certificate: File,
 }
 
-/// Bounds the tours of an instance by a certificate, writes the report, and returns the bound, with the
-/// files that were read.
+/// Bounds the tours of an instance by a certificate, writes the report, and returns the bound, with
+/// the files that were read.
 ///
-/// Every tour of the instance is at least as long as the bound. Where the instance has no tour, which a
-/// tree of cases may show, there is none. Where the report has the line `no`, the result has its reason:
-/// `TooFewNodes`, `NotSymmetric`, or one against the certificate, in this order.
+/// Every tour of the instance is at least as long as the bound. Where the instance has no tour,
+/// which a tree of cases may show, there is none. Where the report has the line `no`, the result
+/// has its reason: `TooFewNodes`, `NotSymmetric`, or one against the certificate, in this order.
 ///
 /// Each file is read whole before the next, and the first file that is none decides. Nothing is
 /// written before the bound exists.
 ///
 /// # Errors
 ///
-/// `File` where a file is none, or can't be read; `WrongKind` where both are files and tours of the first
-/// one's TYPE have no bound by the certificate; `OutOfMemory` where the judgement runs out of memory, and
-/// then no reason applies to the instance, nor one to the certificate that is found without memory;
-/// `Write` where the writer fails. Of each file at most 4,096
-/// bytes past `MOST_FILE_BYTES` are read.
+/// `File` where a file is none, or can't be read; `WrongKind` where both are files and tours of the
+/// first one's TYPE have no bound by the certificate; `OutOfMemory` where the judgement runs out of
+/// memory, and then no reason applies to the instance, nor one to the certificate that is found
+/// without memory; `Write` where the writer fails. Of each file at most 4,096 bytes past
+/// `MOST_FILE_BYTES` are read.
 pub fn run_bound<I: Read, C: Read, W: Write>(
     alloc: Global,
     inst: &mut Watched<I>,

@@ -1,5 +1,5 @@
-//! The checks of an instance and a solution: without a certificate, with potentials, and with a tree of
-//! cases.
+//! The checks of an instance and a solution: without a certificate, with potentials, and with a
+//! tree of cases.
 
 ghost use Rattle.tsp_stream.specs.states.Watched.{sink_of, turn_of};
 ghost use Rattle.tsp_stream.specs.Turn.{TakesAtMost};
@@ -80,24 +80,24 @@ pub fn run_bound_check<I: Read, S: Read, P: Read, W: Write>(
 
 /// Judges a tour of an instance of TYPE TSP or ATSP with a tree of cases, and writes the report.
 ///
-/// The result is `true` where the second file's one tour visits every node once and uses every fixed
-/// edge and the third file's leaves give a bound, and `false` where the report has the line `no` with
-/// its first reason; the whole report was written then. At `Ok(true)` no tour of the instance is
-/// shorter than the printed bound, so that a tour whose length equals it, which the report calls
-/// optimal, is a shortest one. The bound is the least of those of the leaves, each for tours in which
-/// the pairs decided above it are neighbours, or aren't: for a TSP that of a least 1-tree, for an ATSP
-/// that of the least arc from each node, under the leaf's potentials and families of sets, such as
-/// combs (Grötschel and Padberg, 1979).
+/// The result is `true` where the second file's one tour visits every node once and uses every
+/// fixed edge and the third file's leaves give a bound, and `false` where the report has the line
+/// `no` with its first reason; the whole report was written then. At `Ok(true)` no tour of the
+/// instance is shorter than the printed bound, so that a tour whose length equals it, which the
+/// report calls optimal, is a shortest one. The bound is the least of those of the leaves, each for
+/// tours in which the pairs decided above it are neighbours, or aren't: for a TSP that of a least
+/// 1-tree, for an ATSP that of the least arc from each node, under the leaf's potentials and
+/// families of sets, such as combs (Grötschel and Padberg, 1979).
 ///
 /// Each file is read whole before the next, and the first file that is none decides. Nothing is
 /// written before the verdict exists.
 ///
 /// # Errors
 ///
-/// `File` where a file is none, or can't be read; `WrongKind` where all three are files and the first
-/// isn't of TYPE TSP or ATSP; `OutOfMemory` where the judgement runs out of memory, and then no reason
-/// up to `NodeOutOfRange` applies to the tour; `Write` where the writer fails. Of each file at most
-/// 4,096 bytes past `MOST_FILE_BYTES` are read.
+/// `File` where a file is none, or can't be read; `WrongKind` where all three are files and the
+/// first isn't of TYPE TSP or ATSP; `OutOfMemory` where the judgement runs out of memory, and then
+/// no reason up to `NodeOutOfRange` applies to the tour; `Write` where the writer fails. Of each
+/// file at most 4,096 bytes past `MOST_FILE_BYTES` are read.
 pub fn run_branch_check<I: Read, S: Read, B: Read, W: Write>(
     alloc: Global,
     inst: &mut Watched<I>,

@@ -17,24 +17,24 @@ use tsp_file::File;
 use tsp_stream::Watched;
 use tsp_verdict::Certificate;
 
-/// Judges a solution of an instance, writes the report, and returns the verdict, with the files that
-/// were read.
+/// Judges a solution of an instance, writes the report, and returns the verdict, with the files
+/// that were read.
 ///
-/// Where a certificate of a bound is asked for, it is the file of the third reader, and no tour of the
-/// instance is shorter than the bound of an accepted tour. Where it isn't, that reader isn't read. Where
-/// a length is claimed, a solution of another length is rejected with `LengthClaimed`: after all other
-/// reasons against the solution, and before those against the certificate.
+/// Where a certificate of a bound is asked for, it is the file of the third reader, and no tour of
+/// the instance is shorter than the bound of an accepted tour. Where it isn't, that reader isn't
+/// read. Where a length is claimed, a solution of another length is rejected with `LengthClaimed`:
+/// after all other reasons against the solution, and before those against the certificate.
 ///
 /// Each file is read whole before the next, and the first file that is none decides. Nothing is
 /// written before the verdict exists.
 ///
 /// # Errors
 ///
-/// `File` where a file is none, or can't be read; `WrongKind` where all are files and solutions of the
-/// first one's TYPE aren't judged so: TYPE TOUR, POTENTIALS or BRANCHES, and with a certificate CVRP too;
-/// `OutOfMemory` where the judgement runs out of memory, and then no
-/// reason up to `NodeOutOfRange`, in the order of its TYPE, applies to the second; `Write` where the
-/// writer fails. Of each file at most 4,096 bytes past `MOST_FILE_BYTES` are read.
+/// `File` where a file is none, or can't be read; `WrongKind` where all are files and solutions of
+/// the first one's TYPE aren't judged so: TYPE TOUR, POTENTIALS or BRANCHES, and with a certificate
+/// CVRP too; `OutOfMemory` where the judgement runs out of memory, and then no reason up to
+/// `NodeOutOfRange`, in the order of its TYPE, applies to the second; `Write` where the writer
+/// fails. Of each file at most 4,096 bytes past `MOST_FILE_BYTES` are read.
 pub fn run<I: Read, S: Read, C: Read, W: Write>(
     alloc: Global,
     inst: &mut Watched<I>,

@@ -22,8 +22,8 @@ use tsp_verdict::{Basis, Certificate, Verdict, judge_basis, judge_next};
 /// What all solutions of a comparison are judged by.
 #[derive(Drop)]
 pub struct Common {
-    /// What is known of them before any is read: the bound of the certificate, the least number of
-    /// routes, or the reason for which none is opened.
+    /// What all of them have in common, found before any is read: the bound of the certificate, the
+    /// least number of routes, or the reason for which none is opened.
     pub basis: Basis,
     /// The first file.
     pub instance: Instance,

@@ -1,5 +1,5 @@
-//! The exit status of a comparison, its lines, and which file a fault is of. No body is looked at here: a
-//! definition that is changed together with its code is refused by its examples.
+//! The exit status of a comparison, its lines, and which file a fault is of. No body is looked at
+//! here: a definition that is changed together with its code is refused by its examples.
 
 ghost use Rattle.std.specs.Prelude.{◌≡◌, [], ◌∷◌, None, Some, Ok, Err, pos, codes};
 ghost use Rattle.tsp_reason.specs.declared.certificate.Certificate.{Certificate};
@@ -21,7 +21,8 @@ pub fn examples_of_largest_statuses()
     ensures device { largest_status (Err read_faults.Device ∷ Err read_faults.TooLong ∷ []) ≡ 5 }
 {}
 
-/// Lines in the order of the solutions, each with its own path, and whole lines of the first ones alone.
+/// Lines in the order of the solutions, each with its own path, and whole lines of the first ones
+/// alone.
 pub fn examples_of_lines_of_solutions()
     ensures none { solution_lines [] (codes "a" ∷ []) ≡ [] }
     ensures first { solution_lines (Ok (verdicts.No reasons.TourCount) ∷ []) (codes "a" ∷ codes "b" ∷ [])

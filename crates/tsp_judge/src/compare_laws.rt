@@ -20,9 +20,9 @@ ghost use Rattle.tsp_judge.specs.CompareRun.{IsFoundIn};
 ghost use Rattle.tsp_judge.specs.Optimal.{IsBoundedTour};
 ghost use Rattle.tsp_report.specs.Compare.{solution_line};
 
-/// With a certificate, a line with a length and `optimal` means that the file of its solution has one
-/// tour of the instance, of this length, and that no tour of the instance is shorter. With a bound that
-/// isn't the length, no tour is shorter than the bound.
+/// With a certificate, a line with a length and `optimal` means that the file of its solution has
+/// one tour of the instance, of this length, and that no tour of the instance is shorter. With a
+/// bound that isn't the length, no tour is shorter than the bound.
 pub fn lines_of_bounded_tours()
     ensures optimal { (common : Common) (turn : Turn) (by : Certificate) (certificate : Fields) (length : ℤ)
         → IsProblem common.instance → common.certificate ≡ Some (by, certificate)
@@ -43,8 +43,8 @@ pub fn lines_of_checks()
         → IsVerdictWith common.certificate None common.instance solution other → is_yes other ≡ is_yes verdict) }
 {}
 
-/// Where a reason applies to the instance or to the certificate, and where the instance has no tour, a
-/// check accepts no solution at all.
+/// Where a reason applies to the instance or to the certificate, and where the instance has no
+/// tour, a check accepts no solution at all.
 pub fn solutions_without_a_basis()
     ensures reason { (given : Option (Certificate × Fields)) (instance solution : Fields) (reason : Reason) (verdict : Verdict)
         → IsBasis given instance (bases.No reason) → IsVerdictWith given None instance solution verdict

@@ -1,5 +1,5 @@
-//! A comparison of solutions, from the bytes read to the bytes written: the instance and the certificate
-//! are read once, then each solution is read, judged, and dropped.
+//! A comparison of solutions, from the bytes read to the bytes written: the instance and the
+//! certificate are read once, then each solution is read, judged, and dropped.
 
 ghost use Rattle.std.specs.Prelude.{◌≡◌, ◌<◌, max, false, true, [], length, None};
 ghost use Rattle.tsp_stream.specs.states.Watched.{has_failed, sink_of, turn_of};
@@ -37,22 +37,24 @@ pub struct Compared {
     pub status: u8,
 }
 
-/// Judges solutions of an instance, writes a line for each, and returns the largest of their statuses.
+/// Judges solutions of an instance, writes a line for each, and returns the largest of their
+/// statuses.
 ///
-/// The instance and the certificate, where one is asked for, are read and judged once. The head of the
-/// text says what they are. Where a reason applies to one of them, it ends the text, and no solution is
-/// opened. Otherwise each solution in turn is opened, read, and judged as a check of the three files
-/// does. Its line is written, the follower tells of it, and it is dropped. A solution that is no
-/// file, or can't be read, has a line with its fault, and the others follow. The follower tells of each
-/// line once, in order.
+/// The instance and the certificate, where one is asked for, are read and judged once. The head of
+/// the text says what they are. Where a reason applies to one of them, it ends the text, and no
+/// solution is opened. Otherwise each solution in turn is opened, read, and judged as a check of
+/// the three files does. Its line is written, the follower tells of it, and it is dropped. A
+/// solution that is no file, or can't be read, has a line with its fault, and the others follow.
+/// The follower tells of each line once, in order.
 ///
 /// # Errors
 ///
-/// `File` where the instance (1) or the certificate (2) is none, or can't be read; `WrongKind` where both
-/// are files and solutions of the first one's TYPE aren't judged so. Then nothing is written.
-/// `OutOfMemory` where the judgement runs out of memory, or the reading of a solution does: the head and
-/// the lines of the solutions before were written. `Write` where the writer fails, after a prefix of the
-/// text. Of each file at most 4,096 bytes past `MOST_FILE_BYTES` are read.
+/// `File` where the instance (1) or the certificate (2) is none, or can't be read; `WrongKind`
+/// where both are files and solutions of the first one's TYPE aren't judged so. Then nothing is
+/// written. `OutOfMemory` where the judgement runs out of memory, or the reading of a solution
+/// does: the head and the lines of the solutions before were written. `Write` where the writer
+/// fails, after a prefix of the text. Of each file at most 4,096 bytes past `MOST_FILE_BYTES` are
+/// read.
 pub fn run_compare<I: Read, C: Read, R: Read + Drop, E, S: Solutions<R> + Follow<E>, W: Write>(
     alloc: Global,
     inst: &mut Watched<I>,

@@ -1,6 +1,6 @@
-//! Which verdict is accepted, which instances a certificate is taken for, and which file a fault is of.
-//! No body is looked at here: a definition that is changed together with its code is refused by its
-//! examples.
+//! Which verdict is accepted, which instances a certificate is taken for, and which file a fault is
+//! of. No body is looked at here: a definition that is changed together with its code is refused by
+//! its examples.
 
 ghost use Rattle.std.specs.Prelude.{◌≡◌, ◌++◌, true, false, Option, None, Some, Err, ℤ, pos, codes, decimal};
 ghost use Rattle.tsp_format.specs.declared.kinds.Kind.TheVariants as kinds;
@@ -54,8 +54,8 @@ pub fn examples_of_fault_texts()
     ensures relayout { run_fault_text (run_faults.Relayout relayout_faults.NotExplicit) ≡ codes "relayout: NotExplicit" }
 {}
 
-/// Which file a fault of a check is of, with a certificate or without: the first that is none, and no
-/// later one is read.
+/// Which file a fault of a check is of, with a certificate or without: the first that is none, and
+/// no later one is read.
 pub fn examples_of_faulty_files()
     ensures first { (given : Given) (claimed : Option ℤ) (fault : ReadFault) (first second : Turn) (sink : Sink)
         → IsUnwritten sink → StopsAt fault first → IsUnread second → IsUnreadIn given

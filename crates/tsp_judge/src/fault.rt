@@ -11,8 +11,8 @@ use tsp_stream::WriteFault;
 pub enum RunFault {
     /// A file, counted from 1, is none.
     File { file: u32, fault: ReadFault },
-    /// Of the checks and of bounds alone: the first file is of TYPE TOUR, POTENTIALS or BRANCHES, or of
-    /// TYPE CVRP where a certificate is given.
+    /// Of the checks and of bounds alone: the first file is of TYPE TOUR, POTENTIALS or BRANCHES,
+    /// or of TYPE CVRP where a certificate is given.
     WrongKind,
     /// The output could not be written.
     Write(WriteFault),

@@ -10,8 +10,8 @@ ghost use Rattle.tsp_report.specs.Report.{report_of, IsSized};
 ghost use Rattle.tsp_verdict.specs.Judged.{is_judged, IsVerdictWith};
 ghost use Rattle.tsp_judge.specs.Accepted.{IsAccepted};
 
-/// A verdict that accepts a solution means what the line `yes` of its report does. Each verdict has a
-/// report.
+/// A verdict that accepts a solution means what the line `yes` of its report does. Each verdict has
+/// a report.
 pub fn verdicts_mean_reports()
     ensures accepted { (given : Option (Certificate × Fields)) (claimed : Option ℤ) (instance solution : Fields)
         (verdict : Verdict) → IsProblem instance → IsTrue (is_judged given instance.kind)

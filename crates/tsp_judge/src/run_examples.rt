@@ -1,5 +1,6 @@
-//! Which faults the runs over one file may have, and which one a file of the wrong kind has. No body is
-//! looked at here: a definition that is changed together with its code is refused by its examples.
+//! Which faults the runs over one file may have, and which one a file of the wrong kind has. No
+//! body is looked at here: a definition that is changed together with its code is refused by its
+//! examples.
 
 ghost use Rattle.std.specs.Prelude.{[], Option, None, Some, Ok, Err, ℤ};
 ghost use Rattle.tsp_draft.specs.Fields.{Fields};
@@ -35,7 +36,8 @@ pub fn examples_of_runs_over_one_file()
         → ¬ IsConvertRun to turn sink (Err run_faults.WrongKind) }
 {}
 
-/// A first file that can't be judged is of the wrong kind, which is no reason of a line `no`. One that can be judged isn't.
+/// A first file that can't be judged is of the wrong kind, which is no reason of a line `no`. One
+/// that can be judged isn't.
 pub fn examples_of_wrong_kinds()
     ensures tours { (claimed : Option ℤ) (solution : Fields) (sink : Sink) → IsUnwritten sink
         → JudgesFiles None claimed (nodes kinds.Tour 4 []) solution sink (Err run_faults.WrongKind) }

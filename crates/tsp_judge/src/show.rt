@@ -14,8 +14,8 @@ use tsp_stream::Watched;
 
 /// Writes what a file is: its name, its TYPE and number of nodes, of an instance the weight type,
 /// the length of the list 1, 2, .., n and the number of fixed pairs, of tours how many nodes each
-/// has, of potentials their scale, of a tree of cases its scale and how many combs and leaves it has,
-/// and the unknown keywords.
+/// has, of potentials their scale, of a tree of cases its scale and how many combs and leaves it
+/// has, and the unknown keywords.
 ///
 /// The file is read whole before anything is written, and writing takes no memory.
 ///

@@ -27,8 +27,8 @@ pub trait Solutions<R> {
         ensures { opens self.now index result };
 }
 
-/// Who follows a comparison, line by line, and tells of it: to explain a line, or to show how far it has
-/// come. It tells an `E`.
+/// Who follows a comparison, line by line, and tells of it: to explain a line, or to show how far
+/// it has come. It tells an `E`.
 pub trait Follow<E> {
     /// What telling of the line of the solution at a place, counted from 0, may do to an `E`.
     ghost tells: { Self → ℕ → E → E → Type 0 };

@@ -15,9 +15,9 @@ pub(crate) const EIGHT: usize = 8;
 /// Eight bytes `0`, as a number.
 const EIGHT_ZEROS: u64 = 0x3030_3030_3030_3030;
 
-// Times one of these, and without its lowest part, a number has in each of its parts ten, a hundred or
-// ten thousand times that part and the next: in the parts of one byte, of two or of four. Every second
-// one is wanted then, and those between are masked out.
+// Times one of these, and without its lowest part, a number has in each of its parts ten, a hundred
+// or ten thousand times that part and the next: in the parts of one byte, of two or of four. Every
+// second one is wanted then, and those between are masked out.
 const TENS: u64 = 0x0a01;
 
 const HUNDREDS: u64 = 0x64_0001;

@@ -1,4 +1,4 @@
--- An instance that is open, and what opening, binding and judging answer, over the bytes of the texts.
+-- An instance that is open, and the results of opening, binding and judging, over the bytes of the texts.
 use Rattle.std.specs.Prelude.{◌≡◌, ℕ, false, List, Option, None, Some, Result, Ok, Err, IsTrue, ℤ}
 use Rattle.tsp_draft.specs.Fields.{Fields}
 use Rattle.tsp_draft.specs.Rules.{is_instance}

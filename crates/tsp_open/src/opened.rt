@@ -11,8 +11,9 @@ use tsp_read::read_bytes;
 use tsp_reason::{Basis, BoundVerdict, Certificate, Verdict};
 use tsp_verdict::{basis_alone, basis_of, is_bounded, judge_bound, judge_next};
 
-/// An instance, the certificate that is bound to it, where one is, and what is known of all solutions by
-/// the two: that is found once, when the certificate is bound or the instance is opened.
+/// An instance, the certificate that is bound to it, where one is, and what is known of all
+/// solutions by the two: that is found once, when the certificate is bound or the instance is
+/// opened.
 #[derive(Drop)]
 pub struct Opened {
     instance: Instance,
@@ -40,7 +41,8 @@ impl Opened {
     ///
     /// # Errors
     ///
-    /// `File` with the number 1 where the text is no file; `WrongKind` where the file is no instance.
+    /// `File` with the number 1 where the text is no file; `WrongKind` where the file is no
+    /// instance.
     pub fn of(alloc: Global, text: &[u8]) -> Result<Opened, RunFault>
         ensures { MatchResult result (λ opened. IsOpened text.now opened) (λ fault. IsUnopened text.now fault) }
     {
@@ -65,13 +67,14 @@ impl Opened {
         &self.instance
     }
 
-    /// Binds the certificate that a text is, in the place of the one before, and returns what it gives the
-    /// instance. Where that is a reason, solutions are rejected with it that are accepted on their own.
+    /// Binds the certificate that a text is, in the place of the one before, and returns what it
+    /// gives the instance. Where that is a reason, solutions are rejected with it that are accepted
+    /// on their own.
     ///
     /// # Errors
     ///
-    /// `File` with the number 2 where the text is no file; `WrongKind` where tours of the instance have no
-    /// bound by the certificate; `OutOfMemory`. In each case nothing has changed.
+    /// `File` with the number 2 where the text is no file; `WrongKind` where tours of the instance
+    /// have no bound by the certificate; `OutOfMemory`. In each case nothing has changed.
     pub fn bind(
         &mut self,
         alloc: Global,
@@ -95,8 +98,8 @@ impl Opened {
         Ok(found)
     }
 
-    /// The verdict on the solution that a text is, with the certificate that is bound, where one is, and with
-    /// the length that is claimed, where one is.
+    /// The verdict on the solution that a text is, with the certificate that is bound, where one
+    /// is, and with the length that is claimed, where one is.
     ///
     /// # Errors
     ///

@@ -61,8 +61,8 @@ fn bounded_files<'a>(names: Names<'a>, bounded: &'a Bounded) -> Files<'a> {
 }
 
 /// Appends what explains the fault of a task. `name` is what the user calls the file that has the
-/// fault, or the first one where none has it; `again` is that file, to be read once more, where it can
-/// be.
+/// fault, or the first one where none has it; `again` is that file, to be read once more, where it
+/// can be.
 ///
 /// # Errors
 ///

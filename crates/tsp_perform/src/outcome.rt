@@ -31,8 +31,8 @@ pub fn is_accepted(outcome: &Outcome) -> bool
     }
 }
 
-/// Does a task on files that are read from these readers, and writes what comes of it. The outcome has
-/// the files that were judged.
+/// Does a task on files that are read from these readers, and writes what comes of it. The outcome
+/// has the files that were judged.
 ///
 /// # Errors
 ///

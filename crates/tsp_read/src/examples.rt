@@ -1,13 +1,13 @@
-//! Bytes on which the definitions of what a reader returns are evaluated. No body is looked at here: a
-//! definition that is changed together with its code is refused by its examples.
+//! Bytes on which the definitions of what a reader returns are evaluated. No body is looked at
+//! here: a definition that is changed together with its code is refused by its examples.
 
 ghost use Rattle.std.specs.Prelude.{◌≡◌, ◌+◌, ◌^◌, true, false, [], ◌∷◌, replicate};
 ghost use Rattle.tsp_read.specs.states.Onward.{is_bare};
 ghost use Rattle.tsp_read.specs.Reads.{most_taken};
 ghost use Rattle.tsp_read.specs.Timely.{before_last};
 
-/// Which texts are of blanks and line ends alone, how many bytes are taken at most, and what the bytes
-/// but for the last piece are: none up to 4,096, and of one more the first.
+/// Which texts are of blanks and line ends alone, how many bytes are taken at most, and what the
+/// bytes but for the last piece are: none up to 4,096, and of one more the first.
 pub fn examples_of_reading()
     ensures nothing { is_bare [] ≡ true }
     ensures blanks { is_bare (9 ∷ 10 ∷ 11 ∷ 12 ∷ 13 ∷ 32 ∷ []) ≡ true }

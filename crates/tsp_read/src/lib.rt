@@ -1,7 +1,7 @@
 //! Reads TSPLIB 95 files: the file that bytes parse to, or the first fault and its place.
 //!
-//! It reads a text, a reader, or pieces ([`Feed`]), with one answer. It judges nothing, and opens no
-//! files.
+//! It reads a text, a reader, or pieces ([`Feed`]), with one answer. It judges nothing, and opens
+//! no files.
 //!
 //! ```text
 //! let file = read_bytes(alloc, b"TYPE : TOUR\nTOUR_SECTION\n1 2 3 -1\nEOF\n")?;

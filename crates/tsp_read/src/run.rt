@@ -1,4 +1,5 @@
-//! A run of numbers: the words of a matrix, of tours, of points or of numbers by node, each looked at once.
+//! A run of numbers: the words of a matrix, of tours, of points or of numbers by node, each looked
+//! at once.
 //!
 //! Most words there are plain numbers, and most of a matrix have a few digits. Such a word is read
 //! here where its end is found, so that it is not searched for first. Every other word, and every
@@ -54,8 +55,8 @@ fn word_end(rest: &[u8]) -> Option<End<'_>>
     }
 }
 
-/// The whole number of a few digits that a text begins with, and the end of its word; or nothing where
-/// the text begins with no such word whose end has come.
+/// The whole number of a few digits that a text begins with, and the end of its word; or nothing
+/// where the text begins with no such word whose end has come.
 #[inline(always)]
 pub(crate) fn few_number(text: &[u8]) -> Option<(i64, End<'_>)>
     ensures { IfSome result (λ found.
@@ -71,8 +72,8 @@ pub(crate) fn few_number(text: &[u8]) -> Option<(i64, End<'_>)>
     }
 }
 
-/// The whole number at the beginning of a text, and the end of its word. Nothing where the text begins
-/// with no word of at most 18 digits whose end has come.
+/// The whole number at the beginning of a text, and the end of its word. Nothing where the text
+/// begins with no word of at most 18 digits whose end has come.
 #[inline(never)]
 pub(crate) fn front_number(text: &[u8]) -> Option<(i64, End<'_>)>
     ensures { IfSome result (λ found.
@@ -89,8 +90,8 @@ pub(crate) fn front_number(text: &[u8]) -> Option<(i64, End<'_>)>
     }
 }
 
-/// The coordinate at the beginning of a text, and the end of its word. Nothing where the text begins
-/// with no word of at most nine digits, a point and nine more whose end has come.
+/// The coordinate at the beginning of a text, and the end of its word. Nothing where the text
+/// begins with no word of at most nine digits, a point and nine more whose end has come.
 #[inline(always)]
 pub(crate) fn front_coordinate(text: &[u8]) -> Option<(Decimal, End<'_>)>
     ensures { IfSome result (λ found.
@@ -109,7 +110,8 @@ pub(crate) fn front_coordinate(text: &[u8]) -> Option<(Decimal, End<'_>)>
 
 // ---- one item, taken
 
-/// Counts a word that was taken, and the line's end where that ends it. The result is the text after it.
+/// Counts a word that was taken, and the line's end where that ends it. The result is the text
+/// after it.
 #[inline(always)]
 fn count_word<'a>(count: &mut Count, end: End<'a>) -> &'a [u8]
     requires line { count.old.line + length (left_from end) ≤ most_file_bytes }
@@ -159,7 +161,8 @@ fn take_number<'a, L: RunList>(
     Some(count_word(count, end))
 }
 
-/// Takes the coordinate that a text begins with, where the list takes it, and gives what follows it.
+/// Takes the coordinate that a text begins with, where the list takes it, and gives what follows
+/// it.
 #[inline(always)]
 fn take_coordinate<'a, L: RunList>(
     list: &mut L,
@@ -198,7 +201,8 @@ fn take_line_end<'a>(count: &mut Count, text: &'a [u8]) -> Option<&'a [u8]>
     }
 }
 
-/// Takes the line's end or the number that a text begins with, where it is no number of a few digits.
+/// Takes the line's end or the number that a text begins with, where it is no number of a few
+/// digits.
 #[inline(always)]
 fn take_other<'a, L: RunList>(list: &mut L, count: &mut Count, text: &'a [u8]) -> Option<&'a [u8]>
     requires line { count.old.line + length text.now ≤ most_file_bytes + 1 }
@@ -212,8 +216,8 @@ fn take_other<'a, L: RunList>(list: &mut L, count: &mut Count, text: &'a [u8]) -
     }
 }
 
-/// Takes the word or the line's end that a text begins with, where the list takes it, and gives what
-/// follows it.
+/// Takes the word or the line's end that a text begins with, where the list takes it, and gives
+/// what follows it.
 #[inline(always)]
 fn take_one<'a, L: RunList>(list: &mut L, count: &mut Count, text: &'a [u8]) -> Option<&'a [u8]>
     requires line { count.old.line + length text.now ≤ most_file_bytes + 1 }

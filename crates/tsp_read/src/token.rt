@@ -41,7 +41,8 @@ impl Token {
         }
     }
 
-    /// Where it ends in a text that it begins, or goes on in: at a byte 10, and a word at a blank too.
+    /// Where it ends in a text that it begins, or goes on in: at a byte 10, and a word at a blank
+    /// too.
     #[inline(always)]
     fn end(self, text: &[u8]) -> Option<usize>
         ensures { result ≡ position (ends self) text.now }
@@ -66,8 +67,8 @@ impl Token {
         }
     }
 
-    /// The same; or nothing where the text goes on and the end isn't in it, unless it is longer than it
-    /// may be.
+    /// The same; or nothing where the text goes on and the end isn't in it, unless it is longer
+    /// than it may be.
     #[inline(always)]
     pub(crate) fn take(self, text: &[u8], goes_on: bool) -> Option<(&[u8], &[u8])>
         ensures { MatchOption result

@@ -11,7 +11,8 @@ pub enum Basis {
     NoTour,
     /// Routes are judged. No plan of the instance has fewer than `least` routes.
     Routes { least: u64 },
-    /// No solution is accepted, with the first reason that applies to the instance or the certificate.
+    /// No solution is accepted, with the first reason that applies to the instance or the
+    /// certificate.
     No(Reason),
 }
 
@@ -19,7 +20,8 @@ impl Basis {
     ghost use Rattle.std.specs.Prelude.{◌≡◌};
     ghost use Rattle.tsp_reason.specs.Verdicts.{is_clear};
 
-    /// Whether solutions are judged one by one: no reason applies to the instance or the certificate.
+    /// Whether solutions are judged one by one: no reason applies to the instance or the
+    /// certificate.
     pub fn is_clear(self) -> bool
         ensures { result ≡ is_clear self }
     {

@@ -5,6 +5,7 @@
 pub enum Certificate {
     /// Potentials of nodes and of fixed edges for a TSP, or of rows and columns for an ATSP.
     Potentials,
-    /// A tree of cases, with families of sets and the potentials of each leaf, for a TSP or an ATSP.
+    /// A tree of cases, with families of sets and the potentials of each leaf, for a TSP or an
+    /// ATSP.
     Branches,
 }

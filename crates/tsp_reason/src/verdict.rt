@@ -35,8 +35,8 @@ pub enum Reason {
     NotPotentials,
     /// The certificate has a DIMENSION other than that of the instance.
     PotentialsDimension,
-    /// The certificate has no potentials of nodes, which a TSP requires, or none of rows and columns,
-    /// which an ATSP requires.
+    /// The certificate has no potentials of nodes, which a TSP requires, or none of rows and
+    /// columns, which an ATSP requires.
     PotentialsKind,
     /// The instance is of TYPE TSP, and this multiplier is the first one whose pair isn't among the
     /// fixed pairs of the instance, in either direction.
@@ -64,8 +64,8 @@ pub enum Reason {
     /// The certificate by branching has a DIMENSION other than that of the instance.
     BranchesDimension,
     /// This family is the first one that isn't good: it has a node twice in a set, or is neither a
-    /// lone set nor a comb and has more than 63 sets, or sets that divide the nodes into more than 14
-    /// parts, or into one.
+    /// lone set nor a comb and has more than 63 sets, or sets that divide the nodes into more than
+    /// 14 parts, or into one.
     BadComb { index: u32 },
     /// This branch is the first one whose pair is decided above it or fixed: for a TSP in either
     /// direction, for an ATSP the same arc.

@@ -11,14 +11,14 @@ use tsp_file::File;
 use tsp_reason::BoundVerdict;
 use tsp_stream::{Piece, Watched, WriteFault, hand_over, put};
 
-/// Writes the report on the bound of an instance, line by line: the lines on the instance; the bound, or
-/// `none` where the instance has no tour, and `yes`; or `no` with the first reason against the instance
-/// or the certificate.
+/// Writes the report on the bound of an instance, line by line: the lines on the instance; the
+/// bound, or `none` where the instance has no tour, and `yes`; or `no` with the first reason
+/// against the instance or the certificate.
 ///
 /// # Errors
 ///
-/// `Device` where the writer fails, or had failed before: then a prefix of the report was written, and
-/// nothing else. No memory is taken, so `OutOfMemory` is never returned.
+/// `Device` where the writer fails, or had failed before: then a prefix of the report was written,
+/// and nothing else. No memory is taken, so `OutOfMemory` is never returned.
 pub fn write_bound<W: Write>(
     instance: &File,
     found: BoundVerdict,

@@ -16,14 +16,14 @@ use tsp_reason::{Basis, Verdict};
 use tsp_stream::{Piece, Watched, WriteFault, hand_over, put, put_number};
 use tsp_text::ReadFault;
 
-/// Writes the head of a comparison of solutions of an instance: the lines on the instance; the bound, or
-/// `none` where the instance has no tour; for TYPE CVRP the least number of routes. Or `no` with the
-/// first reason against the instance or the certificate.
+/// Writes the head of a comparison of solutions of an instance: the lines on the instance; the
+/// bound, or `none` where the instance has no tour; for TYPE CVRP the least number of routes. Or
+/// `no` with the first reason against the instance or the certificate.
 ///
 /// # Errors
 ///
-/// `Device` where the writer fails, or had failed before: then a prefix of the head was written, and
-/// nothing else. No memory is taken, so `OutOfMemory` is never returned.
+/// `Device` where the writer fails, or had failed before: then a prefix of the head was written,
+/// and nothing else. No memory is taken, so `OutOfMemory` is never returned.
 pub fn write_head<W: Write>(
     instance: &File,
     basis: Basis,

@@ -1,5 +1,5 @@
-//! Whole reports, and all that is shown of files of each TYPE. No body is looked at here: a definition
-//! that is changed together with its code is refused by its examples.
+//! Whole reports, and all that is shown of files of each TYPE. No body is looked at here: a
+//! definition that is changed together with its code is refused by its examples.
 
 ghost use Rattle.std.specs.Prelude.{◌≡◌, ◌++◌, Some, pos, codes};
 ghost use Rattle.tsp_reason.specs.declared.verdict.BoundVerdict.TheVariants as bounds;

@@ -1,6 +1,7 @@
 //! Round trip: the canonical text of a valid file parses to that file. Laws, no code.
 //!
-//! It is over tsp_file, which writes, and tsp_read, which reads, so that neither depends on the other.
+//! It is over tsp_file, which writes, and tsp_read, which reads, so that neither depends on the
+//! other.
 //!
 //! ```text
 //! canonical_texts_are_read_back();

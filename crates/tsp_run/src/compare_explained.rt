@@ -12,9 +12,9 @@ use tsp_explain::{Files, explain_bound, explain_file, explain_lines, explain_wro
 use tsp_judge::{Basis, BoundVerdict, Common, RunFault};
 use tsp_task::{Role, role_by};
 
-/// What explains how a comparison ended, line by line. Its solutions were explained each at its line.
-/// `write_error` is what the system said of a write that failed. It is cut short where there is no
-/// memory for more.
+/// What explains how a comparison ended, line by line. Its solutions were explained each at its
+/// line. `write_error` is what the system said of a write that failed. It is cut short where there
+/// is no memory for more.
 pub(crate) fn comparison_explanation<F: Read + Drop, O: Open<F>>(
     alloc: Global,
     followed: &Followed<'_, F, O>,
@@ -80,7 +80,8 @@ fn push_fault<F: Read + Drop, O: Open<F>>(
     }
 }
 
-/// What the file with this number is given for, and its place: 1 is the instance, 2 the certificate.
+/// What the file with this number is given for, and its place: 1 is the instance, 2 the
+/// certificate.
 fn file_of(comparison: Comparison<'_>, number: u32) -> (Role, Place<'_>) {
     match comparison.certificate {
         Some((by, place)) if number == 2 => (role_by(by), place),

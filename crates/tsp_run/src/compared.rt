@@ -11,8 +11,8 @@ use std::io::{Read, Write};
 use tsp_cli::Place;
 use tsp_judge::{Compared, RunFault, Watched, run_compare};
 
-/// Compares solutions: the instance is opened in its place, and the certificate where one is named, and
-/// after them each solution in its own place.
+/// Compares solutions: the instance is opened in its place, and the certificate where one is named,
+/// and after them each solution in its own place.
 ///
 /// # Errors
 ///

@@ -11,7 +11,8 @@ use tsp_judge::{RunFault, WriteFault};
 use tsp_perform::{explain_fault, explain_outcome};
 use tsp_task::Task;
 
-/// What explains why a job is no work, line by line. It is cut short where there is no memory for more.
+/// What explains why a job is no work, line by line. It is cut short where there is no memory for
+/// more.
 pub(crate) fn task_explanation(alloc: Global, fault: TaskFault) -> Vec<u8> {
     let mut text = Vec::new(alloc);
     let _ = match fault {

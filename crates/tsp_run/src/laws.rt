@@ -27,8 +27,8 @@ pub fn faults_are_told_on_one_line()
         → EndsLine old new }
 {}
 
-/// On a terminal every answer is explained, and every task that can't be begun; elsewhere where the job
-/// says so. No words are explained that ask for no job.
+/// On a terminal every answer is explained, and every task that can't be begun; elsewhere where the
+/// job says so. No words are explained that ask for no job.
 pub fn explained_on_a_terminal<F: Read + Drop, O: Open<F>>(files: &O)
     ensures answer { (build : Text) (words : List Text) (sink : Sink) (explained : Bool) (answer : Result Outcome RunFault)
         → Ends F.remaining (O.opens files.now) true build words sink explained (endings.Ended answer) → explained ≡ true }

@@ -1,9 +1,10 @@
 //! A run of the program `tsp`, from its words to its exit status.
 //!
-//! The words are a task on files, or solutions to compare (`tsp_cli`). Each file is opened, or is missing
-//! (`source`). The task is done (`tsp_perform`), or the solutions are compared (`compared`), and the end is
-//! reported on standard error and by the exit status (`ending`). Where the words ask for it, an
-//! explanation follows (`explained`, `followed`). The calls of the host are tsp_tool's.
+//! The words are a task on files, or solutions to compare (`tsp_cli`). Each file is opened, or is
+//! missing (`source`). The task is done (`tsp_perform`), or the solutions are compared
+//! (`compared`), and the end is reported on standard error and by the exit status (`ending`). Where
+//! the words ask for it, an explanation follows (`explained`, `followed`). The calls of the host
+//! are tsp_tool's.
 //!
 //! ```text
 //! let (status, written) = run(alloc, &words, &files, &mut out, &mut errors, setting);

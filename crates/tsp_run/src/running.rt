@@ -36,14 +36,15 @@ pub struct Setting {
     pub build: &'static str,
 }
 
-/// Does what the words of a command line ask for, of which the first is the program's own name; what
-/// comes of it goes to the writer `out`, and where there is no answer the reason to `errors`.
+/// Does what the words of a command line ask for, of which the first is the program's own name;
+/// what comes of it goes to the writer `out`, and where there is no answer the reason to `errors`.
 ///
-/// The result is the exit status, and whether the reason could be written. Files are opened in the order
-/// in which they are read, each as `files` opens its place; a comparison opens each solution when it is
-/// to be read. The reason is explained where the words ask for that, and wherever `errors` is a terminal. Of a
-/// comparison each line that accepts no solution is explained when it was written, and on a terminal its
-/// solutions are counted. Where the words ask for the version, that is printed with the text of the build.
+/// The result is the exit status, and whether the reason could be written. Files are opened in the
+/// order in which they are read, each as `files` opens its place; a comparison opens each solution
+/// when it is to be read. The reason is explained where the words ask for that, and wherever
+/// `errors` is a terminal. Of a comparison each line that accepts no solution is explained when it
+/// was written, and on a terminal its solutions are counted. Where the words ask for the version,
+/// that is printed with the text of the build.
 pub fn run<F: Read + Drop, O: Open<F>, W: Write, E: Write>(
     alloc: Global,
     line: &[String],
@@ -92,8 +93,8 @@ fn end<E: Write>(ending: &Ending, errors: &mut E) -> (u8, io::Result<()>)
     (status_of_ending(ending), told)
 }
 
-/// Does the job, and tells how that ended, with its explanation where that is wanted. The result is as
-/// that of `run`.
+/// Does the job, and tells how that ended, with its explanation where that is wanted. The result is
+/// as that of `run`.
 fn run_job<F: Read + Drop, O: Open<F>, W: Write, E: Write>(
     alloc: Global,
     job: &Job,
@@ -173,8 +174,8 @@ fn run_task<F: Read + Drop, O: Open<F>, W: Write, E: Write>(
     (status_of_ending(&ending), told)
 }
 
-/// Reports how a task ended, and explains it where that is wanted, with the system's words on a write
-/// that failed. Where there is no memory for the explanation, it is left out.
+/// Reports how a task ended, and explains it where that is wanted, with the system's words on a
+/// write that failed. Where there is no memory for the explanation, it is left out.
 fn tell_task<F: Read + Drop, O: Open<F>, E: Write>(
     alloc: Global,
     asked: &Asked<'_, O>,

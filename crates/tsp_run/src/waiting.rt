@@ -10,8 +10,8 @@ use std::io::Write;
 /// The line on a terminal that is read.
 const WAITING: &str = "reading standard input; tsp --help tells more\n";
 
-/// Writes that standard input is read, where it is a terminal, as `reads_terminal` says, and no words
-/// follow the program's own name, which is the first of `line`. Else nothing is written.
+/// Writes that standard input is read, where it is a terminal, as `reads_terminal` says, and no
+/// words follow the program's own name, which is the first of `line`. Else nothing is written.
 ///
 /// # Errors
 ///

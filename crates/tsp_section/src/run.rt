@@ -23,7 +23,7 @@ pub trait RunList {
     fn awaits_coordinate(&self) -> bool
         ensures { result ≡ in_group (part self.now) };
 
-    /// Takes the number of a word, where the list takes it at its place. The answer is whether it was
+    /// Takes the number of a word, where the list takes it at its place. Returns whether it was
     /// taken.
     fn take_whole(&mut self, number: i64) -> bool
         ensures taken { result ≡ true → (word : List ℕ) → IsWhole word number
@@ -34,7 +34,7 @@ pub trait RunList {
             → IsNodeOf (length (marks_of (part self.old))) k
             → slice_index_or (marks_of (part self.old)) (k - 1) false ≡ true };
 
-    /// Takes the coordinate of a word, where a group of points has begun. The answer is whether it was
+    /// Takes the coordinate of a word, where a group of points has begun. Returns whether it was
     /// taken.
     fn take_coordinate(&mut self, coordinate: Decimal) -> bool
         ensures taken { result ≡ true → (word : List ℕ) → decimal_of word ≡ Ok coordinate

@@ -10,10 +10,10 @@ use std::io::{Read, Write};
 
 /// A reader that can be asked once.
 ///
-/// Every reader is one. Code over a `T: Gives` knows nothing of `T.gives`, so what ensures it has asked
-/// the reader exactly once and returns its answer unchanged.
+/// Every reader is one. Code over a `T: Gives` knows nothing of `T.gives`, so what ensures it has
+/// asked the reader exactly once and returns its result unchanged.
 pub trait Gives: Read {
-    /// Whether one read of a reader, into a buffer, may answer this and leave both so.
+    /// Whether one read of a reader, into a buffer, may return this and leave both so.
     ghost gives: { Self → List ℕ → Result ℕ Error → List ℕ → Self → Type 0 };
 
     /// Reads once.
@@ -33,10 +33,10 @@ impl<R: Read> Gives for R {
 
 /// A writer that can be asked once, to write or to flush. Every writer is one.
 pub trait Takes: Write {
-    /// Whether one write of a text may answer this and leave the writer so.
+    /// Whether one write of a text may return this and leave the writer so.
     ghost takes: { Self → List ℕ → Result ℕ Error → Self → Type 0 };
 
-    /// Whether one flush may answer this and leave the writer so.
+    /// Whether one flush may return this and leave the writer so.
     ghost flushes: { Self → Result (Unit {0}) Error → Self → Type 0 };
 
     /// Writes once.

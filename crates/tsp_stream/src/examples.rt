@@ -1,5 +1,5 @@
-//! Answers of a writer, on which the definition of a failed write is evaluated. No body is looked at
-//! here: a definition that is changed together with its code is refused by its examples.
+//! Results of a writer, on which the definition of a failed write is evaluated. No body is looked
+//! at here: a definition that is changed together with its code is refused by its examples.
 
 ghost use Rattle.std.specs.Prelude.{◌≡◌, true, false, [], ◌∷◌, Ok, Err, codes};
 ghost use Rattle.std.specs.declared.io.Error.{Error};
@@ -7,8 +7,9 @@ ghost use Rattle.tsp_stream.specs.declared.output.WriteFault.TheVariants as faul
 ghost use Rattle.tsp_stream.specs.FaultText.{write_fault_text};
 ghost use Rattle.tsp_stream.specs.states.Watched.{write_fails};
 
-/// Which writes fail: those that answer an error, also of an empty text, and those that take no byte of
-/// a text that has some. A part that is taken is no failure, and neither is no byte of no text.
+/// Which writes fail: those that return an error, also of an empty text, and those that take no
+/// byte of a text that has some. A part that is taken is no failure, and neither is no byte of no
+/// text.
 pub fn examples_of_failed_writes()
     ensures nothing_of_nothing { write_fails {E = Error} (Ok 0) [] ≡ false }
     ensures nothing_of_a_byte { write_fails {E = Error} (Ok 0) (1 ∷ []) ≡ true }

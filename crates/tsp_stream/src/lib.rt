@@ -1,7 +1,7 @@
 //! Readers and writers that remember a failure, and the way of a text to a writer.
 //!
-//! It knows nothing of TSPLIB. A [`Watched`] value that has failed isn't asked again by the calls of
-//! the crates above. There is no retry: an interrupted call has failed too.
+//! It knows nothing of TSPLIB. A [`Watched`] value that has failed isn't asked again by the calls
+//! of the crates above. There is no retry: an interrupted call has failed too.
 //!
 //! ```text
 //! let mut out = Watched::new(writer);

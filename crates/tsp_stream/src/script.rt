@@ -28,8 +28,8 @@ impl Script {
 }
 
 /// What a watched script answers is its next answer, and the script has lost that one alone. So the
-/// answers that come out of it, call by call, are those that went in, one for one. It is asked by `ask`,
-/// as each reader and writer is.
+/// answers that come out of it, call by call, are those that went in, one for one. It is asked by
+/// `ask`, as each reader and writer is.
 pub fn answers_go_through(script: &mut Watched<Script>) -> io::Result<usize>
     ensures next { AnswersNext (answers_of (watched script.old)) result (answers_of (watched script.new)) }
     ensures failed { has_failed script.new ≡ (has_failed script.old || is_err result) }

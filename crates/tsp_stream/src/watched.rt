@@ -13,7 +13,7 @@ use std::io::{Read, Write};
 /// A reader or a writer that remembers whether one of its reads or writes has failed.
 ///
 /// It is a `Read` where `T` is one and a `Write` where `T` is one, with `T`'s bytes. It has failed
-/// from the first read or write on that answers an error, an interruption among them, or that
+/// from the first read or write on that returns an error, an interruption among them, or that
 /// takes no byte of a text that isn't empty. An error of `flush` counts as one of a write.
 #[derive(Debug, Drop)]
 pub struct Watched<T> {
@@ -74,8 +74,8 @@ impl<T> Watched<T> {
         self.error = Some(error);
     }
 
-    /// Asks the inner value once, with a buffer for its bytes, returns its answer as it is, and
-    /// remembers a failure. A failure is an error, or an answer that, by the call, took nothing
+    /// Asks the inner value once, with a buffer for its bytes, returns its result as it is, and
+    /// remembers a failure. A failure is an error, or a result that, by the call, took nothing
     /// although it could have.
     pub(crate) fn ask<A, F>(&mut self, room: &mut [u8], call: F) -> io::Result<A>
     where

@@ -14,7 +14,8 @@ const KINDS: [ErrorKind; 4] = [
     ErrorKind::WouldBlock,
 ];
 
-/// Asserts the outcome of a read into a piece, what the piece then holds, and whether the reader has failed.
+/// Asserts the outcome of a read into a piece, what the piece then holds, and whether the reader
+/// has failed.
 fn reads<R: Read>(
     rt: &impl Abort,
     reader: &mut Watched<R>,
@@ -81,8 +82,8 @@ fn flushes(
     same_at(rt, "failed", writer.failed(), failed);
 }
 
-/// Asserts which bytes a writer took, how often it was asked to write, and that it was flushed once: each
-/// call is one, and no write flushes.
+/// Asserts which bytes a writer took, how often it was asked to write, and that it was flushed
+/// once: each call is one, and no write flushes.
 fn was_asked(rt: &impl Abort, writer: Watched<Drip>, held: &[u8], calls: usize) {
     let drip = writer.into_inner();
     same(rt, drip.held(), held);
@@ -90,8 +91,8 @@ fn was_asked(rt: &impl Abort, writer: Watched<Drip>, held: &[u8], calls: usize) 
     same_at(rt, "no write flushes", drip.flushes(), 1);
 }
 
-/// Asserts what a writer does that fails in this way, at its second write or at a flush: a later success
-/// doesn't undo it.
+/// Asserts what a writer does that fails in this way, at its second write or at a flush: a later
+/// success doesn't undo it.
 fn remembers_a_write(rt: &(impl AllocGlobal + Abort), kind: ErrorKind) {
     let mut writer = Watched::new(Drip::new(rt.alloc(), 1, 1, Refusal::Error(kind)));
     writes(rt, &mut writer, b"ab", Ok(1), false);

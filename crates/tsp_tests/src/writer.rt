@@ -1,5 +1,5 @@
-//! The canonical text: one with each field, and writers that take little, or fail. (Other texts are in
-//! the tables of runs of the program.)
+//! The canonical text: one with each field, and writers that take little, or fail. (Other texts are
+//! in the tables of runs of the program.)
 
 use crate::asserts::{holds, holds_at, same, same_at};
 use std::alloc::{AllocError, Global};
@@ -95,8 +95,8 @@ fn long_file(alloc: Global) -> Result<File, Fail> {
     file_of(draft)
 }
 
-/// The bytes of its text: nine of the name, twelve of the type, 4,001 of each comment, 25 of the tours and
-/// four of the line EOF.
+/// The bytes of its text: nine of the name, twelve of the type, 4,001 of each comment, 25 of the
+/// tours and four of the line EOF.
 const LONG_BYTES: usize = 12_053;
 
 #[test]
@@ -115,8 +115,8 @@ fn a_long_text_goes_out_in_few_pieces_and_stops_at_a_failure(rt: HostRuntime) ->
     Ok(())
 }
 
-/// The bytes of the text of a matrix of 100 nodes by the upper rows, all of whose weights are 0: 9,900 of
-/// its 99 lines, and 110 of the other lines.
+/// The bytes of the text of a matrix of 100 nodes by the upper rows, all of whose weights are 0:
+/// 9,900 of its 99 lines, and 110 of the other lines.
 const MATRIX_BYTES: usize = 10_010;
 
 #[test]

@@ -1,4 +1,5 @@
-//! The sentences for a file that isn't seen a second time, for a refused layout and for a failed write.
+//! The sentences for a file that isn't seen a second time, for a refused layout and for a failed
+//! write.
 
 use std::alloc::AllocError;
 use std::process::Abort;

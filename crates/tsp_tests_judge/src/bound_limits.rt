@@ -52,8 +52,8 @@ fn numbered(alloc: Global, again: bool, after: &str) -> Result<String, AllocErro
 
 #[test]
 fn two_thousand_points_on_a_line_have_their_bound(rt: HostRuntime) -> Result<(), Fail> {
-    // along the line and back is 1,999 twice; the tree over the nodes 2..2,000 has 1,998, and node 1
-    // is at 1 from node 2 and at 2 from node 3
+    // along the line and back is 1,999 twice; the tree over the nodes 2..2,000 has 1,998, and node
+    // 1 is at 1 from node 2 and at 2 from node 3
     let points = numbered(rt.alloc(), true, " 0")?;
     let nodes = numbered(rt.alloc(), false, "")?;
     let zeros = numbered(rt.alloc(), false, " 0")?;

@@ -1,5 +1,5 @@
-//! Runs that return the files which they read: checks in which a length is claimed, and bounds without a
-//! solution.
+//! Runs that return the files which they read: checks in which a length is claimed, and bounds
+//! without a solution.
 
 use crate::asserts::same;
 use crate::files::{BOUND_REPORT, DUALS, THREE_NODES, TOUR};
@@ -9,8 +9,8 @@ use tsp_format::Kind;
 use tsp_judge::{BoundVerdict, Certificate, Reason, RunFault, Verdict, run, run_bound};
 use tsp_stream::Watched;
 
-/// The verdict of a check with duals and this claim, and the TYPEs of the files that come with it. (It
-/// has no contract, which the proofs of the tests would go through; nor has the one below.)
+/// The verdict of a check with duals and this claim, and the TYPEs of the files that come with it.
+/// (It has no contract, which the proofs of the tests would go through; nor has the one below.)
 fn claimed(
     alloc: Global,
     claim: i64,

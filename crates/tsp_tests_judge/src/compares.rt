@@ -1,4 +1,5 @@
-//! Comparisons: a bad solution among good ones, readers that fail, and a writer that fails at each byte.
+//! Comparisons: a bad solution among good ones, readers that fail, and a writer that fails at each
+//! byte.
 
 use crate::asserts::{same, same_at};
 use crate::files::{DUALS, THREE_NODES, TOUR};
@@ -71,8 +72,8 @@ impl Follow<Counts> for Four {
     }
 }
 
-/// What is left of a comparison with duals: its status, what its follower counted, and the writer. (It
-/// has no contract, which the proofs of the tests would go through.)
+/// What is left of a comparison with duals: its status, what its follower counted, and the writer.
+/// (It has no contract, which the proofs of the tests would go through.)
 fn compared(alloc: Global, writer: Drip) -> (Result<u8, RunFault>, Counts, Drip) {
     let mut inst = Watched::new(THREE_NODES.as_bytes());
     let mut cert = Watched::new(DUALS.as_bytes());

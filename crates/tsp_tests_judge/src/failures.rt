@@ -49,8 +49,8 @@ const FILES: &[(Job, u32)] = &[
     (CONVERT, 1),
 ];
 
-/// What is left of a run: its answer, how often the readers were asked, whether they failed, and the
-/// writer.
+/// What is left of a run: its result, how often the readers were asked, whether they failed, and
+/// the writer.
 #[derive(Drop)]
 pub(crate) struct Seen {
     pub(crate) answer: Result<bool, RunFault>,
@@ -79,7 +79,8 @@ pub(crate) fn look_at(
     }
 }
 
-/// Asserts that a reader that fails at a call is the last that is asked, and that nothing is written.
+/// Asserts that a reader that fails at a call is the last that is asked, and that nothing is
+/// written.
 fn a_read_fails(rt: &(impl AllocGlobal + Abort), job: &Job, file: u32, fails_at: usize) {
     let (task, texts) = job;
     let [first, second, _] = texts;

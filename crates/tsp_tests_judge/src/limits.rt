@@ -48,8 +48,8 @@ fn padded(alloc: Global, length: usize) -> Result<String, AllocError> {
     Ok(text)
 }
 
-/// The answer where `THREE_NODES` is padded to `head` bytes, all but one unit of the limit follow as
-/// blanks, and then the tail.
+/// The answer where `THREE_NODES` is padded to `head` bytes, all but one unit of the limit follow
+/// as blanks, and then the tail.
 fn at_the_limit(
     alloc: Global,
     head: usize,

@@ -1,4 +1,5 @@
-//! Instances of points and of a matrix: their calls that take no memory, and tours, whose lengths take some.
+//! Instances of points and of a matrix: their calls that take no memory, and tours, whose lengths
+//! take some.
 
 use std::alloc::{AllocError, Global};
 use tsp_cost::{Costs, Instance, View, tour_length, trace_tours};
@@ -29,7 +30,8 @@ fn matrix_is_right(alloc: Global) -> Result<bool, AllocError> {
         return Ok(false);
     };
     let traced = have_lengths(alloc, &instance);
-    // Where memory was refused to that, it is to these calls too, and they have to answer all the same.
+    // Where memory was refused to that, it is to these calls too, and they have to answer all the
+    // same.
     let viewed = has_matrix(&instance);
     let handed_back = is_handed_back(instance, Kind::Atsp);
     if viewed && handed_back {
@@ -92,7 +94,8 @@ fn is_handed_back(instance: Instance, kind: Kind) -> bool {
     right
 }
 
-/// Whether the instance is seen as a matrix whose first two costs that differ are of the nodes 1 and 2.
+/// Whether the instance is seen as a matrix whose first two costs that differ are of the nodes 1
+/// and 2.
 fn has_matrix(instance: &Instance) -> bool {
     match instance.view() {
         View::Matrix(matrix) => {

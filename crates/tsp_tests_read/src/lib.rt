@@ -1,4 +1,5 @@
-//! The tests of the reader: texts in pieces, and readers that do little at a time, fail or never end.
+//! The tests of the reader: texts in pieces, and readers that do little at a time, fail or never
+//! end.
 #![tactic(auto)]
 
 #[cfg(test)]

@@ -26,7 +26,8 @@ pub struct Trickle<'a> {
 }
 
 impl<'a> Trickle<'a> {
-    /// A reader of these bytes, one a call, whose call `fails_at`, counted from 0, fails in this way.
+    /// A reader of these bytes, one a call, whose call `fails_at`, counted from 0, fails in this
+    /// way.
     pub fn new(bytes: &'a [u8], fails_at: usize, kind: ErrorKind) -> Trickle<'a> {
         Trickle {
             rest: bytes,

@@ -18,7 +18,8 @@ pub fn tours(alloc: Global, lists: &[&[u32]]) -> Result<Draft, AllocError> {
 
 /// The name `a`, an empty comment, and the tours 1, 2 and 3.
 ///
-/// The draft is made last: at each `?` before, only lists have to be dropped, and its proof is short.
+/// The draft is made last: at each `?` before, only lists have to be dropped, and its proof is
+/// short.
 pub fn two_tours(alloc: Global) -> Result<Draft, AllocError> {
     let name = Vec::from_slice(alloc, b"a")?;
     let mut comments = Vec::new(alloc);
@@ -59,7 +60,8 @@ pub fn points(alloc: Global, halves: &[(i64, i64)]) -> Result<Coords, Fail> {
 
 /// The rectangle with the sides 3 and 4 as a CVRP, with every field set.
 ///
-/// The lists are set in a function that is lent the draft, so that no early end there has to drop it.
+/// The lists are set in a function that is lent the draft, so that no early end there has to drop
+/// it.
 pub fn rectangle(alloc: Global) -> Result<Draft, Fail> {
     let mut draft = two_tours(alloc)?;
     draft.kind = Some(Kind::Cvrp);

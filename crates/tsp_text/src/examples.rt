@@ -193,8 +193,8 @@ pub fn fields_of_texts()
     ensures on_plane { OnPlane (codes "DIMENSION : 1/EDGE_WEIGHT_TYPE : MAN_2D/NODE_COORD_SECTION/1 1.5 -2") }
 {}
 
-/// What tsp_number says of itself are the limits of a file: the most bytes of a number word, and the
-/// largest coordinate.
+/// What tsp_number says of itself are the limits of a file: the most bytes of a number word, and
+/// the largest coordinate.
 pub fn limits_agree()
     ensures coordinate { most_count ≡ most_coordinate }
     ensures no_more_bytes { (word : List ℕ) → IsShort word → length word ≤ most_word_bytes }

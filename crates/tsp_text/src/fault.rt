@@ -16,7 +16,8 @@ pub enum LineFault {
     Repeated,
     /// The line has a value of TSPLIB 95 that this profile leaves out.
     Outside,
-    /// The value isn't one of those that the keyword accepts, is missing, or is too long to be kept.
+    /// The value isn't one of those that the keyword accepts, is missing, or is too long to be
+    /// kept.
     BadValue,
     /// The line of a section has a value.
     SectionValue,

@@ -1,7 +1,7 @@
 //! Which file a text parses to, or its first fault: definitions and laws, no code.
 //!
-//! The definitions in `specs/` take a text apart into lines and words. The laws say what always holds
-//! of texts, whoever reads them. The reader is tsp_read's.
+//! The definitions in `specs/` take a text apart into lines and words. The laws say what always
+//! holds of texts, whoever reads them. The reader is tsp_read's.
 //!
 //! ```text
 //! texts_have_one_answer();

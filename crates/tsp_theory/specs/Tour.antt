@@ -1,4 +1,5 @@
--- Travelling salesman problems, their tours, and bounds on the lengths of these. Source: TSPLIB 95 (G. Reinelt), FIXED_EDGES_SECTION.
+-- Travelling salesman problems, their tours, and bounds on the lengths of these. Source: TSPLIB 95 (G. Reinelt),
+-- FIXED_EDGES_SECTION.
 use Rattle.std.specs.Prelude.{ℕ, Bool, true, false, List, ℤ, ◌≤ℤ◌}
 use Rattle.std.specs.List.{All}
 use Rattle.tsp_theory.specs.Cycle.{IsCycle, Follows, AreNeighbours}

@@ -11,8 +11,9 @@ use crate::region::Region;
 use std::alloc::Global;
 use tsp_memory::Refused;
 
-/// Costs whose nodes may have places in space, so that a region says of all nodes in it at once that
-/// they are far. By itself no node has a region, nothing is known of one, and the order is empty.
+/// Costs whose nodes may have places in space, so that a region says of all nodes in it at once
+/// that they are far. By itself no node has a region, nothing is known of one, and the order is
+/// empty.
 pub trait Grouped: Symmetric {
     ghost place: { Self → ℕ → Point };
 
@@ -34,8 +35,8 @@ pub trait Grouped: Symmetric {
         None
     }
 
-    /// Whether each node whose place is in the region costs at least `least` from a node, where that
-    /// is known.
+    /// Whether each node whose place is in the region costs at least `least` from a node, where
+    /// that is known.
     fn is_beyond(&self, from: u32, region: &Region, least: i64) -> bool
         requires { IsNode (Self.nodes self.now) from }
         ensures { OnTrue result ((to : ℕ) → IsNode (Self.nodes self.now) to

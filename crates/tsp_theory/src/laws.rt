@@ -37,8 +37,8 @@ pub fn least_trees_are_below_cycles()
 }
 
 /// The bound of potentials and of numbers on taken and avoided pairs is at most the length of every
-/// cycle of three or more nodes that uses each taken pair and no avoided one. With neither it is the
-/// bound of the potentials.
+/// cycle of three or more nodes that uses each taken pair and no avoided one. With neither it is
+/// the bound of the potentials.
 pub fn adjusted_bounds_bound_cycles()
     ensures cycles { AdjustedBoundsBoundCycles }
     ensures unadjusted { UnadjustedBoundsAreNodeBounds }

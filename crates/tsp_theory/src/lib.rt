@@ -1,8 +1,8 @@
 //! Tours, their lengths and their lower bounds, over any costs, as theorems.
 //!
-//! Hamiltonian cycles, tours, lengths, 1-trees and duals, and that no cycle is shorter than the bound
-//! of a certificate. The only code here is the traits of costs and the sums of lengths. It knows no
-//! files, and finds no bounds: that is tsp_bound's and tsp_branch's.
+//! Hamiltonian cycles, tours, lengths, 1-trees and duals, and that no cycle is shorter than the
+//! bound of a certificate. The only code here is the traits of costs and the sums of lengths. It
+//! knows no files, and finds no bounds: that is tsp_bound's and tsp_branch's.
 //!
 //! ```text
 //! let length = tour_length(&costs, &[1, 2, 3, 4]);

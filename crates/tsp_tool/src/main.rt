@@ -82,8 +82,8 @@ impl Open<Source<Stdin, File>> for Host<'_> {
 
 /// The file at a path, opened to be read, under another number than a standard stream has.
 ///
-/// Where a standard stream was closed before the program started, the system gives its number to the
-/// next file. That file would then be read as standard input.
+/// Where a standard stream was closed before the program started, the system gives its number to
+/// the next file. That file would then be read as standard input.
 fn opened(rt: &HostRuntime, path: &str) -> io::Result<File>
     ensures { IfOk result IsBesideStreams }
 {
@@ -98,7 +98,8 @@ fn opened(rt: &HostRuntime, path: &str) -> io::Result<File>
     Err(io::Error::from(ErrorKind::Unsupported))
 }
 
-/// Whether the number of the file's descriptor is above those of the standard streams, which are 0 to 2.
+/// Whether the number of the file's descriptor is above those of the standard streams, which are 0
+/// to 2.
 fn is_beside_streams(file: &File) -> bool
     ensures { IsTrue result ↔ IsBesideStreams file.now }
 {

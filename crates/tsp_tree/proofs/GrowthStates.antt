@@ -22,8 +22,8 @@ part_of pairs = grown_by (λ x. x == 2) pairs
 abbrev pub IsWeightFrom : (ℕ → ℕ → ℤ) → (ℕ → Bool) → ℕ → ℕ → ℤ → Type 0
 IsWeightFrom w part node near weight = (part near ≡ true) × (weight ≡ w near node)
 
--- The state of a growth: the pairs so far and what they weigh; and the nodes that they don't reach, each once, with the nearest one
--- that they reach and the weight between the two.
+-- The state of a growth: the pairs so far and what they weigh; and the nodes that they don't reach, each once, with the nearest
+-- one that they reach and the weight between the two.
 pub record IsState (n : ℕ) (w : ℕ → ℕ → ℤ) (outside near : List ℕ) (least : List ℤ) (pairs : List (ℕ × ℕ)) (weight : ℤ) : Type 0 where
   pub grows : Grows (IsInner n) w (λ x. x == 2) pairs
   pub weight_is : weight ≡ weight_of w pairs

@@ -1,8 +1,8 @@
-//! Least 1-trees, under weights that are told by rows.
+//! Least 1-trees, under weights that are given by rows.
 //!
-//! A trait of weights, the growth of a least tree over the nodes 2..n, the two least edges at node 1,
-//! and the weight of both. It knows no costs and no certificates: those are tsp_bound's and tsp_branch's,
-//! which make the weights.
+//! A trait of weights, the growth of a least tree over the nodes 2..n, the two least edges at node
+//! 1, and the weight of both. It knows no costs and no certificates: those are tsp_bound's and
+//! tsp_branch's, which make the weights.
 //!
 //! ```text
 //! let weight = least_weight(alloc, &weights, &mut row)?;

@@ -71,8 +71,8 @@ IsBasisWith (Some given) inst basis = IsBasisBy given.0 inst given.1 basis
 abbrev pub IsBasis : Option (Certificate × Fields) → Fields → Basis → Type 0
 IsBasis given inst basis = IsTrue (is_judged given inst.kind) × IsBasisWith given inst basis
 
--- Out of memory: no reason applies to the instance, nor one to the certificate that is found without memory. Without a certificate
--- none is taken.
+-- Out of memory: no reason applies to the instance, nor one to the certificate that is found without memory. Without a
+-- certificate none is taken.
 abbrev pub NoneOfBasisWithoutMemory : Option (Certificate × Fields) → Fields → Type 0
 NoneOfBasisWithoutMemory None inst = ⊥
 NoneOfBasisWithoutMemory (Some given) inst = NoneAgainstInstance inst × NoneWithoutMemory given.0 inst given.1
@@ -85,8 +85,8 @@ HasBasis (Tour length bound) basis = basis ≡ bases.Tours bound
 HasBasis (Routes length routes least) basis = basis ≡ bases.Routes least
 HasBasis (No reason) basis = Unit {0}
 
--- the verdict on a solution of the instance, with the length that is claimed, where one is: that with each certificate which gives
--- the instance this basis
+-- the verdict on a solution of the instance, with the length that is claimed, where one is: that with each certificate which
+-- gives the instance this basis
 abbrev pub IsVerdictFrom : Basis → Option ℤ → Fields → Fields → Verdict → Type 0
 IsVerdictFrom basis claimed inst sol verdict = HasBasis verdict basis
     × ((given : Option (Certificate × Fields)) → IsBasis given inst basis → IsVerdictWith given claimed inst sol verdict)

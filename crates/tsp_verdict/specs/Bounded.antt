@@ -30,8 +30,8 @@ NoneAgainstInstance inst = (reason : Reason) → StandsAgainstInstance inst reas
 abbrev pub StandsAgainstBounded : Certificate → Fields → Fields → Reason → Type 0
 StandsAgainstBounded by inst cert reason = StandsAgainstInstance inst reason ⊎ StandsAgainstCertificate by inst cert reason
 
--- Where no reason applies, what the certificate gives: a bound, which no tour of the instance is below, or that the instance has no
--- tour. Or the first reason that applies.
+-- Where no reason applies, what the certificate gives: a bound, which no tour of the instance is below, or that the instance has
+-- no tour. Or the first reason that applies.
 abbrev pub IsBoundVerdict : Certificate → Fields → Fields → BoundVerdict → Type 0
 IsBoundVerdict by inst cert (bounds.Bound bound) =
     ((reason : Reason) → StandsAgainstBounded by inst cert reason → ⊥) × IsCertified by inst cert bound

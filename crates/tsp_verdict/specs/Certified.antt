@@ -73,7 +73,8 @@ abbrev pub HasNoBound : Certificate → Fields → Fields → Type 0
 HasNoBound Potentials inst cert = ⊥
 HasNoBound Branches inst cert = HasNoBoundByTree inst cert
 
--- What a certificate gives to which no reason applies: a bound, or that the instance has no tour. Or the first reason that applies.
+-- What a certificate gives to which no reason applies: a bound, or that the instance has no tour. Or the first reason that
+-- applies.
 abbrev pub FindsBound : Certificate → Fields → Fields → BoundVerdict → Type 0
 FindsBound by inst cert (bounds.Bound bound) =
     ((reason : Reason) → StandsAgainstCertificate by inst cert reason → ⊥) × IsCertified by inst cert bound

@@ -68,8 +68,8 @@ StandsAgainstTree inst tree reason = ⊥
 
 -- ---- its bound
 
--- families, a whole tree and good numbers at its leaves, and what is the least of the bounds of these: by least 1-trees, for an ATSP
--- by the least link from each node
+-- families, a whole tree and good numbers at its leaves, and what is the least of the bounds of these: by least 1-trees, for an
+-- ATSP by the least link from each node
 pub record HasBoundByTree (inst tree : Fields) (found : Option ℤ) : Type 0 where
   pub steps : List listed.Step
   pub steps_are : tree.branches ≡ Some steps

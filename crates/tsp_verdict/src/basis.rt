@@ -1,4 +1,5 @@
-//! What is known of all solutions of an instance, before any is read, and the verdict on one of them.
+//! What is known of all solutions of an instance, before any is read, and the verdict on one of
+//! them.
 
 ghost use Rattle.std.specs.Prelude.{◌≡◌, ◌⊎◌, ◌≤◌, IsTrue, length, Option, None, Some, MatchOption, MatchResult, option_map};
 ghost use Rattle.std.specs.List.{All};
@@ -113,8 +114,8 @@ fn first_against_routing(inst: &Instance, routing: &RoutingData<'_>) -> Option<R
     None
 }
 
-/// What [`judge_basis`] finds of an instance with a certificate, by what [`judge_bound`] has found of
-/// the two.
+/// What [`judge_basis`] finds of an instance with a certificate, by what [`judge_bound`] has found
+/// of the two.
 pub fn basis_of(found: BoundVerdict) -> Basis
     ensures { (by : Certificate) (instance certificate : Fields) → IsBoundVerdict by instance certificate found
         → IsBasisBy by instance certificate result }
@@ -127,8 +128,8 @@ pub fn basis_of(found: BoundVerdict) -> Basis
 }
 
 /// The verdict on a solution of an instance, by what [`judge_basis`] found: the same as that of
-/// [`crate::judge`] with the certificate that was judged there. Neither the costs of the instance nor
-/// the certificate are judged again.
+/// [`crate::judge`] with the certificate that was judged there. Neither the costs of the instance
+/// nor the certificate are judged again.
 ///
 /// # Requires
 ///

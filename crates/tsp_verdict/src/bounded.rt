@@ -15,11 +15,11 @@ use tsp_cost::{Costs, Instance};
 use tsp_file::File;
 use tsp_reason::{BoundVerdict, Certificate, Reason};
 
-/// The bound that a certificate gives the tours of an instance, or the first reason against either. No
-/// tour of the instance is shorter than the bound.
+/// The bound that a certificate gives the tours of an instance, or the first reason against either.
+/// No tour of the instance is shorter than the bound.
 ///
-/// The reasons are `TooFewNodes` and `NotSymmetric`, and then those of the certificate. That the instance
-/// has no tour is shown by a tree whose leaves all count for nothing.
+/// The reasons are `TooFewNodes` and `NotSymmetric`, and then those of the certificate. That the
+/// instance has no tour is shown by a tree whose leaves all count for nothing.
 ///
 /// # Requires
 ///
@@ -27,8 +27,9 @@ use tsp_reason::{BoundVerdict, Certificate, Reason};
 ///
 /// # Errors
 ///
-/// Out of memory, and then no reason applies to the instance, and none to the certificate that is found
-/// without memory: `NotPotentials` to `PotentialsKind`, or `NotBranches` and `BranchesDimension`.
+/// Out of memory, and then no reason applies to the instance, and none to the certificate that is
+/// found without memory: `NotPotentials` to `PotentialsKind`, or `NotBranches` and
+/// `BranchesDimension`.
 pub fn judge_bound(
     alloc: Global,
     by: Certificate,

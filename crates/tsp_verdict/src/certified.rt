@@ -50,8 +50,8 @@ pub fn judge_certified(
     Ok(judge_with_claim(alloc, by, instance, solution, certificate, None)?)
 }
 
-/// The verdict of [`judge_certified`], where a length may be claimed: another one than the tour's is
-/// refused before a reason against the certificate.
+/// The verdict of [`judge_certified`], where a length may be claimed: another one than the tour's
+/// is refused before a reason against the certificate.
 pub(crate) fn judge_with_claim(
     alloc: Global,
     by: Certificate,
@@ -150,8 +150,8 @@ pub fn is_bounded(by: Certificate, kind: Kind) -> bool
     }
 }
 
-/// The bound that a certificate gives, or that the instance has no tour; or the first reason against
-/// it. Of duals no memory is taken.
+/// The bound that a certificate gives, or that the instance has no tour; or the first reason
+/// against it. Of duals no memory is taken.
 ///
 /// # Errors
 ///

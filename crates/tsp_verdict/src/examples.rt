@@ -174,8 +174,8 @@ pub fn examples_of_plans()
     ensures nothing { IsLeast (pos 0) (pos 8) 0 }
 {}
 
-/// What is known out of memory: no reason applies that is found without it. The last of those before the
-/// first one that needs memory is named, and one before it.
+/// What is known out of memory: no reason applies that is found without it. The last of those
+/// before the first one that needs memory is named, and one before it.
 pub fn examples_of_reasons_before_memory()
     ensures length { (inst sol : Fields) → StandsAgainstTour inst sol reasons.TourLength → ¬ NoneOfTourBeforeRepeats inst sol }
     ensures range { (inst sol : Fields) (place : ℕ) → StandsAgainstTour inst sol (reasons.NodeOutOfRange place)

@@ -1,5 +1,5 @@
-//! The verdict on a solution, with a certificate of a bound where there is one, and with a length that is
-//! claimed, where one is.
+//! The verdict on a solution, with a certificate of a bound where there is one, and with a length
+//! that is claimed, where one is.
 
 ghost use Rattle.std.specs.Prelude.{◌≡◌, IsTrue, None, true, false, MatchOption, MatchResult, option_map};
 ghost use Rattle.tsp_verdict.specs.Judged.{is_judged, IsVerdictOn, NoneBeforeRepeatsOn, HasLength, HasNoLength, IsAsClaimed, IsOtherClaimed, IsVerdictWith};
@@ -17,9 +17,9 @@ use tsp_reason::{Certificate, Reason, Verdict};
 
 /// The verdict on a solution of an instance: on a tour, or for TYPE CVRP on routes.
 ///
-/// The reasons of [`judge_tour`] or of [`judge_routes`] are judged first. Then a length that is claimed
-/// has to be that of the solution, and is refused with `LengthClaimed` where it isn't. The reasons
-/// against a certificate are judged last.
+/// The reasons of [`judge_tour`] or of [`judge_routes`] are judged first. Then a length that is
+/// claimed has to be that of the solution, and is refused with `LengthClaimed` where it isn't. The
+/// reasons against a certificate are judged last.
 ///
 /// # Requires
 ///

@@ -90,8 +90,8 @@ pub(crate) fn verdict_on_routes(
     })
 }
 
-/// The only depot of an instance and the routes of a solution, or the first reason that needs no look at
-/// the routes.
+/// The only depot of an instance and the routes of a solution, or the first reason that needs no
+/// look at the routes.
 fn the_depot<'a>(
     inst: &Instance,
     routing: &RoutingData<'_>,

@@ -84,7 +84,8 @@ pub(crate) enum TourCosts<'a> {
     Directed(View<'a>),
 }
 
-/// The length of a solution's one tour and the costs of the instance, or the first reason against it.
+/// The length of a solution's one tour and the costs of the instance, or the first reason against
+/// it.
 pub(crate) fn length_of_tour<'a>(
     alloc: Global,
     inst: &'a Instance,
@@ -105,8 +106,8 @@ pub(crate) fn length_of_tour<'a>(
     }
 }
 
-/// The length of a solution's one tour, or the first reason against it, where none applies that needs
-/// no look at the tours.
+/// The length of a solution's one tour, or the first reason against it, where none applies that
+/// needs no look at the tours.
 pub(crate) fn length_after_files(
     alloc: Global,
     inst: &Instance,
@@ -139,8 +140,8 @@ pub(crate) fn length_after_files(
     Ok(Ok(tour_length(inst, tour)))
 }
 
-/// The one tour of a solution, with as many nodes as the instance, or the first reason against it that
-/// is judged before its nodes are looked at.
+/// The one tour of a solution, with as many nodes as the instance, or the first reason against it
+/// that is judged before its nodes are looked at.
 fn the_tour<'a>(inst: &Instance, sol: &File, tours: &'a [Vec<u32>]) -> Result<&'a [u32], Reason>
     requires tours { AreToursOf sol.now tours.now }
     requires before { NoneOfTourUpTo inst.now sol.now (rank_of TourCount) }
@@ -158,8 +159,8 @@ fn the_tour<'a>(inst: &Instance, sol: &File, tours: &'a [Vec<u32>]) -> Result<&'
     Ok(tour.as_slice())
 }
 
-/// The tours of a solution and the costs of an instance, or the first reason that needs no look at the
-/// tours.
+/// The tours of a solution and the costs of an instance, or the first reason that needs no look at
+/// the tours.
 fn first_against_files<'a, 'b>(
     inst: &'a Instance,
     sol: &'b File,

@@ -26,12 +26,13 @@ use tsp_file::{File, TreeData};
 use tsp_memory::Refused;
 use tsp_reason::{BoundVerdict, Reason};
 
-/// The bound that a certificate by branching gives an instance of TYPE TSP or ATSP, or that it has no
-/// tour; or the first reason against the certificate.
+/// The bound that a certificate by branching gives an instance of TYPE TSP or ATSP, or that it has
+/// no tour; or the first reason against the certificate.
 ///
 /// # Errors
 ///
-/// Out of memory, and then neither `NotBranches` nor `BranchesDimension` applies to the certificate.
+/// Out of memory, and then neither `NotBranches` nor `BranchesDimension` applies to the
+/// certificate.
 pub(crate) fn bound_of_tree(
     alloc: Global,
     instance: &Instance,
@@ -72,8 +73,8 @@ fn tree_of<'a>(instance: &Instance, branches: &'a File) -> Result<TreeData<'a>, 
     Ok(tree)
 }
 
-/// The bound over the costs of a view, or the first reason against the families, the branches or the
-/// leaves.
+/// The bound over the costs of a view, or the first reason against the families, the branches or
+/// the leaves.
 ///
 /// # Errors
 ///

@@ -49,8 +49,8 @@ impl Reading {
     ///
     /// # Requires
     ///
-    /// Lines and words that it was read from: the fields of such are valid, so that they aren't judged
-    /// again.
+    /// Lines and words that it was read from: the fields of such are valid, so that they aren't
+    /// judged again.
     pub(crate) fn finish(mut self, alloc: Global) -> Result<File, FinishFault>
         requires { IsReadFrom self }
         ensures file { (earlier : List Item) → Holds self earlier → AreCut earlier

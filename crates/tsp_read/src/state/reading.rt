@@ -90,7 +90,8 @@ impl Reading {
         }
     }
 
-    /// The fields of what was read, and the first section that is incomplete, of those that are closed.
+    /// The fields of what was read, and the first section that is incomplete, of those that are
+    /// closed.
     pub(crate) fn into_draft(self) -> (Draft, Option<Field>)
         ensures { result ≡ (self.draft, self.incomplete) }
     {

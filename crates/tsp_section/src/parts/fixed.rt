@@ -39,8 +39,8 @@ impl FixedList {
     ///
     /// # Errors
     ///
-    /// - `Fault`: the word is no node, and no -1 where the list may end (`Number`), the pair is of a
-    ///   node and itself (`SelfEdge`), there are as many pairs as a file may have (`Surplus`), or
+    /// - `Fault`: the word is no node, and no -1 where the list may end (`Number`), the pair is of
+    ///   a node and itself (`SelfEdge`), there are as many pairs as a file may have (`Surplus`), or
     ///   the list has ended (`AfterEnd`).
     /// - `Memory`: memory was refused.
     ///

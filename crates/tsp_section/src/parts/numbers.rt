@@ -55,8 +55,8 @@ impl NumberList {
     /// # Errors
     ///
     /// `Fault`: the word is no node, or no number from `low` to `high` (`Number`), the node has a
-    /// group (`RepeatedNode`), or every node has one (`Surplus`). The list has the words from before
-    /// then. No memory is taken.
+    /// group (`RepeatedNode`), or every node has one (`Surplus`). The list has the words from
+    /// before then. No memory is taken.
     pub fn push(&mut self, word: &[u8]) -> Result<(), StepFault>
         ensures takes { (low high : ℤ) (n : ℕ) (words : List (List ℕ))
             → HoldsNumbers self.old low high n words
@@ -94,7 +94,7 @@ impl NumberList {
     }
 
     /// Takes the number of a word that was read, where a group can begin with it or end with it.
-    /// The answer is whether it was taken.
+    /// Returns whether it was taken.
     #[inline(always)]
     pub fn push_read(&mut self, number: i64) -> bool
         ensures taken { result ≡ true → (low high : ℤ) (n : ℕ) (words : List (List ℕ)) (word : List ℕ)

@@ -62,7 +62,8 @@ impl PointList {
     ghost use Rattle.tsp_text.specs.Rows.{word_fault};
     ghost use Rattle.tsp_section.specs.states.Held.{shape_of_points, HoldsPoints};
 
-    /// The section with no words so far, in a file of `n` nodes, of points of the plane or in space.
+    /// The section with no words so far, in a file of `n` nodes, of points of the plane or in
+    /// space.
     ///
     /// # Errors
     ///
@@ -85,8 +86,8 @@ impl PointList {
     /// # Errors
     ///
     /// `Fault`: the word is no node, or no coordinate (`Number`), the node has a group
-    /// (`RepeatedNode`), or every node has one (`Surplus`). The list has the words from before then.
-    /// No memory is taken.
+    /// (`RepeatedNode`), or every node has one (`Surplus`). The list has the words from before
+    /// then. No memory is taken.
     pub fn push(&mut self, word: &[u8]) -> Result<(), StepFault>
         ensures takes { (in_space : Bool) (n : ℕ) (words : List (List ℕ)) → HoldsPoints self.old in_space n words
             → Takes n (place_by (shape_of_points in_space) n words) word.now
@@ -165,7 +166,7 @@ impl PointList {
         self.begun.is_some()
     }
 
-    /// Takes the number of a word that was read, where a group can begin with it. The answer is
+    /// Takes the number of a word that was read, where a group can begin with it. Returns
     /// whether it was taken.
     #[inline(always)]
     pub fn push_read(&mut self, number: i64) -> bool
@@ -191,7 +192,7 @@ impl PointList {
         }
     }
 
-    /// Takes the coordinate of a word that was read, where a group has begun. The answer is whether
+    /// Takes the coordinate of a word that was read, where a group has begun. Returns whether
     /// it was taken.
     #[inline(always)]
     pub fn push_coordinate(&mut self, coordinate: Decimal) -> bool

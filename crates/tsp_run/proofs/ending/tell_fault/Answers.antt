@@ -1,4 +1,4 @@
--- What was written into the buffer is the text and its end.
+-- The buffer holds the text and its end.
 use Rattle.std.proofs.Common.{◌≡◌, ◌∙◌, ap, subst, ℕ, List, [], ◌∷◌, ◌++◌}
 use Rattle.std.specs.Prelude.{OnOk}
 use Rattle.std.specs.Io.KnownBytes.{Appends}

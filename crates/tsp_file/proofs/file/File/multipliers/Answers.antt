@@ -1,4 +1,4 @@
--- The goals of `File::multipliers` in src/file.rt: what it ensures.
+-- The goals of `File::multipliers` in src/typed.rt: what it ensures.
 use Rattle.std.proofs.Common.{◌≡◌, Some, sym, ap, ◌∙◌}
 use Rattle.std.specs.Option.{option_map}
 use Rattle.tsp_draft.specs.Fields.{Fields}

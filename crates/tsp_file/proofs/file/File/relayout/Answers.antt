@@ -1,4 +1,4 @@
--- The goals of `File::relayout` in src/file.rt: what it ensures.
+-- The goals of `File::relayout` in src/relayout.rt: what it ensures.
 use Rattle.std.proofs.Common.{subst, ap, sym, ◌∙◌}
 use Rattle.tsp_draft.specs.Fields.{Fields}
 use Rattle.tsp_file.specs.Cost.{cost}
