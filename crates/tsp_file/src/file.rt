@@ -129,9 +129,8 @@ impl File {
         requires half { from ≢ FullMatrix }
         requires format { self.weight_format ≡ Some (Listed from) }
         requires can_go { CanGo self FullMatrix }
-        ensures { MatchResult result
-            (λ file. file ≡ with_weights self FullMatrix (costs_in FullMatrix (nodes_of self) (cost self)))
-            (λ back. back ≡ self) }
+        ensures { MatchResult result (λ file. file ≡ with_weights self FullMatrix
+            (costs_in FullMatrix (nodes_of self) (cost self))) (λ back. back ≡ self) }
     {
         let File { mut draft } = self;
         let nodes = draft.dimension.unwrap();

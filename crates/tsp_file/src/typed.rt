@@ -146,8 +146,8 @@ impl File {
 
     /// What a file of TYPE BRANCHES holds; none of every other file.
     pub fn as_tree(&self) -> Option<TreeData<'_>>
-        ensures { MatchOption result (self.now.kind ≢ Some kinds.Branches)
-            (λ held. HoldsCases self.now held.scale (combs_of held.combs.now) (steps_of held.steps.now)) }
+        ensures { MatchOption result (self.now.kind ≢ Some kinds.Branches) (λ held. HoldsCases
+            self.now held.scale (combs_of held.combs.now) (steps_of held.steps.now)) }
     {
         let Some(Kind::Branches) = self.fields().kind else {
             return None;

@@ -102,7 +102,8 @@ fn signed(negative: bool, size: u64) -> i64
 /// full; one that goes on is for [`parse_whole`](crate::parse_whole).
 #[inline(always)]
 pub fn front_whole(bytes: &[u8]) -> Option<(i64, usize)>
-    ensures number { IfSome result (λ found. BeginsWithNumber bytes.now found.1 (found.0 *ℤ pos unit)) }
+    ensures number { IfSome result
+        (λ found. BeginsWithNumber bytes.now found.1 (found.0 *ℤ pos unit)) }
     ensures end { option_map (λ found. found.1) result ≡ whole_end bytes.now }
 {
     let (negative, sign) = front_sign(bytes);
@@ -121,7 +122,8 @@ pub fn front_whole(bytes: &[u8]) -> Option<(i64, usize)>
 /// [`front_whole`].
 #[inline(always)]
 pub fn front_few(bytes: &[u8]) -> Option<(i64, usize)>
-    ensures number { IfSome result (λ found. BeginsWithNumber bytes.now found.1 (found.0 *ℤ pos unit)) }
+    ensures number { IfSome result
+        (λ found. BeginsWithNumber bytes.now found.1 (found.0 *ℤ pos unit)) }
     ensures within { IfSome result (λ found. found.1 < length bytes.now) }
     ensures end { option_map (λ found. found.1) result ≡ few_end bytes.now }
 {

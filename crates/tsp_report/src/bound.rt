@@ -24,7 +24,8 @@ pub fn write_bound<W: Write>(
     found: BoundVerdict,
     out: &mut Watched<W>,
 ) -> Result<(), WriteFault>
-    ensures { Writes (sink_of W.contents out.old out.new) (bound_report_of instance.now found) result }
+    ensures { Writes (sink_of W.contents out.old out.new)
+        (bound_report_of instance.now found) result }
 {
     if out.failed() {
         return Err(WriteFault::Device);

@@ -156,7 +156,8 @@ fn put_gap_words<W: Write>(piece: &mut Piece, out: &mut Watched<W>, gap: i128)
 
 /// Adds a path, and the end of its line.
 fn put_path<W: Write>(piece: &mut Piece, out: &mut Watched<W>, path: &[u8])
-    ensures { Puts W.contents out.old piece.old out.new piece.new (codes " " ++ path.now ++ codes "\n") }
+    ensures { Puts W.contents out.old piece.old out.new piece.new
+        (codes " " ++ path.now ++ codes "\n") }
 {
     put(piece, out, b" ");
     put(piece, out, path);

@@ -88,7 +88,8 @@ pub(crate) fn put_others<W: Write>(
 
 /// Adds the line of an unknown keyword.
 fn put_other<W: Write>(piece: &mut Piece, out: &mut Watched<W>, keyword: &[u8])
-    ensures { Puts W.contents out.old piece.old out.new piece.new (codes "not judged " ++ keyword.now ++ codes "\n") }
+    ensures { Puts W.contents out.old piece.old out.new piece.new
+        (codes "not judged " ++ keyword.now ++ codes "\n") }
 {
     put(piece, out, b"not judged ");
     put(piece, out, keyword);

@@ -14,7 +14,7 @@ ghost use Rattle.tsp_text.specs.ByNode.{is_by_node_field, group_nodes, HasEachNo
 /// node.
 pub fn each_node_has_one_group()
     ensures { (items : List Item) (field : Field)
-        → IsClean items → is_by_node_field field ≡ true
-        → has_line field items ≡ true → is_incomplete items field ≡ false
-        → HasEachNodeOnce (dimension_in items) (group_nodes (spatial_after items) field (dimension_in items) (words_of field items)) }
+        → IsClean items → is_by_node_field field ≡ true → has_line field items ≡ true
+        → is_incomplete items field ≡ false → HasEachNodeOnce (dimension_in items)
+        (group_nodes (spatial_after items) field (dimension_in items) (words_of field items)) }
 {}

@@ -49,11 +49,11 @@ pub fn judge_basis(
     instance: &Instance,
     certificate: Option<(Certificate, &File)>,
 ) -> Result<Basis, AllocError>
-    requires { IsTrue (is_judged (option_map (λ given. (given.0, given.1.now)) certificate) instance.now.kind) }
-    ensures { MatchResult result
-        (λ basis. IsBasis (option_map (λ given. (given.0, given.1.now)) certificate.entry) instance.now basis)
-        (λ refused. NoneOfBasisWithoutMemory (option_map (λ given. (given.0, given.1.now)) certificate.entry)
-        instance.now) }
+    requires { IsTrue
+        (is_judged (option_map (λ given. (given.0, given.1.now)) certificate) instance.now.kind) }
+    ensures { MatchResult result (λ basis. IsBasis (option_map (λ given. (given.0, given.1.now))
+        certificate.entry) instance.now basis) (λ refused. NoneOfBasisWithoutMemory
+        (option_map (λ given. (given.0, given.1.now)) certificate.entry) instance.now) }
 {
     match certificate {
         None => Ok(basis_alone(instance)),
@@ -117,8 +117,8 @@ fn first_against_routing(inst: &Instance, routing: &RoutingData<'_>) -> Option<R
 /// What [`judge_basis`] finds of an instance with a certificate, by what [`judge_bound`] has found
 /// of the two.
 pub fn basis_of(found: BoundVerdict) -> Basis
-    ensures { (by : Certificate) (instance certificate : Fields) → IsBoundVerdict by instance certificate found
-        → IsBasisBy by instance certificate result }
+    ensures { (by : Certificate) (instance certificate : Fields)
+        → IsBoundVerdict by instance certificate found → IsBasisBy by instance certificate result }
 {
     match found {
         BoundVerdict::Bound(bound) => Basis::Tours { bound: Some(bound) },

@@ -61,8 +61,8 @@ pub(crate) fn judge_with_claim(
     claimed: Option<i64>,
 ) -> Result<Verdict, Refused>
     requires { IsTrue (is_bounded by instance.now.kind) }
-    ensures { MatchResult result
-        (λ verdict. IsVerdictWith (Some (by, certificate.now)) claimed instance.now solution.now verdict)
+    ensures { MatchResult result (λ verdict. IsVerdictWith
+        (Some (by, certificate.now)) claimed instance.now solution.now verdict)
         (λ refused. NoneOfTourBeforeRepeats instance.now solution.now) }
 {
     let (length, costs) = match length_of_tour(alloc, instance, solution)? {
@@ -134,8 +134,8 @@ pub fn judge_tour_branches(
 ) -> Result<Verdict, AllocError>
     requires { (instance.now.kind ≡ Some kinds.Tsp) ⊎ (instance.now.kind ≡ Some kinds.Atsp) }
     ensures { MatchResult result
-        (λ verdict. IsCertifiedVerdict certificates.Branches instance.now solution.now branches.now verdict)
-        (λ refused. NoneOfTourBeforeRepeats instance.now solution.now) }
+        (λ verdict. IsCertifiedVerdict certificates.Branches instance.now solution.now
+        branches.now verdict) (λ refused. NoneOfTourBeforeRepeats instance.now solution.now) }
 {
     judge_certified(alloc, Certificate::Branches, instance, solution, branches)
 }
@@ -169,7 +169,8 @@ pub(crate) fn bound_of(
     requires even { IsSymmetricTsp instance.now }
     ensures found { IfOk result (λ found. FindsBound by instance.now certificate.now found) }
     ensures refused { IsErr result → NoneWithoutMemory by instance.now certificate.now }
-    ensures memory { by ≡ certificates.Potentials → instance.now.kind ≡ Some kinds.Atsp → IsOk result }
+    ensures memory { by ≡ certificates.Potentials
+        → instance.now.kind ≡ Some kinds.Atsp → IsOk result }
 {
     match (by, costs) {
         (Certificate::Potentials, TourCosts::Undirected(view)) => {

@@ -101,11 +101,10 @@ fn the_depot<'a>(
     requires each { length routing.now.demands.now ≡ nodes_of inst.now }
     requires depots { routing.now.depots.now ≡ depots_of inst.now }
     requires each_depot { All (IsNode (nodes_of inst.now)) routing.now.depots.now }
-    ensures { MatchResult result
-        (λ found. (found.0 ≡ depot_of inst.now) × IsNode (nodes_of inst.now) found.0
-        × (demand_of (demands_of inst.now) found.0 ≡ pos 0) × NoneOfRoutesBeforePlaces inst.now sol.now
-        × AreToursOf sol.now found.1.now)
-        (λ reason. IsFirstAgainstRoutes inst.now sol.now reason) }
+    ensures { MatchResult result (λ found. (found.0 ≡ depot_of inst.now)
+        × IsNode (nodes_of inst.now) found.0 × (demand_of (demands_of inst.now) found.0 ≡ pos 0)
+        × NoneOfRoutesBeforePlaces inst.now sol.now
+        × AreToursOf sol.now found.1.now) (λ reason. IsFirstAgainstRoutes inst.now sol.now reason) }
 {
     let routes = match first_against_files(inst, sol) {
         Ok(routes) => routes,
@@ -125,8 +124,8 @@ fn the_depot<'a>(
 
 /// The routes of a solution, or the first reason that needs no look at the depot.
 fn first_against_files<'a>(inst: &Instance, sol: &'a File) -> Result<&'a [Vec<u32>], Reason>
-    ensures { MatchResult result
-        (λ routes. AreToursOf sol.now routes.now × NoneOfRoutesUpTo inst.now sol.now (rank_of DepotCount))
+    ensures { MatchResult result (λ routes. AreToursOf sol.now routes.now
+        × NoneOfRoutesUpTo inst.now sol.now (rank_of DepotCount))
         (λ reason. IsFirstAgainstRoutes inst.now sol.now reason) }
 {
     let nodes = inst.count();

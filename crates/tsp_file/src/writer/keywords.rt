@@ -13,7 +13,8 @@ use tsp_stream::{Piece, Watched, put};
 
 /// Adds the line of a keyword and its value.
 fn put_value<W: Write>(piece: &mut Piece, out: &mut Watched<W>, keyword: &[u8], value: &[u8])
-    ensures { Puts W.contents out.old piece.old out.new piece.new (value_line keyword.now value.now) }
+    ensures { Puts W.contents out.old piece.old out.new piece.new
+        (value_line keyword.now value.now) }
 {
     put(piece, out, keyword);
     put(piece, out, b" :");

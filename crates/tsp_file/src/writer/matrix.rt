@@ -50,8 +50,8 @@ fn put_lines<W: Write>(
     nodes: u32,
     weights: &[i64],
 )
-    ensures { Puts W.contents out.old piece.old out.new piece.new
-        (matrix_lines (map (λ k. length (cells_of_line layout nodes k)) (nodes_to nodes)) weights.now) }
+    ensures { Puts W.contents out.old piece.old out.new piece.new (matrix_lines
+        (map (λ k. length (cells_of_line layout nodes k)) (nodes_to nodes)) weights.now) }
 {
     let mut rest = weights;
     'lines: for index in 0..nodes {
@@ -100,8 +100,8 @@ pub(crate) fn put_weight_section<W: Write>(
     weights: &Option<Vec<i64>>,
 )
     ensures { Puts W.contents out.old piece.old out.new piece.new
-        (optional (λ weights. section_text field (matrix_lines (line_lens format dimension) weights))
-        (option_map (λ v. v.items) weights.now)) }
+        (optional (λ weights. section_text field (matrix_lines (line_lens format dimension)
+        weights)) (option_map (λ v. v.items) weights.now)) }
 {
     if let Some(weights) = weights {
         put_opening(piece, out, field);

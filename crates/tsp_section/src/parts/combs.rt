@@ -58,8 +58,8 @@ impl CombList {
         ensures takes { (n : ℕ) (words : List (List ℕ)) → HoldsCombs self.old n words
             → Takes n (place_of_comb n words) word.now
             (HoldsCombs self.new n (words ++ word.now ∷ [])) result }
-        ensures kept { IfErr result (λ _. (n : ℕ) (words : List (List ℕ)) → HoldsCombs self.old n words
-            → HoldsCombs self.new n words) }
+        ensures kept { IfErr result (λ _. (n : ℕ) (words : List (List ℕ))
+            → HoldsCombs self.old n words → HoldsCombs self.new n words) }
     {
         if self.ended {
             if is_minus_one(word) {

@@ -45,8 +45,8 @@ impl DepotList {
         ensures takes { (n : ℕ) (words : List (List ℕ)) → HoldsDepots self.old n words
             → Takes n (place_of_depot n words) word.now
             (HoldsDepots self.new n (words ++ word.now ∷ [])) result }
-        ensures kept { IfErr result (λ _. (n : ℕ) (words : List (List ℕ)) → HoldsDepots self.old n words
-            → HoldsDepots self.new n words) }
+        ensures kept { IfErr result (λ _. (n : ℕ) (words : List (List ℕ))
+            → HoldsDepots self.old n words → HoldsDepots self.new n words) }
     {
         if self.ended {
             if is_minus_one(word) {

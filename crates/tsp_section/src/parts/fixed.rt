@@ -49,8 +49,8 @@ impl FixedList {
         ensures takes { (n : ℕ) (words : List (List ℕ)) → HoldsFixed self.old n words
             → Takes n (place_of_fixed n words) word.now
             (HoldsFixed self.new n (words ++ word.now ∷ [])) result }
-        ensures kept { IfErr result (λ _. (n : ℕ) (words : List (List ℕ)) → HoldsFixed self.old n words
-            → HoldsFixed self.new n words) }
+        ensures kept { IfErr result (λ _. (n : ℕ) (words : List (List ℕ))
+            → HoldsFixed self.old n words → HoldsFixed self.new n words) }
     {
         if self.ended {
             if is_minus_one(word) {
@@ -70,8 +70,8 @@ impl FixedList {
             → self.old.ended ≡ false → self.old.first ≡ None
             → Takes n (place_of_fixed n words) word.now
             (HoldsFixed self.new n (words ++ word.now ∷ [])) result }
-        ensures kept { IfErr result (λ _. (n : ℕ) (words : List (List ℕ)) → HoldsFixed self.old n words
-            → HoldsFixed self.new n words) }
+        ensures kept { IfErr result (λ _. (n : ℕ) (words : List (List ℕ))
+            → HoldsFixed self.old n words → HoldsFixed self.new n words) }
     {
         match read_node_or_end(word, self.n) {
             Err(fault) => Err(StepFault::Fault(LineFault::Number(fault))),
@@ -95,8 +95,8 @@ impl FixedList {
             → self.old.ended ≡ false → self.old.first ≡ Some first
             → Takes n (place_of_fixed n words) word.now
             (HoldsFixed self.new n (words ++ word.now ∷ [])) result }
-        ensures kept { IfErr result (λ _. (n : ℕ) (words : List (List ℕ)) → HoldsFixed self.old n words
-            → HoldsFixed self.new n words) }
+        ensures kept { IfErr result (λ _. (n : ℕ) (words : List (List ℕ))
+            → HoldsFixed self.old n words → HoldsFixed self.new n words) }
     {
         match read_node(word, self.n) {
             Err(fault) => Err(StepFault::Fault(LineFault::Number(fault))),

@@ -75,8 +75,8 @@ impl TourList {
     #[inline(always)]
     pub fn push_read(&mut self, number: i64) -> bool
         ensures taken { result ≡ true → (n : ℕ) (words : List (List ℕ)) (word : List ℕ)
-            → IsWhole word number → HoldsTours self.old words
-            → Takes n (place_of_tour words) word (HoldsTours self.new (words ++ word ∷ [])) (Ok tt) }
+            → IsWhole word number → HoldsTours self.old words → Takes n
+            (place_of_tour words) word (HoldsTours self.new (words ++ word ∷ [])) (Ok tt) }
         ensures kept { result ≡ false → (words : List (List ℕ)) → HoldsTours self.old words
             → HoldsTours self.new words }
     {

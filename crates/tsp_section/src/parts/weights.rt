@@ -46,8 +46,8 @@ impl WeightList {
         ensures takes { (n : ℕ) (words : List (List ℕ)) → HoldsWeights self.old n words
             → Takes n (place_of_weight n words) word.now
             (HoldsWeights self.new n (words ++ word.now ∷ [])) result }
-        ensures kept { IfErr result (λ _. (n : ℕ) (words : List (List ℕ)) → HoldsWeights self.old n words
-            → HoldsWeights self.new n words) }
+        ensures kept { IfErr result (λ _. (n : ℕ) (words : List (List ℕ))
+            → HoldsWeights self.old n words → HoldsWeights self.new n words) }
     {
         if self.weights.len() >= self.most {
             return Err(StepFault::Fault(LineFault::Surplus));
