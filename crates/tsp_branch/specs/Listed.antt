@@ -12,7 +12,7 @@ use Rattle.tsp_branch.specs.declared.decision.Decision.{Decision}
 use Rattle.tsp_branch.specs.Decisions.{DecideOnce, decided_number}
 use Rattle.tsp_branch.specs.Cases.{LeafNumbers, CaseStep, Branch, Leaf, are_trees, leaves_of, cases_of}
 use Rattle.tsp_branch.specs.Certificate.{IsCertificate, IsCertificateBound, BoundsIfAny}
-use Rattle.tsp_branch.specs.Judged.{AreGoodNumbers}
+use Rattle.tsp_branch.specs.GoodNumbers.{AreGoodNumbers}
 
 -- ---- the numbers of a leaf
 

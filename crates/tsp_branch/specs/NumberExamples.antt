@@ -4,7 +4,7 @@ use Rattle.std.specs.Prelude.{ℕ, ◌*◌, List, [], ◌∷◌, ℤ, pos, negsu
 use Rattle.tsp_format.specs.Steps as listed
 use Rattle.tsp_families.specs.declared.family.Crossings.{Crossings}
 use Rattle.tsp_branch.specs.Cases.{LeafNumbers, CaseStep, Branch, Leaf}
-use Rattle.tsp_branch.specs.Judged.{as_leaf_numbers}
+use Rattle.tsp_branch.specs.GoodNumbers.{as_leaf_numbers}
 
 -- three potentials
 abbrev pub potentials_of_three : ℤ → ℤ → ℤ → List ℤ

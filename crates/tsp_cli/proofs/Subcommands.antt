@@ -15,7 +15,7 @@ use Rattle.clap.specs.declared.parser.matches.SubCommand.{SubCommand}
 use Rattle.clap.specs.declared.parser.matches.ArgMatches.TheViews.{out-SubCommand}
 use Rattle.clap.proofs.WalkLemmas.{walk_stopped}
 use Rattle.tsp_cli.specs.Grammar.{tsp}
-use Rattle.tsp_cli.specs.Words.{IsVerbOf, word_of}
+use Rattle.tsp_cli.specs.CommandWords.{IsVerbOf, word_of}
 use Rattle.tsp_cli.specs.declared.words.Verb.{Verb}
 use Rattle.tsp_cli.specs.declared.words.Verb.TheVariants.{Show, Convert, Check, Compare, Bound}
 

@@ -4,7 +4,7 @@ ghost use Rattle.std.specs.Prelude.{◌≡◌, ◌≢◌, ◌↔◌, IfOk, IsTru
 ghost use Rattle.std.specs.IoError.{error_kind};
 ghost use Rattle.std.specs.String.{string_bytes};
 ghost use Rattle.clap.specs.Words.{first_of, found_of, kind_of, rows_of};
-ghost use Rattle.tsp_cli.specs.Words.{GivesJob, IsFaultOf, IsOtherRefusal, IsVerbOf, HasValues, text_in, values_of};
+ghost use Rattle.tsp_cli.specs.CommandWords.{GivesJob, IsFaultOf, IsOtherRefusal, IsVerbOf, HasValues, text_in, values_of};
 
 use crate::grammar;
 use clap::error::ErrorKind;

@@ -23,13 +23,13 @@ use Rattle.tsp_draft.specs.Valid.{IsInRange, HasInstance, HasRouting}
 use Rattle.tsp_file.specs.ByInequalities.{IsDistanceBy}
 use Rattle.tsp_file.specs.Cost.{cost, cost_by, listed_cost, point_of, layout_of}
 use Rattle.tsp_file.specs.Meant.{nodes_of}
-use Rattle.tsp_file.specs.Listed.{UnlistedHaveNoPlace}
+use Rattle.tsp_file.specs.ListedWeights.{UnlistedHaveNoPlace}
 use Rattle.tsp_file.proofs.Listed.{lists, cost_of_listed, cost_of_cell, cost_unlisted, triangle_even, unlisted_has_no_place}
 use Rattle.tsp_theory.specs.Routing.{RoutingProblem}
 use Rattle.tsp_theory.specs.Tour.{Problem}
 use Rattle.tsp_cost.specs.Problems.{CostsAreListed, CostsAreDistances, IsProblemOf, IsRoutingOf}
 use Rattle.tsp_cost.specs.ProblemLaws.{IsProblem, HaveSameCosts, AreSame, AreSameRouting}
-use Rattle.tsp_cost.specs.Tours.{is_directed, problem_of, routing_of, depots_of}
+use Rattle.tsp_cost.specs.ComputedProblems.{is_directed, problem_of, routing_of, depots_of}
 use Rattle.tsp_cost.proofs.Instances.{distance_kind, is_listed_kind}
 
 -- what the law of the costs says

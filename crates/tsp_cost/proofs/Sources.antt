@@ -10,7 +10,7 @@ use Rattle.tsp_draft.specs.Fields.{Fields}
 use Rattle.tsp_draft.specs.Rules.{is_explicit}
 use Rattle.tsp_draft.specs.Valid.{IsPairOf, AreFixed}
 use Rattle.tsp_file.specs.Cost.{listed_cost, distance, point_of, cost}
-use Rattle.tsp_file.specs.Listed.{ListsWeights}
+use Rattle.tsp_file.specs.ListedWeights.{ListsWeights}
 use Rattle.tsp_file.specs.Meant.{nodes_of}
 use Rattle.tsp_file.proofs.Listed.{lists, cost_of_listed}
 use Rattle.tsp_cost.specs.declared.metric.Metric.{Metric}

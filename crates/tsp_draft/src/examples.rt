@@ -8,7 +8,7 @@ ghost use Rattle.tsp_draft.specs.declared.fault.EndFault.TheVariants as ends;
 ghost use Rattle.tsp_draft.specs.declared.fault.DraftFault.TheVariants as drafts;
 ghost use Rattle.tsp_draft.specs.Fields.{blank_fields};
 ghost use Rattle.tsp_draft.specs.Validity.{is_kept, are_comments, are_others, is_within, is_third, is_demand, is_node, is_node_pair, are_weights, are_depots, are_fixed, is_triple, are_triples, is_tour, is_set, is_comb, is_change};
-ghost use Rattle.tsp_draft.specs.FaultText.{end_fault_text, draft_fault_text};
+ghost use Rattle.tsp_draft.specs.DraftFaultText.{end_fault_text, draft_fault_text};
 ghost use Rattle.tsp_draft.specs.Rules.{fault_of, end_fault, standing_of};
 ghost use Rattle.tsp_draft.specs.Examples.{directed_matrix, plane, no_nodes, one_weight, bare_routes, routing_nodes, routing_listed, routing_full, routing_capacity, routing_weights, routing_demands, routing_depots, routing_plane, bare_tours, touring_weights, touring_whole, touring_function, touring_surplus, bare_potentials, with_node_numbers, with_column_numbers, with_row_numbers, with_both_numbers, with_all_numbers, with_both_and_pairs, with_all_and_weights, bare_tree};
 

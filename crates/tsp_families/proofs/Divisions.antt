@@ -10,7 +10,7 @@ use Rattle.tsp_format.specs.Cells.{IsNode}
 use Rattle.tsp_theory.specs.Cycle.{IsCycle}
 use Rattle.tsp_theory.specs.Length.{length_of}
 use Rattle.tsp_families.specs.Crossed.{IsLeastLength, sets_crossed}
-use Rattle.tsp_families.specs.Parts.{between, IsDivision, DivisionsBoundCycles}
+use Rattle.tsp_families.specs.SetParts.{between, IsDivision, DivisionsBoundCycles}
 use Rattle.tsp_families.proofs.Lists.{Within}
 use Rattle.tsp_families.proofs.Walks.{shorter_cycle}
 use Rattle.tsp_families.proofs.PartWalks.{IsInPart, same_length, in_range, triangles, cycle_has}

@@ -16,7 +16,7 @@ use Rattle.tsp_format.specs.Cells.{IsNode}
 use Rattle.tsp_theory.specs.Length.{length_of}
 use Rattle.tsp_theory.proofs.Crossings.{one_if}
 use Rattle.tsp_families.specs.Crossed.{IsLeastLength, IsMostCost, has, sets_of, sets_crossed, AreAlike, HasUnlike, AreTooMany}
-use Rattle.tsp_families.specs.Parts.{ArePartsOf, between}
+use Rattle.tsp_families.specs.SetParts.{ArePartsOf, between}
 use Rattle.tsp_families.specs.Memberships.{membership, AreMemberships, IsNodePlace, AreDifferent, AreFirsts, MembershipsTellSets, IsLargest}
 use Rattle.tsp_families.specs.FamilySets.{lists_of}
 use Rattle.tsp_families.specs.declared.comb_set.CombSet.{CombSet}

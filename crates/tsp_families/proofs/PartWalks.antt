@@ -12,7 +12,7 @@ use Rattle.tsp_theory.specs.Cycle.{IsCycle}
 use Rattle.tsp_theory.specs.Length.{length_of}
 use Rattle.tsp_theory.proofs.Crossings.{one_if}
 use Rattle.tsp_families.specs.Crossed.{sets_crossed, AreAlike, AreUnlike}
-use Rattle.tsp_families.specs.Parts.{ArePartsOf, between, PartsBoundCycles, LeastLengthsAreUnique, MostCostsAreUnique, UnlikeNodesNeedParts}
+use Rattle.tsp_families.specs.SetParts.{ArePartsOf, between, PartsBoundCycles, LeastLengthsAreUnique, MostCostsAreUnique, UnlikeNodesNeedParts}
 use Rattle.tsp_families.specs.Paths.{AllApart}
 use Rattle.tsp_families.proofs.Lists.{Within, weaker, within_or_apart, no_more, run_has, apart_from_pairs}
 use Rattle.tsp_families.proofs.Walks.{length_to, shorter_cycle}

@@ -10,7 +10,7 @@ use Rattle.tsp_format.specs.Cells.{IsNode}
 use Rattle.tsp_theory.specs.Length.{length_of}
 use Rattle.tsp_theory.proofs.Crossings.{one_if}
 use Rattle.tsp_families.specs.Crossed.{IsLeastLength, sets_crossed, AreAlike}
-use Rattle.tsp_families.specs.Parts.{ArePartsOf, between, PartsTellCycles}
+use Rattle.tsp_families.specs.SetParts.{ArePartsOf, between, PartsTellCycles}
 use Rattle.tsp_families.specs.Paths.{AllApart}
 use Rattle.tsp_families.proofs.Lists.{Within, within_or_apart, apart_from_pairs, cycle_from}
 use Rattle.tsp_families.proofs.Walks.{length_to}

@@ -3,7 +3,7 @@
 ghost use Rattle.std.specs.Prelude.{◌≡◌, ◌≤◌, ◌<◌, ◌+◌, ◌-◌, ◌^◌, ◌↔◌, ℕ, List, IsTrue, MatchOption, IfOk, IfSome, length, slice_index};
 ghost use Rattle.std.specs.List.{All, Any};
 ghost use Rattle.tsp_families.specs.Crossed.{sets_of, HasUnlike};
-ghost use Rattle.tsp_families.specs.Parts.{ArePartsOf};
+ghost use Rattle.tsp_families.specs.SetParts.{ArePartsOf};
 ghost use Rattle.tsp_families.specs.Memberships.{AreMemberships, IsNodePlace, AreDifferent, AreFirsts};
 ghost use Rattle.tsp_families.specs.FamilySets.{AreSetsOf, lists_of};
 

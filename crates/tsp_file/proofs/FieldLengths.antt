@@ -23,7 +23,7 @@ use Rattle.tsp_format.specs.Words.{field_word, kind_word, weight_kind_word, weig
 use Rattle.tsp_draft.specs.Fields.{Fields, spatial, numbers_in, points_in}
 use Rattle.tsp_draft.specs.Validity.{if_there, with_dimension, is_kept, is_other, is_node, is_node_pair, is_triple, is_from_to, is_within, is_point, is_by_node, are_comments, are_others, are_depots, are_fixed, are_triples, are_weights, is_tour, are_tours, are_combs, are_steps, section_fits, fits}
 use Rattle.tsp_draft.specs.Rules.{fault_of}
-use Rattle.tsp_file.specs.Text.{line_end, keyword_line, other_line, number_line, section_text, lines_by_node, node_list, pair_list, triple_list, comb_list, step_lines, point_numbers, whole_number, line_lens, matrix_lines, optional, text_of_section, text_of_field, text_of}
+use Rattle.tsp_file.specs.CanonicalText.{line_end, keyword_line, other_line, number_line, section_text, lines_by_node, node_list, pair_list, triple_list, comb_list, step_lines, point_numbers, whole_number, line_lens, matrix_lines, optional, text_of_section, text_of_field, text_of}
 use Rattle.tsp_file.proofs.TextLengths.{within_abs, three_parts, positive_short, between_short, decimal_short, node_short, flat_short_of, by_node_short, pair_list_short, triple_list_short, node_list_short, tours_short, matrix_lines_short}
 use Rattle.tsp_file.proofs.TreeLengths.{combs_short, steps_short}
 use Rattle.tsp_file.proofs.KeywordLengths.{kept_short, other_short, keyword_short, keyword_line_short, kind_short, weight_kind_short, weight_format_short, coord_kind_short, display_kind_short}

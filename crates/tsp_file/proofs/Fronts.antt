@@ -16,7 +16,7 @@ use Rattle.tsp_draft.specs.Fields.{Fields}
 use Rattle.tsp_draft.specs.Valid.{IsWithin}
 use Rattle.tsp_draft.specs.Rules.{fault_of}
 use Rattle.tsp_file.specs.Cost.{listed_cost, cost}
-use Rattle.tsp_file.specs.Listed.{ListsWeights}
+use Rattle.tsp_file.specs.ListedWeights.{ListsWeights}
 use Rattle.tsp_file.specs.Relayout.{HoldsPairs, CanGo, with_weights, costs_in}
 use Rattle.tsp_file.specs.Meant.{nodes_of}
 use Rattle.tsp_file.specs.states.Halves.{line_start_of}

@@ -6,9 +6,9 @@ use Rattle.std.specs.List.{flat_map}
 use Rattle.std.specs.Fmt.{signed_decimal}
 use Rattle.tsp_format.specs.declared.field.Field.{Field}
 use Rattle.tsp_format.specs.Words.{field_word}
-use Rattle.tsp_stream.specs.states.Way.{Way, Carried}
+use Rattle.tsp_stream.specs.states.WriteProgress.{Way, Carried}
 use Rattle.tsp_stream.proofs.Carrying.{carried_none, carried_then}
-use Rattle.tsp_file.specs.Text.{blank_before, line_end, number_line, section_text, weight_line}
+use Rattle.tsp_file.specs.CanonicalText.{blank_before, line_end, number_line, section_text, weight_line}
 
 -- no value, and no blank before it
 pub no_value : (a b : Way) (value : List ℕ) → (length value == 0) ≡ true → Carried a b [] → Carried a b (blank_before value)

@@ -18,7 +18,7 @@ use Rattle.tsp_draft.specs.Fields.{Fields}
 use Rattle.tsp_draft.specs.Valid.{IsWithin, IsInRange}
 use Rattle.tsp_file.specs.Cost.{weight_at, listed_cost, cost_by, cost, layout_of}
 use Rattle.tsp_format.specs.Symmetry.{IsSymmetric}
-use Rattle.tsp_file.specs.Listed.{ListsWeights, UnlistedHaveNoPlace}
+use Rattle.tsp_file.specs.ListedWeights.{ListsWeights, UnlistedHaveNoPlace}
 
 -- the cost of a cell is the weight at its place
 pub cost_of_cell : (layout : Layout) (n : ℕ) (weights : List ℤ) (i j place : ℕ) → place_of layout n (i, j) ≡ Some place → listed_cost layout n weights i j ≡ slice_index_or weights place (pos 0)

@@ -7,8 +7,8 @@ use Rattle.std.proofs.lemmas.Bool.Decides.{nat_tests}
 use Rattle.std.proofs.lemmas.List.{take_min, drop_min, take-append-drop}
 use Rattle.std.proofs.lemmas.Grind.{flat_map-append}
 use Rattle.tsp_format.specs.Cells.{nodes_to}
-use Rattle.tsp_file.specs.Text.{weight_line, matrix_lines}
-use Rattle.tsp_stream.specs.states.Way.{Way, Carried}
+use Rattle.tsp_file.specs.CanonicalText.{weight_line, matrix_lines}
+use Rattle.tsp_stream.specs.states.WriteProgress.{Way, Carried}
 use Rattle.tsp_stream.proofs.Carrying.{carried_then, carried_none, carried_failed}
 
 -- a prefix of the whole was carried, and this rest is still to come

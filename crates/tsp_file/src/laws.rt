@@ -7,7 +7,7 @@ ghost use Rattle.tsp_draft.specs.Fields.{Fields};
 ghost use Rattle.tsp_draft.specs.Rules.{fault_of};
 ghost use Rattle.tsp_file.specs.ByInequalities.{IsDistanceBy};
 ghost use Rattle.tsp_file.specs.Cost.{cost, point_of};
-ghost use Rattle.tsp_file.specs.Text.{text_of};
+ghost use Rattle.tsp_file.specs.CanonicalText.{text_of};
 
 use tsp_distance::distance_laws;
 

@@ -5,8 +5,8 @@ ghost use Rattle.std.specs.Prelude.{◌≡◌, ◌++◌, [], codes, decimal};
 ghost use Rattle.tsp_format.specs.declared.field.Field.TheVariants as fields;
 ghost use Rattle.tsp_draft.specs.Fields.{blank_fields};
 ghost use Rattle.tsp_file.specs.declared.fault.RelayoutFault.TheVariants as faults;
-ghost use Rattle.tsp_file.specs.FaultText.{relayout_fault_text};
-ghost use Rattle.tsp_file.specs.Text.{text_of, text_of_field};
+ghost use Rattle.tsp_file.specs.RelayoutFaultText.{relayout_fault_text};
+ghost use Rattle.tsp_file.specs.CanonicalText.{text_of, text_of_field};
 ghost use Rattle.tsp_file.specs.TextExamples.{IsSmallText, small, small_text, spatial_node, two_tours, without_combs};
 
 /// The lines of keywords.

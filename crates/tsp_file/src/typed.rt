@@ -56,7 +56,7 @@ impl File {
     ghost use Rattle.tsp_format.specs.states.TreeSteps.{steps_of};
     ghost use Rattle.tsp_draft.specs.states.Drafts.{combs_of};
     ghost use Rattle.tsp_draft.specs.Valid.{IsFromTo, AreTours};
-    ghost use Rattle.tsp_file.specs.Listed.{ListsWeights};
+    ghost use Rattle.tsp_file.specs.ListedWeights.{ListsWeights};
     ghost use Rattle.tsp_file.specs.Relayout.{HasListedWeights};
     ghost use Rattle.tsp_file.specs.Meant.{nodes_of};
     ghost use Rattle.tsp_file.specs.Typed.{HoldsRouting, HoldsNodeNumbers, HoldsDuals, HoldsCases, AreMultipliersIn, AreSomeSets};

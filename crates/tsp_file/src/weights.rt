@@ -55,7 +55,7 @@ impl<'a> ListedWeights<'a> {
     ghost use Rattle.tsp_format.specs.Cells.{IsNode, cells_of_line};
     ghost use Rattle.tsp_format.specs.Symmetry.{IsFirstAsymmetric};
     ghost use Rattle.tsp_draft.specs.Fields.{Fields};
-    ghost use Rattle.tsp_file.specs.Listed.{ListsWeights};
+    ghost use Rattle.tsp_file.specs.ListedWeights.{ListsWeights};
     ghost use Rattle.tsp_file.specs.Relayout.{HoldsPairs, HoldsDiagonal, lists_diagonal, IsFirstOnDiagonal, costs_in};
     ghost use Rattle.tsp_file.specs.states.Weights.{costs_of};
 

@@ -5,7 +5,7 @@ ghost use Rattle.std.specs.Option.{option_map};
 ghost use Rattle.std.specs.Str.Parse.{AllDigits, digits_value};
 ghost use Rattle.tsp_distance.specs.Decimal.{unit, most_count};
 ghost use Rattle.tsp_number.specs.NumberWord.{IsSign, with_sign as signed_of};
-ghost use Rattle.tsp_number.specs.states.Front.{BeginsWithNumber, sign_count, digit_count, whole_end, few_end, decimal_end};
+ghost use Rattle.tsp_number.specs.states.NumberFront.{BeginsWithNumber, sign_count, digit_count, whole_end, few_end, decimal_end};
 
 use crate::eight::{EIGHT, front_of_eight};
 use crate::scale::power_of_ten;

@@ -18,7 +18,7 @@ use Rattle.tsp_read.specs.declared.stage.Stage.TheVariants.{Going, Ended, Refuse
 use Rattle.tsp_read.specs.declared.feed.Feed.{Feed}
 use Rattle.tsp_text.specs.Lines.{is_filled}
 use Rattle.tsp_text.specs.Items.{Item, settled_items, has_end_line}
-use Rattle.tsp_text.specs.Rows.{when, first_row}
+use Rattle.tsp_text.specs.FaultRows.{when, first_row}
 use Rattle.tsp_text.specs.FirstFault.{fault_in, IsClean}
 use Rattle.tsp_read.specs.states.Left.{items_left, ends_word}
 use Rattle.tsp_read.specs.states.Holds.{Holds}

@@ -7,17 +7,17 @@ use Rattle.std.proofs.lemmas.Bool.Decides.{nat_tests}
 use Rattle.std.proofs.lemmas.Str.Parse.{digit_from_value}
 use Rattle.tsp_distance.specs.Decimal.{unit, most_count}
 use Rattle.tsp_number.specs.NumberWord.{plus, minus, point, lower_e, upper_e, IsSign, IsFraction, IsExponent, Numeral, SpellsNumeral, ReadsWhole, ReadsDecimal}
-use Rattle.tsp_number.specs.states.Front.{BeginsWithNumber}
+use Rattle.tsp_number.specs.states.NumberFront.{BeginsWithNumber}
 use Rattle.tsp_number.specs.Reading.{whole_of, decimal_of}
 use Rattle.tsp_number.proofs.WordLaws.{whole_once, whole_of-reads, decimal_once, decimal_of-reads}
 use Rattle.tsp_format.specs.Bytes.{is_blank, is_letter}
 use Rattle.tsp_format.specs.Limits.{most_word_bytes}
-use Rattle.tsp_text.specs.Numbers.{IsWhole}
+use Rattle.tsp_text.specs.SectionNumbers.{IsWhole}
 use Rattle.tsp_text.specs.Lines.{ends_line, is_filled, without_start}
 use Rattle.tsp_text.specs.Items.{Item, NumberWord, LineEnd}
 use Rattle.tsp_read.specs.states.Left.{items_left, ends_word, up_to_first, from}
 use Rattle.tsp_read.specs.states.Onward.{is_over_long, GivesNext}
-use Rattle.tsp_read.specs.states.Front.{front_word, LeavesEnd}
+use Rattle.tsp_read.specs.states.WordFront.{front_word, LeavesEnd}
 use Rattle.tsp_read.proofs.LeftSteps.{FreeOf, left_blank, left_end}
 use Rattle.tsp_read.proofs.Onwards.{on_before, on_from, at_before, at_from, word_follows}
 use Rattle.tsp_read.proofs.BegunSteps.{settled_filled}

@@ -17,7 +17,7 @@ use Rattle.tsp_text.specs.Items.{Item, Line, NumberWord, LineEnd, settled_items,
 use Rattle.tsp_text.specs.Earlier.{open_section, words_of}
 use Rattle.tsp_text.specs.Values.{spatial_after}
 use Rattle.tsp_text.specs.Sections.{place_in, dimension_in}
-use Rattle.tsp_text.specs.Rows.{row_of}
+use Rattle.tsp_text.specs.FaultRows.{row_of}
 use Rattle.tsp_text.specs.FirstFault.{IsClean}
 use Rattle.tsp_read.specs.states.Holds.{Holds}
 use Rattle.tsp_read.specs.states.Left.{items_left, ends_word}

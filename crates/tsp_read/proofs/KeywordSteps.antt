@@ -30,7 +30,7 @@ use Rattle.tsp_text.specs.Earlier.{same_field, has_line, open_section, words_of}
 use Rattle.tsp_text.specs.Values.{kind_named, weight_kind_named, weight_format_named, coord_kind_named, display_kind_named, is_left_out, says_space, spatial_after}
 use Rattle.tsp_text.specs.Groups.{coords_by_node}
 use Rattle.tsp_text.specs.Sections.{dimension_in}
-use Rattle.tsp_text.specs.Rows.{row_of, is_late}
+use Rattle.tsp_text.specs.FaultRows.{row_of, is_late}
 use Rattle.tsp_text.specs.FirstFault.{IsClean}
 use Rattle.tsp_format.specs.declared.field.ValueShape.TheVariants.{Number}
 use Rattle.tsp_format.specs.Shapes.{is_section_field, value_shape_of}

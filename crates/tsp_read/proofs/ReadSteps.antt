@@ -6,7 +6,7 @@ use Rattle.tsp_read.specs.declared.state.reading.Reading.{Reading}
 use Rattle.tsp_read.specs.declared.cut.Next.{Next}
 use Rattle.tsp_read.specs.declared.cut.Next.TheVariants as next
 use Rattle.tsp_text.specs.Items.{Item, LineEnd, NumberWord, Line, is_end_line, words_before, word_number}
-use Rattle.tsp_text.specs.Rows.{row_of}
+use Rattle.tsp_text.specs.FaultRows.{row_of}
 use Rattle.tsp_text.specs.Text.{part, fault}
 use Rattle.tsp_read.specs.states.Left.{item_next}
 use Rattle.tsp_read.specs.declared.state.reading.OpenSection.{OpenSection}

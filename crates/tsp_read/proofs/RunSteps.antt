@@ -2,14 +2,14 @@
 use Rattle.std.proofs.Common.{◌≡◌, ℕ, ◌+◌, ◌<◌, Bool, true, false, List, ◌∷◌, length, refl, ap, subst, ◌∙◌, Option, None, Some, Ok, arith}
 use Rattle.tsp_section.specs.declared.part.Part.{Part}
 use Rattle.tsp_text.specs.Items.{NumberWord, LineEnd}
-use Rattle.tsp_section.specs.states.Run.{TakesRead, KeepsWords}
+use Rattle.tsp_section.specs.states.PartRun.{TakesRead, KeepsWords}
 use Rattle.tsp_read.specs.declared.count.Count.{Count}
 use Rattle.tsp_read.specs.declared.intake.Intake.{Intake}
 use Rattle.tsp_read.specs.declared.state.reading.OpenSection.{OpenSection}
 use Rattle.tsp_read.specs.declared.state.reading.Reading.{Reading}
 use Rattle.tsp_read.specs.states.Onward.{GivesNext}
 use Rattle.tsp_read.specs.states.Intake.{IsReadTo}
-use Rattle.tsp_read.specs.states.Run.{counted, in_run, RunsTo, StepsTo}
+use Rattle.tsp_read.specs.states.ReadingRun.{counted, in_run, RunsTo, StepsTo}
 use Rattle.tsp_read.proofs.FrontSteps.{end_gives}
 use Rattle.tsp_read.proofs.IntakeSteps.{read_further}
 use Rattle.tsp_read.proofs.ReadSteps.{line_ends}

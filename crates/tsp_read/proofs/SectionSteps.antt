@@ -28,24 +28,24 @@ use Rattle.tsp_section.specs.declared.parts.combs.CombList.{CombList}
 use Rattle.tsp_section.specs.declared.parts.tree.TreeList.{TreeList}
 use Rattle.tsp_text.specs.Groups.{numbers_by_node, place_of_number, coords_by_node}
 use Rattle.tsp_text.specs.Lists.{fixed_in, place_of_fixed, fixed_triples_in, place_of_triple}
-use Rattle.tsp_text.specs.Combs.{whole_combs, place_of_comb}
-use Rattle.tsp_text.specs.Tree.{whole_steps, place_of_step}
-use Rattle.tsp_text.specs.Places.{PastEnd}
+use Rattle.tsp_text.specs.CombSection.{whole_combs, place_of_comb}
+use Rattle.tsp_text.specs.BranchSection.{whole_steps, place_of_step}
+use Rattle.tsp_text.specs.WordPlaces.{PastEnd}
 use Rattle.tsp_text.specs.Lines.{is_filled}
 use Rattle.tsp_text.specs.Items.{WordLine, Item, Line}
 use Rattle.tsp_format.specs.Shapes.{shape_of, is_section_field}
 use Rattle.tsp_text.specs.Earlier.{is_open, has_line, open_section, words_of}
 use Rattle.tsp_text.specs.Values.{dimension_of, spatial_after}
 use Rattle.tsp_text.specs.Sections.{place_by, place_in, dimension_in}
-use Rattle.tsp_text.specs.Rows.{row_of, when, first_row}
+use Rattle.tsp_text.specs.FaultRows.{row_of, when, first_row}
 use Rattle.tsp_section.specs.states.CutLine.{MayOpen}
 use Rattle.tsp_section.specs.states.Parts.{are_in_space}
 use Rattle.tsp_text.specs.Opening.{needs_nodes, is_matrix, opening_rows}
-use Rattle.tsp_section.specs.states.Held.{HoldsNumbers, HoldsPoints, HoldsFixed, HoldsTriples, HoldsCombs, HoldsTree, shape_of_points, shape_by, HoldsPart, HoldsShape}
+use Rattle.tsp_section.specs.states.HeldParts.{HoldsNumbers, HoldsPoints, HoldsFixed, HoldsTriples, HoldsCombs, HoldsTree, shape_of_points, shape_by, HoldsPart, HoldsShape}
 use Rattle.tsp_text.specs.Spells.{wants_more, is_incomplete, sections_in_order, first_incomplete}
 use Rattle.tsp_read.specs.declared.state.reading.OpenSection.{OpenSection}
 use Rattle.tsp_read.specs.declared.state.reading.Reading.{Reading}
-use Rattle.tsp_read.specs.states.Open.{HoldsSection}
+use Rattle.tsp_read.specs.states.OpenSection.{HoldsSection}
 use Rattle.tsp_read.specs.states.Stored.{with_words, with_section}
 use Rattle.tsp_read.specs.states.Incomplete.{first_of}
 use Rattle.tsp_read.specs.states.Holds.{fields_there, OpenHolds, Holds, Closed}

@@ -15,7 +15,7 @@ use Rattle.tsp_section.specs.declared.fault.StepFault.TheVariants as steps
 use Rattle.tsp_read.specs.declared.state.reading.Reading.{Reading}
 use Rattle.tsp_text.specs.Items.{WordLine, Item, Line}
 use Rattle.tsp_text.specs.Earlier.{has_line, values_at, others_in}
-use Rattle.tsp_text.specs.Rows.{row_of, when, first_row, is_too_long_to_keep}
+use Rattle.tsp_text.specs.FaultRows.{row_of, when, first_row, is_too_long_to_keep}
 use Rattle.tsp_text.specs.Spells.{fields_by}
 use Rattle.tsp_section.specs.states.CutLine.{SetsName, AddsComment, AddsOther}
 use Rattle.tsp_read.specs.states.Holds.{fields_there, Holds, Closed, LineAnswers, OtherAnswers}

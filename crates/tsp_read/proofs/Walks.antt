@@ -7,7 +7,7 @@ use Rattle.tsp_draft.specs.declared.fault.EndFault.{EndFault}
 use Rattle.tsp_text.specs.declared.fault.ReadFault.{ReadFault}
 use Rattle.tsp_text.specs.declared.fault.ReadFault.TheVariants as faults
 use Rattle.tsp_text.specs.Items.{Item, is_end_line, has_end_line, to_end_line}
-use Rattle.tsp_text.specs.Rows.{row_of, when, first_row}
+use Rattle.tsp_text.specs.FaultRows.{row_of, when, first_row}
 use Rattle.tsp_text.specs.FirstFault.{fault_here, fault_in, IsClean}
 use Rattle.tsp_text.specs.Spells.{fault_at_end}
 use Rattle.tsp_text.specs.Text.{is_too_long, part, fault}

@@ -9,12 +9,12 @@ use Rattle.tsp_read.specs.declared.state.reading.Reading.{Reading}
 use Rattle.tsp_text.specs.Items.{Item, NumberWord}
 use Rattle.tsp_text.specs.Earlier.{open_section, words_of}
 use Rattle.tsp_format.specs.Shapes.{shape_of, is_section_field}
-use Rattle.tsp_text.specs.Places.{PastEnd}
+use Rattle.tsp_text.specs.WordPlaces.{PastEnd}
 use Rattle.tsp_text.specs.Values.{spatial_after}
 use Rattle.tsp_text.specs.Sections.{place_by, place_in, dimension_in}
-use Rattle.tsp_text.specs.Rows.{word_fault}
+use Rattle.tsp_text.specs.FaultRows.{word_fault}
 use Rattle.tsp_section.specs.states.Parts.{Takes}
-use Rattle.tsp_section.specs.states.Held.{shape_by, HoldsPart, HoldsShape}
+use Rattle.tsp_section.specs.states.HeldParts.{shape_by, HoldsPart, HoldsShape}
 use Rattle.std.specs.Option.{option_map_or}
 use Rattle.tsp_read.specs.states.Holds.{OpenHolds, Holds, AnswersItem}
 use Rattle.tsp_text.proofs.Sections.{section_of}

@@ -2,7 +2,7 @@
 
 ghost use Rattle.tsp_stream.specs.states.Watched.{sink_of};
 ghost use Rattle.tsp_stream.specs.Sink.{Writes};
-ghost use Rattle.tsp_stream.specs.states.Way.{Puts};
+ghost use Rattle.tsp_stream.specs.states.WriteProgress.{Puts};
 ghost use Rattle.tsp_report.specs.Report.{bound_report_of, bound_found_lines};
 
 use crate::report::{put_instance, put_named, put_no};

@@ -10,7 +10,7 @@ ghost use Rattle.tsp_number.specs.declared.fault.NumberFault.TheVariants as numb
 ghost use Rattle.tsp_reason.specs.declared.basis.Basis.TheVariants as bases;
 ghost use Rattle.tsp_reason.specs.declared.verdict.Reason.TheVariants as reasons;
 ghost use Rattle.tsp_reason.specs.declared.verdict.Verdict.TheVariants as verdicts;
-ghost use Rattle.tsp_report.specs.Compare.{head_of, solution_line};
+ghost use Rattle.tsp_report.specs.ComparisonText.{head_of, solution_line};
 ghost use Rattle.tsp_report.specs.Examples.{matrix, shown_routes};
 
 /// The head, with a bound or without, for an instance without tours, for routes, and with a reason.

@@ -1,10 +1,10 @@
 //! The text of a fault of a file.
 
 ghost use Rattle.std.specs.Prelude.{◌≡◌, ◌++◌, codes};
-ghost use Rattle.tsp_number.specs.FaultText.{number_fault_text};
-ghost use Rattle.tsp_draft.specs.FaultText.{end_fault_text};
-ghost use Rattle.tsp_stream.specs.states.Way.{Puts};
-ghost use Rattle.tsp_text.specs.FaultText.{line_fault_text, read_fault_text};
+ghost use Rattle.tsp_number.specs.NumberFaultText.{number_fault_text};
+ghost use Rattle.tsp_draft.specs.DraftFaultText.{end_fault_text};
+ghost use Rattle.tsp_stream.specs.states.WriteProgress.{Puts};
+ghost use Rattle.tsp_text.specs.ReadFaultText.{line_fault_text, read_fault_text};
 
 use std::io::Write;
 use tsp_draft::EndFault;

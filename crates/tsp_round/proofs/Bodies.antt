@@ -9,7 +9,7 @@ use Rattle.tsp_distance.specs.declared.decimal.Point.{Point}
 use Rattle.tsp_number.specs.Spelling.{spelling}
 use Rattle.tsp_format.specs.Limits.{most_nodes, most_weight, most_multiplier, most_coordinate}
 use Rattle.tsp_draft.specs.Validity.{is_from_to, is_within, is_node, is_node_pair, is_triple, is_point, is_tour}
-use Rattle.tsp_file.specs.Text.{number_line, ended_by_mark, node_list, pair_list, triple_list}
+use Rattle.tsp_file.specs.CanonicalText.{number_line, ended_by_mark, node_list, pair_list, triple_list}
 use Rattle.tsp_round.proofs.Text.{is_plain_word, WritesWords, no_words_written, both_words, number_line_written}
 use Rattle.tsp_round.proofs.Numbers.{decimal_plain, signed_plain, spelling_plain, size_in, size_from}
 use Rattle.tsp_round.proofs.Groups.{AreSmall, number_entry}

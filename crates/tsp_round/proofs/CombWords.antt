@@ -11,11 +11,11 @@ use Rattle.tsp_number.specs.declared.fault.NumberFault.{NumberFault}
 use Rattle.tsp_format.specs.Limits.{most_combs, most_comb_nodes}
 use Rattle.tsp_draft.specs.Validity.{is_node, is_set, is_comb, are_combs}
 use Rattle.tsp_text.specs.Lines.{is_filled}
-use Rattle.tsp_text.specs.Numbers.{number, node_or_end, is_end}
-use Rattle.tsp_text.specs.Places.{SetNode}
-use Rattle.tsp_text.specs.Rows.{word_fault, is_past_combs}
+use Rattle.tsp_text.specs.SectionNumbers.{number, node_or_end, is_end}
+use Rattle.tsp_text.specs.WordPlaces.{SetNode}
+use Rattle.tsp_text.specs.FaultRows.{word_fault, is_past_combs}
 use Rattle.tsp_text.specs.Spells.{wants_more}
-use Rattle.tsp_text.specs.Combs.{CombsSoFar, no_combs, with_node, with_end, with_comb_word, whole_combs, place_in_combs, place_of_comb}
+use Rattle.tsp_text.specs.CombSection.{CombsSoFar, no_combs, with_node, with_end, with_comb_word, whole_combs, place_in_combs, place_of_comb}
 use Rattle.tsp_round.proofs.Numbers.{NumberLaws, listed_back, node_goes_on, end_read, end_ends}
 use Rattle.tsp_round.proofs.Taken.{AllTaken, Runs, runs_none, runs_one, runs_then, all_taken}
 use Rattle.tsp_round.proofs.Lists.{no_rows, has_room}

@@ -13,7 +13,7 @@ use Rattle.tsp_draft.specs.Fields.{Fields, spatial}
 use Rattle.tsp_draft.specs.Validity.{fits}
 use Rattle.tsp_text.specs.Items.{Item}
 use Rattle.tsp_text.specs.Earlier.{has_line, words_of}
-use Rattle.tsp_text.specs.Places.{PastEnd}
+use Rattle.tsp_text.specs.WordPlaces.{PastEnd}
 use Rattle.tsp_text.specs.Values.{spatial_after}
 use Rattle.tsp_text.specs.Sections.{place_by, place_in, dimension_in}
 use Rattle.tsp_text.specs.Spells.{wants_more, is_incomplete, first_incomplete}

@@ -14,12 +14,12 @@ use Rattle.tsp_draft.specs.declared.fault.DraftFault.TheVariants.{BadField, Rule
 use Rattle.tsp_draft.specs.Fields.{Fields}
 use Rattle.tsp_draft.specs.Validity.{bad_field}
 use Rattle.tsp_draft.specs.Rules.{standing_of, end_fault, fault_of}
-use Rattle.tsp_file.specs.Text.{text_of_field, text_of}
+use Rattle.tsp_file.specs.CanonicalText.{text_of_field, text_of}
 use Rattle.tsp_file.proofs.AllFit.{all_fit}
 use Rattle.tsp_text.specs.declared.fault.ReadFault.{ReadFault}
 use Rattle.tsp_text.specs.declared.fault.ReadFault.TheVariants as faults
 use Rattle.tsp_text.specs.Items.{Item, Line, LineEnd, word_line, items_of, settled_items, to_end_line, has_end_line}
-use Rattle.tsp_text.specs.Rows.{when, first_row}
+use Rattle.tsp_text.specs.FaultRows.{when, first_row}
 use Rattle.tsp_text.specs.FirstFault.{fault_in, IsClean}
 use Rattle.tsp_text.specs.Spells.{spelled, first_incomplete, fault_at_end}
 use Rattle.tsp_text.specs.Text.{is_too_long, part, fault, Spells}

@@ -18,11 +18,11 @@ use Rattle.tsp_format.specs.Keywords.{keyword_of}
 use Rattle.tsp_format.specs.Limits.{most_nodes, most_capacity, most_scale, most_line_bytes, most_kept_bytes, most_comments, most_others}
 use Rattle.tsp_draft.specs.Fields.{Fields}
 use Rattle.tsp_draft.specs.Validity.{if_there, is_kept, is_from_to, is_node, is_other, fits}
-use Rattle.tsp_file.specs.Text.{keyword_line, optional, text_of_field}
+use Rattle.tsp_file.specs.CanonicalText.{keyword_line, optional, text_of_field}
 use Rattle.tsp_text.specs.Lines.{is_filled, first_word}
 use Rattle.tsp_text.specs.Items.{Item, Line}
 use Rattle.tsp_text.specs.Earlier.{same_field, value_at, values_at, others_in, words_of}
-use Rattle.tsp_text.specs.Rows.{may_repeat, row_of}
+use Rattle.tsp_text.specs.FaultRows.{may_repeat, row_of}
 use Rattle.tsp_text.proofs.ValidSections.{same_field_is}
 use Rattle.tsp_round.proofs.Text.{is_plain, is_plain_word, no_blank, one_line_word}
 use Rattle.tsp_round.proofs.Lines.{IsWhole, IsKeyword, written_line, value_text}

@@ -12,12 +12,12 @@ use Rattle.tsp_format.specs.Bytes.{is_blank}
 use Rattle.tsp_format.specs.Words.{field_word}
 use Rattle.tsp_format.specs.Limits.{most_line_bytes, most_kept_bytes, most_comments}
 use Rattle.tsp_draft.specs.Validity.{is_kept}
-use Rattle.tsp_file.specs.Text.{blank_before, keyword_line}
+use Rattle.tsp_file.specs.CanonicalText.{blank_before, keyword_line}
 use Rattle.tsp_text.specs.Lines.{is_filled}
 use Rattle.tsp_text.specs.Items.{WordLine, Item, Line, LineEnd, has_end_line}
 use Rattle.tsp_text.specs.Earlier.{same_field, has_line, value_at, values_at, others_in, words_of}
 use Rattle.tsp_text.specs.Values.{read_as}
-use Rattle.tsp_text.specs.Rows.{may_repeat, row_of, is_too_long_to_keep}
+use Rattle.tsp_text.specs.FaultRows.{may_repeat, row_of, is_too_long_to_keep}
 use Rattle.tsp_text.specs.FirstFault.{IsClean}
 use Rattle.tsp_text.proofs.Clean.{clean_more}
 use Rattle.tsp_text.proofs.ValidSections.{same_field_is}

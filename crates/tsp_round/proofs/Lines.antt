@@ -9,7 +9,7 @@ use Rattle.std.proofs.lemmas.List.{take_at, drop_at, reverse-reverse, get_or-rev
 use Rattle.std.proofs.lemmas.List.Folds.{list_all-append}
 use Rattle.tsp_format.specs.Bytes.{is_blank, is_letter, is_keyword_byte}
 use Rattle.tsp_format.specs.Keywords.{keyword_of}
-use Rattle.tsp_file.specs.Text.{blank_before, value_line}
+use Rattle.tsp_file.specs.CanonicalText.{blank_before, value_line}
 use Rattle.tsp_text.specs.Lines.{ends_line, without_start, without_end, begins, is_word_line, keyword_in, after_keyword, is_colon, has_colon, value_in, words_in}
 use Rattle.tsp_text.specs.Items.{WordLine, Item, Line, NumberWord, LineEnd, word_line, line_item, items_in, items_of}
 use Rattle.tsp_text.specs.Cuts.{has_no_line_end}

@@ -13,12 +13,12 @@ use Rattle.tsp_number.specs.declared.fault.NumberFault.{NumberFault}
 use Rattle.tsp_format.specs.Limits.{most_weight, most_depots, most_fixed}
 use Rattle.tsp_draft.specs.Validity.{is_within, is_node, is_node_pair}
 use Rattle.tsp_text.specs.declared.fault.LineFault.TheVariants as row
-use Rattle.tsp_text.specs.Numbers.{number, node, node_or_end, is_end, whole_of_size, reads_as}
-use Rattle.tsp_text.specs.Places.{DepotAfter, FirstAfter, SecondOf, PastEnd, Weight, PastWeights}
+use Rattle.tsp_text.specs.SectionNumbers.{number, node, node_or_end, is_end, whole_of_size, reads_as}
+use Rattle.tsp_text.specs.WordPlaces.{DepotAfter, FirstAfter, SecondOf, PastEnd, Weight, PastWeights}
 use Rattle.tsp_text.specs.Groups.{pairs_in, begun_pair}
 use Rattle.tsp_text.specs.Lists.{before, firsts_in, depots_in, place_of_depot, fixed_in, place_in_pair, place_of_fixed}
-use Rattle.tsp_text.specs.Weights.{weights_in, place_of_weight}
-use Rattle.tsp_text.specs.Rows.{when, first_row, word_fault}
+use Rattle.tsp_text.specs.WeightSection.{weights_in, place_of_weight}
+use Rattle.tsp_text.specs.FaultRows.{when, first_row, word_fault}
 use Rattle.tsp_text.proofs.Ended.{any_push}
 use Rattle.tsp_text.proofs.PairWords.{pairs_begin, begun_begin, firsts_begin, pairs_end, begun_end, firsts_end}
 use Rattle.tsp_round.proofs.Numbers.{NumberLaws, node_back, listed_back, node_goes_on, end_read, end_ends, size_in}

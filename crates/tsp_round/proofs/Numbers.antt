@@ -22,7 +22,7 @@ use Rattle.tsp_number.specs.Reading.{decimal_of, whole_of}
 use Rattle.tsp_number.specs.Spelling.{decimals, fraction_spelling, size_spelling, spelling}
 use Rattle.tsp_draft.specs.Validity.{is_from_to, is_within, is_node}
 use Rattle.tsp_text.specs.Lines.{is_filled}
-use Rattle.tsp_text.specs.Numbers.{node, node_or_end, is_end, not_zero, reads_as}
+use Rattle.tsp_text.specs.SectionNumbers.{node, node_or_end, is_end, not_zero, reads_as}
 use Rattle.tsp_round.proofs.Text.{is_plain, is_plain_word}
 
 -- the laws of number words and of their texts

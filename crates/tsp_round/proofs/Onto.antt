@@ -8,7 +8,7 @@ use Rattle.tsp_text.specs.Items.{Item, Line, NumberWord, LineEnd, has_end_line, 
 use Rattle.tsp_text.specs.Earlier.{is_key, has_line, value_at, values_at, others_in, open_section, is_open, words_of}
 use Rattle.tsp_text.specs.Values.{spatial_after}
 use Rattle.tsp_text.specs.Sections.{place_in, dimension_in}
-use Rattle.tsp_text.specs.Rows.{row_of, word_fault}
+use Rattle.tsp_text.specs.FaultRows.{row_of, word_fault}
 use Rattle.tsp_text.specs.FirstFault.{IsClean}
 use Rattle.tsp_text.proofs.Clean.{clean_more}
 use Rattle.tsp_text.proofs.ItemRows.{same_self}

@@ -11,10 +11,10 @@ use Rattle.tsp_format.specs.Bytes.{is_letter, is_keyword_byte}
 use Rattle.tsp_format.specs.Keywords.{keyword_of, is_unknown}
 use Rattle.tsp_format.specs.Limits.{most_line_bytes, most_others}
 use Rattle.tsp_draft.specs.Validity.{is_kept, is_unknown_keyword, is_other}
-use Rattle.tsp_file.specs.Text.{other_line}
+use Rattle.tsp_file.specs.CanonicalText.{other_line}
 use Rattle.tsp_text.specs.Items.{WordLine, Item, Line, LineEnd, items_of, has_end_line}
 use Rattle.tsp_text.specs.Earlier.{value_at, values_at, others_in, words_of}
-use Rattle.tsp_text.specs.Rows.{row_of, is_too_long_to_keep}
+use Rattle.tsp_text.specs.FaultRows.{row_of, is_too_long_to_keep}
 use Rattle.tsp_text.specs.FirstFault.{IsClean}
 use Rattle.tsp_text.proofs.Clean.{clean_more}
 use Rattle.tsp_round.proofs.Text.{Writes, nothing_written, both_written}

@@ -18,10 +18,10 @@ use Rattle.tsp_number.specs.Spelling.{spelling}
 use Rattle.tsp_format.specs.Limits.{most_coordinate}
 use Rattle.tsp_draft.specs.Coords.{origin}
 use Rattle.tsp_draft.specs.Validity.{is_within, is_point}
-use Rattle.tsp_text.specs.Numbers.{number, node, reads_as}
-use Rattle.tsp_text.specs.Places.{NodeAfter, Coordinate, PastGroups}
+use Rattle.tsp_text.specs.SectionNumbers.{number, node, reads_as}
+use Rattle.tsp_text.specs.WordPlaces.{NodeAfter, Coordinate, PastGroups}
 use Rattle.tsp_text.specs.Groups.{threes_in, begun_triple, point_in_words, point_groups, points_by_node, place_in_group, nodes_of_groups, place_of_point}
-use Rattle.tsp_text.specs.Rows.{word_fault}
+use Rattle.tsp_text.specs.FaultRows.{word_fault}
 use Rattle.tsp_text.proofs.TripleWords.{triples_begin, begun_begin, triples_middle, begun_middle, triples_end, begun_end}
 use Rattle.tsp_round.proofs.Groups.{tagged, fused, one_node, new_node, by_node_back}
 use Rattle.tsp_round.proofs.Numbers.{NumberLaws, node_back, size_in}

@@ -14,13 +14,13 @@ use Rattle.tsp_format.specs.Shapes.{shape_of, is_section_field}
 use Rattle.tsp_format.specs.Words.{field_word}
 use Rattle.tsp_draft.specs.Fields.{Fields, spatial}
 use Rattle.tsp_draft.specs.Validity.{if_there, with_dimension, section_fits, fits}
-use Rattle.tsp_file.specs.Text.{line_lens, text_of_section, text_of_field}
+use Rattle.tsp_file.specs.CanonicalText.{line_lens, text_of_section, text_of_field}
 use Rattle.tsp_text.specs.Items.{WordLine, Item, Line, LineEnd, items_in, items_of}
 use Rattle.tsp_text.specs.Earlier.{same_field, is_open, has_line, value_at, values_at, others_in, open_section, words_of}
 use Rattle.tsp_text.specs.Values.{spatial_after}
 use Rattle.tsp_text.specs.Sections.{place_by, place_in, dimension_in}
-use Rattle.tsp_text.specs.Places.{PastEnd}
-use Rattle.tsp_text.specs.Rows.{may_repeat, row_of}
+use Rattle.tsp_text.specs.WordPlaces.{PastEnd}
+use Rattle.tsp_text.specs.FaultRows.{may_repeat, row_of}
 use Rattle.tsp_text.specs.FirstFault.{IsClean}
 use Rattle.tsp_text.specs.Opening.{needs_nodes, is_matrix, opening_rows}
 use Rattle.tsp_text.proofs.Clean.{clean_more}

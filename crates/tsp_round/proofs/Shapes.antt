@@ -14,15 +14,15 @@ use Rattle.tsp_format.specs.Limits.{most_nodes, most_matrix_nodes, most_weight, 
 use Rattle.tsp_format.specs.Steps.{Step}
 use Rattle.tsp_draft.specs.Fields.{Fields, numbers_in, points_in}
 use Rattle.tsp_draft.specs.Validity.{if_there, is_by_node, is_point, is_within, is_from_to, is_node, is_node_pair, is_triple, are_depots, are_fixed, are_triples, are_weights, is_tour, are_tours, are_combs, are_steps, with_dimension, section_fits}
-use Rattle.tsp_file.specs.Text.{section_text, lines_by_node, node_list, pair_list, triple_list, comb_list, step_lines, point_numbers, whole_number, line_lens, matrix_lines, optional, text_of_section}
-use Rattle.tsp_text.specs.Numbers.{is_end}
-use Rattle.tsp_text.specs.Places.{PastGroups, PastEnd, Weight, PastWeights, Coordinate, Amount, DepotAfter}
+use Rattle.tsp_file.specs.CanonicalText.{section_text, lines_by_node, node_list, pair_list, triple_list, comb_list, step_lines, point_numbers, whole_number, line_lens, matrix_lines, optional, text_of_section}
+use Rattle.tsp_text.specs.SectionNumbers.{is_end}
+use Rattle.tsp_text.specs.WordPlaces.{PastGroups, PastEnd, Weight, PastWeights, Coordinate, Amount, DepotAfter}
 use Rattle.tsp_text.specs.Groups.{numbers_by_node, points_by_node, space_points_by_node, begun_pair, begun_triple, begun_four, number_groups, point_groups, space_point_groups, nodes_of_groups, place_in_group, pairs_in, threes_in}
 use Rattle.tsp_text.specs.Lists.{depots_in, fixed_in, fixed_triples_in, place_in_pair, place_in_triple}
-use Rattle.tsp_text.specs.Weights.{weights_in}
-use Rattle.tsp_text.specs.Tours.{tours_in}
-use Rattle.tsp_text.specs.Combs.{whole_combs}
-use Rattle.tsp_text.specs.Tree.{whole_steps}
+use Rattle.tsp_text.specs.WeightSection.{weights_in}
+use Rattle.tsp_text.specs.TourSection.{tours_in}
+use Rattle.tsp_text.specs.CombSection.{whole_combs}
+use Rattle.tsp_text.specs.BranchSection.{whole_steps}
 use Rattle.tsp_text.specs.Sections.{place_by}
 use Rattle.tsp_text.specs.Spells.{wants_more}
 use Rattle.tsp_text.specs.Opening.{needs_nodes, is_matrix}

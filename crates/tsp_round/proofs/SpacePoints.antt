@@ -15,10 +15,10 @@ use Rattle.tsp_number.specs.Spelling.{spelling}
 use Rattle.tsp_format.specs.Limits.{most_coordinate}
 use Rattle.tsp_draft.specs.Coords.{origin}
 use Rattle.tsp_draft.specs.Validity.{is_within, is_point}
-use Rattle.tsp_text.specs.Numbers.{number, node, reads_as}
-use Rattle.tsp_text.specs.Places.{NodeAfter, Coordinate, PastGroups}
+use Rattle.tsp_text.specs.SectionNumbers.{number, node, reads_as}
+use Rattle.tsp_text.specs.WordPlaces.{NodeAfter, Coordinate, PastGroups}
 use Rattle.tsp_text.specs.Groups.{fours_in, begun_four, space_point_of, space_point_groups, space_points_by_node, place_in_group, nodes_of_groups, place_of_space_point}
-use Rattle.tsp_text.specs.Rows.{word_fault}
+use Rattle.tsp_text.specs.FaultRows.{word_fault}
 use Rattle.tsp_text.proofs.FourWords.{fours_begin, begun_begin, fours_second, begun_second, fours_third, begun_third, fours_end, begun_end}
 use Rattle.tsp_round.proofs.Groups.{tagged, fused, one_node, new_node, by_node_back}
 use Rattle.tsp_round.proofs.Numbers.{NumberLaws, node_back}

@@ -13,7 +13,7 @@ use Rattle.tsp_draft.specs.Fields.{Fields, spatial, stands_in}
 use Rattle.tsp_text.specs.Items.{Item, has_end_line, is_end_line}
 use Rattle.tsp_format.specs.Shapes.{shape_of, is_section_field}
 use Rattle.tsp_text.specs.Earlier.{same_field, value_at, values_at, others_in, words_of}
-use Rattle.tsp_text.specs.Rows.{may_repeat}
+use Rattle.tsp_text.specs.FaultRows.{may_repeat}
 use Rattle.tsp_text.specs.FirstFault.{IsClean}
 use Rattle.tsp_text.proofs.ValidSections.{same_field_is}
 use Rattle.tsp_text.proofs.ItemRows.{same_self}

@@ -6,10 +6,10 @@ use Rattle.tsp_format.specs.declared.keyword.Keyword.TheVariants.{Known}
 use Rattle.tsp_format.specs.Words.{field_word}
 use Rattle.tsp_format.specs.Keywords.{keyword_of}
 use Rattle.tsp_draft.specs.Fields.{Fields}
-use Rattle.tsp_file.specs.Text.{keyword_line}
+use Rattle.tsp_file.specs.CanonicalText.{keyword_line}
 use Rattle.tsp_text.specs.Items.{WordLine, Item, Line, LineEnd, word_line, items_of}
 use Rattle.tsp_text.specs.Earlier.{same_field, value_at, values_at, others_in, words_of}
-use Rattle.tsp_text.specs.Rows.{may_repeat, row_of}
+use Rattle.tsp_text.specs.FaultRows.{may_repeat, row_of}
 use Rattle.tsp_text.proofs.Clean.{clean_more}
 use Rattle.tsp_text.proofs.ValidSections.{same_field_is}
 use Rattle.tsp_round.proofs.Lines.{IsWhole, IsKeyword, written_line, value_written}

@@ -1,8 +1,8 @@
 -- Words that are taken at their places, one after the other.
 use Rattle.std.proofs.Common.{◌≡◌, ℕ, List, [], ◌∷◌, ◌++◌, refl, sym, ap, subst, ◌∙◌, append_assoc, append-nil, None}
 use Rattle.std.specs.List.{fold}
-use Rattle.tsp_text.specs.Places.{Place}
-use Rattle.tsp_text.specs.Rows.{word_fault}
+use Rattle.tsp_text.specs.WordPlaces.{Place}
+use Rattle.tsp_text.specs.FaultRows.{word_fault}
 
 -- each word is taken at its place, one after the other
 abbrev pub AllTaken : ℕ → (List (List ℕ) → Place) → List (List ℕ) → List (List ℕ) → Type 0

@@ -6,7 +6,7 @@ use Rattle.std.proofs.lemmas.Bool.{false≢true, and_from, and_parts, not-true}
 use Rattle.std.proofs.lemmas.Bool.Decides.{nat_tests}
 use Rattle.std.proofs.lemmas.List.Folds.{list_all-append}
 use Rattle.tsp_format.specs.Bytes.{is_blank, is_letter}
-use Rattle.tsp_file.specs.Text.{number_line}
+use Rattle.tsp_file.specs.CanonicalText.{number_line}
 use Rattle.tsp_text.specs.Lines.{ends_line, lines_of, is_filled, words_in, without_start, is_word_line}
 use Rattle.tsp_text.specs.Items.{Item, Line, NumberWord, LineEnd, line_item, items_in, items_by, items_of}
 use Rattle.tsp_text.specs.Cuts.{has_no_line_end}

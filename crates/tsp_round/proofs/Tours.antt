@@ -12,8 +12,8 @@ use Rattle.tsp_number.specs.declared.fault.NumberFault.{NumberFault}
 use Rattle.tsp_format.specs.Limits.{most_nodes, most_tour_nodes}
 use Rattle.tsp_draft.specs.Validity.{is_node, is_tour}
 use Rattle.tsp_text.specs.Lines.{is_filled}
-use Rattle.tsp_text.specs.Numbers.{number, node_or_end, is_end}
-use Rattle.tsp_text.specs.Tours.{ends_tour, tour_node, tours_in, place_of_tour}
+use Rattle.tsp_text.specs.SectionNumbers.{number, node_or_end, is_end}
+use Rattle.tsp_text.specs.TourSection.{ends_tour, tour_node, tours_in, place_of_tour}
 use Rattle.tsp_round.proofs.Text.{split_at}
 use Rattle.tsp_round.proofs.Numbers.{NumberLaws, listed_back, node_goes_on, end_read, end_ends}
 use Rattle.tsp_round.proofs.Taken.{AllTaken, taken-append}

@@ -11,12 +11,12 @@ use Rattle.tsp_number.specs.Reading.{whole_of}
 use Rattle.tsp_format.specs.Limits.{most_combs, most_branches, most_changes, most_difference}
 use Rattle.tsp_format.specs.Steps.{Step, Branch, Leaf, are_whole, branch_count, change_count}
 use Rattle.tsp_draft.specs.Validity.{is_within, is_node, is_node_pair, is_change, is_step, are_steps}
-use Rattle.tsp_file.specs.Text.{change_words}
-use Rattle.tsp_text.specs.Numbers.{number, reads_as, whole_of_size}
-use Rattle.tsp_text.specs.Places.{StepAfter, IndexAfter, Amount, PastGroups}
-use Rattle.tsp_text.specs.Rows.{word_fault}
+use Rattle.tsp_file.specs.CanonicalText.{change_words}
+use Rattle.tsp_text.specs.SectionNumbers.{number, reads_as, whole_of_size}
+use Rattle.tsp_text.specs.WordPlaces.{StepAfter, IndexAfter, Amount, PastGroups}
+use Rattle.tsp_text.specs.FaultRows.{word_fault}
 use Rattle.tsp_text.specs.Spells.{wants_more}
-use Rattle.tsp_text.specs.Tree.{TreeSoFar, no_steps, node_or_leaf, begins_leaf, index_or_end, ends_leaf, with_leaf, with_word_of, with_tree_word, whole_steps, place_in_step, place_in_tree, place_of_step}
+use Rattle.tsp_text.specs.BranchSection.{TreeSoFar, no_steps, node_or_leaf, begins_leaf, index_or_end, ends_leaf, with_leaf, with_word_of, with_tree_word, whole_steps, place_in_step, place_in_tree, place_of_step}
 use Rattle.tsp_round.proofs.Numbers.{NumberLaws, node_back, listed_back, node_goes_on, end_read, end_ends, no_zero, size_in}
 use Rattle.tsp_round.proofs.Taken.{AllTaken, Runs, runs_none, runs_one, runs_then, all_taken}
 use Rattle.tsp_round.proofs.Lists.{no_rows, has_room, second_taken, are_pair}

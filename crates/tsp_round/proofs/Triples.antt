@@ -10,11 +10,11 @@ use Rattle.tsp_number.specs.declared.fault.NumberFault.{NumberFault}
 use Rattle.tsp_number.specs.Reading.{whole_of}
 use Rattle.tsp_format.specs.Limits.{most_fixed, most_multiplier}
 use Rattle.tsp_draft.specs.Validity.{is_from_to, is_node_pair, is_triple}
-use Rattle.tsp_text.specs.Numbers.{number, node, is_end}
-use Rattle.tsp_text.specs.Places.{Amount, SecondOf}
+use Rattle.tsp_text.specs.SectionNumbers.{number, node, is_end}
+use Rattle.tsp_text.specs.WordPlaces.{Amount, SecondOf}
 use Rattle.tsp_text.specs.Groups.{threes_in, begun_triple}
 use Rattle.tsp_text.specs.Lists.{before, fixed_triple, fixed_triples_in, triple_firsts_in, place_in_triple, place_of_triple}
-use Rattle.tsp_text.specs.Rows.{word_fault}
+use Rattle.tsp_text.specs.FaultRows.{word_fault}
 use Rattle.tsp_text.proofs.TripleWords.{triples_begin, begun_begin, firsts_begin, triples_middle, begun_middle, firsts_middle, triples_end, begun_end, firsts_end}
 use Rattle.tsp_round.proofs.Numbers.{NumberLaws, node_back, listed_back, node_goes_on, end_ends, size_from}
 use Rattle.tsp_round.proofs.Taken.{AllTaken}

@@ -17,7 +17,7 @@ use Rattle.tsp_text.specs.Earlier.{has_line, value_at, words_of}
 use Rattle.tsp_text.specs.Values.{kind_named, weight_kind_named, weight_format_named, coord_kind_named, display_kind_named, read_as}
 use Rattle.tsp_text.specs.Groups.{coords_by_node}
 use Rattle.tsp_text.specs.Sections.{dimension_in}
-use Rattle.tsp_text.specs.Rows.{may_repeat}
+use Rattle.tsp_text.specs.FaultRows.{may_repeat}
 use Rattle.tsp_text.specs.Spells.{spelled}
 use Rattle.tsp_round.proofs.Numbers.{NumberLaws}
 use Rattle.tsp_round.proofs.Onto.{has_value}

@@ -18,7 +18,7 @@ use Rattle.tsp_text.specs.Lines.{first_word}
 use Rattle.tsp_text.specs.Items.{Item, Line}
 use Rattle.tsp_text.specs.Earlier.{has_line}
 use Rattle.tsp_text.specs.Values.{kind_named, weight_kind_named, weight_format_named, coord_kind_named, display_kind_named}
-use Rattle.tsp_text.specs.Rows.{row_of}
+use Rattle.tsp_text.specs.FaultRows.{row_of}
 use Rattle.tsp_round.proofs.Lines.{IsWhole, written_line}
 
 -- ---- TypeKey

@@ -9,13 +9,13 @@ use Rattle.tsp_number.specs.declared.fault.NumberFault.{NumberFault}
 use Rattle.tsp_number.specs.Reading.{decimal_of}
 use Rattle.tsp_text.specs.declared.fault.LineFault.{LineFault}
 use Rattle.tsp_text.specs.declared.fault.LineFault.TheVariants as row
-use Rattle.tsp_text.specs.Numbers.{is_minus_one}
+use Rattle.tsp_text.specs.SectionNumbers.{is_minus_one}
 use Rattle.tsp_text.specs.Groups.{coords_by_node}
 use Rattle.tsp_text.specs.Sections.{place_by}
 use Rattle.tsp_text.specs.Spells.{wants_more}
-use Rattle.tsp_text.specs.Rows.{word_fault}
+use Rattle.tsp_text.specs.FaultRows.{word_fault}
 use Rattle.tsp_section.specs.states.Parts.{IsNewNode, CoordsHold}
-use Rattle.tsp_section.specs.states.Held.{shape_of_points}
+use Rattle.tsp_section.specs.states.HeldParts.{shape_of_points}
 use Rattle.tsp_section.proofs.PointSteps as plane
 use Rattle.tsp_section.proofs.SpacePointSteps as space
 

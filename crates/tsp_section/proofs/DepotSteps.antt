@@ -5,11 +5,11 @@ use Rattle.std.specs.List.{list_any}
 use Rattle.std.proofs.lemmas.List.{map_push, length_push}
 use Rattle.std.proofs.lemmas.Bool.Decides.{nat_tests}
 use Rattle.tsp_format.specs.Limits.{most_depots}
-use Rattle.tsp_text.specs.Numbers.{number, node_or_end, is_end, is_minus_one}
-use Rattle.tsp_text.specs.Places.{Place, PastEnd, DepotAfter}
+use Rattle.tsp_text.specs.SectionNumbers.{number, node_or_end, is_end, is_minus_one}
+use Rattle.tsp_text.specs.WordPlaces.{Place, PastEnd, DepotAfter}
 use Rattle.tsp_text.specs.Lists.{place_of_depot}
 use Rattle.tsp_section.specs.states.Parts.{DepotsHold}
-use Rattle.tsp_text.specs.Rows.{word_fault}
+use Rattle.tsp_text.specs.FaultRows.{word_fault}
 use Rattle.tsp_text.proofs.Ended.{and_false, any_kept, any_push, before_kept, before_none, before_end, before_push}
 
 -- ---- words without a fault

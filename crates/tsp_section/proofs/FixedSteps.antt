@@ -9,13 +9,13 @@ use Rattle.std.proofs.lemmas.Bool.Decides.{nat_tests, Decides-int_eq}
 use Rattle.tsp_number.specs.declared.fault.NumberFault.{NumberFault}
 use Rattle.tsp_format.specs.Limits.{most_fixed}
 use Rattle.tsp_text.specs.declared.fault.LineFault.TheVariants as row
-use Rattle.tsp_text.specs.Numbers.{number, node, node_or_end, is_end, is_minus_one}
-use Rattle.tsp_text.specs.Places.{PastEnd, FirstAfter, SecondOf}
+use Rattle.tsp_text.specs.SectionNumbers.{number, node, node_or_end, is_end, is_minus_one}
+use Rattle.tsp_text.specs.WordPlaces.{PastEnd, FirstAfter, SecondOf}
 use Rattle.tsp_text.specs.Groups.{pairs_in, begun_pair}
 use Rattle.tsp_text.specs.Lists.{firsts_in, place_of_fixed}
 use Rattle.tsp_text.specs.Spells.{wants_more}
 use Rattle.tsp_section.specs.states.Parts.{readings, PairsHold}
-use Rattle.tsp_text.specs.Rows.{word_fault}
+use Rattle.tsp_text.specs.FaultRows.{word_fault}
 use Rattle.tsp_text.proofs.Ended.{any_push, and_false}
 use Rattle.tsp_section.proofs.DepotSteps.{past_end_clean}
 use Rattle.tsp_section.proofs.Readings.{none_read, one_read}

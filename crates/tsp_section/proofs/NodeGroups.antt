@@ -14,12 +14,12 @@ use Rattle.tsp_number.specs.Reading.{whole_of}
 use Rattle.tsp_format.specs.Cells.{nodes_to}
 use Rattle.tsp_text.specs.declared.fault.LineFault.{LineFault}
 use Rattle.tsp_text.specs.declared.fault.LineFault.TheVariants as row
-use Rattle.tsp_text.specs.Numbers.{node, reads_as, IsWhole}
-use Rattle.tsp_text.specs.Places.{Place, NodeAfter}
+use Rattle.tsp_text.specs.SectionNumbers.{node, reads_as, IsWhole}
+use Rattle.tsp_text.specs.WordPlaces.{Place, NodeAfter}
 use Rattle.tsp_text.specs.Groups.{entry_of, nodes_of_groups, by_node, place_in_group}
 use Rattle.tsp_text.specs.Spells.{wants_more}
 use Rattle.tsp_section.specs.states.Parts.{IsNodeOf, IsNewNode, NodesHold}
-use Rattle.tsp_text.specs.Rows.{word_fault}
+use Rattle.tsp_text.specs.FaultRows.{word_fault}
 
 -- ---- the entry of a node, by the groups
 

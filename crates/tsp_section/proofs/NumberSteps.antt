@@ -7,12 +7,12 @@ use Rattle.tsp_number.specs.declared.fault.NumberFault.{NumberFault}
 use Rattle.tsp_number.specs.Reading.{whole_of}
 use Rattle.tsp_text.specs.declared.fault.LineFault.{LineFault}
 use Rattle.tsp_text.specs.declared.fault.LineFault.TheVariants as row
-use Rattle.tsp_text.specs.Numbers.{number, node, is_minus_one}
-use Rattle.tsp_text.specs.Places.{NodeAfter, Amount, PastGroups}
+use Rattle.tsp_text.specs.SectionNumbers.{number, node, is_minus_one}
+use Rattle.tsp_text.specs.WordPlaces.{NodeAfter, Amount, PastGroups}
 use Rattle.tsp_text.specs.Groups.{pairs_in, begun_pair, number_groups, nodes_of_groups, place_of_number, numbers_by_node}
 use Rattle.tsp_text.specs.Spells.{wants_more}
 use Rattle.tsp_section.specs.states.Parts.{readings, IsNewNode, NodesHold, NumbersHold}
-use Rattle.tsp_text.specs.Rows.{word_fault}
+use Rattle.tsp_text.specs.FaultRows.{word_fault}
 use Rattle.tsp_section.proofs.Readings.{none_read, one_read}
 use Rattle.tsp_text.proofs.PairWords.{length_pairs, pairs_begin, begun_begin, pairs_end, begun_end}
 use Rattle.tsp_section.proofs.NodeGroups.{nodes_unmarked, node_begins, node_faulty, entry_fills, entries_by_node, wants_in_group}

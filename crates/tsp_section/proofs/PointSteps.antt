@@ -11,12 +11,12 @@ use Rattle.tsp_number.specs.declared.fault.NumberFault.{NumberFault}
 use Rattle.tsp_number.specs.Reading.{decimal_of}
 use Rattle.tsp_text.specs.declared.fault.LineFault.{LineFault}
 use Rattle.tsp_text.specs.declared.fault.LineFault.TheVariants as row
-use Rattle.tsp_text.specs.Numbers.{number, node, is_minus_one}
-use Rattle.tsp_text.specs.Places.{NodeAfter, Coordinate, PastGroups}
+use Rattle.tsp_text.specs.SectionNumbers.{number, node, is_minus_one}
+use Rattle.tsp_text.specs.WordPlaces.{NodeAfter, Coordinate, PastGroups}
 use Rattle.tsp_text.specs.Groups.{threes_in, begun_triple, point_in_words, point_groups, nodes_of_groups, place_of_point, points_by_node}
 use Rattle.tsp_text.specs.Spells.{wants_more}
 use Rattle.tsp_section.specs.states.Parts.{BeginsPoint, IsNewNode, NodesHold, PointsHold}
-use Rattle.tsp_text.specs.Rows.{word_fault}
+use Rattle.tsp_text.specs.FaultRows.{word_fault}
 use Rattle.tsp_text.proofs.TripleWords.{length_triples, triples_begin, begun_begin, triples_middle, begun_middle, triples_end, begun_end}
 use Rattle.tsp_section.proofs.NodeGroups.{nodes_unmarked, node_begins, node_faulty, entry_fills, entries_by_node, wants_in_group}
 

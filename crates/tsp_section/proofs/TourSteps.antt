@@ -11,12 +11,12 @@ use Rattle.tsp_section.specs.declared.fault.StepFault.{StepFault}
 use Rattle.tsp_section.specs.declared.fault.StepFault.TheVariants as steps
 use Rattle.tsp_section.specs.declared.parts.tours.TourList.{TourList}
 use Rattle.tsp_number.specs.Reading.{whole_of}
-use Rattle.tsp_text.specs.Numbers.{node_or_end, IsWhole}
-use Rattle.tsp_text.specs.Places.{TourNode}
-use Rattle.tsp_text.specs.Tours.{ends_tour, tour_node, place_of_tour}
+use Rattle.tsp_text.specs.SectionNumbers.{node_or_end, IsWhole}
+use Rattle.tsp_text.specs.WordPlaces.{TourNode}
+use Rattle.tsp_text.specs.TourSection.{ends_tour, tour_node, place_of_tour}
 use Rattle.tsp_section.specs.states.Parts.{Takes}
-use Rattle.tsp_text.specs.Rows.{word_fault}
-use Rattle.tsp_section.specs.states.Held.{HoldsTours, EndsRunOf}
+use Rattle.tsp_text.specs.FaultRows.{word_fault}
+use Rattle.tsp_section.specs.states.HeldParts.{HoldsTours, EndsRunOf}
 use Rattle.tsp_section.proofs.NodeGroups.{natural}
 use Rattle.tsp_section.proofs.Pieces.{split_end, split_more, count_push}
 

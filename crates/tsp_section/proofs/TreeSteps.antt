@@ -5,8 +5,8 @@ use Rattle.std.proofs.lemmas.List.Sums.{fold-append}
 use Rattle.std.proofs.lemmas.Bool.Decides.{nat_tests}
 use Rattle.tsp_number.specs.Reading.{whole_of}
 use Rattle.tsp_format.specs.Limits.{most_difference}
-use Rattle.tsp_text.specs.Tree.{TreeSoFar, no_steps, with_tree_word, tree_after, place_in_tree, place_of_step}
-use Rattle.tsp_text.specs.Rows.{word_fault}
+use Rattle.tsp_text.specs.BranchSection.{TreeSoFar, no_steps, with_tree_word, tree_after, place_in_tree, place_of_step}
+use Rattle.tsp_text.specs.FaultRows.{word_fault}
 
 pub one_more : (n : ℕ) (words : List (List ℕ)) (word : List ℕ) → tree_after n (words ++ word ∷ []) ≡ with_tree_word n (tree_after n words) word
 one_more n words word = fold-append (with_tree_word n) no_steps words (word ∷ [])

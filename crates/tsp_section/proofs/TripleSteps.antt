@@ -10,13 +10,13 @@ use Rattle.tsp_number.specs.declared.fault.NumberFault.{NumberFault}
 use Rattle.tsp_number.specs.Reading.{whole_of}
 use Rattle.tsp_format.specs.Limits.{most_fixed, most_multiplier}
 use Rattle.tsp_text.specs.declared.fault.LineFault.TheVariants as row
-use Rattle.tsp_text.specs.Numbers.{node, node_or_end, is_end, is_minus_one}
-use Rattle.tsp_text.specs.Places.{Amount, PastEnd, FirstAfter, SecondOf}
+use Rattle.tsp_text.specs.SectionNumbers.{node, node_or_end, is_end, is_minus_one}
+use Rattle.tsp_text.specs.WordPlaces.{Amount, PastEnd, FirstAfter, SecondOf}
 use Rattle.tsp_text.specs.Groups.{threes_in, begun_triple}
 use Rattle.tsp_text.specs.Lists.{fixed_triple, triple_firsts_in, place_of_triple}
 use Rattle.tsp_text.specs.Spells.{wants_more}
 use Rattle.tsp_section.specs.states.Parts.{BeginsTriple, TriplesHold}
-use Rattle.tsp_text.specs.Rows.{word_fault}
+use Rattle.tsp_text.specs.FaultRows.{word_fault}
 use Rattle.tsp_text.proofs.Ended.{any_push, and_false}
 use Rattle.tsp_section.proofs.DepotSteps.{past_end_clean}
 use Rattle.tsp_text.proofs.TripleWords.{triples_begin, begun_begin, firsts_begin, triples_middle, begun_middle, firsts_middle, triples_end, begun_end, firsts_end, firsts_kept, triples_kept, triples_none}

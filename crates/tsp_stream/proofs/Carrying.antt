@@ -7,7 +7,7 @@ use Rattle.std.proofs.lemmas.Grind.{flat_map-append}
 use Rattle.std.proofs.lemmas.List.FromFn.{length-enumerate_from, get_or-enumerate_from}
 use Rattle.std.specs.List.{flat_map, enumerate_from}
 use Rattle.tsp_stream.specs.Sink.{HasWritten, HasStopped, Sink}
-use Rattle.tsp_stream.specs.states.Way.{Way, Carries, Carried}
+use Rattle.tsp_stream.specs.states.WriteProgress.{Way, Carries, Carried}
 use Rattle.std.proofs.KnownBytes.{Appends-nil, Appends-trans, Appends-kept}
 
 -- the sink between two states

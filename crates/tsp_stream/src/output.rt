@@ -23,7 +23,7 @@ pub enum WriteFault {
 
 impl fmt::Display for WriteFault {
     ghost use Rattle.std.specs.Prelude.{Some};
-    ghost use Rattle.tsp_stream.specs.FaultText.{write_fault_text};
+    ghost use Rattle.tsp_stream.specs.WriteFaultText.{write_fault_text};
 
     ghost output = { λ fault. Some (write_fault_text fault) };
 

@@ -11,17 +11,17 @@ use Rattle.tsp_format.specs.declared.field.Field.{Field}
 use Rattle.tsp_format.specs.declared.field.Field.TheVariants.{NameKey, TypeKey, CommentKey, OtherKey, DimensionKey, CapacityKey, ScaleKey, EdgeWeightTypeKey, EdgeWeightFormatKey, NodeCoordTypeKey, DisplayDataTypeKey, NodeCoordPart, DisplayDataPart, DemandPart, DepotPart, FixedEdgesPart, EdgeWeightPart, TourPart, NodePotentialPart, RowPotentialPart, ColumnPotentialPart, FixedEdgePotentialPart, CombPart, BranchPart}
 use Rattle.tsp_format.specs.Limits.{most_demand, most_potential}
 use Rattle.tsp_text.specs.declared.fault.LineFault.TheVariants as row
-use Rattle.tsp_text.specs.Numbers.{number, node}
+use Rattle.tsp_text.specs.SectionNumbers.{number, node}
 use Rattle.tsp_text.specs.Items.{Item}
 use Rattle.tsp_text.specs.Earlier.{same_field, has_line, words_of}
-use Rattle.tsp_text.specs.Places.{Place, NodeAfter, Coordinate, Amount, PastGroups}
+use Rattle.tsp_text.specs.WordPlaces.{Place, NodeAfter, Coordinate, Amount, PastGroups}
 use Rattle.tsp_text.specs.Groups.{pairs_in, threes_in, fours_in, begun_pair, begun_triple, begun_four, place_of_number, place_of_point, number_groups, point_in_words, point_groups, space_point_of, space_point_groups, place_in_group, nodes_of_groups}
 use Rattle.tsp_text.specs.Values.{spatial_after}
 use Rattle.tsp_text.specs.Sections.{place_in, dimension_in}
-use Rattle.tsp_text.specs.Rows.{when, number_fault_at, is_repeated_node_at, is_self_edge_at, is_surplus_at, is_after_end_at, word_fault}
+use Rattle.tsp_text.specs.FaultRows.{when, number_fault_at, is_repeated_node_at, is_self_edge_at, is_surplus_at, is_after_end_at, word_fault}
 use Rattle.tsp_text.specs.FirstFault.{IsClean}
 use Rattle.tsp_text.specs.Spells.{wants_more, is_incomplete}
-use Rattle.tsp_text.specs.ByNode.{is_by_node_field, group_nodes, HasEachNodeOnce}
+use Rattle.tsp_text.specs.GroupNodes.{is_by_node_field, group_nodes, HasEachNodeOnce}
 use Rattle.tsp_text.proofs.ValidRows.{when_none, map_none, none_applies}
 use Rattle.tsp_text.proofs.Grown.{Grows, grown, grown_in}
 use Rattle.tsp_text.proofs.EachOnce.{AreOnce, IsFree, once_more, all_once}

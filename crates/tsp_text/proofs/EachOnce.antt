@@ -11,8 +11,8 @@ use Rattle.std.proofs.lemmas.List.FromFn.{length-map-range_with_len, get_or-map-
 use Rattle.std.proofs.lemmas.List.Sorted.{IsPermutation-refl, IsPermutation-remove, IsPermutation-cons, IsPermutation-sym, IsPermutation-trans, Contains-permutation, length_permutation}
 use Rattle.tsp_format.specs.Cells.{nodes_to}
 use Rattle.tsp_draft.specs.Validity.{is_node}
-use Rattle.tsp_text.specs.Numbers.{number, reads_as, node}
-use Rattle.tsp_text.specs.ByNode.{HasEachNodeOnce}
+use Rattle.tsp_text.specs.SectionNumbers.{number, reads_as, node}
+use Rattle.tsp_text.specs.GroupNodes.{HasEachNodeOnce}
 use Rattle.tsp_text.proofs.ValidNumbers.{read_node}
 
 -- ---- different elements

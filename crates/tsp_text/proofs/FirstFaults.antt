@@ -5,7 +5,7 @@ use Rattle.std.proofs.lemmas.Option.{none-some, same_Some}
 use Rattle.tsp_text.specs.declared.fault.LineFault.{LineFault}
 use Rattle.tsp_text.specs.declared.fault.ReadFault.{ReadFault}
 use Rattle.tsp_text.specs.Items.{Item}
-use Rattle.tsp_text.specs.Rows.{row_of}
+use Rattle.tsp_text.specs.FaultRows.{row_of}
 use Rattle.tsp_text.specs.FirstFault.{fault_here, fault_in, IsClean, IsFirstFault}
 use Rattle.tsp_text.specs.Answering.{NoneHasRow}
 use Rattle.tsp_text.proofs.Clean.{clean_more}

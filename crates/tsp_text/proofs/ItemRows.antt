@@ -10,7 +10,7 @@ use Rattle.tsp_text.specs.Items.{WordLine, Item, Line, NumberWord}
 use Rattle.tsp_text.specs.Earlier.{same_field, open_section, words_of}
 use Rattle.tsp_text.specs.Values.{spatial_after}
 use Rattle.tsp_text.specs.Sections.{place_in, dimension_in}
-use Rattle.tsp_text.specs.Rows.{row_of, word_fault}
+use Rattle.tsp_text.specs.FaultRows.{row_of, word_fault}
 
 pub same_self : (f : Field) → same_field f f ≡ true
 same_self NameKey = refl

@@ -8,7 +8,7 @@ use Rattle.tsp_text.specs.declared.fault.LineFault.{LineFault}
 use Rattle.tsp_text.specs.declared.fault.ReadFault.{ReadFault}
 use Rattle.tsp_text.specs.declared.fault.ReadFault.TheVariants as faults
 use Rattle.tsp_text.specs.Items.{Item}
-use Rattle.tsp_text.specs.Rows.{when, first_row, row_of}
+use Rattle.tsp_text.specs.FaultRows.{when, first_row, row_of}
 use Rattle.tsp_text.specs.FirstFault.{fault_here, fault_in}
 use Rattle.tsp_text.specs.Spells.{spelled, fault_at_end}
 use Rattle.tsp_text.specs.Text.{part, fault, Spells}

@@ -14,7 +14,7 @@ use Rattle.tsp_format.specs.Space.{weighs_three, has_three}
 use Rattle.tsp_text.specs.Values.{named_at, coord_kind_named, weight_kind_named, says_space, spatial_after}
 use Rattle.tsp_text.specs.Groups.{coords_by_node}
 use Rattle.tsp_text.specs.Sections.{place_in}
-use Rattle.tsp_text.specs.Rows.{row_of, is_repeated, is_late}
+use Rattle.tsp_text.specs.FaultRows.{row_of, is_repeated, is_late}
 use Rattle.tsp_text.specs.Spells.{wants_more, sections_in_order}
 use Rattle.tsp_text.proofs.ValidRows.{no_row}
 use Rattle.tsp_text.proofs.ValidSections.{same_field_is}

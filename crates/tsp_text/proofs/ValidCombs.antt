@@ -12,12 +12,12 @@ use Rattle.tsp_draft.specs.Validity.{is_node, is_set, is_comb, are_combs}
 use Rattle.tsp_text.specs.Lines.{is_filled}
 use Rattle.tsp_text.specs.Items.{Item}
 use Rattle.tsp_text.specs.Earlier.{words_of}
-use Rattle.tsp_text.specs.Numbers.{number, is_end}
-use Rattle.tsp_text.specs.Places.{SetNode, PastEnd}
-use Rattle.tsp_text.specs.Combs.{CombsSoFar, no_combs, comb_node, with_end, with_comb_word, combs_after, whole_combs, has_begun_comb, place_in_combs}
+use Rattle.tsp_text.specs.SectionNumbers.{number, is_end}
+use Rattle.tsp_text.specs.WordPlaces.{SetNode, PastEnd}
+use Rattle.tsp_text.specs.CombSection.{CombsSoFar, no_combs, comb_node, with_end, with_comb_word, combs_after, whole_combs, has_begun_comb, place_in_combs}
 use Rattle.tsp_text.specs.Sections.{dimension_in}
 use Rattle.tsp_text.specs.FirstFault.{IsClean}
-use Rattle.tsp_text.specs.Rows.{is_past_combs, word_fault}
+use Rattle.tsp_text.specs.FaultRows.{is_past_combs, word_fault}
 use Rattle.tsp_text.proofs.ValidRows.{is_taken}
 use Rattle.tsp_text.proofs.Grown.{Grows, grown}
 use Rattle.tsp_text.proofs.ValidNumbers.{read_listed}

@@ -9,12 +9,12 @@ use Rattle.tsp_format.specs.Limits.{most_depots}
 use Rattle.tsp_draft.specs.Validity.{is_node, are_depots}
 use Rattle.tsp_text.specs.Items.{Item}
 use Rattle.tsp_text.specs.Earlier.{words_of}
-use Rattle.tsp_text.specs.Numbers.{number, node_or_end, is_end}
-use Rattle.tsp_text.specs.Places.{DepotAfter, PastEnd}
+use Rattle.tsp_text.specs.SectionNumbers.{number, node_or_end, is_end}
+use Rattle.tsp_text.specs.WordPlaces.{DepotAfter, PastEnd}
 use Rattle.tsp_text.specs.Lists.{before, depots_in}
 use Rattle.tsp_text.specs.Sections.{dimension_in}
 use Rattle.tsp_text.specs.FirstFault.{IsClean}
-use Rattle.tsp_text.specs.Rows.{word_fault}
+use Rattle.tsp_text.specs.FaultRows.{word_fault}
 use Rattle.tsp_text.proofs.Ended.{before_kept, before_none, before_end, before_push}
 use Rattle.tsp_text.proofs.ValidRows.{is_taken}
 use Rattle.tsp_text.proofs.Grown.{Grows, grown}

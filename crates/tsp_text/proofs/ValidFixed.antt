@@ -10,13 +10,13 @@ use Rattle.tsp_format.specs.Limits.{most_fixed}
 use Rattle.tsp_draft.specs.Validity.{is_node, is_node_pair, are_fixed}
 use Rattle.tsp_text.specs.Items.{Item}
 use Rattle.tsp_text.specs.Earlier.{words_of}
-use Rattle.tsp_text.specs.Numbers.{number, reads_as, node, node_or_end, is_end}
-use Rattle.tsp_text.specs.Places.{FirstAfter, SecondOf, PastEnd}
+use Rattle.tsp_text.specs.SectionNumbers.{number, reads_as, node, node_or_end, is_end}
+use Rattle.tsp_text.specs.WordPlaces.{FirstAfter, SecondOf, PastEnd}
 use Rattle.tsp_text.specs.Groups.{pairs_in, begun_pair}
 use Rattle.tsp_text.specs.Lists.{before, fixed_in, firsts_in, place_in_pair}
 use Rattle.tsp_text.specs.Sections.{dimension_in}
 use Rattle.tsp_text.specs.FirstFault.{IsClean}
-use Rattle.tsp_text.specs.Rows.{word_fault}
+use Rattle.tsp_text.specs.FaultRows.{word_fault}
 use Rattle.tsp_text.proofs.Ended.{any_push}
 use Rattle.tsp_text.proofs.PairWords.{pairs_begin, begun_begin, firsts_begin, pairs_end, begun_end, firsts_end, firsts_kept, pairs_kept, pairs_none}
 use Rattle.tsp_text.proofs.ValidRows.{is_taken}

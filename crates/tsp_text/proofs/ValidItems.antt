@@ -22,13 +22,13 @@ use Rattle.tsp_text.specs.Values.{spatial_after}
 use Rattle.tsp_text.specs.Groups.{points_by_node, coords_by_node}
 use Rattle.tsp_draft.proofs.ValidFields.{nodes_fit}
 use Rattle.tsp_text.specs.Lists.{depots_in, fixed_in, fixed_triples_in}
-use Rattle.tsp_text.specs.Weights.{weights_in}
-use Rattle.tsp_text.specs.Tours.{tours_in}
-use Rattle.tsp_text.specs.Combs.{whole_combs}
-use Rattle.tsp_text.specs.Tree.{whole_steps, place_of_step}
+use Rattle.tsp_text.specs.WeightSection.{weights_in}
+use Rattle.tsp_text.specs.TourSection.{tours_in}
+use Rattle.tsp_text.specs.CombSection.{whole_combs}
+use Rattle.tsp_text.specs.BranchSection.{whole_steps, place_of_step}
 use Rattle.tsp_text.specs.FirstFault.{fault_in, IsClean}
 use Rattle.tsp_text.specs.declared.fault.ReadFault.TheVariants as faults
-use Rattle.tsp_text.specs.Rows.{when}
+use Rattle.tsp_text.specs.FaultRows.{when}
 use Rattle.tsp_text.specs.Spells.{potentials_by_node, demands_in, spelled, wants_more, is_incomplete, sections_in_order, first_incomplete, fault_at_end}
 use Rattle.tsp_text.specs.Text.{is_too_long, part, Spells}
 use Rattle.tsp_text.proofs.ValidRows.{none_applies, map_none}

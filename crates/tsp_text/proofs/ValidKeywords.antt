@@ -24,7 +24,7 @@ use Rattle.tsp_text.specs.Items.{WordLine, Item, Line, NumberWord, LineEnd}
 use Rattle.tsp_text.specs.Earlier.{same_field, is_key, value_at, values_at, others_in}
 use Rattle.tsp_text.specs.Values.{number_at, dimension_of}
 use Rattle.tsp_text.specs.Cuts.{IsCutLine, AreCut}
-use Rattle.tsp_text.specs.Rows.{is_too_long_to_keep, has_bad_value, row_of}
+use Rattle.tsp_text.specs.FaultRows.{is_too_long_to_keep, has_bad_value, row_of}
 use Rattle.tsp_text.specs.FirstFault.{IsClean}
 use Rattle.tsp_text.proofs.ValidRows.{clean_parts, no_row}
 use Rattle.tsp_text.proofs.ValidSections.{same_field_is}

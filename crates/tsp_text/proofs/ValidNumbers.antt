@@ -21,7 +21,7 @@ use Rattle.tsp_format.specs.Cells.{nodes_to}
 use Rattle.tsp_format.specs.Limits.{most_coordinate}
 use Rattle.tsp_draft.specs.Coords.{origin}
 use Rattle.tsp_draft.specs.Validity.{is_from_to, is_within, is_node, is_by_node, is_point}
-use Rattle.tsp_text.specs.Numbers.{number, reads_as, node, not_zero, node_or_end, is_end}
+use Rattle.tsp_text.specs.SectionNumbers.{number, reads_as, node, not_zero, node_or_end, is_end}
 use Rattle.tsp_text.specs.Groups.{pairs_in, threes_in, number_groups, point_in_words, point_groups, entry_of, by_node, numbers_by_node, points_by_node, fours_in, space_point_of, space_point_groups, space_points_by_node, coords_by_node}
 use Rattle.std.proofs.Math.ListN.{take}
 

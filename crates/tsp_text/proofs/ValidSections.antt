@@ -19,7 +19,7 @@ use Rattle.tsp_format.specs.Shapes.{is_section_field}
 use Rattle.tsp_text.specs.Earlier.{same_field, has_line, open_section, words_of}
 use Rattle.tsp_text.specs.Values.{read_as, dimension_of}
 use Rattle.tsp_text.specs.Sections.{dimension_in}
-use Rattle.tsp_text.specs.Rows.{row_of, may_repeat, is_repeated}
+use Rattle.tsp_text.specs.FaultRows.{row_of, may_repeat, is_repeated}
 use Rattle.tsp_text.specs.FirstFault.{IsClean}
 use Rattle.tsp_text.proofs.ValidRows.{clean_parts, no_row}
 

@@ -10,7 +10,7 @@ use Rattle.tsp_format.specs.Shapes.{is_section_field}
 use Rattle.tsp_text.specs.Earlier.{same_field, has_line, words_of}
 use Rattle.tsp_text.specs.Values.{dimension_of}
 use Rattle.tsp_text.specs.Sections.{dimension_in}
-use Rattle.tsp_text.specs.Rows.{is_early}
+use Rattle.tsp_text.specs.FaultRows.{is_early}
 use Rattle.tsp_text.specs.FirstFault.{IsClean}
 use Rattle.tsp_text.specs.Spells.{section_value, stands}
 use Rattle.tsp_text.proofs.ValidRows.{clean_parts, no_row}

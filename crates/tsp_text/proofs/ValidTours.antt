@@ -14,11 +14,11 @@ use Rattle.tsp_draft.specs.Validity.{is_node, is_tour, are_tours}
 use Rattle.tsp_text.specs.Lines.{is_filled}
 use Rattle.tsp_text.specs.Items.{Item}
 use Rattle.tsp_text.specs.Earlier.{words_of}
-use Rattle.tsp_text.specs.Numbers.{number}
-use Rattle.tsp_text.specs.Places.{TourNode}
-use Rattle.tsp_text.specs.Tours.{ends_tour, tour_node, tours_in}
+use Rattle.tsp_text.specs.SectionNumbers.{number}
+use Rattle.tsp_text.specs.WordPlaces.{TourNode}
+use Rattle.tsp_text.specs.TourSection.{ends_tour, tour_node, tours_in}
 use Rattle.tsp_text.specs.FirstFault.{IsClean}
-use Rattle.tsp_text.specs.Rows.{word_fault}
+use Rattle.tsp_text.specs.FaultRows.{word_fault}
 use Rattle.tsp_text.proofs.ValidRows.{is_taken}
 use Rattle.tsp_text.proofs.Grown.{Grows, grown}
 use Rattle.tsp_text.proofs.ValidNumbers.{read_listed}

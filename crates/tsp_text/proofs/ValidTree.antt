@@ -17,12 +17,12 @@ use Rattle.tsp_format.specs.Steps.{Step, Branch, Leaf, are_whole, branch_count, 
 use Rattle.tsp_draft.specs.Validity.{is_from_to, is_within, is_node, is_node_pair, is_change, is_step, are_steps}
 use Rattle.tsp_text.specs.Items.{Item}
 use Rattle.tsp_text.specs.Earlier.{words_of}
-use Rattle.tsp_text.specs.Numbers.{number, reads_as, node, whole_of_size}
-use Rattle.tsp_text.specs.Places.{StepAfter, SecondOf, IndexAfter, PastGroups}
-use Rattle.tsp_text.specs.Tree.{TreeSoFar, no_steps, node_or_leaf, begins_leaf, index_or_end, ends_leaf, with_word_of, with_tree_word, tree_after, whole_steps, place_in_step, place_in_tree, place_of_step}
+use Rattle.tsp_text.specs.SectionNumbers.{number, reads_as, node, whole_of_size}
+use Rattle.tsp_text.specs.WordPlaces.{StepAfter, SecondOf, IndexAfter, PastGroups}
+use Rattle.tsp_text.specs.BranchSection.{TreeSoFar, no_steps, node_or_leaf, begins_leaf, index_or_end, ends_leaf, with_word_of, with_tree_word, tree_after, whole_steps, place_in_step, place_in_tree, place_of_step}
 use Rattle.tsp_text.specs.Sections.{dimension_in}
 use Rattle.tsp_text.specs.FirstFault.{IsClean}
-use Rattle.tsp_text.specs.Rows.{word_fault}
+use Rattle.tsp_text.specs.FaultRows.{word_fault}
 use Rattle.tsp_text.specs.Spells.{wants_more}
 use Rattle.tsp_text.proofs.ValidRows.{is_taken}
 use Rattle.tsp_text.proofs.Grown.{Grows, grown}

@@ -11,13 +11,13 @@ use Rattle.tsp_format.specs.Limits.{most_fixed, most_multipliers, most_multiplie
 use Rattle.tsp_draft.specs.Validity.{is_from_to, is_node_pair, is_triple, are_triples}
 use Rattle.tsp_text.specs.Items.{Item}
 use Rattle.tsp_text.specs.Earlier.{words_of}
-use Rattle.tsp_text.specs.Numbers.{number, node_or_end, is_end}
-use Rattle.tsp_text.specs.Places.{FirstAfter, SecondOf, PastEnd}
+use Rattle.tsp_text.specs.SectionNumbers.{number, node_or_end, is_end}
+use Rattle.tsp_text.specs.WordPlaces.{FirstAfter, SecondOf, PastEnd}
 use Rattle.tsp_text.specs.Groups.{threes_in, begun_triple}
 use Rattle.tsp_text.specs.Lists.{before, fixed_triple, fixed_triples_in, triple_firsts_in, place_in_triple}
 use Rattle.tsp_text.specs.Sections.{dimension_in}
 use Rattle.tsp_text.specs.FirstFault.{IsClean}
-use Rattle.tsp_text.specs.Rows.{word_fault}
+use Rattle.tsp_text.specs.FaultRows.{word_fault}
 use Rattle.tsp_text.proofs.Ended.{any_push}
 use Rattle.tsp_text.proofs.TripleWords.{triples_begin, begun_begin, firsts_begin, triples_middle, begun_middle, triples_end, begun_end, firsts_end, firsts_kept, triples_kept, triples_none}
 use Rattle.tsp_text.proofs.ValidRows.{is_taken}

@@ -12,11 +12,11 @@ use Rattle.tsp_format.specs.Limits.{most_matrix_nodes, most_weight}
 use Rattle.tsp_draft.specs.Validity.{is_within, are_weights}
 use Rattle.tsp_text.specs.Items.{WordLine, Item, Line, NumberWord, LineEnd}
 use Rattle.tsp_text.specs.Earlier.{same_field, has_line, words_of}
-use Rattle.tsp_text.specs.Numbers.{number, whole_of_size}
-use Rattle.tsp_text.specs.Places.{Weight, PastWeights}
-use Rattle.tsp_text.specs.Weights.{weights_in}
+use Rattle.tsp_text.specs.SectionNumbers.{number, whole_of_size}
+use Rattle.tsp_text.specs.WordPlaces.{Weight, PastWeights}
+use Rattle.tsp_text.specs.WeightSection.{weights_in}
 use Rattle.tsp_text.specs.Sections.{dimension_in}
-use Rattle.tsp_text.specs.Rows.{row_of, word_fault}
+use Rattle.tsp_text.specs.FaultRows.{row_of, word_fault}
 use Rattle.tsp_text.specs.FirstFault.{IsClean}
 use Rattle.tsp_text.proofs.ValidRows.{clean_parts, no_row, is_taken}
 use Rattle.tsp_text.proofs.ValidSections.{same_field_is, nodes_kept}

@@ -8,7 +8,7 @@ ghost use Rattle.tsp_text.specs.Values.{spatial_after};
 ghost use Rattle.tsp_text.specs.Sections.{dimension_in};
 ghost use Rattle.tsp_text.specs.FirstFault.{IsClean};
 ghost use Rattle.tsp_text.specs.Spells.{is_incomplete};
-ghost use Rattle.tsp_text.specs.ByNode.{is_by_node_field, group_nodes, HasEachNodeOnce};
+ghost use Rattle.tsp_text.specs.GroupNodes.{is_by_node_field, group_nodes, HasEachNodeOnce};
 
 /// A section by node that is present, has no fault and isn't incomplete has one group for each
 /// node.

@@ -9,10 +9,10 @@ ghost use Rattle.tsp_format.specs.declared.field.Field.TheVariants as fields;
 ghost use Rattle.tsp_draft.specs.declared.fault.EndFault.TheVariants as ends;
 ghost use Rattle.tsp_text.specs.declared.fault.LineFault.TheVariants as faults;
 ghost use Rattle.tsp_text.specs.declared.fault.ReadFault.TheVariants as reads;
-ghost use Rattle.tsp_text.specs.FaultText.{line_fault_text, read_fault_text};
+ghost use Rattle.tsp_text.specs.ReadFaultText.{line_fault_text, read_fault_text};
 ghost use Rattle.tsp_text.specs.Examples.{FaultAt, NumberAt, MissingAtEnd, FaultAtEnd, OthersAre, ToursAre, PairsAre, TriplesAre, CombIs, TreeIs, DemandsAre, InSpace, OnPlane, quad, longest_line, long_line, long_word, filled_line, IsLimit, IsLimitOfLines};
-ghost use Rattle.tsp_text.specs.Rows.{is_surplus_at};
-ghost use Rattle.tsp_text.specs.Places.{DepotAfter, FirstAfter, TourNode, SetNode, StepAfter, IndexAfter};
+ghost use Rattle.tsp_text.specs.FaultRows.{is_surplus_at};
+ghost use Rattle.tsp_text.specs.WordPlaces.{DepotAfter, FirstAfter, TourNode, SetNode, StepAfter, IndexAfter};
 
 /// The first faults of some texts of word lines. In the texts `/` parts lines.
 #[tactic(auto, unfolding(tsp_number::specs::Reading::decimal_of, tsp_number::specs::Reading::whole_of))]

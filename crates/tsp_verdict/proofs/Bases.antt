@@ -20,7 +20,7 @@ use Rattle.tsp_verdict.specs.Certified.{is_bounded, StandsAgainstCertificate}
 use Rattle.tsp_verdict.specs.Judged.{IsVerdictBy, IsVerdictOn, IsAsClaimed, IsOtherClaimed, IsVerdictWith}
 use Rattle.tsp_verdict.specs.Plan.{total_of, IsLeast}
 use Rattle.tsp_verdict.specs.Reasons.{rank_of, NoneBefore, IsFirstReason}
-use Rattle.tsp_cost.specs.Tours.{capacity_of}
+use Rattle.tsp_cost.specs.ComputedProblems.{capacity_of}
 use Rattle.tsp_verdict.specs.Routes.{StandsAgainstRoutes, IsRoutesVerdict}
 use Rattle.tsp_verdict.specs.Tours.{NoneOfTourUpTo, IsFirstAgainstTour, IsTourVerdict}
 use Rattle.tsp_verdict.specs.states.Known.{against_instance, KnowsInstance}

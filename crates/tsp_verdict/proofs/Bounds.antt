@@ -10,7 +10,7 @@ use Rattle.tsp_reason.specs.declared.verdict.Reason.TheVariants.{TooFewNodes, No
 use Rattle.tsp_file.specs.Cost.{cost}
 use Rattle.tsp_theory.specs.Costs.{IsSymmetric, IsFirstAsymmetric}
 use Rattle.tsp_verdict.specs.declared.tour.TourCosts.{TourCosts}
-use Rattle.tsp_verdict.specs.states.Costs.{AreTourCosts}
+use Rattle.tsp_verdict.specs.states.TourCosts.{AreTourCosts}
 use Rattle.tsp_verdict.specs.Bounded.{StandsAgainstInstance, NoneAgainstInstance, StandsAgainstBounded, IsBoundVerdict}
 use Rattle.tsp_verdict.specs.Certified.{StandsAgainstCertificate, FindsBound, NoneWithoutMemory}
 use Rattle.tsp_verdict.specs.Reasons.{rank_of, IsFirstReason}

@@ -8,7 +8,7 @@ use Rattle.tsp_file.specs.Cost.{cost}
 use Rattle.tsp_theory.specs.Costs.{IsSymmetric}
 use Rattle.tsp_theory.specs.Length.{length_of}
 use Rattle.tsp_theory.specs.Tour.{Uses}
-use Rattle.tsp_cost.specs.Tours.{is_directed}
+use Rattle.tsp_cost.specs.ComputedProblems.{is_directed}
 use Rattle.tsp_cost.specs.states.Views.{HasCosts}
 use Rattle.tsp_theory.specs.Cycle.{IsCycle, AreNeighbours}
 use Rattle.tsp_format.specs.declared.kinds.Kind.TheVariants as kinds
@@ -20,7 +20,7 @@ use Rattle.tsp_theory.specs.Assignment.{AreGood, IsFirstBroken, IsDualBound, Dua
 use Rattle.tsp_reason.specs.declared.verdict.Reason.TheVariants.{DualInfeasible}
 use Rattle.tsp_verdict.specs.Multiplied.{AreListed}
 use Rattle.tsp_file.specs.Meant.{nodes_of, fixed_of, scale_in, multipliers_in}
-use Rattle.tsp_verdict.specs.Certificate.{StandsAgainstPotentials, IsBoundByNodes, IsBoundByDuals}
+use Rattle.tsp_verdict.specs.PotentialsCertificate.{StandsAgainstPotentials, IsBoundByNodes, IsBoundByDuals}
 use Rattle.tsp_verdict.specs.Certified.{IsBoundBy, IsCertified}
 use Rattle.tsp_reason.specs.declared.certificate.Certificate.TheVariants.{Potentials}
 

@@ -20,7 +20,7 @@ use Rattle.tsp_draft.specs.Valid.{AreTours, AreDepots, IsNodeList, IsStep, AreTr
 use Rattle.tsp_branch.specs.Listed.{IsStepOf}
 use Rattle.tsp_file.specs.Meant.{nodes_of}
 use Rattle.tsp_verdict.specs.Solution.{visited, tours_of}
-use Rattle.tsp_verdict.specs.states.Routes.{nodes_in, AreToursOf}
+use Rattle.tsp_verdict.specs.states.RouteLists.{nodes_in, AreToursOf}
 use Rattle.tsp_verdict.proofs.Pieces.{nodes_in_is}
 
 in_both : (P : ℕ → Type 0) (xs ys : List ℕ) → AllByRecursion P xs → AllByRecursion P ys → AllByRecursion P (xs ++ ys)

@@ -7,7 +7,7 @@ use Rattle.tsp_draft.specs.Fields.{Fields}
 use Rattle.tsp_file.specs.Typed.{AreMultipliersIn, HoldsRouting, HoldsNodeNumbers, HoldsDuals}
 use Rattle.tsp_theory.specs.Numbers.{AreDuals, AreNodePotentials, AreMultipliers}
 use Rattle.tsp_file.specs.Meant.{nodes_of}
-use Rattle.tsp_cost.specs.Tours.{depots_of, demands_of, capacity_of}
+use Rattle.tsp_cost.specs.ComputedProblems.{depots_of, demands_of, capacity_of}
 use Rattle.tsp_verdict.proofs.CarriedBounds.{AreOf}
 
 pub not_some : {A : Type 0} (o : Option A) → (IsSome o → ⊥) → is_some o ≡ false

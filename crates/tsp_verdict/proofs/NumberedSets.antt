@@ -18,7 +18,7 @@ use Rattle.tsp_branch.specs.CombsOfSets.{NumberedSet, numbered_set, family_with,
 use Rattle.tsp_file.specs.Typed.{AreSomeSets}
 use Rattle.tsp_families.specs.declared.family.Crossings.{Crossings}
 use Rattle.tsp_branch.specs.Families.{IsFamily, NumbersAreUnique}
-use Rattle.tsp_verdict.specs.Tree.{families_with}
+use Rattle.tsp_verdict.specs.BranchesCertificate.{families_with}
 use Rattle.tsp_verdict.specs.states.Numbered.{with_number, numbered_from}
 use Rattle.tsp_families.specs.declared.comb_set.CombSet.{CombSet}
 

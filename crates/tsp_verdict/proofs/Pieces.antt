@@ -9,7 +9,7 @@ use Rattle.std.proofs.lemmas.List.Concat.{get_or-flat_map}
 use Rattle.std.proofs.lemmas.List.Folds.{length-flat_map-take}
 use Rattle.tsp_verdict.specs.states.Marks.{StandsAfter}
 use Rattle.tsp_verdict.specs.Places.{node_at, IsFirstPlace}
-use Rattle.tsp_verdict.specs.states.Routes.{nodes_in}
+use Rattle.tsp_verdict.specs.states.RouteLists.{nodes_in}
 
 -- a route is after the nodes of those before it
 pub route_stands : (routes : List (Vec ℕ)) (i : ℕ) (route : Vec ℕ) → i < length routes → route ≡ get_or routes i route → StandsAfter (length (nodes_in (take i routes))) (nodes_in routes) route.items

@@ -6,7 +6,7 @@ use Rattle.tsp_reason.specs.declared.verdict.Reason.TheVariants.{NotPotentials, 
 use Rattle.tsp_verdict.specs.Places.{IsFirstPlace, IsLarger, IsAt, IsRepeated}
 use Rattle.tsp_verdict.specs.Plan.{depot_of}
 use Rattle.tsp_file.specs.Meant.{nodes_of}
-use Rattle.tsp_cost.specs.Tours.{demands_of, capacity_of}
+use Rattle.tsp_cost.specs.ComputedProblems.{demands_of, capacity_of}
 use Rattle.tsp_verdict.specs.Solution.{visited, tours_of}
 use Rattle.tsp_verdict.specs.Routes.{IsFirstUnserved, IsOverloaded, StandsAgainstRoutes, NoneOfRoutesUpTo}
 

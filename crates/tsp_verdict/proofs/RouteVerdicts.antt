@@ -12,7 +12,7 @@ use Rattle.tsp_reason.specs.declared.verdict.Reason.{Reason}
 use Rattle.tsp_reason.specs.declared.verdict.Reason.TheVariants.{DepotInRoute, NodeOutOfRange, RepeatedNode, Unserved, Overload}
 use Rattle.tsp_verdict.specs.states.Marks.{Marked}
 use Rattle.tsp_verdict.specs.Places.{IsFirstPlace, IsLarger, IsAt, IsRepeated}
-use Rattle.tsp_cost.specs.Tours.{routing_of, demands_of, capacity_of}
+use Rattle.tsp_cost.specs.ComputedProblems.{routing_of, demands_of, capacity_of}
 use Rattle.tsp_verdict.specs.Plan.{demand_of, load_of, IsCustomer, plan_length, IsLeast, depot_of, total_of, AreCustomers}
 use Rattle.tsp_file.specs.Meant.{nodes_of}
 use Rattle.tsp_verdict.specs.Routes.{IsOverloaded, StandsAgainstRoutes, NoneOfRoutesUpTo, IsFirstAgainstRoutes, IsPlanned}

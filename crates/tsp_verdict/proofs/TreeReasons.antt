@@ -16,7 +16,7 @@ use Rattle.tsp_draft.specs.Rules.{is_tree}
 use Rattle.tsp_file.specs.Cost.{cost}
 use Rattle.tsp_theory.specs.Costs.{IsSymmetric}
 use Rattle.tsp_theory.specs.Tour.{HasNoTour}
-use Rattle.tsp_cost.specs.Tours.{is_directed, problem_of, IsTourOf}
+use Rattle.tsp_cost.specs.ComputedProblems.{is_directed, problem_of, IsTourOf}
 use Rattle.tsp_theory.specs.Numbers.{IsScale, IsBoundSized}
 use Rattle.tsp_branch.specs.declared.steps.BranchVerdict.{BranchVerdict}
 use Rattle.tsp_branch.specs.declared.steps.BranchVerdict.TheVariants as found
@@ -37,8 +37,8 @@ use Rattle.tsp_file.specs.Meant.{scale_in, nodes_of, fixed_of, combs_in}
 use Rattle.tsp_verdict.specs.states.Numbered.{numbered_from}
 use Rattle.tsp_verdict.specs.Places.{IsFirstPlace}
 use Rattle.tsp_verdict.specs.Reasons.{NoneBefore, IsFirstReason}
-use Rattle.tsp_verdict.specs.states.Costs.{IsSymmetricTsp}
-use Rattle.tsp_verdict.specs.Tree.{each_once, given_in, tree_in, told_families, AreNumbersOf, IsBadComb, StandsAgainstTree, HasBoundByTree, IsBoundByTree, HasNoBoundByTree}
+use Rattle.tsp_verdict.specs.states.TourCosts.{IsSymmetricTsp}
+use Rattle.tsp_verdict.specs.BranchesCertificate.{each_once, given_in, tree_in, told_families, AreNumbersOf, IsBadComb, StandsAgainstTree, HasBoundByTree, IsBoundByTree, HasNoBoundByTree}
 use Rattle.tsp_verdict.specs.Certified.{IsBoundBy, IsCertified, NoneWithoutMemory}
 use Rattle.tsp_reason.specs.declared.certificate.Certificate.TheVariants.{Branches}
 use Rattle.tsp_verdict.proofs.CarriedBounds.{Same}

@@ -12,7 +12,7 @@ use Rattle.tsp_reason.specs.declared.verdict.Verdict.TheVariants as verdicts
 use Rattle.tsp_verdict.specs.Places.{IsFirstPlace, IsLarger, IsAt, IsRepeated}
 use Rattle.tsp_verdict.specs.Plan.{demand_of, load_of, IsCustomer, plan_length, IsLeast, depot_of, total_of, IsPlanOf}
 use Rattle.tsp_file.specs.Meant.{nodes_of, fixed_of}
-use Rattle.tsp_cost.specs.Tours.{depots_of, demands_of, capacity_of}
+use Rattle.tsp_cost.specs.ComputedProblems.{depots_of, demands_of, capacity_of}
 use Rattle.tsp_verdict.specs.Reasons.{rank_of, NoneBefore, IsFirstReason}
 use Rattle.tsp_verdict.specs.Solution.{visited, tours_of}
 

@@ -7,7 +7,7 @@ use Rattle.tsp_draft.specs.Rules.{is_tours}
 use Rattle.tsp_file.specs.Cost.{cost}
 use Rattle.tsp_theory.specs.Costs.{IsFirstAsymmetric}
 use Rattle.tsp_theory.specs.Length.{length_of}
-use Rattle.tsp_cost.specs.Tours.{is_directed, IsTourOf}
+use Rattle.tsp_cost.specs.ComputedProblems.{is_directed, IsTourOf}
 use Rattle.tsp_reason.specs.declared.verdict.Reason.{Reason}
 use Rattle.tsp_reason.specs.declared.verdict.Reason.TheVariants.{NotASolution, TooFewNodes, NotSymmetric, Dimension, TourCount, TourLength, NodeOutOfRange, RepeatedNode, FixedEdgeUnused}
 use Rattle.tsp_reason.specs.declared.verdict.Verdict.{Verdict}

@@ -7,14 +7,14 @@ ghost use Rattle.tsp_format.specs.declared.kinds.Kind.TheVariants as kinds;
 ghost use Rattle.tsp_format.specs.Cells.{IsNode};
 ghost use Rattle.tsp_draft.specs.Fields.{Fields};
 ghost use Rattle.tsp_file.specs.Meant.{nodes_of};
-ghost use Rattle.tsp_cost.specs.Tours.{demands_of, depots_of};
+ghost use Rattle.tsp_cost.specs.ComputedProblems.{demands_of, depots_of};
 ghost use Rattle.tsp_reason.specs.declared.certificate.Certificate.{Certificate};
 ghost use Rattle.tsp_verdict.specs.Basis.{IsBasis, IsBasisBy, IsBasisOfRoutes, StandsAgainstRouting, NoneAgainstRouting, NoneOfBasisWithoutMemory, IsVerdictFrom};
 ghost use Rattle.tsp_verdict.specs.Bounded.{IsBoundVerdict};
 ghost use Rattle.tsp_verdict.specs.Judged.{is_judged, NoneBeforeRepeatsOn};
 ghost use Rattle.tsp_verdict.specs.Reasons.{IsFirstReason};
 ghost use Rattle.tsp_verdict.specs.Tours.{NoneOfTourBeforeRepeats};
-ghost use Rattle.tsp_verdict.specs.states.Costs.{IsLengthOf};
+ghost use Rattle.tsp_verdict.specs.states.TourCosts.{IsLengthOf};
 ghost use Rattle.tsp_verdict.specs.states.Known.{KnowsInstance, against_instance};
 
 use crate::bounded::{costs_of_tours, judge_bound};

@@ -6,7 +6,7 @@ ghost use Rattle.tsp_verdict.specs.Bounded.{StandsAgainstInstance, NoneAgainstIn
 ghost use Rattle.tsp_verdict.specs.Certified.{is_bounded, NoneWithoutMemory};
 ghost use Rattle.tsp_verdict.specs.Reasons.{IsFirstReason};
 ghost use Rattle.tsp_file.specs.Meant.{nodes_of};
-ghost use Rattle.tsp_verdict.specs.states.Costs.{AreTourCosts};
+ghost use Rattle.tsp_verdict.specs.states.TourCosts.{AreTourCosts};
 
 use crate::certified::bound_of;
 use crate::tour::{FEWEST_NODES, TourCosts, tour_costs};

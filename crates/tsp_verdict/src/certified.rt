@@ -7,7 +7,7 @@ ghost use Rattle.tsp_reason.specs.declared.certificate.Certificate.{Certificate}
 ghost use Rattle.tsp_reason.specs.declared.certificate.Certificate.TheVariants as certificates;
 ghost use Rattle.tsp_file.specs.Meant.{nodes_of};
 ghost use Rattle.tsp_verdict.specs.Tours.{NoneOfTourBeforeRepeats};
-ghost use Rattle.tsp_verdict.specs.states.Costs.{AreTourCosts, IsSymmetricTsp};
+ghost use Rattle.tsp_verdict.specs.states.TourCosts.{AreTourCosts, IsSymmetricTsp};
 ghost use Rattle.tsp_verdict.specs.Certified.{is_bounded, FindsBound, NoneWithoutMemory, IsCertifiedVerdict};
 ghost use Rattle.tsp_verdict.specs.Judged.{IsVerdictWith};
 

@@ -9,7 +9,7 @@ ghost use Rattle.tsp_reason.specs.declared.verdict.Reason.TheVariants as reasons
 ghost use Rattle.tsp_reason.specs.declared.verdict.Verdict.TheVariants as verdicts;
 ghost use Rattle.tsp_verdict.specs.Examples.{nodes};
 ghost use Rattle.tsp_verdict.specs.Judged.{IsAsClaimed, IsOtherClaimed, IsOfLength, IsVerdictOn, IsVerdictWith};
-ghost use Rattle.tsp_verdict.specs.Tree.{given_in};
+ghost use Rattle.tsp_verdict.specs.BranchesCertificate.{given_in};
 
 /// A claim above the length, and one below it, are both other claims.
 pub fn examples_of_other_claims()

@@ -15,9 +15,9 @@ ghost use Rattle.tsp_verdict.specs.Judged.{IsAsClaimed, IsOtherClaimed, HasLengt
 ghost use Rattle.tsp_verdict.specs.Plan.{IsPlanOf, IsLeast, plan_length, total_of};
 ghost use Rattle.tsp_verdict.specs.Tours.{StandsAgainstTour, NoneOfTourBeforeRepeats};
 ghost use Rattle.tsp_verdict.specs.Routes.{StandsAgainstRoutes, NoneOfRoutesBeforeRepeats};
-ghost use Rattle.tsp_verdict.specs.Certificate.{StandsAgainstPotentials};
+ghost use Rattle.tsp_verdict.specs.PotentialsCertificate.{StandsAgainstPotentials};
 ghost use Rattle.tsp_file.specs.Meant.{scale_in};
-ghost use Rattle.tsp_verdict.specs.Tree.{StandsAgainstTree, given_in};
+ghost use Rattle.tsp_verdict.specs.BranchesCertificate.{StandsAgainstTree, given_in};
 ghost use Rattle.tsp_verdict.specs.Examples.{of_nodes, of_rows, of_both, multiplying, nodes, vehicles, carrying, solution, sized, lone, both, two, three, four, branching, two_leaves, three_leaves, node_twice, Before};
 
 /// The order in which reasons against a tour, and then against its certificate, are judged: each

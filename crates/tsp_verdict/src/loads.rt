@@ -8,7 +8,7 @@ ghost use Rattle.tsp_draft.specs.Valid.{IsDemand, IsFromTo};
 ghost use Rattle.tsp_verdict.specs.Places.{IsFirstPlace};
 ghost use Rattle.tsp_verdict.specs.Plan.{load_of, IsLeast};
 ghost use Rattle.tsp_verdict.specs.Routes.{IsOverloaded};
-ghost use Rattle.tsp_verdict.specs.states.Routes.{nodes_in};
+ghost use Rattle.tsp_verdict.specs.states.RouteLists.{nodes_in};
 
 /// The first route, counted from 1, whose demands sum to more than the capacity.
 pub(crate) fn first_overload(routes: &[Vec<u32>], demands: &[i64], capacity: i64) -> Option<u32>

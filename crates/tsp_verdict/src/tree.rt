@@ -9,8 +9,8 @@ ghost use Rattle.tsp_file.specs.Typed.{HoldsCases};
 ghost use Rattle.tsp_cost.specs.states.Views.{HasCosts};
 ghost use Rattle.tsp_verdict.specs.Reasons.{IsFirstReason};
 ghost use Rattle.tsp_file.specs.Meant.{nodes_of};
-ghost use Rattle.tsp_verdict.specs.states.Costs.{IsSymmetricTsp};
-ghost use Rattle.tsp_verdict.specs.Tree.{StandsAgainstTree};
+ghost use Rattle.tsp_verdict.specs.states.TourCosts.{IsSymmetricTsp};
+ghost use Rattle.tsp_verdict.specs.BranchesCertificate.{StandsAgainstTree};
 ghost use Rattle.tsp_reason.specs.declared.certificate.Certificate.TheVariants as certificates;
 ghost use Rattle.tsp_verdict.specs.Certified.{FindsBound, NoneWithoutMemory};
 

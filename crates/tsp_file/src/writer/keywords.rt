@@ -3,8 +3,8 @@
 ghost use Rattle.std.specs.Prelude.{map};
 ghost use Rattle.std.specs.List.{flat_map};
 ghost use Rattle.std.specs.Option.{option_map};
-ghost use Rattle.tsp_file.specs.Text.{value_line, keyword_line, other_line, optional};
-ghost use Rattle.tsp_stream.specs.states.Way.{Puts};
+ghost use Rattle.tsp_file.specs.CanonicalText.{value_line, keyword_line, other_line, optional};
+ghost use Rattle.tsp_stream.specs.states.WriteProgress.{Puts};
 
 use itoa::{Buffer, Integer};
 use std::io::Write;

@@ -5,8 +5,8 @@ ghost use Rattle.std.specs.List.{flat_map};
 ghost use Rattle.std.specs.Fmt.{signed_decimal};
 ghost use Rattle.std.specs.Option.{option_map};
 ghost use Rattle.tsp_format.specs.Cells.{nodes_to, cells_of_line};
-ghost use Rattle.tsp_file.specs.Text.{weight_line, matrix_lines, line_lens, section_text, optional};
-ghost use Rattle.tsp_stream.specs.states.Way.{Puts};
+ghost use Rattle.tsp_file.specs.CanonicalText.{weight_line, matrix_lines, line_lens, section_text, optional};
+ghost use Rattle.tsp_stream.specs.states.WriteProgress.{Puts};
 
 use crate::writer::block::{BLOCK, MOST_WEIGHTS, put_block};
 use crate::writer::sections::put_opening;

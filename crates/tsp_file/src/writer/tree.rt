@@ -6,8 +6,8 @@ ghost use Rattle.std.specs.Option.{option_map};
 ghost use Rattle.tsp_format.specs.Steps.{Leaf};
 ghost use Rattle.tsp_format.specs.states.TreeSteps.{step_of, steps_of};
 ghost use Rattle.tsp_draft.specs.states.Drafts.{combs_of};
-ghost use Rattle.tsp_stream.specs.states.Way.{Puts};
-ghost use Rattle.tsp_file.specs.Text.{before_blank, set_line, comb_lines, comb_list, change_words, step_line, step_lines, section_text, optional};
+ghost use Rattle.tsp_stream.specs.states.WriteProgress.{Puts};
+ghost use Rattle.tsp_file.specs.CanonicalText.{before_blank, set_line, comb_lines, comb_list, change_words, step_line, step_lines, section_text, optional};
 
 use crate::writer::sections::{put_opening, put_pair_line};
 use itoa::Integer;

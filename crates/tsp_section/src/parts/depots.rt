@@ -19,7 +19,7 @@ pub struct DepotList {
 impl DepotList {
     ghost use Rattle.tsp_text.specs.Lists.{place_of_depot, depots_in};
     ghost use Rattle.tsp_section.specs.states.Parts.{Takes};
-    ghost use Rattle.tsp_section.specs.states.Held.{HoldsDepots};
+    ghost use Rattle.tsp_section.specs.states.HeldParts.{HoldsDepots};
 
     /// The section with no words so far, in a file of `n` nodes.
     pub fn open(alloc: Global, n: u32) -> DepotList

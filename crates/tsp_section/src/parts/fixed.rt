@@ -21,7 +21,7 @@ impl FixedList {
     ghost use Rattle.tsp_text.specs.Lists.{place_of_fixed, fixed_in};
     ghost use Rattle.tsp_text.specs.Spells.{wants_more};
     ghost use Rattle.tsp_section.specs.states.Parts.{Takes};
-    ghost use Rattle.tsp_section.specs.states.Held.{HoldsFixed};
+    ghost use Rattle.tsp_section.specs.states.HeldParts.{HoldsFixed};
 
     /// The section with no words so far, in a file of `n` nodes.
     pub fn open(alloc: Global, n: u32) -> FixedList

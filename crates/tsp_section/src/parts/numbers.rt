@@ -26,10 +26,10 @@ pub struct NumberList {
 impl NumberList {
     ghost use Rattle.tsp_section.specs.declared.fault.StepFault.TheVariants.{Memory};
     ghost use Rattle.tsp_text.specs.Groups.{place_of_number, numbers_by_node};
-    ghost use Rattle.tsp_text.specs.Numbers.{IsWhole};
+    ghost use Rattle.tsp_text.specs.SectionNumbers.{IsWhole};
     ghost use Rattle.tsp_text.specs.Spells.{wants_more};
     ghost use Rattle.tsp_section.specs.states.Parts.{Takes, IsNodeOf};
-    ghost use Rattle.tsp_section.specs.states.Held.{HoldsNumbers};
+    ghost use Rattle.tsp_section.specs.states.HeldParts.{HoldsNumbers};
 
     /// The section with no words so far, in a file of `n` nodes. Its numbers are from `low` to
     /// `high`.

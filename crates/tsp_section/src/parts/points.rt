@@ -54,13 +54,13 @@ fn at_origin(alloc: Global, n: u32, in_space: bool) -> Result<Coords, AllocError
 impl PointList {
     ghost use Rattle.tsp_section.specs.declared.fault.StepFault.TheVariants.{Memory};
     ghost use Rattle.tsp_number.specs.Reading.{decimal_of};
-    ghost use Rattle.tsp_text.specs.Numbers.{IsWhole};
+    ghost use Rattle.tsp_text.specs.SectionNumbers.{IsWhole};
     ghost use Rattle.tsp_text.specs.Groups.{coords_by_node};
     ghost use Rattle.tsp_text.specs.Sections.{place_by};
     ghost use Rattle.tsp_text.specs.Spells.{wants_more};
     ghost use Rattle.tsp_section.specs.states.Parts.{Takes, IsNodeOf};
-    ghost use Rattle.tsp_text.specs.Rows.{word_fault};
-    ghost use Rattle.tsp_section.specs.states.Held.{shape_of_points, HoldsPoints};
+    ghost use Rattle.tsp_text.specs.FaultRows.{word_fault};
+    ghost use Rattle.tsp_section.specs.states.HeldParts.{shape_of_points, HoldsPoints};
 
     /// The section with no words so far, in a file of `n` nodes, of points of the plane or in
     /// space.

@@ -29,10 +29,10 @@ pub struct TreeList {
 impl TreeList {
     ghost use Rattle.tsp_section.specs.declared.fault.StepFault.TheVariants.{Memory};
     ghost use Rattle.tsp_format.specs.states.TreeSteps.{steps_of};
-    ghost use Rattle.tsp_text.specs.Tree.{whole_steps, with_leaf, place_of_step};
+    ghost use Rattle.tsp_text.specs.BranchSection.{whole_steps, with_leaf, place_of_step};
     ghost use Rattle.tsp_text.specs.Spells.{wants_more};
     ghost use Rattle.tsp_section.specs.states.Parts.{Takes};
-    ghost use Rattle.tsp_section.specs.states.Held.{tree_held, HoldsTree};
+    ghost use Rattle.tsp_section.specs.states.HeldParts.{tree_held, HoldsTree};
 
     /// The section with no words so far, in a file of `n` nodes, of which there are no more than a
     /// file may have.

@@ -23,7 +23,7 @@ impl TripleList {
     ghost use Rattle.tsp_text.specs.Lists.{place_of_triple, fixed_triples_in};
     ghost use Rattle.tsp_text.specs.Spells.{wants_more};
     ghost use Rattle.tsp_section.specs.states.Parts.{Takes};
-    ghost use Rattle.tsp_section.specs.states.Held.{HoldsTriples};
+    ghost use Rattle.tsp_section.specs.states.HeldParts.{HoldsTriples};
 
     /// The section with no words so far, in a file of `n` nodes.
     pub fn open(alloc: Global, n: u32) -> TripleList

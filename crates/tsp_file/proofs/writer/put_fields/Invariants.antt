@@ -2,8 +2,8 @@
 use Rattle.std.proofs.Common.{take}
 use Rattle.std.specs.List.{flat_map}
 use Rattle.tsp_draft.specs.states.Drafts.{fields_of}
-use Rattle.tsp_file.specs.Text.{text_of_field}
-use Rattle.tsp_stream.specs.states.Way.{way_of, Carried}
+use Rattle.tsp_file.specs.CanonicalText.{text_of_field}
+use Rattle.tsp_stream.specs.states.WriteProgress.{way_of, Carried}
 use Rattle.tsp_file.proofs.writer.put_fields.Given as goal
 
 abbrev pub invariant-loop-field : goal.invariant-loop-field

@@ -1,7 +1,7 @@
 -- The goals of `front_coordinate` in src/run.rt: what it ensures.
 use Rattle.std.proofs.Common.{arith}
 use Rattle.std.proofs.lemmas.Grind.{common_steps}
-use Rattle.tsp_read.specs.states.Front.{left_from}
+use Rattle.tsp_read.specs.states.WordFront.{left_from}
 use Rattle.tsp_read.proofs.FrontSteps.{EndsNumber, front_gives, front_reads_decimal}
 use Rattle.tsp_read.proofs.run.front_coordinate.Goals as goal
 

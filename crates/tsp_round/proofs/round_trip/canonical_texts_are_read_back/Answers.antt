@@ -2,7 +2,7 @@
 use Rattle.std.proofs.Common.{ℕ, List, sym, subst, ◌∙◌, Result, Ok, Err}
 use Rattle.std.proofs.lemmas.Option.{none-some}
 use Rattle.tsp_draft.specs.Fields.{Fields}
-use Rattle.tsp_file.specs.Text.{text_of}
+use Rattle.tsp_file.specs.CanonicalText.{text_of}
 use Rattle.tsp_text.specs.declared.fault.ReadFault.{ReadFault}
 use Rattle.tsp_text.specs.declared.fault.ReadFault.TheVariants as faults
 use Rattle.tsp_read.specs.Reads.{Reads}

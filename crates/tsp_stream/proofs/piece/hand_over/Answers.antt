@@ -1,6 +1,6 @@
 -- The goals of `hand_over` in src/piece.rt: what it ensures.
 use Rattle.std.proofs.Common.{[], ◌∙◌, sym, append-nil}
-use Rattle.tsp_stream.specs.states.Way.{way_of}
+use Rattle.tsp_stream.specs.states.WriteProgress.{way_of}
 use Rattle.tsp_stream.proofs.Carrying.{carried_sent}
 use Rattle.tsp_stream.proofs.piece.hand_over.Goals as goal
 

@@ -1,7 +1,7 @@
 -- The goals of `put` in src/piece.rt: what it ensures.
 use Rattle.std.proofs.Common.{◌≡◌, List, ℕ, [], ◌++◌, ◌∙◌, sym, refl, ap, true, false, Result, Ok, Err, append-nil}
 use Rattle.std.specs.Prelude.{OnOk, OnErr, is_ok, is_err}
-use Rattle.tsp_stream.specs.states.Way.{way_of}
+use Rattle.tsp_stream.specs.states.WriteProgress.{way_of}
 use Rattle.tsp_stream.proofs.Carrying.{carried_sent, carried_waits, carried_then}
 use Rattle.tsp_stream.proofs.piece.put.Goals as goal
 

@@ -5,7 +5,7 @@ use Rattle.std.specs.Int.{w64}
 use Rattle.std.specs.List.{All}
 use Rattle.std.proofs.lemmas.Int.{to_z-of_z}
 use Rattle.tsp_draft.specs.Fields.{Fields}
-use Rattle.tsp_cost.specs.Tours.{is_directed}
+use Rattle.tsp_cost.specs.ComputedProblems.{is_directed}
 use Rattle.tsp_theory.specs.Cycle.{IsCycle}
 use Rattle.tsp_verdict.specs.states.Next.{AreNext}
 use Rattle.tsp_file.specs.Meant.{nodes_of}

@@ -9,7 +9,7 @@ use Rattle.tsp_draft.specs.Fields.{Fields}
 use Rattle.tsp_draft.specs.states.Drafts.{fields_of}
 use Rattle.tsp_draft.specs.Rules.{fault_of}
 use Rattle.tsp_file.specs.Cost.{cost}
-use Rattle.tsp_file.specs.Listed.{ListsWeights}
+use Rattle.tsp_file.specs.ListedWeights.{ListsWeights}
 use Rattle.tsp_file.specs.Relayout.{HoldsPairs, CanGo, with_weights, costs_in}
 use Rattle.tsp_file.specs.Meant.{nodes_of}
 use Rattle.tsp_draft.proofs.ValidFields.{in_range}

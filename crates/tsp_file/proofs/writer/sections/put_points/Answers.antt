@@ -3,8 +3,8 @@ use Rattle.std.proofs.Common.{◌≡◌, ◌∙◌, ℕ, ◌+◌, List, map, get
 use Rattle.std.proofs.lemmas.List.{length-map, get_or-map}
 use Rattle.tsp_distance.specs.declared.decimal.Point.{Point}
 use Rattle.std.specs.Fmt.{decimal}
-use Rattle.tsp_file.specs.Text.{number_line, point_numbers}
-use Rattle.tsp_stream.specs.states.Way.{Way, Carried, way_of}
+use Rattle.tsp_file.specs.CanonicalText.{number_line, point_numbers}
+use Rattle.tsp_stream.specs.states.WriteProgress.{Way, Carried, way_of}
 use Rattle.tsp_stream.proofs.Carrying.{carried_node, carried_nodes}
 use Rattle.tsp_file.proofs.writer.sections.put_points.Goals as goal
 

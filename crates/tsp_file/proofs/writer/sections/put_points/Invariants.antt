@@ -2,8 +2,8 @@
 use Rattle.std.proofs.Common.{take, map}
 use Rattle.std.specs.List.{flat_map, enumerate_from}
 use Rattle.std.specs.Fmt.{decimal}
-use Rattle.tsp_file.specs.Text.{number_line, point_numbers}
-use Rattle.tsp_stream.specs.states.Way.{way_of, Carried}
+use Rattle.tsp_file.specs.CanonicalText.{number_line, point_numbers}
+use Rattle.tsp_stream.specs.states.WriteProgress.{way_of, Carried}
 use Rattle.tsp_file.proofs.writer.sections.put_points.Given as goal
 
 abbrev pub invariant-nodes : goal.invariant-nodes
