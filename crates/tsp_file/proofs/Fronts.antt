@@ -12,13 +12,12 @@ use Rattle.tsp_format.specs.Symmetry.{IsSymmetric}
 use Rattle.tsp_format.proofs.Counts.{line_counted, cells_counted}
 use Rattle.tsp_format.proofs.Places.{placed, line_at}
 use Rattle.tsp_format.specs.Limits.{most_weight}
-use Rattle.tsp_draft.specs.Fields.{Fields}
+use Rattle.tsp_draft.specs.Fields.{Fields, nodes_of}
 use Rattle.tsp_draft.specs.Valid.{IsWithin}
 use Rattle.tsp_draft.specs.Rules.{fault_of}
 use Rattle.tsp_file.specs.Cost.{listed_cost, cost}
 use Rattle.tsp_file.specs.ListedWeights.{ListsWeights}
 use Rattle.tsp_file.specs.Relayout.{HoldsPairs, CanGo, with_weights, costs_in}
-use Rattle.tsp_file.specs.Meant.{nodes_of}
 use Rattle.tsp_file.specs.states.Halves.{line_start_of}
 use Rattle.tsp_file.proofs.Listed.{cost_of_cell, turned}
 use Rattle.tsp_file.proofs.Relaid.{line_more, lines_all, cost_within, all_within, of_file}

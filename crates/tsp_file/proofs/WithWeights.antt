@@ -19,11 +19,10 @@ use Rattle.tsp_format.proofs.Counts.{cells_counted}
 use Rattle.tsp_draft.specs.declared.fault.EndFault.{EndFault}
 use Rattle.tsp_draft.specs.declared.fault.EndFault.TheVariants.{Missing, WrongFormat, WrongCount}
 use Rattle.tsp_draft.specs.declared.fault.DraftFault.TheVariants.{BadField, Rule}
-use Rattle.tsp_draft.specs.Fields.{Fields, spatial}
+use Rattle.tsp_draft.specs.Fields.{Fields, spatial, nodes_of}
 use Rattle.tsp_draft.specs.Validity.{is_within, with_dimension, are_weights, fits, first_failing, bad_field}
 use Rattle.tsp_draft.specs.Rules.{standing_of, is_there, asked_in_order, is_count, has_wrong_format, has_wrong_count, end_fault, format_or_count, fault_of}
 use Rattle.tsp_draft.specs.Valid.{IsWithin, AreWeights}
-use Rattle.tsp_file.specs.Meant.{nodes_of}
 use Rattle.tsp_file.specs.Relayout.{with_weights}
 use Rattle.tsp_draft.proofs.ValidFields.{in_range, each_fits, nodes_fit, no_field_missing, format_and_count, and_true}
 

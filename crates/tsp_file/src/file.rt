@@ -47,7 +47,7 @@ impl File {
     ghost use Rattle.tsp_format.specs.declared.kinds.WeightFormat.TheVariants.{Listed};
     ghost use Rattle.tsp_file.specs.Cost.{cost};
     ghost use Rattle.tsp_file.specs.Relayout.{CanGo, with_weights, costs_in};
-    ghost use Rattle.tsp_file.specs.Meant.{nodes_of};
+    ghost use Rattle.tsp_draft.specs.Fields.{nodes_of};
     ghost use Rattle.tsp_file.specs.Typed.{HoldsItsType};
     ghost use Rattle.tsp_format.specs.states.TreeSteps.{steps_of};
     ghost use Rattle.tsp_draft.specs.Rules.{fault_of};

@@ -58,7 +58,7 @@ impl File {
     ghost use Rattle.tsp_draft.specs.Valid.{IsFromTo, AreTours};
     ghost use Rattle.tsp_file.specs.ListedWeights.{ListsWeights};
     ghost use Rattle.tsp_file.specs.Relayout.{HasListedWeights};
-    ghost use Rattle.tsp_file.specs.Meant.{nodes_of};
+    ghost use Rattle.tsp_draft.specs.Fields.{nodes_of};
     ghost use Rattle.tsp_file.specs.Typed.{HoldsRouting, HoldsNodeNumbers, HoldsDuals, HoldsCases, AreMultipliersIn, AreSomeSets};
 
     /// The weights of this file with their layout; none where its weights aren't listed.

@@ -7,7 +7,7 @@ use Rattle.std.proofs.lemmas.Int.{ints}
 use Rattle.std.proofs.Math.Nat.{lt_of_not-le}
 use Rattle.tsp_format.specs.Cells.{IsNode}
 use Rattle.tsp_format.specs.declared.kinds.Kind.TheVariants as kinds
-use Rattle.tsp_draft.specs.Fields.{Fields}
+use Rattle.tsp_draft.specs.Fields.{Fields, nodes_of}
 use Rattle.tsp_draft.specs.Rules.{is_certificate}
 use Rattle.tsp_theory.specs.Adjusted.{pair_of, is_same_pair, AreOnPairs}
 use Rattle.tsp_reason.specs.declared.verdict.Reason.{Reason}
@@ -15,7 +15,7 @@ use Rattle.tsp_reason.specs.declared.verdict.Reason.TheVariants.{TooFewNodes, No
 use Rattle.tsp_verdict.specs.Multiplied.{AreListed, IsUnlisted, IsPairRepeated, pair_at}
 use Rattle.tsp_verdict.specs.Places.{IsFirstPlace}
 use Rattle.tsp_verdict.specs.Reasons.{rank_of, NoneBefore, IsFirstReason}
-use Rattle.tsp_file.specs.Meant.{nodes_of, fixed_of, scale_in, multipliers_in}
+use Rattle.tsp_file.specs.Meant.{fixed_of, scale_in, multipliers_in}
 use Rattle.tsp_verdict.specs.Tours.{IsFirstAgainstTour, StandsAgainstTour}
 use Rattle.tsp_file.specs.Cost.{cost}
 use Rattle.tsp_theory.specs.Assignment.{AreGood}

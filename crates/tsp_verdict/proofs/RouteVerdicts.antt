@@ -5,7 +5,7 @@ use Rattle.std.specs.List.{All, Contains}
 use Rattle.std.proofs.lemmas.Int.{ints}
 use Rattle.std.proofs.lemmas.Bool.{false≢true}
 use Rattle.tsp_format.specs.Cells.{IsNode, nodes_to}
-use Rattle.tsp_draft.specs.Fields.{Fields}
+use Rattle.tsp_draft.specs.Fields.{Fields, nodes_of}
 use Rattle.tsp_draft.specs.Valid.{IsDemand}
 use Rattle.tsp_file.specs.Cost.{cost}
 use Rattle.tsp_reason.specs.declared.verdict.Reason.{Reason}
@@ -14,7 +14,6 @@ use Rattle.tsp_verdict.specs.states.Marks.{Marked}
 use Rattle.tsp_verdict.specs.Places.{IsFirstPlace, IsLarger, IsAt, IsRepeated}
 use Rattle.tsp_cost.specs.ComputedProblems.{routing_of, demands_of, capacity_of}
 use Rattle.tsp_verdict.specs.Plan.{demand_of, load_of, IsCustomer, plan_length, IsLeast, depot_of, total_of, AreCustomers}
-use Rattle.tsp_file.specs.Meant.{nodes_of}
 use Rattle.tsp_verdict.specs.Routes.{IsOverloaded, StandsAgainstRoutes, NoneOfRoutesUpTo, IsFirstAgainstRoutes, IsPlanned}
 use Rattle.tsp_verdict.specs.Solution.{visited, tours_of}
 use Rattle.tsp_verdict.proofs.MarkedNodes.{all_apart, marked_there, there_marked}

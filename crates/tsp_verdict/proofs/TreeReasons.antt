@@ -10,7 +10,7 @@ use Rattle.std.proofs.lemmas.List.Elements.{recursion_from_All}
 use Rattle.tsp_format.specs.declared.kinds.Kind.{Kind}
 use Rattle.tsp_format.specs.declared.kinds.Kind.TheVariants as kinds
 use Rattle.tsp_format.specs.Steps as listed
-use Rattle.tsp_draft.specs.Fields.{Fields}
+use Rattle.tsp_draft.specs.Fields.{Fields, nodes_of}
 use Rattle.tsp_draft.specs.states.Drafts.{combs_of as lists_of_combs}
 use Rattle.tsp_draft.specs.Rules.{is_tree}
 use Rattle.tsp_file.specs.Cost.{cost}
@@ -33,7 +33,7 @@ use Rattle.tsp_branch.specs.Listed.{leaf_changes, listed_steps, AreGoodLeaves, I
 use Rattle.tsp_branch.specs.Twice.{divided, IsFirstTwice}
 use Rattle.tsp_reason.specs.declared.verdict.Reason.{Reason}
 use Rattle.tsp_reason.specs.declared.verdict.Reason.TheVariants.{NotBranches, BranchesDimension, BadComb, BranchTwice, BadLeaf}
-use Rattle.tsp_file.specs.Meant.{scale_in, nodes_of, fixed_of, combs_in}
+use Rattle.tsp_file.specs.Meant.{scale_in, fixed_of, combs_in}
 use Rattle.tsp_verdict.specs.states.Numbered.{numbered_from}
 use Rattle.tsp_verdict.specs.Places.{IsFirstPlace}
 use Rattle.tsp_verdict.specs.Reasons.{NoneBefore, IsFirstReason}

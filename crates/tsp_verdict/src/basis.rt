@@ -5,8 +5,7 @@ ghost use Rattle.std.specs.Prelude.{◌≡◌, ◌⊎◌, ◌≤◌, IsTrue, len
 ghost use Rattle.std.specs.List.{All};
 ghost use Rattle.tsp_format.specs.declared.kinds.Kind.TheVariants as kinds;
 ghost use Rattle.tsp_format.specs.Cells.{IsNode};
-ghost use Rattle.tsp_draft.specs.Fields.{Fields};
-ghost use Rattle.tsp_file.specs.Meant.{nodes_of};
+ghost use Rattle.tsp_draft.specs.Fields.{Fields, nodes_of};
 ghost use Rattle.tsp_cost.specs.ComputedProblems.{demands_of, depots_of};
 ghost use Rattle.tsp_reason.specs.declared.certificate.Certificate.{Certificate};
 ghost use Rattle.tsp_verdict.specs.Basis.{IsBasis, IsBasisBy, IsBasisOfRoutes, StandsAgainstRouting, NoneAgainstRouting, NoneOfBasisWithoutMemory, IsVerdictFrom};

@@ -15,7 +15,8 @@ ghost use Rattle.tsp_bound.specs.states.Duals.{dual_scale as scale_of_duals, row
 ghost use Rattle.tsp_bound.specs.states.Multipliers.{triples_of};
 ghost use Rattle.tsp_bound.specs.states.Potentials.{scale_of, numbers_of};
 ghost use Rattle.tsp_verdict.specs.Reasons.{IsFirstReason};
-ghost use Rattle.tsp_file.specs.Meant.{nodes_of, fixed_of, multipliers_in};
+ghost use Rattle.tsp_draft.specs.Fields.{nodes_of};
+ghost use Rattle.tsp_file.specs.Meant.{fixed_of, multipliers_in};
 ghost use Rattle.tsp_verdict.specs.PotentialsCertificate.{has_wanted, BreaksDuals, StandsAgainstPotentials};
 ghost use Rattle.tsp_reason.specs.declared.certificate.Certificate.TheVariants as certificates;
 ghost use Rattle.tsp_verdict.specs.Certified.{IsCertified, FindsBound, NoneWithoutMemory};

@@ -6,7 +6,7 @@ ghost use Rattle.tsp_format.specs.declared.kinds.Kind.TheVariants as kinds;
 ghost use Rattle.tsp_cost.specs.ComputedProblems.{is_directed};
 ghost use Rattle.tsp_reason.specs.declared.verdict.Reason.TheVariants.{TourCount};
 ghost use Rattle.tsp_verdict.specs.Reasons.{rank_of};
-ghost use Rattle.tsp_file.specs.Meant.{nodes_of};
+ghost use Rattle.tsp_draft.specs.Fields.{nodes_of};
 ghost use Rattle.tsp_verdict.specs.Solution.{tours_of};
 ghost use Rattle.tsp_verdict.specs.Tours.{NoneOfTourUpTo, NoneOfTourBeforeNodes, IsFirstAgainstTour, IsTourVerdict, NoneOfTourBeforeRepeats};
 ghost use Rattle.tsp_file.specs.Cost.{cost};

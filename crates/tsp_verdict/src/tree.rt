@@ -8,7 +8,7 @@ ghost use Rattle.tsp_draft.specs.Rules.{is_tree};
 ghost use Rattle.tsp_file.specs.Typed.{HoldsCases};
 ghost use Rattle.tsp_cost.specs.states.Views.{HasCosts};
 ghost use Rattle.tsp_verdict.specs.Reasons.{IsFirstReason};
-ghost use Rattle.tsp_file.specs.Meant.{nodes_of};
+ghost use Rattle.tsp_draft.specs.Fields.{nodes_of};
 ghost use Rattle.tsp_verdict.specs.states.TourCosts.{IsSymmetricTsp};
 ghost use Rattle.tsp_verdict.specs.BranchesCertificate.{StandsAgainstTree};
 ghost use Rattle.tsp_reason.specs.declared.certificate.Certificate.TheVariants as certificates;

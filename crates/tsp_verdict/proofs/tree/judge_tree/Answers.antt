@@ -15,7 +15,7 @@ use Rattle.tsp_branch.specs.BranchVerdicts.{IsBranchVerdict, IsSizedVerdict}
 use Rattle.tsp_branch.specs.states.Combed.{plain}
 use Rattle.tsp_branch.specs.Listed.{IsStepOf}
 use Rattle.tsp_families.specs.FamilySets.{AreSetsOf}
-use Rattle.tsp_file.specs.Meant.{nodes_of}
+use Rattle.tsp_draft.specs.Fields.{nodes_of}
 use Rattle.tsp_verdict.proofs.FilesHold.{steps_hold, steps_few}
 use Rattle.tsp_verdict.proofs.GivenPairs.{given_once, given_are, given_few}
 use Rattle.tsp_verdict.proofs.NumberedSets.{sets_of_nodes, sets_of_combs, sets_in_order, sets_few}
