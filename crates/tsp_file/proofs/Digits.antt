@@ -83,7 +83,8 @@ decimal_pair n low high =
     rw (decimal_step n (omega arith) high, decimal_step (n / 10) (omega arith) (omega arith), append_assoc, a, b, ← c) refl
 
 -- of a number of two digits or one
-short : (n m : ℕ) (front : List ℕ) → n < 100 → length front ≡ m → drop (m + 2 - length (decimal n)) (front ++ pair (n % 100)) ≡ decimal n
+short : (n m : ℕ) (front : List ℕ) → n < 100 → length front ≡ m
+    → drop (m + 2 - length (decimal n)) (front ++ pair (n % 100)) ≡ decimal n
 short n m front few long =
     elim (cases_lt n 10) [
       | inl one ↦
@@ -107,7 +108,8 @@ short n m front few long =
     ]
 
 -- of a number of more digits, by that of a hundredth
-long : (n m : ℕ) (front : List ℕ) → 100 ≤ n → n < 2 ^ 64 → length front ≡ m → drop (m - length (decimal (n / 100))) front ≡ decimal (n / 100)
+long : (n m : ℕ) (front : List ℕ) → 100 ≤ n → n < 2 ^ 64 → length front ≡ m
+    → drop (m - length (decimal (n / 100))) front ≡ decimal (n / 100)
     → drop (m + 2 - length (decimal n)) (front ++ pair (n % 100)) ≡ decimal n
 long n m front more small count rest =
     let text = decimal_pair n more small in

@@ -31,7 +31,8 @@ use Rattle.tsp_file.proofs.AllFit.{all_fit}
 
 -- ---- fields that may be missing
 
-optional_short : {A : Type 0} (fits : A → Bool) (text : A → List ℕ) (k : ℕ) → ((x : A) → fits x ≡ true → length (text x) ≤ k) → (value : Option A) → if_there fits value ≡ true
+optional_short : {A : Type 0} (fits : A → Bool) (text : A → List ℕ) (k : ℕ) → ((x : A) → fits x ≡ true → length (text x) ≤ k)
+    → (value : Option A) → if_there fits value ≡ true
     → length (optional text value) ≤ k
 optional_short fits text k each None there = omega arith
 optional_short fits text k each (Some x) there = each x there
@@ -51,16 +52,20 @@ dimension_short : (n : ℕ) → is_node most_nodes n ≡ true → n ≤ most_nod
 dimension_short n fits = leb-true n most_nodes (and_parts (nat_le 1 n) (nat_le n most_nodes) fits).1
 
 -- a section that the number of nodes is known for
-section_of_short : {A : Type 0} (field : Field) (fits : ℕ → A → Bool) (lines : A → List ℕ) (k : ℕ) → ((n : ℕ) (x : A) → n ≤ most_nodes → fits n x ≡ true → length (lines x) ≤ k)
-    → (dimension : Option ℕ) (value : Option A) → if_there (is_node most_nodes) dimension ≡ true → if_there (with_dimension fits dimension) value ≡ true
+section_of_short : {A : Type 0} (field : Field) (fits : ℕ → A → Bool) (lines : A → List ℕ) (k : ℕ)
+    → ((n : ℕ) (x : A) → n ≤ most_nodes → fits n x ≡ true → length (lines x) ≤ k)
+    → (dimension : Option ℕ) (value : Option A) → if_there (is_node most_nodes) dimension ≡ true
+    → if_there (with_dimension fits dimension) value ≡ true
     → length (optional (λ x. section_text field (lines x)) value) ≤ 29 + k
 section_of_short field fits lines k each dimension None nodes there = omega arith
 section_of_short field fits lines k each None (Some x) nodes there = absurd (false≢true there)
 section_of_short field fits lines k each (Some n) (Some x) nodes there = section_short field (lines x) k (each n x (dimension_short n nodes) there)
 
 -- one line for each node, with at most k bytes after the node
-by_node_section_short : {A : Type 0} (field : Field) (fits : A → Bool) (numbers : A → List (List ℕ)) (k : ℕ) → ((x : A) → fits x ≡ true → length (number_line [] (numbers x)) ≤ k)
-    → (dimension : Option ℕ) (value : Option (List A)) → if_there (is_node most_nodes) dimension ≡ true → if_there (with_dimension (is_by_node fits) dimension) value ≡ true
+by_node_section_short : {A : Type 0} (field : Field) (fits : A → Bool) (numbers : A → List (List ℕ)) (k : ℕ)
+    → ((x : A) → fits x ≡ true → length (number_line [] (numbers x)) ≤ k)
+    → (dimension : Option ℕ) (value : Option (List A)) → if_there (is_node most_nodes) dimension ≡ true
+    → if_there (with_dimension (is_by_node fits) dimension) value ≡ true
     → length (optional (λ xs. section_text field (lines_by_node numbers xs)) value) ≤ 29 + (6 + k) * most_nodes
 by_node_section_short {A} field fits numbers k each dimension value nodes there =
     let lines : (n : ℕ) (xs : List A) → n ≤ most_nodes → is_by_node fits n xs ≡ true → length (lines_by_node numbers xs) ≤ (6 + k) * most_nodes = λ n xs most by_nodes.
@@ -98,7 +103,8 @@ three_numbers_short a b c k first second third =
       third,
     )
 
-point_short : (in_space : Bool) (point : Point) → is_point in_space point ≡ true → length (number_line [] (point_numbers in_space point)) ≤ 75
+point_short : (in_space : Bool) (point : Point) → is_point in_space point ≡ true
+    → length (number_line [] (point_numbers in_space point)) ≤ 75
 point_short true point fits =
     let flat = and_parts (is_within most_coordinate point.x && is_within most_coordinate point.y) (is_within most_coordinate point.z) fits in
     let parts = and_parts (is_within most_coordinate point.x) (is_within most_coordinate point.y) flat.0 in
@@ -117,7 +123,8 @@ abbrev is_short : Shape → Bool
 is_short (Numbers low high) = nat_le (unsigned_abs low) most_potential && nat_le (unsigned_abs high) most_potential
 is_short shape = true
 
-whole_short : (low high number : ℤ) → is_short (Numbers low high) ≡ true → is_from_to low high number ≡ true → length (number_line [] (whole_number number)) ≤ 20
+whole_short : (low high number : ℤ) → is_short (Numbers low high) ≡ true → is_from_to low high number ≡ true
+    → length (number_line [] (whole_number number)) ≤ 20
 whole_short low high number short fits =
     let parts = and_parts (nat_le (unsigned_abs low) most_potential) (nat_le (unsigned_abs high) most_potential) short in
     let inside = between_short 16 low high most_potential number (leb-true (unsigned_abs low) most_potential parts.0)
@@ -130,7 +137,8 @@ depots_short n depots most fits =
     let few = leb-true (length depots) most_depots parts.0 in
     omega (arith, few, node_list_short (is_node n) (λ node fit. node_short n node most fit) depots parts.1)
 
-is_pair_short : (n : ℕ) (pair : ℕ × ℕ) → n ≤ most_nodes → is_node_pair n pair ≡ true → (length (decimal pair.0) ≤ 6) × (length (decimal pair.1) ≤ 6)
+is_pair_short : (n : ℕ) (pair : ℕ × ℕ) → n ≤ most_nodes → is_node_pair n pair ≡ true
+    → (length (decimal pair.0) ≤ 6) × (length (decimal pair.1) ≤ 6)
 is_pair_short n pair most fits =
     let parts = three_parts (is_node n pair.0) (is_node n pair.1) (not (pair.0 == pair.1)) fits in
     (node_short n pair.0 most parts.0, node_short n pair.1 most parts.1)
@@ -148,14 +156,16 @@ is_triple_short n triple most fits =
     let nodes = is_pair_short n (triple.0, triple.1) most parts.0 in
     (nodes.0, nodes.1, positive_short 16 0 most_multiplier triple.2 (omega arith) (omega arith) parts.1)
 
-triples_short : (n : ℕ) (triples : List (ℕ × ℕ × ℤ)) → n ≤ most_nodes → are_triples n triples ≡ true → length (triple_list triples) ≤ 3300000
+triples_short : (n : ℕ) (triples : List (ℕ × ℕ × ℤ)) → n ≤ most_nodes → are_triples n triples ≡ true
+    → length (triple_list triples) ≤ 3300000
 triples_short n triples most fits =
     let parts = and_parts (nat_le (length triples) most_multipliers) (list_all (is_triple n) triples) fits in
     let few = leb-true (length triples) most_multipliers parts.0 in
     omega (arith, few, triple_list_short (is_triple n) (λ triple fit. is_triple_short n triple most fit) triples parts.1)
 
 -- at most 5,000 * 5,000 weights
-weights_short : (lens : List ℕ) (n : ℕ) (weights : List ℤ) → are_weights n weights ≡ true → length (matrix_lines lens weights) ≤ 375000000
+weights_short : (lens : List ℕ) (n : ℕ) (weights : List ℤ) → are_weights n weights ≡ true
+    → length (matrix_lines lens weights) ≤ 375000000
 weights_short lens n weights fits =
     let parts = three_parts (nat_le n most_matrix_nodes) (nat_le (length weights) (n * n)) (list_all (is_within most_weight) weights) fits in
     let few = leb-true n most_matrix_nodes parts.0 in
@@ -190,7 +200,8 @@ most_bytes CommentKey = 4004000
 most_bytes OtherKey = 4004000
 most_bytes field = option_map_or most_of (shape_of true field) 60
 
-shape_short : (f : Fields) (field : Field) (shape : Shape) → is_short shape ≡ true → if_there (is_node most_nodes) f.dimension ≡ true → section_fits f field shape ≡ true
+shape_short : (f : Fields) (field : Field) (shape : Shape) → is_short shape ≡ true
+    → if_there (is_node most_nodes) f.dimension ≡ true → section_fits f field shape ≡ true
     → length (text_of_section f field shape) ≤ most_of shape
 shape_short f field (Numbers low high) short one fit =
     by_node_section_short field (is_from_to low high) whole_number 20 (λ number fits. whole_short low high number short fits) f.dimension (numbers_in f field) one fit
@@ -214,7 +225,8 @@ dimension_line_short : (n : ℕ) → is_node most_nodes n ≡ true → length (k
 dimension_line_short n fits = keyword_line_short DimensionKey (decimal n) (omega (arith, decimal_short n (dimension_short n fits)))
 
 -- the line of a whole number from 1 on
-whole_line_short : (field : Field) (most : ℕ) → most ≤ most_capacity → (number : Option ℤ) → if_there (is_from_to (pos 1) (pos most)) number ≡ true
+whole_line_short : (field : Field) (most : ℕ) → most ≤ most_capacity → (number : Option ℤ)
+    → if_there (is_from_to (pos 1) (pos most)) number ≡ true
     → length (optional (λ z. keyword_line field (signed_decimal z)) number) ≤ 60
 whole_line_short field most low number fits =
     let each : (z : ℤ) → is_from_to (pos 1) (pos most) z ≡ true → length (keyword_line field (signed_decimal z)) ≤ 60 = λ z fit.
@@ -222,18 +234,21 @@ whole_line_short field most low number fits =
     keyword_line_short field (signed_decimal z) (omega (arith, short)) in
     optional_short (is_from_to (pos 1) (pos most)) (λ z. keyword_line field (signed_decimal z)) 60 each number fits
 
-comments_short : (comments : List (List ℕ)) → are_comments comments ≡ true → length (flat_map (keyword_line CommentKey) comments) ≤ most_bytes CommentKey
+comments_short : (comments : List (List ℕ)) → are_comments comments ≡ true
+    → length (flat_map (keyword_line CommentKey) comments) ≤ most_bytes CommentKey
 comments_short comments fits =
     let parts = and_parts (nat_le (length comments) most_comments) (list_all (is_kept (field_word CommentKey)) comments) fits in
     flat_short_of (is_kept (field_word CommentKey)) (keyword_line CommentKey) 4004 most_comments (kept_short (field_word CommentKey)) comments parts.1
     (leb-true (length comments) most_comments parts.0)
 
-others_short : (others : List (List ℕ × List ℕ)) → are_others others ≡ true → length (flat_map other_line others) ≤ most_bytes OtherKey
+others_short : (others : List (List ℕ × List ℕ)) → are_others others ≡ true
+    → length (flat_map other_line others) ≤ most_bytes OtherKey
 others_short others fits =
     let parts = and_parts (nat_le (length others) most_others) (list_all is_other others) fits in
     flat_short_of is_other other_line 4004 most_others other_short others parts.1 (leb-true (length others) most_others parts.0)
 
-field_short : (f : Fields) → ((field : Field) → fits f field ≡ true) → (field : Field) → length (text_of_field f field) ≤ most_bytes field
+field_short : (f : Fields) → ((field : Field) → fits f field ≡ true) → (field : Field)
+    → length (text_of_field f field) ≤ most_bytes field
 field_short f fit NameKey = optional_short (is_kept (field_word NameKey)) (keyword_line NameKey) 4004 (kept_short (field_word NameKey)) f.name (fit NameKey)
 field_short f fit TypeKey = word_line_short TypeKey kind_word kind_short f.kind
 field_short f fit CommentKey = comments_short f.comments (fit CommentKey)
@@ -281,7 +296,8 @@ absent_short : {A : Type 0} (text : A → List ℕ) (value : Option A) → value
 absent_short text None none = omega arith
 absent_short {A = A} text (Some _) none = absurd (none-some _ (sym none))
 
-field_short_without_trees : (f : Fields) → ((field : Field) → fits f field ≡ true) → f.combs ≡ None → f.branches ≡ None → (field : Field)
+field_short_without_trees : (f : Fields) → ((field : Field) → fits f field ≡ true) → f.combs ≡ None → f.branches ≡ None
+    → (field : Field)
     → length (text_of_field f field) ≤ most_without_trees field
 field_short_without_trees f fit combs branches CombPart = absent_short (λ combs. section_text CombPart (comb_list combs)) f.combs combs
 field_short_without_trees f fit combs branches BranchPart = absent_short (λ steps. section_text BranchPart (step_lines steps)) f.branches branches
@@ -308,7 +324,8 @@ field_short_without_trees f fit combs branches RowPotentialPart = field_short f 
 field_short_without_trees f fit combs branches ColumnPotentialPart = field_short f fit ColumnPotentialPart
 field_short_without_trees f fit combs branches FixedEdgePotentialPart = field_short f fit FixedEdgePotentialPart
 
-pub text_short_without_trees : (f : Fields) → fault_of f ≡ None → f.combs ≡ None → f.branches ≡ None → length (text_of f) < 500000000
+pub text_short_without_trees : (f : Fields) → fault_of f ≡ None → f.combs ≡ None → f.branches ≡ None
+    → length (text_of f) < 500000000
 text_short_without_trees f none combs branches =
     let fields = sum_by-le-sum_by (λ field. length (text_of_field f field)) most_without_trees fields_in_order
     (field_short_without_trees f (all_fit f none) combs branches) in

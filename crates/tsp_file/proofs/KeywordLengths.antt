@@ -20,7 +20,8 @@ use Rattle.tsp_file.specs.CanonicalText.{line_end, blank_before, value_line, key
 -- ---- words
 
 -- a word is as short as all of the list are
-word_short : {V : Type 0} (word : V → List ℕ) (most : ℕ) (values : List V) (value : V) → list_all (λ v. nat_le (length (word v)) most) values ≡ true → IsFirstWithWord word values value
+word_short : {V : Type 0} (word : V → List ℕ) (most : ℕ) (values : List V) (value : V)
+    → list_all (λ v. nat_le (length (word v)) most) values ≡ true → IsFirstWithWord word values value
     → length (word value) ≤ most
 word_short word most values value all found =
     leb-true (length (word value)) most (found_passes (λ v. nat_le (length (word v)) most) (λ other. bytes_eq (word value) (word other)) value values all found)

@@ -17,11 +17,13 @@ one_more : {X : Type 0} (b : Bool) (x : X) (xs : List X) → length (cond b (x �
 one_more true x xs = omega arith
 one_more false x xs = omega arith
 
-alike : {X Y : Type 0} (b : Bool) (x : X) (xs : List X) (y : Y) (ys : List Y) → length xs ≡ length ys → length (cond b (x ∷ xs) xs) ≡ length (cond b (y ∷ ys) ys)
+alike : {X Y : Type 0} (b : Bool) (x : X) (xs : List X) (y : Y) (ys : List Y) → length xs ≡ length ys
+    → length (cond b (x ∷ xs) xs) ≡ length (cond b (y ∷ ys) ys)
 alike true x xs y ys e = ap suc e
 alike false x xs y ys e = e
 
-length-filter-map : {X Y : Type 0} (p : Y → Bool) (f : X → Y) (xs : List X) → length (filter p (map f xs)) ≡ length (filter (λ x. p (f x)) xs)
+length-filter-map : {X Y : Type 0} (p : Y → Bool) (f : X → Y) (xs : List X)
+    → length (filter p (map f xs)) ≡ length (filter (λ x. p (f x)) xs)
 length-filter-map p f [] = refl
 length-filter-map p f (x ∷ xs) = alike (p (f x)) (f x) (filter p (map f xs)) x (filter (λ y. p (f y)) xs) (length-filter-map p f xs)
 
@@ -72,7 +74,8 @@ line_counted LowerDiagCol n k low high = length-filter-map (is_listed LowerDiagC
 
 -- ---- sums over a run of numbers
 
-sum_alike : (f g : ℕ → ℕ) (a m : ℕ) → ((k : ℕ) → a ≤ k → k < a + m → f k ≡ g k) → sum_by f (range_with_len a m) ≡ sum_by g (range_with_len a m)
+sum_alike : (f g : ℕ → ℕ) (a m : ℕ) → ((k : ℕ) → a ≤ k → k < a + m → f k ≡ g k)
+    → sum_by f (range_with_len a m) ≡ sum_by g (range_with_len a m)
 sum_alike f g a zero same = refl
 sum_alike f g a (suc m) same =
     let first : f a ≡ g a = same a (omega arith) (omega arith) in

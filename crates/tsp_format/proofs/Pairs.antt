@@ -23,14 +23,16 @@ Contains-cond_head true y ys e = (0, omega arith, refl)
 Contains-cond_head false y ys e = absurd cc
 
 -- an element at an index that passes is kept
-kept_at : {X : Type 0} (p : X → Bool) (xs : List X) (x : X) (k : ℕ) → p x ≡ true → k < length xs → get_or xs k x ≡ x → Contains (filter p xs) x
+kept_at : {X : Type 0} (p : X → Bool) (xs : List X) (x : X) (k : ℕ) → p x ≡ true → k < length xs → get_or xs k x ≡ x
+    → Contains (filter p xs) x
 kept_at p [] x k passes lt e = absurd (omega (arith, lt))
 kept_at p (y ∷ ys) x zero passes lt e =
     let same : y ≡ x = e in
     subst (λ z. Contains (filter p (y ∷ ys)) z) same (Contains-cond_head (p y) y (filter p ys) (ap p same ∙ passes))
 kept_at p (y ∷ ys) x (suc k) passes lt e = Contains-cond (p y) y (filter p ys) x (kept_at p ys x k passes (omega (arith, lt)) e)
 
-joined_at : {X Y : Type 0} (f : X → List Y) (xs : List X) (x : X) (y : Y) (k : ℕ) → Contains (f x) y → k < length xs → get_or xs k x ≡ x → Contains (flat_map f xs) y
+joined_at : {X Y : Type 0} (f : X → List Y) (xs : List X) (x : X) (y : Y) (k : ℕ) → Contains (f x) y → k < length xs
+    → get_or xs k x ≡ x → Contains (flat_map f xs) y
 joined_at f [] x y k h lt e = absurd (omega (arith, lt))
 joined_at f (z ∷ zs) x y zero h lt e =
     let same : x ≡ z = sym e in
@@ -40,7 +42,8 @@ joined_at f (z ∷ zs) x y (suc k) h lt e = Contains-append_right (f z) (flat_ma
 Contains-map : {X Y : Type 0} (f : X → Y) (xs : List X) (x : X) → Contains xs x → Contains (map f xs) (f x)
 Contains-map f xs x h = (h.0, omega (arith, h.1, length-map xs f), get_or-map f xs h.0 x (f x) h.1 ∙ ap f h.2)
 
-All-flat_map : {X Y : Type 0} (P : Y → Type 0) (Q : X → Type 0) (f : X → List Y) → ((x : X) → Q x → All P (f x)) → (xs : List X) → All Q xs → All P (flat_map f xs)
+All-flat_map : {X Y : Type 0} (P : Y → Type 0) (Q : X → Type 0) (f : X → List Y) → ((x : X) → Q x → All P (f x)) → (xs : List X)
+    → All Q xs → All P (flat_map f xs)
 All-flat_map P Q f each [] all = All-nil P
 All-flat_map P Q f each (x ∷ xs) all =
     All-append P (f x) (flat_map f xs) (each x (All-head Q x xs all)) (All-flat_map P Q f each xs (All-tail Q x xs all))
@@ -81,7 +84,8 @@ pair_stands false n i j hi hj =
     let stands = node_stands n i hi in
     joined_at (row n) (nodes_to n) i (i, j) stands.0 (Contains-map (λ m. (i, m)) (nodes_to n) j (node_stands n j hj)) stands.1 stands.2
 
-pub cell_is : (layout : Layout) (n i j : ℕ) → Contains (cells layout n) (i, j) ↔ (IsNode n i × IsNode n j × IsTrue (is_listed layout (i, j)))
+pub cell_is : (layout : Layout) (n i j : ℕ)
+    → Contains (cells layout n) (i, j) ↔ (IsNode n i × IsNode n j × IsTrue (is_listed layout (i, j)))
 unfolding cells
 cell_is layout n i j = (
   λ h.
@@ -105,7 +109,8 @@ AllPairs-head R x xs h = λ k d lt. h 0 (suc k) d (omega arith) (omega (arith, l
 AllPairs-tail : {X : Type 0} (R : X → X → Type 0) (x : X) (xs : List X) → AllPairs R (x ∷ xs) → AllPairs R xs
 AllPairs-tail R x xs h = λ i j d lt within. h (suc i) (suc j) d (omega (arith, lt)) (omega (arith, within))
 
-AllPairs-append : {X : Type 0} (R : X → X → Type 0) (xs ys : List X) → AllPairs R xs → AllPairs R ys → All (λ x. All (R x) ys) xs → AllPairs R (xs ++ ys)
+AllPairs-append : {X : Type 0} (R : X → X → Type 0) (xs ys : List X) → AllPairs R xs → AllPairs R ys → All (λ x. All (R x) ys) xs
+    → AllPairs R (xs ++ ys)
 AllPairs-append R [] ys first second across = second
 AllPairs-append R (x ∷ xs) ys first second across =
     AllPairs-cons R x (xs ++ ys)
@@ -116,7 +121,8 @@ AllPairs-nil : {X : Type 0} (R : X → X → Type 0) → AllPairs R []
 AllPairs-nil R = λ i j d lt within. absurd (omega (arith, within))
 
 -- what stays apart under g stays apart under f, where `back` undoes f
-run_differs : {Y : Type 0} (f : ℕ → Y) (back : Y → ℕ) → ((m : ℕ) → back (f m) ≡ m) → (a n : ℕ) → AllPairs Differ (map f (range_with_len a n))
+run_differs : {Y : Type 0} (f : ℕ → Y) (back : Y → ℕ) → ((m : ℕ) → back (f m) ≡ m) → (a n : ℕ)
+    → AllPairs Differ (map f (range_with_len a n))
 run_differs {Y = Y} f back undoes a n = λ i j d lt within.
     let short : j < n = omega (arith, within, length-map (range_with_len a n) f, length-range_with_len a n) in
     let at_i = place i d (omega (arith, lt, short)) in

@@ -19,7 +19,8 @@ pub record HasRead (bytes : List ℕ) (before end value : ℕ) : Type 0 where
       → (m : ℕ) × (value ≡ saturated m) × (digits_value_after 10 m (front_digits (drop end bytes)) ≡ digits_value_after 10 n (front_digits bytes))
 
 -- the value of digits goes on from that of the digits before them
-pub digits_value_after-append : (radix n : ℕ) (xs ys : List ℕ) → digits_value_after radix n (xs ++ ys) ≡ digits_value_after radix (digits_value_after radix n xs) ys
+pub digits_value_after-append : (radix n : ℕ) (xs ys : List ℕ)
+    → digits_value_after radix n (xs ++ ys) ≡ digits_value_after radix (digits_value_after radix n xs) ys
 digits_value_after-append radix n [] ys = refl
 digits_value_after-append radix n (x ∷ xs) ys = digits_value_after-append radix (n * radix + digit_value x) xs ys
 
@@ -36,7 +37,8 @@ if_above_zero n x y above = grind (arith, common_steps)
 digit_value-lt : (c : ℕ) → is_ascii_digit c ≡ true → digit_value c < 10
 digit_value-lt c digit = grind (arith, nat_tests)
 
-on_digit : (b : Bool) (c : ℕ) (ds : List ℕ) → (b ≡ true → digit_value c < 10) → AllDigits 10 ds → AllDigits 10 (if b then c ∷ ds else [])
+on_digit : (b : Bool) (c : ℕ) (ds : List ℕ) → (b ≡ true → digit_value c < 10) → AllDigits 10 ds
+    → AllDigits 10 (if b then c ∷ ds else [])
 on_digit true c ds small rest = (small refl, rest)
 on_digit false c ds small rest = tt
 

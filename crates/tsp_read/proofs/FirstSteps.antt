@@ -63,7 +63,8 @@ first_without test f xs fails = found_alike (but f test) test xs each
     each : (x : Field) → but f test x ≡ test x
     each x = by_case x (same_field x f) refl
 
-not_it : (x : Field) (test : Field → Bool) (o : Option Field) → ((y : Field) → o ≡ Some y → test y ≡ true) → test x ≡ false → is_it x o ≡ false
+not_it : (x : Field) (test : Field → Bool) (o : Option Field) → ((y : Field) → o ≡ Some y → test y ≡ true) → test x ≡ false
+    → is_it x o ≡ false
 not_it x test None passes fails = refl
 not_it x test (Some y) passes fails = by_case (same_field x y) refl
   where
@@ -72,7 +73,8 @@ not_it x test (Some y) passes fails = by_case (same_field x y) refl
     by_case false e = refl
 
 -- where it passes, the first is the one of it and the first of the others that comes first
-first_with : (test : Field → Bool) (f : Field) (xs : List Field) → test f ≡ true → find test xs ≡ first_of f (find (but f test) xs) xs
+first_with : (test : Field → Bool) (f : Field) (xs : List Field) → test f ≡ true
+    → find test xs ≡ first_of f (find (but f test) xs) xs
 first_with test f [] passes = refl
 first_with test f (x ∷ xs) passes = by_case (same_field x f) (test x) refl refl (first_with test f xs passes)
   where

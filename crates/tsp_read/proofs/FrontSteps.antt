@@ -24,7 +24,8 @@ use Rattle.tsp_read.proofs.BegunSteps.{settled_filled}
 
 -- ---- a list in which none passes, and one behind it that does
 
-free_cut : (p : ℕ → Bool) (w : List ℕ) (x : ℕ) (rest : List ℕ) → FreeOf p w → p x ≡ true → (up_to_first p (w ++ x ∷ rest) ≡ w) × (from p (w ++ x ∷ rest) ≡ x ∷ rest)
+free_cut : (p : ℕ → Bool) (w : List ℕ) (x : ℕ) (rest : List ℕ) → FreeOf p w → p x ≡ true
+    → (up_to_first p (w ++ x ∷ rest) ≡ w) × (from p (w ++ x ∷ rest) ≡ x ∷ rest)
 free_cut p [] x rest free e = (at_before p x rest e, at_from p x rest e)
 free_cut p (y ∷ w) x rest free e =
     let h = free_cut p w x rest free.1 e in
@@ -90,7 +91,8 @@ starts_fraction : (text digits rest : List ℕ) → IsFraction text digits → 0
 starts_fraction text digits rest (inl is) some = starts_here (text ++ rest) point (digits ++ rest) (ap (λ (xs : List ℕ). xs ++ rest) is) refl
 starts_fraction text digits rest (inr is) some = absurd (let none : length digits ≡ 0 = ap length is.1 in omega (arith, none, some))
 
-starts_digits : (whole text fraction rest : List ℕ) → AllDigits 10 whole → IsFraction text fraction → 0 < length whole + length fraction → StartsNumber (whole ++ (text ++ rest))
+starts_digits : (whole text fraction rest : List ℕ) → AllDigits 10 whole → IsFraction text fraction
+    → 0 < length whole + length fraction → StartsNumber (whole ++ (text ++ rest))
 starts_digits [] text fraction rest all is some = starts_fraction text fraction rest is (omega (arith, some))
 starts_digits (c ∷ whole) text fraction rest all is some =
     let range = digit_from_value c all.0 in
@@ -160,7 +162,8 @@ cut_at_end text filled count k rest left h =
     let cut = free_cut ends_word word by.end by.later (free_word word h.number.stands.numeral h.number.stands.spelled) by.ends in
     (ap (up_to_first ends_word) all ∙ cut.0, ap (from ends_word) all ∙ cut.1 ∙ sym by.parts)
 
-front_is : (text filled : List ℕ) (count : ℕ) (k : ℤ) (rest left : List ℕ) → EndsNumber text filled count k rest left → front_word text ≡ take count filled
+front_is : (text filled : List ℕ) (count : ℕ) (k : ℤ) (rest left : List ℕ) → EndsNumber text filled count k rest left
+    → front_word text ≡ take count filled
 front_is text filled count k rest left h = ap (up_to_first ends_word) (sym h.filled_is) ∙ (cut_at_end text filled count k rest left h).0
 
 no_line : (inside letter : Bool) → letter ≡ false → (not inside && letter) ≡ false
@@ -203,14 +206,16 @@ front_gives text filled count k rest left h inside goes_on more =
     ∙ ap (λ (items : List Item). NumberWord (front_word text) ∷ items) (by.left_is goes_on more)
 
 -- and is read as that number
-pub front_reads : (text filled : List ℕ) (count : ℕ) (z : ℤ) (rest left : List ℕ) → EndsNumber text filled count (z *ℤ pos unit) rest left → IsWhole (front_word text) z
+pub front_reads : (text filled : List ℕ) (count : ℕ) (z : ℤ) (rest left : List ℕ)
+    → EndsNumber text filled count (z *ℤ pos unit) rest left → IsWhole (front_word text) z
 front_reads text filled count z rest left h low high above below =
     let word : List ℕ = take count filled in
     let reads : ReadsWhole word low high (Ok z) = (h.number.short, h.number.stands, above, below) in
     ap (λ (w : List ℕ). whole_of w low high) (front_is text filled count (z *ℤ pos unit) rest left h) ∙ sym (whole_once _ _ _ _ _ reads (whole_of-reads word low high))
 
 -- or as that decimal
-pub front_reads_decimal : (text filled : List ℕ) (count : ℕ) (k : ℤ) (rest left : List ℕ) → EndsNumber text filled count k rest left → unsigned_abs k ≤ most_count
+pub front_reads_decimal : (text filled : List ℕ) (count : ℕ) (k : ℤ) (rest left : List ℕ)
+    → EndsNumber text filled count k rest left → unsigned_abs k ≤ most_count
     → decimal_of (front_word text) ≡ Ok k
 front_reads_decimal text filled count k rest left h small =
     let word : List ℕ = take count filled in

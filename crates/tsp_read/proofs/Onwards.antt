@@ -58,23 +58,27 @@ starts_by : (b : ℕ) (bytes more : List ℕ) (first : ℕ) (after : List ℕ) (
 starts_by b bytes more first after true e rest h = start_blank b (bytes ++ more) e ∙ rest (sym (start_blank b bytes e) ∙ h)
 starts_by b bytes more first after false e rest h = start_filled b (bytes ++ more) e ∙ ap (λ (ys : List ℕ). ys ++ more) (sym (start_filled b bytes e) ∙ h)
 
-pub starts_alike : (bytes more : List ℕ) (first : ℕ) (after : List ℕ) → without_start bytes ≡ first ∷ after → without_start (bytes ++ more) ≡ first ∷ (after ++ more)
+pub starts_alike : (bytes more : List ℕ) (first : ℕ) (after : List ℕ) → without_start bytes ≡ first ∷ after
+    → without_start (bytes ++ more) ≡ first ∷ (after ++ more)
 starts_alike [] more first after h = absurd cc
 starts_alike (b ∷ bytes) more first after h = starts_by b bytes more first after (is_blank b) refl (starts_alike bytes more first after) h
 
 -- ---- the next item
 
-filled_settled : (most : ℕ) (goes_on : Bool) (piece rest more : List ℕ) → is_filled rest ≡ true → is_settled most goes_on piece (rest ++ more) ≡ true
+filled_settled : (most : ℕ) (goes_on : Bool) (piece rest more : List ℕ) → is_filled rest ≡ true
+    → is_settled most goes_on piece (rest ++ more) ≡ true
 filled_settled most goes_on piece [] more e = absurd cc
 filled_settled most goes_on piece (x ∷ rest) more e = refl
 
 -- a piece that is settled, and isn't too long, is followed by something
-not_long : (most : ℕ) (piece rest : List ℕ) (long : Bool) → (is_filled rest || false || long) ≡ true → long ≡ false → is_filled rest ≡ true
+not_long : (most : ℕ) (piece rest : List ℕ) (long : Bool) → (is_filled rest || false || long) ≡ true → long ≡ false
+    → is_filled rest ≡ true
 not_long most piece (x ∷ rest) long e short = refl
 not_long most piece [] true e short = absurd cc
 not_long most piece [] false e short = absurd cc
 
-pub end_follows : (inside : Bool) (text filled : List ℕ) (first : ℕ) (after : List ℕ) → filled ≡ without_start text → filled ≡ first ∷ after → first ≡ 10
+pub end_follows : (inside : Bool) (text filled : List ℕ) (first : ℕ) (after : List ℕ) → filled ≡ without_start text
+    → filled ≡ first ∷ after → first ≡ 10
     → GivesNext inside text LineEnd false after
 end_follows inside text filled first after e parts ten goes_on more =
     end_next goes_on inside (text ++ more) (first ∷ (after ++ more)) first (after ++ more) (sym (starts_alike text more first after (sym e ∙ parts))) refl ten
@@ -82,7 +86,8 @@ end_follows inside text filled first after e parts ten goes_on more =
 -- a line or a word that isn't too long, whatever follows it
 pub token_follows : (inside goes : Bool) (text filled : List ℕ) (first : ℕ) (after : List ℕ) (token : Token) (piece rest : List ℕ)
     → filled ≡ without_start text → filled ≡ first ∷ after → (first ≡ 10 → ⊥) → token ≡ token_at inside first
-    → piece ≡ up_to_first (ends token) filled → rest ≡ from (ends token) filled → is_settled (most_bytes token) goes piece rest ≡ true
+    → piece ≡ up_to_first (ends token) filled → rest ≡ from (ends token) filled
+    → is_settled (most_bytes token) goes piece rest ≡ true
     → goes ≡ true → nat_lt (most_bytes token) (length piece) ≡ false → GivesNext inside text (token_item token piece) true rest
 token_follows inside true text filled first after token piece rest e parts more_ is p r settled goes_is short goes_on more =
     let tail : is_filled rest ≡ true = not_long (most_bytes token) piece rest _ settled short in
@@ -107,7 +112,8 @@ token_long Word piece long = lt-ltb most_word_bytes (length piece) long
 -- a number word, as a run takes it
 pub word_follows : (inside goes : Bool) (text filled : List ℕ) (first : ℕ) (after word rest : List ℕ)
     → filled ≡ without_start text → filled ≡ first ∷ after → (first ≡ 10 → ⊥) → (not inside && is_letter first) ≡ false
-    → word ≡ up_to_first ends_word filled → rest ≡ from ends_word filled → is_settled most_word_bytes goes word rest ≡ true → goes ≡ true
+    → word ≡ up_to_first ends_word filled → rest ≡ from ends_word filled → is_settled most_word_bytes goes word rest ≡ true
+    → goes ≡ true
     → is_over_long (NumberWord word) ≡ false → GivesNext inside text (NumberWord word) true rest
 word_follows inside goes text filled first after word rest e parts more_ begins w r settled goes_is short =
     token_follows inside goes text filled first after Word word rest e parts more_ (ap (λ (b : Bool). cond b Line Word) (sym begins))

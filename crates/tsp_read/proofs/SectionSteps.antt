@@ -89,7 +89,8 @@ pub opens : (old new : Reading) (field : Field) (shape : Shape) (line : WordLine
     → MayOpen shape (stands_in (fields_of old.draft) field) line.value old.draft.dimension (Ok n) → section.field ≡ field
     → (n ≤ most_nodes → HoldsShape shape section.part n [])
     → new.draft ≡ old.draft → new.incomplete ≡ old.incomplete → new.opened ≡ Some section
-    → (earlier : List Item) → Closed old earlier → nat_lt most_line_bytes line.size ≡ false → Holds new (Line (Known field) line ∷ earlier)
+    → (earlier : List Item) → Closed old earlier → nat_lt most_line_bytes line.size ≡ false
+    → Holds new (Line (Known field) line ∷ earlier)
 opens old new field shape line n section is may of begins same_draft same_first opened earlier h short =
     let kind : is_section_field field ≡ true = section_of (spatial (fields_of old.draft)) field shape is in
     let stays = nodes_stay earlier line field kind in
@@ -124,7 +125,8 @@ opens old new field shape line n section is may of begins same_draft same_first 
 pub refuses : (old : Reading) (field : Field) (shape : Shape) (line : WordLine) (fault : LineFault)
     → shape_of (spatial (fields_of old.draft)) field ≡ Some shape
     → MayOpen shape (stands_in (fields_of old.draft) field) line.value old.draft.dimension (Err fault)
-    → (earlier : List Item) → Closed old earlier → nat_lt most_line_bytes line.size ≡ false → row_of earlier (Line (Known field) line) ≡ Some fault
+    → (earlier : List Item) → Closed old earlier → nat_lt most_line_bytes line.size ≡ false
+    → row_of earlier (Line (Known field) line) ≡ Some fault
 refuses old field shape line fault is may earlier h short = rows_are old field shape line earlier is h short ∙ may
 
 -- ---- the section that is open is closed
@@ -187,7 +189,8 @@ stored_as section shape old new more in_space n words is fields wants = (
   wants ∙ ap (λ o. wants_more (option_map_or (λ shape. place_by shape n words) o PastEnd)) (sym is),
 )
 
-pub numbers_stored : (section : OpenSection) (part : NumberList) (numbers : List ℤ) (more : Bool) (old new : Fields) → section.part ≡ parts.Numbers part
+pub numbers_stored : (section : OpenSection) (part : NumberList) (numbers : List ℤ) (more : Bool) (old new : Fields)
+    → section.part ≡ parts.Numbers part
     → new ≡ with_numbers section.field numbers old
     → ((low high : ℤ) (n : ℕ) (words : List (List ℕ)) → HoldsNumbers part low high n words
     → (numbers ≡ numbers_by_node low high n words) × (more ≡ wants_more (place_of_number low high n words)))
@@ -198,7 +201,8 @@ numbers_stored section part numbers more old new is put finished in_space n word
     stored_as section (Numbers part.low part.high) old new more in_space n words (h.0 ∙ ap (λ p. Some (shape_by p)) is)
     (put ∙ ap (λ xs. with_numbers section.field xs old) got.0) got.1
 
-pub points_stored : (section : OpenSection) (part : PointList) (points : List Point) (more : Bool) (old new : Fields) → section.part ≡ parts.Points part
+pub points_stored : (section : OpenSection) (part : PointList) (points : List Point) (more : Bool) (old new : Fields)
+    → section.part ≡ parts.Points part
     → new ≡ with_points section.field points old
     → ((in_space : Bool) (n : ℕ) (words : List (List ℕ)) → HoldsPoints part in_space n words
     → (points ≡ coords_by_node in_space n words) × (more ≡ wants_more (place_by (shape_of_points in_space) n words)))
@@ -210,7 +214,8 @@ points_stored section part points more old new is put finished in_space n words 
     stored_as section (shape_of_points kind) old new more in_space n words (h.0 ∙ ap (λ p. Some (shape_by p)) is)
     (put ∙ ap (λ xs. with_points section.field xs old) got.0 ∙ with_coords kind section.field n words old) got.1
 
-pub pairs_stored : (section : OpenSection) (part : FixedList) (pairs : List (ℕ × ℕ)) (more : Bool) (old new : Fields) → section.part ≡ parts.Pairs part
+pub pairs_stored : (section : OpenSection) (part : FixedList) (pairs : List (ℕ × ℕ)) (more : Bool) (old new : Fields)
+    → section.part ≡ parts.Pairs part
     → new ≡ record old { fixed = Some pairs }
     → ((n : ℕ) (words : List (List ℕ)) → HoldsFixed part n words → (pairs ≡ fixed_in n words) × (more ≡ wants_more (place_of_fixed n words)))
     → (in_space : Bool) (n : ℕ) (words : List (List ℕ)) → HoldsSection in_space section n words
@@ -219,7 +224,8 @@ pairs_stored section part pairs more old new is put finished in_space n words h 
     let got = finished n words (subst (λ (p : Part). HoldsPart p n words) is h.1) in
     stored_as section Pairs old new more in_space n words (h.0 ∙ ap (λ p. Some (shape_by p)) is) (put ∙ ap (λ xs. record old { fixed = Some xs }) got.0) got.1
 
-pub triples_stored : (section : OpenSection) (part : TripleList) (triples : List (ℕ × ℕ × ℤ)) (more : Bool) (old new : Fields) → section.part ≡ parts.Triples part
+pub triples_stored : (section : OpenSection) (part : TripleList) (triples : List (ℕ × ℕ × ℤ)) (more : Bool) (old new : Fields)
+    → section.part ≡ parts.Triples part
     → new ≡ record old { fixed_potentials = Some triples }
     → ((n : ℕ) (words : List (List ℕ)) → HoldsTriples part n words → (triples ≡ fixed_triples_in n words) × (more ≡ wants_more (place_of_triple n words)))
     → (in_space : Bool) (n : ℕ) (words : List (List ℕ)) → HoldsSection in_space section n words
@@ -229,7 +235,8 @@ triples_stored section part triples more old new is put finished in_space n word
     stored_as section Triples old new more in_space n words (h.0 ∙ ap (λ p. Some (shape_by p)) is)
     (put ∙ ap (λ xs. record old { fixed_potentials = Some xs }) got.0) got.1
 
-pub combs_stored : (section : OpenSection) (part : CombList) (combs : List (List (List ℕ))) (more : Bool) (old new : Fields) → section.part ≡ parts.Combs part
+pub combs_stored : (section : OpenSection) (part : CombList) (combs : List (List (List ℕ))) (more : Bool) (old new : Fields)
+    → section.part ≡ parts.Combs part
     → new ≡ record old { combs = Some combs }
     → ((n : ℕ) (words : List (List ℕ)) → HoldsCombs part n words → (combs ≡ whole_combs n words) × (more ≡ wants_more (place_of_comb n words)))
     → (in_space : Bool) (n : ℕ) (words : List (List ℕ)) → HoldsSection in_space section n words
@@ -239,7 +246,8 @@ combs_stored section part combs more old new is put finished in_space n words h 
     stored_as section Combs old new more in_space n words (h.0 ∙ ap (λ p. Some (shape_by p)) is)
     (put ∙ ap (λ xs. record old { combs = Some xs }) got.0) got.1
 
-pub steps_stored : (section : OpenSection) (part : TreeList) (steps : List Step) (more : Bool) (old new : Fields) → section.part ≡ parts.Steps part
+pub steps_stored : (section : OpenSection) (part : TreeList) (steps : List Step) (more : Bool) (old new : Fields)
+    → section.part ≡ parts.Steps part
     → new ≡ record old { branches = Some steps }
     → ((n : ℕ) (words : List (List ℕ)) → HoldsTree part n words → (steps ≡ whole_steps n words) × (more ≡ wants_more (place_of_step n words)))
     → (in_space : Bool) (n : ℕ) (words : List (List ℕ)) → HoldsSection in_space section n words

@@ -21,7 +21,8 @@ with_path a b c d x path h k m = subst (Carried a d) (sym whole) (two_parts a b 
     whole = ap (λ t. t ++ codes "\n") (append_assoc x (codes " ") path) ∙ append_assoc x (codes " " ++ path) (codes "\n")
 
 -- the part of the next node, where the entries are seen by g
-pub next_mapped : {X Y : Type 0} (f : ℕ × Y → List ℕ) (g : X → Y) (xs : List X) (i : ℕ) (x : X) (a b c : Way) → i < length xs → x ≡ get_or xs i x
+pub next_mapped : {X Y : Type 0} (f : ℕ × Y → List ℕ) (g : X → Y) (xs : List X) (i : ℕ) (x : X) (a b c : Way) → i < length xs
+    → x ≡ get_or xs i x
     → Carried a b (flat_map f (take i (enumerate_from 1 (map g xs)))) → Carried b c (f (i + 1, g x))
     → Carried a c (flat_map f (take (i + 1) (enumerate_from 1 (map g xs))))
 next_mapped f g xs i x a b c lt is h k = carried_node f (map g xs) i (g x) a b c (omega (arith, length-map xs g))
@@ -42,5 +43,6 @@ named [] none = absurd cc
 named (first ∷ rest) none = refl
 
 -- a text, some words and a number
-pub then_named : (a b c : Way) (x words number : List ℕ) → Carried a b x → Carried b c (words ++ number) → Carried a c (x ++ words ++ number)
+pub then_named : (a b c : Way) (x words number : List ℕ) → Carried a b x → Carried b c (words ++ number)
+    → Carried a c (x ++ words ++ number)
 then_named a b c x words number h k = subst (Carried a c) (sym (append_assoc x words number)) (carried_then a b c x (words ++ number) h k)

@@ -12,7 +12,8 @@ use Rattle.tsp_round.proofs.KeyFields.{name_step, kind_step, comment_step, other
 use Rattle.tsp_round.proofs.SectionFields.{section_step}
 use Rattle.tsp_round.proofs.Stages.{Ready, Step}
 
-pub field_step : NumberLaws → (f : Fields) → ((g : Field) → fits f g ≡ true) → (field : Field) (earlier : List Item) → Ready f field earlier → Step f (text_of_field f) field earlier
+pub field_step : NumberLaws → (f : Fields) → ((g : Field) → fits f g ≡ true) → (field : Field) (earlier : List Item)
+    → Ready f field earlier → Step f (text_of_field f) field earlier
 field_step laws f valid NameKey earlier ready = name_step f earlier (valid NameKey) ready
 field_step laws f valid TypeKey earlier ready = kind_step f earlier ready
 field_step laws f valid CommentKey earlier ready = comment_step f earlier (valid CommentKey) ready

@@ -119,7 +119,8 @@ unfolding sign_text
 is_sign false = inl (refl, refl)
 is_sign true = inr (inr (refl, refl))
 
-stands_whole : (negative : Bool) (size : ℕ) → size < 2 ^ 63 → StandsFor (sign_text negative ++ decimal size) (with_sign negative size *ℤ pos unit)
+stands_whole : (negative : Bool) (size : ℕ) → size < 2 ^ 63
+    → StandsFor (sign_text negative ++ decimal size) (with_sign negative size *ℤ pos unit)
 stands_whole negative size small =
     let whole = decimal_is_IsNumeral size (omega arith) in
     let n : Numeral = record { negative = negative; whole = decimal size; fraction = []; exponent = pos 0 } in

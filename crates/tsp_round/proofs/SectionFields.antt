@@ -111,7 +111,8 @@ pub record AreRight (shape : Shape) (xs : Entries shape) (items : List Item) : T
   pub few : needs_nodes shape ≡ true → dimension_in items ≤ most_nodes
   pub known : needs_nodes shape ≡ true → has_line DimensionKey items ≡ true
 
-counted : NumberLaws → (f : Fields) (shape : Shape) (xs : Entries shape) (items : List Item) → value_at DimensionKey items ≡ option_map decimal f.dimension → fits f DimensionKey ≡ true
+counted : NumberLaws → (f : Fields) (shape : Shape) (xs : Entries shape) (items : List Item)
+    → value_at DimensionKey items ≡ option_map decimal f.dimension → fits f DimensionKey ≡ true
     → with_dimension (are_valid shape) f.dimension xs ≡ true → AreRight shape xs items
 counted laws f shape xs items written one fit =
     let h = has_nodes laws f (are_valid shape) xs items written one fit in
@@ -121,7 +122,8 @@ counted laws f shape xs items written one fit =
       known = λ e. h.known;
     }
 
-pub are_right : NumberLaws → (f : Fields) (shape : Shape) (xs : Entries shape) (items : List Item) → value_at DimensionKey items ≡ option_map decimal f.dimension → fits f DimensionKey ≡ true
+pub are_right : NumberLaws → (f : Fields) (shape : Shape) (xs : Entries shape) (items : List Item)
+    → value_at DimensionKey items ≡ option_map decimal f.dimension → fits f DimensionKey ≡ true
     → fit_for f shape xs ≡ true → AreRight shape xs items
 are_right laws f (Numbers low high) xs items written one fit = counted laws f (Numbers low high) xs items written one fit
 are_right laws f Points xs items written one fit = counted laws f Points xs items written one fit
@@ -141,8 +143,10 @@ both_false true b h = h refl
 both_false false b h = refl
 
 -- no row applies to a section's line
-section_row : (in_space : Bool) (field : Field) (shape : Shape) (earlier : List Item) → shape_of in_space field ≡ Some shape → is_section_field field ≡ true → has_line field earlier ≡ false
-    → (needs_nodes shape ≡ true → has_line DimensionKey earlier ≡ true) → (is_matrix shape ≡ true → nat_lt most_matrix_nodes (dimension_in earlier) ≡ false)
+section_row : (in_space : Bool) (field : Field) (shape : Shape) (earlier : List Item) → shape_of in_space field ≡ Some shape
+    → is_section_field field ≡ true → has_line field earlier ≡ false
+    → (needs_nodes shape ≡ true → has_line DimensionKey earlier ≡ true)
+    → (is_matrix shape ≡ true → nat_lt most_matrix_nodes (dimension_in earlier) ≡ false)
     → row_of earlier (Line (Known field) (section_line field)) ≡ None
 section_row in_space field shape earlier e part unseen known few =
     let plain = is_plain field part in
@@ -153,7 +157,8 @@ section_row in_space field shape earlier e part unseen known few =
     ∙ rw (unseen, plain.4, early, many) refl
 
 -- the words that its lines add
-section_adds_words : (f : Fields) (field : Field) (words : List (List ℕ)) (items start earlier : List Item) → are_numbers items ≡ true → number_words items ≡ words → open_section start ≡ Some field
+section_adds_words : (f : Fields) (field : Field) (words : List (List ℕ)) (items start earlier : List Item)
+    → are_numbers items ≡ true → number_words items ≡ words → open_section start ≡ Some field
     → ((g : Field) → words_of g start ≡ words_of g earlier) → words_of field earlier ≡ [] → words_written f field ≡ words
     → (g : Field) → words_of g (onto items start) ≡ cond (same_field g field) (words_written f field) (words_of g earlier)
 section_adds_words f field words items start earlier numbers are opened same none is g = by_case (same_field g field) refl
@@ -165,7 +170,8 @@ section_adds_words f field words items start earlier numbers are opened same non
     by_case false e =
         other_words g items start numbers (ap (is_open g) opened ∙ e) ∙ same g ∙ sym (ap (λ b. cond b (words_written f field) (words_of g earlier)) e)
 
-step_of : NumberLaws → (f : Fields) (field : Field) (shape : Shape) (entries : Option (Entries shape)) (earlier : List Item) → fits f DimensionKey ≡ true → IsSection f field shape entries
+step_of : NumberLaws → (f : Fields) (field : Field) (shape : Shape) (entries : Option (Entries shape)) (earlier : List Item)
+    → fits f DimensionKey ≡ true → IsSection f field shape entries
     → Ready f field earlier → Step f (text_of_field f) field earlier
 step_of laws f field shape None earlier one is ready =
     let plain = is_plain field is.part in

@@ -53,11 +53,13 @@ pub record HasNodes {A : Type 0} (f : Fields) (fits : ℕ → A → Bool) (x : A
   pub nodes : dimension_in earlier ≡ n
   pub known : has_line DimensionKey earlier ≡ true
 
-with_nodes : {A : Type 0} (fits : ℕ → A → Bool) (o : Option ℕ) (x : A) → with_dimension fits o x ≡ true → (n : ℕ) × (o ≡ Some n) × (fits n x ≡ true)
+with_nodes : {A : Type 0} (fits : ℕ → A → Bool) (o : Option ℕ) (x : A) → with_dimension fits o x ≡ true
+    → (n : ℕ) × (o ≡ Some n) × (fits n x ≡ true)
 with_nodes fits None x e = absurd (false≢true e)
 with_nodes fits (Some n) x e = (n, refl, e)
 
-pub has_nodes : {A : Type 0} → NumberLaws → (f : Fields) (fits : ℕ → A → Bool) (x : A) (earlier : List Item) → value_at DimensionKey earlier ≡ option_map decimal f.dimension
+pub has_nodes : {A : Type 0} → NumberLaws → (f : Fields) (fits : ℕ → A → Bool) (x : A) (earlier : List Item)
+    → value_at DimensionKey earlier ≡ option_map decimal f.dimension
     → if_there (is_node most_nodes) f.dimension ≡ true → with_dimension fits f.dimension x ≡ true → HasNodes f fits x earlier
 has_nodes laws f fits x earlier written one e =
     let found = with_nodes fits f.dimension x e in
@@ -75,5 +77,6 @@ has_nodes laws f fits x earlier written one e =
       known = has_value DimensionKey earlier ∙ ap (λ (v : Option (List ℕ)). is_some v) value;
     }
 
-pub no_line_yet : (f : Fields) (field : Field) (earlier : List Item) → Ready f field earlier → may_repeat field ≡ false → has_line field earlier ≡ false
+pub no_line_yet : (f : Fields) (field : Field) (earlier : List Item) → Ready f field earlier → may_repeat field ≡ false
+    → has_line field earlier ≡ false
 no_line_yet f field earlier ready once = has_value field earlier ∙ ap (λ (v : Option (List ℕ)). is_some v) (ready.unseen once)

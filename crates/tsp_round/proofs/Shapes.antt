@@ -124,7 +124,8 @@ read_for Steps n words = whole_steps n words
 abbrev pub text_for : Fields → Field → (shape : Shape) → Option (Entries shape) → List ℕ
 text_for f field shape xs = optional (λ entries. section_text field (lines_for (line_lens f.weight_format f.dimension) shape entries)) xs
 
-pub text_by : (f : Fields) (field : Field) (shape : Shape) → text_of_section f field shape ≡ text_for f field shape (entries_in f field shape)
+pub text_by : (f : Fields) (field : Field) (shape : Shape)
+    → text_of_section f field shape ≡ text_for f field shape (entries_in f field shape)
 text_by f field (Numbers low high) = refl
 text_by f field Points = refl
 text_by f field SpacePoints = refl
@@ -139,7 +140,8 @@ text_by f field Steps = refl
 abbrev pub fit_for : Fields → (shape : Shape) → Entries shape → Bool
 fit_for f shape xs = cond (needs_nodes shape) (with_dimension (are_valid shape) f.dimension xs) (are_valid shape 0 xs)
 
-pub fits_by : (f : Fields) (field : Field) (shape : Shape) → section_fits f field shape ≡ if_there (fit_for f shape) (entries_in f field shape)
+pub fits_by : (f : Fields) (field : Field) (shape : Shape)
+    → section_fits f field shape ≡ if_there (fit_for f shape) (entries_in f field shape)
 fits_by f field (Numbers low high) = refl
 fits_by f field Points = refl
 fits_by f field SpacePoints = refl
@@ -157,7 +159,8 @@ abbrev pub is_writable : Shape → Bool
 is_writable (Numbers low high) = nat_lt (unsigned_abs low) (2 ^ 63) && nat_lt (unsigned_abs high) (2 ^ 63)
 is_writable shape = true
 
-between : (low high z : ℤ) (most : ℕ) → unsigned_abs low < most → unsigned_abs high < most → is_from_to low high z ≡ true → unsigned_abs z < most
+between : (low high z : ℤ) (most : ℕ) → unsigned_abs low < most → unsigned_abs high < most → is_from_to low high z ≡ true
+    → unsigned_abs z < most
 between low high z most lower upper inside = grind (arith, ints)
 
 small_range : (low high : ℤ) → is_writable (Numbers low high) ≡ true → AreSmall low high
@@ -192,7 +195,8 @@ weights_done n words = either (nat_le (n * n) (length words))
     either true = refl
     either false = refl
 
-pub body : NumberLaws → (lens : List ℕ) (shape : Shape) → is_writable shape ≡ true → (n : ℕ) → (needs_nodes shape ≡ true → n ≤ most_nodes) → (xs : Entries shape) → are_valid shape n xs ≡ true
+pub body : NumberLaws → (lens : List ℕ) (shape : Shape) → is_writable shape ≡ true → (n : ℕ)
+    → (needs_nodes shape ≡ true → n ≤ most_nodes) → (xs : Entries shape) → are_valid shape n xs ≡ true
     → IsBody lens shape n xs
 body laws lens (Numbers low high) writable n few xs fit =
     let both = and_parts (length xs == n) (list_all (is_from_to low high) xs) fit in

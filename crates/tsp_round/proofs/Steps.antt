@@ -21,8 +21,10 @@ pub kept_blank : {X : Type 0} (b : Bool) (blank old : X) → (b ≡ true → old
 kept_blank true blank old e = e refl
 kept_blank false blank old e = refl
 
-pub missing : (f : Fields) (text : Field → List ℕ) (field : Field) (earlier : List Item) → Ready f field earlier → text field ≡ [] → may_repeat field ≡ false → value_of f field ≡ None
-    → words_written f field ≡ [] → same_field CommentKey field ≡ false → same_field OtherKey field ≡ false → Step f text field earlier
+pub missing : (f : Fields) (text : Field → List ℕ) (field : Field) (earlier : List Item) → Ready f field earlier → text field ≡ []
+    → may_repeat field ≡ false → value_of f field ≡ None
+    → words_written f field ≡ [] → same_field CommentKey field ≡ false → same_field OtherKey field ≡ false
+    → Step f text field earlier
 missing f text field earlier known nothing once no_value no_word no_comment no_other = record {
   items = [];
   written = λ rest. ap (λ (t : List ℕ). items_of (t ++ rest)) nothing;
@@ -42,8 +44,10 @@ missing f text field earlier known nothing once no_value no_word no_comment no_o
 
 -- the words of no section but an open one
 pub key_line : (f : Fields) (text : Field → List ℕ) (field : Field) (value : List ℕ) (earlier : List Item) → Ready f field earlier
-    → text field ≡ keyword_line field value → keyword_of (field_word field) ≡ Known field → IsKeyword (field_word field) → IsWhole value
-    → value_of f field ≡ Some value → words_written f field ≡ [] → same_field CommentKey field ≡ false → same_field OtherKey field ≡ false
+    → text field ≡ keyword_line field value → keyword_of (field_word field) ≡ Known field → IsKeyword (field_word field)
+    → IsWhole value
+    → value_of f field ≡ Some value → words_written f field ≡ [] → same_field CommentKey field ≡ false
+    → same_field OtherKey field ≡ false
     → row_of earlier (Line (Known field) (written_line (field_word field) value)) ≡ None → Step f text field earlier
 key_line f text field value earlier known text_is key_is key whole value_is no_word no_comment no_other row =
     let line = written_line (field_word field) value in

@@ -23,7 +23,8 @@ use Rattle.tsp_section.proofs.SpacePointSteps as space
 abbrev pub coord_fault : Bool → ℕ → List (List ℕ) → List ℕ → Option LineFault
 coord_fault in_space n words word = word_fault n (place_by (shape_of_points in_space) n words) word
 
-pub none_so_far : (in_space : Bool) (seen : List Bool) (entries : List Point) (n : ℕ) → seen ≡ replicate n false → entries ≡ replicate n origin
+pub none_so_far : (in_space : Bool) (seen : List Bool) (entries : List Point) (n : ℕ) → seen ≡ replicate n false
+    → entries ≡ replicate n origin
     → CoordsHold in_space seen entries n None None None n []
 none_so_far false seen entries n unseen at_origin = plane.none_so_far seen entries n unseen at_origin
 none_so_far true seen entries n unseen at_origin = space.no_space_points seen entries n unseen at_origin
@@ -44,7 +45,8 @@ coordinate_bad true seen entries left begun x y n words word k fault some is rea
 
 -- any word but a -1 past the groups
 pub one_too_many : (in_space : Bool) (seen : List Bool) (entries : List Point) (left : ℕ) (begun : Option ℕ) (x y : Option ℤ) (n : ℕ) (words : List (List ℕ)) (word : List ℕ)
-    → left ≡ 0 → is_minus_one word ≡ false → CoordsHold in_space seen entries left begun x y n words → coord_fault in_space n words word ≡ Some row.Surplus
+    → left ≡ 0 → is_minus_one word ≡ false → CoordsHold in_space seen entries left begun x y n words
+    → coord_fault in_space n words word ≡ Some row.Surplus
 one_too_many false seen entries left begun x y n words word none other h = plane.points_surplus seen entries left begun x n words word none other h
 one_too_many true seen entries left begun x y n words word none other h = space.space_surplus seen entries left begun x y n words word none other h
 

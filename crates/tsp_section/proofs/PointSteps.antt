@@ -42,7 +42,8 @@ words_so_far n left words short to_come =
     omega (arith, count, length_triples words)
 
 -- a word more that ends no group leaves the groups alone
-groups_kept : (n : ℕ) (words : List (List ℕ)) (word : List ℕ) → length words < 3 * n → threes_in (words ++ word ∷ []) ≡ threes_in words
+groups_kept : (n : ℕ) (words : List (List ℕ)) (word : List ℕ) → length words < 3 * n
+    → threes_in (words ++ word ∷ []) ≡ threes_in words
     → point_groups n (words ++ word ∷ []) ≡ point_groups n words
 groups_kept n words word short same =
     all_groups n (words ++ word ∷ []) (omega (arith, length_push words word)) ∙ ap (map (group_of n)) same ∙ sym (all_groups n words (omega arith))
@@ -63,7 +64,8 @@ none_begun : (n : ℕ) (x : Option ℤ) (words : List (List ℕ)) → BeginsPoin
 none_begun n x [] h = (refl, h)
 none_begun n x (word ∷ words) h = absurd h
 
-node_begun : (n k : ℕ) (words : List (List ℕ)) → BeginsPoint n (Some k) None words → (first : List ℕ) × (words ≡ first ∷ []) × (node n first ≡ Ok (pos k))
+node_begun : (n k : ℕ) (words : List (List ℕ)) → BeginsPoint n (Some k) None words
+    → (first : List ℕ) × (words ≡ first ∷ []) × (node n first ≡ Ok (pos k))
 node_begun n k [] h = absurd h
 node_begun n k (word ∷ []) h = (word, refl, h)
 node_begun n k (word ∷ other ∷ words) h = absurd h
@@ -75,7 +77,8 @@ coordinate_begun n k z (word ∷ []) h = absurd h
 coordinate_begun n k z (word ∷ other ∷ []) h = (word, other, refl, h.0, h.1)
 coordinate_begun n k z (word ∷ other ∷ more ∷ words) h = absurd h
 
-some_begun : (n k : ℕ) (x : Option ℤ) (words : List (List ℕ)) → BeginsPoint n (Some k) x words → (first : List ℕ) × (rest : List (List ℕ)) × (words ≡ first ∷ rest)
+some_begun : (n k : ℕ) (x : Option ℤ) (words : List (List ℕ)) → BeginsPoint n (Some k) x words
+    → (first : List ℕ) × (rest : List (List ℕ)) × (words ≡ first ∷ rest)
 some_begun n k None words h =
     let begun = node_begun n k words h in
     (begun.0, [], begun.1)
@@ -83,13 +86,15 @@ some_begun n k (Some z) words h =
     let begun = coordinate_begun n k z words h in
     (begun.0, begun.1 ∷ [], begun.2)
 
-begins : (left : ℕ) (begun o : Option ℕ) (x y : Option ℤ) (seen : List Bool) (entries : List Point) (n : ℕ) (words : List (List ℕ)) → 0 < left → begun ≡ o → x ≡ y
+begins : (left : ℕ) (begun o : Option ℕ) (x y : Option ℤ) (seen : List Bool) (entries : List Point) (n : ℕ) (words : List (List ℕ))
+    → 0 < left → begun ≡ o → x ≡ y
     → PointsHold seen entries left begun x n words → BeginsPoint n o y (begun_triple words)
 begins left begun o x y seen entries n words some is also h = rw (← is, ← also) (h.cut some)
 
 -- ---- the place of the next word
 
-place_of_node : (seen : List Bool) (entries : List Point) (left : ℕ) (begun : Option ℕ) (x : Option ℤ) (n : ℕ) (words : List (List ℕ)) → 0 < left → begun ≡ None
+place_of_node : (seen : List Bool) (entries : List Point) (left : ℕ) (begun : Option ℕ) (x : Option ℤ) (n : ℕ) (words : List (List ℕ))
+    → 0 < left → begun ≡ None
     → PointsHold seen entries left begun x n words → place_of_point n words ≡ NodeAfter (nodes_of_groups (point_groups n words))
 place_of_node seen entries left begun x n words some is h =
     let short = h.open_ended some in
@@ -97,7 +102,8 @@ place_of_node seen entries left begun x n words some is h =
     let start = none_begun n x (begun_triple words) (begins left begun None x x seen entries n words some is refl h) in
     rw (few, start.0) refl
 
-place_of_coordinate : (seen : List Bool) (entries : List Point) (left : ℕ) (begun : Option ℕ) (x : Option ℤ) (n : ℕ) (words : List (List ℕ)) (k : ℕ) → 0 < left
+place_of_coordinate : (seen : List Bool) (entries : List Point) (left : ℕ) (begun : Option ℕ) (x : Option ℤ) (n : ℕ) (words : List (List ℕ)) (k : ℕ)
+    → 0 < left
     → begun ≡ Some k → PointsHold seen entries left begun x n words → place_of_point n words ≡ Coordinate
 place_of_coordinate seen entries left begun x n words k some is h =
     let short = h.open_ended some in
@@ -192,7 +198,8 @@ point_more seen entries left begun x n words word k y z some is also read h =
 
 -- ---- past the groups
 
-past_points : (seen : List Bool) (entries : List Point) (left : ℕ) (begun : Option ℕ) (x : Option ℤ) (n : ℕ) (words : List (List ℕ)) → left ≡ 0
+past_points : (seen : List Bool) (entries : List Point) (left : ℕ) (begun : Option ℕ) (x : Option ℤ) (n : ℕ) (words : List (List ℕ))
+    → left ≡ 0
     → PointsHold seen entries left begun x n words → place_of_point n words ≡ PastGroups
 past_points seen entries left begun x n words none h =
     let full = h.full none in
@@ -200,7 +207,8 @@ past_points seen entries left begun x n words none h =
     rw past refl
 
 -- a -1 may end the section
-pub points_ended : (seen : List Bool) (entries : List Point) (left : ℕ) (begun : Option ℕ) (x : Option ℤ) (n : ℕ) (words : List (List ℕ)) (word : List ℕ) → left ≡ 0 → is_minus_one word ≡ true
+pub points_ended : (seen : List Bool) (entries : List Point) (left : ℕ) (begun : Option ℕ) (x : Option ℤ) (n : ℕ) (words : List (List ℕ)) (word : List ℕ)
+    → left ≡ 0 → is_minus_one word ≡ true
     → PointsHold seen entries left begun x n words
     → (word_fault n (place_of_point n words) word ≡ None) × PointsHold seen entries left begun x n (words ++ word ∷ [])
 points_ended seen entries left begun x n words word none end h =
@@ -218,7 +226,8 @@ points_ended seen entries left begun x n words word none end h =
     )
 
 -- any other word is one too many
-pub points_surplus : (seen : List Bool) (entries : List Point) (left : ℕ) (begun : Option ℕ) (x : Option ℤ) (n : ℕ) (words : List (List ℕ)) (word : List ℕ) → left ≡ 0 → is_minus_one word ≡ false
+pub points_surplus : (seen : List Bool) (entries : List Point) (left : ℕ) (begun : Option ℕ) (x : Option ℤ) (n : ℕ) (words : List (List ℕ)) (word : List ℕ)
+    → left ≡ 0 → is_minus_one word ≡ false
     → PointsHold seen entries left begun x n words → word_fault n (place_of_point n words) word ≡ Some row.Surplus
 points_surplus seen entries left begun x n words word none other h = rw (past_points seen entries left begun x n words none h, other) refl
 

@@ -43,8 +43,10 @@ pub word_rows : (earlier : List Item) (word : List ℕ) (f : Field) → open_sec
     → row_of earlier (NumberWord word) ≡ word_fault (dimension_in earlier) (place_in (spatial_after earlier) f (dimension_in earlier) (words_of f earlier)) word
 word_rows earlier word f o = rw o refl
 
-pub words_more : (earlier : List Item) (word : List ℕ) (f : Field) → open_section earlier ≡ Some f → words_of f (NumberWord word ∷ earlier) ≡ words_of f earlier ++ word ∷ []
+pub words_more : (earlier : List Item) (word : List ℕ) (f : Field) → open_section earlier ≡ Some f
+    → words_of f (NumberWord word ∷ earlier) ≡ words_of f earlier ++ word ∷ []
 words_more earlier word f o = rw (o, same_self f) refl
 
-pub long_line : (key : Keyword) (line : WordLine) (earlier : List Item) → nat_lt most_line_bytes line.size ≡ true → row_of earlier (Line key line) ≡ Some row.LongLine
+pub long_line : (key : Keyword) (line : WordLine) (earlier : List Item) → nat_lt most_line_bytes line.size ≡ true
+    → row_of earlier (Line key line) ≡ Some row.LongLine
 long_line key line earlier long = rw long refl

@@ -14,11 +14,13 @@ use Rattle.tsp_text.specs.Spells.{spelled, fault_at_end}
 use Rattle.tsp_text.specs.Text.{part, fault, Spells}
 use Rattle.tsp_text.specs.Answering.{IsAnswer, HasOneAnswer, is_of_text}
 
-only_file : (bytes : List ℕ) (other : Result Fields ReadFault) → fault bytes ≡ None → IsAnswer bytes other → other ≡ Ok (spelled (part bytes))
+only_file : (bytes : List ℕ) (other : Result Fields ReadFault) → fault bytes ≡ None → IsAnswer bytes other
+    → other ≡ Ok (spelled (part bytes))
 only_file bytes (Ok file) none h = ap (λ f. Ok f) h.fields
 only_file bytes (Err found) none h = absurd (none-some found (sym none ∙ h))
 
-only_fault : (bytes : List ℕ) (found : ReadFault) (other : Result Fields ReadFault) → fault bytes ≡ Some found → IsAnswer bytes other → other ≡ Err found
+only_fault : (bytes : List ℕ) (found : ReadFault) (other : Result Fields ReadFault) → fault bytes ≡ Some found
+    → IsAnswer bytes other → other ≡ Err found
 only_fault bytes found (Ok file) e h = absurd (none-some found (sym h.no_fault ∙ e))
 only_fault bytes found (Err other) e h = ap (λ f. Err f) (same_Some other found (sym h ∙ e))
 
@@ -37,7 +39,8 @@ one_file bytes file other spells also = spells.fields ∙ sym also.fields
 
 -- ---- the fault lies in the text
 
-item_fault : (item : Item) (earlier : List Item) (found : ReadFault) (before : Option ReadFault) (row : Option LineFault) → ((other : ReadFault) → before ≡ Some other → is_of_text other ≡ true)
+item_fault : (item : Item) (earlier : List Item) (found : ReadFault) (before : Option ReadFault) (row : Option LineFault)
+    → ((other : ReadFault) → before ≡ Some other → is_of_text other ≡ true)
     → option_or before (option_map (fault_here earlier item) row) ≡ Some found → is_of_text found ≡ true
 item_fault item earlier found (Some other) row before_is e = before_is found e
 item_fault item earlier found None (Some fault) before_is e = ap is_of_text (sym (same_Some (fault_here earlier item fault) found e))
@@ -47,8 +50,10 @@ items_fault : (items : List Item) (found : ReadFault) → fault_in items ≡ Som
 items_fault [] found e = absurd (none-some found e)
 items_fault (item ∷ earlier) found e = item_fault item earlier found (fault_in earlier) (row_of earlier item) (λ other h. items_fault earlier other h) e
 
-rows_fault : (found : ReadFault) (before : Option ReadFault) (long : Bool) (ended : Option EndFault) → ((other : ReadFault) → before ≡ Some other → is_of_text other ≡ true)
-    → first_row (before ∷ when long faults.TooLong ∷ option_map (λ fault. faults.End fault) ended ∷ []) ≡ Some found → is_of_text found ≡ true
+rows_fault : (found : ReadFault) (before : Option ReadFault) (long : Bool) (ended : Option EndFault)
+    → ((other : ReadFault) → before ≡ Some other → is_of_text other ≡ true)
+    → first_row (before ∷ when long faults.TooLong ∷ option_map (λ fault. faults.End fault) ended ∷ []) ≡ Some found
+    → is_of_text found ≡ true
 rows_fault found (Some other) long ended before_is e = before_is found e
 rows_fault found None true ended before_is e = ap is_of_text (sym (same_Some faults.TooLong found e))
 rows_fault found None false (Some fault) before_is e = ap is_of_text (sym (same_Some (faults.End fault) found e))

@@ -21,7 +21,8 @@ use Rattle.tsp_text.proofs.ValidSections.{same_field_is}
 
 -- ---- a line that isn't there has no value
 
-no_value_here : (b stands : Bool) (value : List ℕ) (rest : Option (List ℕ)) → cond b true stands ≡ false → (stands ≡ false → rest ≡ None)
+no_value_here : (b stands : Bool) (value : List ℕ) (rest : Option (List ℕ)) → cond b true stands ≡ false
+    → (stands ≡ false → rest ≡ None)
     → cond b (Some value) rest ≡ None
 no_value_here true stands value rest none ih = absurd (true≢false none)
 no_value_here false stands value rest none ih = ih none
@@ -51,7 +52,8 @@ or_turned true false = refl
 or_turned false true = refl
 or_turned false false = refl
 
-coords_said : (line : WordLine) (earlier : List Item) → has_line NodeCoordPart earlier ≡ true → has_line NodeCoordTypeKey earlier ≡ false
+coords_said : (line : WordLine) (earlier : List Item) → has_line NodeCoordPart earlier ≡ true
+    → has_line NodeCoordTypeKey earlier ≡ false
     → is_late earlier (Line (Known NodeCoordTypeKey) line) ≡ false
     → spatial_after (Line (Known NodeCoordTypeKey) line ∷ earlier) ≡ spatial_after earlier
 coords_said line earlier known first late =
@@ -61,7 +63,8 @@ coords_said line earlier known first late =
     (no_value NodeCoordTypeKey earlier first) in
     ap (λ b. says || b) (sym before) ∙ said_before says (has_line NodeCoordPart earlier) (spatial_after earlier) known late
 
-weights_said : (line : WordLine) (earlier : List Item) → has_line NodeCoordPart earlier ≡ true → has_line EdgeWeightTypeKey earlier ≡ false
+weights_said : (line : WordLine) (earlier : List Item) → has_line NodeCoordPart earlier ≡ true
+    → has_line EdgeWeightTypeKey earlier ≡ false
     → is_late earlier (Line (Known EdgeWeightTypeKey) line) ≡ false
     → spatial_after (Line (Known EdgeWeightTypeKey) line ∷ earlier) ≡ spatial_after earlier
 weights_said line earlier known first late =
@@ -71,8 +74,10 @@ weights_said line earlier known first late =
     (no_value EdgeWeightTypeKey earlier first) ∙ or_none coords in
     or_turned coords says ∙ ap (λ b. says || b) (sym before) ∙ said_before says (has_line NodeCoordPart earlier) (spatial_after earlier) known late
 
-key_said : (f : Field) (line : WordLine) (earlier : List Item) (by_coords by_weights : Bool) → same_field NodeCoordTypeKey f ≡ by_coords
-    → same_field EdgeWeightTypeKey f ≡ by_weights → has_line NodeCoordPart earlier ≡ true → is_repeated earlier (Line (Known f) line) ≡ false
+key_said : (f : Field) (line : WordLine) (earlier : List Item) (by_coords by_weights : Bool)
+    → same_field NodeCoordTypeKey f ≡ by_coords
+    → same_field EdgeWeightTypeKey f ≡ by_weights → has_line NodeCoordPart earlier ≡ true
+    → is_repeated earlier (Line (Known f) line) ≡ false
     → is_late earlier (Line (Known f) line) ≡ false → spatial_after (Line (Known f) line ∷ earlier) ≡ spatial_after earlier
 key_said f line earlier true by_weights is also known first late =
     let P : Field → Type 0 = λ g. is_repeated earlier (Line (Known g) line) ≡ false → is_late earlier (Line (Known g) line) ≡ false

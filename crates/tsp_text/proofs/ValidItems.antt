@@ -45,7 +45,8 @@ use Rattle.tsp_text.proofs.ValidCombs.{combs_fit}
 use Rattle.tsp_text.proofs.ValidTree.{steps_fit}
 use Rattle.tsp_text.proofs.ValidSections.{same_field_is}
 
-tours_there : (items : List Item) (b : Bool) → IsClean items → if_there are_tours (cond b (Some (tours_in (words_of TourPart items))) None) ≡ true
+tours_there : (items : List Item) (b : Bool) → IsClean items
+    → if_there are_tours (cond b (Some (tours_in (words_of TourPart items))) None) ≡ true
 tours_there items true clean = tours_fit items clean
 tours_there items false clean = refl
 
@@ -58,7 +59,8 @@ wants_none true wants e whole = whole
 wants_none false wants e whole = absurd (false≢true e)
 
 -- each field by itself, if the tree, where there is one, is whole
-pub each_fits : (items : List Item) → AreCut items → IsClean items → is_incomplete items BranchPart ≡ false → (field : Field) → fits (spelled items) field ≡ true
+pub each_fits : (items : List Item) → AreCut items → IsClean items → is_incomplete items BranchPart ≡ false → (field : Field)
+    → fits (spelled items) field ≡ true
 each_fits items cut clean whole NameKey = name_fits items cut clean
 each_fits items cut clean whole TypeKey = refl
 each_fits items cut clean whole CommentKey = comments_fit items cut clean
@@ -93,17 +95,20 @@ each_fits items cut clean whole CombPart = section_fits are_combs (whole_combs (
 each_fits items cut clean whole BranchPart = section_fits are_steps (whole_steps (dimension_in items)) BranchPart refl refl items clean
     (λ there. steps_fit items clean (wants_none (has_line BranchPart items) (wants_more (place_of_step (dimension_in items) (words_of BranchPart items))) there whole))
 
-none_fails : (test : Field → Bool) (fields : List Field) → ((field : Field) → test field ≡ true) → first_failing test fields ≡ None
+none_fails : (test : Field → Bool) (fields : List Field) → ((field : Field) → test field ≡ true)
+    → first_failing test fields ≡ None
 none_fails test [] each = refl
 none_fails test (field ∷ fields) each = ap (λ b. cond (not b) (Some field) (first_failing test fields)) (each field) ∙ none_fails test fields each
 
-pub none_bad : (items : List Item) → AreCut items → IsClean items → is_incomplete items BranchPart ≡ false → bad_field (spelled items) ≡ None
+pub none_bad : (items : List Item) → AreCut items → IsClean items → is_incomplete items BranchPart ≡ false
+    → bad_field (spelled items) ≡ None
 none_bad items cut clean whole = none_fails (fits (spelled items)) fields_in_order (each_fits items cut clean whole)
 
 -- ---- the end
 
 -- no fault at the end, whatever section is incomplete: none with no incomplete one
-complete : (missing : Option EndFault) (incomplete : Option Field) (rest : Option EndFault) → option_or missing (option_or (option_map (λ field. Incomplete field) incomplete) rest) ≡ None
+complete : (missing : Option EndFault) (incomplete : Option Field) (rest : Option EndFault)
+    → option_or missing (option_or (option_map (λ field. Incomplete field) incomplete) rest) ≡ None
     → option_or missing (option_or None rest) ≡ None
 complete None None rest e = e
 complete None (Some field) rest e = absurd cc
@@ -117,19 +122,22 @@ none_incomplete None (Some field) rest e = absurd cc
 none_incomplete (Some fault) incomplete rest e = absurd cc
 
 -- where none of some fields is found, none of them passes
-not_first : (test : Field → Bool) (field f : Field) (fields : List Field) (passes same : Bool) → test f ≡ passes → same_field field f ≡ same
+not_first : (test : Field → Bool) (field f : Field) (fields : List Field) (passes same : Bool) → test f ≡ passes
+    → same_field field f ≡ same
     → cond passes (Some f) (find test fields) ≡ None → (same || list_any (same_field field) fields) ≡ true
     → (find test fields ≡ None → list_any (same_field field) fields ≡ true → test field ≡ false) → test field ≡ false
 not_first test field f fields true same is e none among rest = absurd cc
 not_first test field f fields false true is e none among rest = ap test (same_field_is field f e) ∙ is
 not_first test field f fields false false is e none among rest = rest none among
 
-found_none : (test : Field → Bool) (field : Field) (fields : List Field) → find test fields ≡ None → list_any (same_field field) fields ≡ true → test field ≡ false
+found_none : (test : Field → Bool) (field : Field) (fields : List Field) → find test fields ≡ None
+    → list_any (same_field field) fields ≡ true → test field ≡ false
 found_none test field [] none among = absurd (false≢true among)
 found_none test field (f ∷ fields) none among =
     not_first test field f fields (test f) (same_field field f) refl refl none among (found_none test field fields)
 
-no_fault : (bad : Option Field) (rule : Option EndFault) → bad ≡ None → rule ≡ None → option_or (option_map (λ field. BadField field) bad) (option_map (λ fault. Rule fault) rule) ≡ None
+no_fault : (bad : Option Field) (rule : Option EndFault) → bad ≡ None → rule ≡ None
+    → option_or (option_map (λ field. BadField field) bad) (option_map (λ fault. Rule fault) rule) ≡ None
 no_fault None None e f = refl
 no_fault None (Some fault) e f = absurd cc
 no_fault (Some field) rule e f = absurd cc

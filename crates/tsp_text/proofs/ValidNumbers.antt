@@ -79,11 +79,13 @@ unfolding decimal_of
 decimal_in_range word z e = decimal_read (numeral_in word) z (picked (nat_le (length word) 64) (decimal_from (numeral_in word)) LongWord z e).1
 
 -- what is read, or 0, passes a test that 0 passes
-number_passes : (test : ℤ → Bool) (r : Result ℤ NumberFault) → test (pos 0) ≡ true → ((z : ℤ) → r ≡ Ok z → test z ≡ true) → test (number r) ≡ true
+number_passes : (test : ℤ → Bool) (r : Result ℤ NumberFault) → test (pos 0) ≡ true → ((z : ℤ) → r ≡ Ok z → test z ≡ true)
+    → test (number r) ≡ true
 number_passes test (Ok z) zero_passes each = each z refl
 number_passes test (Err fault) zero_passes each = zero_passes
 
-pub whole_passes : (low high : ℤ) (word : List ℕ) → is_from_to low high (pos 0) ≡ true → is_from_to low high (number (whole_of word low high)) ≡ true
+pub whole_passes : (low high : ℤ) (word : List ℕ) → is_from_to low high (pos 0) ≡ true
+    → is_from_to low high (number (whole_of word low high)) ≡ true
 whole_passes low high word zero_passes = number_passes (is_from_to low high) (whole_of word low high) zero_passes (λ z e. whole_in_range word low high z e)
 
 decimal_passes : (word : List ℕ) → is_within most_coordinate (number (decimal_of word)) ≡ true
@@ -91,7 +93,8 @@ decimal_passes word = number_passes (is_within most_coordinate) (decimal_of word
 
 -- ---- lists by node
 
-entry_fits : {X : Type 0} (fits : X → Bool) (missing : X) (groups : List (ℤ × X)) (z : ℤ) → fits missing ≡ true → list_all (λ group. fits group.1) groups ≡ true
+entry_fits : {X : Type 0} (fits : X → Bool) (missing : X) (groups : List (ℤ × X)) (z : ℤ) → fits missing ≡ true
+    → list_all (λ group. fits group.1) groups ≡ true
     → fits (unwrap_or (entry_of groups z) missing) ≡ true
 entry_fits fits missing [] z none all = none
 entry_fits {X} fits missing (group ∷ groups) z none all =
@@ -102,7 +105,8 @@ entry_fits {X} fits missing (group ∷ groups) z none all =
     by_case true here later = here
     by_case false here later = later
 
-by_node_fits : {X : Type 0} (fits : X → Bool) (missing : X) (n : ℕ) (groups : List (ℤ × X)) → fits missing ≡ true → list_all (λ group. fits group.1) groups ≡ true
+by_node_fits : {X : Type 0} (fits : X → Bool) (missing : X) (n : ℕ) (groups : List (ℤ × X)) → fits missing ≡ true
+    → list_all (λ group. fits group.1) groups ≡ true
     → is_by_node fits n (by_node missing n groups) ≡ true
 unfolding nodes_to
 by_node_fits {X} fits missing n groups none all =
@@ -111,7 +115,8 @@ by_node_fits {X} fits missing n groups none all =
     (eq-eqb (length (map entry (nodes_to n))) n (length-map (nodes_to n) entry ∙ length-range_with_len 1 n))
     (list_all-map fits entry (nodes_to n) ∙ all_pass (λ i. fits (entry i)) (nodes_to n) (λ i. entry_fits fits missing groups (pos i) none all))
 
-pub numbers_fit : (low high : ℤ) (n : ℕ) (words : List (List ℕ)) → is_from_to low high (pos 0) ≡ true → is_by_node (is_from_to low high) n (numbers_by_node low high n words) ≡ true
+pub numbers_fit : (low high : ℤ) (n : ℕ) (words : List (List ℕ)) → is_from_to low high (pos 0) ≡ true
+    → is_by_node (is_from_to low high) n (numbers_by_node low high n words) ≡ true
 numbers_fit low high n words zero_passes = by_node_fits (is_from_to low high) (pos 0) n (number_groups low high n words) zero_passes
     (list_all-map (λ (group : ℤ × ℤ). is_from_to low high group.1) (λ (group : List ℕ × List ℕ). (number (node n group.0), number (whole_of group.1 low high))) (pairs_in (take (2 * n) words))
     ∙ all_pass (λ (group : List ℕ × List ℕ). is_from_to low high (number (whole_of group.1 low high))) (pairs_in (take (2 * n) words)) (λ group. whole_passes low high group.1 zero_passes))
@@ -139,7 +144,8 @@ space_points_fit n words = by_node_fits (is_point true) origin n (space_point_gr
     ∙ all_pass (λ (group : List ℕ × List ℕ × List ℕ × List ℕ). is_point true (space_point_of group.1 group.2 group.3)) (fours_in (take (4 * n) words))
     (λ group. space_point_fits group.1 group.2 group.3))
 
-pub coords_fit : (in_space : Bool) (n : ℕ) (words : List (List ℕ)) → is_by_node (is_point in_space) n (coords_by_node in_space n words) ≡ true
+pub coords_fit : (in_space : Bool) (n : ℕ) (words : List (List ℕ))
+    → is_by_node (is_point in_space) n (coords_by_node in_space n words) ≡ true
 coords_fit true n words = space_points_fit n words
 coords_fit false n words = points_fit n words
 
@@ -150,7 +156,8 @@ node_read n (pos k) e = (k, refl, e)
 node_read n (negsuc k) e = absurd (false≢true e)
 
 -- a node of 1..n
-pub read_node : (n : ℕ) (word : List ℕ) → result_err (node n word) ≡ None → (k : ℕ) × (node n word ≡ Ok (pos k)) × (is_node n k ≡ true)
+pub read_node : (n : ℕ) (word : List ℕ) → result_err (node n word) ≡ None
+    → (k : ℕ) × (node n word ≡ Ok (pos k)) × (is_node n k ≡ true)
 read_node n word = by_result (node n word) (λ z read. whole_in_range word (pos 1) (pos n) z read)
   where
     by_result : (r : Result ℤ NumberFault) → ((z : ℤ) → r ≡ Ok z → is_from_to (pos 1) (pos n) z ≡ true) → result_err r ≡ None → (k : ℕ) × (r ≡ Ok (pos k)) × (is_node n k ≡ true)
@@ -158,7 +165,8 @@ read_node n word = by_result (node n word) (λ z read. whole_in_range word (pos 
     by_result (Err fault) each e = absurd cc
 
 -- a number from -1 to n that is neither 0 nor -1
-listed_node : (n : ℕ) (z : ℤ) → is_from_to (negsuc 0) (pos n) z ≡ true → int_eq z (pos 0) ≡ false → int_eq z (negsuc 0) ≡ false → (k : ℕ) × (z ≡ pos k) × (is_node n k ≡ true)
+listed_node : (n : ℕ) (z : ℤ) → is_from_to (negsuc 0) (pos n) z ≡ true → int_eq z (pos 0) ≡ false → int_eq z (negsuc 0) ≡ false
+    → (k : ℕ) × (z ≡ pos k) × (is_node n k ≡ true)
 listed_node n (pos zero) e nonzero no_end = absurd (true≢false nonzero)
 listed_node n (pos (suc k)) e nonzero no_end = (suc k, refl, and_from (nat_le 1 (suc k)) (nat_le (suc k) n) (le-leb 1 (suc k) (omega arith)) e)
 listed_node n (negsuc zero) e nonzero no_end = absurd (true≢false no_end)
@@ -170,7 +178,8 @@ by_zero n z true is inside = λ e no_end. absurd cc
 by_zero n z false is inside = λ e no_end. let found = listed_node n z inside is no_end in (found.0, ap (λ y. Ok y) found.1, found.2)
 
 -- a node of a list that -1 ends
-pub read_listed : (n : ℕ) (word : List ℕ) → result_err (node_or_end n word) ≡ None → is_end n word ≡ false → (k : ℕ) × (node_or_end n word ≡ Ok (pos k)) × (is_node n k ≡ true)
+pub read_listed : (n : ℕ) (word : List ℕ) → result_err (node_or_end n word) ≡ None → is_end n word ≡ false
+    → (k : ℕ) × (node_or_end n word ≡ Ok (pos k)) × (is_node n k ≡ true)
 read_listed n word = by_result (whole_of word (negsuc 0) (pos n)) (λ z read. whole_in_range word (negsuc 0) (pos n) z read)
   where
     by_result : (r : Result ℤ NumberFault) → ((z : ℤ) → r ≡ Ok z → is_from_to (negsuc 0) (pos n) z ≡ true)

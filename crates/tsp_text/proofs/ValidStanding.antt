@@ -20,8 +20,10 @@ still : (key dimension : Bool) → dimension ≡ true → cond key true dimensio
 still true dimension e = refl
 still false dimension e = e
 
-late_line : (field f : Field) (line : WordLine) (earlier : List Item) (b : Bool) → same_field field f ≡ b → is_section_field field ≡ true → same_field TourPart field ≡ false
-    → is_early earlier (Line (Known f) line) ≡ false → (has_line field earlier ≡ true → has_line DimensionKey earlier ≡ true) → cond b true (has_line field earlier) ≡ true
+late_line : (field f : Field) (line : WordLine) (earlier : List Item) (b : Bool) → same_field field f ≡ b
+    → is_section_field field ≡ true → same_field TourPart field ≡ false
+    → is_early earlier (Line (Known f) line) ≡ false → (has_line field earlier ≡ true → has_line DimensionKey earlier ≡ true)
+    → cond b true (has_line field earlier) ≡ true
     → has_line DimensionKey (Line (Known f) line ∷ earlier) ≡ true
 late_line field f line earlier false e section_value other in_time before stands = still (same_field DimensionKey f) (has_line DimensionKey earlier) (before stands)
 late_line field f line earlier true e section_value other in_time before stands =
@@ -29,7 +31,8 @@ late_line field f line earlier true e section_value other in_time before stands 
     late (is_section_field f) (same_field TourPart f) (has_line DimensionKey earlier) (same_field DimensionKey f)
     (ap is_section_field (sym same) ∙ section_value) (ap (same_field TourPart) (sym same) ∙ other) in_time
 
-stands_late : (field : Field) → is_section_field field ≡ true → same_field TourPart field ≡ false → (items : List Item) → IsClean items
+stands_late : (field : Field) → is_section_field field ≡ true → same_field TourPart field ≡ false → (items : List Item)
+    → IsClean items
     → has_line field items ≡ true → has_line DimensionKey items ≡ true
 stands_late field section_value other [] clean stands = absurd (false≢true stands)
 stands_late field section_value other (NumberWord word ∷ earlier) clean stands = stands_late field section_value other earlier (clean_parts earlier (NumberWord word) clean).0 stands
@@ -42,7 +45,8 @@ stands_late field section_value other (Line EdgeDataSection line ∷ earlier) cl
 stands_late field section_value other (Line Eof line ∷ earlier) clean stands = stands_late field section_value other earlier (clean_parts earlier (Line Eof line) clean).0 stands
 stands_late field section_value other (Line Unknown line ∷ earlier) clean stands = stands_late field section_value other earlier (clean_parts earlier (Line Unknown line) clean).0 stands
 
-pub after_dimension : (field : Field) → is_section_field field ≡ true → same_field TourPart field ≡ false → (items : List Item) → IsClean items
+pub after_dimension : (field : Field) → is_section_field field ≡ true → same_field TourPart field ≡ false → (items : List Item)
+    → IsClean items
     → has_line field items ≡ true → has_line DimensionKey items ≡ true
 after_dimension field section_value other items clean stands = stands_late field section_value other items clean stands
 

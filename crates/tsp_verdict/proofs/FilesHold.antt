@@ -30,7 +30,8 @@ in_all : (tours : List (List ℕ)) → AllByRecursion IsNodeList tours → AllBy
 in_all [] filled = tt
 in_all (tour ∷ tours) filled = in_both (IsNode most_nodes) tour (concat tours) (recursion_from_All (IsNode most_nodes) tour filled.0.1) (in_all tours filled.1)
 
-pub counted_from_one : (tours : List (Vec ℕ)) → AreTours (map (λ (t : Vec ℕ). t.items) tours) → All (λ node. 1 ≤ node) (nodes_in tours)
+pub counted_from_one : (tours : List (Vec ℕ)) → AreTours (map (λ (t : Vec ℕ). t.items) tours)
+    → All (λ node. 1 ≤ node) (nodes_in tours)
 counted_from_one tours held =
     let nodes = All-from_recursion (IsNode most_nodes) (concat (map (λ (t : Vec ℕ). t.items) tours))
     (in_all (map (λ (t : Vec ℕ). t.items) tours) (recursion_from_All IsNodeList (map (λ (t : Vec ℕ). t.items) tours) held.0)) in
@@ -60,7 +61,8 @@ nodes_are f tours same = nodes_in_is tours ∙ ap concat same
 pub tours_are : (f : Fields) (tours : List (List ℕ)) → f.tours ≡ Some tours → tours ≡ tours_of f
 tours_are f tours stand = sym (ap (λ (o : Option (List (List ℕ))). unwrap_or o []) stand)
 
-pub tours_held : (f : Fields) (tours : List (Vec ℕ)) → f.kind ≡ Some kinds.Tour → f.tours ≡ Some (map (λ (t : Vec ℕ). t.items) tours) → AreTours (map (λ (t : Vec ℕ). t.items) tours) → AreToursOf f tours
+pub tours_held : (f : Fields) (tours : List (Vec ℕ)) → f.kind ≡ Some kinds.Tour
+    → f.tours ≡ Some (map (λ (t : Vec ℕ). t.items) tours) → AreTours (map (λ (t : Vec ℕ). t.items) tours) → AreToursOf f tours
 tours_held f tours sort stand held = record {
   sort = ap is_tours sort;
   value = tours_are f (map (λ (t : Vec ℕ). t.items) tours) stand;
@@ -91,7 +93,8 @@ depots_in f depots held k d lt =
 -- ---- steps
 
 -- a leaf's differences are some of all
-few_changes : (n most : ℕ) (steps : List Step) → most < 2 ^ 32 → AllByRecursion (IsStep n) steps → change_count steps ≤ most → AllByRecursion (IsStepOf n) steps
+few_changes : (n most : ℕ) (steps : List Step) → most < 2 ^ 32 → AllByRecursion (IsStep n) steps → change_count steps ≤ most
+    → AllByRecursion (IsStepOf n) steps
 few_changes n most [] low each few = tt
 few_changes n most (Branch a b ∷ steps) low each few = (each.0, few_changes n most steps low each.1 few)
 few_changes n most (Leaf changes ∷ steps) low each few = (omega (arith, low, few), few_changes n most steps low each.1 (omega (arith, few)))

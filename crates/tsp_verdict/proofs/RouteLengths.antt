@@ -42,7 +42,8 @@ pub sum_fits : (sum cost : ℤ) (count more : ℕ) → (count + more) ≤ 200000
 sum_fits sum cost count more few size other = omega (arith, ints, size.low, size.high, other.low, other.high)
 
 -- one route more
-pub plan_more : (cost : ℕ → ℕ → ℤ) (depot : ℕ) (so_far total : ℤ) (routes : List (Vec ℕ)) (i : ℕ) (route : Vec ℕ) → i < length routes → route ≡ get_or routes i route
+pub plan_more : (cost : ℕ → ℕ → ℤ) (depot : ℕ) (so_far total : ℤ) (routes : List (Vec ℕ)) (i : ℕ) (route : Vec ℕ)
+    → i < length routes → route ≡ get_or routes i route
     → so_far +ℤ plan_length cost depot (map (λ r. r.items) (drop i routes)) ≡ total
     → (so_far +ℤ length_of cost (depot ∷ route.items)) +ℤ plan_length cost depot (map (λ r. r.items) (drop (i + 1) routes)) ≡ total
 plan_more cost depot so_far total routes i route lt is e =

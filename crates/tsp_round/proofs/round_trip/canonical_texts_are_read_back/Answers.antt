@@ -24,7 +24,8 @@ returns-clause-alone c =
     λ f other valid also. c.texts_have_one_answer.ensures.one_file (text_of f) other f also (spells f valid)
 
 -- a text that parses to a file is read as that file
-only_this : (bytes : List ℕ) (file : Fields) (answer : Result Fields ReadFault) → Spells bytes file → Reads bytes answer → IsThisFile file answer
+only_this : (bytes : List ℕ) (file : Fields) (answer : Result Fields ReadFault) → Spells bytes file → Reads bytes answer
+    → IsThisFile file answer
 only_this bytes file (Ok other) spells reads = reads.fields ∙ sym spells.fields
 only_this bytes file (Err (faults.Line line word found)) spells reads = absurd (none-some (faults.Line line word found) (sym spells.no_fault ∙ reads))
 only_this bytes file (Err (faults.End found)) spells reads = absurd (none-some (faults.End found) (sym spells.no_fault ∙ reads))

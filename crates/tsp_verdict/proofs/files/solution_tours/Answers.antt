@@ -4,7 +4,8 @@ use Rattle.std.specs.Prelude.{MatchOption}
 use Rattle.tsp_verdict.proofs.FilesHold.{tours_held, no_tours}
 use Rattle.tsp_verdict.proofs.files.solution_tours.Goals as goal
 
-both : {A : Type 0} (found : Option A) (P R : Type 0) (Q S : A → Type 0) → MatchOption found P Q → (P → R) → ((x : A) → Q x → S x) → MatchOption found R S
+both : {A : Type 0} (found : Option A) (P R : Type 0) (Q S : A → Type 0) → MatchOption found P Q → (P → R) → ((x : A) → Q x → S x)
+    → MatchOption found R S
 both None P R Q S held none some = none held
 both (Some x) P R Q S held none some = some x held
 

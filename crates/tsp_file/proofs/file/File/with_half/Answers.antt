@@ -21,7 +21,8 @@ use Rattle.tsp_file.proofs.file.File.with_half.Goals as goal
 as_held : (f g : Fields) (to : Layout) → f ≡ g → CanGo g to → CanGo f to
 as_held f g to same can = subst (λ (h : Fields). CanGo h to) (sym same) can
 
-held : (f g : Fields) (n : ℕ) (weights : List ℤ) → f ≡ g → fault_of f ≡ None → g.weight_format ≡ Some (Listed FullMatrix) → f.dimension ≡ Some n
+held : (f g : Fields) (n : ℕ) (weights : List ℤ) → f ≡ g → fault_of f ≡ None → g.weight_format ≡ Some (Listed FullMatrix)
+    → f.dimension ≡ Some n
     → f.weights ≡ Some weights → ListsWeights f FullMatrix n weights
 held f g n weights same valid full dimension stand =
     lists f FullMatrix n weights (in_range f valid) (subst (λ (h : Fields). h.weight_format ≡ Some (Listed FullMatrix)) (sym same) full) dimension stand
