@@ -31,7 +31,8 @@ sum_by_mapped f h ys = fold_mapped f h 0 ys
 pub mapped_tours : (tours : List (Vec ℕ)) (r : Bool)
     → r ≡ (list_all (λ tour. is_tour tour.items) tours && nat_le (sum_by (λ tour. length tour.items) tours) most_tour_nodes)
     → r ≡ are_tours (map (λ tour. tour.items) tours)
-mapped_tours tours r e = e ∙ rw (list_all-map is_tour (λ (tour : Vec ℕ). tour.items) tours, sum_by_mapped (λ (t : List ℕ). length t) (λ (tour : Vec ℕ). tour.items) tours) refl
+mapped_tours tours r e =
+    e ∙ rw (list_all-map is_tour (λ (tour : Vec ℕ). tour.items) tours, sum_by_mapped (λ (t : List ℕ). length t) (λ (tour : Vec ℕ). tour.items) tours) refl
 
 -- ---- combs
 

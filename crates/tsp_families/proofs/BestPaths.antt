@@ -115,7 +115,8 @@ more_order n set other rest inner own h =
 
 -- what a path begins with: the last step where nothing is left of the set, else none
 abbrev pub StartsWith : ℕ → List ℕ → ℕ → ℕ → ℕ → Type 0
-StartsWith n costs set other start = ((set - 2 ^ other ≡ 0) × (start ≡ slice_index costs ((other + 1) * n))) ⊎ ((set - 2 ^ other ≢ 0) × (start ≡ no_path))
+StartsWith n costs set other start =
+    ((set - 2 ^ other ≡ 0) × (start ≡ slice_index costs ((other + 1) * n))) ⊎ ((set - 2 ^ other ≢ 0) × (start ≡ no_path))
 
 first_place : (n other : ℕ) → (other + 1) * n ≡ (other + 2 - 1) * n + (1 - 1)
 first_place n other = let e : other + 2 - 1 ≡ other + 1 = omega arith in rw e (omega arith)
@@ -134,7 +135,8 @@ no_best n set other cost clear = record {
 }
 
 abbrev pub IsFound : ℕ → (ℕ → ℕ → ℕ) → ℕ → ℕ → ℕ → Type 0
-IsFound n cost set node least = (least ≡ no_path) ⊎ ((rest : List ℕ) × IsOrderOf n set (node ∷ rest) × (least ≡ path_length cost node rest))
+IsFound n cost set node least =
+    (least ≡ no_path) ⊎ ((rest : List ℕ) × IsOrderOf n set (node ∷ rest) × (least ≡ path_length cost node rest))
 
 -- a path from the least sum over the best paths of what is left of the set
 pub best_from : (n set other start least : ℕ) (costs paths : List ℕ) → other < n - 1 → bit_at set other ≡ 1

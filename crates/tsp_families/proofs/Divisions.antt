@@ -39,7 +39,8 @@ one_more n k part_of firsts node h in_n is = record {
 
 found : (n m k : ℕ) (sets : List (ℕ → Bool)) (part_of : ℕ → ℕ) → IsDivision n m sets part_of → k ≤ m
     → (firsts : List ℕ) × AreFound n k part_of firsts
-found n m zero sets part_of is le = ([], record { long = omega arith; each = λ part in_k. absurd (omega (arith, in_k.0, in_k.1)) })
+found n m zero sets part_of is le =
+    ([], record { long = omega arith; each = λ part in_k. absurd (omega (arith, in_k.0, in_k.1)) })
 found n m (suc k) sets part_of is le =
     let rest = found n m k sets part_of is (omega (arith, le)) in
     let node = is.met (suc k) (omega arith, le) in
@@ -60,7 +61,8 @@ in_parts n m sets part_of firsts (x ∷ xs) is h range =
     )
 
 pub divisions_bound_cycles : DivisionsBoundCycles
-divisions_bound_cycles n m sets part_of cost least nodes some is agree lengths cycle = go nodes cycle (recursion_from_All (IsNode n) nodes cycle.range)
+divisions_bound_cycles n m sets part_of cost least nodes some is agree lengths cycle =
+    go nodes cycle (recursion_from_All (IsNode n) nodes cycle.range)
   where
     go : (nodes : List ℕ) → IsCycle n nodes → AllByRecursion (IsNode n) nodes → least ≤ℤ length_of (sets_crossed sets) nodes
     go [] cycle range = absurd (omega (arith, cycle.count, some))

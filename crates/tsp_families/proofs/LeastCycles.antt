@@ -91,7 +91,8 @@ split_at (y ∷ ys) x (inr later) = let rest = split_at ys x later in (y ∷ res
 
 apart_from_distinct : (xs : List ℕ) → IsDistinct eqb xs → AllApart xs
 apart_from_distinct [] h = tt
-apart_from_distinct (x ∷ xs) h = (weaker (λ y. eqb x y ≡ false) (λ y. x ≢ y) (λ y e. eqb-false x y e) xs (IsDistinct-head eqb x xs h), apart_from_distinct xs (IsDistinct-tail eqb x xs h))
+apart_from_distinct (x ∷ xs) h =
+    (weaker (λ y. eqb x y ≡ false) (λ y. x ≢ y) (λ y e. eqb-false x y e) xs (IsDistinct-head eqb x xs h), apart_from_distinct xs (IsDistinct-tail eqb x xs h))
 
 -- ---- lengths
 
@@ -138,12 +139,14 @@ below_cycles n cost least more below nodes cycle =
 
 -- the nodes in order are a shortest, and a short one
 first_cycle : (n : ℕ) → 2 ≤ n → IsOrderOf n (2 ^ (n - 1) - 1) (range_with_len 2 (n - 1))
-first_cycle n more = whole_order n (range_with_len 2 (n - 1)) (run_range (IsInner n) 2 (n - 1) (λ x low high. (low, omega (arith, high)))) (run_once 2 (n - 1))
+first_cycle n more =
+    whole_order n (range_with_len 2 (n - 1)) (run_range (IsInner n) 2 (n - 1) (λ x low high. (low, omega (arith, high)))) (run_once 2 (n - 1))
     (let long = length-range_with_len 2 (n - 1) in omega (arith, long, more))
 
 short_cycle : (n : ℕ) (cost : ℕ → ℕ → ℕ) (least : ℕ) → 2 ≤ n → n ≤ 14 → ((i j : ℕ) → cost i j < 2 ^ 32) → IsBelowAll n cost least
     → least < no_path
-short_cycle n cost least more few small below = go (range_with_len 2 (n - 1)) (length-range_with_len 2 (n - 1)) (first_cycle n more)
+short_cycle n cost least more few small below =
+    go (range_with_len 2 (n - 1)) (length-range_with_len 2 (n - 1)) (first_cycle n more)
   where
     go : (nodes : List ℕ) → length nodes ≡ n - 1 → IsOrderOf n (2 ^ (n - 1) - 1) nodes → least < no_path
     go [] long order = absurd (omega (arith, long, more))
@@ -155,7 +158,8 @@ pub least_from : (n : ℕ) (cost : ℕ → ℕ → ℕ) (least : ℕ) → 2 ≤ 
     → IsBelowAll n cost least
     → (least ≡ no_path) ⊎ ((x : ℕ) × (rest : List ℕ) × IsOrderOf n (2 ^ (n - 1) - 1) (x ∷ rest) × (least ≡ length_from_one cost x rest))
     → IsLeastLength n (as_whole cost) (pos least)
-least_from n cost least more few small below (inl none) = absurd (omega (arith, none, short_cycle n cost least more few small below))
+least_from n cost least more few small below (inl none) =
+    absurd (omega (arith, none, short_cycle n cost least more few small below))
 least_from n cost least more few small below (inr found) = record {
   nodes = 1 ∷ found.0 ∷ found.1;
   cycle = cycle_of_order n (found.0 ∷ found.1) (omega (arith, more)) found.2;
@@ -193,7 +197,8 @@ pub least_of_paths : (n least : ℕ) (costs paths : List ℕ) → 2 ≤ n → n 
     → length paths ≡ 2 ^ (n - 1) * (n - 1) → AreBestPaths n (cost_by_rows n costs) paths
     → IsLeastSum no_path costs paths 1 ((2 ^ (n - 1) - 1) * (n - 1)) (n - 1) least
     → IsLeastLength n (as_whole (cost_by_rows n costs)) (pos least)
-least_of_paths n least costs paths more few small long best sum = least_from n (cost_by_rows n costs) least more few (λ i j. small ((i - 1) * n + (j - 1))) below (found sum.found)
+least_of_paths n least costs paths more few small long best sum =
+    least_from n (cost_by_rows n costs) least more few (λ i j. small ((i - 1) * n + (j - 1))) below (found sum.found)
   where
     step : (k : ℕ) → slice_index costs (1 + k) ≡ cost_by_rows n costs 1 (k + 2)
     step k = ap (slice_index costs) (one_place n k)

@@ -102,10 +102,13 @@ with_more : (bit old value : ℕ) (b e : Bool) → old < bit → value ≡ old +
     → (e ≡ false → value ≡ old + (if (b || e) then bit else 0))
     × (e ≡ true → bit ≤ value → value ≡ old + (if (b || e) then bit else 0))
     × (e ≡ true → value < bit → value + bit ≡ old + (if (b || e) then bit else 0))
-with_more bit old value true true small is = (λ h. absurd (both_ways true h refl), λ h le. is, λ h lt. absurd (omega (arith, lt, is)))
+with_more bit old value true true small is =
+    (λ h. absurd (both_ways true h refl), λ h le. is, λ h lt. absurd (omega (arith, lt, is)))
 with_more bit old value true false small is = (λ h. is, λ h le. is, λ h lt. absurd (omega (arith, lt, is)))
-with_more bit old value false true small is = (λ h. absurd (both_ways true h refl), λ h le. absurd (omega (arith, small, is, le)), λ h lt. omega (arith, is))
-with_more bit old value false false small is = (λ h. is, λ h le. absurd (both_ways false refl h), λ h lt. absurd (both_ways false refl h))
+with_more bit old value false true small is =
+    (λ h. absurd (both_ways true h refl), λ h le. absurd (omega (arith, small, is, le)), λ h lt. omega (arith, is))
+with_more bit old value false false small is =
+    (λ h. is, λ h le. absurd (both_ways false refl h), λ h lt. absurd (both_ways false refl h))
 
 -- one node more
 pub with_next : (bit : ℕ) (nodes : List ℕ) (k x old value : ℕ) → k < length nodes → old < bit
@@ -145,12 +148,14 @@ so_far_more sets count x old value bit nodes lt is power new h =
 -- ---- firsts
 
 pub any_more : (P : ℕ → Type 0) (xs : List ℕ) (y : ℕ) → Any P xs → Any P (xs ++ y ∷ [])
-any_more P xs y h = (h.0, h.1, omega (arith, h.2, length-append xs (y ∷ [])), get_or_append_left xs (y ∷ []) h.1 h.0 h.2 ∙ h.3, h.4)
+any_more P xs y h =
+    (h.0, h.1, omega (arith, h.2, length-append xs (y ∷ [])), get_or_append_left xs (y ∷ []) h.1 h.0 h.2 ∙ h.3, h.4)
 
 pub differ_more : (memberships nodes : List ℕ) (node : ℕ) → AreDifferent memberships nodes
     → (Any (λ first. slice_index memberships node ≡ slice_index memberships first) nodes → ⊥)
     → AreDifferent memberships (nodes ++ node ∷ [])
-differ_more memberships nodes node differ new = all_pairs_push (λ i j. slice_index memberships i ≢ slice_index memberships j) nodes node differ
+differ_more memberships nodes node differ new =
+    all_pairs_push (λ i j. slice_index memberships i ≢ slice_index memberships j) nodes node differ
     (λ k d lt. λ same. new (k, get_or nodes k d, lt, get_or_default nodes k (get_or nodes k d) d lt, sym same))
 
 -- ---- parts
@@ -172,7 +177,8 @@ differ_from n sets memberships i j are in_i in_j other alike =
 
 pub places_from : (n : ℕ) (sets : List (ℕ → Bool)) (memberships firsts : List ℕ) → AreMemberships n sets memberships
     → All (IsNode n) firsts → All (IsNodePlace memberships) firsts
-places_from n sets memberships firsts are nodes = All-weaker (IsNode n) (IsNodePlace memberships) (λ node h. (h.0, omega (arith, h.1, are.count))) firsts nodes
+places_from n sets memberships firsts are nodes =
+    All-weaker (IsNode n) (IsNodePlace memberships) (λ node h. (h.0, omega (arith, h.1, are.count))) firsts nodes
 
 pub parts_from : (n : ℕ) (sets : List (ℕ → Bool)) (memberships firsts : List ℕ) → AreMemberships n sets memberships
     → AreFirsts memberships firsts → ArePartsOf n sets firsts

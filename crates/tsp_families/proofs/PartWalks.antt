@@ -36,11 +36,13 @@ triangles (s ∷ ss) i j k = omega (arith, ints, turn_less (s i) (s j) (s k), tr
 same_crossings : (sets : List (ℕ → Bool)) (i j a b : ℕ) → AllByRecursion (λ set. set i ≡ set a) sets
     → AllByRecursion (λ set. set j ≡ set b) sets → sets_crossed sets i j ≡ sets_crossed sets a b
 same_crossings [] i j a b p q = refl
-same_crossings (s ∷ ss) i j a b p q = ap₂ (λ x y. x +ℤ y) (ap₂ (λ u v. one_if (cond u (not v) v)) p.0 q.0) (same_crossings ss i j a b p.1 q.1)
+same_crossings (s ∷ ss) i j a b p q =
+    ap₂ (λ x y. x +ℤ y) (ap₂ (λ u v. one_if (cond u (not v) v)) p.0 q.0) (same_crossings ss i j a b p.1 q.1)
 
 pub alike_crossings : (sets : List (ℕ → Bool)) (i j a b : ℕ) → AreAlike sets i a → AreAlike sets j b
     → sets_crossed sets i j ≡ sets_crossed sets a b
-alike_crossings sets i j a b p q = same_crossings sets i j a b (recursion_from_All (λ set. set i ≡ set a) sets p) (recursion_from_All (λ set. set j ≡ set b) sets q)
+alike_crossings sets i j a b p q =
+    same_crossings sets i j a b (recursion_from_All (λ set. set i ≡ set a) sets p) (recursion_from_All (λ set. set j ≡ set b) sets q)
 
 pub alike_back : (sets : List (ℕ → Bool)) (i j : ℕ) → AreAlike sets i j → AreAlike sets j i
 alike_back sets i j h = λ k d lt. sym (h k d lt)
@@ -71,7 +73,8 @@ parts_found n sets firsts (x ∷ xs) is h =
 pub same_length : (sets : List (ℕ → Bool)) (firsts : List ℕ) (end e from f : ℕ) (nodes parts : List ℕ)
     → IsInPart sets firsts end e → IsInPart sets firsts from f → AllZip (IsInPart sets firsts) nodes parts
     → length_to (sets_crossed sets) end from nodes ≡ length_to (between sets firsts) e f parts
-same_length sets firsts end e from f [] [] p q h = ap (λ z. z +ℤ pos 0) (alike_crossings sets from end (slice_index firsts (f - 1)) (slice_index firsts (e - 1)) q.1 p.1)
+same_length sets firsts end e from f [] [] p q h =
+    ap (λ z. z +ℤ pos 0) (alike_crossings sets from end (slice_index firsts (f - 1)) (slice_index firsts (e - 1)) q.1 p.1)
 same_length sets firsts end e from f [] (b ∷ bs) p q h = absurd h
 same_length sets firsts end e from f (a ∷ others) [] p q h = absurd h
 same_length sets firsts end e from f (a ∷ nodes) (b ∷ parts) p q h =

@@ -27,7 +27,8 @@ by_rows_push w P table a b value lt long before here c d d_lt in_list = elim (ca
 -- ---- least sums
 
 pub sum_none : (start : ℕ) (costs paths : List ℕ) (c w : ℕ) → IsLeastSum start costs paths c w 0 start
-sum_none start costs paths c w = record { below_start = omega arith; below = λ k lt. absurd (omega (arith, lt)); found = inl refl }
+sum_none start costs paths c w =
+    record { below_start = omega arith; below = λ k lt. absurd (omega (arith, lt)); found = inl refl }
 
 pub sum_kept : (start : ℕ) (costs paths : List ℕ) (c w k least : ℕ) → IsLeastSum start costs paths c w k least
     → least ≤ slice_index costs (c + k) + slice_index paths (w + k)

@@ -135,7 +135,8 @@ map_within f (y ∷ ys) x (inr w) = inr (map_within f ys x w)
 firsts_range : (n : ℕ) (sets : List (ℕ → Bool)) (firsts parts : List ℕ) → ArePartsOf n sets firsts
     → AllByRecursion (IsNode (length firsts)) parts → AllByRecursion (IsNode n) (map (first_of firsts) parts)
 firsts_range n sets firsts [] is h = tt
-firsts_range n sets firsts (p ∷ ps) is h = (is.nodes (p - 1) 0 (omega (arith, h.0.0, h.0.1)), firsts_range n sets firsts ps is h.1)
+firsts_range n sets firsts (p ∷ ps) is h =
+    (is.nodes (p - 1) 0 (omega (arith, h.0.0, h.0.1)), firsts_range n sets firsts ps is h.1)
 
 firsts_apart : (n : ℕ) (sets : List (ℕ → Bool)) (firsts parts : List ℕ) (p : ℕ) → ArePartsOf n sets firsts
     → IsNode (length firsts) p → AllByRecursion (IsNode (length firsts)) parts
@@ -149,7 +150,8 @@ firsts_apart n sets firsts (q ∷ qs) p is in_p h apart = (
 firsts_once : (n : ℕ) (sets : List (ℕ → Bool)) (firsts parts : List ℕ) → ArePartsOf n sets firsts
     → AllByRecursion (IsNode (length firsts)) parts → AllApart parts → AllApart (map (first_of firsts) parts)
 firsts_once n sets firsts [] is h once = tt
-firsts_once n sets firsts (p ∷ ps) is h once = (firsts_apart n sets firsts ps p is h.0 h.1 once.0, firsts_once n sets firsts ps is h.1 once.1)
+firsts_once n sets firsts (p ∷ ps) is h once =
+    (firsts_apart n sets firsts ps p is h.0 h.1 once.0, firsts_once n sets firsts ps is h.1 once.1)
 
 -- ---- node after node
 

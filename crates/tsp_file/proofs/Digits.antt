@@ -70,7 +70,8 @@ pairs (suc k) n = pairs k (n / 100) ++ pair (n % 100)
 
 length-pairs : (k n : ℕ) → length (pairs k n) ≡ 2 * k
 length-pairs zero n = refl
-length-pairs (suc k) n = length-append (pairs k (n / 100)) (pair (n % 100)) ∙ ap (λ m. m + 2) (length-pairs k (n / 100)) ∙ omega arith
+length-pairs (suc k) n =
+    length-append (pairs k (n / 100)) (pair (n % 100)) ∙ ap (λ m. m + 2) (length-pairs k (n / 100)) ∙ omega arith
 
 decimal_two : (n : ℕ) → 10 ≤ n → n < 100 → decimal n ≡ pair n
 decimal_two n low high = rw (decimal_step n low (omega arith), decimal_digit (n / 10) (omega arith)) refl

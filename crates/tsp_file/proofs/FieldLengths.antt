@@ -59,7 +59,8 @@ section_of_short : {A : Type 0} (field : Field) (fits : ℕ → A → Bool) (lin
     → length (optional (λ x. section_text field (lines x)) value) ≤ 29 + k
 section_of_short field fits lines k each dimension None nodes there = omega arith
 section_of_short field fits lines k each None (Some x) nodes there = absurd (false≢true there)
-section_of_short field fits lines k each (Some n) (Some x) nodes there = section_short field (lines x) k (each n x (dimension_short n nodes) there)
+section_of_short field fits lines k each (Some n) (Some x) nodes there =
+    section_short field (lines x) k (each n x (dimension_short n nodes) there)
 
 -- one line for each node, with at most k bytes after the node
 by_node_section_short : {A : Type 0} (field : Field) (fits : A → Bool) (numbers : A → List (List ℕ)) (k : ℕ)
@@ -209,20 +210,26 @@ shape_short f field Points short one fit =
     by_node_section_short field (is_point false) (point_numbers false) 75 (point_short false) f.dimension (points_in f field) one fit
 shape_short f field SpacePoints short one fit =
     by_node_section_short field (is_point true) (point_numbers true) 75 (point_short true) f.dimension (points_in f field) one fit
-shape_short f field Depots short one fit = section_of_short field are_depots node_list 900000 depots_short f.dimension f.depots one fit
-shape_short f field Pairs short one fit = section_of_short field are_fixed pair_list 1900000 fixed_short f.dimension f.fixed one fit
+shape_short f field Depots short one fit =
+    section_of_short field are_depots node_list 900000 depots_short f.dimension f.depots one fit
+shape_short f field Pairs short one fit =
+    section_of_short field are_fixed pair_list 1900000 fixed_short f.dimension f.fixed one fit
 shape_short f field Weights short one fit =
     let lens = line_lens f.weight_format f.dimension in
     section_of_short field are_weights (matrix_lines lens) 375000000 (λ n weights most fits. weights_short lens n weights fits) f.dimension f.weights one fit
 shape_short f field Tours short one fit =
     optional_short are_tours (λ tours. section_text field (flat_map node_list tours)) 10000029
     (λ tours fits. section_short field (flat_map node_list tours) 10000000 (all_tours_short tours fits)) f.tours fit
-shape_short f field Triples short one fit = section_of_short field are_triples triple_list 3300000 triples_short f.dimension f.fixed_potentials one fit
-shape_short f field Combs short one fit = section_of_short field are_combs comb_list 10030003 combs_short f.dimension f.combs one fit
-shape_short f field Steps short one fit = section_of_short field are_steps step_lines 269000005 steps_short f.dimension f.branches one fit
+shape_short f field Triples short one fit =
+    section_of_short field are_triples triple_list 3300000 triples_short f.dimension f.fixed_potentials one fit
+shape_short f field Combs short one fit =
+    section_of_short field are_combs comb_list 10030003 combs_short f.dimension f.combs one fit
+shape_short f field Steps short one fit =
+    section_of_short field are_steps step_lines 269000005 steps_short f.dimension f.branches one fit
 
 dimension_line_short : (n : ℕ) → is_node most_nodes n ≡ true → length (keyword_line DimensionKey (decimal n)) ≤ 60
-dimension_line_short n fits = keyword_line_short DimensionKey (decimal n) (omega (arith, decimal_short n (dimension_short n fits)))
+dimension_line_short n fits =
+    keyword_line_short DimensionKey (decimal n) (omega (arith, decimal_short n (dimension_short n fits)))
 
 -- the line of a whole number from 1 on
 whole_line_short : (field : Field) (most : ℕ) → most ≤ most_capacity → (number : Option ℤ)
@@ -249,11 +256,13 @@ others_short others fits =
 
 field_short : (f : Fields) → ((field : Field) → fits f field ≡ true) → (field : Field)
     → length (text_of_field f field) ≤ most_bytes field
-field_short f fit NameKey = optional_short (is_kept (field_word NameKey)) (keyword_line NameKey) 4004 (kept_short (field_word NameKey)) f.name (fit NameKey)
+field_short f fit NameKey =
+    optional_short (is_kept (field_word NameKey)) (keyword_line NameKey) 4004 (kept_short (field_word NameKey)) f.name (fit NameKey)
 field_short f fit TypeKey = word_line_short TypeKey kind_word kind_short f.kind
 field_short f fit CommentKey = comments_short f.comments (fit CommentKey)
 field_short f fit OtherKey = others_short f.others (fit OtherKey)
-field_short f fit DimensionKey = optional_short (is_node most_nodes) (λ n. keyword_line DimensionKey (decimal n)) 60 dimension_line_short f.dimension (fit DimensionKey)
+field_short f fit DimensionKey =
+    optional_short (is_node most_nodes) (λ n. keyword_line DimensionKey (decimal n)) 60 dimension_line_short f.dimension (fit DimensionKey)
 field_short f fit CapacityKey = whole_line_short CapacityKey most_capacity (omega arith) f.capacity (fit CapacityKey)
 field_short f fit ScaleKey = whole_line_short ScaleKey most_scale (omega arith) f.scale (fit ScaleKey)
 field_short f fit EdgeWeightTypeKey = word_line_short EdgeWeightTypeKey weight_kind_word weight_kind_short f.weight_kind
@@ -267,15 +276,20 @@ field_short f fit NodeCoordPart = points_short (spatial f) (fit NodeCoordPart)
     points_short true fit_here = shape_short f NodeCoordPart SpacePoints refl (fit DimensionKey) fit_here
     points_short false fit_here = shape_short f NodeCoordPart Points refl (fit DimensionKey) fit_here
 field_short f fit DisplayDataPart = shape_short f DisplayDataPart Points refl (fit DimensionKey) (fit DisplayDataPart)
-field_short f fit DemandPart = shape_short f DemandPart (Numbers (pos 0) (pos most_demand)) refl (fit DimensionKey) (fit DemandPart)
+field_short f fit DemandPart =
+    shape_short f DemandPart (Numbers (pos 0) (pos most_demand)) refl (fit DimensionKey) (fit DemandPart)
 field_short f fit DepotPart = shape_short f DepotPart Depots refl (fit DimensionKey) (fit DepotPart)
 field_short f fit FixedEdgesPart = shape_short f FixedEdgesPart Pairs refl (fit DimensionKey) (fit FixedEdgesPart)
 field_short f fit EdgeWeightPart = shape_short f EdgeWeightPart Weights refl (fit DimensionKey) (fit EdgeWeightPart)
 field_short f fit TourPart = shape_short f TourPart Tours refl (fit DimensionKey) (fit TourPart)
-field_short f fit NodePotentialPart = shape_short f NodePotentialPart (Numbers (neg_ℤ (pos most_potential)) (pos most_potential)) refl (fit DimensionKey) (fit NodePotentialPart)
-field_short f fit RowPotentialPart = shape_short f RowPotentialPart (Numbers (neg_ℤ (pos most_potential)) (pos most_potential)) refl (fit DimensionKey) (fit RowPotentialPart)
-field_short f fit ColumnPotentialPart = shape_short f ColumnPotentialPart (Numbers (neg_ℤ (pos most_potential)) (pos most_potential)) refl (fit DimensionKey) (fit ColumnPotentialPart)
-field_short f fit FixedEdgePotentialPart = shape_short f FixedEdgePotentialPart Triples refl (fit DimensionKey) (fit FixedEdgePotentialPart)
+field_short f fit NodePotentialPart =
+    shape_short f NodePotentialPart (Numbers (neg_ℤ (pos most_potential)) (pos most_potential)) refl (fit DimensionKey) (fit NodePotentialPart)
+field_short f fit RowPotentialPart =
+    shape_short f RowPotentialPart (Numbers (neg_ℤ (pos most_potential)) (pos most_potential)) refl (fit DimensionKey) (fit RowPotentialPart)
+field_short f fit ColumnPotentialPart =
+    shape_short f ColumnPotentialPart (Numbers (neg_ℤ (pos most_potential)) (pos most_potential)) refl (fit DimensionKey) (fit ColumnPotentialPart)
+field_short f fit FixedEdgePotentialPart =
+    shape_short f FixedEdgePotentialPart Triples refl (fit DimensionKey) (fit FixedEdgePotentialPart)
 field_short f fit CombPart = shape_short f CombPart Combs refl (fit DimensionKey) (fit CombPart)
 field_short f fit BranchPart = shape_short f BranchPart Steps refl (fit DimensionKey) (fit BranchPart)
 
@@ -299,8 +313,10 @@ absent_short {A = A} text (Some _) none = absurd (none-some _ (sym none))
 field_short_without_trees : (f : Fields) → ((field : Field) → fits f field ≡ true) → f.combs ≡ None → f.branches ≡ None
     → (field : Field)
     → length (text_of_field f field) ≤ most_without_trees field
-field_short_without_trees f fit combs branches CombPart = absent_short (λ combs. section_text CombPart (comb_list combs)) f.combs combs
-field_short_without_trees f fit combs branches BranchPart = absent_short (λ steps. section_text BranchPart (step_lines steps)) f.branches branches
+field_short_without_trees f fit combs branches CombPart =
+    absent_short (λ combs. section_text CombPart (comb_list combs)) f.combs combs
+field_short_without_trees f fit combs branches BranchPart =
+    absent_short (λ steps. section_text BranchPart (step_lines steps)) f.branches branches
 field_short_without_trees f fit combs branches NameKey = field_short f fit NameKey
 field_short_without_trees f fit combs branches TypeKey = field_short f fit TypeKey
 field_short_without_trees f fit combs branches CommentKey = field_short f fit CommentKey

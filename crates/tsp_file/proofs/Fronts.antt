@@ -119,7 +119,8 @@ line_kept to n line kept start end full items new node holds so_far starts ends 
 -- all lines are at the front: that is the layout
 pub all_kept : (to : Layout) (n line kept : ℕ) (full items : List ℤ) → n ≤ line - 1 → HasKept to n line kept full items
     → take kept items ≡ costs_in to n (listed_cost FullMatrix n full)
-all_kept to n line kept full items past so_far = lines_all (λ cell. listed_cost FullMatrix n full cell.0 cell.1) to n line (take kept items) past so_far.front
+all_kept to n line kept full items past so_far =
+    lines_all (λ cell. listed_cost FullMatrix n full cell.0 cell.1) to n line (take kept items) past so_far.front
 
 -- a line of a full matrix is within it
 pub row_within : (n line : ℕ) (full : List ℤ) → line ≤ n → length full ≡ length (cells FullMatrix n) → line * n ≤ length full

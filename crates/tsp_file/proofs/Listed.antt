@@ -24,7 +24,8 @@ use Rattle.tsp_file.specs.ListedWeights.{ListsWeights, UnlistedHaveNoPlace}
 pub cost_of_cell : (layout : Layout) (n : ℕ) (weights : List ℤ) (i j place : ℕ) → place_of layout n (i, j) ≡ Some place
     → listed_cost layout n weights i j ≡ slice_index_or weights place (pos 0)
 unfolding listed_cost
-cost_of_cell layout n weights i j place here = ap (λ o. unwrap_or (option_or (option_map (λ at. slice_index_or weights at (pos 0)) o) (weight_at layout n weights (j, i))) (pos 0)) here
+cost_of_cell layout n weights i j place here =
+    ap (λ o. unwrap_or (option_or (option_map (λ at. slice_index_or weights at (pos 0)) o) (weight_at layout n weights (j, i))) (pos 0)) here
 
 -- the cost of another pair is that of the mirrored pair
 pub cost_mirrored : (layout : Layout) (n : ℕ) (weights : List ℤ) (i j place : ℕ) → place_of layout n (i, j) ≡ None
@@ -90,7 +91,8 @@ turned cost even i j = ⊎_elim
 
 pub either_way : (cost : ℕ → ℕ → ℤ) → IsSymmetric cost → (i j : ℕ) (pair : ℕ × ℕ) → (pair ≡ (i, j)) ⊎ (pair ≡ (j, i))
     → cost pair.0 pair.1 ≡ cost i j
-either_way cost even i j pair one = ⊎_elim (λ e. ap (λ p. cost p.0 p.1) e) (λ e. ap (λ p. cost p.0 p.1) e ∙ turned cost even i j) one
+either_way cost even i j pair one =
+    ⊎_elim (λ e. ap (λ p. cost p.0 p.1) e) (λ e. ap (λ p. cost p.0 p.1) e ∙ turned cost even i j) one
 
 swapped : (a b : Option ℤ) → (a ≡ None) ⊎ (b ≡ None) → unwrap_or (option_or a b) (pos 0) ≡ unwrap_or (option_or b a) (pos 0)
 swapped None None one = refl
@@ -105,7 +107,8 @@ no_weight layout n weights i j out = ap (option_map (λ at. slice_index_or weigh
 pub triangle_even : (layout : Layout) (n : ℕ) (weights : List ℤ) → layout ≢ FullMatrix → UnlistedHaveNoPlace layout n
     → IsSymmetric (listed_cost layout n weights)
 unfolding listed_cost
-triangle_even layout n weights half unlisted i j other = swapped (weight_at layout n weights (i, j)) (weight_at layout n weights (j, i))
+triangle_even layout n weights half unlisted i j other =
+    swapped (weight_at layout n weights (i, j)) (weight_at layout n weights (j, i))
     (⊎_elim (λ out. inl (no_weight layout n weights i j (unlisted i j out))) (λ out. inr (no_weight layout n weights j i (unlisted j i out))) (one_half layout i j half other))
 
 -- ---- nodes and others
@@ -135,13 +138,15 @@ even_between_nodes layout n weights out inside i j other = ⊎_elim
 
 -- what the layouts' laws say
 abbrev pub CellsAreListed : Type 0
-CellsAreListed = (layout : Layout) (n i j : ℕ) → Contains (cells layout n) (i, j) ↔ (IsNode n i × IsNode n j × IsTrue (is_listed layout (i, j)))
+CellsAreListed =
+    (layout : Layout) (n i j : ℕ) → Contains (cells layout n) (i, j) ↔ (IsNode n i × IsNode n j × IsTrue (is_listed layout (i, j)))
 
 abbrev pub OnlyCellsHavePlaces : Type 0
 OnlyCellsHavePlaces = (layout : Layout) (n : ℕ) (pair : ℕ × ℕ) → ¬ Contains (cells layout n) pair → place_of layout n pair ≡ None
 
 pub unlisted_has_no_place : CellsAreListed → OnlyCellsHavePlaces → (layout : Layout) (n : ℕ) → UnlistedHaveNoPlace layout n
-unlisted_has_no_place listed places layout n i j out = places layout n (i, j) (λ h. false≢true (sym out ∙ ((listed layout n i j).0 h).2))
+unlisted_has_no_place listed places layout n i j out =
+    places layout n (i, j) (λ h. false≢true (sym out ∙ ((listed layout n i j).0 h).2))
 
 pub outside_has_no_place : CellsAreListed → OnlyCellsHavePlaces → (layout : Layout) (n i j : ℕ) → ¬ (IsNode n i × IsNode n j)
     → place_of layout n (i, j) ≡ None

@@ -83,7 +83,8 @@ cost_within layout n weights sizes i j = one_within weights (place_of layout n (
 
 pub all_within : (layout : Layout) (n : ℕ) (cost : ℕ → ℕ → ℤ) → ((i j : ℕ) → IsWithin most_weight (cost i j))
     → All (IsWithin most_weight) (costs_in layout n cost)
-all_within layout n cost sizes = All-map (IsWithin most_weight) (λ cell. cost cell.0 cell.1) (cells layout n) (λ k d lt. sizes (get_or (cells layout n) k d).0 (get_or (cells layout n) k d).1)
+all_within layout n cost sizes =
+    All-map (IsWithin most_weight) (λ cell. cost cell.0 cell.1) (cells layout n) (λ k d lt. sizes (get_or (cells layout n) k d).0 (get_or (cells layout n) k d).1)
 
 -- ---- pairs that a layout doesn't list
 
@@ -95,7 +96,8 @@ outside layout n = outside_has_no_place cell_is no_place layout n
 
 pub cost_outside : (layout : Layout) (n : ℕ) (weights : List ℤ) (i j : ℕ) → ¬ (IsNode n i × IsNode n j)
     → listed_cost layout n weights i j ≡ pos 0
-cost_outside layout n weights i j out = cost_unlisted layout n weights i j (outside layout n i j out) (outside layout n j i (λ nodes. out (nodes.1, nodes.0)))
+cost_outside layout n weights i j out =
+    cost_unlisted layout n weights i j (outside layout n i j out) (outside layout n j i (λ nodes. out (nodes.1, nodes.0)))
 
 -- of two different nodes a layout lists the one pair or the other
 one_listed : (layout : Layout) (i j : ℕ) → is_listed layout (i, j) ≡ false → is_listed layout (j, i) ≡ false → i ≡ j
@@ -130,7 +132,8 @@ laid_at to n cost i j place here inside =
     get_or-map (λ cell. cost cell.0 cell.1) (cells to n) place (i, j) (pos 0) inside ∙ ap (λ cell. cost cell.0 cell.1) (stands_at to n place (i, j) here (i, j))
 
 diagonal_zero : (to : Layout) (cost : ℕ → ℕ → ℤ) (i : ℕ) → HoldsDiagonal to cost → is_listed to (i, i) ≡ false → cost i i ≡ pos 0
-diagonal_zero to cost i holds unlisted = ⊎_elim (λ listed. absurd (false≢true (sym unlisted ∙ diagonal_listed to i listed))) (λ zero. zero i) holds
+diagonal_zero to cost i holds unlisted =
+    ⊎_elim (λ listed. absurd (false≢true (sym unlisted ∙ diagonal_listed to i listed))) (λ zero. zero i) holds
 
 mirrored : (to : Layout) (cost : ℕ → ℕ → ℤ) (i j : ℕ) → HoldsPairs to cost → is_listed to (i, j) ≡ false → cost j i ≡ cost i j
 mirrored to cost i j holds unlisted = ⊎_elim

@@ -159,15 +159,24 @@ count_is LowerDiagCol n i node = omega (arith, node.1)
 -- a cell of a line has the cost of its row and column
 cell_cost : (cost : ℕ → ℕ → ℤ) (layout : Layout) (n i k : ℕ) → IsSymmetric cost → IsNode n i → k < line_len_of layout n i
     → cost (get_or (cells_of_line layout n i) k (0, 0)).0 (get_or (cells_of_line layout n i) k (0, 0)).1 ≡ cost i (first_own layout i + k)
-cell_cost cost FullMatrix n i k even node lt = ap (λ (cell : ℕ × ℕ). cost cell.0 cell.1) (line_at FullMatrix n i k (0, 0) node.0 node.1 lt)
-cell_cost cost UpperRow n i k even node lt = ap (λ (cell : ℕ × ℕ). cost cell.0 cell.1) (line_at UpperRow n i k (0, 0) node.0 node.1 lt)
-cell_cost cost LowerRow n i k even node lt = ap (λ (cell : ℕ × ℕ). cost cell.0 cell.1) (line_at LowerRow n i k (0, 0) node.0 node.1 lt)
-cell_cost cost UpperDiagRow n i k even node lt = ap (λ (cell : ℕ × ℕ). cost cell.0 cell.1) (line_at UpperDiagRow n i k (0, 0) node.0 node.1 lt)
-cell_cost cost LowerDiagRow n i k even node lt = ap (λ (cell : ℕ × ℕ). cost cell.0 cell.1) (line_at LowerDiagRow n i k (0, 0) node.0 node.1 lt)
-cell_cost cost UpperCol n i k even node lt = ap (λ (cell : ℕ × ℕ). cost cell.0 cell.1) (line_at UpperCol n i k (0, 0) node.0 node.1 lt) ∙ turned cost even i (1 + k)
-cell_cost cost LowerCol n i k even node lt = ap (λ (cell : ℕ × ℕ). cost cell.0 cell.1) (line_at LowerCol n i k (0, 0) node.0 node.1 lt) ∙ turned cost even i (i + 1 + k)
-cell_cost cost UpperDiagCol n i k even node lt = ap (λ (cell : ℕ × ℕ). cost cell.0 cell.1) (line_at UpperDiagCol n i k (0, 0) node.0 node.1 lt) ∙ turned cost even i (1 + k)
-cell_cost cost LowerDiagCol n i k even node lt = ap (λ (cell : ℕ × ℕ). cost cell.0 cell.1) (line_at LowerDiagCol n i k (0, 0) node.0 node.1 lt) ∙ turned cost even i (i + k)
+cell_cost cost FullMatrix n i k even node lt =
+    ap (λ (cell : ℕ × ℕ). cost cell.0 cell.1) (line_at FullMatrix n i k (0, 0) node.0 node.1 lt)
+cell_cost cost UpperRow n i k even node lt =
+    ap (λ (cell : ℕ × ℕ). cost cell.0 cell.1) (line_at UpperRow n i k (0, 0) node.0 node.1 lt)
+cell_cost cost LowerRow n i k even node lt =
+    ap (λ (cell : ℕ × ℕ). cost cell.0 cell.1) (line_at LowerRow n i k (0, 0) node.0 node.1 lt)
+cell_cost cost UpperDiagRow n i k even node lt =
+    ap (λ (cell : ℕ × ℕ). cost cell.0 cell.1) (line_at UpperDiagRow n i k (0, 0) node.0 node.1 lt)
+cell_cost cost LowerDiagRow n i k even node lt =
+    ap (λ (cell : ℕ × ℕ). cost cell.0 cell.1) (line_at LowerDiagRow n i k (0, 0) node.0 node.1 lt)
+cell_cost cost UpperCol n i k even node lt =
+    ap (λ (cell : ℕ × ℕ). cost cell.0 cell.1) (line_at UpperCol n i k (0, 0) node.0 node.1 lt) ∙ turned cost even i (1 + k)
+cell_cost cost LowerCol n i k even node lt =
+    ap (λ (cell : ℕ × ℕ). cost cell.0 cell.1) (line_at LowerCol n i k (0, 0) node.0 node.1 lt) ∙ turned cost even i (i + 1 + k)
+cell_cost cost UpperDiagCol n i k even node lt =
+    ap (λ (cell : ℕ × ℕ). cost cell.0 cell.1) (line_at UpperDiagCol n i k (0, 0) node.0 node.1 lt) ∙ turned cost even i (1 + k)
+cell_cost cost LowerDiagCol n i k even node lt =
+    ap (λ (cell : ℕ × ℕ). cost cell.0 cell.1) (line_at LowerDiagCol n i k (0, 0) node.0 node.1 lt) ∙ turned cost even i (i + k)
 
 own_cost : (from : Layout) (n : ℕ) (half full : List ℤ) → IsSymmetric (listed_cost from n half) → HasLines from n 0 half full
     → (i j : ℕ) → IsNode n i → first_own from i ≤ j → j < past_own from n i
@@ -192,12 +201,16 @@ strictly a b le = let low = leb-true a b le in ⊎_elim (λ lt. inl lt) (λ ge. 
 on_side : (from : Layout) (n i j : ℕ) → from ≢ FullMatrix → IsNode n i → IsNode n j → is_on_side (goes_above from) i j ≡ true
     → OwnOrDiagonal from n i j
 on_side FullMatrix n i j half row column side = absurd (half refl)
-on_side UpperRow n i j half row column side = ⊎_elim (λ lt. inl (omega (arith, lt), omega (arith, column.1))) (λ same. inr (same, refl)) (strictly i j side)
-on_side LowerRow n i j half row column side = ⊎_elim (λ lt. inl (omega (arith, column.0), omega (arith, lt))) (λ same. inr (sym same, refl)) (strictly j i side)
+on_side UpperRow n i j half row column side =
+    ⊎_elim (λ lt. inl (omega (arith, lt), omega (arith, column.1))) (λ same. inr (same, refl)) (strictly i j side)
+on_side LowerRow n i j half row column side =
+    ⊎_elim (λ lt. inl (omega (arith, column.0), omega (arith, lt))) (λ same. inr (sym same, refl)) (strictly j i side)
 on_side UpperDiagRow n i j half row column side = let low = leb-true i j side in inl (omega (arith, low), omega (arith, column.1))
 on_side LowerDiagRow n i j half row column side = let low = leb-true j i side in inl (omega (arith, column.0), omega (arith, low))
-on_side UpperCol n i j half row column side = ⊎_elim (λ lt. inl (omega (arith, column.0), omega (arith, lt))) (λ same. inr (sym same, refl)) (strictly j i side)
-on_side LowerCol n i j half row column side = ⊎_elim (λ lt. inl (omega (arith, lt), omega (arith, column.1))) (λ same. inr (same, refl)) (strictly i j side)
+on_side UpperCol n i j half row column side =
+    ⊎_elim (λ lt. inl (omega (arith, column.0), omega (arith, lt))) (λ same. inr (sym same, refl)) (strictly j i side)
+on_side LowerCol n i j half row column side =
+    ⊎_elim (λ lt. inl (omega (arith, lt), omega (arith, column.1))) (λ same. inr (same, refl)) (strictly i j side)
 on_side UpperDiagCol n i j half row column side = let low = leb-true j i side in inl (omega (arith, column.0), omega (arith, low))
 on_side LowerDiagCol n i j half row column side = let low = leb-true i j side in inl (omega (arith, low), omega (arith, column.1))
 

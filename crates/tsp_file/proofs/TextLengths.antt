@@ -49,7 +49,8 @@ positive_short digits low most z few small fits = signed_short digits most z few
 pub between_short : (digits : ℕ) (low high : ℤ) (most : ℕ) (z : ℤ) → unsigned_abs low ≤ most → unsigned_abs high ≤ most
     → most + 1 < 10 ^ digits → most < 2 ^ 63 → is_from_to low high z ≡ true
     → length (signed_decimal z) ≤ digits + 1
-between_short digits low high most z lower upper few small fits = signed_short digits most z few small (between_size low high most z lower upper fits)
+between_short digits low high most z lower upper few small fits =
+    signed_short digits most z few small (between_size low high most z lower upper fits)
 
 pub within_short : (digits most : ℕ) (z : ℤ) → most + 1 < 10 ^ digits → most < 2 ^ 63 → is_within most z ≡ true
     → length (signed_decimal z) ≤ digits + 1
@@ -109,7 +110,8 @@ by_node_short fits numbers k each xs few all =
 ended_short : {A : Type 0} (fits : A → Bool) (line : A → List ℕ) (k : ℕ) → ((x : A) → fits x ≡ true → length (line x) ≤ k)
     → (xs : List A) → list_all fits xs ≡ true
     → length (ended_by_mark (flat_map line xs)) ≤ k * length xs + 3
-ended_short fits line k each xs all = grind (arith, length-append (flat_map line xs) (codes "-1" ++ line_end), flat_short fits line k each xs all)
+ended_short fits line k each xs all =
+    grind (arith, length-append (flat_map line xs) (codes "-1" ++ line_end), flat_short fits line k each xs all)
 
 pub node_list_short : (fits : ℕ → Bool) → ((node : ℕ) → fits node ≡ true → length (decimal node) ≤ 6) → (nodes : List ℕ)
     → list_all fits nodes ≡ true

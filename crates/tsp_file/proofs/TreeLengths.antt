@@ -18,7 +18,8 @@ use Rattle.tsp_file.proofs.TextLengths.{three_parts, within_short, node_short, f
 pub flat_of_flat : {X Y Z : Type 0} (f : Y → List Z) (g : X → List Y) (xs : List X)
     → flat_map f (flat_map g xs) ≡ flat_map (λ x. flat_map f (g x)) xs
 flat_of_flat f g [] = refl
-flat_of_flat {X} {Y} {Z} f g (x ∷ xs) = flat_map-append f (g x) (flat_map g xs) ∙ ap (λ (t : List Z). flat_map f (g x) ++ t) (flat_of_flat f g xs)
+flat_of_flat {X} {Y} {Z} f g (x ∷ xs) =
+    flat_map-append f (g x) (flat_map g xs) ∙ ap (λ (t : List Z). flat_map f (g x) ++ t) (flat_of_flat f g xs)
 
 blank_after : (word : List ℕ) (k : ℕ) → length word ≤ k → length (before_blank word) ≤ k + 1
 blank_after word k short = omega (arith, length-append word (32 ∷ []), short)

@@ -52,11 +52,13 @@ few_cells LowerDiagCol n = half_square n
 -- ---- weights that fit
 
 is_small : (z : ℤ) → IsWithin most_weight z → is_within most_weight z ≡ true
-is_small z within = and_true (int_le (neg_ℤ (pos most_weight)) z) (int_le z (pos most_weight)) (grind (arith, ints, within.0)) (grind (arith, ints, within.1))
+is_small z within =
+    and_true (int_le (neg_ℤ (pos most_weight)) z) (int_le z (pos most_weight)) (grind (arith, ints, within.0)) (grind (arith, ints, within.1))
 
 weights_fit : (layout : Layout) (n : ℕ) (weights : List ℤ) → n ≤ most_matrix_nodes → length weights ≡ length (cells layout n)
     → All (IsWithin most_weight) weights → are_weights n weights ≡ true
-weights_fit layout n weights few filled sizes = and_true (nat_le n most_matrix_nodes && nat_le (length weights) (n * n)) (list_all (is_within most_weight) weights)
+weights_fit layout n weights few filled sizes =
+    and_true (nat_le n most_matrix_nodes && nat_le (length weights) (n * n)) (list_all (is_within most_weight) weights)
     (and_true (nat_le n most_matrix_nodes) (nat_le (length weights) (n * n)) (le-leb n most_matrix_nodes few)
     (le-leb (length weights) (n * n) (omega (arith, filled, cells_counted layout n, few_cells layout n))))
     (list_all-from_AllPass (is_within most_weight) weights (λ k d lt. is_small _ (sizes k d lt)))
@@ -66,7 +68,8 @@ weights_fit layout n weights few filled sizes = and_true (nat_le n most_matrix_n
 none_fails : (test : Field → Bool) (fields : List Field) → ((field : Field) → test field ≡ true)
     → first_failing test fields ≡ None
 none_fails test [] all = refl
-none_fails test (field ∷ fields) all = ap (λ b. cond (not b) (Some field) (first_failing test fields)) (all field) ∙ none_fails test fields all
+none_fails test (field ∷ fields) all =
+    ap (λ b. cond (not b) (Some field) (first_failing test fields)) (all field) ∙ none_fails test fields all
 
 -- what holds of a file's fields holds of them as they are given by its format and its weights
 as_given : (P : Fields → Type 0) (f : Fields) (layout : Layout) (weights : List ℤ) → f.weight_format ≡ Some (Listed layout)

@@ -37,7 +37,8 @@ joined_at f [] x y k h lt e = absurd (omega (arith, lt))
 joined_at f (z ∷ zs) x y zero h lt e =
     let same : x ≡ z = sym e in
     Contains-append_left (f z) (flat_map f zs) y (subst (λ w. Contains (f w) y) same h)
-joined_at f (z ∷ zs) x y (suc k) h lt e = Contains-append_right (f z) (flat_map f zs) y (joined_at f zs x y k h (omega (arith, lt)) e)
+joined_at f (z ∷ zs) x y (suc k) h lt e =
+    Contains-append_right (f z) (flat_map f zs) y (joined_at f zs x y k h (omega (arith, lt)) e)
 
 Contains-map : {X Y : Type 0} (f : X → Y) (xs : List X) (x : X) → Contains xs x → Contains (map f xs) (f x)
 Contains-map f xs x h = (h.0, omega (arith, h.1, length-map xs f), get_or-map f xs h.0 x (f x) h.1 ∙ ap f h.2)
@@ -73,8 +74,10 @@ abbrev pairs : Bool → ℕ → List (ℕ × ℕ)
 pairs order n = if order then pairs_by_columns n else pairs_by_rows n
 
 all_pairs : (order : Bool) (n : ℕ) → All (IsPair n) (pairs order n)
-all_pairs true n = All-flat_map (IsPair n) (IsNode n) (column n) (λ j hj. All-map (IsPair n) (λ i. (i, j)) (nodes_to n) (λ k d lt. (all_nodes n k d lt, hj))) (nodes_to n) (all_nodes n)
-all_pairs false n = All-flat_map (IsPair n) (IsNode n) (row n) (λ i hi. All-map (IsPair n) (λ j. (i, j)) (nodes_to n) (λ k d lt. (hi, all_nodes n k d lt))) (nodes_to n) (all_nodes n)
+all_pairs true n =
+    All-flat_map (IsPair n) (IsNode n) (column n) (λ j hj. All-map (IsPair n) (λ i. (i, j)) (nodes_to n) (λ k d lt. (all_nodes n k d lt, hj))) (nodes_to n) (all_nodes n)
+all_pairs false n =
+    All-flat_map (IsPair n) (IsNode n) (row n) (λ i hi. All-map (IsPair n) (λ j. (i, j)) (nodes_to n) (λ k d lt. (hi, all_nodes n k d lt))) (nodes_to n) (all_nodes n)
 
 pair_stands : (order : Bool) (n i j : ℕ) → IsNode n i → IsNode n j → Contains (pairs order n) (i, j)
 pair_stands true n i j hi hj =
@@ -162,4 +165,5 @@ pairs_differ false n = lines_differ (λ i j. (i, j)) (λ c. c.0) (λ c. c.1) (λ
 
 pub cells_differ : (layout : Layout) (n : ℕ) → AllPairs (λ a b. a ≢ b) (cells layout n)
 unfolding cells
-cells_differ layout n = AllPairs-filter (λ a b. a ≢ b) (is_listed layout) (pairs (goes_by_columns layout) n) (pairs_differ (goes_by_columns layout) n)
+cells_differ layout n =
+    AllPairs-filter (λ a b. a ≢ b) (is_listed layout) (pairs (goes_by_columns layout) n) (pairs_differ (goes_by_columns layout) n)

@@ -115,15 +115,18 @@ first_of LowerDiagCol k = k
 line_is : (layout : Layout) (n k : ℕ) → 1 ≤ k → k ≤ n
     → cells_of_line layout n k ≡ map (pair_in layout k) (range_with_len (first_of layout k) (line_len_of layout n k))
 unfolding cells_of_line nodes_to
-line_is FullMatrix n k low high = filter-map (is_listed FullMatrix) (λ j. (k, j)) (range_with_len 1 n) ∙ ap (map (λ j. (k, j))) (all_pass (range_with_len 1 n))
+line_is FullMatrix n k low high =
+    filter-map (is_listed FullMatrix) (λ j. (k, j)) (range_with_len 1 n) ∙ ap (map (λ j. (k, j))) (all_pass (range_with_len 1 n))
 line_is UpperRow n k low high = filter-map (is_listed UpperRow) (λ j. (k, j)) (range_with_len 1 n)
     ∙ ap (map (λ j. (k, j))) (from_on (suc k) 1 n ∙ runs_same (max 1 (suc k)) (k + 1) (n - (suc k - 1)) (n - k) (omega arith) (omega arith))
-line_is LowerRow n k low high = filter-map (is_listed LowerRow) (λ j. (k, j)) (range_with_len 1 n) ∙ ap (map (λ j. (k, j))) (under k 1 n ∙ runs_same 1 1 (min n (k - 1)) (k - 1) refl (omega arith))
+line_is LowerRow n k low high =
+    filter-map (is_listed LowerRow) (λ j. (k, j)) (range_with_len 1 n) ∙ ap (map (λ j. (k, j))) (under k 1 n ∙ runs_same 1 1 (min n (k - 1)) (k - 1) refl (omega arith))
 line_is UpperDiagRow n k low high = filter-map (is_listed UpperDiagRow) (λ j. (k, j)) (range_with_len 1 n)
     ∙ ap (map (λ j. (k, j))) (from_on k 1 n ∙ runs_same (max 1 k) k (n - (k - 1)) (n - k + 1) (omega arith) (omega arith))
 line_is LowerDiagRow n k low high = filter-map (is_listed LowerDiagRow) (λ j. (k, j)) (range_with_len 1 n)
     ∙ ap (map (λ j. (k, j))) (upto k 1 n ∙ runs_same 1 1 (min n (suc k - 1)) k refl (omega arith))
-line_is UpperCol n k low high = filter-map (is_listed UpperCol) (λ i. (i, k)) (range_with_len 1 n) ∙ ap (map (λ i. (i, k))) (under k 1 n ∙ runs_same 1 1 (min n (k - 1)) (k - 1) refl (omega arith))
+line_is UpperCol n k low high =
+    filter-map (is_listed UpperCol) (λ i. (i, k)) (range_with_len 1 n) ∙ ap (map (λ i. (i, k))) (under k 1 n ∙ runs_same 1 1 (min n (k - 1)) (k - 1) refl (omega arith))
 line_is LowerCol n k low high = filter-map (is_listed LowerCol) (λ i. (i, k)) (range_with_len 1 n)
     ∙ ap (map (λ i. (i, k))) (from_on (suc k) 1 n ∙ runs_same (max 1 (suc k)) (k + 1) (n - (suc k - 1)) (n - k) (omega arith) (omega arith))
 line_is UpperDiagCol n k low high = filter-map (is_listed UpperDiagCol) (λ i. (i, k)) (range_with_len 1 n)
@@ -311,7 +314,8 @@ before_first LowerDiagCol n = omega arith
 steps : (layout : Layout) (n l : ℕ) → 1 ≤ l → l ≤ n
     → before layout n (l + 1) ≡ before layout n l + length (cells_of_line layout n l)
 steps layout n zero low high = absurd (omega (arith, low))
-steps layout n (suc k) low high = before_step layout n k high ∙ ap (λ m. before layout n (suc k) + m) (sym (line_counted layout n (suc k) low high))
+steps layout n (suc k) low high =
+    before_step layout n k high ∙ ap (λ m. before layout n (suc k) + m) (sym (line_counted layout n (suc k) low high))
 
 -- the cell at an index of line k
 cell_at : (layout : Layout) (n k at : ℕ) (d : ℕ × ℕ) → 1 ≤ k → k ≤ n → at < line_len_of layout n k
@@ -384,7 +388,8 @@ line_place layout n k m node low high =
     )
 
 abbrev HasPlace : Layout → ℕ → ℕ → ℕ → Type 0
-HasPlace layout n i j = (place_of layout n (i, j) ≡ Some (place_by_table layout n i j)) × (place_by_table layout n i j < length (cells layout n))
+HasPlace layout n i j =
+    (place_of layout n (i, j) ≡ Some (place_by_table layout n i j)) × (place_by_table layout n i j < length (cells layout n))
 
 has_place : (layout : Layout) (n i j : ℕ) → IsNode n i → IsNode n j → IsTrue (is_listed layout (i, j)) → HasPlace layout n i j
 has_place FullMatrix n i j hi hj listed = line_place FullMatrix n i j hi (omega arith) (omega arith)

@@ -15,8 +15,8 @@ abbrev pub AreAllTold : {E : Type 0} → Bool → (ℕ → E → E → Type 0) �
 AreAllTold true tells count old new = AreTold tells count old new
 AreAllTold false tells count old new = new ≡ old
 
--- Of how many lines it is told at most where the comparison ends early. The line at which the writer fails, or memory is refused,
--- isn't among them. At another fault no solution is compared.
+-- How many lines the follower gets at most where the comparison ends early. The line at which the writer fails, or memory is
+-- refused, isn't among them. At another fault no solution is compared.
 abbrev pub most_told : RunFault → ℕ → ℕ
 most_told (Write fault) count = count - 1
 most_told OutOfMemory count = count - 1

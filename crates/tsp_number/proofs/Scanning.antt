@@ -55,7 +55,8 @@ length_by_digit false c front after cs same = omega arith
 -- they and what follows are all the bytes
 pub length-front_digits : (bytes : List ℕ) → length (front_digits bytes) + length (after_digits bytes) ≡ length bytes
 length-front_digits [] = refl
-length-front_digits (c ∷ cs) = length_by_digit (is_ascii_digit c) c (front_digits cs) (after_digits cs) cs (length-front_digits cs)
+length-front_digits (c ∷ cs) =
+    length_by_digit (is_ascii_digit c) c (front_digits cs) (after_digits cs) cs (length-front_digits cs)
 
 skipped-le : (b : Bool) (c : ℕ) (cs : List ℕ) → length (if b then cs else c ∷ cs) ≤ suc (length cs)
 skipped-le true c cs = omega arith

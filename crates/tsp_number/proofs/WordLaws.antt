@@ -127,12 +127,14 @@ whole_once word low high (Err OutOfRange) (Err LongWord) a b = absurd (b a.0)
 whole_once word low high (Err OutOfRange) (Err BadNumber) a b = absurd (b.1 (number_word word _ a.1.1))
 whole_once word low high (Err OutOfRange) (Err TooFine) a b = absurd (b.2 _ a.1.1)
 whole_once word low high (Err OutOfRange) (Err OutOfRange) a b = refl
-whole_once word low high (Err OutOfRange) (Err NotWhole) a b = absurd (b.1.2 (a.1.0) (stands_once word b.1.0 (a.1.0 *ℤ pos unit) b.1.1 a.1.1))
+whole_once word low high (Err OutOfRange) (Err NotWhole) a b =
+    absurd (b.1.2 (a.1.0) (stands_once word b.1.0 (a.1.0 *ℤ pos unit) b.1.1 a.1.1))
 whole_once word low high (Err NotWhole) (Ok k) a b = absurd (a.1.2 (k) (stands_once word a.1.0 (k *ℤ pos unit) a.1.1 b.1))
 whole_once word low high (Err NotWhole) (Err LongWord) a b = absurd (b a.0)
 whole_once word low high (Err NotWhole) (Err BadNumber) a b = absurd (b.1 (number_word word _ a.1.1))
 whole_once word low high (Err NotWhole) (Err TooFine) a b = absurd (b.2 _ a.1.1)
-whole_once word low high (Err NotWhole) (Err OutOfRange) a b = absurd (a.1.2 (b.1.0) (stands_once word a.1.0 (b.1.0 *ℤ pos unit) a.1.1 b.1.1))
+whole_once word low high (Err NotWhole) (Err OutOfRange) a b =
+    absurd (a.1.2 (b.1.0) (stands_once word a.1.0 (b.1.0 *ℤ pos unit) a.1.1 b.1.1))
 whole_once word low high (Err NotWhole) (Err NotWhole) a b = refl
 
 -- ---- the computed answers are the defined ones
@@ -242,7 +244,8 @@ whole_within-reads : (word : List ℕ) (low high : ℤ) (o w : Option ℤ) → I
     → ReadsWhole word low high (whole_within low high o w)
 whole_within-reads word low high None w short number none whole = (short, number, none)
 whole_within-reads word low high (Some k) None short number stands none = (short, (k, stands, none k stands))
-whole_within-reads word low high (Some k) (Some n) short number stands whole = whole_by word low high n (int_le low n && int_le n high) short whole refl
+whole_within-reads word low high (Some k) (Some n) short number stands whole =
+    whole_by word low high n (int_le low n && int_le n high) short whole refl
 
 whole_from-reads : (word : List ℕ) (low high : ℤ) (o : Option Numeral) → IsShort word → numeral_in word ≡ o
     → ReadsWhole word low high (whole_from low high o)

@@ -73,7 +73,8 @@ not_ten Line b e ten = true≢false (sym (ap ends_line ten) ∙ e)
 not_ten Word b e ten = true≢false (sym (ap ends_word ten) ∙ e)
 
 not_blank : (inside : Bool) (token : Token) (b : ℕ) → token ≡ token_at inside b → ends token b ≡ false → is_blank b ≡ false
-not_blank inside Line b is e = letter_filled b (and_second (not inside) (is_letter b) (line_begins (not inside && is_letter b) is))
+not_blank inside Line b is e =
+    letter_filled b (and_second (not inside) (is_letter b) (line_begins (not inside && is_letter b) is))
 not_blank inside Word b is e = (or_false (is_blank b) (ends_line b) e).0
 
 open_still : (token : Token) (xs : List ℕ) → from (ends token) xs ≡ [] → length xs ≤ most_bytes token
@@ -118,7 +119,8 @@ settled_filled most goes_on piece (x ∷ rest) e = refl
 
 pub settled_long : (most : ℕ) (goes_on : Bool) (piece rest : List ℕ) → most < length piece
     → is_settled most goes_on piece rest ≡ true
-settled_long most goes_on piece rest long = by_two (is_filled rest) (not goes_on) (nat_lt most (length piece)) (lt-ltb most (length piece) long)
+settled_long most goes_on piece rest long =
+    by_two (is_filled rest) (not goes_on) (nat_lt most (length piece)) (lt-ltb most (length piece) long)
   where
     by_two : (a b c : Bool) → c ≡ true → (a || b || c) ≡ true
     by_two true b c e = refl

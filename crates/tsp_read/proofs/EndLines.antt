@@ -31,7 +31,8 @@ any_behind false all front back any = back any
 any_front : (items : List Item) (last : Item) → is_end_line last ≡ false → has_end_line (items ++ last ∷ []) ≡ true
     → has_end_line items ≡ true
 any_front [] last fails any = absurd (false≢true (ap (λ b. b || false) (sym fails) ∙ any))
-any_front (item ∷ items) last fails any = any_behind (is_end_line item) (has_end_line (items ++ last ∷ [])) (has_end_line items) (any_front items last fails) any
+any_front (item ∷ items) last fails any =
+    any_behind (is_end_line item) (has_end_line (items ++ last ∷ [])) (has_end_line items) (any_front items last fails) any
 
 -- the text behind a line doesn't count
 front_decides : (items : List Item) (last : Item) → has_end_line items ≡ true
@@ -65,4 +66,5 @@ no_part None items h none = refl
 no_part (Some p) items h none = absurd (none-some p.field (sym none ∙ h.0))
 
 pub ended_none : (reading : Reading) (bytes : List ℕ) → IsEnded reading bytes → is_some reading.opened ≡ false
-ended_none reading bytes h = no_part reading.opened (settled_part bytes) h.holds.part (closed_by_end (settled_items (take most_file_bytes bytes)) h.ended)
+ended_none reading bytes h =
+    no_part reading.opened (settled_part bytes) h.holds.part (closed_by_end (settled_items (take most_file_bytes bytes)) h.ended)

@@ -81,18 +81,21 @@ settled_line bytes found e = ap (λ line. rows line (is_too_long bytes && not (h
 
 settled_none : (bytes : List ℕ) → IsClean (settled_part bytes)
     → (is_too_long bytes && not (has_end_line (settled_part bytes))) ≡ false → settled_fault bytes ≡ None
-settled_none bytes clean short = ap (λ line. rows line (is_too_long bytes && not (has_end_line (settled_part bytes)))) clean ∙ ap (rows None) short
+settled_none bytes clean short =
+    ap (λ line. rows line (is_too_long bytes && not (has_end_line (settled_part bytes)))) clean ∙ ap (rows None) short
 
 settled_long : (bytes : List ℕ) → IsClean (settled_part bytes)
     → (is_too_long bytes && not (has_end_line (settled_part bytes))) ≡ true → settled_fault bytes ≡ Some faults.TooLong
-settled_long bytes clean long = ap (λ line. rows line (is_too_long bytes && not (has_end_line (settled_part bytes)))) clean ∙ ap (rows None) long
+settled_long bytes clean long =
+    ap (λ line. rows line (is_too_long bytes && not (has_end_line (settled_part bytes)))) clean ∙ ap (rows None) long
 
 and_false : (b : Bool) → (b && false) ≡ false
 and_false true = refl
 and_false false = refl
 
 pub ended_none : (reading : Reading) (bytes : List ℕ) → IsEnded reading bytes → settled_fault bytes ≡ None
-ended_none reading bytes h = settled_none bytes h.holds.clean (ap (λ b. is_too_long bytes && not b) h.ended ∙ and_false (is_too_long bytes))
+ended_none reading bytes h =
+    settled_none bytes h.holds.clean (ap (λ b. is_too_long bytes && not b) h.ended ∙ and_false (is_too_long bytes))
 
 part_of_short : (bytes : List ℕ) → length bytes ≤ most_file_bytes → settled_part bytes ≡ settled_so_far bytes
 part_of_short bytes short = ap settled_so_far (take_all most_file_bytes bytes short)
@@ -224,7 +227,8 @@ bytes_at : (feed : Feed) (stage : Stage) → feed.stage ≡ stage → ∥ HasByt
 bytes_at feed stage e = subst (λ (s : Stage). ∥ HasBytes s feed.intake feed.begun feed.count ∥₁) e feed.read
 
 pub going_bytes : (feed : Feed) → feed.stage ≡ Going → ∥ ((bytes : List ℕ) × IsGoing feed bytes) ∥₁
-going_bytes feed e = ∥∥₁_map (bytes_at feed Going e) (λ there. (there.0, record { count = there.1; short = there.2; paused = there.3 }))
+going_bytes feed e =
+    ∥∥₁_map (bytes_at feed Going e) (λ there. (there.0, record { count = there.1; short = there.2; paused = there.3 }))
 
 pub ended_bytes : (feed : Feed) → feed.stage ≡ Ended → ∥ ((bytes : List ℕ) × IsEnded feed.intake.reading bytes) ∥₁
 ended_bytes feed e = ∥∥₁_map (bytes_at feed Ended e) (λ there. (there.0, record { holds = there.1; ended = there.2 }))
@@ -289,7 +293,8 @@ comes_answer : (stage : Stage) (feed : Feed) (bytes : List ℕ) → feed.stage �
     → Feeds bytes feed (outcome_of stage)
 comes_answer Going feed bytes e h = (taken_from feed bytes Going e h, going_none feed bytes h)
 comes_answer Ended feed bytes e h = (taken_from feed bytes Ended e h, ended_none feed.intake.reading bytes h)
-comes_answer (Refused (faults.Line line word found)) feed bytes e h = (taken_from feed bytes (Refused (faults.Line line word found)) e h, h)
+comes_answer (Refused (faults.Line line word found)) feed bytes e h =
+    (taken_from feed bytes (Refused (faults.Line line word found)) e h, h)
 comes_answer (Refused (faults.End found)) feed bytes e h = h
 comes_answer (Refused faults.OutOfMemory) feed bytes e h = h
 comes_answer (Refused faults.Device) feed bytes e h = h
@@ -313,4 +318,5 @@ outcome_refused (Refused found) = refl
 
 pub refuses : (new : Feed) (result : Result (Unit {0}) ReadFault) → result ≡ outcome_of new.stage
     → IfErr result (λ found. refusal new ≡ Some found)
-refuses new result is = subst (λ (r : Result (Unit {0}) ReadFault). IfErr r (λ found. refusal new ≡ Some found)) (sym is) (outcome_refused new.stage)
+refuses new result is =
+    subst (λ (r : Result (Unit {0}) ReadFault). IfErr r (λ found. refusal new ≡ Some found)) (sym is) (outcome_refused new.stage)

@@ -30,7 +30,8 @@ end_is reading items h =
 is_valid : (reading : Reading) (items : List Item) → Closed reading items → AreCut items
     → end_fault (standing_of (fields_of reading.draft)) reading.incomplete ≡ None
     → is_some (fault_of (fields_of reading.draft)) ≡ false
-is_valid reading items h cut ended = ap is_some (ap fault_of h.spelled ∙ is_file items cut h.clean (sym (end_is reading items h) ∙ ended))
+is_valid reading items h cut ended =
+    ap is_some (ap fault_of h.spelled ∙ is_file items cut h.clean (sym (end_is reading items h) ∙ ended))
 
 none_of : (found : Option DraftFault) → is_some found ≡ false → found ≡ None
 none_of None is = refl

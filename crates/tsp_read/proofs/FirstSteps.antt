@@ -21,7 +21,8 @@ found_passes p (x ∷ xs) y e = by_case (p x) refl (found_passes p xs y) e
 -- the same test finds the same
 found_alike : {A : Type 0} (p q : A → Bool) (xs : List A) → ((x : A) → p x ≡ q x) → find p xs ≡ find q xs
 found_alike p q [] same = refl
-found_alike p q (x ∷ xs) same = ap (λ b. cond b (Some x) (find p xs)) (same x) ∙ ap (λ o. cond (q x) (Some x) o) (found_alike p q xs same)
+found_alike p q (x ∷ xs) same =
+    ap (λ b. cond b (Some x) (find p xs)) (same x) ∙ ap (λ o. cond (q x) (Some x) o) (found_alike p q xs same)
 
 -- among the elements that pass p the first is that of all, where others aren't found
 found_among : {A : Type 0} (p q : A → Bool) (xs : List A) → ((x : A) → q x ≡ true → p x ≡ true) → find q (filter p xs) ≡ find q xs

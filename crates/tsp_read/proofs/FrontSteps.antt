@@ -88,8 +88,10 @@ no_letter_digit : (c : ℕ) → 48 ≤ c → c ≤ 57 → is_letter c ≡ false
 no_letter_digit c low high = grind (arith, nat_tests)
 
 starts_fraction : (text digits rest : List ℕ) → IsFraction text digits → 0 < length digits → StartsNumber (text ++ rest)
-starts_fraction text digits rest (inl is) some = starts_here (text ++ rest) point (digits ++ rest) (ap (λ (xs : List ℕ). xs ++ rest) is) refl
-starts_fraction text digits rest (inr is) some = absurd (let none : length digits ≡ 0 = ap length is.1 in omega (arith, none, some))
+starts_fraction text digits rest (inl is) some =
+    starts_here (text ++ rest) point (digits ++ rest) (ap (λ (xs : List ℕ). xs ++ rest) is) refl
+starts_fraction text digits rest (inr is) some =
+    absurd (let none : length digits ≡ 0 = ap length is.1 in omega (arith, none, some))
 
 starts_digits : (whole text fraction rest : List ℕ) → AllDigits 10 whole → IsFraction text fraction
     → 0 < length whole + length fraction → StartsNumber (whole ++ (text ++ rest))
@@ -100,8 +102,10 @@ starts_digits (c ∷ whole) text fraction rest all is some =
 
 starts_sign : (sign rest : List ℕ) (negative : Bool) → IsSign sign negative → StartsNumber rest → StartsNumber (sign ++ rest)
 starts_sign sign rest negative (inl is) h = subst (λ (xs : List ℕ). StartsNumber (xs ++ rest)) (sym is.0) h
-starts_sign sign rest negative (inr (inl is)) h = starts_here (sign ++ rest) plus rest (ap (λ (xs : List ℕ). xs ++ rest) is.0) refl
-starts_sign sign rest negative (inr (inr is)) h = starts_here (sign ++ rest) minus rest (ap (λ (xs : List ℕ). xs ++ rest) is.0) refl
+starts_sign sign rest negative (inr (inl is)) h =
+    starts_here (sign ++ rest) plus rest (ap (λ (xs : List ℕ). xs ++ rest) is.0) refl
+starts_sign sign rest negative (inr (inr is)) h =
+    starts_here (sign ++ rest) minus rest (ap (λ (xs : List ℕ). xs ++ rest) is.0) refl
 
 starts_word : (word : List ℕ) (n : Numeral) → SpellsNumeral word n → StartsNumber word
 starts_word word n h =
@@ -164,7 +168,8 @@ cut_at_end text filled count k rest left h =
 
 front_is : (text filled : List ℕ) (count : ℕ) (k : ℤ) (rest left : List ℕ) → EndsNumber text filled count k rest left
     → front_word text ≡ take count filled
-front_is text filled count k rest left h = ap (up_to_first ends_word) (sym h.filled_is) ∙ (cut_at_end text filled count k rest left h).0
+front_is text filled count k rest left h =
+    ap (up_to_first ends_word) (sym h.filled_is) ∙ (cut_at_end text filled count k rest left h).0
 
 no_line : (inside letter : Bool) → letter ≡ false → (not inside && letter) ≡ false
 no_line true letter e = refl
@@ -225,4 +230,5 @@ front_reads_decimal text filled count k rest left h small =
 -- ---- a line's end at the beginning of a text
 
 pub end_gives : (inside : Bool) (text rest : List ℕ) → text ≡ 10 ∷ rest → GivesNext inside text LineEnd false rest
-end_gives inside text rest parts goes_on more = ap (λ (xs : List ℕ). items_left goes_on inside (xs ++ more)) parts ∙ left_end goes_on inside (rest ++ more)
+end_gives inside text rest parts goes_on more =
+    ap (λ (xs : List ℕ). items_left goes_on inside (xs ++ more)) parts ∙ left_end goes_on inside (rest ++ more)

@@ -55,13 +55,15 @@ whole_alike P back (Some rest) (Some more) given feed gave h none over p =
 
 gave_alike : (P : List ℕ → Type 0) → ((rest given : List ℕ) → AreAlike rest given → P given → P rest)
     → (turn : Turn) (feed : Feed) → IsFedFrom turn feed → P turn.given → GaveAll turn P
-gave_alike P back turn feed f p = (f.gave, f.sound, p, whole_alike P back turn.known turn.left turn.given feed f.gave f.held f.no_fault f.over p)
+gave_alike P back turn feed f p =
+    (f.gave, f.sound, p, whole_alike P back turn.known turn.left turn.given feed f.gave f.held f.no_fault f.over p)
 
 fault_back : (found : ReadFault) (rest given : List ℕ) → AreAlike rest given → fault given ≡ Some found → fault rest ≡ Some found
 fault_back found rest given h e = h.same_fault ∙ e
 
 spells_back : (file : Fields) (rest given : List ℕ) → AreAlike rest given → Spells given file → Spells rest file
-spells_back file rest given h s = record { no_fault = h.same_fault ∙ s.no_fault; fields = s.fields ∙ ap spelled (sym h.same_part) }
+spells_back file rest given h s =
+    record { no_fault = h.same_fault ∙ s.no_fault; fields = s.fields ∙ ap spelled (sym h.same_part) }
 
 -- ---- the answer
 
@@ -69,10 +71,12 @@ stops_by : (turn : Turn) (feed : Feed) (found : ReadFault) → IsFedFrom turn fe
     → StopsAt found turn
 stops_by turn feed (faults.Line line word found) f h =
     gave_alike (λ bytes. fault bytes ≡ Some (faults.Line line word found)) (fault_back (faults.Line line word found)) turn feed f h
-stops_by turn feed (faults.End found) f h = gave_alike (λ bytes. fault bytes ≡ Some (faults.End found)) (fault_back (faults.End found)) turn feed f h
+stops_by turn feed (faults.End found) f h =
+    gave_alike (λ bytes. fault bytes ≡ Some (faults.End found)) (fault_back (faults.End found)) turn feed f h
 stops_by turn feed faults.OutOfMemory f h = (f.gave, f.sound)
 stops_by turn feed faults.Device f h = absurd h
-stops_by turn feed faults.TooLong f h = gave_alike (λ bytes. fault bytes ≡ Some faults.TooLong) (fault_back faults.TooLong) turn feed f h
+stops_by turn feed faults.TooLong f h =
+    gave_alike (λ bytes. fault bytes ≡ Some faults.TooLong) (fault_back faults.TooLong) turn feed f h
 
 pub in_time : (turn : List ℕ → Turn) (feed : Feed) (result : Result Fields ReadFault)
     → TakesAtMost most_taken turn (λ whole. IsFedFrom whole feed)

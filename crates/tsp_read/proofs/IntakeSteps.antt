@@ -93,7 +93,8 @@ read_parts intake bytes rest h goes_on =
 
 pub walked_so_far : (intake : Intake) (bytes rest : List ℕ) (h : IsReadTo intake bytes rest)
     → Walked (settled_items bytes) h.earlier (items_left true intake.inside rest)
-walked_so_far intake bytes rest h = record { parts = sym (all_settled bytes) ∙ read_parts intake bytes rest h true; going = h.going }
+walked_so_far intake bytes rest h =
+    record { parts = sym (all_settled bytes) ∙ read_parts intake bytes rest h true; going = h.going }
 
 -- an item that isn't a line's end is none of blanks and line ends
 pub not_bare : (intake : Intake) (bytes rest : List ℕ) (goes_on : Bool) (item : Item) (later : List Item)
@@ -164,7 +165,8 @@ read_to_fault old new bytes rest item later (faults.Line line word fault) h next
     let walked = subst (λ (xs : List Item). Walked (settled_items bytes) h.earlier xs) next (walked_so_far old bytes rest h) in
     walked_found (settled_items bytes) h.earlier later item (faults.Line line word fault) walked (taken h.earlier h.stands)
 read_to_fault old new bytes rest item later (faults.End fault) h next taken = taken h.earlier h.stands
-read_to_fault old new bytes rest item later faults.OutOfMemory h next taken = not_bare old bytes rest true item later h next (taken h.earlier h.stands)
+read_to_fault old new bytes rest item later faults.OutOfMemory h next taken =
+    not_bare old bytes rest true item later h next (taken h.earlier h.stands)
 read_to_fault old new bytes rest item later faults.Device h next taken = taken h.earlier h.stands
 read_to_fault old new bytes rest item later faults.TooLong h next taken = taken h.earlier h.stands
 
@@ -174,7 +176,8 @@ read_to_fault old new bytes rest item later faults.TooLong h next taken = taken 
 pub same_long : (earlier : List Item) (long word : List ℕ) (new : Intake) (found : ReadFault)
     → is_over_long (NumberWord long) ≡ true → is_over_long (NumberWord word) ≡ true
     → TakesNext earlier (NumberWord long) new (Err found) → TakesNext earlier (NumberWord word) new (Err found)
-same_long earlier long word new (faults.Line line number fault) a b taken = same_fault earlier (NumberWord word) (NumberWord long) (b, a) ∙ taken
+same_long earlier long word new (faults.Line line number fault) a b taken =
+    same_fault earlier (NumberWord word) (NumberWord long) (b, a) ∙ taken
 same_long earlier long word new (faults.End fault) a b taken = taken
 same_long earlier long word new faults.OutOfMemory a b taken = refl
 same_long earlier long word new faults.Device a b taken = taken

@@ -70,7 +70,8 @@ numbered_none stands value reading z s f r = rw (s, f, r) refl
 
 -- by what the draft has
 abbrev pub is_late_in : Reading → Field → WordLine → Bool
-is_late_in old field line = says_space field (first_word line.value) && is_some (fields_of old.draft).coords && not (spatial (fields_of old.draft))
+is_late_in old field line =
+    says_space field (first_word line.value) && is_some (fields_of old.draft).coords && not (spatial (fields_of old.draft))
 
 some_points : (b : Bool) (points : List Point) → is_some (cond b (Some points) None) ≡ b
 some_points true points = refl

@@ -52,7 +52,8 @@ walked_last items earlier item h = by_case (is_end_line item) refl
 
 walked_whole : (intake : Intake) (bytes rest : List ℕ) (h : IsReadTo intake bytes rest)
     → Walked (items_of bytes) h.earlier (items_left false intake.inside rest)
-walked_whole intake bytes rest h = record { parts = sym (all_items bytes) ∙ read_parts intake bytes rest h false; going = h.going }
+walked_whole intake bytes rest h =
+    record { parts = sym (all_items bytes) ∙ read_parts intake bytes rest h false; going = h.going }
 
 or_none : (a b : Bool) → b ≡ false → (a || b) ≡ a
 or_none true b e = refl
@@ -73,7 +74,8 @@ takes_last old new bytes rest item (Err (faults.Line line word found)) h next ta
     let walked = subst (λ (xs : List Item). Walked (items_of bytes) h.earlier xs) next (walked_whole old bytes rest h) in
     walked_found (items_of bytes) h.earlier [] item (faults.Line line word found) walked (taken h.earlier h.stands)
 takes_last old new bytes rest item (Err (faults.End found)) h next taken = taken h.earlier h.stands
-takes_last old new bytes rest item (Err faults.OutOfMemory) h next taken = not_bare old bytes rest false item [] h next (taken h.earlier h.stands)
+takes_last old new bytes rest item (Err faults.OutOfMemory) h next taken =
+    not_bare old bytes rest false item [] h next (taken h.earlier h.stands)
 takes_last old new bytes rest item (Err faults.Device) h next taken = taken h.earlier h.stands
 takes_last old new bytes rest item (Err faults.TooLong) h next taken = taken h.earlier h.stands
 
@@ -227,7 +229,8 @@ taken_whole feed bytes reading ended e taken last =
 
 last_fault : (bytes : List ℕ) (reading : Reading) (found : ReadFault) → is_too_long bytes ≡ false
     → TakesAll bytes reading (Err found) → Reads bytes (Err found)
-last_fault bytes reading (faults.Line line word found) short h = line_fault bytes (faults.Line line word found) (ap fault_in (part_short bytes short) ∙ h)
+last_fault bytes reading (faults.Line line word found) short h =
+    line_fault bytes (faults.Line line word found) (ap fault_in (part_short bytes short) ∙ h)
 last_fault bytes reading (faults.End found) short h = absurd h
 last_fault bytes reading faults.OutOfMemory short h = tt
 last_fault bytes reading faults.Device short h = h
@@ -241,7 +244,8 @@ taken_fault feed bytes reading found e taken last =
     (last_fault bytes reading found (short_text feed bytes h) (last h.paused), λ same. subst (λ (f : ReadFault). TakesAll bytes reading (Err f)) same (last h.paused))
 
 pub settled_reads : (found : ReadFault) (bytes : List ℕ) → HasSettled found bytes → Reads bytes (Err found)
-settled_reads (faults.Line line word found) bytes h = ap fault (sym (append-nil bytes)) ∙ fault_kept bytes [] (faults.Line line word found) h
+settled_reads (faults.Line line word found) bytes h =
+    ap fault (sym (append-nil bytes)) ∙ fault_kept bytes [] (faults.Line line word found) h
 settled_reads (faults.End found) bytes h = absurd h
 settled_reads faults.OutOfMemory bytes h = tt
 settled_reads faults.Device bytes h = h

@@ -60,7 +60,8 @@ split_no p x xs e = ap (λ b. cond b ([] ∷ slice_split p xs) (onto_first x (sl
 
 split_cut : {X : Type 0} (p : X → Bool) (w : List X) (x : X) (xs : List X) → FreeOf p w → p x ≡ true
     → slice_split p (w ++ x ∷ xs) ≡ w ∷ slice_split p xs
-split_cut p w x xs free e = split_onto p w (x ∷ xs) [] (slice_split p xs) free (split_yes p x xs e) ∙ ap (λ v. v ∷ slice_split p xs) (append-nil w)
+split_cut p w x xs free e =
+    split_onto p w (x ∷ xs) [] (slice_split p xs) free (split_yes p x xs e) ∙ ap (λ v. v ∷ slice_split p xs) (append-nil w)
 
 -- ---- before and from the first place that passes
 
@@ -139,7 +140,8 @@ settled_more [] = refl
 settled_more (piece ∷ pieces) = refl
 
 settled_blank : (b : ℕ) (line : List ℕ) → is_blank b ≡ true → settled_words (b ∷ line) ≡ settled_words line
-settled_blank b line e = ap (λ pieces. filter is_filled (settled_pieces pieces)) (split_yes is_blank b line e) ∙ settled_more (slice_split is_blank line)
+settled_blank b line e =
+    ap (λ pieces. filter is_filled (settled_pieces pieces)) (split_yes is_blank b line e) ∙ settled_more (slice_split is_blank line)
 
 -- a line's items by its start and its words
 abbrev by_start : (List ℕ → List Item) → List ℕ → List (List ℕ) → List Item
@@ -217,7 +219,8 @@ left_cut goes_on inside w r no_end =
     ∙ ap (λ xs. line_items inside w ++ LineEnd ∷ xs) (from_start goes_on (f.head ∷ f.others) ∙ ap (items_left_by goes_on false) (sym f.pieces))
 
 pub left_end : (goes_on inside : Bool) (r : List ℕ) → items_left goes_on inside (10 ∷ r) ≡ LineEnd ∷ items_left goes_on false r
-left_end goes_on inside r = left_cut goes_on inside [] r tt ∙ ap (λ xs. xs ++ LineEnd ∷ items_left goes_on false r) (line_none inside)
+left_end goes_on inside r =
+    left_cut goes_on inside [] r tt ∙ ap (λ xs. xs ++ LineEnd ∷ items_left goes_on false r) (line_none inside)
 
 -- ---- a word line
 
@@ -313,7 +316,8 @@ word_by goes_on b w c r false e free no_end stop =
 word_found : (goes_on : Bool) (b : ℕ) (w r : List ℕ) → FreeOf is_blank (b ∷ w) → FreeOf ends_line (b ∷ w) → StopsAt ends_word r
     → is_settled most_word_bytes goes_on (b ∷ w) r ≡ true
     → items_left goes_on true ((b ∷ w) ++ r) ≡ NumberWord (b ∷ w) ∷ items_left goes_on true r
-word_found false b w [] free no_end stop settled = left_whole false true (b ∷ w) no_end ∙ ap (map (λ word. NumberWord word)) (words_one b w free)
+word_found false b w [] free no_end stop settled =
+    left_whole false true (b ∷ w) no_end ∙ ap (map (λ word. NumberWord word)) (words_one b w free)
 word_found true b w [] free no_end stop settled =
     left_whole true true (b ∷ w) no_end
     ∙ ap (map (λ word. NumberWord word)) (settled_one b w free ∙ ap (λ c. filter is_filled (cond c ((b ∷ w) ∷ []) [])) settled)
@@ -345,7 +349,8 @@ by_inside : (goes_on : Bool) (b : ℕ) (head : List ℕ) (others : List (List �
     → items_left_by goes_on false ((b ∷ head) ∷ others) ≡ items_left_by goes_on true ((b ∷ head) ∷ others)
 by_inside false b head [] filled other = line_inside b head filled other
 by_inside true b head [] filled other = settled_inside b head filled other
-by_inside goes_on b head (next ∷ others) filled other = ap (λ xs. xs ++ after_line goes_on next others) (line_inside b head filled other)
+by_inside goes_on b head (next ∷ others) filled other =
+    ap (λ xs. xs ++ after_line goes_on next others) (line_inside b head filled other)
 
 left_inside : (goes_on inside : Bool) (b : ℕ) (bytes : List ℕ) → is_blank b ≡ false → ends_line b ≡ false
     → (not inside && is_letter b) ≡ false

@@ -24,10 +24,12 @@ abbrev pub CutsAlike : (ℕ → Bool) → List ℕ → List ℕ → Type 0
 CutsAlike p xs more = (up_to_first p (xs ++ more) ≡ up_to_first p xs) × (from p (xs ++ more) ≡ from p xs ++ more)
 
 pub on_before : (p : ℕ → Bool) (x : ℕ) (xs : List ℕ) → p x ≡ false → up_to_first p (x ∷ xs) ≡ x ∷ up_to_first p xs
-on_before p x xs e = ap (λ b. take (cond (not b) (1 + position_or_len p xs) 0) (x ∷ xs)) e ∙ ap (λ n. take n (x ∷ xs)) (one_more (position_or_len p xs))
+on_before p x xs e =
+    ap (λ b. take (cond (not b) (1 + position_or_len p xs) 0) (x ∷ xs)) e ∙ ap (λ n. take n (x ∷ xs)) (one_more (position_or_len p xs))
 
 pub on_from : (p : ℕ → Bool) (x : ℕ) (xs : List ℕ) → p x ≡ false → from p (x ∷ xs) ≡ from p xs
-on_from p x xs e = ap (λ b. drop (cond (not b) (1 + position_or_len p xs) 0) (x ∷ xs)) e ∙ ap (λ n. drop n (x ∷ xs)) (one_more (position_or_len p xs))
+on_from p x xs e =
+    ap (λ b. drop (cond (not b) (1 + position_or_len p xs) 0) (x ∷ xs)) e ∙ ap (λ n. drop n (x ∷ xs)) (one_more (position_or_len p xs))
 
 pub at_before : (p : ℕ → Bool) (x : ℕ) (xs : List ℕ) → p x ≡ true → up_to_first p (x ∷ xs) ≡ []
 at_before p x xs e = ap (λ b. take (cond (not b) (1 + position_or_len p xs) 0) (x ∷ xs)) e
@@ -56,12 +58,14 @@ starts_by : (b : ℕ) (bytes more : List ℕ) (first : ℕ) (after : List ℕ) (
     → (without_start bytes ≡ first ∷ after → without_start (bytes ++ more) ≡ first ∷ (after ++ more))
     → without_start (b ∷ bytes) ≡ first ∷ after → without_start (b ∷ (bytes ++ more)) ≡ first ∷ (after ++ more)
 starts_by b bytes more first after true e rest h = start_blank b (bytes ++ more) e ∙ rest (sym (start_blank b bytes e) ∙ h)
-starts_by b bytes more first after false e rest h = start_filled b (bytes ++ more) e ∙ ap (λ (ys : List ℕ). ys ++ more) (sym (start_filled b bytes e) ∙ h)
+starts_by b bytes more first after false e rest h =
+    start_filled b (bytes ++ more) e ∙ ap (λ (ys : List ℕ). ys ++ more) (sym (start_filled b bytes e) ∙ h)
 
 pub starts_alike : (bytes more : List ℕ) (first : ℕ) (after : List ℕ) → without_start bytes ≡ first ∷ after
     → without_start (bytes ++ more) ≡ first ∷ (after ++ more)
 starts_alike [] more first after h = absurd cc
-starts_alike (b ∷ bytes) more first after h = starts_by b bytes more first after (is_blank b) refl (starts_alike bytes more first after) h
+starts_alike (b ∷ bytes) more first after h =
+    starts_by b bytes more first after (is_blank b) refl (starts_alike bytes more first after) h
 
 -- ---- the next item
 
@@ -97,7 +101,8 @@ token_follows inside true text filled first after token piece rest e parts more_
     (longer ∙ sym (starts_alike text more first after (sym e ∙ parts))) longer more_ is
     (p ∙ sym cut.0) (ap (λ (ys : List ℕ). ys ++ more) r ∙ sym cut.1)
     (filled_settled (most_bytes token) goes_on piece rest more tail)
-token_follows inside false text filled first after token piece rest e parts more_ is p r settled goes_is short goes_on more = absurd cc
+token_follows inside false text filled first after token piece rest e parts more_ is p r settled goes_is short goes_on more =
+    absurd cc
 
 -- it isn't too long where its item isn't
 pub token_short : (token : Token) (piece : List ℕ) → is_over_long (token_item token piece) ≡ false

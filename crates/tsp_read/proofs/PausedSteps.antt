@@ -21,17 +21,21 @@ over_by : (goes_on inside : Bool) (b : ℕ) (bytes more : List ℕ) (k : Bool) �
     → items_left goes_on inside (without_start (b ∷ bytes) ++ more) ≡ items_left goes_on inside (b ∷ (bytes ++ more))
 over_by goes_on inside b bytes more true e rest =
     ap (λ (xs : List ℕ). items_left goes_on inside (xs ++ more)) (start_blank b bytes e) ∙ rest ∙ sym (left_blank goes_on inside b (bytes ++ more) e)
-over_by goes_on inside b bytes more false e rest = ap (λ (xs : List ℕ). items_left goes_on inside (xs ++ more)) (start_filled b bytes e)
+over_by goes_on inside b bytes more false e rest =
+    ap (λ (xs : List ℕ). items_left goes_on inside (xs ++ more)) (start_filled b bytes e)
 
 over_blanks : (goes_on inside : Bool) (bytes more : List ℕ)
     → items_left goes_on inside (without_start bytes ++ more) ≡ items_left goes_on inside (bytes ++ more)
 over_blanks goes_on inside [] more = refl
-over_blanks goes_on inside (b ∷ bytes) more = over_by goes_on inside b bytes more (is_blank b) refl (over_blanks goes_on inside bytes more)
+over_blanks goes_on inside (b ∷ bytes) more =
+    over_by goes_on inside b bytes more (is_blank b) refl (over_blanks goes_on inside bytes more)
 
 shorter_by : (b : ℕ) (bytes : List ℕ) (k : Bool) → is_blank b ≡ k → length (without_start bytes) ≤ length bytes
     → length (without_start (b ∷ bytes)) ≤ length (b ∷ bytes)
-shorter_by b bytes true e rest = subst (λ (xs : List ℕ). length xs ≤ length (b ∷ bytes)) (sym (start_blank b bytes e)) (omega (arith, rest))
-shorter_by b bytes false e rest = subst (λ (xs : List ℕ). length xs ≤ length (b ∷ bytes)) (sym (start_filled b bytes e)) (omega arith)
+shorter_by b bytes true e rest =
+    subst (λ (xs : List ℕ). length xs ≤ length (b ∷ bytes)) (sym (start_blank b bytes e)) (omega (arith, rest))
+shorter_by b bytes false e rest =
+    subst (λ (xs : List ℕ). length xs ≤ length (b ∷ bytes)) (sym (start_filled b bytes e)) (omega arith)
 
 pub start_shorter : (bytes : List ℕ) → length (without_start bytes) ≤ length bytes
 start_shorter [] = omega arith
@@ -58,7 +62,8 @@ paused_joined intake begun bytes rest h none = record {
 -- what has begun was taken
 pub joined_read : (intake : Intake) (begun : Begun) (bytes rest : List ℕ) → IsJoinedTo intake begun bytes rest
     → is_filled rest ≡ true → IsReadTo intake bytes rest
-joined_read intake begun bytes rest h some = subst (λ (xs : List ℕ). IsReadTo intake bytes (xs ++ rest)) (h.none_kept some) h.fed.read
+joined_read intake begun bytes rest h some =
+    subst (λ (xs : List ℕ). IsReadTo intake bytes (xs ++ rest)) (h.none_kept some) h.fed.read
 
 -- what is left is kept
 pub paused_kept : (intake : Intake) (begun : Begun) (bytes left : List ℕ) → IsReadTo intake bytes left

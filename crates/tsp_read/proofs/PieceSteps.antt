@@ -83,7 +83,8 @@ pub timely_start : IsTimely []
 timely_start = record { no_fault = refl; no_end = refl }
 
 pub gathered_start : (known : Option (List ℕ)) (feed : Feed) → HasTaken feed [] → Gathered known known feed 0
-gathered_start known feed held = record { given = []; gave = Consumes-nil known; held = held; no_fault = refl; counted = refl; timely = timely_start }
+gathered_start known feed held =
+    record { given = []; gave = Consumes-nil known; held = held; no_fault = refl; counted = refl; timely = timely_start }
 
 -- ---- a piece more
 
@@ -168,7 +169,8 @@ past_limit feed bytes (Refused found) e h long = refl
 
 pub not_going : (known left : Option (List ℕ)) (feed : Feed) (taken : ℕ) → Gathered known left feed taken
     → most_file_bytes < taken → is_going feed.stage ≡ false
-not_going known left feed taken g long = past_limit feed g.given feed.stage refl g.held (subst (λ (n : ℕ). most_file_bytes < n) (sym g.counted) long)
+not_going known left feed taken g long =
+    past_limit feed g.given feed.stage refl g.held (subst (λ (n : ℕ). most_file_bytes < n) (sym g.counted) long)
 
 pub fed_from : (turn : List ℕ → Turn) (known left : Option (List ℕ)) (feed : Feed) (taken : ℕ)
     → ((given : List ℕ) → (turn given).given ≡ given)

@@ -62,7 +62,8 @@ keeps_run old new count text keeps = record {
 }
 
 pub same_run : (part : Part) (count : Count) (text : List ℕ) → RunsTo part count text part count text
-same_run part count text = record { read = λ draft incomplete field bytes h. h; line = omega arith; words = omega arith; shorter = omega arith }
+same_run part count text =
+    record { read = λ draft incomplete field bytes h. h; line = omega arith; words = omega arith; shorter = omega arith }
 
 -- a line's end
 pub line_runs : (part : Part) (before after : Count) (text rest : List ℕ) → text ≡ 10 ∷ rest → after.line ≡ before.line + 1
@@ -103,8 +104,10 @@ run_then old mid new before between after text middle rest first then = record {
 pub step_then : (old mid new : Part) (before between after : Count) (text : List ℕ) (found : Option (List ℕ))
     → RunsTo old before text mid between text
     → StepsTo mid between text new after found → StepsTo old before text new after found
-step_then old mid new before between after text None first then = run_then old mid new before between after text text text first then
-step_then old mid new before between after text (Some rest) first then = (run_then old mid new before between after text text rest first then.0, then.1)
+step_then old mid new before between after text None first then =
+    run_then old mid new before between after text text text first then
+step_then old mid new before between after text (Some rest) first then =
+    (run_then old mid new before between after text text rest first then.0, then.1)
 
 -- a text whose open section is this one
 pub opened_run : (reading : Reading) (section : OpenSection) (count : Count) (bytes text : List ℕ) → reading.opened ≡ Some section

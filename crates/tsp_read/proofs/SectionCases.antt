@@ -84,7 +84,8 @@ closed_fields earlier = by_section (λ f. open_section earlier ≡ Some f → ha
 -- what the keywords say stays
 pub stored_keywords : (in_space : Bool) (n : ℕ) (words : List (List ℕ)) (fields : Fields) (f : Field) → is_section_field f ≡ true
     → fields_there (with_section in_space f n words fields) ≡ fields_there fields
-stored_keywords in_space n words fields = by_section (λ f. fields_there (with_section in_space f n words fields) ≡ fields_there fields)
+stored_keywords in_space n words fields =
+    by_section (λ f. fields_there (with_section in_space f n words fields) ≡ fields_there fields)
     (ap fields_there (points_stored in_space n words fields)) refl refl refl refl
     refl refl refl refl refl
     refl refl refl

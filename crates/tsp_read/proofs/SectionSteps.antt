@@ -147,7 +147,8 @@ none_open reading earlier none h =
 first_now : (earlier : List Item) (f : Field) (more : Bool) (first : Option Field) → is_section_field f ≡ true
     → find (but f (is_incomplete earlier)) sections_in_order ≡ first → is_incomplete earlier f ≡ more
     → cond more (first_of f first fields_in_order) first ≡ first_incomplete earlier
-first_now earlier f true first kind is passes = ap (λ o. first_of f o fields_in_order) (sym is) ∙ first_more is_section_field (is_incomplete earlier) f fields_in_order kind passes
+first_now earlier f true first kind is passes =
+    ap (λ o. first_of f o fields_in_order) (sym is) ∙ first_more is_section_field (is_incomplete earlier) f fields_in_order kind passes
 first_now earlier f false first kind is fails = sym is ∙ first_without (is_incomplete earlier) f sections_in_order fails
 
 pub closes : (old new : Reading) (section : OpenSection) (more : Bool) → old.opened ≡ Some section

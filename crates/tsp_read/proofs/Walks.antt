@@ -99,7 +99,8 @@ abbrev rows : Option ReadFault → Bool → Option EndFault → Option ReadFault
 rows line long end = first_row (line ∷ when long faults.TooLong ∷ option_map (λ fault. faults.End fault) end ∷ [])
 
 pub line_fault : (bytes : List ℕ) (found : ReadFault) → fault_in (part bytes) ≡ Some found → fault bytes ≡ Some found
-line_fault bytes found e = ap (λ line. rows line (is_too_long bytes && not (has_end_line (part bytes))) (fault_at_end (part bytes))) e
+line_fault bytes found e =
+    ap (λ line. rows line (is_too_long bytes && not (has_end_line (part bytes))) (fault_at_end (part bytes))) e
 
 pub end_fault_is : (bytes : List ℕ) (found : Option EndFault) → IsClean (part bytes)
     → (is_too_long bytes && not (has_end_line (part bytes))) ≡ false → fault_at_end (part bytes) ≡ found

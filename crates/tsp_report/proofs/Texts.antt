@@ -10,7 +10,8 @@ use Rattle.tsp_report.specs.Show.{name_line}
 
 -- two parts, and then the piece is handed over
 pub two_parts : (a b c d : Way) (x y : List ℕ) → Carried a b x → Carried b c y → Carried c d [] → Carried a d (x ++ y)
-two_parts a b c d x y h k m = subst (Carried a d) (append-nil (x ++ y)) (carried_then a c d (x ++ y) [] (carried_then a b c x y h k) m)
+two_parts a b c d x y h k m =
+    subst (Carried a d) (append-nil (x ++ y)) (carried_then a c d (x ++ y) [] (carried_then a b c x y h k) m)
 
 -- a text, then a path with the end of its line, and then the piece is handed over
 pub with_path : (a b c d : Way) (x path : List ℕ) → Carried a b x → Carried b c (codes " " ++ path ++ codes "\n") → Carried c d []
@@ -45,4 +46,5 @@ named (first ∷ rest) none = refl
 -- a text, some words and a number
 pub then_named : (a b c : Way) (x words number : List ℕ) → Carried a b x → Carried b c (words ++ number)
     → Carried a c (x ++ words ++ number)
-then_named a b c x words number h k = subst (Carried a c) (sym (append_assoc x words number)) (carried_then a b c x (words ++ number) h k)
+then_named a b c x words number h k =
+    subst (Carried a c) (sym (append_assoc x words number)) (carried_then a b c x (words ++ number) h k)

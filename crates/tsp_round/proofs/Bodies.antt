@@ -116,7 +116,8 @@ list_written fits line words each xs all =
     both_words (flat_map line xs) (codes "-1" ++ 10 ∷ []) (flat_map words xs) (codes "-1" ∷ []) (lines_written fits line words each xs all) end_written
 
 tour_written : (tour : List ℕ) → is_tour tour ≡ true → WritesWords (node_list tour) (tour_words tour)
-tour_written tour fits = node_lines_written most_nodes (omega arith) tour (and_parts (nat_le 1 (length tour)) (list_all (is_node most_nodes) tour) fits).1
+tour_written tour fits =
+    node_lines_written most_nodes (omega arith) tour (and_parts (nat_le 1 (length tour)) (list_all (is_node most_nodes) tour) fits).1
 
 pub tour_lines_written : (tours : List (List ℕ)) → list_all is_tour tours ≡ true
     → WritesWords (flat_map node_list tours) (flat_map tour_words tours)

@@ -201,7 +201,8 @@ all_run laws n few combs fits =
 
 pub combs_taken : NumberLaws → (n : ℕ) → n < 2 ^ 32 → (combs : List (List (List ℕ))) → are_combs n combs ≡ true
     → AllTaken n (place_of_comb n) [] (combs_words combs)
-combs_taken laws n few combs fits = all_taken n (with_comb_word n) place_in_combs no_combs [] (combs_words combs) (all_run laws n few combs fits).taken
+combs_taken laws n few combs fits =
+    all_taken n (with_comb_word n) place_in_combs no_combs [] (combs_words combs) (all_run laws n few combs fits).taken
 
 pub combs_back : NumberLaws → (n : ℕ) → n < 2 ^ 32 → (combs : List (List (List ℕ))) → are_combs n combs ≡ true
     → whole_combs n (combs_words combs) ≡ combs

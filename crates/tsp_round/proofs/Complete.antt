@@ -51,11 +51,13 @@ one_less false test field others fails rest = rest
 none_found : (test chosen : Field → Bool) → ((field : Field) → chosen field ≡ true → test field ≡ false) → (fields : List Field)
     → find test (filter chosen fields) ≡ None
 none_found test chosen fails [] = refl
-none_found test chosen fails (field ∷ fields) = one_less (chosen field) test field (filter chosen fields) (fails field) (none_found test chosen fails fields)
+none_found test chosen fails (field ∷ fields) =
+    one_less (chosen field) test field (filter chosen fields) (fails field) (none_found test chosen fails fields)
 
 -- a section has a shape in a spatial file as in another
 in_space_too : (in_space : Bool) (field : Field) → is_section_field field ≡ true → is_some (shape_of in_space field) ≡ true
-in_space_too in_space = by_section (λ g. is_some (shape_of in_space g) ≡ true) refl refl refl refl refl refl refl refl refl refl refl refl refl
+in_space_too in_space =
+    by_section (λ g. is_some (shape_of in_space g) ≡ true) refl refl refl refl refl refl refl refl refl refl refl refl refl
 
 pub none_incomplete : NumberLaws → (f : Fields) (items : List Item) → ((g : Field) → fits f g ≡ true) → Stage f [] items
     → first_incomplete items ≡ None

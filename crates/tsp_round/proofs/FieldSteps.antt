@@ -25,7 +25,8 @@ field_step laws f valid EdgeWeightTypeKey earlier ready = weight_kind_step f ear
 field_step laws f valid EdgeWeightFormatKey earlier ready = weight_format_step f earlier ready
 field_step laws f valid NodeCoordTypeKey earlier ready = coord_kind_step f earlier ready
 field_step laws f valid DisplayDataTypeKey earlier ready = display_kind_step f earlier ready
-field_step laws f valid NodeCoordPart earlier ready = section_step laws f valid NodeCoordPart (cond (spatial f) SpacePoints Points) refl earlier ready
+field_step laws f valid NodeCoordPart earlier ready =
+    section_step laws f valid NodeCoordPart (cond (spatial f) SpacePoints Points) refl earlier ready
 field_step laws f valid DisplayDataPart earlier ready = section_step laws f valid DisplayDataPart Points refl earlier ready
 field_step laws f valid DemandPart earlier ready = section_step laws f valid DemandPart _ refl earlier ready
 field_step laws f valid DepotPart earlier ready = section_step laws f valid DepotPart Depots refl earlier ready
@@ -35,6 +36,7 @@ field_step laws f valid TourPart earlier ready = section_step laws f valid TourP
 field_step laws f valid NodePotentialPart earlier ready = section_step laws f valid NodePotentialPart _ refl earlier ready
 field_step laws f valid RowPotentialPart earlier ready = section_step laws f valid RowPotentialPart _ refl earlier ready
 field_step laws f valid ColumnPotentialPart earlier ready = section_step laws f valid ColumnPotentialPart _ refl earlier ready
-field_step laws f valid FixedEdgePotentialPart earlier ready = section_step laws f valid FixedEdgePotentialPart Triples refl earlier ready
+field_step laws f valid FixedEdgePotentialPart earlier ready =
+    section_step laws f valid FixedEdgePotentialPart Triples refl earlier ready
 field_step laws f valid CombPart earlier ready = section_step laws f valid CombPart Combs refl earlier ready
 field_step laws f valid BranchPart earlier ready = section_step laws f valid BranchPart Steps refl earlier ready

@@ -208,7 +208,8 @@ comment_step f earlier fit ready =
     }
 
 no_other : (g : Field) → may_repeat g ≡ false → same_field g OtherKey ≡ false
-no_other g once = false_from_ne_true (same_field g OtherKey) (λ e. true≢false (sym (ap may_repeat (same_field_is g OtherKey e)) ∙ once))
+no_other g once =
+    false_from_ne_true (same_field g OtherKey) (λ e. true≢false (sym (ap may_repeat (same_field_is g OtherKey e)) ∙ once))
 
 pub other_step : (f : Fields) (earlier : List Item) → fits f OtherKey ≡ true → Ready f OtherKey earlier
     → Step f (text_of_field f) OtherKey earlier

@@ -95,7 +95,8 @@ comment_row : (earlier : List Item) (line : WordLine) → nat_lt most_line_bytes
 comment_row earlier line short room few = rw (short, room, few) refl
 
 pub no_comment : (g : Field) → may_repeat g ≡ false → same_field g CommentKey ≡ false
-no_comment g once = false_from_ne_true (same_field g CommentKey) (λ e. true≢false (sym (ap may_repeat (same_field_is g CommentKey e)) ∙ once))
+no_comment g once =
+    false_from_ne_true (same_field g CommentKey) (λ e. true≢false (sym (ap may_repeat (same_field_is g CommentKey e)) ∙ once))
 
 -- the lines of some comments after these items
 pub record CommentRun (comments : List (List ℕ)) (earlier : List Item) : Type 0 where

@@ -70,7 +70,8 @@ pub record IsKeyword (keyword : List ℕ) : Type 0 where
   pub bytes : list_all is_keyword_byte keyword ≡ true
 
 abbrev pub written_line : List ℕ → List ℕ → WordLine
-written_line keyword value = record { size = length (value_text keyword value); keyword = keyword; has_colon = true; value = value }
+written_line keyword value =
+    record { size = length (value_text keyword value); keyword = keyword; has_colon = true; value = value }
 
 value_found : (text value : List ℕ) → after_keyword text ≡ 58 ∷ blank_before value → IsWhole value → value_in text ≡ value
 value_found text value after whole =

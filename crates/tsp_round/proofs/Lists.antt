@@ -62,7 +62,8 @@ depots_taken laws n few earlier (k ∷ nodes) unended room all =
 
 pub depots_back : NumberLaws → (n : ℕ) → n < 2 ^ 32 → (nodes : List ℕ) → list_all (is_node n) nodes ≡ true
     → depots_in n (map decimal nodes ++ codes "-1" ∷ []) ≡ nodes
-depots_back laws n few [] all = ap (λ b. map (λ word. nat_abs (number (node_or_end n word))) (cond b [] (codes "-1" ∷ []))) (end_ends laws n)
+depots_back laws n few [] all =
+    ap (λ b. map (λ word. nat_abs (number (node_or_end n word))) (cond b [] (codes "-1" ∷ []))) (end_ends laws n)
 depots_back laws n few (k ∷ nodes) all =
     let both = and_parts (is_node n k) (list_all (is_node n) nodes) all in
     ap (λ b. map (λ word. nat_abs (number (node_or_end n word))) (cond b [] (decimal k ∷ before (is_end n) (map decimal nodes ++ codes "-1" ∷ [])))) (node_goes_on laws n k few both.0)
@@ -128,7 +129,8 @@ pub fixed_taken : NumberLaws → (n : ℕ) → n < 2 ^ 32 → (earlier : List (L
     → list_any (is_end n) (firsts_in earlier) ≡ false → begun_pair earlier ≡ []
     → length (pairs_in earlier) + length pairs ≤ most_fixed → list_all (is_node_pair n) pairs ≡ true
     → AllTaken n (place_of_fixed n) earlier (flat_map pair_words pairs ++ codes "-1" ∷ [])
-fixed_taken laws n few earlier [] unended whole room all = (ap (λ p. word_fault n p (codes "-1")) (pair_place n earlier [] unended whole) ∙ end_taken laws n (length (pairs_in earlier)), tt)
+fixed_taken laws n few earlier [] unended whole room all =
+    (ap (λ p. word_fault n p (codes "-1")) (pair_place n earlier [] unended whole) ∙ end_taken laws n (length (pairs_in earlier)), tt)
 fixed_taken laws n few earlier (pair ∷ pairs) unended whole room all =
     let both = and_parts (is_node_pair n pair) (list_all (is_node_pair n) pairs) all in
     let are = are_pair n pair both.0 in
@@ -164,7 +166,8 @@ fixed_back laws n few (pair ∷ pairs) all =
 pub fixed_ended : NumberLaws → (n : ℕ) → (pairs : List (ℕ × ℕ))
     → list_any (is_end n) (firsts_in (flat_map pair_words pairs ++ codes "-1" ∷ [])) ≡ true
 fixed_ended laws n [] = ap (λ b. b || false) (end_ends laws n)
-fixed_ended laws n (pair ∷ pairs) = or_right (is_end n (decimal pair.0)) (list_any (is_end n) (firsts_in (flat_map pair_words pairs ++ codes "-1" ∷ []))) (fixed_ended laws n pairs)
+fixed_ended laws n (pair ∷ pairs) =
+    or_right (is_end n (decimal pair.0)) (list_any (is_end n) (firsts_in (flat_map pair_words pairs ++ codes "-1" ∷ []))) (fixed_ended laws n pairs)
 
 -- ---- weights
 

@@ -201,7 +201,8 @@ minus_one : signed_decimal (negsuc 0) ≡ codes "-1"
 minus_one = ap (λ (ds : List ℕ). 45 ∷ ds) (decimal_digit 1 (omega arith))
 
 pub end_read : NumberLaws → (n : ℕ) → node_or_end n (codes "-1") ≡ Ok (negsuc 0)
-end_read laws n = ap not_zero (ap (λ word. whole_of word (negsuc 0) (pos n)) (sym minus_one) ∙ laws.whole_back (negsuc 0) (negsuc 0) (pos n) (omega arith) refl)
+end_read laws n =
+    ap not_zero (ap (λ word. whole_of word (negsuc 0) (pos n)) (sym minus_one) ∙ laws.whole_back (negsuc 0) (negsuc 0) (pos n) (omega arith) refl)
 
 pub end_ends : NumberLaws → (n : ℕ) → is_end n (codes "-1") ≡ true
 end_ends laws n = ap (reads_as (negsuc 0)) (end_read laws n)

@@ -49,7 +49,8 @@ ByShape f g = (text_of_field f g ≡ option_map_or (text_of_section f g) (shape_
 
 -- it is none of the keywords that differ from it, and its line has no value and is no long one
 abbrev IsPlain : Field → Type 0
-IsPlain g = (may_repeat g ≡ false) × (same_field CommentKey g ≡ false) × (same_field OtherKey g ≡ false) × (same_field DimensionKey g ≡ false)
+IsPlain g =
+    (may_repeat g ≡ false) × (same_field CommentKey g ≡ false) × (same_field OtherKey g ≡ false) × (same_field DimensionKey g ≡ false)
     × ((section_line g).value ≡ []) × (nat_lt most_line_bytes (section_line g).size ≡ false)
 
 -- points of nodes in space as in the plane
@@ -131,7 +132,8 @@ are_right laws f SpacePoints xs items written one fit = counted laws f SpacePoin
 are_right laws f Depots xs items written one fit = counted laws f Depots xs items written one fit
 are_right laws f Pairs xs items written one fit = counted laws f Pairs xs items written one fit
 are_right laws f Weights xs items written one fit = counted laws f Weights xs items written one fit
-are_right laws f Tours xs items written one fit = record { valid = fit; few = λ e. absurd (false≢true e); known = λ e. absurd (false≢true e) }
+are_right laws f Tours xs items written one fit =
+    record { valid = fit; few = λ e. absurd (false≢true e); known = λ e. absurd (false≢true e) }
 are_right laws f Triples xs items written one fit = counted laws f Triples xs items written one fit
 are_right laws f Combs xs items written one fit = counted laws f Combs xs items written one fit
 are_right laws f Steps xs items written one fit = counted laws f Steps xs items written one fit
@@ -223,4 +225,5 @@ step_of laws f field shape (Some xs) earlier one is ready =
 pub section_step : NumberLaws → (f : Fields) → ((g : Field) → fits f g ≡ true) → (field : Field) (shape : Shape)
     → shape_of (spatial f) field ≡ Some shape → (earlier : List Item) → Ready f field earlier
     → Step f (text_of_field f) field earlier
-section_step laws f valid field shape e earlier ready = step_of laws f field shape (entries_in f field shape) earlier (valid DimensionKey) (is_section f valid field shape e) ready
+section_step laws f valid field shape e earlier ready =
+    step_of laws f field shape (entries_in f field shape) earlier (valid DimensionKey) (is_section f valid field shape e) ready

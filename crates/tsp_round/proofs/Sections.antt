@@ -35,7 +35,8 @@ prefix_all p (x ∷ xs) all =
     ap (λ b. cond b (1 + prefix_len p xs) 0) both.0 ∙ omega (arith, prefix_all p xs both.1)
 
 pub only_word : (word : List ℕ) → is_plain_word word ≡ true → first_word word ≡ word
-only_word word plain = take_all (prefix_len (λ b. not (is_blank b)) word) word (omega (arith, prefix_all (λ b. not (is_blank b)) word (unblank word plain)))
+only_word word plain =
+    take_all (prefix_len (λ b. not (is_blank b)) word) word (omega (arith, prefix_all (λ b. not (is_blank b)) word (unblank word plain)))
 
 pub dimension_back : NumberLaws → (n : ℕ) → is_node most_nodes n ≡ true
     → option_map nat_abs (option_and_then (λ value. option_and_then result_ok (read_as DimensionKey value)) (Some (decimal n))) ≡ Some n

@@ -122,7 +122,8 @@ read_for Steps n words = whole_steps n words
 
 -- the text and the condition of a section, over these
 abbrev pub text_for : Fields → Field → (shape : Shape) → Option (Entries shape) → List ℕ
-text_for f field shape xs = optional (λ entries. section_text field (lines_for (line_lens f.weight_format f.dimension) shape entries)) xs
+text_for f field shape xs =
+    optional (λ entries. section_text field (lines_for (line_lens f.weight_format f.dimension) shape entries)) xs
 
 pub text_by : (f : Fields) (field : Field) (shape : Shape)
     → text_of_section f field shape ≡ text_for f field shape (entries_in f field shape)
@@ -186,7 +187,8 @@ few_indices n few = omega (arith, few)
 
 depots_ended : NumberLaws → (n : ℕ) (nodes : List ℕ) → list_any (is_end n) (map decimal nodes ++ codes "-1" ∷ []) ≡ true
 depots_ended laws n [] = ap (λ b. b || false) (end_ends laws n)
-depots_ended laws n (k ∷ nodes) = or_right (is_end n (decimal k)) (list_any (is_end n) (map decimal nodes ++ codes "-1" ∷ [])) (depots_ended laws n nodes)
+depots_ended laws n (k ∷ nodes) =
+    or_right (is_end n (decimal k)) (list_any (is_end n) (map decimal nodes ++ codes "-1" ∷ [])) (depots_ended laws n nodes)
 
 weights_done : (n : ℕ) (words : List (List ℕ)) → wants_more (place_by Weights n words) ≡ false
 weights_done n words = either (nat_le (n * n) (length words))

@@ -39,7 +39,8 @@ nodes_are n words few =
 
 place_here : (n : ℕ) (words : List (List ℕ)) → length words + 1 ≤ 4 * n
     → place_of_space_point n words ≡ place_in_group Coordinate (nodes_of_groups (space_point_groups n words)) (begun_four words)
-place_here n words room = ap (λ t. cond t PastGroups (place_in_group Coordinate (nodes_of_groups (space_point_groups n words)) (begun_four words))) (lt-leb (4 * n) (length words) (omega arith))
+place_here n words room =
+    ap (λ t. cond t PastGroups (place_in_group Coordinate (nodes_of_groups (space_point_groups n words)) (begun_four words))) (lt-leb (4 * n) (length words) (omega arith))
 
 coordinate_taken : NumberLaws → (n : ℕ) (words : List (List ℕ)) (first : List ℕ) (begun : List (List ℕ)) (z : ℤ)
     → length words + 1 ≤ 4 * n

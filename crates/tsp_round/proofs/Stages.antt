@@ -48,7 +48,8 @@ if_written words (Some value) = words value
 
 -- the words of the field's section
 abbrev pub words_written : Fields → Field → List (List ℕ)
-words_written f field = option_map_or (λ shape. if_written (words_for shape) (entries_in f field shape)) (shape_of (spatial f) field) []
+words_written f field =
+    option_map_or (λ shape. if_written (words_for shape) (entries_in f field shape)) (shape_of (spatial f) field) []
 
 -- ---- stages
 

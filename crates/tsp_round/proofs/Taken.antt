@@ -20,7 +20,8 @@ taken-append n place before (x ∷ xs) ys first second =
 -- the same from a state on
 abbrev pub AreTaken : {S : Type 0} → ℕ → (S → List ℕ → S) → (S → Place) → S → List (List ℕ) → Type 0
 AreTaken n step place state [] = Unit {0}
-AreTaken n step place state (word ∷ words) = (word_fault n (place state) word ≡ None) × AreTaken n step place (step state word) words
+AreTaken n step place state (word ∷ words) =
+    (word_fault n (place state) word ≡ None) × AreTaken n step place (step state word) words
 
 -- the words are taken, and lead from one state to the other
 pub record Runs {S : Type 0} (n : ℕ) (step : S → List ℕ → S) (place : S → Place) (start : S) (words : List (List ℕ)) (last : S) : Type 0 where

@@ -145,7 +145,8 @@ all_such p q such (x ∷ xs) all =
     and_from (q x) (list_all q xs) (such x both.0) (all_such p q such xs both.1)
 
 pub unblank : (word : List ℕ) → is_plain_word word ≡ true → list_all (λ b. not (is_blank b)) word ≡ true
-unblank word plain = all_such is_plain (λ b. not (is_blank b)) no_blank word (and_parts (is_filled word) (list_all is_plain word) plain).1
+unblank word plain =
+    all_such is_plain (λ b. not (is_blank b)) no_blank word (and_parts (is_filled word) (list_all is_plain word) plain).1
 
 abbrev line_text : List ℕ → List (List ℕ) → List ℕ
 line_text first more = first ++ flat_map (λ word. 32 ∷ word) more
@@ -181,7 +182,8 @@ no_word_line (b ∷ first) rest plain =
     rw filled (no_letter b byte)
 
 pub one_line_word : (word : List ℕ) → is_plain_word word ≡ true → has_no_line_end word ≡ true
-one_line_word word plain = all_such is_plain (λ b. not (ends_line b)) no_end word (and_parts (is_filled word) (list_all is_plain word) plain).1
+one_line_word word plain =
+    all_such is_plain (λ b. not (ends_line b)) no_end word (and_parts (is_filled word) (list_all is_plain word) plain).1
 
 one_line_more : (more : List (List ℕ)) → list_all is_plain_word more ≡ true
     → has_no_line_end (flat_map (λ word. 32 ∷ word) more) ≡ true

@@ -57,11 +57,13 @@ nodes_plain n few (k ∷ nodes) all =
     and_from (is_plain_word (decimal k)) (list_all is_plain_word (map decimal nodes)) (node_plain n k few both.0) (nodes_plain n few nodes both.1)
 
 set_written : (n : ℕ) → n < 2 ^ 32 → (set : List ℕ) → is_set n set ≡ true → WritesWords (set_line set) (set_words set)
-set_written n few set fits = ended_written (map decimal set) (nodes_plain n few set (and_parts (nat_le 1 (length set)) (list_all (is_node n) set) fits).1)
+set_written n few set fits =
+    ended_written (map decimal set) (nodes_plain n few set (and_parts (nat_le 1 (length set)) (list_all (is_node n) set) fits).1)
 
 comb_written : (n : ℕ) → n < 2 ^ 32 → (comb : List (List ℕ)) → is_comb n comb ≡ true
     → WritesWords (comb_lines comb) (comb_words comb)
-comb_written n few comb fits = list_written (is_set n) set_line set_words (set_written n few) comb (and_parts (nat_le 1 (length comb)) (list_all (is_set n) comb) fits).1
+comb_written n few comb fits =
+    list_written (is_set n) set_line set_words (set_written n few) comb (and_parts (nat_le 1 (length comb)) (list_all (is_set n) comb) fits).1
 
 pub combs_written : (n : ℕ) → n < 2 ^ 32 → (combs : List (List (List ℕ))) → are_combs n combs ≡ true
     → WritesWords (comb_list combs) (combs_words combs)

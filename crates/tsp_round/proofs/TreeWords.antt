@@ -72,7 +72,8 @@ first_back laws n k few is =
     laws.whole_back (pos k) (pos 0) (pos n) (omega (arith, leb-true k n both.1)) (and_from (nat_le 0 k) (nat_le k n) (le-leb 0 k (omega arith)) both.1)
 
 no_leaf : NumberLaws → (n k : ℕ) → n < 2 ^ 32 → is_node n k ≡ true → begins_leaf n (decimal k) ≡ false
-no_leaf laws n k few is = ap (reads_as (pos 0)) (first_back laws n k few is) ∙ no_zero k (leb-true 1 k (and_parts (nat_le 1 k) (nat_le k n) is).0)
+no_leaf laws n k few is =
+    ap (reads_as (pos 0)) (first_back laws n k few is) ∙ no_zero k (leb-true 1 k (and_parts (nat_le 1 k) (nat_le k n) is).0)
 
 first_taken : NumberLaws → (n branches k : ℕ) → n < 2 ^ 32 → nat_le most_branches branches ≡ false → is_node n k ≡ true
     → word_fault n (StepAfter branches) (decimal k) ≡ None
@@ -262,7 +263,8 @@ all_run laws n few steps fits =
 
 pub steps_taken : NumberLaws → (n : ℕ) → n + most_combs < 2 ^ 32 → (steps : List Step) → are_steps n steps ≡ true
     → AllTaken n (place_of_step n) [] (flat_map step_words steps)
-steps_taken laws n few steps fits = all_taken n (with_tree_word n) place_in_tree no_steps [] (flat_map step_words steps) (all_run laws n few steps fits).taken
+steps_taken laws n few steps fits =
+    all_taken n (with_tree_word n) place_in_tree no_steps [] (flat_map step_words steps) (all_run laws n few steps fits).taken
 
 pub steps_back : NumberLaws → (n : ℕ) → n + most_combs < 2 ^ 32 → (steps : List Step) → are_steps n steps ≡ true
     → whole_steps n (flat_map step_words steps) ≡ steps

@@ -52,7 +52,8 @@ pub triples_taken : NumberLaws → (n : ℕ) → n < 2 ^ 32 → (earlier : List 
     → list_any (is_end n) (triple_firsts_in earlier) ≡ false → begun_triple earlier ≡ []
     → length (threes_in earlier) + length triples ≤ most_fixed → list_all (is_triple n) triples ≡ true
     → AllTaken n (place_of_triple n) earlier (flat_map triple_words triples ++ codes "-1" ∷ [])
-triples_taken laws n few earlier [] unended whole room all = (ap (λ p. word_fault n p (codes "-1")) (triple_place n earlier [] unended whole) ∙ end_taken laws n (length (threes_in earlier)), tt)
+triples_taken laws n few earlier [] unended whole room all =
+    (ap (λ p. word_fault n p (codes "-1")) (triple_place n earlier [] unended whole) ∙ end_taken laws n (length (threes_in earlier)), tt)
 triples_taken laws n few earlier (triple ∷ triples) unended whole room all =
     let both = and_parts (is_triple n triple) (list_all (is_triple n) triples) all in
     let are = are_triple n triple both.0 in

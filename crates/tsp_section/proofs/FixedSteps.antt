@@ -27,13 +27,15 @@ use Rattle.tsp_text.proofs.PairWords.{pairs_begin, begun_begin, firsts_begin, pa
 none_begun : (pairs : List (ℕ × ℕ)) (first : Option ℕ) (ended : Bool) (n : ℕ) (words : List (List ℕ)) → ended ≡ false
     → first ≡ None
     → PairsHold pairs first ended n words → begun_pair words ≡ []
-none_begun pairs first ended n words open_ended is h = none_read (node_or_end n) (begun_pair words) (h.cut open_ended ∙ ap readings is)
+none_begun pairs first ended n words open_ended is h =
+    none_read (node_or_end n) (begun_pair words) (h.cut open_ended ∙ ap readings is)
 
 -- a pair has begun with this node
 one_begun : (pairs : List (ℕ × ℕ)) (first : Option ℕ) (ended : Bool) (n : ℕ) (words : List (List ℕ)) (k : ℕ) → ended ≡ false
     → first ≡ Some k
     → PairsHold pairs first ended n words → (word : List ℕ) × (begun_pair words ≡ word ∷ []) × (node_or_end n word ≡ Ok (pos k))
-one_begun pairs first ended n words k open_ended is h = one_read (node_or_end n) (begun_pair words) (Ok (pos k)) (h.cut open_ended ∙ ap readings is)
+one_begun pairs first ended n words k open_ended is h =
+    one_read (node_or_end n) (begun_pair words) (Ok (pos k)) (h.cut open_ended ∙ ap readings is)
 
 -- ---- the place of the next word
 
@@ -64,7 +66,8 @@ pub first_bad : (pairs : List (ℕ × ℕ)) (first : Option ℕ) (ended : Bool) 
     → ended ≡ false
     → first ≡ None → node_or_end n word ≡ Err fault → PairsHold pairs first ended n words
     → word_fault n (place_of_fixed n words) word ≡ Some (row.Number fault)
-first_bad pairs first ended n words word fault open_ended is read h = rw (place_of_first pairs first ended n words open_ended is h, read) refl
+first_bad pairs first ended n words word fault open_ended is read h =
+    rw (place_of_first pairs first ended n words open_ended is h, read) refl
 
 pub first_surplus : (pairs : List (ℕ × ℕ)) (first : Option ℕ) (ended : Bool) (n : ℕ) (words : List (List ℕ)) (word : List ℕ) (k : ℕ)
     → ended ≡ false
@@ -77,7 +80,8 @@ first_surplus pairs first ended n words word k open_ended is read many h =
 pub second_bad : (pairs : List (ℕ × ℕ)) (first : Option ℕ) (ended : Bool) (n : ℕ) (words : List (List ℕ)) (word : List ℕ) (k : ℕ) (fault : NumberFault)
     → ended ≡ false → first ≡ Some k → node n word ≡ Err fault → PairsHold pairs first ended n words
     → word_fault n (place_of_fixed n words) word ≡ Some (row.Number fault)
-second_bad pairs first ended n words word k fault open_ended is read h = rw (place_of_second pairs first ended n words k open_ended is h, read) refl
+second_bad pairs first ended n words word k fault open_ended is read h =
+    rw (place_of_second pairs first ended n words k open_ended is h, read) refl
 
 pub second_same : (pairs : List (ℕ × ℕ)) (first : Option ℕ) (ended : Bool) (n : ℕ) (words : List (List ℕ)) (word : List ℕ) (k : ℕ)
     → ended ≡ false
@@ -173,6 +177,7 @@ pair_ends pairs first ended n words word k j e is read apart h =
 pub pair_cut_short : (pairs : List (ℕ × ℕ)) (first : Option ℕ) (ended : Bool) (n : ℕ) (words : List (List ℕ))
     → PairsHold pairs first ended n words
     → is_some first ≡ wants_more (place_of_fixed n words)
-pair_cut_short pairs first true n words h = ap is_some (h.whole refl) ∙ sym (ap wants_more (place_past_end pairs first true n words refl h))
+pair_cut_short pairs first true n words h =
+    ap is_some (h.whole refl) ∙ sym (ap wants_more (place_past_end pairs first true n words refl h))
 pair_cut_short pairs None false n words h = sym (ap wants_more (place_of_first pairs None false n words refl refl h))
 pair_cut_short pairs (Some k) false n words h = sym (ap wants_more (place_of_second pairs (Some k) false n words k refl refl h))

@@ -55,7 +55,8 @@ new_step false x y o p h e = h e
 entry_new : {X : Type 0} (groups : List (ℤ × X)) (z : ℤ) (x : X) → entry_of groups z ≡ None
     → entry_of (groups ++ (z, x) ∷ []) z ≡ Some x
 entry_new [] z x e = rw ((Decides-int_eq z z).1 refl) refl
-entry_new (group ∷ groups) z x e = new_step (int_eq group.0 z) x group.1 (entry_of groups z) (entry_of (groups ++ (z, x) ∷ []) z) (entry_new groups z x) e
+entry_new (group ∷ groups) z x e =
+    new_step (int_eq group.0 z) x group.1 (entry_of groups z) (entry_of (groups ++ (z, x) ∷ []) z) (entry_new groups z x) e
 
 -- ---- marks
 

@@ -51,13 +51,15 @@ no_numbers seen entries low high n unseen zeros = record {
 none_begun : (seen : List Bool) (entries : List ℤ) (left : ℕ) (begun : Option ℕ) (low high : ℤ) (n : ℕ) (words : List (List ℕ))
     → 0 < left → begun ≡ None
     → NumbersHold seen entries left begun low high n words → begun_pair words ≡ []
-none_begun seen entries left begun low high n words some is h = none_read (node n) (begun_pair words) (h.cut some ∙ ap readings is)
+none_begun seen entries left begun low high n words some is h =
+    none_read (node n) (begun_pair words) (h.cut some ∙ ap readings is)
 
 one_begun : (seen : List Bool) (entries : List ℤ) (left : ℕ) (begun : Option ℕ) (low high : ℤ) (n : ℕ) (words : List (List ℕ)) (k : ℕ)
     → 0 < left → begun ≡ Some k
     → NumbersHold seen entries left begun low high n words
     → (first : List ℕ) × (begun_pair words ≡ first ∷ []) × (node n first ≡ Ok (pos k))
-one_begun seen entries left begun low high n words k some is h = one_read (node n) (begun_pair words) (Ok (pos k)) (h.cut some ∙ ap readings is)
+one_begun seen entries left begun low high n words k some is h =
+    one_read (node n) (begun_pair words) (Ok (pos k)) (h.cut some ∙ ap readings is)
 
 place_of_node : (seen : List Bool) (entries : List ℤ) (left : ℕ) (begun : Option ℕ) (low high : ℤ) (n : ℕ) (words : List (List ℕ))
     → 0 < left → begun ≡ None
@@ -177,13 +179,15 @@ pub numbers_surplus : (seen : List Bool) (entries : List ℤ) (left : ℕ) (begu
     → left ≡ 0 → is_minus_one word ≡ false
     → NumbersHold seen entries left begun low high n words
     → word_fault n (place_of_number low high n words) word ≡ Some row.Surplus
-numbers_surplus seen entries left begun low high n words word none other h = rw (past_numbers seen entries left begun low high n words none h, other) refl
+numbers_surplus seen entries left begun low high n words word none other h =
+    rw (past_numbers seen entries left begun low high n words none h, other) refl
 
 -- ---- the end
 
 pub numbers_finish : (seen : List Bool) (entries : List ℤ) (left : ℕ) (begun : Option ℕ) (low high : ℤ) (n : ℕ) (words : List (List ℕ))
     → NumbersHold seen entries left begun low high n words → entries ≡ numbers_by_node low high n words
-numbers_finish seen entries left begun low high n words h = entries_by_node (pos 0) seen entries left begun n (number_groups low high n words) h.nodes
+numbers_finish seen entries left begun low high n words h =
+    entries_by_node (pos 0) seen entries left begun n (number_groups low high n words) h.nodes
 
 -- a group is still to come exactly where one is left
 pub numbers_to_come : (seen : List Bool) (entries : List ℤ) (left : ℕ) (begun : Option ℕ) (low high : ℤ) (n : ℕ) (words : List (List ℕ))

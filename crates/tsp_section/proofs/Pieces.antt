@@ -70,4 +70,5 @@ length_cond false x xs = omega arith
 pub count_push : {X : Type 0} (p : X → Bool) (xs : List X) (x : X)
     → length (filter p (xs ++ x ∷ [])) ≡ length (filter p xs) + cond (p x) 1 0
 count_push p [] x = length_cond (p x) x []
-count_push p (y ∷ xs) x = omega (arith, length_cond (p y) y (filter p (xs ++ x ∷ [])), length_cond (p y) y (filter p xs), count_push p xs x)
+count_push p (y ∷ xs) x =
+    omega (arith, length_cond (p y) y (filter p (xs ++ x ∷ [])), length_cond (p y) y (filter p xs), count_push p xs x)

@@ -123,7 +123,8 @@ point_node_faulty seen entries left begun x n words word fault some is new h =
 pub point_bad : (seen : List Bool) (entries : List Point) (left : ℕ) (begun : Option ℕ) (x : Option ℤ) (n : ℕ) (words : List (List ℕ)) (word : List ℕ) (k : ℕ)
     (fault : NumberFault) → 0 < left → begun ≡ Some k → decimal_of word ≡ Err fault → PointsHold seen entries left begun x n words
     → word_fault n (place_of_point n words) word ≡ Some (row.Number fault)
-point_bad seen entries left begun x n words word k fault some is read h = rw (place_of_coordinate seen entries left begun x n words k some is h, read) refl
+point_bad seen entries left begun x n words word k fault some is read h =
+    rw (place_of_coordinate seen entries left begun x n words k some is h, read) refl
 
 -- ---- the part after the word
 
@@ -229,13 +230,15 @@ points_ended seen entries left begun x n words word none end h =
 pub points_surplus : (seen : List Bool) (entries : List Point) (left : ℕ) (begun : Option ℕ) (x : Option ℤ) (n : ℕ) (words : List (List ℕ)) (word : List ℕ)
     → left ≡ 0 → is_minus_one word ≡ false
     → PointsHold seen entries left begun x n words → word_fault n (place_of_point n words) word ≡ Some row.Surplus
-points_surplus seen entries left begun x n words word none other h = rw (past_points seen entries left begun x n words none h, other) refl
+points_surplus seen entries left begun x n words word none other h =
+    rw (past_points seen entries left begun x n words none h, other) refl
 
 -- ---- the end
 
 pub points_finish : (seen : List Bool) (entries : List Point) (left : ℕ) (begun : Option ℕ) (x : Option ℤ) (n : ℕ) (words : List (List ℕ))
     → PointsHold seen entries left begun x n words → entries ≡ points_by_node n words
-points_finish seen entries left begun x n words h = entries_by_node origin seen entries left begun n (point_groups n words) h.nodes
+points_finish seen entries left begun x n words h =
+    entries_by_node origin seen entries left begun n (point_groups n words) h.nodes
 
 -- a group is still to come exactly where one is left
 pub points_to_come : (seen : List Bool) (entries : List Point) (left : ℕ) (begun : Option ℕ) (x : Option ℤ) (n : ℕ) (words : List (List ℕ))

@@ -36,7 +36,8 @@ not_not false = refl
 
 pub front_len : {X : Type 0} (p : X → Bool) (xs : List X) → position_or_len (λ x. not (p x)) xs ≡ prefix_len p xs
 front_len p [] = refl
-front_len p (x ∷ xs) = ap (λ b. cond b (1 + position_or_len (λ x. not (p x)) xs) 0) (not_not (p x)) ∙ ap (λ n. cond (p x) (1 + n) 0) (front_len p xs)
+front_len p (x ∷ xs) =
+    ap (λ b. cond b (1 + position_or_len (λ x. not (p x)) xs) 0) (not_not (p x)) ∙ ap (λ n. cond (p x) (1 + n) 0) (front_len p xs)
 
 pub start_none : {X : Type 0} (p : X → Bool) (xs : List X) → position (λ x. not (p x)) xs ≡ None
     → drop (length xs) xs ≡ drop (prefix_len p xs) xs

@@ -135,7 +135,8 @@ space_node_faulty seen entries left begun x y n words word fault some is new h =
 pub space_point_bad : (seen : List Bool) (entries : List Point) (left : ℕ) (begun : Option ℕ) (x y : Option ℤ) (n : ℕ) (words : List (List ℕ)) (word : List ℕ) (k : ℕ)
     (fault : NumberFault) → 0 < left → begun ≡ Some k → decimal_of word ≡ Err fault → SpacePointsHold seen entries left begun x y n words
     → word_fault n (place_of_space_point n words) word ≡ Some (row.Number fault)
-space_point_bad seen entries left begun x y n words word k fault some is read h = rw (place_of_coordinate seen entries left begun x y n words k some is h, read) refl
+space_point_bad seen entries left begun x y n words word k fault some is read h =
+    rw (place_of_coordinate seen entries left begun x y n words k some is h, read) refl
 
 -- ---- the part after the word
 
@@ -264,13 +265,15 @@ space_ended seen entries left begun x y n words word none end h =
 pub space_surplus : (seen : List Bool) (entries : List Point) (left : ℕ) (begun : Option ℕ) (x y : Option ℤ) (n : ℕ) (words : List (List ℕ)) (word : List ℕ)
     → left ≡ 0 → is_minus_one word ≡ false
     → SpacePointsHold seen entries left begun x y n words → word_fault n (place_of_space_point n words) word ≡ Some row.Surplus
-space_surplus seen entries left begun x y n words word none other h = rw (past_space seen entries left begun x y n words none h, other) refl
+space_surplus seen entries left begun x y n words word none other h =
+    rw (past_space seen entries left begun x y n words none h, other) refl
 
 -- ---- the end
 
 pub space_points_finish : (seen : List Bool) (entries : List Point) (left : ℕ) (begun : Option ℕ) (x y : Option ℤ) (n : ℕ) (words : List (List ℕ))
     → SpacePointsHold seen entries left begun x y n words → entries ≡ space_points_by_node n words
-space_points_finish seen entries left begun x y n words h = entries_by_node origin seen entries left begun n (space_point_groups n words) h.nodes
+space_points_finish seen entries left begun x y n words h =
+    entries_by_node origin seen entries left begun n (space_point_groups n words) h.nodes
 
 -- a group is still to come exactly where one is left
 pub space_points_to_come : (seen : List Bool) (entries : List Point) (left : ℕ) (begun : Option ℕ) (x y : Option ℤ) (n : ℕ) (words : List (List ℕ))

@@ -86,7 +86,8 @@ pub first_bad : (triples : List (ℕ × ℕ × ℤ)) (first second : Option ℕ)
     → ended ≡ false
     → first ≡ None → node_or_end n word ≡ Err fault → TriplesHold triples first second ended n words
     → word_fault n (place_of_triple n words) word ≡ Some (row.Number fault)
-first_bad triples first second ended n words word fault open_ended is read h = rw (place_of_first triples first second ended n words open_ended is h, read) refl
+first_bad triples first second ended n words word fault open_ended is read h =
+    rw (place_of_first triples first second ended n words open_ended is h, read) refl
 
 pub first_surplus : (triples : List (ℕ × ℕ × ℤ)) (first second : Option ℕ) (ended : Bool) (n : ℕ) (words : List (List ℕ)) (word : List ℕ) (i : ℕ)
     → ended ≡ false
@@ -227,8 +228,11 @@ triple_ends triples first second ended n words word i j l e is also read h =
 pub triple_cut_short : (triples : List (ℕ × ℕ × ℤ)) (first second : Option ℕ) (ended : Bool) (n : ℕ) (words : List (List ℕ))
     → TriplesHold triples first second ended n words
     → is_some first ≡ wants_more (place_of_triple n words)
-triple_cut_short triples first second true n words h = ap is_some (h.whole refl) ∙ sym (ap wants_more (place_past_end triples first second true n words refl h))
-triple_cut_short triples None second false n words h = sym (ap wants_more (place_of_first triples None second false n words refl refl h))
-triple_cut_short triples (Some i) None false n words h = sym (ap wants_more (place_of_second triples (Some i) None false n words i refl refl refl h))
+triple_cut_short triples first second true n words h =
+    ap is_some (h.whole refl) ∙ sym (ap wants_more (place_past_end triples first second true n words refl h))
+triple_cut_short triples None second false n words h =
+    sym (ap wants_more (place_of_first triples None second false n words refl refl h))
+triple_cut_short triples (Some i) None false n words h =
+    sym (ap wants_more (place_of_second triples (Some i) None false n words i refl refl refl h))
 triple_cut_short triples (Some i) (Some j) false n words h =
     sym (ap wants_more (place_of_multiplier triples (Some i) (Some j) false n words i j refl refl refl h))

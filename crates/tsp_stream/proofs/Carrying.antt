@@ -16,11 +16,13 @@ between old new = record { held = old.held; holds = new.held; had_failed = old.f
 
 -- nothing added
 pub carried_none : (a : Way) → Carried a a []
-carried_none a start text h = record { front = h.front; rest = h.rest; parts = h.parts ∙ sym (append-nil text); written = h.written; waits = h.waits }
+carried_none a start text h =
+    record { front = h.front; rest = h.rest; parts = h.parts ∙ sym (append-nil text); written = h.written; waits = h.waits }
 
 -- one part, then the next
 pub carried_then : (a b c : Way) (x y : List ℕ) → Carried a b x → Carried b c y → Carried a c (x ++ y)
-carried_then a b c x y h k start text before = subst (λ t. Carries start c t) (append_assoc text x y) (k start (text ++ x) (h start text before))
+carried_then a b c x y h k start text before =
+    subst (λ t. Carries start c t) (append_assoc text x y) (k start (text ++ x) (h start text before))
 
 -- a writer that has failed gets nothing more of any text
 pub carried_failed : (a : Way) (bytes : List ℕ) → a.failed ≡ true → Carried a a bytes
@@ -98,7 +100,8 @@ carried_next f xs i x a b c lt is h k =
 -- the same where the element is read with another default
 pub carried_next_or : {X : Type 0} (f : X → List ℕ) (xs : List X) (i : ℕ) (d : X) (a b c : Way) → i < length xs
     → Carried a b (flat_map f (take i xs)) → Carried b c (f (get_or xs i d)) → Carried a c (flat_map f (take (i + 1) xs))
-carried_next_or f xs i d a b c lt h k = carried_next f xs i (get_or xs i d) a b c lt (get_or_default xs i d (get_or xs i d) lt) h k
+carried_next_or f xs i d a b c lt h k =
+    carried_next f xs i (get_or xs i d) a b c lt (get_or_default xs i d (get_or xs i d) lt) h k
 
 -- the parts of all elements
 pub carried_all : {X : Type 0} (f : X → List ℕ) (xs : List X) (i : ℕ) (a b : Way) → length xs ≤ i
@@ -108,7 +111,8 @@ carried_all f xs i a b all h = subst (λ ys. Carried a b (flat_map f ys)) (take_
 -- the same where the elements are seen by g
 pub carried_mapped : {X Y : Type 0} (f : Y → List ℕ) (g : X → Y) (xs : List X) (i : ℕ) (a b : Way) → length xs ≤ i
     → Carried a b (flat_map (λ x. f (g x)) (take i xs)) → Carried a b (flat_map f (map g xs))
-carried_mapped f g xs i a b all h = subst (λ t. Carried a b t) (sym (flat_map-map f g xs)) (carried_all (λ x. f (g x)) xs i a b all h)
+carried_mapped f g xs i a b all h =
+    subst (λ t. Carried a b t) (sym (flat_map-map f g xs)) (carried_all (λ x. f (g x)) xs i a b all h)
 
 -- the part of the next node
 pub carried_node : {X : Type 0} (f : ℕ × X → List ℕ) (xs : List X) (i : ℕ) (x : X) (a b c : Way) → i < length xs
@@ -129,7 +133,8 @@ carried_nodes f xs i a b all h = carried_all f (enumerate_from 1 xs) i a b (omeg
 pub carried_node_or : {X : Type 0} (f : ℕ × X → List ℕ) (xs : List X) (i : ℕ) (d : X) (a b c : Way) → i < length xs
     → Carried a b (flat_map f (take i (enumerate_from 1 xs))) → Carried b c (f (i + 1, get_or xs i d))
     → Carried a c (flat_map f (take (i + 1) (enumerate_from 1 xs)))
-carried_node_or f xs i d a b c lt h k = carried_node f xs i (get_or xs i d) a b c lt (get_or_default xs i d (get_or xs i d) lt) h k
+carried_node_or f xs i d a b c lt h k =
+    carried_node f xs i (get_or xs i d) a b c lt (get_or_default xs i d (get_or xs i d) lt) h k
 
 -- ---- the end
 

@@ -128,7 +128,8 @@ room_holds : (size : ℕ) (firsts begun : Words → Words) → IsShape size firs
 room_holds size firsts begun s limit n words word number_place nodes [] e is room h none =
     let next = s.starts words word e in
     same_holds firsts begun limit n words word word [] room h next.0 next.1 (subst (λ (ns : List ℤ). IsFree n ns word) is (free_node n nodes word none))
-room_holds size firsts begun s limit n words word number_place nodes (first ∷ rest) e is room h none = by_case (s.goes_on words first rest word e) (h.free first rest e room)
+room_holds size firsts begun s limit n words word number_place nodes (first ∷ rest) e is room h none =
+    by_case (s.goes_on words first rest word e) (h.free first rest e room)
   where
     by_case : ((firsts (words ++ word ∷ []) ≡ firsts words) × (begun (words ++ word ∷ []) ≡ first ∷ (rest ++ word ∷ [])))
         ⊎ ((firsts (words ++ word ∷ []) ≡ firsts words ++ first ∷ []) × (begun (words ++ word ∷ []) ≡ []))
@@ -141,7 +142,8 @@ more_hold : (size : ℕ) (firsts begun : Words → Words) → IsShape size first
     → nat_le limit (length words) ≡ full → nodes ≡ nodes_by firsts limit n words → NodesHold firsts begun limit n words
     → word_fault n (cond full PastGroups (place_in_group number_place nodes (begun words))) word ≡ None
     → NodesHold firsts begun limit n (words ++ word ∷ [])
-more_hold size firsts begun s limit n words word number_place nodes true e is h none = full_holds firsts begun limit n words word e h
+more_hold size firsts begun s limit n words word number_place nodes true e is h none =
+    full_holds firsts begun limit n words word e h
 more_hold size firsts begun s limit n words word number_place nodes false e is h none =
     room_holds size firsts begun s limit n words word number_place nodes (begun words) refl is e h none
 
@@ -312,14 +314,18 @@ each_once items DisplayDataTypeKey clean by_node = absurd (false≢true by_node)
 each_once items NodeCoordPart clean by_node = λ stands whole. coords_once items (spatial_after items) refl clean stands
     (complete (has_line NodeCoordPart items) (wants_more (place_in (spatial_after items) NodeCoordPart (dimension_in items) (words_of NodeCoordPart items))) stands whole)
 each_once items DisplayDataPart clean by_node = display_once items clean
-each_once items DemandPart clean by_node = numbers_once items DemandPart (pos 0) (pos most_demand) refl refl (λ b n words. refl) clean
+each_once items DemandPart clean by_node =
+    numbers_once items DemandPart (pos 0) (pos most_demand) refl refl (λ b n words. refl) clean
 each_once items DepotPart clean by_node = absurd (false≢true by_node)
 each_once items FixedEdgesPart clean by_node = absurd (false≢true by_node)
 each_once items EdgeWeightPart clean by_node = absurd (false≢true by_node)
 each_once items TourPart clean by_node = absurd (false≢true by_node)
-each_once items NodePotentialPart clean by_node = numbers_once items NodePotentialPart (neg_ℤ (pos most_potential)) (pos most_potential) refl refl (λ b n words. refl) clean
-each_once items RowPotentialPart clean by_node = numbers_once items RowPotentialPart (neg_ℤ (pos most_potential)) (pos most_potential) refl refl (λ b n words. refl) clean
-each_once items ColumnPotentialPart clean by_node = numbers_once items ColumnPotentialPart (neg_ℤ (pos most_potential)) (pos most_potential) refl refl (λ b n words. refl) clean
+each_once items NodePotentialPart clean by_node =
+    numbers_once items NodePotentialPart (neg_ℤ (pos most_potential)) (pos most_potential) refl refl (λ b n words. refl) clean
+each_once items RowPotentialPart clean by_node =
+    numbers_once items RowPotentialPart (neg_ℤ (pos most_potential)) (pos most_potential) refl refl (λ b n words. refl) clean
+each_once items ColumnPotentialPart clean by_node =
+    numbers_once items ColumnPotentialPart (neg_ℤ (pos most_potential)) (pos most_potential) refl refl (λ b n words. refl) clean
 each_once items FixedEdgePotentialPart clean by_node = absurd (false≢true by_node)
 each_once items CombPart clean by_node = absurd (false≢true by_node)
 each_once items BranchPart clean by_node = absurd (false≢true by_node)

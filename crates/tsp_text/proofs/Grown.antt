@@ -30,7 +30,8 @@ word_rows earlier word f opened row = rw opened at row
 
 -- whether the points of nodes are those of a spatial file
 abbrev pub IsSpaceOf : Bool → Field → List Item → Type 0
-IsSpaceOf in_space field items = same_field NodeCoordPart field ≡ true → has_line field items ≡ true → spatial_after items ≡ in_space
+IsSpaceOf in_space field items =
+    same_field NodeCoordPart field ≡ true → has_line field items ≡ true → spatial_after items ≡ in_space
 
 grown_word : (in_space : Bool) (field : Field) (Q : ℕ → List (List ℕ) → Type 0) → Grows in_space field Q
     → (earlier : List Item) (word : List ℕ)
@@ -73,7 +74,8 @@ pub grown_in : (in_space : Bool) (field : Field) (Q : ℕ → List (List ℕ) �
     → IsClean items
     → IsSpaceOf in_space field items → Q (dimension_in items) (words_of field items)
 grown_in in_space field Q grows [] clean space = grows.none (dimension_in [])
-grown_in in_space field Q grows (LineEnd ∷ earlier) clean space = grown_in in_space field Q grows earlier (clean_parts earlier LineEnd clean).0 space
+grown_in in_space field Q grows (LineEnd ∷ earlier) clean space =
+    grown_in in_space field Q grows earlier (clean_parts earlier LineEnd clean).0 space
 grown_in in_space field Q grows (NumberWord word ∷ earlier) clean space =
     let parts = clean_parts earlier (NumberWord word) clean in
     grown_word in_space field Q grows earlier word (open_section earlier) refl space parts.1 (grown_in in_space field Q grows earlier parts.0 space)
@@ -86,4 +88,5 @@ grown_in in_space field Q grows (Line key line ∷ earlier) clean space =
 pub grown : (field : Field) (Q : ℕ → List (List ℕ) → Type 0) → same_field NodeCoordPart field ≡ false → Grows false field Q
     → (items : List Item)
     → IsClean items → Q (dimension_in items) (words_of field items)
-grown field Q other grows items clean = grown_in false field Q grows items clean (λ coords. absurd (true≢false (sym coords ∙ other)))
+grown field Q other grows items clean =
+    grown_in false field Q grows items clean (λ coords. absurd (true≢false (sym coords ∙ other)))

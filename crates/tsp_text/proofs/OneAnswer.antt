@@ -43,12 +43,14 @@ item_fault : (item : Item) (earlier : List Item) (found : ReadFault) (before : O
     → ((other : ReadFault) → before ≡ Some other → is_of_text other ≡ true)
     → option_or before (option_map (fault_here earlier item) row) ≡ Some found → is_of_text found ≡ true
 item_fault item earlier found (Some other) row before_is e = before_is found e
-item_fault item earlier found None (Some fault) before_is e = ap is_of_text (sym (same_Some (fault_here earlier item fault) found e))
+item_fault item earlier found None (Some fault) before_is e =
+    ap is_of_text (sym (same_Some (fault_here earlier item fault) found e))
 item_fault item earlier found None None before_is e = absurd (none-some found e)
 
 items_fault : (items : List Item) (found : ReadFault) → fault_in items ≡ Some found → is_of_text found ≡ true
 items_fault [] found e = absurd (none-some found e)
-items_fault (item ∷ earlier) found e = item_fault item earlier found (fault_in earlier) (row_of earlier item) (λ other h. items_fault earlier other h) e
+items_fault (item ∷ earlier) found e =
+    item_fault item earlier found (fault_in earlier) (row_of earlier item) (λ other h. items_fault earlier other h) e
 
 rows_fault : (found : ReadFault) (before : Option ReadFault) (long : Bool) (ended : Option EndFault)
     → ((other : ReadFault) → before ≡ Some other → is_of_text other ≡ true)
@@ -60,4 +62,5 @@ rows_fault found None false (Some fault) before_is e = ap is_of_text (sym (same_
 rows_fault found None false None before_is e = absurd (none-some found e)
 
 pub fault_of_text : (bytes : List ℕ) (found : ReadFault) → fault bytes ≡ Some found → is_of_text found ≡ true
-fault_of_text bytes found e = rows_fault found (fault_in (part bytes)) _ (fault_at_end (part bytes)) (λ other h. items_fault (part bytes) other h) e
+fault_of_text bytes found e =
+    rows_fault found (fault_in (part bytes)) _ (fault_at_end (part bytes)) (λ other h. items_fault (part bytes) other h) e

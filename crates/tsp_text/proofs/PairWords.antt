@@ -53,7 +53,8 @@ pub firsts_kept : {A : Type 0} (p : A → Bool) (xs : List A) (x : A) → list_a
     → list_any p (firsts_in (xs ++ x ∷ [])) ≡ true
 firsts_kept p [] x any = cc
 firsts_kept p (a ∷ []) x any = any
-firsts_kept p (a ∷ b ∷ xs) x any = or_step (p a) (list_any p (firsts_in xs)) (list_any p (firsts_in (xs ++ x ∷ []))) (firsts_kept p xs x) any
+firsts_kept p (a ∷ b ∷ xs) x any =
+    or_step (p a) (list_any p (firsts_in xs)) (list_any p (firsts_in (xs ++ x ∷ []))) (firsts_kept p xs x) any
 
 -- past it no pair counts
 pub pairs_kept : {A : Type 0} (p : A → Bool) (xs : List A) (x : A) → list_any p (firsts_in xs) ≡ true

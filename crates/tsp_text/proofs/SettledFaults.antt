@@ -40,11 +40,13 @@ IsLong word = nat_lt most_word_bytes (length word) ≡ true
 
 whole_long : (word : List ℕ) (low high : ℤ) → IsLong word → whole_of word low high ≡ Err LongWord
 unfolding whole_of
-whole_long word low high long = ap (λ (b : Bool). if b then whole_from low high (numeral_in word) else Err LongWord) (lt-leb (length word) 64 (ltb-true 64 (length word) long))
+whole_long word low high long =
+    ap (λ (b : Bool). if b then whole_from low high (numeral_in word) else Err LongWord) (lt-leb (length word) 64 (ltb-true 64 (length word) long))
 
 decimal_long : (word : List ℕ) → IsLong word → decimal_of word ≡ Err LongWord
 unfolding decimal_of
-decimal_long word long = ap (λ (b : Bool). if b then decimal_from (numeral_in word) else Err LongWord) (lt-leb (length word) 64 (ltb-true 64 (length word) long))
+decimal_long word long =
+    ap (λ (b : Bool). if b then decimal_from (numeral_in word) else Err LongWord) (lt-leb (length word) 64 (ltb-true 64 (length word) long))
 
 minus_long : (word : List ℕ) → IsLong word → is_minus_one word ≡ false
 minus_long word long = by_case (is_minus_one word) refl
@@ -109,7 +111,8 @@ same_fault earlier LineEnd y h = absurd h
 -- ---- the fault of items that stay
 
 turned : (x : Item) (xs earlier : List Item) → reverse (x ∷ xs) ++ earlier ≡ reverse xs ++ (x ∷ earlier)
-turned x xs earlier = ap (λ (zs : List Item). zs ++ earlier) (reverse-append (x ∷ []) xs) ∙ append_assoc (reverse xs) (x ∷ []) earlier
+turned x xs earlier =
+    ap (λ (zs : List Item). zs ++ earlier) (reverse-append (x ∷ []) xs) ∙ append_assoc (reverse xs) (x ∷ []) earlier
 
 alone_by : (b : Bool) (x : Item) (earlier : List Item) → reverse (x ∷ cond b [] []) ++ earlier ≡ x ∷ earlier
 alone_by true x earlier = refl
@@ -123,7 +126,8 @@ fault_step : (b : Bool) (x : Item) (xs ys earlier : List Item) (found : ReadFaul
     → fault_in (reverse (x ∷ cond b [] xs) ++ earlier) ≡ Some found
     → fault_in (reverse (x ∷ cond b [] ys) ++ earlier) ≡ Some found
 fault_step true x xs ys earlier found after e = e
-fault_step false x xs ys earlier found after e = ap fault_in (turned x ys earlier) ∙ after (ap fault_in (sym (turned x xs earlier)) ∙ e)
+fault_step false x xs ys earlier found after e =
+    ap fault_in (turned x ys earlier) ∙ after (ap fault_in (sym (turned x xs earlier)) ∙ e)
 
 fault_after : (xs ys earlier : List Item) (found : ReadFault) → Stay xs ys
     → fault_in (reverse (to_end_line xs) ++ earlier) ≡ Some found → fault_in (reverse (to_end_line ys) ++ earlier) ≡ Some found
@@ -145,7 +149,8 @@ fault_of_items xs ys found h e =
 -- ---- the end line of items that stay
 
 no_long_end : (earlier : List Item) (x y : Item) → AreLong x y → IsClean (x ∷ earlier) → has_end_line (x ∷ []) ≡ true → ⊥
-no_long_end earlier (Line key line) (Line other next) h clean ended = none-some row.LongLine (sym (clean_parts earlier (Line key line) clean).1 ∙ long_line key line earlier h.0)
+no_long_end earlier (Line key line) (Line other next) h clean ended =
+    none-some row.LongLine (sym (clean_parts earlier (Line key line) clean).1 ∙ long_line key line earlier h.0)
 no_long_end earlier (Line key line) (NumberWord word) h clean ended = h
 no_long_end earlier (Line key line) LineEnd h clean ended = h
 no_long_end earlier (NumberWord word) y h clean ended = false≢true ended
@@ -156,7 +161,8 @@ end_step : (b : Bool) (x : Item) (xs ys earlier : List Item)
     → IsClean (reverse (x ∷ cond b [] (to_end_line xs)) ++ earlier) → (b || has_end_line xs) ≡ true
     → x ∷ cond b [] (to_end_line ys) ≡ x ∷ cond b [] (to_end_line xs)
 end_step true x xs ys earlier after clean ended = refl
-end_step false x xs ys earlier after clean ended = ap (λ (zs : List Item). x ∷ zs) (after (ap fault_in (sym (turned x (to_end_line xs) earlier)) ∙ clean) ended)
+end_step false x xs ys earlier after clean ended =
+    ap (λ (zs : List Item). x ∷ zs) (after (ap fault_in (sym (turned x (to_end_line xs) earlier)) ∙ clean) ended)
 
 end_after : (xs ys earlier : List Item) → Stay xs ys → IsClean (reverse (to_end_line xs) ++ earlier) → has_end_line xs ≡ true
     → to_end_line ys ≡ to_end_line xs
@@ -207,13 +213,16 @@ take_over size bytes more e =
     ap (λ (n : ℕ). take n (bytes ++ more)) (sym room) ∙ take-append-add bytes more (size - length bytes)
 
 pub part_long : (bytes : List ℕ) → is_too_long bytes ≡ true → part bytes ≡ settled_part bytes
-part_long bytes e = ap (λ (b : Bool). reverse (to_end_line (cond b (settled_items (take most_file_bytes bytes)) (items_of bytes)))) e
+part_long bytes e =
+    ap (λ (b : Bool). reverse (to_end_line (cond b (settled_items (take most_file_bytes bytes)) (items_of bytes)))) e
 
 pub part_short : (bytes : List ℕ) → is_too_long bytes ≡ false → part bytes ≡ reverse (to_end_line (items_of bytes))
-part_short bytes e = ap (λ (b : Bool). reverse (to_end_line (cond b (settled_items (take most_file_bytes bytes)) (items_of bytes)))) e
+part_short bytes e =
+    ap (λ (b : Bool). reverse (to_end_line (cond b (settled_items (take most_file_bytes bytes)) (items_of bytes)))) e
 
 settled_long : (bytes more : List ℕ) → is_too_long bytes ≡ true → settled_part (bytes ++ more) ≡ settled_part bytes
-settled_long bytes more e = ap (λ (bs : List ℕ). reverse (to_end_line (settled_items bs))) (take_front most_file_bytes bytes more e)
+settled_long bytes more e =
+    ap (λ (bs : List ℕ). reverse (to_end_line (settled_items bs))) (take_front most_file_bytes bytes more e)
 
 settled_short : (bytes : List ℕ) → is_too_long bytes ≡ false → settled_part bytes ≡ reverse (to_end_line (settled_items bytes))
 settled_short bytes e = ap (λ (bs : List ℕ). reverse (to_end_line (settled_items bs))) (take_whole most_file_bytes bytes e)
@@ -223,7 +232,8 @@ room_for bytes = most_file_bytes - length bytes
 
 settled_over : (bytes more : List ℕ) → is_too_long bytes ≡ false
     → settled_part (bytes ++ more) ≡ reverse (to_end_line (settled_items (bytes ++ take (room_for bytes) more)))
-settled_over bytes more e = ap (λ (bs : List ℕ). reverse (to_end_line (settled_items bs))) (take_over most_file_bytes bytes more e)
+settled_over bytes more e =
+    ap (λ (bs : List ℕ). reverse (to_end_line (settled_items bs))) (take_over most_file_bytes bytes more e)
 
 -- ---- faults of texts
 
@@ -313,11 +323,13 @@ short_end bytes ys e clean ended stay =
 part_kept_by : (bytes more : List ℕ) (b c : Bool) → is_too_long bytes ≡ b → is_too_long (bytes ++ more) ≡ c
     → IsClean (settled_part bytes) → has_end_line (settled_part bytes) ≡ true
     → part (bytes ++ more) ≡ settled_part bytes
-part_kept_by bytes more true c e t clean ended = part_long (bytes ++ more) (longer most_file_bytes bytes more e) ∙ settled_long bytes more e
+part_kept_by bytes more true c e t clean ended =
+    part_long (bytes ++ more) (longer most_file_bytes bytes more e) ∙ settled_long bytes more e
 part_kept_by bytes more false true e t clean ended =
     part_long (bytes ++ more) t ∙ settled_over bytes more e
     ∙ short_end bytes (settled_items (bytes ++ take (room_for bytes) more)) e clean ended (items_settled bytes (take (room_for bytes) more))
-part_kept_by bytes more false false e t clean ended = part_short (bytes ++ more) t ∙ short_end bytes (items_of (bytes ++ more)) e clean ended (items_stay bytes more)
+part_kept_by bytes more false false e t clean ended =
+    part_short (bytes ++ more) t ∙ short_end bytes (items_of (bytes ++ more)) e clean ended (items_stay bytes more)
 
 pub part_kept : (bytes more : List ℕ) → IsClean (settled_part bytes) → has_end_line (settled_part bytes) ≡ true
     → part (bytes ++ more) ≡ settled_part bytes

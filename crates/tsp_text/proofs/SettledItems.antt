@@ -61,7 +61,8 @@ AreLong (Line key line) (Line other next) = (nat_lt most_line_bytes line.size �
 AreLong (Line key line) (NumberWord word) = ⊥
 AreLong (Line key line) LineEnd = ⊥
 AreLong (NumberWord word) (Line key line) = ⊥
-AreLong (NumberWord word) (NumberWord next) = (nat_lt most_word_bytes (length word) ≡ true) × (nat_lt most_word_bytes (length next) ≡ true)
+AreLong (NumberWord word) (NumberWord next) =
+    (nat_lt most_word_bytes (length word) ≡ true) × (nat_lt most_word_bytes (length next) ≡ true)
 AreLong (NumberWord word) LineEnd = ⊥
 AreLong LineEnd item = ⊥
 
@@ -167,7 +168,8 @@ begins_alike (b ∷ line) more = by_case (is_blank b) refl (begins_alike line mo
 -- ---- a line that goes on
 
 settled_none : (line : List ℕ) → without_start line ≡ [] → settled_words line ≡ [] → settled_in line ≡ []
-settled_none line e none = ap (λ (s : List ℕ). cond (begins is_letter s) (settled_line s) (word_items (settled_words line))) e ∙ ap word_items none
+settled_none line e none =
+    ap (λ (s : List ℕ). cond (begins is_letter s) (settled_line s) (word_items (settled_words line))) e ∙ ap word_items none
 
 long_line_stays : (s more : List ℕ) (b : Bool) → nat_lt most_line_bytes (length s) ≡ b
     → Stay (cond b (line_item s ∷ []) []) (line_item (s ++ more) ∷ [])
@@ -183,15 +185,18 @@ long_line_settled s more false e = tt
 letter_stays : (b : Bool) (line more s : List ℕ)
     → Stay (cond b (settled_line s) (word_items (settled_words line))) (cond b (line_item (s ++ more) ∷ []) (word_items (words_in (line ++ more))))
 letter_stays true line more s = long_line_stays s more (nat_lt most_line_bytes (length s)) refl
-letter_stays false line more s = pieces_stay (slice_split is_blank line) (slice_split is_blank (line ++ more)) (grown_split is_blank line more)
+letter_stays false line more s =
+    pieces_stay (slice_split is_blank line) (slice_split is_blank (line ++ more)) (grown_split is_blank line more)
 
 letter_settled : (b : Bool) (line more s : List ℕ)
     → Stay (cond b (settled_line s) (word_items (settled_words line))) (cond b (settled_line (s ++ more)) (word_items (settled_words (line ++ more))))
 letter_settled true line more s = long_line_settled s more (nat_lt most_line_bytes (length s)) refl
-letter_settled false line more s = pieces_settled (slice_split is_blank line) (slice_split is_blank (line ++ more)) (grown_split is_blank line more)
+letter_settled false line more s =
+    pieces_settled (slice_split is_blank line) (slice_split is_blank (line ++ more)) (grown_split is_blank line more)
 
 line_stays_by : (line more : List ℕ) → BeginsAlike line more → Stay (settled_in line) (items_in (line ++ more))
-line_stays_by line more (inl h) = subst (λ (xs : List Item). Stay xs (items_in (line ++ more))) (sym (settled_none line h.0 h.1)) tt
+line_stays_by line more (inl h) =
+    subst (λ (xs : List Item). Stay xs (items_in (line ++ more))) (sym (settled_none line h.0 h.1)) tt
 line_stays_by line more (inr h) =
     subst (λ (s : List ℕ). Stay (cond (begins is_letter s) (settled_line s) (word_items (settled_words line))) (items_in (line ++ more))) (sym h.2)
     (subst (λ (t : List ℕ). Stay (cond (is_letter h.0) (settled_line (h.0 ∷ h.1)) (word_items (settled_words line)))
@@ -199,7 +204,8 @@ line_stays_by line more (inr h) =
     (letter_stays (is_letter h.0) line more (h.0 ∷ h.1)))
 
 line_settled_by : (line more : List ℕ) → BeginsAlike line more → Stay (settled_in line) (settled_in (line ++ more))
-line_settled_by line more (inl h) = subst (λ (xs : List Item). Stay xs (settled_in (line ++ more))) (sym (settled_none line h.0 h.1)) tt
+line_settled_by line more (inl h) =
+    subst (λ (xs : List Item). Stay xs (settled_in (line ++ more))) (sym (settled_none line h.0 h.1)) tt
 line_settled_by line more (inr h) =
     subst (λ (s : List ℕ). Stay (cond (begins is_letter s) (settled_line s) (word_items (settled_words line))) (settled_in (line ++ more))) (sym h.2)
     (subst (λ (t : List ℕ). Stay (cond (is_letter h.0) (settled_line (h.0 ∷ h.1)) (word_items (settled_words line)))
@@ -230,7 +236,9 @@ lines_stay last goes_on (x ∷ next ∷ xs) (y ∷ after ∷ ys) h =
     (stay_after (items_in x) (LineEnd ∷ items_by settled_in (next ∷ xs)) (LineEnd ∷ items_by last (after ∷ ys)) (inl (refl, lines_stay last goes_on (next ∷ xs) (after ∷ ys) h.1)))
 
 pub items_stay : (bytes more : List ℕ) → Stay (settled_items bytes) (items_of (bytes ++ more))
-items_stay bytes more = lines_stay items_in line_stays (lines_of bytes) (lines_of (bytes ++ more)) (grown_split ends_line bytes more)
+items_stay bytes more =
+    lines_stay items_in line_stays (lines_of bytes) (lines_of (bytes ++ more)) (grown_split ends_line bytes more)
 
 pub items_settled : (bytes more : List ℕ) → Stay (settled_items bytes) (settled_items (bytes ++ more))
-items_settled bytes more = lines_stay settled_in line_settled (lines_of bytes) (lines_of (bytes ++ more)) (grown_split ends_line bytes more)
+items_settled bytes more =
+    lines_stay settled_in line_settled (lines_of bytes) (lines_of (bytes ++ more)) (grown_split ends_line bytes more)

@@ -61,7 +61,8 @@ triple_starts words word e =
     (ap (λ (groups : List (List ℕ × List ℕ × List ℕ)). map (λ group. group.0) groups) (triples_begin words word e), begun_begin words word e)
 
 abbrev TripleGoesOn : Words → List ℕ → Words → List ℕ → Type 0
-TripleGoesOn words first rest word = ((triple_firsts (words ++ word ∷ []) ≡ triple_firsts words) × (begun_triple (words ++ word ∷ []) ≡ first ∷ (rest ++ word ∷ [])))
+TripleGoesOn words first rest word =
+    ((triple_firsts (words ++ word ∷ []) ≡ triple_firsts words) × (begun_triple (words ++ word ∷ []) ≡ first ∷ (rest ++ word ∷ [])))
     ⊎ ((triple_firsts (words ++ word ∷ []) ≡ triple_firsts words ++ first ∷ []) × (begun_triple (words ++ word ∷ []) ≡ []))
 
 triple_before : (a b c : List ℕ) (words : Words) (first : List ℕ) (rest : Words) (word : List ℕ)
@@ -76,7 +77,8 @@ triple_goes_on (a ∷ []) first rest word e = inl (refl, ap (λ (begun : Words).
 triple_goes_on (a ∷ b ∷ []) first rest word e =
     let same : a ≡ first = cc in
     inr (ap (λ (x : List ℕ). x ∷ []) same, refl)
-triple_goes_on (a ∷ b ∷ c ∷ words) first rest word e = triple_before a b c words first rest word (triple_goes_on words first rest word e)
+triple_goes_on (a ∷ b ∷ c ∷ words) first rest word e =
+    triple_before a b c words first rest word (triple_goes_on words first rest word e)
 
 triple_counted : (m : ℕ) (words : Words) → length words ≡ 3 * m → length (triple_firsts words) ≡ m
 triple_counted m [] e = omega arith
@@ -88,7 +90,8 @@ triple_counted m (a ∷ b ∷ c ∷ words) e =
     omega arith
 
 pub triple_shape : IsShape 3 triple_firsts begun_triple
-triple_shape = record { no_firsts = refl; none_begun = refl; starts = triple_starts; goes_on = triple_goes_on; counted = triple_counted }
+triple_shape =
+    record { no_firsts = refl; none_begun = refl; starts = triple_starts; goes_on = triple_goes_on; counted = triple_counted }
 
 -- ---- fours
 
@@ -101,7 +104,8 @@ four_starts words word e =
     (ap (λ (groups : List (List ℕ × List ℕ × List ℕ × List ℕ)). map (λ group. group.0) groups) (fours_begin words word e), begun_begin_four words word e)
 
 abbrev FourGoesOn : Words → List ℕ → Words → List ℕ → Type 0
-FourGoesOn words first rest word = ((four_firsts (words ++ word ∷ []) ≡ four_firsts words) × (begun_four (words ++ word ∷ []) ≡ first ∷ (rest ++ word ∷ [])))
+FourGoesOn words first rest word =
+    ((four_firsts (words ++ word ∷ []) ≡ four_firsts words) × (begun_four (words ++ word ∷ []) ≡ first ∷ (rest ++ word ∷ [])))
     ⊎ ((four_firsts (words ++ word ∷ []) ≡ four_firsts words ++ first ∷ []) × (begun_four (words ++ word ∷ []) ≡ []))
 
 four_before : (a b c d : List ℕ) (words : Words) (first : List ℕ) (rest : Words) (word : List ℕ)
@@ -117,7 +121,8 @@ four_goes_on (a ∷ b ∷ []) first rest word e = inl (refl, ap (λ (begun : Wor
 four_goes_on (a ∷ b ∷ c ∷ []) first rest word e =
     let same : a ≡ first = cc in
     inr (ap (λ (x : List ℕ). x ∷ []) same, refl)
-four_goes_on (a ∷ b ∷ c ∷ d ∷ words) first rest word e = four_before a b c d words first rest word (four_goes_on words first rest word e)
+four_goes_on (a ∷ b ∷ c ∷ d ∷ words) first rest word e =
+    four_before a b c d words first rest word (four_goes_on words first rest word e)
 
 four_counted : (m : ℕ) (words : Words) → length words ≡ 4 * m → length (four_firsts words) ≡ m
 four_counted m [] e = omega arith

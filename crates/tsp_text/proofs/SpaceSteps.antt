@@ -29,7 +29,8 @@ no_value_here false stands value rest none ih = ih none
 
 no_value : (f : Field) (items : List Item) → has_line f items ≡ false → value_at f items ≡ None
 no_value f [] none = refl
-no_value f (Line key line ∷ earlier) none = no_value_here (is_key f key) (has_line f earlier) line.value (value_at f earlier) none (no_value f earlier)
+no_value f (Line key line ∷ earlier) none =
+    no_value_here (is_key f key) (has_line f earlier) line.value (value_at f earlier) none (no_value f earlier)
 no_value f (NumberWord word ∷ earlier) none = no_value f earlier none
 no_value f (LineEnd ∷ earlier) none = no_value f earlier none
 
@@ -110,7 +111,8 @@ coords_stay true before after n words same = ap (λ b. Some (coords_by_node b n 
 coords_stay false before after n words same = refl
 
 abbrev pub first_by : Bool → ℕ → List Item → Option Field
-first_by in_space n earlier = find (λ field. has_line field earlier && wants_more (place_in in_space field n (words_of field earlier))) sections_in_order
+first_by in_space n earlier =
+    find (λ field. has_line field earlier && wants_more (place_in in_space field n (words_of field earlier))) sections_in_order
 
 pub first_stays : (earlier : List Item) (n : ℕ) (before after there : Bool) → has_line NodeCoordPart earlier ≡ there
     → (there ≡ true → after ≡ before) → first_by before n earlier ≡ first_by after n earlier

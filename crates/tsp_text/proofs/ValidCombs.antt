@@ -38,7 +38,8 @@ AreSoFar n s = CombsHold n s.combs s.sets s.nodes s.count
 
 all_push : {A : Type 0} (test : A → Bool) (xs : List A) (x : A) → list_all test xs ≡ true → test x ≡ true
     → list_all test (xs ++ x ∷ []) ≡ true
-all_push test xs x held passes = list_all-append test xs (x ∷ []) ∙ and_from (list_all test xs) (test x && true) held (and_from (test x) true passes refl)
+all_push test xs x held passes =
+    list_all-append test xs (x ∷ []) ∙ and_from (list_all test xs) (test x && true) held (and_from (test x) true passes refl)
 
 -- ---- a -1
 

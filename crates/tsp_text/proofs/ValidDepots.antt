@@ -27,7 +27,8 @@ AreListed n words = are_depots n (depots_in n words) ≡ true
 
 listed_same : (n : ℕ) (words more : List (List ℕ)) → before (is_end n) more ≡ before (is_end n) words → AreListed n words
     → AreListed n more
-listed_same n words more same held = ap (λ (ws : List (List ℕ)). are_depots n (map (λ word. nat_abs (number (node_or_end n word))) ws)) same ∙ held
+listed_same n words more same held =
+    ap (λ (ws : List (List ℕ)). are_depots n (map (λ word. nat_abs (number (node_or_end n word))) ws)) same ∙ held
 
 -- one depot more
 listed_more : (n : ℕ) (words : List (List ℕ)) (word : List ℕ) → before (is_end n) words ≡ words

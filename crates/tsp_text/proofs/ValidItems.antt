@@ -76,29 +76,41 @@ each_fits items cut clean whole NodeCoordPart =
     let in_space = spatial_after items in
     nodes_fit (spelled items) in_space ∙ section_fits (is_by_node (is_point in_space)) (coords_by_node in_space (dimension_in items)) NodeCoordPart refl refl items clean
     (λ there. coords_fit in_space (dimension_in items) (words_of NodeCoordPart items))
-each_fits items cut clean whole DisplayDataPart = section_fits (is_by_node (is_point false)) (points_by_node (dimension_in items)) DisplayDataPart refl refl items clean
+each_fits items cut clean whole DisplayDataPart =
+    section_fits (is_by_node (is_point false)) (points_by_node (dimension_in items)) DisplayDataPart refl refl items clean
     (λ there. points_fit (dimension_in items) (words_of DisplayDataPart items))
-each_fits items cut clean whole DemandPart = section_fits (is_by_node is_demand) (demands_in (dimension_in items)) DemandPart refl refl items clean
+each_fits items cut clean whole DemandPart =
+    section_fits (is_by_node is_demand) (demands_in (dimension_in items)) DemandPart refl refl items clean
     (λ there. numbers_fit (pos 0) (pos most_demand) (dimension_in items) (words_of DemandPart items) refl)
-each_fits items cut clean whole DepotPart = section_fits are_depots (depots_in (dimension_in items)) DepotPart refl refl items clean (λ there. depots_fit items clean)
-each_fits items cut clean whole FixedEdgesPart = section_fits are_fixed (fixed_in (dimension_in items)) FixedEdgesPart refl refl items clean (λ there. fixed_fit items clean)
-each_fits items cut clean whole EdgeWeightPart = section_fits are_weights weights_in EdgeWeightPart refl refl items clean (λ there. weights_fit items clean there)
+each_fits items cut clean whole DepotPart =
+    section_fits are_depots (depots_in (dimension_in items)) DepotPart refl refl items clean (λ there. depots_fit items clean)
+each_fits items cut clean whole FixedEdgesPart =
+    section_fits are_fixed (fixed_in (dimension_in items)) FixedEdgesPart refl refl items clean (λ there. fixed_fit items clean)
+each_fits items cut clean whole EdgeWeightPart =
+    section_fits are_weights weights_in EdgeWeightPart refl refl items clean (λ there. weights_fit items clean there)
 each_fits items cut clean whole TourPart = tours_there items (has_line TourPart items) clean
-each_fits items cut clean whole NodePotentialPart = section_fits (is_by_node (is_within most_potential)) (potentials_by_node (dimension_in items)) NodePotentialPart refl refl
+each_fits items cut clean whole NodePotentialPart =
+    section_fits (is_by_node (is_within most_potential)) (potentials_by_node (dimension_in items)) NodePotentialPart refl refl
     items clean (λ there. potentials_fit (dimension_in items) (words_of NodePotentialPart items))
-each_fits items cut clean whole RowPotentialPart = section_fits (is_by_node (is_within most_potential)) (potentials_by_node (dimension_in items)) RowPotentialPart refl refl
+each_fits items cut clean whole RowPotentialPart =
+    section_fits (is_by_node (is_within most_potential)) (potentials_by_node (dimension_in items)) RowPotentialPart refl refl
     items clean (λ there. potentials_fit (dimension_in items) (words_of RowPotentialPart items))
-each_fits items cut clean whole ColumnPotentialPart = section_fits (is_by_node (is_within most_potential)) (potentials_by_node (dimension_in items)) ColumnPotentialPart refl
+each_fits items cut clean whole ColumnPotentialPart =
+    section_fits (is_by_node (is_within most_potential)) (potentials_by_node (dimension_in items)) ColumnPotentialPart refl
     refl items clean (λ there. potentials_fit (dimension_in items) (words_of ColumnPotentialPart items))
-each_fits items cut clean whole FixedEdgePotentialPart = section_fits are_triples (fixed_triples_in (dimension_in items)) FixedEdgePotentialPart refl refl items clean (λ there. triples_fit items clean)
-each_fits items cut clean whole CombPart = section_fits are_combs (whole_combs (dimension_in items)) CombPart refl refl items clean (λ there. combs_fit items clean)
-each_fits items cut clean whole BranchPart = section_fits are_steps (whole_steps (dimension_in items)) BranchPart refl refl items clean
+each_fits items cut clean whole FixedEdgePotentialPart =
+    section_fits are_triples (fixed_triples_in (dimension_in items)) FixedEdgePotentialPart refl refl items clean (λ there. triples_fit items clean)
+each_fits items cut clean whole CombPart =
+    section_fits are_combs (whole_combs (dimension_in items)) CombPart refl refl items clean (λ there. combs_fit items clean)
+each_fits items cut clean whole BranchPart =
+    section_fits are_steps (whole_steps (dimension_in items)) BranchPart refl refl items clean
     (λ there. steps_fit items clean (wants_none (has_line BranchPart items) (wants_more (place_of_step (dimension_in items) (words_of BranchPart items))) there whole))
 
 none_fails : (test : Field → Bool) (fields : List Field) → ((field : Field) → test field ≡ true)
     → first_failing test fields ≡ None
 none_fails test [] each = refl
-none_fails test (field ∷ fields) each = ap (λ b. cond (not b) (Some field) (first_failing test fields)) (each field) ∙ none_fails test fields each
+none_fails test (field ∷ fields) each =
+    ap (λ b. cond (not b) (Some field) (first_failing test fields)) (each field) ∙ none_fails test fields each
 
 pub none_bad : (items : List Item) → AreCut items → IsClean items → is_incomplete items BranchPart ≡ false
     → bad_field (spelled items) ≡ None

@@ -81,7 +81,8 @@ kept key line cut short =
 
 kept_known : (f : Field) (line : WordLine) → same_field FixedEdgesPart f ≡ false → IsCutLine (Known f) line
     → is_too_long_to_keep line ≡ false → is_kept (field_word f) line.value ≡ true
-kept_known f line other cut short = subst (λ (word : List ℕ). is_kept word line.value ≡ true) (keyword_word line.keyword f other (sym cut.of_keyword)) (kept (Known f) line cut short)
+kept_known f line other cut short =
+    subst (λ (word : List ℕ). is_kept word line.value ≡ true) (keyword_word line.keyword f other (sym cut.of_keyword)) (kept (Known f) line cut short)
 
 -- ---- NAME
 
@@ -104,8 +105,10 @@ name_fits (LineEnd ∷ earlier) cut clean = name_fits earlier cut.1 (clean_parts
 name_fits (Line (Known f) line ∷ earlier) cut clean =
     let parts = clean_parts earlier (Line (Known f) line) clean in
     name_line f line earlier (same_field NameKey f) refl cut.0 (no_row earlier (Line (Known f) line) parts.1).good_value (name_fits earlier cut.1 parts.0)
-name_fits (Line EdgeDataFormat line ∷ earlier) cut clean = name_fits earlier cut.1 (clean_parts earlier (Line EdgeDataFormat line) clean).0
-name_fits (Line EdgeDataSection line ∷ earlier) cut clean = name_fits earlier cut.1 (clean_parts earlier (Line EdgeDataSection line) clean).0
+name_fits (Line EdgeDataFormat line ∷ earlier) cut clean =
+    name_fits earlier cut.1 (clean_parts earlier (Line EdgeDataFormat line) clean).0
+name_fits (Line EdgeDataSection line ∷ earlier) cut clean =
+    name_fits earlier cut.1 (clean_parts earlier (Line EdgeDataSection line) clean).0
 name_fits (Line Eof line ∷ earlier) cut clean = name_fits earlier cut.1 (clean_parts earlier (Line Eof line) clean).0
 name_fits (Line Unknown line ∷ earlier) cut clean = name_fits earlier cut.1 (clean_parts earlier (Line Unknown line) clean).0
 
@@ -129,10 +132,13 @@ comments_fit (LineEnd ∷ earlier) cut clean = comments_fit earlier cut.1 (clean
 comments_fit (Line (Known f) line ∷ earlier) cut clean =
     let parts = clean_parts earlier (Line (Known f) line) clean in
     comment_line f line earlier (same_field CommentKey f) refl cut.0 parts.1 (comments_fit earlier cut.1 parts.0)
-comments_fit (Line EdgeDataFormat line ∷ earlier) cut clean = comments_fit earlier cut.1 (clean_parts earlier (Line EdgeDataFormat line) clean).0
-comments_fit (Line EdgeDataSection line ∷ earlier) cut clean = comments_fit earlier cut.1 (clean_parts earlier (Line EdgeDataSection line) clean).0
+comments_fit (Line EdgeDataFormat line ∷ earlier) cut clean =
+    comments_fit earlier cut.1 (clean_parts earlier (Line EdgeDataFormat line) clean).0
+comments_fit (Line EdgeDataSection line ∷ earlier) cut clean =
+    comments_fit earlier cut.1 (clean_parts earlier (Line EdgeDataSection line) clean).0
 comments_fit (Line Eof line ∷ earlier) cut clean = comments_fit earlier cut.1 (clean_parts earlier (Line Eof line) clean).0
-comments_fit (Line Unknown line ∷ earlier) cut clean = comments_fit earlier cut.1 (clean_parts earlier (Line Unknown line) clean).0
+comments_fit (Line Unknown line ∷ earlier) cut clean =
+    comments_fit earlier cut.1 (clean_parts earlier (Line Unknown line) clean).0
 
 -- ---- unknown keywords
 
@@ -151,9 +157,12 @@ pub others_fit : (items : List Item) → AreCut items → IsClean items → are_
 others_fit [] cut clean = refl
 others_fit (NumberWord word ∷ earlier) cut clean = others_fit earlier cut.1 (clean_parts earlier (NumberWord word) clean).0
 others_fit (LineEnd ∷ earlier) cut clean = others_fit earlier cut.1 (clean_parts earlier LineEnd clean).0
-others_fit (Line (Known f) line ∷ earlier) cut clean = others_fit earlier cut.1 (clean_parts earlier (Line (Known f) line) clean).0
-others_fit (Line EdgeDataFormat line ∷ earlier) cut clean = others_fit earlier cut.1 (clean_parts earlier (Line EdgeDataFormat line) clean).0
-others_fit (Line EdgeDataSection line ∷ earlier) cut clean = others_fit earlier cut.1 (clean_parts earlier (Line EdgeDataSection line) clean).0
+others_fit (Line (Known f) line ∷ earlier) cut clean =
+    others_fit earlier cut.1 (clean_parts earlier (Line (Known f) line) clean).0
+others_fit (Line EdgeDataFormat line ∷ earlier) cut clean =
+    others_fit earlier cut.1 (clean_parts earlier (Line EdgeDataFormat line) clean).0
+others_fit (Line EdgeDataSection line ∷ earlier) cut clean =
+    others_fit earlier cut.1 (clean_parts earlier (Line EdgeDataSection line) clean).0
 others_fit (Line Eof line ∷ earlier) cut clean = others_fit earlier cut.1 (clean_parts earlier (Line Eof line) clean).0
 others_fit (Line Unknown line ∷ earlier) cut clean =
     let parts = clean_parts earlier (Line Unknown line) clean in
@@ -169,7 +178,8 @@ read_fits low high (Err fault) each = refl
 number_fits : (low high : ℤ) (o : Option (List ℕ))
     → if_there (is_from_to low high) (option_and_then (λ value. result_ok (whole_of (first_word value) low high)) o) ≡ true
 number_fits low high None = refl
-number_fits low high (Some value) = read_fits low high (whole_of (first_word value) low high) (λ z e. whole_in_range (first_word value) low high z e)
+number_fits low high (Some value) =
+    read_fits low high (whole_of (first_word value) low high) (λ z e. whole_in_range (first_word value) low high z e)
 
 pub capacity_fits : (items : List Item) → if_there (is_from_to (pos 1) (pos most_capacity)) (number_at CapacityKey items) ≡ true
 capacity_fits items = number_fits (pos 1) (pos most_capacity) (value_at CapacityKey items)
@@ -183,4 +193,5 @@ nodes_fit None e = refl
 nodes_fit (Some z) e = let found = node_read most_nodes z e in ap (λ y. is_node most_nodes (nat_abs y)) found.1 ∙ found.2
 
 pub dimension_fits : (items : List Item) → if_there (is_node most_nodes) (dimension_of items) ≡ true
-dimension_fits items = nodes_fit (number_at DimensionKey items) (number_fits (pos 1) (pos most_nodes) (value_at DimensionKey items))
+dimension_fits items =
+    nodes_fit (number_at DimensionKey items) (number_fits (pos 1) (pos most_nodes) (value_at DimensionKey items))

@@ -54,12 +54,14 @@ whole_read low high (Some n) z e = within_range low high (number_in 9 n) (number
 
 pub whole_in_range : (word : List ℕ) (low high z : ℤ) → whole_of word low high ≡ Ok z → is_from_to low high z ≡ true
 unfolding whole_of
-whole_in_range word low high z e = whole_read low high (numeral_in word) z (picked (nat_le (length word) 64) (whole_from low high (numeral_in word)) LongWord z e).1
+whole_in_range word low high z e =
+    whole_read low high (numeral_in word) z (picked (nat_le (length word) 64) (whole_from low high (numeral_in word)) LongWord z e).1
 
 -- a size is no more than a limit
 size_within : (z : ℤ) → nat_le (unsigned_abs z) most_coordinate ≡ true → is_within most_coordinate z ≡ true
 size_within (pos n) e = e
-size_within (negsuc n) e = and_from (int_le (neg_ℤ (pos most_coordinate)) (negsuc n)) true (below n (leb-true (suc n) most_coordinate e)) refl
+size_within (negsuc n) e =
+    and_from (int_le (neg_ℤ (pos most_coordinate)) (negsuc n)) true (below n (leb-true (suc n) most_coordinate e)) refl
   where
     below : (n : ℕ) → suc n ≤ most_coordinate → int_le (neg_ℤ (pos most_coordinate)) (negsuc n) ≡ true
     below n le = le-leb n 999999999999999999 (omega arith)
@@ -76,7 +78,8 @@ decimal_read (Some n) z e = decimal_within_range (number_in 9 n) z e
 
 decimal_in_range : (word : List ℕ) (z : ℤ) → decimal_of word ≡ Ok z → is_within most_coordinate z ≡ true
 unfolding decimal_of
-decimal_in_range word z e = decimal_read (numeral_in word) z (picked (nat_le (length word) 64) (decimal_from (numeral_in word)) LongWord z e).1
+decimal_in_range word z e =
+    decimal_read (numeral_in word) z (picked (nat_le (length word) 64) (decimal_from (numeral_in word)) LongWord z e).1
 
 -- what is read, or 0, passes a test that 0 passes
 number_passes : (test : ℤ → Bool) (r : Result ℤ NumberFault) → test (pos 0) ≡ true → ((z : ℤ) → r ≡ Ok z → test z ≡ true)
@@ -86,7 +89,8 @@ number_passes test (Err fault) zero_passes each = zero_passes
 
 pub whole_passes : (low high : ℤ) (word : List ℕ) → is_from_to low high (pos 0) ≡ true
     → is_from_to low high (number (whole_of word low high)) ≡ true
-whole_passes low high word zero_passes = number_passes (is_from_to low high) (whole_of word low high) zero_passes (λ z e. whole_in_range word low high z e)
+whole_passes low high word zero_passes =
+    number_passes (is_from_to low high) (whole_of word low high) zero_passes (λ z e. whole_in_range word low high z e)
 
 decimal_passes : (word : List ℕ) → is_within most_coordinate (number (decimal_of word)) ≡ true
 decimal_passes word = number_passes (is_within most_coordinate) (decimal_of word) refl (λ z e. decimal_in_range word z e)
@@ -117,12 +121,14 @@ by_node_fits {X} fits missing n groups none all =
 
 pub numbers_fit : (low high : ℤ) (n : ℕ) (words : List (List ℕ)) → is_from_to low high (pos 0) ≡ true
     → is_by_node (is_from_to low high) n (numbers_by_node low high n words) ≡ true
-numbers_fit low high n words zero_passes = by_node_fits (is_from_to low high) (pos 0) n (number_groups low high n words) zero_passes
+numbers_fit low high n words zero_passes =
+    by_node_fits (is_from_to low high) (pos 0) n (number_groups low high n words) zero_passes
     (list_all-map (λ (group : ℤ × ℤ). is_from_to low high group.1) (λ (group : List ℕ × List ℕ). (number (node n group.0), number (whole_of group.1 low high))) (pairs_in (take (2 * n) words))
     ∙ all_pass (λ (group : List ℕ × List ℕ). is_from_to low high (number (whole_of group.1 low high))) (pairs_in (take (2 * n) words)) (λ group. whole_passes low high group.1 zero_passes))
 
 point_fits : (x y : List ℕ) → is_point false (point_in_words x y) ≡ true
-point_fits x y = and_from (is_within most_coordinate (number (decimal_of x)) && is_within most_coordinate (number (decimal_of y))) true
+point_fits x y =
+    and_from (is_within most_coordinate (number (decimal_of x)) && is_within most_coordinate (number (decimal_of y))) true
     (and_from (is_within most_coordinate (number (decimal_of x))) (is_within most_coordinate (number (decimal_of y))) (decimal_passes x) (decimal_passes y)) refl
 
 pub points_fit : (n : ℕ) (words : List (List ℕ)) → is_by_node (is_point false) n (points_by_node n words) ≡ true
@@ -132,7 +138,8 @@ points_fit n words = by_node_fits (is_point false) origin n (point_groups n word
 
 -- with three coordinates each
 space_point_fits : (x y z : List ℕ) → is_point true (space_point_of x y z) ≡ true
-space_point_fits x y z = and_from (is_within most_coordinate (number (decimal_of x)) && is_within most_coordinate (number (decimal_of y)))
+space_point_fits x y z =
+    and_from (is_within most_coordinate (number (decimal_of x)) && is_within most_coordinate (number (decimal_of y)))
     (is_within most_coordinate (number (decimal_of z)))
     (and_from (is_within most_coordinate (number (decimal_of x))) (is_within most_coordinate (number (decimal_of y))) (decimal_passes x) (decimal_passes y))
     (decimal_passes z)
@@ -168,9 +175,11 @@ read_node n word = by_result (node n word) (λ z read. whole_in_range word (pos 
 listed_node : (n : ℕ) (z : ℤ) → is_from_to (negsuc 0) (pos n) z ≡ true → int_eq z (pos 0) ≡ false → int_eq z (negsuc 0) ≡ false
     → (k : ℕ) × (z ≡ pos k) × (is_node n k ≡ true)
 listed_node n (pos zero) e nonzero no_end = absurd (true≢false nonzero)
-listed_node n (pos (suc k)) e nonzero no_end = (suc k, refl, and_from (nat_le 1 (suc k)) (nat_le (suc k) n) (le-leb 1 (suc k) (omega arith)) e)
+listed_node n (pos (suc k)) e nonzero no_end =
+    (suc k, refl, and_from (nat_le 1 (suc k)) (nat_le (suc k) n) (le-leb 1 (suc k) (omega arith)) e)
 listed_node n (negsuc zero) e nonzero no_end = absurd (true≢false no_end)
-listed_node n (negsuc (suc k)) e nonzero no_end = absurd (omega (arith, leb-true (suc k) 0 (and_parts (int_le (negsuc 0) (negsuc (suc k))) (int_le (negsuc (suc k)) (pos n)) e).0))
+listed_node n (negsuc (suc k)) e nonzero no_end =
+    absurd (omega (arith, leb-true (suc k) 0 (and_parts (int_le (negsuc 0) (negsuc (suc k))) (int_le (negsuc (suc k)) (pos n)) e).0))
 
 by_zero : (n : ℕ) (z : ℤ) (b : Bool) → int_eq z (pos 0) ≡ b → is_from_to (negsuc 0) (pos n) z ≡ true
     → (let r : Result ℤ NumberFault = cond b (Err OutOfRange) (Ok z) in (result_err r ≡ None → reads_as (negsuc 0) r ≡ false → (k : ℕ) × (r ≡ Ok (pos k)) × (is_node n k ≡ true)))

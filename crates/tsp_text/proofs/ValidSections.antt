@@ -47,7 +47,8 @@ late true true dimension known s t e = absurd (true≢false t)
 opened_late : (items : List Item) → IsClean items → (g : Field) → open_section items ≡ Some g → same_field TourPart g ≡ false
     → has_line DimensionKey items ≡ true
 opened_late [] clean g opened other = absurd (none-some g opened)
-opened_late (NumberWord word ∷ earlier) clean g opened other = opened_late earlier (clean_parts earlier (NumberWord word) clean).0 g opened other
+opened_late (NumberWord word ∷ earlier) clean g opened other =
+    opened_late earlier (clean_parts earlier (NumberWord word) clean).0 g opened other
 opened_late (LineEnd ∷ earlier) clean g opened other = opened_late earlier (clean_parts earlier LineEnd clean).0 g opened other
 opened_late (Line (Known f) line ∷ earlier) clean g opened other =
     let opens = cond_some (is_section_field f) f g opened in
@@ -72,7 +73,8 @@ pub nodes_kept : (earlier : List Item) (item : Item) → has_line DimensionKey e
     → dimension_in (item ∷ earlier) ≡ dimension_in earlier
 nodes_kept earlier (NumberWord word) known row = refl
 nodes_kept earlier LineEnd known row = refl
-nodes_kept earlier (Line (Known f) line) known row = known_nodes f line earlier (same_field DimensionKey f) refl known (no_row earlier (Line (Known f) line) row).first_time
+nodes_kept earlier (Line (Known f) line) known row =
+    known_nodes f line earlier (same_field DimensionKey f) refl known (no_row earlier (Line (Known f) line) row).first_time
 nodes_kept earlier (Line EdgeDataFormat line) known row = refl
 nodes_kept earlier (Line EdgeDataSection line) known row = refl
 nodes_kept earlier (Line Eof line) known row = refl
@@ -96,15 +98,19 @@ known_dimension f line earlier true e no_fault before known =
 
 some_dimension : (items : List Item) → IsClean items → has_line DimensionKey items ≡ true → is_some (dimension_of items) ≡ true
 some_dimension [] clean known = absurd (false≢true known)
-some_dimension (NumberWord word ∷ earlier) clean known = some_dimension earlier (clean_parts earlier (NumberWord word) clean).0 known
+some_dimension (NumberWord word ∷ earlier) clean known =
+    some_dimension earlier (clean_parts earlier (NumberWord word) clean).0 known
 some_dimension (LineEnd ∷ earlier) clean known = some_dimension earlier (clean_parts earlier LineEnd clean).0 known
 some_dimension (Line (Known f) line ∷ earlier) clean known =
     let parts = clean_parts earlier (Line (Known f) line) clean in
     known_dimension f line earlier (same_field DimensionKey f) refl (no_row earlier (Line (Known f) line) parts.1).is_read (some_dimension earlier parts.0) known
-some_dimension (Line EdgeDataFormat line ∷ earlier) clean known = some_dimension earlier (clean_parts earlier (Line EdgeDataFormat line) clean).0 known
-some_dimension (Line EdgeDataSection line ∷ earlier) clean known = some_dimension earlier (clean_parts earlier (Line EdgeDataSection line) clean).0 known
+some_dimension (Line EdgeDataFormat line ∷ earlier) clean known =
+    some_dimension earlier (clean_parts earlier (Line EdgeDataFormat line) clean).0 known
+some_dimension (Line EdgeDataSection line ∷ earlier) clean known =
+    some_dimension earlier (clean_parts earlier (Line EdgeDataSection line) clean).0 known
 some_dimension (Line Eof line ∷ earlier) clean known = some_dimension earlier (clean_parts earlier (Line Eof line) clean).0 known
-some_dimension (Line Unknown line ∷ earlier) clean known = some_dimension earlier (clean_parts earlier (Line Unknown line) clean).0 known
+some_dimension (Line Unknown line ∷ earlier) clean known =
+    some_dimension earlier (clean_parts earlier (Line Unknown line) clean).0 known
 
 there : (o : Option ℕ) → is_some o ≡ true → o ≡ Some (unwrap_or o 0)
 there None e = absurd (false≢true e)
@@ -136,13 +142,18 @@ no_dimension_before false dimension e = e
 pub no_words : (field : Field) (items : List Item) → IsClean items → same_field TourPart field ≡ false
     → has_line DimensionKey items ≡ false → words_of field items ≡ []
 no_words field [] clean other unknown = refl
-no_words field (LineEnd ∷ earlier) clean other unknown = no_words field earlier (clean_parts earlier LineEnd clean).0 other unknown
+no_words field (LineEnd ∷ earlier) clean other unknown =
+    no_words field earlier (clean_parts earlier LineEnd clean).0 other unknown
 no_words field (NumberWord word ∷ earlier) clean other unknown =
     let before = (clean_parts earlier (NumberWord word) clean).0 in
     opened_none field word earlier (open_section earlier) refl before other unknown (no_words field earlier before other unknown)
 no_words field (Line (Known f) line ∷ earlier) clean other unknown =
     no_words field earlier (clean_parts earlier (Line (Known f) line) clean).0 other (no_dimension_before (same_field DimensionKey f) (has_line DimensionKey earlier) unknown)
-no_words field (Line EdgeDataFormat line ∷ earlier) clean other unknown = no_words field earlier (clean_parts earlier (Line EdgeDataFormat line) clean).0 other unknown
-no_words field (Line EdgeDataSection line ∷ earlier) clean other unknown = no_words field earlier (clean_parts earlier (Line EdgeDataSection line) clean).0 other unknown
-no_words field (Line Eof line ∷ earlier) clean other unknown = no_words field earlier (clean_parts earlier (Line Eof line) clean).0 other unknown
-no_words field (Line Unknown line ∷ earlier) clean other unknown = no_words field earlier (clean_parts earlier (Line Unknown line) clean).0 other unknown
+no_words field (Line EdgeDataFormat line ∷ earlier) clean other unknown =
+    no_words field earlier (clean_parts earlier (Line EdgeDataFormat line) clean).0 other unknown
+no_words field (Line EdgeDataSection line ∷ earlier) clean other unknown =
+    no_words field earlier (clean_parts earlier (Line EdgeDataSection line) clean).0 other unknown
+no_words field (Line Eof line ∷ earlier) clean other unknown =
+    no_words field earlier (clean_parts earlier (Line Eof line) clean).0 other unknown
+no_words field (Line Unknown line ∷ earlier) clean other unknown =
+    no_words field earlier (clean_parts earlier (Line Unknown line) clean).0 other unknown

@@ -48,7 +48,8 @@ pieces_pass test good (x ∷ xs) all =
 
 onto_longer : {A : Type 0} (x : A) (pieces : List (List A)) → sum_by length (onto_first x pieces) ≡ suc (sum_by length pieces)
 onto_longer x [] = refl
-onto_longer {A} x (piece ∷ pieces) = omega (arith, sum_by-cons (λ (p : List A). length p) (x ∷ piece) pieces, sum_by-cons (λ (p : List A). length p) piece pieces)
+onto_longer {A} x (piece ∷ pieces) =
+    omega (arith, sum_by-cons (λ (p : List A). length p) (x ∷ piece) pieces, sum_by-cons (λ (p : List A). length p) piece pieces)
 
 -- the pieces together have all that doesn't end one
 pieces_long : {A : Type 0} (test : A → Bool) (xs : List A)

@@ -66,7 +66,8 @@ AreSoFar n s = StepsHold n s.steps s.first s.in_leaf s.leaf s.to_come s.branches
 
 all_push : {A : Type 0} (test : A → Bool) (xs : List A) (x : A) → list_all test xs ≡ true → test x ≡ true
     → list_all test (xs ++ x ∷ []) ≡ true
-all_push test xs x held passes = list_all-append test xs (x ∷ []) ∙ and_from (list_all test xs) (test x && true) held (and_from (test x) true passes refl)
+all_push test xs x held passes =
+    list_all-append test xs (x ∷ []) ∙ and_from (list_all test xs) (test x && true) held (and_from (test x) true passes refl)
 
 branches_push : (steps : List Step) (step : Step)
     → branch_count (steps ++ step ∷ []) ≡ branch_count steps + branch_count (step ∷ [])

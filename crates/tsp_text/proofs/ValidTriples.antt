@@ -44,7 +44,8 @@ pub record AreTripled (n : ℕ) (words : List (List ℕ)) : Type 0 where
 same_triples : (n : ℕ) (words more : List (List ℕ))
     → before (ends_triples n) (threes_in more) ≡ before (ends_triples n) (threes_in words)
     → are_triples n (fixed_triples_in n words) ≡ true → are_triples n (fixed_triples_in n more) ≡ true
-same_triples n words more same held = ap (λ (triples : List (List ℕ × List ℕ × List ℕ)). are_triples n (map (fixed_triple n) triples)) same ∙ held
+same_triples n words more same held =
+    ap (λ (triples : List (List ℕ × List ℕ × List ℕ)). are_triples n (map (fixed_triple n) triples)) same ∙ held
 
 same_begun : (n : ℕ) (found : List (List ℕ)) (first other : List ℕ) (rest more : List (List ℕ)) → found ≡ first ∷ rest
     → found ≡ other ∷ more → IsBegun n first rest

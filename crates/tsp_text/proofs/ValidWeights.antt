@@ -30,7 +30,8 @@ has_room : (n : ℕ) (words : List (List ℕ)) (word : List ℕ) (b : Bool) → 
     → word_fault n (cond b PastWeights Weight) word ≡ None
     → nat_le (length (words ++ word ∷ [])) (n * n) ≡ true
 has_room n words word true e row = absurd (true≢false (is_taken n PastWeights word row).has_room)
-has_room n words word false e row = le-leb (length (words ++ word ∷ [])) (n * n) (omega (arith, length_push words word, leb-false (n * n) (length words) e))
+has_room n words word false e row =
+    le-leb (length (words ++ word ∷ [])) (n * n) (omega (arith, length_push words word, leb-false (n * n) (length words) e))
 
 few_weights : Grows false EdgeWeightPart (λ n words. nat_le (length words) (n * n) ≡ true)
 few_weights = record {
@@ -64,8 +65,10 @@ few_nodes (LineEnd ∷ earlier) clean stands = few_nodes earlier (clean_parts ea
 few_nodes (Line (Known f) line ∷ earlier) clean stands =
     let parts = clean_parts earlier (Line (Known f) line) clean in
     few_at f line earlier (same_field EdgeWeightPart f) refl parts.0 parts.1 (few_nodes earlier parts.0) stands
-few_nodes (Line EdgeDataFormat line ∷ earlier) clean stands = few_nodes earlier (clean_parts earlier (Line EdgeDataFormat line) clean).0 stands
-few_nodes (Line EdgeDataSection line ∷ earlier) clean stands = few_nodes earlier (clean_parts earlier (Line EdgeDataSection line) clean).0 stands
+few_nodes (Line EdgeDataFormat line ∷ earlier) clean stands =
+    few_nodes earlier (clean_parts earlier (Line EdgeDataFormat line) clean).0 stands
+few_nodes (Line EdgeDataSection line ∷ earlier) clean stands =
+    few_nodes earlier (clean_parts earlier (Line EdgeDataSection line) clean).0 stands
 few_nodes (Line Eof line ∷ earlier) clean stands = few_nodes earlier (clean_parts earlier (Line Eof line) clean).0 stands
 few_nodes (Line Unknown line ∷ earlier) clean stands = few_nodes earlier (clean_parts earlier (Line Unknown line) clean).0 stands
 

@@ -44,7 +44,8 @@ numbers_turned (t ∷ ts) i j =
 
 pub adjusted_even : (taken avoided : List (ℕ × ℕ × ℤ)) (w : ℕ → ℕ → ℤ) → ((i j : ℕ) → w i j ≡ w j i) → (i j : ℕ)
     → adjusted taken avoided w i j ≡ adjusted taken avoided w j i
-adjusted_even taken avoided w even i j = ap₂ (λ a b. a +ℤ b) (ap₂ (λ a b. a -ℤ b) (even i j) (numbers_turned taken i j)) (numbers_turned avoided i j)
+adjusted_even taken avoided w even i j =
+    ap₂ (λ a b. a +ℤ b) (ap₂ (λ a b. a -ℤ b) (even i j) (numbers_turned taken i j)) (numbers_turned avoided i j)
 
 -- ---- the numbers along a cycle
 

@@ -120,7 +120,8 @@ each_link n lower upper below (link ∷ pairs) h = (below link.0 link.1 h.0.0 h.
 
 pub length_of_cycle-le : (n : ℕ) (nodes : List ℕ) (lower upper : ℕ → ℕ → ℤ) → 2 ≤ n → IsCycle n nodes
     → ((i j : ℕ) → IsNode n i → IsNode n j → i ≢ j → lower i j ≤ℤ upper i j) → length_of lower nodes ≤ℤ length_of upper nodes
-length_of_cycle-le n nodes lower upper more w below = sum_int_by-le (λ link. lower link.0 link.1) (λ link. upper link.0 link.1) (links nodes)
+length_of_cycle-le n nodes lower upper more w below =
+    sum_int_by-le (λ link. lower link.0 link.1) (λ link. upper link.0 link.1) (links nodes)
     (each_link n lower upper below (links nodes) (cycle_links n nodes more w))
 
 pub length_scaled : (scale : ℕ) (cost : ℕ → ℕ → ℤ) (nodes : List ℕ)

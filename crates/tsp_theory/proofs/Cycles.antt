@@ -54,7 +54,8 @@ apart x (y ∷ xs) h = (ne_eqb x y h.0, apart x xs h.1)
 distinct : (xs : List ℕ) → AllPairs (λ a b. a ≢ b) xs → IsDistinct eqb xs
 unfolding IsDistinct
 distinct [] h = tt
-distinct (x ∷ xs) h = IsDistinct-cons eqb x xs (apart x xs (recursion_from_All (λ y. x ≢ y) xs (λ k d lt. h zero (suc k) d (omega arith) (omega arith))))
+distinct (x ∷ xs) h =
+    IsDistinct-cons eqb x xs (apart x xs (recursion_from_All (λ y. x ≢ y) xs (λ k d lt. h zero (suc k) d (omega arith) (omega arith))))
     (distinct xs (λ i j d below lt. h (suc i) (suc j) d (omega arith) (omega arith)))
 
 parts_all : (P : ℕ → Type 0) (xs ys : List ℕ) → AllByRecursion P (xs ++ ys) → AllByRecursion P xs × AllByRecursion P ys

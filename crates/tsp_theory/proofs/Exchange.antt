@@ -82,10 +82,12 @@ pub uncrossed_more : (part : ℕ → Bool) (pairs : List (ℕ × ℕ)) (pair : �
 uncrossed_more part pairs pair = All-push (λ pair. crosses part pair ≡ false) pairs pair
 
 pub uncrossed_left : (part : ℕ → Bool) (xs ys : List (ℕ × ℕ)) → IsUncrossed part (xs ++ ys) → IsUncrossed part xs
-uncrossed_left part xs ys h k d low = subst (λ pair. crosses part pair ≡ false) (get_or_append_left xs ys d k low) (h k d (omega (arith, length-append xs ys, low)))
+uncrossed_left part xs ys h k d low =
+    subst (λ pair. crosses part pair ≡ false) (get_or_append_left xs ys d k low) (h k d (omega (arith, length-append xs ys, low)))
 
 pub uncrossed_right : (part : ℕ → Bool) (xs ys : List (ℕ × ℕ)) → IsUncrossed part (xs ++ ys) → IsUncrossed part ys
-uncrossed_right part xs ys h k d low = subst (λ pair. crosses part pair ≡ false) (get_or-append-add xs ys k d) (h (length xs + k) d (omega (arith, length-append xs ys, low)))
+uncrossed_right part xs ys h k d low =
+    subst (λ pair. crosses part pair ≡ false) (get_or-append-add xs ys k d) (h (length xs + k) d (omega (arith, length-append xs ys, low)))
 
 pub uncrossed_last : (part : ℕ → Bool) (pairs : List (ℕ × ℕ)) (pair : ℕ × ℕ) → IsUncrossed part (pairs ++ pair ∷ [])
     → crosses part pair ≡ false
@@ -196,7 +198,8 @@ pub record IsTie (a b : ℕ) (earlier later : List (ℕ × ℕ)) : Type 0 where
 
 tie : (a b : ℕ) (earlier later : List (ℕ × ℕ)) → IsCut earlier a b
     → ((part : ℕ → Bool) → IsUncrossed part earlier → IsUncrossed part later → part a ≡ part b) → IsTie a b earlier later
-tie a b earlier [] cut joined = absurd (both_ways (cut.part a) (joined cut.part cut.free (All-nil (λ pair. crosses cut.part pair ≡ false)) ∙ cut.outside) cut.inside)
+tie a b earlier [] cut joined =
+    absurd (both_ways (cut.part a) (joined cut.part cut.free (All-nil (λ pair. crosses cut.part pair ≡ false)) ∙ cut.outside) cut.inside)
 tie a b earlier (t ∷ ts) cut joined = elim (cut_or_tied (t ∷ earlier) a b) [
   | inr tied ↦ record {
     pair = t;
@@ -222,7 +225,8 @@ tie a b earlier (t ∷ ts) cut joined = elim (cut_or_tied (t ∷ earlier) a b) [
 
 -- with the earlier pairs these join all nodes: a part that none of them leaves has all nodes or none
 abbrev pub JoinsBeside : (ℕ → Type 0) → List (ℕ × ℕ) → List (ℕ × ℕ) → Type 0
-JoinsBeside Node earlier xs = (part : ℕ → Bool) → IsUncrossed part earlier → IsUncrossed part xs → (x y : ℕ) → Node x → Node y → part x ≡ part y
+JoinsBeside Node earlier xs =
+    (part : ℕ → Bool) → IsUncrossed part earlier → IsUncrossed part xs → (x y : ℕ) → Node x → Node y → part x ≡ part y
 
 pub crossed_joins : (Node : ℕ → Type 0) (xs : List (ℕ × ℕ))
     → ((part : ℕ → Bool) (inside outside : ℕ) → Node inside → Node outside → part inside ≡ true → part outside ≡ false → IsCrossed xs part)

@@ -69,7 +69,8 @@ joins_least : (Node : ℕ → Type 0) (w : ℕ → ℕ → ℤ) → ((a b : ℕ)
     → AreLeastJoins Node w earlier added
     → length xs ≡ length added → All (IsPairOf Node) xs → JoinsBeside Node earlier xs
     → (weight_of w added ≤ℤ weight_of w xs) × JoinsBeside Node (earlier ++ added) []
-joins_least Node w symmetric [] earlier [] least size of joins = (omega (arith, ints), subst (λ pairs. JoinsBeside Node pairs []) (sym (append-nil earlier)) joins)
+joins_least Node w symmetric [] earlier [] least size of joins =
+    (omega (arith, ints), subst (λ pairs. JoinsBeside Node pairs []) (sym (append-nil earlier)) joins)
 joins_least Node w symmetric [] earlier (x ∷ xs) least size of joins = absurd (omega (arith, size))
 joins_least Node w symmetric (e ∷ es) earlier xs least size of joins =
     let join = least.0 in
@@ -119,4 +120,5 @@ forest_joins n w symmetric added forest = λ part inside outside in_node out_nod
 pub forest_least : (n : ℕ) (w : ℕ → ℕ → ℤ) → ((a b : ℕ) → w a b ≡ w b a) → (added xs : List (ℕ × ℕ)) → IsWholeForest n w added
     → length xs ≡ length added
     → All (IsPairOf (IsInner n)) xs → JoinsBeside (IsInner n) [] xs → weight_of w added ≤ℤ weight_of w xs
-forest_least n w symmetric added xs forest size of joins = (joins_least (IsInner n) w symmetric added [] xs forest.joins size of joins).0
+forest_least n w symmetric added xs forest size of joins =
+    (joins_least (IsInner n) w symmetric added [] xs forest.joins size of joins).0

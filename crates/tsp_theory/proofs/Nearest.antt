@@ -15,7 +15,8 @@ most_64 = pos 9223372036854775807
 -- the nearest of the nodes before this one that are outside
 abbrev pub FindsNearest : ℕ → List Bool → ℕ → List ℤ → ℤ → Option ℕ → Type 0
 FindsNearest n inside node least best None = (best ≡ most_64) × ((x : ℕ) → IsInner n x → x < node → is_inside inside x ≡ true)
-FindsNearest n inside node least best (Some v) = IsInner n v × (v < node) × (is_inside inside v ≡ false) × (best ≡ least_at least v)
+FindsNearest n inside node least best (Some v) =
+    IsInner n v × (v < node) × (is_inside inside v ≡ false) × (best ≡ least_at least v)
     × ((x : ℕ) → IsInner n x → x < node → is_inside inside x ≡ false → best ≤ℤ least_at least x)
 
 -- the nodes before this one are brought up to date, and the others are as they were
@@ -192,4 +193,5 @@ taken_by_set weight result next node near least new_near new_least in_near in_le
 pub kept_is : (result new_least : ℤ) (node : ℕ) (least : List ℤ) → node < length least → FitsSigned w64 result
     → result ≡ new_least
     → to_z w64 (of_z w64 result) ≡ least_at (set least node new_least) node
-kept_is result new_least node least in_least fits is = to_z-of_z w64 result fits ∙ is ∙ sym (get_or-set_same least node new_least (pos 0) in_least)
+kept_is result new_least node least in_least fits is =
+    to_z-of_z w64 result fits ∙ is ∙ sym (get_or-set_same least node new_least (pos 0) in_least)

@@ -181,4 +181,5 @@ count_neighbours n nodes pair laws some cycle h =
 
 pub count_others : (nodes : List ℕ) (pair : ℕ × ℕ) → (AreNeighbours nodes pair → ⊥)
     → count (is_same_pair pair) (links nodes) ≡ pos 0
-count_others nodes pair h = count_none (is_same_pair pair) (links nodes) (false_from_ne_true (list_any (is_same_pair pair) (links nodes)) (λ t. h (neighbours_found nodes pair t)))
+count_others nodes pair h =
+    count_none (is_same_pair pair) (links nodes) (false_from_ne_true (list_any (is_same_pair pair) (links nodes)) (λ t. h (neighbours_found nodes pair t)))

@@ -28,7 +28,8 @@ joins_links Node w (e ∷ es) earlier joins =
 
 -- a symmetric fact of a pair holds of it with the lower end first
 ordered_both : (e : ℕ × ℕ) (P : ℕ × ℕ → Type 0) → (e.0 < e.1 → P e) → (e.1 ≤ e.0 → P (e.1, e.0)) → P (ordered e)
-ordered_both e P here turned = cond_both (ltb e.0 e.1) e (e.1, e.0) P (λ t. here (ltb-true e.0 e.1 t)) (λ f. turned (ltb-false e.0 e.1 f))
+ordered_both e P here turned =
+    cond_both (ltb e.0 e.1) e (e.1, e.0) P (λ t. here (ltb-true e.0 e.1 t)) (λ f. turned (ltb-false e.0 e.1 f))
 
 pub ordered_weight : (w : ℕ → ℕ → ℤ) → ((a b : ℕ) → w a b ≡ w b a) → (es : List (ℕ × ℕ))
     → weight_of w (map ordered es) ≡ weight_of w es
@@ -53,7 +54,8 @@ both_weights w false e xs ys = omega (arith, ints)
 apart_weight : (w : ℕ → ℕ → ℤ) (es : List (ℕ × ℕ))
     → weight_of w es ≡ weight_of w (filter is_at_one es) +ℤ weight_of w (inner_pairs es)
 apart_weight w [] = omega (arith, ints)
-apart_weight w (e ∷ es) = ap (λ z. w e.0 e.1 +ℤ z) (apart_weight w es) ∙ sym (both_weights w (is_at_one e) e (filter is_at_one es) (inner_pairs es))
+apart_weight w (e ∷ es) =
+    ap (λ z. w e.0 e.1 +ℤ z) (apart_weight w es) ∙ sym (both_weights w (is_at_one e) e (filter is_at_one es) (inner_pairs es))
 
 both_lengths : (b : Bool) (e : ℕ × ℕ) (xs ys : List (ℕ × ℕ))
     → length (cond b (e ∷ xs) xs) + length (cond (not b) (e ∷ ys) ys) ≡ suc (length xs + length ys)
@@ -77,7 +79,8 @@ ends_inside n (e ∷ es) h =
 kept_pairs : (P : ℕ × ℕ → Type 0) (test : ℕ × ℕ → Bool) (es : List (ℕ × ℕ)) → AllByRecursion P es
     → AllByRecursion P (filter test es)
 kept_pairs P test [] h = tt
-kept_pairs P test (e ∷ es) h = cond_both (test e) (e ∷ filter test es) (filter test es) (AllByRecursion P) (λ t. (h.0, kept_pairs P test es h.1)) (λ f. kept_pairs P test es h.1)
+kept_pairs P test (e ∷ es) h =
+    cond_both (test e) (e ∷ filter test es) (filter test es) (AllByRecursion P) (λ t. (h.0, kept_pairs P test es h.1)) (λ f. kept_pairs P test es h.1)
 
 -- ---- least joins with their spokes are a 1-tree
 

@@ -24,7 +24,8 @@ product_size m n a b p q = from_size (m * n) (a *ℤ b) (rw (unsigned_abs-mul a 
 
 pub scaled_size : (scale cost : ℤ) → IsScale scale → neg_ℤ (pos most_weight) ≤ℤ cost → cost ≤ℤ pos most_weight
     → IsFromTo (neg_ℤ (pos (most_scale * most_weight))) (pos (most_scale * most_weight)) (scale *ℤ cost)
-scaled_size scale cost s low high = product_size most_scale most_weight scale cost (size_of most_scale scale (omega (arith, ints, s.0), s.1)) (size_of most_weight cost (low, high))
+scaled_size scale cost s low high =
+    product_size most_scale most_weight scale cost (size_of most_scale scale (omega (arith, ints, s.0), s.1)) (size_of most_weight cost (low, high))
 
 -- ---- what the code computes
 

@@ -75,7 +75,8 @@ grows_so w second p so = record {
 
 pub tree_so : (w : ℕ → ℕ → ℤ) (second p : ℕ) → ((a b : ℕ) → w a b ≡ w b a) → GrowsSo w second p
     → IsLeastOneTree 4 w (tree_of 2 second ((2, 3) ∷ (p, 4) ∷ []))
-tree_so w second p even so = least_from_growth 4 w 2 second ((2, 3) ∷ (p, 4) ∷ []) ((2, 3) ∷ (p, 4) ∷ []) (tree_of 2 second ((2, 3) ∷ (p, 4) ∷ []))
+tree_so w second p even so =
+    least_from_growth 4 w 2 second ((2, 3) ∷ (p, 4) ∷ []) ((2, 3) ∷ (p, 4) ∷ []) (tree_of 2 second ((2, 3) ∷ (p, 4) ∷ []))
     (omega arith) even (nearest_so w second p so) (grows_so w second p so) refl refl
 
 -- a least pair at a node leaves the part of that node alone

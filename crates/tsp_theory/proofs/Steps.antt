@@ -46,7 +46,8 @@ grown_by_more (f ∷ fs) grown e = grown_by_more fs (and_node grown f.1) e
 pub grown_by_nodes : (Node : ℕ → Type 0) (w : ℕ → ℕ → ℤ) (added : List (ℕ × ℕ)) (grown : ℕ → Bool) → Grows Node w grown added
     → ((x : ℕ) → grown x ≡ true → Node x) → (x : ℕ) → grown_by grown added x ≡ true → Node x
 grown_by_nodes Node w [] grown g nodes = nodes
-grown_by_nodes Node w (e ∷ es) grown g nodes = grown_by_nodes Node w es (and_node grown e.1) g.1 (and_node_all grown e.1 Node g.0.node nodes)
+grown_by_nodes Node w (e ∷ es) grown g nodes =
+    grown_by_nodes Node w es (and_node grown e.1) g.1 (and_node_all grown e.1 Node g.0.node nodes)
 
 -- ---- a mark more
 
@@ -76,7 +77,8 @@ insiders_few (false ∷ inside) = omega (arith, insiders_few inside, sum_by-cons
 pub insiders_all : (inside : List Bool) → ((x : ℕ) → x < length inside → get_or inside x false ≡ true)
     → insiders inside ≡ length inside
 insiders_all [] all = refl
-insiders_all (true ∷ inside) all = omega (arith, insiders_all inside (λ x h. all (suc x) (omega arith)), sum_by-cons one_if true inside)
+insiders_all (true ∷ inside) all =
+    omega (arith, insiders_all inside (λ x h. all (suc x) (omega arith)), sum_by-cons one_if true inside)
 insiders_all (false ∷ inside) all = absurd (false≢true (all 0 (omega arith)))
 
 -- all but the first two
@@ -253,7 +255,8 @@ row_reached n w size next inside near after least least_after most enough none f
 
 pub written_back : {X : Type 0} (before after : List X) (len : ℕ) → len ≡ length after
     → take len (after ++ drop (length after) before) ≡ after
-written_back before after len same = ap (λ k. take k (after ++ drop (length after) before)) same ∙ take-append_seam after (drop (length after) before)
+written_back before after len same =
+    ap (λ k. take k (after ++ drop (length after) before)) same ∙ take-append_seam after (drop (length after) before)
 
 none_yet : (n x : ℕ) (least : List ℤ) (most : ℤ) → least ≡ replicate (n + 1) most → IsInner n x → least_at least x ≡ most
 none_yet n x least most is h = ap (λ xs. least_at xs x) is ∙ get_or-replicate (n + 1) x most (pos 0) (omega (arith, h.1))

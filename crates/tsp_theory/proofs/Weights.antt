@@ -40,7 +40,8 @@ pub weight_fits : (scaled first second : ℤ)
     → IsFromTo (neg_ℤ (pos most_potential)) (pos most_potential) first
     → IsFromTo (neg_ℤ (pos most_potential)) (pos most_potential) second
     → FitsSigned w64 (to_z w64 (of_z w64 scaled) +ℤ to_z w64 (of_z w64 (to_z w64 (of_z w64 first) +ℤ to_z w64 (of_z w64 second))))
-weight_fits scaled first second p q r = rw (both_is first second q r, scaled_is scaled p) (between_fits (scaled +ℤ (first +ℤ second)) (between_size scaled first second p q r))
+weight_fits scaled first second p q r =
+    rw (both_is first second q r, scaled_is scaled p) (between_fits (scaled +ℤ (first +ℤ second)) (between_size scaled first second p q r))
 
 pub weight_computed : (scaled first second : ℤ)
     → IsFromTo (neg_ℤ (pos (most_scale * most_weight))) (pos (most_scale * most_weight)) scaled
@@ -81,7 +82,8 @@ lower_is weight number p q = omega (arith, ints, p.0, p.1, q.0, q.1)
 
 lower_in : (weight number : ℤ) → IsFromTo (neg_ℤ (pos most_between)) (pos most_between) weight
     → IsFromTo (pos 0) (pos most_multiplier) number → FitsSigned w64 (weight -ℤ number)
-lower_in weight number p q = fits_signed_from_abs w64 (weight -ℤ number) (let size = size_of 1003000000000000000 (weight -ℤ number) (lower_size weight number p q) in omega (arith, size))
+lower_in weight number p q =
+    fits_signed_from_abs w64 (weight -ℤ number) (let size = size_of 1003000000000000000 (weight -ℤ number) (lower_size weight number p q) in omega (arith, size))
 
 pub lower_fits : (weight number : ℤ) → IsFromTo (neg_ℤ (pos most_between)) (pos most_between) weight
     → IsFromTo (pos 0) (pos most_multiplier) number

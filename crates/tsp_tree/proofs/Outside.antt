@@ -128,7 +128,8 @@ removed_at xs i k d e inside below = get_or-take (length xs - 1) (set xs i (get_
 ]
 
 pub removed_length : {X : Type 0} (xs : List X) (i : ℕ) (d : X) → length (swap_remove xs i d) ≡ length xs - 1
-removed_length xs i d = length-take-le (length xs - 1) (set xs i (get_or xs (length xs - 1) d)) (omega (arith, length-set xs i (get_or xs (length xs - 1) d)))
+removed_length xs i d =
+    length-take-le (length xs - 1) (set xs i (get_or xs (length xs - 1) d)) (omega (arith, length-set xs i (get_or xs (length xs - 1) d)))
 
 -- each place that is left was another than the one taken away, and all others are left
 pub moved_others : (i last k : ℕ) → i ≤ last → k < last → (moved_from i last k ≤ last) × (moved_from i last k ≢ i)

@@ -124,8 +124,10 @@ up_to_instance inst sol rank few is none reason low stands = absurd (omega (arit
 -- the first reason against the instance is the first against a solution that has tours
 pub instance_first : (inst sol : Fields) (reason : Reason) → is_tours sol.kind ≡ true
     → IsFirstReason (StandsAgainstInstance inst) reason → IsFirstAgainstTour inst sol reason
-instance_first inst sol TooFewNodes is first = record { stands = first.stands; none_before = up_to_instance inst sol 2 (omega arith) is first.none_before }
-instance_first inst sol (NotSymmetric i j) is first = record { stands = first.stands; none_before = up_to_instance inst sol 3 (omega arith) is first.none_before }
+instance_first inst sol TooFewNodes is first =
+    record { stands = first.stands; none_before = up_to_instance inst sol 2 (omega arith) is first.none_before }
+instance_first inst sol (NotSymmetric i j) is first =
+    record { stands = first.stands; none_before = up_to_instance inst sol 3 (omega arith) is first.none_before }
 instance_first inst sol reason is first = absurd first.stands
 
 -- where none applies to the instance
@@ -229,7 +231,8 @@ accepted_basis : (inst sol : Fields) (basis : Basis) (found : ℤ) (count least 
     → basis ≡ bases.Routes least
 accepted_basis inst sol (bases.Tours bound) found count least b v = absurd b
 accepted_basis inst sol bases.NoTour found count least b v = absurd b
-accepted_basis inst sol (bases.Routes other) found count least b v = ap bases.Routes (same_least (total_of inst) (capacity_of inst) other least b.1 v.1.least_is)
+accepted_basis inst sol (bases.Routes other) found count least b v =
+    ap bases.Routes (same_least (total_of inst) (capacity_of inst) other least b.1 v.1.least_is)
 accepted_basis inst sol (bases.No reason) found count least b v = absurd (v.0 reason (against_routes inst sol reason b.stands))
 
 -- without the claim a solution is accepted too
@@ -259,7 +262,8 @@ with_either : (given : Option (Certificate × Fields)) (inst sol : Fields) (basi
     → inst.kind ≡ Some kinds.Cvrp
     → IsVerdictWith None claimed inst sol verdict → IsBasis given inst basis → IsVerdictWith given claimed inst sol verdict
 with_either None inst sol basis claimed verdict cvrp v b = v
-with_either (Some given) inst sol basis claimed verdict cvrp v b = absurd (cvrp_apart inst.kind cvrp (kinds_bounded given.0 inst.kind b.0))
+with_either (Some given) inst sol basis claimed verdict cvrp v b =
+    absurd (cvrp_apart inst.kind cvrp (kinds_bounded given.0 inst.kind b.0))
 
 -- the verdict on routes is that of the solution
 pub routes_verdict : (given : Option (Certificate × Fields)) (inst sol : Fields) (basis : Basis) (claimed : Option ℤ) (verdict next : Verdict)

@@ -72,7 +72,8 @@ none_stands inst pot sort size wanted fixed once good reason stands = stands
 -- each multiplier is on a fixed pair
 pub none_unlisted : (inst pot : Fields) → AreListed (fixed_of inst) (multipliers_in pot) → (index : ℕ)
     → StandsAgainstPotentials inst pot (MultiplierNotFixed index) → ⊥
-none_unlisted inst pot listed index stands = stands.1.holds (listed (index - 1) (0, 0, pos 0) (omega (arith, stands.1.here.0, stands.1.here.1)))
+none_unlisted inst pot listed index stands =
+    stands.1.holds (listed (index - 1) (0, 0, pos 0) (omega (arith, stands.1.here.0, stands.1.here.1)))
 
 -- no two are on the same
 pub none_repeated : (n : ℕ) (inst pot : Fields) → AreOnPairs n (multipliers_in pot) → (index : ℕ)

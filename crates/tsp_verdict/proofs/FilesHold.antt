@@ -28,7 +28,8 @@ in_both P (x ∷ xs) ys first second = (first.0, in_both P xs ys first.1 second)
 
 in_all : (tours : List (List ℕ)) → AllByRecursion IsNodeList tours → AllByRecursion (IsNode most_nodes) (concat tours)
 in_all [] filled = tt
-in_all (tour ∷ tours) filled = in_both (IsNode most_nodes) tour (concat tours) (recursion_from_All (IsNode most_nodes) tour filled.0.1) (in_all tours filled.1)
+in_all (tour ∷ tours) filled =
+    in_both (IsNode most_nodes) tour (concat tours) (recursion_from_All (IsNode most_nodes) tour filled.0.1) (in_all tours filled.1)
 
 pub counted_from_one : (tours : List (Vec ℕ)) → AreTours (map (λ (t : Vec ℕ). t.items) tours)
     → All (λ node. 1 ≤ node) (nodes_in tours)
@@ -50,7 +51,8 @@ as_many [] = refl
 as_many (t ∷ tours) = ap suc (as_many tours)
 
 pub few_tours : (tours : List (Vec ℕ)) → AreTours (map (λ (t : Vec ℕ). t.items) tours) → length tours ≤ most_tour_nodes
-few_tours tours held = omega (arith, count_le (map (λ (t : Vec ℕ). t.items) tours) (recursion_from_All IsNodeList (map (λ (t : Vec ℕ). t.items) tours) held.0), held.1, as_many tours)
+few_tours tours held =
+    omega (arith, count_le (map (λ (t : Vec ℕ). t.items) tours) (recursion_from_All IsNodeList (map (λ (t : Vec ℕ). t.items) tours) held.0), held.1, as_many tours)
 
 pub few_nodes : (tours : List (Vec ℕ)) → AreTours (map (λ (t : Vec ℕ). t.items) tours) → length (nodes_in tours) ≤ most_tour_nodes
 few_nodes tours held = omega (arith, ap length (nodes_in_is tours), sum_is (map (λ (t : Vec ℕ). t.items) tours), held.1)
@@ -97,7 +99,8 @@ few_changes : (n most : ℕ) (steps : List Step) → most < 2 ^ 32 → AllByRecu
     → AllByRecursion (IsStepOf n) steps
 few_changes n most [] low each few = tt
 few_changes n most (Branch a b ∷ steps) low each few = (each.0, few_changes n most steps low each.1 few)
-few_changes n most (Leaf changes ∷ steps) low each few = (omega (arith, low, few), few_changes n most steps low each.1 (omega (arith, few)))
+few_changes n most (Leaf changes ∷ steps) low each few =
+    (omega (arith, low, few), few_changes n most steps low each.1 (omega (arith, few)))
 
 pub steps_hold : (f : Fields) (steps : List Step) → AreTreeSteps f steps → All (IsStepOf (nodes_of f)) steps
 steps_hold f steps held =
@@ -120,4 +123,5 @@ all_counted (Branch a b ∷ steps) = let rest = all_counted steps in omega (arit
 all_counted (Leaf changes ∷ steps) = let rest = all_counted steps in omega (arith, rest)
 
 pub steps_few : (f : Fields) (steps : List TreeStep) → AreTreeSteps f (steps_of steps) → length steps < 2 ^ 32
-steps_few f steps held = omega (arith, length-map steps step_of, all_counted (steps_of steps), leaves_of_trees 1 (steps_of steps) held.whole, held.few)
+steps_few f steps held =
+    omega (arith, length-map steps step_of, all_counted (steps_of steps), leaves_of_trees 1 (steps_of steps) held.whole, held.few)

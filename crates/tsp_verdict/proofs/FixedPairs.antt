@@ -16,7 +16,8 @@ pub uses_other : (directed : Bool) (cycle next : List ℕ) (pair : ℕ × ℕ) (
     → directed ≡ false → back ≡ eqb (get_or next pair.1 0) pair.0
     → MatchBool back (Uses directed cycle pair) (Uses directed cycle pair → ⊥)
 uses_other true cycle next pair back m some other two e = absurd (false≢true (sym two))
-uses_other false cycle next pair true m some other two e = inr (m.only pair.1 pair.0 some (eqb-true (get_or next pair.1 0) pair.0 (sym e)))
+uses_other false cycle next pair true m some other two e =
+    inr (m.only pair.1 pair.0 some (eqb-true (get_or next pair.1 0) pair.0 (sym e)))
 uses_other false cycle next pair false m some other two e = none
   where
     none : Uses false cycle pair → ⊥

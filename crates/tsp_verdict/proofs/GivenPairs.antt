@@ -29,7 +29,8 @@ each_once_after directed earlier (pair ∷ pairs) =
 -- what passes two tests
 both_pass : (a b : Bool) (q : ℕ × ℕ → Bool) (x : ℕ × ℕ) (ys zs : List (ℕ × ℕ)) → q x ≡ a → ys ≡ filter q zs
     → cond (a && b) (x ∷ ys) ys ≡ filter q (cond b (x ∷ zs) zs)
-both_pass true true q x ys zs is rest = ap (λ (xs : List (ℕ × ℕ)). x ∷ xs) rest ∙ sym (ap (λ (c : Bool). cond c (x ∷ filter q zs) (filter q zs)) is)
+both_pass true true q x ys zs is rest =
+    ap (λ (xs : List (ℕ × ℕ)). x ∷ xs) rest ∙ sym (ap (λ (c : Bool). cond c (x ∷ filter q zs) (filter q zs)) is)
 both_pass false true q x ys zs is rest = rest ∙ sym (ap (λ (c : Bool). cond c (x ∷ filter q zs) (filter q zs)) is)
 both_pass true false q x ys zs is rest = rest
 both_pass false false q x ys zs is rest = rest
@@ -103,7 +104,8 @@ keeps_taken directed nodes (pair ∷ pairs) h = (h.0, keeps_taken directed nodes
 -- what uses all pairs keeps the decisions
 pub keeps_given : (directed : Bool) (nodes : List ℕ) (pairs : List (ℕ × ℕ)) → All (Uses directed nodes) pairs
     → KeepsAll directed nodes (take_pairs (each_once directed pairs))
-keeps_given directed nodes pairs used = subst (λ (xs : List (ℕ × ℕ)). KeepsAll directed nodes (take_pairs xs)) (once_all directed pairs) (All-from_recursion (KeepsDecision directed nodes) (take_pairs (each_once_after directed [] pairs))
+keeps_given directed nodes pairs used =
+    subst (λ (xs : List (ℕ × ℕ)). KeepsAll directed nodes (take_pairs xs)) (once_all directed pairs) (All-from_recursion (KeepsDecision directed nodes) (take_pairs (each_once_after directed [] pairs))
     (keeps_taken directed nodes (each_once_after directed [] pairs) (each_holds directed (Uses directed nodes) [] pairs (recursion_from_All (Uses directed nodes) pairs used))))
 
 -- ---- no pair comes twice
@@ -163,7 +165,8 @@ once_taken directed earlier (pair ∷ pairs) = elim (cases_Bool (list_any (is_sa
 
 pub given_once : (directed : Bool) (given : List Decision) (pairs : List (ℕ × ℕ)) → given ≡ take_pairs (each_once directed pairs)
     → DecideOnce directed given
-given_once directed given pairs are = subst (DecideOnce directed) (sym (after_none directed given pairs are)) (once_taken directed [] pairs)
+given_once directed given pairs are =
+    subst (DecideOnce directed) (sym (after_none directed given pairs are)) (once_taken directed [] pairs)
 
 decisions_of : (n : ℕ) (given : List Decision) → AllByRecursion (λ (decision : Decision). IsPairOf n decision.pair) given
     → AllByRecursion (IsDecision n) given
@@ -185,7 +188,8 @@ once_count directed earlier (pair ∷ pairs) = elim (cases_Bool (list_any (is_sa
 
 pub given_few : (directed : Bool) (most : ℕ) (given : List Decision) (pairs : List (ℕ × ℕ))
     → given ≡ take_pairs (each_once directed pairs) → length pairs ≤ most → length given ≤ most
-given_few directed most given pairs are few = omega (arith, few, ap length (after_none directed given pairs are), taken_length (each_once_after directed [] pairs), once_count directed [] pairs)
+given_few directed most given pairs are few =
+    omega (arith, few, ap length (after_none directed given pairs are), taken_length (each_once_after directed [] pairs), once_count directed [] pairs)
   where
     taken_length : (xs : List (ℕ × ℕ)) → length (take_pairs xs) ≡ length xs
     taken_length xs = length-map xs _
@@ -194,7 +198,8 @@ given_few directed most given pairs are few = omega (arith, few, ap length (afte
 
 -- the taken pairs, and the pairs left to take, are all
 abbrev pub IsTakenSoFar : Bool → List (ℕ × ℕ) → List Decision → ℕ → Type 0
-IsTakenSoFar directed pairs taken index = taken ++ take_pairs (each_once_after directed (take index pairs) (drop index pairs)) ≡ take_pairs (each_once_after directed [] pairs)
+IsTakenSoFar directed pairs taken index =
+    taken ++ take_pairs (each_once_after directed (take index pairs) (drop index pairs)) ≡ take_pairs (each_once_after directed [] pairs)
 
 pub taken_at_start : (directed : Bool) (pairs : List (ℕ × ℕ)) → IsTakenSoFar directed pairs [] 0
 taken_at_start directed pairs = refl

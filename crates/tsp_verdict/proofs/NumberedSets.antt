@@ -63,7 +63,8 @@ told_from : (first : ℕ) (crossed : List Crossings) (sets : List NumberedSet) (
     → families_from first crossed sets ≡ families_with crossed combs
 told_from first [] sets combs long h = refl
 told_from first (own ∷ crossed) sets [] long h = absurd (omega (arith, long))
-told_from first (own ∷ crossed) sets (comb ∷ combs) long h = ap₂ (λ a b. family_with own a ∷ b) (h 0 first (omega arith) (omega arith))
+told_from first (own ∷ crossed) sets (comb ∷ combs) long h =
+    ap₂ (λ a b. family_with own a ∷ b) (h 0 first (omega arith) (omega arith))
     (told_from (suc first) crossed sets combs (omega (arith, long)) (λ j k lt at. h (suc j) k (omega (arith, lt)) (omega (arith, at))))
 
 -- the families of the list are those that it was made of
@@ -79,7 +80,8 @@ one_numbers unique n [] [] combs p q f g = refl
 one_numbers unique n [] (b ∷ bs) combs p q f g = absurd (omega (arith, p, q))
 one_numbers unique n (a ∷ more) [] combs p q f g = absurd (omega (arith, p, q))
 one_numbers unique n (a ∷ more) (b ∷ bs) [] p q f g = absurd (omega (arith, p))
-one_numbers unique n (a ∷ more) (b ∷ bs) (sets ∷ combs) p q f g = ap₂ (λ (c : Crossings) (cs : List Crossings). c ∷ cs) (unique n (family_with a sets) (family_with b sets) refl f.0 g.0)
+one_numbers unique n (a ∷ more) (b ∷ bs) (sets ∷ combs) p q f g =
+    ap₂ (λ (c : Crossings) (cs : List Crossings). c ∷ cs) (unique n (family_with a sets) (family_with b sets) refl f.0 g.0)
     (one_numbers unique n more bs combs (omega (arith, p)) (omega (arith, q)) f.1 g.1)
 
 -- ---- all sets
@@ -99,14 +101,16 @@ all_nodes n first (comb ∷ combs) are =
 
 all_from : (first : ℕ) (combs : List (List (List ℕ))) → All (λ set. first ≤ set.comb) (numbered_from first combs)
 all_from first [] = λ k d lt. absurd (omega (arith, lt))
-all_from first (comb ∷ combs) = All-append (λ (set : NumberedSet). first ≤ set.comb) (with_number first comb) (numbered_from (suc first) combs)
+all_from first (comb ∷ combs) =
+    All-append (λ (set : NumberedSet). first ≤ set.comb) (with_number first comb) (numbered_from (suc first) combs)
     (with_all (λ (set : NumberedSet). first ≤ set.comb) first comb (λ k d lt. omega arith))
     (All-weaker (λ (set : NumberedSet). suc first ≤ set.comb) (λ (set : NumberedSet). first ≤ set.comb) (λ set le. omega (arith, le)) (numbered_from (suc first) combs) (all_from (suc first) combs))
 
 pub all_within : (first : ℕ) (combs : List (List (List ℕ)))
     → All (λ set. set.comb < first + length combs) (numbered_from first combs)
 all_within first [] = λ k d lt. absurd (omega (arith, lt))
-all_within first (comb ∷ combs) = All-append (λ (set : NumberedSet). set.comb < first + suc (length combs)) (with_number first comb) (numbered_from (suc first) combs)
+all_within first (comb ∷ combs) =
+    All-append (λ (set : NumberedSet). set.comb < first + suc (length combs)) (with_number first comb) (numbered_from (suc first) combs)
     (with_all (λ (set : NumberedSet). set.comb < first + suc (length combs)) first comb (λ k d lt. omega arith))
     (All-weaker (λ (set : NumberedSet). set.comb < suc first + length combs) (λ (set : NumberedSet). set.comb < first + suc (length combs)) (λ set lt. omega (arith, lt)) (numbered_from (suc first) combs)
     (all_within (suc first) combs))
@@ -154,11 +158,13 @@ from_plain P (set ∷ sets) h = (h.0, from_plain P sets h.1)
 
 all_plain : (P : NumberedSet → Type 0) (sets : List CombSet) (told : List NumberedSet) → plain sets ≡ told → All P told
     → All (λ set. P (as_numbered set)) sets
-all_plain P sets told are h = All-from_recursion (λ (set : CombSet). P (as_numbered set)) sets (from_plain P sets (recursion_from_All P (plain sets) (subst (All P) (sym are) h)))
+all_plain P sets told are h =
+    All-from_recursion (λ (set : CombSet). P (as_numbered set)) sets (from_plain P sets (recursion_from_All P (plain sets) (subst (All P) (sym are) h)))
 
 pub sets_of_nodes : (n : ℕ) (sets : List CombSet) (combs : List (List (List ℕ))) → plain sets ≡ numbered_from 0 combs
     → AreSomeSets n combs → AreSetsOf n sets
-sets_of_nodes n sets combs are some = all_plain (λ (set : NumberedSet). All (IsNode n) set.nodes) sets (numbered_from 0 combs) are (all_nodes n 0 combs some.sets)
+sets_of_nodes n sets combs are some =
+    all_plain (λ (set : NumberedSet). All (IsNode n) set.nodes) sets (numbered_from 0 combs) are (all_nodes n 0 combs some.sets)
 
 pub sets_of_combs : (sets : List CombSet) (combs : List (List (List ℕ))) → plain sets ≡ numbered_from 0 combs
     → All (λ set. set.comb < length combs) sets
@@ -210,7 +216,8 @@ added_more number index comb old sets pushed set nodes lt is same more so_far =
 
 pub added_all : (number index : ℕ) (comb : List (Vec ℕ)) (old new : List CombSet) → length comb ≤ index
     → IsAdded number (take index comb) old new → IsAdded number comb old new
-added_all number index comb old new past so_far = subst (λ (cs : List (Vec ℕ)). IsAdded number cs old new) (take_all index comb past) so_far
+added_all number index comb old new past so_far =
+    subst (λ (cs : List (Vec ℕ)). IsAdded number cs old new) (take_all index comb past) so_far
 
 -- the sets so far, and those that the rest gives, are all
 abbrev pub IsNumbered : List (Vec (Vec ℕ)) → List CombSet → ℕ → List (Vec (Vec ℕ)) → Type 0

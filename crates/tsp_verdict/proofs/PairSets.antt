@@ -47,8 +47,10 @@ listed pairs pair h =
     ]
 
 found_listed : (pairs : List (ℕ × ℕ)) (pair : ℕ × ℕ) → IsListed pairs pair → list_any (λ x. is_same_pair pair x) pairs ≡ true
-found_listed pairs pair (inl at) = list_any_at (λ x. is_same_pair pair x) pairs at.0 pair at.1 (rw at.2 (straight pair pair refl refl))
-found_listed pairs pair (inr at) = list_any_at (λ x. is_same_pair pair x) pairs at.0 (pair.1, pair.0) at.1 (rw at.2 (crossed pair (pair.1, pair.0) refl refl))
+found_listed pairs pair (inl at) =
+    list_any_at (λ x. is_same_pair pair x) pairs at.0 pair at.1 (rw at.2 (straight pair pair refl refl))
+found_listed pairs pair (inr at) =
+    list_any_at (λ x. is_same_pair pair x) pairs at.0 (pair.1, pair.0) at.1 (rw at.2 (crossed pair (pair.1, pair.0) refl refl))
 
 pub has_listed : (pairs : List (ℕ × ℕ)) (s : BTreeSet (ℕ × ℕ)) (pair : ℕ × ℕ) → HasPairs (λ p. p) s pairs
     → contains pair_cmp s (undirected pair) ≡ true → IsListed pairs pair
@@ -78,7 +80,8 @@ abbrev none : ℕ × ℕ × ℤ
 none = (0, 0, pos 0)
 
 abbrev pub AreApart : List (ℕ × ℕ × ℤ) → ℕ → Type 0
-AreApart triples count = (i j : ℕ) → i < j → j < count → is_same_pair (pair_of (get_or triples i (0, 0, pos 0))) (pair_of (get_or triples j (0, 0, pos 0))) ≡ false
+AreApart triples count =
+    (i j : ℕ) → i < j → j < count → is_same_pair (pair_of (get_or triples i (0, 0, pos 0))) (pair_of (get_or triples j (0, 0, pos 0))) ≡ false
 
 at_place : (triples : List (ℕ × ℕ × ℤ)) (k : ℕ) → pair_at triples (k + 1) ≡ pair_of (get_or triples k none)
 at_place triples k = let e : (k + 1) - 1 ≡ k = omega arith in ap (λ m. pair_of (get_or triples m none)) e

@@ -44,7 +44,8 @@ pub count_here : (routes : List (Vec ℕ)) (i before : ℕ) (route : Vec ℕ) (n
     → route ≡ get_or routes i route
     → before ≡ length (nodes_in (take i routes)) → nodes ≡ route.items
     → before + length nodes ≡ length (nodes_in (take (i + 1) routes))
-count_here routes i before route nodes lt is counted same = omega (arith, count_more routes i route lt is, counted, ap length same)
+count_here routes i before route nodes lt is counted same =
+    omega (arith, count_more routes i route lt is, counted, ap length same)
 
 -- the first place of a route at which P holds is the first one of all, where P holds nowhere before
 pub first_after : (P Q : ℕ → Type 0) (nodes piece : List ℕ) (before place : ℕ) → ((v : ℕ) → P v → Q v → ⊥)

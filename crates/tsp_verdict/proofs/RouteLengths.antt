@@ -31,7 +31,8 @@ length_last cost so_far total end from others none e =
     ∙ subst (λ (xs : List ℕ). so_far +ℤ length_to cost end from xs ≡ total) none e
 
 pub sum_more : (sum cost : ℤ) (count more : ℕ) → IsSumOf count sum → IsSumOf more cost → IsSumOf (count + more) (sum +ℤ cost)
-sum_more sum cost count more size other = record { low = omega (arith, ints, size.low, other.low); high = omega (arith, ints, size.high, other.high) }
+sum_more sum cost count more size other =
+    record { low = omega (arith, ints, size.low, other.low); high = omega (arith, ints, size.high, other.high) }
 
 pub sum_one : (cost : ℤ) → neg_ℤ (pos most_weight) ≤ℤ cost → cost ≤ℤ pos most_weight → IsSumOf 1 cost
 sum_one cost low high = record { low = omega (arith, ints, low); high = omega (arith, ints, high) }

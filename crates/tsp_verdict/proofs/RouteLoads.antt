@@ -22,7 +22,8 @@ pub load_none : IsLoadOf 0 (pos 0)
 load_none = record { low = omega (arith, ints); high = omega (arith, ints) }
 
 pub load_more : (sum demand : ℤ) (count : ℕ) → IsLoadOf count sum → IsDemand demand → IsLoadOf (count + 1) (sum +ℤ demand)
-load_more sum demand count size more = record { low = omega (arith, ints, size.low, more.0); high = omega (arith, ints, size.high, more.1) }
+load_more sum demand count size more =
+    record { low = omega (arith, ints, size.low, more.0); high = omega (arith, ints, size.high, more.1) }
 
 pub load_fits : (sum demand : ℤ) (count : ℕ) → count ≤ 1000000 → IsLoadOf count sum → IsDemand demand
     → to_z w64 (of_z w64 (sum +ℤ to_z w64 (of_z w64 demand))) ≡ sum +ℤ demand
@@ -31,7 +32,8 @@ load_fits sum demand count few size more = omega (arith, ints, size.low, size.hi
 -- one demand further
 pub sum_step : {X : Type 0} (f : X → ℤ) (so_far total : ℤ) (x : X) (others rest : List X) → others ≡ x ∷ rest
     → so_far +ℤ sum_int_by f others ≡ total → (so_far +ℤ f x) +ℤ sum_int_by f rest ≡ total
-sum_step {X} f so_far total x others rest parts e = +ℤ_assoc so_far (f x) (sum_int_by f rest) ∙ subst (λ (xs : List X). so_far +ℤ sum_int_by f xs ≡ total) parts e
+sum_step {X} f so_far total x others rest parts e =
+    +ℤ_assoc so_far (f x) (sum_int_by f rest) ∙ subst (λ (xs : List X). so_far +ℤ sum_int_by f xs ≡ total) parts e
 
 -- at the end
 pub sum_end : {X : Type 0} (f : X → ℤ) (so_far total : ℤ) (others : List X) → others ≡ [] → so_far +ℤ sum_int_by f others ≡ total

@@ -189,7 +189,8 @@ none_before inst tree rank sort size combs once leaves reason low stands = stand
 -- out of memory, those are ruled out that need none
 pub none_of_tree : (inst tree : Fields) → is_tree tree.kind ≡ true → nodes_of tree ≡ nodes_of inst
     → NoneWithoutMemory Branches inst tree
-none_of_tree inst tree sort size = none_before inst tree 25 (λ low. sort) (λ low. size) (λ low. absurd (omega (arith, low))) (λ low. absurd (omega (arith, low))) (λ low. absurd (omega (arith, low)))
+none_of_tree inst tree sort size =
+    none_before inst tree 25 (λ low. sort) (λ low. size) (λ low. absurd (omega (arith, low))) (λ low. absurd (omega (arith, low))) (λ low. absurd (omega (arith, low)))
 
 pub comb_first : (inst tree : Fields) (costs : ℕ → ℕ → ℤ) (index : ℕ) → is_tree tree.kind ≡ true → nodes_of tree ≡ nodes_of inst
     → IsTold inst tree costs (found.BadComb index)
@@ -220,8 +221,10 @@ pub none_stands : NumbersAreUnique → (inst tree : Fields) (costs : ℕ → ℕ
     → (reason : Reason) → StandsAgainstTree inst tree reason → ⊥
 none_stands unique inst tree costs bound sort size is NotBranches stands = false≢true (sym stands ∙ sort)
 none_stands unique inst tree costs bound sort size is BranchesDimension stands = stands size
-none_stands unique inst tree costs bound sort size is (BadComb index) stands = no_bad_comb inst tree is.by_steps.are_families.good index stands
-none_stands unique inst tree costs bound sort size is (BranchTwice index) stands = no_twice inst tree is.steps is.steps_are is.by_steps.are_once.0 index stands
+none_stands unique inst tree costs bound sort size is (BadComb index) stands =
+    no_bad_comb inst tree is.by_steps.are_families.good index stands
+none_stands unique inst tree costs bound sort size is (BranchTwice index) stands =
+    no_twice inst tree is.steps is.steps_are is.by_steps.are_once.0 index stands
 none_stands unique inst tree costs bound sort size is (BadLeaf index) stands =
     no_bad_leaf unique inst tree is.steps is.by_steps.crossed is.steps_are (numbers_told inst tree is.by_steps.crossed is.by_steps.are_families) is.by_steps.leaves.2 index stands
 none_stands unique inst tree costs bound sort size is reason stands = stands

@@ -7,5 +7,6 @@ use Rattle.tsp_stream.specs.states.WriteProgress.{way_of, Carried}
 use Rattle.tsp_file.proofs.writer.put_fields.Given as goal
 
 abbrev pub invariant-loop-field : goal.invariant-loop-field
-invariant-loop-field g l = Carried (way_of g.W.Write.contents l.initial.out l.initial.piece.items) (way_of g.W.Write.contents l.out l.piece.items)
+invariant-loop-field g l =
+    Carried (way_of g.W.Write.contents l.initial.out l.initial.piece.items) (way_of g.W.Write.contents l.out l.piece.items)
     (flat_map (text_of_field (fields_of l.draft)) (take l.field-index l.fields))

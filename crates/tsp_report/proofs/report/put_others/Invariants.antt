@@ -6,5 +6,6 @@ use Rattle.tsp_report.proofs.Texts.{unknown_line}
 use Rattle.tsp_report.proofs.report.put_others.Given as goal
 
 abbrev pub invariant-lines : goal.invariant-lines
-invariant-lines g l = Carried (way_of g.W.Write.contents l.initial.out l.initial.piece.items) (way_of g.W.Write.contents l.out l.piece.items)
+invariant-lines g l =
+    Carried (way_of g.W.Write.contents l.initial.out l.initial.piece.items) (way_of g.W.Write.contents l.out l.piece.items)
     (flat_map (λ line. unknown_line (line.0.items, line.1.items)) (take l.keyword-index l.others))

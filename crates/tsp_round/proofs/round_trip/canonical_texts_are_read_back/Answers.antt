@@ -27,7 +27,8 @@ returns-clause-alone c =
 only_this : (bytes : List ℕ) (file : Fields) (answer : Result Fields ReadFault) → Spells bytes file → Reads bytes answer
     → IsThisFile file answer
 only_this bytes file (Ok other) spells reads = reads.fields ∙ sym spells.fields
-only_this bytes file (Err (faults.Line line word found)) spells reads = absurd (none-some (faults.Line line word found) (sym spells.no_fault ∙ reads))
+only_this bytes file (Err (faults.Line line word found)) spells reads =
+    absurd (none-some (faults.Line line word found) (sym spells.no_fault ∙ reads))
 only_this bytes file (Err (faults.End found)) spells reads = absurd (none-some (faults.End found) (sym spells.no_fault ∙ reads))
 only_this bytes file (Err faults.OutOfMemory) spells reads = tt
 only_this bytes file (Err faults.Device) spells reads = reads

@@ -13,7 +13,8 @@ use Rattle.tsp_verdict.proofs.TourVerdicts.{is_cycle, larger_first, none_up_to_r
 use Rattle.tsp_verdict.proofs.tour.length_after_files.Goals as goal
 
 pub returns-in-Some : goal.returns-in-Some
-returns-in-Some c = larger_first c.args.inst.now c.args.sol.now c.in-Ok.tour.now c.count-nodes.result c.in-Some.place c.in-Ok.ensures.0
+returns-in-Some c =
+    larger_first c.args.inst.now c.args.sol.now c.in-Ok.tour.now c.count-nodes.result c.in-Some.place c.in-Ok.ensures.0
     c.count-nodes.ensures.value (c.in-Ok.ensures.3 0) c.in-Some.ensures
 
 pub returns-in_err-place : goal.returns-in_err-place

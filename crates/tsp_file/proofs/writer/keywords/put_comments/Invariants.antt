@@ -7,5 +7,6 @@ use Rattle.tsp_stream.specs.states.WriteProgress.{way_of, Carried}
 use Rattle.tsp_file.proofs.writer.keywords.put_comments.Given as goal
 
 abbrev pub invariant-loop-comment : goal.invariant-loop-comment
-invariant-loop-comment g l = Carried (way_of g.W.Write.contents l.initial.out l.initial.piece.items) (way_of g.W.Write.contents l.out l.piece.items)
+invariant-loop-comment g l =
+    Carried (way_of g.W.Write.contents l.initial.out l.initial.piece.items) (way_of g.W.Write.contents l.out l.piece.items)
     (flat_map (λ v. keyword_line CommentKey v.items) (take l.comment-index l.comments))

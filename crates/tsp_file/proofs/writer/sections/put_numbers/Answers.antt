@@ -19,6 +19,7 @@ nodes-preserved g c =
     (omega arith) c.nodes.invariant line
 
 pub returns : goal.returns
-returns g c = carried_nodes (λ (entry : ℕ × ℤ). number_line (decimal entry.0) (whole_number entry.1)) c.args.numbers.now c.nodes.index
+returns g c =
+    carried_nodes (λ (entry : ℕ × ℤ). number_line (decimal entry.0) (whole_number entry.1)) c.args.numbers.now c.nodes.index
     (way_of g.W.Write.contents c.args.out.now c.args.piece.now.items) (way_of g.W.Write.contents c.nodes.out c.nodes.piece.items) (omega arith)
     c.nodes.invariant

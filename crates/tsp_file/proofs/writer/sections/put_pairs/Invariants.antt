@@ -7,5 +7,6 @@ use Rattle.tsp_stream.specs.states.WriteProgress.{way_of, Carried}
 use Rattle.tsp_file.proofs.writer.sections.put_pairs.Given as goal
 
 abbrev pub invariant-pairs : goal.invariant-pairs
-invariant-pairs g l = Carried (way_of g.W.Write.contents l.initial.out l.initial.piece.items) (way_of g.W.Write.contents l.out l.piece.items)
+invariant-pairs g l =
+    Carried (way_of g.W.Write.contents l.initial.out l.initial.piece.items) (way_of g.W.Write.contents l.out l.piece.items)
     (flat_map (λ (pair : ℕ × ℕ). number_line (decimal pair.0) (decimal pair.1 ∷ [])) (take l.first-index l.pairs))

@@ -6,5 +6,6 @@ use Rattle.tsp_stream.specs.states.WriteProgress.{way_of, Carried}
 use Rattle.tsp_file.proofs.writer.tree.put_changes.Given as goal
 
 abbrev pub invariant-changes : goal.invariant-changes
-invariant-changes g l = Carried (way_of g.W.Write.contents l.initial.out l.initial.piece.items) (way_of g.W.Write.contents l.out l.piece.items)
+invariant-changes g l =
+    Carried (way_of g.W.Write.contents l.initial.out l.initial.piece.items) (way_of g.W.Write.contents l.out l.piece.items)
     (flat_map (λ (change : ℕ × ℤ). flat_map before_blank (change_words change)) (take l.index-index l.changes))

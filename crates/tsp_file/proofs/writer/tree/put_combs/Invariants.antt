@@ -6,5 +6,6 @@ use Rattle.tsp_stream.specs.states.WriteProgress.{way_of, Carried}
 use Rattle.tsp_file.proofs.writer.tree.put_combs.Given as goal
 
 abbrev pub invariant-combs : goal.invariant-combs
-invariant-combs g l = Carried (way_of g.W.Write.contents l.initial.out l.initial.piece.items) (way_of g.W.Write.contents l.out l.piece.items)
+invariant-combs g l =
+    Carried (way_of g.W.Write.contents l.initial.out l.initial.piece.items) (way_of g.W.Write.contents l.out l.piece.items)
     (flat_map (λ comb. comb_lines (map (λ set. set.items) comb.items)) (take l.comb-index l.combs))

@@ -7,5 +7,6 @@ use Rattle.tsp_stream.specs.states.WriteProgress.{way_of, Carried}
 use Rattle.tsp_file.proofs.writer.tree.put_steps.Given as goal
 
 abbrev pub invariant-steps : goal.invariant-steps
-invariant-steps g l = Carried (way_of g.W.Write.contents l.initial.out l.initial.piece.items) (way_of g.W.Write.contents l.out l.piece.items)
+invariant-steps g l =
+    Carried (way_of g.W.Write.contents l.initial.out l.initial.piece.items) (way_of g.W.Write.contents l.out l.piece.items)
     (flat_map (λ step. step_line (step_of step)) (take l.step-index l.steps))
