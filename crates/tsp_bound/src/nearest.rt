@@ -1,12 +1,10 @@
 //! The search for the nearest node outside, by a tree of boxes.
 
-ghost use Rattle.std.specs.Prelude.{◌≡◌, ◌<◌, ◌^◌, ℕ, length};
-ghost use Rattle.tsp_format.specs.Cells.{IsNode};
-ghost use Rattle.tsp_bound.specs.states.Potentials.{numbers_of, weight_under};
-ghost use Rattle.tsp_bound.specs.states.Boxes.{HoldsNode, AreHeld, IsSearched, no_best, node_of};
+ghost use Rattle.std.specs.Prelude.{◌<◌, length};
+ghost use Rattle.tsp_bound.specs.states.Potentials.{weight_under};
+ghost use Rattle.tsp_bound.specs.states.Boxes.{IsSearched, no_best};
 
-use crate::potentials::Potentials;
-use crate::search::{Search, inverse_of};
+use crate::search::Search;
 use crate::seen::Seen;
 use tsp_theory::Grouped;
 
@@ -23,41 +21,23 @@ pub(crate) struct Best {
 /// The node at the place `near` is looked at first, where it is outside: a good one leaves more
 /// boxes alone. `steps` counts the boxes.
 pub(crate) fn nearest_from<C: Grouped, S: Seen>(
-    c: &C,
-    p: &Potentials,
-    order: &[u32],
-    seen: &S,
+    search: &Search<C, S>,
     place: usize,
     near: usize,
     steps: &mut u64,
 ) -> Best
-    requires count { length (numbers_of p.now) ≡ C.nodes c.now }
-    requires nodes { (j : ℕ) → j < length order.now → IsNode (C.nodes c.now) (node_of order.now j) }
-    requires few { length order.now < 2 ^ 31 }
-    requires as_many { S.count_of seen.now ≡ length order.now }
-    requires place { place < length order.now }
-    requires near { near < length order.now }
-    requires held { AreHeld (HoldsNode (C.place c.now) (numbers_of p.now)) order.now (S.outside_of seen.now)
-        (S.area_of seen.now) }
-    ensures { IsSearched (weight_under p.now (C.at c.now)) order.now (S.outside_of seen.now)
-        (node_of order.now place) 1 no_best result }
+    requires place { place < length search.now.order.now }
+    requires near { near < length search.now.order.now }
+    ensures { IsSearched (weight_under search.now.p.now (C.at search.now.c.now))
+        search.now.order.now (S.outside_of search.now.seen.now) search.now.from 1 no_best result }
 {
-    let search = Search {
-        c,
-        p,
-        order,
-        seen,
-        from: order[place],
-        own: p.number(order[place]),
-        inverse: inverse_of(p.scale),
-    };
     let none = Best {
         weight: i64::MAX,
         place: 0,
     };
     let first = search.better_of(near, none);
     let mut best = search.better_of(place, first);
-    let mut v = order.len() + place;
+    let mut v = search.order.len() + place;
     'climb: while v > 1 {
         let other = if v % 2 == 0 { v + 1 } else { v - 1 };
         *steps = steps.wrapping_add(1);

@@ -12,6 +12,7 @@ use crate::by_node::ByNode;
 use crate::link::Link;
 use crate::nearest::{Best, nearest_from};
 use crate::potentials::Potentials;
+use crate::search::{Search, inverse_of};
 use crate::seen::Seen;
 use tsp_theory::Grouped;
 
@@ -88,15 +89,17 @@ impl<'a, C: Grouped> Placed<'a, C> {
             (node_of self.now.order.now i) (node_of self.now.order.now j))
             (S.outside_of seen.now) from link) }
     {
-        let unlowered = nearest_from(
-            self.c,
-            &self.p,
-            self.order,
+        let node = self.order[from as usize];
+        let search = Search {
+            c: self.c,
+            p: &self.p,
+            order: self.order,
             seen,
-            from as usize,
-            near as usize,
-            steps,
-        );
+            from: node,
+            own: self.p.number(node),
+            inverse: inverse_of(self.p.scale),
+        };
+        let unlowered = nearest_from(&search, from as usize, near as usize, steps);
         let best = self.lowered(seen, from, unlowered, steps);
         if best.weight == i64::MAX {
             return None;

@@ -16,7 +16,7 @@ use Rattle.tsp_branch.specs.Certificate.{multiplied, IsFoundAt}
 use Rattle.tsp_branch.specs.states.Combed.{plain, AreSmallMultipliers, AreFewCrossings, set_weight}
 use Rattle.tsp_branch.specs.CombsOfSets.{NumberedSet, families_of}
 use Rattle.tsp_branch.specs.states.Decided.{decided}
-use Rattle.tsp_branch.specs.Judged.{AreGoodNumbers, as_leaf_numbers, most_crossed, most_with}
+use Rattle.tsp_branch.specs.GoodNumbers.{AreGoodNumbers, as_leaf_numbers, most_crossed, most_with}
 use Rattle.tsp_families.specs.declared.comb_set.CombSet.{CombSet}
 use Rattle.tsp_branch.proofs.Changes.{changes_are}
 use Rattle.tsp_branch.proofs.CombSizes.{families_crossed_few, families_some, multipliers_below}

@@ -13,7 +13,7 @@ use Rattle.tsp_branch.specs.states.Sets.{AreInOrder}
 use Rattle.tsp_branch.specs.states.Combed.{plain}
 use Rattle.tsp_branch.specs.CombsOfSets.{NumberedSet, family_with, of_comb, families_from, families_of}
 use Rattle.tsp_branch.specs.GoodCombs.{HasEachOnce, IsGoodFamily, IsFirstBadComb, AreFamilies}
-use Rattle.tsp_branch.specs.states.Numbers.{HasNumbers}
+use Rattle.tsp_branch.specs.states.FamilyNumbers.{HasNumbers}
 use Rattle.tsp_families.specs.declared.comb_set.CombSet.{CombSet}
 
 -- ---- a run at the front

@@ -20,7 +20,7 @@ use Rattle.tsp_branch.specs.Families.{Family, IsLoneOrComb, IsFamily}
 use Rattle.tsp_branch.specs.LeafBound.{crossings_of}
 use Rattle.tsp_branch.specs.Certificate.{multiplied}
 use Rattle.tsp_branch.specs.CombsOfSets.{NumberedSet, of_comb, family_with, families_from}
-use Rattle.tsp_branch.specs.Judged.{most_crossed, most_with}
+use Rattle.tsp_branch.specs.GoodNumbers.{most_crossed, most_with}
 use Rattle.tsp_branch.specs.states.Combed.{most_combed}
 use Rattle.tsp_branch.proofs.Combs.{Apart, apart_from_pairs}
 use Rattle.tsp_branch.proofs.LeafBounds.{product_below}

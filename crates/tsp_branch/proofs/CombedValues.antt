@@ -6,7 +6,7 @@ use Rattle.std.proofs.lemmas.Int.{ints}
 use Rattle.std.proofs.lemmas.List.Elements.{recursion_from_All}
 use Rattle.tsp_theory.specs.Numbers.{IsFromTo}
 use Rattle.tsp_theory.specs.NodeBound.{weight_between}
-use Rattle.tsp_branch.specs.Judged.{most_crossed}
+use Rattle.tsp_branch.specs.GoodNumbers.{most_crossed}
 use Rattle.tsp_branch.specs.states.Sets.{IsMoved, sets_with}
 use Rattle.tsp_branch.specs.states.Combed.{AreMultipliedSets, IsApart, no_set, plain, multipliers_at, inside_both, set_crossings, most_combed, set_weight}
 use Rattle.tsp_families.specs.declared.comb_set.CombSet.{CombSet}

@@ -11,7 +11,7 @@ use Rattle.tsp_theory.proofs.Adjustments.{sum_zero}
 use Rattle.tsp_theory.proofs.Crossings.{twice}
 use Rattle.tsp_theory.proofs.Cycles.{has_node}
 use Rattle.tsp_theory.specs.Cycle.{IsCycle}
-use Rattle.tsp_families.specs.Parts.{LeastLengthsAreUnique, MostCostsAreUnique}
+use Rattle.tsp_families.specs.SetParts.{LeastLengthsAreUnique, MostCostsAreUnique}
 use Rattle.tsp_families.specs.declared.family.Crossings.{Crossings}
 use Rattle.tsp_branch.specs.Combs.{Comb, CyclesCrossCombs, crossings}
 use Rattle.tsp_branch.specs.Families.{IsLoneOrComb, IsFamily, least_crossings_of, CyclesCrossFamilies, NumbersAreUnique}

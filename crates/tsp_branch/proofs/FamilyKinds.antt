@@ -7,14 +7,14 @@ use Rattle.std.proofs.lemmas.Int.{ints}
 use Rattle.std.proofs.lemmas.List.{length-map, get_or-map}
 use Rattle.tsp_format.specs.Cells.{IsNode}
 use Rattle.tsp_families.specs.Crossed.{IsLeastLength, IsMostCost, has, sets_of, sets_crossed, AreTooMany}
-use Rattle.tsp_families.specs.Parts.{MostCostsAreUnique}
+use Rattle.tsp_families.specs.SetParts.{MostCostsAreUnique}
 use Rattle.tsp_families.specs.FamilySets.{AreSetsOf, lists_of}
 use Rattle.tsp_families.specs.declared.comb_set.CombSet.{CombSet}
 use Rattle.tsp_families.specs.declared.family.Crossings.{Crossings}
 use Rattle.tsp_branch.specs.Families.{IsFamily, least_crossings_of}
 use Rattle.tsp_branch.specs.CombsOfSets.{comb_with, family_with}
 use Rattle.tsp_branch.specs.GoodCombs.{HasEachOnce, IsGoodComb, IsGoodFamily}
-use Rattle.tsp_branch.specs.states.Numbers.{HasNumbers}
+use Rattle.tsp_branch.specs.states.FamilyNumbers.{HasNumbers}
 use Rattle.tsp_branch.specs.states.Marked.{is_marked, AreUnmarked, AreNew}
 
 -- ---- a lone set or a comb

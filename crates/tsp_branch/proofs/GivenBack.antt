@@ -18,7 +18,7 @@ use Rattle.tsp_branch.specs.Certificate.{multiplied}
 use Rattle.tsp_branch.specs.declared.decision.Decision.{Decision}
 use Rattle.tsp_branch.specs.Decisions.{on_taken, decided_number}
 use Rattle.tsp_branch.specs.states.Combed.{plain}
-use Rattle.tsp_branch.specs.Judged.{most_crossed}
+use Rattle.tsp_branch.specs.GoodNumbers.{most_crossed}
 use Rattle.tsp_branch.specs.CombsOfSets.{NumberedSet, families_from, least_with}
 use Rattle.tsp_branch.specs.states.Decided.{stack_of}
 use Rattle.tsp_families.specs.declared.comb_set.CombSet.{CombSet}

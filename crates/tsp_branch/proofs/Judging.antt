@@ -24,7 +24,7 @@ use Rattle.tsp_branch.specs.declared.steps.JudgedLeaf.TheVariants as leaves
 use Rattle.tsp_branch.specs.Cases.{LeafNumbers, are_trees, leaves_of, next_stack}
 use Rattle.tsp_branch.specs.Certificate.{IsCertificate, IsLeastFound, AreCostsFor, CertificatesBoundCycles}
 use Rattle.tsp_branch.specs.states.Decided.{stack_of, IsLeftStack}
-use Rattle.tsp_branch.specs.Judged.{AreGoodNumbers, as_leaf_numbers, most_crossed}
+use Rattle.tsp_branch.specs.GoodNumbers.{AreGoodNumbers, as_leaf_numbers, most_crossed}
 use Rattle.tsp_branch.specs.Listed.{all_grown, split_at, steps_from, no_numbers_of, listed_steps, IsStepOf, AreSteps, AreGoodLeaves, IsFirstBadLeaf, IsJudged, BoundsCycles, IsLowest}
 use Rattle.tsp_branch.specs.Twice.{AreBranchesJudged}
 use Rattle.tsp_branch.specs.states.Rooms.{AreSmall, IsJudgedLeaf, IsSizedLeaf}

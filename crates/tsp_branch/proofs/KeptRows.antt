@@ -15,7 +15,7 @@ use Rattle.tsp_theory.specs.Numbers.{IsFromTo, entry}
 use Rattle.tsp_theory.specs.states.Nearest.{least_at}
 use Rattle.tsp_families.specs.declared.comb_set.CombSet.{CombSet}
 use Rattle.tsp_branch.specs.CombsOfSets.{NumberedSet}
-use Rattle.tsp_branch.specs.Judged.{most_crossed}
+use Rattle.tsp_branch.specs.GoodNumbers.{most_crossed}
 use Rattle.tsp_branch.specs.states.Sets.{IsMoved, added, sets_with, IsSetTable}
 use Rattle.tsp_branch.specs.states.Combed.{AreSmallMultipliers, AreMultipliedSets, no_set, plain, multipliers_at, twice_in, inside_both, set_crossings, most_combed, set_weight}
 use Rattle.tsp_branch.specs.states.Kept.{kept_weight, IsKeptRow, AreRows, AreRowsIfAny, AreAdded, AreDifferences, AreEnds}

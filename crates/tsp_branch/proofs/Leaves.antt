@@ -8,7 +8,7 @@ use Rattle.tsp_theory.specs.Numbers.{IsFromTo, total, IsLeastBound}
 use Rattle.tsp_theory.specs.Tree.{weight_of, IsLeastOneTree}
 use Rattle.tsp_theory.specs.Adjusted.{triples_total}
 use Rattle.tsp_branch.specs.LeafBound.{least_of, leaf_weight}
-use Rattle.tsp_branch.specs.Weighed.{IsBoundOfWeights, BoundsEachLeaf}
+use Rattle.tsp_branch.specs.LeafWeight.{IsBoundOfWeights, BoundsEachLeaf}
 
 agreed_weight : (w v : ℕ → ℕ → ℤ) → ((i j : ℕ) → w i j ≡ v i j) → (pairs : List (ℕ × ℕ)) → weight_of w pairs ≡ weight_of v pairs
 agreed_weight w v agree [] = refl

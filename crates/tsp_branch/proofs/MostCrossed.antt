@@ -7,7 +7,7 @@ use Rattle.std.proofs.lemmas.Int.{ints, to_z-of_z, fits_signed_from_abs}
 use Rattle.tsp_theory.specs.Numbers.{IsFromTo}
 use Rattle.tsp_theory.proofs.Sizes.{size_of}
 use Rattle.tsp_families.specs.declared.family.Crossings.{Crossings}
-use Rattle.tsp_branch.specs.Judged.{most_crossed, most_with}
+use Rattle.tsp_branch.specs.GoodNumbers.{most_crossed, most_with}
 use Rattle.tsp_branch.proofs.LeafBounds.{product_below}
 
 pub most_left : (crossed : List Crossings) (ms : List ℤ) (index : ℕ) (default : Crossings) → index < length crossed → index < length ms

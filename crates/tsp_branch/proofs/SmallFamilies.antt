@@ -12,7 +12,7 @@ use Rattle.tsp_theory.specs.Length.{length_of}
 use Rattle.tsp_theory.specs.Tree.{crossing}
 use Rattle.tsp_theory.proofs.Crossings.{one_if, none_or_one}
 use Rattle.tsp_families.specs.Crossed.{has, sets_of, AreAlike, AreTooMany}
-use Rattle.tsp_families.specs.Parts.{ArePartsOf, UnlikeNodesNeedParts}
+use Rattle.tsp_families.specs.SetParts.{ArePartsOf, UnlikeNodesNeedParts}
 use Rattle.tsp_families.proofs.Lists.{cycle_from}
 use Rattle.tsp_branch.specs.Combs.{comb_of, crossings}
 use Rattle.tsp_branch.specs.Families.{CyclesCrossFamilies, NumbersAreUnique}

@@ -6,9 +6,9 @@ pub mod Decisions
 pub mod Examples
 pub mod LeafBound
 pub mod NumberExamples
-pub mod Weighed
+pub mod LeafWeight
 pub mod CombsOfSets
-pub mod Judged
+pub mod GoodNumbers
 pub mod GoodCombs
 pub mod Twice
 pub mod Listed

@@ -12,7 +12,7 @@ use Rattle.tsp_branch.specs.declared.decision.Decision.{Decision}
 use Rattle.tsp_branch.specs.Decisions.{DecideOnce, decided_number}
 use Rattle.tsp_branch.specs.Cases.{LeafNumbers, CaseStep, Branch, Leaf, are_trees, leaves_of, cases_of}
 use Rattle.tsp_branch.specs.Certificate.{IsCertificate, IsCertificateBound, BoundsIfAny}
-use Rattle.tsp_branch.specs.Judged.{AreGoodNumbers}
+use Rattle.tsp_branch.specs.GoodNumbers.{AreGoodNumbers}
 
 -- ---- the numbers of a leaf
 
@@ -70,7 +70,8 @@ after_leaves (changes ∷ leaves) numbers = after_leaves leaves (all_grown chang
 -- the leaf at a place, from 1 on, is good: its differences are added to what all leaves before it give
 abbrev pub IsGoodAt : ℕ → List Crossings → List (List (ℕ × ℤ)) → ℕ → Type 0
 IsGoodAt n crossed leaves place =
-    IsGoodLeaf n crossed (after_leaves (take (place - 1) leaves) (no_numbers_of n (length crossed))) (slice_index_or leaves (place - 1) [])
+    IsGoodLeaf n crossed (after_leaves (take (place - 1) leaves) (no_numbers_of n (length crossed)))
+    (slice_index_or leaves (place - 1) [])
 
 abbrev pub AreGoodLeaves : ℕ → List Crossings → List listed.Step → Type 0
 AreGoodLeaves n crossed steps =
@@ -86,7 +87,8 @@ pub record IsFirstBadLeaf (n : ℕ) (crossed : List Crossings) (steps : List lis
 -- ---- the judgement
 
 -- Where all leaves are good, the bound, or none where no leaf has one; else the first leaf that isn't.
-abbrev pub IsJudged : Bool → ℕ → (ℕ → ℕ → ℤ) → ℤ → List Family → List Crossings → List Decision → List listed.Step → Judged → Type 0
+abbrev pub IsJudged : Bool → ℕ → (ℕ → ℕ → ℤ) → ℤ → List Family → List Crossings → List Decision → List listed.Step → Judged
+    → Type 0
 IsJudged directed n cost scale families crossed given steps (judged.Bound found) =
     IsCertificate n families given (listed_steps n (length crossed) steps)
     × IsCertificateBound directed n cost scale decided_number families given (listed_steps n (length crossed) steps) found
@@ -104,7 +106,8 @@ IsJudgedSized (judged.Bound found) = IfSome found IsBoundSized
 IsJudgedSized (judged.BadLeaf leaf) = Unit {0}
 
 -- what the steps have to be: one whole tree of branches on two different nodes, none of which is on a pair decided above it
-pub record AreSteps (directed : Bool) (n : ℕ) (given : List Decision) (steps : List listed.Step) (listed : List CaseStep) : Type 0 where
+pub record AreSteps (directed : Bool) (n : ℕ) (given : List Decision) (steps : List listed.Step) (listed : List CaseStep)
+    : Type 0 where
   pub each : All (IsStepOf n) steps
   pub whole : are_trees 1 listed ≡ true
   pub once : All (DecideOnce directed) (cases_of (leaves_of (given ∷ []) listed))

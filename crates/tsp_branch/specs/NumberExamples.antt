@@ -4,7 +4,7 @@ use Rattle.std.specs.Prelude.{ℕ, ◌*◌, List, [], ◌∷◌, ℤ, pos, negsu
 use Rattle.tsp_format.specs.Steps as listed
 use Rattle.tsp_families.specs.declared.family.Crossings.{Crossings}
 use Rattle.tsp_branch.specs.Cases.{LeafNumbers, CaseStep, Branch, Leaf}
-use Rattle.tsp_branch.specs.Judged.{as_leaf_numbers}
+use Rattle.tsp_branch.specs.GoodNumbers.{as_leaf_numbers}
 
 -- three potentials
 abbrev pub potentials_of_three : ℤ → ℤ → ℤ → List ℤ
@@ -12,7 +12,8 @@ potentials_of_three a b c = a ∷ b ∷ c ∷ []
 
 -- the steps as they are listed: 5 more at node 2 and 1 at the comb; and then 2 less at node 2 and 2 more at the comb
 abbrev pub by_differences : List listed.Step
-by_differences = listed.Branch 1 2 ∷ listed.Leaf ((2, pos 5) ∷ (4, pos 1) ∷ []) ∷ listed.Leaf ((2, negsuc 1) ∷ (4, pos 2) ∷ []) ∷ []
+by_differences = listed.Branch 1 2 ∷ listed.Leaf ((2, pos 5) ∷ (4, pos 1) ∷ [])
+    ∷ listed.Leaf ((2, negsuc 1) ∷ (4, pos 2) ∷ []) ∷ []
 
 -- the same steps with all numbers
 abbrev pub by_numbers : List CaseStep

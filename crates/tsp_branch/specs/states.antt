@@ -1,5 +1,5 @@
 pub mod Rooms
-pub mod Numbers
+pub mod FamilyNumbers
 pub mod PairSets
 pub mod Marked
 pub mod Kept

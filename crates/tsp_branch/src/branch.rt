@@ -14,7 +14,7 @@ ghost use Rattle.tsp_branch.specs.Certificate.{IsFoundAt};
 ghost use Rattle.tsp_branch.specs.states.Decided.{IsDecision};
 ghost use Rattle.tsp_branch.specs.states.OpenCases.{IsOpenCase, decisions_in};
 ghost use Rattle.tsp_branch.specs.Listed.{no_numbers_of, listed_steps, AreSteps, IsJudged, BoundsCycles, IsJudgedSized, IsLowest};
-ghost use Rattle.tsp_branch.specs.states.Numbers.{AreSmallCrossings};
+ghost use Rattle.tsp_branch.specs.states.FamilyNumbers.{AreSmallCrossings};
 ghost use Rattle.tsp_branch.specs.states.Kept.{HoldsRows};
 ghost use Rattle.tsp_branch.specs.states.Rooms.{IsRoom, AreSmall, IsJudgedLeaf, IsSizedLeaf};
 

@@ -7,9 +7,9 @@ ghost use Rattle.tsp_theory.specs.Adjusted.{triples_total};
 ghost use Rattle.tsp_branch.specs.Decisions.{on_taken, decided_number};
 ghost use Rattle.tsp_branch.specs.Certificate.{multiplied};
 ghost use Rattle.tsp_branch.specs.LeafBound.{least_of};
-ghost use Rattle.tsp_branch.specs.Judged.{most_crossed};
+ghost use Rattle.tsp_branch.specs.GoodNumbers.{most_crossed};
 ghost use Rattle.tsp_branch.specs.CombsOfSets.{NumberedSet, families_of, least_with};
-ghost use Rattle.tsp_branch.specs.states.Numbers.{AreSmallCrossings};
+ghost use Rattle.tsp_branch.specs.states.FamilyNumbers.{AreSmallCrossings};
 
 use crate::decided::DECIDED;
 use crate::decision::Decision;

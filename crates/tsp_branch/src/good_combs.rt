@@ -11,7 +11,7 @@ ghost use Rattle.tsp_branch.specs.Families.{IsLoneSet, least_crossings_of};
 ghost use Rattle.tsp_branch.specs.states.Sets.{AreInOrder};
 ghost use Rattle.tsp_branch.specs.states.Combed.{plain};
 ghost use Rattle.tsp_branch.specs.GoodCombs.{IsGoodComb, IsToothCount, AreFamiliesJudged};
-ghost use Rattle.tsp_branch.specs.states.Numbers.{AreSmallFamilies, HasNumbers, IsSmall};
+ghost use Rattle.tsp_branch.specs.states.FamilyNumbers.{AreSmallFamilies, HasNumbers, IsSmall};
 ghost use Rattle.tsp_branch.specs.states.Marked.{is_marked, AreUnmarked, HavePlaces, AddsNoOther, AreTeeth};
 
 use crate::marks::{has_node, leaves_one_out, mark_nodes};

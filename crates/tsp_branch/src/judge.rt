@@ -2,9 +2,9 @@
 
 ghost use Rattle.std.specs.Prelude.{◌≡◌, ◌≤◌, ◌<◌, ◌+◌, ◌^◌, ◌↔◌, IsTrue, length, take, drop, true};
 ghost use Rattle.std.specs.List.{All};
-ghost use Rattle.tsp_branch.specs.Judged.{AreGoodNumbers, as_leaf_numbers, most_with};
+ghost use Rattle.tsp_branch.specs.GoodNumbers.{AreGoodNumbers, as_leaf_numbers, most_with};
 ghost use Rattle.tsp_branch.specs.states.Combed.{AreSmallMultipliers};
-ghost use Rattle.tsp_branch.specs.states.Numbers.{AreSmallCrossings};
+ghost use Rattle.tsp_branch.specs.states.FamilyNumbers.{AreSmallCrossings};
 
 use crate::numbers::copy_within;
 use tsp_families::Crossings;

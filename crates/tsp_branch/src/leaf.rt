@@ -2,7 +2,7 @@
 
 ghost use Rattle.std.specs.Prelude.{◌≡◌, ◌≤◌, ◌+◌, ◌^◌, ℕ, length, pos, neg_ℤ, IfOk};
 ghost use Rattle.tsp_theory.specs.Numbers.{IsFromTo, IsScale, IsLeastBound, IsBoundSized};
-ghost use Rattle.tsp_branch.specs.Weighed.{IsBoundOfWeights, BoundsEachLeaf};
+ghost use Rattle.tsp_branch.specs.LeafWeight.{IsBoundOfWeights, BoundsEachLeaf};
 
 use std::alloc::Global;
 use tsp_memory::Refused;

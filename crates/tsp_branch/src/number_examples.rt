@@ -2,7 +2,7 @@
 //! definition that is changed together with its code is refused by its examples.
 
 ghost use Rattle.std.specs.Prelude.{◌≡◌, ◌+◌, ◌-◌, ◌*◌, ◌^◌, [], ◌∷◌, pos, negsuc};
-ghost use Rattle.tsp_branch.specs.Judged.{AreGoodNumbers};
+ghost use Rattle.tsp_branch.specs.GoodNumbers.{AreGoodNumbers};
 ghost use Rattle.tsp_branch.specs.Listed.{listed_steps};
 ghost use Rattle.tsp_branch.specs.NumberExamples.{by_differences, by_numbers, two_combs, known_three, crossed_by, multiplied_by, moved_at_three};
 

@@ -4,7 +4,7 @@ ghost use Rattle.std.specs.Prelude.{◌≡◌, ◌≤◌, ◌<◌, ◌-◌, ◌^
 ghost use Rattle.std.specs.List.{All};
 ghost use Rattle.tsp_families.specs.FamilySets.{AreSetsOf, lists_of};
 ghost use Rattle.tsp_branch.specs.GoodCombs.{HasEachOnce, IsGoodComb};
-ghost use Rattle.tsp_branch.specs.states.Numbers.{HasNumbers, IsSmall};
+ghost use Rattle.tsp_branch.specs.states.FamilyNumbers.{HasNumbers, IsSmall};
 
 use crate::marks::mark_nodes;
 use std::alloc::Global;

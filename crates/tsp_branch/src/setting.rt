@@ -6,7 +6,7 @@ ghost use Rattle.tsp_theory.specs.Costs.{IsSymmetric};
 ghost use Rattle.tsp_theory.specs.Numbers.{IsScale};
 ghost use Rattle.tsp_families.specs.FamilySets.{AreSetsOf};
 ghost use Rattle.tsp_branch.specs.states.Sets.{IsSetTable};
-ghost use Rattle.tsp_branch.specs.states.Numbers.{AreSmallCrossings};
+ghost use Rattle.tsp_branch.specs.states.FamilyNumbers.{AreSmallCrossings};
 ghost use Rattle.tsp_branch.specs.states.Decided.{IsDecision};
 
 use crate::combed::CombedWeights;
@@ -61,7 +61,7 @@ impl<C: Costs> Setting<'_, C> {
     ghost use Rattle.tsp_branch.specs.CombsOfSets.{families_of};
     ghost use Rattle.tsp_branch.specs.states.OpenCases.{IsOpenCase, decisions_in};
     ghost use Rattle.tsp_branch.specs.states.Kept.{IsOpenLeaf};
-    ghost use Rattle.tsp_branch.specs.Judged.{AreGoodNumbers, as_leaf_numbers};
+    ghost use Rattle.tsp_branch.specs.GoodNumbers.{AreGoodNumbers, as_leaf_numbers};
 
     /// The bound of a leaf under the decisions of a case; `None` where it has none, since some node
     /// has no link that these allow. A row is lent, which is written over.

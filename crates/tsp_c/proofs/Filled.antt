@@ -3,7 +3,7 @@ use Rattle.std.proofs.Common.{◌≡◌, ◌≢◌, ℕ, ◌+◌, ◌<◌, List,
 use Rattle.std.specs.Prelude.{ℤ, pos, slice_index_or as get_or}
 use Rattle.std.proofs.Math.ListN.{set}
 use Rattle.std.proofs.lemmas.List.{length-set}
-use Rattle.tsp_c.specs.Numbers.{IsFilled}
+use Rattle.tsp_c.specs.NumberCalls.{IsFilled}
 
 pub one_more : (numbers : ℕ → ℤ) (start now : List ℤ) (place : ℕ) (number : ℤ) → place < length now → number ≡ numbers place
     → IsFilled place numbers start now → IsFilled (place + 1) numbers start (set now place number)

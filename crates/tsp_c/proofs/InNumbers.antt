@@ -18,7 +18,7 @@ use Rattle.tsp_judge.specs.declared.bound.Bounded.{Bounded}
 use Rattle.tsp_judge.specs.declared.judging.Judged.{Judged}
 use Rattle.tsp_judge.specs.declared.fault.RunFault.{RunFault}
 use Rattle.tsp_judge.specs.Status.{status_of_fault}
-use Rattle.tsp_judge.specs.Run.{Given, given_by, EndsWithout, IsRun, told}
+use Rattle.tsp_judge.specs.CheckRun.{Given, given_by, EndsWithout, IsRun, told}
 use Rattle.tsp_judge.specs.BoundRun.{EndsUnbounded, IsBoundRun}
 use Rattle.tsp_c.specs.declared.told.Told.{Told}
 use Rattle.tsp_c.specs.Ended.{without_devices, has_bound, EndsOnTexts}

@@ -23,7 +23,7 @@ use Rattle.tsp_judge.specs.declared.bound.Bounded.{Bounded}
 use Rattle.tsp_judge.specs.declared.fault.RunFault.{RunFault}
 use Rattle.tsp_judge.specs.declared.fault.RunFault.TheVariants.{File, WrongKind, Write, OutOfMemory, Relayout}
 use Rattle.tsp_judge.specs.Status.{status_of_fault}
-use Rattle.tsp_judge.specs.Run.{given_by, IsSomeFile, IsFileIn, AreRead, JudgesFiles, IsFaultOfRun, EndsWithout}
+use Rattle.tsp_judge.specs.CheckRun.{given_by, IsSomeFile, IsFileIn, AreRead, JudgesFiles, IsFaultOfRun, EndsWithout}
 use Rattle.tsp_judge.specs.Accepted.{IsAccepted, IsBoundAccepted}
 use Rattle.tsp_judge.specs.Yes.{SaysYes, IsCheckOf}
 use Rattle.tsp_judge.specs.BoundRun.{BoundsFiles, EndsUnbounded, SaysBound, IsBoundRunOf}

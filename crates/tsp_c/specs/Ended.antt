@@ -7,7 +7,7 @@ use Rattle.tsp_reason.specs.Verdicts.{is_bound_yes}
 use Rattle.tsp_judge.specs.declared.bound.Bounded.{Bounded}
 use Rattle.tsp_judge.specs.declared.fault.RunFault.{RunFault}
 use Rattle.tsp_judge.specs.declared.fault.RunFault.TheVariants.{File, Write}
-use Rattle.tsp_judge.specs.FaultText.{run_fault_text}
+use Rattle.tsp_judge.specs.RunFaultText.{run_fault_text}
 use Rattle.tsp_judge.specs.Status.{status_of, status_of_fault}
 
 -- ---- the caller's buffer

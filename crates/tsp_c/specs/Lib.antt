@@ -1,6 +1,6 @@
 pub mod Ended
 pub mod Held
-pub mod Numbers
+pub mod NumberCalls
 pub mod Opened
 pub mod Texts
 pub mod Told

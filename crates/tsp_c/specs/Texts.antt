@@ -4,7 +4,7 @@ use Rattle.tsp_format.specs.declared.layout.Layout.{Layout}
 use Rattle.tsp_format.specs.Words.{layouts}
 use Rattle.tsp_draft.specs.Fields.{Fields}
 use Rattle.tsp_draft.specs.Rules.{fault_of}
-use Rattle.tsp_file.specs.Text.{text_of}
+use Rattle.tsp_file.specs.CanonicalText.{text_of}
 use Rattle.tsp_stream.specs.declared.output.WriteFault.TheVariants as write_faults
 use Rattle.tsp_text.specs.declared.fault.ReadFault.TheVariants as read_faults
 use Rattle.tsp_text.specs.Text.{fault, Spells}

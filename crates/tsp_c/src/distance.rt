@@ -5,7 +5,7 @@ ghost use Rattle.tsp_distance.specs.declared.decimal.Point.{Point};
 ghost use Rattle.tsp_distance.specs.Distances.{IsInSpace};
 ghost use Rattle.tsp_file.specs.Cost.{distance};
 ghost use Rattle.tsp_c.specs.Ended.{nth};
-ghost use Rattle.tsp_c.specs.Numbers.{GivesDistance, distance_kinds};
+ghost use Rattle.tsp_c.specs.NumberCalls.{GivesDistance, distance_kinds};
 
 use tsp_distance::{Decimal, Point, att, ceil_2d, euc_2d, euc_3d, man_2d, man_3d, max_2d, max_3d};
 

@@ -1,7 +1,7 @@
 //! Numbers in a caller's buffer.
 
 ghost use Rattle.std.specs.Prelude.{◌≡◌, ◌+◌, ◌<◌, ℕ, ℤ, List, length};
-ghost use Rattle.tsp_c.specs.Numbers.{IsFilled};
+ghost use Rattle.tsp_c.specs.NumberCalls.{IsFilled};
 
 /// Puts a number to a place of a buffer, of which the places before it are filled.
 #[inline(always)]

@@ -2,8 +2,8 @@
 
 ghost use Rattle.std.specs.Prelude.{◌≡◌, ◌≤◌, ◌-◌, ◌==◌, ◌↔◌, IsTrue, length, slice_index};
 ghost use Rattle.std.specs.List.{All, count_by, position};
-ghost use Rattle.tsp_c.specs.Numbers.{AreLists, EndsLengths, FillsLengths, IsFilled, list_count, list_length};
-ghost use Rattle.tsp_file.specs.Meant.{nodes_of};
+ghost use Rattle.tsp_c.specs.NumberCalls.{AreLists, EndsLengths, FillsLengths, IsFilled, list_count, list_length};
+ghost use Rattle.tsp_draft.specs.Fields.{nodes_of};
 
 use crate::fill::put;
 use crate::instance::instance_of;

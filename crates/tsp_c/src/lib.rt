@@ -13,7 +13,7 @@ ghost use Rattle.tsp_c.specs.Ended.{PlacesText, nth};
 ghost use Rattle.std.specs.Prelude.{◌≡◌, None};
 ghost use Rattle.tsp_c.specs.Told.{TellsBoundBy, TellsBy};
 ghost use Rattle.tsp_c.specs.Opened.{BindsText, ChecksHeld, EndsSection, OfHeld, OpensText};
-ghost use Rattle.tsp_c.specs.Numbers.{EndsCount, EndsLengths, EndsMatrix, EndsWeights, FillsCount, FillsLengths, FillsMatrix, FillsPoints, FillsWeights, GivesDistance};
+ghost use Rattle.tsp_c.specs.NumberCalls.{EndsCount, EndsLengths, EndsMatrix, EndsWeights, FillsCount, FillsLengths, FillsMatrix, FillsPoints, FillsWeights, GivesDistance};
 ghost use Rattle.tsp_c.specs.Texts.{BoundsBy, ChecksBy, ConvertsBy, ExplainsTexts, ShowsText, certificates};
 
 mod distance;

@@ -5,7 +5,7 @@ ghost use Rattle.tsp_stream.specs.states.Watched.{sink_of};
 ghost use Rattle.tsp_reason.specs.Verdicts.{is_yes};
 ghost use Rattle.tsp_report.specs.Report.{report_of, IsSized};
 ghost use Rattle.tsp_c.specs.Ended.{Reports, nth};
-ghost use Rattle.tsp_c.specs.Numbers.{EndsCount, EndsLengths, EndsMatrix, EndsWeights};
+ghost use Rattle.tsp_c.specs.NumberCalls.{EndsCount, EndsLengths, EndsMatrix, EndsWeights};
 ghost use Rattle.tsp_c.specs.Opened.{BindsOpen, BindsText, ChecksAsTexts, ChecksHeld, EndsSection, IsNotOpened, OfHeld, OpensText, TellsJudged};
 ghost use Rattle.tsp_c.specs.Texts.{certificates};
 ghost use Rattle.tsp_open.specs.Open.{IsOpened};

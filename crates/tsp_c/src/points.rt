@@ -3,7 +3,7 @@
 ghost use Rattle.std.specs.Prelude.{◌≡◌, ◌≤◌, ◌<◌, ◌*◌, length, option_map, slice_index_or};
 ghost use Rattle.tsp_draft.specs.Coords.{origin};
 ghost use Rattle.tsp_draft.specs.states.Drafts.{points_of};
-ghost use Rattle.tsp_c.specs.Numbers.{EndsPoints, FillsPoints, IsFilled, IsSection, coordinate, point_number, section_points};
+ghost use Rattle.tsp_c.specs.NumberCalls.{EndsPoints, FillsPoints, IsFilled, IsSection, coordinate, point_number, section_points};
 
 use crate::fill::put;
 use crate::instance::file_of;

@@ -1,7 +1,7 @@
 //! The runs on texts in memory.
 
 ghost use Rattle.std.specs.Prelude.{◌≡◌};
-ghost use Rattle.tsp_judge.specs.Run.{told};
+ghost use Rattle.tsp_judge.specs.CheckRun.{told};
 ghost use Rattle.tsp_c.specs.Ended.{done, has_bound};
 ghost use Rattle.tsp_c.specs.Texts.{BoundsTexts, ChecksTexts, ConvertsText, ShowsText, given_text};
 ghost use Rattle.tsp_c.specs.Told.{TellsBound, TellsTexts};

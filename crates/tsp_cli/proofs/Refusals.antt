@@ -4,11 +4,12 @@ use Rattle.clap.specs.Words.{HasKind, IsAmong, Text, fault_of, kind_of}
 use Rattle.clap.specs.declared.error.Error.{Error}
 use Rattle.clap.specs.declared.error.kind.ErrorKind.TheVariants as kinds
 use Rattle.tsp_cli.specs.Grammar.{tsp}
-use Rattle.tsp_cli.specs.Words.{IsFaultOf, GivesJob}
+use Rattle.tsp_cli.specs.CommandWords.{IsFaultOf, GivesJob}
 use Rattle.tsp_cli.specs.declared.words.JobFault.{JobFault}
 use Rattle.tsp_cli.specs.declared.words.JobFault.TheVariants.{Refused, OutOfMemory}
 
-pub refused : (words : List Text) (refusal : Error) (fault : JobFault) → IsFaultOf (kind_of refusal) fault → HasKind (fault_of tsp words) refusal
+pub refused : (words : List Text) (refusal : Error) (fault : JobFault) → IsFaultOf (kind_of refusal) fault
+    → HasKind (fault_of tsp words) refusal
     → GivesJob words (Err fault)
 refused words refusal (Refused other) is has = by_cause has
   where

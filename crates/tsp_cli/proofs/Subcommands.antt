@@ -15,7 +15,7 @@ use Rattle.clap.specs.declared.parser.matches.SubCommand.{SubCommand}
 use Rattle.clap.specs.declared.parser.matches.ArgMatches.TheViews.{out-SubCommand}
 use Rattle.clap.proofs.WalkLemmas.{walk_stopped}
 use Rattle.tsp_cli.specs.Grammar.{tsp}
-use Rattle.tsp_cli.specs.Words.{IsVerbOf, word_of}
+use Rattle.tsp_cli.specs.CommandWords.{IsVerbOf, word_of}
 use Rattle.tsp_cli.specs.declared.words.Verb.{Verb}
 use Rattle.tsp_cli.specs.declared.words.Verb.TheVariants.{Show, Convert, Check, Compare, Bound}
 
@@ -141,7 +141,8 @@ pick p name rows false false false false false false differs is_a is_b is_c is_d
     absurd (true≢false (ap (λ (o : Option (Text × List Row)). is_some o) (sym none)))
 
 -- what a parse with no fault enters has the word of a verb
-pub named : (words : List Text) (name : Text) (rows : List Row) → fault_of tsp words ≡ [] → subcommand_of tsp words ≡ Some (name, rows)
+pub named : (words : List Text) (name : Text) (rows : List Row) → fault_of tsp words ≡ []
+    → subcommand_of tsp words ≡ Some (name, rows)
     → (verb : Verb) × (name ≡ word_of verb)
 named words name rows clean found = go (stop_after program.top.rules (names_of program) words) refl found
   where
@@ -154,7 +155,8 @@ named words name rows clean found = go (stop_after program.top.rules (names_of p
 
 -- a subcommand's name and rows, from both
 pub both : {Z : Type 0} (o : Option (Box SubCommand Z)) (name : Text) (rows : List Row)
-    → option_map (λ b. (out-SubCommand (box_value b)).name.now) o ≡ Some name → option_map (λ p. p.1) (subcommand_rows o) ≡ Some rows
+    → option_map (λ b. (out-SubCommand (box_value b)).name.now) o ≡ Some name
+    → option_map (λ p. p.1) (subcommand_rows o) ≡ Some rows
     → subcommand_rows o ≡ Some (name, rows)
 both None name rows named has = cc
 both (Some b) name rows named has =
@@ -163,6 +165,7 @@ both (Some b) name rows named has =
     ap₂ (λ n r. Some (n, r)) one two
 
 -- a word that is some verb's is that of the verb found by it
-pub verb_found : (name : Text) (found : Option Verb) (verb : Verb) → name ≡ word_of verb → IsVerbOf name found → option_map word_of found ≡ Some name
+pub verb_found : (name : Text) (found : Option Verb) (verb : Verb) → name ≡ word_of verb → IsVerbOf name found
+    → option_map word_of found ≡ Some name
 verb_found name None verb is none = absurd (none verb is)
 verb_found name (Some v) verb is some = ap (λ n. Some n) (sym some)

@@ -11,7 +11,7 @@ use Rattle.tsp_format.specs.Layout.{layout_word}
 use Rattle.tsp_reason.specs.declared.certificate.Certificate.{Certificate}
 use Rattle.tsp_reason.specs.declared.certificate.Certificate.TheVariants.{Potentials, Branches}
 use Rattle.tsp_task.specs.Files.{files_of}
-use Rattle.tsp_cli.specs.Words.{text_in}
+use Rattle.tsp_cli.specs.CommandWords.{text_in}
 use Rattle.tsp_cli.specs.declared.words.Job.{Job}
 use Rattle.tsp_cli.specs.declared.words.Verb.TheVariants as verbs
 use Rattle.tsp_cli.specs.declared.task.Place.{Place}

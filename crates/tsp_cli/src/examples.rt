@@ -3,7 +3,7 @@
 
 ghost use Rattle.std.specs.Prelude.{◌≡◌, codes};
 ghost use Rattle.tsp_cli.specs.declared.words.Verb.TheVariants as verbs;
-ghost use Rattle.tsp_cli.specs.Words.{word_of};
+ghost use Rattle.tsp_cli.specs.CommandWords.{word_of};
 
 /// The word of each verb.
 pub fn examples_of_verbs()

@@ -262,7 +262,8 @@ fn with_command<'a>(
 ) -> Result<Command<'a>, AllocError>
     requires globals { has_globals command ≡ false }
     requires sub { has_globals subcommand ≡ false }
-    ensures { IfOk result (IsCommandOf (with_subcommand (app_of command.entry) (shape_of subcommand.entry))) }
+    ensures { IfOk result
+        (IsCommandOf (with_subcommand (app_of command.entry) (shape_of subcommand.entry))) }
 {
     command.subcommand(subcommand)
 }

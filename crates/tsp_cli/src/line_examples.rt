@@ -20,32 +20,42 @@ ghost use Rattle.tsp_cli.specs.Examples.{IsWholeLine, found_value, found_values}
 #[tactic(auto, unfolding(clap::specs::Faults::flags_fault, clap::specs::Faults::walk_fault, clap::specs::Faults::defaults_fault, clap::specs::Walk::bundle_met, clap::specs::Walk::walked))]
 pub fn examples_of_lines()
     ensures show { IsWholeLine (codes "show") (codes "show" ∷ codes "a" ∷ codes "--explain" ∷ []) }
-    ensures shown_file { found_value (codes "F") (codes "show" ∷ codes "a" ∷ codes "--explain" ∷ []) ≡ Some (codes "a") }
-    ensures explained { found_value (codes "E") (codes "show" ∷ codes "a" ∷ codes "--explain" ∷ []) ≡ Some (codes "true") }
-    ensures convert { IsWholeLine (codes "convert") (codes "convert" ∷ codes "a" ∷ codes "--layout" ∷ codes "b" ∷ []) }
-    ensures layout { found_value (codes "L") (codes "convert" ∷ codes "a" ∷ codes "--layout" ∷ codes "b" ∷ []) ≡ Some (codes "b") }
-    ensures check { IsWholeLine (codes "check") (codes "check" ∷ codes "a" ∷ codes "b" ∷ codes "--potentials" ∷ codes "c" ∷ []) }
-    ensures instance { found_value (codes "F") (codes "check" ∷ codes "a" ∷ codes "b" ∷ []) ≡ Some (codes "a") }
-    ensures solution { found_value (codes "T") (codes "check" ∷ codes "a" ∷ codes "b" ∷ []) ≡ Some (codes "b") }
-    ensures potentials { found_value (codes "P") (codes "check" ∷ codes "a" ∷ codes "b" ∷ codes "--potentials" ∷ codes "c" ∷ [])
-        ≡ Some (codes "c") }
-    ensures branches { found_value (codes "B") (codes "check" ∷ codes "a" ∷ codes "b" ∷ codes "--branches" ∷ codes "c" ∷ [])
-        ≡ Some (codes "c") }
-    ensures no_branches { found_value (codes "B") (codes "check" ∷ codes "a" ∷ codes "b" ∷ codes "--potentials" ∷ codes "c" ∷ [])
-        ≡ None }
-    ensures length { found_value (codes "N") (codes "check" ∷ codes "a" ∷ codes "b" ∷ codes "--length" ∷ codes "9" ∷ [])
-        ≡ Some (codes "9") }
-    ensures compare { IsWholeLine (codes "compare") (codes "compare" ∷ codes "a" ∷ codes "b" ∷ codes "c" ∷ []) }
-    ensures solutions { found_values (codes "T") (codes "compare" ∷ codes "a" ∷ codes "b" ∷ codes "c" ∷ [])
-        ≡ codes "b" ∷ codes "c" ∷ [] }
-    ensures around_an_option { found_values (codes "T") (codes "compare" ∷ codes "a" ∷ codes "b" ∷ codes "--branches" ∷ codes "d" ∷ codes "c" ∷ [])
-        ≡ codes "b" ∷ codes "c" ∷ [] }
-    ensures compared_by { found_value (codes "B") (codes "compare" ∷ codes "a" ∷ codes "b" ∷ codes "--branches" ∷ codes "d" ∷ codes "c" ∷ [])
-        ≡ Some (codes "d") }
-    ensures bound { IsWholeLine (codes "bound") (codes "bound" ∷ codes "a" ∷ codes "--branches" ∷ codes "c" ∷ []) }
+    ensures shown_file { found_value (codes "F")
+        (codes "show" ∷ codes "a" ∷ codes "--explain" ∷ []) ≡ Some (codes "a") }
+    ensures explained { found_value (codes "E") (codes "show" ∷ codes "a" ∷ codes "--explain" ∷ [])
+        ≡ Some (codes "true") }
+    ensures convert { IsWholeLine (codes "convert")
+        (codes "convert" ∷ codes "a" ∷ codes "--layout" ∷ codes "b" ∷ []) }
+    ensures layout { found_value (codes "L")
+        (codes "convert" ∷ codes "a" ∷ codes "--layout" ∷ codes "b" ∷ []) ≡ Some (codes "b") }
+    ensures check { IsWholeLine (codes "check")
+        (codes "check" ∷ codes "a" ∷ codes "b" ∷ codes "--potentials" ∷ codes "c" ∷ []) }
+    ensures instance { found_value (codes "F")
+        (codes "check" ∷ codes "a" ∷ codes "b" ∷ []) ≡ Some (codes "a") }
+    ensures solution { found_value (codes "T")
+        (codes "check" ∷ codes "a" ∷ codes "b" ∷ []) ≡ Some (codes "b") }
+    ensures potentials { found_value (codes "P") (codes "check"
+        ∷ codes "a" ∷ codes "b" ∷ codes "--potentials" ∷ codes "c" ∷ []) ≡ Some (codes "c") }
+    ensures branches { found_value (codes "B") (codes "check"
+        ∷ codes "a" ∷ codes "b" ∷ codes "--branches" ∷ codes "c" ∷ []) ≡ Some (codes "c") }
+    ensures no_branches { found_value (codes "B")
+        (codes "check" ∷ codes "a" ∷ codes "b" ∷ codes "--potentials" ∷ codes "c" ∷ []) ≡ None }
+    ensures length { found_value (codes "N") (codes "check"
+        ∷ codes "a" ∷ codes "b" ∷ codes "--length" ∷ codes "9" ∷ []) ≡ Some (codes "9") }
+    ensures compare { IsWholeLine (codes "compare")
+        (codes "compare" ∷ codes "a" ∷ codes "b" ∷ codes "c" ∷ []) }
+    ensures solutions { found_values (codes "T")
+        (codes "compare" ∷ codes "a" ∷ codes "b" ∷ codes "c" ∷ []) ≡ codes "b" ∷ codes "c" ∷ [] }
+    ensures around_an_option { found_values (codes "T") (codes "compare" ∷ codes "a" ∷ codes "b"
+        ∷ codes "--branches" ∷ codes "d" ∷ codes "c" ∷ []) ≡ codes "b" ∷ codes "c" ∷ [] }
+    ensures compared_by { found_value (codes "B") (codes "compare" ∷ codes "a"
+        ∷ codes "b" ∷ codes "--branches" ∷ codes "d" ∷ codes "c" ∷ []) ≡ Some (codes "d") }
+    ensures bound { IsWholeLine (codes "bound")
+        (codes "bound" ∷ codes "a" ∷ codes "--branches" ∷ codes "c" ∷ []) }
     ensures no_file { fault_of tsp (codes "show" ∷ []) ≢ [] }
     ensures no_solution { fault_of tsp (codes "check" ∷ codes "a" ∷ []) ≢ [] }
-    ensures two_solutions { fault_of tsp (codes "check" ∷ codes "a" ∷ codes "b" ∷ codes "c" ∷ []) ≢ [] }
+    ensures two_solutions { fault_of tsp
+        (codes "check" ∷ codes "a" ∷ codes "b" ∷ codes "c" ∷ []) ≢ [] }
     ensures none_compared { fault_of tsp (codes "compare" ∷ codes "a" ∷ []) ≢ [] }
     ensures no_layout { fault_of tsp (codes "convert" ∷ codes "a" ∷ codes "--layout" ∷ []) ≢ [] }
 {}
@@ -53,14 +63,14 @@ pub fn examples_of_lines()
 /// With both certificates a check, a comparison or a bound is no work: with either one it is
 /// without the other, and the plain check is without both. A bound has one of them.
 pub fn examples_of_two_certificates()
-    ensures plain_with_potentials { (job : Job) (a b : Place) (claimed : Option ℤ) → job.potentials ≢ None
-        → ¬ IsTask job (tasks.Check a b claimed) }
-    ensures plain_with_branches { (job : Job) (a b : Place) (claimed : Option ℤ) → job.branches ≢ None
-        → ¬ IsTask job (tasks.Check a b claimed) }
-    ensures potentials_with_branches { (job : Job) (a b c : Place) (claimed : Option ℤ) → job.branches ≢ None
-        → ¬ IsTask job (tasks.CheckBy certificates.Potentials a b c claimed) }
-    ensures branches_with_potentials { (job : Job) (a b c : Place) (claimed : Option ℤ) → job.potentials ≢ None
-        → ¬ IsTask job (tasks.CheckBy certificates.Branches a b c claimed) }
+    ensures plain_with_potentials { (job : Job) (a b : Place) (claimed : Option ℤ)
+        → job.potentials ≢ None → ¬ IsTask job (tasks.Check a b claimed) }
+    ensures plain_with_branches { (job : Job) (a b : Place) (claimed : Option ℤ)
+        → job.branches ≢ None → ¬ IsTask job (tasks.Check a b claimed) }
+    ensures potentials_with_branches { (job : Job) (a b c : Place) (claimed : Option ℤ)
+        → job.branches ≢ None → ¬ IsTask job (tasks.CheckBy certificates.Potentials a b c claimed) }
+    ensures branches_with_potentials { (job : Job) (a b c : Place) (claimed : Option ℤ)
+        → job.potentials ≢ None → ¬ IsTask job (tasks.CheckBy certificates.Branches a b c claimed) }
     ensures bound_with_branches { (job : Job) (a b : Place) → job.branches ≢ None
         → ¬ IsTask job (tasks.Bound certificates.Potentials a b) }
     ensures bound_with_potentials { (job : Job) (a b : Place) → job.potentials ≢ None
@@ -69,10 +79,12 @@ pub fn examples_of_two_certificates()
         → c.certificate ≡ Some (certificates.Potentials, a) → ¬ IsWork job (works.Compare c) }
     ensures compared_by_branches { (job : Job) (c : Comparison) (a : Place) → job.potentials ≢ None
         → c.certificate ≡ Some (certificates.Branches, a) → ¬ IsWork job (works.Compare c) }
-    ensures compared_by_none { (job : Job) (c : Comparison) → job.potentials ≢ None → c.certificate ≡ None
-        → ¬ IsWork job (works.Compare c) }
-    ensures another_verb { (job : Job) (c : Comparison) → job.verb ≡ Some verbs.Check → ¬ IsWork job (works.Compare c) }
-    ensures shown { (job : Job) (a : Place) → job.verb ≡ Some verbs.Check → ¬ IsTask job (tasks.Show a) }
+    ensures compared_by_none { (job : Job) (c : Comparison)
+        → job.potentials ≢ None → c.certificate ≡ None → ¬ IsWork job (works.Compare c) }
+    ensures another_verb { (job : Job) (c : Comparison)
+        → job.verb ≡ Some verbs.Check → ¬ IsWork job (works.Compare c) }
+    ensures shown { (job : Job) (a : Place)
+        → job.verb ≡ Some verbs.Check → ¬ IsTask job (tasks.Show a) }
     ensures converted { (job : Job) (a : Place) (to : Option Layout) → job.verb ≡ Some verbs.Check
         → ¬ IsTask job (tasks.Convert a to) }
 {}

@@ -4,7 +4,7 @@ ghost use Rattle.std.specs.Prelude.{◌≡◌, ◌≢◌, ◌↔◌, IfOk, IsTru
 ghost use Rattle.std.specs.IoError.{error_kind};
 ghost use Rattle.std.specs.String.{string_bytes};
 ghost use Rattle.clap.specs.Words.{first_of, found_of, kind_of, rows_of};
-ghost use Rattle.tsp_cli.specs.Words.{GivesJob, IsFaultOf, IsOtherRefusal, IsVerbOf, HasValues, text_in, values_of};
+ghost use Rattle.tsp_cli.specs.CommandWords.{GivesJob, IsFaultOf, IsOtherRefusal, IsVerbOf, HasValues, text_in, values_of};
 
 use crate::grammar;
 use clap::error::ErrorKind;
@@ -175,7 +175,8 @@ fn value(alloc: Global, found: &ArgMatches<'_>, id: &str) -> Result<Option<Strin
 
 /// The values that were found for an argument, in order.
 fn values(alloc: Global, found: &ArgMatches<'_>, id: &str) -> Result<Vec<String>, AllocError>
-    ensures { IfOk result (λ texts. map string_bytes texts.items ≡ values_of id.now (rows_of (found_of found.now))) }
+    ensures { IfOk result
+        (λ texts. map string_bytes texts.items ≡ values_of id.now (rows_of (found_of found.now))) }
 {
     match found.get_strs(id) {
         Some(texts) => owned(alloc, texts),
@@ -185,7 +186,8 @@ fn values(alloc: Global, found: &ArgMatches<'_>, id: &str) -> Result<Vec<String>
 
 /// The texts, in memory of their own.
 fn owned(alloc: Global, texts: &[&str]) -> Result<Vec<String>, AllocError>
-    ensures { IfOk result (λ owned. map string_bytes owned.items ≡ map (λ text. text.now) texts.now) }
+    ensures { IfOk result
+        (λ owned. map string_bytes owned.items ≡ map (λ text. text.now) texts.now) }
 {
     let mut owned = Vec::new(alloc);
     'texts: for text in texts {
@@ -196,7 +198,8 @@ fn owned(alloc: Global, texts: &[&str]) -> Result<Vec<String>, AllocError>
 
 /// Whether an option without a value was given.
 fn is_given(found: &ArgMatches<'_>, id: &str) -> bool
-    ensures { IsTrue result ↔ (first_of id.now (rows_of (found_of found.now)) ≡ Some (codes "true")) }
+    ensures { IsTrue result
+        ↔ (first_of id.now (rows_of (found_of found.now)) ≡ Some (codes "true")) }
 {
     match text_of(found, id) {
         Some("true") => true,
@@ -206,7 +209,8 @@ fn is_given(found: &ArgMatches<'_>, id: &str) -> bool
 
 /// The text that was found for an argument, where there is one.
 fn text_of<'a>(found: &ArgMatches<'a>, id: &str) -> Option<&'a str>
-    ensures { option_map (λ text. text.now) result ≡ first_of id.now (rows_of (found_of found.now)) }
+    ensures { option_map (λ text. text.now) result
+        ≡ first_of id.now (rows_of (found_of found.now)) }
 {
     found.get_str(id)
 }

@@ -17,19 +17,18 @@ use Rattle.tsp_format.specs.Place.{place_of, place_by_table}
 use Rattle.tsp_format.proofs.Pairs.{cell_is}
 use Rattle.tsp_format.proofs.Places.{placed, place_within, place_from, stands_at, no_place}
 use Rattle.tsp_draft.specs.Coords.{origin}
-use Rattle.tsp_draft.specs.Fields.{Fields}
+use Rattle.tsp_draft.specs.Fields.{Fields, nodes_of}
 use Rattle.tsp_draft.specs.Rules.{is_explicit}
 use Rattle.tsp_draft.specs.Valid.{IsInRange, HasInstance, HasRouting}
 use Rattle.tsp_file.specs.ByInequalities.{IsDistanceBy}
 use Rattle.tsp_file.specs.Cost.{cost, cost_by, listed_cost, point_of, layout_of}
-use Rattle.tsp_file.specs.Meant.{nodes_of}
-use Rattle.tsp_file.specs.Listed.{UnlistedHaveNoPlace}
+use Rattle.tsp_file.specs.ListedWeights.{UnlistedHaveNoPlace}
 use Rattle.tsp_file.proofs.Listed.{lists, cost_of_listed, cost_of_cell, cost_unlisted, triangle_even, unlisted_has_no_place}
 use Rattle.tsp_theory.specs.Routing.{RoutingProblem}
 use Rattle.tsp_theory.specs.Tour.{Problem}
 use Rattle.tsp_cost.specs.Problems.{CostsAreListed, CostsAreDistances, IsProblemOf, IsRoutingOf}
 use Rattle.tsp_cost.specs.ProblemLaws.{IsProblem, HaveSameCosts, AreSame, AreSameRouting}
-use Rattle.tsp_cost.specs.Tours.{is_directed, problem_of, routing_of, depots_of}
+use Rattle.tsp_cost.specs.ComputedProblems.{is_directed, problem_of, routing_of, depots_of}
 use Rattle.tsp_cost.proofs.Instances.{distance_kind, is_listed_kind}
 
 -- what the law of the costs says

@@ -1,5 +1,5 @@
 pub mod states
 pub mod Examples
-pub mod Tours
+pub mod ComputedProblems
 pub mod Problems
 pub mod ProblemLaws

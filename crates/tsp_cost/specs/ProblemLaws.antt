@@ -6,7 +6,7 @@ use Rattle.tsp_draft.specs.Fields.{Fields}
 use Rattle.tsp_theory.specs.Routing.{RoutingProblem}
 use Rattle.tsp_theory.specs.Tour.{Problem}
 use Rattle.tsp_cost.specs.Problems.{IsProblemOf, IsRoutingOf}
-use Rattle.tsp_cost.specs.Tours.{problem_of, routing_of, depots_of}
+use Rattle.tsp_cost.specs.ComputedProblems.{problem_of, routing_of, depots_of}
 
 -- a valid instance is such a problem; a CVRP where it lists one depot
 pub record IsProblem (instance : Fields) : Type 0 where

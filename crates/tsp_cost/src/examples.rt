@@ -4,7 +4,7 @@
 ghost use Rattle.std.specs.Prelude.{[], ◌∷◌};
 ghost use Rattle.tsp_format.specs.declared.kinds.Kind.TheVariants as kinds;
 ghost use Rattle.tsp_theory.specs.CycleExamples.{three, four};
-ghost use Rattle.tsp_cost.specs.Tours.{IsTourOf};
+ghost use Rattle.tsp_cost.specs.ComputedProblems.{IsTourOf};
 ghost use Rattle.tsp_cost.specs.Examples.{with_fixed};
 
 /// Which cycles use a fixed pair: under ATSP from its first to its second node, else either way.

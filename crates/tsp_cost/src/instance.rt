@@ -51,7 +51,8 @@ impl Instance {
     ghost use Rattle.tsp_format.specs.Limits.{most_fixed};
     ghost use Rattle.tsp_cost.specs.declared.fault.CostFault.TheVariants.{NotInstance};
     ghost use Rattle.tsp_cost.specs.declared.source.Source.TheVariants.{Distances, Weights};
-    ghost use Rattle.tsp_file.specs.Meant.{fixed_of, nodes_of};
+    ghost use Rattle.tsp_draft.specs.Fields.{nodes_of};
+    ghost use Rattle.tsp_file.specs.Meant.{fixed_of};
     ghost use Rattle.tsp_file.specs.Typed.{HoldsRouting};
     ghost use Rattle.tsp_cost.specs.ProblemLaws.{IsProblem};
     ghost use Rattle.tsp_cost.specs.states.Sources.{ComesFrom};

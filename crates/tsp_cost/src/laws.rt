@@ -7,7 +7,7 @@ ghost use Rattle.tsp_theory.specs.Routing.{RoutingProblem};
 ghost use Rattle.tsp_theory.specs.Tour.{Problem};
 ghost use Rattle.tsp_cost.specs.Problems.{IsProblemOf, IsRoutingOf};
 ghost use Rattle.tsp_cost.specs.ProblemLaws.{IsProblem, AreSame, AreSameRouting};
-ghost use Rattle.tsp_cost.specs.Tours.{problem_of, routing_of};
+ghost use Rattle.tsp_cost.specs.ComputedProblems.{problem_of, routing_of};
 
 use tsp_draft::{valid_fields_are_in_range, valid_files_are_complete};
 use tsp_file::costs_are_by_inequalities;

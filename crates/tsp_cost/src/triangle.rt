@@ -8,7 +8,7 @@ ghost use Rattle.tsp_format.specs.Limits.{most_matrix_nodes, most_weight};
 ghost use Rattle.tsp_draft.specs.Valid.{IsWithin};
 ghost use Rattle.tsp_file.specs.Cost.{listed_cost};
 ghost use Rattle.tsp_theory.specs.Costs.{IsSymmetric};
-ghost use Rattle.tsp_file.specs.Listed.{UnlistedHaveNoPlace};
+ghost use Rattle.tsp_file.specs.ListedWeights.{UnlistedHaveNoPlace};
 
 use tsp_format::{Layout, cells_are_the_listed_pairs, only_cells_have_places};
 use tsp_theory::{Costs, Symmetric};

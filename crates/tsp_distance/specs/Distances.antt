@@ -29,56 +29,65 @@ square_apart a b = squared (across a b) + squared (along a b)
 abbrev pub square_apart_in_space : Point → Point → ℕ
 square_apart_in_space a b = squared (across a b) + squared (along a b) + squared (above a b)
 
+-- k is the root of a square of counts, rounded to the nearest whole number, a half upward
+pub record IsNearestRoot (square k : ℕ) : Type 0 where
+  pub below_next_half : 4 * square < squared ((2 * k + 1) * unit)
+  pub from_last_half : 0 < k → squared ((2 * k - 1) * unit) ≤ 4 * square
+
+-- k is a count rounded to the nearest whole number, a half upward
+pub record IsNearestWhole (count k : ℕ) : Type 0 where
+  pub below_next_half : 2 * count < (2 * k + 1) * unit
+  pub from_last_half : 0 < k → (2 * k - 1) * unit ≤ 2 * count
+
+-- k is the first whole number at which this is enough
+pub record IsFirstEnough (needed : ℕ) (reach : ℕ → ℕ) (k : ℕ) : Type 0 where
+  pub enough : needed ≤ reach k
+  pub none_smaller : (j : ℕ) → j < k → reach j < needed
+
+-- ---- each distance under its name
+
 -- EUC_2D: the straight distance rounded to the nearest whole number, a half upward
-pub record IsEuc2d (a b : Point) (k : ℕ) : Type 0 where
-  pub below_next_half : 4 * square_apart a b < squared ((2 * k + 1) * unit)
-  pub from_last_half : 0 < k → squared ((2 * k - 1) * unit) ≤ 4 * square_apart a b
+abbrev pub IsEuc2d : Point → Point → ℕ → Type 0
+IsEuc2d a b k = IsNearestRoot (square_apart a b) k
 
 -- CEIL_2D: the straight distance rounded up
-pub record IsCeil2d (a b : Point) (k : ℕ) : Type 0 where
-  pub enough : square_apart a b ≤ squared (k * unit)
-  pub none_smaller : (j : ℕ) → j < k → squared (j * unit) < square_apart a b
+abbrev pub IsCeil2d : Point → Point → ℕ → Type 0
+IsCeil2d a b k = IsFirstEnough (square_apart a b) (λ j. squared (j * unit)) k
 
 -- MAN_2D: the sum of both differences rounded to the nearest whole number, a half upward
-pub record IsMan2d (a b : Point) (k : ℕ) : Type 0 where
-  pub below_next_half : 2 * (across a b + along a b) < (2 * k + 1) * unit
-  pub from_last_half : 0 < k → (2 * k - 1) * unit ≤ 2 * (across a b + along a b)
+abbrev pub IsMan2d : Point → Point → ℕ → Type 0
+IsMan2d a b k = IsNearestWhole (across a b + along a b) k
 
 -- MAX_2D: the larger of both differences rounded to the nearest whole number, a half upward
-pub record IsMax2d (a b : Point) (k : ℕ) : Type 0 where
-  pub below_next_half : 2 * max (across a b) (along a b) < (2 * k + 1) * unit
-  pub from_last_half : 0 < k → (2 * k - 1) * unit ≤ 2 * max (across a b) (along a b)
+abbrev pub IsMax2d : Point → Point → ℕ → Type 0
+IsMax2d a b k = IsNearestWhole (max (across a b) (along a b)) k
 
 -- ATT: the root of a tenth of the square rounded up
-pub record IsAtt (a b : Point) (k : ℕ) : Type 0 where
-  pub enough : square_apart a b ≤ 10 * squared (k * unit)
-  pub none_smaller : (j : ℕ) → j < k → 10 * squared (j * unit) < square_apart a b
+abbrev pub IsAtt : Point → Point → ℕ → Type 0
+IsAtt a b k = IsFirstEnough (square_apart a b) (λ j. 10 * squared (j * unit)) k
 
 -- EUC_3D: the straight distance in space rounded to the nearest whole number, a half upward
-pub record IsEuc3d (a b : Point) (k : ℕ) : Type 0 where
-  pub below_next_half : 4 * square_apart_in_space a b < squared ((2 * k + 1) * unit)
-  pub from_last_half : 0 < k → squared ((2 * k - 1) * unit) ≤ 4 * square_apart_in_space a b
+abbrev pub IsEuc3d : Point → Point → ℕ → Type 0
+IsEuc3d a b k = IsNearestRoot (square_apart_in_space a b) k
 
 -- MAN_3D: the sum of the three ways rounded to the nearest whole number, a half upward
-pub record IsMan3d (a b : Point) (k : ℕ) : Type 0 where
-  pub below_next_half : 2 * (across a b + along a b + above a b) < (2 * k + 1) * unit
-  pub from_last_half : 0 < k → (2 * k - 1) * unit ≤ 2 * (across a b + along a b + above a b)
+abbrev pub IsMan3d : Point → Point → ℕ → Type 0
+IsMan3d a b k = IsNearestWhole (across a b + along a b + above a b) k
 
 -- the longest of the three ways
 abbrev pub longest_way : Point → Point → ℕ
 longest_way a b = max (max (across a b) (along a b)) (above a b)
 
 -- MAX_3D: the longest of the three ways rounded to the nearest whole number, a half upward
-pub record IsMax3d (a b : Point) (k : ℕ) : Type 0 where
-  pub below_next_half : 2 * longest_way a b < (2 * k + 1) * unit
-  pub from_last_half : 0 < k → (2 * k - 1) * unit ≤ 2 * longest_way a b
+abbrev pub IsMax3d : Point → Point → ℕ → Type 0
+IsMax3d a b k = IsNearestWhole (longest_way a b) k
 
 -- the least number at which the test holds, sought from 0 on below n; n where there is none
 unfoldable pub least : (ℕ → Bool) → ℕ → ℕ
 least test zero = 0
 least test (suc n) = if test 0 then 0 else suc (least (λ k. test (suc k)) n)
 
--- The distances as functions of the points: the least k that is large enough. Each is the one k of its record above.
+-- The distances as functions of the points: the least k that is large enough. Each is the one k of its definition above.
 abbrev pub euc_2d_of : Point → Point → ℕ
 euc_2d_of a b = least (λ k. nat_lt (4 * square_apart a b) (squared ((2 * k + 1) * unit))) (square_apart a b)
 

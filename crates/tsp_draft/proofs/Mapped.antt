@@ -13,22 +13,26 @@ use Rattle.tsp_format.specs.Limits.{most_tour_nodes, most_combs, most_comb_nodes
 use Rattle.tsp_draft.specs.states.Drafts.{combs_of}
 use Rattle.tsp_draft.specs.Validity.{is_tour, are_tours, is_set, is_comb, are_combs, is_step, are_steps}
 
-pub mapped_all : {X Y : Type 0} (h : Y → X) (p : X → Bool) (ys : List Y) (r : Bool) (most count : ℕ) → r ≡ list_all (λ y. p (h y)) ys → count ≤ most → count ≡ length ys
+pub mapped_all : {X Y : Type 0} (h : Y → X) (p : X → Bool) (ys : List Y) (r : Bool) (most count : ℕ)
+    → r ≡ list_all (λ y. p (h y)) ys → count ≤ most → count ≡ length ys
     → r ≡ (nat_le (length (map h ys)) most && list_all p (map h ys))
 mapped_all h p ys r most count e le counted =
     let short : nat_le (length (map h ys)) most ≡ true = le-leb (length (map h ys)) most (omega (arith, length-map ys h, le, counted)) in
     e ∙ sym (list_all-map p h ys) ∙ sym (ap (λ (b : Bool). b && list_all p (map h ys)) short)
 
-fold_mapped : {X Y : Type 0} (f : X → ℕ) (h : Y → X) (total : ℕ) (ys : List Y) → fold (λ a x. a + f x) total (map h ys) ≡ fold (λ a y. a + f (h y)) total ys
+fold_mapped : {X Y : Type 0} (f : X → ℕ) (h : Y → X) (total : ℕ) (ys : List Y)
+    → fold (λ a x. a + f x) total (map h ys) ≡ fold (λ a y. a + f (h y)) total ys
 fold_mapped f h total [] = refl
 fold_mapped f h total (y ∷ ys) = fold_mapped f h (total + f (h y)) ys
 
 sum_by_mapped : {X Y : Type 0} (f : X → ℕ) (h : Y → X) (ys : List Y) → sum_by f (map h ys) ≡ sum_by (λ y. f (h y)) ys
 sum_by_mapped f h ys = fold_mapped f h 0 ys
 
-pub mapped_tours : (tours : List (Vec ℕ)) (r : Bool) → r ≡ (list_all (λ tour. is_tour tour.items) tours && nat_le (sum_by (λ tour. length tour.items) tours) most_tour_nodes)
+pub mapped_tours : (tours : List (Vec ℕ)) (r : Bool)
+    → r ≡ (list_all (λ tour. is_tour tour.items) tours && nat_le (sum_by (λ tour. length tour.items) tours) most_tour_nodes)
     → r ≡ are_tours (map (λ tour. tour.items) tours)
-mapped_tours tours r e = e ∙ rw (list_all-map is_tour (λ (tour : Vec ℕ). tour.items) tours, sum_by_mapped (λ (t : List ℕ). length t) (λ (tour : Vec ℕ). tour.items) tours) refl
+mapped_tours tours r e =
+    e ∙ rw (list_all-map is_tour (λ (tour : Vec ℕ). tour.items) tours, sum_by_mapped (λ (t : List ℕ). length t) (λ (tour : Vec ℕ). tour.items) tours) refl
 
 -- ---- combs
 
@@ -73,7 +77,8 @@ steps_seen n steps = rw (list_all-map (is_step n) step_of steps)
     (all_four (list_all (λ step. is_step n (step_of step)) steps) (nat_le (branch_count (steps_of steps)) most_branches)
     (nat_le (change_count (steps_of steps)) most_changes) (are_whole 1 (steps_of steps)))
 
-pub judged_steps : (n : ℕ) (steps : List TreeStep) (each few whole r : Bool) → each ≡ list_all (λ step. is_step n (step_of step)) steps
+pub judged_steps : (n : ℕ) (steps : List TreeStep) (each few whole r : Bool)
+    → each ≡ list_all (λ step. is_step n (step_of step)) steps
     → few ≡ (nat_le (branch_count (steps_of steps)) most_branches && nat_le (change_count (steps_of steps)) most_changes)
     → whole ≡ are_whole 1 (steps_of steps) → r ≡ (each && few && whole) → r ≡ are_steps n (steps_of steps)
 judged_steps n steps each few whole r of_each of_few of_whole is =

@@ -117,7 +117,8 @@ no_field_missing f valid = none_map (λ field. Missing field) (first_failing (is
 none_missing : (f : Fields) → fault_of f ≡ None → AllByRecursion (λ field. is_there (standing_of f) field ≡ true) asked_in_order
 none_missing f valid = all_pass (is_there (standing_of f)) asked_in_order (no_field_missing f valid)
 
-pub format_and_count : (f : Fields) → fault_of f ≡ None → (has_wrong_format (standing_of f) ≡ false) × (has_wrong_count (standing_of f) ≡ false)
+pub format_and_count : (f : Fields) → fault_of f ≡ None
+    → (has_wrong_format (standing_of f) ≡ false) × (has_wrong_count (standing_of f) ≡ false)
 format_and_count f valid =
     let s = standing_of f in
     let rest : format_or_count s ≡ None = (none_or (option_map (λ field. Missing field) (first_failing (is_there s) asked_in_order)) (format_or_count s) (no_end_fault f valid)).1 in
@@ -137,7 +138,8 @@ within most z e = from_to (neg_ℤ (pos most)) (pos most) z e
 node : (n i : ℕ) → is_node n i ≡ true → IsNode n i
 node n i e = let two = both (nat_le 1 i) (nat_le i n) e in (leb-true 1 i two.0, leb-true i n two.1)
 
-all_so : {A : Type 0} (test : A → Bool) (P : A → Type 0) → ((x : A) → test x ≡ true → P x) → (xs : List A) → list_all test xs ≡ true → All P xs
+all_so : {A : Type 0} (test : A → Bool) (P : A → Type 0) → ((x : A) → test x ≡ true → P x) → (xs : List A)
+    → list_all test xs ≡ true → All P xs
 all_so test P so xs e = λ k d lt. so (get_or xs k d) (AllPass-from_list_all test xs e k d lt)
 
 is_pair_of : (n : ℕ) (pair : ℕ × ℕ) → is_node_pair n pair ≡ true → IsPairOf n pair
@@ -172,11 +174,13 @@ nodes_fit f false = refl
 given : {A : Type 0} (test : A → Bool) (o : Option A) (x : A) → if_there test o ≡ true → o ≡ Some x → test x ≡ true
 given test o x e stands = subst (λ v. if_there test v ≡ true) stands e
 
-dimensioned : {A : Type 0} (test : ℕ → A → Bool) (dimension : Option ℕ) (x : A) → with_dimension test dimension x ≡ true → (n : ℕ) × (dimension ≡ Some n) × (test n x ≡ true)
+dimensioned : {A : Type 0} (test : ℕ → A → Bool) (dimension : Option ℕ) (x : A) → with_dimension test dimension x ≡ true
+    → (n : ℕ) × (dimension ≡ Some n) × (test n x ≡ true)
 dimensioned test None x e = absurd cc
 dimensioned test (Some n) x e = (n, refl, e)
 
-by_node : {A : Type 0} (f : Fields) (test : A → Bool) (P : A → Type 0) → ((x : A) → test x ≡ true → P x) → (o : Option (List A)) (xs : List A)
+by_node : {A : Type 0} (f : Fields) (test : A → Bool) (P : A → Type 0) → ((x : A) → test x ≡ true → P x)
+    → (o : Option (List A)) (xs : List A)
     → if_there (with_dimension (is_by_node test) f.dimension) o ≡ true → o ≡ Some xs → IsByNode P f xs
 by_node f test P so o xs e stands =
     let held = dimensioned (is_by_node test) f.dimension xs (given (with_dimension (is_by_node test) f.dimension) o xs e stands) in
@@ -195,7 +199,8 @@ fixed_in f pairs e stands =
     let two = both (nat_le (length pairs) most_fixed) (list_all (is_node_pair held.0) pairs) held.2 in
     record { n = held.0; dimension = held.1; few = leb-true (length pairs) most_fixed two.0; pairs_of_nodes = all_so (is_node_pair held.0) (IsPairOf held.0) (is_pair_of held.0) pairs two.1 }
 
-triples_in : (f : Fields) (triples : List (ℕ × ℕ × ℤ)) → fits f fields.FixedEdgePotentialPart ≡ true → f.fixed_potentials ≡ Some triples
+triples_in : (f : Fields) (triples : List (ℕ × ℕ × ℤ)) → fits f fields.FixedEdgePotentialPart ≡ true
+    → f.fixed_potentials ≡ Some triples
     → AreTriples f triples
 triples_in f triples e stands =
     let given_so = given (with_dimension are_triples f.dimension) f.fixed_potentials triples e stands in
@@ -271,13 +276,15 @@ steps_in f steps e stands =
     }
 
 -- the format of weights, once it is present and no function
-listed_format : (format : Option WeightFormat) → is_some format ≡ true → is_function format ≡ false → (layout : Layout) × (format ≡ Some (Listed layout))
+listed_format : (format : Option WeightFormat) → is_some format ≡ true → is_function format ≡ false
+    → (layout : Layout) × (format ≡ Some (Listed layout))
 listed_format None there no_function = absurd cc
 listed_format (Some ByFunction) there no_function = absurd cc
 listed_format (Some (Listed layout)) there no_function = (layout, refl)
 
 -- the count of weights, in a layout over n nodes
-counted : (n : ℕ) (layout : Layout) (weights : List ℤ) (dimension : Option ℕ) (format : Option WeightFormat) (stand : Option (List ℤ)) → is_count dimension format (count_of stand) ≡ true
+counted : (n : ℕ) (layout : Layout) (weights : List ℤ) (dimension : Option ℕ) (format : Option WeightFormat) (stand : Option (List ℤ))
+    → is_count dimension format (count_of stand) ≡ true
     → dimension ≡ Some n → format ≡ Some (Listed layout) → stand ≡ Some weights → length weights ≡ length (cells layout n)
 counted n layout weights dimension format stand e is_n is_layout are_weights = eqb-true (length weights) (length (cells layout n))
     (subst (λ o. is_count (Some n) (Some (Listed layout)) (count_of o) ≡ true) are_weights
@@ -388,7 +395,8 @@ pub has_tours : (f : Fields) → fault_of f ≡ None → IsTrue (is_tours f.kind
 has_tours f valid is_one = asked_there (is_tours f.kind) (is_some f.tours) (none_missing f valid).1.1.1.1.1.1.1.1.1.0 is_one
 
 -- potentials of one sort
-one_sort : (nodal : Option (List ℤ)) (multipliers : Option (List (ℕ × ℕ × ℤ))) (row column : Option (List ℤ)) → (not (is_some row || is_some column) ≡ true → is_some nodal ≡ true)
+one_sort : (nodal : Option (List ℤ)) (multipliers : Option (List (ℕ × ℕ × ℤ))) (row column : Option (List ℤ))
+    → (not (is_some row || is_some column) ≡ true → is_some nodal ≡ true)
     → (is_some column ≡ true → is_some row ≡ true) → (is_some row ≡ true → is_some column ≡ true)
     → ((is_some nodal || is_some multipliers) && (is_some row || is_some column)) ≡ false
     → (IsSome nodal × (row ≡ None) × (column ≡ None)) ⊎ ((nodal ≡ None) × (multipliers ≡ None) × IsSome row × IsSome column)

@@ -1,5 +1,5 @@
 -- What a file holds, as lists.
-use Rattle.std.specs.Prelude.{ℕ, Bool, true, List, [], Option, None, Some, ℤ, pos, nat_abs, is_some}
+use Rattle.std.specs.Prelude.{ℕ, Bool, true, List, [], Option, None, Some, unwrap_or, ℤ, pos, nat_abs, is_some}
 use Rattle.std.specs.Option.{option_map}
 use Rattle.tsp_distance.specs.declared.decimal.Point.{Point}
 use Rattle.tsp_format.specs.declared.field.Field.{Field}
@@ -67,6 +67,10 @@ blank_fields = record {
   combs = None;
   branches = None;
 }
+
+-- The number of nodes. Only a file of TYPE TOUR may lack it, and then no reason and no bound is about its number.
+abbrev pub nodes_of : Fields → ℕ
+nodes_of f = unwrap_or f.dimension 0
 
 -- its nodes have three coordinates each
 abbrev pub spatial : Fields → Bool

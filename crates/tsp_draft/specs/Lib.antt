@@ -1,6 +1,6 @@
 pub mod states
 pub mod Coords
-pub mod FaultText
+pub mod DraftFaultText
 pub mod Fields
 pub mod Rules
 pub mod Valid

@@ -28,7 +28,8 @@ impl Coords {
 
     /// The point at an index, from 0 on, by its three coordinates.
     pub fn get(&self, index: usize) -> Option<Point>
-        ensures { SomeIff result (index < length (points_of self.now)) (slice_index_or (points_of self.now) index origin) }
+        ensures { SomeIff result (index
+            < length (points_of self.now)) (slice_index_or (points_of self.now) index origin) }
     {
         match self {
             Coords::Plane(points) => points.get(index).map(|point| point.in_space()),

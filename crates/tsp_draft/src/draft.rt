@@ -199,7 +199,8 @@ impl Draft {
     /// The numbers of a section that has one for each node; nothing where it is missing, and of
     /// every other field.
     pub fn numbers(&self, field: Field) -> Option<&[i64]>
-        ensures { option_map (λ entries. entries.now) result ≡ numbers_in (fields_of self.now) field }
+        ensures { option_map (λ entries. entries.now) result
+            ≡ numbers_in (fields_of self.now) field }
     {
         let numbers = match field {
             Field::DemandPart => &self.demands,
@@ -227,7 +228,8 @@ impl Draft {
     /// The points of a section that has one for each node; nothing where it is missing, and of
     /// every other field.
     pub fn points(&self, field: Field) -> Option<&Coords>
-        ensures { option_map (λ points. points_of points.now) result ≡ points_in (fields_of self.now) field }
+        ensures { option_map (λ points. points_of points.now) result
+            ≡ points_in (fields_of self.now) field }
     {
         match field {
             Field::NodeCoordPart => self.coords.as_ref(),

@@ -8,7 +8,7 @@ ghost use Rattle.tsp_draft.specs.declared.fault.EndFault.TheVariants as ends;
 ghost use Rattle.tsp_draft.specs.declared.fault.DraftFault.TheVariants as drafts;
 ghost use Rattle.tsp_draft.specs.Fields.{blank_fields};
 ghost use Rattle.tsp_draft.specs.Validity.{is_kept, are_comments, are_others, is_within, is_third, is_demand, is_node, is_node_pair, are_weights, are_depots, are_fixed, is_triple, are_triples, is_tour, is_set, is_comb, is_change};
-ghost use Rattle.tsp_draft.specs.FaultText.{end_fault_text, draft_fault_text};
+ghost use Rattle.tsp_draft.specs.DraftFaultText.{end_fault_text, draft_fault_text};
 ghost use Rattle.tsp_draft.specs.Rules.{fault_of, end_fault, standing_of};
 ghost use Rattle.tsp_draft.specs.Examples.{directed_matrix, plane, no_nodes, one_weight, bare_routes, routing_nodes, routing_listed, routing_full, routing_capacity, routing_weights, routing_demands, routing_depots, routing_plane, bare_tours, touring_weights, touring_whole, touring_function, touring_surplus, bare_potentials, with_node_numbers, with_column_numbers, with_row_numbers, with_both_numbers, with_all_numbers, with_both_and_pairs, with_all_and_weights, bare_tree};
 
@@ -77,41 +77,56 @@ pub fn examples_of_faults()
 /// The end table, each row beside the next one that applies too.
 #[tactic(auto, unfolding(tsp_format::specs::Cells::cells, tsp_format::specs::Cells::nodes_to))]
 pub fn examples_of_the_end_table()
-    ensures dimension { end_fault (standing_of bare_routes) None ≡ Some (ends.Missing fields.DimensionKey) }
-    ensures weight_type { end_fault (standing_of routing_nodes) None ≡ Some (ends.Missing fields.EdgeWeightTypeKey) }
-    ensures weight_format { end_fault (standing_of routing_listed) None ≡ Some (ends.Missing fields.EdgeWeightFormatKey) }
-    ensures capacity { end_fault (standing_of routing_full) None ≡ Some (ends.Missing fields.CapacityKey) }
-    ensures weights { end_fault (standing_of routing_capacity) None ≡ Some (ends.Missing fields.EdgeWeightPart) }
-    ensures points { end_fault (standing_of routing_plane) None ≡ Some (ends.Missing fields.NodeCoordPart) }
-    ensures demands { end_fault (standing_of routing_weights) None ≡ Some (ends.Missing fields.DemandPart) }
-    ensures depots { end_fault (standing_of routing_demands) None ≡ Some (ends.Missing fields.DepotPart) }
+    ensures dimension { end_fault (standing_of bare_routes) None
+        ≡ Some (ends.Missing fields.DimensionKey) }
+    ensures weight_type { end_fault (standing_of routing_nodes) None
+        ≡ Some (ends.Missing fields.EdgeWeightTypeKey) }
+    ensures weight_format { end_fault (standing_of routing_listed) None
+        ≡ Some (ends.Missing fields.EdgeWeightFormatKey) }
+    ensures capacity { end_fault (standing_of routing_full) None
+        ≡ Some (ends.Missing fields.CapacityKey) }
+    ensures weights { end_fault (standing_of routing_capacity) None
+        ≡ Some (ends.Missing fields.EdgeWeightPart) }
+    ensures points { end_fault (standing_of routing_plane) None
+        ≡ Some (ends.Missing fields.NodeCoordPart) }
+    ensures demands { end_fault (standing_of routing_weights) None
+        ≡ Some (ends.Missing fields.DemandPart) }
+    ensures depots { end_fault (standing_of routing_demands) None
+        ≡ Some (ends.Missing fields.DepotPart) }
     ensures routes { end_fault (standing_of routing_depots) None ≡ None }
     ensures tours { end_fault (standing_of bare_tours) None ≡ Some (ends.Missing fields.TourPart) }
-    ensures format_before_tours { end_fault (standing_of touring_weights) None ≡ Some (ends.Missing fields.EdgeWeightFormatKey) }
+    ensures format_before_tours { end_fault (standing_of touring_weights) None
+        ≡ Some (ends.Missing fields.EdgeWeightFormatKey) }
     ensures tours_without_nodes { end_fault (standing_of touring_whole) None ≡ None }
-    ensures node_numbers { end_fault (standing_of bare_potentials) None ≡ Some (ends.Missing fields.NodePotentialPart) }
-    ensures rows { end_fault (standing_of with_column_numbers) None ≡ Some (ends.Missing fields.RowPotentialPart) }
-    ensures columns { end_fault (standing_of with_row_numbers) None ≡ Some (ends.Missing fields.ColumnPotentialPart) }
+    ensures node_numbers { end_fault (standing_of bare_potentials) None
+        ≡ Some (ends.Missing fields.NodePotentialPart) }
+    ensures rows { end_fault (standing_of with_column_numbers) None
+        ≡ Some (ends.Missing fields.RowPotentialPart) }
+    ensures columns { end_fault (standing_of with_row_numbers) None
+        ≡ Some (ends.Missing fields.ColumnPotentialPart) }
     ensures numbers { end_fault (standing_of with_node_numbers) None ≡ None }
     ensures duals { end_fault (standing_of with_both_numbers) None ≡ None }
     ensures both_sorts { end_fault (standing_of with_all_numbers) None ≡ Some ends.WrongFormat }
-    ensures multipliers_with_duals { end_fault (standing_of with_both_and_pairs) None ≡ Some ends.WrongFormat }
+    ensures multipliers_with_duals { end_fault (standing_of with_both_and_pairs) None
+        ≡ Some ends.WrongFormat }
     ensures steps { end_fault (standing_of bare_tree) None ≡ Some (ends.Missing fields.BranchPart) }
     ensures function { end_fault (standing_of touring_function) None ≡ Some ends.WrongFormat }
     ensures count { end_fault (standing_of touring_surplus) None ≡ Some ends.WrongCount }
-    ensures format_before_count { end_fault (standing_of with_all_and_weights) None ≡ Some ends.WrongFormat }
-    ensures missing_before_incomplete { end_fault (standing_of bare_tours) (Some fields.EdgeWeightPart)
-        ≡ Some (ends.Missing fields.TourPart) }
-    ensures incomplete_before_format { end_fault (standing_of with_all_numbers) (Some fields.CombPart)
-        ≡ Some (ends.Incomplete fields.CombPart) }
-    ensures incomplete_before_count { end_fault (standing_of touring_surplus) (Some fields.EdgeWeightPart)
-        ≡ Some (ends.Incomplete fields.EdgeWeightPart) }
+    ensures format_before_count { end_fault (standing_of with_all_and_weights) None
+        ≡ Some ends.WrongFormat }
+    ensures missing_before_incomplete { end_fault (standing_of bare_tours)
+        (Some fields.EdgeWeightPart) ≡ Some (ends.Missing fields.TourPart) }
+    ensures incomplete_before_format { end_fault (standing_of with_all_numbers)
+        (Some fields.CombPart) ≡ Some (ends.Incomplete fields.CombPart) }
+    ensures incomplete_before_count { end_fault (standing_of touring_surplus)
+        (Some fields.EdgeWeightPart) ≡ Some (ends.Incomplete fields.EdgeWeightPart) }
 {}
 
 /// The text of each fault.
 pub fn examples_of_fault_texts()
     ensures missing { end_fault_text (ends.Missing fields.TypeKey) ≡ codes "Missing TYPE" }
-    ensures incomplete { end_fault_text (ends.Incomplete fields.TourPart) ≡ codes "Incomplete TOUR_SECTION" }
+    ensures incomplete { end_fault_text (ends.Incomplete fields.TourPart)
+        ≡ codes "Incomplete TOUR_SECTION" }
     ensures wrong_format { end_fault_text ends.WrongFormat ≡ codes "WrongFormat" }
     ensures wrong_count { end_fault_text ends.WrongCount ≡ codes "WrongCount" }
     ensures bad_field { draft_fault_text (drafts.BadField fields.NameKey) ≡ codes "BadField NAME" }

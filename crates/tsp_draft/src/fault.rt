@@ -20,7 +20,7 @@ pub enum EndFault {
 
 impl fmt::Display for EndFault {
     ghost use Rattle.std.specs.Prelude.{Some};
-    ghost use Rattle.tsp_draft.specs.FaultText.{end_fault_text};
+    ghost use Rattle.tsp_draft.specs.DraftFaultText.{end_fault_text};
 
     ghost output = { λ fault. Some (end_fault_text fault) };
 
@@ -45,7 +45,7 @@ pub enum DraftFault {
 
 impl fmt::Display for DraftFault {
     ghost use Rattle.std.specs.Prelude.{Some};
-    ghost use Rattle.tsp_draft.specs.FaultText.{draft_fault_text};
+    ghost use Rattle.tsp_draft.specs.DraftFaultText.{draft_fault_text};
 
     ghost output = { λ fault. Some (draft_fault_text fault) };
 

@@ -14,7 +14,8 @@ pub fn valid_fields_are_in_range()
 /// A valid file has the fields that its kind asks for.
 pub fn valid_files_are_complete()
     ensures kind { (f : Fields) → fault_of f ≡ None → IsSome f.kind }
-    ensures instance { (f : Fields) → fault_of f ≡ None → IsTrue (is_instance f.kind) → HasInstance f }
+    ensures instance { (f : Fields)
+        → fault_of f ≡ None → IsTrue (is_instance f.kind) → HasInstance f }
     ensures routing { (f : Fields) → fault_of f ≡ None → IsTrue (is_routing f.kind) → HasRouting f }
     ensures tours { (f : Fields) → fault_of f ≡ None → IsTrue (is_tours f.kind) → IsSome f.tours }
     ensures potentials { (f : Fields) → fault_of f ≡ None → IsTrue (is_certificate f.kind)

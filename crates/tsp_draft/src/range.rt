@@ -29,7 +29,8 @@ pub(crate) fn are_from_to(numbers: &[i64], low: i64, high: i64) -> bool
 /// The bits of all numbers in one: where the highest isn't among them, no number is negative, and
 /// none is larger.
 fn all_bits(numbers: &[i64]) -> u64
-    ensures { result < 2 ^ 63 → All (λ number. (pos 0 ≤ℤ number) × (number ≤ℤ pos result)) numbers.now }
+    ensures { result < 2 ^ 63
+        → All (λ number. (pos 0 ≤ℤ number) × (number ≤ℤ pos result)) numbers.now }
 {
     let mut bits = 0;
     'numbers: for number in numbers {

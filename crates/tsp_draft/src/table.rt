@@ -132,10 +132,9 @@ fn section<'a, T>(
     dimension: Option<u32>,
     entries: &'a Option<Vec<T>>,
 ) -> Result<(u32, &'a [T]), bool>
-    ensures { MatchResult result
-        (λ found. (dimension ≡ Some found.0) × (option_map (λ v. v.items) entries.now ≡ Some found.1.now))
-        (λ valid. (fits : ℕ → List T → Bool) → valid ≡ if_there (with_dimension fits dimension)
-        (option_map (λ v. v.items) entries.now)) }
+    ensures { MatchResult result (λ found. (dimension ≡ Some found.0) × (option_map (λ v. v.items)
+        entries.now ≡ Some found.1.now)) (λ valid. (fits : ℕ → List T → Bool) → valid
+        ≡ if_there (with_dimension fits dimension) (option_map (λ v. v.items) entries.now)) }
 {
     match (entries, dimension) {
         (None, _) => Err(true),
@@ -174,7 +173,8 @@ fn are_numbers(dimension: Option<u32>, numbers: Option<&[i64]>, low: i64, high: 
 
 /// The depots are nodes, and not too many.
 fn are_depots(dimension: Option<u32>, depots: &Option<Vec<u32>>) -> bool
-    ensures { result ≡ if_there (with_dimension are_depots dimension) (option_map (λ v. v.items) depots.now) }
+    ensures { result
+        ≡ if_there (with_dimension are_depots dimension) (option_map (λ v. v.items) depots.now) }
 {
     match section(dimension, depots) {
         Ok((nodes, depots)) => validity::are_depots(nodes, depots),
@@ -184,7 +184,8 @@ fn are_depots(dimension: Option<u32>, depots: &Option<Vec<u32>>) -> bool
 
 /// The fixed pairs are of two different nodes, and not too many.
 fn are_fixed(dimension: Option<u32>, pairs: &Option<Vec<(u32, u32)>>) -> bool
-    ensures { result ≡ if_there (with_dimension are_fixed dimension) (option_map (λ v. v.items) pairs.now) }
+    ensures { result
+        ≡ if_there (with_dimension are_fixed dimension) (option_map (λ v. v.items) pairs.now) }
 {
     match section(dimension, pairs) {
         Ok((nodes, pairs)) => validity::are_fixed(nodes, pairs),
@@ -194,7 +195,8 @@ fn are_fixed(dimension: Option<u32>, pairs: &Option<Vec<(u32, u32)>>) -> bool
 
 /// The triples are of two different nodes and a multiplier, and not too many.
 fn are_triples(dimension: Option<u32>, triples: &Option<Vec<(u32, u32, i64)>>) -> bool
-    ensures { result ≡ if_there (with_dimension are_triples dimension) (option_map (λ v. v.items) triples.now) }
+    ensures { result
+        ≡ if_there (with_dimension are_triples dimension) (option_map (λ v. v.items) triples.now) }
 {
     match section(dimension, triples) {
         Ok((nodes, triples)) => validity::are_triples(nodes, triples),
@@ -204,7 +206,8 @@ fn are_triples(dimension: Option<u32>, triples: &Option<Vec<(u32, u32, i64)>>) -
 
 /// The weights are in range, and not more than a matrix has.
 fn are_weights(dimension: Option<u32>, weights: &Option<Vec<i64>>) -> bool
-    ensures { result ≡ if_there (with_dimension are_weights dimension) (option_map (λ v. v.items) weights.now) }
+    ensures { result
+        ≡ if_there (with_dimension are_weights dimension) (option_map (λ v. v.items) weights.now) }
 {
     match section(dimension, weights) {
         Ok((nodes, weights)) => validity::are_weights(nodes, weights),

@@ -291,8 +291,8 @@ fn nodes_of_sets(sets: &[Vec<u32>], most: usize) -> Option<usize>
 
 /// Whether the combs have together at most `MOST_COMB_NODES` nodes.
 fn have_few_comb_nodes(combs: &[Vec<Vec<u32>>]) -> bool
-    ensures { result ≡
-        nat_le (sum_by (λ comb. sum_by (λ set. length set.items) comb.items) combs.now) most_comb_nodes }
+    ensures { result ≡ nat_le
+        (sum_by (λ comb. sum_by (λ set. length set.items) comb.items) combs.now) most_comb_nodes }
 {
     let mut total = 0;
     'combs: for comb in combs {

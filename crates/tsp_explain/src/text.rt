@@ -52,7 +52,8 @@ pub fn push_lines(text: &mut Vec<u8>, sentences: &str) -> Result<(), AllocError>
 
 /// Appends bytes, and after each byte 10 what a line begins with.
 fn push_indented(text: &mut Vec<u8>, bytes: &[u8]) -> Result<(), AllocError>
-    ensures { OnOk result (text.new.items ≡ text.old.items ++ concat (map indented_byte bytes.now)) }
+    ensures { OnOk result
+        (text.new.items ≡ text.old.items ++ concat (map indented_byte bytes.now)) }
 {
     'bytes: for byte in bytes {
         push_indented_byte(text, *byte)?;

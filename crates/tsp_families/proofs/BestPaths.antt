@@ -50,14 +50,16 @@ taken_off i m own = elim (cases_lt m (2 ^ i)) [
 
 -- ---- the bits of a set are its nodes
 
-pub absent : (n x : ℕ) (nodes : List ℕ) → 2 ≤ x → AllByRecursion (IsInner n) nodes → AllApart nodes → AllByRecursion (λ y. x ≢ y) nodes → bit_at (number_of nodes) (x - 2) ≡ 0
+pub absent : (n x : ℕ) (nodes : List ℕ) → 2 ≤ x → AllByRecursion (IsInner n) nodes → AllApart nodes
+    → AllByRecursion (λ y. x ≢ y) nodes → bit_at (number_of nodes) (x - 2) ≡ 0
 absent n x [] low range once apart = bit_at-zero (x - 2)
 absent n x (y ∷ ys) low range once apart =
     let clear = absent n y ys range.0.0 range.1 once.1 once.0 in
     let other : y - 2 ≢ x - 2 = λ same. apart.0 (omega (arith, same, low, range.0.0)) in
     stays (y - 2) (x - 2) (number_of ys) clear other ∙ absent n x ys low range.1 once.1 apart.1
 
-pub present : (n x : ℕ) (nodes : List ℕ) → AllByRecursion (IsInner n) nodes → AllApart nodes → Within nodes x → bit_at (number_of nodes) (x - 2) ≡ 1
+pub present : (n x : ℕ) (nodes : List ℕ) → AllByRecursion (IsInner n) nodes → AllApart nodes → Within nodes x
+    → bit_at (number_of nodes) (x - 2) ≡ 1
 present n x [] range once h = absurd h
 present n x (y ∷ ys) range once (inl same) =
     let clear = absent n y ys range.0.0 range.1 once.1 once.0 in
@@ -90,7 +92,8 @@ less_order n set other rest h = record {
       omega (arith, whole);
 }
 
-more_order : (n set other : ℕ) (rest : List ℕ) → IsInner n (other + 2) → bit_at set other ≡ 1 → IsOrderOf n (set - 2 ^ other) rest → IsOrderOf n set ((other + 2) ∷ rest)
+more_order : (n set other : ℕ) (rest : List ℕ) → IsInner n (other + 2) → bit_at set other ≡ 1 → IsOrderOf n (set - 2 ^ other) rest
+    → IsOrderOf n set ((other + 2) ∷ rest)
 more_order n set other rest inner own h =
     let off = taken_off other set own in
     record {
@@ -112,7 +115,8 @@ more_order n set other rest inner own h =
 
 -- what a path begins with: the last step where nothing is left of the set, else none
 abbrev pub StartsWith : ℕ → List ℕ → ℕ → ℕ → ℕ → Type 0
-StartsWith n costs set other start = ((set - 2 ^ other ≡ 0) × (start ≡ slice_index costs ((other + 1) * n))) ⊎ ((set - 2 ^ other ≢ 0) × (start ≡ no_path))
+StartsWith n costs set other start =
+    ((set - 2 ^ other ≡ 0) × (start ≡ slice_index costs ((other + 1) * n))) ⊎ ((set - 2 ^ other ≢ 0) × (start ≡ no_path))
 
 first_place : (n other : ℕ) → (other + 1) * n ≡ (other + 2 - 1) * n + (1 - 1)
 first_place n other = let e : other + 2 - 1 ≡ other + 1 = omega arith in rw e (omega arith)
@@ -131,12 +135,15 @@ no_best n set other cost clear = record {
 }
 
 abbrev pub IsFound : ℕ → (ℕ → ℕ → ℕ) → ℕ → ℕ → ℕ → Type 0
-IsFound n cost set node least = (least ≡ no_path) ⊎ ((rest : List ℕ) × IsOrderOf n set (node ∷ rest) × (least ≡ path_length cost node rest))
+IsFound n cost set node least =
+    (least ≡ no_path) ⊎ ((rest : List ℕ) × IsOrderOf n set (node ∷ rest) × (least ≡ path_length cost node rest))
 
 -- a path from the least sum over the best paths of what is left of the set
-pub best_from : (n set other start least : ℕ) (costs paths : List ℕ) → other < n - 1 → bit_at set other ≡ 1 → set * (n - 1) ≤ length paths → AreBestPaths n (cost_by_rows n costs) paths
+pub best_from : (n set other start least : ℕ) (costs paths : List ℕ) → other < n - 1 → bit_at set other ≡ 1
+    → set * (n - 1) ≤ length paths → AreBestPaths n (cost_by_rows n costs) paths
     → start ≤ no_path → StartsWith n costs set other start
-    → IsLeastSum start costs paths ((other + 1) * n + 1) ((set - 2 ^ other) * (n - 1)) (n - 1) least → IsBestPath n (cost_by_rows n costs) set (other + 2) least
+    → IsLeastSum start costs paths ((other + 1) * n + 1) ((set - 2 ^ other) * (n - 1)) (n - 1) least
+    → IsBestPath n (cost_by_rows n costs) set (other + 2) least
 best_from n set other start least costs paths in_range own long best most starts sum = record {
   most = omega (arith, most, sum.below_start);
   below = below;

@@ -10,7 +10,7 @@ use Rattle.tsp_format.specs.Cells.{IsNode}
 use Rattle.tsp_theory.specs.Cycle.{IsCycle}
 use Rattle.tsp_theory.specs.Length.{length_of}
 use Rattle.tsp_families.specs.Crossed.{IsLeastLength, sets_crossed}
-use Rattle.tsp_families.specs.Parts.{between, IsDivision, DivisionsBoundCycles}
+use Rattle.tsp_families.specs.SetParts.{between, IsDivision, DivisionsBoundCycles}
 use Rattle.tsp_families.proofs.Lists.{Within}
 use Rattle.tsp_families.proofs.Walks.{shorter_cycle}
 use Rattle.tsp_families.proofs.PartWalks.{IsInPart, same_length, in_range, triangles, cycle_has}
@@ -22,7 +22,8 @@ pub record AreFound (n k : ℕ) (part_of : ℕ → ℕ) (firsts : List ℕ) : Ty
   pub long : length firsts ≡ k
   pub each : (part : ℕ) → IsNode k part → IsNode n (slice_index firsts (part - 1)) × (part_of (slice_index firsts (part - 1)) ≡ part)
 
-one_more : (n k : ℕ) (part_of : ℕ → ℕ) (firsts : List ℕ) (node : ℕ) → AreFound n k part_of firsts → IsNode n node → part_of node ≡ suc k → AreFound n (suc k) part_of (firsts ++ node ∷ [])
+one_more : (n k : ℕ) (part_of : ℕ → ℕ) (firsts : List ℕ) (node : ℕ) → AreFound n k part_of firsts → IsNode n node
+    → part_of node ≡ suc k → AreFound n (suc k) part_of (firsts ++ node ∷ [])
 one_more n k part_of firsts node h in_n is = record {
   long = length-append firsts (node ∷ []) ∙ omega (arith, h.long);
   each = λ part in_k. elim (cases_lt (part - 1) (length firsts)) [
@@ -36,14 +37,17 @@ one_more n k part_of firsts node h in_n is = record {
   ];
 }
 
-found : (n m k : ℕ) (sets : List (ℕ → Bool)) (part_of : ℕ → ℕ) → IsDivision n m sets part_of → k ≤ m → (firsts : List ℕ) × AreFound n k part_of firsts
-found n m zero sets part_of is le = ([], record { long = omega arith; each = λ part in_k. absurd (omega (arith, in_k.0, in_k.1)) })
+found : (n m k : ℕ) (sets : List (ℕ → Bool)) (part_of : ℕ → ℕ) → IsDivision n m sets part_of → k ≤ m
+    → (firsts : List ℕ) × AreFound n k part_of firsts
+found n m zero sets part_of is le =
+    ([], record { long = omega arith; each = λ part in_k. absurd (omega (arith, in_k.0, in_k.1)) })
 found n m (suc k) sets part_of is le =
     let rest = found n m k sets part_of is (omega (arith, le)) in
     let node = is.met (suc k) (omega arith, le) in
     (rest.0 ++ node.0 ∷ [], one_more n k part_of rest.0 node.0 rest.1 node.1 node.2)
 
-in_parts : (n m : ℕ) (sets : List (ℕ → Bool)) (part_of : ℕ → ℕ) (firsts nodes : List ℕ) → IsDivision n m sets part_of → AreFound n m part_of firsts → AllByRecursion (IsNode n) nodes
+in_parts : (n m : ℕ) (sets : List (ℕ → Bool)) (part_of : ℕ → ℕ) (firsts nodes : List ℕ) → IsDivision n m sets part_of
+    → AreFound n m part_of firsts → AllByRecursion (IsNode n) nodes
     → AllZip (IsInPart sets firsts) nodes (map part_of nodes)
 in_parts n m sets part_of firsts [] is h range = tt
 in_parts n m sets part_of firsts (x ∷ xs) is h range =
@@ -57,7 +61,8 @@ in_parts n m sets part_of firsts (x ∷ xs) is h range =
     )
 
 pub divisions_bound_cycles : DivisionsBoundCycles
-divisions_bound_cycles n m sets part_of cost least nodes some is agree lengths cycle = go nodes cycle (recursion_from_All (IsNode n) nodes cycle.range)
+divisions_bound_cycles n m sets part_of cost least nodes some is agree lengths cycle =
+    go nodes cycle (recursion_from_All (IsNode n) nodes cycle.range)
   where
     go : (nodes : List ℕ) → IsCycle n nodes → AllByRecursion (IsNode n) nodes → least ≤ℤ length_of (sets_crossed sets) nodes
     go [] cycle range = absurd (omega (arith, cycle.count, some))

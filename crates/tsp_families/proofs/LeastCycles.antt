@@ -36,7 +36,8 @@ clear_above m i h = ap (λ z. z % 2) (div-eq_of_lt (below (cases_order m i)))
     below (inr (inr more)) = absurd (omega (arith, more, h))
 
 -- nodes of 2..n that are all of them
-all_bits : (n : ℕ) (nodes : List ℕ) → AllByRecursion (IsInner n) nodes → AllApart nodes → ((x : ℕ) → IsInner n x → Within nodes x) → number_of nodes ≡ 2 ^ (n - 1) - 1
+all_bits : (n : ℕ) (nodes : List ℕ) → AllByRecursion (IsInner n) nodes → AllApart nodes → ((x : ℕ) → IsInner n x → Within nodes x)
+    → number_of nodes ≡ 2 ^ (n - 1) - 1
 all_bits n nodes range once all = same_from_bits (number_of nodes) (2 ^ (n - 1) - 1) (λ i. elim (cases_lt i (n - 1)) [
   | inl lt ↦
       let here : bit_at (number_of nodes) (i + 2 - 2) ≡ 1 = present n (i + 2) nodes range once (all (i + 2) (omega arith, omega (arith, lt))) in
@@ -47,7 +48,8 @@ all_bits n nodes range once all = same_from_bits (number_of nodes) (2 ^ (n - 1) 
 ])
 
 -- as many different nodes of 2..n as there are
-pub whole_order : (n : ℕ) (nodes : List ℕ) → AllByRecursion (IsInner n) nodes → AllApart nodes → 1 + length nodes ≡ n → IsOrderOf n (2 ^ (n - 1) - 1) nodes
+pub whole_order : (n : ℕ) (nodes : List ℕ) → AllByRecursion (IsInner n) nodes → AllApart nodes → 1 + length nodes ≡ n
+    → IsOrderOf n (2 ^ (n - 1) - 1) nodes
 whole_order n nodes range once count = record {
   range = range;
   once = once;
@@ -89,11 +91,13 @@ split_at (y ∷ ys) x (inr later) = let rest = split_at ys x later in (y ∷ res
 
 apart_from_distinct : (xs : List ℕ) → IsDistinct eqb xs → AllApart xs
 apart_from_distinct [] h = tt
-apart_from_distinct (x ∷ xs) h = (weaker (λ y. eqb x y ≡ false) (λ y. x ≢ y) (λ y e. eqb-false x y e) xs (IsDistinct-head eqb x xs h), apart_from_distinct xs (IsDistinct-tail eqb x xs h))
+apart_from_distinct (x ∷ xs) h =
+    (weaker (λ y. eqb x y ≡ false) (λ y. x ≢ y) (λ y e. eqb-false x y e) xs (IsDistinct-head eqb x xs h), apart_from_distinct xs (IsDistinct-tail eqb x xs h))
 
 -- ---- lengths
 
-whole_path : (cost : ℕ → ℕ → ℕ) (from : ℕ) (rest : List ℕ) → length_to (as_whole cost) 1 from rest ≡ pos (path_length cost from rest)
+whole_path : (cost : ℕ → ℕ → ℕ) (from : ℕ) (rest : List ℕ)
+    → length_to (as_whole cost) 1 from rest ≡ pos (path_length cost from rest)
 whole_path cost from [] = omega (arith, ints)
 whole_path cost from (next ∷ rest) = let tail = whole_path cost next rest in omega (arith, ints, tail)
 
@@ -101,10 +105,12 @@ whole_path cost from (next ∷ rest) = let tail = whole_path cost next rest in o
 abbrev pub length_from_one : (ℕ → ℕ → ℕ) → ℕ → List ℕ → ℕ
 length_from_one cost x rest = cost 1 x + path_length cost x rest
 
-whole_cycle : (cost : ℕ → ℕ → ℕ) (x : ℕ) (rest : List ℕ) → length_of (as_whole cost) (1 ∷ x ∷ rest) ≡ pos (length_from_one cost x rest)
+whole_cycle : (cost : ℕ → ℕ → ℕ) (x : ℕ) (rest : List ℕ)
+    → length_of (as_whole cost) (1 ∷ x ∷ rest) ≡ pos (length_from_one cost x rest)
 whole_cycle cost x rest = let tail = whole_path cost x rest in omega (arith, ints, tail)
 
-path_most : (cost : ℕ → ℕ → ℕ) (most : ℕ) → ((i j : ℕ) → cost i j ≤ most) → (from : ℕ) (rest : List ℕ) → path_length cost from rest ≤ most * (1 + length rest)
+path_most : (cost : ℕ → ℕ → ℕ) (most : ℕ) → ((i j : ℕ) → cost i j ≤ most) → (from : ℕ) (rest : List ℕ)
+    → path_length cost from rest ≤ most * (1 + length rest)
 path_most cost most small from [] = omega (arith, small from 1)
 path_most cost most small from (next ∷ rest) = let tail = path_most cost most small next rest in omega (arith, tail, small from next)
 
@@ -113,7 +119,8 @@ path_most cost most small from (next ∷ rest) = let tail = path_most cost most 
 abbrev pub IsBelowAll : ℕ → (ℕ → ℕ → ℕ) → ℕ → Type 0
 IsBelowAll n cost least = (x : ℕ) (rest : List ℕ) → IsOrderOf n (2 ^ (n - 1) - 1) (x ∷ rest) → least ≤ length_from_one cost x rest
 
-below_cycles : (n : ℕ) (cost : ℕ → ℕ → ℕ) (least : ℕ) → 2 ≤ n → IsBelowAll n cost least → (nodes : List ℕ) → IsCycle n nodes → pos least ≤ℤ length_of (as_whole cost) nodes
+below_cycles : (n : ℕ) (cost : ℕ → ℕ → ℕ) (least : ℕ) → 2 ≤ n → IsBelowAll n cost least → (nodes : List ℕ) → IsCycle n nodes
+    → pos least ≤ℤ length_of (as_whole cost) nodes
 below_cycles n cost least more below nodes cycle =
     let parts = split_at nodes 1 (cycle_has n nodes 1 cycle (omega arith, omega (arith, more))) in
     subst (λ (xs : List ℕ). pos least ≤ℤ length_of (as_whole cost) xs) parts.2 (turned parts.0 parts.1 (subst (IsCycle n) (sym parts.2) cycle))
@@ -132,11 +139,14 @@ below_cycles n cost least more below nodes cycle =
 
 -- the nodes in order are a shortest, and a short one
 first_cycle : (n : ℕ) → 2 ≤ n → IsOrderOf n (2 ^ (n - 1) - 1) (range_with_len 2 (n - 1))
-first_cycle n more = whole_order n (range_with_len 2 (n - 1)) (run_range (IsInner n) 2 (n - 1) (λ x low high. (low, omega (arith, high)))) (run_once 2 (n - 1))
+first_cycle n more =
+    whole_order n (range_with_len 2 (n - 1)) (run_range (IsInner n) 2 (n - 1) (λ x low high. (low, omega (arith, high)))) (run_once 2 (n - 1))
     (let long = length-range_with_len 2 (n - 1) in omega (arith, long, more))
 
-short_cycle : (n : ℕ) (cost : ℕ → ℕ → ℕ) (least : ℕ) → 2 ≤ n → n ≤ 14 → ((i j : ℕ) → cost i j < 2 ^ 32) → IsBelowAll n cost least → least < no_path
-short_cycle n cost least more few small below = go (range_with_len 2 (n - 1)) (length-range_with_len 2 (n - 1)) (first_cycle n more)
+short_cycle : (n : ℕ) (cost : ℕ → ℕ → ℕ) (least : ℕ) → 2 ≤ n → n ≤ 14 → ((i j : ℕ) → cost i j < 2 ^ 32) → IsBelowAll n cost least
+    → least < no_path
+short_cycle n cost least more few small below =
+    go (range_with_len 2 (n - 1)) (length-range_with_len 2 (n - 1)) (first_cycle n more)
   where
     go : (nodes : List ℕ) → length nodes ≡ n - 1 → IsOrderOf n (2 ^ (n - 1) - 1) nodes → least < no_path
     go [] long order = absurd (omega (arith, long, more))
@@ -144,9 +154,12 @@ short_cycle n cost least more few small below = go (range_with_len 2 (n - 1)) (l
         let path = path_most cost (2 ^ 32) (λ i j. omega (arith, small i j)) x rest in
         omega (arith, below x rest order, path, small 1 x, long, few)
 
-pub least_from : (n : ℕ) (cost : ℕ → ℕ → ℕ) (least : ℕ) → 2 ≤ n → n ≤ 14 → ((i j : ℕ) → cost i j < 2 ^ 32) → IsBelowAll n cost least
-    → (least ≡ no_path) ⊎ ((x : ℕ) × (rest : List ℕ) × IsOrderOf n (2 ^ (n - 1) - 1) (x ∷ rest) × (least ≡ length_from_one cost x rest)) → IsLeastLength n (as_whole cost) (pos least)
-least_from n cost least more few small below (inl none) = absurd (omega (arith, none, short_cycle n cost least more few small below))
+pub least_from : (n : ℕ) (cost : ℕ → ℕ → ℕ) (least : ℕ) → 2 ≤ n → n ≤ 14 → ((i j : ℕ) → cost i j < 2 ^ 32)
+    → IsBelowAll n cost least
+    → (least ≡ no_path) ⊎ ((x : ℕ) × (rest : List ℕ) × IsOrderOf n (2 ^ (n - 1) - 1) (x ∷ rest) × (least ≡ length_from_one cost x rest))
+    → IsLeastLength n (as_whole cost) (pos least)
+least_from n cost least more few small below (inl none) =
+    absurd (omega (arith, none, short_cycle n cost least more few small below))
 least_from n cost least more few small below (inr found) = record {
   nodes = 1 ∷ found.0 ∷ found.1;
   cycle = cycle_of_order n (found.0 ∷ found.1) (omega (arith, more)) found.2;
@@ -180,9 +193,12 @@ alone cost least is = record {
 one_place : (n k : ℕ) → 1 + k ≡ (1 - 1) * n + (k + 2 - 1)
 one_place n k = omega arith
 
-pub least_of_paths : (n least : ℕ) (costs paths : List ℕ) → 2 ≤ n → n ≤ 14 → ((k : ℕ) → slice_index costs k < 2 ^ 32) → length paths ≡ 2 ^ (n - 1) * (n - 1) → AreBestPaths n (cost_by_rows n costs) paths
-    → IsLeastSum no_path costs paths 1 ((2 ^ (n - 1) - 1) * (n - 1)) (n - 1) least → IsLeastLength n (as_whole (cost_by_rows n costs)) (pos least)
-least_of_paths n least costs paths more few small long best sum = least_from n (cost_by_rows n costs) least more few (λ i j. small ((i - 1) * n + (j - 1))) below (found sum.found)
+pub least_of_paths : (n least : ℕ) (costs paths : List ℕ) → 2 ≤ n → n ≤ 14 → ((k : ℕ) → slice_index costs k < 2 ^ 32)
+    → length paths ≡ 2 ^ (n - 1) * (n - 1) → AreBestPaths n (cost_by_rows n costs) paths
+    → IsLeastSum no_path costs paths 1 ((2 ^ (n - 1) - 1) * (n - 1)) (n - 1) least
+    → IsLeastLength n (as_whole (cost_by_rows n costs)) (pos least)
+least_of_paths n least costs paths more few small long best sum =
+    least_from n (cost_by_rows n costs) least more few (λ i j. small ((i - 1) * n + (j - 1))) below (found sum.found)
   where
     step : (k : ℕ) → slice_index costs (1 + k) ≡ cost_by_rows n costs 1 (k + 2)
     step k = ap (slice_index costs) (one_place n k)
@@ -211,11 +227,13 @@ least_of_paths n least costs paths more few small long best sum = least_from n (
 
 -- ---- how large it is at most
 
-to_most : (cost : ℕ → ℕ → ℕ) (most : ℕ) → ((i j : ℕ) → cost i j ≤ most) → (end from : ℕ) (xs : List ℕ) → length_to (as_whole cost) end from xs ≤ℤ pos (most * (1 + length xs))
+to_most : (cost : ℕ → ℕ → ℕ) (most : ℕ) → ((i j : ℕ) → cost i j ≤ most) → (end from : ℕ) (xs : List ℕ)
+    → length_to (as_whole cost) end from xs ≤ℤ pos (most * (1 + length xs))
 to_most cost most small end from [] = omega (arith, ints, small from end)
 to_most cost most small end from (x ∷ xs) = let tail = to_most cost most small end x xs in omega (arith, ints, tail, small from x)
 
-least_most : (n most least : ℕ) (cost : ℕ → ℕ → ℕ) → ((i j : ℕ) → cost i j ≤ most) → IsLeastLength n (as_whole cost) (pos least) → least ≤ most * n
+least_most : (n most least : ℕ) (cost : ℕ → ℕ → ℕ) → ((i j : ℕ) → cost i j ≤ most) → IsLeastLength n (as_whole cost) (pos least)
+    → least ≤ most * n
 least_most n most least cost small is = go is.nodes is.cycle.count is.length_is
   where
     go : (nodes : List ℕ) → length nodes ≡ n → pos least ≡ length_of (as_whole cost) nodes → least ≤ most * n
@@ -225,7 +243,8 @@ least_most n most least cost small is = go is.nodes is.cycle.count is.length_is
         let whole : most * (1 + length xs) ≡ most * n = ap (λ k. most * k) (omega (arith, count)) in
         omega (arith, ints, same, path, whole)
 
-pub small_cycle : (n most least : ℕ) (costs : List ℕ) → All (λ cost. cost ≤ most) costs → IsLeastLength n (as_whole (cost_by_rows n costs)) (pos least) → least ≤ most * n
+pub small_cycle : (n most least : ℕ) (costs : List ℕ) → All (λ cost. cost ≤ most) costs
+    → IsLeastLength n (as_whole (cost_by_rows n costs)) (pos least) → least ≤ most * n
 small_cycle n most least costs small is = least_most n most least (cost_by_rows n costs) each is
   where
     each : (i j : ℕ) → cost_by_rows n costs i j ≤ most
@@ -234,7 +253,8 @@ small_cycle n most least costs small is = least_most n most least (cost_by_rows 
       | inr ge ↦ let none = get_or_past costs ((i - 1) * n + (j - 1)) 0 ge in omega (arith, none)
     ]
 
-pub small_largest : (largest most : ℕ) (costs : List ℕ) → All (λ cost. cost ≤ most) costs → IsLargest costs largest → largest ≤ most
+pub small_largest : (largest most : ℕ) (costs : List ℕ) → All (λ cost. cost ≤ most) costs → IsLargest costs largest
+    → largest ≤ most
 small_largest largest most costs small is = elim (cases_lt is.found.0 (length costs)) [
   | inl lt ↦ let own = small is.found.0 0 lt in omega (arith, own, is.found.1)
   | inr ge ↦ let none = get_or_past costs is.found.0 0 ge in omega (arith, none, is.found.1)

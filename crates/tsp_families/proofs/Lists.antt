@@ -121,7 +121,8 @@ run_range P a (suc k) h = (h a (omega arith) (omega arith), run_range P (a + 1) 
 -- ---- cycles
 
 -- different nodes of 1..n, and all of them
-pub cycle_from : (n : ℕ) (xs : List ℕ) → AllByRecursion (IsNode n) xs → AllApart xs → ((x : ℕ) → IsNode n x → Within xs x) → IsCycle n xs
+pub cycle_from : (n : ℕ) (xs : List ℕ) → AllByRecursion (IsNode n) xs → AllApart xs → ((x : ℕ) → IsNode n x → Within xs x)
+    → IsCycle n xs
 cycle_from n xs range apart all =
     let inside = weaker (IsNode n) (Within (range_with_len 1 n)) (λ x h. run_has 1 n x h.0 (omega (arith, h.1))) xs range in
     let most = no_more xs (range_with_len 1 n) apart inside in

@@ -16,7 +16,7 @@ use Rattle.tsp_format.specs.Cells.{IsNode}
 use Rattle.tsp_theory.specs.Length.{length_of}
 use Rattle.tsp_theory.proofs.Crossings.{one_if}
 use Rattle.tsp_families.specs.Crossed.{IsLeastLength, IsMostCost, has, sets_of, sets_crossed, AreAlike, HasUnlike, AreTooMany}
-use Rattle.tsp_families.specs.Parts.{ArePartsOf, between}
+use Rattle.tsp_families.specs.SetParts.{ArePartsOf, between}
 use Rattle.tsp_families.specs.Memberships.{membership, AreMemberships, IsNodePlace, AreDifferent, AreFirsts, MembershipsTellSets, IsLargest}
 use Rattle.tsp_families.specs.FamilySets.{lists_of}
 use Rattle.tsp_families.specs.declared.comb_set.CombSet.{CombSet}
@@ -26,7 +26,8 @@ use Rattle.tsp_families.proofs.PartWalks.{alike_crossings, part_found, unlike_no
 
 -- ---- the same membership, the same sets
 
-membership_of_alike : (sets : List (ℕ → Bool)) (i j : ℕ) → AllByRecursion (λ set. set i ≡ set j) sets → membership sets i ≡ membership sets j
+membership_of_alike : (sets : List (ℕ → Bool)) (i j : ℕ) → AllByRecursion (λ set. set i ≡ set j) sets
+    → membership sets i ≡ membership sets j
 membership_of_alike [] i j h = refl
 membership_of_alike (s ∷ ss) i j h = ap₂ (λ x b. x * 2 + (if b then 1 else 0)) (membership_of_alike ss i j h.1) h.0
 
@@ -36,7 +37,8 @@ lowest true false x y h = absurd (omega (arith, h))
 lowest false true x y h = absurd (omega (arith, h))
 lowest false false x y h = (refl, omega (arith, h))
 
-alike_of_membership : (sets : List (ℕ → Bool)) (i j : ℕ) → membership sets i ≡ membership sets j → AllByRecursion (λ set. set i ≡ set j) sets
+alike_of_membership : (sets : List (ℕ → Bool)) (i j : ℕ) → membership sets i ≡ membership sets j
+    → AllByRecursion (λ set. set i ≡ set j) sets
 alike_of_membership [] i j h = tt
 alike_of_membership (s ∷ ss) i j h = let p = lowest (s i) (s j) (membership ss i) (membership ss j) h in (p.0, alike_of_membership ss i j p.1)
 
@@ -56,13 +58,15 @@ pub record IsSoFar (sets : List (ℕ → Bool)) (count node value : ℕ) : Type 
 pub membership_none : (sets : List (ℕ → Bool)) (node : ℕ) → IsSoFar sets 0 node 0
 membership_none sets node = record { small = omega arith; rest = omega arith }
 
-pub membership_all : (sets : List (ℕ → Bool)) (count node value : ℕ) → length sets ≤ count → IsSoFar sets count node value → value ≡ membership sets node
+pub membership_all : (sets : List (ℕ → Bool)) (count node value : ℕ) → length sets ≤ count → IsSoFar sets count node value
+    → value ≡ membership sets node
 membership_all sets count node value all h =
     let none : membership (drop count sets) node ≡ 0 = ap (λ (ss : List (ℕ → Bool)). membership ss node) (drop_all count sets all) in
     let rest : value + 2 ^ count * 0 ≡ membership sets node = ap (λ z. value + 2 ^ count * z) (sym none) ∙ h.rest in
     omega (arith, rest)
 
-pub membership_more : (sets : List (ℕ → Bool)) (count node value : ℕ) (set : ℕ → Bool) → count < length sets → get_or sets count set ≡ set → IsSoFar sets count node value
+pub membership_more : (sets : List (ℕ → Bool)) (count node value : ℕ) (set : ℕ → Bool) → count < length sets
+    → get_or sets count set ≡ set → IsSoFar sets count node value
     → IsSoFar sets (count + 1) node (value + (if set node then 2 ^ count else 0))
 membership_more sets count node value set lt is h = step (set node) refl
   where
@@ -98,13 +102,17 @@ with_more : (bit old value : ℕ) (b e : Bool) → old < bit → value ≡ old +
     → (e ≡ false → value ≡ old + (if (b || e) then bit else 0))
     × (e ≡ true → bit ≤ value → value ≡ old + (if (b || e) then bit else 0))
     × (e ≡ true → value < bit → value + bit ≡ old + (if (b || e) then bit else 0))
-with_more bit old value true true small is = (λ h. absurd (both_ways true h refl), λ h le. is, λ h lt. absurd (omega (arith, lt, is)))
+with_more bit old value true true small is =
+    (λ h. absurd (both_ways true h refl), λ h le. is, λ h lt. absurd (omega (arith, lt, is)))
 with_more bit old value true false small is = (λ h. is, λ h le. is, λ h lt. absurd (omega (arith, lt, is)))
-with_more bit old value false true small is = (λ h. absurd (both_ways true h refl), λ h le. absurd (omega (arith, small, is, le)), λ h lt. omega (arith, is))
-with_more bit old value false false small is = (λ h. is, λ h le. absurd (both_ways false refl h), λ h lt. absurd (both_ways false refl h))
+with_more bit old value false true small is =
+    (λ h. absurd (both_ways true h refl), λ h le. absurd (omega (arith, small, is, le)), λ h lt. omega (arith, is))
+with_more bit old value false false small is =
+    (λ h. is, λ h le. absurd (both_ways false refl h), λ h lt. absurd (both_ways false refl h))
 
 -- one node more
-pub with_next : (bit : ℕ) (nodes : List ℕ) (k x old value : ℕ) → k < length nodes → old < bit → value ≡ with_bit bit (take k nodes) x old
+pub with_next : (bit : ℕ) (nodes : List ℕ) (k x old value : ℕ) → k < length nodes → old < bit
+    → value ≡ with_bit bit (take k nodes) x old
     → (get_or nodes k 0 ≢ x → value ≡ with_bit bit (take (k + 1) nodes) x old)
     × (get_or nodes k 0 ≡ x → bit ≤ value → value ≡ with_bit bit (take (k + 1) nodes) x old)
     × (get_or nodes k 0 ≡ x → value < bit → value + bit ≡ with_bit bit (take (k + 1) nodes) x old)
@@ -118,7 +126,8 @@ with_next bit nodes k x old value lt small is =
     )
 
 -- the set at a place, from the sets of the code
-pub set_at : (lists : List CombSet) (i : ℕ) (default : CombSet) (nodes : List ℕ) → i < length lists → nodes ≡ (get_or lists i default).nodes.items
+pub set_at : (lists : List CombSet) (i : ℕ) (default : CombSet) (nodes : List ℕ) → i < length lists
+    → nodes ≡ (get_or lists i default).nodes.items
     → get_or (sets_of (lists_of lists)) i (has nodes) ≡ has nodes
 set_at lists i default nodes lt same =
     let inner : i < length (lists_of lists) = omega (arith, lt, length-map lists (λ (set : CombSet). set.nodes.items)) in
@@ -129,7 +138,8 @@ pub sets_long : (lists : List CombSet) → length (sets_of (lists_of lists)) ≡
 sets_long lists = length-map (lists_of lists) has ∙ length-map lists (λ (set : CombSet). set.nodes.items)
 
 -- one set more
-pub so_far_more : (sets : List (ℕ → Bool)) (count x old value bit : ℕ) (nodes : List ℕ) → count < length sets → get_or sets count (has nodes) ≡ has nodes → bit ≡ 2 ^ count
+pub so_far_more : (sets : List (ℕ → Bool)) (count x old value bit : ℕ) (nodes : List ℕ) → count < length sets
+    → get_or sets count (has nodes) ≡ has nodes → bit ≡ 2 ^ count
     → value ≡ old + (if has nodes x then bit else 0) → IsSoFar sets count x old → IsSoFar sets (count + 1) x value
 so_far_more sets count x old value bit nodes lt is power new h =
     let same : value ≡ old + (if has nodes x then 2 ^ count else 0) = new ∙ ap (λ b. old + (if has nodes x then b else 0)) power in
@@ -138,10 +148,14 @@ so_far_more sets count x old value bit nodes lt is power new h =
 -- ---- firsts
 
 pub any_more : (P : ℕ → Type 0) (xs : List ℕ) (y : ℕ) → Any P xs → Any P (xs ++ y ∷ [])
-any_more P xs y h = (h.0, h.1, omega (arith, h.2, length-append xs (y ∷ [])), get_or_append_left xs (y ∷ []) h.1 h.0 h.2 ∙ h.3, h.4)
+any_more P xs y h =
+    (h.0, h.1, omega (arith, h.2, length-append xs (y ∷ [])), get_or_append_left xs (y ∷ []) h.1 h.0 h.2 ∙ h.3, h.4)
 
-pub differ_more : (memberships nodes : List ℕ) (node : ℕ) → AreDifferent memberships nodes → (Any (λ first. slice_index memberships node ≡ slice_index memberships first) nodes → ⊥) → AreDifferent memberships (nodes ++ node ∷ [])
-differ_more memberships nodes node differ new = all_pairs_push (λ i j. slice_index memberships i ≢ slice_index memberships j) nodes node differ
+pub differ_more : (memberships nodes : List ℕ) (node : ℕ) → AreDifferent memberships nodes
+    → (Any (λ first. slice_index memberships node ≡ slice_index memberships first) nodes → ⊥)
+    → AreDifferent memberships (nodes ++ node ∷ [])
+differ_more memberships nodes node differ new =
+    all_pairs_push (λ i j. slice_index memberships i ≢ slice_index memberships j) nodes node differ
     (λ k d lt. λ same. new (k, get_or nodes k d, lt, get_or_default nodes k (get_or nodes k d) d lt, sym same))
 
 -- ---- parts
@@ -149,18 +163,25 @@ differ_more memberships nodes node differ new = all_pairs_push (λ i j. slice_in
 node_from : (n : ℕ) (memberships : List ℕ) (node : ℕ) → length memberships ≡ n + 1 → IsNodePlace memberships node → IsNode n node
 node_from n memberships node long h = (h.0, omega (arith, h.1, long))
 
-alike_from : (n : ℕ) (sets : List (ℕ → Bool)) (memberships : List ℕ) (i j : ℕ) → AreMemberships n sets memberships → IsNodePlace memberships i → IsNodePlace memberships j → slice_index memberships i ≡ slice_index memberships j → AreAlike sets i j
+alike_from : (n : ℕ) (sets : List (ℕ → Bool)) (memberships : List ℕ) (i j : ℕ) → AreMemberships n sets memberships
+    → IsNodePlace memberships i → IsNodePlace memberships j → slice_index memberships i ≡ slice_index memberships j
+    → AreAlike sets i j
 alike_from n sets memberships i j are in_i in_j same =
     All-from_recursion (λ set. set i ≡ set j) sets (alike_of_membership sets i j (sym (are.said i in_i.1) ∙ same ∙ are.said j in_j.1))
 
-differ_from : (n : ℕ) (sets : List (ℕ → Bool)) (memberships : List ℕ) (i j : ℕ) → AreMemberships n sets memberships → IsNodePlace memberships i → IsNodePlace memberships j → slice_index memberships i ≢ slice_index memberships j → AreAlike sets i j → ⊥
+differ_from : (n : ℕ) (sets : List (ℕ → Bool)) (memberships : List ℕ) (i j : ℕ) → AreMemberships n sets memberships
+    → IsNodePlace memberships i → IsNodePlace memberships j → slice_index memberships i ≢ slice_index memberships j
+    → AreAlike sets i j → ⊥
 differ_from n sets memberships i j are in_i in_j other alike =
     other (are.said i in_i.1 ∙ membership_of_alike sets i j (recursion_from_All (λ set. set i ≡ set j) sets alike) ∙ sym (are.said j in_j.1))
 
-pub places_from : (n : ℕ) (sets : List (ℕ → Bool)) (memberships firsts : List ℕ) → AreMemberships n sets memberships → All (IsNode n) firsts → All (IsNodePlace memberships) firsts
-places_from n sets memberships firsts are nodes = All-weaker (IsNode n) (IsNodePlace memberships) (λ node h. (h.0, omega (arith, h.1, are.count))) firsts nodes
+pub places_from : (n : ℕ) (sets : List (ℕ → Bool)) (memberships firsts : List ℕ) → AreMemberships n sets memberships
+    → All (IsNode n) firsts → All (IsNodePlace memberships) firsts
+places_from n sets memberships firsts are nodes =
+    All-weaker (IsNode n) (IsNodePlace memberships) (λ node h. (h.0, omega (arith, h.1, are.count))) firsts nodes
 
-pub parts_from : (n : ℕ) (sets : List (ℕ → Bool)) (memberships firsts : List ℕ) → AreMemberships n sets memberships → AreFirsts memberships firsts → ArePartsOf n sets firsts
+pub parts_from : (n : ℕ) (sets : List (ℕ → Bool)) (memberships firsts : List ℕ) → AreMemberships n sets memberships
+    → AreFirsts memberships firsts → ArePartsOf n sets firsts
 parts_from n sets memberships firsts are is = record {
   nodes = All-weaker (IsNodePlace memberships) (IsNode n) (λ node h. node_from n memberships node are.count h) firsts is.places;
   apart = λ i j d lt in_list. differ_from n sets memberships (get_or firsts i d) (get_or firsts j d) are (is.places i d (omega (arith, lt, in_list))) (is.places j d in_list) (is.differ i j d lt in_list);
@@ -172,7 +193,8 @@ parts_from n sets memberships firsts are is = record {
 }
 
 pub unlike_from : (n count : ℕ) (sets : List (ℕ → Bool)) (memberships : List ℕ) → AreMemberships n sets memberships
-    → (nodes : List ℕ) × (length nodes ≡ count) × All (IsNodePlace memberships) nodes × AreDifferent memberships nodes → HasUnlike count n sets
+    → (nodes : List ℕ) × (length nodes ≡ count) × All (IsNodePlace memberships) nodes × AreDifferent memberships nodes
+    → HasUnlike count n sets
 unlike_from n count sets memberships are found = (
   found.0,
   found.1,
@@ -203,7 +225,8 @@ no_bits : pos (count_ones (bit_xor 0 0)) ≡ pos 0
 unfolding ones ones_in
 no_bits = refl
 
-pub crossings_by_memberships : (sets : List (ℕ → Bool)) (i j : ℕ) → pos (count_ones (bit_xor (membership sets i) (membership sets j))) ≡ sets_crossed sets i j
+pub crossings_by_memberships : (sets : List (ℕ → Bool)) (i j : ℕ)
+    → pos (count_ones (bit_xor (membership sets i) (membership sets j))) ≡ sets_crossed sets i j
 crossings_by_memberships [] i j = no_bits
 crossings_by_memberships (s ∷ ss) i j =
     let split = xor_block 1 (membership ss i) (membership ss j) (if s i then 1 else 0) (if s j then 1 else 0) (one_bit (s i)) (one_bit (s j)) in
@@ -215,16 +238,19 @@ crossings_by_memberships (s ∷ ss) i j =
 
 -- ---- the least length under costs that agree
 
-same_to : (n : ℕ) (c d : ℕ → ℕ → ℤ) → ((i j : ℕ) → IsNode n i → IsNode n j → c i j ≡ d i j) → (end from : ℕ) (nodes : List ℕ) → IsNode n end → IsNode n from → AllByRecursion (IsNode n) nodes
+same_to : (n : ℕ) (c d : ℕ → ℕ → ℤ) → ((i j : ℕ) → IsNode n i → IsNode n j → c i j ≡ d i j) → (end from : ℕ) (nodes : List ℕ)
+    → IsNode n end → IsNode n from → AllByRecursion (IsNode n) nodes
     → length_to c end from nodes ≡ length_to d end from nodes
 same_to n c d same end from [] e f h = ap (λ z. z +ℤ pos 0) (same from end f e)
 same_to n c d same end from (x ∷ xs) e f h = ap₂ (λ y z. y +ℤ z) (same from x f h.0) (same_to n c d same end x xs e h.0 h.1)
 
-same_of : (n : ℕ) (c d : ℕ → ℕ → ℤ) → ((i j : ℕ) → IsNode n i → IsNode n j → c i j ≡ d i j) → (nodes : List ℕ) → AllByRecursion (IsNode n) nodes → length_of c nodes ≡ length_of d nodes
+same_of : (n : ℕ) (c d : ℕ → ℕ → ℤ) → ((i j : ℕ) → IsNode n i → IsNode n j → c i j ≡ d i j) → (nodes : List ℕ)
+    → AllByRecursion (IsNode n) nodes → length_of c nodes ≡ length_of d nodes
 same_of n c d same [] h = refl
 same_of n c d same (x ∷ xs) h = same_to n c d same x x xs h.0 h.0 h.1
 
-pub same_least : (n : ℕ) (c d : ℕ → ℕ → ℤ) (least : ℤ) → ((i j : ℕ) → IsNode n i → IsNode n j → c i j ≡ d i j) → IsLeastLength n c least → IsLeastLength n d least
+pub same_least : (n : ℕ) (c d : ℕ → ℕ → ℤ) (least : ℤ) → ((i j : ℕ) → IsNode n i → IsNode n j → c i j ≡ d i j)
+    → IsLeastLength n c least → IsLeastLength n d least
 same_least n c d least same is = record {
   nodes = is.nodes;
   cycle = is.cycle;
@@ -298,7 +324,8 @@ module _ (n : ℕ) (sets : List (ℕ → Bool)) (memberships firsts costs : List
       found k same (inr past) = none (same ∙ get_or_past costs k 0 past)
 
 -- where the parts are few, they aren't too many
-pub few_parts : (n : ℕ) (sets : List (ℕ → Bool)) (firsts : List ℕ) → length sets ≤ 63 → ArePartsOf n sets firsts → length firsts ≤ 14 → AreTooMany n sets → ⊥
+pub few_parts : (n : ℕ) (sets : List (ℕ → Bool)) (firsts : List ℕ) → length sets ≤ 63 → ArePartsOf n sets firsts
+    → length firsts ≤ 14 → AreTooMany n sets → ⊥
 few_parts n sets firsts few is small (inl more) = omega (arith, few, more)
 few_parts n sets firsts few is small (inr unlike) =
     let least = unlike_nodes_need_parts n sets firsts unlike.0 is unlike.2 unlike.3 in

@@ -12,7 +12,7 @@ use Rattle.tsp_theory.specs.Cycle.{IsCycle}
 use Rattle.tsp_theory.specs.Length.{length_of}
 use Rattle.tsp_theory.proofs.Crossings.{one_if}
 use Rattle.tsp_families.specs.Crossed.{sets_crossed, AreAlike, AreUnlike}
-use Rattle.tsp_families.specs.Parts.{ArePartsOf, between, PartsBoundCycles, LeastLengthsAreUnique, MostCostsAreUnique, UnlikeNodesNeedParts}
+use Rattle.tsp_families.specs.SetParts.{ArePartsOf, between, PartsBoundCycles, LeastLengthsAreUnique, MostCostsAreUnique, UnlikeNodesNeedParts}
 use Rattle.tsp_families.specs.Paths.{AllApart}
 use Rattle.tsp_families.proofs.Lists.{Within, weaker, within_or_apart, no_more, run_has, apart_from_pairs}
 use Rattle.tsp_families.proofs.Walks.{length_to, shorter_cycle}
@@ -33,12 +33,16 @@ pub triangles : (sets : List (ℕ → Bool)) (i j k : ℕ) → sets_crossed sets
 triangles [] i j k = omega (arith, ints)
 triangles (s ∷ ss) i j k = omega (arith, ints, turn_less (s i) (s j) (s k), triangles ss i j k)
 
-same_crossings : (sets : List (ℕ → Bool)) (i j a b : ℕ) → AllByRecursion (λ set. set i ≡ set a) sets → AllByRecursion (λ set. set j ≡ set b) sets → sets_crossed sets i j ≡ sets_crossed sets a b
+same_crossings : (sets : List (ℕ → Bool)) (i j a b : ℕ) → AllByRecursion (λ set. set i ≡ set a) sets
+    → AllByRecursion (λ set. set j ≡ set b) sets → sets_crossed sets i j ≡ sets_crossed sets a b
 same_crossings [] i j a b p q = refl
-same_crossings (s ∷ ss) i j a b p q = ap₂ (λ x y. x +ℤ y) (ap₂ (λ u v. one_if (cond u (not v) v)) p.0 q.0) (same_crossings ss i j a b p.1 q.1)
+same_crossings (s ∷ ss) i j a b p q =
+    ap₂ (λ x y. x +ℤ y) (ap₂ (λ u v. one_if (cond u (not v) v)) p.0 q.0) (same_crossings ss i j a b p.1 q.1)
 
-pub alike_crossings : (sets : List (ℕ → Bool)) (i j a b : ℕ) → AreAlike sets i a → AreAlike sets j b → sets_crossed sets i j ≡ sets_crossed sets a b
-alike_crossings sets i j a b p q = same_crossings sets i j a b (recursion_from_All (λ set. set i ≡ set a) sets p) (recursion_from_All (λ set. set j ≡ set b) sets q)
+pub alike_crossings : (sets : List (ℕ → Bool)) (i j a b : ℕ) → AreAlike sets i a → AreAlike sets j b
+    → sets_crossed sets i j ≡ sets_crossed sets a b
+alike_crossings sets i j a b p q =
+    same_crossings sets i j a b (recursion_from_All (λ set. set i ≡ set a) sets p) (recursion_from_All (λ set. set j ≡ set b) sets q)
 
 pub alike_back : (sets : List (ℕ → Bool)) (i j : ℕ) → AreAlike sets i j → AreAlike sets j i
 alike_back sets i j h = λ k d lt. sym (h k d lt)
@@ -48,7 +52,8 @@ alike_back sets i j h = λ k d lt. sym (h k d lt)
 abbrev pub IsInPart : List (ℕ → Bool) → List ℕ → ℕ → ℕ → Type 0
 IsInPart sets firsts node part = IsNode (length firsts) part × AreAlike sets node (slice_index firsts (part - 1))
 
-pub part_found : (n : ℕ) (sets : List (ℕ → Bool)) (firsts : List ℕ) (node : ℕ) → ArePartsOf n sets firsts → IsNode n node → (part : ℕ) × IsInPart sets firsts node part
+pub part_found : (n : ℕ) (sets : List (ℕ → Bool)) (firsts : List ℕ) (node : ℕ) → ArePartsOf n sets firsts → IsNode n node
+    → (part : ℕ) × IsInPart sets firsts node part
 part_found n sets firsts node is h =
     let found = is.each node h in
     let same : found.1 ≡ get_or firsts found.0 0 = sym found.3 ∙ get_or_default firsts found.0 found.1 0 found.2 in (
@@ -56,7 +61,8 @@ part_found n sets firsts node is h =
       ((omega arith, omega (arith, found.2)), subst (AreAlike sets node) (same ∙ ap (λ k. get_or firsts k 0) (omega arith)) found.4),
     )
 
-pub parts_found : (n : ℕ) (sets : List (ℕ → Bool)) (firsts : List ℕ) (nodes : List ℕ) → ArePartsOf n sets firsts → AllByRecursion (IsNode n) nodes → (parts : List ℕ) × AllZip (IsInPart sets firsts) nodes parts
+pub parts_found : (n : ℕ) (sets : List (ℕ → Bool)) (firsts : List ℕ) (nodes : List ℕ) → ArePartsOf n sets firsts
+    → AllByRecursion (IsNode n) nodes → (parts : List ℕ) × AllZip (IsInPart sets firsts) nodes parts
 parts_found n sets firsts [] is h = ([], tt)
 parts_found n sets firsts (x ∷ xs) is h =
     let first = part_found n sets firsts x is h.0 in
@@ -64,22 +70,26 @@ parts_found n sets firsts (x ∷ xs) is h =
     (first.0 ∷ rest.0, (first.1, rest.1))
 
 -- a walk through nodes crosses as often as one through their parts
-pub same_length : (sets : List (ℕ → Bool)) (firsts : List ℕ) (end e from f : ℕ) (nodes parts : List ℕ) → IsInPart sets firsts end e → IsInPart sets firsts from f → AllZip (IsInPart sets firsts) nodes parts
+pub same_length : (sets : List (ℕ → Bool)) (firsts : List ℕ) (end e from f : ℕ) (nodes parts : List ℕ)
+    → IsInPart sets firsts end e → IsInPart sets firsts from f → AllZip (IsInPart sets firsts) nodes parts
     → length_to (sets_crossed sets) end from nodes ≡ length_to (between sets firsts) e f parts
-same_length sets firsts end e from f [] [] p q h = ap (λ z. z +ℤ pos 0) (alike_crossings sets from end (slice_index firsts (f - 1)) (slice_index firsts (e - 1)) q.1 p.1)
+same_length sets firsts end e from f [] [] p q h =
+    ap (λ z. z +ℤ pos 0) (alike_crossings sets from end (slice_index firsts (f - 1)) (slice_index firsts (e - 1)) q.1 p.1)
 same_length sets firsts end e from f [] (b ∷ bs) p q h = absurd h
 same_length sets firsts end e from f (a ∷ others) [] p q h = absurd h
 same_length sets firsts end e from f (a ∷ nodes) (b ∷ parts) p q h =
     ap₂ (λ x y. x +ℤ y) (alike_crossings sets from a (slice_index firsts (f - 1)) (slice_index firsts (b - 1)) q.1 h.0.1)
     (same_length sets firsts end e a b nodes parts p h.0 h.1)
 
-pub in_range : (sets : List (ℕ → Bool)) (firsts nodes parts : List ℕ) → AllZip (IsInPart sets firsts) nodes parts → AllByRecursion (IsNode (length firsts)) parts
+pub in_range : (sets : List (ℕ → Bool)) (firsts nodes parts : List ℕ) → AllZip (IsInPart sets firsts) nodes parts
+    → AllByRecursion (IsNode (length firsts)) parts
 in_range sets firsts [] [] h = tt
 in_range sets firsts [] (b ∷ bs) h = absurd h
 in_range sets firsts (a ∷ others) [] h = absurd h
 in_range sets firsts (a ∷ nodes) (b ∷ parts) h = (h.0.0, in_range sets firsts nodes parts h.1)
 
-met : (sets : List (ℕ → Bool)) (firsts nodes parts : List ℕ) (node : ℕ) → AllZip (IsInPart sets firsts) nodes parts → Within nodes node → (part : ℕ) × Within parts part × IsInPart sets firsts node part
+met : (sets : List (ℕ → Bool)) (firsts nodes parts : List ℕ) (node : ℕ) → AllZip (IsInPart sets firsts) nodes parts
+    → Within nodes node → (part : ℕ) × Within parts part × IsInPart sets firsts node part
 met sets firsts [] parts node h w = absurd w
 met sets firsts (a ∷ nodes) [] node h w = absurd h
 met sets firsts (a ∷ nodes) (b ∷ parts) node h (inl same) = (b, inl refl, subst (λ (x : ℕ). IsInPart sets firsts x b) same h.0)
@@ -96,7 +106,8 @@ cycle_has n nodes x cycle h = elim (within_or_apart x nodes) [
 ]
 
 -- parts of which one has a node of the other are one
-pub same_part : (n : ℕ) (sets : List (ℕ → Bool)) (firsts : List ℕ) (p q : ℕ) → ArePartsOf n sets firsts → IsNode (length firsts) p → IsNode (length firsts) q
+pub same_part : (n : ℕ) (sets : List (ℕ → Bool)) (firsts : List ℕ) (p q : ℕ) → ArePartsOf n sets firsts → IsNode (length firsts) p
+    → IsNode (length firsts) q
     → AreAlike sets (slice_index firsts (p - 1)) (slice_index firsts (q - 1)) → p ≡ q
 same_part n sets firsts p q is in_p in_q alike = elim (cases_order p q) [
   | inl same ↦ same
@@ -105,7 +116,8 @@ same_part n sets firsts p q is in_p in_q alike = elim (cases_order p q) [
 ]
 
 -- a cycle goes through each part
-part_met : (n : ℕ) (sets : List (ℕ → Bool)) (firsts nodes parts : List ℕ) (p : ℕ) → ArePartsOf n sets firsts → IsCycle n nodes → AllZip (IsInPart sets firsts) nodes parts
+part_met : (n : ℕ) (sets : List (ℕ → Bool)) (firsts nodes parts : List ℕ) (p : ℕ) → ArePartsOf n sets firsts → IsCycle n nodes
+    → AllZip (IsInPart sets firsts) nodes parts
     → IsNode (length firsts) p → Within parts p
 part_met n sets firsts nodes parts p is cycle zip in_p =
     let node : IsNode n (slice_index firsts (p - 1)) = is.nodes (p - 1) 0 (omega (arith, in_p.0, in_p.1)) in
@@ -131,7 +143,8 @@ parts_bound_cycles n sets firsts least nodes some is lengths cycle =
 
 -- ---- nodes of which no two are alike are no more than the parts
 
-unlike_away : (n : ℕ) (sets : List (ℕ → Bool)) (firsts : List ℕ) (x p : ℕ) (nodes parts : List ℕ) → IsInPart sets firsts x p → AllZip (IsInPart sets firsts) nodes parts → AllByRecursion (λ y. AreAlike sets x y → ⊥) nodes
+unlike_away : (n : ℕ) (sets : List (ℕ → Bool)) (firsts : List ℕ) (x p : ℕ) (nodes parts : List ℕ) → IsInPart sets firsts x p
+    → AllZip (IsInPart sets firsts) nodes parts → AllByRecursion (λ y. AreAlike sets x y → ⊥) nodes
     → AllByRecursion (λ q. p ≢ q) parts
 unlike_away n sets firsts x p [] [] here h apart = tt
 unlike_away n sets firsts x p [] (b ∷ bs) here h apart = absurd h
@@ -144,7 +157,8 @@ unlike_away n sets firsts x p (a ∷ nodes) (b ∷ parts) here h apart = (
   unlike_away n sets firsts x p nodes parts here h.1 apart.1,
 )
 
-unlike_parts : (n : ℕ) (sets : List (ℕ → Bool)) (firsts nodes parts : List ℕ) → AllZip (IsInPart sets firsts) nodes parts → AreUnlike sets nodes → AllApart parts
+unlike_parts : (n : ℕ) (sets : List (ℕ → Bool)) (firsts nodes parts : List ℕ) → AllZip (IsInPart sets firsts) nodes parts
+    → AreUnlike sets nodes → AllApart parts
 unlike_parts n sets firsts [] [] h apart = tt
 unlike_parts n sets firsts [] (b ∷ bs) h apart = absurd h
 unlike_parts n sets firsts (a ∷ others) [] h apart = absurd h
@@ -153,7 +167,8 @@ unlike_parts n sets firsts (a ∷ nodes) (b ∷ parts) h apart = (
   unlike_parts n sets firsts nodes parts h.1 (λ i j d below lt. apart (suc i) (suc j) d (omega (arith, below)) (omega (arith, lt))),
 )
 
-as_many : (sets : List (ℕ → Bool)) (firsts nodes parts : List ℕ) → AllZip (IsInPart sets firsts) nodes parts → length parts ≡ length nodes
+as_many : (sets : List (ℕ → Bool)) (firsts nodes parts : List ℕ) → AllZip (IsInPart sets firsts) nodes parts
+    → length parts ≡ length nodes
 as_many sets firsts [] [] h = refl
 as_many sets firsts [] (b ∷ bs) h = absurd h
 as_many sets firsts (a ∷ others) [] h = absurd h

@@ -13,7 +13,8 @@ HoldsByRows w P table = (a b : ℕ) → b < w → a * w + b < length table → P
 pub by_rows_none : (w : ℕ) (P : ℕ → ℕ → ℕ → Type 0) → HoldsByRows w P []
 by_rows_none w P a b lt in_list = absurd (omega (arith, in_list))
 
-pub by_rows_push : (w : ℕ) (P : ℕ → ℕ → ℕ → Type 0) (table : List ℕ) (a b value : ℕ) → b < w → length table ≡ a * w + b → HoldsByRows w P table → P a b value → HoldsByRows w P (table ++ value ∷ [])
+pub by_rows_push : (w : ℕ) (P : ℕ → ℕ → ℕ → Type 0) (table : List ℕ) (a b value : ℕ) → b < w → length table ≡ a * w + b
+    → HoldsByRows w P table → P a b value → HoldsByRows w P (table ++ value ∷ [])
 by_rows_push w P table a b value lt long before here c d d_lt in_list = elim (cases_lt (c * w + d) (length table)) [
   | inl old ↦ subst (P c d) (sym (get_or_append_left table (value ∷ []) 0 (c * w + d) old)) (before c d d_lt old)
   | inr new ↦
@@ -26,9 +27,11 @@ by_rows_push w P table a b value lt long before here c d d_lt in_list = elim (ca
 -- ---- least sums
 
 pub sum_none : (start : ℕ) (costs paths : List ℕ) (c w : ℕ) → IsLeastSum start costs paths c w 0 start
-sum_none start costs paths c w = record { below_start = omega arith; below = λ k lt. absurd (omega (arith, lt)); found = inl refl }
+sum_none start costs paths c w =
+    record { below_start = omega arith; below = λ k lt. absurd (omega (arith, lt)); found = inl refl }
 
-pub sum_kept : (start : ℕ) (costs paths : List ℕ) (c w k least : ℕ) → IsLeastSum start costs paths c w k least → least ≤ slice_index costs (c + k) + slice_index paths (w + k)
+pub sum_kept : (start : ℕ) (costs paths : List ℕ) (c w k least : ℕ) → IsLeastSum start costs paths c w k least
+    → least ≤ slice_index costs (c + k) + slice_index paths (w + k)
     → IsLeastSum start costs paths c w (k + 1) least
 sum_kept start costs paths c w k least is le = record {
   below_start = is.below_start;
@@ -41,7 +44,8 @@ sum_kept start costs paths c w k least is le = record {
     found (inl e) = inl e
     found (inr at) = inr (at.0, omega (arith, at.1), at.2)
 
-pub sum_new : (start : ℕ) (costs paths : List ℕ) (c w k least sum : ℕ) → IsLeastSum start costs paths c w k least → sum ≡ slice_index costs (c + k) + slice_index paths (w + k) → sum < least
+pub sum_new : (start : ℕ) (costs paths : List ℕ) (c w k least sum : ℕ) → IsLeastSum start costs paths c w k least
+    → sum ≡ slice_index costs (c + k) + slice_index paths (w + k) → sum < least
     → IsLeastSum start costs paths c w (k + 1) sum
 sum_new start costs paths c w k least sum is e lt = record {
   below_start = omega (arith, lt, is.below_start);

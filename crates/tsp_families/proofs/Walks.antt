@@ -22,7 +22,8 @@ length_through cost end from middle [] after = omega (arith, ints)
 length_through cost end from middle (next ∷ before) after = let rest = length_through cost end next middle before after in omega (arith, ints)
 
 -- a cycle from another of its nodes on
-pub turned_length : (cost : ℕ → ℕ → ℤ) (node : ℕ) (before after : List ℕ) → length_of cost (before ++ node ∷ after) ≡ length_of cost (node ∷ (after ++ before))
+pub turned_length : (cost : ℕ → ℕ → ℤ) (node : ℕ) (before after : List ℕ)
+    → length_of cost (before ++ node ∷ after) ≡ length_of cost (node ∷ (after ++ before))
 turned_length cost node [] after = ap (λ xs. length_of cost (node ∷ xs)) (sym (append-nil after))
 turned_length cost node (first ∷ before) after =
     let one = length_through cost first first node before after in
@@ -39,11 +40,13 @@ abbrev kept : (ℕ → Bool) → List ℕ → List ℕ
 kept seen [] = []
 kept seen (x ∷ xs) = if seen x then kept seen xs else (x ∷ kept (and_node seen x) xs)
 
-skipped : (cost : ℕ → ℕ → ℤ) → KeepsTriangles cost → (end from x : ℕ) (xs : List ℕ) → length_to cost end from xs ≤ℤ (cost from x +ℤ length_to cost end x xs)
+skipped : (cost : ℕ → ℕ → ℤ) → KeepsTriangles cost → (end from x : ℕ) (xs : List ℕ)
+    → length_to cost end from xs ≤ℤ (cost from x +ℤ length_to cost end x xs)
 skipped cost keeps end from x [] = omega (arith, ints, keeps from x end)
 skipped cost keeps end from x (y ∷ ys) = omega (arith, ints, keeps from x y)
 
-kept_shorter : (cost : ℕ → ℕ → ℤ) → KeepsTriangles cost → (end from : ℕ) (seen : ℕ → Bool) (xs : List ℕ) → length_to cost end from (kept seen xs) ≤ℤ length_to cost end from xs
+kept_shorter : (cost : ℕ → ℕ → ℤ) → KeepsTriangles cost → (end from : ℕ) (seen : ℕ → Bool) (xs : List ℕ)
+    → length_to cost end from (kept seen xs) ≤ℤ length_to cost end from xs
 kept_shorter cost keeps end from seen [] = omega (arith, ints)
 kept_shorter cost keeps end from seen (x ∷ xs) = elim (cases_Bool (seen x)) [
   | inl h ↦ rw h (omega (arith, ints, kept_shorter cost keeps end from seen xs, skipped cost keeps end from x xs))
@@ -94,7 +97,8 @@ kept_has seen (y ∷ ys) x unseen h = elim (cases_Bool (seen y)) [
 
 -- a closed walk through all nodes of 1..n has a cycle that is no longer
 pub shorter_cycle : (n : ℕ) (cost : ℕ → ℕ → ℤ) (x : ℕ) (xs : List ℕ) → KeepsTriangles cost → AllByRecursion (IsNode n) (x ∷ xs)
-    → ((y : ℕ) → IsNode n y → Within (x ∷ xs) y) → (nodes : List ℕ) × IsCycle n nodes × (length_of cost nodes ≤ℤ length_of cost (x ∷ xs))
+    → ((y : ℕ) → IsNode n y → Within (x ∷ xs) y)
+    → (nodes : List ℕ) × IsCycle n nodes × (length_of cost nodes ≤ℤ length_of cost (x ∷ xs))
 shorter_cycle n cost x xs keeps range all =
     let seen : ℕ → Bool = λ y. y == x in (
       x ∷ kept seen xs,

@@ -10,7 +10,7 @@ use Rattle.tsp_format.specs.Cells.{IsNode}
 use Rattle.tsp_theory.specs.Length.{length_of}
 use Rattle.tsp_theory.proofs.Crossings.{one_if}
 use Rattle.tsp_families.specs.Crossed.{IsLeastLength, sets_crossed, AreAlike}
-use Rattle.tsp_families.specs.Parts.{ArePartsOf, between, PartsTellCycles}
+use Rattle.tsp_families.specs.SetParts.{ArePartsOf, between, PartsTellCycles}
 use Rattle.tsp_families.specs.Paths.{AllApart}
 use Rattle.tsp_families.proofs.Lists.{Within, within_or_apart, apart_from_pairs, cycle_from}
 use Rattle.tsp_families.proofs.Walks.{length_to}
@@ -74,12 +74,14 @@ from_same : (cost : ℕ → ℕ → ℤ) (u v end : ℕ) (xs : List ℕ) → IsA
 from_same cost u v end [] is = omega (arith, ints, is.same end)
 from_same cost u v end (x ∷ xs) is = omega (arith, ints, is.same x)
 
-added_here : (cost : ℕ → ℕ → ℤ) (u v end x : ℕ) (xs : List ℕ) → IsAs cost u v → x ≡ u → length_to cost end x (v ∷ xs) ≡ length_to cost end x xs
+added_here : (cost : ℕ → ℕ → ℤ) (u v end x : ℕ) (xs : List ℕ) → IsAs cost u v → x ≡ u
+    → length_to cost end x (v ∷ xs) ≡ length_to cost end x xs
 added_here cost u v end x xs is same =
     let at_u : length_to cost end u (v ∷ xs) ≡ length_to cost end u xs = omega (arith, ints, is.none, from_same cost u v end xs is) in
     subst (λ (y : ℕ). length_to cost end y (v ∷ xs) ≡ length_to cost end y xs) (sym same) at_u
 
-after_long : (cost : ℕ → ℕ → ℤ) (u v end from : ℕ) (xs : List ℕ) → IsAs cost u v → length_to cost end from (after u v xs) ≡ length_to cost end from xs
+after_long : (cost : ℕ → ℕ → ℤ) (u v end from : ℕ) (xs : List ℕ) → IsAs cost u v
+    → length_to cost end from (after u v xs) ≡ length_to cost end from xs
 after_long cost u v end from [] is = refl
 after_long cost u v end from (x ∷ xs) is = elim (cases_eq x u) [
   | inl same ↦ rw (eq-eqb x u same) (ap (λ z. cost from x +ℤ z) (added_here cost u v end x xs is same))
@@ -120,7 +122,8 @@ mapped_to : (sets : List (ℕ → Bool)) (firsts : List ℕ) (end from : ℕ) (p
 mapped_to sets firsts end from [] = refl
 mapped_to sets firsts end from (p ∷ ps) = ap (λ z. between sets firsts from p +ℤ z) (mapped_to sets firsts end p ps)
 
-mapped : (sets : List (ℕ → Bool)) (firsts parts : List ℕ) → length_of (between sets firsts) parts ≡ length_of (sets_crossed sets) (map (first_of firsts) parts)
+mapped : (sets : List (ℕ → Bool)) (firsts parts : List ℕ)
+    → length_of (between sets firsts) parts ≡ length_of (sets_crossed sets) (map (first_of firsts) parts)
 mapped sets firsts [] = refl
 mapped sets firsts (p ∷ ps) = mapped_to sets firsts p p ps
 
@@ -129,11 +132,14 @@ map_within f [] x h = absurd h
 map_within f (y ∷ ys) x (inl same) = inl (ap f same)
 map_within f (y ∷ ys) x (inr w) = inr (map_within f ys x w)
 
-firsts_range : (n : ℕ) (sets : List (ℕ → Bool)) (firsts parts : List ℕ) → ArePartsOf n sets firsts → AllByRecursion (IsNode (length firsts)) parts → AllByRecursion (IsNode n) (map (first_of firsts) parts)
+firsts_range : (n : ℕ) (sets : List (ℕ → Bool)) (firsts parts : List ℕ) → ArePartsOf n sets firsts
+    → AllByRecursion (IsNode (length firsts)) parts → AllByRecursion (IsNode n) (map (first_of firsts) parts)
 firsts_range n sets firsts [] is h = tt
-firsts_range n sets firsts (p ∷ ps) is h = (is.nodes (p - 1) 0 (omega (arith, h.0.0, h.0.1)), firsts_range n sets firsts ps is h.1)
+firsts_range n sets firsts (p ∷ ps) is h =
+    (is.nodes (p - 1) 0 (omega (arith, h.0.0, h.0.1)), firsts_range n sets firsts ps is h.1)
 
-firsts_apart : (n : ℕ) (sets : List (ℕ → Bool)) (firsts parts : List ℕ) (p : ℕ) → ArePartsOf n sets firsts → IsNode (length firsts) p → AllByRecursion (IsNode (length firsts)) parts
+firsts_apart : (n : ℕ) (sets : List (ℕ → Bool)) (firsts parts : List ℕ) (p : ℕ) → ArePartsOf n sets firsts
+    → IsNode (length firsts) p → AllByRecursion (IsNode (length firsts)) parts
     → AllByRecursion (λ q. p ≢ q) parts → AllByRecursion (λ y. first_of firsts p ≢ y) (map (first_of firsts) parts)
 firsts_apart n sets firsts [] p is in_p h apart = tt
 firsts_apart n sets firsts (q ∷ qs) p is in_p h apart = (
@@ -141,9 +147,11 @@ firsts_apart n sets firsts (q ∷ qs) p is in_p h apart = (
   firsts_apart n sets firsts qs p is in_p h.1 apart.1,
 )
 
-firsts_once : (n : ℕ) (sets : List (ℕ → Bool)) (firsts parts : List ℕ) → ArePartsOf n sets firsts → AllByRecursion (IsNode (length firsts)) parts → AllApart parts → AllApart (map (first_of firsts) parts)
+firsts_once : (n : ℕ) (sets : List (ℕ → Bool)) (firsts parts : List ℕ) → ArePartsOf n sets firsts
+    → AllByRecursion (IsNode (length firsts)) parts → AllApart parts → AllApart (map (first_of firsts) parts)
 firsts_once n sets firsts [] is h once = tt
-firsts_once n sets firsts (p ∷ ps) is h once = (firsts_apart n sets firsts ps p is h.0 h.1 once.0, firsts_once n sets firsts ps is h.1 once.1)
+firsts_once n sets firsts (p ∷ ps) is h once =
+    (firsts_apart n sets firsts ps p is h.0 h.1 once.0, firsts_once n sets firsts ps is h.1 once.1)
 
 -- ---- node after node
 
@@ -155,7 +163,8 @@ pub record IsWide (n k : ℕ) (sets : List (ℕ → Bool)) (firsts : List ℕ) (
   pub has_firsts : (part : ℕ) → IsNode (length firsts) part → Within nodes (first_of firsts part)
   pub has : (x : ℕ) → IsNode k x → Within nodes x
 
-wider : (n k : ℕ) (sets : List (ℕ → Bool)) (firsts : List ℕ) (least : ℤ) (nodes : List ℕ) → ArePartsOf n sets firsts → suc k ≤ n → IsWide n k sets firsts least nodes
+wider : (n k : ℕ) (sets : List (ℕ → Bool)) (firsts : List ℕ) (least : ℤ) (nodes : List ℕ) → ArePartsOf n sets firsts → suc k ≤ n
+    → IsWide n k sets firsts least nodes
     → (more : List ℕ) × IsWide n (suc k) sets firsts least more
 wider n k sets firsts least nodes is below wide = elim (within_or_apart (suc k) nodes) [
   | inl there ↦ (
@@ -188,7 +197,8 @@ wider n k sets firsts least nodes is below wide = elim (within_or_apart (suc k) 
       )
 ]
 
-widened : (n k : ℕ) (sets : List (ℕ → Bool)) (firsts : List ℕ) (least : ℤ) → ArePartsOf n sets firsts → IsLeastLength (length firsts) (between sets firsts) least → k ≤ n
+widened : (n k : ℕ) (sets : List (ℕ → Bool)) (firsts : List ℕ) (least : ℤ) → ArePartsOf n sets firsts
+    → IsLeastLength (length firsts) (between sets firsts) least → k ≤ n
     → (nodes : List ℕ) × IsWide n k sets firsts least nodes
 widened n zero sets firsts least is lengths below =
     let range = recursion_from_All (IsNode (length firsts)) lengths.nodes lengths.cycle.range in (

@@ -1,5 +1,5 @@
 pub mod Crossed
-pub mod Parts
+pub mod SetParts
 pub mod Paths
 pub mod Memberships
 pub mod FamilySets

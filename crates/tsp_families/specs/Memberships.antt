@@ -25,7 +25,8 @@ AreDifferent memberships nodes = AllPairs (λ i j. slice_index memberships i ≢
 pub record AreFirsts (memberships firsts : List ℕ) : Type 0 where
   pub places : All (IsNodePlace memberships) firsts
   pub differ : AreDifferent memberships firsts
-  pub each : (node : ℕ) → IsNodePlace memberships node → Any (λ first. slice_index memberships node ≡ slice_index memberships first) firsts
+  pub each : (node : ℕ) → IsNodePlace memberships node
+      → Any (λ first. slice_index memberships node ≡ slice_index memberships first) firsts
 
 -- Two nodes have one membership exactly where they are in the same sets.
 abbrev pub MembershipsTellSets : Type 0

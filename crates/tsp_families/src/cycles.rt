@@ -17,7 +17,8 @@ pub fn least_cycle(alloc: Global, costs: &[u32], nodes: usize) -> Result<u64, Re
     requires some { 1 ≤ nodes }
     requires few { nodes ≤ 14 }
     requires square { length costs.now ≡ nodes * nodes }
-    ensures { IfOk result (λ least. IsLeastLength nodes (as_whole (cost_by_rows nodes costs.now)) (pos least)) }
+    ensures { IfOk result
+        (λ least. IsLeastLength nodes (as_whole (cost_by_rows nodes costs.now)) (pos least)) }
 {
     if nodes == 1 {
         return Ok(u64::from(costs[0]));

@@ -19,11 +19,13 @@ pub(crate) fn crossings_between(
 ) -> Result<Vec<u32>, Refused>
     requires few { length firsts.now ≤ 14 }
     requires places { All (IsNodePlace memberships.now) firsts.now }
-    ensures long { IfOk result (λ costs. length costs.items ≡ length firsts.now * length firsts.now) }
+    ensures long { IfOk result
+        (λ costs. length costs.items ≡ length firsts.now * length firsts.now) }
     ensures small { IfOk result (λ costs. All (λ cost. cost ≤ 64) costs.items) }
-    ensures values { IfOk result (λ costs. (a b : ℕ) → a < length firsts.now → b < length firsts.now
-        → slice_index costs.items (a * length firsts.now + b)
-        ≡ count_ones (bit_xor (slice_index memberships.now (slice_index firsts.now a)) (slice_index memberships.now (slice_index firsts.now b)))) }
+    ensures values { IfOk result (λ costs. (a b : ℕ) → a < length firsts.now
+        → b < length firsts.now → slice_index costs.items (a * length firsts.now + b)
+        ≡ count_ones (bit_xor (slice_index memberships.now (slice_index firsts.now a))
+        (slice_index memberships.now (slice_index firsts.now b)))) }
 {
     let mut costs = Vec::new(alloc);
     'rows: for a in 0..firsts.len() {

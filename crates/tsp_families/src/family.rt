@@ -40,11 +40,13 @@ pub fn family_crossings(
     requires some { 1 ≤ nodes }
     requires few { nodes < 2 ^ 32 - 1 }
     requires nodes { AreSetsOf nodes sets.now }
-    ensures least { IfOk result (λ found. MatchOption found (AreTooMany nodes (sets_of (lists_of sets.now)))
+    ensures least { IfOk result
+        (λ found. MatchOption found (AreTooMany nodes (sets_of (lists_of sets.now)))
         (λ own. IsLeastLength nodes (sets_crossed (sets_of (lists_of sets.now))) (pos own.least))) }
     ensures most { IfOk result (λ found. IfSome found
         (λ own. IsMostCost nodes (sets_crossed (sets_of (lists_of sets.now))) (pos own.most))) }
-    ensures known { IfOk result (λ found. IfSome found (λ own. AreTooMany nodes (sets_of (lists_of sets.now)) → ⊥)) }
+    ensures known { IfOk result
+        (λ found. IfSome found (λ own. AreTooMany nodes (sets_of (lists_of sets.now)) → ⊥)) }
     ensures few { IfOk result (λ found. IfSome found (λ own. (own.least ≤ 896) × (own.most ≤ 64))) }
 {
     if sets.len() > MOST_SETS {

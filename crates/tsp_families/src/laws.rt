@@ -1,6 +1,6 @@
 //! What always holds of sets and their parts, as contracts of functions that do nothing.
 
-ghost use Rattle.tsp_families.specs.Parts.{PartsBoundCycles, PartsTellCycles, DivisionsBoundCycles, LeastLengthsAreUnique, MostCostsAreUnique, UnlikeNodesNeedParts};
+ghost use Rattle.tsp_families.specs.SetParts.{PartsBoundCycles, PartsTellCycles, DivisionsBoundCycles, LeastLengthsAreUnique, MostCostsAreUnique, UnlikeNodesNeedParts};
 ghost use Rattle.tsp_families.specs.Memberships.{MembershipsTellSets};
 
 /// Every cycle crosses sets at least as often as the best cyclic order of their parts.

@@ -23,7 +23,8 @@ pub(crate) fn memberships_of(
     requires few { nodes < 2 ^ 32 - 1 }
     requires few_sets { length sets.now ≤ 63 }
     requires nodes { AreSetsOf nodes sets.now }
-    ensures { IfOk result (λ memberships. AreMemberships nodes (sets_of (lists_of sets.now)) memberships.items) }
+    ensures { IfOk result
+        (λ memberships. AreMemberships nodes (sets_of (lists_of sets.now)) memberships.items) }
 {
     let mut memberships = filled(alloc, 0, nodes as usize + 1)?;
     'sets: for set in 0..sets.len() {
@@ -36,9 +37,10 @@ pub(crate) fn memberships_of(
 fn add_bit(memberships: &mut [u64], bit: u64, nodes: &[u32])
     requires nodes { All (λ node. node < length memberships.old) nodes.now }
     requires bit { bit < 2 ^ 63 }
-    requires below { (node : ℕ) → node < length memberships.old → slice_index memberships.old node < bit }
-    ensures { (node : ℕ) → node < length memberships.old
-        → slice_index memberships.new node ≡ slice_index memberships.old node + (if has nodes.now node then bit else 0) }
+    requires below { (node : ℕ)
+        → node < length memberships.old → slice_index memberships.old node < bit }
+    ensures { (node : ℕ) → node < length memberships.old → slice_index memberships.new node
+        ≡ slice_index memberships.old node + (if has nodes.now node then bit else 0) }
 {
     'nodes: for node in nodes {
         let place = *node as usize;

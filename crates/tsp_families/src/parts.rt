@@ -3,7 +3,7 @@
 ghost use Rattle.std.specs.Prelude.{◌≡◌, ◌≤◌, ◌<◌, ◌+◌, ◌-◌, ◌^◌, ◌↔◌, ℕ, List, IsTrue, MatchOption, IfOk, IfSome, length, slice_index};
 ghost use Rattle.std.specs.List.{All, Any};
 ghost use Rattle.tsp_families.specs.Crossed.{sets_of, HasUnlike};
-ghost use Rattle.tsp_families.specs.Parts.{ArePartsOf};
+ghost use Rattle.tsp_families.specs.SetParts.{ArePartsOf};
 ghost use Rattle.tsp_families.specs.Memberships.{AreMemberships, IsNodePlace, AreDifferent, AreFirsts};
 ghost use Rattle.tsp_families.specs.FamilySets.{AreSetsOf, lists_of};
 
@@ -37,7 +37,8 @@ pub fn parts_of(alloc: Global, nodes: u32, sets: &[CombSet]) -> Result<Option<Pa
     ensures parts { IfOk result (λ found. MatchOption found
         (HasUnlike 15 nodes (sets_of (lists_of sets.now)))
         (λ parts. ArePartsOf nodes (sets_of (lists_of sets.now)) parts.firsts.items)) }
-    ensures memberships { IfOk result (λ found. IfSome found (λ parts. AreMemberships nodes (sets_of (lists_of sets.now)) parts.memberships.items)) }
+    ensures memberships { IfOk result (λ found. IfSome found
+        (λ parts. AreMemberships nodes (sets_of (lists_of sets.now)) parts.memberships.items)) }
     ensures few { IfOk result (λ found. IfSome found (λ parts. length parts.firsts.items ≤ 14)) }
 {
     let memberships = memberships_of(alloc, nodes, sets)?;
@@ -74,7 +75,8 @@ fn firsts_of(alloc: Global, memberships: &[u64]) -> Result<Option<Vec<u32>>, Ref
 /// Whether one of these nodes has the membership.
 fn has_membership(memberships: &[u64], nodes: &[u32], membership: u64) -> bool
     requires { All (IsNodePlace memberships.now) nodes.now }
-    ensures { IsTrue result ↔ Any (λ node. membership ≡ slice_index memberships.now node) nodes.now }
+    ensures { IsTrue result
+        ↔ Any (λ node. membership ≡ slice_index memberships.now node) nodes.now }
 {
     'nodes: for node in nodes {
         if memberships[*node as usize] == membership {

@@ -81,7 +81,8 @@ pub(crate) fn best_paths(alloc: Global, costs: &[u32], nodes: usize) -> Result<V
     requires square { length costs.now ≡ nodes * nodes }
     ensures long { IfOk result (λ paths. length paths.items ≡ 2 ^ (nodes - 1) * (nodes - 1)) }
     ensures small { IfOk result (λ paths. All (λ path. path ≤ no_path) paths.items) }
-    ensures best { IfOk result (λ paths. AreBestPaths nodes (cost_by_rows nodes costs.now) paths.items) }
+    ensures best { IfOk result
+        (λ paths. AreBestPaths nodes (cost_by_rows nodes costs.now) paths.items) }
 {
     let others = nodes - 1;
     let count = power(others);

@@ -70,7 +70,8 @@ pairs (suc k) n = pairs k (n / 100) ++ pair (n % 100)
 
 length-pairs : (k n : ℕ) → length (pairs k n) ≡ 2 * k
 length-pairs zero n = refl
-length-pairs (suc k) n = length-append (pairs k (n / 100)) (pair (n % 100)) ∙ ap (λ m. m + 2) (length-pairs k (n / 100)) ∙ omega arith
+length-pairs (suc k) n =
+    length-append (pairs k (n / 100)) (pair (n % 100)) ∙ ap (λ m. m + 2) (length-pairs k (n / 100)) ∙ omega arith
 
 decimal_two : (n : ℕ) → 10 ≤ n → n < 100 → decimal n ≡ pair n
 decimal_two n low high = rw (decimal_step n low (omega arith), decimal_digit (n / 10) (omega arith)) refl
@@ -83,7 +84,8 @@ decimal_pair n low high =
     rw (decimal_step n (omega arith) high, decimal_step (n / 10) (omega arith) (omega arith), append_assoc, a, b, ← c) refl
 
 -- of a number of two digits or one
-short : (n m : ℕ) (front : List ℕ) → n < 100 → length front ≡ m → drop (m + 2 - length (decimal n)) (front ++ pair (n % 100)) ≡ decimal n
+short : (n m : ℕ) (front : List ℕ) → n < 100 → length front ≡ m
+    → drop (m + 2 - length (decimal n)) (front ++ pair (n % 100)) ≡ decimal n
 short n m front few long =
     elim (cases_lt n 10) [
       | inl one ↦
@@ -107,7 +109,8 @@ short n m front few long =
     ]
 
 -- of a number of more digits, by that of a hundredth
-long : (n m : ℕ) (front : List ℕ) → 100 ≤ n → n < 2 ^ 64 → length front ≡ m → drop (m - length (decimal (n / 100))) front ≡ decimal (n / 100)
+long : (n m : ℕ) (front : List ℕ) → 100 ≤ n → n < 2 ^ 64 → length front ≡ m
+    → drop (m - length (decimal (n / 100))) front ≡ decimal (n / 100)
     → drop (m + 2 - length (decimal n)) (front ++ pair (n % 100)) ≡ decimal n
 long n m front more small count rest =
     let text = decimal_pair n more small in

@@ -34,7 +34,8 @@ distance_symmetric laws Man3d a b = ap pos (laws.man_in_space.symmetric a b)
 distance_symmetric laws Max3d a b = ap pos (laws.max_in_space.symmetric a b)
 
 -- it has its inequalities
-pub distance_defined : DistanceLaws → (kind : WeightKind) (a b : Point) → kind ≢ Explicit → IsDistanceBy kind a b (unsigned_abs (distance kind a b))
+pub distance_defined : DistanceLaws → (kind : WeightKind) (a b : Point) → kind ≢ Explicit
+    → IsDistanceBy kind a b (unsigned_abs (distance kind a b))
 unfolding distance
 distance_defined laws Explicit a b other = absurd (other refl)
 distance_defined laws Euc2d a b other = laws.euc.defined a b
@@ -47,7 +48,8 @@ distance_defined laws Man3d a b other = laws.man_in_space.defined a b
 distance_defined laws Max3d a b other = laws.max_in_space.defined a b
 
 -- and no other number has
-pub distance_unique : DistanceLaws → (kind : WeightKind) (a b : Point) (k : ℕ) → IsDistanceBy kind a b k → distance kind a b ≡ pos k
+pub distance_unique : DistanceLaws → (kind : WeightKind) (a b : Point) (k : ℕ) → IsDistanceBy kind a b k
+    → distance kind a b ≡ pos k
 unfolding distance
 distance_unique laws Explicit a b k is = absurd is
 distance_unique laws Euc2d a b k is = ap pos (sym (laws.euc.unique a b k is))
@@ -60,7 +62,8 @@ distance_unique laws Man3d a b k is = ap pos (sym (laws.man_in_space.unique a b 
 distance_unique laws Max3d a b k is = ap pos (sym (laws.max_in_space.unique a b k is))
 
 -- so is the cost of an instance
-cost_of_points : (f : Fields) (kind : WeightKind) (i j : ℕ) → kind ≢ Explicit → cost_by (Some kind) f i j ≡ distance kind (point_of (unwrap_or f.coords []) i) (point_of (unwrap_or f.coords []) j)
+cost_of_points : (f : Fields) (kind : WeightKind) (i j : ℕ) → kind ≢ Explicit
+    → cost_by (Some kind) f i j ≡ distance kind (point_of (unwrap_or f.coords []) i) (point_of (unwrap_or f.coords []) j)
 cost_of_points f Explicit i j other = absurd (other refl)
 cost_of_points f Euc2d i j other = refl
 cost_of_points f Ceil2d i j other = refl
@@ -71,7 +74,8 @@ cost_of_points f Euc3d i j other = refl
 cost_of_points f Man3d i j other = refl
 cost_of_points f Max3d i j other = refl
 
-cost_is : (f : Fields) (kind : WeightKind) (i j : ℕ) → f.weight_kind ≡ Some kind → kind ≢ Explicit → cost f i j ≡ distance kind (point_of (unwrap_or f.coords []) i) (point_of (unwrap_or f.coords []) j)
+cost_is : (f : Fields) (kind : WeightKind) (i j : ℕ) → f.weight_kind ≡ Some kind → kind ≢ Explicit
+    → cost f i j ≡ distance kind (point_of (unwrap_or f.coords []) i) (point_of (unwrap_or f.coords []) j)
 unfolding cost
 cost_is f kind i j is other = ap (λ (k : Option WeightKind). cost_by k f i j) is ∙ cost_of_points f kind i j other
 
@@ -82,7 +86,8 @@ cost_defined laws f kind i j is other =
     let b : Point = point_of (unwrap_or f.coords []) j in
     subst (λ z. IsDistanceBy kind a b (unsigned_abs z)) (sym (cost_is f kind i j is other)) (distance_defined laws kind a b other)
 
-pub cost_unique : DistanceLaws → (f : Fields) (kind : WeightKind) (i j k : ℕ) → f.weight_kind ≡ Some kind → IsDistanceBy kind (point_of (unwrap_or f.coords []) i) (point_of (unwrap_or f.coords []) j) k
+pub cost_unique : DistanceLaws → (f : Fields) (kind : WeightKind) (i j k : ℕ) → f.weight_kind ≡ Some kind
+    → IsDistanceBy kind (point_of (unwrap_or f.coords []) i) (point_of (unwrap_or f.coords []) j) k
     → cost f i j ≡ pos k
 cost_unique laws f kind i j k is own =
     let a : Point = point_of (unwrap_or f.coords []) i in

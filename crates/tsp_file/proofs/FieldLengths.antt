@@ -23,7 +23,7 @@ use Rattle.tsp_format.specs.Words.{field_word, kind_word, weight_kind_word, weig
 use Rattle.tsp_draft.specs.Fields.{Fields, spatial, numbers_in, points_in}
 use Rattle.tsp_draft.specs.Validity.{if_there, with_dimension, is_kept, is_other, is_node, is_node_pair, is_triple, is_from_to, is_within, is_point, is_by_node, are_comments, are_others, are_depots, are_fixed, are_triples, are_weights, is_tour, are_tours, are_combs, are_steps, section_fits, fits}
 use Rattle.tsp_draft.specs.Rules.{fault_of}
-use Rattle.tsp_file.specs.Text.{line_end, keyword_line, other_line, number_line, section_text, lines_by_node, node_list, pair_list, triple_list, comb_list, step_lines, point_numbers, whole_number, line_lens, matrix_lines, optional, text_of_section, text_of_field, text_of}
+use Rattle.tsp_file.specs.CanonicalText.{line_end, keyword_line, other_line, number_line, section_text, lines_by_node, node_list, pair_list, triple_list, comb_list, step_lines, point_numbers, whole_number, line_lens, matrix_lines, optional, text_of_section, text_of_field, text_of}
 use Rattle.tsp_file.proofs.TextLengths.{within_abs, three_parts, positive_short, between_short, decimal_short, node_short, flat_short_of, by_node_short, pair_list_short, triple_list_short, node_list_short, tours_short, matrix_lines_short}
 use Rattle.tsp_file.proofs.TreeLengths.{combs_short, steps_short}
 use Rattle.tsp_file.proofs.KeywordLengths.{kept_short, other_short, keyword_short, keyword_line_short, kind_short, weight_kind_short, weight_format_short, coord_kind_short, display_kind_short}
@@ -31,7 +31,8 @@ use Rattle.tsp_file.proofs.AllFit.{all_fit}
 
 -- ---- fields that may be missing
 
-optional_short : {A : Type 0} (fits : A → Bool) (text : A → List ℕ) (k : ℕ) → ((x : A) → fits x ≡ true → length (text x) ≤ k) → (value : Option A) → if_there fits value ≡ true
+optional_short : {A : Type 0} (fits : A → Bool) (text : A → List ℕ) (k : ℕ) → ((x : A) → fits x ≡ true → length (text x) ≤ k)
+    → (value : Option A) → if_there fits value ≡ true
     → length (optional text value) ≤ k
 optional_short fits text k each None there = omega arith
 optional_short fits text k each (Some x) there = each x there
@@ -51,16 +52,21 @@ dimension_short : (n : ℕ) → is_node most_nodes n ≡ true → n ≤ most_nod
 dimension_short n fits = leb-true n most_nodes (and_parts (nat_le 1 n) (nat_le n most_nodes) fits).1
 
 -- a section that the number of nodes is known for
-section_of_short : {A : Type 0} (field : Field) (fits : ℕ → A → Bool) (lines : A → List ℕ) (k : ℕ) → ((n : ℕ) (x : A) → n ≤ most_nodes → fits n x ≡ true → length (lines x) ≤ k)
-    → (dimension : Option ℕ) (value : Option A) → if_there (is_node most_nodes) dimension ≡ true → if_there (with_dimension fits dimension) value ≡ true
+section_of_short : {A : Type 0} (field : Field) (fits : ℕ → A → Bool) (lines : A → List ℕ) (k : ℕ)
+    → ((n : ℕ) (x : A) → n ≤ most_nodes → fits n x ≡ true → length (lines x) ≤ k)
+    → (dimension : Option ℕ) (value : Option A) → if_there (is_node most_nodes) dimension ≡ true
+    → if_there (with_dimension fits dimension) value ≡ true
     → length (optional (λ x. section_text field (lines x)) value) ≤ 29 + k
 section_of_short field fits lines k each dimension None nodes there = omega arith
 section_of_short field fits lines k each None (Some x) nodes there = absurd (false≢true there)
-section_of_short field fits lines k each (Some n) (Some x) nodes there = section_short field (lines x) k (each n x (dimension_short n nodes) there)
+section_of_short field fits lines k each (Some n) (Some x) nodes there =
+    section_short field (lines x) k (each n x (dimension_short n nodes) there)
 
 -- one line for each node, with at most k bytes after the node
-by_node_section_short : {A : Type 0} (field : Field) (fits : A → Bool) (numbers : A → List (List ℕ)) (k : ℕ) → ((x : A) → fits x ≡ true → length (number_line [] (numbers x)) ≤ k)
-    → (dimension : Option ℕ) (value : Option (List A)) → if_there (is_node most_nodes) dimension ≡ true → if_there (with_dimension (is_by_node fits) dimension) value ≡ true
+by_node_section_short : {A : Type 0} (field : Field) (fits : A → Bool) (numbers : A → List (List ℕ)) (k : ℕ)
+    → ((x : A) → fits x ≡ true → length (number_line [] (numbers x)) ≤ k)
+    → (dimension : Option ℕ) (value : Option (List A)) → if_there (is_node most_nodes) dimension ≡ true
+    → if_there (with_dimension (is_by_node fits) dimension) value ≡ true
     → length (optional (λ xs. section_text field (lines_by_node numbers xs)) value) ≤ 29 + (6 + k) * most_nodes
 by_node_section_short {A} field fits numbers k each dimension value nodes there =
     let lines : (n : ℕ) (xs : List A) → n ≤ most_nodes → is_by_node fits n xs ≡ true → length (lines_by_node numbers xs) ≤ (6 + k) * most_nodes = λ n xs most by_nodes.
@@ -98,7 +104,8 @@ three_numbers_short a b c k first second third =
       third,
     )
 
-point_short : (in_space : Bool) (point : Point) → is_point in_space point ≡ true → length (number_line [] (point_numbers in_space point)) ≤ 75
+point_short : (in_space : Bool) (point : Point) → is_point in_space point ≡ true
+    → length (number_line [] (point_numbers in_space point)) ≤ 75
 point_short true point fits =
     let flat = and_parts (is_within most_coordinate point.x && is_within most_coordinate point.y) (is_within most_coordinate point.z) fits in
     let parts = and_parts (is_within most_coordinate point.x) (is_within most_coordinate point.y) flat.0 in
@@ -117,7 +124,8 @@ abbrev is_short : Shape → Bool
 is_short (Numbers low high) = nat_le (unsigned_abs low) most_potential && nat_le (unsigned_abs high) most_potential
 is_short shape = true
 
-whole_short : (low high number : ℤ) → is_short (Numbers low high) ≡ true → is_from_to low high number ≡ true → length (number_line [] (whole_number number)) ≤ 20
+whole_short : (low high number : ℤ) → is_short (Numbers low high) ≡ true → is_from_to low high number ≡ true
+    → length (number_line [] (whole_number number)) ≤ 20
 whole_short low high number short fits =
     let parts = and_parts (nat_le (unsigned_abs low) most_potential) (nat_le (unsigned_abs high) most_potential) short in
     let inside = between_short 16 low high most_potential number (leb-true (unsigned_abs low) most_potential parts.0)
@@ -130,7 +138,8 @@ depots_short n depots most fits =
     let few = leb-true (length depots) most_depots parts.0 in
     omega (arith, few, node_list_short (is_node n) (λ node fit. node_short n node most fit) depots parts.1)
 
-is_pair_short : (n : ℕ) (pair : ℕ × ℕ) → n ≤ most_nodes → is_node_pair n pair ≡ true → (length (decimal pair.0) ≤ 6) × (length (decimal pair.1) ≤ 6)
+is_pair_short : (n : ℕ) (pair : ℕ × ℕ) → n ≤ most_nodes → is_node_pair n pair ≡ true
+    → (length (decimal pair.0) ≤ 6) × (length (decimal pair.1) ≤ 6)
 is_pair_short n pair most fits =
     let parts = three_parts (is_node n pair.0) (is_node n pair.1) (not (pair.0 == pair.1)) fits in
     (node_short n pair.0 most parts.0, node_short n pair.1 most parts.1)
@@ -148,14 +157,16 @@ is_triple_short n triple most fits =
     let nodes = is_pair_short n (triple.0, triple.1) most parts.0 in
     (nodes.0, nodes.1, positive_short 16 0 most_multiplier triple.2 (omega arith) (omega arith) parts.1)
 
-triples_short : (n : ℕ) (triples : List (ℕ × ℕ × ℤ)) → n ≤ most_nodes → are_triples n triples ≡ true → length (triple_list triples) ≤ 3300000
+triples_short : (n : ℕ) (triples : List (ℕ × ℕ × ℤ)) → n ≤ most_nodes → are_triples n triples ≡ true
+    → length (triple_list triples) ≤ 3300000
 triples_short n triples most fits =
     let parts = and_parts (nat_le (length triples) most_multipliers) (list_all (is_triple n) triples) fits in
     let few = leb-true (length triples) most_multipliers parts.0 in
     omega (arith, few, triple_list_short (is_triple n) (λ triple fit. is_triple_short n triple most fit) triples parts.1)
 
 -- at most 5,000 * 5,000 weights
-weights_short : (lens : List ℕ) (n : ℕ) (weights : List ℤ) → are_weights n weights ≡ true → length (matrix_lines lens weights) ≤ 375000000
+weights_short : (lens : List ℕ) (n : ℕ) (weights : List ℤ) → are_weights n weights ≡ true
+    → length (matrix_lines lens weights) ≤ 375000000
 weights_short lens n weights fits =
     let parts = three_parts (nat_le n most_matrix_nodes) (nat_le (length weights) (n * n)) (list_all (is_within most_weight) weights) fits in
     let few = leb-true n most_matrix_nodes parts.0 in
@@ -190,7 +201,8 @@ most_bytes CommentKey = 4004000
 most_bytes OtherKey = 4004000
 most_bytes field = option_map_or most_of (shape_of true field) 60
 
-shape_short : (f : Fields) (field : Field) (shape : Shape) → is_short shape ≡ true → if_there (is_node most_nodes) f.dimension ≡ true → section_fits f field shape ≡ true
+shape_short : (f : Fields) (field : Field) (shape : Shape) → is_short shape ≡ true
+    → if_there (is_node most_nodes) f.dimension ≡ true → section_fits f field shape ≡ true
     → length (text_of_section f field shape) ≤ most_of shape
 shape_short f field (Numbers low high) short one fit =
     by_node_section_short field (is_from_to low high) whole_number 20 (λ number fits. whole_short low high number short fits) f.dimension (numbers_in f field) one fit
@@ -198,23 +210,30 @@ shape_short f field Points short one fit =
     by_node_section_short field (is_point false) (point_numbers false) 75 (point_short false) f.dimension (points_in f field) one fit
 shape_short f field SpacePoints short one fit =
     by_node_section_short field (is_point true) (point_numbers true) 75 (point_short true) f.dimension (points_in f field) one fit
-shape_short f field Depots short one fit = section_of_short field are_depots node_list 900000 depots_short f.dimension f.depots one fit
-shape_short f field Pairs short one fit = section_of_short field are_fixed pair_list 1900000 fixed_short f.dimension f.fixed one fit
+shape_short f field Depots short one fit =
+    section_of_short field are_depots node_list 900000 depots_short f.dimension f.depots one fit
+shape_short f field Pairs short one fit =
+    section_of_short field are_fixed pair_list 1900000 fixed_short f.dimension f.fixed one fit
 shape_short f field Weights short one fit =
     let lens = line_lens f.weight_format f.dimension in
     section_of_short field are_weights (matrix_lines lens) 375000000 (λ n weights most fits. weights_short lens n weights fits) f.dimension f.weights one fit
 shape_short f field Tours short one fit =
     optional_short are_tours (λ tours. section_text field (flat_map node_list tours)) 10000029
     (λ tours fits. section_short field (flat_map node_list tours) 10000000 (all_tours_short tours fits)) f.tours fit
-shape_short f field Triples short one fit = section_of_short field are_triples triple_list 3300000 triples_short f.dimension f.fixed_potentials one fit
-shape_short f field Combs short one fit = section_of_short field are_combs comb_list 10030003 combs_short f.dimension f.combs one fit
-shape_short f field Steps short one fit = section_of_short field are_steps step_lines 269000005 steps_short f.dimension f.branches one fit
+shape_short f field Triples short one fit =
+    section_of_short field are_triples triple_list 3300000 triples_short f.dimension f.fixed_potentials one fit
+shape_short f field Combs short one fit =
+    section_of_short field are_combs comb_list 10030003 combs_short f.dimension f.combs one fit
+shape_short f field Steps short one fit =
+    section_of_short field are_steps step_lines 269000005 steps_short f.dimension f.branches one fit
 
 dimension_line_short : (n : ℕ) → is_node most_nodes n ≡ true → length (keyword_line DimensionKey (decimal n)) ≤ 60
-dimension_line_short n fits = keyword_line_short DimensionKey (decimal n) (omega (arith, decimal_short n (dimension_short n fits)))
+dimension_line_short n fits =
+    keyword_line_short DimensionKey (decimal n) (omega (arith, decimal_short n (dimension_short n fits)))
 
 -- the line of a whole number from 1 on
-whole_line_short : (field : Field) (most : ℕ) → most ≤ most_capacity → (number : Option ℤ) → if_there (is_from_to (pos 1) (pos most)) number ≡ true
+whole_line_short : (field : Field) (most : ℕ) → most ≤ most_capacity → (number : Option ℤ)
+    → if_there (is_from_to (pos 1) (pos most)) number ≡ true
     → length (optional (λ z. keyword_line field (signed_decimal z)) number) ≤ 60
 whole_line_short field most low number fits =
     let each : (z : ℤ) → is_from_to (pos 1) (pos most) z ≡ true → length (keyword_line field (signed_decimal z)) ≤ 60 = λ z fit.
@@ -222,23 +241,28 @@ whole_line_short field most low number fits =
     keyword_line_short field (signed_decimal z) (omega (arith, short)) in
     optional_short (is_from_to (pos 1) (pos most)) (λ z. keyword_line field (signed_decimal z)) 60 each number fits
 
-comments_short : (comments : List (List ℕ)) → are_comments comments ≡ true → length (flat_map (keyword_line CommentKey) comments) ≤ most_bytes CommentKey
+comments_short : (comments : List (List ℕ)) → are_comments comments ≡ true
+    → length (flat_map (keyword_line CommentKey) comments) ≤ most_bytes CommentKey
 comments_short comments fits =
     let parts = and_parts (nat_le (length comments) most_comments) (list_all (is_kept (field_word CommentKey)) comments) fits in
     flat_short_of (is_kept (field_word CommentKey)) (keyword_line CommentKey) 4004 most_comments (kept_short (field_word CommentKey)) comments parts.1
     (leb-true (length comments) most_comments parts.0)
 
-others_short : (others : List (List ℕ × List ℕ)) → are_others others ≡ true → length (flat_map other_line others) ≤ most_bytes OtherKey
+others_short : (others : List (List ℕ × List ℕ)) → are_others others ≡ true
+    → length (flat_map other_line others) ≤ most_bytes OtherKey
 others_short others fits =
     let parts = and_parts (nat_le (length others) most_others) (list_all is_other others) fits in
     flat_short_of is_other other_line 4004 most_others other_short others parts.1 (leb-true (length others) most_others parts.0)
 
-field_short : (f : Fields) → ((field : Field) → fits f field ≡ true) → (field : Field) → length (text_of_field f field) ≤ most_bytes field
-field_short f fit NameKey = optional_short (is_kept (field_word NameKey)) (keyword_line NameKey) 4004 (kept_short (field_word NameKey)) f.name (fit NameKey)
+field_short : (f : Fields) → ((field : Field) → fits f field ≡ true) → (field : Field)
+    → length (text_of_field f field) ≤ most_bytes field
+field_short f fit NameKey =
+    optional_short (is_kept (field_word NameKey)) (keyword_line NameKey) 4004 (kept_short (field_word NameKey)) f.name (fit NameKey)
 field_short f fit TypeKey = word_line_short TypeKey kind_word kind_short f.kind
 field_short f fit CommentKey = comments_short f.comments (fit CommentKey)
 field_short f fit OtherKey = others_short f.others (fit OtherKey)
-field_short f fit DimensionKey = optional_short (is_node most_nodes) (λ n. keyword_line DimensionKey (decimal n)) 60 dimension_line_short f.dimension (fit DimensionKey)
+field_short f fit DimensionKey =
+    optional_short (is_node most_nodes) (λ n. keyword_line DimensionKey (decimal n)) 60 dimension_line_short f.dimension (fit DimensionKey)
 field_short f fit CapacityKey = whole_line_short CapacityKey most_capacity (omega arith) f.capacity (fit CapacityKey)
 field_short f fit ScaleKey = whole_line_short ScaleKey most_scale (omega arith) f.scale (fit ScaleKey)
 field_short f fit EdgeWeightTypeKey = word_line_short EdgeWeightTypeKey weight_kind_word weight_kind_short f.weight_kind
@@ -252,15 +276,20 @@ field_short f fit NodeCoordPart = points_short (spatial f) (fit NodeCoordPart)
     points_short true fit_here = shape_short f NodeCoordPart SpacePoints refl (fit DimensionKey) fit_here
     points_short false fit_here = shape_short f NodeCoordPart Points refl (fit DimensionKey) fit_here
 field_short f fit DisplayDataPart = shape_short f DisplayDataPart Points refl (fit DimensionKey) (fit DisplayDataPart)
-field_short f fit DemandPart = shape_short f DemandPart (Numbers (pos 0) (pos most_demand)) refl (fit DimensionKey) (fit DemandPart)
+field_short f fit DemandPart =
+    shape_short f DemandPart (Numbers (pos 0) (pos most_demand)) refl (fit DimensionKey) (fit DemandPart)
 field_short f fit DepotPart = shape_short f DepotPart Depots refl (fit DimensionKey) (fit DepotPart)
 field_short f fit FixedEdgesPart = shape_short f FixedEdgesPart Pairs refl (fit DimensionKey) (fit FixedEdgesPart)
 field_short f fit EdgeWeightPart = shape_short f EdgeWeightPart Weights refl (fit DimensionKey) (fit EdgeWeightPart)
 field_short f fit TourPart = shape_short f TourPart Tours refl (fit DimensionKey) (fit TourPart)
-field_short f fit NodePotentialPart = shape_short f NodePotentialPart (Numbers (neg_ℤ (pos most_potential)) (pos most_potential)) refl (fit DimensionKey) (fit NodePotentialPart)
-field_short f fit RowPotentialPart = shape_short f RowPotentialPart (Numbers (neg_ℤ (pos most_potential)) (pos most_potential)) refl (fit DimensionKey) (fit RowPotentialPart)
-field_short f fit ColumnPotentialPart = shape_short f ColumnPotentialPart (Numbers (neg_ℤ (pos most_potential)) (pos most_potential)) refl (fit DimensionKey) (fit ColumnPotentialPart)
-field_short f fit FixedEdgePotentialPart = shape_short f FixedEdgePotentialPart Triples refl (fit DimensionKey) (fit FixedEdgePotentialPart)
+field_short f fit NodePotentialPart =
+    shape_short f NodePotentialPart (Numbers (neg_ℤ (pos most_potential)) (pos most_potential)) refl (fit DimensionKey) (fit NodePotentialPart)
+field_short f fit RowPotentialPart =
+    shape_short f RowPotentialPart (Numbers (neg_ℤ (pos most_potential)) (pos most_potential)) refl (fit DimensionKey) (fit RowPotentialPart)
+field_short f fit ColumnPotentialPart =
+    shape_short f ColumnPotentialPart (Numbers (neg_ℤ (pos most_potential)) (pos most_potential)) refl (fit DimensionKey) (fit ColumnPotentialPart)
+field_short f fit FixedEdgePotentialPart =
+    shape_short f FixedEdgePotentialPart Triples refl (fit DimensionKey) (fit FixedEdgePotentialPart)
 field_short f fit CombPart = shape_short f CombPart Combs refl (fit DimensionKey) (fit CombPart)
 field_short f fit BranchPart = shape_short f BranchPart Steps refl (fit DimensionKey) (fit BranchPart)
 
@@ -281,10 +310,13 @@ absent_short : {A : Type 0} (text : A → List ℕ) (value : Option A) → value
 absent_short text None none = omega arith
 absent_short {A = A} text (Some _) none = absurd (none-some _ (sym none))
 
-field_short_without_trees : (f : Fields) → ((field : Field) → fits f field ≡ true) → f.combs ≡ None → f.branches ≡ None → (field : Field)
+field_short_without_trees : (f : Fields) → ((field : Field) → fits f field ≡ true) → f.combs ≡ None → f.branches ≡ None
+    → (field : Field)
     → length (text_of_field f field) ≤ most_without_trees field
-field_short_without_trees f fit combs branches CombPart = absent_short (λ combs. section_text CombPart (comb_list combs)) f.combs combs
-field_short_without_trees f fit combs branches BranchPart = absent_short (λ steps. section_text BranchPart (step_lines steps)) f.branches branches
+field_short_without_trees f fit combs branches CombPart =
+    absent_short (λ combs. section_text CombPart (comb_list combs)) f.combs combs
+field_short_without_trees f fit combs branches BranchPart =
+    absent_short (λ steps. section_text BranchPart (step_lines steps)) f.branches branches
 field_short_without_trees f fit combs branches NameKey = field_short f fit NameKey
 field_short_without_trees f fit combs branches TypeKey = field_short f fit TypeKey
 field_short_without_trees f fit combs branches CommentKey = field_short f fit CommentKey
@@ -308,7 +340,8 @@ field_short_without_trees f fit combs branches RowPotentialPart = field_short f 
 field_short_without_trees f fit combs branches ColumnPotentialPart = field_short f fit ColumnPotentialPart
 field_short_without_trees f fit combs branches FixedEdgePotentialPart = field_short f fit FixedEdgePotentialPart
 
-pub text_short_without_trees : (f : Fields) → fault_of f ≡ None → f.combs ≡ None → f.branches ≡ None → length (text_of f) < 500000000
+pub text_short_without_trees : (f : Fields) → fault_of f ≡ None → f.combs ≡ None → f.branches ≡ None
+    → length (text_of f) < 500000000
 text_short_without_trees f none combs branches =
     let fields = sum_by-le-sum_by (λ field. length (text_of_field f field)) most_without_trees fields_in_order
     (field_short_without_trees f (all_fit f none) combs branches) in

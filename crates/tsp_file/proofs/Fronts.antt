@@ -12,13 +12,12 @@ use Rattle.tsp_format.specs.Symmetry.{IsSymmetric}
 use Rattle.tsp_format.proofs.Counts.{line_counted, cells_counted}
 use Rattle.tsp_format.proofs.Places.{placed, line_at}
 use Rattle.tsp_format.specs.Limits.{most_weight}
-use Rattle.tsp_draft.specs.Fields.{Fields}
+use Rattle.tsp_draft.specs.Fields.{Fields, nodes_of}
 use Rattle.tsp_draft.specs.Valid.{IsWithin}
 use Rattle.tsp_draft.specs.Rules.{fault_of}
 use Rattle.tsp_file.specs.Cost.{listed_cost, cost}
-use Rattle.tsp_file.specs.Listed.{ListsWeights}
+use Rattle.tsp_file.specs.ListedWeights.{ListsWeights}
 use Rattle.tsp_file.specs.Relayout.{HoldsPairs, CanGo, with_weights, costs_in}
-use Rattle.tsp_file.specs.Meant.{nodes_of}
 use Rattle.tsp_file.specs.states.Halves.{line_start_of}
 use Rattle.tsp_file.proofs.Listed.{cost_of_cell, turned}
 use Rattle.tsp_file.proofs.Relaid.{line_more, lines_all, cost_within, all_within, of_file}
@@ -79,9 +78,11 @@ pub record HasKept (to : Layout) (n line kept : ℕ) (full items : List ℤ) : T
   pub rest : SameFrom full items kept
 
 -- one line more
-pub line_kept : (to : Layout) (n line kept start end : ℕ) (full items new : List ℤ) → IsNode n line → HoldsPairs to (listed_cost FullMatrix n full) → HasKept to n line kept full items
+pub line_kept : (to : Layout) (n line kept start end : ℕ) (full items new : List ℤ) → IsNode n line
+    → HoldsPairs to (listed_cost FullMatrix n full) → HasKept to n line kept full items
     → start ≡ line_start_of to n line → end ≡ start + line_len_of to n line → end ≤ line * n → line * n ≤ length full
-    → length new ≡ length items → CopiedTo items new start kept (end - start) → SameBelow items new kept → SameFrom items new (kept + (end - start))
+    → length new ≡ length items → CopiedTo items new start kept (end - start) → SameBelow items new kept
+    → SameFrom items new (kept + (end - start))
     → HasKept to n (line + 1) (kept + (end - start)) full new
 line_kept to n line kept start end full items new node holds so_far starts ends within room size moved below behind =
     let f = λ (cell : ℕ × ℕ). listed_cost FullMatrix n full cell.0 cell.1 in
@@ -116,8 +117,10 @@ line_kept to n line kept start end full items new node holds so_far starts ends 
     }
 
 -- all lines are at the front: that is the layout
-pub all_kept : (to : Layout) (n line kept : ℕ) (full items : List ℤ) → n ≤ line - 1 → HasKept to n line kept full items → take kept items ≡ costs_in to n (listed_cost FullMatrix n full)
-all_kept to n line kept full items past so_far = lines_all (λ cell. listed_cost FullMatrix n full cell.0 cell.1) to n line (take kept items) past so_far.front
+pub all_kept : (to : Layout) (n line kept : ℕ) (full items : List ℤ) → n ≤ line - 1 → HasKept to n line kept full items
+    → take kept items ≡ costs_in to n (listed_cost FullMatrix n full)
+all_kept to n line kept full items past so_far =
+    lines_all (λ cell. listed_cost FullMatrix n full cell.0 cell.1) to n line (take kept items) past so_far.front
 
 -- a line of a full matrix is within it
 pub row_within : (n line : ℕ) (full : List ℤ) → line ≤ n → length full ≡ length (cells FullMatrix n) → line * n ≤ length full
@@ -128,7 +131,8 @@ row_within n line full high filled =
 -- ---- the file
 
 -- a file whose weights were put into another layout
-pub laid_of : (f : Fields) (from to : Layout) (n : ℕ) (old new : List ℤ) → fault_of f ≡ None → CanGo f to → ListsWeights f from n old → new ≡ costs_in to n (listed_cost from n old)
+pub laid_of : (f : Fields) (from to : Layout) (n : ℕ) (old new : List ℤ) → fault_of f ≡ None → CanGo f to
+    → ListsWeights f from n old → new ≡ costs_in to n (listed_cost from n old)
     → (fault_of (with_weights f to new) ≡ None) × (new ≡ costs_in to (nodes_of f) (cost f))
 laid_of f from to n old new valid can held value =
     let f_value : new ≡ costs_in to (nodes_of f) (cost f) = of_file (λ k c. new ≡ costs_in to k c) f from n old can.listed.0 held value in

@@ -15,12 +15,13 @@ use Rattle.tsp_format.specs.Bytes.{is_blank}
 use Rattle.tsp_format.specs.Words.{IsFirstWithWord, field_word, kind_word, weight_kind_word, weight_format_word, coord_kind_word, display_kind_word, fields_in_order, kinds, weight_kinds, weight_formats, coord_kinds, display_kinds, field_found, kind_found, weight_kind_found, weight_format_found, coord_kind_found, display_kind_found}
 use Rattle.tsp_draft.specs.Validity.{is_kept, is_unknown_keyword, is_other, fits}
 use Rattle.tsp_file.proofs.AllFit.{found_passes}
-use Rattle.tsp_file.specs.Text.{line_end, blank_before, value_line, keyword_line, other_line}
+use Rattle.tsp_file.specs.CanonicalText.{line_end, blank_before, value_line, keyword_line, other_line}
 
 -- ---- words
 
 -- a word is as short as all of the list are
-word_short : {V : Type 0} (word : V → List ℕ) (most : ℕ) (values : List V) (value : V) → list_all (λ v. nat_le (length (word v)) most) values ≡ true → IsFirstWithWord word values value
+word_short : {V : Type 0} (word : V → List ℕ) (most : ℕ) (values : List V) (value : V)
+    → list_all (λ v. nat_le (length (word v)) most) values ≡ true → IsFirstWithWord word values value
     → length (word value) ≤ most
 word_short word most values value all found =
     leb-true (length (word value)) most (found_passes (λ v. nat_le (length (word v)) most) (λ other. bytes_eq (word value) (word other)) value values all found)

@@ -18,22 +18,26 @@ use Rattle.tsp_draft.specs.Fields.{Fields}
 use Rattle.tsp_draft.specs.Valid.{IsWithin, IsInRange}
 use Rattle.tsp_file.specs.Cost.{weight_at, listed_cost, cost_by, cost, layout_of}
 use Rattle.tsp_format.specs.Symmetry.{IsSymmetric}
-use Rattle.tsp_file.specs.Listed.{ListsWeights, UnlistedHaveNoPlace}
+use Rattle.tsp_file.specs.ListedWeights.{ListsWeights, UnlistedHaveNoPlace}
 
 -- the cost of a cell is the weight at its place
-pub cost_of_cell : (layout : Layout) (n : ℕ) (weights : List ℤ) (i j place : ℕ) → place_of layout n (i, j) ≡ Some place → listed_cost layout n weights i j ≡ slice_index_or weights place (pos 0)
+pub cost_of_cell : (layout : Layout) (n : ℕ) (weights : List ℤ) (i j place : ℕ) → place_of layout n (i, j) ≡ Some place
+    → listed_cost layout n weights i j ≡ slice_index_or weights place (pos 0)
 unfolding listed_cost
-cost_of_cell layout n weights i j place here = ap (λ o. unwrap_or (option_or (option_map (λ at. slice_index_or weights at (pos 0)) o) (weight_at layout n weights (j, i))) (pos 0)) here
+cost_of_cell layout n weights i j place here =
+    ap (λ o. unwrap_or (option_or (option_map (λ at. slice_index_or weights at (pos 0)) o) (weight_at layout n weights (j, i))) (pos 0)) here
 
 -- the cost of another pair is that of the mirrored pair
-pub cost_mirrored : (layout : Layout) (n : ℕ) (weights : List ℤ) (i j place : ℕ) → place_of layout n (i, j) ≡ None → place_of layout n (j, i) ≡ Some place
+pub cost_mirrored : (layout : Layout) (n : ℕ) (weights : List ℤ) (i j place : ℕ) → place_of layout n (i, j) ≡ None
+    → place_of layout n (j, i) ≡ Some place
     → listed_cost layout n weights i j ≡ slice_index_or weights place (pos 0)
 unfolding listed_cost
 cost_mirrored layout n weights i j place out there =
     ap (λ o. unwrap_or (option_or (option_map (λ at. slice_index_or weights at (pos 0)) o) (weight_at layout n weights (j, i))) (pos 0)) out
     ∙ ap (λ o. unwrap_or (option_map (λ at. slice_index_or weights at (pos 0)) o) (pos 0)) there
 
-pub cost_unlisted : (layout : Layout) (n : ℕ) (weights : List ℤ) (i j : ℕ) → place_of layout n (i, j) ≡ None → place_of layout n (j, i) ≡ None → listed_cost layout n weights i j ≡ pos 0
+pub cost_unlisted : (layout : Layout) (n : ℕ) (weights : List ℤ) (i j : ℕ) → place_of layout n (i, j) ≡ None
+    → place_of layout n (j, i) ≡ None → listed_cost layout n weights i j ≡ pos 0
 unfolding listed_cost
 cost_unlisted layout n weights i j out too =
     ap (λ o. unwrap_or (option_or (option_map (λ at. slice_index_or weights at (pos 0)) o) (weight_at layout n weights (j, i))) (pos 0)) out
@@ -53,7 +57,8 @@ not_both i j = ⊎_elim (λ lt. inr (le-ltb j i (omega arith))) (λ le. inl (le-
 not_both_of : (i j : ℕ) → i ≢ j → (nat_le i j ≡ false) ⊎ (nat_le j i ≡ false)
 not_both_of i j other = ⊎_elim (λ lt. inr (lt-leb j i lt)) (λ le. inl (lt-leb i j (omega (arith, other)))) (cases_lt i j)
 
-one_half : (layout : Layout) (i j : ℕ) → layout ≢ FullMatrix → i ≢ j → (is_listed layout (i, j) ≡ false) ⊎ (is_listed layout (j, i) ≡ false)
+one_half : (layout : Layout) (i j : ℕ) → layout ≢ FullMatrix → i ≢ j
+    → (is_listed layout (i, j) ≡ false) ⊎ (is_listed layout (j, i) ≡ false)
 one_half FullMatrix i j half other = absurd (half refl)
 one_half UpperRow i j half other = not_both i j
 one_half LowerRow i j half other = not_both j i
@@ -84,8 +89,10 @@ turned cost even i j = ⊎_elim
     (λ ge. let same : i ≡ j = omega (arith, le, ge) in ap (λ k. cost k i) (sym same) ∙ ap (λ k. cost i k) same) (cases_lt j i))
     (cases_lt i j)
 
-pub either_way : (cost : ℕ → ℕ → ℤ) → IsSymmetric cost → (i j : ℕ) (pair : ℕ × ℕ) → (pair ≡ (i, j)) ⊎ (pair ≡ (j, i)) → cost pair.0 pair.1 ≡ cost i j
-either_way cost even i j pair one = ⊎_elim (λ e. ap (λ p. cost p.0 p.1) e) (λ e. ap (λ p. cost p.0 p.1) e ∙ turned cost even i j) one
+pub either_way : (cost : ℕ → ℕ → ℤ) → IsSymmetric cost → (i j : ℕ) (pair : ℕ × ℕ) → (pair ≡ (i, j)) ⊎ (pair ≡ (j, i))
+    → cost pair.0 pair.1 ≡ cost i j
+either_way cost even i j pair one =
+    ⊎_elim (λ e. ap (λ p. cost p.0 p.1) e) (λ e. ap (λ p. cost p.0 p.1) e ∙ turned cost even i j) one
 
 swapped : (a b : Option ℤ) → (a ≡ None) ⊎ (b ≡ None) → unwrap_or (option_or a b) (pos 0) ≡ unwrap_or (option_or b a) (pos 0)
 swapped None None one = refl
@@ -93,12 +100,15 @@ swapped None (Some b) one = refl
 swapped (Some a) None one = refl
 swapped (Some a) (Some b) one = ⊎_elim (λ e. absurd cc) (λ e. absurd cc) one
 
-no_weight : (layout : Layout) (n : ℕ) (weights : List ℤ) (i j : ℕ) → place_of layout n (i, j) ≡ None → weight_at layout n weights (i, j) ≡ None
+no_weight : (layout : Layout) (n : ℕ) (weights : List ℤ) (i j : ℕ) → place_of layout n (i, j) ≡ None
+    → weight_at layout n weights (i, j) ≡ None
 no_weight layout n weights i j out = ap (option_map (λ at. slice_index_or weights at (pos 0))) out
 
-pub triangle_even : (layout : Layout) (n : ℕ) (weights : List ℤ) → layout ≢ FullMatrix → UnlistedHaveNoPlace layout n → IsSymmetric (listed_cost layout n weights)
+pub triangle_even : (layout : Layout) (n : ℕ) (weights : List ℤ) → layout ≢ FullMatrix → UnlistedHaveNoPlace layout n
+    → IsSymmetric (listed_cost layout n weights)
 unfolding listed_cost
-triangle_even layout n weights half unlisted i j other = swapped (weight_at layout n weights (i, j)) (weight_at layout n weights (j, i))
+triangle_even layout n weights half unlisted i j other =
+    swapped (weight_at layout n weights (i, j)) (weight_at layout n weights (j, i))
     (⊎_elim (λ out. inl (no_weight layout n weights i j (unlisted i j out))) (λ out. inr (no_weight layout n weights j i (unlisted j i out))) (one_half layout i j half other))
 
 -- ---- nodes and others
@@ -114,8 +124,10 @@ nodes_or_not n i j = ⊎_elim (λ out. inl (λ h. out h.0))
     (node_or_not n i)
 
 -- costs are symmetric if those between nodes are
-pub even_between_nodes : (layout : Layout) (n : ℕ) (weights : List ℤ) → ((i j : ℕ) → ¬ (IsNode n i × IsNode n j) → place_of layout n (i, j) ≡ None)
-    → ((i j : ℕ) → IsNode n i → IsNode n j → i < j → listed_cost layout n weights i j ≡ listed_cost layout n weights j i) → IsSymmetric (listed_cost layout n weights)
+pub even_between_nodes : (layout : Layout) (n : ℕ) (weights : List ℤ)
+    → ((i j : ℕ) → ¬ (IsNode n i × IsNode n j) → place_of layout n (i, j) ≡ None)
+    → ((i j : ℕ) → IsNode n i → IsNode n j → i < j → listed_cost layout n weights i j ≡ listed_cost layout n weights j i)
+    → IsSymmetric (listed_cost layout n weights)
 even_between_nodes layout n weights out inside i j other = ⊎_elim
     (λ outside. cost_unlisted layout n weights i j (out i j outside) (out j i (λ nodes. outside (nodes.1, nodes.0)))
     ∙ sym (cost_unlisted layout n weights j i (out j i (λ nodes. outside (nodes.1, nodes.0))) (out i j outside)))
@@ -126,21 +138,25 @@ even_between_nodes layout n weights out inside i j other = ⊎_elim
 
 -- what the layouts' laws say
 abbrev pub CellsAreListed : Type 0
-CellsAreListed = (layout : Layout) (n i j : ℕ) → Contains (cells layout n) (i, j) ↔ (IsNode n i × IsNode n j × IsTrue (is_listed layout (i, j)))
+CellsAreListed =
+    (layout : Layout) (n i j : ℕ) → Contains (cells layout n) (i, j) ↔ (IsNode n i × IsNode n j × IsTrue (is_listed layout (i, j)))
 
 abbrev pub OnlyCellsHavePlaces : Type 0
 OnlyCellsHavePlaces = (layout : Layout) (n : ℕ) (pair : ℕ × ℕ) → ¬ Contains (cells layout n) pair → place_of layout n pair ≡ None
 
 pub unlisted_has_no_place : CellsAreListed → OnlyCellsHavePlaces → (layout : Layout) (n : ℕ) → UnlistedHaveNoPlace layout n
-unlisted_has_no_place listed places layout n i j out = places layout n (i, j) (λ h. false≢true (sym out ∙ ((listed layout n i j).0 h).2))
+unlisted_has_no_place listed places layout n i j out =
+    places layout n (i, j) (λ h. false≢true (sym out ∙ ((listed layout n i j).0 h).2))
 
-pub outside_has_no_place : CellsAreListed → OnlyCellsHavePlaces → (layout : Layout) (n i j : ℕ) → ¬ (IsNode n i × IsNode n j) → place_of layout n (i, j) ≡ None
+pub outside_has_no_place : CellsAreListed → OnlyCellsHavePlaces → (layout : Layout) (n i j : ℕ) → ¬ (IsNode n i × IsNode n j)
+    → place_of layout n (i, j) ≡ None
 outside_has_no_place listed places layout n i j out = places layout n (i, j) (λ h. let cell = (listed layout n i j).0 h in out (cell.0, cell.1))
 
 -- ---- what a file lists
 
 -- what a valid file lists
-pub lists : (f : Fields) (layout : Layout) (n : ℕ) (weights : List ℤ) → IsInRange f → f.weight_format ≡ Some (Listed layout) → f.dimension ≡ Some n
+pub lists : (f : Fields) (layout : Layout) (n : ℕ) (weights : List ℤ) → IsInRange f → f.weight_format ≡ Some (Listed layout)
+    → f.dimension ≡ Some n
     → f.weights ≡ Some weights → ListsWeights f layout n weights
 lists f layout n weights range format dimension stand =
     let held = range.weights weights stand in
@@ -157,7 +173,8 @@ lists f layout n weights range format dimension stand =
     }
 
 -- the cost from the weights
-pub cost_of_listed : (f : Fields) (layout : Layout) (n : ℕ) (weights : List ℤ) → f.weight_kind ≡ Some Explicit → ListsWeights f layout n weights → (i j : ℕ) → listed_cost layout n weights i j ≡ cost f i j
+pub cost_of_listed : (f : Fields) (layout : Layout) (n : ℕ) (weights : List ℤ) → f.weight_kind ≡ Some Explicit
+    → ListsWeights f layout n weights → (i j : ℕ) → listed_cost layout n weights i j ≡ cost f i j
 unfolding cost
 cost_of_listed f layout n weights kind held i j = sym (
     ap (λ k. cost_by k f i j) kind

@@ -7,8 +7,8 @@ use Rattle.std.proofs.lemmas.Bool.Decides.{nat_tests}
 use Rattle.std.proofs.lemmas.List.{take_min, drop_min, take-append-drop}
 use Rattle.std.proofs.lemmas.Grind.{flat_map-append}
 use Rattle.tsp_format.specs.Cells.{nodes_to}
-use Rattle.tsp_file.specs.Text.{weight_line, matrix_lines}
-use Rattle.tsp_stream.specs.states.Way.{Way, Carried}
+use Rattle.tsp_file.specs.CanonicalText.{weight_line, matrix_lines}
+use Rattle.tsp_stream.specs.states.WriteProgress.{Way, Carried}
 use Rattle.tsp_stream.proofs.Carrying.{carried_then, carried_none, carried_failed}
 
 -- a prefix of the whole was carried, and this rest is still to come
@@ -17,7 +17,8 @@ pub record Comes (a b : Way) (rest whole : List ℕ) : Type 0 where
   pub carried : Carried a b done
   pub parts : done ++ rest ≡ whole
 
-comes_more : (a b c : Way) (rest whole x later : List ℕ) → Comes a b rest whole → Carried b c x → rest ≡ x ++ later → Comes a c later whole
+comes_more : (a b c : Way) (rest whole x later : List ℕ) → Comes a b rest whole → Carried b c x → rest ≡ x ++ later
+    → Comes a c later whole
 comes_more a b c rest whole x later h k e = record {
   done = h.done ++ x;
   carried = carried_then a b c h.done x h.carried k;
@@ -36,17 +37,20 @@ comes_failed a b rest whole h failed = comes_all a b b rest whole h (carried_fai
 abbrev pub lines_from : (ℕ → ℕ) → ℕ → ℕ → List ℤ → List ℕ
 lines_from f line count weights = matrix_lines (map f (range_with_len line count)) weights
 
-pub comes_begins : (f : ℕ → ℕ) (n : ℕ) (weights : List ℤ) (a : Way) → Comes a a (lines_from f 1 (n - 0) weights) (matrix_lines (map f (nodes_to n)) weights)
+pub comes_begins : (f : ℕ → ℕ) (n : ℕ) (weights : List ℤ) (a : Way)
+    → Comes a a (lines_from f 1 (n - 0) weights) (matrix_lines (map f (nodes_to n)) weights)
 unfolding nodes_to
 comes_begins f n weights a =
     let all : n - 0 ≡ n = omega arith in
     record { done = []; carried = carried_none a; parts = ap (λ m. lines_from f 1 m weights) all }
 
 -- the first of the lines, and the others
-lines_first : (f : ℕ → ℕ) (line count : ℕ) (rest : List ℤ) → lines_from f line (suc count) rest ≡ weight_line (take (f line) rest) ++ lines_from f (line + 1) count (drop (f line) rest)
+lines_first : (f : ℕ → ℕ) (line count : ℕ) (rest : List ℤ)
+    → lines_from f line (suc count) rest ≡ weight_line (take (f line) rest) ++ lines_from f (line + 1) count (drop (f line) rest)
 lines_first f line count rest = refl
 
-pub comes_next : (f : ℕ → ℕ) (n index len count : ℕ) (rest now later : List ℤ) (whole : List ℕ) (a b c : Way) → index < n → len ≡ f (index + 1) → count ≡ min len (length rest)
+pub comes_next : (f : ℕ → ℕ) (n index len count : ℕ) (rest now later : List ℤ) (whole : List ℕ) (a b c : Way) → index < n
+    → len ≡ f (index + 1) → count ≡ min len (length rest)
     → now ≡ take count rest → later ≡ drop count rest
     → Comes a b (lines_from f (index + 1) (n - index) rest) whole → Carried b c (weight_line now)
     → Comes a c (lines_from f (index + 1 + 1) (n - (index + 1)) later) whole
@@ -74,7 +78,8 @@ abbrev pub after_blanks : List ℤ → List ℕ
 after_blanks weights = flat_map (λ weight. 32 ∷ signed_decimal weight) weights
 
 -- some of the weights, and the others
-pub comes_block : (count : ℕ) (rest now later : List ℤ) (whole : List ℕ) (a b c : Way) → now ≡ take count rest → later ≡ drop count rest
+pub comes_block : (count : ℕ) (rest now later : List ℤ) (whole : List ℕ) (a b c : Way) → now ≡ take count rest
+    → later ≡ drop count rest
     → Comes a b (after_blanks rest) whole → Carried b c (after_blanks now) → Comes a c (after_blanks later) whole
 comes_block count rest now later whole a b c front back h k =
     let parts : after_blanks rest ≡ after_blanks now ++ after_blanks later =
@@ -83,7 +88,8 @@ comes_block count rest now later whole a b c front back h k =
     comes_more a b c (after_blanks rest) whole (after_blanks now) (after_blanks later) h k parts
 
 -- none of the weights is left
-pub comes_blocks : (weights rest : List ℤ) (a b : Way) → (length rest == 0) ≡ true → Comes a b (after_blanks rest) (after_blanks weights)
+pub comes_blocks : (weights rest : List ℤ) (a b : Way) → (length rest == 0) ≡ true
+    → Comes a b (after_blanks rest) (after_blanks weights)
     → Carried a b (flat_map (λ word. 32 ∷ word) (map signed_decimal weights))
 comes_blocks weights [] a b empty h =
     subst (λ t. Carried a b t) (sym (words weights)) (comes_all a b b [] (after_blanks weights) h (carried_none b))

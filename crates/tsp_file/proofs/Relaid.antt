@@ -21,18 +21,18 @@ use Rattle.tsp_format.proofs.Places.{placed, place_within, place_from, stands_at
 use Rattle.tsp_format.specs.declared.kinds.WeightKind.TheVariants.{Explicit}
 use Rattle.tsp_format.specs.declared.kinds.WeightFormat.{WeightFormat}
 use Rattle.tsp_format.specs.declared.kinds.WeightFormat.TheVariants.{Listed}
-use Rattle.tsp_draft.specs.Fields.{Fields}
+use Rattle.tsp_draft.specs.Fields.{Fields, nodes_of}
 use Rattle.tsp_draft.specs.Valid.{IsWithin}
 use Rattle.tsp_file.specs.Cost.{listed_cost, cost_by, cost, layout_of}
-use Rattle.tsp_file.specs.Meant.{nodes_of}
-use Rattle.tsp_file.specs.Listed.{ListsWeights}
+use Rattle.tsp_file.specs.ListedWeights.{ListsWeights}
 use Rattle.tsp_file.specs.Relayout.{HoldsPairs, HoldsDiagonal, lists_diagonal, HasListedWeights, with_weights, costs_in, CanGo, IsRelaid}
 use Rattle.tsp_file.proofs.Listed.{cost_of_listed, cost_of_cell, cost_mirrored, cost_unlisted, unlisted_has_no_place, outside_has_no_place, nodes_or_not, diagonal_unlisted, triangle_even, turned}
 
 -- ---- loops over cells and lines
 
 -- one cell more
-pub cell_more : {X Y : Type 0} (f : X → Y) (xs : List X) (before items : List Y) (k : ℕ) (x : X) (y : Y) → k < length xs → get_or xs k x ≡ x → y ≡ f x
+pub cell_more : {X Y : Type 0} (f : X → Y) (xs : List X) (before items : List Y) (k : ℕ) (x : X) (y : Y) → k < length xs
+    → get_or xs k x ≡ x → y ≡ f x
     → items ≡ before ++ map f (take k xs) → items ++ y ∷ [] ≡ before ++ map f (take (k + 1) xs)
 cell_more f xs before items k x y lt here value so_far =
     let step : map f (take (k + 1) xs) ≡ map f (take k xs) ++ y ∷ [] =
@@ -40,7 +40,8 @@ cell_more f xs before items k x y lt here value so_far =
     ap (λ ys. ys ++ y ∷ []) so_far ∙ append_assoc before (map f (take k xs)) (y ∷ []) ∙ ap (λ ys. before ++ ys) (sym step)
 
 -- one line more
-pub line_more : {X Y : Type 0} (f : X → Y) (line_of : ℕ → List X) (n line : ℕ) (items laid : List Y) → 1 ≤ line → line ≤ n → items ≡ map f (flat_map line_of (take (line - 1) (nodes_to n)))
+pub line_more : {X Y : Type 0} (f : X → Y) (line_of : ℕ → List X) (n line : ℕ) (items laid : List Y) → 1 ≤ line → line ≤ n
+    → items ≡ map f (flat_map line_of (take (line - 1) (nodes_to n)))
     → laid ≡ items ++ map f (line_of line) → laid ≡ map f (flat_map line_of (take (line + 1 - 1) (nodes_to n)))
 unfolding nodes_to
 line_more f line_of n line items laid low high so_far value =
@@ -53,7 +54,8 @@ line_more f line_of n line items laid low high so_far value =
     ∙ ap (map f) (flat_map_more line_of [] before line ∙ ap (flat_map line_of) (sym more))
 
 -- all lines are all cells
-pub lines_all : {Y : Type 0} (f : ℕ × ℕ → Y) (layout : Layout) (n line : ℕ) (items : List Y) → n ≤ line - 1 → items ≡ map f (flat_map (cells_of_line layout n) (take (line - 1) (nodes_to n)))
+pub lines_all : {Y : Type 0} (f : ℕ × ℕ → Y) (layout : Layout) (n line : ℕ) (items : List Y) → n ≤ line - 1
+    → items ≡ map f (flat_map (cells_of_line layout n) (take (line - 1) (nodes_to n)))
     → items ≡ map f (cells layout n)
 unfolding nodes_to
 lines_all f layout n line items past so_far =
@@ -74,12 +76,15 @@ one_within weights None (Some k) sizes = read_within weights k sizes
 one_within weights None None sizes = (grind (arith, ints), grind (arith, ints))
 
 -- a cost is of the size of a weight
-pub cost_within : (layout : Layout) (n : ℕ) (weights : List ℤ) → All (IsWithin most_weight) weights → (i j : ℕ) → IsWithin most_weight (listed_cost layout n weights i j)
+pub cost_within : (layout : Layout) (n : ℕ) (weights : List ℤ) → All (IsWithin most_weight) weights → (i j : ℕ)
+    → IsWithin most_weight (listed_cost layout n weights i j)
 unfolding listed_cost
 cost_within layout n weights sizes i j = one_within weights (place_of layout n (i, j)) (place_of layout n (j, i)) sizes
 
-pub all_within : (layout : Layout) (n : ℕ) (cost : ℕ → ℕ → ℤ) → ((i j : ℕ) → IsWithin most_weight (cost i j)) → All (IsWithin most_weight) (costs_in layout n cost)
-all_within layout n cost sizes = All-map (IsWithin most_weight) (λ cell. cost cell.0 cell.1) (cells layout n) (λ k d lt. sizes (get_or (cells layout n) k d).0 (get_or (cells layout n) k d).1)
+pub all_within : (layout : Layout) (n : ℕ) (cost : ℕ → ℕ → ℤ) → ((i j : ℕ) → IsWithin most_weight (cost i j))
+    → All (IsWithin most_weight) (costs_in layout n cost)
+all_within layout n cost sizes =
+    All-map (IsWithin most_weight) (λ cell. cost cell.0 cell.1) (cells layout n) (λ k d lt. sizes (get_or (cells layout n) k d).0 (get_or (cells layout n) k d).1)
 
 -- ---- pairs that a layout doesn't list
 
@@ -89,8 +94,10 @@ no_cell layout n = unlisted_has_no_place cell_is no_place layout n
 pub outside : (layout : Layout) (n i j : ℕ) → ¬ (IsNode n i × IsNode n j) → place_of layout n (i, j) ≡ None
 outside layout n = outside_has_no_place cell_is no_place layout n
 
-pub cost_outside : (layout : Layout) (n : ℕ) (weights : List ℤ) (i j : ℕ) → ¬ (IsNode n i × IsNode n j) → listed_cost layout n weights i j ≡ pos 0
-cost_outside layout n weights i j out = cost_unlisted layout n weights i j (outside layout n i j out) (outside layout n j i (λ nodes. out (nodes.1, nodes.0)))
+pub cost_outside : (layout : Layout) (n : ℕ) (weights : List ℤ) (i j : ℕ) → ¬ (IsNode n i × IsNode n j)
+    → listed_cost layout n weights i j ≡ pos 0
+cost_outside layout n weights i j out =
+    cost_unlisted layout n weights i j (outside layout n i j out) (outside layout n j i (λ nodes. out (nodes.1, nodes.0)))
 
 -- of two different nodes a layout lists the one pair or the other
 one_listed : (layout : Layout) (i j : ℕ) → is_listed layout (i, j) ≡ false → is_listed layout (j, i) ≡ false → i ≡ j
@@ -119,12 +126,14 @@ diagonal_listed LowerDiagCol i e = le-leb i i (omega arith)
 -- ---- costs that the layout holds
 
 -- the weight at the place of a cell
-laid_at : (to : Layout) (n : ℕ) (cost : ℕ → ℕ → ℤ) (i j place : ℕ) → place_of to n (i, j) ≡ Some place → place < length (cells to n) → get_or (costs_in to n cost) place (pos 0) ≡ cost i j
+laid_at : (to : Layout) (n : ℕ) (cost : ℕ → ℕ → ℤ) (i j place : ℕ) → place_of to n (i, j) ≡ Some place
+    → place < length (cells to n) → get_or (costs_in to n cost) place (pos 0) ≡ cost i j
 laid_at to n cost i j place here inside =
     get_or-map (λ cell. cost cell.0 cell.1) (cells to n) place (i, j) (pos 0) inside ∙ ap (λ cell. cost cell.0 cell.1) (stands_at to n place (i, j) here (i, j))
 
 diagonal_zero : (to : Layout) (cost : ℕ → ℕ → ℤ) (i : ℕ) → HoldsDiagonal to cost → is_listed to (i, i) ≡ false → cost i i ≡ pos 0
-diagonal_zero to cost i holds unlisted = ⊎_elim (λ listed. absurd (false≢true (sym unlisted ∙ diagonal_listed to i listed))) (λ zero. zero i) holds
+diagonal_zero to cost i holds unlisted =
+    ⊎_elim (λ listed. absurd (false≢true (sym unlisted ∙ diagonal_listed to i listed))) (λ zero. zero i) holds
 
 mirrored : (to : Layout) (cost : ℕ → ℕ → ℤ) (i j : ℕ) → HoldsPairs to cost → is_listed to (i, j) ≡ false → cost j i ≡ cost i j
 mirrored to cost i j holds unlisted = ⊎_elim
@@ -133,7 +142,8 @@ mirrored to cost i j holds unlisted = ⊎_elim
     holds
 
 -- every cost is as before
-pub costs_kept : (to : Layout) (n : ℕ) (cost : ℕ → ℕ → ℤ) → ((i j : ℕ) → ¬ (IsNode n i × IsNode n j) → cost i j ≡ pos 0) → HoldsPairs to cost → HoldsDiagonal to cost
+pub costs_kept : (to : Layout) (n : ℕ) (cost : ℕ → ℕ → ℤ) → ((i j : ℕ) → ¬ (IsNode n i × IsNode n j) → cost i j ≡ pos 0)
+    → HoldsPairs to cost → HoldsDiagonal to cost
     → (i j : ℕ) → listed_cost to n (costs_in to n cost) i j ≡ cost i j
 costs_kept to n cost none pairs diagonal i j = ⊎_elim
     (λ out. cost_outside to n (costs_in to n cost) i j out ∙ sym (none i j out))
@@ -166,7 +176,8 @@ costs_kept to n cost none pairs diagonal i j = ⊎_elim
 -- ---- a layout and itself
 
 -- the weights are the costs of the cells
-pub own_costs : (layout : Layout) (n : ℕ) (weights : List ℤ) → length weights ≡ length (cells layout n) → costs_in layout n (listed_cost layout n weights) ≡ weights
+pub own_costs : (layout : Layout) (n : ℕ) (weights : List ℤ) → length weights ≡ length (cells layout n)
+    → costs_in layout n (listed_cost layout n weights) ≡ weights
 own_costs layout n weights filled = ext_get_or (pos 0) (costs_in layout n (listed_cost layout n weights)) weights
     (length-map (cells layout n) (λ cell. listed_cost layout n weights cell.0 cell.1) ∙ sym filled)
     (λ k lt.
@@ -187,7 +198,12 @@ full_or_not UpperDiagCol = inr (λ e. absurd cc)
 full_or_not LowerDiagCol = inr (λ e. absurd cc)
 
 -- the costs of a triangle are symmetric, and its own layout holds the costs of any weights
+<<<<<<< HEAD
 pub triangle_holds : (layout : Layout) (n : ℕ) (weights : List ℤ) → layout ≢ FullMatrix → IsSymmetric (listed_cost layout n weights)
+=======
+pub triangle_holds : (layout : Layout) (n : ℕ) (weights : List ℤ) → layout ≢ FullMatrix
+    → IsSymmetric (listed_cost layout n weights)
+>>>>>>> origin/structure
 triangle_holds layout n weights half = triangle_even layout n weights half (no_cell layout n)
 
 pub own_pairs : (layout : Layout) (n : ℕ) (weights : List ℤ) → HoldsPairs layout (listed_cost layout n weights)
@@ -205,7 +221,8 @@ own_diagonal layout n weights = by_diagonal (lists_diagonal layout) refl
 -- ---- the file
 
 -- what holds of the weights of a file holds of its nodes and costs
-pub of_file : (P : ℕ → (ℕ → ℕ → ℤ) → Type 0) (f : Fields) (layout : Layout) (n : ℕ) (weights : List ℤ) → f.weight_kind ≡ Some Explicit
+pub of_file : (P : ℕ → (ℕ → ℕ → ℤ) → Type 0) (f : Fields) (layout : Layout) (n : ℕ) (weights : List ℤ)
+    → f.weight_kind ≡ Some Explicit
     → ListsWeights f layout n weights → P n (listed_cost layout n weights) → P (nodes_of f) (cost f)
 of_file P f layout n weights explicit held holds =
     let nodes : n ≡ nodes_of f = sym (ap (λ o. unwrap_or o 0) held.dimension) in
@@ -213,21 +230,25 @@ of_file P f layout n weights explicit held holds =
     subst (λ k. P k (cost f)) nodes (subst (λ c. P n c) costs holds)
 
 -- and the other way round
-pub of_weights : (P : ℕ → (ℕ → ℕ → ℤ) → Type 0) (f : Fields) (layout : Layout) (n : ℕ) (weights : List ℤ) → f.weight_kind ≡ Some Explicit
+pub of_weights : (P : ℕ → (ℕ → ℕ → ℤ) → Type 0) (f : Fields) (layout : Layout) (n : ℕ) (weights : List ℤ)
+    → f.weight_kind ≡ Some Explicit
     → ListsWeights f layout n weights → P (nodes_of f) (cost f) → P n (listed_cost layout n weights)
 of_weights P f layout n weights explicit held holds =
     let nodes : nodes_of f ≡ n = ap (λ o. unwrap_or o 0) held.dimension in
     let costs : cost f ≡ listed_cost layout n weights = λ t i j. sym (cost_of_listed f layout n weights explicit held i j) t in
     subst (λ k. P k (listed_cost layout n weights)) nodes (subst (λ c. P (nodes_of f) c) costs holds)
 
-pub has_weights : (f : Fields) (layout : Layout) (n : ℕ) (weights : List ℤ) → f.weight_kind ≡ Some Explicit → ListsWeights f layout n weights → HasListedWeights f
+pub has_weights : (f : Fields) (layout : Layout) (n : ℕ) (weights : List ℤ) → f.weight_kind ≡ Some Explicit
+    → ListsWeights f layout n weights → HasListedWeights f
 has_weights f layout n weights explicit held = (explicit, ap is_some held.weights_are)
 
-pub pairs_held : (f : Fields) (layout : Layout) (n : ℕ) (weights : List ℤ) (to : Layout) → f.weight_kind ≡ Some Explicit → ListsWeights f layout n weights
+pub pairs_held : (f : Fields) (layout : Layout) (n : ℕ) (weights : List ℤ) (to : Layout) → f.weight_kind ≡ Some Explicit
+    → ListsWeights f layout n weights
     → HoldsPairs to (listed_cost layout n weights) → HoldsPairs to (cost f)
 pairs_held f layout n weights to explicit held = of_file (λ k c. HoldsPairs to c) f layout n weights explicit held
 
-pub can_go : (f : Fields) (layout : Layout) (n : ℕ) (weights : List ℤ) (to : Layout) → f.weight_kind ≡ Some Explicit → ListsWeights f layout n weights
+pub can_go : (f : Fields) (layout : Layout) (n : ℕ) (weights : List ℤ) (to : Layout) → f.weight_kind ≡ Some Explicit
+    → ListsWeights f layout n weights
     → HoldsPairs to (listed_cost layout n weights) → HoldsDiagonal to (listed_cost layout n weights) → CanGo f to
 can_go f layout n weights to explicit held pairs diagonal = record {
   listed = has_weights f layout n weights explicit held;
@@ -236,7 +257,8 @@ can_go f layout n weights to explicit held pairs diagonal = record {
 }
 
 -- a file's own layout
-pub own_layout : (f : Fields) (layout : Layout) (n : ℕ) (weights : List ℤ) (to : Layout) → f.weight_kind ≡ Some Explicit → ListsWeights f layout n weights → layout ≡ to
+pub own_layout : (f : Fields) (layout : Layout) (n : ℕ) (weights : List ℤ) (to : Layout) → f.weight_kind ≡ Some Explicit
+    → ListsWeights f layout n weights → layout ≡ to
     → CanGo f to × ((f.weight_format ≡ Some (Listed to)) × (f.weights ≡ Some (costs_in to (nodes_of f) (cost f))))
 own_layout f layout n weights to explicit held same =
     let stand : f.weights ≡ Some (costs_in layout n (listed_cost layout n weights)) = held.weights_are ∙ ap Some (sym (own_costs layout n weights held.filled)) in
@@ -247,11 +269,13 @@ own_layout f layout n weights to explicit held same =
 
 -- ---- the file with the new weights
 
-explicit_cost : (f : Fields) (i j : ℕ) → f.weight_kind ≡ Some Explicit → cost f i j ≡ listed_cost (layout_of f.weight_format) (nodes_of f) (unwrap_or f.weights []) i j
+explicit_cost : (f : Fields) (i j : ℕ) → f.weight_kind ≡ Some Explicit
+    → cost f i j ≡ listed_cost (layout_of f.weight_format) (nodes_of f) (unwrap_or f.weights []) i j
 unfolding cost
 explicit_cost f i j explicit = ap (λ k. cost_by k f i j) explicit
 
-pub relaid : (f : Fields) (to : Layout) (new : Fields) → CanGo f to → new ≡ with_weights f to (costs_in to (nodes_of f) (cost f)) → IsRelaid f to new
+pub relaid : (f : Fields) (to : Layout) (new : Fields) → CanGo f to → new ≡ with_weights f to (costs_in to (nodes_of f) (cost f))
+    → IsRelaid f to new
 relaid f to new can fields = record {
   can_go = can;
   fields = fields;
@@ -261,7 +285,8 @@ relaid f to new can fields = record {
       ∙ cost_outside (layout_of f.weight_format) (nodes_of f) (unwrap_or f.weights []) a b out) can.pairs can.diagonal i j;
 }
 
-pub already : (f : Fields) (to : Layout) → CanGo f to → f.weight_format ≡ Some (Listed to) → f.weights ≡ Some (costs_in to (nodes_of f) (cost f)) → IsRelaid f to f
+pub already : (f : Fields) (to : Layout) → CanGo f to → f.weight_format ≡ Some (Listed to)
+    → f.weights ≡ Some (costs_in to (nodes_of f) (cost f)) → IsRelaid f to f
 already f to can format stand = relaid f to f can
     (ap (λ (o : Option WeightFormat). record f { weight_format = o }) format
     ∙ ap (λ (o : Option (List ℤ)). record f { weight_format = Some (Listed to); weights = o }) stand)

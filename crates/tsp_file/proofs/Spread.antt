@@ -38,7 +38,8 @@ abbrev pub before : Layout → ℕ → ℕ → List (ℕ × ℕ)
 before from n line = flat_map (cells_of_line from n) (take line (nodes_to n))
 
 -- with one line more
-before_more : {Y : Type 0} (f : ℕ × ℕ → Y) (from : Layout) (n line : ℕ) → IsNode n line → map f (before from n line) ≡ map f (before from n (line - 1)) ++ map f (cells_of_line from n line)
+before_more : {Y : Type 0} (f : ℕ × ℕ → Y) (from : Layout) (n line : ℕ) → IsNode n line
+    → map f (before from n line) ≡ map f (before from n (line - 1)) ++ map f (cells_of_line from n line)
 before_more f from n line node =
     let items = map f (before from n (line - 1)) in
     let same : line + 1 - 1 ≡ line = omega arith in
@@ -69,7 +70,8 @@ pub record SpreadTo (from : Layout) (n line kept : ℕ) (half items : List ℤ) 
   pub lines : HasLines from n line half items
 
 -- how many are left at the front
-pub kept_less : (from : Layout) (n line kept len : ℕ) → IsNode n line → kept ≡ length (before from n line) → len ≡ line_len_of from n line
+pub kept_less : (from : Layout) (n line kept len : ℕ) → IsNode n line → kept ≡ length (before from n line)
+    → len ≡ line_len_of from n line
     → (kept ≡ length (before from n (line - 1)) + len) × (kept ≤ line * n) × (length (before from n (line - 1)) ≤ (line - 1) * n)
 kept_less from n line kept len node is_kept is_len =
     let f = λ (cell : ℕ × ℕ). cell in
@@ -84,9 +86,12 @@ kept_less from n line kept len node is_kept is_len =
       few_before from n (line - 1) (omega (arith, node.1)),
     )
 
-pub spread_more : (from : Layout) (n line kept len start : ℕ) (half items new : List ℤ) → IsNode n line → length items ≡ n * n → kept ≡ length (before from n line)
-    → len ≡ line_len_of from n line → start ≡ line_start_of from n line → start + len ≤ line * n → SpreadTo from n line kept half items
-    → CopiedTo items new (kept - len) start len → SameBelow items new start → SameFrom items new (start + len) → length new ≡ length items
+pub spread_more : (from : Layout) (n line kept len start : ℕ) (half items new : List ℤ) → IsNode n line → length items ≡ n * n
+    → kept ≡ length (before from n line)
+    → len ≡ line_len_of from n line → start ≡ line_start_of from n line → start + len ≤ line * n
+    → SpreadTo from n line kept half items
+    → CopiedTo items new (kept - len) start len → SameBelow items new start → SameFrom items new (start + len)
+    → length new ≡ length items
     → SpreadTo from n (line - 1) (kept - len) half new
 spread_more from n line kept len start half items new node size is_kept is_len starts within so_far moved below behind same =
     let f = λ (cell : ℕ × ℕ). listed_cost from n half cell.0 cell.1 in
@@ -154,17 +159,27 @@ count_is LowerDiagCol n i node = omega (arith, node.1)
 -- a cell of a line has the cost of its row and column
 cell_cost : (cost : ℕ → ℕ → ℤ) (layout : Layout) (n i k : ℕ) → IsSymmetric cost → IsNode n i → k < line_len_of layout n i
     → cost (get_or (cells_of_line layout n i) k (0, 0)).0 (get_or (cells_of_line layout n i) k (0, 0)).1 ≡ cost i (first_own layout i + k)
-cell_cost cost FullMatrix n i k even node lt = ap (λ (cell : ℕ × ℕ). cost cell.0 cell.1) (line_at FullMatrix n i k (0, 0) node.0 node.1 lt)
-cell_cost cost UpperRow n i k even node lt = ap (λ (cell : ℕ × ℕ). cost cell.0 cell.1) (line_at UpperRow n i k (0, 0) node.0 node.1 lt)
-cell_cost cost LowerRow n i k even node lt = ap (λ (cell : ℕ × ℕ). cost cell.0 cell.1) (line_at LowerRow n i k (0, 0) node.0 node.1 lt)
-cell_cost cost UpperDiagRow n i k even node lt = ap (λ (cell : ℕ × ℕ). cost cell.0 cell.1) (line_at UpperDiagRow n i k (0, 0) node.0 node.1 lt)
-cell_cost cost LowerDiagRow n i k even node lt = ap (λ (cell : ℕ × ℕ). cost cell.0 cell.1) (line_at LowerDiagRow n i k (0, 0) node.0 node.1 lt)
-cell_cost cost UpperCol n i k even node lt = ap (λ (cell : ℕ × ℕ). cost cell.0 cell.1) (line_at UpperCol n i k (0, 0) node.0 node.1 lt) ∙ turned cost even i (1 + k)
-cell_cost cost LowerCol n i k even node lt = ap (λ (cell : ℕ × ℕ). cost cell.0 cell.1) (line_at LowerCol n i k (0, 0) node.0 node.1 lt) ∙ turned cost even i (i + 1 + k)
-cell_cost cost UpperDiagCol n i k even node lt = ap (λ (cell : ℕ × ℕ). cost cell.0 cell.1) (line_at UpperDiagCol n i k (0, 0) node.0 node.1 lt) ∙ turned cost even i (1 + k)
-cell_cost cost LowerDiagCol n i k even node lt = ap (λ (cell : ℕ × ℕ). cost cell.0 cell.1) (line_at LowerDiagCol n i k (0, 0) node.0 node.1 lt) ∙ turned cost even i (i + k)
+cell_cost cost FullMatrix n i k even node lt =
+    ap (λ (cell : ℕ × ℕ). cost cell.0 cell.1) (line_at FullMatrix n i k (0, 0) node.0 node.1 lt)
+cell_cost cost UpperRow n i k even node lt =
+    ap (λ (cell : ℕ × ℕ). cost cell.0 cell.1) (line_at UpperRow n i k (0, 0) node.0 node.1 lt)
+cell_cost cost LowerRow n i k even node lt =
+    ap (λ (cell : ℕ × ℕ). cost cell.0 cell.1) (line_at LowerRow n i k (0, 0) node.0 node.1 lt)
+cell_cost cost UpperDiagRow n i k even node lt =
+    ap (λ (cell : ℕ × ℕ). cost cell.0 cell.1) (line_at UpperDiagRow n i k (0, 0) node.0 node.1 lt)
+cell_cost cost LowerDiagRow n i k even node lt =
+    ap (λ (cell : ℕ × ℕ). cost cell.0 cell.1) (line_at LowerDiagRow n i k (0, 0) node.0 node.1 lt)
+cell_cost cost UpperCol n i k even node lt =
+    ap (λ (cell : ℕ × ℕ). cost cell.0 cell.1) (line_at UpperCol n i k (0, 0) node.0 node.1 lt) ∙ turned cost even i (1 + k)
+cell_cost cost LowerCol n i k even node lt =
+    ap (λ (cell : ℕ × ℕ). cost cell.0 cell.1) (line_at LowerCol n i k (0, 0) node.0 node.1 lt) ∙ turned cost even i (i + 1 + k)
+cell_cost cost UpperDiagCol n i k even node lt =
+    ap (λ (cell : ℕ × ℕ). cost cell.0 cell.1) (line_at UpperDiagCol n i k (0, 0) node.0 node.1 lt) ∙ turned cost even i (1 + k)
+cell_cost cost LowerDiagCol n i k even node lt =
+    ap (λ (cell : ℕ × ℕ). cost cell.0 cell.1) (line_at LowerDiagCol n i k (0, 0) node.0 node.1 lt) ∙ turned cost even i (i + k)
 
-own_cost : (from : Layout) (n : ℕ) (half full : List ℤ) → IsSymmetric (listed_cost from n half) → HasLines from n 0 half full → (i j : ℕ) → IsNode n i → first_own from i ≤ j → j < past_own from n i
+own_cost : (from : Layout) (n : ℕ) (half full : List ℤ) → IsSymmetric (listed_cost from n half) → HasLines from n 0 half full
+    → (i j : ℕ) → IsNode n i → first_own from i ≤ j → j < past_own from n i
     → HasCost (listed_cost from n half) n full i j
 own_cost from n half full even lines i j node low high =
     let first = first_is from n i node in
@@ -183,20 +198,27 @@ OwnOrDiagonal from n i j = ((first_own from i ≤ j) × (j < past_own from n i))
 strictly : (a b : ℕ) → nat_le a b ≡ true → (a < b) ⊎ (a ≡ b)
 strictly a b le = let low = leb-true a b le in ⊎_elim (λ lt. inl lt) (λ ge. inr (omega (arith, low, ge))) (cases_lt a b)
 
-on_side : (from : Layout) (n i j : ℕ) → from ≢ FullMatrix → IsNode n i → IsNode n j → is_on_side (goes_above from) i j ≡ true → OwnOrDiagonal from n i j
+on_side : (from : Layout) (n i j : ℕ) → from ≢ FullMatrix → IsNode n i → IsNode n j → is_on_side (goes_above from) i j ≡ true
+    → OwnOrDiagonal from n i j
 on_side FullMatrix n i j half row column side = absurd (half refl)
-on_side UpperRow n i j half row column side = ⊎_elim (λ lt. inl (omega (arith, lt), omega (arith, column.1))) (λ same. inr (same, refl)) (strictly i j side)
-on_side LowerRow n i j half row column side = ⊎_elim (λ lt. inl (omega (arith, column.0), omega (arith, lt))) (λ same. inr (sym same, refl)) (strictly j i side)
+on_side UpperRow n i j half row column side =
+    ⊎_elim (λ lt. inl (omega (arith, lt), omega (arith, column.1))) (λ same. inr (same, refl)) (strictly i j side)
+on_side LowerRow n i j half row column side =
+    ⊎_elim (λ lt. inl (omega (arith, column.0), omega (arith, lt))) (λ same. inr (sym same, refl)) (strictly j i side)
 on_side UpperDiagRow n i j half row column side = let low = leb-true i j side in inl (omega (arith, low), omega (arith, column.1))
 on_side LowerDiagRow n i j half row column side = let low = leb-true j i side in inl (omega (arith, column.0), omega (arith, low))
-on_side UpperCol n i j half row column side = ⊎_elim (λ lt. inl (omega (arith, column.0), omega (arith, lt))) (λ same. inr (sym same, refl)) (strictly j i side)
-on_side LowerCol n i j half row column side = ⊎_elim (λ lt. inl (omega (arith, lt), omega (arith, column.1))) (λ same. inr (same, refl)) (strictly i j side)
+on_side UpperCol n i j half row column side =
+    ⊎_elim (λ lt. inl (omega (arith, column.0), omega (arith, lt))) (λ same. inr (sym same, refl)) (strictly j i side)
+on_side LowerCol n i j half row column side =
+    ⊎_elim (λ lt. inl (omega (arith, lt), omega (arith, column.1))) (λ same. inr (same, refl)) (strictly i j side)
 on_side UpperDiagCol n i j half row column side = let low = leb-true j i side in inl (omega (arith, column.0), omega (arith, low))
 on_side LowerDiagCol n i j half row column side = let low = leb-true i j side in inl (omega (arith, low), omega (arith, column.1))
 
 -- all cells on the side, once the diagonal is cleared
-pub side_filled : (from : Layout) (n : ℕ) (half full : List ℤ) → from ≢ FullMatrix → IsSymmetric (listed_cost from n half) → HasLines from n 0 half full
-    → (new : List ℤ) → KeepsCosts (listed_cost from n half) n full new → (is_listed from (1, 1) ≡ false → (i : ℕ) → IsNode n i → HasCost (listed_cost from n half) n new i i)
+pub side_filled : (from : Layout) (n : ℕ) (half full : List ℤ) → from ≢ FullMatrix → IsSymmetric (listed_cost from n half)
+    → HasLines from n 0 half full
+    → (new : List ℤ) → KeepsCosts (listed_cost from n half) n full new
+    → (is_listed from (1, 1) ≡ false → (i : ℕ) → IsNode n i → HasCost (listed_cost from n half) n new i i)
     → HasSide (goes_above from) (listed_cost from n half) n new
 side_filled from n half full partly even lines new keeps diagonal i j row column side =
     ⊎_elim
@@ -205,7 +227,8 @@ side_filled from n half full partly even lines new keeps diagonal i j row column
     (on_side from n i j partly row column side)
 
 -- the costs of a diagonal that isn't listed
-pub zero_diagonal : (from : Layout) (n : ℕ) (half : List ℤ) (i : ℕ) → is_listed from (1, 1) ≡ false → listed_cost from n half i i ≡ pos 0
+pub zero_diagonal : (from : Layout) (n : ℕ) (half : List ℤ) (i : ℕ) → is_listed from (1, 1) ≡ false
+    → listed_cost from n half i i ≡ pos 0
 zero_diagonal from n half i out =
     let none = no_cell from n i i (diagonal_unlisted from i out) in
     cost_unlisted from n half i i none none
@@ -218,7 +241,8 @@ one_place n a b i j la lb li lj same =
     sym (stands_at FullMatrix n ((a - 1) * n + (b - 1)) (a, b) (placed FullMatrix n a b la lb refl) (0, 0))
     ∙ stands_at FullMatrix n ((a - 1) * n + (b - 1)) (i, j) (placed FullMatrix n i j li lj refl ∙ ap (λ p. Some p) (sym same)) (0, 0)
 
-pub cell_written : (cost : ℕ → ℕ → ℤ) (n : ℕ) (items : List ℤ) (i j place : ℕ) (value : ℤ) → IsNode n i → IsNode n j → place ≡ (i - 1) * n + (j - 1) → place < length items → cost i j ≡ value
+pub cell_written : (cost : ℕ → ℕ → ℤ) (n : ℕ) (items : List ℤ) (i j place : ℕ) (value : ℤ) → IsNode n i → IsNode n j
+    → place ≡ (i - 1) * n + (j - 1) → place < length items → cost i j ≡ value
     → KeepsCosts cost n items (slice_set items place value) × HasCost cost n (slice_set items place value) i j
 cell_written cost n items i j place value row column is inside same =
     let new = slice_set items place value in
@@ -232,7 +256,8 @@ cell_written cost n items i j place value row column is inside same =
 
 -- ---- the whole matrix
 
-pub whole_is : (cost : ℕ → ℕ → ℤ) (n : ℕ) (full : List ℤ) → length full ≡ n * n → ((i j : ℕ) → IsNode n i → IsNode n j → HasCost cost n full i j) → full ≡ costs_in FullMatrix n cost
+pub whole_is : (cost : ℕ → ℕ → ℤ) (n : ℕ) (full : List ℤ) → length full ≡ n * n
+    → ((i j : ℕ) → IsNode n i → IsNode n j → HasCost cost n full i j) → full ≡ costs_in FullMatrix n cost
 whole_is cost n full size has =
     let f = λ (cell : ℕ × ℕ). cost cell.0 cell.1 in
     let all : List (ℕ × ℕ) = cells FullMatrix n in
@@ -260,7 +285,8 @@ all_before from n =
     let f = λ (cell : ℕ × ℕ). cell in
     omega (arith, ap length (cells_before f from n), length-map (before from n n) f, length-map (cells from n) f)
 
-pub spread_begins : (from : Layout) (n count : ℕ) (half items : List ℤ) → length half ≡ length (cells from n) → take count items ≡ half → SpreadTo from n n count half items
+pub spread_begins : (from : Layout) (n count : ℕ) (half items : List ℤ) → length half ≡ length (cells from n)
+    → take count items ≡ half → SpreadTo from n n count half items
 spread_begins from n count half items filled front = record {
   front = front ∙ sym (own_costs from n half filled) ∙ sym (cells_before (λ cell. listed_cost from n half cell.0 cell.1) from n);
   lines = λ l k past high lt. absurd (omega (arith, past, high));
@@ -272,8 +298,10 @@ pair_path : (a b i j : ℕ) → a ≡ i → b ≡ j → ◌≡◌ {A = ℕ × �
 pair_path a b i j row column = ap (λ (k : ℕ). let cell : ℕ × ℕ = (k, b) in cell) row ∙ ap (λ (k : ℕ). let cell : ℕ × ℕ = (i, k) in cell) column
 
 -- one cell of the diagonal more
-pub diagonal_more : (cost : ℕ → ℕ → ℤ) (n node place : ℕ) (old items : List ℤ) → ((i : ℕ) → cost i i ≡ pos 0) → IsNode n node → place ≡ (node - 1) * n + (node - 1) → place < length items
-    → Fills cost n old items (λ i j. (i ≡ j) × (i < node)) → Fills cost n old (slice_set items place (pos 0)) (λ i j. (i ≡ j) × (i < node + 1))
+pub diagonal_more : (cost : ℕ → ℕ → ℤ) (n node place : ℕ) (old items : List ℤ) → ((i : ℕ) → cost i i ≡ pos 0) → IsNode n node
+    → place ≡ (node - 1) * n + (node - 1) → place < length items
+    → Fills cost n old items (λ i j. (i ≡ j) × (i < node))
+    → Fills cost n old (slice_set items place (pos 0)) (λ i j. (i ≡ j) × (i < node + 1))
 diagonal_more cost n node place old items nothing here is inside so_far =
     let written = cell_written cost n items node node place (pos 0) here here is inside (nothing node) in (
       λ a b la lb had. written.0 a b la lb (so_far.0 a b la lb had),
@@ -286,8 +314,10 @@ diagonal_more cost n node place old items nothing here is inside so_far =
     )
 
 -- one cell of a row more
-pub column_more : (above : Bool) (cost : ℕ → ℕ → ℤ) (n row first j place : ℕ) (value : ℤ) (old items : List ℤ) → IsSymmetric cost → HasSide above cost n old → IsNode n row → IsNode n j
-    → is_on_side above j row ≡ true → value ≡ get_or items ((j - 1) * n + (row - 1)) (pos 0) → place ≡ (row - 1) * n + (j - 1) → place < length items
+pub column_more : (above : Bool) (cost : ℕ → ℕ → ℤ) (n row first j place : ℕ) (value : ℤ) (old items : List ℤ) → IsSymmetric cost
+    → HasSide above cost n old → IsNode n row → IsNode n j
+    → is_on_side above j row ≡ true → value ≡ get_or items ((j - 1) * n + (row - 1)) (pos 0) → place ≡ (row - 1) * n + (j - 1)
+    → place < length items
     → Fills cost n old items (λ i k. (i ≡ row) × (first ≤ k) × (k < j))
     → Fills cost n old (slice_set items place value) (λ i k. (i ≡ row) × (first ≤ k) × (k < j + 1))
 column_more above cost n row first j place value old items even side here there on read is inside so_far =

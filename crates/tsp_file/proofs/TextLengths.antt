@@ -12,7 +12,7 @@ use Rattle.std.proofs.lemmas.List.Folds.{list_all-append, flat_map-map}
 use Rattle.std.proofs.lemmas.List.Sums.{sum_by-cons}
 use Rattle.tsp_format.specs.Limits.{most_nodes, most_weight}
 use Rattle.tsp_draft.specs.Validity.{is_from_to, is_within, is_node, is_tour}
-use Rattle.tsp_file.specs.Text.{line_end, number_line, lines_by_node, ended_by_mark, node_list, pair_list, triple_list, weight_line, matrix_lines}
+use Rattle.tsp_file.specs.CanonicalText.{line_end, number_line, lines_by_node, ended_by_mark, node_list, pair_list, triple_list, weight_line, matrix_lines}
 
 -- what three tests that pass together say
 pub three_parts : (a b c : Bool) → (a && b && c) ≡ true → (a ≡ true) × (b ≡ true) × (c ≡ true)
@@ -26,7 +26,8 @@ three_parts false b c e = absurd (false≢true e)
 from_to_size : (low most : ℕ) (z : ℤ) → is_from_to (pos low) (pos most) z ≡ true → mag z ≤ most
 from_to_size low most z fits = grind (arith, ints)
 
-between_size : (low high : ℤ) (most : ℕ) (z : ℤ) → unsigned_abs low ≤ most → unsigned_abs high ≤ most → is_from_to low high z ≡ true → mag z ≤ most
+between_size : (low high : ℤ) (most : ℕ) (z : ℤ) → unsigned_abs low ≤ most → unsigned_abs high ≤ most
+    → is_from_to low high z ≡ true → mag z ≤ most
 between_size low high most z lower upper fits = grind (arith, ints)
 
 within_size : (most : ℕ) (z : ℤ) → is_within most z ≡ true → mag z ≤ most
@@ -36,18 +37,23 @@ pub within_abs : (most : ℕ) (z : ℤ) → is_within most z ≡ true → unsign
 within_abs most z fits = grind (arith, ints)
 
 -- a size below 10^digits has this many digits, and maybe a sign
-signed_short : (digits most : ℕ) (z : ℤ) → most + 1 < 10 ^ digits → most < 2 ^ 63 → mag z ≤ most → length (signed_decimal z) ≤ digits + 1
+signed_short : (digits most : ℕ) (z : ℤ) → most + 1 < 10 ^ digits → most < 2 ^ 63 → mag z ≤ most
+    → length (signed_decimal z) ≤ digits + 1
 signed_short digits most z few small size = length_signed_le digits z (omega (arith, few, size)) (omega (arith, small, size))
 
-pub positive_short : (digits low most : ℕ) (z : ℤ) → most + 1 < 10 ^ digits → most < 2 ^ 63 → is_from_to (pos low) (pos most) z ≡ true → length (signed_decimal z) ≤ digits + 1
+pub positive_short : (digits low most : ℕ) (z : ℤ) → most + 1 < 10 ^ digits → most < 2 ^ 63
+    → is_from_to (pos low) (pos most) z ≡ true → length (signed_decimal z) ≤ digits + 1
 positive_short digits low most z few small fits = signed_short digits most z few small (from_to_size low most z fits)
 
 -- a number between two of at most this size
-pub between_short : (digits : ℕ) (low high : ℤ) (most : ℕ) (z : ℤ) → unsigned_abs low ≤ most → unsigned_abs high ≤ most → most + 1 < 10 ^ digits → most < 2 ^ 63 → is_from_to low high z ≡ true
+pub between_short : (digits : ℕ) (low high : ℤ) (most : ℕ) (z : ℤ) → unsigned_abs low ≤ most → unsigned_abs high ≤ most
+    → most + 1 < 10 ^ digits → most < 2 ^ 63 → is_from_to low high z ≡ true
     → length (signed_decimal z) ≤ digits + 1
-between_short digits low high most z lower upper few small fits = signed_short digits most z few small (between_size low high most z lower upper fits)
+between_short digits low high most z lower upper few small fits =
+    signed_short digits most z few small (between_size low high most z lower upper fits)
 
-pub within_short : (digits most : ℕ) (z : ℤ) → most + 1 < 10 ^ digits → most < 2 ^ 63 → is_within most z ≡ true → length (signed_decimal z) ≤ digits + 1
+pub within_short : (digits most : ℕ) (z : ℤ) → most + 1 < 10 ^ digits → most < 2 ^ 63 → is_within most z ≡ true
+    → length (signed_decimal z) ≤ digits + 1
 within_short digits most z few small fits = signed_short digits most z few small (within_size most z fits)
 
 -- a number of at most 100,000
@@ -62,7 +68,8 @@ node_short n node most fits =
 -- ---- lists of texts
 
 -- this many texts, each of at most k bytes
-pub flat_short : {A : Type 0} (fits : A → Bool) (text : A → List ℕ) (k : ℕ) → ((x : A) → fits x ≡ true → length (text x) ≤ k) → (xs : List A) → list_all fits xs ≡ true
+pub flat_short : {A : Type 0} (fits : A → Bool) (text : A → List ℕ) (k : ℕ) → ((x : A) → fits x ≡ true → length (text x) ≤ k)
+    → (xs : List A) → list_all fits xs ≡ true
     → length (flat_map text xs) ≤ k * length xs
 flat_short fits text k each [] all = omega arith
 flat_short fits text k each (x ∷ xs) all =
@@ -70,12 +77,14 @@ flat_short fits text k each (x ∷ xs) all =
     omega (arith, length-append (text x) (flat_map text xs), each x parts.0, flat_short fits text k each xs parts.1)
 
 -- the same, if at most `most` of them are present
-pub flat_short_of : {A : Type 0} (fits : A → Bool) (text : A → List ℕ) (k most : ℕ) → ((x : A) → fits x ≡ true → length (text x) ≤ k) → (xs : List A) → list_all fits xs ≡ true
+pub flat_short_of : {A : Type 0} (fits : A → Bool) (text : A → List ℕ) (k most : ℕ)
+    → ((x : A) → fits x ≡ true → length (text x) ≤ k) → (xs : List A) → list_all fits xs ≡ true
     → length xs ≤ most → length (flat_map text xs) ≤ k * most
 flat_short_of fits text k most each xs all few = grind (arith, flat_short fits text k each xs all)
 
 -- one line for each node, with at most k bytes after the node
-numbered_short : {A : Type 0} (fits : A → Bool) (numbers : A → List (List ℕ)) (k : ℕ) → ((x : A) → fits x ≡ true → length (number_line [] (numbers x)) ≤ k) → (start : ℕ) (xs : List A)
+numbered_short : {A : Type 0} (fits : A → Bool) (numbers : A → List (List ℕ)) (k : ℕ)
+    → ((x : A) → fits x ≡ true → length (number_line [] (numbers x)) ≤ k) → (start : ℕ) (xs : List A)
     → start + length xs ≤ most_nodes + 1 → list_all fits xs ≡ true
     → length (flat_map (λ (entry : ℕ × A). number_line (decimal entry.0) (numbers entry.1)) (enumerate_from start xs)) ≤ (6 + k) * length xs
 numbered_short fits numbers k each start [] few all = omega arith
@@ -88,7 +97,8 @@ numbered_short {A} fits numbers k each start (x ∷ xs) few all =
     let others = numbered_short fits numbers k each (start + 1) xs (omega arith) parts.1 in
     omega (arith, first, node, each x parts.0, both, others)
 
-pub by_node_short : {A : Type 0} (fits : A → Bool) (numbers : A → List (List ℕ)) (k : ℕ) → ((x : A) → fits x ≡ true → length (number_line [] (numbers x)) ≤ k) → (xs : List A)
+pub by_node_short : {A : Type 0} (fits : A → Bool) (numbers : A → List (List ℕ)) (k : ℕ)
+    → ((x : A) → fits x ≡ true → length (number_line [] (numbers x)) ≤ k) → (xs : List A)
     → length xs ≤ most_nodes → list_all fits xs ≡ true → length (lines_by_node numbers xs) ≤ (6 + k) * most_nodes
 by_node_short fits numbers k each xs few all =
     let all_lines = numbered_short fits numbers k each 1 xs (omega arith) all in
@@ -97,11 +107,14 @@ by_node_short fits numbers k each xs few all =
 -- ---- lists of numbers
 
 -- lines of at most k bytes, and the line of the -1
-ended_short : {A : Type 0} (fits : A → Bool) (line : A → List ℕ) (k : ℕ) → ((x : A) → fits x ≡ true → length (line x) ≤ k) → (xs : List A) → list_all fits xs ≡ true
+ended_short : {A : Type 0} (fits : A → Bool) (line : A → List ℕ) (k : ℕ) → ((x : A) → fits x ≡ true → length (line x) ≤ k)
+    → (xs : List A) → list_all fits xs ≡ true
     → length (ended_by_mark (flat_map line xs)) ≤ k * length xs + 3
-ended_short fits line k each xs all = grind (arith, length-append (flat_map line xs) (codes "-1" ++ line_end), flat_short fits line k each xs all)
+ended_short fits line k each xs all =
+    grind (arith, length-append (flat_map line xs) (codes "-1" ++ line_end), flat_short fits line k each xs all)
 
-pub node_list_short : (fits : ℕ → Bool) → ((node : ℕ) → fits node ≡ true → length (decimal node) ≤ 6) → (nodes : List ℕ) → list_all fits nodes ≡ true
+pub node_list_short : (fits : ℕ → Bool) → ((node : ℕ) → fits node ≡ true → length (decimal node) ≤ 6) → (nodes : List ℕ)
+    → list_all fits nodes ≡ true
     → length (node_list nodes) ≤ 7 * length nodes + 3
 node_list_short fits short nodes all =
     let line : ℕ → List ℕ = λ node. number_line (decimal node) [] in
@@ -111,13 +124,16 @@ pub line_of_two_short : (a b : List ℕ) → (length a ≤ 6) × (length b ≤ 6
 line_of_two_short a b short =
     omega (arith, length-append a (flat_map (λ (text : List ℕ). 32 ∷ text) (b ∷ []) ++ line_end), length-append (32 ∷ b) [], length-append ((32 ∷ b) ++ []) line_end, short.0, short.1)
 
-pub pair_list_short : (fits : ℕ × ℕ → Bool) → ((pair : ℕ × ℕ) → fits pair ≡ true → (length (decimal pair.0) ≤ 6) × (length (decimal pair.1) ≤ 6)) → (pairs : List (ℕ × ℕ)) → list_all fits pairs ≡ true
+pub pair_list_short : (fits : ℕ × ℕ → Bool)
+    → ((pair : ℕ × ℕ) → fits pair ≡ true → (length (decimal pair.0) ≤ 6) × (length (decimal pair.1) ≤ 6)) → (pairs : List (ℕ × ℕ))
+    → list_all fits pairs ≡ true
     → length (pair_list pairs) ≤ 14 * length pairs + 3
 pair_list_short fits short pairs all =
     let line : ℕ × ℕ → List ℕ = λ pair. number_line (decimal pair.0) (decimal pair.1 ∷ []) in
     ended_short fits line 14 (λ pair fit. line_of_two_short (decimal pair.0) (decimal pair.1) (short pair fit)) pairs all
 
-line_of_three_short : (a b c : List ℕ) → (length a ≤ 6) × (length b ≤ 6) × (length c ≤ 17) → length (number_line a (b ∷ c ∷ [])) ≤ 32
+line_of_three_short : (a b c : List ℕ) → (length a ≤ 6) × (length b ≤ 6) × (length c ≤ 17)
+    → length (number_line a (b ∷ c ∷ [])) ≤ 32
 line_of_three_short a b c short =
     let more : List ℕ = (32 ∷ c) ++ [] in
     omega (arith, length-append a (((32 ∷ b) ++ more) ++ line_end), length-append ((32 ∷ b) ++ more) line_end, length-append (32 ∷ b) more, length-append (32 ∷ c) [], short.0, short.1, short.2)
@@ -136,7 +152,8 @@ tour_short tour fits =
     let some = leb-true 1 (length tour) parts.0 in
     omega (arith, some, node_list_short (is_node most_nodes) (λ node fit. node_short most_nodes node (omega arith) fit) tour parts.1)
 
-pub tours_short : (tours : List (List ℕ)) → list_all is_tour tours ≡ true → length (flat_map node_list tours) ≤ 10 * sum_by length tours
+pub tours_short : (tours : List (List ℕ)) → list_all is_tour tours ≡ true
+    → length (flat_map node_list tours) ≤ 10 * sum_by length tours
 tours_short [] all = omega arith
 tours_short (tour ∷ tours) all =
     let parts = and_parts (is_tour tour) (list_all is_tour tours) all in
@@ -149,7 +166,8 @@ tours_short (tour ∷ tours) all =
 weight_short : (weight : ℤ) → is_within most_weight weight ≡ true → length (signed_decimal weight) ≤ 14
 weight_short weight fits = within_short 13 most_weight weight (omega arith) (omega arith) fits
 
-weight_line_short : (weights : List ℤ) → list_all (is_within most_weight) weights ≡ true → length (weight_line weights) ≤ 15 * length weights
+weight_line_short : (weights : List ℤ) → list_all (is_within most_weight) weights ≡ true
+    → length (weight_line weights) ≤ 15 * length weights
 weight_line_short [] all = omega arith
 weight_line_short (first ∷ rest) all =
     let word : ℤ → List ℕ = λ weight. 32 ∷ signed_decimal weight in
@@ -160,7 +178,8 @@ weight_line_short (first ∷ rest) all =
     let more = length-append (flat_map (λ (text : List ℕ). 32 ∷ text) (map signed_decimal rest)) line_end in
     omega (arith, length-append (signed_decimal first) (flat_map (λ (text : List ℕ). 32 ∷ text) (map signed_decimal rest) ++ line_end), more, ap length words, others, weight_short first parts.0)
 
-pub matrix_lines_short : (lens : List ℕ) (weights : List ℤ) → list_all (is_within most_weight) weights ≡ true → length (matrix_lines lens weights) ≤ 15 * length weights
+pub matrix_lines_short : (lens : List ℕ) (weights : List ℤ) → list_all (is_within most_weight) weights ≡ true
+    → length (matrix_lines lens weights) ≤ 15 * length weights
 matrix_lines_short [] weights all = weight_line_short weights all
 matrix_lines_short (len ∷ lens) weights all =
     let halves : list_all (is_within most_weight) (take len weights ++ drop len weights) ≡ true = subst (λ ws. list_all (is_within most_weight) ws ≡ true) (sym (take-append-drop len weights)) all in

@@ -13,7 +13,8 @@ use Rattle.tsp_draft.specs.Validity.{first_failing, bad_field}
 use Rattle.tsp_draft.specs.Rules.{standing_of, is_there, asked_in_order, format_or_count, end_fault, fault_of}
 
 -- a rule that fails is a fault, whatever the fields are on their own
-a_fault : (field : Option Field) (rule : Option EndFault) → option_or (option_map (λ f. BadField f) field) (option_map (λ r. Rule r) rule) ≡ None → rule ≡ None
+a_fault : (field : Option Field) (rule : Option EndFault)
+    → option_or (option_map (λ f. BadField f) field) (option_map (λ r. Rule r) rule) ≡ None → rule ≡ None
 a_fault None None e = refl
 a_fault None (Some r) e = absurd cc
 a_fault (Some field) rule e = absurd cc
@@ -22,7 +23,8 @@ pub sound_at_end : (f : Fields) → fault_of f ≡ None → end_fault (standing_
 sound_at_end f sound = a_fault (bad_field f) (end_fault (standing_of f) None) sound
 
 -- TYPE is the first field that is asked for, of every file
-kind_first : (kind : Option Kind) (rest : Option Field) → kind ≡ None → cond (not (is_some kind)) (Some TypeKey) rest ≡ Some TypeKey
+kind_first : (kind : Option Kind) (rest : Option Field) → kind ≡ None
+    → cond (not (is_some kind)) (Some TypeKey) rest ≡ Some TypeKey
 kind_first None rest e = refl
 kind_first (Some kind) rest e = absurd cc
 

@@ -19,11 +19,10 @@ use Rattle.tsp_format.proofs.Counts.{cells_counted}
 use Rattle.tsp_draft.specs.declared.fault.EndFault.{EndFault}
 use Rattle.tsp_draft.specs.declared.fault.EndFault.TheVariants.{Missing, WrongFormat, WrongCount}
 use Rattle.tsp_draft.specs.declared.fault.DraftFault.TheVariants.{BadField, Rule}
-use Rattle.tsp_draft.specs.Fields.{Fields, spatial}
+use Rattle.tsp_draft.specs.Fields.{Fields, spatial, nodes_of}
 use Rattle.tsp_draft.specs.Validity.{is_within, with_dimension, are_weights, fits, first_failing, bad_field}
 use Rattle.tsp_draft.specs.Rules.{standing_of, is_there, asked_in_order, is_count, has_wrong_format, has_wrong_count, end_fault, format_or_count, fault_of}
 use Rattle.tsp_draft.specs.Valid.{IsWithin, AreWeights}
-use Rattle.tsp_file.specs.Meant.{nodes_of}
 use Rattle.tsp_file.specs.Relayout.{with_weights}
 use Rattle.tsp_draft.proofs.ValidFields.{in_range, each_fits, nodes_fit, no_field_missing, format_and_count, and_true}
 
@@ -53,27 +52,34 @@ few_cells LowerDiagCol n = half_square n
 -- ---- weights that fit
 
 is_small : (z : ℤ) → IsWithin most_weight z → is_within most_weight z ≡ true
-is_small z within = and_true (int_le (neg_ℤ (pos most_weight)) z) (int_le z (pos most_weight)) (grind (arith, ints, within.0)) (grind (arith, ints, within.1))
+is_small z within =
+    and_true (int_le (neg_ℤ (pos most_weight)) z) (int_le z (pos most_weight)) (grind (arith, ints, within.0)) (grind (arith, ints, within.1))
 
-weights_fit : (layout : Layout) (n : ℕ) (weights : List ℤ) → n ≤ most_matrix_nodes → length weights ≡ length (cells layout n) → All (IsWithin most_weight) weights → are_weights n weights ≡ true
-weights_fit layout n weights few filled sizes = and_true (nat_le n most_matrix_nodes && nat_le (length weights) (n * n)) (list_all (is_within most_weight) weights)
+weights_fit : (layout : Layout) (n : ℕ) (weights : List ℤ) → n ≤ most_matrix_nodes → length weights ≡ length (cells layout n)
+    → All (IsWithin most_weight) weights → are_weights n weights ≡ true
+weights_fit layout n weights few filled sizes =
+    and_true (nat_le n most_matrix_nodes && nat_le (length weights) (n * n)) (list_all (is_within most_weight) weights)
     (and_true (nat_le n most_matrix_nodes) (nat_le (length weights) (n * n)) (le-leb n most_matrix_nodes few)
     (le-leb (length weights) (n * n) (omega (arith, filled, cells_counted layout n, few_cells layout n))))
     (list_all-from_AllPass (is_within most_weight) weights (λ k d lt. is_small _ (sizes k d lt)))
 
 -- ---- no fault
 
-none_fails : (test : Field → Bool) (fields : List Field) → ((field : Field) → test field ≡ true) → first_failing test fields ≡ None
+none_fails : (test : Field → Bool) (fields : List Field) → ((field : Field) → test field ≡ true)
+    → first_failing test fields ≡ None
 none_fails test [] all = refl
-none_fails test (field ∷ fields) all = ap (λ b. cond (not b) (Some field) (first_failing test fields)) (all field) ∙ none_fails test fields all
+none_fails test (field ∷ fields) all =
+    ap (λ b. cond (not b) (Some field) (first_failing test fields)) (all field) ∙ none_fails test fields all
 
 -- what holds of a file's fields holds of them as they are given by its format and its weights
-as_given : (P : Fields → Type 0) (f : Fields) (layout : Layout) (weights : List ℤ) → f.weight_format ≡ Some (Listed layout) → f.weights ≡ Some weights → P f → P (with_weights f layout weights)
+as_given : (P : Fields → Type 0) (f : Fields) (layout : Layout) (weights : List ℤ) → f.weight_format ≡ Some (Listed layout)
+    → f.weights ≡ Some weights → P f → P (with_weights f layout weights)
 as_given P f layout weights format stand holds =
     subst (λ (o : Option (List ℤ)). P (record f { weight_format = Some (Listed layout); weights = o })) stand
     (subst (λ (o : Option WeightFormat). P (record f { weight_format = o })) format holds)
 
-each_fits_with : (f : Fields) (to : Layout) (weights : List ℤ) → fault_of f ≡ None → with_dimension are_weights f.dimension weights ≡ true → (field : Field)
+each_fits_with : (f : Fields) (to : Layout) (weights : List ℤ) → fault_of f ≡ None
+    → with_dimension are_weights f.dimension weights ≡ true → (field : Field)
     → fits (with_weights f to weights) field ≡ true
 each_fits_with f to weights valid fit NameKey = each_fits f valid NameKey
 each_fits_with f to weights valid fit TypeKey = each_fits f valid TypeKey
@@ -101,12 +107,14 @@ each_fits_with f to weights valid fit FixedEdgePotentialPart = each_fits f valid
 each_fits_with f to weights valid fit CombPart = each_fits f valid CombPart
 each_fits_with f to weights valid fit BranchPart = each_fits f valid BranchPart
 
-count_right : (dimension : Option ℕ) (n : ℕ) (layout : Layout) (count : ℕ) → dimension ≡ Some n → count ≡ length (cells layout n) → not (is_count dimension (Some (Listed layout)) count) ≡ false
+count_right : (dimension : Option ℕ) (n : ℕ) (layout : Layout) (count : ℕ) → dimension ≡ Some n → count ≡ length (cells layout n)
+    → not (is_count dimension (Some (Listed layout)) count) ≡ false
 count_right dimension n layout count is_n filled =
     ap (λ o. not (is_count o (Some (Listed layout)) count)) is_n ∙ ap not (eq-eqb count (length (cells layout n)) filled)
 
 -- the file with other weights in a layout, as many as its cells
-still_valid : (f : Fields) (to : Layout) (old weights : List ℤ) → fault_of f ≡ None → f.weights ≡ Some old → (held : AreWeights f old)
+still_valid : (f : Fields) (to : Layout) (old weights : List ℤ) → fault_of f ≡ None → f.weights ≡ Some old
+    → (held : AreWeights f old)
     → length weights ≡ length (cells to held.n) → All (IsWithin most_weight) weights
     → fault_of (with_weights f to weights) ≡ None
 still_valid f to old weights valid stand held filled sizes =
@@ -128,7 +136,8 @@ pub some_is : {A : Type 0} (o : Option A) → IsSome o → (x : A) × (o ≡ Som
 some_is None there = absurd (false≢true there)
 some_is (Some x) there = (x, refl)
 
-pub stays_valid : (f : Fields) (to : Layout) (weights : List ℤ) → fault_of f ≡ None → IsSome f.weights → length weights ≡ length (cells to (nodes_of f)) → All (IsWithin most_weight) weights
+pub stays_valid : (f : Fields) (to : Layout) (weights : List ℤ) → fault_of f ≡ None → IsSome f.weights
+    → length weights ≡ length (cells to (nodes_of f)) → All (IsWithin most_weight) weights
     → fault_of (with_weights f to weights) ≡ None
 stays_valid f to weights valid there filled sizes =
     let old = some_is f.weights there in

@@ -2,10 +2,10 @@ pub mod states
 pub mod Meant
 pub mod Cost
 pub mod ByInequalities
-pub mod FaultText
-pub mod Listed
+pub mod RelayoutFaultText
+pub mod ListedWeights
 pub mod Relayout
 pub mod Typed
 pub mod Examples
-pub mod Text
+pub mod CanonicalText
 pub mod TextExamples

@@ -20,7 +20,3 @@ multipliers_in f = unwrap_or f.fixed_potentials []
 -- the families of a tree of cases, each as its sets, the handle first; none without their section
 abbrev pub combs_in : Fields → List (List (List ℕ))
 combs_in f = unwrap_or f.combs []
-
--- The number of nodes. Only a file of TYPE TOUR may lack it, and then no reason and no bound is about its number.
-abbrev pub nodes_of : Fields → ℕ
-nodes_of f = unwrap_or f.dimension 0

@@ -9,8 +9,7 @@ use Rattle.tsp_format.specs.Cells.{IsNode, is_listed, cells}
 use Rattle.tsp_format.specs.Symmetry.{IsSymmetric, IsFirstAsymmetric}
 use Rattle.tsp_file.specs.declared.fault.RelayoutFault.{RelayoutFault}
 use Rattle.tsp_file.specs.declared.fault.RelayoutFault.TheVariants.{NotExplicit, NotSymmetric, DiagonalLost, OutOfMemory}
-use Rattle.tsp_draft.specs.Fields.{Fields}
-use Rattle.tsp_file.specs.Meant.{nodes_of}
+use Rattle.tsp_draft.specs.Fields.{Fields, nodes_of}
 use Rattle.tsp_file.specs.Cost.{cost}
 
 -- ---- which costs a layout can hold

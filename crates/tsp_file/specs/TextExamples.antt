@@ -10,7 +10,7 @@ use Rattle.tsp_format.specs.declared.field.Field.{Field}
 use Rattle.tsp_format.specs.Steps.{Branch, Leaf}
 use Rattle.tsp_distance.specs.Distances.{on_plane}
 use Rattle.tsp_draft.specs.Fields.{Fields, blank_fields}
-use Rattle.tsp_file.specs.Text.{text_of_field}
+use Rattle.tsp_file.specs.CanonicalText.{text_of_field}
 
 abbrev pub small : Fields
 small = record blank_fields {

@@ -4,10 +4,10 @@ use Rattle.std.specs.List.{All, sum_by}
 use Rattle.tsp_format.specs.declared.kinds.Kind.TheVariants as kinds
 use Rattle.tsp_format.specs.Limits.{most_capacity, most_scale, most_potential, most_multipliers, most_combs, most_comb_nodes}
 use Rattle.tsp_format.specs.Steps.{Step}
-use Rattle.tsp_draft.specs.Fields.{Fields}
+use Rattle.tsp_draft.specs.Fields.{Fields, nodes_of}
 use Rattle.tsp_draft.specs.Rules.{is_instance}
 use Rattle.tsp_draft.specs.Valid.{IsInRange, HasInstance, HasRouting, HasPotentials, HasBranches, IsFromTo, IsWithin, IsByNode, IsDemand, IsTripleOf, AreDepots, AreSets, AreTreeSteps}
-use Rattle.tsp_file.specs.Meant.{scale_in, multipliers_in, combs_in, nodes_of}
+use Rattle.tsp_file.specs.Meant.{scale_in, multipliers_in, combs_in}
 
 -- what every valid file holds: the fields that its TYPE asks for, and each in its range
 pub record HoldsItsType (f : Fields) : Type 0 where

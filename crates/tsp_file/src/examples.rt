@@ -31,11 +31,16 @@ pub fn examples_of_costs()
 /// The weights in another layout.
 #[tactic(auto, unfolding(crate::specs::Cost::listed_cost, tsp_format::specs::Place::place_of, tsp_format::specs::Cells::cells, tsp_format::specs::Cells::nodes_to))]
 pub fn examples_of_relayouts()
-    ensures the_same { LaysOutAs layouts.UpperDiagRow layouts.UpperDiagRow (six (pos 1) (pos 2) (pos 3) (pos 4) (pos 5) (pos 6)) }
-    ensures diagonal { LaysOutAs layouts.UpperDiagRow layouts.LowerDiagRow (six (pos 1) (pos 2) (pos 4) (pos 3) (pos 5) (pos 6)) }
-    ensures by_columns { LaysOutAs layouts.UpperDiagRow layouts.UpperDiagCol (six (pos 1) (pos 2) (pos 4) (pos 3) (pos 5) (pos 6)) }
-    ensures without_diagonal { LaysOutAs layouts.UpperDiagRow layouts.LowerCol (pos 2 ∷ pos 3 ∷ pos 5 ∷ []) }
-    ensures zeros { LaysOutAs layouts.UpperRow layouts.LowerDiagRow (six (pos 0) (pos 1) (pos 0) (pos 2) (pos 3) (pos 0)) }
+    ensures the_same { LaysOutAs layouts.UpperDiagRow layouts.UpperDiagRow
+        (six (pos 1) (pos 2) (pos 3) (pos 4) (pos 5) (pos 6)) }
+    ensures diagonal { LaysOutAs layouts.UpperDiagRow layouts.LowerDiagRow
+        (six (pos 1) (pos 2) (pos 4) (pos 3) (pos 5) (pos 6)) }
+    ensures by_columns { LaysOutAs layouts.UpperDiagRow layouts.UpperDiagCol
+        (six (pos 1) (pos 2) (pos 4) (pos 3) (pos 5) (pos 6)) }
+    ensures without_diagonal { LaysOutAs layouts.UpperDiagRow layouts.LowerCol
+        (pos 2 ∷ pos 3 ∷ pos 5 ∷ []) }
+    ensures zeros { LaysOutAs layouts.UpperRow layouts.LowerDiagRow
+        (six (pos 0) (pos 1) (pos 0) (pos 2) (pos 3) (pos 0)) }
 {}
 
 /// Why weights aren't put into another layout.

@@ -20,7 +20,7 @@ pub enum RelayoutFault {
 
 impl fmt::Display for RelayoutFault {
     ghost use Rattle.std.specs.Prelude.{Some};
-    ghost use Rattle.tsp_file.specs.FaultText.{relayout_fault_text};
+    ghost use Rattle.tsp_file.specs.RelayoutFaultText.{relayout_fault_text};
 
     ghost output = { λ fault. Some (relayout_fault_text fault) };
 

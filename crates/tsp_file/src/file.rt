@@ -47,7 +47,7 @@ impl File {
     ghost use Rattle.tsp_format.specs.declared.kinds.WeightFormat.TheVariants.{Listed};
     ghost use Rattle.tsp_file.specs.Cost.{cost};
     ghost use Rattle.tsp_file.specs.Relayout.{CanGo, with_weights, costs_in};
-    ghost use Rattle.tsp_file.specs.Meant.{nodes_of};
+    ghost use Rattle.tsp_draft.specs.Fields.{nodes_of};
     ghost use Rattle.tsp_file.specs.Typed.{HoldsItsType};
     ghost use Rattle.tsp_format.specs.states.TreeSteps.{steps_of};
     ghost use Rattle.tsp_draft.specs.Rules.{fault_of};
@@ -129,9 +129,8 @@ impl File {
         requires half { from ≢ FullMatrix }
         requires format { self.weight_format ≡ Some (Listed from) }
         requires can_go { CanGo self FullMatrix }
-        ensures { MatchResult result
-            (λ file. file ≡ with_weights self FullMatrix (costs_in FullMatrix (nodes_of self) (cost self)))
-            (λ back. back ≡ self) }
+        ensures { MatchResult result (λ file. file ≡ with_weights self FullMatrix
+            (costs_in FullMatrix (nodes_of self) (cost self))) (λ back. back ≡ self) }
     {
         let File { mut draft } = self;
         let nodes = draft.dimension.unwrap();

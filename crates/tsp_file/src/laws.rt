@@ -7,19 +7,19 @@ ghost use Rattle.tsp_draft.specs.Fields.{Fields};
 ghost use Rattle.tsp_draft.specs.Rules.{fault_of};
 ghost use Rattle.tsp_file.specs.ByInequalities.{IsDistanceBy};
 ghost use Rattle.tsp_file.specs.Cost.{cost, point_of};
-ghost use Rattle.tsp_file.specs.Text.{text_of};
+ghost use Rattle.tsp_file.specs.CanonicalText.{text_of};
 
 use tsp_distance::distance_laws;
 
 /// A cost by coordinates is the one number with the inequalities of the weight type's distance,
 /// between the points of both nodes.
 pub fn costs_are_by_inequalities()
-    ensures defined { (f : Fields) (kind : WeightKind) (i j : ℕ) → f.weight_kind ≡ Some kind → kind ≢ Explicit
-        → IsDistanceBy kind (point_of (unwrap_or f.coords []) i) (point_of (unwrap_or f.coords []) j)
-        (unsigned_abs (cost f i j)) }
-    ensures unique { (f : Fields) (kind : WeightKind) (i j k : ℕ) → f.weight_kind ≡ Some kind
-        → IsDistanceBy kind (point_of (unwrap_or f.coords []) i) (point_of (unwrap_or f.coords []) j) k
-        → cost f i j ≡ pos k }
+    ensures defined { (f : Fields) (kind : WeightKind) (i j : ℕ) → f.weight_kind ≡ Some kind
+        → kind ≢ Explicit → IsDistanceBy kind (point_of (unwrap_or f.coords []) i)
+        (point_of (unwrap_or f.coords []) j) (unsigned_abs (cost f i j)) }
+    ensures unique { (f : Fields) (kind : WeightKind) (i j k : ℕ)
+        → f.weight_kind ≡ Some kind → IsDistanceBy kind (point_of (unwrap_or f.coords []) i)
+        (point_of (unwrap_or f.coords []) j) k → cost f i j ≡ pos k }
 {
     distance_laws();
 }

@@ -56,9 +56,9 @@ impl File {
     ghost use Rattle.tsp_format.specs.states.TreeSteps.{steps_of};
     ghost use Rattle.tsp_draft.specs.states.Drafts.{combs_of};
     ghost use Rattle.tsp_draft.specs.Valid.{IsFromTo, AreTours};
-    ghost use Rattle.tsp_file.specs.Listed.{ListsWeights};
+    ghost use Rattle.tsp_file.specs.ListedWeights.{ListsWeights};
     ghost use Rattle.tsp_file.specs.Relayout.{HasListedWeights};
-    ghost use Rattle.tsp_file.specs.Meant.{nodes_of};
+    ghost use Rattle.tsp_draft.specs.Fields.{nodes_of};
     ghost use Rattle.tsp_file.specs.Typed.{HoldsRouting, HoldsNodeNumbers, HoldsDuals, HoldsCases, AreMultipliersIn, AreSomeSets};
 
     /// The weights of this file with their layout; none where its weights aren't listed.
@@ -146,8 +146,8 @@ impl File {
 
     /// What a file of TYPE BRANCHES holds; none of every other file.
     pub fn as_tree(&self) -> Option<TreeData<'_>>
-        ensures { MatchOption result (self.now.kind ≢ Some kinds.Branches)
-            (λ held. HoldsCases self.now held.scale (combs_of held.combs.now) (steps_of held.steps.now)) }
+        ensures { MatchOption result (self.now.kind ≢ Some kinds.Branches) (λ held. HoldsCases
+            self.now held.scale (combs_of held.combs.now) (steps_of held.steps.now)) }
     {
         let Some(Kind::Branches) = self.fields().kind else {
             return None;

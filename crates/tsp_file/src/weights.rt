@@ -55,7 +55,7 @@ impl<'a> ListedWeights<'a> {
     ghost use Rattle.tsp_format.specs.Cells.{IsNode, cells_of_line};
     ghost use Rattle.tsp_format.specs.Symmetry.{IsFirstAsymmetric};
     ghost use Rattle.tsp_draft.specs.Fields.{Fields};
-    ghost use Rattle.tsp_file.specs.Listed.{ListsWeights};
+    ghost use Rattle.tsp_file.specs.ListedWeights.{ListsWeights};
     ghost use Rattle.tsp_file.specs.Relayout.{HoldsPairs, HoldsDiagonal, lists_diagonal, IsFirstOnDiagonal, costs_in};
     ghost use Rattle.tsp_file.specs.states.Weights.{costs_of};
 
@@ -111,9 +111,8 @@ impl<'a> ListedWeights<'a> {
     /// The first pair, the smaller node first, by rows, whose two costs another layout can't hold
     /// both.
     pub(crate) fn lost_pair(&self, to: Layout) -> Option<(u32, u32)>
-        ensures { MatchOption result
-            (HoldsPairs to (costs_of self.now))
-            (λ pair. (to ≢ FullMatrix) × IsFirstAsymmetric self.now.nodes (costs_of self.now) pair) }
+        ensures { MatchOption result (HoldsPairs to (costs_of self.now)) (λ pair. (to ≢ FullMatrix)
+            × IsFirstAsymmetric self.now.nodes (costs_of self.now) pair) }
     {
         if to == Layout::FullMatrix {
             return None;
@@ -304,8 +303,8 @@ impl<'a> ListedWeights<'a> {
     /// Out of memory.
     fn lay_line(&self, to: Layout, line: u32, weights: &mut Vec<i64>) -> Result<(), AllocError>
         requires { IsNode self.now.nodes line }
-        ensures { OnOk result (weights.new.items ≡ weights.old.items
-            ++ map (λ cell. costs_of self.now cell.0 cell.1) (cells_of_line to self.now.nodes line)) }
+        ensures { OnOk result (weights.new.items ≡ weights.old.items ++ map
+            (λ cell. costs_of self.now cell.0 cell.1) (cells_of_line to self.now.nodes line)) }
     {
         'cells: for index in 0..to.line_len(self.nodes, line) {
             let (i, j) = to.line_cell(self.nodes, line, index);

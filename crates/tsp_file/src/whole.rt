@@ -95,7 +95,8 @@ fn fill_across(above: bool, nodes: u32, weights: &mut Vec<i64>)
     requires few { nodes ≤ most_matrix_nodes }
     requires size { length weights.old.items ≡ nodes * nodes }
     ensures size { length weights.new.items ≡ nodes * nodes }
-    ensures costs { (cost : ℕ → ℕ → ℤ) → IsSymmetric cost → HasSide above cost nodes weights.old.items
+    ensures costs { (cost : ℕ → ℕ → ℤ)
+        → IsSymmetric cost → HasSide above cost nodes weights.old.items
         → (i j : ℕ) → IsNode nodes i → IsNode nodes j → HasCost cost nodes weights.new.items i j }
 {
     'bands: for band in 0..nodes / BAND + 1 {
@@ -110,8 +111,9 @@ fn fill_band(above: bool, nodes: u32, weights: &mut Vec<i64>, left: u32)
     requires left_most { left ≤ nodes + 1 }
     requires size { length weights.old.items ≡ nodes * nodes }
     ensures size { length weights.new.items ≡ nodes * nodes }
-    ensures costs { (cost : ℕ → ℕ → ℤ) → IsSymmetric cost → HasSide above cost nodes weights.old.items
-        → Fills cost nodes weights.old.items weights.new.items (λ _ j. (left ≤ j) × (j < left + 64)) }
+    ensures costs { (cost : ℕ → ℕ → ℤ)
+        → IsSymmetric cost → HasSide above cost nodes weights.old.items → Fills cost
+        nodes weights.old.items weights.new.items (λ _ j. (left ≤ j) × (j < left + 64)) }
 {
     'rows: for row in 1..nodes + 1 {
         fill_in_band(above, nodes, weights, row, left);
@@ -153,9 +155,9 @@ fn fill_in_band(above: bool, nodes: u32, weights: &mut Vec<i64>, row: u32, left:
     requires left_most { left ≤ nodes + 1 }
     requires size { length weights.old.items ≡ nodes * nodes }
     ensures size { length weights.new.items ≡ nodes * nodes }
-    ensures costs { (cost : ℕ → ℕ → ℤ) → IsSymmetric cost → HasSide above cost nodes weights.old.items
-        → Fills cost nodes weights.old.items weights.new.items
-        (λ i j. (i ≡ row) × (left ≤ j) × (j < left + 64)) }
+    ensures costs { (cost : ℕ → ℕ → ℤ)
+        → IsSymmetric cost → HasSide above cost nodes weights.old.items → Fills cost nodes
+        weights.old.items weights.new.items (λ i j. (i ≡ row) × (left ≤ j) × (j < left + 64)) }
 {
     let (first, past) = across_in_band(above, nodes, row, left);
     'columns: for column in first..past {

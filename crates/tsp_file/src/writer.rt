@@ -6,8 +6,8 @@ ghost use Rattle.tsp_draft.specs.Rules.{fault_of};
 ghost use Rattle.tsp_draft.specs.states.Drafts.{fields_of};
 ghost use Rattle.tsp_stream.specs.states.Watched.{sink_of};
 ghost use Rattle.tsp_stream.specs.Sink.{Writes};
-ghost use Rattle.tsp_stream.specs.states.Way.{Puts};
-ghost use Rattle.tsp_file.specs.Text.{text_of, text_of_field, text_of_section, text_of_value};
+ghost use Rattle.tsp_stream.specs.states.WriteProgress.{Puts};
+ghost use Rattle.tsp_file.specs.CanonicalText.{text_of, text_of_field, text_of_section, text_of_value};
 
 mod block;
 mod digits;

@@ -17,13 +17,16 @@ one_more : {X : Type 0} (b : Bool) (x : X) (xs : List X) → length (cond b (x �
 one_more true x xs = omega arith
 one_more false x xs = omega arith
 
-alike : {X Y : Type 0} (b : Bool) (x : X) (xs : List X) (y : Y) (ys : List Y) → length xs ≡ length ys → length (cond b (x ∷ xs) xs) ≡ length (cond b (y ∷ ys) ys)
+alike : {X Y : Type 0} (b : Bool) (x : X) (xs : List X) (y : Y) (ys : List Y) → length xs ≡ length ys
+    → length (cond b (x ∷ xs) xs) ≡ length (cond b (y ∷ ys) ys)
 alike true x xs y ys e = ap suc e
 alike false x xs y ys e = e
 
-length-filter-map : {X Y : Type 0} (p : Y → Bool) (f : X → Y) (xs : List X) → length (filter p (map f xs)) ≡ length (filter (λ x. p (f x)) xs)
+length-filter-map : {X Y : Type 0} (p : Y → Bool) (f : X → Y) (xs : List X)
+    → length (filter p (map f xs)) ≡ length (filter (λ x. p (f x)) xs)
 length-filter-map p f [] = refl
-length-filter-map p f (x ∷ xs) = alike (p (f x)) (f x) (filter p (map f xs)) x (filter (λ y. p (f y)) xs) (length-filter-map p f xs)
+length-filter-map p f (x ∷ xs) =
+    alike (p (f x)) (f x) (filter p (map f xs)) x (filter (λ y. p (f y)) xs) (length-filter-map p f xs)
 
 above_step : (k a n count : ℕ) → count ≡ n - (k - (a + 1)) → cond (nat_le k a) 1 0 + count ≡ suc n - (k - a)
 above_step k a n count e = grind (arith, nat_tests)
@@ -60,19 +63,29 @@ all_pass (x ∷ xs) = ap suc (all_pass xs)
 
 pub line_counted : (layout : Layout) (n k : ℕ) → 1 ≤ k → k ≤ n → length (cells_of_line layout n k) ≡ line_len_of layout n k
 unfolding cells_of_line nodes_to
-line_counted FullMatrix n k low high = length-filter-map (is_listed FullMatrix) (λ j. (k, j)) (range_with_len 1 n) ∙ all_pass (range_with_len 1 n) ∙ length-range_with_len 1 n
-line_counted UpperRow n k low high = length-filter-map (is_listed UpperRow) (λ j. (k, j)) (range_with_len 1 n) ∙ above (suc k) 1 n ∙ omega arith
-line_counted LowerRow n k low high = length-filter-map (is_listed LowerRow) (λ j. (k, j)) (range_with_len 1 n) ∙ below k 1 n ∙ omega arith
-line_counted UpperDiagRow n k low high = length-filter-map (is_listed UpperDiagRow) (λ j. (k, j)) (range_with_len 1 n) ∙ above k 1 n ∙ omega arith
-line_counted LowerDiagRow n k low high = length-filter-map (is_listed LowerDiagRow) (λ j. (k, j)) (range_with_len 1 n) ∙ upto k 1 n ∙ omega arith
-line_counted UpperCol n k low high = length-filter-map (is_listed UpperCol) (λ i. (i, k)) (range_with_len 1 n) ∙ below k 1 n ∙ omega arith
-line_counted LowerCol n k low high = length-filter-map (is_listed LowerCol) (λ i. (i, k)) (range_with_len 1 n) ∙ above (suc k) 1 n ∙ omega arith
-line_counted UpperDiagCol n k low high = length-filter-map (is_listed UpperDiagCol) (λ i. (i, k)) (range_with_len 1 n) ∙ upto k 1 n ∙ omega arith
-line_counted LowerDiagCol n k low high = length-filter-map (is_listed LowerDiagCol) (λ i. (i, k)) (range_with_len 1 n) ∙ above k 1 n ∙ omega arith
+line_counted FullMatrix n k low high =
+    length-filter-map (is_listed FullMatrix) (λ j. (k, j)) (range_with_len 1 n) ∙ all_pass (range_with_len 1 n) ∙ length-range_with_len 1 n
+line_counted UpperRow n k low high =
+    length-filter-map (is_listed UpperRow) (λ j. (k, j)) (range_with_len 1 n) ∙ above (suc k) 1 n ∙ omega arith
+line_counted LowerRow n k low high =
+    length-filter-map (is_listed LowerRow) (λ j. (k, j)) (range_with_len 1 n) ∙ below k 1 n ∙ omega arith
+line_counted UpperDiagRow n k low high =
+    length-filter-map (is_listed UpperDiagRow) (λ j. (k, j)) (range_with_len 1 n) ∙ above k 1 n ∙ omega arith
+line_counted LowerDiagRow n k low high =
+    length-filter-map (is_listed LowerDiagRow) (λ j. (k, j)) (range_with_len 1 n) ∙ upto k 1 n ∙ omega arith
+line_counted UpperCol n k low high =
+    length-filter-map (is_listed UpperCol) (λ i. (i, k)) (range_with_len 1 n) ∙ below k 1 n ∙ omega arith
+line_counted LowerCol n k low high =
+    length-filter-map (is_listed LowerCol) (λ i. (i, k)) (range_with_len 1 n) ∙ above (suc k) 1 n ∙ omega arith
+line_counted UpperDiagCol n k low high =
+    length-filter-map (is_listed UpperDiagCol) (λ i. (i, k)) (range_with_len 1 n) ∙ upto k 1 n ∙ omega arith
+line_counted LowerDiagCol n k low high =
+    length-filter-map (is_listed LowerDiagCol) (λ i. (i, k)) (range_with_len 1 n) ∙ above k 1 n ∙ omega arith
 
 -- ---- sums over a run of numbers
 
-sum_alike : (f g : ℕ → ℕ) (a m : ℕ) → ((k : ℕ) → a ≤ k → k < a + m → f k ≡ g k) → sum_by f (range_with_len a m) ≡ sum_by g (range_with_len a m)
+sum_alike : (f g : ℕ → ℕ) (a m : ℕ) → ((k : ℕ) → a ≤ k → k < a + m → f k ≡ g k)
+    → sum_by f (range_with_len a m) ≡ sum_by g (range_with_len a m)
 sum_alike f g a zero same = refl
 sum_alike f g a (suc m) same =
     let first : f a ≡ g a = same a (omega arith) (omega arith) in

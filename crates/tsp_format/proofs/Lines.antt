@@ -4,10 +4,10 @@ use Rattle.std.specs.Prelude.{if◌then◌else◌}
 use Rattle.std.specs.List.{filter, flat_map}
 use Rattle.std.proofs.lemmas.List.Elements.{filter-append}
 use Rattle.tsp_format.specs.declared.layout.Layout.{Layout}
-use Rattle.tsp_format.specs.Layout.{goes_by_columns}
-use Rattle.tsp_format.specs.Cells.{nodes_to, row, column, is_listed, cells, cells_of_line}
+use Rattle.tsp_format.specs.Cells.{nodes_to, row, column, is_listed, goes_by_columns, cells, cells_of_line}
 
-filter-flat_map : {X Y : Type 0} (p : Y → Bool) (f : X → List Y) (xs : List X) → filter p (flat_map f xs) ≡ flat_map (λ x. filter p (f x)) xs
+filter-flat_map : {X Y : Type 0} (p : Y → Bool) (f : X → List Y) (xs : List X)
+    → filter p (flat_map f xs) ≡ flat_map (λ x. filter p (f x)) xs
 filter-flat_map p f [] = refl
 filter-flat_map p f (x ∷ xs) = filter-append p (f x) (flat_map f xs) ∙ ap (λ ys. filter p (f x) ++ ys) (filter-flat_map p f xs)
 

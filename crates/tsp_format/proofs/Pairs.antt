@@ -7,8 +7,7 @@ use Rattle.std.proofs.lemmas.List.FromFn.{length-range_with_len, get_or-range_wi
 use Rattle.std.proofs.lemmas.List.Elements.{All-nil, All-head, All-tail, All-append, All-map, All-filter, All-contains, filter_passes, Contains-append_left, Contains-append_right}
 use Rattle.std.proofs.lemmas.List.Kept.{AllPairs-cons, AllPairs-filter}
 use Rattle.tsp_format.specs.declared.layout.Layout.{Layout}
-use Rattle.tsp_format.specs.Layout.{goes_by_columns}
-use Rattle.tsp_format.specs.Cells.{nodes_to, IsNode, row, column, pairs_by_rows, pairs_by_columns, is_listed, cells}
+use Rattle.tsp_format.specs.Cells.{nodes_to, IsNode, row, column, pairs_by_rows, pairs_by_columns, is_listed, goes_by_columns, cells}
 
 -- ---- what a list contains
 
@@ -24,24 +23,28 @@ Contains-cond_head true y ys e = (0, omega arith, refl)
 Contains-cond_head false y ys e = absurd cc
 
 -- an element at an index that passes is kept
-kept_at : {X : Type 0} (p : X → Bool) (xs : List X) (x : X) (k : ℕ) → p x ≡ true → k < length xs → get_or xs k x ≡ x → Contains (filter p xs) x
+kept_at : {X : Type 0} (p : X → Bool) (xs : List X) (x : X) (k : ℕ) → p x ≡ true → k < length xs → get_or xs k x ≡ x
+    → Contains (filter p xs) x
 kept_at p [] x k passes lt e = absurd (omega (arith, lt))
 kept_at p (y ∷ ys) x zero passes lt e =
     let same : y ≡ x = e in
     subst (λ z. Contains (filter p (y ∷ ys)) z) same (Contains-cond_head (p y) y (filter p ys) (ap p same ∙ passes))
 kept_at p (y ∷ ys) x (suc k) passes lt e = Contains-cond (p y) y (filter p ys) x (kept_at p ys x k passes (omega (arith, lt)) e)
 
-joined_at : {X Y : Type 0} (f : X → List Y) (xs : List X) (x : X) (y : Y) (k : ℕ) → Contains (f x) y → k < length xs → get_or xs k x ≡ x → Contains (flat_map f xs) y
+joined_at : {X Y : Type 0} (f : X → List Y) (xs : List X) (x : X) (y : Y) (k : ℕ) → Contains (f x) y → k < length xs
+    → get_or xs k x ≡ x → Contains (flat_map f xs) y
 joined_at f [] x y k h lt e = absurd (omega (arith, lt))
 joined_at f (z ∷ zs) x y zero h lt e =
     let same : x ≡ z = sym e in
     Contains-append_left (f z) (flat_map f zs) y (subst (λ w. Contains (f w) y) same h)
-joined_at f (z ∷ zs) x y (suc k) h lt e = Contains-append_right (f z) (flat_map f zs) y (joined_at f zs x y k h (omega (arith, lt)) e)
+joined_at f (z ∷ zs) x y (suc k) h lt e =
+    Contains-append_right (f z) (flat_map f zs) y (joined_at f zs x y k h (omega (arith, lt)) e)
 
 Contains-map : {X Y : Type 0} (f : X → Y) (xs : List X) (x : X) → Contains xs x → Contains (map f xs) (f x)
 Contains-map f xs x h = (h.0, omega (arith, h.1, length-map xs f), get_or-map f xs h.0 x (f x) h.1 ∙ ap f h.2)
 
-All-flat_map : {X Y : Type 0} (P : Y → Type 0) (Q : X → Type 0) (f : X → List Y) → ((x : X) → Q x → All P (f x)) → (xs : List X) → All Q xs → All P (flat_map f xs)
+All-flat_map : {X Y : Type 0} (P : Y → Type 0) (Q : X → Type 0) (f : X → List Y) → ((x : X) → Q x → All P (f x)) → (xs : List X)
+    → All Q xs → All P (flat_map f xs)
 All-flat_map P Q f each [] all = All-nil P
 All-flat_map P Q f each (x ∷ xs) all =
     All-append P (f x) (flat_map f xs) (each x (All-head Q x xs all)) (All-flat_map P Q f each xs (All-tail Q x xs all))
@@ -71,8 +74,10 @@ abbrev pairs : Bool → ℕ → List (ℕ × ℕ)
 pairs order n = if order then pairs_by_columns n else pairs_by_rows n
 
 all_pairs : (order : Bool) (n : ℕ) → All (IsPair n) (pairs order n)
-all_pairs true n = All-flat_map (IsPair n) (IsNode n) (column n) (λ j hj. All-map (IsPair n) (λ i. (i, j)) (nodes_to n) (λ k d lt. (all_nodes n k d lt, hj))) (nodes_to n) (all_nodes n)
-all_pairs false n = All-flat_map (IsPair n) (IsNode n) (row n) (λ i hi. All-map (IsPair n) (λ j. (i, j)) (nodes_to n) (λ k d lt. (hi, all_nodes n k d lt))) (nodes_to n) (all_nodes n)
+all_pairs true n =
+    All-flat_map (IsPair n) (IsNode n) (column n) (λ j hj. All-map (IsPair n) (λ i. (i, j)) (nodes_to n) (λ k d lt. (all_nodes n k d lt, hj))) (nodes_to n) (all_nodes n)
+all_pairs false n =
+    All-flat_map (IsPair n) (IsNode n) (row n) (λ i hi. All-map (IsPair n) (λ j. (i, j)) (nodes_to n) (λ k d lt. (hi, all_nodes n k d lt))) (nodes_to n) (all_nodes n)
 
 pair_stands : (order : Bool) (n i j : ℕ) → IsNode n i → IsNode n j → Contains (pairs order n) (i, j)
 pair_stands true n i j hi hj =
@@ -82,7 +87,8 @@ pair_stands false n i j hi hj =
     let stands = node_stands n i hi in
     joined_at (row n) (nodes_to n) i (i, j) stands.0 (Contains-map (λ m. (i, m)) (nodes_to n) j (node_stands n j hj)) stands.1 stands.2
 
-pub cell_is : (layout : Layout) (n i j : ℕ) → Contains (cells layout n) (i, j) ↔ (IsNode n i × IsNode n j × IsTrue (is_listed layout (i, j)))
+pub cell_is : (layout : Layout) (n i j : ℕ)
+    → Contains (cells layout n) (i, j) ↔ (IsNode n i × IsNode n j × IsTrue (is_listed layout (i, j)))
 unfolding cells
 cell_is layout n i j = (
   λ h.
@@ -106,7 +112,8 @@ AllPairs-head R x xs h = λ k d lt. h 0 (suc k) d (omega arith) (omega (arith, l
 AllPairs-tail : {X : Type 0} (R : X → X → Type 0) (x : X) (xs : List X) → AllPairs R (x ∷ xs) → AllPairs R xs
 AllPairs-tail R x xs h = λ i j d lt within. h (suc i) (suc j) d (omega (arith, lt)) (omega (arith, within))
 
-AllPairs-append : {X : Type 0} (R : X → X → Type 0) (xs ys : List X) → AllPairs R xs → AllPairs R ys → All (λ x. All (R x) ys) xs → AllPairs R (xs ++ ys)
+AllPairs-append : {X : Type 0} (R : X → X → Type 0) (xs ys : List X) → AllPairs R xs → AllPairs R ys → All (λ x. All (R x) ys) xs
+    → AllPairs R (xs ++ ys)
 AllPairs-append R [] ys first second across = second
 AllPairs-append R (x ∷ xs) ys first second across =
     AllPairs-cons R x (xs ++ ys)
@@ -117,7 +124,8 @@ AllPairs-nil : {X : Type 0} (R : X → X → Type 0) → AllPairs R []
 AllPairs-nil R = λ i j d lt within. absurd (omega (arith, within))
 
 -- what stays apart under g stays apart under f, where `back` undoes f
-run_differs : {Y : Type 0} (f : ℕ → Y) (back : Y → ℕ) → ((m : ℕ) → back (f m) ≡ m) → (a n : ℕ) → AllPairs Differ (map f (range_with_len a n))
+run_differs : {Y : Type 0} (f : ℕ → Y) (back : Y → ℕ) → ((m : ℕ) → back (f m) ≡ m) → (a n : ℕ)
+    → AllPairs Differ (map f (range_with_len a n))
 run_differs {Y = Y} f back undoes a n = λ i j d lt within.
     let short : j < n = omega (arith, within, length-map (range_with_len a n) f, length-range_with_len a n) in
     let at_i = place i d (omega (arith, lt, short)) in
@@ -157,4 +165,5 @@ pairs_differ false n = lines_differ (λ i j. (i, j)) (λ c. c.0) (λ c. c.1) (λ
 
 pub cells_differ : (layout : Layout) (n : ℕ) → AllPairs (λ a b. a ≢ b) (cells layout n)
 unfolding cells
-cells_differ layout n = AllPairs-filter (λ a b. a ≢ b) (is_listed layout) (pairs (goes_by_columns layout) n) (pairs_differ (goes_by_columns layout) n)
+cells_differ layout n =
+    AllPairs-filter (λ a b. a ≢ b) (is_listed layout) (pairs (goes_by_columns layout) n) (pairs_differ (goes_by_columns layout) n)

@@ -34,7 +34,8 @@ all_pass (x ∷ xs) = ap (λ ys. x ∷ ys) (all_pass xs)
 runs_same : (a b m n : ℕ) → a ≡ b → m ≡ n → range_with_len a m ≡ range_with_len b n
 runs_same a b m n first long = cc
 
-from_step : (k a n : ℕ) (rest : List ℕ) → rest ≡ range_with_len (max (a + 1) k) (n - (k - (a + 1))) → cond (nat_le k a) (a ∷ rest) rest ≡ range_with_len (max a k) (suc n - (k - a))
+from_step : (k a n : ℕ) (rest : List ℕ) → rest ≡ range_with_len (max (a + 1) k) (n - (k - (a + 1)))
+    → cond (nat_le k a) (a ∷ rest) rest ≡ range_with_len (max a k) (suc n - (k - a))
 from_step k a n rest e = ⊎_elim later here (cases_lt a k)
   where
     later : a < k → cond (nat_le k a) (a ∷ rest) rest ≡ range_with_len (max a k) (suc n - (k - a))
@@ -50,7 +51,8 @@ from_on : (k a n : ℕ) → filter (λ m. nat_le k m) (range_with_len a n) ≡ r
 from_on k a zero = runs_same (max a k) (max a k) 0 (zero - (k - a)) refl (omega arith)
 from_on k a (suc n) = from_step k a n (filter (λ m. nat_le k m) (range_with_len (a + 1) n)) (from_on k (a + 1) n)
 
-upto_step : (k a n : ℕ) (rest : List ℕ) → rest ≡ range_with_len (a + 1) (min n (suc k - (a + 1))) → cond (nat_le a k) (a ∷ rest) rest ≡ range_with_len a (min (suc n) (suc k - a))
+upto_step : (k a n : ℕ) (rest : List ℕ) → rest ≡ range_with_len (a + 1) (min n (suc k - (a + 1)))
+    → cond (nat_le a k) (a ∷ rest) rest ≡ range_with_len a (min (suc n) (suc k - a))
 upto_step k a n rest e = ⊎_elim past here (cases_lt k a)
   where
     past : k < a → cond (nat_le a k) (a ∷ rest) rest ≡ range_with_len a (min (suc n) (suc k - a))
@@ -67,7 +69,8 @@ upto : (k a n : ℕ) → filter (λ m. nat_le m k) (range_with_len a n) ≡ rang
 upto k a zero = runs_same a a 0 (min zero (suc k - a)) refl (omega arith)
 upto k a (suc n) = upto_step k a n (filter (λ m. nat_le m k) (range_with_len (a + 1) n)) (upto k (a + 1) n)
 
-under_step : (k a n : ℕ) (rest : List ℕ) → rest ≡ range_with_len (a + 1) (min n (k - (a + 1))) → cond (nat_lt a k) (a ∷ rest) rest ≡ range_with_len a (min (suc n) (k - a))
+under_step : (k a n : ℕ) (rest : List ℕ) → rest ≡ range_with_len (a + 1) (min n (k - (a + 1)))
+    → cond (nat_lt a k) (a ∷ rest) rest ≡ range_with_len a (min (suc n) (k - a))
 under_step k a n rest e = ⊎_elim here past (cases_lt a k)
   where
     past : k ≤ a → cond (nat_lt a k) (a ∷ rest) rest ≡ range_with_len a (min (suc n) (k - a))
@@ -109,17 +112,21 @@ first_of LowerCol k = k + 1
 first_of UpperDiagCol k = 1
 first_of LowerDiagCol k = k
 
-line_is : (layout : Layout) (n k : ℕ) → 1 ≤ k → k ≤ n → cells_of_line layout n k ≡ map (pair_in layout k) (range_with_len (first_of layout k) (line_len_of layout n k))
+line_is : (layout : Layout) (n k : ℕ) → 1 ≤ k → k ≤ n
+    → cells_of_line layout n k ≡ map (pair_in layout k) (range_with_len (first_of layout k) (line_len_of layout n k))
 unfolding cells_of_line nodes_to
-line_is FullMatrix n k low high = filter-map (is_listed FullMatrix) (λ j. (k, j)) (range_with_len 1 n) ∙ ap (map (λ j. (k, j))) (all_pass (range_with_len 1 n))
+line_is FullMatrix n k low high =
+    filter-map (is_listed FullMatrix) (λ j. (k, j)) (range_with_len 1 n) ∙ ap (map (λ j. (k, j))) (all_pass (range_with_len 1 n))
 line_is UpperRow n k low high = filter-map (is_listed UpperRow) (λ j. (k, j)) (range_with_len 1 n)
     ∙ ap (map (λ j. (k, j))) (from_on (suc k) 1 n ∙ runs_same (max 1 (suc k)) (k + 1) (n - (suc k - 1)) (n - k) (omega arith) (omega arith))
-line_is LowerRow n k low high = filter-map (is_listed LowerRow) (λ j. (k, j)) (range_with_len 1 n) ∙ ap (map (λ j. (k, j))) (under k 1 n ∙ runs_same 1 1 (min n (k - 1)) (k - 1) refl (omega arith))
+line_is LowerRow n k low high =
+    filter-map (is_listed LowerRow) (λ j. (k, j)) (range_with_len 1 n) ∙ ap (map (λ j. (k, j))) (under k 1 n ∙ runs_same 1 1 (min n (k - 1)) (k - 1) refl (omega arith))
 line_is UpperDiagRow n k low high = filter-map (is_listed UpperDiagRow) (λ j. (k, j)) (range_with_len 1 n)
     ∙ ap (map (λ j. (k, j))) (from_on k 1 n ∙ runs_same (max 1 k) k (n - (k - 1)) (n - k + 1) (omega arith) (omega arith))
 line_is LowerDiagRow n k low high = filter-map (is_listed LowerDiagRow) (λ j. (k, j)) (range_with_len 1 n)
     ∙ ap (map (λ j. (k, j))) (upto k 1 n ∙ runs_same 1 1 (min n (suc k - 1)) k refl (omega arith))
-line_is UpperCol n k low high = filter-map (is_listed UpperCol) (λ i. (i, k)) (range_with_len 1 n) ∙ ap (map (λ i. (i, k))) (under k 1 n ∙ runs_same 1 1 (min n (k - 1)) (k - 1) refl (omega arith))
+line_is UpperCol n k low high =
+    filter-map (is_listed UpperCol) (λ i. (i, k)) (range_with_len 1 n) ∙ ap (map (λ i. (i, k))) (under k 1 n ∙ runs_same 1 1 (min n (k - 1)) (k - 1) refl (omega arith))
 line_is LowerCol n k low high = filter-map (is_listed LowerCol) (λ i. (i, k)) (range_with_len 1 n)
     ∙ ap (map (λ i. (i, k))) (from_on (suc k) 1 n ∙ runs_same (max 1 (suc k)) (k + 1) (n - (suc k - 1)) (n - k) (omega arith) (omega arith))
 line_is UpperDiagCol n k low high = filter-map (is_listed UpperDiagCol) (λ i. (i, k)) (range_with_len 1 n)
@@ -127,7 +134,8 @@ line_is UpperDiagCol n k low high = filter-map (is_listed UpperDiagCol) (λ i. (
 line_is LowerDiagCol n k low high = filter-map (is_listed LowerDiagCol) (λ i. (i, k)) (range_with_len 1 n)
     ∙ ap (map (λ i. (i, k))) (from_on k 1 n ∙ runs_same (max 1 k) k (n - (k - 1)) (n - k + 1) (omega arith) (omega arith))
 
-pub line_at : (layout : Layout) (n k at : ℕ) (d : ℕ × ℕ) → 1 ≤ k → k ≤ n → at < line_len_of layout n k → get_or (cells_of_line layout n k) at d ≡ pair_in layout k (first_of layout k + at)
+pub line_at : (layout : Layout) (n k at : ℕ) (d : ℕ × ℕ) → 1 ≤ k → k ≤ n → at < line_len_of layout n k
+    → get_or (cells_of_line layout n k) at d ≡ pair_in layout k (first_of layout k + at)
 line_at layout n k at d low high lt =
     let run = range_with_len (first_of layout k) (line_len_of layout n k) in
     let inside : at < length run = omega (arith, lt, length-range_with_len (first_of layout k) (line_len_of layout n k)) in
@@ -280,7 +288,8 @@ below_step k =
     let step = below_all_step k in
     omega (arith, next, here, after, step)
 
-before_step : (layout : Layout) (n k : ℕ) → suc k ≤ n → before layout n (suc k + 1) ≡ before layout n (suc k) + line_len_of layout n (suc k)
+before_step : (layout : Layout) (n k : ℕ) → suc k ≤ n
+    → before layout n (suc k + 1) ≡ before layout n (suc k) + line_len_of layout n (suc k)
 before_step FullMatrix n k le = level_step n k
 before_step UpperRow n k le = above_step n k le
 before_step LowerRow n k le = below_step k
@@ -302,9 +311,11 @@ before_first LowerCol n = omega arith
 before_first UpperDiagCol n = refl
 before_first LowerDiagCol n = omega arith
 
-steps : (layout : Layout) (n l : ℕ) → 1 ≤ l → l ≤ n → before layout n (l + 1) ≡ before layout n l + length (cells_of_line layout n l)
+steps : (layout : Layout) (n l : ℕ) → 1 ≤ l → l ≤ n
+    → before layout n (l + 1) ≡ before layout n l + length (cells_of_line layout n l)
 steps layout n zero low high = absurd (omega (arith, low))
-steps layout n (suc k) low high = before_step layout n k high ∙ ap (λ m. before layout n (suc k) + m) (sym (line_counted layout n (suc k) low high))
+steps layout n (suc k) low high =
+    before_step layout n k high ∙ ap (λ m. before layout n (suc k) + m) (sym (line_counted layout n (suc k) low high))
 
 -- the cell at an index of line k
 cell_at : (layout : Layout) (n k at : ℕ) (d : ℕ × ℕ) → 1 ≤ k → k ≤ n → at < line_len_of layout n k
@@ -332,7 +343,8 @@ other_pair pair cell other = is_false (is_pair pair cell) (λ e. other (pair_is 
     is_false false not_true = refl
 
 -- a pair at an index of the cells is there first
-pub place_from : (layout : Layout) (n at : ℕ) (pair : ℕ × ℕ) → at < length (cells layout n) → ((d : ℕ × ℕ) → get_or (cells layout n) at d ≡ pair) → place_of layout n pair ≡ Some at
+pub place_from : (layout : Layout) (n at : ℕ) (pair : ℕ × ℕ) → at < length (cells layout n)
+    → ((d : ℕ × ℕ) → get_or (cells layout n) at d ≡ pair) → place_of layout n pair ≡ Some at
 unfolding place_of
 place_from layout n at pair lt here =
     let xs = cells layout n in
@@ -342,7 +354,8 @@ place_from layout n at pair lt here =
     ap (λ k. cond (nat_lt k (length xs)) (Some k) None) found ∙ ap (λ b. cond b (Some at) None) (le-leb (suc at) (length xs) lt)
 
 -- and a pair with a place is a cell
-pub stands_at : (layout : Layout) (n at : ℕ) (pair : ℕ × ℕ) → place_of layout n pair ≡ Some at → (d : ℕ × ℕ) → get_or (cells layout n) at d ≡ pair
+pub stands_at : (layout : Layout) (n at : ℕ) (pair : ℕ × ℕ) → place_of layout n pair ≡ Some at → (d : ℕ × ℕ)
+    → get_or (cells layout n) at d ≡ pair
 unfolding place_of
 stands_at layout n at pair here d =
     let cell = get_or (cells layout n) at d in
@@ -375,7 +388,8 @@ line_place layout n k m node low high =
     )
 
 abbrev HasPlace : Layout → ℕ → ℕ → ℕ → Type 0
-HasPlace layout n i j = (place_of layout n (i, j) ≡ Some (place_by_table layout n i j)) × (place_by_table layout n i j < length (cells layout n))
+HasPlace layout n i j =
+    (place_of layout n (i, j) ≡ Some (place_by_table layout n i j)) × (place_by_table layout n i j < length (cells layout n))
 
 has_place : (layout : Layout) (n i j : ℕ) → IsNode n i → IsNode n j → IsTrue (is_listed layout (i, j)) → HasPlace layout n i j
 has_place FullMatrix n i j hi hj listed = line_place FullMatrix n i j hi (omega arith) (omega arith)
@@ -392,8 +406,10 @@ has_place LowerCol n i j hi hj listed = let above = ltb-true j i listed in
 has_place UpperDiagCol n i j hi hj listed = let above = leb-true i j listed in line_place UpperDiagCol n j i hj (omega arith) (omega arith)
 has_place LowerDiagCol n i j hi hj listed = let above = leb-true j i listed in line_place LowerDiagCol n j i hj (omega arith) (omega arith)
 
-pub placed : (layout : Layout) (n i j : ℕ) → IsNode n i → IsNode n j → IsTrue (is_listed layout (i, j)) → place_of layout n (i, j) ≡ Some (place_by_table layout n i j)
+pub placed : (layout : Layout) (n i j : ℕ) → IsNode n i → IsNode n j → IsTrue (is_listed layout (i, j))
+    → place_of layout n (i, j) ≡ Some (place_by_table layout n i j)
 placed layout n i j hi hj listed = (has_place layout n i j hi hj listed).0
 
-pub place_within : (layout : Layout) (n i j : ℕ) → IsNode n i → IsNode n j → IsTrue (is_listed layout (i, j)) → place_by_table layout n i j < length (cells layout n)
+pub place_within : (layout : Layout) (n i j : ℕ) → IsNode n i → IsNode n j → IsTrue (is_listed layout (i, j))
+    → place_by_table layout n i j < length (cells layout n)
 place_within layout n i j hi hj listed = (has_place layout n i j hi hj listed).1

@@ -1,10 +1,9 @@
 -- The cells of a layout: all pairs (i, j) of 1..n, row i and column j, in the order of rows or of columns, as far as they
 -- pass the layout's test. Source: TSPLIB 95 (G. Reinelt), the values of EDGE_WEIGHT_FORMAT.
-use Rattle.std.specs.Prelude.{ℕ, ◌+◌, ◌-◌, ◌*◌, ◌/◌, ◌≤◌, Bool, true, List, map, nat_lt, nat_le, if◌then◌else◌}
+use Rattle.std.specs.Prelude.{ℕ, ◌+◌, ◌-◌, ◌*◌, ◌/◌, ◌≤◌, Bool, true, false, List, map, nat_lt, nat_le, if◌then◌else◌}
 use Rattle.std.specs.List.{filter, flat_map, range_with_len}
 use Rattle.tsp_format.specs.declared.layout.Layout.{Layout}
 use Rattle.tsp_format.specs.declared.layout.Layout.TheVariants.{FullMatrix, UpperRow, LowerRow, UpperDiagRow, LowerDiagRow, UpperCol, LowerCol, UpperDiagCol, LowerDiagCol}
-use Rattle.tsp_format.specs.Layout.{goes_by_columns}
 
 -- the nodes 1, 2, .., n
 unfoldable pub nodes_to : ℕ → List ℕ
@@ -38,6 +37,18 @@ is_listed UpperCol (i, j) = nat_lt i j
 is_listed LowerCol (i, j) = nat_lt j i
 is_listed UpperDiagCol (i, j) = nat_le i j
 is_listed LowerDiagCol (i, j) = nat_le j i
+
+-- whether the cells are listed by columns; else they are by rows
+abbrev pub goes_by_columns : Layout → Bool
+goes_by_columns FullMatrix = false
+goes_by_columns UpperRow = false
+goes_by_columns LowerRow = false
+goes_by_columns UpperDiagRow = false
+goes_by_columns LowerDiagRow = false
+goes_by_columns UpperCol = true
+goes_by_columns LowerCol = true
+goes_by_columns UpperDiagCol = true
+goes_by_columns LowerDiagCol = true
 
 -- the cells of a matrix over the nodes 1..n
 unfoldable pub cells : Layout → ℕ → List (ℕ × ℕ)

@@ -1,5 +1,5 @@
--- The layouts of a matrix of weights, as TSPLIB 95 (G. Reinelt) names them.
-use Rattle.std.specs.Prelude.{ℕ, Bool, true, false, List, codes}
+-- The words of the layouts of a matrix of weights. Source: TSPLIB 95 (G. Reinelt), EDGE_WEIGHT_FORMAT.
+use Rattle.std.specs.Prelude.{ℕ, List, codes}
 use Rattle.tsp_format.specs.declared.layout.Layout.{Layout}
 use Rattle.tsp_format.specs.declared.layout.Layout.TheVariants.{FullMatrix, UpperRow, LowerRow, UpperDiagRow, LowerDiagRow, UpperCol, LowerCol, UpperDiagCol, LowerDiagCol}
 
@@ -14,15 +14,3 @@ layout_word UpperCol = codes "UPPER_COL"
 layout_word LowerCol = codes "LOWER_COL"
 layout_word UpperDiagCol = codes "UPPER_DIAG_COL"
 layout_word LowerDiagCol = codes "LOWER_DIAG_COL"
-
--- whether the cells are listed by columns; else they are by rows
-abbrev pub goes_by_columns : Layout → Bool
-goes_by_columns FullMatrix = false
-goes_by_columns UpperRow = false
-goes_by_columns LowerRow = false
-goes_by_columns UpperDiagRow = false
-goes_by_columns LowerDiagRow = false
-goes_by_columns UpperCol = true
-goes_by_columns LowerCol = true
-goes_by_columns UpperDiagCol = true
-goes_by_columns LowerDiagCol = true

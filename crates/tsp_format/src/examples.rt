@@ -42,10 +42,13 @@ pub fn examples_of_fields()
     ensures fixed { StandsAt 16 fields.FixedEdgesPart (codes "FIXED_EDGES_SECTION") }
     ensures weights { StandsAt 17 fields.EdgeWeightPart (codes "EDGE_WEIGHT_SECTION") }
     ensures tours { StandsAt 18 fields.TourPart (codes "TOUR_SECTION") }
-    ensures node_potentials { StandsAt 19 fields.NodePotentialPart (codes "NODE_POTENTIAL_SECTION") }
+    ensures node_potentials { StandsAt 19 fields.NodePotentialPart
+        (codes "NODE_POTENTIAL_SECTION") }
     ensures row_potentials { StandsAt 20 fields.RowPotentialPart (codes "ROW_POTENTIAL_SECTION") }
-    ensures column_potentials { StandsAt 21 fields.ColumnPotentialPart (codes "COLUMN_POTENTIAL_SECTION") }
-    ensures fixed_potentials { StandsAt 22 fields.FixedEdgePotentialPart (codes "FIXED_EDGE_POTENTIAL_SECTION") }
+    ensures column_potentials { StandsAt 21 fields.ColumnPotentialPart
+        (codes "COLUMN_POTENTIAL_SECTION") }
+    ensures fixed_potentials { StandsAt 22 fields.FixedEdgePotentialPart
+        (codes "FIXED_EDGE_POTENTIAL_SECTION") }
     ensures combs { StandsAt 23 fields.CombPart (codes "COMB_SECTION") }
     ensures branches { StandsAt 24 fields.BranchPart (codes "BRANCH_SECTION") }
     ensures no_more { length fields_in_order ≡ 24 }
@@ -157,7 +160,8 @@ pub fn examples_of_limits()
     ensures changes { limits.most_changes ≡ 10 ^ 7 }
     ensures difference { limits.most_difference ≡ 2 * 10 ^ 15 }
     ensures file_bytes { limits.most_file_bytes ≡ 2 ^ 30 }
-    ensures demands_from_zero { shape_of false fields.DemandPart ≡ Some (shapes.Numbers (pos 0) (pos (10 ^ 9))) }
+    ensures demands_from_zero { shape_of false fields.DemandPart
+        ≡ Some (shapes.Numbers (pos 0) (pos (10 ^ 9))) }
     ensures potentials_both_ways { shape_of false fields.NodePotentialPart
         ≡ Some (shapes.Numbers (negsuc (10 ^ 15 - 1)) (pos (10 ^ 15))) }
     ensures rows_both_ways { shape_of false fields.RowPotentialPart
@@ -165,9 +169,12 @@ pub fn examples_of_limits()
     ensures columns_both_ways { shape_of false fields.ColumnPotentialPart
         ≡ Some (shapes.Numbers (negsuc (10 ^ 15 - 1)) (pos (10 ^ 15))) }
     ensures no_shape { shape_of true fields.ScaleKey ≡ None }
-    ensures nodes_from_one { value_shape_of fields.DimensionKey ≡ Some (values.Number (pos 1) (pos (10 ^ 5))) }
-    ensures capacity_from_one { value_shape_of fields.CapacityKey ≡ Some (values.Number (pos 1) (pos (10 ^ 12))) }
-    ensures scale_from_one { value_shape_of fields.ScaleKey ≡ Some (values.Number (pos 1) (pos (10 ^ 6))) }
+    ensures nodes_from_one { value_shape_of fields.DimensionKey
+        ≡ Some (values.Number (pos 1) (pos (10 ^ 5))) }
+    ensures capacity_from_one { value_shape_of fields.CapacityKey
+        ≡ Some (values.Number (pos 1) (pos (10 ^ 12))) }
+    ensures scale_from_one { value_shape_of fields.ScaleKey
+        ≡ Some (values.Number (pos 1) (pos (10 ^ 6))) }
     ensures one_name { value_shape_of fields.NameKey ≡ Some values.Kept }
     ensures each_comment { value_shape_of fields.CommentKey ≡ Some values.KeptEach }
     ensures type_by_word { value_shape_of fields.TypeKey ≡ Some values.Word }
@@ -190,7 +197,10 @@ pub fn examples_of_space()
 
 /// The first pair of three nodes whose two costs differ.
 pub fn examples_of_asymmetric_costs()
-    ensures first_pair { IsFirstAsymmetric 3 (by_rows (pos 0 ∷ pos 1 ∷ pos 3 ∷ pos 2 ∷ pos 0 ∷ pos 4 ∷ pos 3 ∷ pos 5 ∷ [])) (1, 2) }
-    ensures last_pair { IsFirstAsymmetric 3 (by_rows (pos 0 ∷ pos 1 ∷ pos 3 ∷ pos 1 ∷ pos 0 ∷ pos 4 ∷ pos 3 ∷ pos 5 ∷ [])) (2, 3) }
-    ensures rows_first { IsFirstAsymmetric 3 (by_rows (pos 0 ∷ pos 1 ∷ pos 3 ∷ pos 1 ∷ pos 0 ∷ pos 4 ∷ pos 4 ∷ pos 5 ∷ [])) (1, 3) }
+    ensures first_pair { IsFirstAsymmetric 3
+        (by_rows (pos 0 ∷ pos 1 ∷ pos 3 ∷ pos 2 ∷ pos 0 ∷ pos 4 ∷ pos 3 ∷ pos 5 ∷ [])) (1, 2) }
+    ensures last_pair { IsFirstAsymmetric 3
+        (by_rows (pos 0 ∷ pos 1 ∷ pos 3 ∷ pos 1 ∷ pos 0 ∷ pos 4 ∷ pos 3 ∷ pos 5 ∷ [])) (2, 3) }
+    ensures rows_first { IsFirstAsymmetric 3
+        (by_rows (pos 0 ∷ pos 1 ∷ pos 3 ∷ pos 1 ∷ pos 0 ∷ pos 4 ∷ pos 4 ∷ pos 5 ∷ [])) (1, 3) }
 {}

@@ -18,7 +18,8 @@ pub trait Word: Copy + 'static {
     fn word(self) -> &'static str
         ensures { result.now ≡ text self };
 
-    ghost found: { (value : Self) → find (λ other. bytes_eq (text value) (text other)) values ≡ Some value };
+    ghost found: { (value : Self)
+        → find (λ other. bytes_eq (text value) (text other)) values ≡ Some value };
 }
 
 /// The value with this word, byte by byte, or `None` where no value has it.

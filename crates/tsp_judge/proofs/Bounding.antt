@@ -18,9 +18,9 @@ use Rattle.tsp_judge.specs.declared.fault.RunFault.{RunFault}
 use Rattle.tsp_judge.specs.declared.fault.RunFault.TheVariants.{File, WrongKind, Write, OutOfMemory, Relayout}
 use Rattle.tsp_judge.specs.BoundRun.{BoundsFiles, EndsUnbounded, IsBoundRun, SaysBound, IsBoundRunOf}
 use Rattle.tsp_cost.specs.ProblemLaws.{IsProblem}
-use Rattle.tsp_cost.specs.Tours.{problem_of}
+use Rattle.tsp_cost.specs.ComputedProblems.{problem_of}
 use Rattle.tsp_judge.specs.Accepted.{IsTspOrAtsp, IsBoundAccepted}
-use Rattle.tsp_judge.specs.Run.{ReadsFile}
+use Rattle.tsp_judge.specs.CheckRun.{ReadsFile}
 use Rattle.tsp_judge.proofs.HandedOn.{one_value}
 use Rattle.tsp_judge.proofs.Yeses.{of_type, tours_bounded}
 

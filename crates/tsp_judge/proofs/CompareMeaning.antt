@@ -8,7 +8,7 @@ use Rattle.tsp_stream.specs.Turn.{Turn}
 use Rattle.tsp_draft.specs.Fields.{Fields}
 use Rattle.tsp_cost.specs.ProblemLaws.{IsProblem}
 use Rattle.tsp_theory.specs.Tour.{BoundsTours}
-use Rattle.tsp_cost.specs.Tours.{problem_of}
+use Rattle.tsp_cost.specs.ComputedProblems.{problem_of}
 use Rattle.tsp_read.specs.Reads.{IsFile}
 use Rattle.tsp_reason.specs.declared.basis.Basis.TheVariants as bases
 use Rattle.tsp_reason.specs.declared.certificate.Certificate.{Certificate}

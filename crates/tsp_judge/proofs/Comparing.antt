@@ -21,11 +21,11 @@ use Rattle.tsp_judge.specs.declared.common.Common.{Common}
 use Rattle.tsp_judge.specs.declared.common.Found.{Found}
 use Rattle.tsp_judge.specs.declared.fault.RunFault.{RunFault}
 use Rattle.tsp_judge.specs.declared.fault.RunFault.TheVariants.{File, WrongKind, Write, OutOfMemory, Relayout}
-use Rattle.tsp_judge.specs.Run.{Given, IsUnreadIn, IsFileIn, ReadsFile, ReadsGiven}
+use Rattle.tsp_judge.specs.CheckRun.{Given, IsUnreadIn, IsFileIn, ReadsFile, ReadsGiven}
 use Rattle.tsp_judge.specs.CompareRun.{IsFoundIn, Finds, result_of, status_of_found, ComparesOne, AreFound, solution_lines, largest_status, ComparesAll, ComparesBy, ComparesOn, LacksBasis, AreReadOnce, EndsCompare}
 use Rattle.tsp_judge.proofs.Runs.{sized}
 use Rattle.tsp_judge.proofs.Yeses.{accepted}
-use Rattle.tsp_report.specs.Compare.{solution_line, head_of}
+use Rattle.tsp_report.specs.ComparisonText.{solution_line, head_of}
 use Rattle.tsp_report.specs.Report.{IsSized}
 
 -- ---- one text after another

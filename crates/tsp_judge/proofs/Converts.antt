@@ -7,11 +7,11 @@ use Rattle.tsp_stream.specs.Turn.{Turn}
 use Rattle.tsp_stream.specs.Sink.{Sink, IsUnwritten, Writes}
 use Rattle.tsp_draft.specs.Fields.{Fields}
 use Rattle.tsp_draft.specs.Rules.{fault_of}
-use Rattle.tsp_file.specs.Text.{text_of}
+use Rattle.tsp_file.specs.CanonicalText.{text_of}
 use Rattle.tsp_read.specs.Reads.{IsFile}
 use Rattle.tsp_judge.specs.declared.fault.RunFault.{RunFault}
 use Rattle.tsp_judge.specs.declared.fault.RunFault.TheVariants.{File, WrongKind, Write, OutOfMemory, Relayout}
-use Rattle.tsp_judge.specs.Run.{ReadsFile}
+use Rattle.tsp_judge.specs.CheckRun.{ReadsFile}
 use Rattle.tsp_judge.specs.ConvertRun.{Becomes, IsConverted, IsConvertRun}
 
 pub converted : (to : Option Layout) (turn : Turn) (old new : Fields) → IsFile turn old → Becomes to old (Ok new) → fault_of new ≡ None → IsConverted to turn new

@@ -19,7 +19,7 @@ use Rattle.tsp_verdict.specs.Judged.{is_judged, IsVerdictBy, IsUnclaimedVerdict,
 use Rattle.tsp_judge.specs.declared.fault.RunFault.{RunFault}
 use Rattle.tsp_judge.specs.declared.fault.RunFault.TheVariants.{File, WrongKind, Write, OutOfMemory, Relayout}
 use Rattle.tsp_report.specs.Report.{IsGapSized, IsSized}
-use Rattle.tsp_judge.specs.Run.{ReadsFile, Given, given_by, IsUnreadIn, IsFileIn, ReadsGiven, AreRead, JudgesFiles, EndsWithout}
+use Rattle.tsp_judge.specs.CheckRun.{ReadsFile, Given, given_by, IsUnreadIn, IsFileIn, ReadsGiven, AreRead, JudgesFiles, EndsWithout}
 
 pub none_taken : length {A = ℕ} [] ≤ most_taken
 none_taken = omega arith

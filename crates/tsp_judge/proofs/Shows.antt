@@ -8,7 +8,7 @@ use Rattle.tsp_draft.specs.Fields.{Fields}
 use Rattle.tsp_read.specs.Reads.{IsFile}
 use Rattle.tsp_judge.specs.declared.fault.RunFault.{RunFault}
 use Rattle.tsp_judge.specs.declared.fault.RunFault.TheVariants.{File, WrongKind, Write, OutOfMemory, Relayout}
-use Rattle.tsp_judge.specs.Run.{ReadsFile}
+use Rattle.tsp_judge.specs.CheckRun.{ReadsFile}
 use Rattle.tsp_report.specs.Show.{shown}
 use Rattle.tsp_judge.specs.ShowRun.{IsShowRun}
 

@@ -7,15 +7,14 @@ use Rattle.tsp_format.specs.declared.kinds.Kind.{Kind}
 use Rattle.tsp_format.specs.declared.kinds.Kind.TheVariants as kinds
 use Rattle.tsp_stream.specs.Turn.{Turn}
 use Rattle.tsp_stream.specs.Sink.{Sink}
-use Rattle.tsp_draft.specs.Fields.{Fields}
+use Rattle.tsp_draft.specs.Fields.{Fields, nodes_of}
 use Rattle.tsp_draft.specs.Rules.{is_tours, is_certificate, is_tree}
 use Rattle.tsp_file.specs.Cost.{cost}
-use Rattle.tsp_file.specs.Meant.{nodes_of}
 use Rattle.tsp_verdict.specs.Solution.{tours_of}
 use Rattle.tsp_theory.specs.Length.{length_of}
 use Rattle.tsp_theory.specs.Routing.{RoutingProblem, IsPlan, IsCustomer, plan_length}
 use Rattle.tsp_cost.specs.ProblemLaws.{IsProblem}
-use Rattle.tsp_cost.specs.Tours.{depot_of, problem_of, routing_of, depots_of}
+use Rattle.tsp_cost.specs.ComputedProblems.{depot_of, problem_of, routing_of, depots_of}
 use Rattle.tsp_reason.specs.declared.certificate.Certificate.{Certificate}
 use Rattle.tsp_reason.specs.declared.certificate.Certificate.TheVariants.{Potentials, Branches}
 use Rattle.tsp_reason.specs.declared.verdict.Reason.{Reason}
@@ -31,7 +30,7 @@ use Rattle.tsp_report.specs.Report.{report_of}
 use Rattle.tsp_judge.specs.declared.fault.RunFault.{RunFault}
 use Rattle.tsp_judge.specs.declared.judging.Judged.{Judged}
 use Rattle.tsp_reason.specs.Verdicts.{is_yes}
-use Rattle.tsp_judge.specs.Run.{Given, EndsWithout, IsRun, told}
+use Rattle.tsp_judge.specs.CheckRun.{Given, EndsWithout, IsRun, told}
 use Rattle.tsp_judge.proofs.HandedOn.{one_value}
 use Rattle.tsp_judge.specs.Accepted.{IsTspOrAtsp, IsAcceptedTour, AreAcceptedRoutes, IsOptimalOrBounded, IsAccepted}
 use Rattle.tsp_judge.specs.Yes.{SaysYes, IsRunOf}

@@ -14,7 +14,7 @@ use Rattle.tsp_judge.specs.declared.bound.Bounded.{Bounded}
 use Rattle.tsp_judge.specs.declared.fault.RunFault.{RunFault}
 use Rattle.tsp_judge.specs.declared.fault.RunFault.TheVariants.{File, WrongKind, Write, OutOfMemory}
 use Rattle.tsp_judge.specs.Accepted.{IsBoundAccepted}
-use Rattle.tsp_judge.specs.Run.{IsSomeFile}
+use Rattle.tsp_judge.specs.CheckRun.{IsSomeFile}
 use Rattle.tsp_report.specs.Report.{bound_report_of}
 
 -- What comes of an instance and a certificate that were read. At Ok this is the bound, or the first reason against them, and the

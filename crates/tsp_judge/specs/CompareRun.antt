@@ -21,9 +21,9 @@ use Rattle.tsp_judge.specs.declared.compared.Compared.{Compared}
 use Rattle.tsp_judge.specs.declared.fault.RunFault.{RunFault}
 use Rattle.tsp_judge.specs.declared.fault.RunFault.TheVariants.{File, WrongKind, Write, OutOfMemory}
 use Rattle.tsp_judge.specs.Accepted.{IsAccepted}
-use Rattle.tsp_judge.specs.Run.{Given, IsUnreadIn, IsFileIn, IsSomeFile}
+use Rattle.tsp_judge.specs.CheckRun.{Given, IsUnreadIn, IsFileIn, IsSomeFile}
 use Rattle.tsp_judge.specs.Status.{status_of}
-use Rattle.tsp_report.specs.Compare.{head_of, solution_line}
+use Rattle.tsp_report.specs.ComparisonText.{head_of, solution_line}
 use Rattle.tsp_report.specs.Report.{report_of}
 
 -- ---- the instance and the certificate

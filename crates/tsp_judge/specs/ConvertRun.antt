@@ -8,7 +8,7 @@ use Rattle.tsp_file.specs.declared.fault.RelayoutFault.{RelayoutFault}
 use Rattle.tsp_draft.specs.Fields.{Fields}
 use Rattle.tsp_draft.specs.Rules.{fault_of}
 use Rattle.tsp_file.specs.Relayout.{IsRelaid, IsRefused}
-use Rattle.tsp_file.specs.Text.{text_of}
+use Rattle.tsp_file.specs.CanonicalText.{text_of}
 use Rattle.tsp_read.specs.Reads.{IsFile, StopsAt}
 use Rattle.tsp_judge.specs.declared.fault.RunFault.{RunFault}
 use Rattle.tsp_judge.specs.declared.fault.RunFault.TheVariants.{File, Write, Relayout}

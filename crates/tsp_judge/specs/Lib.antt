@@ -9,9 +9,9 @@ pub mod BoundRun
 pub mod CompareRun
 pub mod Optimal
 pub mod ConvertRun
-pub mod FaultText
+pub mod RunFaultText
 pub mod Following
-pub mod Run
+pub mod CheckRun
 pub mod ShowRun
 pub mod Status
 pub mod Yes

@@ -7,7 +7,7 @@ use Rattle.tsp_reason.specs.declared.certificate.Certificate.{Certificate}
 use Rattle.tsp_judge.specs.declared.fault.RunFault.{RunFault}
 use Rattle.tsp_judge.specs.declared.judging.Judged.{Judged}
 use Rattle.tsp_judge.specs.Accepted.{IsAccepted}
-use Rattle.tsp_judge.specs.Run.{Given, AreRead, IsRun, IsCheckAnswer, told}
+use Rattle.tsp_judge.specs.CheckRun.{Given, AreRead, IsRun, IsCheckAnswer, told}
 
 -- With `yes` the bytes that were read parse to these files, the whole report was written, and it means that the solution is
 -- accepted.

@@ -4,7 +4,7 @@ ghost use Rattle.std.specs.Prelude.{◌≡◌, None};
 ghost use Rattle.tsp_stream.specs.states.Watched.{sink_of, turn_of};
 ghost use Rattle.tsp_stream.specs.Turn.{Turn, IsUnread, TakesAtMost};
 ghost use Rattle.tsp_read.specs.Reads.{IsFile, most_taken};
-ghost use Rattle.tsp_judge.specs.Run.{Given, given_by, IsFileIn, ReadsGiven};
+ghost use Rattle.tsp_judge.specs.CheckRun.{Given, given_by, IsFileIn, ReadsGiven};
 ghost use Rattle.tsp_judge.specs.Yes.{IsRunOf};
 
 use crate::fault::RunFault;

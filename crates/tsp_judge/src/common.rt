@@ -1,11 +1,10 @@
 //! What the solutions of a comparison are judged by, and what is found of each.
 
-ghost use Rattle.std.specs.Prelude.{◌≡◌, true, MatchResult};
+ghost use Rattle.std.specs.Prelude.{◌≡◌, MatchResult};
 ghost use Rattle.tsp_stream.specs.states.Watched.{turn_of};
 ghost use Rattle.tsp_stream.specs.Turn.{TakesAtMost};
 ghost use Rattle.tsp_read.specs.Reads.{most_taken};
 ghost use Rattle.tsp_cost.specs.ProblemLaws.{IsProblem};
-ghost use Rattle.tsp_reason.specs.Verdicts.{is_clear};
 ghost use Rattle.tsp_verdict.specs.Basis.{IsBasis};
 ghost use Rattle.tsp_judge.specs.CompareRun.{LacksBasis, Finds, result_of, status_of_found};
 
@@ -101,7 +100,6 @@ pub(crate) fn find<R: Read>(
     common: &Common,
     reader: &mut Watched<R>,
 ) -> Result<Found, RunFault>
-    requires clear { is_clear common.now.basis ≡ true }
     requires basis { IsBasis common.now.certificate common.now.instance common.now.basis }
     requires problem { IsProblem common.now.instance }
     ensures { TakesAtMost most_taken (turn_of R.remaining reader.old reader.new) (λ turn. Finds common.now turn result) }

@@ -9,7 +9,7 @@ ghost use Rattle.tsp_read.specs.declared.ReadFault.{ReadFault};
 ghost use Rattle.tsp_read.specs.declared.ReadFault.TheVariants as read_faults;
 ghost use Rattle.tsp_read.specs.Reads.{StopsAt};
 ghost use Rattle.tsp_stream.specs.Turn.{Turn};
-ghost use Rattle.tsp_judge.specs.Run.{Given, IsUnreadIn, IsSomeFile};
+ghost use Rattle.tsp_judge.specs.CheckRun.{Given, IsUnreadIn, IsSomeFile};
 ghost use Rattle.tsp_judge.specs.CompareRun.{IsFaultOfCompare, largest_status, solution_lines};
 
 /// The largest status of the solutions, whichever comes first.

@@ -18,7 +18,7 @@ ghost use Rattle.tsp_verdict.specs.Judged.{IsVerdictWith};
 ghost use Rattle.tsp_judge.specs.declared.common.Common.{Common};
 ghost use Rattle.tsp_judge.specs.CompareRun.{IsFoundIn};
 ghost use Rattle.tsp_judge.specs.Optimal.{IsBoundedTour};
-ghost use Rattle.tsp_report.specs.Compare.{solution_line};
+ghost use Rattle.tsp_report.specs.ComparisonText.{solution_line};
 
 /// With a certificate, a line with a length and `optimal` means that the file of its solution has
 /// one tour of the instance, of this length, and that no tour of the instance is shorter. With a

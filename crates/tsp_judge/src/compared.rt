@@ -8,7 +8,7 @@ ghost use Rattle.tsp_read.specs.Reads.{IsFile, most_taken};
 ghost use Rattle.tsp_cost.specs.ProblemLaws.{IsProblem};
 ghost use Rattle.tsp_reason.specs.Verdicts.{is_clear};
 ghost use Rattle.tsp_verdict.specs.Basis.{IsBasis};
-ghost use Rattle.tsp_judge.specs.Run.{Given, given_by, IsFileIn};
+ghost use Rattle.tsp_judge.specs.CheckRun.{Given, given_by, IsFileIn};
 ghost use Rattle.tsp_judge.specs.CompareRun.{IsTurnAt, ComparesOne, ComparesAll, ComparesBy, IsCompareRun};
 ghost use Rattle.tsp_judge.specs.Following.{IsFollowedBy, IsFollowed};
 
@@ -131,7 +131,6 @@ fn compare_all<R: Read + Drop, E, S: Solutions<R> + Follow<E>, W: Write>(
     out: &mut Watched<W>,
     to: &mut E,
 ) -> Result<u8, RunFault>
-    requires clear { is_clear common.now.basis ≡ true }
     requires basis { IsBasis common.now.certificate common.now.instance common.now.basis }
     requires problem { IsProblem common.now.instance }
     requires sound { has_failed out.old ≡ false }
@@ -163,7 +162,6 @@ fn compare_one<R: Read + Drop, S: Solutions<R>, W: Write>(
     index: usize,
     out: &mut Watched<W>,
 ) -> Result<Found, RunFault>
-    requires clear { is_clear common.now.basis ≡ true }
     requires basis { IsBasis common.now.certificate common.now.instance common.now.basis }
     requires problem { IsProblem common.now.instance }
     requires index { index < length (S.names solutions.now) }

@@ -16,9 +16,9 @@ ghost use Rattle.tsp_stream.specs.Sink.{Sink, IsUnwritten};
 ghost use Rattle.tsp_stream.specs.declared.output.WriteFault.TheVariants as write_faults;
 ghost use Rattle.tsp_file.specs.declared.fault.RelayoutFault.TheVariants as relayout_faults;
 ghost use Rattle.tsp_judge.specs.declared.fault.RunFault.TheVariants as run_faults;
-ghost use Rattle.tsp_judge.specs.FaultText.{run_fault_text};
+ghost use Rattle.tsp_judge.specs.RunFaultText.{run_fault_text};
 ghost use Rattle.tsp_reason.specs.Verdicts.{is_yes};
-ghost use Rattle.tsp_judge.specs.Run.{Given, IsUnreadIn, IsRun, IsSomeFile};
+ghost use Rattle.tsp_judge.specs.CheckRun.{Given, IsUnreadIn, IsRun, IsSomeFile};
 ghost use Rattle.tsp_judge.specs.BoundRun.{IsBoundRun};
 ghost use Rattle.tsp_verdict.specs.Certified.{kind_of, is_bounded};
 

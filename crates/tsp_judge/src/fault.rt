@@ -25,7 +25,7 @@ pub enum RunFault {
 
 impl fmt::Display for RunFault {
     ghost use Rattle.std.specs.Prelude.{Some};
-    ghost use Rattle.tsp_judge.specs.FaultText.{run_fault_text};
+    ghost use Rattle.tsp_judge.specs.RunFaultText.{run_fault_text};
 
     ghost output = { λ fault. Some (run_fault_text fault) };
 

@@ -3,7 +3,7 @@
 ghost use Rattle.tsp_stream.specs.states.Watched.{turn_of};
 ghost use Rattle.tsp_stream.specs.Turn.{TakesAtMost};
 ghost use Rattle.tsp_read.specs.Reads.{most_taken};
-ghost use Rattle.tsp_judge.specs.Run.{ReadsFile};
+ghost use Rattle.tsp_judge.specs.CheckRun.{ReadsFile};
 
 use crate::fault::RunFault;
 use std::alloc::Global;

@@ -15,7 +15,7 @@ ghost use Rattle.tsp_read.specs.Reads.{StopsAt};
 ghost use Rattle.tsp_stream.specs.Turn.{Turn};
 ghost use Rattle.tsp_stream.specs.Sink.{Sink, IsUnwritten};
 ghost use Rattle.tsp_judge.specs.declared.fault.RunFault.TheVariants as run_faults;
-ghost use Rattle.tsp_judge.specs.Run.{JudgesFiles};
+ghost use Rattle.tsp_judge.specs.CheckRun.{JudgesFiles};
 ghost use Rattle.tsp_judge.specs.BoundRun.{BoundsFiles};
 ghost use Rattle.tsp_judge.specs.ShowRun.{IsShowRun};
 ghost use Rattle.tsp_judge.specs.ConvertRun.{IsConvertRun};

@@ -29,8 +29,9 @@ pub fn with_capacity<T>(alloc: Global, capacity: usize) -> Result<Vec<T>, Refuse
 /// Out of memory.
 pub fn filled<T: Copy + Clone>(alloc: Global, element: T, count: usize) -> Result<Vec<T>, Refused>
     ensures len { IfOk result (λ list. vec_len list ≡ count) }
-    ensures items_if_clones_equal { IfOk result (λ list.
-        ((other : T) → T.is_clone element other → other ≡ element) → list.items ≡ replicate count element) }
+    ensures items_if_clones_equal { IfOk result
+        (λ list. ((other : T) → T.is_clone element other → other ≡ element)
+        → list.items ≡ replicate count element) }
 {
     match vec![in alloc; element; count] {
         Ok(list) => Ok(list),
@@ -64,8 +65,9 @@ pub fn push<T: Drop>(list: &mut Vec<T>, element: T) -> Result<(), Refused>
 /// Out of memory.
 pub fn copied<T: Copy + Clone>(alloc: Global, elements: &[T]) -> Result<Vec<T>, Refused>
     ensures len { IfOk result (λ list. vec_len list ≡ length elements.now) }
-    ensures items_if_clones_equal { IfOk result (λ list.
-        ((element other : T) → T.is_clone element other → other ≡ element) → list.items ≡ elements.now) }
+    ensures items_if_clones_equal { IfOk result
+        (λ list. ((element other : T) → T.is_clone element other → other ≡ element)
+        → list.items ≡ elements.now) }
 {
     match elements.to_vec(alloc) {
         Ok(list) => Ok(list),

@@ -120,7 +120,8 @@ number_l-zeros zero xs = omega arith
 number_l-zeros (suc n) xs = rw (pow-suc 256 n) (omega (arith, number_l-zeros n xs))
 
 -- the byte of a digit is 48 more than what it is worth
-digits_above : (cs : List ℕ) → AllDigits 10 cs → number_l 256 cs ≡ number_l 256 (map digit_value cs) + number_l 256 (replicate (length cs) 48)
+digits_above : (cs : List ℕ) → AllDigits 10 cs
+    → number_l 256 cs ≡ number_l 256 (map digit_value cs) + number_l 256 (replicate (length cs) 48)
 digits_above [] all = refl
 digits_above (c ∷ cs) all = omega (arith, digit_value_digit c (digit_from_value c all.0), digits_above cs all.1)
 
@@ -152,7 +153,8 @@ abbrev pub padded : ℕ → List ℕ → List ℕ
 padded count bytes = replicate (8 - count) 0 ++ map digit_value (take count bytes)
 
 -- a text of digits and what follows, less as many zeros
-less_zeros : (low offset other high p q text eight_zeros : ℕ) → offset < p → other < q → text ≡ low + offset + p * high → eight_zeros ≡ offset + p * other
+less_zeros : (low offset other high p q text eight_zeros : ℕ) → offset < p → other < q → text ≡ low + offset + p * high
+    → eight_zeros ≡ offset + p * other
     → text + (p * q - eight_zeros) ≡ low + p * (high + (q - other))
 less_zeros low offset other high p q text eight_zeros small below text_is zeros_are =
     let some : 1 ≤ q - other = omega arith in
@@ -165,7 +167,8 @@ offset_small : (n : ℕ) → number_l 256 (replicate n 48) < 256 ^ n
 offset_small zero = omega arith
 offset_small (suc n) = rw (pow-suc 256 n) (omega (arith, offset_small n))
 
-zeros_split : (count : ℕ) → count ≤ 8 → 3472328296227680304 ≡ number_l 256 (replicate count 48) + 256 ^ count * number_l 256 (replicate (8 - count) 48)
+zeros_split : (count : ℕ) → count ≤ 8
+    → 3472328296227680304 ≡ number_l 256 (replicate count 48) + 256 ^ count * number_l 256 (replicate (8 - count) 48)
 zeros_split count few =
     let sum : 8 ≡ count + (8 - count) = omega arith in
     let parts : replicate 8 48 ≡ replicate count 48 ++ replicate (8 - count) 48 =
@@ -180,7 +183,8 @@ text_split bytes count few all =
     let above = rw counted at (digits_above (take count bytes) all) in
     ap (number_l 256) (sym (take-append-drop count bytes)) ∙ number_l-append 256 (take count bytes) (drop count bytes) ∙ rw (counted, above) refl
 
-digits_small : (bytes : List ℕ) (count : ℕ) → count ≤ length bytes → AllDigits 10 (take count bytes) → number_l 256 (map digit_value (take count bytes)) < 256 ^ count
+digits_small : (bytes : List ℕ) (count : ℕ) → count ≤ length bytes → AllDigits 10 (take count bytes)
+    → number_l 256 (map digit_value (take count bytes)) < 256 ^ count
 digits_small bytes count few all =
     let counted : length (take count bytes) ≡ count = length-take-le count bytes few in
     rw (length-map, counted) at (number_l-lt (map digit_value (take count bytes)) (below_256 (take count bytes) all))
@@ -203,7 +207,8 @@ moved_up bytes count long few all =
 
 -- ---- the same of the bytes as `from_le_bytes` reads them
 
-number_l-drop : (i : ℕ) (bytes : List ℕ) → number_l 256 (drop i bytes) ≡ get_or bytes i 0 + 256 * number_l 256 (drop (suc i) bytes)
+number_l-drop : (i : ℕ) (bytes : List ℕ)
+    → number_l 256 (drop i bytes) ≡ get_or bytes i 0 + 256 * number_l 256 (drop (suc i) bytes)
 number_l-drop zero [] = refl
 number_l-drop zero (b ∷ bytes) = refl
 number_l-drop (suc i) [] = refl
@@ -266,7 +271,8 @@ module _ (bytes : List ℕ) (count text : ℕ) (long : length bytes ≡ 8) (few 
 
 -- ---- the digits at the front
 
-passing : (b : Bool) (n x : ℕ) (xs : List ℕ) → is_ascii_digit x ≡ b → AllDigits 10 (take n xs) → AllDigits 10 (take (cond b (1 + n) 0) (x ∷ xs))
+passing : (b : Bool) (n x : ℕ) (xs : List ℕ) → is_ascii_digit x ≡ b → AllDigits 10 (take n xs)
+    → AllDigits 10 (take (cond b (1 + n) 0) (x ∷ xs))
 passing false n x xs is all = tt
 passing true n x xs is all =
     let low : 48 ≤ x = grind (arith, nat_tests) in

@@ -15,7 +15,7 @@ use Rattle.std.specs.Str.Parse.{AllDigits, digits_value}
 use Rattle.tsp_distance.specs.Decimal.{unit, most_count}
 use Rattle.tsp_number.specs.NumberWord.{IsShort, ReadsDecimal, ReadsWhole, point, IsSign, IsFraction, Numeral, StandsFor, IsShifted, with_sign, mantissa, digits_of, places}
 use Rattle.tsp_number.specs.declared.fault.NumberFault.TheVariants.{OutOfRange}
-use Rattle.tsp_number.specs.states.Front.{BeginsWithNumber, digit_count, few_end}
+use Rattle.tsp_number.specs.states.NumberFront.{BeginsWithNumber, digit_count, few_end}
 use Rattle.tsp_number.proofs.Prefixes.{prefix_of_front, prefix_goes_on}
 use Rattle.tsp_number.proofs.Reading.{to_signed}
 use Rattle.tsp_number.proofs.Scaling.{digits_value-append}
@@ -30,7 +30,8 @@ pub record ReadsFront (bytes : List ℕ) (count value : ℕ) : Type 0 where
 pub none_read : (bytes : List ℕ) → ReadsFront bytes 0 0
 none_read bytes = record { digits = tt; value_is = refl; size = omega arith }
 
-pub one_more : (bytes : List ℕ) (count value : ℕ) → ReadsFront bytes count value → count < length bytes → is_ascii_digit (get_or bytes count 0) ≡ true
+pub one_more : (bytes : List ℕ) (count value : ℕ) → ReadsFront bytes count value → count < length bytes
+    → is_ascii_digit (get_or bytes count 0) ≡ true
     → ReadsFront bytes (count + 1) (10 * value + (get_or bytes count 0 - 48))
 one_more bytes count value read within digit =
     let c : ℕ = get_or bytes count 0 in
@@ -49,7 +50,8 @@ one_more bytes count value read within digit =
     }
 
 -- what the first eight bytes give
-pub eight_more : (bytes eight : List ℕ) (count value : ℕ) → IsFirstChunk bytes eight 8 → count ≤ 8 → AllDigits 10 (take count eight)
+pub eight_more : (bytes eight : List ℕ) (count value : ℕ) → IsFirstChunk bytes eight 8 → count ≤ 8
+    → AllDigits 10 (take count eight)
     → value ≡ digits_value 10 (take count eight) → ReadsFront bytes count value
 eight_more bytes eight count value chunk few digits is =
     let front : take count eight ≡ take count bytes = ap (take count) chunk.same ∙ take-take count 8 bytes few in
@@ -64,7 +66,8 @@ eight_more bytes eight count value chunk few digits is =
     }
 
 -- where the first eight are digits, those after them are counted on
-pub counts_on : (bytes eight : List ℕ) (most count places : ℕ) → IsFirstChunk bytes eight 8 → count ≡ prefix_len is_ascii_digit eight → 8 ≤ count
+pub counts_on : (bytes eight : List ℕ) (most count places : ℕ) → IsFirstChunk bytes eight 8
+    → count ≡ prefix_len is_ascii_digit eight → 8 ≤ count
     → places ≡ digit_count (most - 8) (drop 8 bytes) → 8 ≤ most → 8 + places ≡ digit_count most bytes
 counts_on bytes eight most count places chunk counted full more room =
     let front = ap (prefix_len is_ascii_digit) chunk.same ∙ prefix_of_front is_ascii_digit 8 bytes in
@@ -72,7 +75,8 @@ counts_on bytes eight most count places chunk counted full more room =
     omega (arith, prefix_goes_on is_ascii_digit 8 bytes all, more, room)
 
 -- where fewer are, they are all
-pub few_digits : (bytes eight : List ℕ) (count : ℕ) → IsFirstChunk bytes eight 8 → count ≡ prefix_len is_ascii_digit eight → 0 < count → count < 8
+pub few_digits : (bytes eight : List ℕ) (count : ℕ) → IsFirstChunk bytes eight 8 → count ≡ prefix_len is_ascii_digit eight
+    → 0 < count → count < 8
     → few_end bytes ≡ Some count
 few_digits bytes eight count chunk counted some few =
     let front = ap (prefix_len is_ascii_digit) chunk.same ∙ prefix_of_front is_ascii_digit 8 bytes in
@@ -81,7 +85,8 @@ few_digits bytes eight count chunk counted some few =
     let test : (nat_le 8 (length bytes) && nat_lt 0 count && nat_lt count 8) ≡ true = grind (arith, nat_tests) in
     rw (all, test) refl
 
-pub not_few : (bytes eight : List ℕ) (count : ℕ) → IsFirstChunk bytes eight 8 → count ≡ prefix_len is_ascii_digit eight → (count ≡ 0) ⊎ (count ≡ 8)
+pub not_few : (bytes eight : List ℕ) (count : ℕ) → IsFirstChunk bytes eight 8 → count ≡ prefix_len is_ascii_digit eight
+    → (count ≡ 0) ⊎ (count ≡ 8)
     → few_end bytes ≡ None
 not_few bytes eight count chunk counted ends =
     let front = ap (prefix_len is_ascii_digit) chunk.same ∙ prefix_of_front is_ascii_digit 8 bytes in
@@ -91,7 +96,8 @@ not_few bytes eight count chunk counted ends =
     rw test refl
 
 -- the digits after the first eight go on from theirs
-pub eight_and_more : (bytes : List ℕ) (value more places power : ℕ) → ReadsFront bytes 8 value → ReadsFront (drop 8 bytes) places more
+pub eight_and_more : (bytes : List ℕ) (value more places power : ℕ) → ReadsFront bytes 8 value
+    → ReadsFront (drop 8 bytes) places more
     → places ≤ length (drop 8 bytes) → power ≡ 10 ^ places → ReadsFront bytes (8 + places) (value * power + more)
 eight_and_more bytes value more places power first then within is =
     let rest : List ℕ = take places (drop 8 bytes) in
@@ -132,7 +138,8 @@ small_digits count most value small few =
 pub small_whole : (count value : ℕ) → value < 10 ^ count → count ≤ 18 → value ≤ most_count
 small_whole count value small few = omega (arith, small_digits count 18 value small few)
 
-pub small_decimal : (count whole parts part power : ℕ) → whole < 10 ^ count → count ≤ 9 → part < 10 ^ parts → parts ≤ 9 → power ≡ 10 ^ (9 - parts)
+pub small_decimal : (count whole parts part power : ℕ) → whole < 10 ^ count → count ≤ 9 → part < 10 ^ parts → parts ≤ 9
+    → power ≡ 10 ^ (9 - parts)
     → whole * 1000000000 + part * power ≤ most_count
 small_decimal count whole parts part power small few small' few' is =
     let high = small_digits count 9 whole small few in
@@ -146,8 +153,10 @@ small_decimal count whole parts part power small few small' few' is =
 -- ---- texts
 
 -- a sign and digits
-whole_text : (bytes : List ℕ) (sign count : ℕ) → take (sign + count) bytes ≡ take sign bytes ++ (take count (drop sign bytes) ++ ([] ++ []))
-whole_text bytes sign count = take-add sign count bytes ∙ ap (λ ds. take sign bytes ++ ds) (sym (append-nil (take count (drop sign bytes))))
+whole_text : (bytes : List ℕ) (sign count : ℕ)
+    → take (sign + count) bytes ≡ take sign bytes ++ (take count (drop sign bytes) ++ ([] ++ []))
+whole_text bytes sign count =
+    take-add sign count bytes ∙ ap (λ ds. take sign bytes ++ ds) (sym (append-nil (take count (drop sign bytes))))
 
 -- a sign, digits, a point and digits
 decimal_text : (bytes : List ℕ) (sign count parts : ℕ) → sign + count < length bytes → get_or bytes (sign + count) 0 ≡ point
@@ -164,7 +173,8 @@ decimal_text bytes sign count parts within is_point =
 -- ---- their meaning
 
 -- a mantissa without an exponent, and its count of 10^-9
-plain_stands : (word sign whole fraction_text fraction : List ℕ) (negative : Bool) (size : ℕ) → word ≡ sign ++ (whole ++ (fraction_text ++ []))
+plain_stands : (word sign whole fraction_text fraction : List ℕ) (negative : Bool) (size : ℕ)
+    → word ≡ sign ++ (whole ++ (fraction_text ++ []))
     → IsSign sign negative → AllDigits 10 whole → IsFraction fraction_text fraction → AllDigits 10 fraction
     → 0 < length whole + length fraction → length fraction ≤ 9
     → size ≡ digits_value 10 (whole ++ fraction) * 10 ^ (9 - length fraction)
@@ -199,7 +209,8 @@ pub record HasWhole (bytes : List ℕ) (sign count whole : ℕ) (negative : Bool
   pub digits : AllDigits 10 (take count (drop sign bytes))
   pub value_is : whole ≡ digits_value 10 (take count (drop sign bytes))
 
-pub whole_front : (bytes : List ℕ) (sign count whole : ℕ) (negative : Bool) → HasWhole bytes sign count whole negative → 0 < count → count ≤ 18
+pub whole_front : (bytes : List ℕ) (sign count whole : ℕ) (negative : Bool) → HasWhole bytes sign count whole negative → 0 < count
+    → count ≤ 18
     → BeginsWithNumber bytes (sign + count) (with_sign negative (whole * unit))
 whole_front bytes sign count whole negative has some few =
     let ds : List ℕ = take count (drop sign bytes) in
@@ -231,7 +242,8 @@ few_front bytes count value read some few within =
     let front : 0 + count ≡ count = omega arith in
     subst (λ n. BeginsWithNumber bytes n (pos (value * unit))) front (whole_front bytes 0 count value false has some (omega arith))
 
-pub decimal_front : (bytes : List ℕ) (sign count whole parts part : ℕ) (negative : Bool) → HasWhole bytes sign count whole negative → count ≤ 9
+pub decimal_front : (bytes : List ℕ) (sign count whole parts part : ℕ) (negative : Bool)
+    → HasWhole bytes sign count whole negative → count ≤ 9
     → sign + count < length bytes → get_or bytes (sign + count) 0 ≡ point
     → parts ≤ length (drop (sign + count + 1) bytes) → parts ≤ 9 → AllDigits 10 (take parts (drop (sign + count + 1) bytes))
     → part ≡ digits_value 10 (take parts (drop (sign + count + 1) bytes)) → 0 < count + parts
@@ -260,12 +272,14 @@ decimal_front bytes sign count whole parts part negative has few before is_point
 
 -- ---- words that end where their front ends
 
-all_of : (word : List ℕ) (count : ℕ) (k : ℤ) → BeginsWithNumber word count k → count ≡ length word → IsShort word × StandsFor word k
+all_of : (word : List ℕ) (count : ℕ) (k : ℤ) → BeginsWithNumber word count k → count ≡ length word
+    → IsShort word × StandsFor word k
 all_of word count k front same =
     let all : take count word ≡ word = rw same (take-length word) in
     (rw all at front.short, rw all at front.stands)
 
-pub decimal_word : (word : List ℕ) (count : ℕ) (k : ℤ) → BeginsWithNumber word count k → count ≡ length word → unsigned_abs k ≤ most_count
+pub decimal_word : (word : List ℕ) (count : ℕ) (k : ℤ) → BeginsWithNumber word count k → count ≡ length word
+    → unsigned_abs k ≤ most_count
     → ReadsDecimal word (Ok k)
 decimal_word word count k front same within =
     let parts = all_of word count k front same in
@@ -277,7 +291,8 @@ whole_word word count k low high front same above below =
     let parts = all_of word count (k *ℤ pos unit) front same in
     (parts.0, parts.1, above, below)
 
-pub whole_outside : (word : List ℕ) (count : ℕ) (k low high : ℤ) → BeginsWithNumber word count (k *ℤ pos unit) → count ≡ length word
+pub whole_outside : (word : List ℕ) (count : ℕ) (k low high : ℤ) → BeginsWithNumber word count (k *ℤ pos unit)
+    → count ≡ length word
     → (k <ℤ low) ⊎ (high <ℤ k) → ReadsWhole word low high (Err OutOfRange)
 whole_outside word count k low high front same out =
     let parts = all_of word count (k *ℤ pos unit) front same in

@@ -49,7 +49,8 @@ pub record NoDigitFirst (bytes : List ℕ) : Type 0 where
   pub no_front : front_digits bytes ≡ []
   pub all_after : after_digits bytes ≡ bytes
 
-no_digit_by : (b : Bool) (c : ℕ) (after cs : List ℕ) → is_ascii_digit c ≡ b → NoDigitFirst after → NoDigitFirst (if b then after else c ∷ cs)
+no_digit_by : (b : Bool) (c : ℕ) (after cs : List ℕ) → is_ascii_digit c ≡ b → NoDigitFirst after
+    → NoDigitFirst (if b then after else c ∷ cs)
 no_digit_by true c after cs same none = none
 no_digit_by false c after cs same none = record { no_front = rw same refl; all_after = rw same refl }
 
@@ -121,7 +122,8 @@ is_exponent_in (c ∷ cs) e same =
     let P : ℤ → Type 0 = λ z. WritesExponent (c ∷ cs) z in
     inr (subst P both.1 (writes_exponent c cs mark digits))
 
-from_mapped : (word : List ℕ) (o : Option ℤ) (n : Numeral) → option_map (numeral_with word) o ≡ Some n → (e : ℤ) × (o ≡ Some e) × (numeral_with word e ≡ n)
+from_mapped : (word : List ℕ) (o : Option ℤ) (n : Numeral) → option_map (numeral_with word) o ≡ Some n
+    → (e : ℤ) × (o ≡ Some e) × (numeral_with word e ≡ n)
 from_mapped word (Some e) n same = (e, refl, cc)
 from_mapped word None n same = cc
 
@@ -171,7 +173,8 @@ digit_unsigned c cs small =
     unsigned_first c cs (λ e. omega arith) (λ e. omega arith)
 
 -- the whole digits, where something that is no digit follows
-front_of : (ds rest : List ℕ) → AllDigits 10 ds → NoDigitFirst rest → (front_digits (ds ++ rest) ≡ ds) × (after_digits (ds ++ rest) ≡ rest)
+front_of : (ds rest : List ℕ) → AllDigits 10 ds → NoDigitFirst rest
+    → (front_digits (ds ++ rest) ≡ ds) × (after_digits (ds ++ rest) ≡ rest)
 front_of [] rest all none = (none.no_front, none.all_after)
 front_of (d ∷ ds) rest all none =
     let digit = ascii_digit d all.0 in
@@ -179,7 +182,8 @@ front_of (d ∷ ds) rest all none =
     (rw (digit, more.0) refl, rw (digit, more.1) refl)
 
 -- a sign before bytes that have none
-after_sign-append : (sign bytes : List ℕ) (negative : Bool) → IsSign sign negative → (after_sign bytes ≡ bytes) × (has_minus bytes ≡ false)
+after_sign-append : (sign bytes : List ℕ) (negative : Bool) → IsSign sign negative
+    → (after_sign bytes ≡ bytes) × (has_minus bytes ≡ false)
     → (after_sign (sign ++ bytes) ≡ bytes) × (has_minus (sign ++ bytes) ≡ negative)
 after_sign-append sign bytes negative (inl none) plain = rw (none.0, none.1) plain
 after_sign-append sign bytes negative (inr (inl is_plus)) plain = rw (is_plus.0, is_plus.1) (refl, refl)
@@ -206,7 +210,8 @@ after_digits-all : (ds : List ℕ) → AllDigits 10 ds → after_digits ds ≡ [
 after_digits-all ds all =
     ap after_digits (sym (append-nil ds)) ∙ (front_of ds [] all (record { no_front = refl; all_after = refl })).1
 
-exponent_with : (c : ℕ) (cs ds : List ℕ) (negative : Bool) → (c ≡ lower_e) ⊎ (c ≡ upper_e) → after_sign cs ≡ ds → has_minus cs ≡ negative
+exponent_with : (c : ℕ) (cs ds : List ℕ) (negative : Bool) → (c ≡ lower_e) ⊎ (c ≡ upper_e) → after_sign cs ≡ ds
+    → has_minus cs ≡ negative
     → AllDigits 10 ds → 0 < length ds → exponent_in (c ∷ cs) ≡ Some (with_sign negative (digits_value 10 ds))
 exponent_with c cs ds negative is_mark rest sign all some =
     let mark : (c == lower_e || c == upper_e) ≡ true = grind (arith, nat_tests) in
@@ -226,7 +231,8 @@ exponent_found text e (inr w) =
     ∙ ap (λ (z : ℤ). Some z) (sym w.exponent_is)
 
 -- a mantissa begins with a digit or a point
-mantissa_unsigned : (whole text fraction rest : List ℕ) → AllDigits 10 whole → IsFraction text fraction → 0 < length whole + length fraction
+mantissa_unsigned : (whole text fraction rest : List ℕ) → AllDigits 10 whole → IsFraction text fraction
+    → 0 < length whole + length fraction
     → (after_sign (whole ++ (text ++ rest)) ≡ whole ++ (text ++ rest)) × (has_minus (whole ++ (text ++ rest)) ≡ false)
 mantissa_unsigned [] text fraction rest all (inl e) some = rw e (refl, refl)
 mantissa_unsigned [] text fraction rest all (inr none) some =
@@ -238,11 +244,13 @@ fraction_first : (text fraction rest : List ℕ) → IsFraction text fraction �
 fraction_first text fraction rest (inl e) ends = rw e (record { no_front = refl; all_after = refl })
 fraction_first text fraction rest (inr none) ends = rw none.0 ends.no_digit
 
-after_point-append : (text fraction rest : List ℕ) → IsFraction text fraction → EndsMantissa rest → after_point (text ++ rest) ≡ fraction ++ rest
+after_point-append : (text fraction rest : List ℕ) → IsFraction text fraction → EndsMantissa rest
+    → after_point (text ++ rest) ≡ fraction ++ rest
 after_point-append text fraction rest (inl e) ends = rw e refl
 after_point-append text fraction rest (inr none) ends = rw (none.0, none.1) ends.no_point
 
-same_numeral : (negative : Bool) (whole fraction : List ℕ) (n : Numeral) → negative ≡ n.negative → whole ≡ n.whole → fraction ≡ n.fraction
+same_numeral : (negative : Bool) (whole fraction : List ℕ) (n : Numeral) → negative ≡ n.negative → whole ≡ n.whole
+    → fraction ≡ n.fraction
     → (let m : Numeral = record { negative = negative; whole = whole; fraction = fraction; exponent = n.exponent } in m ≡ n)
 same_numeral negative whole fraction n first second third = rw (first, second, third) refl
 

@@ -14,7 +14,8 @@ prefix_of_front {X} p (suc m) (x ∷ xs) = by_test (p x) (prefix_of_front p m xs
     by_test false so = omega arith
 
 -- where all of a front part pass, those after it are counted on
-pub prefix_goes_on : {X : Type 0} (p : X → Bool) (m : ℕ) (xs : List X) → m ≤ prefix_len p xs → prefix_len p xs ≡ m + prefix_len p (drop m xs)
+pub prefix_goes_on : {X : Type 0} (p : X → Bool) (m : ℕ) (xs : List X) → m ≤ prefix_len p xs
+    → prefix_len p xs ≡ m + prefix_len p (drop m xs)
 prefix_goes_on p zero xs le = omega arith
 prefix_goes_on p (suc m) [] le = absurd (omega (arith, le))
 prefix_goes_on {X} p (suc m) (x ∷ xs) le = by_test (p x) le (prefix_goes_on p m xs)
@@ -25,7 +26,8 @@ prefix_goes_on {X} p (suc m) (x ∷ xs) le = by_test (p x) le (prefix_goes_on p 
     by_test false le so = absurd (omega (arith, le))
 
 -- the element after this many passes: one more
-pub prefix_one_more : {X : Type 0} (p : X → Bool) (k : ℕ) (xs : List X) (d : X) → k < length xs → k ≤ prefix_len p xs → p (get_or xs k d) ≡ true → suc k ≤ prefix_len p xs
+pub prefix_one_more : {X : Type 0} (p : X → Bool) (k : ℕ) (xs : List X) (d : X) → k < length xs → k ≤ prefix_len p xs
+    → p (get_or xs k d) ≡ true → suc k ≤ prefix_len p xs
 prefix_one_more p k [] d lt le e = absurd (omega (arith, lt))
 prefix_one_more p zero (x ∷ xs) d lt le e = omega (arith, ap (λ b. cond b (1 + prefix_len p xs) 0) e)
 prefix_one_more {X} p (suc k) (x ∷ xs) d lt le e = by_test (p x) le (prefix_one_more p k xs d (omega (arith, lt)))
@@ -36,7 +38,8 @@ prefix_one_more {X} p (suc k) (x ∷ xs) d lt le e = by_test (p x) le (prefix_on
     by_test false le so = absurd (omega (arith, le))
 
 -- it doesn't: they end there
-pub prefix_ends : {X : Type 0} (p : X → Bool) (k : ℕ) (xs : List X) (d : X) → k < length xs → k ≤ prefix_len p xs → p (get_or xs k d) ≡ false → prefix_len p xs ≡ k
+pub prefix_ends : {X : Type 0} (p : X → Bool) (k : ℕ) (xs : List X) (d : X) → k < length xs → k ≤ prefix_len p xs
+    → p (get_or xs k d) ≡ false → prefix_len p xs ≡ k
 prefix_ends p k [] d lt le e = absurd (omega (arith, lt))
 prefix_ends p zero (x ∷ xs) d lt le e = ap (λ b. cond b (1 + prefix_len p xs) 0) e
 prefix_ends {X} p (suc k) (x ∷ xs) d lt le e = by_test (p x) le (prefix_ends p k xs d (omega (arith, lt)))

@@ -22,12 +22,14 @@ unsigned_abs-signed false m = refl
 unsigned_abs-signed true zero = refl
 unsigned_abs-signed true (suc m) = refl
 
-pub to_signed : (negative : Bool) (m k : ℕ) (z : ℤ) → IsShiftedSize m z k → IsShifted (with_sign negative m) z (with_sign negative k)
+pub to_signed : (negative : Bool) (m k : ℕ) (z : ℤ) → IsShiftedSize m z k
+    → IsShifted (with_sign negative m) z (with_sign negative k)
 to_signed negative m k (pos up) shifted = ap (with_sign negative) shifted ∙ sym (signed-mul negative m (10 ^ up))
 to_signed negative m k (negsuc down) shifted = signed-mul negative k (10 ^ (down + 1)) ∙ ap (with_sign negative) shifted
 
 -- a number whose product with one above 0 has a sign has that sign
-pub divided : (negative : Bool) (m p : ℕ) (j : ℤ) → 0 < p → j *ℤ pos p ≡ with_sign negative m → (k : ℕ) × (k * p ≡ m) × (j ≡ with_sign negative k)
+pub divided : (negative : Bool) (m p : ℕ) (j : ℤ) → 0 < p → j *ℤ pos p ≡ with_sign negative m
+    → (k : ℕ) × (k * p ≡ m) × (j ≡ with_sign negative k)
 divided false m p (pos a) above same = (a, cc, refl)
 divided false m p (negsuc a) above same =
     let some : 1 ≤ suc a = omega arith in
@@ -42,7 +44,8 @@ divided true m p (pos (suc a)) above same =
     absurd (omega (arith, ints))
 divided true m p (negsuc a) above same = (suc a, omega (arith, ints), refl)
 
-from_signed : (negative : Bool) (m : ℕ) (z j : ℤ) → IsShifted (with_sign negative m) z j → (k : ℕ) × IsShiftedSize m z k × (j ≡ with_sign negative k)
+from_signed : (negative : Bool) (m : ℕ) (z j : ℤ) → IsShifted (with_sign negative m) z j
+    → (k : ℕ) × IsShiftedSize m z k × (j ≡ with_sign negative k)
 from_signed negative m (pos up) j shifted = (m * 10 ^ up, refl, shifted ∙ signed-mul negative m (10 ^ up))
 from_signed negative m (negsuc down) j shifted = divided negative m (10 ^ (down + 1)) j (pow_above_zero (down + 1)) shifted
 
@@ -56,27 +59,31 @@ bad_number word none spelled =
     let some = found word spelled.0 spelled.1 in
     cc
 
-pub stands_by : (word : List ℕ) (n : Numeral) (k : ℕ) → numeral_in word ≡ Some n → IsShiftedSize (digits_of n) (places 9 n) k → StandsFor word (with_sign n.negative k)
+pub stands_by : (word : List ℕ) (n : Numeral) (k : ℕ) → numeral_in word ≡ Some n → IsShiftedSize (digits_of n) (places 9 n) k
+    → StandsFor word (with_sign n.negative k)
 stands_by word n k is_in shifted = record {
   numeral = n;
   spelled = spells_in word n is_in;
   shifted = to_signed n.negative (digits_of n) k (places 9 n) shifted;
 }
 
-pub size_by : (word : List ℕ) (n : Numeral) (j : ℤ) → numeral_in word ≡ Some n → StandsFor word j → (k : ℕ) × IsShiftedSize (digits_of n) (places 9 n) k × (j ≡ with_sign n.negative k)
+pub size_by : (word : List ℕ) (n : Numeral) (j : ℤ) → numeral_in word ≡ Some n → StandsFor word j
+    → (k : ℕ) × IsShiftedSize (digits_of n) (places 9 n) k × (j ≡ with_sign n.negative k)
 size_by word n j is_in stands =
     let same : stands.numeral ≡ n = same_some (numeral_in word) stands.numeral n (found word stands.numeral stands.spelled) is_in in
     let P : Numeral → Type 0 = λ m. IsShifted (mantissa m) (places 9 m) j in
     from_signed n.negative (digits_of n) (places 9 n) j (subst P same stands.shifted)
 
-pub too_fine : (word : List ℕ) (w : Written) → HoldsWord word w → ((n : Numeral) → KeepsNumeral w n → ShiftsTo (digits_of n) (places 9 n) None)
+pub too_fine : (word : List ℕ) (w : Written) → HoldsWord word w
+    → ((n : Numeral) → KeepsNumeral w n → ShiftsTo (digits_of n) (places 9 n) None)
     → IsNumberWord word × ((j : ℤ) → ¬ StandsFor word j)
 too_fine word w holds none = (
   (holds.numeral, spells_in word holds.numeral holds.is_in),
   λ j stands. let k = size_by word holds.numeral j holds.is_in stands in none holds.numeral holds.keeps k.0 k.1,
 )
 
-pub stands : (word : List ℕ) (w : Written) (size : ℕ) → HoldsWord word w → ((n : Numeral) → KeepsNumeral w n → ShiftsTo (digits_of n) (places 9 n) (Some size))
+pub stands : (word : List ℕ) (w : Written) (size : ℕ) → HoldsWord word w
+    → ((n : Numeral) → KeepsNumeral w n → ShiftsTo (digits_of n) (places 9 n) (Some size))
     → (k : ℕ) × StandsFor word (with_sign w.negative k) × (size ≡ saturated k)
 stands word w size holds some =
     let k = some holds.numeral holds.keeps in
@@ -126,7 +133,8 @@ unit_down m k (negsuc down) (negsuc down') same shifted =
     let power : 10 ^ (down + 1) ≡ 10 ^ (down' + 1) * 10 ^ 9 = ap (λ n. 10 ^ n) far ∙ pow-add 10 (down' + 1) 9 in
     rw power (omega (arith, shifted))
 
-pub whole_stands : (word : List ℕ) (w : Written) (size : ℕ) → HoldsWord word w → ((n : Numeral) → KeepsNumeral w n → ShiftsTo (digits_of n) (places 0 n) (Some size))
+pub whole_stands : (word : List ℕ) (w : Written) (size : ℕ) → HoldsWord word w
+    → ((n : Numeral) → KeepsNumeral w n → ShiftsTo (digits_of n) (places 0 n) (Some size))
     → (k : ℕ) × StandsFor word (with_sign w.negative k *ℤ pos unit) × (size ≡ saturated k)
 whole_stands word w size holds some =
     let n = holds.numeral in
@@ -138,7 +146,8 @@ whole_stands word w size holds some =
     ap (λ b. with_sign b (k.0 * unit)) (sym holds.keeps.negative) ∙ sym (signed-mul w.negative k.0 unit) in
     (k.0, subst P sign here, k.2)
 
-pub not_whole : (word : List ℕ) (w : Written) (size : ℕ) → HoldsWord word w → ((n : Numeral) → KeepsNumeral w n → ShiftsTo (digits_of n) (places 9 n) (Some size))
+pub not_whole : (word : List ℕ) (w : Written) (size : ℕ) → HoldsWord word w
+    → ((n : Numeral) → KeepsNumeral w n → ShiftsTo (digits_of n) (places 9 n) (Some size))
     → ((n : Numeral) → KeepsNumeral w n → ShiftsTo (digits_of n) (places 0 n) None)
     → (j : ℤ) × StandsFor word j × ((i : ℤ) → j ≢ i *ℤ pos unit)
 not_whole word w size holds some none =
@@ -155,20 +164,23 @@ not_whole word w size holds some none =
 -- ---- sizes against the limits
 
 -- a size within the limit is exact
-pub decimal_within : (negative : Bool) (size k : ℕ) (d : ℤ) → size ≡ saturated k → d ≡ with_sign negative size → unsigned_abs d ≤ most_count → with_sign negative k ≡ d
+pub decimal_within : (negative : Bool) (size k : ℕ) (d : ℤ) → size ≡ saturated k → d ≡ with_sign negative size
+    → unsigned_abs d ≤ most_count → with_sign negative k ≡ d
 decimal_within negative size k d kept is within =
     let size_is : unsigned_abs d ≡ size = ap unsigned_abs is ∙ unsigned_abs-signed negative size in
     let exact : k ≡ size = omega arith in
     ap (with_sign negative) exact ∙ sym is
 
 -- a size past the limit is of a number past it
-pub decimal_past : (negative : Bool) (size k : ℕ) (d : ℤ) → size ≡ saturated k → d ≡ with_sign negative size → ¬ (unsigned_abs d ≤ most_count) → most_count < unsigned_abs (with_sign negative k)
+pub decimal_past : (negative : Bool) (size k : ℕ) (d : ℤ) → size ≡ saturated k → d ≡ with_sign negative size
+    → ¬ (unsigned_abs d ≤ most_count) → most_count < unsigned_abs (with_sign negative k)
 decimal_past negative size k d kept is past =
     let size_is : unsigned_abs d ≡ size = ap unsigned_abs is ∙ unsigned_abs-signed negative size in
     rw (unsigned_abs-signed negative k) (omega arith)
 
 -- a size of 64 bits with a sign is exact
-pub whole_within : (negative : Bool) (size k : ℕ) (v : ℤ) → size ≡ saturated k → v ≡ with_sign negative size → FitsSigned w64 v → with_sign negative k ≡ v
+pub whole_within : (negative : Bool) (size k : ℕ) (v : ℤ) → size ≡ saturated k → v ≡ with_sign negative size → FitsSigned w64 v
+    → with_sign negative k ≡ v
 whole_within false size k v kept is fits =
     let P : ℤ → Type 0 = λ z. FitsSigned w64 z in
     let here : FitsSigned w64 (pos size) = subst P is fits in
@@ -186,7 +198,8 @@ whole_within true (suc size) k v kept is fits =
     ap (with_sign true) exact ∙ sym is
 
 -- a size outside a range of 64 bits is of a number outside it
-pub whole_past : (negative : Bool) (size k : ℕ) (v low high : ℤ) → size ≡ saturated k → v ≡ with_sign negative size → FitsSigned w64 low → FitsSigned w64 high
+pub whole_past : (negative : Bool) (size k : ℕ) (v low high : ℤ) → size ≡ saturated k → v ≡ with_sign negative size
+    → FitsSigned w64 low → FitsSigned w64 high
     → (v <ℤ low) ⊎ (high <ℤ v) → (with_sign negative k <ℤ low) ⊎ (high <ℤ with_sign negative k)
 whole_past false size k v (pos low) high kept is fits fits' (inl below) =
     let small : low < 2 ^ 63 = fits.sfits in

@@ -53,7 +53,8 @@ pub rest_left : (size power count : ℕ) → power ≡ 10 ^ count → size % pow
 rest_left size power count is rest = λ k same.
     rest (rw is (ap (λ n. n % 10 ^ count) (sym same) ∙ mul-mod_left k (10 ^ count)))
 
-pub no_rest : (size power count : ℕ) → power ≡ 10 ^ count → size < 2 ^ 64 → size % power ≡ 0 → DropsZeros size count (Some (size / power))
+pub no_rest : (size power count : ℕ) → power ≡ 10 ^ count → size < 2 ^ 64 → size % power ≡ 0
+    → DropsZeros size count (Some (size / power))
 no_rest size power count is small none =
     let whole : size / power * power ≡ size = omega (arith, div-add-mod' size power) in
     let above : 0 < power = rw is (pow_above_zero count) in
@@ -71,7 +72,8 @@ digits_value_after-is n (d ∷ ds) =
     (omega (arith, digits_value_after-is (n * 10 + digit_value d) ds, digits_value_after-is (0 * 10 + digit_value d) ds))
 
 -- the digits at the front are worth a power of ten more
-pub digits_value-append : (front back : List ℕ) → digits_value 10 (front ++ back) ≡ digits_value 10 front * 10 ^ length back + digits_value 10 back
+pub digits_value-append : (front back : List ℕ)
+    → digits_value 10 (front ++ back) ≡ digits_value 10 front * 10 ^ length back + digits_value 10 back
 digits_value-append front back = digits_value_after-append 10 0 front back ∙ digits_value_after-is (digits_value 10 front) back
 
 abbrev pub are_zeros : List ℕ → Bool
@@ -121,7 +123,8 @@ zeros_at_end ds front back count size split long zeros kept =
     let worth : digits_value 10 front * 10 ^ length back ≡ digits_value 10 ds = omega (arith, digits_value-append front back, digits_value-zeros back zeros) in
     (digits_value 10 front, rw long at worth, kept)
 
-pub rest_at_end : (ds front back : List ℕ) (count : ℕ) → AllDigits 10 ds → ds ≡ front ++ back → length back ≡ count → are_zeros back ≡ false
+pub rest_at_end : (ds front back : List ℕ) (count : ℕ) → AllDigits 10 ds → ds ≡ front ++ back → length back ≡ count
+    → are_zeros back ≡ false
     → DropsZeros (digits_value 10 ds) count None
 rest_at_end ds front back count all split long zeros = λ k same.
     let value : digits_value 10 ds ≡ digits_value 10 (front ++ back) = ap (digits_value 10) split in
@@ -132,7 +135,8 @@ rest_at_end ds front back count all split long zeros = λ k same.
     let places = same_from_place k 0 (digits_value 10 front) (digits_value 10 back) (10 ^ length back) (pow_above_zero (length back)) (digits_value-lt 10 back back_digits) sums in
     omega (arith, digits_value-nonzero back back_digits zeros)
 
-pub all_dropped : (ds : List ℕ) (count : ℕ) → AllDigits 10 ds → length ds ≤ count → 0 < digits_value 10 ds → DropsZeros (digits_value 10 ds) count None
+pub all_dropped : (ds : List ℕ) (count : ℕ) → AllDigits 10 ds → length ds ≤ count → 0 < digits_value 10 ds
+    → DropsZeros (digits_value 10 ds) count None
 all_dropped ds count all many above = λ k same.
     let zero' = only_zero (digits_value 10 ds) k count (length ds) (digits_value-lt 10 ds all) many same in
     omega arith
@@ -168,7 +172,8 @@ saturated-mul m p some =
     ]
 
 -- zeros added are places to the left
-pub shifts_up : (m size up : ℕ) (p z : ℤ) → IsNear p z → p ≡ pos up → size ≡ saturated m → ShiftsTo m z (Some (saturated (size * 10 ^ up)))
+pub shifts_up : (m size up : ℕ) (p z : ℤ) → IsNear p z → p ≡ pos up → size ≡ saturated m
+    → ShiftsTo m z (Some (saturated (size * 10 ^ up)))
 shifts_up m size up p z (inl same) place kept =
     let at : pos up ≡ z = sym place ∙ same in
     let P : ℤ → Type 0 = λ q. ShiftsTo m q (Some (saturated (size * 10 ^ up))) in
@@ -194,7 +199,8 @@ drops_near : (m count down : ℕ) (r : Option ℕ) → count ≡ down + 1 → Dr
 drops_near m count down None same drops = λ k shifted. drops k (rw same shifted)
 drops_near m count down (Some size) same drops = (drops.0, rw same at drops.1, drops.2)
 
-drops_far : (m count down : ℕ) (r : Option ℕ) → m < 10 ^ 64 → 64 ≤ count → 64 ≤ down + 1 → DropsZeros m count r → ShiftsTo m (negsuc down) r
+drops_far : (m count down : ℕ) (r : Option ℕ) → m < 10 ^ 64 → 64 ≤ count → 64 ≤ down + 1 → DropsZeros m count r
+    → ShiftsTo m (negsuc down) r
 drops_far m count down None small many many' drops = λ k shifted.
     let none = only_zero m k (down + 1) 64 small many' shifted in
     drops 0 (omega arith)
@@ -203,7 +209,8 @@ drops_far m count down (Some size) small many many' drops =
     (0, omega arith, drops.2 ∙ ap saturated none.0)
 
 -- zeros dropped are places to the right
-pub shifts_down : (m count : ℕ) (p z : ℤ) (r : Option ℕ) → IsNear p z → p +ℤ pos count ≡ pos 0 → 0 < count → m < 10 ^ 64 → DropsZeros m count r → ShiftsTo m z r
+pub shifts_down : (m count : ℕ) (p z : ℤ) (r : Option ℕ) → IsNear p z → p +ℤ pos count ≡ pos 0 → 0 < count → m < 10 ^ 64
+    → DropsZeros m count r → ShiftsTo m z r
 shifts_down m count p (pos up) r (inl same) place some small drops = absurd (omega (arith, ints))
 shifts_down m count p (negsuc down) r (inl same) place some small drops = drops_near m count down r (omega (arith, ints)) drops
 shifts_down m count p z r (inr (inl beyond)) place some small drops = absurd (omega (arith, ints))
@@ -231,7 +238,8 @@ whole_split whole fraction front back count kept cut =
     (texts, rw (length-append back fraction) (omega arith))
 
 pub whole_cut_zeros : (whole fraction front back : List ℕ) (count kept size : ℕ) → CutsWhole whole fraction front back count kept
-    → AllDigits 10 (whole ++ fraction) → are_zeros back ≡ true → are_zeros fraction ≡ true → size ≡ saturated (digits_value 10 (front_digits front))
+    → AllDigits 10 (whole ++ fraction) → are_zeros back ≡ true → are_zeros fraction ≡ true
+    → size ≡ saturated (digits_value 10 (front_digits front))
     → DropsZeros (digits_value 10 (whole ++ fraction)) count (Some size)
 whole_cut_zeros whole fraction front back count kept size cut all zeros zeros' value =
     let split = whole_split whole fraction front back count kept cut in
@@ -263,7 +271,8 @@ fraction_split whole fraction front back count kept cut =
     let places = cut.places in
     (texts, omega arith)
 
-pub fraction_cut_zeros : (whole fraction front back : List ℕ) (count kept size : ℕ) → CutsFraction whole fraction front back count kept
+pub fraction_cut_zeros : (whole fraction front back : List ℕ) (count kept size : ℕ)
+    → CutsFraction whole fraction front back count kept
     → AllDigits 10 (whole ++ fraction) → are_zeros back ≡ true
     → size ≡ saturated (digits_value_after 10 (digits_value 10 (front_digits whole)) (front_digits front))
     → DropsZeros (digits_value 10 (whole ++ fraction)) count (Some size)

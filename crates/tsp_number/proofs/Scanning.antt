@@ -19,7 +19,8 @@ pub record HasRead (bytes : List ℕ) (before end value : ℕ) : Type 0 where
       → (m : ℕ) × (value ≡ saturated m) × (digits_value_after 10 m (front_digits (drop end bytes)) ≡ digits_value_after 10 n (front_digits bytes))
 
 -- the value of digits goes on from that of the digits before them
-pub digits_value_after-append : (radix n : ℕ) (xs ys : List ℕ) → digits_value_after radix n (xs ++ ys) ≡ digits_value_after radix (digits_value_after radix n xs) ys
+pub digits_value_after-append : (radix n : ℕ) (xs ys : List ℕ)
+    → digits_value_after radix n (xs ++ ys) ≡ digits_value_after radix (digits_value_after radix n xs) ys
 digits_value_after-append radix n [] ys = refl
 digits_value_after-append radix n (x ∷ xs) ys = digits_value_after-append radix (n * radix + digit_value x) xs ys
 
@@ -36,7 +37,8 @@ if_above_zero n x y above = grind (arith, common_steps)
 digit_value-lt : (c : ℕ) → is_ascii_digit c ≡ true → digit_value c < 10
 digit_value-lt c digit = grind (arith, nat_tests)
 
-on_digit : (b : Bool) (c : ℕ) (ds : List ℕ) → (b ≡ true → digit_value c < 10) → AllDigits 10 ds → AllDigits 10 (if b then c ∷ ds else [])
+on_digit : (b : Bool) (c : ℕ) (ds : List ℕ) → (b ≡ true → digit_value c < 10) → AllDigits 10 ds
+    → AllDigits 10 (if b then c ∷ ds else [])
 on_digit true c ds small rest = (small refl, rest)
 on_digit false c ds small rest = tt
 
@@ -53,7 +55,8 @@ length_by_digit false c front after cs same = omega arith
 -- they and what follows are all the bytes
 pub length-front_digits : (bytes : List ℕ) → length (front_digits bytes) + length (after_digits bytes) ≡ length bytes
 length-front_digits [] = refl
-length-front_digits (c ∷ cs) = length_by_digit (is_ascii_digit c) c (front_digits cs) (after_digits cs) cs (length-front_digits cs)
+length-front_digits (c ∷ cs) =
+    length_by_digit (is_ascii_digit c) c (front_digits cs) (after_digits cs) cs (length-front_digits cs)
 
 skipped-le : (b : Bool) (c : ℕ) (cs : List ℕ) → length (if b then cs else c ∷ cs) ≤ suc (length cs)
 skipped-le true c cs = omega arith

@@ -38,7 +38,8 @@ no_decimals count rest none =
     let parts : Q (decimals count 0) = subst Q (sym (decimals-none count)) (tt, omega arith, omega arith) in
     subst P (sym none) (record { digits = parts.0; left = count; length_is = parts.1; worth = parts.2 })
 
-first_decimal : (count rest : ℕ) → 0 < rest → rest < 10 ^ suc count → DecimalsOf count (rest % 10 ^ count) → DecimalsOf (suc count) rest
+first_decimal : (count rest : ℕ) → 0 < rest → rest < 10 ^ suc count → DecimalsOf count (rest % 10 ^ count)
+    → DecimalsOf (suc count) rest
 first_decimal count rest some part more =
     let first : rest / 10 ^ count < 10 = div_below rest (10 ^ count) 10 (pow_above_zero count) (omega (arith, pow-suc 10 count)) in
     let ds : List ℕ = decimals count (rest % 10 ^ count) in
@@ -112,7 +113,8 @@ is_sign : (negative : Bool) → IsSign (sign_text negative) negative
 is_sign false = inl (refl, refl)
 is_sign true = inr (inr (refl, refl))
 
-stands_spelled : (negative : Bool) (size : ℕ) → size ≤ most_count → StandsFor (sign_text negative ++ size_spelling size) (with_sign negative size)
+stands_spelled : (negative : Bool) (size : ℕ) → size ≤ most_count
+    → StandsFor (sign_text negative ++ size_spelling size) (with_sign negative size)
 stands_spelled negative size most =
     let f = fraction_of (size % unit) (mod_below size unit (omega arith)) in
     let whole = decimal_is_IsNumeral (size / unit) (omega arith) in

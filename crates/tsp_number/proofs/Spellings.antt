@@ -9,7 +9,8 @@ use Rattle.std.specs.Fmt.{decimal}
 use Rattle.tsp_number.specs.Spelling.{decimals, three_digits}
 use Rattle.tsp_number.proofs.Scaling.{pow_above_zero}
 
-pub decimals-suc : (places rest : ℕ) → 0 < rest → decimals (suc places) rest ≡ (48 + rest / 10 ^ places) ∷ decimals places (rest % 10 ^ places)
+pub decimals-suc : (places rest : ℕ) → 0 < rest
+    → decimals (suc places) rest ≡ (48 + rest / 10 ^ places) ∷ decimals places (rest % 10 ^ places)
 unfolding decimals
 decimals-suc places rest some =
     let above : (rest == 0) ≡ false = grind (arith, nat_tests) in
@@ -42,7 +43,8 @@ length_whole whole most = length-decimal-le 10 whole (omega arith) (omega arith)
 
 -- ---- the digits of a part
 
-decimals-some : (places rest : ℕ) → rest ≢ 0 → decimals (suc places) rest ≡ (48 + rest / 10 ^ places) ∷ decimals places (rest % 10 ^ places)
+decimals-some : (places rest : ℕ) → rest ≢ 0
+    → decimals (suc places) rest ≡ (48 + rest / 10 ^ places) ∷ decimals places (rest % 10 ^ places)
 decimals-some places rest some = decimals-suc places rest (omega arith)
 
 mod-times : (rest p z : ℕ) → 0 < p → 0 < z → rest * z % (p * z) ≡ rest % p * z
@@ -60,7 +62,8 @@ nothing_left places all zeros rest none =
     ap (λ n. decimals all (n * 10 ^ zeros)) none ∙ ap (decimals all) gone ∙ decimals-none all ∙ sym (decimals-none places) ∙ ap (decimals places) (sym none)
 
 -- nothing is written of the zeros at the end
-decimals-shift : (places all zeros rest : ℕ) → all ≡ places + zeros → rest < 10 ^ places → decimals all (rest * 10 ^ zeros) ≡ decimals places rest
+decimals-shift : (places all zeros rest : ℕ) → all ≡ places + zeros → rest < 10 ^ places
+    → decimals all (rest * 10 ^ zeros) ≡ decimals places rest
 decimals-shift zero all zeros rest same small =
     let none : rest ≡ 0 = omega arith in
     nothing_left zero all zeros rest none
@@ -95,7 +98,8 @@ last_three group some =
     decimals-suc 2 group (omega arith)
     ∙ ap (λ ds. (48 + group / 100) ∷ ds) (pair ∙ rw (second.0, second.1, one, div-one (group % 10), decimals-none_left (group % 10 % 1)) refl)
 
-pub last_two : (group : ℕ) → group % 10 ≡ 0 → 0 < group % 100 → decimals 3 group ≡ (48 + group / 100) ∷ (48 + group / 10 % 10) ∷ []
+pub last_two : (group : ℕ) → group % 10 ≡ 0 → 0 < group % 100
+    → decimals 3 group ≡ (48 + group / 100) ∷ (48 + group / 10 % 10) ∷ []
 last_two group none some =
     let second = next_part group 100 10 refl (omega arith) in
     let pair : decimals 2 (group % 100) ≡ (48 + group % 100 / 10) ∷ decimals 1 (group % 100 % 10) = decimals-suc 1 (group % 100) some in
@@ -119,7 +123,8 @@ some_before rest place q same some =
     ]
 
 -- a group of three with something left after it
-decimals-group : (places q rest : ℕ) → q ≡ 10 ^ places → 0 < rest % q → decimals (suc (suc (suc places))) rest ≡ three_digits (rest / q) ++ decimals places (rest % q)
+decimals-group : (places q rest : ℕ) → q ≡ 10 ^ places → 0 < rest % q
+    → decimals (suc (suc (suc places))) rest ≡ three_digits (rest / q) ++ decimals places (rest % q)
 decimals-group places q rest is some =
     let above : 0 < q = rw is (pow_above_zero places) in
     let ten : 10 ^ suc places ≡ q * 10 = rw is (pow-suc 10 places) in
@@ -153,10 +158,12 @@ decimals-zeros rest part none =
     let whole : rest ≡ rest / 1000000 * 10 ^ 6 = omega (arith, div-add-mod' rest 1000000) in
     ap (decimals 9) whole ∙ decimals-shift 3 9 6 (rest / 1000000) refl (omega arith)
 
-pub decimals-first : (rest : ℕ) → 0 < rest % 1000000 → decimals 9 rest ≡ three_digits (rest / 1000000) ++ decimals 6 (rest % 1000000)
+pub decimals-first : (rest : ℕ) → 0 < rest % 1000000
+    → decimals 9 rest ≡ three_digits (rest / 1000000) ++ decimals 6 (rest % 1000000)
 decimals-first rest some = decimals-group 6 1000000 rest refl some
 
-pub decimals-second : (rest : ℕ) → 0 < rest % 1000 → decimals 6 (rest % 1000000) ≡ three_digits (rest / 1000 % 1000) ++ decimals 3 (rest % 1000)
+pub decimals-second : (rest : ℕ) → 0 < rest % 1000
+    → decimals 6 (rest % 1000000) ≡ three_digits (rest / 1000 % 1000) ++ decimals 3 (rest % 1000)
 decimals-second rest some =
     let group : rest % 1000000 / 1000 ≡ rest / 1000 % 1000 = omega arith in
     let left : rest % 1000000 % 1000 ≡ rest % 1000 = omega arith in

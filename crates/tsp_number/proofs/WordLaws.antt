@@ -92,7 +92,8 @@ outside_not_within low high j k same from to (inl below) = absurd (omega (arith,
 outside_not_within low high j k same from to (inr above) = absurd (omega (arith, ints))
 
 -- one answer
-pub whole_once : (word : List ℕ) (low high : ℤ) (r s : Result ℤ NumberFault) → ReadsWhole word low high r → ReadsWhole word low high s → r ≡ s
+pub whole_once : (word : List ℕ) (low high : ℤ) (r s : Result ℤ NumberFault) → ReadsWhole word low high r
+    → ReadsWhole word low high s → r ≡ s
 whole_once word low high (Ok j) (Ok k) a b = ap Ok (times_unit j k (stands_once word (j *ℤ pos unit) (k *ℤ pos unit) a.1 b.1))
 whole_once word low high (Ok j) (Err LongWord) a b = absurd (b a.0)
 whole_once word low high (Ok j) (Err BadNumber) a b = absurd (b.1 (number_word word _ a.1))
@@ -126,12 +127,14 @@ whole_once word low high (Err OutOfRange) (Err LongWord) a b = absurd (b a.0)
 whole_once word low high (Err OutOfRange) (Err BadNumber) a b = absurd (b.1 (number_word word _ a.1.1))
 whole_once word low high (Err OutOfRange) (Err TooFine) a b = absurd (b.2 _ a.1.1)
 whole_once word low high (Err OutOfRange) (Err OutOfRange) a b = refl
-whole_once word low high (Err OutOfRange) (Err NotWhole) a b = absurd (b.1.2 (a.1.0) (stands_once word b.1.0 (a.1.0 *ℤ pos unit) b.1.1 a.1.1))
+whole_once word low high (Err OutOfRange) (Err NotWhole) a b =
+    absurd (b.1.2 (a.1.0) (stands_once word b.1.0 (a.1.0 *ℤ pos unit) b.1.1 a.1.1))
 whole_once word low high (Err NotWhole) (Ok k) a b = absurd (a.1.2 (k) (stands_once word a.1.0 (k *ℤ pos unit) a.1.1 b.1))
 whole_once word low high (Err NotWhole) (Err LongWord) a b = absurd (b a.0)
 whole_once word low high (Err NotWhole) (Err BadNumber) a b = absurd (b.1 (number_word word _ a.1.1))
 whole_once word low high (Err NotWhole) (Err TooFine) a b = absurd (b.2 _ a.1.1)
-whole_once word low high (Err NotWhole) (Err OutOfRange) a b = absurd (a.1.2 (b.1.0) (stands_once word a.1.0 (b.1.0 *ℤ pos unit) a.1.1 b.1.1))
+whole_once word low high (Err NotWhole) (Err OutOfRange) a b =
+    absurd (a.1.2 (b.1.0) (stands_once word a.1.0 (b.1.0 *ℤ pos unit) a.1.1 b.1.1))
 whole_once word low high (Err NotWhole) (Err NotWhole) a b = refl
 
 -- ---- the computed answers are the defined ones
@@ -183,16 +186,19 @@ whole_counted word n (Some k) is_in some =
     subst P (sym (signed-mul n.negative k unit))
     (stands_by word n (k * unit) is_in (unit_up (digits_of n) k (places 0 n) (places 9 n) (unit_places n) some))
 
-decimal_by : (word : List ℕ) (k : ℤ) (within : Bool) → IsShort word → StandsFor word k → nat_le (unsigned_abs k) most_count ≡ within
+decimal_by : (word : List ℕ) (k : ℤ) (within : Bool) → IsShort word → StandsFor word k
+    → nat_le (unsigned_abs k) most_count ≡ within
     → ReadsDecimal word (if within then Ok k else Err OutOfRange)
 decimal_by word k true short stands test = (short, stands, grind (arith, nat_tests))
 decimal_by word k false short stands test = (short, (k, stands, grind (arith, nat_tests)))
 
-decimal_within-reads : (word : List ℕ) (o : Option ℤ) → IsShort word → IsNumberWord word → Counted word o → ReadsDecimal word (decimal_within o)
+decimal_within-reads : (word : List ℕ) (o : Option ℤ) → IsShort word → IsNumberWord word → Counted word o
+    → ReadsDecimal word (decimal_within o)
 decimal_within-reads word None short number none = (short, number, none)
 decimal_within-reads word (Some k) short number stands = decimal_by word k (nat_le (unsigned_abs k) most_count) short stands refl
 
-decimal_from-reads : (word : List ℕ) (o : Option Numeral) → IsShort word → numeral_in word ≡ o → ReadsDecimal word (decimal_from o)
+decimal_from-reads : (word : List ℕ) (o : Option Numeral) → IsShort word → numeral_in word ≡ o
+    → ReadsDecimal word (decimal_from o)
 decimal_from-reads word None short is_in = (short, bad_number word is_in)
 decimal_from-reads word (Some n) short is_in =
     decimal_within-reads word (number_in 9 n) short (n, spells_in word n is_in)
@@ -225,20 +231,24 @@ in_range low high n within test =
     let P : Bool → Type 0 = λ b. MatchBool b ((low ≤ℤ n) × (n ≤ℤ high)) ((n <ℤ low) ⊎ (high <ℤ n)) in
     subst P test (range_by low high n (int_le low n) (int_le n high) refl refl)
 
-whole_by : (word : List ℕ) (low high n : ℤ) (within : Bool) → IsShort word → StandsFor word (n *ℤ pos unit) → (int_le low n && int_le n high) ≡ within
+whole_by : (word : List ℕ) (low high n : ℤ) (within : Bool) → IsShort word → StandsFor word (n *ℤ pos unit)
+    → (int_le low n && int_le n high) ≡ within
     → ReadsWhole word low high (if within then Ok n else Err OutOfRange)
 whole_by word low high n true short stands test =
     let range = in_range low high n true test in
     (short, stands, range.0, range.1)
 whole_by word low high n false short stands test = (short, (n, stands, in_range low high n false test))
 
-whole_within-reads : (word : List ℕ) (low high : ℤ) (o w : Option ℤ) → IsShort word → IsNumberWord word → Counted word o → WholeCounted word w
+whole_within-reads : (word : List ℕ) (low high : ℤ) (o w : Option ℤ) → IsShort word → IsNumberWord word → Counted word o
+    → WholeCounted word w
     → ReadsWhole word low high (whole_within low high o w)
 whole_within-reads word low high None w short number none whole = (short, number, none)
 whole_within-reads word low high (Some k) None short number stands none = (short, (k, stands, none k stands))
-whole_within-reads word low high (Some k) (Some n) short number stands whole = whole_by word low high n (int_le low n && int_le n high) short whole refl
+whole_within-reads word low high (Some k) (Some n) short number stands whole =
+    whole_by word low high n (int_le low n && int_le n high) short whole refl
 
-whole_from-reads : (word : List ℕ) (low high : ℤ) (o : Option Numeral) → IsShort word → numeral_in word ≡ o → ReadsWhole word low high (whole_from low high o)
+whole_from-reads : (word : List ℕ) (low high : ℤ) (o : Option Numeral) → IsShort word → numeral_in word ≡ o
+    → ReadsWhole word low high (whole_from low high o)
 whole_from-reads word low high None short is_in = (short, bad_number word is_in)
 whole_from-reads word low high (Some n) short is_in =
     whole_within-reads word low high (number_in 9 n) (number_in 0 n) short (n, spells_in word n is_in)

@@ -1,5 +1,5 @@
 pub mod states
-pub mod FaultText
+pub mod NumberFaultText
 pub mod NumberWord
 pub mod Scan
 pub mod Spelling

@@ -3,8 +3,8 @@
 
 ghost use Rattle.std.specs.Prelude.{◌≡◌, Some, None, codes, ◌++◌, pos, negsuc, replicate};
 ghost use Rattle.tsp_number.specs.declared.fault.NumberFault.TheVariants.{LongWord, BadNumber, TooFine, OutOfRange, NotWhole};
-ghost use Rattle.tsp_number.specs.FaultText.{number_fault_text};
-ghost use Rattle.tsp_number.specs.states.Front.{whole_end, decimal_end, few_end};
+ghost use Rattle.tsp_number.specs.NumberFaultText.{number_fault_text};
+ghost use Rattle.tsp_number.specs.states.NumberFront.{whole_end, decimal_end, few_end};
 ghost use Rattle.tsp_number.specs.Examples.{Counts, IsNoDecimal, WholeIs, WholeIsRefused, IsSpelled};
 
 /// What some words are read as where a decimal is wanted, in counts of 10^-9.

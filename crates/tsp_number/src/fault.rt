@@ -20,7 +20,7 @@ pub enum NumberFault {
 
 impl fmt::Display for NumberFault {
     ghost use Rattle.std.specs.Prelude.{Some};
-    ghost use Rattle.tsp_number.specs.FaultText.{number_fault_text};
+    ghost use Rattle.tsp_number.specs.NumberFaultText.{number_fault_text};
 
     ghost output = { λ fault. Some (number_fault_text fault) };
 

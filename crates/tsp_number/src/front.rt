@@ -5,7 +5,7 @@ ghost use Rattle.std.specs.Option.{option_map};
 ghost use Rattle.std.specs.Str.Parse.{AllDigits, digits_value};
 ghost use Rattle.tsp_distance.specs.Decimal.{unit, most_count};
 ghost use Rattle.tsp_number.specs.NumberWord.{IsSign, with_sign as signed_of};
-ghost use Rattle.tsp_number.specs.states.Front.{BeginsWithNumber, sign_count, digit_count, whole_end, few_end, decimal_end};
+ghost use Rattle.tsp_number.specs.states.NumberFront.{BeginsWithNumber, sign_count, digit_count, whole_end, few_end, decimal_end};
 
 use crate::eight::{EIGHT, front_of_eight};
 use crate::scale::power_of_ten;
@@ -102,7 +102,8 @@ fn signed(negative: bool, size: u64) -> i64
 /// full; one that goes on is for [`parse_whole`](crate::parse_whole).
 #[inline(always)]
 pub fn front_whole(bytes: &[u8]) -> Option<(i64, usize)>
-    ensures number { IfSome result (λ found. BeginsWithNumber bytes.now found.1 (found.0 *ℤ pos unit)) }
+    ensures number { IfSome result
+        (λ found. BeginsWithNumber bytes.now found.1 (found.0 *ℤ pos unit)) }
     ensures end { option_map (λ found. found.1) result ≡ whole_end bytes.now }
 {
     let (negative, sign) = front_sign(bytes);
@@ -121,7 +122,8 @@ pub fn front_whole(bytes: &[u8]) -> Option<(i64, usize)>
 /// [`front_whole`].
 #[inline(always)]
 pub fn front_few(bytes: &[u8]) -> Option<(i64, usize)>
-    ensures number { IfSome result (λ found. BeginsWithNumber bytes.now found.1 (found.0 *ℤ pos unit)) }
+    ensures number { IfSome result
+        (λ found. BeginsWithNumber bytes.now found.1 (found.0 *ℤ pos unit)) }
     ensures within { IfSome result (λ found. found.1 < length bytes.now) }
     ensures end { option_map (λ found. found.1) result ≡ few_end bytes.now }
 {

@@ -124,7 +124,8 @@ fn places(written: &Written<'_>, scale: u32) -> i64
 pub(crate) fn shifted(written: &Written<'_>, scale: u32) -> Option<u64>
     requires scale { scale ≤ 9 }
     requires parts { (n : Numeral) × KeepsNumeral written.now n }
-    ensures { (n : Numeral) → KeepsNumeral written.now n → ShiftsTo (digits_of n) (places_of scale n) result }
+    ensures { (n : Numeral)
+        → KeepsNumeral written.now n → ShiftsTo (digits_of n) (places_of scale n) result }
 {
     let places = places(written, scale);
     let count = places.unsigned_abs();

@@ -44,7 +44,8 @@ impl Opened {
     /// `File` with the number 1 where the text is no file; `WrongKind` where the file is no
     /// instance.
     pub fn of(alloc: Global, text: &[u8]) -> Result<Opened, RunFault>
-        ensures { MatchResult result (λ opened. IsOpened text.now opened) (λ fault. IsUnopened text.now fault) }
+        ensures { MatchResult result
+            (λ opened. IsOpened text.now opened) (λ fault. IsUnopened text.now fault) }
     {
         let file = read_text(alloc, 1, text)?;
         match Instance::of(file) {

@@ -28,7 +28,8 @@ use Rattle.tsp_read.proofs.Onwards.{on_before, on_from, at_from, cuts_alike}
 abbrev GoesInto : (ℕ → Bool) → List ℕ → List ℕ → Type 0
 GoesInto p xs more = (up_to_first p (xs ++ more) ≡ xs ++ up_to_first p more) × (from p (xs ++ more) ≡ from p more)
 
-into_by : (p : ℕ → Bool) (x : ℕ) (xs more : List ℕ) (b : Bool) → p x ≡ b → (from p xs ≡ [] → GoesInto p xs more) → from p (x ∷ xs) ≡ [] → GoesInto p (x ∷ xs) more
+into_by : (p : ℕ → Bool) (x : ℕ) (xs more : List ℕ) (b : Bool) → p x ≡ b → (from p xs ≡ [] → GoesInto p xs more)
+    → from p (x ∷ xs) ≡ [] → GoesInto p (x ∷ xs) more
 into_by p x xs more true e rest none = absurd (let f : x ∷ xs ≡ [] = sym (at_from p x xs e) ∙ none in cc)
 into_by p x xs more false e rest none =
     let h = rest (sym (on_from p x xs e) ∙ none) in
@@ -72,7 +73,8 @@ not_ten Line b e ten = true≢false (sym (ap ends_line ten) ∙ e)
 not_ten Word b e ten = true≢false (sym (ap ends_word ten) ∙ e)
 
 not_blank : (inside : Bool) (token : Token) (b : ℕ) → token ≡ token_at inside b → ends token b ≡ false → is_blank b ≡ false
-not_blank inside Line b is e = letter_filled b (and_second (not inside) (is_letter b) (line_begins (not inside && is_letter b) is))
+not_blank inside Line b is e =
+    letter_filled b (and_second (not inside) (is_letter b) (line_begins (not inside && is_letter b) is))
 not_blank inside Word b is e = (or_false (is_blank b) (ends_line b) e).0
 
 open_still : (token : Token) (xs : List ℕ) → from (ends token) xs ≡ [] → length xs ≤ most_bytes token
@@ -110,12 +112,15 @@ token_joins inside token begun h goes_on piece settled =
     (ap (λ (xs : List ℕ). xs ++ piece) h.parts) (not_ten token h.first (first_open inside token begun h)) h.token_is
     (sym cut.0) (sym cut.1) settled
 
-pub settled_filled : (most : ℕ) (goes_on : Bool) (piece rest : List ℕ) → is_filled rest ≡ true → is_settled most goes_on piece rest ≡ true
+pub settled_filled : (most : ℕ) (goes_on : Bool) (piece rest : List ℕ) → is_filled rest ≡ true
+    → is_settled most goes_on piece rest ≡ true
 settled_filled most goes_on piece [] e = absurd cc
 settled_filled most goes_on piece (x ∷ rest) e = refl
 
-pub settled_long : (most : ℕ) (goes_on : Bool) (piece rest : List ℕ) → most < length piece → is_settled most goes_on piece rest ≡ true
-settled_long most goes_on piece rest long = by_two (is_filled rest) (not goes_on) (nat_lt most (length piece)) (lt-ltb most (length piece) long)
+pub settled_long : (most : ℕ) (goes_on : Bool) (piece rest : List ℕ) → most < length piece
+    → is_settled most goes_on piece rest ≡ true
+settled_long most goes_on piece rest long =
+    by_two (is_filled rest) (not goes_on) (nat_lt most (length piece)) (lt-ltb most (length piece) long)
   where
     by_two : (a b c : Bool) → c ≡ true → (a || b || c) ≡ true
     by_two true b c e = refl
@@ -165,7 +170,8 @@ pub record IsOpen (token : Token) (filled : List ℕ) : Type 0 where
   pub short : length filled ≤ most_bytes token
 
 open_by : (token : Token) (filled : List ℕ)
-    → is_settled (most_bytes token) true (up_to_first (ends token) filled) (from (ends token) filled) ≡ false → IsOpen token filled
+    → is_settled (most_bytes token) true (up_to_first (ends token) filled) (from (ends token) filled) ≡ false
+    → IsOpen token filled
 open_by token filled e =
     let piece = up_to_first (ends token) filled in
     let both = unsettled (most_bytes token) (is_filled (from (ends token) filled)) (nat_lt (most_bytes token) (length piece)) e in
@@ -221,7 +227,8 @@ pub joined_fault : (token : Token) (old new : Intake) (begun piece bytes text : 
     → text ≡ begun ++ up_to_first (ends token) piece
     → is_settled (most_bytes token) true (begun ++ up_to_first (ends token) piece) (from (ends token) piece) ≡ true
     → Joins token old.inside begun → IsReadTo old bytes (begun ++ piece)
-    → ((earlier : List Item) → Stands old earlier → TakesNext earlier (token_item token text) new (Err found)) → IsStoppedBy bytes found
+    → ((earlier : List Item) → Stands old earlier → TakesNext earlier (token_item token text) new (Err found))
+    → IsStoppedBy bytes found
 joined_fault token old new begun piece bytes text found same settled joins read taken =
     read_to_fault old new bytes (begun ++ piece) (token_item token (begun ++ up_to_first (ends token) piece))
     (items_left true true (from (ends token) piece)) found read (joins true piece settled)
@@ -298,7 +305,8 @@ longer inside token begun piece h none = record {
 pub fed_longer : (intake : Intake) (old new : Begun) (bytes piece rest : List ℕ) → IsFedTo intake old bytes piece
     → (length old.bytes.items == 0) ≡ false → new.token ≡ old.token
     → new.bytes.items ≡ old.bytes.items ++ up_to_first (ends old.token) piece → rest ≡ from (ends old.token) piece → rest ≡ []
-    → length old.bytes.items + length (up_to_first (ends old.token) piece) ≤ most_bytes old.token → IsJoinedTo intake new bytes rest
+    → length old.bytes.items + length (up_to_first (ends old.token) piece) ≤ most_bytes old.token
+    → IsJoinedTo intake new bytes rest
 fed_longer intake old new bytes piece rest h some same_token added r none short =
     let begun : List ℕ = old.bytes.items in
     let here = token_here intake.inside old.token begun some h.begins in

@@ -28,12 +28,15 @@ any_behind true all front back any = refl
 any_behind false all front back any = back any
 
 -- a test that the last element fails is passed before it
-any_front : (items : List Item) (last : Item) → is_end_line last ≡ false → has_end_line (items ++ last ∷ []) ≡ true → has_end_line items ≡ true
+any_front : (items : List Item) (last : Item) → is_end_line last ≡ false → has_end_line (items ++ last ∷ []) ≡ true
+    → has_end_line items ≡ true
 any_front [] last fails any = absurd (false≢true (ap (λ b. b || false) (sym fails) ∙ any))
-any_front (item ∷ items) last fails any = any_behind (is_end_line item) (has_end_line (items ++ last ∷ [])) (has_end_line items) (any_front items last fails) any
+any_front (item ∷ items) last fails any =
+    any_behind (is_end_line item) (has_end_line (items ++ last ∷ [])) (has_end_line items) (any_front items last fails) any
 
 -- the text behind a line doesn't count
-front_decides : (items : List Item) (last : Item) → has_end_line items ≡ true → open_section (items ++ last ∷ []) ≡ open_section items
+front_decides : (items : List Item) (last : Item) → has_end_line items ≡ true
+    → open_section (items ++ last ∷ []) ≡ open_section items
 front_decides [] last any = absurd (false≢true any)
 front_decides (Line key line ∷ items) last any = refl
 front_decides (NumberWord word ∷ items) last any = front_decides items last any
@@ -42,7 +45,8 @@ front_decides (LineEnd ∷ items) last any = front_decides items last any
 turned : (item : Item) (items : List Item) → reverse (item ∷ items) ≡ reverse items ++ item ∷ []
 turned item items = reverse-append (item ∷ []) items
 
-closed_by_end : (items : List Item) → has_end_line (reverse (to_end_line items)) ≡ true → open_section (reverse (to_end_line items)) ≡ None
+closed_by_end : (items : List Item) → has_end_line (reverse (to_end_line items)) ≡ true
+    → open_section (reverse (to_end_line items)) ≡ None
 closed_by_end [] any = absurd (false≢true any)
 closed_by_end (item ∷ items) any = by_case (is_end_line item) refl (closed_by_end items)
   where
@@ -56,9 +60,11 @@ closed_by_end (item ∷ items) any = by_case (is_end_line item) refl (closed_by_
         any_front (reverse (to_end_line items)) item e (sym (ap has_end_line same) ∙ any) in
         ap open_section same ∙ front_decides (reverse (to_end_line items)) item before ∙ rest before
 
-no_part : (opened : Option OpenSection) (items : List Item) → OpenHolds opened items → open_section items ≡ None → is_some opened ≡ false
+no_part : (opened : Option OpenSection) (items : List Item) → OpenHolds opened items → open_section items ≡ None
+    → is_some opened ≡ false
 no_part None items h none = refl
 no_part (Some p) items h none = absurd (none-some p.field (sym none ∙ h.0))
 
 pub ended_none : (reading : Reading) (bytes : List ℕ) → IsEnded reading bytes → is_some reading.opened ≡ false
-ended_none reading bytes h = no_part reading.opened (settled_part bytes) h.holds.part (closed_by_end (settled_items (take most_file_bytes bytes)) h.ended)
+ended_none reading bytes h =
+    no_part reading.opened (settled_part bytes) h.holds.part (closed_by_end (settled_items (take most_file_bytes bytes)) h.ended)

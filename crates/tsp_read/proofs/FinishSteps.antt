@@ -20,15 +20,18 @@ use Rattle.tsp_read.specs.states.Finishes.{Finishes, FileOf}
 use Rattle.tsp_text.proofs.ValidItems.{is_file}
 
 -- the end table over the draft is that over the items
-pub end_is : (reading : Reading) (items : List Item) → Closed reading items → end_fault (standing_of (fields_of reading.draft)) reading.incomplete ≡ fault_at_end items
+pub end_is : (reading : Reading) (items : List Item) → Closed reading items
+    → end_fault (standing_of (fields_of reading.draft)) reading.incomplete ≡ fault_at_end items
 end_is reading items h =
     ap (λ (fields : Fields). end_fault (standing_of fields) reading.incomplete) h.spelled
     ∙ ap (λ (o : Option Field). end_fault (standing_of (spelled items)) o) h.incomplete
 
 -- a draft that was read has no fault where the end table has none
-is_valid : (reading : Reading) (items : List Item) → Closed reading items → AreCut items → end_fault (standing_of (fields_of reading.draft)) reading.incomplete ≡ None
+is_valid : (reading : Reading) (items : List Item) → Closed reading items → AreCut items
+    → end_fault (standing_of (fields_of reading.draft)) reading.incomplete ≡ None
     → is_some (fault_of (fields_of reading.draft)) ≡ false
-is_valid reading items h cut ended = ap is_some (ap fault_of h.spelled ∙ is_file items cut h.clean (sym (end_is reading items h) ∙ ended))
+is_valid reading items h cut ended =
+    ap is_some (ap fault_of h.spelled ∙ is_file items cut h.clean (sym (end_is reading items h) ∙ ended))
 
 none_of : (found : Option DraftFault) → is_some found ≡ false → found ≡ None
 none_of None is = refl
@@ -40,9 +43,11 @@ valid_draft old new read closed ended =
     none_of (fault_of (fields_of new.draft)) (∥∥₁_elim read (Bool-set _ _) (λ there. is_valid new there.0 (closed there.0 there.1) there.2 ended))
 
 -- what the draft gives is what the items give
-pub file_found : (reading : Reading) (items : List Item) (file : Fields) → Closed reading items → FileOf (fields_of reading.draft) reading.incomplete (Ok file) → Finishes items (Ok file)
+pub file_found : (reading : Reading) (items : List Item) (file : Fields) → Closed reading items
+    → FileOf (fields_of reading.draft) reading.incomplete (Ok file) → Finishes items (Ok file)
 file_found reading items file h of = (h.clean, sym (end_is reading items h) ∙ of.0, of.1 ∙ h.spelled)
 
-pub fault_found : (reading : Reading) (items : List Item) (fault : EndFault) → Closed reading items → FileOf (fields_of reading.draft) reading.incomplete (Err fault)
+pub fault_found : (reading : Reading) (items : List Item) (fault : EndFault) → Closed reading items
+    → FileOf (fields_of reading.draft) reading.incomplete (Err fault)
     → Finishes items (Err (finishes.End fault))
 fault_found reading items fault h of = (h.clean, sym (end_is reading items h) ∙ of)

@@ -21,7 +21,8 @@ found_passes p (x ∷ xs) y e = by_case (p x) refl (found_passes p xs y) e
 -- the same test finds the same
 found_alike : {A : Type 0} (p q : A → Bool) (xs : List A) → ((x : A) → p x ≡ q x) → find p xs ≡ find q xs
 found_alike p q [] same = refl
-found_alike p q (x ∷ xs) same = ap (λ b. cond b (Some x) (find p xs)) (same x) ∙ ap (λ o. cond (q x) (Some x) o) (found_alike p q xs same)
+found_alike p q (x ∷ xs) same =
+    ap (λ b. cond b (Some x) (find p xs)) (same x) ∙ ap (λ o. cond (q x) (Some x) o) (found_alike p q xs same)
 
 -- among the elements that pass p the first is that of all, where others aren't found
 found_among : {A : Type 0} (p q : A → Bool) (xs : List A) → ((x : A) → q x ≡ true → p x ≡ true) → find q (filter p xs) ≡ find q xs
@@ -63,7 +64,8 @@ first_without test f xs fails = found_alike (but f test) test xs each
     each : (x : Field) → but f test x ≡ test x
     each x = by_case x (same_field x f) refl
 
-not_it : (x : Field) (test : Field → Bool) (o : Option Field) → ((y : Field) → o ≡ Some y → test y ≡ true) → test x ≡ false → is_it x o ≡ false
+not_it : (x : Field) (test : Field → Bool) (o : Option Field) → ((y : Field) → o ≡ Some y → test y ≡ true) → test x ≡ false
+    → is_it x o ≡ false
 not_it x test None passes fails = refl
 not_it x test (Some y) passes fails = by_case (same_field x y) refl
   where
@@ -72,7 +74,8 @@ not_it x test (Some y) passes fails = by_case (same_field x y) refl
     by_case false e = refl
 
 -- where it passes, the first is the one of it and the first of the others that comes first
-first_with : (test : Field → Bool) (f : Field) (xs : List Field) → test f ≡ true → find test xs ≡ first_of f (find (but f test) xs) xs
+first_with : (test : Field → Bool) (f : Field) (xs : List Field) → test f ≡ true
+    → find test xs ≡ first_of f (find (but f test) xs) xs
 first_with test f [] passes = refl
 first_with test f (x ∷ xs) passes = by_case (same_field x f) (test x) refl refl (first_with test f xs passes)
   where

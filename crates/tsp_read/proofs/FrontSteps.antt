@@ -7,24 +7,25 @@ use Rattle.std.proofs.lemmas.Bool.Decides.{nat_tests}
 use Rattle.std.proofs.lemmas.Str.Parse.{digit_from_value}
 use Rattle.tsp_distance.specs.Decimal.{unit, most_count}
 use Rattle.tsp_number.specs.NumberWord.{plus, minus, point, lower_e, upper_e, IsSign, IsFraction, IsExponent, Numeral, SpellsNumeral, ReadsWhole, ReadsDecimal}
-use Rattle.tsp_number.specs.states.Front.{BeginsWithNumber}
+use Rattle.tsp_number.specs.states.NumberFront.{BeginsWithNumber}
 use Rattle.tsp_number.specs.Reading.{whole_of, decimal_of}
 use Rattle.tsp_number.proofs.WordLaws.{whole_once, whole_of-reads, decimal_once, decimal_of-reads}
 use Rattle.tsp_format.specs.Bytes.{is_blank, is_letter}
 use Rattle.tsp_format.specs.Limits.{most_word_bytes}
-use Rattle.tsp_text.specs.Numbers.{IsWhole}
+use Rattle.tsp_text.specs.SectionNumbers.{IsWhole}
 use Rattle.tsp_text.specs.Lines.{ends_line, is_filled, without_start}
 use Rattle.tsp_text.specs.Items.{Item, NumberWord, LineEnd}
 use Rattle.tsp_read.specs.states.Left.{items_left, ends_word, up_to_first, from}
 use Rattle.tsp_read.specs.states.Onward.{is_over_long, GivesNext}
-use Rattle.tsp_read.specs.states.Front.{front_word, LeavesEnd}
+use Rattle.tsp_read.specs.states.WordFront.{front_word, LeavesEnd}
 use Rattle.tsp_read.proofs.LeftSteps.{FreeOf, left_blank, left_end}
 use Rattle.tsp_read.proofs.Onwards.{on_before, on_from, at_before, at_from, word_follows}
 use Rattle.tsp_read.proofs.BegunSteps.{settled_filled}
 
 -- ---- a list in which none passes, and one behind it that does
 
-free_cut : (p : ℕ → Bool) (w : List ℕ) (x : ℕ) (rest : List ℕ) → FreeOf p w → p x ≡ true → (up_to_first p (w ++ x ∷ rest) ≡ w) × (from p (w ++ x ∷ rest) ≡ x ∷ rest)
+free_cut : (p : ℕ → Bool) (w : List ℕ) (x : ℕ) (rest : List ℕ) → FreeOf p w → p x ≡ true
+    → (up_to_first p (w ++ x ∷ rest) ≡ w) × (from p (w ++ x ∷ rest) ≡ x ∷ rest)
 free_cut p [] x rest free e = (at_before p x rest e, at_from p x rest e)
 free_cut p (y ∷ w) x rest free e =
     let h = free_cut p w x rest free.1 e in
@@ -87,10 +88,13 @@ no_letter_digit : (c : ℕ) → 48 ≤ c → c ≤ 57 → is_letter c ≡ false
 no_letter_digit c low high = grind (arith, nat_tests)
 
 starts_fraction : (text digits rest : List ℕ) → IsFraction text digits → 0 < length digits → StartsNumber (text ++ rest)
-starts_fraction text digits rest (inl is) some = starts_here (text ++ rest) point (digits ++ rest) (ap (λ (xs : List ℕ). xs ++ rest) is) refl
-starts_fraction text digits rest (inr is) some = absurd (let none : length digits ≡ 0 = ap length is.1 in omega (arith, none, some))
+starts_fraction text digits rest (inl is) some =
+    starts_here (text ++ rest) point (digits ++ rest) (ap (λ (xs : List ℕ). xs ++ rest) is) refl
+starts_fraction text digits rest (inr is) some =
+    absurd (let none : length digits ≡ 0 = ap length is.1 in omega (arith, none, some))
 
-starts_digits : (whole text fraction rest : List ℕ) → AllDigits 10 whole → IsFraction text fraction → 0 < length whole + length fraction → StartsNumber (whole ++ (text ++ rest))
+starts_digits : (whole text fraction rest : List ℕ) → AllDigits 10 whole → IsFraction text fraction
+    → 0 < length whole + length fraction → StartsNumber (whole ++ (text ++ rest))
 starts_digits [] text fraction rest all is some = starts_fraction text fraction rest is (omega (arith, some))
 starts_digits (c ∷ whole) text fraction rest all is some =
     let range = digit_from_value c all.0 in
@@ -98,8 +102,10 @@ starts_digits (c ∷ whole) text fraction rest all is some =
 
 starts_sign : (sign rest : List ℕ) (negative : Bool) → IsSign sign negative → StartsNumber rest → StartsNumber (sign ++ rest)
 starts_sign sign rest negative (inl is) h = subst (λ (xs : List ℕ). StartsNumber (xs ++ rest)) (sym is.0) h
-starts_sign sign rest negative (inr (inl is)) h = starts_here (sign ++ rest) plus rest (ap (λ (xs : List ℕ). xs ++ rest) is.0) refl
-starts_sign sign rest negative (inr (inr is)) h = starts_here (sign ++ rest) minus rest (ap (λ (xs : List ℕ). xs ++ rest) is.0) refl
+starts_sign sign rest negative (inr (inl is)) h =
+    starts_here (sign ++ rest) plus rest (ap (λ (xs : List ℕ). xs ++ rest) is.0) refl
+starts_sign sign rest negative (inr (inr is)) h =
+    starts_here (sign ++ rest) minus rest (ap (λ (xs : List ℕ). xs ++ rest) is.0) refl
 
 starts_word : (word : List ℕ) (n : Numeral) → SpellsNumeral word n → StartsNumber word
 starts_word word n h =
@@ -160,8 +166,10 @@ cut_at_end text filled count k rest left h =
     let cut = free_cut ends_word word by.end by.later (free_word word h.number.stands.numeral h.number.stands.spelled) by.ends in
     (ap (up_to_first ends_word) all ∙ cut.0, ap (from ends_word) all ∙ cut.1 ∙ sym by.parts)
 
-front_is : (text filled : List ℕ) (count : ℕ) (k : ℤ) (rest left : List ℕ) → EndsNumber text filled count k rest left → front_word text ≡ take count filled
-front_is text filled count k rest left h = ap (up_to_first ends_word) (sym h.filled_is) ∙ (cut_at_end text filled count k rest left h).0
+front_is : (text filled : List ℕ) (count : ℕ) (k : ℤ) (rest left : List ℕ) → EndsNumber text filled count k rest left
+    → front_word text ≡ take count filled
+front_is text filled count k rest left h =
+    ap (up_to_first ends_word) (sym h.filled_is) ∙ (cut_at_end text filled count k rest left h).0
 
 no_line : (inside letter : Bool) → letter ≡ false → (not inside && letter) ≡ false
 no_line true letter e = refl
@@ -203,14 +211,16 @@ front_gives text filled count k rest left h inside goes_on more =
     ∙ ap (λ (items : List Item). NumberWord (front_word text) ∷ items) (by.left_is goes_on more)
 
 -- and is read as that number
-pub front_reads : (text filled : List ℕ) (count : ℕ) (z : ℤ) (rest left : List ℕ) → EndsNumber text filled count (z *ℤ pos unit) rest left → IsWhole (front_word text) z
+pub front_reads : (text filled : List ℕ) (count : ℕ) (z : ℤ) (rest left : List ℕ)
+    → EndsNumber text filled count (z *ℤ pos unit) rest left → IsWhole (front_word text) z
 front_reads text filled count z rest left h low high above below =
     let word : List ℕ = take count filled in
     let reads : ReadsWhole word low high (Ok z) = (h.number.short, h.number.stands, above, below) in
     ap (λ (w : List ℕ). whole_of w low high) (front_is text filled count (z *ℤ pos unit) rest left h) ∙ sym (whole_once _ _ _ _ _ reads (whole_of-reads word low high))
 
 -- or as that decimal
-pub front_reads_decimal : (text filled : List ℕ) (count : ℕ) (k : ℤ) (rest left : List ℕ) → EndsNumber text filled count k rest left → unsigned_abs k ≤ most_count
+pub front_reads_decimal : (text filled : List ℕ) (count : ℕ) (k : ℤ) (rest left : List ℕ)
+    → EndsNumber text filled count k rest left → unsigned_abs k ≤ most_count
     → decimal_of (front_word text) ≡ Ok k
 front_reads_decimal text filled count k rest left h small =
     let word : List ℕ = take count filled in
@@ -220,4 +230,5 @@ front_reads_decimal text filled count k rest left h small =
 -- ---- a line's end at the beginning of a text
 
 pub end_gives : (inside : Bool) (text rest : List ℕ) → text ≡ 10 ∷ rest → GivesNext inside text LineEnd false rest
-end_gives inside text rest parts goes_on more = ap (λ (xs : List ℕ). items_left goes_on inside (xs ++ more)) parts ∙ left_end goes_on inside (rest ++ more)
+end_gives inside text rest parts goes_on more =
+    ap (λ (xs : List ℕ). items_left goes_on inside (xs ++ more)) parts ∙ left_end goes_on inside (rest ++ more)

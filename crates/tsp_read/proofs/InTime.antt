@@ -32,44 +32,54 @@ ended_alike feed given more h = record {
   same_part = part_kept given more h.holds.clean h.ended ∙ sym (ap part (sym (append-nil given)) ∙ part_kept given [] h.holds.clean h.ended);
 }
 
-over_alike : (feed : Feed) (given more : List ℕ) (stage : Stage) → feed.stage ≡ stage → is_going stage ≡ false → HasTaken feed given → settled_fault given ≡ None → AreAlike (given ++ more) given
+over_alike : (feed : Feed) (given more : List ℕ) (stage : Stage) → feed.stage ≡ stage → is_going stage ≡ false
+    → HasTaken feed given → settled_fault given ≡ None → AreAlike (given ++ more) given
 over_alike feed given more Going e over h none = absurd (true≢false over)
 over_alike feed given more Ended e over h none = ended_alike feed given more (taken_at feed given Ended e h)
 over_alike feed given more (Refused found) e over h none = absurd (not_refused feed given found e h none)
 
-alike_by : (feed : Feed) (given more : List ℕ) → HasTaken feed given → settled_fault given ≡ None → (more ≡ []) ⊎ (is_going feed.stage ≡ false) → AreAlike (given ++ more) given
+alike_by : (feed : Feed) (given more : List ℕ) → HasTaken feed given → settled_fault given ≡ None
+    → (more ≡ []) ⊎ (is_going feed.stage ≡ false) → AreAlike (given ++ more) given
 alike_by feed given more h none (inl ended) =
     let same : given ++ more ≡ given = ap (λ (xs : List ℕ). given ++ xs) ended ∙ append-nil given in
     record { same_fault = ap fault same; same_part = ap part same }
 alike_by feed given more h none (inr over) = over_alike feed given more feed.stage refl over h none
 
-whole_alike : (P : List ℕ → Type 0) → ((rest given : List ℕ) → AreAlike rest given → P given → P rest) → (known left : Option (List ℕ)) (given : List ℕ) (feed : Feed) → Consumes known left given
+whole_alike : (P : List ℕ → Type 0) → ((rest given : List ℕ) → AreAlike rest given → P given → P rest)
+    → (known left : Option (List ℕ)) (given : List ℕ) (feed : Feed) → Consumes known left given
     → HasTaken feed given → settled_fault given ≡ None → IsAtEnd left ⊎ (is_going feed.stage ≡ false) → P given → IfSome known P
 whole_alike P back None left given feed gave h none over p = tt
 whole_alike P back (Some rest) None given feed gave h none over p = absurd gave
 whole_alike P back (Some rest) (Some more) given feed gave h none over p =
     subst P (sym gave) (back (given ++ more) given (alike_by feed given more h none over) p)
 
-gave_alike : (P : List ℕ → Type 0) → ((rest given : List ℕ) → AreAlike rest given → P given → P rest) → (turn : Turn) (feed : Feed) → IsFedFrom turn feed → P turn.given → GaveAll turn P
-gave_alike P back turn feed f p = (f.gave, f.sound, p, whole_alike P back turn.known turn.left turn.given feed f.gave f.held f.no_fault f.over p)
+gave_alike : (P : List ℕ → Type 0) → ((rest given : List ℕ) → AreAlike rest given → P given → P rest)
+    → (turn : Turn) (feed : Feed) → IsFedFrom turn feed → P turn.given → GaveAll turn P
+gave_alike P back turn feed f p =
+    (f.gave, f.sound, p, whole_alike P back turn.known turn.left turn.given feed f.gave f.held f.no_fault f.over p)
 
 fault_back : (found : ReadFault) (rest given : List ℕ) → AreAlike rest given → fault given ≡ Some found → fault rest ≡ Some found
 fault_back found rest given h e = h.same_fault ∙ e
 
 spells_back : (file : Fields) (rest given : List ℕ) → AreAlike rest given → Spells given file → Spells rest file
-spells_back file rest given h s = record { no_fault = h.same_fault ∙ s.no_fault; fields = s.fields ∙ ap spelled (sym h.same_part) }
+spells_back file rest given h s =
+    record { no_fault = h.same_fault ∙ s.no_fault; fields = s.fields ∙ ap spelled (sym h.same_part) }
 
 -- ---- the answer
 
-stops_by : (turn : Turn) (feed : Feed) (found : ReadFault) → IsFedFrom turn feed → Reads turn.given (Err found) → StopsAt found turn
+stops_by : (turn : Turn) (feed : Feed) (found : ReadFault) → IsFedFrom turn feed → Reads turn.given (Err found)
+    → StopsAt found turn
 stops_by turn feed (faults.Line line word found) f h =
     gave_alike (λ bytes. fault bytes ≡ Some (faults.Line line word found)) (fault_back (faults.Line line word found)) turn feed f h
-stops_by turn feed (faults.End found) f h = gave_alike (λ bytes. fault bytes ≡ Some (faults.End found)) (fault_back (faults.End found)) turn feed f h
+stops_by turn feed (faults.End found) f h =
+    gave_alike (λ bytes. fault bytes ≡ Some (faults.End found)) (fault_back (faults.End found)) turn feed f h
 stops_by turn feed faults.OutOfMemory f h = (f.gave, f.sound)
 stops_by turn feed faults.Device f h = absurd h
-stops_by turn feed faults.TooLong f h = gave_alike (λ bytes. fault bytes ≡ Some faults.TooLong) (fault_back faults.TooLong) turn feed f h
+stops_by turn feed faults.TooLong f h =
+    gave_alike (λ bytes. fault bytes ≡ Some faults.TooLong) (fault_back faults.TooLong) turn feed f h
 
-pub in_time : (turn : List ℕ → Turn) (feed : Feed) (result : Result Fields ReadFault) → TakesAtMost most_taken turn (λ whole. IsFedFrom whole feed)
+pub in_time : (turn : List ℕ → Turn) (feed : Feed) (result : Result Fields ReadFault)
+    → TakesAtMost most_taken turn (λ whole. IsFedFrom whole feed)
     → ((bytes : List ℕ) → HasTaken feed bytes → Reads bytes result)
     → ((bytes : List ℕ) → HasTaken feed bytes → result ≡ Err faults.OutOfMemory → is_bare bytes ≡ false) → ReadsInTime turn result
 in_time turn feed (Ok file) (given, few, f) reads memory =
@@ -91,7 +101,8 @@ bytes_fault bytes feed faults.OutOfMemory h = tt
 bytes_fault bytes feed faults.Device h = h
 bytes_fault bytes feed faults.TooLong h = settled_reads faults.TooLong bytes h.1
 
-pub bytes_memory : (bytes : List ℕ) (feed : Feed) (found : ReadFault) (result : Result Fields ReadFault) → result ≡ Err found → Feeds bytes feed (Err found)
+pub bytes_memory : (bytes : List ℕ) (feed : Feed) (found : ReadFault) (result : Result Fields ReadFault) → result ≡ Err found
+    → Feeds bytes feed (Err found)
     → result ≡ Err faults.OutOfMemory → is_bare bytes ≡ false
 bytes_memory bytes feed (faults.Line line word found) result is h wants = absurd cc
 bytes_memory bytes feed (faults.End found) result is h wants = absurd h

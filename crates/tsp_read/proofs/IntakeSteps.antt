@@ -17,7 +17,7 @@ use Rattle.tsp_text.specs.Items.{Item, Line, NumberWord, LineEnd, settled_items,
 use Rattle.tsp_text.specs.Earlier.{open_section, words_of}
 use Rattle.tsp_text.specs.Values.{spatial_after}
 use Rattle.tsp_text.specs.Sections.{place_in, dimension_in}
-use Rattle.tsp_text.specs.Rows.{row_of}
+use Rattle.tsp_text.specs.FaultRows.{row_of}
 use Rattle.tsp_text.specs.FirstFault.{IsClean}
 use Rattle.tsp_read.specs.states.Holds.{Holds}
 use Rattle.tsp_read.specs.states.Left.{items_left, ends_word}
@@ -35,7 +35,8 @@ use Rattle.tsp_read.proofs.Walks.{walked_to_end, walked_found}
 abbrev HasRow : List Item → Item → Type 0
 HasRow earlier item = (fault : LineFault) × (row_of earlier item ≡ Some fault)
 
-long_word_row : (earlier : List Item) (word : List ℕ) (opened : Option Field) → open_section earlier ≡ opened → is_over_long (NumberWord word) ≡ true → HasRow earlier (NumberWord word)
+long_word_row : (earlier : List Item) (word : List ℕ) (opened : Option Field) → open_section earlier ≡ opened
+    → is_over_long (NumberWord word) ≡ true → HasRow earlier (NumberWord word)
 long_word_row earlier word None e long = (row.StrayNumber, rw e refl)
 long_word_row earlier word (Some f) e long =
     let place = place_in (spatial_after earlier) f (dimension_in earlier) (words_of f earlier) in
@@ -85,15 +86,19 @@ all_after (x ∷ xs) ys h = all_after xs ys (and_both (is_line_end x) (list_all 
 
 -- ---- the items of the bytes so far
 
-pub read_parts : (intake : Intake) (bytes rest : List ℕ) (h : IsReadTo intake bytes rest) (goes_on : Bool) → items_left goes_on false bytes ≡ reverse h.earlier ++ items_left goes_on intake.inside rest
+pub read_parts : (intake : Intake) (bytes rest : List ℕ) (h : IsReadTo intake bytes rest) (goes_on : Bool)
+    → items_left goes_on false bytes ≡ reverse h.earlier ++ items_left goes_on intake.inside rest
 read_parts intake bytes rest h goes_on =
     ap (items_left goes_on false) (sym (append-nil bytes)) ∙ h.parts goes_on [] ∙ ap (λ (xs : List ℕ). reverse h.earlier ++ items_left goes_on intake.inside xs) (append-nil rest)
 
-pub walked_so_far : (intake : Intake) (bytes rest : List ℕ) (h : IsReadTo intake bytes rest) → Walked (settled_items bytes) h.earlier (items_left true intake.inside rest)
-walked_so_far intake bytes rest h = record { parts = sym (all_settled bytes) ∙ read_parts intake bytes rest h true; going = h.going }
+pub walked_so_far : (intake : Intake) (bytes rest : List ℕ) (h : IsReadTo intake bytes rest)
+    → Walked (settled_items bytes) h.earlier (items_left true intake.inside rest)
+walked_so_far intake bytes rest h =
+    record { parts = sym (all_settled bytes) ∙ read_parts intake bytes rest h true; going = h.going }
 
 -- an item that isn't a line's end is none of blanks and line ends
-pub not_bare : (intake : Intake) (bytes rest : List ℕ) (goes_on : Bool) (item : Item) (later : List Item) → IsReadTo intake bytes rest
+pub not_bare : (intake : Intake) (bytes rest : List ℕ) (goes_on : Bool) (item : Item) (later : List Item)
+    → IsReadTo intake bytes rest
     → items_left goes_on intake.inside rest ≡ item ∷ later → is_line_end item ≡ false → is_bare bytes ≡ false
 not_bare intake bytes rest goes_on item later h next other = by_case (is_bare bytes) refl
   where
@@ -110,7 +115,8 @@ not_bare intake bytes rest goes_on item later h next other = by_case (is_bare by
 on_end : (item : Item) (items : List Item) → reverse (item ∷ items) ≡ reverse items ++ item ∷ []
 on_end item items = reverse-append (item ∷ []) items
 
-goes_further : (bytes rest after : List ℕ) (earlier : List Item) (item : Item) (inside next : Bool) → GoesOn bytes earlier inside rest → GivesNext inside rest item next after
+goes_further : (bytes rest after : List ℕ) (earlier : List Item) (item : Item) (inside next : Bool)
+    → GoesOn bytes earlier inside rest → GivesNext inside rest item next after
     → GoesOn bytes (item ∷ earlier) next after
 goes_further bytes rest after earlier item inside next parts gives goes_on more =
     parts goes_on more
@@ -122,7 +128,8 @@ or_from : (a b : Bool) → a ≡ false → b ≡ false → (a || b) ≡ false
 or_from a b x y = ap (λ c. c || b) x ∙ y
 
 -- an item that isn't an end line was taken
-pub read_further : (old new : Intake) (bytes rest after : List ℕ) (item : Item) (next ended : Bool) → ended ≡ false → IsReadTo old bytes rest
+pub read_further : (old new : Intake) (bytes rest after : List ℕ) (item : Item) (next ended : Bool) → ended ≡ false
+    → IsReadTo old bytes rest
     → ((earlier : List Item) → Stands old earlier → TakesNext earlier item new (Ok ended)) → new.inside ≡ next
     → (is_over_long item ≡ false → GivesNext old.inside rest item next after) → IsReadTo new bytes after
 read_further old new bytes rest after item next ended goes h taken inside gives =
@@ -136,8 +143,10 @@ read_further old new bytes rest after item next ended goes h taken inside gives 
     }
 
 -- the item is an end line
-pub read_to_end : (old new : Intake) (bytes rest : List ℕ) (item : Item) (later : List Item) (ended : Bool) → ended ≡ true → IsReadTo old bytes rest
-    → items_left true old.inside rest ≡ item ∷ later → ((earlier : List Item) → Stands old earlier → TakesNext earlier item new (Ok ended)) → HasEnded new.reading bytes
+pub read_to_end : (old new : Intake) (bytes rest : List ℕ) (item : Item) (later : List Item) (ended : Bool) → ended ≡ true
+    → IsReadTo old bytes rest
+    → items_left true old.inside rest ≡ item ∷ later
+    → ((earlier : List Item) → Stands old earlier → TakesNext earlier item new (Ok ended)) → HasEnded new.reading bytes
 read_to_end old new bytes rest item later ended ends h next taken =
     let got = taken h.earlier h.stands in
     let walked = subst (λ (xs : List Item). Walked (settled_items bytes) h.earlier xs) next (walked_so_far old bytes rest h) in
@@ -148,33 +157,40 @@ read_to_end old new bytes rest item later ended ends h next taken =
     }
 
 -- the item has a fault, or wants memory
-pub read_to_fault : (old new : Intake) (bytes rest : List ℕ) (item : Item) (later : List Item) (found : ReadFault) → IsReadTo old bytes rest
-    → items_left true old.inside rest ≡ item ∷ later → ((earlier : List Item) → Stands old earlier → TakesNext earlier item new (Err found)) → IsStoppedBy bytes found
+pub read_to_fault : (old new : Intake) (bytes rest : List ℕ) (item : Item) (later : List Item) (found : ReadFault)
+    → IsReadTo old bytes rest
+    → items_left true old.inside rest ≡ item ∷ later
+    → ((earlier : List Item) → Stands old earlier → TakesNext earlier item new (Err found)) → IsStoppedBy bytes found
 read_to_fault old new bytes rest item later (faults.Line line word fault) h next taken =
     let walked = subst (λ (xs : List Item). Walked (settled_items bytes) h.earlier xs) next (walked_so_far old bytes rest h) in
     walked_found (settled_items bytes) h.earlier later item (faults.Line line word fault) walked (taken h.earlier h.stands)
 read_to_fault old new bytes rest item later (faults.End fault) h next taken = taken h.earlier h.stands
-read_to_fault old new bytes rest item later faults.OutOfMemory h next taken = not_bare old bytes rest true item later h next (taken h.earlier h.stands)
+read_to_fault old new bytes rest item later faults.OutOfMemory h next taken =
+    not_bare old bytes rest true item later h next (taken h.earlier h.stands)
 read_to_fault old new bytes rest item later faults.Device h next taken = taken h.earlier h.stands
 read_to_fault old new bytes rest item later faults.TooLong h next taken = taken h.earlier h.stands
 
 -- ---- words that are too long
 
 -- they have the same fault, whatever their bytes are
-pub same_long : (earlier : List Item) (long word : List ℕ) (new : Intake) (found : ReadFault) → is_over_long (NumberWord long) ≡ true → is_over_long (NumberWord word) ≡ true
+pub same_long : (earlier : List Item) (long word : List ℕ) (new : Intake) (found : ReadFault)
+    → is_over_long (NumberWord long) ≡ true → is_over_long (NumberWord word) ≡ true
     → TakesNext earlier (NumberWord long) new (Err found) → TakesNext earlier (NumberWord word) new (Err found)
-same_long earlier long word new (faults.Line line number fault) a b taken = same_fault earlier (NumberWord word) (NumberWord long) (b, a) ∙ taken
+same_long earlier long word new (faults.Line line number fault) a b taken =
+    same_fault earlier (NumberWord word) (NumberWord long) (b, a) ∙ taken
 same_long earlier long word new (faults.End fault) a b taken = taken
 same_long earlier long word new faults.OutOfMemory a b taken = refl
 same_long earlier long word new faults.Device a b taken = taken
 same_long earlier long word new faults.TooLong a b taken = taken
 
 -- and are never taken
-pub never_long : (earlier : List Item) (item : Item) (new : Intake) (ended : Bool) → is_over_long item ≡ true → TakesNext earlier item new (Ok ended) → ⊥
+pub never_long : (earlier : List Item) (item : Item) (new : Intake) (ended : Bool) → is_over_long item ≡ true
+    → TakesNext earlier item new (Ok ended) → ⊥
 never_long earlier item new ended long taken = true≢false (sym long ∙ clean_is_short earlier item taken.0.holds.clean)
 
 -- ---- one try after another
 
-pub tried_next : {X : Type 0} (found : Option X) (A B : Type 0) (P Q : X → Type 0) → (A → B) → ((x : X) → P x → Q x) → MatchOption found A P → MatchOption found B Q
+pub tried_next : {X : Type 0} (found : Option X) (A B : Type 0) (P Q : X → Type 0) → (A → B) → ((x : X) → P x → Q x)
+    → MatchOption found A P → MatchOption found B Q
 tried_next None A B P Q none some h = none h
 tried_next (Some x) A B P Q none some h = some x h

@@ -30,7 +30,7 @@ use Rattle.tsp_text.specs.Earlier.{same_field, has_line, open_section, words_of}
 use Rattle.tsp_text.specs.Values.{kind_named, weight_kind_named, weight_format_named, coord_kind_named, display_kind_named, is_left_out, says_space, spatial_after}
 use Rattle.tsp_text.specs.Groups.{coords_by_node}
 use Rattle.tsp_text.specs.Sections.{dimension_in}
-use Rattle.tsp_text.specs.Rows.{row_of, is_late}
+use Rattle.tsp_text.specs.FaultRows.{row_of, is_late}
 use Rattle.tsp_text.specs.FirstFault.{IsClean}
 use Rattle.tsp_format.specs.declared.field.ValueShape.TheVariants.{Number}
 use Rattle.tsp_format.specs.Shapes.{is_section_field, value_shape_of}
@@ -43,7 +43,8 @@ use Rattle.tsp_text.proofs.SpaceSteps.{space_kept, coords_stay, first_stays}
 use Rattle.tsp_text.proofs.ValidStanding.{after_dimension}
 
 -- no section is open after a line that opens none
-pub still_none : (old new : Reading) (items : List Item) → open_section items ≡ None → new.opened ≡ old.opened → old.opened ≡ None → OpenHolds new.opened items
+pub still_none : (old new : Reading) (items : List Item) → open_section items ≡ None → new.opened ≡ old.opened → old.opened ≡ None
+    → OpenHolds new.opened items
 still_none old new items o same none = let P : Option OpenSection → Type 0 = λ part. OpenHolds part items in subst P (sym (same ∙ none)) o
 
 pub some_mapped : {A B : Type 0} (f : A → B) (o : Option A) → is_some (option_map f o) ≡ is_some o
@@ -55,19 +56,22 @@ cond_same true = refl
 cond_same false = refl
 
 -- no row applies
-named_none : {V : Type 0} (stands out : Bool) (found : Option V) (late : Bool) → stands ≡ false → out ≡ false → is_some found ≡ true → late ≡ false
+named_none : {V : Type 0} (stands out : Bool) (found : Option V) (late : Bool) → stands ≡ false → out ≡ false
+    → is_some found ≡ true → late ≡ false
     → named_rows stands out found late ≡ None
 named_none stands out None late s t f l = cc
 named_none stands out (Some v) late s t f l = rw (s, t, l) refl
 
-numbered_none : (stands : Bool) (value : List ℕ) (reading : Result ℤ NumberFault) (z : ℤ) → stands ≡ false → is_filled value ≡ true → reading ≡ Ok z → numbered_rows stands value reading ≡ None
+numbered_none : (stands : Bool) (value : List ℕ) (reading : Result ℤ NumberFault) (z : ℤ) → stands ≡ false
+    → is_filled value ≡ true → reading ≡ Ok z → numbered_rows stands value reading ≡ None
 numbered_none stands value reading z s f r = rw (s, f, r) refl
 
 -- ---- lines that may come too late
 
 -- by what the draft has
 abbrev pub is_late_in : Reading → Field → WordLine → Bool
-is_late_in old field line = says_space field (first_word line.value) && is_some (fields_of old.draft).coords && not (spatial (fields_of old.draft))
+is_late_in old field line =
+    says_space field (first_word line.value) && is_some (fields_of old.draft).coords && not (spatial (fields_of old.draft))
 
 some_points : (b : Bool) (points : List Point) → is_some (cond b (Some points) None) ≡ b
 some_points true points = refl
@@ -291,7 +295,8 @@ number_clean old field line low high z is gives earlier h short =
 abbrev TakesNumber : Reading → Reading → WordLine → Field → ℤ → ℤ → Type 0
 TakesNumber old new line field low high = (z : ℤ)
     → GivesNumber (stands_in (fields_of old.draft) field) low high line.value (Ok z)
-    → fields_of new.draft ≡ with_one_number field z (fields_of old.draft) → new.incomplete ≡ old.incomplete → new.opened ≡ old.opened
+    → fields_of new.draft ≡ with_one_number field z (fields_of old.draft) → new.incomplete ≡ old.incomplete
+    → new.opened ≡ old.opened
     → LineAnswers old field line new (Ok tt)
 
 capacity_taken : (old new : Reading) (line : WordLine) → TakesNumber old new line CapacityKey (pos 1) (pos most_capacity)
@@ -318,27 +323,32 @@ scale_taken old new line z gives is same_first same_part earlier h short = recor
 
 -- ---- DimensionKey: no section has come yet but the tours, which don't look at it
 
-dimension_field : (earlier : List Item) (line : WordLine) (z : ℤ) → whole_of (first_word line.value) (pos 1) (pos most_nodes) ≡ Ok z
+dimension_field : (earlier : List Item) (line : WordLine) (z : ℤ)
+    → whole_of (first_word line.value) (pos 1) (pos most_nodes) ≡ Ok z
     → has_line NodeCoordPart earlier ≡ false → has_line DisplayDataPart earlier ≡ false → has_line DemandPart earlier ≡ false
     → has_line DepotPart earlier ≡ false → has_line FixedEdgesPart earlier ≡ false → has_line EdgeWeightPart earlier ≡ false
     → has_line NodePotentialPart earlier ≡ false → has_line RowPotentialPart earlier ≡ false
-    → has_line ColumnPotentialPart earlier ≡ false → has_line FixedEdgePotentialPart earlier ≡ false → has_line CombPart earlier ≡ false
+    → has_line ColumnPotentialPart earlier ≡ false → has_line FixedEdgePotentialPart earlier ≡ false
+    → has_line CombPart earlier ≡ false
     → has_line BranchPart earlier ≡ false
     → (let fields = fields_by (λ field. has_line field earlier) earlier in record fields { dimension = Some (nat_abs z) })
     ≡ fields_by (is_closed (Line (Known DimensionKey) line ∷ earlier)) (Line (Known DimensionKey) line ∷ earlier)
 dimension_field earlier line z read c0 c1 c2 c3 c4 c5 c6 c7 c8 c9 c10 c11 =
     rw (c0, c1, c2, c3, c4, c5, c6, c7, c8, c9, c10, c11, read) refl
 
-dimension_first : (earlier : List Item) (line : WordLine) → has_line NodeCoordPart earlier ≡ false → has_line DisplayDataPart earlier ≡ false
+dimension_first : (earlier : List Item) (line : WordLine) → has_line NodeCoordPart earlier ≡ false
+    → has_line DisplayDataPart earlier ≡ false
     → has_line DemandPart earlier ≡ false → has_line DepotPart earlier ≡ false → has_line FixedEdgesPart earlier ≡ false
-    → has_line EdgeWeightPart earlier ≡ false → has_line NodePotentialPart earlier ≡ false → has_line RowPotentialPart earlier ≡ false
+    → has_line EdgeWeightPart earlier ≡ false → has_line NodePotentialPart earlier ≡ false
+    → has_line RowPotentialPart earlier ≡ false
     → has_line ColumnPotentialPart earlier ≡ false → has_line FixedEdgePotentialPart earlier ≡ false
     → has_line CombPart earlier ≡ false → has_line BranchPart earlier ≡ false
     → first_incomplete earlier ≡ find (is_closed_incomplete (Line (Known DimensionKey) line ∷ earlier)) sections_in_order
 dimension_first earlier line c0 c1 c2 c3 c4 c5 c6 c7 c8 c9 c10 c11 = rw (c0, c1, c2, c3, c4, c5, c6, c7, c8, c9, c10, c11) refl
 
 -- no section but the tours comes before DIMENSION
-none_before : (f : Field) (earlier : List Item) → is_section_field f ≡ true → same_field TourPart f ≡ false → IsClean earlier → has_line DimensionKey earlier ≡ false
+none_before : (f : Field) (earlier : List Item) → is_section_field f ≡ true → same_field TourPart f ≡ false → IsClean earlier
+    → has_line DimensionKey earlier ≡ false
     → has_line f earlier ≡ false
 none_before f earlier section other clean none = by_case (has_line f earlier) refl
   where
@@ -369,7 +379,8 @@ dimension_taken old new line z gives is same_first same_part earlier h short =
 
 -- ---- all three
 
-pub number_taken : (old new : Reading) (line : WordLine) (field : Field) (low high : ℤ) → value_shape_of field ≡ Some (Number low high)
+pub number_taken : (old new : Reading) (line : WordLine) (field : Field) (low high : ℤ)
+    → value_shape_of field ≡ Some (Number low high)
     → TakesNumber old new line field low high
 number_taken old new line = by_number (TakesNumber old new line) (dimension_taken old new line) (capacity_taken old new line)
     (scale_taken old new line)

@@ -42,22 +42,26 @@ use Rattle.tsp_read.proofs.BegunSteps.{token_here, token_joins, empty_rest}
 
 -- ---- the last item
 
-walked_last : (items earlier : List Item) (item : Item) → Walked items earlier (item ∷ []) → reverse (to_end_line items) ≡ item ∷ earlier
+walked_last : (items earlier : List Item) (item : Item) → Walked items earlier (item ∷ [])
+    → reverse (to_end_line items) ≡ item ∷ earlier
 walked_last items earlier item h = by_case (is_end_line item) refl
   where
     by_case : (b : Bool) → is_end_line item ≡ b → reverse (to_end_line items) ≡ item ∷ earlier
     by_case true e = walked_to_end items earlier [] item h e
     by_case false e = walked_all items (item ∷ earlier) (walked_more items earlier [] item h e)
 
-walked_whole : (intake : Intake) (bytes rest : List ℕ) (h : IsReadTo intake bytes rest) → Walked (items_of bytes) h.earlier (items_left false intake.inside rest)
-walked_whole intake bytes rest h = record { parts = sym (all_items bytes) ∙ read_parts intake bytes rest h false; going = h.going }
+walked_whole : (intake : Intake) (bytes rest : List ℕ) (h : IsReadTo intake bytes rest)
+    → Walked (items_of bytes) h.earlier (items_left false intake.inside rest)
+walked_whole intake bytes rest h =
+    record { parts = sym (all_items bytes) ∙ read_parts intake bytes rest h false; going = h.going }
 
 or_none : (a b : Bool) → b ≡ false → (a || b) ≡ a
 or_none true b e = refl
 or_none false b e = e
 
 -- what is left is one item
-takes_last : (old new : Intake) (bytes rest : List ℕ) (item : Item) (result : Result Bool ReadFault) → IsReadTo old bytes rest → items_left false old.inside rest ≡ item ∷ []
+takes_last : (old new : Intake) (bytes rest : List ℕ) (item : Item) (result : Result Bool ReadFault) → IsReadTo old bytes rest
+    → items_left false old.inside rest ≡ item ∷ []
     → ((earlier : List Item) → Stands old earlier → TakesNext earlier item new result) → TakesAll bytes new.reading result
 takes_last old new bytes rest item (Ok ended) h next taken =
     let got = taken h.earlier h.stands in
@@ -70,7 +74,8 @@ takes_last old new bytes rest item (Err (faults.Line line word found)) h next ta
     let walked = subst (λ (xs : List Item). Walked (items_of bytes) h.earlier xs) next (walked_whole old bytes rest h) in
     walked_found (items_of bytes) h.earlier [] item (faults.Line line word found) walked (taken h.earlier h.stands)
 takes_last old new bytes rest item (Err (faults.End found)) h next taken = taken h.earlier h.stands
-takes_last old new bytes rest item (Err faults.OutOfMemory) h next taken = not_bare old bytes rest false item [] h next (taken h.earlier h.stands)
+takes_last old new bytes rest item (Err faults.OutOfMemory) h next taken =
+    not_bare old bytes rest false item [] h next (taken h.earlier h.stands)
 takes_last old new bytes rest item (Err faults.Device) h next taken = taken h.earlier h.stands
 takes_last old new bytes rest item (Err faults.TooLong) h next taken = taken h.earlier h.stands
 
@@ -79,7 +84,8 @@ settled_at_end most piece [] = refl
 settled_at_end most piece (b ∷ rest) = refl
 
 -- what has begun is that item
-pub last_token : (old new : Intake) (begun : Begun) (bytes text : List ℕ) (result : Result Bool ReadFault) → IsPaused old begun bytes
+pub last_token : (old new : Intake) (begun : Begun) (bytes text : List ℕ) (result : Result Bool ReadFault)
+    → IsPaused old begun bytes
     → (length begun.bytes.items == 0) ≡ false → text ≡ begun.bytes.items
     → ((earlier : List Item) → Stands old earlier → TakesNext earlier (token_item begun.token text) new result)
     → TakesAll bytes new.reading result
@@ -104,7 +110,8 @@ last_token old new begun bytes text result h some same taken =
     none_from p = refl
 
 -- nothing has begun
-pub last_none : (intake : Intake) (begun : Begun) (bytes : List ℕ) → IsPaused intake begun bytes → (length begun.bytes.items == 0) ≡ true
+pub last_none : (intake : Intake) (begun : Begun) (bytes : List ℕ) → IsPaused intake begun bytes
+    → (length begun.bytes.items == 0) ≡ true
     → TakesAll bytes intake.reading (Ok false)
 last_none intake begun bytes h empty =
     let none : kept begun ++ [] ≡ [] = append-nil (kept begun) ∙ empty_rest begun.bytes.items empty in
@@ -117,7 +124,8 @@ last_none intake begun bytes h empty =
 
 -- ---- the answer for the whole text
 
-whole_by : (bytes : List ℕ) (reading : Reading) (result : Result Fields ReadFault) → Holds reading (part bytes) → (is_too_long bytes && not (has_end_line (part bytes))) ≡ false
+whole_by : (bytes : List ℕ) (reading : Reading) (result : Result Fields ReadFault) → Holds reading (part bytes)
+    → (is_too_long bytes && not (has_end_line (part bytes))) ≡ false
     → ((earlier : List Item) → Holds reading earlier → AreCut earlier → Completes earlier result) → Reads bytes result
 whole_by bytes reading (Ok file) h short finish =
     let got = finish (part bytes) h (part_cut bytes) in
@@ -158,7 +166,8 @@ ends_front (Line key line ∷ items) all = absurd (false≢true all)
 ends_front (NumberWord word ∷ items) all = absurd (false≢true all)
 ends_front (LineEnd ∷ items) all = ends_front items all
 
-bare_part : (bytes : List ℕ) (goes_on : Bool) → is_bare bytes ≡ true → open_section (reverse (to_end_line (items_left goes_on false bytes))) ≡ None
+bare_part : (bytes : List ℕ) (goes_on : Bool) → is_bare bytes ≡ true
+    → open_section (reverse (to_end_line (items_left goes_on false bytes))) ≡ None
 bare_part bytes goes_on bare =
     let items = items_left goes_on false bytes in
     ends_close (reverse (to_end_line items)) (ends_turned (to_end_line items) (ends_front items (bare_ends goes_on false bytes bare)))
@@ -175,12 +184,14 @@ part_closed bytes true e bare =
 part_closed bytes false e bare =
     ap open_section (part_short bytes e ∙ ap (λ (xs : List Item). reverse (to_end_line xs)) (sym (all_items bytes))) ∙ bare_part bytes false bare
 
-stands_open : (opened : Option OpenSection) (items : List Item) → OpenHolds opened items → is_some opened ≡ true → open_section items ≡ None → ⊥
+stands_open : (opened : Option OpenSection) (items : List Item) → OpenHolds opened items → is_some opened ≡ true
+    → open_section items ≡ None → ⊥
 stands_open None items h some none = false≢true some
 stands_open (Some p) items h some none = none-some p.field (sym none ∙ h.0)
 
 -- where a section was open, there was more than blanks and line ends
-pub open_not_bare : (bytes : List ℕ) (reading : Reading) → SpellsWhole reading bytes → is_some reading.opened ≡ true → is_bare bytes ≡ false
+pub open_not_bare : (bytes : List ℕ) (reading : Reading) → SpellsWhole reading bytes → is_some reading.opened ≡ true
+    → is_bare bytes ≡ false
 open_not_bare bytes reading h some = by_case (is_bare bytes) refl
   where
     by_case : (b : Bool) → is_bare bytes ≡ b → is_bare bytes ≡ false
@@ -193,7 +204,8 @@ and_none : (b : Bool) → (b && false) ≡ false
 and_none true = refl
 and_none false = refl
 
-pub ended_whole : (feed : Feed) (bytes : List ℕ) → feed.stage ≡ Ended → HasTaken feed bytes → SpellsWhole feed.intake.reading bytes
+pub ended_whole : (feed : Feed) (bytes : List ℕ) → feed.stage ≡ Ended → HasTaken feed bytes
+    → SpellsWhole feed.intake.reading bytes
 ended_whole feed bytes e taken =
     let h : IsEnded feed.intake.reading bytes = taken_at feed bytes Ended e taken in
     let same : part bytes ≡ settled_part bytes = ap part (sym (append-nil bytes)) ∙ part_kept bytes [] h.holds.clean h.ended in
@@ -215,34 +227,40 @@ taken_whole feed bytes reading ended e taken last =
       short = ap (λ b. b && not (has_end_line (part bytes))) short;
     }
 
-last_fault : (bytes : List ℕ) (reading : Reading) (found : ReadFault) → is_too_long bytes ≡ false → TakesAll bytes reading (Err found) → Reads bytes (Err found)
-last_fault bytes reading (faults.Line line word found) short h = line_fault bytes (faults.Line line word found) (ap fault_in (part_short bytes short) ∙ h)
+last_fault : (bytes : List ℕ) (reading : Reading) (found : ReadFault) → is_too_long bytes ≡ false
+    → TakesAll bytes reading (Err found) → Reads bytes (Err found)
+last_fault bytes reading (faults.Line line word found) short h =
+    line_fault bytes (faults.Line line word found) (ap fault_in (part_short bytes short) ∙ h)
 last_fault bytes reading (faults.End found) short h = absurd h
 last_fault bytes reading faults.OutOfMemory short h = tt
 last_fault bytes reading faults.Device short h = h
 last_fault bytes reading faults.TooLong short h = absurd h
 
-pub taken_fault : (feed : Feed) (bytes : List ℕ) (reading : Reading) (found : ReadFault) → feed.stage ≡ Going → HasTaken feed bytes
+pub taken_fault : (feed : Feed) (bytes : List ℕ) (reading : Reading) (found : ReadFault) → feed.stage ≡ Going
+    → HasTaken feed bytes
     → (IsPaused feed.intake feed.begun bytes → TakesAll bytes reading (Err found)) → EndsReading bytes (Err found)
 taken_fault feed bytes reading found e taken last =
     let h : IsGoing feed bytes = taken_at feed bytes Going e taken in
     (last_fault bytes reading found (short_text feed bytes h) (last h.paused), λ same. subst (λ (f : ReadFault). TakesAll bytes reading (Err f)) same (last h.paused))
 
 pub settled_reads : (found : ReadFault) (bytes : List ℕ) → HasSettled found bytes → Reads bytes (Err found)
-settled_reads (faults.Line line word found) bytes h = ap fault (sym (append-nil bytes)) ∙ fault_kept bytes [] (faults.Line line word found) h
+settled_reads (faults.Line line word found) bytes h =
+    ap fault (sym (append-nil bytes)) ∙ fault_kept bytes [] (faults.Line line word found) h
 settled_reads (faults.End found) bytes h = absurd h
 settled_reads faults.OutOfMemory bytes h = tt
 settled_reads faults.Device bytes h = h
 settled_reads faults.TooLong bytes h = ap fault (sym (append-nil bytes)) ∙ fault_kept bytes [] faults.TooLong h
 
-pub refused_fault : (feed : Feed) (bytes : List ℕ) (found : ReadFault) → feed.stage ≡ Refused found → HasTaken feed bytes → EndsReading bytes (Err found)
+pub refused_fault : (feed : Feed) (bytes : List ℕ) (found : ReadFault) → feed.stage ≡ Refused found → HasTaken feed bytes
+    → EndsReading bytes (Err found)
 refused_fault feed bytes found e taken =
     let h = taken_at feed bytes (Refused found) e taken in
     (settled_reads found bytes h, λ same. absurd (subst (λ (f : ReadFault). HasSettled f bytes) same h))
 
 -- ---- that a reading comes from a text
 
-whole_read : (bytes : List ℕ) (reading : Reading) → SpellsWhole reading bytes → (earlier : List Item) × Holds reading earlier × AreCut earlier
+whole_read : (bytes : List ℕ) (reading : Reading) → SpellsWhole reading bytes
+    → (earlier : List Item) × Holds reading earlier × AreCut earlier
 whole_read bytes reading h = (part bytes, h.holds, part_cut bytes)
 
 pub going_read : (feed : Feed) (reading : Reading) (ended : Bool) → feed.stage ≡ Going

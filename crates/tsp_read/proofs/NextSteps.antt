@@ -15,17 +15,20 @@ use Rattle.tsp_read.proofs.LeftSteps.{Filled, start_is_filled, left_start, left_
 
 -- ---- the next item, by the text's first byte that isn't blank
 
-at_start : (goes_on inside : Bool) (text filled : List ℕ) → filled ≡ without_start text → items_left goes_on inside text ≡ items_left goes_on inside filled
+at_start : (goes_on inside : Bool) (text filled : List ℕ) → filled ≡ without_start text
+    → items_left goes_on inside text ≡ items_left goes_on inside filled
 at_start goes_on inside text filled e = sym (left_start goes_on inside text) ∙ ap (items_left goes_on inside) (sym e)
 
 filled_first : (text : List ℕ) (first : ℕ) (after : List ℕ) → first ∷ after ≡ without_start text → is_blank first ≡ false
 filled_first text first after e = subst Filled (sym e) (start_is_filled text)
 
-pub none_next : (goes_on inside : Bool) (text filled : List ℕ) → filled ≡ without_start text → length filled ≡ 0 → items_left goes_on inside text ≡ []
+pub none_next : (goes_on inside : Bool) (text filled : List ℕ) → filled ≡ without_start text → length filled ≡ 0
+    → items_left goes_on inside text ≡ []
 none_next goes_on inside text filled e short =
     at_start goes_on inside text filled e ∙ ap (items_left goes_on inside) (nil_from_length filled short) ∙ left_none goes_on inside
 
-pub end_next : (goes_on inside : Bool) (text filled : List ℕ) (first : ℕ) (after : List ℕ) → filled ≡ without_start text → filled ≡ first ∷ after → first ≡ 10
+pub end_next : (goes_on inside : Bool) (text filled : List ℕ) (first : ℕ) (after : List ℕ) → filled ≡ without_start text
+    → filled ≡ first ∷ after → first ≡ 10
     → items_left goes_on inside text ≡ LineEnd ∷ items_left goes_on false after
 end_next goes_on inside text filled first after e parts ten =
     at_start goes_on inside text filled e
@@ -41,8 +44,10 @@ begins_line : (inside : Bool) (first : ℕ) → (not inside && is_letter first) 
 begins_line true first e = absurd cc
 begins_line false first e = record { outside = refl; letter = e }
 
-line_next : (goes_on inside : Bool) (text filled : List ℕ) (first : ℕ) (after line rest : List ℕ) → filled ≡ without_start text → filled ≡ first ∷ after → (first ≡ 10 → ⊥)
-    → (not inside && is_letter first) ≡ true → line ≡ up_to_first ends_line filled → rest ≡ from ends_line filled → is_settled most_line_bytes goes_on line rest ≡ true
+line_next : (goes_on inside : Bool) (text filled : List ℕ) (first : ℕ) (after line rest : List ℕ) → filled ≡ without_start text
+    → filled ≡ first ∷ after → (first ≡ 10 → ⊥)
+    → (not inside && is_letter first) ≡ true → line ≡ up_to_first ends_line filled → rest ≡ from ends_line filled
+    → is_settled most_line_bytes goes_on line rest ≡ true
     → items_left goes_on inside text ≡ line_item line ∷ items_left goes_on true rest
 line_next goes_on inside text filled first after line rest e parts more begins l r settled =
     let b = begins_line inside first begins in
@@ -51,8 +56,10 @@ line_next goes_on inside text filled first after line rest e parts more begins l
     ∙ ap (λ i. items_left goes_on i (first ∷ after)) b.outside
     ∙ line_taken goes_on first after line rest b.letter (ne_eqb first 10 more) (l ∙ ap (up_to_first ends_line) parts) (r ∙ ap (from ends_line) parts) settled
 
-line_missing_next : (goes_on inside : Bool) (text filled : List ℕ) (first : ℕ) (after : List ℕ) → filled ≡ without_start text → filled ≡ first ∷ after → (first ≡ 10 → ⊥)
-    → (not inside && is_letter first) ≡ true → is_settled most_line_bytes goes_on (up_to_first ends_line filled) (from ends_line filled) ≡ false
+line_missing_next : (goes_on inside : Bool) (text filled : List ℕ) (first : ℕ) (after : List ℕ) → filled ≡ without_start text
+    → filled ≡ first ∷ after → (first ≡ 10 → ⊥)
+    → (not inside && is_letter first) ≡ true
+    → is_settled most_line_bytes goes_on (up_to_first ends_line filled) (from ends_line filled) ≡ false
     → items_left goes_on inside text ≡ []
 line_missing_next goes_on inside text filled first after e parts more begins settled =
     let b = begins_line inside first begins in
@@ -62,8 +69,10 @@ line_missing_next goes_on inside text filled first after e parts more begins set
     ∙ line_not_taken goes_on first after b.letter (ne_eqb first 10 more)
     (ap (λ xs. is_settled most_line_bytes goes_on (up_to_first ends_line xs) (from ends_line xs)) (sym parts) ∙ settled)
 
-pub word_next : (goes_on inside : Bool) (text filled : List ℕ) (first : ℕ) (after word rest : List ℕ) → filled ≡ without_start text → filled ≡ first ∷ after → (first ≡ 10 → ⊥)
-    → (not inside && is_letter first) ≡ false → word ≡ up_to_first ends_word filled → rest ≡ from ends_word filled → is_settled most_word_bytes goes_on word rest ≡ true
+pub word_next : (goes_on inside : Bool) (text filled : List ℕ) (first : ℕ) (after word rest : List ℕ)
+    → filled ≡ without_start text → filled ≡ first ∷ after → (first ≡ 10 → ⊥)
+    → (not inside && is_letter first) ≡ false → word ≡ up_to_first ends_word filled → rest ≡ from ends_word filled
+    → is_settled most_word_bytes goes_on word rest ≡ true
     → items_left goes_on inside text ≡ NumberWord word ∷ items_left goes_on true rest
 word_next goes_on inside text filled first after word rest e parts more begins w r settled =
     at_start goes_on inside text filled e
@@ -71,8 +80,10 @@ word_next goes_on inside text filled first after word rest e parts more begins w
     ∙ word_taken goes_on inside first after word rest (filled_first text first after (sym parts ∙ e)) (ne_eqb first 10 more) begins
     (w ∙ ap (up_to_first ends_word) parts) (r ∙ ap (from ends_word) parts) settled
 
-word_missing_next : (goes_on inside : Bool) (text filled : List ℕ) (first : ℕ) (after : List ℕ) → filled ≡ without_start text → filled ≡ first ∷ after → (first ≡ 10 → ⊥)
-    → (not inside && is_letter first) ≡ false → is_settled most_word_bytes goes_on (up_to_first ends_word filled) (from ends_word filled) ≡ false
+word_missing_next : (goes_on inside : Bool) (text filled : List ℕ) (first : ℕ) (after : List ℕ) → filled ≡ without_start text
+    → filled ≡ first ∷ after → (first ≡ 10 → ⊥)
+    → (not inside && is_letter first) ≡ false
+    → is_settled most_word_bytes goes_on (up_to_first ends_word filled) (from ends_word filled) ≡ false
     → items_left goes_on inside text ≡ []
 word_missing_next goes_on inside text filled first after e parts more begins settled =
     at_start goes_on inside text filled e
@@ -92,7 +103,8 @@ word_begins false is = refl
 
 pub token_next : (goes_on inside : Bool) (text filled : List ℕ) (first : ℕ) (after : List ℕ) (token : Token) (piece rest : List ℕ)
     → filled ≡ without_start text → filled ≡ first ∷ after → (first ≡ 10 → ⊥) → token ≡ token_at inside first
-    → piece ≡ up_to_first (ends token) filled → rest ≡ from (ends token) filled → is_settled (most_bytes token) goes_on piece rest ≡ true
+    → piece ≡ up_to_first (ends token) filled → rest ≡ from (ends token) filled
+    → is_settled (most_bytes token) goes_on piece rest ≡ true
     → items_left goes_on inside text ≡ token_item token piece ∷ items_left goes_on true rest
 token_next goes_on inside text filled first after Line piece rest e parts more is p r settled =
     line_next goes_on inside text filled first after piece rest e parts more

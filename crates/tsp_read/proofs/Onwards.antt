@@ -24,10 +24,12 @@ abbrev pub CutsAlike : (ℕ → Bool) → List ℕ → List ℕ → Type 0
 CutsAlike p xs more = (up_to_first p (xs ++ more) ≡ up_to_first p xs) × (from p (xs ++ more) ≡ from p xs ++ more)
 
 pub on_before : (p : ℕ → Bool) (x : ℕ) (xs : List ℕ) → p x ≡ false → up_to_first p (x ∷ xs) ≡ x ∷ up_to_first p xs
-on_before p x xs e = ap (λ b. take (cond (not b) (1 + position_or_len p xs) 0) (x ∷ xs)) e ∙ ap (λ n. take n (x ∷ xs)) (one_more (position_or_len p xs))
+on_before p x xs e =
+    ap (λ b. take (cond (not b) (1 + position_or_len p xs) 0) (x ∷ xs)) e ∙ ap (λ n. take n (x ∷ xs)) (one_more (position_or_len p xs))
 
 pub on_from : (p : ℕ → Bool) (x : ℕ) (xs : List ℕ) → p x ≡ false → from p (x ∷ xs) ≡ from p xs
-on_from p x xs e = ap (λ b. drop (cond (not b) (1 + position_or_len p xs) 0) (x ∷ xs)) e ∙ ap (λ n. drop n (x ∷ xs)) (one_more (position_or_len p xs))
+on_from p x xs e =
+    ap (λ b. drop (cond (not b) (1 + position_or_len p xs) 0) (x ∷ xs)) e ∙ ap (λ n. drop n (x ∷ xs)) (one_more (position_or_len p xs))
 
 pub at_before : (p : ℕ → Bool) (x : ℕ) (xs : List ℕ) → p x ≡ true → up_to_first p (x ∷ xs) ≡ []
 at_before p x xs e = ap (λ b. take (cond (not b) (1 + position_or_len p xs) 0) (x ∷ xs)) e
@@ -56,25 +58,31 @@ starts_by : (b : ℕ) (bytes more : List ℕ) (first : ℕ) (after : List ℕ) (
     → (without_start bytes ≡ first ∷ after → without_start (bytes ++ more) ≡ first ∷ (after ++ more))
     → without_start (b ∷ bytes) ≡ first ∷ after → without_start (b ∷ (bytes ++ more)) ≡ first ∷ (after ++ more)
 starts_by b bytes more first after true e rest h = start_blank b (bytes ++ more) e ∙ rest (sym (start_blank b bytes e) ∙ h)
-starts_by b bytes more first after false e rest h = start_filled b (bytes ++ more) e ∙ ap (λ (ys : List ℕ). ys ++ more) (sym (start_filled b bytes e) ∙ h)
+starts_by b bytes more first after false e rest h =
+    start_filled b (bytes ++ more) e ∙ ap (λ (ys : List ℕ). ys ++ more) (sym (start_filled b bytes e) ∙ h)
 
-pub starts_alike : (bytes more : List ℕ) (first : ℕ) (after : List ℕ) → without_start bytes ≡ first ∷ after → without_start (bytes ++ more) ≡ first ∷ (after ++ more)
+pub starts_alike : (bytes more : List ℕ) (first : ℕ) (after : List ℕ) → without_start bytes ≡ first ∷ after
+    → without_start (bytes ++ more) ≡ first ∷ (after ++ more)
 starts_alike [] more first after h = absurd cc
-starts_alike (b ∷ bytes) more first after h = starts_by b bytes more first after (is_blank b) refl (starts_alike bytes more first after) h
+starts_alike (b ∷ bytes) more first after h =
+    starts_by b bytes more first after (is_blank b) refl (starts_alike bytes more first after) h
 
 -- ---- the next item
 
-filled_settled : (most : ℕ) (goes_on : Bool) (piece rest more : List ℕ) → is_filled rest ≡ true → is_settled most goes_on piece (rest ++ more) ≡ true
+filled_settled : (most : ℕ) (goes_on : Bool) (piece rest more : List ℕ) → is_filled rest ≡ true
+    → is_settled most goes_on piece (rest ++ more) ≡ true
 filled_settled most goes_on piece [] more e = absurd cc
 filled_settled most goes_on piece (x ∷ rest) more e = refl
 
 -- a piece that is settled, and isn't too long, is followed by something
-not_long : (most : ℕ) (piece rest : List ℕ) (long : Bool) → (is_filled rest || false || long) ≡ true → long ≡ false → is_filled rest ≡ true
+not_long : (most : ℕ) (piece rest : List ℕ) (long : Bool) → (is_filled rest || false || long) ≡ true → long ≡ false
+    → is_filled rest ≡ true
 not_long most piece (x ∷ rest) long e short = refl
 not_long most piece [] true e short = absurd cc
 not_long most piece [] false e short = absurd cc
 
-pub end_follows : (inside : Bool) (text filled : List ℕ) (first : ℕ) (after : List ℕ) → filled ≡ without_start text → filled ≡ first ∷ after → first ≡ 10
+pub end_follows : (inside : Bool) (text filled : List ℕ) (first : ℕ) (after : List ℕ) → filled ≡ without_start text
+    → filled ≡ first ∷ after → first ≡ 10
     → GivesNext inside text LineEnd false after
 end_follows inside text filled first after e parts ten goes_on more =
     end_next goes_on inside (text ++ more) (first ∷ (after ++ more)) first (after ++ more) (sym (starts_alike text more first after (sym e ∙ parts))) refl ten
@@ -82,7 +90,8 @@ end_follows inside text filled first after e parts ten goes_on more =
 -- a line or a word that isn't too long, whatever follows it
 pub token_follows : (inside goes : Bool) (text filled : List ℕ) (first : ℕ) (after : List ℕ) (token : Token) (piece rest : List ℕ)
     → filled ≡ without_start text → filled ≡ first ∷ after → (first ≡ 10 → ⊥) → token ≡ token_at inside first
-    → piece ≡ up_to_first (ends token) filled → rest ≡ from (ends token) filled → is_settled (most_bytes token) goes piece rest ≡ true
+    → piece ≡ up_to_first (ends token) filled → rest ≡ from (ends token) filled
+    → is_settled (most_bytes token) goes piece rest ≡ true
     → goes ≡ true → nat_lt (most_bytes token) (length piece) ≡ false → GivesNext inside text (token_item token piece) true rest
 token_follows inside true text filled first after token piece rest e parts more_ is p r settled goes_is short goes_on more =
     let tail : is_filled rest ≡ true = not_long (most_bytes token) piece rest _ settled short in
@@ -92,7 +101,8 @@ token_follows inside true text filled first after token piece rest e parts more_
     (longer ∙ sym (starts_alike text more first after (sym e ∙ parts))) longer more_ is
     (p ∙ sym cut.0) (ap (λ (ys : List ℕ). ys ++ more) r ∙ sym cut.1)
     (filled_settled (most_bytes token) goes_on piece rest more tail)
-token_follows inside false text filled first after token piece rest e parts more_ is p r settled goes_is short goes_on more = absurd cc
+token_follows inside false text filled first after token piece rest e parts more_ is p r settled goes_is short goes_on more =
+    absurd cc
 
 -- it isn't too long where its item isn't
 pub token_short : (token : Token) (piece : List ℕ) → is_over_long (token_item token piece) ≡ false
@@ -107,7 +117,8 @@ token_long Word piece long = lt-ltb most_word_bytes (length piece) long
 -- a number word, as a run takes it
 pub word_follows : (inside goes : Bool) (text filled : List ℕ) (first : ℕ) (after word rest : List ℕ)
     → filled ≡ without_start text → filled ≡ first ∷ after → (first ≡ 10 → ⊥) → (not inside && is_letter first) ≡ false
-    → word ≡ up_to_first ends_word filled → rest ≡ from ends_word filled → is_settled most_word_bytes goes word rest ≡ true → goes ≡ true
+    → word ≡ up_to_first ends_word filled → rest ≡ from ends_word filled → is_settled most_word_bytes goes word rest ≡ true
+    → goes ≡ true
     → is_over_long (NumberWord word) ≡ false → GivesNext inside text (NumberWord word) true rest
 word_follows inside goes text filled first after word rest e parts more_ begins w r settled goes_is short =
     token_follows inside goes text filled first after Word word rest e parts more_ (ap (λ (b : Bool). cond b Line Word) (sym begins))

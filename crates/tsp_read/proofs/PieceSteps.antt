@@ -14,7 +14,7 @@ use Rattle.tsp_read.specs.declared.stage.Stage.{Stage}
 use Rattle.tsp_read.specs.declared.stage.Stage.TheVariants.{Going, Ended, Refused}
 use Rattle.tsp_read.specs.declared.feed.Feed.{Feed}
 use Rattle.tsp_text.specs.Items.{has_end_line}
-use Rattle.tsp_text.specs.Rows.{when, first_row}
+use Rattle.tsp_text.specs.FaultRows.{when, first_row}
 use Rattle.tsp_text.specs.FirstFault.{fault_in, IsClean}
 use Rattle.tsp_text.specs.Text.{is_too_long, settled_part, settled_fault, fault}
 use Rattle.tsp_read.specs.Reads.{most_taken, StopsAt}
@@ -51,7 +51,8 @@ clean_of : (bytes : List ℕ) → settled_fault bytes ≡ None → IsClean (sett
 clean_of bytes none =
     first_none (fault_in (settled_part bytes)) (when (is_too_long bytes && not (has_end_line (settled_part bytes))) faults.TooLong ∷ []) none
 
-front_going : (front more : List ℕ) → settled_fault (front ++ more) ≡ None → has_end_line (settled_part (front ++ more)) ≡ false → has_end_line (settled_part front) ≡ false
+front_going : (front more : List ℕ) → settled_fault (front ++ more) ≡ None → has_end_line (settled_part (front ++ more)) ≡ false
+    → has_end_line (settled_part front) ≡ false
 front_going front more none going = by_case (has_end_line (settled_part front)) refl
   where
     by_case : (b : Bool) → has_end_line (settled_part front) ≡ b → has_end_line (settled_part front) ≡ false
@@ -60,7 +61,8 @@ front_going front more none going = by_case (has_end_line (settled_part front)) 
         let same = ended_stays front more (clean_of front (front_clean front more none)) e in
         absurd (true≢false (sym e ∙ sym (ap has_end_line same) ∙ going))
 
-timely_front : (given whole : List ℕ) (k : ℕ) → take k whole ≡ take k given → settled_fault given ≡ None → has_end_line (settled_part given) ≡ false
+timely_front : (given whole : List ℕ) (k : ℕ) → take k whole ≡ take k given → settled_fault given ≡ None
+    → has_end_line (settled_part given) ≡ false
     → (settled_fault (take k whole) ≡ None) × (has_end_line (settled_part (take k whole)) ≡ false)
 timely_front given whole k e none going =
     let parts : take k given ++ drop k given ≡ given = take-append-drop k given in (
@@ -69,7 +71,8 @@ timely_front given whole k e none going =
           ∙ front_going (take k given) (drop k given) (ap settled_fault parts ∙ none) (ap (λ (xs : List ℕ). has_end_line (settled_part xs)) parts ∙ going),
     )
 
-timely_more : (given piece : List ℕ) → settled_fault given ≡ None → has_end_line (settled_part given) ≡ false → length piece ≤ 4096 → IsTimely (given ++ piece)
+timely_more : (given piece : List ℕ) → settled_fault given ≡ None → has_end_line (settled_part given) ≡ false
+    → length piece ≤ 4096 → IsTimely (given ++ piece)
 timely_more given piece none going few =
     let k = length (given ++ piece) - 4096 in
     let low : k ≤ length given = omega (arith, length-append given piece, few) in
@@ -80,22 +83,27 @@ pub timely_start : IsTimely []
 timely_start = record { no_fault = refl; no_end = refl }
 
 pub gathered_start : (known : Option (List ℕ)) (feed : Feed) → HasTaken feed [] → Gathered known known feed 0
-gathered_start known feed held = record { given = []; gave = Consumes-nil known; held = held; no_fault = refl; counted = refl; timely = timely_start }
+gathered_start known feed held =
+    record { given = []; gave = Consumes-nil known; held = held; no_fault = refl; counted = refl; timely = timely_start }
 
 -- ---- a piece more
 
-going_bytes : (feed : Feed) (bytes : List ℕ) (stage : Stage) → feed.stage ≡ stage → is_going stage ≡ true → HasTaken feed bytes → IsGoing feed bytes
+going_bytes : (feed : Feed) (bytes : List ℕ) (stage : Stage) → feed.stage ≡ stage → is_going stage ≡ true → HasTaken feed bytes
+    → IsGoing feed bytes
 going_bytes feed bytes Going e going h = taken_at feed bytes Going e h
 going_bytes feed bytes Ended e going h = absurd (false≢true going)
 going_bytes feed bytes (Refused found) e going h = absurd (false≢true going)
 
-pub timely_next : (known left : Option (List ℕ)) (feed : Feed) (taken : ℕ) (piece : List ℕ) (g : Gathered known left feed taken) → is_going feed.stage ≡ true → length piece ≤ 4096
+pub timely_next : (known left : Option (List ℕ)) (feed : Feed) (taken : ℕ) (piece : List ℕ) (g : Gathered known left feed taken)
+    → is_going feed.stage ≡ true → length piece ≤ 4096
     → IsTimely (g.given ++ piece)
 timely_next known left feed taken piece g going few =
     timely_more g.given piece g.no_fault (going_on feed g.given (going_bytes feed g.given feed.stage refl going g.held)) few
 
-pub gathered_more : (known left next : Option (List ℕ)) (old new : Feed) (taken count : ℕ) (piece : List ℕ) → Gathered known left old taken → is_going old.stage ≡ true → length piece ≤ 4096
-    → Consumes left next piece → length piece ≡ count → ((bytes : List ℕ) → HasTaken old bytes → Feeds (bytes ++ piece) new (Ok tt)) → Gathered known next new (taken + count)
+pub gathered_more : (known left next : Option (List ℕ)) (old new : Feed) (taken count : ℕ) (piece : List ℕ)
+    → Gathered known left old taken → is_going old.stage ≡ true → length piece ≤ 4096
+    → Consumes left next piece → length piece ≡ count
+    → ((bytes : List ℕ) → HasTaken old bytes → Feeds (bytes ++ piece) new (Ok tt)) → Gathered known next new (taken + count)
 gathered_more known left next old new taken count piece g going few gave size feeds =
     let fed = feeds g.given g.held in
     record {
@@ -109,27 +117,32 @@ gathered_more known left next old new taken count piece g going few gave size fe
 
 -- ---- a fault of a piece
 
-rest_fault : (known left : Option (List ℕ)) (given : List ℕ) (found : ReadFault) → Consumes known left given → settled_fault given ≡ Some found
+rest_fault : (known left : Option (List ℕ)) (given : List ℕ) (found : ReadFault) → Consumes known left given
+    → settled_fault given ≡ Some found
     → IfSome known (λ bytes. fault bytes ≡ Some found)
 rest_fault None left given found gave e = tt
 rest_fault (Some rest) None given found gave e = absurd gave
 rest_fault (Some rest) (Some more) given found gave e = ap fault gave ∙ fault_kept given more found e
 
-whole_fault : (turn : Turn) (found : ReadFault) → Gave turn → IsSound turn → settled_fault turn.given ≡ Some found → GaveAll turn (λ bytes. fault bytes ≡ Some found)
+whole_fault : (turn : Turn) (found : ReadFault) → Gave turn → IsSound turn → settled_fault turn.given ≡ Some found
+    → GaveAll turn (λ bytes. fault bytes ≡ Some found)
 whole_fault turn found gave sound e =
     (gave, sound, ap fault (sym (append-nil turn.given)) ∙ fault_kept turn.given [] found e, rest_fault turn.known turn.left turn.given found gave e)
 
-stops_by : (turn : Turn) (feed : Feed) (found : ReadFault) → Gave turn → IsSound turn → Feeds turn.given feed (Err found) → StopsAt found turn
+stops_by : (turn : Turn) (feed : Feed) (found : ReadFault) → Gave turn → IsSound turn → Feeds turn.given feed (Err found)
+    → StopsAt found turn
 stops_by turn feed (faults.Line line word found) gave sound h = whole_fault turn (faults.Line line word found) gave sound h.1
 stops_by turn feed (faults.End found) gave sound h = absurd h
 stops_by turn feed faults.OutOfMemory gave sound h = (gave, sound)
 stops_by turn feed faults.Device gave sound h = absurd h
 stops_by turn feed faults.TooLong gave sound h = whole_fault turn faults.TooLong gave sound h.1
 
-memory_caused : (bytes : List ℕ) (feed : Feed) (found : ReadFault) → found ≡ faults.OutOfMemory → Feeds bytes feed (Err found) → is_bare bytes ≡ false
+memory_caused : (bytes : List ℕ) (feed : Feed) (found : ReadFault) → found ≡ faults.OutOfMemory → Feeds bytes feed (Err found)
+    → is_bare bytes ≡ false
 memory_caused bytes feed found wants h = subst (λ (f : ReadFault). Feeds bytes feed (Err f)) wants h
 
-pub piece_stops : (turn : List ℕ → Turn) (known left next : Option (List ℕ)) (old new : Feed) (taken : ℕ) (piece : List ℕ) (found : ReadFault) → ((given : List ℕ) → (turn given).given ≡ given)
+pub piece_stops : (turn : List ℕ → Turn) (known left next : Option (List ℕ)) (old new : Feed) (taken : ℕ) (piece : List ℕ) (found : ReadFault)
+    → ((given : List ℕ) → (turn given).given ≡ given)
     → ((given : List ℕ) → Consumes known next given → Gave (turn given)) → ((given : List ℕ) → IsSound (turn given))
     → taken ≤ most_file_bytes → Gathered known left old taken → is_going old.stage ≡ true → length piece ≤ 4096
     → Consumes left next piece → ((bytes : List ℕ) → HasTaken old bytes → Feeds (bytes ++ piece) new (Err found))
@@ -148,17 +161,22 @@ piece_stops turn known left next old new taken piece found same gives sound room
 
 -- ---- the end
 
-past_limit : (feed : Feed) (bytes : List ℕ) (stage : Stage) → feed.stage ≡ stage → HasTaken feed bytes → most_file_bytes < length bytes → is_going stage ≡ false
+past_limit : (feed : Feed) (bytes : List ℕ) (stage : Stage) → feed.stage ≡ stage → HasTaken feed bytes
+    → most_file_bytes < length bytes → is_going stage ≡ false
 past_limit feed bytes Going e h long = let g : IsGoing feed bytes = taken_at feed bytes Going e h in absurd (omega (arith, g.short, long))
 past_limit feed bytes Ended e h long = refl
 past_limit feed bytes (Refused found) e h long = refl
 
-pub not_going : (known left : Option (List ℕ)) (feed : Feed) (taken : ℕ) → Gathered known left feed taken → most_file_bytes < taken → is_going feed.stage ≡ false
-not_going known left feed taken g long = past_limit feed g.given feed.stage refl g.held (subst (λ (n : ℕ). most_file_bytes < n) (sym g.counted) long)
+pub not_going : (known left : Option (List ℕ)) (feed : Feed) (taken : ℕ) → Gathered known left feed taken
+    → most_file_bytes < taken → is_going feed.stage ≡ false
+not_going known left feed taken g long =
+    past_limit feed g.given feed.stage refl g.held (subst (λ (n : ℕ). most_file_bytes < n) (sym g.counted) long)
 
-pub fed_from : (turn : List ℕ → Turn) (known left : Option (List ℕ)) (feed : Feed) (taken : ℕ) → ((given : List ℕ) → (turn given).given ≡ given)
+pub fed_from : (turn : List ℕ → Turn) (known left : Option (List ℕ)) (feed : Feed) (taken : ℕ)
+    → ((given : List ℕ) → (turn given).given ≡ given)
     → ((given : List ℕ) → Consumes known left given → Gave (turn given)) → ((given : List ℕ) → IsSound (turn given))
-    → taken ≤ most_taken → Gathered known left feed taken → ((given : List ℕ) → IsAtEnd (turn given).left ⊎ (is_going feed.stage ≡ false))
+    → taken ≤ most_taken → Gathered known left feed taken
+    → ((given : List ℕ) → IsAtEnd (turn given).left ⊎ (is_going feed.stage ≡ false))
     → TakesAtMost most_taken turn (λ whole. IsFedFrom whole feed)
 fed_from turn known left feed taken same gives sound room g over =
     let e = same g.given in (
@@ -175,7 +193,8 @@ fed_from turn known left feed taken same gives sound room g over =
     )
 
 -- nothing more was given
-pub gathered_none : (known left next : Option (List ℕ)) (feed : Feed) (taken : ℕ) → Gathered known left feed taken → Consumes left next [] → Gathered known next feed taken
+pub gathered_none : (known left next : Option (List ℕ)) (feed : Feed) (taken : ℕ) → Gathered known left feed taken
+    → Consumes left next [] → Gathered known next feed taken
 gathered_none known left next feed taken g gave = record {
   given = g.given;
   gave = subst (λ (xs : List ℕ). Consumes known next xs) (append-nil g.given) (Consumes-trans known left next g.given [] g.gave gave);
@@ -185,7 +204,8 @@ gathered_none known left next feed taken g gave = record {
   timely = g.timely;
 }
 
-pub gathered_kept : (known left next : Option (List ℕ)) (feed : Feed) (taken : ℕ) → Gathered known left feed taken → Keeps left next → Gathered known next feed taken
+pub gathered_kept : (known left next : Option (List ℕ)) (feed : Feed) (taken : ℕ) → Gathered known left feed taken
+    → Keeps left next → Gathered known next feed taken
 gathered_kept known left next feed taken g kept = record {
   given = g.given;
   gave = Consumes-kept known left next g.given g.gave kept;

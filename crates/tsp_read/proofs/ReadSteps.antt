@@ -6,7 +6,7 @@ use Rattle.tsp_read.specs.declared.state.reading.Reading.{Reading}
 use Rattle.tsp_read.specs.declared.cut.Next.{Next}
 use Rattle.tsp_read.specs.declared.cut.Next.TheVariants as next
 use Rattle.tsp_text.specs.Items.{Item, LineEnd, NumberWord, Line, is_end_line, words_before, word_number}
-use Rattle.tsp_text.specs.Rows.{row_of}
+use Rattle.tsp_text.specs.FaultRows.{row_of}
 use Rattle.tsp_text.specs.Text.{part, fault}
 use Rattle.tsp_read.specs.states.Left.{item_next}
 use Rattle.tsp_read.specs.declared.state.reading.OpenSection.{OpenSection}
@@ -30,19 +30,23 @@ line_ends reading earlier h = record {
   part = still_open reading.opened earlier h.part;
 }
 
-pub line_ended : (reading : Reading) (earlier : List Item) (item : Next) → item ≡ next.LineEnd → Holds reading earlier → TakesItem earlier (item_next item) reading (Ok false)
+pub line_ended : (reading : Reading) (earlier : List Item) (item : Next) → item ≡ next.LineEnd → Holds reading earlier
+    → TakesItem earlier (item_next item) reading (Ok false)
 line_ended reading earlier item is h =
     let P : Next → Type 0 = λ i. TakesItem earlier (item_next i) reading (Ok false) in
     subst P (sym is) (line_ends reading earlier h, refl)
 
-pub word_taken : (new : Reading) (earlier : List Item) (item : Next) (word : List ℕ) → item_next item ≡ NumberWord word → Holds new (NumberWord word ∷ earlier)
+pub word_taken : (new : Reading) (earlier : List Item) (item : Next) (word : List ℕ) → item_next item ≡ NumberWord word
+    → Holds new (NumberWord word ∷ earlier)
     → TakesItem earlier (item_next item) new (Ok false)
 word_taken new earlier item word is h = let P : Item → Type 0 = λ i. TakesItem earlier i new (Ok false) in subst P (sym is) (h, refl)
 
-pub takes_ok : (earlier : List Item) (cut item : Item) (new : Reading) (ended : Bool) → cut ≡ item → Holds new (cut ∷ earlier) → ended ≡ is_end_line cut → TakesItem earlier item new (Ok ended)
+pub takes_ok : (earlier : List Item) (cut item : Item) (new : Reading) (ended : Bool) → cut ≡ item → Holds new (cut ∷ earlier)
+    → ended ≡ is_end_line cut → TakesItem earlier item new (Ok ended)
 takes_ok earlier cut item new ended same h e = let P : Item → Type 0 = λ i. TakesItem earlier i new (Ok ended) in subst P same (h, e)
 
-pub takes_err : (earlier : List Item) (cut item : Item) (new : Reading) (fault : StepFault) → cut ≡ item → AnswersItem earlier cut new (Err fault) → TakesItem earlier item new (Err fault)
+pub takes_err : (earlier : List Item) (cut item : Item) (new : Reading) (fault : StepFault) → cut ≡ item
+    → AnswersItem earlier cut new (Err fault) → TakesItem earlier item new (Err fault)
 takes_err earlier cut item new steps.Memory same h = tt
 takes_err earlier cut item new (steps.Fault fault) same h = let P : Item → Type 0 = λ i. row_of earlier i ≡ Some fault in subst P same h
 

@@ -71,7 +71,8 @@ points_stored : (in_space : Bool) (n : ℕ) (words : List (List ℕ)) (fields : 
 points_stored true n words fields = refl
 points_stored false n words fields = refl
 
-pub closed_fields : (earlier : List Item) (f : Field) → is_section_field f ≡ true → open_section earlier ≡ Some f → has_line f earlier ≡ true
+pub closed_fields : (earlier : List Item) (f : Field) → is_section_field f ≡ true → open_section earlier ≡ Some f
+    → has_line f earlier ≡ true
     → with_section (spatial_after earlier) f (dimension_in earlier) (words_of f earlier) (fields_by (is_closed earlier) earlier) ≡ fields_by (λ field. has_line field earlier) earlier
 closed_fields earlier = by_section (λ f. open_section earlier ≡ Some f → has_line f earlier ≡ true
     → with_section (spatial_after earlier) f (dimension_in earlier) (words_of f earlier) (fields_by (is_closed earlier) earlier) ≡ fields_by (λ field. has_line field earlier) earlier)
@@ -83,7 +84,8 @@ closed_fields earlier = by_section (λ f. open_section earlier ≡ Some f → ha
 -- what the keywords say stays
 pub stored_keywords : (in_space : Bool) (n : ℕ) (words : List (List ℕ)) (fields : Fields) (f : Field) → is_section_field f ≡ true
     → fields_there (with_section in_space f n words fields) ≡ fields_there fields
-stored_keywords in_space n words fields = by_section (λ f. fields_there (with_section in_space f n words fields) ≡ fields_there fields)
+stored_keywords in_space n words fields =
+    by_section (λ f. fields_there (with_section in_space f n words fields) ≡ fields_there fields)
     (ap fields_there (points_stored in_space n words fields)) refl refl refl refl
     refl refl refl refl refl
     refl refl refl

@@ -28,24 +28,24 @@ use Rattle.tsp_section.specs.declared.parts.combs.CombList.{CombList}
 use Rattle.tsp_section.specs.declared.parts.tree.TreeList.{TreeList}
 use Rattle.tsp_text.specs.Groups.{numbers_by_node, place_of_number, coords_by_node}
 use Rattle.tsp_text.specs.Lists.{fixed_in, place_of_fixed, fixed_triples_in, place_of_triple}
-use Rattle.tsp_text.specs.Combs.{whole_combs, place_of_comb}
-use Rattle.tsp_text.specs.Tree.{whole_steps, place_of_step}
-use Rattle.tsp_text.specs.Places.{PastEnd}
+use Rattle.tsp_text.specs.CombSection.{whole_combs, place_of_comb}
+use Rattle.tsp_text.specs.BranchSection.{whole_steps, place_of_step}
+use Rattle.tsp_text.specs.WordPlaces.{PastEnd}
 use Rattle.tsp_text.specs.Lines.{is_filled}
 use Rattle.tsp_text.specs.Items.{WordLine, Item, Line}
 use Rattle.tsp_format.specs.Shapes.{shape_of, is_section_field}
 use Rattle.tsp_text.specs.Earlier.{is_open, has_line, open_section, words_of}
 use Rattle.tsp_text.specs.Values.{dimension_of, spatial_after}
 use Rattle.tsp_text.specs.Sections.{place_by, place_in, dimension_in}
-use Rattle.tsp_text.specs.Rows.{row_of, when, first_row}
+use Rattle.tsp_text.specs.FaultRows.{row_of, when, first_row}
 use Rattle.tsp_section.specs.states.CutLine.{MayOpen}
 use Rattle.tsp_section.specs.states.Parts.{are_in_space}
 use Rattle.tsp_text.specs.Opening.{needs_nodes, is_matrix, opening_rows}
-use Rattle.tsp_section.specs.states.Held.{HoldsNumbers, HoldsPoints, HoldsFixed, HoldsTriples, HoldsCombs, HoldsTree, shape_of_points, shape_by, HoldsPart, HoldsShape}
+use Rattle.tsp_section.specs.states.HeldParts.{HoldsNumbers, HoldsPoints, HoldsFixed, HoldsTriples, HoldsCombs, HoldsTree, shape_of_points, shape_by, HoldsPart, HoldsShape}
 use Rattle.tsp_text.specs.Spells.{wants_more, is_incomplete, sections_in_order, first_incomplete}
 use Rattle.tsp_read.specs.declared.state.reading.OpenSection.{OpenSection}
 use Rattle.tsp_read.specs.declared.state.reading.Reading.{Reading}
-use Rattle.tsp_read.specs.states.Open.{HoldsSection}
+use Rattle.tsp_read.specs.states.OpenSection.{HoldsSection}
 use Rattle.tsp_read.specs.states.Stored.{with_words, with_section}
 use Rattle.tsp_read.specs.states.Incomplete.{first_of}
 use Rattle.tsp_read.specs.states.Holds.{fields_there, OpenHolds, Holds, Closed}
@@ -89,7 +89,8 @@ pub opens : (old new : Reading) (field : Field) (shape : Shape) (line : WordLine
     → MayOpen shape (stands_in (fields_of old.draft) field) line.value old.draft.dimension (Ok n) → section.field ≡ field
     → (n ≤ most_nodes → HoldsShape shape section.part n [])
     → new.draft ≡ old.draft → new.incomplete ≡ old.incomplete → new.opened ≡ Some section
-    → (earlier : List Item) → Closed old earlier → nat_lt most_line_bytes line.size ≡ false → Holds new (Line (Known field) line ∷ earlier)
+    → (earlier : List Item) → Closed old earlier → nat_lt most_line_bytes line.size ≡ false
+    → Holds new (Line (Known field) line ∷ earlier)
 opens old new field shape line n section is may of begins same_draft same_first opened earlier h short =
     let kind : is_section_field field ≡ true = section_of (spatial (fields_of old.draft)) field shape is in
     let stays = nodes_stay earlier line field kind in
@@ -124,7 +125,8 @@ opens old new field shape line n section is may of begins same_draft same_first 
 pub refuses : (old : Reading) (field : Field) (shape : Shape) (line : WordLine) (fault : LineFault)
     → shape_of (spatial (fields_of old.draft)) field ≡ Some shape
     → MayOpen shape (stands_in (fields_of old.draft) field) line.value old.draft.dimension (Err fault)
-    → (earlier : List Item) → Closed old earlier → nat_lt most_line_bytes line.size ≡ false → row_of earlier (Line (Known field) line) ≡ Some fault
+    → (earlier : List Item) → Closed old earlier → nat_lt most_line_bytes line.size ≡ false
+    → row_of earlier (Line (Known field) line) ≡ Some fault
 refuses old field shape line fault is may earlier h short = rows_are old field shape line earlier is h short ∙ may
 
 -- ---- the section that is open is closed
@@ -145,7 +147,8 @@ none_open reading earlier none h =
 first_now : (earlier : List Item) (f : Field) (more : Bool) (first : Option Field) → is_section_field f ≡ true
     → find (but f (is_incomplete earlier)) sections_in_order ≡ first → is_incomplete earlier f ≡ more
     → cond more (first_of f first fields_in_order) first ≡ first_incomplete earlier
-first_now earlier f true first kind is passes = ap (λ o. first_of f o fields_in_order) (sym is) ∙ first_more is_section_field (is_incomplete earlier) f fields_in_order kind passes
+first_now earlier f true first kind is passes =
+    ap (λ o. first_of f o fields_in_order) (sym is) ∙ first_more is_section_field (is_incomplete earlier) f fields_in_order kind passes
 first_now earlier f false first kind is fails = sym is ∙ first_without (is_incomplete earlier) f sections_in_order fails
 
 pub closes : (old new : Reading) (section : OpenSection) (more : Bool) → old.opened ≡ Some section
@@ -187,7 +190,8 @@ stored_as section shape old new more in_space n words is fields wants = (
   wants ∙ ap (λ o. wants_more (option_map_or (λ shape. place_by shape n words) o PastEnd)) (sym is),
 )
 
-pub numbers_stored : (section : OpenSection) (part : NumberList) (numbers : List ℤ) (more : Bool) (old new : Fields) → section.part ≡ parts.Numbers part
+pub numbers_stored : (section : OpenSection) (part : NumberList) (numbers : List ℤ) (more : Bool) (old new : Fields)
+    → section.part ≡ parts.Numbers part
     → new ≡ with_numbers section.field numbers old
     → ((low high : ℤ) (n : ℕ) (words : List (List ℕ)) → HoldsNumbers part low high n words
     → (numbers ≡ numbers_by_node low high n words) × (more ≡ wants_more (place_of_number low high n words)))
@@ -198,7 +202,8 @@ numbers_stored section part numbers more old new is put finished in_space n word
     stored_as section (Numbers part.low part.high) old new more in_space n words (h.0 ∙ ap (λ p. Some (shape_by p)) is)
     (put ∙ ap (λ xs. with_numbers section.field xs old) got.0) got.1
 
-pub points_stored : (section : OpenSection) (part : PointList) (points : List Point) (more : Bool) (old new : Fields) → section.part ≡ parts.Points part
+pub points_stored : (section : OpenSection) (part : PointList) (points : List Point) (more : Bool) (old new : Fields)
+    → section.part ≡ parts.Points part
     → new ≡ with_points section.field points old
     → ((in_space : Bool) (n : ℕ) (words : List (List ℕ)) → HoldsPoints part in_space n words
     → (points ≡ coords_by_node in_space n words) × (more ≡ wants_more (place_by (shape_of_points in_space) n words)))
@@ -210,7 +215,8 @@ points_stored section part points more old new is put finished in_space n words 
     stored_as section (shape_of_points kind) old new more in_space n words (h.0 ∙ ap (λ p. Some (shape_by p)) is)
     (put ∙ ap (λ xs. with_points section.field xs old) got.0 ∙ with_coords kind section.field n words old) got.1
 
-pub pairs_stored : (section : OpenSection) (part : FixedList) (pairs : List (ℕ × ℕ)) (more : Bool) (old new : Fields) → section.part ≡ parts.Pairs part
+pub pairs_stored : (section : OpenSection) (part : FixedList) (pairs : List (ℕ × ℕ)) (more : Bool) (old new : Fields)
+    → section.part ≡ parts.Pairs part
     → new ≡ record old { fixed = Some pairs }
     → ((n : ℕ) (words : List (List ℕ)) → HoldsFixed part n words → (pairs ≡ fixed_in n words) × (more ≡ wants_more (place_of_fixed n words)))
     → (in_space : Bool) (n : ℕ) (words : List (List ℕ)) → HoldsSection in_space section n words
@@ -219,7 +225,8 @@ pairs_stored section part pairs more old new is put finished in_space n words h 
     let got = finished n words (subst (λ (p : Part). HoldsPart p n words) is h.1) in
     stored_as section Pairs old new more in_space n words (h.0 ∙ ap (λ p. Some (shape_by p)) is) (put ∙ ap (λ xs. record old { fixed = Some xs }) got.0) got.1
 
-pub triples_stored : (section : OpenSection) (part : TripleList) (triples : List (ℕ × ℕ × ℤ)) (more : Bool) (old new : Fields) → section.part ≡ parts.Triples part
+pub triples_stored : (section : OpenSection) (part : TripleList) (triples : List (ℕ × ℕ × ℤ)) (more : Bool) (old new : Fields)
+    → section.part ≡ parts.Triples part
     → new ≡ record old { fixed_potentials = Some triples }
     → ((n : ℕ) (words : List (List ℕ)) → HoldsTriples part n words → (triples ≡ fixed_triples_in n words) × (more ≡ wants_more (place_of_triple n words)))
     → (in_space : Bool) (n : ℕ) (words : List (List ℕ)) → HoldsSection in_space section n words
@@ -229,7 +236,8 @@ triples_stored section part triples more old new is put finished in_space n word
     stored_as section Triples old new more in_space n words (h.0 ∙ ap (λ p. Some (shape_by p)) is)
     (put ∙ ap (λ xs. record old { fixed_potentials = Some xs }) got.0) got.1
 
-pub combs_stored : (section : OpenSection) (part : CombList) (combs : List (List (List ℕ))) (more : Bool) (old new : Fields) → section.part ≡ parts.Combs part
+pub combs_stored : (section : OpenSection) (part : CombList) (combs : List (List (List ℕ))) (more : Bool) (old new : Fields)
+    → section.part ≡ parts.Combs part
     → new ≡ record old { combs = Some combs }
     → ((n : ℕ) (words : List (List ℕ)) → HoldsCombs part n words → (combs ≡ whole_combs n words) × (more ≡ wants_more (place_of_comb n words)))
     → (in_space : Bool) (n : ℕ) (words : List (List ℕ)) → HoldsSection in_space section n words
@@ -239,7 +247,8 @@ combs_stored section part combs more old new is put finished in_space n words h 
     stored_as section Combs old new more in_space n words (h.0 ∙ ap (λ p. Some (shape_by p)) is)
     (put ∙ ap (λ xs. record old { combs = Some xs }) got.0) got.1
 
-pub steps_stored : (section : OpenSection) (part : TreeList) (steps : List Step) (more : Bool) (old new : Fields) → section.part ≡ parts.Steps part
+pub steps_stored : (section : OpenSection) (part : TreeList) (steps : List Step) (more : Bool) (old new : Fields)
+    → section.part ≡ parts.Steps part
     → new ≡ record old { branches = Some steps }
     → ((n : ℕ) (words : List (List ℕ)) → HoldsTree part n words → (steps ≡ whole_steps n words) × (more ≡ wants_more (place_of_step n words)))
     → (in_space : Bool) (n : ℕ) (words : List (List ℕ)) → HoldsSection in_space section n words

@@ -15,7 +15,7 @@ use Rattle.tsp_section.specs.declared.fault.StepFault.TheVariants as steps
 use Rattle.tsp_read.specs.declared.state.reading.Reading.{Reading}
 use Rattle.tsp_text.specs.Items.{WordLine, Item, Line}
 use Rattle.tsp_text.specs.Earlier.{has_line, values_at, others_in}
-use Rattle.tsp_text.specs.Rows.{row_of, when, first_row, is_too_long_to_keep}
+use Rattle.tsp_text.specs.FaultRows.{row_of, when, first_row, is_too_long_to_keep}
 use Rattle.tsp_text.specs.Spells.{fields_by}
 use Rattle.tsp_section.specs.states.CutLine.{SetsName, AddsComment, AddsOther}
 use Rattle.tsp_read.specs.states.Holds.{fields_there, Holds, Closed, LineAnswers, OtherAnswers}
@@ -26,7 +26,8 @@ use Rattle.tsp_read.proofs.KeywordSteps.{still_none}
 pub two_none : (a b : Bool) (f g : LineFault) → a ≡ false → b ≡ false → first_row (when a f ∷ when b g ∷ []) ≡ None
 two_none a b f g x y = rw (x, y) refl
 
-pub three_none : (a b c : Bool) (f g h : LineFault) → a ≡ false → b ≡ false → c ≡ false → first_row (when a f ∷ when b g ∷ when c h ∷ []) ≡ None
+pub three_none : (a b c : Bool) (f g h : LineFault) → a ≡ false → b ≡ false → c ≡ false
+    → first_row (when a f ∷ when b g ∷ when c h ∷ []) ≡ None
 three_none a b c f g h x y z = rw (x, y, z) refl
 
 -- ---- NameKey
@@ -118,7 +119,8 @@ other_line old new line others (Err (steps.Fault fault)) adds is same_first same
 
 -- ---- Line Eof line: nothing is given
 
-pub end_line : (reading : Reading) (line : WordLine) (earlier : List Item) → nat_lt most_line_bytes line.size ≡ false → Closed reading earlier → Holds reading (Line Eof line ∷ earlier)
+pub end_line : (reading : Reading) (line : WordLine) (earlier : List Item) → nat_lt most_line_bytes line.size ≡ false
+    → Closed reading earlier → Holds reading (Line Eof line ∷ earlier)
 end_line reading line earlier short h = record {
   clean = clean_more earlier (Line Eof line) h.clean (rw short refl);
   stand = h.stand;
@@ -129,7 +131,8 @@ end_line reading line earlier short h = record {
 
 -- ---- Line (Known OtherKey) line: nothing is given
 
-pub unnamed_line : (reading : Reading) (line : WordLine) (earlier : List Item) → nat_lt most_line_bytes line.size ≡ false → Closed reading earlier
+pub unnamed_line : (reading : Reading) (line : WordLine) (earlier : List Item) → nat_lt most_line_bytes line.size ≡ false
+    → Closed reading earlier
     → Holds reading (Line (Known OtherKey) line ∷ earlier)
 unnamed_line reading line earlier short h = record {
   clean = clean_more earlier (Line (Known OtherKey) line) h.clean (rw short refl);
@@ -139,15 +142,18 @@ unnamed_line reading line earlier short h = record {
   part = still_none reading reading (Line (Known OtherKey) line ∷ earlier) refl refl h.part;
 }
 
-pub unnamed_field : (reading : Reading) (field : Field) (line : WordLine) (earlier : List Item) → field ≡ OtherKey → nat_lt most_line_bytes line.size ≡ false
+pub unnamed_field : (reading : Reading) (field : Field) (line : WordLine) (earlier : List Item) → field ≡ OtherKey
+    → nat_lt most_line_bytes line.size ≡ false
     → Closed reading earlier → Holds reading (Line (Known field) line ∷ earlier)
 unnamed_field reading field line earlier is short h =
     subst (λ (f : Field). Holds reading (Line (Known f) line ∷ earlier)) (sym is) (unnamed_line reading line earlier short h)
 
 -- ---- lines that are refused
 
-pub format_line : (line : WordLine) (earlier : List Item) → nat_lt most_line_bytes line.size ≡ false → row_of earlier (Line EdgeDataFormat line) ≡ Some row.Outside
+pub format_line : (line : WordLine) (earlier : List Item) → nat_lt most_line_bytes line.size ≡ false
+    → row_of earlier (Line EdgeDataFormat line) ≡ Some row.Outside
 format_line line earlier short = rw short refl
 
-pub data_line : (line : WordLine) (earlier : List Item) → nat_lt most_line_bytes line.size ≡ false → row_of earlier (Line EdgeDataSection line) ≡ Some row.Outside
+pub data_line : (line : WordLine) (earlier : List Item) → nat_lt most_line_bytes line.size ≡ false
+    → row_of earlier (Line EdgeDataSection line) ≡ Some row.Outside
 data_line line earlier short = rw short refl

@@ -7,7 +7,7 @@ use Rattle.tsp_draft.specs.declared.fault.EndFault.{EndFault}
 use Rattle.tsp_text.specs.declared.fault.ReadFault.{ReadFault}
 use Rattle.tsp_text.specs.declared.fault.ReadFault.TheVariants as faults
 use Rattle.tsp_text.specs.Items.{Item, is_end_line, has_end_line, to_end_line}
-use Rattle.tsp_text.specs.Rows.{row_of, when, first_row}
+use Rattle.tsp_text.specs.FaultRows.{row_of, when, first_row}
 use Rattle.tsp_text.specs.FirstFault.{fault_here, fault_in, IsClean}
 use Rattle.tsp_text.specs.Spells.{fault_at_end}
 use Rattle.tsp_text.specs.Text.{is_too_long, part, fault}
@@ -29,7 +29,8 @@ to_end_on (item ∷ items) more e =
     ap (λ b. item ∷ cond b [] (to_end_line (items ++ more))) both.0
     ∙ ap (λ xs. item ∷ xs) (to_end_on items more both.1)
 
-none_more : (items : List Item) (item : Item) → has_end_line items ≡ false → is_end_line item ≡ false → has_end_line (items ++ item ∷ []) ≡ false
+none_more : (items : List Item) (item : Item) → has_end_line items ≡ false → is_end_line item ≡ false
+    → has_end_line (items ++ item ∷ []) ≡ false
 none_more [] item e f = or_from (is_end_line item) false f refl
 none_more (first ∷ items) item e f =
     let both = or_false (is_end_line first) (has_end_line items) e in
@@ -46,7 +47,8 @@ none_reversed (item ∷ items) e =
 
 -- ---- the walk
 
-pub walked_more : (items earlier later : List Item) (item : Item) → Walked items earlier (item ∷ later) → is_end_line item ≡ false → Walked items (item ∷ earlier) later
+pub walked_more : (items earlier later : List Item) (item : Item) → Walked items earlier (item ∷ later) → is_end_line item ≡ false
+    → Walked items (item ∷ earlier) later
 walked_more items earlier later item h e = record {
   parts = h.parts ∙ sym (append_assoc (reverse earlier) (item ∷ []) later) ∙ ap (λ xs. xs ++ later) (sym (on_end item earlier));
   going = or_from (is_end_line item) (has_end_line earlier) e h.going;
@@ -68,7 +70,8 @@ turned earlier more item =
     ∙ append_assoc (reverse more) (item ∷ []) earlier
 
 -- the next item is an end line
-pub walked_to_end : (items earlier later : List Item) (item : Item) → Walked items earlier (item ∷ later) → is_end_line item ≡ true → reverse (to_end_line items) ≡ item ∷ earlier
+pub walked_to_end : (items earlier later : List Item) (item : Item) → Walked items earlier (item ∷ later)
+    → is_end_line item ≡ true → reverse (to_end_line items) ≡ item ∷ earlier
 walked_to_end items earlier later item h e =
     ap reverse (counts items earlier (item ∷ later) h ∙ ap (λ b. reverse earlier ++ item ∷ cond b [] (to_end_line later)) e)
     ∙ turned earlier [] item
@@ -81,7 +84,8 @@ fault_stays (item ∷ later) items found e =
     ap (λ first. option_or first (option_map (fault_here (later ++ items) item) (row_of (later ++ items) item))) (fault_stays later items found e)
 
 -- with the next item comes the first fault
-pub walked_found : (items earlier later : List Item) (item : Item) (found : ReadFault) → Walked items earlier (item ∷ later) → fault_in (item ∷ earlier) ≡ Some found
+pub walked_found : (items earlier later : List Item) (item : Item) (found : ReadFault) → Walked items earlier (item ∷ later)
+    → fault_in (item ∷ earlier) ≡ Some found
     → fault_in (reverse (to_end_line items)) ≡ Some found
 walked_found items earlier later item found h e =
     let more = cond (is_end_line item) [] (to_end_line later) in
@@ -95,9 +99,11 @@ abbrev rows : Option ReadFault → Bool → Option EndFault → Option ReadFault
 rows line long end = first_row (line ∷ when long faults.TooLong ∷ option_map (λ fault. faults.End fault) end ∷ [])
 
 pub line_fault : (bytes : List ℕ) (found : ReadFault) → fault_in (part bytes) ≡ Some found → fault bytes ≡ Some found
-line_fault bytes found e = ap (λ line. rows line (is_too_long bytes && not (has_end_line (part bytes))) (fault_at_end (part bytes))) e
+line_fault bytes found e =
+    ap (λ line. rows line (is_too_long bytes && not (has_end_line (part bytes))) (fault_at_end (part bytes))) e
 
-pub end_fault_is : (bytes : List ℕ) (found : Option EndFault) → IsClean (part bytes) → (is_too_long bytes && not (has_end_line (part bytes))) ≡ false → fault_at_end (part bytes) ≡ found
+pub end_fault_is : (bytes : List ℕ) (found : Option EndFault) → IsClean (part bytes)
+    → (is_too_long bytes && not (has_end_line (part bytes))) ≡ false → fault_at_end (part bytes) ≡ found
     → fault bytes ≡ option_map (λ fault. faults.End fault) found
 end_fault_is bytes None clean short e =
     ap (λ line. rows line (is_too_long bytes && not (has_end_line (part bytes))) (fault_at_end (part bytes))) clean

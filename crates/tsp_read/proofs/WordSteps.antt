@@ -9,12 +9,12 @@ use Rattle.tsp_read.specs.declared.state.reading.Reading.{Reading}
 use Rattle.tsp_text.specs.Items.{Item, NumberWord}
 use Rattle.tsp_text.specs.Earlier.{open_section, words_of}
 use Rattle.tsp_format.specs.Shapes.{shape_of, is_section_field}
-use Rattle.tsp_text.specs.Places.{PastEnd}
+use Rattle.tsp_text.specs.WordPlaces.{PastEnd}
 use Rattle.tsp_text.specs.Values.{spatial_after}
 use Rattle.tsp_text.specs.Sections.{place_by, place_in, dimension_in}
-use Rattle.tsp_text.specs.Rows.{word_fault}
+use Rattle.tsp_text.specs.FaultRows.{word_fault}
 use Rattle.tsp_section.specs.states.Parts.{Takes}
-use Rattle.tsp_section.specs.states.Held.{shape_by, HoldsPart, HoldsShape}
+use Rattle.tsp_section.specs.states.HeldParts.{shape_by, HoldsPart, HoldsShape}
 use Rattle.std.specs.Option.{option_map_or}
 use Rattle.tsp_read.specs.states.Holds.{OpenHolds, Holds, AnswersItem}
 use Rattle.tsp_text.proofs.Sections.{section_of}
@@ -25,7 +25,8 @@ use Rattle.tsp_text.proofs.Clean.{clean_more}
 -- the open section after the word
 open_more : (section after : OpenSection) (earlier : List Item) (word : List ℕ) → open_section earlier ≡ Some section.field
     → shape_of (spatial_after earlier) section.field ≡ Some (shape_by section.part) → after.field ≡ section.field
-    → HoldsShape (shape_by section.part) after.part (dimension_in earlier) (words_of section.field earlier ++ word ∷ []) → OpenHolds (Some after) (NumberWord word ∷ earlier)
+    → HoldsShape (shape_by section.part) after.part (dimension_in earlier) (words_of section.field earlier ++ word ∷ [])
+    → OpenHolds (Some after) (NumberWord word ∷ earlier)
 open_more section after earlier word o shape same h =
     let words : words_of after.field (NumberWord word ∷ earlier) ≡ words_of section.field earlier ++ word ∷ [] =
     ap (λ f. words_of f (NumberWord word ∷ earlier)) same ∙ words_more earlier word section.field o in (
@@ -38,13 +39,15 @@ abbrev pub SectionTakes : OpenSection → OpenSection → List ℕ → Result (U
 SectionTakes section after word r = (n : ℕ) (words : List (List ℕ)) → HoldsPart section.part n words
     → Takes n (place_by (shape_by section.part) n words) word (HoldsShape (shape_by section.part) after.part n (words ++ word ∷ [])) r
 
-place_is : (in_space : Bool) (field : Field) (shape : Shape) (n : ℕ) (words : List (List ℕ)) → shape_of in_space field ≡ Some shape
+place_is : (in_space : Bool) (field : Field) (shape : Shape) (n : ℕ) (words : List (List ℕ))
+    → shape_of in_space field ≡ Some shape
     → place_in in_space field n words ≡ place_by shape n words
 place_is in_space field shape n words is = ap (λ o. option_map_or (λ shape. place_by shape n words) o PastEnd) is
 
 -- What the part returns is what the reader returns. The new state is the old one with the part after the word.
 pub word_answer : (old new : Reading) (section after : OpenSection) (word : List ℕ) (r : Result (Unit {0}) StepFault) (earlier : List Item)
-    → old.opened ≡ Some section → after.field ≡ section.field → new.draft ≡ old.draft → new.incomplete ≡ old.incomplete → new.opened ≡ Some after
+    → old.opened ≡ Some section → after.field ≡ section.field → new.draft ≡ old.draft → new.incomplete ≡ old.incomplete
+    → new.opened ≡ Some after
     → SectionTakes section after word r → Holds old earlier → AnswersItem earlier (NumberWord word) new r
 word_answer old new section after word (Ok done) earlier there same same_draft same_first is step h =
     let held : OpenHolds (Some section) earlier = rw there at h.part in
@@ -68,8 +71,10 @@ word_answer old new section after word (Err (steps.Fault fault)) earlier there s
 
 -- nothing changes where a word isn't taken
 pub kept_answer : (old new : Reading) (section after : OpenSection) (earlier : List Item)
-    → old.opened ≡ Some section → after.field ≡ section.field → new.draft ≡ old.draft → new.incomplete ≡ old.incomplete → new.opened ≡ Some after
-    → ((n : ℕ) (words : List (List ℕ)) → HoldsPart section.part n words → HoldsShape (shape_by section.part) after.part n words) → Holds old earlier → Holds new earlier
+    → old.opened ≡ Some section → after.field ≡ section.field → new.draft ≡ old.draft → new.incomplete ≡ old.incomplete
+    → new.opened ≡ Some after
+    → ((n : ℕ) (words : List (List ℕ)) → HoldsPart section.part n words → HoldsShape (shape_by section.part) after.part n words)
+    → Holds old earlier → Holds new earlier
 kept_answer old new section after earlier there same same_draft same_first is step h =
     let held : OpenHolds (Some section) earlier = rw there at h.part in
     let kept = step (dimension_in earlier) (words_of section.field earlier) held.1.1 in

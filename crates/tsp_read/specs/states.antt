@@ -1,4 +1,4 @@
-pub mod Open
+pub mod OpenSection
 pub mod Stored
 pub mod Incomplete
 pub mod Holds
@@ -7,9 +7,9 @@ pub mod Begun
 pub mod Left
 pub mod Token
 pub mod Paused
-pub mod Run
+pub mod ReadingRun
 pub mod Walk
-pub mod Front
+pub mod WordFront
 pub mod Onward
 pub mod Finishes
 pub mod Taken

@@ -63,10 +63,11 @@ impl Begun {
     ) -> Result<Option<&'a [u8]>, ReadFault>
         requires lines { most_lines intake.old self.old (length piece.now) ≤ most_file_bytes + 1 }
         requires words { most_words intake.old self.old (length piece.now) ≤ most_file_bytes }
-        ensures joined { (bytes : List ℕ) → IsFedTo intake.old self.old bytes piece.now
-            → ReadsOn bytes intake.new.reading (λ rest. IsJoinedTo intake.new self.new bytes rest.now) result }
-        ensures room { IfOk result (λ left. IfSome left (λ rest.
-            KeepRoom intake.old self.old (length piece.now) intake.new self.new (length rest.now))) }
+        ensures joined { (bytes : List ℕ)
+            → IsFedTo intake.old self.old bytes piece.now → ReadsOn bytes intake.new.reading
+            (λ rest. IsJoinedTo intake.new self.new bytes rest.now) result }
+        ensures room { IfOk result (λ left. IfSome left (λ rest. KeepRoom intake.old self.old
+            (length piece.now) intake.new self.new (length rest.now))) }
     {
         if self.bytes.is_empty() {
             return Ok(Some(piece));

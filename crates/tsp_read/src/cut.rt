@@ -55,8 +55,8 @@ pub(crate) fn next_item(text: &[u8], inside: bool, goes_on: bool) -> Option<(Nex
     ensures items { MatchOption result (items_left goes_on inside text.now ≡ [])
         (λ found. items_left goes_on inside text.now
         ≡ item_next found.0 ∷ items_left goes_on (is_in_line found.0) found.1.now) }
-    ensures follows { IfSome result (λ found. goes_on ≡ true → is_over_long (item_next found.0) ≡ false
-        → GivesNext inside text.now (item_next found.0) (is_in_line found.0) found.1.now) }
+    ensures follows { IfSome result (λ found. goes_on ≡ true → is_over_long (item_next found.0)
+        ≡ false → GivesNext inside text.now (item_next found.0) (is_in_line found.0) found.1.now) }
     ensures shorter { IfSome result (λ found. length found.1.now < length text.now) }
 {
     let filled = without_start(text);

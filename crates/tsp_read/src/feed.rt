@@ -179,8 +179,8 @@ impl Feed {
         ensures again { (found : ReadFault) → refusal self.old ≡ Some found
             → (result ≡ Err found) × (refusal self.new ≡ Some found) }
         ensures refused { IfErr result (λ found. refusal self.new ≡ Some found) }
-        ensures ended { (bytes : List ℕ) → HasTaken self.old bytes
-            → settled_fault bytes ≡ None → has_end_line (settled_part bytes) ≡ true → result ≡ Ok tt }
+        ensures ended { (bytes : List ℕ) → HasTaken self.old bytes → settled_fault bytes ≡ None
+            → has_end_line (settled_part bytes) ≡ true → result ≡ Ok tt }
     {
         match self.stage {
             Stage::Refused(fault) => Err(fault),

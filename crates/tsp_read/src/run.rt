@@ -13,13 +13,13 @@ ghost use Rattle.std.specs.Option.{option_map};
 ghost use Rattle.tsp_format.specs.Limits.{most_file_bytes};
 ghost use Rattle.tsp_number.specs.Reading.{decimal_of};
 ghost use Rattle.tsp_text.specs.Items.{NumberWord};
-ghost use Rattle.tsp_text.specs.Numbers.{IsWhole};
+ghost use Rattle.tsp_text.specs.SectionNumbers.{IsWhole};
 ghost use Rattle.tsp_section.specs.declared.part.Part.{Part};
 ghost use Rattle.tsp_section.specs.declared.part.Part.TheVariants as parts;
-ghost use Rattle.tsp_section.specs.states.Run.{TakesRead};
-ghost use Rattle.tsp_read.specs.states.Front.{front_word, left_from, IsFrontWord, LeavesEnd};
+ghost use Rattle.tsp_section.specs.states.PartRun.{TakesRead};
+ghost use Rattle.tsp_read.specs.states.WordFront.{front_word, left_from, IsFrontWord, LeavesEnd};
 ghost use Rattle.tsp_read.specs.states.Onward.{GivesNext};
-ghost use Rattle.tsp_read.specs.states.Run.{RunsTo, StepsTo};
+ghost use Rattle.tsp_read.specs.states.ReadingRun.{RunsTo, StepsTo};
 
 use crate::count::Count;
 use crate::cut::without_start;
@@ -306,7 +306,7 @@ fn take_part<'a>(part: &mut Part, alloc: Global, count: Count, text: &'a [u8]) -
 impl Reading {
     ghost use Rattle.std.specs.Prelude.{ℕ, List};
     ghost use Rattle.tsp_read.specs.states.Intake.{IsReadTo};
-    ghost use Rattle.tsp_read.specs.states.Run.{counted};
+    ghost use Rattle.tsp_read.specs.states.ReadingRun.{counted};
 
     /// The same for the section that is open, if one is.
     fn take_run<'a>(&mut self, alloc: Global, count: Count, text: &'a [u8]) -> (Count, &'a [u8])

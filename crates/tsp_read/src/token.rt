@@ -71,9 +71,9 @@ impl Token {
     /// than it may be.
     #[inline(always)]
     pub(crate) fn take(self, text: &[u8], goes_on: bool) -> Option<(&[u8], &[u8])>
-        ensures { MatchOption result
-            (is_settled (most_bytes self) goes_on (up_to_first (ends self) text.now) (from (ends self) text.now) ≡ false)
-            (λ cut. (cut.0.now ≡ up_to_first (ends self) text.now) × (cut.1.now ≡ from (ends self) text.now)
+        ensures { MatchOption result (is_settled (most_bytes self) goes_on
+            (up_to_first (ends self) text.now) (from (ends self) text.now) ≡ false) (λ cut.
+            (cut.0.now ≡ up_to_first (ends self) text.now) × (cut.1.now ≡ from (ends self) text.now)
             × (is_settled (most_bytes self) goes_on cut.0.now cut.1.now ≡ true)) }
     {
         let (front, rest) = self.cut(text);

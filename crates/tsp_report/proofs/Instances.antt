@@ -6,7 +6,7 @@ use Rattle.tsp_format.specs.declared.kinds.Kind.{Kind}
 use Rattle.tsp_format.specs.declared.kinds.Kind.TheVariants as kinds
 use Rattle.tsp_draft.specs.Fields.{Fields}
 use Rattle.tsp_draft.specs.Rules.{is_instance}
-use Rattle.tsp_stream.specs.states.Way.{Way, Carried}
+use Rattle.tsp_stream.specs.states.WriteProgress.{Way, Carried}
 use Rattle.tsp_stream.proofs.Carrying.{carried_then}
 use Rattle.tsp_report.specs.Report.{not_judged}
 use Rattle.tsp_report.specs.Show.{lines_by_type, cost_lines}
@@ -22,8 +22,10 @@ lines_of_instance (Some kinds.Branches) f is = absurd (false≢true is)
 lines_of_instance None f is = absurd (false≢true is)
 
 -- these, and then the lines of unknown keywords
-pub rest_of_instance : (file instance : Fields) (others : List (List ℕ × List ℕ)) (a b c : Way) → instance ≡ file → IsTrue (is_instance file.kind)
-    → others ≡ instance.others → Carried a b (cost_lines instance) → Carried b c (not_judged others) → Carried a c (lines_by_type file.kind file ++ not_judged file.others)
+pub rest_of_instance : (file instance : Fields) (others : List (List ℕ × List ℕ)) (a b c : Way) → instance ≡ file
+    → IsTrue (is_instance file.kind)
+    → others ≡ instance.others → Carried a b (cost_lines instance) → Carried b c (not_judged others)
+    → Carried a c (lines_by_type file.kind file ++ not_judged file.others)
 rest_of_instance file instance others a b c same is kept h k =
     let costs : Carried a b (lines_by_type file.kind file) = subst (Carried a b) (ap cost_lines same ∙ sym (lines_of_instance file.kind file is)) h in
     let rest : Carried b c (not_judged file.others) = subst (Carried b c) (ap not_judged (kept ∙ ap (λ (f : Fields). f.others) same)) k in

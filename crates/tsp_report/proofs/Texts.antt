@@ -3,14 +3,15 @@ use Rattle.std.proofs.Common.{◌≡◌, ℕ, ◌+◌, ◌<◌, List, [], ◌∷
 use Rattle.std.proofs.lemmas.List.{length-map, get_or-map}
 use Rattle.std.specs.Prelude.{codes, ◌==◌}
 use Rattle.std.specs.List.{flat_map, enumerate_from}
-use Rattle.tsp_stream.specs.states.Way.{Way, Carried}
+use Rattle.tsp_stream.specs.states.WriteProgress.{Way, Carried}
 use Rattle.tsp_stream.proofs.Carrying.{carried_then, carried_node}
 use Rattle.tsp_report.specs.Report.{not_judged}
 use Rattle.tsp_report.specs.Show.{name_line}
 
 -- two parts, and then the piece is handed over
 pub two_parts : (a b c d : Way) (x y : List ℕ) → Carried a b x → Carried b c y → Carried c d [] → Carried a d (x ++ y)
-two_parts a b c d x y h k m = subst (Carried a d) (append-nil (x ++ y)) (carried_then a c d (x ++ y) [] (carried_then a b c x y h k) m)
+two_parts a b c d x y h k m =
+    subst (Carried a d) (append-nil (x ++ y)) (carried_then a c d (x ++ y) [] (carried_then a b c x y h k) m)
 
 -- a text, then a path with the end of its line, and then the piece is handed over
 pub with_path : (a b c d : Way) (x path : List ℕ) → Carried a b x → Carried b c (codes " " ++ path ++ codes "\n") → Carried c d []
@@ -21,7 +22,8 @@ with_path a b c d x path h k m = subst (Carried a d) (sym whole) (two_parts a b 
     whole = ap (λ t. t ++ codes "\n") (append_assoc x (codes " ") path) ∙ append_assoc x (codes " " ++ path) (codes "\n")
 
 -- the part of the next node, where the entries are seen by g
-pub next_mapped : {X Y : Type 0} (f : ℕ × Y → List ℕ) (g : X → Y) (xs : List X) (i : ℕ) (x : X) (a b c : Way) → i < length xs → x ≡ get_or xs i x
+pub next_mapped : {X Y : Type 0} (f : ℕ × Y → List ℕ) (g : X → Y) (xs : List X) (i : ℕ) (x : X) (a b c : Way) → i < length xs
+    → x ≡ get_or xs i x
     → Carried a b (flat_map f (take i (enumerate_from 1 (map g xs)))) → Carried b c (f (i + 1, g x))
     → Carried a c (flat_map f (take (i + 1) (enumerate_from 1 (map g xs))))
 next_mapped f g xs i x a b c lt is h k = carried_node f (map g xs) i (g x) a b c (omega (arith, length-map xs g))
@@ -42,5 +44,7 @@ named [] none = absurd cc
 named (first ∷ rest) none = refl
 
 -- a text, some words and a number
-pub then_named : (a b c : Way) (x words number : List ℕ) → Carried a b x → Carried b c (words ++ number) → Carried a c (x ++ words ++ number)
-then_named a b c x words number h k = subst (Carried a c) (sym (append_assoc x words number)) (carried_then a b c x (words ++ number) h k)
+pub then_named : (a b c : Way) (x words number : List ℕ) → Carried a b x → Carried b c (words ++ number)
+    → Carried a c (x ++ words ++ number)
+then_named a b c x words number h k =
+    subst (Carried a c) (sym (append_assoc x words number)) (carried_then a b c x (words ++ number) h k)

@@ -1,4 +1,4 @@
 pub mod Examples
 pub mod Report
 pub mod Show
-pub mod Compare
+pub mod ComparisonText

@@ -10,9 +10,9 @@ use Rattle.tsp_format.specs.declared.kinds.WeightFormat.{WeightFormat}
 use Rattle.tsp_format.specs.Words.{weight_kind_word, weight_format_word}
 use Rattle.tsp_format.specs.Cells.{nodes_to}
 use Rattle.tsp_format.specs.Steps.{Step, leaf_count}
-use Rattle.tsp_draft.specs.Fields.{Fields}
+use Rattle.tsp_draft.specs.Fields.{Fields, nodes_of}
 use Rattle.tsp_draft.specs.Rules.{is_explicit}
-use Rattle.tsp_file.specs.Meant.{nodes_of, meant_scale}
+use Rattle.tsp_file.specs.Meant.{meant_scale}
 use Rattle.tsp_file.specs.Cost.{cost}
 use Rattle.tsp_theory.specs.Length.{length_of}
 use Rattle.tsp_report.specs.Report.{type_line, nodes_line, not_judged}

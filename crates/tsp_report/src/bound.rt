@@ -2,7 +2,7 @@
 
 ghost use Rattle.tsp_stream.specs.states.Watched.{sink_of};
 ghost use Rattle.tsp_stream.specs.Sink.{Writes};
-ghost use Rattle.tsp_stream.specs.states.Way.{Puts};
+ghost use Rattle.tsp_stream.specs.states.WriteProgress.{Puts};
 ghost use Rattle.tsp_report.specs.Report.{bound_report_of, bound_found_lines};
 
 use crate::report::{put_instance, put_named, put_no};
@@ -24,7 +24,8 @@ pub fn write_bound<W: Write>(
     found: BoundVerdict,
     out: &mut Watched<W>,
 ) -> Result<(), WriteFault>
-    ensures { Writes (sink_of W.contents out.old out.new) (bound_report_of instance.now found) result }
+    ensures { Writes (sink_of W.contents out.old out.new)
+        (bound_report_of instance.now found) result }
 {
     if out.failed() {
         return Err(WriteFault::Device);

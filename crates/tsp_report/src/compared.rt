@@ -3,9 +3,9 @@
 ghost use Rattle.std.specs.Prelude.{◌++◌, codes, IfOk};
 ghost use Rattle.tsp_stream.specs.states.Watched.{sink_of};
 ghost use Rattle.tsp_stream.specs.Sink.{Writes};
-ghost use Rattle.tsp_stream.specs.states.Way.{Puts};
+ghost use Rattle.tsp_stream.specs.states.WriteProgress.{Puts};
 ghost use Rattle.tsp_report.specs.Report.{IsGapSized, IsSized};
-ghost use Rattle.tsp_report.specs.Compare.{head_of, basis_lines, gap_words, bound_words, verdict_words, found_words, solution_line};
+ghost use Rattle.tsp_report.specs.ComparisonText.{head_of, basis_lines, gap_words, bound_words, verdict_words, found_words, solution_line};
 
 use crate::fault::put_fault;
 use crate::reason::put_reason;
@@ -156,7 +156,8 @@ fn put_gap_words<W: Write>(piece: &mut Piece, out: &mut Watched<W>, gap: i128)
 
 /// Adds a path, and the end of its line.
 fn put_path<W: Write>(piece: &mut Piece, out: &mut Watched<W>, path: &[u8])
-    ensures { Puts W.contents out.old piece.old out.new piece.new (codes " " ++ path.now ++ codes "\n") }
+    ensures { Puts W.contents out.old piece.old out.new piece.new
+        (codes " " ++ path.now ++ codes "\n") }
 {
     put(piece, out, b" ");
     put(piece, out, path);

@@ -18,40 +18,54 @@ ghost use Rattle.tsp_report.specs.Show.{name_line, weights_line, canonical_line,
 pub fn examples_of_reports()
     ensures kind { type_line (Some kinds.Atsp) ≡ codes "type ATSP\n" }
     ensures nodes { nodes_line 4 ≡ codes "nodes " ++ decimal 4 ++ codes "\n" }
-    ensures unknown { not_judged ((codes "FOO", codes "1") ∷ (codes "BAR", []) ∷ []) ≡ codes "not judged FOO\nnot judged BAR\n" }
+    ensures unknown { not_judged ((codes "FOO", codes "1") ∷ (codes "BAR", []) ∷ [])
+        ≡ codes "not judged FOO\nnot judged BAR\n" }
     ensures no_gap { gap_lines (pos 0) ≡ codes "\noptimal\n" }
-    ensures gap_of_one { gap_lines (pos 1) ≡ codes "\ngap " ++ signed_decimal (pos 1) ++ codes "\n" }
+    ensures gap_of_one { gap_lines (pos 1)
+        ≡ codes "\ngap " ++ signed_decimal (pos 1) ++ codes "\n" }
     ensures no_bound { bound_lines (pos 14) None ≡ [] }
-    ensures bound_met { bound_lines (pos 14) (Some (pos 14)) ≡ codes "bound " ++ signed_decimal (pos 14) ++ codes "\noptimal\n" }
-    ensures bound_below { bound_lines (pos 18) (Some (pos 14)) ≡ codes "bound " ++ signed_decimal (pos 14) ++ gap_lines (pos 4) }
+    ensures bound_met { bound_lines (pos 14) (Some (pos 14))
+        ≡ codes "bound " ++ signed_decimal (pos 14) ++ codes "\noptimal\n" }
+    ensures bound_below { bound_lines (pos 18) (Some (pos 14))
+        ≡ codes "bound " ++ signed_decimal (pos 14) ++ gap_lines (pos 4) }
     ensures below_zero { bound_lines (negsuc 33) (Some (negsuc 34))
         ≡ codes "bound " ++ signed_decimal (negsuc 34) ++ gap_lines (pos 1) }
-    ensures tour { verdict_lines (verdicts.Tour (pos 14) None) ≡ codes "length " ++ signed_decimal (pos 14) ++ codes "\nyes\n" }
-    ensures routes { verdict_lines (verdicts.Routes (pos 20) 3 2) ≡ codes "routes " ++ decimal 3 ++ codes "\nleast " ++ decimal 2
-        ++ codes "\nlength " ++ signed_decimal (pos 20) ++ codes "\nyes\n" }
+    ensures tour { verdict_lines (verdicts.Tour (pos 14) None)
+        ≡ codes "length " ++ signed_decimal (pos 14) ++ codes "\nyes\n" }
+    ensures routes { verdict_lines (verdicts.Routes (pos 20) 3 2)
+        ≡ codes "routes " ++ decimal 3 ++ codes "\nleast "
+        ++ decimal 2 ++ codes "\nlength " ++ signed_decimal (pos 20) ++ codes "\nyes\n" }
     ensures no { verdict_lines (verdicts.No reasons.TourCount) ≡ codes "no TourCount\n" }
-    ensures bound_alone { bound_found_lines (bounds.Bound (pos 14)) ≡ codes "bound " ++ signed_decimal (pos 14) ++ codes "\nyes\n" }
+    ensures bound_alone { bound_found_lines (bounds.Bound (pos 14))
+        ≡ codes "bound " ++ signed_decimal (pos 14) ++ codes "\nyes\n" }
     ensures no_tour { bound_found_lines bounds.NoTour ≡ codes "bound none\nyes\n" }
-    ensures no_bound_alone { bound_found_lines (bounds.No reasons.TooFewNodes) ≡ codes "no TooFewNodes\n" }
+    ensures no_bound_alone { bound_found_lines (bounds.No reasons.TooFewNodes)
+        ≡ codes "no TooFewNodes\n" }
 {}
 
 /// The words of each reason.
 pub fn examples_of_reasons()
     ensures no_solution { reason_text reasons.NotASolution ≡ codes "NotASolution" }
     ensures few_nodes { reason_text reasons.TooFewNodes ≡ codes "TooFewNodes" }
-    ensures uneven { reason_text (reasons.NotSymmetric 1 2) ≡ codes "NotSymmetric " ++ decimal 1 ++ codes " " ++ decimal 2 }
+    ensures uneven { reason_text (reasons.NotSymmetric 1 2)
+        ≡ codes "NotSymmetric " ++ decimal 1 ++ codes " " ++ decimal 2 }
     ensures dimension { reason_text reasons.Dimension ≡ codes "Dimension" }
     ensures count { reason_text reasons.TourCount ≡ codes "TourCount" }
     ensures length { reason_text reasons.TourLength ≡ codes "TourLength" }
     ensures range { reason_text (reasons.NodeOutOfRange 3) ≡ codes "NodeOutOfRange " ++ decimal 3 }
     ensures repeated { reason_text (reasons.RepeatedNode 3) ≡ codes "RepeatedNode " ++ decimal 3 }
-    ensures fixed { reason_text (reasons.FixedEdgeUnused 1) ≡ codes "FixedEdgeUnused " ++ decimal 1 }
+    ensures fixed { reason_text (reasons.FixedEdgeUnused 1)
+        ≡ codes "FixedEdgeUnused " ++ decimal 1 }
     ensures no_potentials { reason_text reasons.NotPotentials ≡ codes "NotPotentials" }
-    ensures their_dimension { reason_text reasons.PotentialsDimension ≡ codes "PotentialsDimension" }
+    ensures their_dimension { reason_text reasons.PotentialsDimension
+        ≡ codes "PotentialsDimension" }
     ensures their_kind { reason_text reasons.PotentialsKind ≡ codes "PotentialsKind" }
-    ensures not_fixed { reason_text (reasons.MultiplierNotFixed 2) ≡ codes "MultiplierNotFixed " ++ decimal 2 }
-    ensures fixed_twice { reason_text (reasons.MultiplierRepeated 3) ≡ codes "MultiplierRepeated " ++ decimal 3 }
-    ensures duals { reason_text (reasons.DualInfeasible 1 2) ≡ codes "DualInfeasible " ++ decimal 1 ++ codes " " ++ decimal 2 }
+    ensures not_fixed { reason_text (reasons.MultiplierNotFixed 2)
+        ≡ codes "MultiplierNotFixed " ++ decimal 2 }
+    ensures fixed_twice { reason_text (reasons.MultiplierRepeated 3)
+        ≡ codes "MultiplierRepeated " ++ decimal 3 }
+    ensures duals { reason_text (reasons.DualInfeasible 1 2)
+        ≡ codes "DualInfeasible " ++ decimal 1 ++ codes " " ++ decimal 2 }
     ensures depots { reason_text reasons.DepotCount ≡ codes "DepotCount" }
     ensures demand { reason_text reasons.DepotDemand ≡ codes "DepotDemand" }
     ensures pairs { reason_text reasons.FixedEdgesInRoutes ≡ codes "FixedEdgesInRoutes" }
@@ -63,7 +77,8 @@ pub fn examples_of_reasons()
     ensures comb { reason_text (reasons.BadComb 1) ≡ codes "BadComb " ++ decimal 1 }
     ensures twice { reason_text (reasons.BranchTwice 2) ≡ codes "BranchTwice " ++ decimal 2 }
     ensures leaf { reason_text (reasons.BadLeaf 1) ≡ codes "BadLeaf " ++ decimal 1 }
-    ensures claimed { reason_text (reasons.LengthClaimed (pos 14)) ≡ codes "LengthClaimed " ++ signed_decimal (pos 14) }
+    ensures claimed { reason_text (reasons.LengthClaimed (pos 14))
+        ≡ codes "LengthClaimed " ++ signed_decimal (pos 14) }
     ensures claimed_below_zero { reason_text (reasons.LengthClaimed (negsuc 33))
         ≡ codes "LengthClaimed " ++ signed_decimal (negsuc 33) }
 {}
@@ -74,19 +89,24 @@ pub fn examples_of_shown_lines()
     ensures empty_name { name_line (Some []) ≡ [] }
     ensures no_name { name_line None ≡ [] }
     ensures points { weights_line (Some weight_kinds.Euc2d) None ≡ codes "weights EUC_2D\n" }
-    ensures function { weights_line (Some weight_kinds.Att) (Some formats.ByFunction) ≡ codes "weights ATT\n" }
-    ensures listed { weights_line (Some weight_kinds.Explicit) (Some (formats.Listed layouts.LowerRow))
-        ≡ codes "weights EXPLICIT LOWER_ROW\n" }
-    ensures canonical { canonical_line (pos 14) ≡ codes "canonical " ++ signed_decimal (pos 14) ++ codes "\n" }
+    ensures function { weights_line (Some weight_kinds.Att) (Some formats.ByFunction)
+        ≡ codes "weights ATT\n" }
+    ensures listed { weights_line (Some weight_kinds.Explicit)
+        (Some (formats.Listed layouts.LowerRow)) ≡ codes "weights EXPLICIT LOWER_ROW\n" }
+    ensures canonical { canonical_line (pos 14)
+        ≡ codes "canonical " ++ signed_decimal (pos 14) ++ codes "\n" }
     ensures no_fixed { fixed_line None ≡ [] }
     ensures none_fixed { fixed_line (Some []) ≡ codes "fixed " ++ decimal 0 ++ codes "\n" }
-    ensures twice_fixed { fixed_line (Some ((1, 2) ∷ (1, 2) ∷ [])) ≡ codes "fixed " ++ decimal 2 ++ codes "\n" }
-    ensures tours { tour_lines ((3 ∷ 4 ∷ []) ∷ [])
-        ≡ codes "tours " ++ decimal 1 ++ codes "\ntour " ++ decimal 1 ++ codes " nodes " ++ decimal 2
-        ++ codes "\n" }
+    ensures twice_fixed { fixed_line (Some ((1, 2) ∷ (1, 2) ∷ []))
+        ≡ codes "fixed " ++ decimal 2 ++ codes "\n" }
+    ensures tours { tour_lines ((3 ∷ 4 ∷ []) ∷ []) ≡ codes "tours "
+        ++ decimal 1 ++ codes "\ntour " ++ decimal 1 ++ codes " nodes " ++ decimal 2 ++ codes "\n" }
     ensures no_scale { scale_line None ≡ codes "scale " ++ signed_decimal (pos 1) ++ codes "\n" }
-    ensures scale { scale_line (Some (pos 2)) ≡ codes "scale " ++ signed_decimal (pos 2) ++ codes "\n" }
+    ensures scale { scale_line (Some (pos 2))
+        ≡ codes "scale " ++ signed_decimal (pos 2) ++ codes "\n" }
     ensures no_combs { combs_line None ≡ [] }
-    ensures combs { combs_line (Some (((1 ∷ []) ∷ []) ∷ [])) ≡ codes "combs " ++ decimal 1 ++ codes "\n" }
-    ensures leaves { leaves_line (Branch 1 2 ∷ Leaf [] ∷ Leaf [] ∷ []) ≡ codes "leaves " ++ decimal 2 ++ codes "\n" }
+    ensures combs { combs_line (Some (((1 ∷ []) ∷ []) ∷ []))
+        ≡ codes "combs " ++ decimal 1 ++ codes "\n" }
+    ensures leaves { leaves_line (Branch 1 2 ∷ Leaf [] ∷ Leaf [] ∷ [])
+        ≡ codes "leaves " ++ decimal 2 ++ codes "\n" }
 {}

@@ -1,10 +1,10 @@
 //! The text of a fault of a file.
 
 ghost use Rattle.std.specs.Prelude.{◌≡◌, ◌++◌, codes};
-ghost use Rattle.tsp_number.specs.FaultText.{number_fault_text};
-ghost use Rattle.tsp_draft.specs.FaultText.{end_fault_text};
-ghost use Rattle.tsp_stream.specs.states.Way.{Puts};
-ghost use Rattle.tsp_text.specs.FaultText.{line_fault_text, read_fault_text};
+ghost use Rattle.tsp_number.specs.NumberFaultText.{number_fault_text};
+ghost use Rattle.tsp_draft.specs.DraftFaultText.{end_fault_text};
+ghost use Rattle.tsp_stream.specs.states.WriteProgress.{Puts};
+ghost use Rattle.tsp_text.specs.ReadFaultText.{line_fault_text, read_fault_text};
 
 use std::io::Write;
 use tsp_draft::EndFault;
@@ -34,7 +34,8 @@ fn put_place<W: Write>(
     word: u32,
     fault: LineFault,
 )
-    ensures { Puts W.contents out.old piece.old out.new piece.new (read_fault_text (ReadFault.Line line word fault)) }
+    ensures { Puts W.contents out.old piece.old out.new piece.new
+        (read_fault_text (ReadFault.Line line word fault)) }
 {
     put(piece, out, b"line ");
     put_number(piece, out, line);
@@ -45,7 +46,8 @@ fn put_place<W: Write>(
 
 /// Adds the name of a fault of a line, after its place.
 fn put_name<W: Write>(piece: &mut Piece, out: &mut Watched<W>, fault: LineFault)
-    ensures { Puts W.contents out.old piece.old out.new piece.new (codes ": " ++ line_fault_text fault) }
+    ensures { Puts W.contents out.old piece.old out.new piece.new
+        (codes ": " ++ line_fault_text fault) }
 {
     let (name, rest) = line_words(fault);
     put(piece, out, b": ");
@@ -55,7 +57,8 @@ fn put_name<W: Write>(piece: &mut Piece, out: &mut Watched<W>, fault: LineFault)
 
 /// Adds the name of a fault of the lines together.
 fn put_end<W: Write>(piece: &mut Piece, out: &mut Watched<W>, fault: EndFault)
-    ensures { Puts W.contents out.old piece.old out.new piece.new (read_fault_text (ReadFault.End fault)) }
+    ensures { Puts W.contents out.old piece.old out.new piece.new
+        (read_fault_text (ReadFault.End fault)) }
 {
     let (name, rest) = end_words(fault);
     put(piece, out, b"end: ");

@@ -1,7 +1,7 @@
 //! The text of a reason.
 
 ghost use Rattle.std.specs.Prelude.{◌≡◌};
-ghost use Rattle.tsp_stream.specs.states.Way.{Puts};
+ghost use Rattle.tsp_stream.specs.states.WriteProgress.{Puts};
 ghost use Rattle.tsp_report.specs.Report.{reason_name, reason_numbers, reason_length, after_blank, length_after_blank, reason_text};
 
 use crate::report::put_named;

@@ -3,7 +3,7 @@
 ghost use Rattle.std.specs.Prelude.{◌≡◌, ◌++◌, ◌≤◌, ◌^◌, ◌-ℤ◌, Some, map, codes, unsigned_abs};
 ghost use Rattle.tsp_stream.specs.states.Watched.{sink_of};
 ghost use Rattle.tsp_stream.specs.Sink.{Writes};
-ghost use Rattle.tsp_stream.specs.states.Way.{Puts};
+ghost use Rattle.tsp_stream.specs.states.WriteProgress.{Puts};
 ghost use Rattle.tsp_report.specs.Report.{report_of, instance_lines, type_line, nodes_line, not_judged, no_line, verdict_lines, bound_lines, gap_lines, IsGapSized, IsSized};
 
 use crate::reason::put_reason;
@@ -88,7 +88,8 @@ pub(crate) fn put_others<W: Write>(
 
 /// Adds the line of an unknown keyword.
 fn put_other<W: Write>(piece: &mut Piece, out: &mut Watched<W>, keyword: &[u8])
-    ensures { Puts W.contents out.old piece.old out.new piece.new (codes "not judged " ++ keyword.now ++ codes "\n") }
+    ensures { Puts W.contents out.old piece.old out.new piece.new
+        (codes "not judged " ++ keyword.now ++ codes "\n") }
 {
     put(piece, out, b"not judged ");
     put(piece, out, keyword);

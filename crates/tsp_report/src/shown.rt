@@ -8,7 +8,7 @@ ghost use Rattle.tsp_draft.specs.states.Drafts.{combs_of};
 ghost use Rattle.tsp_draft.specs.Rules.{is_instance};
 ghost use Rattle.tsp_stream.specs.states.Watched.{sink_of};
 ghost use Rattle.tsp_stream.specs.Sink.{Writes};
-ghost use Rattle.tsp_stream.specs.states.Way.{Puts};
+ghost use Rattle.tsp_stream.specs.states.WriteProgress.{Puts};
 ghost use Rattle.tsp_report.specs.Report.{nodes_line, not_judged};
 ghost use Rattle.tsp_report.specs.Show.{shown, head_lines, name_line, lines_by_type, cost_lines, weights_line, layout_part, canonical_line, fixed_line, tour_lines, tour_line, scale_line, combs_line, leaves_line, tree_lines};
 
@@ -89,7 +89,8 @@ fn put_name<W: Write>(piece: &mut Piece, out: &mut Watched<W>, name: Option<&[u8
 
 /// Adds the line of DIMENSION, where it is present.
 fn put_dimension<W: Write>(piece: &mut Piece, out: &mut Watched<W>, dimension: Option<u32>)
-    ensures { Puts W.contents out.old piece.old out.new piece.new (option_map_or nodes_line dimension []) }
+    ensures { Puts W.contents out.old piece.old out.new piece.new
+        (option_map_or nodes_line dimension []) }
 {
     if let Some(nodes) = dimension {
         put_nodes(piece, out, nodes);
@@ -169,7 +170,8 @@ fn put_fixed<W: Write>(piece: &mut Piece, out: &mut Watched<W>, pairs: Option<&[
 /// of a tree of cases.
 fn put_solution<W: Write>(piece: &mut Piece, out: &mut Watched<W>, file: &File)
     requires { is_instance file.now.kind ≡ false }
-    ensures { Puts W.contents out.old piece.old out.new piece.new (lines_by_type file.now.kind file.now) }
+    ensures { Puts W.contents out.old piece.old out.new piece.new
+        (lines_by_type file.now.kind file.now) }
 {
     match file.kind() {
         Kind::Tour => put_tours(piece, out, file.tours().unwrap_or(&[])),
@@ -238,7 +240,8 @@ fn put_combs<W: Write>(piece: &mut Piece, out: &mut Watched<W>, combs: Option<&[
 
 /// Adds the line of the number of leaves.
 fn put_leaves<W: Write>(piece: &mut Piece, out: &mut Watched<W>, steps: &[TreeStep])
-    ensures { Puts W.contents out.old piece.old out.new piece.new (leaves_line (steps_of steps.now)) }
+    ensures { Puts W.contents out.old piece.old out.new piece.new
+        (leaves_line (steps_of steps.now)) }
 {
     put_named(piece, out, b"leaves ", leaves_of(steps));
     put(piece, out, b"\n");

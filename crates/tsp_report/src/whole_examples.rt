@@ -11,8 +11,8 @@ ghost use Rattle.tsp_report.specs.Examples.{matrix, shown_routes, shown_tours, s
 
 /// Whole reports on an instance with two lines that aren't judged.
 pub fn examples_of_whole_reports()
-    ensures yes { report_of matrix (verdicts.Tour (pos 14) (Some (pos 12)))
-        ≡ codes "type TSP\nnodes 2\nnot judged FOO\nnot judged BAR\nlength 14\nbound 12\ngap 2\nyes\n" }
+    ensures yes { report_of matrix (verdicts.Tour (pos 14) (Some (pos 12))) ≡ codes
+        "type TSP\nnodes 2\nnot judged FOO\nnot judged BAR\nlength 14\nbound 12\ngap 2\nyes\n" }
     ensures no { report_of matrix (verdicts.No reasons.TourCount)
         ≡ codes "type TSP\nnodes 2\nnot judged FOO\nnot judged BAR\nno TourCount\n" }
     ensures routes { report_of shown_routes (verdicts.Routes (pos 20) 3 2)
@@ -31,11 +31,16 @@ pub fn examples_of_bound_reports()
 
 /// All that is shown of a file of each TYPE.
 pub fn examples_of_shown_files()
-    ensures matrix { shown matrix ≡ codes "name m\ntype TSP\nnodes 2\nweights EXPLICIT FULL_MATRIX\ncanonical 14\n"
+    ensures matrix { shown matrix
+        ≡ codes "name m\ntype TSP\nnodes 2\nweights EXPLICIT FULL_MATRIX\ncanonical 14\n"
         ++ codes "fixed 1\nnot judged FOO\nnot judged BAR\n" }
-    ensures routing { shown shown_routes ≡ codes "type CVRP\nnodes 2\nweights EXPLICIT FULL_MATRIX\ncanonical 14\n" }
-    ensures tours { shown shown_tours ≡ codes "type TOUR\ntours 1\ntour 1 nodes 2\nnot judged FOO\n" }
-    ensures potentials { shown shown_potentials ≡ codes "type POTENTIALS\nnodes 2\nscale 3\nnot judged FOO\n" }
-    ensures branching { shown shown_tree ≡ codes "type BRANCHES\nnodes 2\nscale 1\ncombs 1\nleaves 1\nnot judged FOO\n" }
+    ensures routing { shown shown_routes
+        ≡ codes "type CVRP\nnodes 2\nweights EXPLICIT FULL_MATRIX\ncanonical 14\n" }
+    ensures tours { shown shown_tours
+        ≡ codes "type TOUR\ntours 1\ntour 1 nodes 2\nnot judged FOO\n" }
+    ensures potentials { shown shown_potentials
+        ≡ codes "type POTENTIALS\nnodes 2\nscale 3\nnot judged FOO\n" }
+    ensures branching { shown shown_tree
+        ≡ codes "type BRANCHES\nnodes 2\nscale 1\ncombs 1\nleaves 1\nnot judged FOO\n" }
     ensures untyped { shown untyped ≡ codes "type \nnot judged FOO\n" }
 {}

@@ -9,7 +9,7 @@ use Rattle.tsp_distance.specs.declared.decimal.Point.{Point}
 use Rattle.tsp_number.specs.Spelling.{spelling}
 use Rattle.tsp_format.specs.Limits.{most_nodes, most_weight, most_multiplier, most_coordinate}
 use Rattle.tsp_draft.specs.Validity.{is_from_to, is_within, is_node, is_node_pair, is_triple, is_point, is_tour}
-use Rattle.tsp_file.specs.Text.{number_line, ended_by_mark, node_list, pair_list, triple_list}
+use Rattle.tsp_file.specs.CanonicalText.{number_line, ended_by_mark, node_list, pair_list, triple_list}
 use Rattle.tsp_round.proofs.Text.{is_plain_word, WritesWords, no_words_written, both_words, number_line_written}
 use Rattle.tsp_round.proofs.Numbers.{decimal_plain, signed_plain, spelling_plain, size_in, size_from}
 use Rattle.tsp_round.proofs.Groups.{AreSmall, number_entry}
@@ -24,7 +24,8 @@ one_plain word plain = and_from (is_plain_word word) true plain refl
 
 -- ---- by node
 
-pub numbers_written : (low high : ℤ) → AreSmall low high → (n : ℕ) → n < 2 ^ 32 → (i : ℕ) (xs : List ℤ) → i + length xs ≤ n → list_all (is_from_to low high) xs ≡ true
+pub numbers_written : (low high : ℤ) → AreSmall low high → (n : ℕ) → n < 2 ^ 32 → (i : ℕ) (xs : List ℤ) → i + length xs ≤ n
+    → list_all (is_from_to low high) xs ≡ true
     → WritesWords (flat_map (λ (entry : ℕ × ℤ). number_line (decimal entry.0) (signed_decimal entry.1 ∷ [])) (enumerate_from (i + 1) xs)) (flat_map number_entry (enumerate_from (i + 1) xs))
 numbers_written low high small n few i [] room all = no_words_written
 numbers_written low high small n few i (z ∷ xs) room all =
@@ -55,7 +56,8 @@ points_written n few i (p ∷ xs) room all =
     (and_from (is_plain_word (spelling p.x)) (list_all is_plain_word (spelling p.y ∷ [])) (coordinate_plain p.x inside.0) (one_plain (spelling p.y) (coordinate_plain p.y inside.1))))
     (points_written n few (i + 1) xs (omega arith) both.1)
 
-pub space_points_written : (n : ℕ) → n < 2 ^ 32 → (i : ℕ) (xs : List Point) → i + length xs ≤ n → list_all (is_point true) xs ≡ true
+pub space_points_written : (n : ℕ) → n < 2 ^ 32 → (i : ℕ) (xs : List Point) → i + length xs ≤ n
+    → list_all (is_point true) xs ≡ true
     → WritesWords (flat_map (λ (entry : ℕ × Point). number_line (decimal entry.0) (spelling entry.1.x ∷ spelling entry.1.y ∷ spelling entry.1.z ∷ []))
     (enumerate_from (i + 1) xs)) (flat_map space_point_entry (enumerate_from (i + 1) xs))
 space_points_written n few i [] room all = no_words_written
@@ -83,19 +85,22 @@ node_plain n k few is =
 pub end_written : WritesWords (codes "-1" ++ 10 ∷ []) (codes "-1" ∷ [])
 end_written = number_line_written (codes "-1") [] refl refl
 
-nodes_written : (n : ℕ) → n < 2 ^ 32 → (nodes : List ℕ) → list_all (is_node n) nodes ≡ true → WritesWords (flat_map (λ node. number_line (decimal node) []) nodes) (map decimal nodes)
+nodes_written : (n : ℕ) → n < 2 ^ 32 → (nodes : List ℕ) → list_all (is_node n) nodes ≡ true
+    → WritesWords (flat_map (λ node. number_line (decimal node) []) nodes) (map decimal nodes)
 nodes_written n few [] all = no_words_written
 nodes_written n few (k ∷ nodes) all =
     let both = and_parts (is_node n k) (list_all (is_node n) nodes) all in
     both_words (number_line (decimal k) []) (flat_map (λ node. number_line (decimal node) []) nodes) (decimal k ∷ []) (map decimal nodes)
     (number_line_written (decimal k) [] (node_plain n k few both.0) refl) (nodes_written n few nodes both.1)
 
-pub node_lines_written : (n : ℕ) → n < 2 ^ 32 → (nodes : List ℕ) → list_all (is_node n) nodes ≡ true → WritesWords (node_list nodes) (map decimal nodes ++ codes "-1" ∷ [])
+pub node_lines_written : (n : ℕ) → n < 2 ^ 32 → (nodes : List ℕ) → list_all (is_node n) nodes ≡ true
+    → WritesWords (node_list nodes) (map decimal nodes ++ codes "-1" ∷ [])
 node_lines_written n few nodes all =
     both_words (flat_map (λ node. number_line (decimal node) []) nodes) (codes "-1" ++ 10 ∷ []) (map decimal nodes) (codes "-1" ∷ []) (nodes_written n few nodes all) end_written
 
 -- one line for each pair, or triple
-pub lines_written : {A : Type 0} (fits : A → Bool) (line : A → List ℕ) (words : A → List (List ℕ)) → ((x : A) → fits x ≡ true → WritesWords (line x) (words x))
+pub lines_written : {A : Type 0} (fits : A → Bool) (line : A → List ℕ) (words : A → List (List ℕ))
+    → ((x : A) → fits x ≡ true → WritesWords (line x) (words x))
     → (xs : List A) → list_all fits xs ≡ true → WritesWords (flat_map line xs) (flat_map words xs)
 lines_written fits line words each [] all = no_words_written
 lines_written fits line words each (x ∷ xs) all =
@@ -103,23 +108,29 @@ lines_written fits line words each (x ∷ xs) all =
     both_words (line x) (flat_map line xs) (words x) (flat_map words xs) (each x both.0) (lines_written fits line words each xs both.1)
 
 -- and the line of the -1
-pub list_written : {A : Type 0} (fits : A → Bool) (line : A → List ℕ) (words : A → List (List ℕ)) → ((x : A) → fits x ≡ true → WritesWords (line x) (words x))
-    → (xs : List A) → list_all fits xs ≡ true → WritesWords (ended_by_mark (flat_map line xs)) (flat_map words xs ++ codes "-1" ∷ [])
+pub list_written : {A : Type 0} (fits : A → Bool) (line : A → List ℕ) (words : A → List (List ℕ))
+    → ((x : A) → fits x ≡ true → WritesWords (line x) (words x))
+    → (xs : List A) → list_all fits xs ≡ true
+    → WritesWords (ended_by_mark (flat_map line xs)) (flat_map words xs ++ codes "-1" ∷ [])
 list_written fits line words each xs all =
     both_words (flat_map line xs) (codes "-1" ++ 10 ∷ []) (flat_map words xs) (codes "-1" ∷ []) (lines_written fits line words each xs all) end_written
 
 tour_written : (tour : List ℕ) → is_tour tour ≡ true → WritesWords (node_list tour) (tour_words tour)
-tour_written tour fits = node_lines_written most_nodes (omega arith) tour (and_parts (nat_le 1 (length tour)) (list_all (is_node most_nodes) tour) fits).1
+tour_written tour fits =
+    node_lines_written most_nodes (omega arith) tour (and_parts (nat_le 1 (length tour)) (list_all (is_node most_nodes) tour) fits).1
 
-pub tour_lines_written : (tours : List (List ℕ)) → list_all is_tour tours ≡ true → WritesWords (flat_map node_list tours) (flat_map tour_words tours)
+pub tour_lines_written : (tours : List (List ℕ)) → list_all is_tour tours ≡ true
+    → WritesWords (flat_map node_list tours) (flat_map tour_words tours)
 tour_lines_written tours all = lines_written is_tour node_list tour_words tour_written tours all
 
-pub pair_written : (n : ℕ) → n < 2 ^ 32 → (pair : ℕ × ℕ) → is_node_pair n pair ≡ true → WritesWords (number_line (decimal pair.0) (decimal pair.1 ∷ [])) (pair_words pair)
+pub pair_written : (n : ℕ) → n < 2 ^ 32 → (pair : ℕ × ℕ) → is_node_pair n pair ≡ true
+    → WritesWords (number_line (decimal pair.0) (decimal pair.1 ∷ [])) (pair_words pair)
 pair_written n few pair fits =
     let are = are_pair n pair fits in
     number_line_written (decimal pair.0) (decimal pair.1 ∷ []) (node_plain n pair.0 few are.first) (one_plain (decimal pair.1) (node_plain n pair.1 few are.second))
 
-pub pair_lines_written : (n : ℕ) → n < 2 ^ 32 → (pairs : List (ℕ × ℕ)) → list_all (is_node_pair n) pairs ≡ true → WritesWords (pair_list pairs) (flat_map pair_words pairs ++ codes "-1" ∷ [])
+pub pair_lines_written : (n : ℕ) → n < 2 ^ 32 → (pairs : List (ℕ × ℕ)) → list_all (is_node_pair n) pairs ≡ true
+    → WritesWords (pair_list pairs) (flat_map pair_words pairs ++ codes "-1" ∷ [])
 pair_lines_written n few pairs all =
     list_written (is_node_pair n) (λ (pair : ℕ × ℕ). number_line (decimal pair.0) (decimal pair.1 ∷ [])) pair_words (pair_written n few) pairs all
 

@@ -11,11 +11,11 @@ use Rattle.tsp_number.specs.declared.fault.NumberFault.{NumberFault}
 use Rattle.tsp_format.specs.Limits.{most_combs, most_comb_nodes}
 use Rattle.tsp_draft.specs.Validity.{is_node, is_set, is_comb, are_combs}
 use Rattle.tsp_text.specs.Lines.{is_filled}
-use Rattle.tsp_text.specs.Numbers.{number, node_or_end, is_end}
-use Rattle.tsp_text.specs.Places.{SetNode}
-use Rattle.tsp_text.specs.Rows.{word_fault, is_past_combs}
+use Rattle.tsp_text.specs.SectionNumbers.{number, node_or_end, is_end}
+use Rattle.tsp_text.specs.WordPlaces.{SetNode}
+use Rattle.tsp_text.specs.FaultRows.{word_fault, is_past_combs}
 use Rattle.tsp_text.specs.Spells.{wants_more}
-use Rattle.tsp_text.specs.Combs.{CombsSoFar, no_combs, with_node, with_end, with_comb_word, whole_combs, place_in_combs, place_of_comb}
+use Rattle.tsp_text.specs.CombSection.{CombsSoFar, no_combs, with_node, with_end, with_comb_word, whole_combs, place_in_combs, place_of_comb}
 use Rattle.tsp_round.proofs.Numbers.{NumberLaws, listed_back, node_goes_on, end_read, end_ends}
 use Rattle.tsp_round.proofs.Taken.{AllTaken, Runs, runs_none, runs_one, runs_then, all_taken}
 use Rattle.tsp_round.proofs.Lists.{no_rows, has_room}
@@ -41,14 +41,17 @@ so_far combs sets nodes count = record { combs = combs; sets = sets; nodes = nod
 abbrev CombRuns : ℕ → CombsSoFar → List (List ℕ) → CombsSoFar → Type 0
 CombRuns n start words last = Runs n (with_comb_word n) place_in_combs start words last
 
-onward : (n : ℕ) (start middle last : CombsSoFar) (xs ys : List (List ℕ)) → CombRuns n start xs middle → CombRuns n middle ys last → CombRuns n start (xs ++ ys) last
+onward : (n : ℕ) (start middle last : CombsSoFar) (xs ys : List (List ℕ)) → CombRuns n start xs middle → CombRuns n middle ys last
+    → CombRuns n start (xs ++ ys) last
 onward n start middle last xs ys first second = runs_then n (with_comb_word n) place_in_combs start middle last xs ys first second
 
 -- a comb within the limit has its nodes within theirs
-room_there : (begun : Bool) (combs count : ℕ) → nat_le most_comb_nodes count ≡ false → nat_le most_combs combs ≡ false → is_past_combs begun combs count ≡ false
+room_there : (begun : Bool) (combs count : ℕ) → nat_le most_comb_nodes count ≡ false → nat_le most_combs combs ≡ false
+    → is_past_combs begun combs count ≡ false
 room_there begun combs count nodes few = rw (nodes, few) (and_right (not begun) false refl)
 
-node_taken : NumberLaws → (n : ℕ) → n < 2 ^ 32 → (begun : Bool) (combs count k : ℕ) → nat_le most_comb_nodes count ≡ false → nat_le most_combs combs ≡ false → is_node n k ≡ true
+node_taken : NumberLaws → (n : ℕ) → n < 2 ^ 32 → (begun : Bool) (combs count k : ℕ) → nat_le most_comb_nodes count ≡ false
+    → nat_le most_combs combs ≡ false → is_node n k ≡ true
     → word_fault n (SetNode begun combs count) (decimal k) ≡ None
 node_taken laws n few begun combs count k nodes room is =
     no_rows (result_err (node_or_end n (decimal k))) false false (is_past_combs begun combs count && not (is_end n (decimal k))) false
@@ -61,8 +64,10 @@ end_taken laws n begun combs count =
     (ap (λ (r : Result ℤ NumberFault). result_err r) (end_read laws n)) refl refl
     (and_right (is_past_combs begun combs count) (not (is_end n (codes "-1"))) (not_from_true (is_end n (codes "-1")) (end_ends laws n))) refl
 
-node_runs : NumberLaws → (n : ℕ) → n < 2 ^ 32 → (combs : List (List (List ℕ))) (sets : List (List ℕ)) (nodes : List ℕ) (count k : ℕ) → nat_le most_comb_nodes count ≡ false
-    → nat_le most_combs (length combs) ≡ false → is_node n k ≡ true → CombRuns n (so_far combs sets nodes count) (decimal k ∷ []) (so_far combs sets (nodes ++ k ∷ []) (count + 1))
+node_runs : NumberLaws → (n : ℕ) → n < 2 ^ 32
+    → (combs : List (List (List ℕ))) (sets : List (List ℕ)) (nodes : List ℕ) (count k : ℕ) → nat_le most_comb_nodes count ≡ false
+    → nat_le most_combs (length combs) ≡ false → is_node n k ≡ true
+    → CombRuns n (so_far combs sets nodes count) (decimal k ∷ []) (so_far combs sets (nodes ++ k ∷ []) (count + 1))
 node_runs laws n few combs sets nodes count k room begins is =
     let start = so_far combs sets nodes count in
     runs_one n (with_comb_word n) place_in_combs start (decimal k) (so_far combs sets (nodes ++ k ∷ []) (count + 1))
@@ -80,7 +85,9 @@ end_runs laws n combs sets nodes count =
 
 -- ---- a set
 
-nodes_run : NumberLaws → (n : ℕ) → n < 2 ^ 32 → (combs : List (List (List ℕ))) (sets : List (List ℕ)) (nodes set : List ℕ) (count : ℕ) → count + length set ≤ most_comb_nodes
+nodes_run : NumberLaws → (n : ℕ) → n < 2 ^ 32
+    → (combs : List (List (List ℕ))) (sets : List (List ℕ)) (nodes set : List ℕ) (count : ℕ)
+    → count + length set ≤ most_comb_nodes
     → nat_le most_combs (length combs) ≡ false → list_all (is_node n) set ≡ true
     → CombRuns n (so_far combs sets nodes count) (map decimal set) (so_far combs sets (nodes ++ set) (count + length set))
 nodes_run laws n few combs sets nodes [] count room begins all =
@@ -104,8 +111,10 @@ filled : {A : Type 0} (xs : List A) → nat_le 1 (length xs) ≡ true → is_fil
 filled [] some = absurd (false≢true some)
 filled (x ∷ xs) some = refl
 
-set_runs : NumberLaws → (n : ℕ) → n < 2 ^ 32 → (combs : List (List (List ℕ))) (sets : List (List ℕ)) (set : List ℕ) (count : ℕ) → count + length set ≤ most_comb_nodes
-    → nat_le most_combs (length combs) ≡ false → is_set n set ≡ true → CombRuns n (so_far combs sets [] count) (set_words set) (so_far combs (sets ++ set ∷ []) [] (count + length set))
+set_runs : NumberLaws → (n : ℕ) → n < 2 ^ 32 → (combs : List (List (List ℕ))) (sets : List (List ℕ)) (set : List ℕ) (count : ℕ)
+    → count + length set ≤ most_comb_nodes
+    → nat_le most_combs (length combs) ≡ false → is_set n set ≡ true
+    → CombRuns n (so_far combs sets [] count) (set_words set) (so_far combs (sets ++ set ∷ []) [] (count + length set))
 set_runs laws n few combs sets set count room begins fits =
     let both = and_parts (nat_le 1 (length set)) (list_all (is_node n) set) fits in
     let middle = so_far combs sets set (count + length set) in
@@ -116,7 +125,8 @@ set_runs laws n few combs sets set count room begins fits =
 
 -- ---- a comb
 
-sets_run : NumberLaws → (n : ℕ) → n < 2 ^ 32 → (combs : List (List (List ℕ))) (before sets : List (List ℕ)) (count : ℕ) → count + sum_by length sets ≤ most_comb_nodes
+sets_run : NumberLaws → (n : ℕ) → n < 2 ^ 32 → (combs : List (List (List ℕ))) (before sets : List (List ℕ)) (count : ℕ)
+    → count + sum_by length sets ≤ most_comb_nodes
     → nat_le most_combs (length combs) ≡ false → list_all (is_set n) sets ≡ true
     → CombRuns n (so_far combs before [] count) (flat_map set_words sets) (so_far combs (before ++ sets) [] (count + sum_by length sets))
 sets_run laws n few combs before [] count room begins all =
@@ -137,8 +147,10 @@ sets_run laws n few combs before (set ∷ sets) count room begins all =
     (onward n start middle last (set_words set) (flat_map set_words sets) (set_runs laws n few combs before set count (omega (arith, sum)) begins both.0)
     (sets_run laws n few combs (before ++ set ∷ []) sets (count + length set) (omega (arith, sum)) begins both.1))
 
-comb_runs : NumberLaws → (n : ℕ) → n < 2 ^ 32 → (combs : List (List (List ℕ))) (comb : List (List ℕ)) (count : ℕ) → count + sum_by length comb ≤ most_comb_nodes
-    → nat_le most_combs (length combs) ≡ false → is_comb n comb ≡ true → CombRuns n (so_far combs [] [] count) (comb_words comb) (so_far (combs ++ comb ∷ []) [] [] (count + sum_by length comb))
+comb_runs : NumberLaws → (n : ℕ) → n < 2 ^ 32 → (combs : List (List (List ℕ))) (comb : List (List ℕ)) (count : ℕ)
+    → count + sum_by length comb ≤ most_comb_nodes
+    → nat_le most_combs (length combs) ≡ false → is_comb n comb ≡ true
+    → CombRuns n (so_far combs [] [] count) (comb_words comb) (so_far (combs ++ comb ∷ []) [] [] (count + sum_by length comb))
 comb_runs laws n few combs comb count room begins fits =
     let both = and_parts (nat_le 1 (length comb)) (list_all (is_set n) comb) fits in
     let middle = so_far combs comb [] (count + sum_by length comb) in
@@ -149,7 +161,8 @@ comb_runs laws n few combs comb count room begins fits =
 
 -- ---- all combs
 
-each_comb_runs : NumberLaws → (n : ℕ) → n < 2 ^ 32 → (before combs : List (List (List ℕ))) (count : ℕ) → count + sum_by (sum_by length) combs ≤ most_comb_nodes
+each_comb_runs : NumberLaws → (n : ℕ) → n < 2 ^ 32 → (before combs : List (List (List ℕ))) (count : ℕ)
+    → count + sum_by (sum_by length) combs ≤ most_comb_nodes
     → length before + length combs ≤ most_combs → list_all (is_comb n) combs ≡ true
     → CombRuns n (so_far before [] [] count) (flat_map comb_words combs) (so_far (before ++ combs) [] [] (count + sum_by (sum_by length) combs))
 each_comb_runs laws n few before [] count room begins all =
@@ -176,7 +189,8 @@ each_comb_runs laws n few before (comb ∷ combs) count room begins all =
 abbrev all_of : List (List (List ℕ)) → CombsSoFar
 all_of combs = with_end (so_far combs [] [] (0 + sum_by (sum_by length) combs))
 
-all_run : NumberLaws → (n : ℕ) → n < 2 ^ 32 → (combs : List (List (List ℕ))) → are_combs n combs ≡ true → CombRuns n no_combs (combs_words combs) (all_of combs)
+all_run : NumberLaws → (n : ℕ) → n < 2 ^ 32 → (combs : List (List (List ℕ))) → are_combs n combs ≡ true
+    → CombRuns n no_combs (combs_words combs) (all_of combs)
 all_run laws n few combs fits =
     let two = and_parts (nat_le (length combs) most_combs && list_all (is_comb n) combs) (nat_le (sum_by (sum_by length) combs) most_comb_nodes) fits in
     let one = and_parts (nat_le (length combs) most_combs) (list_all (is_comb n) combs) two.0 in
@@ -185,11 +199,15 @@ all_run laws n few combs fits =
     (each_comb_runs laws n few [] combs 0 (omega (arith, leb-true (sum_by (sum_by length) combs) most_comb_nodes two.1)) (omega (arith, leb-true (length combs) most_combs one.0)) one.1)
     (end_runs laws n combs [] [] (0 + sum_by (sum_by length) combs))
 
-pub combs_taken : NumberLaws → (n : ℕ) → n < 2 ^ 32 → (combs : List (List (List ℕ))) → are_combs n combs ≡ true → AllTaken n (place_of_comb n) [] (combs_words combs)
-combs_taken laws n few combs fits = all_taken n (with_comb_word n) place_in_combs no_combs [] (combs_words combs) (all_run laws n few combs fits).taken
+pub combs_taken : NumberLaws → (n : ℕ) → n < 2 ^ 32 → (combs : List (List (List ℕ))) → are_combs n combs ≡ true
+    → AllTaken n (place_of_comb n) [] (combs_words combs)
+combs_taken laws n few combs fits =
+    all_taken n (with_comb_word n) place_in_combs no_combs [] (combs_words combs) (all_run laws n few combs fits).taken
 
-pub combs_back : NumberLaws → (n : ℕ) → n < 2 ^ 32 → (combs : List (List (List ℕ))) → are_combs n combs ≡ true → whole_combs n (combs_words combs) ≡ combs
+pub combs_back : NumberLaws → (n : ℕ) → n < 2 ^ 32 → (combs : List (List (List ℕ))) → are_combs n combs ≡ true
+    → whole_combs n (combs_words combs) ≡ combs
 combs_back laws n few combs fits = ap (λ (s : CombsSoFar). s.combs) (all_run laws n few combs fits).gives
 
-pub combs_done : NumberLaws → (n : ℕ) → n < 2 ^ 32 → (combs : List (List (List ℕ))) → are_combs n combs ≡ true → wants_more (place_of_comb n (combs_words combs)) ≡ false
+pub combs_done : NumberLaws → (n : ℕ) → n < 2 ^ 32 → (combs : List (List (List ℕ))) → are_combs n combs ≡ true
+    → wants_more (place_of_comb n (combs_words combs)) ≡ false
 combs_done laws n few combs fits = ap (λ (s : CombsSoFar). wants_more (place_in_combs s)) (all_run laws n few combs fits).gives

@@ -13,7 +13,7 @@ use Rattle.tsp_draft.specs.Fields.{Fields, spatial}
 use Rattle.tsp_draft.specs.Validity.{fits}
 use Rattle.tsp_text.specs.Items.{Item}
 use Rattle.tsp_text.specs.Earlier.{has_line, words_of}
-use Rattle.tsp_text.specs.Places.{PastEnd}
+use Rattle.tsp_text.specs.WordPlaces.{PastEnd}
 use Rattle.tsp_text.specs.Values.{spatial_after}
 use Rattle.tsp_text.specs.Sections.{place_by, place_in, dimension_in}
 use Rattle.tsp_text.specs.Spells.{wants_more, is_incomplete, first_incomplete}
@@ -26,7 +26,8 @@ use Rattle.tsp_round.proofs.SectionFields.{IsSection, is_section, are_right}
 use Rattle.tsp_round.proofs.Stages.{Stage}
 
 -- a section that is present has all its words
-part_done : NumberLaws → (f : Fields) (items : List Item) → Stage f [] items → fits f DimensionKey ≡ true → (field : Field) (shape : Shape) (o : Option (Entries shape)) → IsSection f field shape o
+part_done : NumberLaws → (f : Fields) (items : List Item) → Stage f [] items → fits f DimensionKey ≡ true
+    → (field : Field) (shape : Shape) (o : Option (Entries shape)) → IsSection f field shape o
     → is_incomplete items field ≡ false
 part_done laws f items stage one field shape None is =
     let has : has_line field items ≡ false = has_value field items ∙ ap (λ (v : Option (List ℕ)). is_some v) (stage.values field is.once ∙ is.value_is) in
@@ -41,20 +42,25 @@ part_done laws f items stage one field shape (Some xs) is =
     ∙ (body laws [] shape is.writable (dimension_in items) right.few xs right.valid).done)
 
 -- a search of some fields that finds none
-one_less : (chosen : Bool) (test : Field → Bool) (field : Field) (others : List Field) → (chosen ≡ true → test field ≡ false) → find test others ≡ None
+one_less : (chosen : Bool) (test : Field → Bool) (field : Field) (others : List Field) → (chosen ≡ true → test field ≡ false)
+    → find test others ≡ None
     → find test (cond chosen (field ∷ others) others) ≡ None
 one_less true test field others fails rest = ap (λ b. cond b (Some field) (find test others)) (fails refl) ∙ rest
 one_less false test field others fails rest = rest
 
-none_found : (test chosen : Field → Bool) → ((field : Field) → chosen field ≡ true → test field ≡ false) → (fields : List Field) → find test (filter chosen fields) ≡ None
+none_found : (test chosen : Field → Bool) → ((field : Field) → chosen field ≡ true → test field ≡ false) → (fields : List Field)
+    → find test (filter chosen fields) ≡ None
 none_found test chosen fails [] = refl
-none_found test chosen fails (field ∷ fields) = one_less (chosen field) test field (filter chosen fields) (fails field) (none_found test chosen fails fields)
+none_found test chosen fails (field ∷ fields) =
+    one_less (chosen field) test field (filter chosen fields) (fails field) (none_found test chosen fails fields)
 
 -- a section has a shape in a spatial file as in another
 in_space_too : (in_space : Bool) (field : Field) → is_section_field field ≡ true → is_some (shape_of in_space field) ≡ true
-in_space_too in_space = by_section (λ g. is_some (shape_of in_space g) ≡ true) refl refl refl refl refl refl refl refl refl refl refl refl refl
+in_space_too in_space =
+    by_section (λ g. is_some (shape_of in_space g) ≡ true) refl refl refl refl refl refl refl refl refl refl refl refl refl
 
-pub none_incomplete : NumberLaws → (f : Fields) (items : List Item) → ((g : Field) → fits f g ≡ true) → Stage f [] items → first_incomplete items ≡ None
+pub none_incomplete : NumberLaws → (f : Fields) (items : List Item) → ((g : Field) → fits f g ≡ true) → Stage f [] items
+    → first_incomplete items ≡ None
 none_incomplete laws f items valid stage = none_found (is_incomplete items) is_section_field each fields_in_order
   where
     by_shape : (field : Field) (o : Option Shape) → shape_of (spatial f) field ≡ o → is_some o ≡ true → is_incomplete items field ≡ false

@@ -14,10 +14,10 @@ use Rattle.tsp_number.specs.declared.fault.NumberFault.{NumberFault}
 use Rattle.tsp_number.specs.Reading.{whole_of}
 use Rattle.tsp_format.specs.Cells.{nodes_to}
 use Rattle.tsp_draft.specs.Validity.{is_from_to, is_node}
-use Rattle.tsp_text.specs.Numbers.{number, node, reads_as}
-use Rattle.tsp_text.specs.Places.{NodeAfter, Amount, PastGroups}
+use Rattle.tsp_text.specs.SectionNumbers.{number, node, reads_as}
+use Rattle.tsp_text.specs.WordPlaces.{NodeAfter, Amount, PastGroups}
 use Rattle.tsp_text.specs.Groups.{pairs_in, begun_pair, number_groups, entry_of, by_node, numbers_by_node, place_in_group, nodes_of_groups, place_of_number}
-use Rattle.tsp_text.specs.Rows.{word_fault}
+use Rattle.tsp_text.specs.FaultRows.{word_fault}
 use Rattle.tsp_text.proofs.PairWords.{pairs_begin, begun_begin, pairs_end, begun_end}
 use Rattle.tsp_round.proofs.Numbers.{NumberLaws, node_back}
 use Rattle.tsp_round.proofs.Taken.{AllTaken}
@@ -56,7 +56,8 @@ first_skipped {X} missing a x groups k (suc len) less =
     ap (λ b. unwrap_or (cond b (Some x) (entry_of groups (pos k))) missing ∷ rest) (apart a k less)
     ∙ ap (λ (xs : List X). unwrap_or (entry_of groups (pos k)) missing ∷ xs) (first_skipped missing a x groups (k + 1) len (omega arith))
 
-entries_back : {X : Type 0} (missing : X) (k : ℕ) (xs : List X) → map (λ i. unwrap_or (entry_of (map tagged (enumerate_from k xs)) (pos i)) missing) (range_with_len k (length xs)) ≡ xs
+entries_back : {X : Type 0} (missing : X) (k : ℕ) (xs : List X)
+    → map (λ i. unwrap_or (entry_of (map tagged (enumerate_from k xs)) (pos i)) missing) (range_with_len k (length xs)) ≡ xs
 entries_back missing k [] = refl
 entries_back {X} missing k (x ∷ xs) =
     let groups : List (ℤ × X) = map tagged (enumerate_from (k + 1) xs) in
@@ -64,7 +65,8 @@ entries_back {X} missing k (x ∷ xs) =
     ap (λ b. unwrap_or (cond b (Some x) (entry_of groups (pos k))) missing ∷ rest) ((Decides-int_eq (pos k) (pos k)).1 refl)
     ∙ ap (λ (ys : List X). x ∷ ys) (first_skipped missing k x groups (k + 1) (length xs) (omega arith) ∙ entries_back missing (k + 1) xs)
 
-pub by_node_back : {X : Type 0} (missing : X) (n : ℕ) (xs : List X) (groups : List (ℤ × X)) → length xs ≡ n → groups ≡ map tagged (enumerate_from 1 xs) → by_node missing n groups ≡ xs
+pub by_node_back : {X : Type 0} (missing : X) (n : ℕ) (xs : List X) (groups : List (ℤ × X)) → length xs ≡ n
+    → groups ≡ map tagged (enumerate_from 1 xs) → by_node missing n groups ≡ xs
 unfolding nodes_to
 by_node_back {X} missing n xs groups count are =
     ap (λ (gs : List (ℤ × X)). by_node missing n gs) are
@@ -83,7 +85,8 @@ number_entry entry = decimal entry.0 ∷ signed_decimal entry.1 ∷ []
 abbrev pub AreSmall : ℤ → ℤ → Type 0
 AreSmall low high = (z : ℤ) → is_from_to low high z ≡ true → unsigned_abs z < 2 ^ 63
 
-nodes_are : (low high : ℤ) (n : ℕ) (words : List (List ℕ)) → length words ≤ 2 * n → nodes_of_groups (number_groups low high n words) ≡ map (λ pair. number (node n pair.0)) (pairs_in words)
+nodes_are : (low high : ℤ) (n : ℕ) (words : List (List ℕ)) → length words ≤ 2 * n
+    → nodes_of_groups (number_groups low high n words) ≡ map (λ pair. number (node n pair.0)) (pairs_in words)
 nodes_are low high n words few =
     fused (λ group. group.0) (λ group. (number (node n group.0), number (whole_of group.1 low high))) (pairs_in (take (2 * n) words))
     ∙ ap (λ (ws : List (List ℕ)). map (λ (pair : List ℕ × List ℕ). number (node n pair.0)) (pairs_in ws)) (take_all (2 * n) words few)
@@ -91,8 +94,10 @@ nodes_are low high n words few =
 pub one_node : (n i : ℕ) → i + 1 ≤ n → is_node n (i + 1) ≡ true
 one_node n i room = and_from (nat_le 1 (i + 1)) (nat_le (i + 1) n) (le-leb 1 (i + 1) (omega arith)) (le-leb (i + 1) n room)
 
-pub numbers_taken : NumberLaws → (low high : ℤ) → AreSmall low high → (n : ℕ) → n < 2 ^ 32 → (earlier : List (List ℕ)) (i : ℕ) (xs : List ℤ) → begun_pair earlier ≡ []
-    → map (λ pair. number (node n pair.0)) (pairs_in earlier) ≡ map pos (range_with_len 1 i) → length earlier ≡ 2 * i → i + length xs ≤ n → list_all (is_from_to low high) xs ≡ true
+pub numbers_taken : NumberLaws → (low high : ℤ) → AreSmall low high → (n : ℕ) → n < 2 ^ 32
+    → (earlier : List (List ℕ)) (i : ℕ) (xs : List ℤ) → begun_pair earlier ≡ []
+    → map (λ pair. number (node n pair.0)) (pairs_in earlier) ≡ map pos (range_with_len 1 i) → length earlier ≡ 2 * i
+    → i + length xs ≤ n → list_all (is_from_to low high) xs ≡ true
     → AllTaken n (place_of_number low high n) earlier (flat_map number_entry (enumerate_from (i + 1) xs))
 numbers_taken laws low high small n few earlier i [] whole nodes count room all = tt
 numbers_taken laws low high small n few earlier i (z ∷ xs) whole nodes count room all =
@@ -131,7 +136,8 @@ pub count_of_numbers : (k : ℕ) (xs : List ℤ) → length (flat_map number_ent
 count_of_numbers k [] = refl
 count_of_numbers k (x ∷ xs) = omega (arith, count_of_numbers (k + 1) xs)
 
-groups_back : NumberLaws → (low high : ℤ) → AreSmall low high → (n : ℕ) → n < 2 ^ 32 → (i : ℕ) (xs : List ℤ) → i + length xs ≤ n → list_all (is_from_to low high) xs ≡ true
+groups_back : NumberLaws → (low high : ℤ) → AreSmall low high → (n : ℕ) → n < 2 ^ 32 → (i : ℕ) (xs : List ℤ) → i + length xs ≤ n
+    → list_all (is_from_to low high) xs ≡ true
     → map (λ group. (number (node n group.0), number (whole_of group.1 low high))) (pairs_in (flat_map number_entry (enumerate_from (i + 1) xs))) ≡ map tagged (enumerate_from (i + 1) xs)
 groups_back laws low high small n few i [] room all = refl
 groups_back laws low high small n few i (z ∷ xs) room all =
@@ -141,7 +147,8 @@ groups_back laws low high small n few i (z ∷ xs) room all =
     ∙ ap (λ r. (pos (i + 1), number r) ∷ rest) (laws.whole_back z low high (small z both.0) both.0)
     ∙ ap (λ (gs : List (ℤ × ℤ)). (pos (i + 1), z) ∷ gs) (groups_back laws low high small n few (i + 1) xs (omega arith) both.1)
 
-pub numbers_back : NumberLaws → (low high : ℤ) → AreSmall low high → (n : ℕ) → n < 2 ^ 32 → (xs : List ℤ) → length xs ≡ n → list_all (is_from_to low high) xs ≡ true
+pub numbers_back : NumberLaws → (low high : ℤ) → AreSmall low high → (n : ℕ) → n < 2 ^ 32 → (xs : List ℤ) → length xs ≡ n
+    → list_all (is_from_to low high) xs ≡ true
     → numbers_by_node low high n (flat_map number_entry (enumerate_from 1 xs)) ≡ xs
 numbers_back laws low high small n few xs count all =
     let words = flat_map number_entry (enumerate_from 1 xs) in

@@ -14,12 +14,12 @@ use Rattle.tsp_draft.specs.declared.fault.DraftFault.TheVariants.{BadField, Rule
 use Rattle.tsp_draft.specs.Fields.{Fields}
 use Rattle.tsp_draft.specs.Validity.{bad_field}
 use Rattle.tsp_draft.specs.Rules.{standing_of, end_fault, fault_of}
-use Rattle.tsp_file.specs.Text.{text_of_field, text_of}
+use Rattle.tsp_file.specs.CanonicalText.{text_of_field, text_of}
 use Rattle.tsp_file.proofs.AllFit.{all_fit}
 use Rattle.tsp_text.specs.declared.fault.ReadFault.{ReadFault}
 use Rattle.tsp_text.specs.declared.fault.ReadFault.TheVariants as faults
 use Rattle.tsp_text.specs.Items.{Item, Line, LineEnd, word_line, items_of, settled_items, to_end_line, has_end_line}
-use Rattle.tsp_text.specs.Rows.{when, first_row}
+use Rattle.tsp_text.specs.FaultRows.{when, first_row}
 use Rattle.tsp_text.specs.FirstFault.{fault_in, IsClean}
 use Rattle.tsp_text.specs.Spells.{spelled, first_incomplete, fault_at_end}
 use Rattle.tsp_text.specs.Text.{is_too_long, part, fault, Spells}
@@ -52,7 +52,8 @@ ended_stage f earlier stage = record {
 
 -- ---- the items of a text that ends so
 
-part_is : (bytes : List ℕ) (items : List Item) → is_too_long bytes ≡ false → items_of bytes ≡ items ++ end_line ∷ LineEnd ∷ [] → has_end_line items ≡ false → part bytes ≡ end_line ∷ onto items []
+part_is : (bytes : List ℕ) (items : List Item) → is_too_long bytes ≡ false → items_of bytes ≡ items ++ end_line ∷ LineEnd ∷ []
+    → has_end_line items ≡ false → part bytes ≡ end_line ∷ onto items []
 part_is bytes items short items_are no_end =
     ap (λ b. reverse (to_end_line (cond b (settled_items (take most_file_bytes bytes)) (items_of bytes)))) short
     ∙ ap (λ (all : List Item). reverse (to_end_line all)) items_are
@@ -60,7 +61,8 @@ part_is bytes items short items_are no_end =
     ∙ reverse-append items (end_line ∷ [])
     ∙ sym (ap (λ (all : List Item). end_line ∷ all) (onto_reversed items [] ∙ append-nil (reverse items)))
 
-spelled_by : (bytes : List ℕ) (f : Fields) (items : List Item) → is_too_long bytes ≡ false → part bytes ≡ items → IsClean items → fault_at_end items ≡ None → spelled items ≡ f → Spells bytes f
+spelled_by : (bytes : List ℕ) (f : Fields) (items : List Item) → is_too_long bytes ≡ false → part bytes ≡ items → IsClean items
+    → fault_at_end items ≡ None → spelled items ≡ f → Spells bytes f
 spelled_by bytes f items short part_are clean at_end spelled_are = record {
   no_fault = ap (λ (all : List Item). first_row (fault_in all ∷ when (is_too_long bytes && not (has_end_line all)) faults.TooLong
       ∷ option_map (λ fault. faults.End fault) (fault_at_end all) ∷ [])) part_are
@@ -72,12 +74,14 @@ spelled_by bytes f items short part_are clean at_end spelled_are = record {
 
 -- ---- no rule is broken
 
-no_rule : (bad : Option Field) (rule : Option EndFault) → option_or (option_map (λ field. BadField field) bad) (option_map (λ fault. Rule fault) rule) ≡ None → rule ≡ None
+no_rule : (bad : Option Field) (rule : Option EndFault)
+    → option_or (option_map (λ field. BadField field) bad) (option_map (λ fault. Rule fault) rule) ≡ None → rule ≡ None
 no_rule bad None none = refl
 no_rule None (Some fault) none = absurd (none-some (Rule fault) (sym none))
 no_rule (Some field) (Some fault) none = absurd (none-some (BadField field) (sym none))
 
-no_end_fault : (f : Fields) (items : List Item) → fault_of f ≡ None → spelled items ≡ f → first_incomplete items ≡ None → fault_at_end items ≡ None
+no_end_fault : (f : Fields) (items : List Item) → fault_of f ≡ None → spelled items ≡ f → first_incomplete items ≡ None
+    → fault_at_end items ≡ None
 no_end_fault f items valid spelled_are complete =
     ap (λ (g : Fields). end_fault (standing_of g) (first_incomplete items)) spelled_are
     ∙ ap (λ (found : Option Field). end_fault (standing_of f) found) complete

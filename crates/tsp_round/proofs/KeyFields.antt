@@ -18,11 +18,11 @@ use Rattle.tsp_format.specs.Keywords.{keyword_of}
 use Rattle.tsp_format.specs.Limits.{most_nodes, most_capacity, most_scale, most_line_bytes, most_kept_bytes, most_comments, most_others}
 use Rattle.tsp_draft.specs.Fields.{Fields}
 use Rattle.tsp_draft.specs.Validity.{if_there, is_kept, is_from_to, is_node, is_other, fits}
-use Rattle.tsp_file.specs.Text.{keyword_line, optional, text_of_field}
+use Rattle.tsp_file.specs.CanonicalText.{keyword_line, optional, text_of_field}
 use Rattle.tsp_text.specs.Lines.{is_filled, first_word}
 use Rattle.tsp_text.specs.Items.{Item, Line}
 use Rattle.tsp_text.specs.Earlier.{same_field, value_at, values_at, others_in, words_of}
-use Rattle.tsp_text.specs.Rows.{may_repeat, row_of}
+use Rattle.tsp_text.specs.FaultRows.{may_repeat, row_of}
 use Rattle.tsp_text.proofs.ValidSections.{same_field_is}
 use Rattle.tsp_round.proofs.Text.{is_plain, is_plain_word, no_blank, one_line_word}
 use Rattle.tsp_round.proofs.Lines.{IsWhole, IsKeyword, written_line, value_text}
@@ -36,7 +36,8 @@ use Rattle.tsp_round.proofs.Steps.{kept_blank, missing, key_line}
 
 -- ---- values of number bytes
 
-last_passes : (p : ℕ → Bool) (b : ℕ) (bytes : List ℕ) → list_all p (b ∷ bytes) ≡ true → p (slice_index (b ∷ bytes) (length bytes)) ≡ true
+last_passes : (p : ℕ → Bool) (b : ℕ) (bytes : List ℕ) → list_all p (b ∷ bytes) ≡ true
+    → p (slice_index (b ∷ bytes) (length bytes)) ≡ true
 last_passes p b [] all = (and_parts (p b) true all).0
 last_passes p b (c ∷ bytes) all = last_passes p c bytes (and_parts (p b) (list_all p (c ∷ bytes)) all).1
 
@@ -60,7 +61,8 @@ record NumberLine (keyword : List ℕ) (low high z : ℤ) : Type 0 where
   filled : is_filled (signed_decimal z) ≡ true
   read : result_err (whole_of (first_word (signed_decimal z)) low high) ≡ None
 
-line_of_number : NumberLaws → (keyword : List ℕ) → length keyword ≤ 100 → (low high z : ℤ) → unsigned_abs z < 2 ^ 63 → is_from_to low high z ≡ true → NumberLine keyword low high z
+line_of_number : NumberLaws → (keyword : List ℕ) → length keyword ≤ 100 → (low high z : ℤ) → unsigned_abs z < 2 ^ 63
+    → is_from_to low high z ≡ true → NumberLine keyword low high z
 line_of_number laws keyword few low high z small inside =
     let plain = signed_plain z (omega (arith, small)) in
     record {
@@ -102,7 +104,8 @@ any : {A : Type 0} (o : Option A) → if_there (λ x. true) o ≡ true
 any None = refl
 any (Some x) = refl
 
-pub name_step : (f : Fields) (earlier : List Item) → fits f NameKey ≡ true → Ready f NameKey earlier → Step f (text_of_field f) NameKey earlier
+pub name_step : (f : Fields) (earlier : List Item) → fits f NameKey ≡ true → Ready f NameKey earlier
+    → Step f (text_of_field f) NameKey earlier
 name_step f earlier fit ready =
     line_step f NameKey (λ value. value) f.name earlier refl (same_option f.name)
     (record { known = refl; keyword = record { letter_first = refl; bytes = refl }; once = refl; no_words = refl; no_comment = refl; no_other = refl })
@@ -115,7 +118,8 @@ kind_step f earlier ready =
     (record { known = refl; keyword = record { letter_first = refl; bytes = refl }; once = refl; no_words = refl; no_comment = refl; no_other = refl })
     (λ x. true) (any f.kind) (λ x e. (kind_whole x, kind_row earlier x (no_line_yet f TypeKey earlier ready refl))) ready
 
-pub weight_kind_step : (f : Fields) (earlier : List Item) → Ready f EdgeWeightTypeKey earlier → Step f (text_of_field f) EdgeWeightTypeKey earlier
+pub weight_kind_step : (f : Fields) (earlier : List Item) → Ready f EdgeWeightTypeKey earlier
+    → Step f (text_of_field f) EdgeWeightTypeKey earlier
 weight_kind_step f earlier ready =
     line_step f EdgeWeightTypeKey weight_kind_word f.weight_kind earlier refl refl
     (record { known = refl; keyword = record { letter_first = refl; bytes = refl }; once = refl; no_words = refl; no_comment = refl; no_other = refl })
@@ -125,13 +129,15 @@ weight_kind_step f earlier ready =
           (has_value NodeCoordPart earlier ∙ ap (λ (v : Option (List ℕ)). is_some v) (ready.no_points refl)),
     )) ready
 
-pub weight_format_step : (f : Fields) (earlier : List Item) → Ready f EdgeWeightFormatKey earlier → Step f (text_of_field f) EdgeWeightFormatKey earlier
+pub weight_format_step : (f : Fields) (earlier : List Item) → Ready f EdgeWeightFormatKey earlier
+    → Step f (text_of_field f) EdgeWeightFormatKey earlier
 weight_format_step f earlier ready =
     line_step f EdgeWeightFormatKey weight_format_word f.weight_format earlier refl refl
     (record { known = refl; keyword = record { letter_first = refl; bytes = refl }; once = refl; no_words = refl; no_comment = refl; no_other = refl })
     (λ x. true) (any f.weight_format) (λ x e. (weight_format_whole x, weight_format_row earlier x (no_line_yet f EdgeWeightFormatKey earlier ready refl))) ready
 
-pub coord_kind_step : (f : Fields) (earlier : List Item) → Ready f NodeCoordTypeKey earlier → Step f (text_of_field f) NodeCoordTypeKey earlier
+pub coord_kind_step : (f : Fields) (earlier : List Item) → Ready f NodeCoordTypeKey earlier
+    → Step f (text_of_field f) NodeCoordTypeKey earlier
 coord_kind_step f earlier ready =
     line_step f NodeCoordTypeKey coord_kind_word f.coord_kind earlier refl refl
     (record { known = refl; keyword = record { letter_first = refl; bytes = refl }; once = refl; no_words = refl; no_comment = refl; no_other = refl })
@@ -141,13 +147,15 @@ coord_kind_step f earlier ready =
           (has_value NodeCoordPart earlier ∙ ap (λ (v : Option (List ℕ)). is_some v) (ready.no_points refl)),
     )) ready
 
-pub display_kind_step : (f : Fields) (earlier : List Item) → Ready f DisplayDataTypeKey earlier → Step f (text_of_field f) DisplayDataTypeKey earlier
+pub display_kind_step : (f : Fields) (earlier : List Item) → Ready f DisplayDataTypeKey earlier
+    → Step f (text_of_field f) DisplayDataTypeKey earlier
 display_kind_step f earlier ready =
     line_step f DisplayDataTypeKey display_kind_word f.display_kind earlier refl refl
     (record { known = refl; keyword = record { letter_first = refl; bytes = refl }; once = refl; no_words = refl; no_comment = refl; no_other = refl })
     (λ x. true) (any f.display_kind) (λ x e. (display_kind_whole x, display_kind_row earlier x (no_line_yet f DisplayDataTypeKey earlier ready refl))) ready
 
-pub dimension_step : NumberLaws → (f : Fields) (earlier : List Item) → fits f DimensionKey ≡ true → Ready f DimensionKey earlier → Step f (text_of_field f) DimensionKey earlier
+pub dimension_step : NumberLaws → (f : Fields) (earlier : List Item) → fits f DimensionKey ≡ true → Ready f DimensionKey earlier
+    → Step f (text_of_field f) DimensionKey earlier
 dimension_step laws f earlier fit ready =
     line_step f DimensionKey decimal f.dimension earlier refl refl
     (record { known = refl; keyword = record { letter_first = refl; bytes = refl }; once = refl; no_words = refl; no_comment = refl; no_other = refl })
@@ -156,7 +164,8 @@ dimension_step laws f earlier fit ready =
     let line = line_of_number laws (field_word DimensionKey) (omega arith) (pos 1) (pos most_nodes) (pos n) (omega arith) is in
     (line.whole, dimension_row earlier (written_line (field_word DimensionKey) (decimal n)) (no_line_yet f DimensionKey earlier ready refl) line.short line.filled line.read)) ready
 
-pub capacity_step : NumberLaws → (f : Fields) (earlier : List Item) → fits f CapacityKey ≡ true → Ready f CapacityKey earlier → Step f (text_of_field f) CapacityKey earlier
+pub capacity_step : NumberLaws → (f : Fields) (earlier : List Item) → fits f CapacityKey ≡ true → Ready f CapacityKey earlier
+    → Step f (text_of_field f) CapacityKey earlier
 capacity_step laws f earlier fit ready =
     line_step f CapacityKey signed_decimal f.capacity earlier refl refl
     (record { known = refl; keyword = record { letter_first = refl; bytes = refl }; once = refl; no_words = refl; no_comment = refl; no_other = refl })
@@ -165,7 +174,8 @@ capacity_step laws f earlier fit ready =
     let line = line_of_number laws (field_word CapacityKey) (omega arith) (pos 1) (pos most_capacity) z (omega arith) is in
     (line.whole, capacity_row earlier (written_line (field_word CapacityKey) (signed_decimal z)) (no_line_yet f CapacityKey earlier ready refl) line.short line.filled line.read)) ready
 
-pub scale_step : NumberLaws → (f : Fields) (earlier : List Item) → fits f ScaleKey ≡ true → Ready f ScaleKey earlier → Step f (text_of_field f) ScaleKey earlier
+pub scale_step : NumberLaws → (f : Fields) (earlier : List Item) → fits f ScaleKey ≡ true → Ready f ScaleKey earlier
+    → Step f (text_of_field f) ScaleKey earlier
 scale_step laws f earlier fit ready =
     line_step f ScaleKey signed_decimal f.scale earlier refl refl
     (record { known = refl; keyword = record { letter_first = refl; bytes = refl }; once = refl; no_words = refl; no_comment = refl; no_other = refl })
@@ -176,7 +186,8 @@ scale_step laws f earlier fit ready =
 
 -- ---- lines that may repeat
 
-pub comment_step : (f : Fields) (earlier : List Item) → fits f CommentKey ≡ true → Ready f CommentKey earlier → Step f (text_of_field f) CommentKey earlier
+pub comment_step : (f : Fields) (earlier : List Item) → fits f CommentKey ≡ true → Ready f CommentKey earlier
+    → Step f (text_of_field f) CommentKey earlier
 comment_step f earlier fit ready =
     let both = and_parts (nat_le (length f.comments) most_comments) (list_all (is_kept (field_word CommentKey)) f.comments) fit in
     let few = leb-true (length f.comments) most_comments both.0 in
@@ -197,9 +208,11 @@ comment_step f earlier fit ready =
     }
 
 no_other : (g : Field) → may_repeat g ≡ false → same_field g OtherKey ≡ false
-no_other g once = false_from_ne_true (same_field g OtherKey) (λ e. true≢false (sym (ap may_repeat (same_field_is g OtherKey e)) ∙ once))
+no_other g once =
+    false_from_ne_true (same_field g OtherKey) (λ e. true≢false (sym (ap may_repeat (same_field_is g OtherKey e)) ∙ once))
 
-pub other_step : (f : Fields) (earlier : List Item) → fits f OtherKey ≡ true → Ready f OtherKey earlier → Step f (text_of_field f) OtherKey earlier
+pub other_step : (f : Fields) (earlier : List Item) → fits f OtherKey ≡ true → Ready f OtherKey earlier
+    → Step f (text_of_field f) OtherKey earlier
 other_step f earlier fit ready =
     let both = and_parts (nat_le (length f.others) most_others) (list_all is_other f.others) fit in
     let few = leb-true (length f.others) most_others both.0 in

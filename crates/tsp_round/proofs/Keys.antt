@@ -12,12 +12,12 @@ use Rattle.tsp_format.specs.Bytes.{is_blank}
 use Rattle.tsp_format.specs.Words.{field_word}
 use Rattle.tsp_format.specs.Limits.{most_line_bytes, most_kept_bytes, most_comments}
 use Rattle.tsp_draft.specs.Validity.{is_kept}
-use Rattle.tsp_file.specs.Text.{blank_before, keyword_line}
+use Rattle.tsp_file.specs.CanonicalText.{blank_before, keyword_line}
 use Rattle.tsp_text.specs.Lines.{is_filled}
 use Rattle.tsp_text.specs.Items.{WordLine, Item, Line, LineEnd, has_end_line}
 use Rattle.tsp_text.specs.Earlier.{same_field, has_line, value_at, values_at, others_in, words_of}
 use Rattle.tsp_text.specs.Values.{read_as}
-use Rattle.tsp_text.specs.Rows.{may_repeat, row_of, is_too_long_to_keep}
+use Rattle.tsp_text.specs.FaultRows.{may_repeat, row_of, is_too_long_to_keep}
 use Rattle.tsp_text.specs.FirstFault.{IsClean}
 use Rattle.tsp_text.proofs.Clean.{clean_more}
 use Rattle.tsp_text.proofs.ValidSections.{same_field_is}
@@ -37,7 +37,8 @@ after_length : (value : List ℕ) → length (blank_before value) ≤ length val
 after_length [] = omega arith
 after_length (b ∷ value) = omega arith
 
-pub text_length : (keyword value : List ℕ) (most : ℕ) → length keyword + length value ≤ most → most ≤ 4000 → nat_lt most_line_bytes (length (value_text keyword value)) ≡ false
+pub text_length : (keyword value : List ℕ) (most : ℕ) → length keyword + length value ≤ most → most ≤ 4000
+    → nat_lt most_line_bytes (length (value_text keyword value)) ≡ false
 text_length keyword value most few limit =
     le-ltb most_line_bytes (length (value_text keyword value)) (omega (arith, length-append keyword (32 ∷ 58 ∷ blank_before value), after_length value))
 
@@ -70,27 +71,32 @@ name_row earlier value unseen k =
         → is_too_long_to_keep line ≡ false → row_of earlier (Line (Known NameKey) line) ≡ None
     name_line_row earlier line unseen short room = rw (short, unseen, room) refl
 
-pub dimension_row : (earlier : List Item) (line : WordLine) → has_line DimensionKey earlier ≡ false → nat_lt most_line_bytes line.size ≡ false → is_filled line.value ≡ true
+pub dimension_row : (earlier : List Item) (line : WordLine) → has_line DimensionKey earlier ≡ false
+    → nat_lt most_line_bytes line.size ≡ false → is_filled line.value ≡ true
     → option_and_then result_err (read_as DimensionKey line.value) ≡ None → row_of earlier (Line (Known DimensionKey) line) ≡ None
 dimension_row earlier line unseen short filled read = rw (short, unseen, filled, read) refl
 
-pub capacity_row : (earlier : List Item) (line : WordLine) → has_line CapacityKey earlier ≡ false → nat_lt most_line_bytes line.size ≡ false → is_filled line.value ≡ true
+pub capacity_row : (earlier : List Item) (line : WordLine) → has_line CapacityKey earlier ≡ false
+    → nat_lt most_line_bytes line.size ≡ false → is_filled line.value ≡ true
     → option_and_then result_err (read_as CapacityKey line.value) ≡ None → row_of earlier (Line (Known CapacityKey) line) ≡ None
 capacity_row earlier line unseen short filled read = rw (short, unseen, filled, read) refl
 
-pub scale_row : (earlier : List Item) (line : WordLine) → has_line ScaleKey earlier ≡ false → nat_lt most_line_bytes line.size ≡ false → is_filled line.value ≡ true
+pub scale_row : (earlier : List Item) (line : WordLine) → has_line ScaleKey earlier ≡ false
+    → nat_lt most_line_bytes line.size ≡ false → is_filled line.value ≡ true
     → option_and_then result_err (read_as ScaleKey line.value) ≡ None → row_of earlier (Line (Known ScaleKey) line) ≡ None
 scale_row earlier line unseen short filled read = rw (short, unseen, filled, read) refl
 
 -- ---- comments
 
-comment_row : (earlier : List Item) (line : WordLine) → nat_lt most_line_bytes line.size ≡ false → is_too_long_to_keep line ≡ false
+comment_row : (earlier : List Item) (line : WordLine) → nat_lt most_line_bytes line.size ≡ false
+    → is_too_long_to_keep line ≡ false
     → nat_le most_comments (length (values_at CommentKey earlier)) ≡ false
     → row_of earlier (Line (Known CommentKey) line) ≡ None
 comment_row earlier line short room few = rw (short, room, few) refl
 
 pub no_comment : (g : Field) → may_repeat g ≡ false → same_field g CommentKey ≡ false
-no_comment g once = false_from_ne_true (same_field g CommentKey) (λ e. true≢false (sym (ap may_repeat (same_field_is g CommentKey e)) ∙ once))
+no_comment g once =
+    false_from_ne_true (same_field g CommentKey) (λ e. true≢false (sym (ap may_repeat (same_field_is g CommentKey e)) ∙ once))
 
 -- the lines of some comments after these items
 pub record CommentRun (comments : List (List ℕ)) (earlier : List Item) : Type 0 where
@@ -106,7 +112,8 @@ pub record CommentRun (comments : List (List ℕ)) (earlier : List Item) : Type 
 comment_keyword : IsKeyword (field_word CommentKey)
 comment_keyword = record { letter_first = refl; bytes = refl }
 
-pub comments_run : (comments : List (List ℕ)) (earlier : List Item) → IsClean earlier → length (values_at CommentKey earlier) + length comments ≤ most_comments
+pub comments_run : (comments : List (List ℕ)) (earlier : List Item) → IsClean earlier
+    → length (values_at CommentKey earlier) + length comments ≤ most_comments
     → list_all (is_kept (field_word CommentKey)) comments ≡ true → CommentRun comments earlier
 comments_run [] earlier clean room all = record {
   items = [];

@@ -9,7 +9,7 @@ use Rattle.std.proofs.lemmas.List.{take_at, drop_at, reverse-reverse, get_or-rev
 use Rattle.std.proofs.lemmas.List.Folds.{list_all-append}
 use Rattle.tsp_format.specs.Bytes.{is_blank, is_letter, is_keyword_byte}
 use Rattle.tsp_format.specs.Keywords.{keyword_of}
-use Rattle.tsp_file.specs.Text.{blank_before, value_line}
+use Rattle.tsp_file.specs.CanonicalText.{blank_before, value_line}
 use Rattle.tsp_text.specs.Lines.{ends_line, without_start, without_end, begins, is_word_line, keyword_in, after_keyword, is_colon, has_colon, value_in, words_in}
 use Rattle.tsp_text.specs.Items.{WordLine, Item, Line, NumberWord, LineEnd, word_line, line_item, items_in, items_of}
 use Rattle.tsp_text.specs.Cuts.{has_no_line_end}
@@ -37,7 +37,8 @@ blank_gone (b ∷ value) e = ap (λ blank. drop (1 + cond blank (1 + prefix_len 
 one_more : (n : ℕ) → 1 + n ≡ suc n
 one_more n = omega arith
 
-prefix_is : (p : ℕ → Bool) (front : List ℕ) (y : ℕ) (rest : List ℕ) → list_all p front ≡ true → p y ≡ false → prefix_len p (front ++ y ∷ rest) ≡ length front
+prefix_is : (p : ℕ → Bool) (front : List ℕ) (y : ℕ) (rest : List ℕ) → list_all p front ≡ true → p y ≡ false
+    → prefix_len p (front ++ y ∷ rest) ≡ length front
 prefix_is p [] y rest all e = ap (λ b. cond b (1 + prefix_len p rest) 0) e
 prefix_is p (x ∷ front) y rest all e =
     let both = and_parts (p x) (list_all p front) all in
@@ -51,7 +52,8 @@ keyword_is : (keyword value : List ℕ) → list_all is_keyword_byte keyword ≡
 keyword_is keyword value all =
     ap (λ n. take n (value_text keyword value)) (prefix_is is_keyword_byte keyword 32 (58 ∷ blank_before value) all refl) ∙ take_at keyword (32 ∷ 58 ∷ blank_before value) (length keyword) refl
 
-after_is : (keyword value : List ℕ) → list_all is_keyword_byte keyword ≡ true → after_keyword (value_text keyword value) ≡ 58 ∷ blank_before value
+after_is : (keyword value : List ℕ) → list_all is_keyword_byte keyword ≡ true
+    → after_keyword (value_text keyword value) ≡ 58 ∷ blank_before value
 after_is keyword value all =
     ap without_start (ap (λ n. drop n (value_text keyword value)) (prefix_is is_keyword_byte keyword 32 (58 ∷ blank_before value) all refl)
     ∙ drop_at keyword (32 ∷ 58 ∷ blank_before value) (length keyword) refl)
@@ -68,7 +70,8 @@ pub record IsKeyword (keyword : List ℕ) : Type 0 where
   pub bytes : list_all is_keyword_byte keyword ≡ true
 
 abbrev pub written_line : List ℕ → List ℕ → WordLine
-written_line keyword value = record { size = length (value_text keyword value); keyword = keyword; has_colon = true; value = value }
+written_line keyword value =
+    record { size = length (value_text keyword value); keyword = keyword; has_colon = true; value = value }
 
 value_found : (text value : List ℕ) → after_keyword text ≡ 58 ∷ blank_before value → IsWhole value → value_in text ≡ value
 value_found text value after whole =
@@ -79,7 +82,8 @@ same_line : (size : ℕ) (a b : List ℕ) (colon : Bool) (v w : List ℕ) → a 
     → (let one : WordLine = record { size = size; keyword = a; has_colon = colon; value = v } in let other : WordLine = record { size = size; keyword = b; has_colon = true; value = w } in one ≡ other)
 same_line size a b colon v w e f g = cc
 
-line_found : (keyword value : List ℕ) → IsKeyword keyword → IsWhole value → line_item (value_text keyword value) ≡ Line (keyword_of keyword) (written_line keyword value)
+line_found : (keyword value : List ℕ) → IsKeyword keyword → IsWhole value
+    → line_item (value_text keyword value) ≡ Line (keyword_of keyword) (written_line keyword value)
 line_found keyword value key whole =
     let text = value_text keyword value in
     let found : keyword_in text ≡ keyword = keyword_is keyword value key.bytes in
@@ -92,7 +96,8 @@ line_found keyword value key whole =
 letter_filled : (b : ℕ) → is_letter b ≡ true → is_blank b ≡ false
 letter_filled b e = grind (arith, nat_tests)
 
-first_letter : (keyword rest : List ℕ) → is_letter (slice_index keyword 0) ≡ true → (without_start (keyword ++ rest) ≡ keyword ++ rest) × (begins is_letter (keyword ++ rest) ≡ true)
+first_letter : (keyword rest : List ℕ) → is_letter (slice_index keyword 0) ≡ true
+    → (without_start (keyword ++ rest) ≡ keyword ++ rest) × (begins is_letter (keyword ++ rest) ≡ true)
 first_letter [] rest e = absurd (false≢true e)
 first_letter (b ∷ keyword) rest e = (start_kept (b ∷ (keyword ++ rest)) (letter_filled b e), e)
 
@@ -103,7 +108,8 @@ one_line_after : (value : List ℕ) → has_no_line_end value ≡ true → has_n
 one_line_after [] one = refl
 one_line_after (b ∷ value) one = one
 
-items_of_value : (keyword value : List ℕ) → IsKeyword keyword → IsWhole value → items_in (value_text keyword value) ≡ Line (keyword_of keyword) (written_line keyword value) ∷ []
+items_of_value : (keyword value : List ℕ) → IsKeyword keyword → IsWhole value
+    → items_in (value_text keyword value) ≡ Line (keyword_of keyword) (written_line keyword value) ∷ []
 items_of_value keyword value key whole =
     let text = value_text keyword value in
     let start = first_letter keyword (32 ∷ 58 ∷ blank_before value) key.letter_first in

@@ -13,12 +13,12 @@ use Rattle.tsp_number.specs.declared.fault.NumberFault.{NumberFault}
 use Rattle.tsp_format.specs.Limits.{most_weight, most_depots, most_fixed}
 use Rattle.tsp_draft.specs.Validity.{is_within, is_node, is_node_pair}
 use Rattle.tsp_text.specs.declared.fault.LineFault.TheVariants as row
-use Rattle.tsp_text.specs.Numbers.{number, node, node_or_end, is_end, whole_of_size, reads_as}
-use Rattle.tsp_text.specs.Places.{DepotAfter, FirstAfter, SecondOf, PastEnd, Weight, PastWeights}
+use Rattle.tsp_text.specs.SectionNumbers.{number, node, node_or_end, is_end, whole_of_size, reads_as}
+use Rattle.tsp_text.specs.WordPlaces.{DepotAfter, FirstAfter, SecondOf, PastEnd, Weight, PastWeights}
 use Rattle.tsp_text.specs.Groups.{pairs_in, begun_pair}
 use Rattle.tsp_text.specs.Lists.{before, firsts_in, depots_in, place_of_depot, fixed_in, place_in_pair, place_of_fixed}
-use Rattle.tsp_text.specs.Weights.{weights_in, place_of_weight}
-use Rattle.tsp_text.specs.Rows.{when, first_row, word_fault}
+use Rattle.tsp_text.specs.WeightSection.{weights_in, place_of_weight}
+use Rattle.tsp_text.specs.FaultRows.{when, first_row, word_fault}
 use Rattle.tsp_text.proofs.Ended.{any_push}
 use Rattle.tsp_text.proofs.PairWords.{pairs_begin, begun_begin, firsts_begin, pairs_end, begun_end, firsts_end}
 use Rattle.tsp_round.proofs.Numbers.{NumberLaws, node_back, listed_back, node_goes_on, end_read, end_ends, size_in}
@@ -36,7 +36,8 @@ has_room most count more room = lt-leb most count (omega arith)
 
 -- ---- depots
 
-pub depots_taken : NumberLaws → (n : ℕ) → n < 2 ^ 32 → (earlier : List (List ℕ)) (nodes : List ℕ) → list_any (is_end n) earlier ≡ false → length earlier + length nodes ≤ most_depots
+pub depots_taken : NumberLaws → (n : ℕ) → n < 2 ^ 32 → (earlier : List (List ℕ)) (nodes : List ℕ)
+    → list_any (is_end n) earlier ≡ false → length earlier + length nodes ≤ most_depots
     → list_all (is_node n) nodes ≡ true → AllTaken n (place_of_depot n) earlier (map decimal nodes ++ codes "-1" ∷ [])
 depots_taken laws n few earlier [] unended room all =
     let place : place_of_depot n earlier ≡ DepotAfter (length earlier) = ap (λ b. cond b PastEnd (DepotAfter (length earlier))) unended in (
@@ -59,8 +60,10 @@ depots_taken laws n few earlier (k ∷ nodes) unended room all =
       depots_taken laws n few (earlier ++ decimal k ∷ []) nodes unended_more (omega arith) both.1,
     )
 
-pub depots_back : NumberLaws → (n : ℕ) → n < 2 ^ 32 → (nodes : List ℕ) → list_all (is_node n) nodes ≡ true → depots_in n (map decimal nodes ++ codes "-1" ∷ []) ≡ nodes
-depots_back laws n few [] all = ap (λ b. map (λ word. nat_abs (number (node_or_end n word))) (cond b [] (codes "-1" ∷ []))) (end_ends laws n)
+pub depots_back : NumberLaws → (n : ℕ) → n < 2 ^ 32 → (nodes : List ℕ) → list_all (is_node n) nodes ≡ true
+    → depots_in n (map decimal nodes ++ codes "-1" ∷ []) ≡ nodes
+depots_back laws n few [] all =
+    ap (λ b. map (λ word. nat_abs (number (node_or_end n word))) (cond b [] (codes "-1" ∷ []))) (end_ends laws n)
 depots_back laws n few (k ∷ nodes) all =
     let both = and_parts (is_node n k) (list_all (is_node n) nodes) all in
     ap (λ b. map (λ word. nat_abs (number (node_or_end n word))) (cond b [] (decimal k ∷ before (is_end n) (map decimal nodes ++ codes "-1" ∷ [])))) (node_goes_on laws n k few both.0)
@@ -86,14 +89,16 @@ end_taken laws n count =
     (and_right (nat_le most_fixed count) (not (is_end n (codes "-1"))) (not_from_true (is_end n (codes "-1")) (end_ends laws n))) refl
 
 -- the first node of one
-pub first_taken : NumberLaws → (n count more k : ℕ) → n < 2 ^ 32 → count + suc more ≤ most_fixed → is_node n k ≡ true → word_fault n (FirstAfter count) (decimal k) ≡ None
+pub first_taken : NumberLaws → (n count more k : ℕ) → n < 2 ^ 32 → count + suc more ≤ most_fixed → is_node n k ≡ true
+    → word_fault n (FirstAfter count) (decimal k) ≡ None
 first_taken laws n count more k few room is =
     no_rows (result_err (node_or_end n (decimal k))) false false (nat_le most_fixed count && not (is_end n (decimal k))) false
     (ap (λ (r : Result ℤ NumberFault). result_err r) (listed_back laws n k few is)) refl refl
     (and_left (nat_le most_fixed count) (not (is_end n (decimal k))) (has_room most_fixed count more room)) refl
 
 -- its second node
-pub second_taken : NumberLaws → (n a b : ℕ) → n < 2 ^ 32 → is_node n b ≡ true → (a == b) ≡ false → word_fault n (SecondOf (pos a)) (decimal b) ≡ None
+pub second_taken : NumberLaws → (n a b : ℕ) → n < 2 ^ 32 → is_node n b ≡ true → (a == b) ≡ false
+    → word_fault n (SecondOf (pos a)) (decimal b) ≡ None
 second_taken laws n a b few is differ =
     no_rows (result_err (node n (decimal b))) false (reads_as (pos a) (node n (decimal b))) false false
     (ap (λ (r : Result ℤ NumberFault). result_err r) (node_back laws n b few is)) refl (ap (reads_as (pos a)) (node_back laws n b few is) ∙ no_self a b differ) refl refl
@@ -111,16 +116,21 @@ are_pair n pair fits =
     record { first = each.0; second = each.1; differ = not-true (pair.0 == pair.1) parts.1 }
 
 -- the first node of a list doesn't end it
-pub still_open : NumberLaws → (n k : ℕ) (firsts : List (List ℕ)) → n < 2 ^ 32 → is_node n k ≡ true → list_any (is_end n) firsts ≡ false → list_any (is_end n) (firsts ++ decimal k ∷ []) ≡ false
+pub still_open : NumberLaws → (n k : ℕ) (firsts : List (List ℕ)) → n < 2 ^ 32 → is_node n k ≡ true
+    → list_any (is_end n) firsts ≡ false → list_any (is_end n) (firsts ++ decimal k ∷ []) ≡ false
 still_open laws n k firsts few is unended = any_push (is_end n) firsts (decimal k) unended ∙ node_goes_on laws n k few is
 
 -- the place of the next word of pairs, before the -1
-pair_place : (n : ℕ) (words begun : List (List ℕ)) → list_any (is_end n) (firsts_in words) ≡ false → begun_pair words ≡ begun → place_of_fixed n words ≡ place_in_pair n (length (pairs_in words)) begun
+pair_place : (n : ℕ) (words begun : List (List ℕ)) → list_any (is_end n) (firsts_in words) ≡ false → begun_pair words ≡ begun
+    → place_of_fixed n words ≡ place_in_pair n (length (pairs_in words)) begun
 pair_place n words begun unended whole = rw (unended, whole) refl
 
-pub fixed_taken : NumberLaws → (n : ℕ) → n < 2 ^ 32 → (earlier : List (List ℕ)) (pairs : List (ℕ × ℕ)) → list_any (is_end n) (firsts_in earlier) ≡ false → begun_pair earlier ≡ []
-    → length (pairs_in earlier) + length pairs ≤ most_fixed → list_all (is_node_pair n) pairs ≡ true → AllTaken n (place_of_fixed n) earlier (flat_map pair_words pairs ++ codes "-1" ∷ [])
-fixed_taken laws n few earlier [] unended whole room all = (ap (λ p. word_fault n p (codes "-1")) (pair_place n earlier [] unended whole) ∙ end_taken laws n (length (pairs_in earlier)), tt)
+pub fixed_taken : NumberLaws → (n : ℕ) → n < 2 ^ 32 → (earlier : List (List ℕ)) (pairs : List (ℕ × ℕ))
+    → list_any (is_end n) (firsts_in earlier) ≡ false → begun_pair earlier ≡ []
+    → length (pairs_in earlier) + length pairs ≤ most_fixed → list_all (is_node_pair n) pairs ≡ true
+    → AllTaken n (place_of_fixed n) earlier (flat_map pair_words pairs ++ codes "-1" ∷ [])
+fixed_taken laws n few earlier [] unended whole room all =
+    (ap (λ p. word_fault n p (codes "-1")) (pair_place n earlier [] unended whole) ∙ end_taken laws n (length (pairs_in earlier)), tt)
 fixed_taken laws n few earlier (pair ∷ pairs) unended whole room all =
     let both = and_parts (is_node_pair n pair) (list_all (is_node_pair n) pairs) all in
     let are = are_pair n pair both.0 in
@@ -140,7 +150,8 @@ fixed_taken laws n few earlier (pair ∷ pairs) unended whole room all =
       ),
     )
 
-pub fixed_back : NumberLaws → (n : ℕ) → n < 2 ^ 32 → (pairs : List (ℕ × ℕ)) → list_all (is_node_pair n) pairs ≡ true → fixed_in n (flat_map pair_words pairs ++ codes "-1" ∷ []) ≡ pairs
+pub fixed_back : NumberLaws → (n : ℕ) → n < 2 ^ 32 → (pairs : List (ℕ × ℕ)) → list_all (is_node_pair n) pairs ≡ true
+    → fixed_in n (flat_map pair_words pairs ++ codes "-1" ∷ []) ≡ pairs
 fixed_back laws n few [] all = refl
 fixed_back laws n few (pair ∷ pairs) all =
     let both = and_parts (is_node_pair n pair) (list_all (is_node_pair n) pairs) all in
@@ -152,9 +163,11 @@ fixed_back laws n few (pair ∷ pairs) all =
     ∙ ap (λ r. (pair.0, nat_abs (number r)) ∷ fixed_in n more) (node_back laws n pair.1 few are.second)
     ∙ ap (λ (ps : List (ℕ × ℕ)). pair ∷ ps) (fixed_back laws n few pairs both.1)
 
-pub fixed_ended : NumberLaws → (n : ℕ) → (pairs : List (ℕ × ℕ)) → list_any (is_end n) (firsts_in (flat_map pair_words pairs ++ codes "-1" ∷ [])) ≡ true
+pub fixed_ended : NumberLaws → (n : ℕ) → (pairs : List (ℕ × ℕ))
+    → list_any (is_end n) (firsts_in (flat_map pair_words pairs ++ codes "-1" ∷ [])) ≡ true
 fixed_ended laws n [] = ap (λ b. b || false) (end_ends laws n)
-fixed_ended laws n (pair ∷ pairs) = or_right (is_end n (decimal pair.0)) (list_any (is_end n) (firsts_in (flat_map pair_words pairs ++ codes "-1" ∷ []))) (fixed_ended laws n pairs)
+fixed_ended laws n (pair ∷ pairs) =
+    or_right (is_end n (decimal pair.0)) (list_any (is_end n) (firsts_in (flat_map pair_words pairs ++ codes "-1" ∷ []))) (fixed_ended laws n pairs)
 
 -- ---- weights
 
@@ -163,7 +176,8 @@ weight_back laws z inside =
     let small = size_in most_weight z inside in
     laws.whole_back z _ _ (omega (arith, small)) inside
 
-pub weights_taken : NumberLaws → (n : ℕ) (earlier : List (List ℕ)) (weights : List ℤ) → length earlier + length weights ≤ n * n → list_all (is_within most_weight) weights ≡ true
+pub weights_taken : NumberLaws → (n : ℕ) (earlier : List (List ℕ)) (weights : List ℤ) → length earlier + length weights ≤ n * n
+    → list_all (is_within most_weight) weights ≡ true
     → AllTaken n (place_of_weight n) earlier (map signed_decimal weights)
 weights_taken laws n earlier [] room all = tt
 weights_taken laws n earlier (z ∷ weights) room all =
@@ -175,7 +189,8 @@ weights_taken laws n earlier (z ∷ weights) room all =
       weights_taken laws n (earlier ++ signed_decimal z ∷ []) weights (omega arith) both.1,
     )
 
-pub weights_back : NumberLaws → (weights : List ℤ) → list_all (is_within most_weight) weights ≡ true → weights_in (map signed_decimal weights) ≡ weights
+pub weights_back : NumberLaws → (weights : List ℤ) → list_all (is_within most_weight) weights ≡ true
+    → weights_in (map signed_decimal weights) ≡ weights
 weights_back laws [] all = refl
 weights_back laws (z ∷ weights) all =
     let both = and_parts (is_within most_weight z) (list_all (is_within most_weight) weights) all in

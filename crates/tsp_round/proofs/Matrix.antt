@@ -9,20 +9,23 @@ use Rattle.std.proofs.lemmas.List.{take-append-drop, map-append}
 use Rattle.std.proofs.lemmas.List.Folds.{list_all-append}
 use Rattle.tsp_format.specs.Limits.{most_weight}
 use Rattle.tsp_draft.specs.Validity.{is_within}
-use Rattle.tsp_file.specs.Text.{weight_line, matrix_lines}
+use Rattle.tsp_file.specs.CanonicalText.{weight_line, matrix_lines}
 use Rattle.tsp_round.proofs.Text.{WritesWords, no_words_written, both_words}
 use Rattle.tsp_round.proofs.Bodies.{weight_line_written}
 
 -- what passes for all of a list passes for its front and for the rest
-both_parts : {A : Type 0} (p : A → Bool) (len : ℕ) (xs : List A) → list_all p xs ≡ true → (list_all p (take len xs) ≡ true) × (list_all p (drop len xs) ≡ true)
+both_parts : {A : Type 0} (p : A → Bool) (len : ℕ) (xs : List A) → list_all p xs ≡ true
+    → (list_all p (take len xs) ≡ true) × (list_all p (drop len xs) ≡ true)
 both_parts p len xs all =
     and_parts (list_all p (take len xs)) (list_all p (drop len xs)) (sym (list_all-append p (take len xs) (drop len xs)) ∙ ap (list_all p) (take-append-drop len xs) ∙ all)
 
-one_line : (weights : List ℤ) → list_all (is_within most_weight) weights ≡ true → WritesWords (weight_line weights) (map signed_decimal weights)
+one_line : (weights : List ℤ) → list_all (is_within most_weight) weights ≡ true
+    → WritesWords (weight_line weights) (map signed_decimal weights)
 one_line [] all = no_words_written
 one_line (first ∷ rest) all = weight_line_written first rest all
 
-pub matrix_lines_written : (lens : List ℕ) (weights : List ℤ) → list_all (is_within most_weight) weights ≡ true → WritesWords (matrix_lines lens weights) (map signed_decimal weights)
+pub matrix_lines_written : (lens : List ℕ) (weights : List ℤ) → list_all (is_within most_weight) weights ≡ true
+    → WritesWords (matrix_lines lens weights) (map signed_decimal weights)
 matrix_lines_written [] weights all = one_line weights all
 matrix_lines_written (len ∷ lens) weights all =
     let parts = both_parts (is_within most_weight) len weights all in

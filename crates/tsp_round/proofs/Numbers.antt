@@ -22,7 +22,7 @@ use Rattle.tsp_number.specs.Reading.{decimal_of, whole_of}
 use Rattle.tsp_number.specs.Spelling.{decimals, fraction_spelling, size_spelling, spelling}
 use Rattle.tsp_draft.specs.Validity.{is_from_to, is_within, is_node}
 use Rattle.tsp_text.specs.Lines.{is_filled}
-use Rattle.tsp_text.specs.Numbers.{node, node_or_end, is_end, not_zero, reads_as}
+use Rattle.tsp_text.specs.SectionNumbers.{node, node_or_end, is_end, not_zero, reads_as}
 use Rattle.tsp_round.proofs.Text.{is_plain, is_plain_word}
 
 -- the laws of number words and of their texts
@@ -119,7 +119,8 @@ unfolding sign_text
 is_sign false = inl (refl, refl)
 is_sign true = inr (inr (refl, refl))
 
-stands_whole : (negative : Bool) (size : ℕ) → size < 2 ^ 63 → StandsFor (sign_text negative ++ decimal size) (with_sign negative size *ℤ pos unit)
+stands_whole : (negative : Bool) (size : ℕ) → size < 2 ^ 63
+    → StandsFor (sign_text negative ++ decimal size) (with_sign negative size *ℤ pos unit)
 stands_whole negative size small =
     let whole = decimal_is_IsNumeral size (omega arith) in
     let n : Numeral = record { negative = negative; whole = decimal size; fraction = []; exponent = pos 0 } in
@@ -200,7 +201,8 @@ minus_one : signed_decimal (negsuc 0) ≡ codes "-1"
 minus_one = ap (λ (ds : List ℕ). 45 ∷ ds) (decimal_digit 1 (omega arith))
 
 pub end_read : NumberLaws → (n : ℕ) → node_or_end n (codes "-1") ≡ Ok (negsuc 0)
-end_read laws n = ap not_zero (ap (λ word. whole_of word (negsuc 0) (pos n)) (sym minus_one) ∙ laws.whole_back (negsuc 0) (negsuc 0) (pos n) (omega arith) refl)
+end_read laws n =
+    ap not_zero (ap (λ word. whole_of word (negsuc 0) (pos n)) (sym minus_one) ∙ laws.whole_back (negsuc 0) (negsuc 0) (pos n) (omega arith) refl)
 
 pub end_ends : NumberLaws → (n : ℕ) → is_end n (codes "-1") ≡ true
 end_ends laws n = ap (reads_as (negsuc 0)) (end_read laws n)

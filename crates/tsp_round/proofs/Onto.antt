@@ -8,7 +8,7 @@ use Rattle.tsp_text.specs.Items.{Item, Line, NumberWord, LineEnd, has_end_line, 
 use Rattle.tsp_text.specs.Earlier.{is_key, has_line, value_at, values_at, others_in, open_section, is_open, words_of}
 use Rattle.tsp_text.specs.Values.{spatial_after}
 use Rattle.tsp_text.specs.Sections.{place_in, dimension_in}
-use Rattle.tsp_text.specs.Rows.{row_of, word_fault}
+use Rattle.tsp_text.specs.FaultRows.{row_of, word_fault}
 use Rattle.tsp_text.specs.FirstFault.{IsClean}
 use Rattle.tsp_text.proofs.Clean.{clean_more}
 use Rattle.tsp_text.proofs.ItemRows.{same_self}
@@ -43,13 +43,15 @@ has_value field (LineEnd ∷ earlier) = has_value field earlier
 
 -- ---- number items
 
-pub value_kept : (field : Field) (items earlier : List Item) → are_numbers items ≡ true → value_at field (onto items earlier) ≡ value_at field earlier
+pub value_kept : (field : Field) (items earlier : List Item) → are_numbers items ≡ true
+    → value_at field (onto items earlier) ≡ value_at field earlier
 value_kept field [] earlier numbers = refl
 value_kept field (Line key line ∷ items) earlier numbers = absurd (false≢true numbers)
 value_kept field (NumberWord word ∷ items) earlier numbers = value_kept field items (NumberWord word ∷ earlier) numbers
 value_kept field (LineEnd ∷ items) earlier numbers = value_kept field items (LineEnd ∷ earlier) numbers
 
-pub values_kept : (field : Field) (items earlier : List Item) → are_numbers items ≡ true → values_at field (onto items earlier) ≡ values_at field earlier
+pub values_kept : (field : Field) (items earlier : List Item) → are_numbers items ≡ true
+    → values_at field (onto items earlier) ≡ values_at field earlier
 values_kept field [] earlier numbers = refl
 values_kept field (Line key line ∷ items) earlier numbers = absurd (false≢true numbers)
 values_kept field (NumberWord word ∷ items) earlier numbers = values_kept field items (NumberWord word ∷ earlier) numbers
@@ -68,14 +70,16 @@ no_end_line (NumberWord word ∷ items) numbers = no_end_line items numbers
 no_end_line (LineEnd ∷ items) numbers = no_end_line items numbers
 
 -- the words of another section
-pub other_words : (field : Field) (items earlier : List Item) → are_numbers items ≡ true → is_open field (open_section earlier) ≡ false → words_of field (onto items earlier) ≡ words_of field earlier
+pub other_words : (field : Field) (items earlier : List Item) → are_numbers items ≡ true
+    → is_open field (open_section earlier) ≡ false → words_of field (onto items earlier) ≡ words_of field earlier
 other_words field [] earlier numbers closed = refl
 other_words field (Line key line ∷ items) earlier numbers closed = absurd (false≢true numbers)
 other_words field (NumberWord word ∷ items) earlier numbers closed =
     other_words field items (NumberWord word ∷ earlier) numbers closed ∙ ap (λ b. cond b (words_of field earlier ++ word ∷ []) (words_of field earlier)) closed
 other_words field (LineEnd ∷ items) earlier numbers closed = other_words field items (LineEnd ∷ earlier) numbers closed
 
-word_added : (earlier : List Item) (word : List ℕ) (f : Field) → open_section earlier ≡ Some f → words_of f (NumberWord word ∷ earlier) ≡ words_of f earlier ++ word ∷ []
+word_added : (earlier : List Item) (word : List ℕ) (f : Field) → open_section earlier ≡ Some f
+    → words_of f (NumberWord word ∷ earlier) ≡ words_of f earlier ++ word ∷ []
 word_added earlier word f opened = rw (opened, same_self f) refl
 
 -- the words of the open section
@@ -95,8 +99,10 @@ word_row : (earlier : List Item) (word : List ℕ) (f : Field) → open_section 
     → row_of earlier (NumberWord word) ≡ word_fault (dimension_in earlier) (place_in (spatial_after earlier) f (dimension_in earlier) (words_of f earlier)) word
 word_row earlier word f opened = rw opened refl
 
-pub words_clean : (field : Field) (n : ℕ) (items earlier : List Item) → are_numbers items ≡ true → IsClean earlier → open_section earlier ≡ Some field → dimension_in earlier ≡ n
-    → AllTaken n (place_in (spatial_after earlier) field n) (words_of field earlier) (number_words items) → IsClean (onto items earlier)
+pub words_clean : (field : Field) (n : ℕ) (items earlier : List Item) → are_numbers items ≡ true → IsClean earlier
+    → open_section earlier ≡ Some field → dimension_in earlier ≡ n
+    → AllTaken n (place_in (spatial_after earlier) field n) (words_of field earlier) (number_words items)
+    → IsClean (onto items earlier)
 words_clean field n [] earlier numbers clean opened nodes taken = clean
 words_clean field n (Line key line ∷ items) earlier numbers clean opened nodes taken = absurd (false≢true numbers)
 words_clean field n (NumberWord word ∷ items) earlier numbers clean opened nodes taken =
@@ -109,7 +115,8 @@ words_clean field n (LineEnd ∷ items) earlier numbers clean opened nodes taken
 
 -- ---- up to the end line
 
-pub ended_at : (items : List Item) (last : Item) (rest : List Item) → has_end_line items ≡ false → is_end_line last ≡ true → to_end_line (items ++ last ∷ rest) ≡ items ++ last ∷ []
+pub ended_at : (items : List Item) (last : Item) (rest : List Item) → has_end_line items ≡ false → is_end_line last ≡ true
+    → to_end_line (items ++ last ∷ rest) ≡ items ++ last ∷ []
 ended_at [] last rest none ends = ap (λ b. last ∷ cond b [] (to_end_line rest)) ends
 ended_at (item ∷ items) last rest none ends = by_case (is_end_line item) none (ended_at items last rest)
   where

@@ -11,10 +11,10 @@ use Rattle.tsp_format.specs.Bytes.{is_letter, is_keyword_byte}
 use Rattle.tsp_format.specs.Keywords.{keyword_of, is_unknown}
 use Rattle.tsp_format.specs.Limits.{most_line_bytes, most_others}
 use Rattle.tsp_draft.specs.Validity.{is_kept, is_unknown_keyword, is_other}
-use Rattle.tsp_file.specs.Text.{other_line}
+use Rattle.tsp_file.specs.CanonicalText.{other_line}
 use Rattle.tsp_text.specs.Items.{WordLine, Item, Line, LineEnd, items_of, has_end_line}
 use Rattle.tsp_text.specs.Earlier.{value_at, values_at, others_in, words_of}
-use Rattle.tsp_text.specs.Rows.{row_of, is_too_long_to_keep}
+use Rattle.tsp_text.specs.FaultRows.{row_of, is_too_long_to_keep}
 use Rattle.tsp_text.specs.FirstFault.{IsClean}
 use Rattle.tsp_text.proofs.Clean.{clean_more}
 use Rattle.tsp_round.proofs.Text.{Writes, nothing_written, both_written}
@@ -29,7 +29,8 @@ unknown_is EdgeDataSection e = absurd (false≢true e)
 unknown_is Eof e = absurd (false≢true e)
 unknown_is Unknown e = refl
 
-other_row : (earlier : List Item) (line : WordLine) → line.has_colon ≡ true → nat_lt most_line_bytes line.size ≡ false → is_too_long_to_keep line ≡ false
+other_row : (earlier : List Item) (line : WordLine) → line.has_colon ≡ true → nat_lt most_line_bytes line.size ≡ false
+    → is_too_long_to_keep line ≡ false
     → nat_le most_others (length (others_in earlier)) ≡ false
     → row_of earlier (Line Unknown line) ≡ None
 other_row earlier line colon short room few = rw (colon, short, room, few) refl
@@ -45,7 +46,8 @@ pub record OtherRun (others : List (List ℕ × List ℕ)) (earlier : List Item)
   pub words : (g : Field) → words_of g (onto items earlier) ≡ words_of g earlier
   pub comments : values_at CommentKey (onto items earlier) ≡ values_at CommentKey earlier
 
-pub others_run : (others : List (List ℕ × List ℕ)) (earlier : List Item) → IsClean earlier → length (others_in earlier) + length others ≤ most_others
+pub others_run : (others : List (List ℕ × List ℕ)) (earlier : List Item) → IsClean earlier
+    → length (others_in earlier) + length others ≤ most_others
     → list_all is_other others ≡ true → OtherRun others earlier
 others_run [] earlier clean room all = record {
   items = [];

@@ -18,10 +18,10 @@ use Rattle.tsp_number.specs.Spelling.{spelling}
 use Rattle.tsp_format.specs.Limits.{most_coordinate}
 use Rattle.tsp_draft.specs.Coords.{origin}
 use Rattle.tsp_draft.specs.Validity.{is_within, is_point}
-use Rattle.tsp_text.specs.Numbers.{number, node, reads_as}
-use Rattle.tsp_text.specs.Places.{NodeAfter, Coordinate, PastGroups}
+use Rattle.tsp_text.specs.SectionNumbers.{number, node, reads_as}
+use Rattle.tsp_text.specs.WordPlaces.{NodeAfter, Coordinate, PastGroups}
 use Rattle.tsp_text.specs.Groups.{threes_in, begun_triple, point_in_words, point_groups, points_by_node, place_in_group, nodes_of_groups, place_of_point}
-use Rattle.tsp_text.specs.Rows.{word_fault}
+use Rattle.tsp_text.specs.FaultRows.{word_fault}
 use Rattle.tsp_text.proofs.TripleWords.{triples_begin, begun_begin, triples_middle, begun_middle, triples_end, begun_end}
 use Rattle.tsp_round.proofs.Groups.{tagged, fused, one_node, new_node, by_node_back}
 use Rattle.tsp_round.proofs.Numbers.{NumberLaws, node_back, size_in}
@@ -36,23 +36,29 @@ point_entry entry = decimal entry.0 ∷ spelling entry.1.x ∷ spelling entry.1.
 pub coordinate_back : NumberLaws → (z : ℤ) → is_within most_coordinate z ≡ true → decimal_of (spelling z) ≡ Ok z
 coordinate_back laws z inside = laws.decimal_back z (size_in most_coordinate z inside)
 
-nodes_are : (n : ℕ) (words : List (List ℕ)) → length words ≤ 3 * n → nodes_of_groups (point_groups n words) ≡ map (λ group. number (node n group.0)) (threes_in words)
+nodes_are : (n : ℕ) (words : List (List ℕ)) → length words ≤ 3 * n
+    → nodes_of_groups (point_groups n words) ≡ map (λ group. number (node n group.0)) (threes_in words)
 nodes_are n words few =
     fused (λ group. group.0) (λ group. (number (node n group.0), point_in_words group.1 group.2)) (threes_in (take (3 * n) words))
     ∙ ap (λ (ws : List (List ℕ)). map (λ (group : List ℕ × List ℕ × List ℕ). number (node n group.0)) (threes_in ws)) (take_all (3 * n) words few)
 
-place_here : (n : ℕ) (words : List (List ℕ)) → length words + 1 ≤ 3 * n → place_of_point n words ≡ place_in_group Coordinate (nodes_of_groups (point_groups n words)) (begun_triple words)
-place_here n words room = ap (λ t. cond t PastGroups (place_in_group Coordinate (nodes_of_groups (point_groups n words)) (begun_triple words))) (lt-leb (3 * n) (length words) (omega arith))
+place_here : (n : ℕ) (words : List (List ℕ)) → length words + 1 ≤ 3 * n
+    → place_of_point n words ≡ place_in_group Coordinate (nodes_of_groups (point_groups n words)) (begun_triple words)
+place_here n words room =
+    ap (λ t. cond t PastGroups (place_in_group Coordinate (nodes_of_groups (point_groups n words)) (begun_triple words))) (lt-leb (3 * n) (length words) (omega arith))
 
-coordinate_taken : NumberLaws → (n : ℕ) (words : List (List ℕ)) (first : List ℕ) (begun : List (List ℕ)) (z : ℤ) → length words + 1 ≤ 3 * n
+coordinate_taken : NumberLaws → (n : ℕ) (words : List (List ℕ)) (first : List ℕ) (begun : List (List ℕ)) (z : ℤ)
+    → length words + 1 ≤ 3 * n
     → begun_triple words ≡ first ∷ begun → is_within most_coordinate z ≡ true
     → word_fault n (place_of_point n words) (spelling z) ≡ None
 coordinate_taken laws n words first begun z room whole inside =
     ap (λ p. word_fault n p (spelling z)) (place_here n words room ∙ ap (place_in_group Coordinate (nodes_of_groups (point_groups n words))) whole)
     ∙ no_rows (result_err (decimal_of (spelling z))) false false false false (ap (λ (r : Result ℤ NumberFault). result_err r) (coordinate_back laws z inside)) refl refl refl refl
 
-pub points_taken : NumberLaws → (n : ℕ) → n < 2 ^ 32 → (earlier : List (List ℕ)) (i : ℕ) (xs : List Point) → begun_triple earlier ≡ []
-    → map (λ group. number (node n group.0)) (threes_in earlier) ≡ map pos (range_with_len 1 i) → length earlier ≡ 3 * i → i + length xs ≤ n → list_all (is_point false) xs ≡ true
+pub points_taken : NumberLaws → (n : ℕ) → n < 2 ^ 32 → (earlier : List (List ℕ)) (i : ℕ) (xs : List Point)
+    → begun_triple earlier ≡ []
+    → map (λ group. number (node n group.0)) (threes_in earlier) ≡ map pos (range_with_len 1 i) → length earlier ≡ 3 * i
+    → i + length xs ≤ n → list_all (is_point false) xs ≡ true
     → AllTaken n (place_of_point n) earlier (flat_map point_entry (enumerate_from (i + 1) xs))
 points_taken laws n few earlier i [] whole nodes count room all = tt
 points_taken laws n few earlier i (p ∷ xs) whole nodes count room all =
@@ -101,7 +107,8 @@ same_point p x y e f g =
     let made : ℤ → ℤ → ℤ → Point = λ a b c. record { x = a; y = b; z = c } in
     ap (λ a. made a y (pos 0)) e ∙ ap (λ b. made p.x b (pos 0)) f ∙ ap (made p.x p.y) (sym g)
 
-groups_back : NumberLaws → (n : ℕ) → n < 2 ^ 32 → (i : ℕ) (xs : List Point) → i + length xs ≤ n → list_all (is_point false) xs ≡ true
+groups_back : NumberLaws → (n : ℕ) → n < 2 ^ 32 → (i : ℕ) (xs : List Point) → i + length xs ≤ n
+    → list_all (is_point false) xs ≡ true
     → map (λ group. (number (node n group.0), point_in_words group.1 group.2)) (threes_in (flat_map point_entry (enumerate_from (i + 1) xs))) ≡ map tagged (enumerate_from (i + 1) xs)
 groups_back laws n few i [] room all = refl
 groups_back laws n few i (p ∷ xs) room all =
@@ -114,7 +121,8 @@ groups_back laws n few i (p ∷ xs) room all =
     (ap number (coordinate_back laws p.x inside.0)) (ap number (coordinate_back laws p.y inside.1)) ((Decides-int_eq p.z (pos 0)).0 flat.1))
     ∙ ap (λ (gs : List (ℤ × Point)). (pos (i + 1), p) ∷ gs) (groups_back laws n few (i + 1) xs (omega arith) both.1)
 
-pub points_back : NumberLaws → (n : ℕ) → n < 2 ^ 32 → (xs : List Point) → length xs ≡ n → list_all (is_point false) xs ≡ true → points_by_node n (flat_map point_entry (enumerate_from 1 xs)) ≡ xs
+pub points_back : NumberLaws → (n : ℕ) → n < 2 ^ 32 → (xs : List Point) → length xs ≡ n → list_all (is_point false) xs ≡ true
+    → points_by_node n (flat_map point_entry (enumerate_from 1 xs)) ≡ xs
 points_back laws n few xs count all =
     let words = flat_map point_entry (enumerate_from 1 xs) in
     by_node_back origin n xs (point_groups n words) count

@@ -14,13 +14,13 @@ use Rattle.tsp_format.specs.Shapes.{shape_of, is_section_field}
 use Rattle.tsp_format.specs.Words.{field_word}
 use Rattle.tsp_draft.specs.Fields.{Fields, spatial}
 use Rattle.tsp_draft.specs.Validity.{if_there, with_dimension, section_fits, fits}
-use Rattle.tsp_file.specs.Text.{line_lens, text_of_section, text_of_field}
+use Rattle.tsp_file.specs.CanonicalText.{line_lens, text_of_section, text_of_field}
 use Rattle.tsp_text.specs.Items.{WordLine, Item, Line, LineEnd, items_in, items_of}
 use Rattle.tsp_text.specs.Earlier.{same_field, is_open, has_line, value_at, values_at, others_in, open_section, words_of}
 use Rattle.tsp_text.specs.Values.{spatial_after}
 use Rattle.tsp_text.specs.Sections.{place_by, place_in, dimension_in}
-use Rattle.tsp_text.specs.Places.{PastEnd}
-use Rattle.tsp_text.specs.Rows.{may_repeat, row_of}
+use Rattle.tsp_text.specs.WordPlaces.{PastEnd}
+use Rattle.tsp_text.specs.FaultRows.{may_repeat, row_of}
 use Rattle.tsp_text.specs.FirstFault.{IsClean}
 use Rattle.tsp_text.specs.Opening.{needs_nodes, is_matrix, opening_rows}
 use Rattle.tsp_text.proofs.Clean.{clean_more}
@@ -49,7 +49,8 @@ ByShape f g = (text_of_field f g ≡ option_map_or (text_of_section f g) (shape_
 
 -- it is none of the keywords that differ from it, and its line has no value and is no long one
 abbrev IsPlain : Field → Type 0
-IsPlain g = (may_repeat g ≡ false) × (same_field CommentKey g ≡ false) × (same_field OtherKey g ≡ false) × (same_field DimensionKey g ≡ false)
+IsPlain g =
+    (may_repeat g ≡ false) × (same_field CommentKey g ≡ false) × (same_field OtherKey g ≡ false) × (same_field DimensionKey g ≡ false)
     × ((section_line g).value ≡ []) × (nat_lt most_line_bytes (section_line g).size ≡ false)
 
 -- points of nodes in space as in the plane
@@ -111,7 +112,8 @@ pub record AreRight (shape : Shape) (xs : Entries shape) (items : List Item) : T
   pub few : needs_nodes shape ≡ true → dimension_in items ≤ most_nodes
   pub known : needs_nodes shape ≡ true → has_line DimensionKey items ≡ true
 
-counted : NumberLaws → (f : Fields) (shape : Shape) (xs : Entries shape) (items : List Item) → value_at DimensionKey items ≡ option_map decimal f.dimension → fits f DimensionKey ≡ true
+counted : NumberLaws → (f : Fields) (shape : Shape) (xs : Entries shape) (items : List Item)
+    → value_at DimensionKey items ≡ option_map decimal f.dimension → fits f DimensionKey ≡ true
     → with_dimension (are_valid shape) f.dimension xs ≡ true → AreRight shape xs items
 counted laws f shape xs items written one fit =
     let h = has_nodes laws f (are_valid shape) xs items written one fit in
@@ -121,7 +123,8 @@ counted laws f shape xs items written one fit =
       known = λ e. h.known;
     }
 
-pub are_right : NumberLaws → (f : Fields) (shape : Shape) (xs : Entries shape) (items : List Item) → value_at DimensionKey items ≡ option_map decimal f.dimension → fits f DimensionKey ≡ true
+pub are_right : NumberLaws → (f : Fields) (shape : Shape) (xs : Entries shape) (items : List Item)
+    → value_at DimensionKey items ≡ option_map decimal f.dimension → fits f DimensionKey ≡ true
     → fit_for f shape xs ≡ true → AreRight shape xs items
 are_right laws f (Numbers low high) xs items written one fit = counted laws f (Numbers low high) xs items written one fit
 are_right laws f Points xs items written one fit = counted laws f Points xs items written one fit
@@ -129,7 +132,8 @@ are_right laws f SpacePoints xs items written one fit = counted laws f SpacePoin
 are_right laws f Depots xs items written one fit = counted laws f Depots xs items written one fit
 are_right laws f Pairs xs items written one fit = counted laws f Pairs xs items written one fit
 are_right laws f Weights xs items written one fit = counted laws f Weights xs items written one fit
-are_right laws f Tours xs items written one fit = record { valid = fit; few = λ e. absurd (false≢true e); known = λ e. absurd (false≢true e) }
+are_right laws f Tours xs items written one fit =
+    record { valid = fit; few = λ e. absurd (false≢true e); known = λ e. absurd (false≢true e) }
 are_right laws f Triples xs items written one fit = counted laws f Triples xs items written one fit
 are_right laws f Combs xs items written one fit = counted laws f Combs xs items written one fit
 are_right laws f Steps xs items written one fit = counted laws f Steps xs items written one fit
@@ -141,8 +145,10 @@ both_false true b h = h refl
 both_false false b h = refl
 
 -- no row applies to a section's line
-section_row : (in_space : Bool) (field : Field) (shape : Shape) (earlier : List Item) → shape_of in_space field ≡ Some shape → is_section_field field ≡ true → has_line field earlier ≡ false
-    → (needs_nodes shape ≡ true → has_line DimensionKey earlier ≡ true) → (is_matrix shape ≡ true → nat_lt most_matrix_nodes (dimension_in earlier) ≡ false)
+section_row : (in_space : Bool) (field : Field) (shape : Shape) (earlier : List Item) → shape_of in_space field ≡ Some shape
+    → is_section_field field ≡ true → has_line field earlier ≡ false
+    → (needs_nodes shape ≡ true → has_line DimensionKey earlier ≡ true)
+    → (is_matrix shape ≡ true → nat_lt most_matrix_nodes (dimension_in earlier) ≡ false)
     → row_of earlier (Line (Known field) (section_line field)) ≡ None
 section_row in_space field shape earlier e part unseen known few =
     let plain = is_plain field part in
@@ -153,7 +159,8 @@ section_row in_space field shape earlier e part unseen known few =
     ∙ rw (unseen, plain.4, early, many) refl
 
 -- the words that its lines add
-section_adds_words : (f : Fields) (field : Field) (words : List (List ℕ)) (items start earlier : List Item) → are_numbers items ≡ true → number_words items ≡ words → open_section start ≡ Some field
+section_adds_words : (f : Fields) (field : Field) (words : List (List ℕ)) (items start earlier : List Item)
+    → are_numbers items ≡ true → number_words items ≡ words → open_section start ≡ Some field
     → ((g : Field) → words_of g start ≡ words_of g earlier) → words_of field earlier ≡ [] → words_written f field ≡ words
     → (g : Field) → words_of g (onto items start) ≡ cond (same_field g field) (words_written f field) (words_of g earlier)
 section_adds_words f field words items start earlier numbers are opened same none is g = by_case (same_field g field) refl
@@ -165,7 +172,8 @@ section_adds_words f field words items start earlier numbers are opened same non
     by_case false e =
         other_words g items start numbers (ap (is_open g) opened ∙ e) ∙ same g ∙ sym (ap (λ b. cond b (words_written f field) (words_of g earlier)) e)
 
-step_of : NumberLaws → (f : Fields) (field : Field) (shape : Shape) (entries : Option (Entries shape)) (earlier : List Item) → fits f DimensionKey ≡ true → IsSection f field shape entries
+step_of : NumberLaws → (f : Fields) (field : Field) (shape : Shape) (entries : Option (Entries shape)) (earlier : List Item)
+    → fits f DimensionKey ≡ true → IsSection f field shape entries
     → Ready f field earlier → Step f (text_of_field f) field earlier
 step_of laws f field shape None earlier one is ready =
     let plain = is_plain field is.part in
@@ -217,4 +225,5 @@ step_of laws f field shape (Some xs) earlier one is ready =
 pub section_step : NumberLaws → (f : Fields) → ((g : Field) → fits f g ≡ true) → (field : Field) (shape : Shape)
     → shape_of (spatial f) field ≡ Some shape → (earlier : List Item) → Ready f field earlier
     → Step f (text_of_field f) field earlier
-section_step laws f valid field shape e earlier ready = step_of laws f field shape (entries_in f field shape) earlier (valid DimensionKey) (is_section f valid field shape e) ready
+section_step laws f valid field shape e earlier ready =
+    step_of laws f field shape (entries_in f field shape) earlier (valid DimensionKey) (is_section f valid field shape e) ready

@@ -20,7 +20,7 @@ use Rattle.tsp_text.specs.Items.{Item}
 use Rattle.tsp_text.specs.Earlier.{has_line, value_at}
 use Rattle.tsp_text.specs.Values.{read_as}
 use Rattle.tsp_text.specs.Sections.{dimension_in}
-use Rattle.tsp_text.specs.Rows.{may_repeat}
+use Rattle.tsp_text.specs.FaultRows.{may_repeat}
 use Rattle.tsp_round.proofs.Text.{is_plain_word, unblank}
 use Rattle.tsp_round.proofs.Numbers.{NumberLaws, decimal_plain}
 use Rattle.tsp_round.proofs.Onto.{has_value}
@@ -35,7 +35,8 @@ prefix_all p (x ∷ xs) all =
     ap (λ b. cond b (1 + prefix_len p xs) 0) both.0 ∙ omega (arith, prefix_all p xs both.1)
 
 pub only_word : (word : List ℕ) → is_plain_word word ≡ true → first_word word ≡ word
-only_word word plain = take_all (prefix_len (λ b. not (is_blank b)) word) word (omega (arith, prefix_all (λ b. not (is_blank b)) word (unblank word plain)))
+only_word word plain =
+    take_all (prefix_len (λ b. not (is_blank b)) word) word (omega (arith, prefix_all (λ b. not (is_blank b)) word (unblank word plain)))
 
 pub dimension_back : NumberLaws → (n : ℕ) → is_node most_nodes n ≡ true
     → option_map nat_abs (option_and_then (λ value. option_and_then result_ok (read_as DimensionKey value)) (Some (decimal n))) ≡ Some n
@@ -53,11 +54,13 @@ pub record HasNodes {A : Type 0} (f : Fields) (fits : ℕ → A → Bool) (x : A
   pub nodes : dimension_in earlier ≡ n
   pub known : has_line DimensionKey earlier ≡ true
 
-with_nodes : {A : Type 0} (fits : ℕ → A → Bool) (o : Option ℕ) (x : A) → with_dimension fits o x ≡ true → (n : ℕ) × (o ≡ Some n) × (fits n x ≡ true)
+with_nodes : {A : Type 0} (fits : ℕ → A → Bool) (o : Option ℕ) (x : A) → with_dimension fits o x ≡ true
+    → (n : ℕ) × (o ≡ Some n) × (fits n x ≡ true)
 with_nodes fits None x e = absurd (false≢true e)
 with_nodes fits (Some n) x e = (n, refl, e)
 
-pub has_nodes : {A : Type 0} → NumberLaws → (f : Fields) (fits : ℕ → A → Bool) (x : A) (earlier : List Item) → value_at DimensionKey earlier ≡ option_map decimal f.dimension
+pub has_nodes : {A : Type 0} → NumberLaws → (f : Fields) (fits : ℕ → A → Bool) (x : A) (earlier : List Item)
+    → value_at DimensionKey earlier ≡ option_map decimal f.dimension
     → if_there (is_node most_nodes) f.dimension ≡ true → with_dimension fits f.dimension x ≡ true → HasNodes f fits x earlier
 has_nodes laws f fits x earlier written one e =
     let found = with_nodes fits f.dimension x e in
@@ -75,5 +78,6 @@ has_nodes laws f fits x earlier written one e =
       known = has_value DimensionKey earlier ∙ ap (λ (v : Option (List ℕ)). is_some v) value;
     }
 
-pub no_line_yet : (f : Fields) (field : Field) (earlier : List Item) → Ready f field earlier → may_repeat field ≡ false → has_line field earlier ≡ false
+pub no_line_yet : (f : Fields) (field : Field) (earlier : List Item) → Ready f field earlier → may_repeat field ≡ false
+    → has_line field earlier ≡ false
 no_line_yet f field earlier ready once = has_value field earlier ∙ ap (λ (v : Option (List ℕ)). is_some v) (ready.unseen once)

@@ -14,15 +14,15 @@ use Rattle.tsp_format.specs.Limits.{most_nodes, most_matrix_nodes, most_weight, 
 use Rattle.tsp_format.specs.Steps.{Step}
 use Rattle.tsp_draft.specs.Fields.{Fields, numbers_in, points_in}
 use Rattle.tsp_draft.specs.Validity.{if_there, is_by_node, is_point, is_within, is_from_to, is_node, is_node_pair, is_triple, are_depots, are_fixed, are_triples, are_weights, is_tour, are_tours, are_combs, are_steps, with_dimension, section_fits}
-use Rattle.tsp_file.specs.Text.{section_text, lines_by_node, node_list, pair_list, triple_list, comb_list, step_lines, point_numbers, whole_number, line_lens, matrix_lines, optional, text_of_section}
-use Rattle.tsp_text.specs.Numbers.{is_end}
-use Rattle.tsp_text.specs.Places.{PastGroups, PastEnd, Weight, PastWeights, Coordinate, Amount, DepotAfter}
+use Rattle.tsp_file.specs.CanonicalText.{section_text, lines_by_node, node_list, pair_list, triple_list, comb_list, step_lines, point_numbers, whole_number, line_lens, matrix_lines, optional, text_of_section}
+use Rattle.tsp_text.specs.SectionNumbers.{is_end}
+use Rattle.tsp_text.specs.WordPlaces.{PastGroups, PastEnd, Weight, PastWeights, Coordinate, Amount, DepotAfter}
 use Rattle.tsp_text.specs.Groups.{numbers_by_node, points_by_node, space_points_by_node, begun_pair, begun_triple, begun_four, number_groups, point_groups, space_point_groups, nodes_of_groups, place_in_group, pairs_in, threes_in}
 use Rattle.tsp_text.specs.Lists.{depots_in, fixed_in, fixed_triples_in, place_in_pair, place_in_triple}
-use Rattle.tsp_text.specs.Weights.{weights_in}
-use Rattle.tsp_text.specs.Tours.{tours_in}
-use Rattle.tsp_text.specs.Combs.{whole_combs}
-use Rattle.tsp_text.specs.Tree.{whole_steps}
+use Rattle.tsp_text.specs.WeightSection.{weights_in}
+use Rattle.tsp_text.specs.TourSection.{tours_in}
+use Rattle.tsp_text.specs.CombSection.{whole_combs}
+use Rattle.tsp_text.specs.BranchSection.{whole_steps}
 use Rattle.tsp_text.specs.Sections.{place_by}
 use Rattle.tsp_text.specs.Spells.{wants_more}
 use Rattle.tsp_text.specs.Opening.{needs_nodes, is_matrix}
@@ -122,9 +122,11 @@ read_for Steps n words = whole_steps n words
 
 -- the text and the condition of a section, over these
 abbrev pub text_for : Fields → Field → (shape : Shape) → Option (Entries shape) → List ℕ
-text_for f field shape xs = optional (λ entries. section_text field (lines_for (line_lens f.weight_format f.dimension) shape entries)) xs
+text_for f field shape xs =
+    optional (λ entries. section_text field (lines_for (line_lens f.weight_format f.dimension) shape entries)) xs
 
-pub text_by : (f : Fields) (field : Field) (shape : Shape) → text_of_section f field shape ≡ text_for f field shape (entries_in f field shape)
+pub text_by : (f : Fields) (field : Field) (shape : Shape)
+    → text_of_section f field shape ≡ text_for f field shape (entries_in f field shape)
 text_by f field (Numbers low high) = refl
 text_by f field Points = refl
 text_by f field SpacePoints = refl
@@ -139,7 +141,8 @@ text_by f field Steps = refl
 abbrev pub fit_for : Fields → (shape : Shape) → Entries shape → Bool
 fit_for f shape xs = cond (needs_nodes shape) (with_dimension (are_valid shape) f.dimension xs) (are_valid shape 0 xs)
 
-pub fits_by : (f : Fields) (field : Field) (shape : Shape) → section_fits f field shape ≡ if_there (fit_for f shape) (entries_in f field shape)
+pub fits_by : (f : Fields) (field : Field) (shape : Shape)
+    → section_fits f field shape ≡ if_there (fit_for f shape) (entries_in f field shape)
 fits_by f field (Numbers low high) = refl
 fits_by f field Points = refl
 fits_by f field SpacePoints = refl
@@ -157,7 +160,8 @@ abbrev pub is_writable : Shape → Bool
 is_writable (Numbers low high) = nat_lt (unsigned_abs low) (2 ^ 63) && nat_lt (unsigned_abs high) (2 ^ 63)
 is_writable shape = true
 
-between : (low high z : ℤ) (most : ℕ) → unsigned_abs low < most → unsigned_abs high < most → is_from_to low high z ≡ true → unsigned_abs z < most
+between : (low high z : ℤ) (most : ℕ) → unsigned_abs low < most → unsigned_abs high < most → is_from_to low high z ≡ true
+    → unsigned_abs z < most
 between low high z most lower upper inside = grind (arith, ints)
 
 small_range : (low high : ℤ) → is_writable (Numbers low high) ≡ true → AreSmall low high
@@ -183,7 +187,8 @@ few_indices n few = omega (arith, few)
 
 depots_ended : NumberLaws → (n : ℕ) (nodes : List ℕ) → list_any (is_end n) (map decimal nodes ++ codes "-1" ∷ []) ≡ true
 depots_ended laws n [] = ap (λ b. b || false) (end_ends laws n)
-depots_ended laws n (k ∷ nodes) = or_right (is_end n (decimal k)) (list_any (is_end n) (map decimal nodes ++ codes "-1" ∷ [])) (depots_ended laws n nodes)
+depots_ended laws n (k ∷ nodes) =
+    or_right (is_end n (decimal k)) (list_any (is_end n) (map decimal nodes ++ codes "-1" ∷ [])) (depots_ended laws n nodes)
 
 weights_done : (n : ℕ) (words : List (List ℕ)) → wants_more (place_by Weights n words) ≡ false
 weights_done n words = either (nat_le (n * n) (length words))
@@ -192,7 +197,8 @@ weights_done n words = either (nat_le (n * n) (length words))
     either true = refl
     either false = refl
 
-pub body : NumberLaws → (lens : List ℕ) (shape : Shape) → is_writable shape ≡ true → (n : ℕ) → (needs_nodes shape ≡ true → n ≤ most_nodes) → (xs : Entries shape) → are_valid shape n xs ≡ true
+pub body : NumberLaws → (lens : List ℕ) (shape : Shape) → is_writable shape ≡ true → (n : ℕ)
+    → (needs_nodes shape ≡ true → n ≤ most_nodes) → (xs : Entries shape) → are_valid shape n xs ≡ true
     → IsBody lens shape n xs
 body laws lens (Numbers low high) writable n few xs fit =
     let both = and_parts (length xs == n) (list_all (is_from_to low high) xs) fit in

@@ -15,10 +15,10 @@ use Rattle.tsp_number.specs.Spelling.{spelling}
 use Rattle.tsp_format.specs.Limits.{most_coordinate}
 use Rattle.tsp_draft.specs.Coords.{origin}
 use Rattle.tsp_draft.specs.Validity.{is_within, is_point}
-use Rattle.tsp_text.specs.Numbers.{number, node, reads_as}
-use Rattle.tsp_text.specs.Places.{NodeAfter, Coordinate, PastGroups}
+use Rattle.tsp_text.specs.SectionNumbers.{number, node, reads_as}
+use Rattle.tsp_text.specs.WordPlaces.{NodeAfter, Coordinate, PastGroups}
 use Rattle.tsp_text.specs.Groups.{fours_in, begun_four, space_point_of, space_point_groups, space_points_by_node, place_in_group, nodes_of_groups, place_of_space_point}
-use Rattle.tsp_text.specs.Rows.{word_fault}
+use Rattle.tsp_text.specs.FaultRows.{word_fault}
 use Rattle.tsp_text.proofs.FourWords.{fours_begin, begun_begin, fours_second, begun_second, fours_third, begun_third, fours_end, begun_end}
 use Rattle.tsp_round.proofs.Groups.{tagged, fused, one_node, new_node, by_node_back}
 use Rattle.tsp_round.proofs.Numbers.{NumberLaws, node_back}
@@ -31,23 +31,29 @@ use Rattle.tsp_round.proofs.Points.{coordinate_back}
 abbrev pub space_point_entry : ℕ × Point → List (List ℕ)
 space_point_entry entry = decimal entry.0 ∷ spelling entry.1.x ∷ spelling entry.1.y ∷ spelling entry.1.z ∷ []
 
-nodes_are : (n : ℕ) (words : List (List ℕ)) → length words ≤ 4 * n → nodes_of_groups (space_point_groups n words) ≡ map (λ group. number (node n group.0)) (fours_in words)
+nodes_are : (n : ℕ) (words : List (List ℕ)) → length words ≤ 4 * n
+    → nodes_of_groups (space_point_groups n words) ≡ map (λ group. number (node n group.0)) (fours_in words)
 nodes_are n words few =
     fused (λ group. group.0) (λ group. (number (node n group.0), space_point_of group.1 group.2 group.3)) (fours_in (take (4 * n) words))
     ∙ ap (λ (ws : List (List ℕ)). map (λ (group : List ℕ × List ℕ × List ℕ × List ℕ). number (node n group.0)) (fours_in ws)) (take_all (4 * n) words few)
 
-place_here : (n : ℕ) (words : List (List ℕ)) → length words + 1 ≤ 4 * n → place_of_space_point n words ≡ place_in_group Coordinate (nodes_of_groups (space_point_groups n words)) (begun_four words)
-place_here n words room = ap (λ t. cond t PastGroups (place_in_group Coordinate (nodes_of_groups (space_point_groups n words)) (begun_four words))) (lt-leb (4 * n) (length words) (omega arith))
+place_here : (n : ℕ) (words : List (List ℕ)) → length words + 1 ≤ 4 * n
+    → place_of_space_point n words ≡ place_in_group Coordinate (nodes_of_groups (space_point_groups n words)) (begun_four words)
+place_here n words room =
+    ap (λ t. cond t PastGroups (place_in_group Coordinate (nodes_of_groups (space_point_groups n words)) (begun_four words))) (lt-leb (4 * n) (length words) (omega arith))
 
-coordinate_taken : NumberLaws → (n : ℕ) (words : List (List ℕ)) (first : List ℕ) (begun : List (List ℕ)) (z : ℤ) → length words + 1 ≤ 4 * n
+coordinate_taken : NumberLaws → (n : ℕ) (words : List (List ℕ)) (first : List ℕ) (begun : List (List ℕ)) (z : ℤ)
+    → length words + 1 ≤ 4 * n
     → begun_four words ≡ first ∷ begun → is_within most_coordinate z ≡ true
     → word_fault n (place_of_space_point n words) (spelling z) ≡ None
 coordinate_taken laws n words first begun z room whole inside =
     ap (λ p. word_fault n p (spelling z)) (place_here n words room ∙ ap (place_in_group Coordinate (nodes_of_groups (space_point_groups n words))) whole)
     ∙ no_rows (result_err (decimal_of (spelling z))) false false false false (ap (λ (r : Result ℤ NumberFault). result_err r) (coordinate_back laws z inside)) refl refl refl refl
 
-pub space_points_taken : NumberLaws → (n : ℕ) → n < 2 ^ 32 → (earlier : List (List ℕ)) (i : ℕ) (xs : List Point) → begun_four earlier ≡ []
-    → map (λ group. number (node n group.0)) (fours_in earlier) ≡ map pos (range_with_len 1 i) → length earlier ≡ 4 * i → i + length xs ≤ n → list_all (is_point true) xs ≡ true
+pub space_points_taken : NumberLaws → (n : ℕ) → n < 2 ^ 32 → (earlier : List (List ℕ)) (i : ℕ) (xs : List Point)
+    → begun_four earlier ≡ []
+    → map (λ group. number (node n group.0)) (fours_in earlier) ≡ map pos (range_with_len 1 i) → length earlier ≡ 4 * i
+    → i + length xs ≤ n → list_all (is_point true) xs ≡ true
     → AllTaken n (place_of_space_point n) earlier (flat_map space_point_entry (enumerate_from (i + 1) xs))
 space_points_taken laws n few earlier i [] whole nodes count room all = tt
 space_points_taken laws n few earlier i (p ∷ xs) whole nodes count room all =
@@ -105,7 +111,8 @@ same_point p x y z e f g =
     let made : ℤ → ℤ → ℤ → Point = λ a b c. record { x = a; y = b; z = c } in
     ap (λ a. made a y z) e ∙ ap (λ b. made p.x b z) f ∙ ap (made p.x p.y) g
 
-space_groups_back : NumberLaws → (n : ℕ) → n < 2 ^ 32 → (i : ℕ) (xs : List Point) → i + length xs ≤ n → list_all (is_point true) xs ≡ true
+space_groups_back : NumberLaws → (n : ℕ) → n < 2 ^ 32 → (i : ℕ) (xs : List Point) → i + length xs ≤ n
+    → list_all (is_point true) xs ≡ true
     → map (λ group. (number (node n group.0), space_point_of group.1 group.2 group.3)) (fours_in (flat_map space_point_entry (enumerate_from (i + 1) xs))) ≡ map tagged (enumerate_from (i + 1) xs)
 space_groups_back laws n few i [] room all = refl
 space_groups_back laws n few i (p ∷ xs) room all =

@@ -16,7 +16,8 @@ use Rattle.tsp_round.proofs.Sections.{only_word, dimension_back}
 
 -- ---- one value from the line of its field
 
-pub named_back : {V : Type 0} (text : V → List ℕ) (by_word : List ℕ → Option V) → ((v : V) → by_word (first_word (text v)) ≡ Some v) → (o : Option V)
+pub named_back : {V : Type 0} (text : V → List ℕ) (by_word : List ℕ → Option V)
+    → ((v : V) → by_word (first_word (text v)) ≡ Some v) → (o : Option V)
     → option_and_then (λ value. by_word (first_word value)) (option_map text o) ≡ o
 named_back text by_word back None = refl
 named_back text by_word back (Some v) = back v
@@ -26,7 +27,8 @@ pub dimension_whole : NumberLaws → (o : Option ℕ) → if_there (is_node most
 dimension_whole laws None is = refl
 dimension_whole laws (Some n) is = dimension_back laws n is
 
-number_from : NumberLaws → (most : ℕ) (z : ℤ) → is_from_to (pos 1) (pos most) z ≡ true → most < 2 ^ 63 → result_ok (whole_of (first_word (signed_decimal z)) (pos 1) (pos most)) ≡ Some z
+number_from : NumberLaws → (most : ℕ) (z : ℤ) → is_from_to (pos 1) (pos most) z ≡ true → most < 2 ^ 63
+    → result_ok (whole_of (first_word (signed_decimal z)) (pos 1) (pos most)) ≡ Some z
 number_from laws most z is few =
     let small = size_from 1 most z is in
     ap (λ (word : List ℕ). result_ok (whole_of word (pos 1) (pos most))) (only_word (signed_decimal z) (signed_plain z (omega arith)))

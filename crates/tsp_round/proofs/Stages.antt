@@ -13,7 +13,7 @@ use Rattle.tsp_draft.specs.Fields.{Fields, spatial, stands_in}
 use Rattle.tsp_text.specs.Items.{Item, has_end_line, is_end_line}
 use Rattle.tsp_format.specs.Shapes.{shape_of, is_section_field}
 use Rattle.tsp_text.specs.Earlier.{same_field, value_at, values_at, others_in, words_of}
-use Rattle.tsp_text.specs.Rows.{may_repeat}
+use Rattle.tsp_text.specs.FaultRows.{may_repeat}
 use Rattle.tsp_text.specs.FirstFault.{IsClean}
 use Rattle.tsp_text.proofs.ValidSections.{same_field_is}
 use Rattle.tsp_text.proofs.ItemRows.{same_self}
@@ -48,7 +48,8 @@ if_written words (Some value) = words value
 
 -- the words of the field's section
 abbrev pub words_written : Fields → Field → List (List ℕ)
-words_written f field = option_map_or (λ shape. if_written (words_for shape) (entries_in f field shape)) (shape_of (spatial f) field) []
+words_written f field =
+    option_map_or (λ shape. if_written (words_for shape) (entries_in f field shape)) (shape_of (spatial f) field) []
 
 -- ---- stages
 
@@ -85,8 +86,10 @@ pub record Adds (f : Fields) (field : Field) (earlier later : List Item) : Type 
   pub others : others_in later ≡ cond (same_field OtherKey field) f.others (others_in earlier)
 
 -- one thing that the items say of a field g, once a field's text has come
-carried : {X : Type 0} (blank : X) (whole : Field → X) (field : Field) (left : List Field) (g : Field) (old new : X) → is_left field left ≡ false
-    → old ≡ cond (same_field g field || is_left g left) blank (whole g) → new ≡ cond (same_field g field) (whole field) old → new ≡ cond (is_left g left) blank (whole g)
+carried : {X : Type 0} (blank : X) (whole : Field → X) (field : Field) (left : List Field) (g : Field) (old new : X)
+    → is_left field left ≡ false
+    → old ≡ cond (same_field g field || is_left g left) blank (whole g) → new ≡ cond (same_field g field) (whole field) old
+    → new ≡ cond (is_left g left) blank (whole g)
 carried {X} blank whole field left g old new gone was is = by_case (same_field g field) refl
   where
     by_case : (b : Bool) → same_field g field ≡ b → new ≡ cond (is_left g left) blank (whole g)
@@ -95,7 +98,8 @@ carried {X} blank whole field left g old new gone was is = by_case (same_field g
         ∙ subst (λ (h : Field). whole field ≡ cond (is_left h left) blank (whole h)) (sym (same_field_is g field e)) (sym (ap (λ t. cond t blank (whole field)) gone))
     by_case false e = is ∙ ap (λ t. cond t (whole field) old) e ∙ was ∙ ap (λ t. cond (t || is_left g left) blank (whole g)) e
 
-next_stage : (f : Fields) (field : Field) (left : List Field) (earlier later : List Item) → is_left field left ≡ false → Stage f (field ∷ left) earlier
+next_stage : (f : Fields) (field : Field) (left : List Field) (earlier later : List Item) → is_left field left ≡ false
+    → Stage f (field ∷ left) earlier
     → Adds f field earlier later → Stage f left later
 next_stage f field left earlier later gone stage adds = record {
   clean = adds.clean;
@@ -128,11 +132,13 @@ points_late : (section points : Bool) → (section || points) ≡ true → secti
 points_late true points e s = absurd (true≢false s)
 points_late false points e s = e
 
-here : {X : Type 0} (g field : Field) (left : List Field) (blank whole : X) → same_field g field ≡ true → cond (is_left g (field ∷ left)) blank whole ≡ blank
+here : {X : Type 0} (g field : Field) (left : List Field) (blank whole : X) → same_field g field ≡ true
+    → cond (is_left g (field ∷ left)) blank whole ≡ blank
 here g field left blank whole e = ap (λ b. cond (b || is_left g left) blank whole) e
 
 -- the text of a keyword that isn't left
-came : (f : Fields) (key : Field) (left : List Field) (earlier : List Item) → may_repeat key ≡ false → is_left key left ≡ false → Stage f left earlier
+came : (f : Fields) (key : Field) (left : List Field) (earlier : List Item) → may_repeat key ≡ false → is_left key left ≡ false
+    → Stage f left earlier
     → value_at key earlier ≡ value_of f key
 came f key left earlier once late stage = stage.values key once ∙ ap (λ b. cond b None (value_of f key)) late
 
@@ -181,8 +187,10 @@ no_end_of_both (x ∷ xs) ys first second =
     let both = or_parts (is_end_line x) (has_end_line xs) first in
     or_from (is_end_line x) (has_end_line (xs ++ ys)) both.0 (no_end_of_both xs ys both.1 second)
 
-pub all_fields : (f : Fields) (text : Field → List ℕ) → ((field : Field) (earlier : List Item) → Ready f field earlier → Step f text field earlier)
-    → (fields : List Field) → is_ordered fields ≡ true → (earlier : List Item) → Stage f fields earlier → Whole f text fields earlier
+pub all_fields : (f : Fields) (text : Field → List ℕ)
+    → ((field : Field) (earlier : List Item) → Ready f field earlier → Step f text field earlier)
+    → (fields : List Field) → is_ordered fields ≡ true → (earlier : List Item) → Stage f fields earlier
+    → Whole f text fields earlier
 all_fields f text each [] ordered earlier stage = record { items = []; written = nothing_written; no_end = refl; stage = stage }
 all_fields f text each (field ∷ left) ordered earlier stage =
     let both = and_parts (not (is_left field left) && is_in_place field (field ∷ left)) (is_ordered left) ordered in
@@ -196,7 +204,8 @@ all_fields f text each (field ∷ left) ordered earlier stage =
       stage = subst (λ (items : List Item). Stage f [] items) (sym (onto-append step.items rest.items earlier)) rest.stage;
     }
 
-one_passes : {A : Type 0} (passes later : Bool) (x first : A) (rest : Option A) → cond passes (Some first) rest ≡ Some x → (rest ≡ Some x → later ≡ true) → (passes || later) ≡ true
+one_passes : {A : Type 0} (passes later : Bool) (x first : A) (rest : Option A) → cond passes (Some first) rest ≡ Some x
+    → (rest ≡ Some x → later ≡ true) → (passes || later) ≡ true
 one_passes true later x first rest e more = refl
 one_passes false later x first rest e more = more e
 

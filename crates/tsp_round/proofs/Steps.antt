@@ -6,10 +6,10 @@ use Rattle.tsp_format.specs.declared.keyword.Keyword.TheVariants.{Known}
 use Rattle.tsp_format.specs.Words.{field_word}
 use Rattle.tsp_format.specs.Keywords.{keyword_of}
 use Rattle.tsp_draft.specs.Fields.{Fields}
-use Rattle.tsp_file.specs.Text.{keyword_line}
+use Rattle.tsp_file.specs.CanonicalText.{keyword_line}
 use Rattle.tsp_text.specs.Items.{WordLine, Item, Line, LineEnd, word_line, items_of}
 use Rattle.tsp_text.specs.Earlier.{same_field, value_at, values_at, others_in, words_of}
-use Rattle.tsp_text.specs.Rows.{may_repeat, row_of}
+use Rattle.tsp_text.specs.FaultRows.{may_repeat, row_of}
 use Rattle.tsp_text.proofs.Clean.{clean_more}
 use Rattle.tsp_text.proofs.ValidSections.{same_field_is}
 use Rattle.tsp_round.proofs.Lines.{IsWhole, IsKeyword, written_line, value_written}
@@ -21,8 +21,10 @@ pub kept_blank : {X : Type 0} (b : Bool) (blank old : X) → (b ≡ true → old
 kept_blank true blank old e = e refl
 kept_blank false blank old e = refl
 
-pub missing : (f : Fields) (text : Field → List ℕ) (field : Field) (earlier : List Item) → Ready f field earlier → text field ≡ [] → may_repeat field ≡ false → value_of f field ≡ None
-    → words_written f field ≡ [] → same_field CommentKey field ≡ false → same_field OtherKey field ≡ false → Step f text field earlier
+pub missing : (f : Fields) (text : Field → List ℕ) (field : Field) (earlier : List Item) → Ready f field earlier → text field ≡ []
+    → may_repeat field ≡ false → value_of f field ≡ None
+    → words_written f field ≡ [] → same_field CommentKey field ≡ false → same_field OtherKey field ≡ false
+    → Step f text field earlier
 missing f text field earlier known nothing once no_value no_word no_comment no_other = record {
   items = [];
   written = λ rest. ap (λ (t : List ℕ). items_of (t ++ rest)) nothing;
@@ -42,8 +44,10 @@ missing f text field earlier known nothing once no_value no_word no_comment no_o
 
 -- the words of no section but an open one
 pub key_line : (f : Fields) (text : Field → List ℕ) (field : Field) (value : List ℕ) (earlier : List Item) → Ready f field earlier
-    → text field ≡ keyword_line field value → keyword_of (field_word field) ≡ Known field → IsKeyword (field_word field) → IsWhole value
-    → value_of f field ≡ Some value → words_written f field ≡ [] → same_field CommentKey field ≡ false → same_field OtherKey field ≡ false
+    → text field ≡ keyword_line field value → keyword_of (field_word field) ≡ Known field → IsKeyword (field_word field)
+    → IsWhole value
+    → value_of f field ≡ Some value → words_written f field ≡ [] → same_field CommentKey field ≡ false
+    → same_field OtherKey field ≡ false
     → row_of earlier (Line (Known field) (written_line (field_word field) value)) ≡ None → Step f text field earlier
 key_line f text field value earlier known text_is key_is key whole value_is no_word no_comment no_other row =
     let line = written_line (field_word field) value in

@@ -6,7 +6,7 @@ use Rattle.std.proofs.lemmas.Bool.{false≢true, and_from, and_parts, not-true}
 use Rattle.std.proofs.lemmas.Bool.Decides.{nat_tests}
 use Rattle.std.proofs.lemmas.List.Folds.{list_all-append}
 use Rattle.tsp_format.specs.Bytes.{is_blank, is_letter}
-use Rattle.tsp_file.specs.Text.{number_line}
+use Rattle.tsp_file.specs.CanonicalText.{number_line}
 use Rattle.tsp_text.specs.Lines.{ends_line, lines_of, is_filled, words_in, without_start, is_word_line}
 use Rattle.tsp_text.specs.Items.{Item, Line, NumberWord, LineEnd, line_item, items_in, items_by, items_of}
 use Rattle.tsp_text.specs.Cuts.{has_no_line_end}
@@ -23,7 +23,8 @@ split_filled {A} p (x ∷ xs) = by_case (p x) (slice_split p xs)
     by_case false (part ∷ parts) = refl
 
 -- the first piece ends where an element passes
-pub split_at : {A : Type 0} (p : A → Bool) (front : List A) (y : A) (rest : List A) → list_all (λ x. not (p x)) front ≡ true → p y ≡ true
+pub split_at : {A : Type 0} (p : A → Bool) (front : List A) (y : A) (rest : List A) → list_all (λ x. not (p x)) front ≡ true
+    → p y ≡ true
     → slice_split p (front ++ y ∷ rest) ≡ front ∷ slice_split p rest
 split_at p [] y rest none e = ap (λ b. cond b ([] ∷ slice_split p rest) (onto_first y (slice_split p rest))) e
 split_at p (x ∷ front) y rest none e =
@@ -32,7 +33,8 @@ split_at p (x ∷ front) y rest none e =
     ∙ ap (onto_first x) (split_at p front y rest both.1 e)
 
 -- where none passes there is one piece
-split_none : {A : Type 0} (p : A → Bool) (front : List A) → list_all (λ x. not (p x)) front ≡ true → slice_split p front ≡ front ∷ []
+split_none : {A : Type 0} (p : A → Bool) (front : List A) → list_all (λ x. not (p x)) front ≡ true
+    → slice_split p front ≡ front ∷ []
 split_none p [] none = refl
 split_none p (x ∷ front) none =
     let both = and_parts (not (p x)) (list_all (λ z. not (p z)) front) none in
@@ -44,7 +46,8 @@ split_none p (x ∷ front) none =
 abbrev pub Writes : List ℕ → List Item → Type 0
 Writes text items = (rest : List ℕ) → items_of (text ++ rest) ≡ items ++ items_of rest
 
-line_then : (line : List ℕ) (lines : List (List ℕ)) → is_filled lines ≡ true → items_by items_in (line ∷ lines) ≡ items_in line ++ LineEnd ∷ items_by items_in lines
+line_then : (line : List ℕ) (lines : List (List ℕ)) → is_filled lines ≡ true
+    → items_by items_in (line ∷ lines) ≡ items_in line ++ LineEnd ∷ items_by items_in lines
 line_then line [] there = absurd (false≢true there)
 line_then line (next ∷ lines) there = refl
 
@@ -134,19 +137,22 @@ no_end b e = grind (arith, nat_tests)
 no_letter : (b : ℕ) → is_plain b ≡ true → is_letter b ≡ false
 no_letter b e = grind (arith, nat_tests)
 
-pub all_such : {A : Type 0} (p q : A → Bool) → ((x : A) → p x ≡ true → q x ≡ true) → (xs : List A) → list_all p xs ≡ true → list_all q xs ≡ true
+pub all_such : {A : Type 0} (p q : A → Bool) → ((x : A) → p x ≡ true → q x ≡ true) → (xs : List A) → list_all p xs ≡ true
+    → list_all q xs ≡ true
 all_such p q such [] all = refl
 all_such p q such (x ∷ xs) all =
     let both = and_parts (p x) (list_all p xs) all in
     and_from (q x) (list_all q xs) (such x both.0) (all_such p q such xs both.1)
 
 pub unblank : (word : List ℕ) → is_plain_word word ≡ true → list_all (λ b. not (is_blank b)) word ≡ true
-unblank word plain = all_such is_plain (λ b. not (is_blank b)) no_blank word (and_parts (is_filled word) (list_all is_plain word) plain).1
+unblank word plain =
+    all_such is_plain (λ b. not (is_blank b)) no_blank word (and_parts (is_filled word) (list_all is_plain word) plain).1
 
 abbrev line_text : List ℕ → List (List ℕ) → List ℕ
 line_text first more = first ++ flat_map (λ word. 32 ∷ word) more
 
-split_words : (first : List ℕ) (more : List (List ℕ)) → is_plain_word first ≡ true → list_all is_plain_word more ≡ true → slice_split is_blank (line_text first more) ≡ first ∷ more
+split_words : (first : List ℕ) (more : List (List ℕ)) → is_plain_word first ≡ true → list_all is_plain_word more ≡ true
+    → slice_split is_blank (line_text first more) ≡ first ∷ more
 split_words first [] plain all = ap (slice_split is_blank) (append-nil first) ∙ split_none is_blank first (unblank first plain)
 split_words first (word ∷ more) plain all =
     let both = and_parts (is_plain_word word) (list_all is_plain_word more) all in
@@ -161,7 +167,8 @@ all_kept {A} p (x ∷ xs) all =
 first_filled : (word : List ℕ) → is_plain_word word ≡ true → is_filled word ≡ true
 first_filled word plain = (and_parts (is_filled word) (list_all is_plain word) plain).0
 
-line_words : (first : List ℕ) (more : List (List ℕ)) → is_plain_word first ≡ true → list_all is_plain_word more ≡ true → words_in (line_text first more) ≡ first ∷ more
+line_words : (first : List ℕ) (more : List (List ℕ)) → is_plain_word first ≡ true → list_all is_plain_word more ≡ true
+    → words_in (line_text first more) ≡ first ∷ more
 line_words first more plain all =
     ap (filter is_filled) (split_words first more plain all)
     ∙ all_kept is_filled (first ∷ more) (and_from (is_filled first) (list_all is_filled more) (first_filled first plain) (all_such is_plain_word is_filled first_filled more all))
@@ -175,9 +182,11 @@ no_word_line (b ∷ first) rest plain =
     rw filled (no_letter b byte)
 
 pub one_line_word : (word : List ℕ) → is_plain_word word ≡ true → has_no_line_end word ≡ true
-one_line_word word plain = all_such is_plain (λ b. not (ends_line b)) no_end word (and_parts (is_filled word) (list_all is_plain word) plain).1
+one_line_word word plain =
+    all_such is_plain (λ b. not (ends_line b)) no_end word (and_parts (is_filled word) (list_all is_plain word) plain).1
 
-one_line_more : (more : List (List ℕ)) → list_all is_plain_word more ≡ true → has_no_line_end (flat_map (λ word. 32 ∷ word) more) ≡ true
+one_line_more : (more : List (List ℕ)) → list_all is_plain_word more ≡ true
+    → has_no_line_end (flat_map (λ word. 32 ∷ word) more) ≡ true
 one_line_more [] all = refl
 one_line_more (word ∷ more) all =
     let both = and_parts (is_plain_word word) (list_all is_plain_word more) all in
@@ -190,7 +199,8 @@ number_items first more plain all =
     ap (λ b. cond b (line_item (without_start (line_text first more)) ∷ []) (map (λ word. NumberWord word) (words_in (line_text first more)))) (no_word_line first (flat_map (λ w. 32 ∷ w) more) plain)
     ∙ ap (map (λ word. NumberWord word)) (line_words first more plain all)
 
-pub number_line_written : (first : List ℕ) (more : List (List ℕ)) → is_plain_word first ≡ true → list_all is_plain_word more ≡ true
+pub number_line_written : (first : List ℕ) (more : List (List ℕ)) → is_plain_word first ≡ true
+    → list_all is_plain_word more ≡ true
     → WritesWords (number_line first more) (first ∷ more)
 number_line_written first more plain all =
     let one : has_no_line_end (line_text first more) ≡ true =

@@ -12,8 +12,8 @@ use Rattle.tsp_number.specs.declared.fault.NumberFault.{NumberFault}
 use Rattle.tsp_format.specs.Limits.{most_nodes, most_tour_nodes}
 use Rattle.tsp_draft.specs.Validity.{is_node, is_tour}
 use Rattle.tsp_text.specs.Lines.{is_filled}
-use Rattle.tsp_text.specs.Numbers.{number, node_or_end, is_end}
-use Rattle.tsp_text.specs.Tours.{ends_tour, tour_node, tours_in, place_of_tour}
+use Rattle.tsp_text.specs.SectionNumbers.{number, node_or_end, is_end}
+use Rattle.tsp_text.specs.TourSection.{ends_tour, tour_node, tours_in, place_of_tour}
 use Rattle.tsp_round.proofs.Text.{split_at}
 use Rattle.tsp_round.proofs.Numbers.{NumberLaws, listed_back, node_goes_on, end_read, end_ends}
 use Rattle.tsp_round.proofs.Taken.{AllTaken, taken-append}
@@ -32,13 +32,15 @@ kept_node laws k is = not_from_false (ends_tour (decimal k)) (node_goes_on laws 
 one_kept : (word : List ℕ) → not (ends_tour word) ≡ true → nodes_among (word ∷ []) ≡ word ∷ []
 one_kept word e = ap (λ b. cond b (word ∷ []) []) e
 
-node_count : NumberLaws → (earlier : List (List ℕ)) (k : ℕ) → is_node most_nodes k ≡ true → length (nodes_among (earlier ++ decimal k ∷ [])) ≡ length (nodes_among earlier) + 1
+node_count : NumberLaws → (earlier : List (List ℕ)) (k : ℕ) → is_node most_nodes k ≡ true
+    → length (nodes_among (earlier ++ decimal k ∷ [])) ≡ length (nodes_among earlier) + 1
 node_count laws earlier k is =
     ap length (filter-append (λ word. not (ends_tour word)) earlier (decimal k ∷ []) ∙ ap (λ (ws : List (List ℕ)). nodes_among earlier ++ ws) (one_kept (decimal k) (kept_node laws k is)))
     ∙ length-append (nodes_among earlier) (decimal k ∷ [])
 
 -- the nodes of one tour, and its end
-tour_taken : NumberLaws → (n : ℕ) (earlier : List (List ℕ)) (tour : List ℕ) → length (nodes_among earlier) + length tour ≤ most_tour_nodes → list_all (is_node most_nodes) tour ≡ true
+tour_taken : NumberLaws → (n : ℕ) (earlier : List (List ℕ)) (tour : List ℕ)
+    → length (nodes_among earlier) + length tour ≤ most_tour_nodes → list_all (is_node most_nodes) tour ≡ true
     → AllTaken n place_of_tour earlier (tour_words tour)
 tour_taken laws n earlier [] room all = (
   no_rows (result_err (node_or_end most_nodes (codes "-1"))) false false (nat_le most_tour_nodes (length (nodes_among earlier)) && not (is_end most_nodes (codes "-1"))) false
@@ -66,7 +68,8 @@ tour_count laws earlier (k ∷ tour) all =
     ap (λ (ws : List (List ℕ)). length (nodes_among ws)) (sym (append_assoc earlier (decimal k ∷ []) (tour_words tour)))
     ∙ tour_count laws (earlier ++ decimal k ∷ []) tour both.1 ∙ omega (arith, node_count laws earlier k both.0)
 
-pub tours_taken : NumberLaws → (n : ℕ) (earlier : List (List ℕ)) (tours : List (List ℕ)) → length (nodes_among earlier) + sum_by length tours ≤ most_tour_nodes → list_all is_tour tours ≡ true
+pub tours_taken : NumberLaws → (n : ℕ) (earlier : List (List ℕ)) (tours : List (List ℕ))
+    → length (nodes_among earlier) + sum_by length tours ≤ most_tour_nodes → list_all is_tour tours ≡ true
     → AllTaken n place_of_tour earlier (flat_map tour_words tours)
 tours_taken laws n earlier [] room all = tt
 tours_taken laws n earlier (tour ∷ tours) room all =
@@ -76,7 +79,8 @@ tours_taken laws n earlier (tour ∷ tours) room all =
     taken-append n place_of_tour earlier (tour_words tour) (flat_map tour_words tours) (tour_taken laws n earlier tour (omega (arith, total)) nodes)
     (tours_taken laws n (earlier ++ tour_words tour) tours (omega (arith, total, tour_count laws earlier tour nodes)) both.1)
 
-none_ends : NumberLaws → (tour : List ℕ) → list_all (is_node most_nodes) tour ≡ true → list_all (λ word. not (ends_tour word)) (map decimal tour) ≡ true
+none_ends : NumberLaws → (tour : List ℕ) → list_all (is_node most_nodes) tour ≡ true
+    → list_all (λ word. not (ends_tour word)) (map decimal tour) ≡ true
 none_ends laws [] all = refl
 none_ends laws (k ∷ tour) all =
     let both = and_parts (is_node most_nodes k) (list_all (is_node most_nodes) tour) all in
@@ -92,7 +96,8 @@ filled_tour : (tour : List ℕ) → nat_le 1 (length tour) ≡ true → is_fille
 filled_tour [] e = absurd (false≢true e)
 filled_tour (k ∷ tour) e = refl
 
-pub tours_back : NumberLaws → (tours : List (List ℕ)) → list_all is_tour tours ≡ true → tours_in (flat_map tour_words tours) ≡ tours
+pub tours_back : NumberLaws → (tours : List (List ℕ)) → list_all is_tour tours ≡ true
+    → tours_in (flat_map tour_words tours) ≡ tours
 tours_back laws [] all = refl
 tours_back laws (tour ∷ tours) all =
     let both = and_parts (is_tour tour) (list_all is_tour tours) all in

@@ -11,12 +11,12 @@ use Rattle.tsp_number.specs.Reading.{whole_of}
 use Rattle.tsp_format.specs.Limits.{most_combs, most_branches, most_changes, most_difference}
 use Rattle.tsp_format.specs.Steps.{Step, Branch, Leaf, are_whole, branch_count, change_count}
 use Rattle.tsp_draft.specs.Validity.{is_within, is_node, is_node_pair, is_change, is_step, are_steps}
-use Rattle.tsp_file.specs.Text.{change_words}
-use Rattle.tsp_text.specs.Numbers.{number, reads_as, whole_of_size}
-use Rattle.tsp_text.specs.Places.{StepAfter, IndexAfter, Amount, PastGroups}
-use Rattle.tsp_text.specs.Rows.{word_fault}
+use Rattle.tsp_file.specs.CanonicalText.{change_words}
+use Rattle.tsp_text.specs.SectionNumbers.{number, reads_as, whole_of_size}
+use Rattle.tsp_text.specs.WordPlaces.{StepAfter, IndexAfter, Amount, PastGroups}
+use Rattle.tsp_text.specs.FaultRows.{word_fault}
 use Rattle.tsp_text.specs.Spells.{wants_more}
-use Rattle.tsp_text.specs.Tree.{TreeSoFar, no_steps, node_or_leaf, begins_leaf, index_or_end, ends_leaf, with_leaf, with_word_of, with_tree_word, whole_steps, place_in_step, place_in_tree, place_of_step}
+use Rattle.tsp_text.specs.BranchSection.{TreeSoFar, no_steps, node_or_leaf, begins_leaf, index_or_end, ends_leaf, with_leaf, with_word_of, with_tree_word, whole_steps, place_in_step, place_in_tree, place_of_step}
 use Rattle.tsp_round.proofs.Numbers.{NumberLaws, node_back, listed_back, node_goes_on, end_read, end_ends, no_zero, size_in}
 use Rattle.tsp_round.proofs.Taken.{AllTaken, Runs, runs_none, runs_one, runs_then, all_taken}
 use Rattle.tsp_round.proofs.Lists.{no_rows, has_room, second_taken, are_pair}
@@ -51,11 +51,13 @@ half steps leaf index to_come branches changes = record (within steps leaf to_co
 abbrev TreeRuns : ℕ → TreeSoFar → List (List ℕ) → TreeSoFar → Type 0
 TreeRuns n start words last = Runs n (with_tree_word n) place_in_tree start words last
 
-onward : (n : ℕ) (start middle last : TreeSoFar) (xs ys : List (List ℕ)) → TreeRuns n start xs middle → TreeRuns n middle ys last → TreeRuns n start (xs ++ ys) last
+onward : (n : ℕ) (start middle last : TreeSoFar) (xs ys : List (List ℕ)) → TreeRuns n start xs middle → TreeRuns n middle ys last
+    → TreeRuns n start (xs ++ ys) last
 onward n start middle last xs ys first second = runs_then n (with_tree_word n) place_in_tree start middle last xs ys first second
 
 -- one word, while a tree is still to come
-one : (n : ℕ) (start : TreeSoFar) (word : List ℕ) (last : TreeSoFar) → (start.to_come == 0) ≡ false → word_fault n (place_in_step start.in_leaf start.first start) word ≡ None
+one : (n : ℕ) (start : TreeSoFar) (word : List ℕ) (last : TreeSoFar) → (start.to_come == 0) ≡ false
+    → word_fault n (place_in_step start.in_leaf start.first start) word ≡ None
     → with_word_of n start.in_leaf start.first start word ≡ last → TreeRuns n start (word ∷ []) last
 one n start word last still taken gives =
     runs_one n (with_tree_word n) place_in_tree start word last
@@ -70,15 +72,18 @@ first_back laws n k few is =
     laws.whole_back (pos k) (pos 0) (pos n) (omega (arith, leb-true k n both.1)) (and_from (nat_le 0 k) (nat_le k n) (le-leb 0 k (omega arith)) both.1)
 
 no_leaf : NumberLaws → (n k : ℕ) → n < 2 ^ 32 → is_node n k ≡ true → begins_leaf n (decimal k) ≡ false
-no_leaf laws n k few is = ap (reads_as (pos 0)) (first_back laws n k few is) ∙ no_zero k (leb-true 1 k (and_parts (nat_le 1 k) (nat_le k n) is).0)
+no_leaf laws n k few is =
+    ap (reads_as (pos 0)) (first_back laws n k few is) ∙ no_zero k (leb-true 1 k (and_parts (nat_le 1 k) (nat_le k n) is).0)
 
-first_taken : NumberLaws → (n branches k : ℕ) → n < 2 ^ 32 → nat_le most_branches branches ≡ false → is_node n k ≡ true → word_fault n (StepAfter branches) (decimal k) ≡ None
+first_taken : NumberLaws → (n branches k : ℕ) → n < 2 ^ 32 → nat_le most_branches branches ≡ false → is_node n k ≡ true
+    → word_fault n (StepAfter branches) (decimal k) ≡ None
 first_taken laws n branches k few room is =
     no_rows (result_err (node_or_leaf n (decimal k))) false false (nat_le most_branches branches && not (begins_leaf n (decimal k))) false
     (ap (λ (r : Result ℤ NumberFault). result_err r) (first_back laws n k few is)) refl refl
     (and_left (nat_le most_branches branches) (not (begins_leaf n (decimal k))) room) refl
 
-branch_runs : NumberLaws → (n : ℕ) → n < 2 ^ 32 → (steps : List Step) (a b to_come branches changes : ℕ) → (to_come == 0) ≡ false → nat_le most_branches branches ≡ false → is_node_pair n (a, b) ≡ true
+branch_runs : NumberLaws → (n : ℕ) → n < 2 ^ 32 → (steps : List Step) (a b to_come branches changes : ℕ) → (to_come == 0) ≡ false
+    → nat_le most_branches branches ≡ false → is_node_pair n (a, b) ≡ true
     → TreeRuns n (between steps to_come branches changes) (step_words (Branch a b)) (between (steps ++ Branch a b ∷ []) (to_come + 1) (branches + 1) changes)
 branch_runs laws n few steps a b to_come branches changes still room fits =
     let are = are_pair n (a, b) fits in
@@ -108,7 +113,8 @@ zero_taken laws n branches =
     (ap (λ (r : Result ℤ NumberFault). result_err r) (zero_read laws n)) refl refl
     (and_right (nat_le most_branches branches) (not (begins_leaf n (codes "0"))) (not_from_true (begins_leaf n (codes "0")) (leaf_begins laws n))) refl
 
-index_taken : NumberLaws → (n changes k : ℕ) → n + most_combs < 2 ^ 32 → nat_le most_changes changes ≡ false → is_node (n + most_combs) k ≡ true → word_fault n (IndexAfter changes) (decimal k) ≡ None
+index_taken : NumberLaws → (n changes k : ℕ) → n + most_combs < 2 ^ 32 → nat_le most_changes changes ≡ false
+    → is_node (n + most_combs) k ≡ true → word_fault n (IndexAfter changes) (decimal k) ≡ None
 index_taken laws n changes k few room is =
     no_rows (result_err (index_or_end n (decimal k))) false false (nat_le most_changes changes && not (ends_leaf n (decimal k))) false
     (ap (λ (r : Result ℤ NumberFault). result_err r) (listed_back laws (n + most_combs) k few is)) refl refl
@@ -120,17 +126,20 @@ end_taken laws n changes =
     (ap (λ (r : Result ℤ NumberFault). result_err r) (end_read laws (n + most_combs))) refl refl
     (and_right (nat_le most_changes changes) (not (ends_leaf n (codes "-1"))) (not_from_true (ends_leaf n (codes "-1")) (end_ends laws (n + most_combs)))) refl
 
-difference_back : NumberLaws → (z : ℤ) → is_within most_difference z ≡ true → whole_of_size most_difference (signed_decimal z) ≡ Ok z
+difference_back : NumberLaws → (z : ℤ) → is_within most_difference z ≡ true
+    → whole_of_size most_difference (signed_decimal z) ≡ Ok z
 difference_back laws z inside =
     let small = size_in most_difference z inside in
     laws.whole_back z _ _ (omega (arith, small)) inside
 
-difference_taken : NumberLaws → (n : ℕ) (z : ℤ) → is_within most_difference z ≡ true → word_fault n (Amount (neg_ℤ (pos most_difference)) (pos most_difference)) (signed_decimal z) ≡ None
+difference_taken : NumberLaws → (n : ℕ) (z : ℤ) → is_within most_difference z ≡ true
+    → word_fault n (Amount (neg_ℤ (pos most_difference)) (pos most_difference)) (signed_decimal z) ≡ None
 difference_taken laws n z inside =
     no_rows (result_err (whole_of_size most_difference (signed_decimal z))) false false false false
     (ap (λ (r : Result ℤ NumberFault). result_err r) (difference_back laws z inside)) refl refl refl refl
 
-change_runs : NumberLaws → (n : ℕ) → n + most_combs < 2 ^ 32 → (steps : List Step) (leaf : List (ℕ × ℤ)) (change : ℕ × ℤ) (to_come branches changes : ℕ) → (to_come == 0) ≡ false
+change_runs : NumberLaws → (n : ℕ) → n + most_combs < 2 ^ 32
+    → (steps : List Step) (leaf : List (ℕ × ℤ)) (change : ℕ × ℤ) (to_come branches changes : ℕ) → (to_come == 0) ≡ false
     → nat_le most_changes changes ≡ false → is_change n change ≡ true
     → TreeRuns n (within steps leaf to_come branches changes) (change_words change) (within steps (leaf ++ change ∷ []) to_come branches (changes + 1))
 change_runs laws n few steps leaf change to_come branches changes still room fits =
@@ -147,7 +156,8 @@ change_runs laws n few steps leaf change to_come branches changes still room fit
     (one n middle difference last still (difference_taken laws n change.1 both.1)
     (ap (λ (r : Result ℤ NumberFault). within steps (leaf ++ (change.0, number r) ∷ []) to_come branches (changes + 1)) (difference_back laws change.1 both.1)))
 
-changes_run : NumberLaws → (n : ℕ) → n + most_combs < 2 ^ 32 → (steps : List Step) (before leaf : List (ℕ × ℤ)) (to_come branches changes : ℕ) → (to_come == 0) ≡ false
+changes_run : NumberLaws → (n : ℕ) → n + most_combs < 2 ^ 32
+    → (steps : List Step) (before leaf : List (ℕ × ℤ)) (to_come branches changes : ℕ) → (to_come == 0) ≡ false
     → changes + length leaf ≤ most_changes → list_all (is_change n) leaf ≡ true
     → TreeRuns n (within steps before to_come branches changes) (flat_map change_words leaf) (within steps (before ++ leaf) to_come branches (changes + length leaf))
 changes_run laws n few steps before [] to_come branches changes still room all =
@@ -169,7 +179,8 @@ changes_run laws n few steps before (change ∷ leaf) to_come branches changes s
     (change_runs laws n few steps before change to_come branches changes still (has_room most_changes changes (length leaf) room) both.0)
     (changes_run laws n few steps (before ++ change ∷ []) leaf to_come branches (changes + 1) still (omega arith) both.1))
 
-leaf_runs : NumberLaws → (n : ℕ) → n + most_combs < 2 ^ 32 → (steps : List Step) (leaf : List (ℕ × ℤ)) (to_come branches changes : ℕ) → (to_come == 0) ≡ false
+leaf_runs : NumberLaws → (n : ℕ) → n + most_combs < 2 ^ 32
+    → (steps : List Step) (leaf : List (ℕ × ℤ)) (to_come branches changes : ℕ) → (to_come == 0) ≡ false
     → changes + length leaf ≤ most_changes → list_all (is_change n) leaf ≡ true
     → TreeRuns n (between steps to_come branches changes) (leaf_words leaf) (between (steps ++ Leaf leaf ∷ []) (to_come - 1) branches (changes + length leaf))
 leaf_runs laws n few steps leaf to_come branches changes still room all =
@@ -190,7 +201,8 @@ leaf_runs laws n few steps leaf to_come branches changes still room all =
 not_zero : (count : ℕ) → (suc count == 0) ≡ false
 not_zero count = false_from_ne_true (suc count == 0) (λ e. let none = eqb-true (suc count) 0 e in absurd (omega arith))
 
-each_step_runs : NumberLaws → (n : ℕ) → n + most_combs < 2 ^ 32 → (before steps : List Step) (to_come branches changes : ℕ) → branches + branch_count steps ≤ most_branches
+each_step_runs : NumberLaws → (n : ℕ) → n + most_combs < 2 ^ 32 → (before steps : List Step) (to_come branches changes : ℕ)
+    → branches + branch_count steps ≤ most_branches
     → changes + change_count steps ≤ most_changes → list_all (is_step n) steps ≡ true → are_whole to_come steps ≡ true
     → TreeRuns n (between before to_come branches changes) (flat_map step_words steps) (between (before ++ steps) 0 (branches + branch_count steps) (changes + change_count steps))
 each_step_runs laws n few before [] zero branches changes room changes_room all whole =
@@ -238,7 +250,8 @@ each_step_runs laws n few before (Leaf leaf ∷ steps) (suc to_come) branches ch
 abbrev all_of : List Step → TreeSoFar
 all_of steps = between steps 0 (0 + branch_count steps) (0 + change_count steps)
 
-all_run : NumberLaws → (n : ℕ) → n + most_combs < 2 ^ 32 → (steps : List Step) → are_steps n steps ≡ true → TreeRuns n no_steps (flat_map step_words steps) (all_of steps)
+all_run : NumberLaws → (n : ℕ) → n + most_combs < 2 ^ 32 → (steps : List Step) → are_steps n steps ≡ true
+    → TreeRuns n no_steps (flat_map step_words steps) (all_of steps)
 all_run laws n few steps fits =
     let each = list_all (is_step n) steps in
     let branches = nat_le (branch_count steps) most_branches in
@@ -248,11 +261,15 @@ all_run laws n few steps fits =
     let one = and_parts each branches two.0 in
     each_step_runs laws n few [] steps 1 0 0 (omega (arith, leb-true (branch_count steps) most_branches one.1)) (omega (arith, leb-true (change_count steps) most_changes two.1)) one.0 three.1
 
-pub steps_taken : NumberLaws → (n : ℕ) → n + most_combs < 2 ^ 32 → (steps : List Step) → are_steps n steps ≡ true → AllTaken n (place_of_step n) [] (flat_map step_words steps)
-steps_taken laws n few steps fits = all_taken n (with_tree_word n) place_in_tree no_steps [] (flat_map step_words steps) (all_run laws n few steps fits).taken
+pub steps_taken : NumberLaws → (n : ℕ) → n + most_combs < 2 ^ 32 → (steps : List Step) → are_steps n steps ≡ true
+    → AllTaken n (place_of_step n) [] (flat_map step_words steps)
+steps_taken laws n few steps fits =
+    all_taken n (with_tree_word n) place_in_tree no_steps [] (flat_map step_words steps) (all_run laws n few steps fits).taken
 
-pub steps_back : NumberLaws → (n : ℕ) → n + most_combs < 2 ^ 32 → (steps : List Step) → are_steps n steps ≡ true → whole_steps n (flat_map step_words steps) ≡ steps
+pub steps_back : NumberLaws → (n : ℕ) → n + most_combs < 2 ^ 32 → (steps : List Step) → are_steps n steps ≡ true
+    → whole_steps n (flat_map step_words steps) ≡ steps
 steps_back laws n few steps fits = ap (λ (s : TreeSoFar). s.steps) (all_run laws n few steps fits).gives
 
-pub steps_done : NumberLaws → (n : ℕ) → n + most_combs < 2 ^ 32 → (steps : List Step) → are_steps n steps ≡ true → wants_more (place_of_step n (flat_map step_words steps)) ≡ false
+pub steps_done : NumberLaws → (n : ℕ) → n + most_combs < 2 ^ 32 → (steps : List Step) → are_steps n steps ≡ true
+    → wants_more (place_of_step n (flat_map step_words steps)) ≡ false
 steps_done laws n few steps fits = ap (λ (s : TreeSoFar). wants_more (place_in_tree s)) (all_run laws n few steps fits).gives

@@ -10,11 +10,11 @@ use Rattle.tsp_number.specs.declared.fault.NumberFault.{NumberFault}
 use Rattle.tsp_number.specs.Reading.{whole_of}
 use Rattle.tsp_format.specs.Limits.{most_fixed, most_multiplier}
 use Rattle.tsp_draft.specs.Validity.{is_from_to, is_node_pair, is_triple}
-use Rattle.tsp_text.specs.Numbers.{number, node, is_end}
-use Rattle.tsp_text.specs.Places.{Amount, SecondOf}
+use Rattle.tsp_text.specs.SectionNumbers.{number, node, is_end}
+use Rattle.tsp_text.specs.WordPlaces.{Amount, SecondOf}
 use Rattle.tsp_text.specs.Groups.{threes_in, begun_triple}
 use Rattle.tsp_text.specs.Lists.{before, fixed_triple, fixed_triples_in, triple_firsts_in, place_in_triple, place_of_triple}
-use Rattle.tsp_text.specs.Rows.{word_fault}
+use Rattle.tsp_text.specs.FaultRows.{word_fault}
 use Rattle.tsp_text.proofs.TripleWords.{triples_begin, begun_begin, firsts_begin, triples_middle, begun_middle, firsts_middle, triples_end, begun_end, firsts_end}
 use Rattle.tsp_round.proofs.Numbers.{NumberLaws, node_back, listed_back, node_goes_on, end_ends, size_from}
 use Rattle.tsp_round.proofs.Taken.{AllTaken}
@@ -24,29 +24,36 @@ abbrev pub triple_words : ℕ × ℕ × ℤ → List (List ℕ)
 triple_words triple = decimal triple.0 ∷ decimal triple.1 ∷ signed_decimal triple.2 ∷ []
 
 -- two different nodes, and a multiplier
-pub are_triple : (n : ℕ) (triple : ℕ × ℕ × ℤ) → is_triple n triple ≡ true → ArePair n triple.0 triple.1 × (is_from_to (pos 0) (pos most_multiplier) triple.2 ≡ true)
+pub are_triple : (n : ℕ) (triple : ℕ × ℕ × ℤ) → is_triple n triple ≡ true
+    → ArePair n triple.0 triple.1 × (is_from_to (pos 0) (pos most_multiplier) triple.2 ≡ true)
 are_triple n triple fits =
     let parts = and_parts (is_node_pair n (triple.0, triple.1)) (is_from_to (pos 0) (pos most_multiplier) triple.2) fits in
     (are_pair n (triple.0, triple.1) parts.0, parts.1)
 
-multiplier_back : NumberLaws → (z : ℤ) → is_from_to (pos 0) (pos most_multiplier) z ≡ true → whole_of (signed_decimal z) (pos 0) (pos most_multiplier) ≡ Ok z
+multiplier_back : NumberLaws → (z : ℤ) → is_from_to (pos 0) (pos most_multiplier) z ≡ true
+    → whole_of (signed_decimal z) (pos 0) (pos most_multiplier) ≡ Ok z
 multiplier_back laws z inside =
     let small = size_from 0 most_multiplier z inside in
     laws.whole_back z (pos 0) (pos most_multiplier) (omega (arith, small)) inside
 
-multiplier_taken : NumberLaws → (n : ℕ) (z : ℤ) → is_from_to (pos 0) (pos most_multiplier) z ≡ true → word_fault n (Amount (pos 0) (pos most_multiplier)) (signed_decimal z) ≡ None
+multiplier_taken : NumberLaws → (n : ℕ) (z : ℤ) → is_from_to (pos 0) (pos most_multiplier) z ≡ true
+    → word_fault n (Amount (pos 0) (pos most_multiplier)) (signed_decimal z) ≡ None
 multiplier_taken laws n z inside =
     no_rows (result_err (whole_of (signed_decimal z) (pos 0) (pos most_multiplier))) false false false false
     (ap (λ (r : Result ℤ NumberFault). result_err r) (multiplier_back laws z inside)) refl refl refl refl
 
 -- the place of the next word, before the -1
-triple_place : (n : ℕ) (words begun : List (List ℕ)) → list_any (is_end n) (triple_firsts_in words) ≡ false → begun_triple words ≡ begun
+triple_place : (n : ℕ) (words begun : List (List ℕ)) → list_any (is_end n) (triple_firsts_in words) ≡ false
+    → begun_triple words ≡ begun
     → place_of_triple n words ≡ place_in_triple n (length (threes_in words)) begun
 triple_place n words begun unended whole = rw (unended, whole) refl
 
-pub triples_taken : NumberLaws → (n : ℕ) → n < 2 ^ 32 → (earlier : List (List ℕ)) (triples : List (ℕ × ℕ × ℤ)) → list_any (is_end n) (triple_firsts_in earlier) ≡ false → begun_triple earlier ≡ []
-    → length (threes_in earlier) + length triples ≤ most_fixed → list_all (is_triple n) triples ≡ true → AllTaken n (place_of_triple n) earlier (flat_map triple_words triples ++ codes "-1" ∷ [])
-triples_taken laws n few earlier [] unended whole room all = (ap (λ p. word_fault n p (codes "-1")) (triple_place n earlier [] unended whole) ∙ end_taken laws n (length (threes_in earlier)), tt)
+pub triples_taken : NumberLaws → (n : ℕ) → n < 2 ^ 32 → (earlier : List (List ℕ)) (triples : List (ℕ × ℕ × ℤ))
+    → list_any (is_end n) (triple_firsts_in earlier) ≡ false → begun_triple earlier ≡ []
+    → length (threes_in earlier) + length triples ≤ most_fixed → list_all (is_triple n) triples ≡ true
+    → AllTaken n (place_of_triple n) earlier (flat_map triple_words triples ++ codes "-1" ∷ [])
+triples_taken laws n few earlier [] unended whole room all =
+    (ap (λ p. word_fault n p (codes "-1")) (triple_place n earlier [] unended whole) ∙ end_taken laws n (length (threes_in earlier)), tt)
 triples_taken laws n few earlier (triple ∷ triples) unended whole room all =
     let both = and_parts (is_triple n triple) (list_all (is_triple n) triples) all in
     let are = are_triple n triple both.0 in
@@ -90,7 +97,8 @@ triples_back laws n few (triple ∷ triples) all =
     ∙ ap (λ r. (triple.0, triple.1, number r) ∷ rest) (multiplier_back laws triple.2 are.1)
     ∙ ap (λ (ts : List (ℕ × ℕ × ℤ)). triple ∷ ts) (triples_back laws n few triples both.1)
 
-pub triples_ended : NumberLaws → (n : ℕ) → (triples : List (ℕ × ℕ × ℤ)) → list_any (is_end n) (triple_firsts_in (flat_map triple_words triples ++ codes "-1" ∷ [])) ≡ true
+pub triples_ended : NumberLaws → (n : ℕ) → (triples : List (ℕ × ℕ × ℤ))
+    → list_any (is_end n) (triple_firsts_in (flat_map triple_words triples ++ codes "-1" ∷ [])) ≡ true
 triples_ended laws n [] = ap (λ b. b || false) (end_ends laws n)
 triples_ended laws n (triple ∷ triples) =
     or_right (is_end n (decimal triple.0)) (list_any (is_end n) (triple_firsts_in (flat_map triple_words triples ++ codes "-1" ∷ []))) (triples_ended laws n triples)

@@ -17,7 +17,7 @@ use Rattle.tsp_text.specs.Earlier.{has_line, value_at, words_of}
 use Rattle.tsp_text.specs.Values.{kind_named, weight_kind_named, weight_format_named, coord_kind_named, display_kind_named, read_as}
 use Rattle.tsp_text.specs.Groups.{coords_by_node}
 use Rattle.tsp_text.specs.Sections.{dimension_in}
-use Rattle.tsp_text.specs.Rows.{may_repeat}
+use Rattle.tsp_text.specs.FaultRows.{may_repeat}
 use Rattle.tsp_text.specs.Spells.{spelled}
 use Rattle.tsp_round.proofs.Numbers.{NumberLaws}
 use Rattle.tsp_round.proofs.Onto.{has_value}
@@ -29,7 +29,8 @@ use Rattle.tsp_round.proofs.Stages.{Stage, value_of}
 use Rattle.tsp_round.proofs.Spelled.{named_back, dimension_whole, capacity_whole, scale_whole}
 
 -- what the words of a section give is what the file holds
-section_is : NumberLaws → (f : Fields) (items : List Item) → Stage f [] items → fits f DimensionKey ≡ true → (field : Field) (shape : Shape) (o : Option (Entries shape)) → IsSection f field shape o
+section_is : NumberLaws → (f : Fields) (items : List Item) → Stage f [] items → fits f DimensionKey ≡ true
+    → (field : Field) (shape : Shape) (o : Option (Entries shape)) → IsSection f field shape o
     → cond (has_line field items) (Some (read_for shape (dimension_in items) (words_of field items))) None ≡ o
 section_is laws f items stage one field shape None is =
     let has : has_line field items ≡ false = has_value field items ∙ ap (λ (v : Option (List ℕ)). is_some v) (stage.values field is.once ∙ is.value_is) in
@@ -42,8 +43,10 @@ section_is laws f items stage one field shape (Some xs) is =
     ∙ ap (λ (entries : Entries shape). Some entries) (body laws [] shape is.writable (dimension_in items) right.few xs right.valid).back
 
 -- what the line of a keyword with a word names is what the file holds
-named_is : {V : Type 0} (f : Fields) (items : List Item) → Stage f [] items → (field : Field) → may_repeat field ≡ false → (text : V → List ℕ) (by_word : List ℕ → Option V)
-    → ((v : V) → by_word (first_word (text v)) ≡ Some v) → (o : Option V) → value_of f field ≡ option_map text o → option_and_then (λ value. by_word (first_word value)) (value_at field items) ≡ o
+named_is : {V : Type 0} (f : Fields) (items : List Item) → Stage f [] items → (field : Field) → may_repeat field ≡ false
+    → (text : V → List ℕ) (by_word : List ℕ → Option V)
+    → ((v : V) → by_word (first_word (text v)) ≡ Some v) → (o : Option V) → value_of f field ≡ option_map text o
+    → option_and_then (λ value. by_word (first_word value)) (value_at field items) ≡ o
 named_is f items stage field once text by_word back o is =
     ap (λ (v : Option (List ℕ)). option_and_then (λ value. by_word (first_word value)) v) (stage.values field once ∙ is) ∙ named_back text by_word back o
 
@@ -60,7 +63,8 @@ points_read f items true read = read SpacePoints refl
 points_read f items false read = read Points refl
 
 -- the items of a whole text parse to its file
-pub spelled_is : NumberLaws → (f : Fields) (items : List Item) → ((g : Field) → fits f g ≡ true) → Stage f [] items → spelled items ≡ f
+pub spelled_is : NumberLaws → (f : Fields) (items : List Item) → ((g : Field) → fits f g ≡ true) → Stage f [] items
+    → spelled items ≡ f
 spelled_is laws f items valid stage =
     let one = valid DimensionKey in
     let read : (field : Field) (shape : Shape) → shape_of (spatial f) field ≡ Some shape

@@ -18,12 +18,13 @@ use Rattle.tsp_text.specs.Lines.{first_word}
 use Rattle.tsp_text.specs.Items.{Item, Line}
 use Rattle.tsp_text.specs.Earlier.{has_line}
 use Rattle.tsp_text.specs.Values.{kind_named, weight_kind_named, weight_format_named, coord_kind_named, display_kind_named}
-use Rattle.tsp_text.specs.Rows.{row_of}
+use Rattle.tsp_text.specs.FaultRows.{row_of}
 use Rattle.tsp_round.proofs.Lines.{IsWhole, written_line}
 
 -- ---- TypeKey
 
-pub kind_row : (earlier : List Item) (value : Kind) → has_line TypeKey earlier ≡ false → row_of earlier (Line (Known TypeKey) (written_line (field_word TypeKey) (kind_word value))) ≡ None
+pub kind_row : (earlier : List Item) (value : Kind) → has_line TypeKey earlier ≡ false
+    → row_of earlier (Line (Known TypeKey) (written_line (field_word TypeKey) (kind_word value))) ≡ None
 kind_row earlier kinds.Tsp unseen = rw unseen refl
 kind_row earlier kinds.Atsp unseen = rw unseen refl
 kind_row earlier kinds.Cvrp unseen = rw unseen refl
@@ -49,7 +50,8 @@ kind_back kinds.Branches = refl
 
 -- ---- EdgeWeightTypeKey
 
-pub weight_kind_row : (earlier : List Item) (value : WeightKind) → has_line EdgeWeightTypeKey earlier ≡ false → has_line NodeCoordPart earlier ≡ false
+pub weight_kind_row : (earlier : List Item) (value : WeightKind) → has_line EdgeWeightTypeKey earlier ≡ false
+    → has_line NodeCoordPart earlier ≡ false
     → row_of earlier (Line (Known EdgeWeightTypeKey) (written_line (field_word EdgeWeightTypeKey) (weight_kind_word value))) ≡ None
 weight_kind_row earlier weight_kinds.Explicit unseen none = rw unseen refl
 weight_kind_row earlier weight_kinds.Euc2d unseen none = rw unseen refl
@@ -124,7 +126,8 @@ weight_format_back (formats.Listed layouts.LowerDiagCol) = refl
 
 -- ---- NodeCoordTypeKey
 
-pub coord_kind_row : (earlier : List Item) (value : CoordKind) → has_line NodeCoordTypeKey earlier ≡ false → has_line NodeCoordPart earlier ≡ false
+pub coord_kind_row : (earlier : List Item) (value : CoordKind) → has_line NodeCoordTypeKey earlier ≡ false
+    → has_line NodeCoordPart earlier ≡ false
     → row_of earlier (Line (Known NodeCoordTypeKey) (written_line (field_word NodeCoordTypeKey) (coord_kind_word value))) ≡ None
 coord_kind_row earlier coord_kinds.TwoD unseen none = rw unseen refl
 coord_kind_row earlier coord_kinds.ThreeD unseen none = rw (unseen, none) refl

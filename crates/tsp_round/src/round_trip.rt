@@ -8,7 +8,7 @@ ghost use Rattle.tsp_number.specs.Spelling.{spelling};
 ghost use Rattle.tsp_draft.specs.Fields.{Fields};
 ghost use Rattle.tsp_draft.specs.Rules.{fault_of};
 ghost use Rattle.tsp_draft.specs.Validity.{is_from_to};
-ghost use Rattle.tsp_file.specs.Text.{text_of};
+ghost use Rattle.tsp_file.specs.CanonicalText.{text_of};
 ghost use Rattle.tsp_text.specs.declared.fault.ReadFault.{ReadFault};
 ghost use Rattle.tsp_read.specs.Reads.{Reads};
 ghost use Rattle.tsp_text.specs.Text.{Spells};

@@ -4,7 +4,7 @@ use Rattle.std.proofs.lemmas.List.Folds.{list_all-append}
 use Rattle.std.proofs.Math.Nat.{mod-lt}
 use Rattle.std.specs.Prelude.{◌&&◌, not, codes, decimal, if◌then◌else◌}
 use Rattle.std.specs.Fmt.{digits, digits_onto, digit_glyph}
-use Rattle.tsp_judge.specs.FaultText.{run_fault_text}
+use Rattle.tsp_judge.specs.RunFaultText.{run_fault_text}
 use Rattle.tsp_judge.specs.declared.fault.RunFault.{RunFault}
 use Rattle.tsp_judge.specs.declared.fault.RunFault.TheVariants as runs
 use Rattle.tsp_judge.specs.declared.ReadFault.{ReadFault}
@@ -22,11 +22,11 @@ use Rattle.tsp_judge.specs.declared.RelayoutFault.TheVariants as relayouts
 use Rattle.tsp_format.specs.declared.field.Field.{Field}
 use Rattle.tsp_format.specs.declared.field.Field.TheVariants as fields
 use Rattle.tsp_format.specs.Words.{field_word}
-use Rattle.tsp_number.specs.FaultText.{number_fault_text}
-use Rattle.tsp_draft.specs.FaultText.{end_fault_text}
-use Rattle.tsp_text.specs.FaultText.{line_fault_text, read_fault_text}
-use Rattle.tsp_stream.specs.FaultText.{write_fault_text}
-use Rattle.tsp_file.specs.FaultText.{relayout_fault_text}
+use Rattle.tsp_number.specs.NumberFaultText.{number_fault_text}
+use Rattle.tsp_draft.specs.DraftFaultText.{end_fault_text}
+use Rattle.tsp_text.specs.ReadFaultText.{line_fault_text, read_fault_text}
+use Rattle.tsp_stream.specs.WriteFaultText.{write_fault_text}
+use Rattle.tsp_file.specs.RelayoutFaultText.{relayout_fault_text}
 use Rattle.tsp_run.specs.Ending.{is_one_line}
 
 pub is_one : List ℕ → Type 0

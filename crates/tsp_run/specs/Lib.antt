@@ -1,6 +1,6 @@
 pub mod states
 pub mod Ending
-pub mod Compare
-pub mod Run
+pub mod ComparisonRun
+pub mod ProgramRun
 pub mod Telling
 pub mod Waiting

@@ -1,7 +1,7 @@
 //! Solutions compared: each is opened when it is to be read.
 
 ghost use Rattle.tsp_judge.specs.Watched.{sink_of};
-ghost use Rattle.tsp_run.specs.Compare.{IsComparedAs, IsFresh};
+ghost use Rattle.tsp_run.specs.ComparisonRun.{IsComparedAs, IsFresh};
 ghost use Rattle.tsp_run.specs.Telling.{MayTell};
 
 use crate::followed::Followed;

@@ -2,7 +2,7 @@
 
 ghost use Rattle.std.specs.Prelude.{◌≡◌, ◌++◌, ◌∷◌, [], OnOk};
 ghost use Rattle.std.specs.Io.KnownBytes.{Appends};
-ghost use Rattle.tsp_judge.specs.FaultText.{run_fault_text};
+ghost use Rattle.tsp_judge.specs.RunFaultText.{run_fault_text};
 ghost use Rattle.tsp_judge.specs.Status.{status_of};
 ghost use Rattle.tsp_run.specs.Ending.{IsLineOf, Tells, status_of_ending};
 

@@ -25,7 +25,7 @@ ghost use Rattle.tsp_judge.specs.Watched.{watched};
 ghost use Rattle.tsp_judge.specs.declared.Certificate.{Certificate};
 ghost use Rattle.tsp_cli.specs.declared.task.Place.{Place};
 ghost use Rattle.tsp_task.specs.declared.task.Task.TheVariants as tasks;
-ghost use Rattle.tsp_run.specs.Run.{AreFresh};
+ghost use Rattle.tsp_run.specs.ProgramRun.{AreFresh};
 ghost use Rattle.tsp_run.specs.Ending.{status_of_ending, line_text, ended, IsWritten};
 
 /// The exit status of each ending.

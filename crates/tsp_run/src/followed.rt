@@ -3,7 +3,7 @@
 
 ghost use Rattle.std.specs.Prelude.{map, true};
 ghost use Rattle.std.specs.String.{string_bytes};
-ghost use Rattle.tsp_run.specs.Compare.{IsOpenedAt};
+ghost use Rattle.tsp_run.specs.ComparisonRun.{IsOpenedAt};
 ghost use Rattle.tsp_run.specs.Telling.{MayTell};
 
 use crate::explained::{again, name_of};

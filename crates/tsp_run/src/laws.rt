@@ -4,18 +4,18 @@
 ghost use Rattle.std.specs.Prelude.{◌≡◌, ℕ, Bool, List, true, false, Option, Some, Ok, drop, Result};
 ghost use Rattle.clap.specs.Words.{Text};
 ghost use Rattle.tsp_judge.specs.Sink.{Sink};
-ghost use Rattle.tsp_judge.specs.FaultText.{run_fault_text};
+ghost use Rattle.tsp_judge.specs.RunFaultText.{run_fault_text};
 ghost use Rattle.tsp_judge.specs.declared.fault.RunFault.{RunFault};
 ghost use Rattle.tsp_judge.specs.declared.compared.Compared.{Compared};
 ghost use Rattle.tsp_run.specs.declared.ending.Line.TheVariants as lines;
 ghost use Rattle.tsp_cli.specs.declared.task.TaskFault.{TaskFault};
 ghost use Rattle.tsp_cli.specs.declared.words.Job.{Job};
 ghost use Rattle.tsp_cli.specs.declared.words.JobFault.{JobFault};
-ghost use Rattle.tsp_cli.specs.Words.{GivesJob};
+ghost use Rattle.tsp_cli.specs.CommandWords.{GivesJob};
 ghost use Rattle.tsp_run.specs.declared.ending.Ending.TheVariants as endings;
 ghost use Rattle.tsp_perform.specs.declared.outcome.Outcome.{Outcome};
 ghost use Rattle.tsp_run.specs.Ending.{is_one_line, IsWritten, EndsLine};
-ghost use Rattle.tsp_run.specs.Run.{Ends};
+ghost use Rattle.tsp_run.specs.ProgramRun.{Ends};
 
 use crate::source::Open;
 use std::io::Read;

@@ -5,9 +5,9 @@ ghost use Rattle.std.specs.IoError.{error_kind};
 ghost use Rattle.std.specs.String.{string_bytes};
 ghost use Rattle.std.specs.Io.KnownBytes.{Appends};
 ghost use Rattle.tsp_judge.specs.Watched.{sink_of};
-ghost use Rattle.tsp_run.specs.Compare.{IsComparedAs};
+ghost use Rattle.tsp_run.specs.ComparisonRun.{IsComparedAs};
 ghost use Rattle.tsp_run.specs.Ending.{status_of_ending, Tells, TellsAfter, TellsAll};
-ghost use Rattle.tsp_run.specs.Run.{AreFresh, Ends, EndsWith, HasNoWords, IsDoneAs, Runs, RunsComparison, RunsJob, RunsTask};
+ghost use Rattle.tsp_run.specs.ProgramRun.{AreFresh, Ends, EndsWith, HasNoWords, IsDoneAs, Runs, RunsComparison, RunsJob, RunsTask};
 
 use crate::compare_explained::comparison_explanation;
 use crate::compared::{compare, fresh};

@@ -9,13 +9,13 @@ use Rattle.std.proofs.lemmas.Bool.Decides.{nat_tests, Decides-int_eq}
 use Rattle.tsp_number.specs.declared.fault.NumberFault.{NumberFault}
 use Rattle.tsp_format.specs.Limits.{most_fixed}
 use Rattle.tsp_text.specs.declared.fault.LineFault.TheVariants as row
-use Rattle.tsp_text.specs.Numbers.{number, node, node_or_end, is_end, is_minus_one}
-use Rattle.tsp_text.specs.Places.{PastEnd, FirstAfter, SecondOf}
+use Rattle.tsp_text.specs.SectionNumbers.{number, node, node_or_end, is_end, is_minus_one}
+use Rattle.tsp_text.specs.WordPlaces.{PastEnd, FirstAfter, SecondOf}
 use Rattle.tsp_text.specs.Groups.{pairs_in, begun_pair}
 use Rattle.tsp_text.specs.Lists.{firsts_in, place_of_fixed}
 use Rattle.tsp_text.specs.Spells.{wants_more}
 use Rattle.tsp_section.specs.states.Parts.{readings, PairsHold}
-use Rattle.tsp_text.specs.Rows.{word_fault}
+use Rattle.tsp_text.specs.FaultRows.{word_fault}
 use Rattle.tsp_text.proofs.Ended.{any_push, and_false}
 use Rattle.tsp_section.proofs.DepotSteps.{past_end_clean}
 use Rattle.tsp_section.proofs.Readings.{none_read, one_read}
@@ -24,14 +24,18 @@ use Rattle.tsp_text.proofs.PairWords.{pairs_begin, begun_begin, firsts_begin, pa
 -- ---- the word of a pair that has begun
 
 -- no pair has begun
-none_begun : (pairs : List (ℕ × ℕ)) (first : Option ℕ) (ended : Bool) (n : ℕ) (words : List (List ℕ)) → ended ≡ false → first ≡ None
+none_begun : (pairs : List (ℕ × ℕ)) (first : Option ℕ) (ended : Bool) (n : ℕ) (words : List (List ℕ)) → ended ≡ false
+    → first ≡ None
     → PairsHold pairs first ended n words → begun_pair words ≡ []
-none_begun pairs first ended n words open_ended is h = none_read (node_or_end n) (begun_pair words) (h.cut open_ended ∙ ap readings is)
+none_begun pairs first ended n words open_ended is h =
+    none_read (node_or_end n) (begun_pair words) (h.cut open_ended ∙ ap readings is)
 
 -- a pair has begun with this node
-one_begun : (pairs : List (ℕ × ℕ)) (first : Option ℕ) (ended : Bool) (n : ℕ) (words : List (List ℕ)) (k : ℕ) → ended ≡ false → first ≡ Some k
+one_begun : (pairs : List (ℕ × ℕ)) (first : Option ℕ) (ended : Bool) (n : ℕ) (words : List (List ℕ)) (k : ℕ) → ended ≡ false
+    → first ≡ Some k
     → PairsHold pairs first ended n words → (word : List ℕ) × (begun_pair words ≡ word ∷ []) × (node_or_end n word ≡ Ok (pos k))
-one_begun pairs first ended n words k open_ended is h = one_read (node_or_end n) (begun_pair words) (Ok (pos k)) (h.cut open_ended ∙ ap readings is)
+one_begun pairs first ended n words k open_ended is h =
+    one_read (node_or_end n) (begun_pair words) (Ok (pos k)) (h.cut open_ended ∙ ap readings is)
 
 -- ---- the place of the next word
 
@@ -41,13 +45,15 @@ place_past_end pairs first ended n words e h =
     let any : list_any (is_end n) (firsts_in words) ≡ true = sym h.closed ∙ e in
     rw any refl
 
-place_of_first : (pairs : List (ℕ × ℕ)) (first : Option ℕ) (ended : Bool) (n : ℕ) (words : List (List ℕ)) → ended ≡ false → first ≡ None
+place_of_first : (pairs : List (ℕ × ℕ)) (first : Option ℕ) (ended : Bool) (n : ℕ) (words : List (List ℕ)) → ended ≡ false
+    → first ≡ None
     → PairsHold pairs first ended n words → place_of_fixed n words ≡ FirstAfter (length pairs)
 place_of_first pairs first ended n words open_ended is h =
     let none : list_any (is_end n) (firsts_in words) ≡ false = sym h.closed ∙ open_ended in
     rw (none, none_begun pairs first ended n words open_ended is h) (ap (λ count. FirstAfter count) (sym (h.count open_ended)))
 
-place_of_second : (pairs : List (ℕ × ℕ)) (first : Option ℕ) (ended : Bool) (n : ℕ) (words : List (List ℕ)) (k : ℕ) → ended ≡ false → first ≡ Some k
+place_of_second : (pairs : List (ℕ × ℕ)) (first : Option ℕ) (ended : Bool) (n : ℕ) (words : List (List ℕ)) (k : ℕ) → ended ≡ false
+    → first ≡ Some k
     → PairsHold pairs first ended n words → place_of_fixed n words ≡ SecondOf (pos k)
 place_of_second pairs first ended n words k open_ended is h =
     let none : list_any (is_end n) (firsts_in words) ≡ false = sym h.closed ∙ open_ended in
@@ -56,12 +62,15 @@ place_of_second pairs first ended n words k open_ended is h =
 
 -- ---- words with a fault
 
-pub first_bad : (pairs : List (ℕ × ℕ)) (first : Option ℕ) (ended : Bool) (n : ℕ) (words : List (List ℕ)) (word : List ℕ) (fault : NumberFault) → ended ≡ false
+pub first_bad : (pairs : List (ℕ × ℕ)) (first : Option ℕ) (ended : Bool) (n : ℕ) (words : List (List ℕ)) (word : List ℕ) (fault : NumberFault)
+    → ended ≡ false
     → first ≡ None → node_or_end n word ≡ Err fault → PairsHold pairs first ended n words
     → word_fault n (place_of_fixed n words) word ≡ Some (row.Number fault)
-first_bad pairs first ended n words word fault open_ended is read h = rw (place_of_first pairs first ended n words open_ended is h, read) refl
+first_bad pairs first ended n words word fault open_ended is read h =
+    rw (place_of_first pairs first ended n words open_ended is h, read) refl
 
-pub first_surplus : (pairs : List (ℕ × ℕ)) (first : Option ℕ) (ended : Bool) (n : ℕ) (words : List (List ℕ)) (word : List ℕ) (k : ℕ) → ended ≡ false
+pub first_surplus : (pairs : List (ℕ × ℕ)) (first : Option ℕ) (ended : Bool) (n : ℕ) (words : List (List ℕ)) (word : List ℕ) (k : ℕ)
+    → ended ≡ false
     → first ≡ None → node_or_end n word ≡ Ok (pos k) → most_fixed ≤ length pairs → PairsHold pairs first ended n words
     → word_fault n (place_of_fixed n words) word ≡ Some row.Surplus
 first_surplus pairs first ended n words word k open_ended is read many h =
@@ -71,9 +80,11 @@ first_surplus pairs first ended n words word k open_ended is read many h =
 pub second_bad : (pairs : List (ℕ × ℕ)) (first : Option ℕ) (ended : Bool) (n : ℕ) (words : List (List ℕ)) (word : List ℕ) (k : ℕ) (fault : NumberFault)
     → ended ≡ false → first ≡ Some k → node n word ≡ Err fault → PairsHold pairs first ended n words
     → word_fault n (place_of_fixed n words) word ≡ Some (row.Number fault)
-second_bad pairs first ended n words word k fault open_ended is read h = rw (place_of_second pairs first ended n words k open_ended is h, read) refl
+second_bad pairs first ended n words word k fault open_ended is read h =
+    rw (place_of_second pairs first ended n words k open_ended is h, read) refl
 
-pub second_same : (pairs : List (ℕ × ℕ)) (first : Option ℕ) (ended : Bool) (n : ℕ) (words : List (List ℕ)) (word : List ℕ) (k : ℕ) → ended ≡ false
+pub second_same : (pairs : List (ℕ × ℕ)) (first : Option ℕ) (ended : Bool) (n : ℕ) (words : List (List ℕ)) (word : List ℕ) (k : ℕ)
+    → ended ≡ false
     → first ≡ Some k → node n word ≡ Ok (pos k) → PairsHold pairs first ended n words
     → word_fault n (place_of_fixed n words) word ≡ Some row.SelfEdge
 second_same pairs first ended n words word k open_ended is read h =
@@ -82,8 +93,10 @@ second_same pairs first ended n words word k open_ended is read h =
 
 -- ---- the part after the word
 
-pub pair_past_end : (pairs : List (ℕ × ℕ)) (first : Option ℕ) (ended : Bool) (n : ℕ) (words : List (List ℕ)) (word : List ℕ) → ended ≡ true → is_minus_one word ≡ true
-    → PairsHold pairs first ended n words → (word_fault n (place_of_fixed n words) word ≡ None) × PairsHold pairs first ended n (words ++ word ∷ [])
+pub pair_past_end : (pairs : List (ℕ × ℕ)) (first : Option ℕ) (ended : Bool) (n : ℕ) (words : List (List ℕ)) (word : List ℕ)
+    → ended ≡ true → is_minus_one word ≡ true
+    → PairsHold pairs first ended n words
+    → (word_fault n (place_of_fixed n words) word ≡ None) × PairsHold pairs first ended n (words ++ word ∷ [])
 pair_past_end pairs first ended n words word e minus_one h =
     let any : list_any (is_end n) (firsts_in words) ≡ true = sym h.closed ∙ e in (
       past_end_clean n (place_of_fixed n words) word (place_past_end pairs first ended n words e h) minus_one,
@@ -97,7 +110,8 @@ pair_past_end pairs first ended n words word e minus_one h =
       },
     )
 
-pub pairs_ended : (pairs : List (ℕ × ℕ)) (first : Option ℕ) (ended : Bool) (n : ℕ) (words : List (List ℕ)) (word : List ℕ) → ended ≡ false → first ≡ None
+pub pairs_ended : (pairs : List (ℕ × ℕ)) (first : Option ℕ) (ended : Bool) (n : ℕ) (words : List (List ℕ)) (word : List ℕ)
+    → ended ≡ false → first ≡ None
     → node_or_end n word ≡ Ok (negsuc 0) → PairsHold pairs first ended n words
     → (word_fault n (place_of_fixed n words) word ≡ None) × PairsHold pairs first true n (words ++ word ∷ [])
 pairs_ended pairs first ended n words word e is read h =
@@ -114,7 +128,8 @@ pairs_ended pairs first ended n words word e is read h =
       },
     )
 
-pub pair_begins : (pairs : List (ℕ × ℕ)) (first : Option ℕ) (ended : Bool) (n : ℕ) (words : List (List ℕ)) (word : List ℕ) (k : ℕ) → ended ≡ false → first ≡ None
+pub pair_begins : (pairs : List (ℕ × ℕ)) (first : Option ℕ) (ended : Bool) (n : ℕ) (words : List (List ℕ)) (word : List ℕ) (k : ℕ)
+    → ended ≡ false → first ≡ None
     → node_or_end n word ≡ Ok (pos k) → length pairs < most_fixed → PairsHold pairs first ended n words
     → (word_fault n (place_of_fixed n words) word ≡ None) × PairsHold pairs (Some k) ended n (words ++ word ∷ [])
 pair_begins pairs first ended n words word k e is read room h =
@@ -132,7 +147,8 @@ pair_begins pairs first ended n words word k e is read room h =
       },
     )
 
-pub pair_ends : (pairs : List (ℕ × ℕ)) (first : Option ℕ) (ended : Bool) (n : ℕ) (words : List (List ℕ)) (word : List ℕ) (k j : ℕ) → ended ≡ false → first ≡ Some k
+pub pair_ends : (pairs : List (ℕ × ℕ)) (first : Option ℕ) (ended : Bool) (n : ℕ) (words : List (List ℕ)) (word : List ℕ) (k j : ℕ)
+    → ended ≡ false → first ≡ Some k
     → node n word ≡ Ok (pos j) → j ≢ k → PairsHold pairs first ended n words
     → (word_fault n (place_of_fixed n words) word ≡ None) × PairsHold (pairs ++ (k, j) ∷ []) None ended n (words ++ word ∷ [])
 pair_ends pairs first ended n words word k j e is read apart h =
@@ -158,8 +174,10 @@ pair_ends pairs first ended n words word k j e is read apart h =
 -- ---- the end
 
 -- a pair is cut short exactly where it has begun
-pub pair_cut_short : (pairs : List (ℕ × ℕ)) (first : Option ℕ) (ended : Bool) (n : ℕ) (words : List (List ℕ)) → PairsHold pairs first ended n words
+pub pair_cut_short : (pairs : List (ℕ × ℕ)) (first : Option ℕ) (ended : Bool) (n : ℕ) (words : List (List ℕ))
+    → PairsHold pairs first ended n words
     → is_some first ≡ wants_more (place_of_fixed n words)
-pair_cut_short pairs first true n words h = ap is_some (h.whole refl) ∙ sym (ap wants_more (place_past_end pairs first true n words refl h))
+pair_cut_short pairs first true n words h =
+    ap is_some (h.whole refl) ∙ sym (ap wants_more (place_past_end pairs first true n words refl h))
 pair_cut_short pairs None false n words h = sym (ap wants_more (place_of_first pairs None false n words refl refl h))
 pair_cut_short pairs (Some k) false n words h = sym (ap wants_more (place_of_second pairs (Some k) false n words k refl refl h))

@@ -14,12 +14,12 @@ use Rattle.tsp_number.specs.Reading.{whole_of}
 use Rattle.tsp_format.specs.Cells.{nodes_to}
 use Rattle.tsp_text.specs.declared.fault.LineFault.{LineFault}
 use Rattle.tsp_text.specs.declared.fault.LineFault.TheVariants as row
-use Rattle.tsp_text.specs.Numbers.{node, reads_as, IsWhole}
-use Rattle.tsp_text.specs.Places.{Place, NodeAfter}
+use Rattle.tsp_text.specs.SectionNumbers.{node, reads_as, IsWhole}
+use Rattle.tsp_text.specs.WordPlaces.{Place, NodeAfter}
 use Rattle.tsp_text.specs.Groups.{entry_of, nodes_of_groups, by_node, place_in_group}
 use Rattle.tsp_text.specs.Spells.{wants_more}
 use Rattle.tsp_section.specs.states.Parts.{IsNodeOf, IsNewNode, NodesHold}
-use Rattle.tsp_text.specs.Rows.{word_fault}
+use Rattle.tsp_text.specs.FaultRows.{word_fault}
 
 -- ---- the entry of a node, by the groups
 
@@ -34,24 +34,29 @@ found_step true x o = refl
 found_step false x o = refl
 
 -- an earlier group has the node exactly where the node has an entry
-is_entry : {X : Type 0} (groups : List (ℤ × X)) (z : ℤ) → list_any (λ earlier. reads_as earlier (Ok z)) (nodes_of_groups groups) ≡ is_some (entry_of groups z)
+is_entry : {X : Type 0} (groups : List (ℤ × X)) (z : ℤ)
+    → list_any (λ earlier. reads_as earlier (Ok z)) (nodes_of_groups groups) ≡ is_some (entry_of groups z)
 is_entry [] z = refl
 is_entry (group ∷ groups) z =
     rw (int_eq_turned z group.0) (ap (λ b. int_eq group.0 z || b) (is_entry groups z) ∙ sym (found_step (int_eq group.0 z) group.1 (entry_of groups z)))
 
 -- another group leaves the entry of a node alone
-entry_other : {X : Type 0} (groups : List (ℤ × X)) (first z : ℤ) (x : X) → int_eq first z ≡ false → entry_of (groups ++ (first, x) ∷ []) z ≡ entry_of groups z
+entry_other : {X : Type 0} (groups : List (ℤ × X)) (first z : ℤ) (x : X) → int_eq first z ≡ false
+    → entry_of (groups ++ (first, x) ∷ []) z ≡ entry_of groups z
 entry_other [] first z x e = rw e refl
 entry_other (group ∷ groups) first z x e = ap (cond (int_eq group.0 z) (Some group.1)) (entry_other groups first z x e)
 
-new_step : {X : Type 0} (b : Bool) (x y : X) (o p : Option X) → (o ≡ None → p ≡ Some x) → cond b (Some y) o ≡ None → cond b (Some y) p ≡ Some x
+new_step : {X : Type 0} (b : Bool) (x y : X) (o p : Option X) → (o ≡ None → p ≡ Some x) → cond b (Some y) o ≡ None
+    → cond b (Some y) p ≡ Some x
 new_step true x y o p h e = cc
 new_step false x y o p h e = h e
 
 -- the entry of a node that has none yet
-entry_new : {X : Type 0} (groups : List (ℤ × X)) (z : ℤ) (x : X) → entry_of groups z ≡ None → entry_of (groups ++ (z, x) ∷ []) z ≡ Some x
+entry_new : {X : Type 0} (groups : List (ℤ × X)) (z : ℤ) (x : X) → entry_of groups z ≡ None
+    → entry_of (groups ++ (z, x) ∷ []) z ≡ Some x
 entry_new [] z x e = rw ((Decides-int_eq z z).1 refl) refl
-entry_new (group ∷ groups) z x e = new_step (int_eq group.0 z) x group.1 (entry_of groups z) (entry_of (groups ++ (z, x) ∷ []) z) (entry_new groups z x) e
+entry_new (group ∷ groups) z x e =
+    new_step (int_eq group.0 z) x group.1 (entry_of groups z) (entry_of (groups ++ (z, x) ∷ []) z) (entry_new groups z x) e
 
 -- ---- marks
 
@@ -60,7 +65,8 @@ none_of None e = refl
 none_of (Some x) e = cc
 
 -- a node has a mark exactly where it has an entry
-mark_is_entry : {X : Type 0} (missing : X) (seen : List Bool) (entries : List X) (left : ℕ) (begun : Option ℕ) (n k : ℕ) (groups : List (ℤ × X)) → IsNodeOf n k
+mark_is_entry : {X : Type 0} (missing : X) (seen : List Bool) (entries : List X) (left : ℕ) (begun : Option ℕ) (n k : ℕ) (groups : List (ℤ × X))
+    → IsNodeOf n k
     → NodesHold missing seen entries left begun n groups → slice_index_or seen (k - 1) false ≡ is_some (entry_of groups (pos k))
 mark_is_entry missing seen entries left begun n k groups within h =
     let place : k - 1 + 1 ≡ k = omega (arith, within.0) in
@@ -72,7 +78,8 @@ pub natural : (z : ℤ) → FitsUnsignedBits 32 z → z ≡ pos (nat_abs z)
 natural (pos n) fits = refl
 natural (negsuc n) fits = absurd fits
 
-pub unmarked : (seen : List Bool) (z : ℤ) (k : ℕ) (word : List ℕ) → IsWhole word z → FitsUnsignedBits 32 z × (k ≡ nat_abs z) → 1 ≤ k → k ≤ length seen
+pub unmarked : (seen : List Bool) (z : ℤ) (k : ℕ) (word : List ℕ) → IsWhole word z → FitsUnsignedBits 32 z × (k ≡ nat_abs z)
+    → 1 ≤ k → k ≤ length seen
     → slice_index_or seen (k - 1) false ≡ false → IsNewNode seen word (Ok k)
 unmarked seen z k word whole from some within free =
     let is : z ≡ pos k = natural z from.0 ∙ ap (λ (j : ℕ). pos j) (sym from.1) in
@@ -81,7 +88,8 @@ unmarked seen z k word whole from some within free =
 
 -- ---- no groups so far
 
-pub nodes_unmarked : {X : Type 0} (missing : X) (seen : List Bool) (entries : List X) (n : ℕ) → seen ≡ replicate n false → entries ≡ replicate n missing
+pub nodes_unmarked : {X : Type 0} (missing : X) (seen : List Bool) (entries : List X) (n : ℕ) → seen ≡ replicate n false
+    → entries ≡ replicate n missing
     → NodesHold missing seen entries n None n []
 nodes_unmarked missing seen entries n unseen empty = record {
   wide = ap length unseen ∙ length-replicate n false;
@@ -119,12 +127,14 @@ node_begins missing seen entries left begun n k groups place word is new h =
     )
 
 -- it isn't read as a node
-node_bad : (n : ℕ) (nodes : List ℤ) (place : Place) (word : List ℕ) (fault : NumberFault) → place ≡ NodeAfter nodes → node n word ≡ Err fault
+node_bad : (n : ℕ) (nodes : List ℤ) (place : Place) (word : List ℕ) (fault : NumberFault) → place ≡ NodeAfter nodes
+    → node n word ≡ Err fault
     → word_fault n place word ≡ Some (row.Number fault)
 node_bad n nodes place word fault is read = rw (is, read) refl
 
 -- an earlier group has it
-node_repeats : {X : Type 0} (n k : ℕ) (groups : List (ℤ × X)) (place : Place) (word : List ℕ) → place ≡ NodeAfter (nodes_of_groups groups) → node n word ≡ Ok (pos k)
+node_repeats : {X : Type 0} (n k : ℕ) (groups : List (ℤ × X)) (place : Place) (word : List ℕ)
+    → place ≡ NodeAfter (nodes_of_groups groups) → node n word ≡ Ok (pos k)
     → is_some (entry_of groups (pos k)) ≡ true → word_fault n place word ≡ Some row.RepeatedNode
 node_repeats n k groups place word is read found =
     let any : list_any (λ earlier. reads_as earlier (Ok (pos k))) (nodes_of_groups groups) ≡ true = is_entry groups (pos k) ∙ found in
@@ -148,7 +158,8 @@ node_faulty missing seen entries left begun n groups place word fault is new h =
 at_or_other : (i k : ℕ) → (i ≡ k) ⊎ (i ≢ k)
 at_or_other i k = search rules
 
-pub entry_fills : {X : Type 0} (missing x : X) (seen : List Bool) (entries : List X) (left n k : ℕ) (groups : List (ℤ × X)) → 0 < left
+pub entry_fills : {X : Type 0} (missing x : X) (seen : List Bool) (entries : List X) (left n k : ℕ) (groups : List (ℤ × X))
+    → 0 < left
     → NodesHold missing seen entries left (Some k) n groups
     → NodesHold missing (set seen (k - 1) true) (set entries (k - 1) x) (left - 1) None n (groups ++ (pos k, x) ∷ [])
 entry_fills missing x seen entries left n k groups some h =
@@ -188,6 +199,7 @@ entries_by_node missing seen entries left begun n groups h =
     (λ i lt. h.filled i (omega (arith, h.sized)) ∙ sym (get_or-map-range_with_len f 1 n i (i + 1) missing (omega (arith, h.sized)) (omega arith)))
 
 -- a group is still to come where words are wanted
-pub wants_in_group : (place : Place) (nodes : List ℤ) (begun : List (List ℕ)) → wants_more place ≡ true → wants_more (place_in_group place nodes begun) ≡ true
+pub wants_in_group : (place : Place) (nodes : List ℤ) (begun : List (List ℕ)) → wants_more place ≡ true
+    → wants_more (place_in_group place nodes begun) ≡ true
 wants_in_group place nodes [] e = refl
 wants_in_group place nodes (word ∷ begun) e = e

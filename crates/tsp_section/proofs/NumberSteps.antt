@@ -7,12 +7,12 @@ use Rattle.tsp_number.specs.declared.fault.NumberFault.{NumberFault}
 use Rattle.tsp_number.specs.Reading.{whole_of}
 use Rattle.tsp_text.specs.declared.fault.LineFault.{LineFault}
 use Rattle.tsp_text.specs.declared.fault.LineFault.TheVariants as row
-use Rattle.tsp_text.specs.Numbers.{number, node, is_minus_one}
-use Rattle.tsp_text.specs.Places.{NodeAfter, Amount, PastGroups}
+use Rattle.tsp_text.specs.SectionNumbers.{number, node, is_minus_one}
+use Rattle.tsp_text.specs.WordPlaces.{NodeAfter, Amount, PastGroups}
 use Rattle.tsp_text.specs.Groups.{pairs_in, begun_pair, number_groups, nodes_of_groups, place_of_number, numbers_by_node}
 use Rattle.tsp_text.specs.Spells.{wants_more}
 use Rattle.tsp_section.specs.states.Parts.{readings, IsNewNode, NodesHold, NumbersHold}
-use Rattle.tsp_text.specs.Rows.{word_fault}
+use Rattle.tsp_text.specs.FaultRows.{word_fault}
 use Rattle.tsp_section.proofs.Readings.{none_read, one_read}
 use Rattle.tsp_text.proofs.PairWords.{length_pairs, pairs_begin, begun_begin, pairs_end, begun_end}
 use Rattle.tsp_section.proofs.NodeGroups.{nodes_unmarked, node_begins, node_faulty, entry_fills, entries_by_node, wants_in_group}
@@ -23,18 +23,21 @@ abbrev group_of : ℤ → ℤ → ℕ → List ℕ × List ℕ → ℤ × ℤ
 group_of low high n = λ group. (number (node n group.0), number (whole_of group.1 low high))
 
 -- where no words come past the groups
-all_groups : (low high : ℤ) (n : ℕ) (words : List (List ℕ)) → length words ≤ 2 * n → number_groups low high n words ≡ map (group_of low high n) (pairs_in words)
+all_groups : (low high : ℤ) (n : ℕ) (words : List (List ℕ)) → length words ≤ 2 * n
+    → number_groups low high n words ≡ map (group_of low high n) (pairs_in words)
 all_groups low high n words few = ap (λ ws. map (group_of low high n) (pairs_in ws)) (take_all (2 * n) words few)
 
 -- as many words as groups want
-words_so_far : (low high : ℤ) (n left : ℕ) (words : List (List ℕ)) → length words < 2 * n → length (number_groups low high n words) + left ≡ n
+words_so_far : (low high : ℤ) (n left : ℕ) (words : List (List ℕ)) → length words < 2 * n
+    → length (number_groups low high n words) + left ≡ n
     → length words + 2 * left ≡ 2 * n + length (begun_pair words)
 words_so_far low high n left words short to_come =
     let count = ap length (all_groups low high n words (omega arith)) ∙ length-map (pairs_in words) (group_of low high n) in
     omega (arith, count, length_pairs words)
 
 -- no words so far
-pub no_numbers : (seen : List Bool) (entries : List ℤ) (low high : ℤ) (n : ℕ) → seen ≡ replicate n false → entries ≡ replicate n (pos 0)
+pub no_numbers : (seen : List Bool) (entries : List ℤ) (low high : ℤ) (n : ℕ) → seen ≡ replicate n false
+    → entries ≡ replicate n (pos 0)
     → NumbersHold seen entries n None low high n []
 no_numbers seen entries low high n unseen zeros = record {
   nodes = rw (all_groups low high n [] (omega arith)) (nodes_unmarked (pos 0) seen entries n unseen zeros);
@@ -45,22 +48,30 @@ no_numbers seen entries low high n unseen zeros = record {
 
 -- ---- the place of the next word
 
-none_begun : (seen : List Bool) (entries : List ℤ) (left : ℕ) (begun : Option ℕ) (low high : ℤ) (n : ℕ) (words : List (List ℕ)) → 0 < left → begun ≡ None
+none_begun : (seen : List Bool) (entries : List ℤ) (left : ℕ) (begun : Option ℕ) (low high : ℤ) (n : ℕ) (words : List (List ℕ))
+    → 0 < left → begun ≡ None
     → NumbersHold seen entries left begun low high n words → begun_pair words ≡ []
-none_begun seen entries left begun low high n words some is h = none_read (node n) (begun_pair words) (h.cut some ∙ ap readings is)
+none_begun seen entries left begun low high n words some is h =
+    none_read (node n) (begun_pair words) (h.cut some ∙ ap readings is)
 
-one_begun : (seen : List Bool) (entries : List ℤ) (left : ℕ) (begun : Option ℕ) (low high : ℤ) (n : ℕ) (words : List (List ℕ)) (k : ℕ) → 0 < left → begun ≡ Some k
-    → NumbersHold seen entries left begun low high n words → (first : List ℕ) × (begun_pair words ≡ first ∷ []) × (node n first ≡ Ok (pos k))
-one_begun seen entries left begun low high n words k some is h = one_read (node n) (begun_pair words) (Ok (pos k)) (h.cut some ∙ ap readings is)
+one_begun : (seen : List Bool) (entries : List ℤ) (left : ℕ) (begun : Option ℕ) (low high : ℤ) (n : ℕ) (words : List (List ℕ)) (k : ℕ)
+    → 0 < left → begun ≡ Some k
+    → NumbersHold seen entries left begun low high n words
+    → (first : List ℕ) × (begun_pair words ≡ first ∷ []) × (node n first ≡ Ok (pos k))
+one_begun seen entries left begun low high n words k some is h =
+    one_read (node n) (begun_pair words) (Ok (pos k)) (h.cut some ∙ ap readings is)
 
-place_of_node : (seen : List Bool) (entries : List ℤ) (left : ℕ) (begun : Option ℕ) (low high : ℤ) (n : ℕ) (words : List (List ℕ)) → 0 < left → begun ≡ None
-    → NumbersHold seen entries left begun low high n words → place_of_number low high n words ≡ NodeAfter (nodes_of_groups (number_groups low high n words))
+place_of_node : (seen : List Bool) (entries : List ℤ) (left : ℕ) (begun : Option ℕ) (low high : ℤ) (n : ℕ) (words : List (List ℕ))
+    → 0 < left → begun ≡ None
+    → NumbersHold seen entries left begun low high n words
+    → place_of_number low high n words ≡ NodeAfter (nodes_of_groups (number_groups low high n words))
 place_of_node seen entries left begun low high n words some is h =
     let short = h.open_ended some in
     let few : nat_le (2 * n) (length words) ≡ false = grind (arith, nat_tests) in
     rw (few, none_begun seen entries left begun low high n words some is h) refl
 
-place_of_amount : (seen : List Bool) (entries : List ℤ) (left : ℕ) (begun : Option ℕ) (low high : ℤ) (n : ℕ) (words : List (List ℕ)) (k : ℕ) → 0 < left → begun ≡ Some k
+place_of_amount : (seen : List Bool) (entries : List ℤ) (left : ℕ) (begun : Option ℕ) (low high : ℤ) (n : ℕ) (words : List (List ℕ)) (k : ℕ)
+    → 0 < left → begun ≡ Some k
     → NumbersHold seen entries left begun low high n words → place_of_number low high n words ≡ Amount low high
 place_of_amount seen entries left begun low high n words k some is h =
     let short = h.open_ended some in
@@ -136,7 +147,8 @@ number_more seen entries left begun low high n words word k z some is read h =
 
 -- ---- past the groups
 
-past_numbers : (seen : List Bool) (entries : List ℤ) (left : ℕ) (begun : Option ℕ) (low high : ℤ) (n : ℕ) (words : List (List ℕ)) → left ≡ 0
+past_numbers : (seen : List Bool) (entries : List ℤ) (left : ℕ) (begun : Option ℕ) (low high : ℤ) (n : ℕ) (words : List (List ℕ))
+    → left ≡ 0
     → NumbersHold seen entries left begun low high n words → place_of_number low high n words ≡ PastGroups
 past_numbers seen entries left begun low high n words none h =
     let full = h.full none in
@@ -144,7 +156,8 @@ past_numbers seen entries left begun low high n words none h =
     rw past refl
 
 -- a -1 may end the section
-pub numbers_ended : (seen : List Bool) (entries : List ℤ) (left : ℕ) (begun : Option ℕ) (low high : ℤ) (n : ℕ) (words : List (List ℕ)) (word : List ℕ) → left ≡ 0 → is_minus_one word ≡ true
+pub numbers_ended : (seen : List Bool) (entries : List ℤ) (left : ℕ) (begun : Option ℕ) (low high : ℤ) (n : ℕ) (words : List (List ℕ)) (word : List ℕ)
+    → left ≡ 0 → is_minus_one word ≡ true
     → NumbersHold seen entries left begun low high n words
     → (word_fault n (place_of_number low high n words) word ≡ None) × NumbersHold seen entries left begun low high n (words ++ word ∷ [])
 numbers_ended seen entries left begun low high n words word none end h =
@@ -162,15 +175,19 @@ numbers_ended seen entries left begun low high n words word none end h =
     )
 
 -- any other word is one too many
-pub numbers_surplus : (seen : List Bool) (entries : List ℤ) (left : ℕ) (begun : Option ℕ) (low high : ℤ) (n : ℕ) (words : List (List ℕ)) (word : List ℕ) → left ≡ 0 → is_minus_one word ≡ false
-    → NumbersHold seen entries left begun low high n words → word_fault n (place_of_number low high n words) word ≡ Some row.Surplus
-numbers_surplus seen entries left begun low high n words word none other h = rw (past_numbers seen entries left begun low high n words none h, other) refl
+pub numbers_surplus : (seen : List Bool) (entries : List ℤ) (left : ℕ) (begun : Option ℕ) (low high : ℤ) (n : ℕ) (words : List (List ℕ)) (word : List ℕ)
+    → left ≡ 0 → is_minus_one word ≡ false
+    → NumbersHold seen entries left begun low high n words
+    → word_fault n (place_of_number low high n words) word ≡ Some row.Surplus
+numbers_surplus seen entries left begun low high n words word none other h =
+    rw (past_numbers seen entries left begun low high n words none h, other) refl
 
 -- ---- the end
 
 pub numbers_finish : (seen : List Bool) (entries : List ℤ) (left : ℕ) (begun : Option ℕ) (low high : ℤ) (n : ℕ) (words : List (List ℕ))
     → NumbersHold seen entries left begun low high n words → entries ≡ numbers_by_node low high n words
-numbers_finish seen entries left begun low high n words h = entries_by_node (pos 0) seen entries left begun n (number_groups low high n words) h.nodes
+numbers_finish seen entries left begun low high n words h =
+    entries_by_node (pos 0) seen entries left begun n (number_groups low high n words) h.nodes
 
 -- a group is still to come exactly where one is left
 pub numbers_to_come : (seen : List Bool) (entries : List ℤ) (left : ℕ) (begun : Option ℕ) (low high : ℤ) (n : ℕ) (words : List (List ℕ))

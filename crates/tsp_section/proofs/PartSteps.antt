@@ -9,7 +9,7 @@ use Rattle.tsp_format.specs.declared.field.Shape.TheVariants.{Numbers}
 use Rattle.tsp_text.specs.Groups.{place_of_number}
 use Rattle.tsp_text.specs.Sections.{place_by}
 use Rattle.tsp_section.specs.states.Parts.{Takes, are_in_space}
-use Rattle.tsp_section.specs.states.Held.{HoldsNumbers, HoldsPoints, shape_of_points, shape_by, HoldsPart, HoldsShape}
+use Rattle.tsp_section.specs.states.HeldParts.{HoldsNumbers, HoldsPoints, shape_of_points, shape_by, HoldsPart, HoldsShape}
 use Rattle.tsp_section.proofs.Taken.{takes_also}
 
 -- how a part takes a word

@@ -5,7 +5,8 @@ use Rattle.std.specs.List.{slice_split, onto_first, filter}
 abbrev IsFilled : {X : Type 0} → List X → Type 0
 IsFilled {X} xs = (x : X) × (rest : List X) × (xs ≡ x ∷ rest)
 
-filled_step : {X : Type 0} (b : Bool) (x : X) (pieces : List (List X)) → IsFilled pieces → IsFilled (cond b ([] ∷ pieces) (onto_first x pieces))
+filled_step : {X : Type 0} (b : Bool) (x : X) (pieces : List (List X)) → IsFilled pieces
+    → IsFilled (cond b ([] ∷ pieces) (onto_first x pieces))
 filled_step true x pieces h = ([], pieces, refl)
 filled_step false x pieces h = (x ∷ h.0, h.1, ap (onto_first x) h.2)
 
@@ -20,7 +21,8 @@ end_step true y pieces h = refl
 end_step false y pieces h = rw h.2 refl
 
 -- an element that ends a piece
-pub split_end : {X : Type 0} (p : X → Bool) (xs : List X) (x : X) → p x ≡ true → slice_split p (xs ++ x ∷ []) ≡ slice_split p xs ++ [] ∷ []
+pub split_end : {X : Type 0} (p : X → Bool) (xs : List X) (x : X) → p x ≡ true
+    → slice_split p (xs ++ x ∷ []) ≡ slice_split p xs ++ [] ∷ []
 split_end p [] x e = rw e refl
 split_end p (y ∷ xs) x e = rw (split_end p xs x e) (end_step (p y) y (slice_split p xs) (split_filled p xs))
 
@@ -29,7 +31,8 @@ onto_last x [] = (x ∷ []) ∷ []
 onto_last x (piece ∷ []) = (piece ++ x ∷ []) ∷ []
 onto_last x (piece ∷ next ∷ pieces) = piece ∷ onto_last x (next ∷ pieces)
 
-first_last : {X : Type 0} (x y : X) (piece : List X) (pieces : List (List X)) → onto_first y (onto_last x (piece ∷ pieces)) ≡ onto_last x ((y ∷ piece) ∷ pieces)
+first_last : {X : Type 0} (x y : X) (piece : List X) (pieces : List (List X))
+    → onto_first y (onto_last x (piece ∷ pieces)) ≡ onto_last x ((y ∷ piece) ∷ pieces)
 unfolding onto_last
 first_last x y piece [] = refl
 first_last x y piece (next ∷ pieces) = refl
@@ -40,19 +43,22 @@ unfolding onto_last
 last_step true x y pieces h = rw h.2 refl
 last_step false x y pieces h = rw h.2 (first_last x y h.0 h.1)
 
-split_last : {X : Type 0} (p : X → Bool) (xs : List X) (x : X) → p x ≡ false → slice_split p (xs ++ x ∷ []) ≡ onto_last x (slice_split p xs)
+split_last : {X : Type 0} (p : X → Bool) (xs : List X) (x : X) → p x ≡ false
+    → slice_split p (xs ++ x ∷ []) ≡ onto_last x (slice_split p xs)
 unfolding onto_last
 split_last p [] x e = rw e refl
 split_last p (y ∷ xs) x e = rw (split_last p xs x e) (last_step (p y) x y (slice_split p xs) (split_filled p xs))
 
-last_of : {X : Type 0} (x : X) (pieces : List (List X)) (piece : List X) → onto_last x (pieces ++ piece ∷ []) ≡ pieces ++ (piece ++ x ∷ []) ∷ []
+last_of : {X : Type 0} (x : X) (pieces : List (List X)) (piece : List X)
+    → onto_last x (pieces ++ piece ∷ []) ≡ pieces ++ (piece ++ x ∷ []) ∷ []
 unfolding onto_last
 last_of x [] piece = refl
 last_of x (first ∷ []) piece = refl
 last_of x (first ∷ next ∷ pieces) piece = ap (λ (rest : List (List _)). first ∷ rest) (last_of x (next ∷ pieces) piece)
 
 -- an element that the last piece goes on with
-pub split_more : {X : Type 0} (p : X → Bool) (xs : List X) (x : X) (pieces : List (List X)) (last : List X) → p x ≡ false → slice_split p xs ≡ pieces ++ last ∷ []
+pub split_more : {X : Type 0} (p : X → Bool) (xs : List X) (x : X) (pieces : List (List X)) (last : List X) → p x ≡ false
+    → slice_split p xs ≡ pieces ++ last ∷ []
     → slice_split p (xs ++ x ∷ []) ≡ pieces ++ (last ++ x ∷ []) ∷ []
 split_more p xs x pieces last e h = split_last p xs x e ∙ ap (onto_last x) h ∙ last_of x pieces last
 
@@ -61,6 +67,8 @@ length_cond true x xs = omega arith
 length_cond false x xs = omega arith
 
 -- how many pass, with one element more
-pub count_push : {X : Type 0} (p : X → Bool) (xs : List X) (x : X) → length (filter p (xs ++ x ∷ [])) ≡ length (filter p xs) + cond (p x) 1 0
+pub count_push : {X : Type 0} (p : X → Bool) (xs : List X) (x : X)
+    → length (filter p (xs ++ x ∷ [])) ≡ length (filter p xs) + cond (p x) 1 0
 count_push p [] x = length_cond (p x) x []
-count_push p (y ∷ xs) x = omega (arith, length_cond (p y) y (filter p (xs ++ x ∷ [])), length_cond (p y) y (filter p xs), count_push p xs x)
+count_push p (y ∷ xs) x =
+    omega (arith, length_cond (p y) y (filter p (xs ++ x ∷ [])), length_cond (p y) y (filter p xs), count_push p xs x)

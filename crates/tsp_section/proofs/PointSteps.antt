@@ -11,12 +11,12 @@ use Rattle.tsp_number.specs.declared.fault.NumberFault.{NumberFault}
 use Rattle.tsp_number.specs.Reading.{decimal_of}
 use Rattle.tsp_text.specs.declared.fault.LineFault.{LineFault}
 use Rattle.tsp_text.specs.declared.fault.LineFault.TheVariants as row
-use Rattle.tsp_text.specs.Numbers.{number, node, is_minus_one}
-use Rattle.tsp_text.specs.Places.{NodeAfter, Coordinate, PastGroups}
+use Rattle.tsp_text.specs.SectionNumbers.{number, node, is_minus_one}
+use Rattle.tsp_text.specs.WordPlaces.{NodeAfter, Coordinate, PastGroups}
 use Rattle.tsp_text.specs.Groups.{threes_in, begun_triple, point_in_words, point_groups, nodes_of_groups, place_of_point, points_by_node}
 use Rattle.tsp_text.specs.Spells.{wants_more}
 use Rattle.tsp_section.specs.states.Parts.{BeginsPoint, IsNewNode, NodesHold, PointsHold}
-use Rattle.tsp_text.specs.Rows.{word_fault}
+use Rattle.tsp_text.specs.FaultRows.{word_fault}
 use Rattle.tsp_text.proofs.TripleWords.{length_triples, triples_begin, begun_begin, triples_middle, begun_middle, triples_end, begun_end}
 use Rattle.tsp_section.proofs.NodeGroups.{nodes_unmarked, node_begins, node_faulty, entry_fills, entries_by_node, wants_in_group}
 
@@ -42,7 +42,8 @@ words_so_far n left words short to_come =
     omega (arith, count, length_triples words)
 
 -- a word more that ends no group leaves the groups alone
-groups_kept : (n : ℕ) (words : List (List ℕ)) (word : List ℕ) → length words < 3 * n → threes_in (words ++ word ∷ []) ≡ threes_in words
+groups_kept : (n : ℕ) (words : List (List ℕ)) (word : List ℕ) → length words < 3 * n
+    → threes_in (words ++ word ∷ []) ≡ threes_in words
     → point_groups n (words ++ word ∷ []) ≡ point_groups n words
 groups_kept n words word short same =
     all_groups n (words ++ word ∷ []) (omega (arith, length_push words word)) ∙ ap (map (group_of n)) same ∙ sym (all_groups n words (omega arith))
@@ -63,7 +64,8 @@ none_begun : (n : ℕ) (x : Option ℤ) (words : List (List ℕ)) → BeginsPoin
 none_begun n x [] h = (refl, h)
 none_begun n x (word ∷ words) h = absurd h
 
-node_begun : (n k : ℕ) (words : List (List ℕ)) → BeginsPoint n (Some k) None words → (first : List ℕ) × (words ≡ first ∷ []) × (node n first ≡ Ok (pos k))
+node_begun : (n k : ℕ) (words : List (List ℕ)) → BeginsPoint n (Some k) None words
+    → (first : List ℕ) × (words ≡ first ∷ []) × (node n first ≡ Ok (pos k))
 node_begun n k [] h = absurd h
 node_begun n k (word ∷ []) h = (word, refl, h)
 node_begun n k (word ∷ other ∷ words) h = absurd h
@@ -75,7 +77,8 @@ coordinate_begun n k z (word ∷ []) h = absurd h
 coordinate_begun n k z (word ∷ other ∷ []) h = (word, other, refl, h.0, h.1)
 coordinate_begun n k z (word ∷ other ∷ more ∷ words) h = absurd h
 
-some_begun : (n k : ℕ) (x : Option ℤ) (words : List (List ℕ)) → BeginsPoint n (Some k) x words → (first : List ℕ) × (rest : List (List ℕ)) × (words ≡ first ∷ rest)
+some_begun : (n k : ℕ) (x : Option ℤ) (words : List (List ℕ)) → BeginsPoint n (Some k) x words
+    → (first : List ℕ) × (rest : List (List ℕ)) × (words ≡ first ∷ rest)
 some_begun n k None words h =
     let begun = node_begun n k words h in
     (begun.0, [], begun.1)
@@ -83,13 +86,15 @@ some_begun n k (Some z) words h =
     let begun = coordinate_begun n k z words h in
     (begun.0, begun.1 ∷ [], begun.2)
 
-begins : (left : ℕ) (begun o : Option ℕ) (x y : Option ℤ) (seen : List Bool) (entries : List Point) (n : ℕ) (words : List (List ℕ)) → 0 < left → begun ≡ o → x ≡ y
+begins : (left : ℕ) (begun o : Option ℕ) (x y : Option ℤ) (seen : List Bool) (entries : List Point) (n : ℕ) (words : List (List ℕ))
+    → 0 < left → begun ≡ o → x ≡ y
     → PointsHold seen entries left begun x n words → BeginsPoint n o y (begun_triple words)
 begins left begun o x y seen entries n words some is also h = rw (← is, ← also) (h.cut some)
 
 -- ---- the place of the next word
 
-place_of_node : (seen : List Bool) (entries : List Point) (left : ℕ) (begun : Option ℕ) (x : Option ℤ) (n : ℕ) (words : List (List ℕ)) → 0 < left → begun ≡ None
+place_of_node : (seen : List Bool) (entries : List Point) (left : ℕ) (begun : Option ℕ) (x : Option ℤ) (n : ℕ) (words : List (List ℕ))
+    → 0 < left → begun ≡ None
     → PointsHold seen entries left begun x n words → place_of_point n words ≡ NodeAfter (nodes_of_groups (point_groups n words))
 place_of_node seen entries left begun x n words some is h =
     let short = h.open_ended some in
@@ -97,7 +102,8 @@ place_of_node seen entries left begun x n words some is h =
     let start = none_begun n x (begun_triple words) (begins left begun None x x seen entries n words some is refl h) in
     rw (few, start.0) refl
 
-place_of_coordinate : (seen : List Bool) (entries : List Point) (left : ℕ) (begun : Option ℕ) (x : Option ℤ) (n : ℕ) (words : List (List ℕ)) (k : ℕ) → 0 < left
+place_of_coordinate : (seen : List Bool) (entries : List Point) (left : ℕ) (begun : Option ℕ) (x : Option ℤ) (n : ℕ) (words : List (List ℕ)) (k : ℕ)
+    → 0 < left
     → begun ≡ Some k → PointsHold seen entries left begun x n words → place_of_point n words ≡ Coordinate
 place_of_coordinate seen entries left begun x n words k some is h =
     let short = h.open_ended some in
@@ -117,7 +123,8 @@ point_node_faulty seen entries left begun x n words word fault some is new h =
 pub point_bad : (seen : List Bool) (entries : List Point) (left : ℕ) (begun : Option ℕ) (x : Option ℤ) (n : ℕ) (words : List (List ℕ)) (word : List ℕ) (k : ℕ)
     (fault : NumberFault) → 0 < left → begun ≡ Some k → decimal_of word ≡ Err fault → PointsHold seen entries left begun x n words
     → word_fault n (place_of_point n words) word ≡ Some (row.Number fault)
-point_bad seen entries left begun x n words word k fault some is read h = rw (place_of_coordinate seen entries left begun x n words k some is h, read) refl
+point_bad seen entries left begun x n words word k fault some is read h =
+    rw (place_of_coordinate seen entries left begun x n words k some is h, read) refl
 
 -- ---- the part after the word
 
@@ -192,7 +199,8 @@ point_more seen entries left begun x n words word k y z some is also read h =
 
 -- ---- past the groups
 
-past_points : (seen : List Bool) (entries : List Point) (left : ℕ) (begun : Option ℕ) (x : Option ℤ) (n : ℕ) (words : List (List ℕ)) → left ≡ 0
+past_points : (seen : List Bool) (entries : List Point) (left : ℕ) (begun : Option ℕ) (x : Option ℤ) (n : ℕ) (words : List (List ℕ))
+    → left ≡ 0
     → PointsHold seen entries left begun x n words → place_of_point n words ≡ PastGroups
 past_points seen entries left begun x n words none h =
     let full = h.full none in
@@ -200,7 +208,8 @@ past_points seen entries left begun x n words none h =
     rw past refl
 
 -- a -1 may end the section
-pub points_ended : (seen : List Bool) (entries : List Point) (left : ℕ) (begun : Option ℕ) (x : Option ℤ) (n : ℕ) (words : List (List ℕ)) (word : List ℕ) → left ≡ 0 → is_minus_one word ≡ true
+pub points_ended : (seen : List Bool) (entries : List Point) (left : ℕ) (begun : Option ℕ) (x : Option ℤ) (n : ℕ) (words : List (List ℕ)) (word : List ℕ)
+    → left ≡ 0 → is_minus_one word ≡ true
     → PointsHold seen entries left begun x n words
     → (word_fault n (place_of_point n words) word ≡ None) × PointsHold seen entries left begun x n (words ++ word ∷ [])
 points_ended seen entries left begun x n words word none end h =
@@ -218,15 +227,18 @@ points_ended seen entries left begun x n words word none end h =
     )
 
 -- any other word is one too many
-pub points_surplus : (seen : List Bool) (entries : List Point) (left : ℕ) (begun : Option ℕ) (x : Option ℤ) (n : ℕ) (words : List (List ℕ)) (word : List ℕ) → left ≡ 0 → is_minus_one word ≡ false
+pub points_surplus : (seen : List Bool) (entries : List Point) (left : ℕ) (begun : Option ℕ) (x : Option ℤ) (n : ℕ) (words : List (List ℕ)) (word : List ℕ)
+    → left ≡ 0 → is_minus_one word ≡ false
     → PointsHold seen entries left begun x n words → word_fault n (place_of_point n words) word ≡ Some row.Surplus
-points_surplus seen entries left begun x n words word none other h = rw (past_points seen entries left begun x n words none h, other) refl
+points_surplus seen entries left begun x n words word none other h =
+    rw (past_points seen entries left begun x n words none h, other) refl
 
 -- ---- the end
 
 pub points_finish : (seen : List Bool) (entries : List Point) (left : ℕ) (begun : Option ℕ) (x : Option ℤ) (n : ℕ) (words : List (List ℕ))
     → PointsHold seen entries left begun x n words → entries ≡ points_by_node n words
-points_finish seen entries left begun x n words h = entries_by_node origin seen entries left begun n (point_groups n words) h.nodes
+points_finish seen entries left begun x n words h =
+    entries_by_node origin seen entries left begun n (point_groups n words) h.nodes
 
 -- a group is still to come exactly where one is left
 pub points_to_come : (seen : List Bool) (entries : List Point) (left : ℕ) (begun : Option ℕ) (x : Option ℤ) (n : ℕ) (words : List (List ℕ))

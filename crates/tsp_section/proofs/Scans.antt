@@ -17,7 +17,8 @@ past p xs e =
     omega (arith, prefix_len-le-length (λ x. not (p x)) xs)
 
 -- where it is at k
-pub position_at : {X : Type 0} (p : X → Bool) (xs : List X) (k : ℕ) → position p xs ≡ Some k → (position_or_len p xs ≡ k) × (k < length xs)
+pub position_at : {X : Type 0} (p : X → Bool) (xs : List X) (k : ℕ) → position p xs ≡ Some k
+    → (position_or_len p xs ≡ k) × (k < length xs)
 position_at p xs k e =
     let at = cond_some _ _ _ e in
     let here : position_or_len p xs ≡ k = at.1 in
@@ -35,16 +36,21 @@ not_not false = refl
 
 pub front_len : {X : Type 0} (p : X → Bool) (xs : List X) → position_or_len (λ x. not (p x)) xs ≡ prefix_len p xs
 front_len p [] = refl
-front_len p (x ∷ xs) = ap (λ b. cond b (1 + position_or_len (λ x. not (p x)) xs) 0) (not_not (p x)) ∙ ap (λ n. cond (p x) (1 + n) 0) (front_len p xs)
+front_len p (x ∷ xs) =
+    ap (λ b. cond b (1 + position_or_len (λ x. not (p x)) xs) 0) (not_not (p x)) ∙ ap (λ n. cond (p x) (1 + n) 0) (front_len p xs)
 
-pub start_none : {X : Type 0} (p : X → Bool) (xs : List X) → position (λ x. not (p x)) xs ≡ None → drop (length xs) xs ≡ drop (prefix_len p xs) xs
+pub start_none : {X : Type 0} (p : X → Bool) (xs : List X) → position (λ x. not (p x)) xs ≡ None
+    → drop (length xs) xs ≡ drop (prefix_len p xs) xs
 start_none p xs e = ap (λ n. drop n xs) (sym (past (λ x. not (p x)) xs e) ∙ front_len p xs)
 
-pub start_some : {X : Type 0} (p : X → Bool) (xs : List X) (k : ℕ) → position (λ x. not (p x)) xs ≡ Some k → drop k xs ≡ drop (prefix_len p xs) xs
+pub start_some : {X : Type 0} (p : X → Bool) (xs : List X) (k : ℕ) → position (λ x. not (p x)) xs ≡ Some k
+    → drop k xs ≡ drop (prefix_len p xs) xs
 start_some p xs k e = ap (λ n. drop n xs) (sym (position_at (λ x. not (p x)) xs k e).0 ∙ front_len p xs)
 
-pub front_none : {X : Type 0} (p : X → Bool) (xs : List X) → position (λ x. not (p x)) xs ≡ None → take (length xs) xs ≡ take (prefix_len p xs) xs
+pub front_none : {X : Type 0} (p : X → Bool) (xs : List X) → position (λ x. not (p x)) xs ≡ None
+    → take (length xs) xs ≡ take (prefix_len p xs) xs
 front_none p xs e = ap (λ n. take n xs) (sym (past (λ x. not (p x)) xs e) ∙ front_len p xs)
 
-pub front_some : {X : Type 0} (p : X → Bool) (xs : List X) (k : ℕ) → position (λ x. not (p x)) xs ≡ Some k → take k xs ≡ take (prefix_len p xs) xs
+pub front_some : {X : Type 0} (p : X → Bool) (xs : List X) (k : ℕ) → position (λ x. not (p x)) xs ≡ Some k
+    → take k xs ≡ take (prefix_len p xs) xs
 front_some p xs k e = ap (λ n. take n xs) (sym (position_at (λ x. not (p x)) xs k e).0 ∙ front_len p xs)

@@ -9,12 +9,12 @@ use Rattle.tsp_number.specs.declared.fault.NumberFault.{NumberFault}
 use Rattle.tsp_number.specs.Reading.{decimal_of}
 use Rattle.tsp_text.specs.declared.fault.LineFault.{LineFault}
 use Rattle.tsp_text.specs.declared.fault.LineFault.TheVariants as row
-use Rattle.tsp_text.specs.Numbers.{number, node, is_minus_one}
-use Rattle.tsp_text.specs.Places.{NodeAfter, Coordinate, PastGroups}
+use Rattle.tsp_text.specs.SectionNumbers.{number, node, is_minus_one}
+use Rattle.tsp_text.specs.WordPlaces.{NodeAfter, Coordinate, PastGroups}
 use Rattle.tsp_text.specs.Groups.{fours_in, begun_four, space_point_of, space_point_groups, nodes_of_groups, place_of_space_point, space_points_by_node}
 use Rattle.tsp_text.specs.Spells.{wants_more}
 use Rattle.tsp_section.specs.states.Parts.{BeginsSpacePoint, IsNewNode, NodesHold, SpacePointsHold}
-use Rattle.tsp_text.specs.Rows.{word_fault}
+use Rattle.tsp_text.specs.FaultRows.{word_fault}
 use Rattle.tsp_text.proofs.FourWords.{length_fours, fours_begin, begun_begin, fours_second, begun_second, fours_third, begun_third, fours_end, begun_end}
 use Rattle.tsp_section.proofs.NodeGroups.{nodes_unmarked, node_begins, node_faulty, entry_fills, entries_by_node, wants_in_group}
 
@@ -24,7 +24,8 @@ abbrev group_of : ℕ → List ℕ × List ℕ × List ℕ × List ℕ → ℤ �
 group_of n = λ group. (number (node n group.0), space_point_of group.1 group.2 group.3)
 
 -- where no words come past the groups
-all_groups : (n : ℕ) (words : List (List ℕ)) → length words ≤ 4 * n → space_point_groups n words ≡ map (group_of n) (fours_in words)
+all_groups : (n : ℕ) (words : List (List ℕ)) → length words ≤ 4 * n
+    → space_point_groups n words ≡ map (group_of n) (fours_in words)
 all_groups n words few = ap (λ ws. map (group_of n) (fours_in ws)) (take_all (4 * n) words few)
 
 -- as many words as groups want
@@ -35,7 +36,8 @@ words_so_far n left words short to_come =
     omega (arith, count, length_fours words)
 
 -- a word more that ends no group leaves the groups alone
-groups_kept : (n : ℕ) (words : List (List ℕ)) (word : List ℕ) → length words < 4 * n → fours_in (words ++ word ∷ []) ≡ fours_in words
+groups_kept : (n : ℕ) (words : List (List ℕ)) (word : List ℕ) → length words < 4 * n
+    → fours_in (words ++ word ∷ []) ≡ fours_in words
     → space_point_groups n (words ++ word ∷ []) ≡ space_point_groups n words
 groups_kept n words word short same =
     all_groups n (words ++ word ∷ []) (omega (arith, length_push words word)) ∙ ap (map (group_of n)) same ∙ sym (all_groups n words (omega arith))
@@ -52,7 +54,8 @@ no_space_points seen entries n unseen at_origin = record {
 
 -- ---- the words of a group that has begun
 
-none_begun : (n : ℕ) (x y : Option ℤ) (words : List (List ℕ)) → BeginsSpacePoint n None x y words → (words ≡ []) × (x ≡ None) × (y ≡ None)
+none_begun : (n : ℕ) (x y : Option ℤ) (words : List (List ℕ)) → BeginsSpacePoint n None x y words
+    → (words ≡ []) × (x ≡ None) × (y ≡ None)
 none_begun n x y [] h = (refl, h.0, h.1)
 none_begun n x y (word ∷ words) h = absurd h
 
@@ -93,21 +96,26 @@ some_begun n k (Some v) (Some w) words h =
     let begun = second_begun n k v w words h in
     (begun.0, begun.1 ∷ begun.2 ∷ [], begun.3)
 
-begins : (left : ℕ) (begun o : Option ℕ) (x p y q : Option ℤ) (seen : List Bool) (entries : List Point) (n : ℕ) (words : List (List ℕ)) → 0 < left
-    → begun ≡ o → x ≡ p → y ≡ q → SpacePointsHold seen entries left begun x y n words → BeginsSpacePoint n o p q (begun_four words)
+begins : (left : ℕ) (begun o : Option ℕ) (x p y q : Option ℤ) (seen : List Bool) (entries : List Point) (n : ℕ) (words : List (List ℕ))
+    → 0 < left
+    → begun ≡ o → x ≡ p → y ≡ q → SpacePointsHold seen entries left begun x y n words
+    → BeginsSpacePoint n o p q (begun_four words)
 begins left begun o x p y q seen entries n words some is also too h = rw (← is, ← also, ← too) (h.cut some)
 
 -- ---- the place of the next word
 
-place_of_node : (seen : List Bool) (entries : List Point) (left : ℕ) (begun : Option ℕ) (x y : Option ℤ) (n : ℕ) (words : List (List ℕ)) → 0 < left → begun ≡ None
-    → SpacePointsHold seen entries left begun x y n words → place_of_space_point n words ≡ NodeAfter (nodes_of_groups (space_point_groups n words))
+place_of_node : (seen : List Bool) (entries : List Point) (left : ℕ) (begun : Option ℕ) (x y : Option ℤ) (n : ℕ) (words : List (List ℕ))
+    → 0 < left → begun ≡ None
+    → SpacePointsHold seen entries left begun x y n words
+    → place_of_space_point n words ≡ NodeAfter (nodes_of_groups (space_point_groups n words))
 place_of_node seen entries left begun x y n words some is h =
     let short = h.open_ended some in
     let few : nat_le (4 * n) (length words) ≡ false = grind (arith, nat_tests) in
     let start = none_begun n x y (begun_four words) (begins left begun None x x y y seen entries n words some is refl refl h) in
     rw (few, start.0) refl
 
-place_of_coordinate : (seen : List Bool) (entries : List Point) (left : ℕ) (begun : Option ℕ) (x y : Option ℤ) (n : ℕ) (words : List (List ℕ)) (k : ℕ) → 0 < left
+place_of_coordinate : (seen : List Bool) (entries : List Point) (left : ℕ) (begun : Option ℕ) (x y : Option ℤ) (n : ℕ) (words : List (List ℕ)) (k : ℕ)
+    → 0 < left
     → begun ≡ Some k → SpacePointsHold seen entries left begun x y n words → place_of_space_point n words ≡ Coordinate
 place_of_coordinate seen entries left begun x y n words k some is h =
     let short = h.open_ended some in
@@ -127,12 +135,14 @@ space_node_faulty seen entries left begun x y n words word fault some is new h =
 pub space_point_bad : (seen : List Bool) (entries : List Point) (left : ℕ) (begun : Option ℕ) (x y : Option ℤ) (n : ℕ) (words : List (List ℕ)) (word : List ℕ) (k : ℕ)
     (fault : NumberFault) → 0 < left → begun ≡ Some k → decimal_of word ≡ Err fault → SpacePointsHold seen entries left begun x y n words
     → word_fault n (place_of_space_point n words) word ≡ Some (row.Number fault)
-space_point_bad seen entries left begun x y n words word k fault some is read h = rw (place_of_coordinate seen entries left begun x y n words k some is h, read) refl
+space_point_bad seen entries left begun x y n words word k fault some is read h =
+    rw (place_of_coordinate seen entries left begun x y n words k some is h, read) refl
 
 -- ---- the part after the word
 
 -- a word that ends no group leaves it open
-open_still : (n left : ℕ) (words : List (List ℕ)) (word : List ℕ) → length words < 4 * n → length (space_point_groups n words) + left ≡ n
+open_still : (n left : ℕ) (words : List (List ℕ)) (word : List ℕ) → length words < 4 * n
+    → length (space_point_groups n words) + left ≡ n
     → length (begun_four words) < 3 → length (words ++ word ∷ []) < 4 * n
 open_still n left words word short to_come few =
     omega (arith, length_push words word, words_so_far n left words short to_come, few, short)
@@ -176,7 +186,8 @@ space_first seen entries left begun x y n words word k z some is also read h =
 
 -- the second coordinate
 pub space_second : (seen : List Bool) (entries : List Point) (left : ℕ) (begun : Option ℕ) (x y : Option ℤ) (n : ℕ) (words : List (List ℕ)) (word : List ℕ) (k : ℕ) (v z : ℤ)
-    → 0 < left → begun ≡ Some k → x ≡ Some v → y ≡ None → decimal_of word ≡ Ok z → SpacePointsHold seen entries left begun x y n words
+    → 0 < left → begun ≡ Some k → x ≡ Some v → y ≡ None → decimal_of word ≡ Ok z
+    → SpacePointsHold seen entries left begun x y n words
     → (word_fault n (place_of_space_point n words) word ≡ None) × SpacePointsHold seen entries left begun x (Some z) n (words ++ word ∷ [])
 space_second seen entries left begun x y n words word k v z some is also none read h =
     let first = first_begun n k v (begun_four words) (begins left begun (Some k) x (Some v) y None seen entries n words some is also none h) in
@@ -194,7 +205,8 @@ space_second seen entries left begun x y n words word k v z some is also none re
 
 -- the third coordinate
 pub space_third : (seen : List Bool) (entries : List Point) (left : ℕ) (begun : Option ℕ) (x y : Option ℤ) (n : ℕ) (words : List (List ℕ)) (word : List ℕ) (k : ℕ) (v w z : ℤ)
-    → 0 < left → begun ≡ Some k → x ≡ Some v → y ≡ Some w → decimal_of word ≡ Ok z → SpacePointsHold seen entries left begun x y n words
+    → 0 < left → begun ≡ Some k → x ≡ Some v → y ≡ Some w → decimal_of word ≡ Ok z
+    → SpacePointsHold seen entries left begun x y n words
     → (word_fault n (place_of_space_point n words) word ≡ None)
     × SpacePointsHold (set seen (k - 1) true) (set entries (k - 1) (record { x = v; y = w; z = z })) (left - 1) None None None n (words ++ word ∷ [])
 space_third seen entries left begun x y n words word k v w z some is also too read h =
@@ -222,7 +234,8 @@ space_third seen entries left begun x y n words word k v w z some is also too re
 
 -- ---- past the groups
 
-past_space : (seen : List Bool) (entries : List Point) (left : ℕ) (begun : Option ℕ) (x y : Option ℤ) (n : ℕ) (words : List (List ℕ)) → left ≡ 0
+past_space : (seen : List Bool) (entries : List Point) (left : ℕ) (begun : Option ℕ) (x y : Option ℤ) (n : ℕ) (words : List (List ℕ))
+    → left ≡ 0
     → SpacePointsHold seen entries left begun x y n words → place_of_space_point n words ≡ PastGroups
 past_space seen entries left begun x y n words none h =
     let full = h.full none in
@@ -230,7 +243,8 @@ past_space seen entries left begun x y n words none h =
     rw past refl
 
 -- a -1 may end the section
-pub space_ended : (seen : List Bool) (entries : List Point) (left : ℕ) (begun : Option ℕ) (x y : Option ℤ) (n : ℕ) (words : List (List ℕ)) (word : List ℕ) → left ≡ 0 → is_minus_one word ≡ true
+pub space_ended : (seen : List Bool) (entries : List Point) (left : ℕ) (begun : Option ℕ) (x y : Option ℤ) (n : ℕ) (words : List (List ℕ)) (word : List ℕ)
+    → left ≡ 0 → is_minus_one word ≡ true
     → SpacePointsHold seen entries left begun x y n words
     → (word_fault n (place_of_space_point n words) word ≡ None) × SpacePointsHold seen entries left begun x y n (words ++ word ∷ [])
 space_ended seen entries left begun x y n words word none end h =
@@ -248,15 +262,18 @@ space_ended seen entries left begun x y n words word none end h =
     )
 
 -- any other word is one too many
-pub space_surplus : (seen : List Bool) (entries : List Point) (left : ℕ) (begun : Option ℕ) (x y : Option ℤ) (n : ℕ) (words : List (List ℕ)) (word : List ℕ) → left ≡ 0 → is_minus_one word ≡ false
+pub space_surplus : (seen : List Bool) (entries : List Point) (left : ℕ) (begun : Option ℕ) (x y : Option ℤ) (n : ℕ) (words : List (List ℕ)) (word : List ℕ)
+    → left ≡ 0 → is_minus_one word ≡ false
     → SpacePointsHold seen entries left begun x y n words → word_fault n (place_of_space_point n words) word ≡ Some row.Surplus
-space_surplus seen entries left begun x y n words word none other h = rw (past_space seen entries left begun x y n words none h, other) refl
+space_surplus seen entries left begun x y n words word none other h =
+    rw (past_space seen entries left begun x y n words none h, other) refl
 
 -- ---- the end
 
 pub space_points_finish : (seen : List Bool) (entries : List Point) (left : ℕ) (begun : Option ℕ) (x y : Option ℤ) (n : ℕ) (words : List (List ℕ))
     → SpacePointsHold seen entries left begun x y n words → entries ≡ space_points_by_node n words
-space_points_finish seen entries left begun x y n words h = entries_by_node origin seen entries left begun n (space_point_groups n words) h.nodes
+space_points_finish seen entries left begun x y n words h =
+    entries_by_node origin seen entries left begun n (space_point_groups n words) h.nodes
 
 -- a group is still to come exactly where one is left
 pub space_points_to_come : (seen : List Bool) (entries : List Point) (left : ℕ) (begun : Option ℕ) (x y : Option ℤ) (n : ℕ) (words : List (List ℕ))

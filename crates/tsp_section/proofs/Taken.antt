@@ -2,10 +2,11 @@
 use Rattle.std.proofs.Common.{ℕ, List, Result, Ok, Err}
 use Rattle.tsp_section.specs.declared.fault.StepFault.{StepFault}
 use Rattle.tsp_section.specs.declared.fault.StepFault.TheVariants as steps
-use Rattle.tsp_text.specs.Places.{Place}
+use Rattle.tsp_text.specs.WordPlaces.{Place}
 use Rattle.tsp_section.specs.states.Parts.{Takes}
 
-pub takes_also : (n : ℕ) (place : Place) (word : List ℕ) (A B : Type 0) (r : Result (Unit {0}) StepFault) → (A → B) → Takes n place word A r → Takes n place word B r
+pub takes_also : (n : ℕ) (place : Place) (word : List ℕ) (A B : Type 0) (r : Result (Unit {0}) StepFault) → (A → B)
+    → Takes n place word A r → Takes n place word B r
 takes_also n place word A B (Ok done) f h = (h.0, f h.1)
 takes_also n place word A B (Err steps.Memory) f h = tt
 takes_also n place word A B (Err (steps.Fault fault)) f h = h

@@ -11,12 +11,12 @@ use Rattle.tsp_section.specs.declared.fault.StepFault.{StepFault}
 use Rattle.tsp_section.specs.declared.fault.StepFault.TheVariants as steps
 use Rattle.tsp_section.specs.declared.parts.tours.TourList.{TourList}
 use Rattle.tsp_number.specs.Reading.{whole_of}
-use Rattle.tsp_text.specs.Numbers.{node_or_end, IsWhole}
-use Rattle.tsp_text.specs.Places.{TourNode}
-use Rattle.tsp_text.specs.Tours.{ends_tour, tour_node, place_of_tour}
+use Rattle.tsp_text.specs.SectionNumbers.{node_or_end, IsWhole}
+use Rattle.tsp_text.specs.WordPlaces.{TourNode}
+use Rattle.tsp_text.specs.TourSection.{ends_tour, tour_node, place_of_tour}
 use Rattle.tsp_section.specs.states.Parts.{Takes}
-use Rattle.tsp_text.specs.Rows.{word_fault}
-use Rattle.tsp_section.specs.states.Held.{HoldsTours, EndsRunOf}
+use Rattle.tsp_text.specs.FaultRows.{word_fault}
+use Rattle.tsp_section.specs.states.HeldParts.{HoldsTours, EndsRunOf}
 use Rattle.tsp_section.proofs.NodeGroups.{natural}
 use Rattle.tsp_section.proofs.Pieces.{split_end, split_more, count_push}
 
@@ -26,10 +26,12 @@ and_false : (b : Bool) → (b && false) ≡ false
 and_false true = refl
 and_false false = refl
 
-end_clean : (n count : ℕ) (word : List ℕ) → node_or_end most_nodes word ≡ Ok (negsuc 0) → word_fault n (TourNode count) word ≡ None
+end_clean : (n count : ℕ) (word : List ℕ) → node_or_end most_nodes word ≡ Ok (negsuc 0)
+    → word_fault n (TourNode count) word ≡ None
 end_clean n count word read = rw (read, and_false (nat_le most_tour_nodes count)) refl
 
-node_clean : (n count k : ℕ) (word : List ℕ) → node_or_end most_nodes word ≡ Ok (pos k) → nat_le most_tour_nodes count ≡ false → word_fault n (TourNode count) word ≡ None
+node_clean : (n count k : ℕ) (word : List ℕ) → node_or_end most_nodes word ≡ Ok (pos k) → nat_le most_tour_nodes count ≡ false
+    → word_fault n (TourNode count) word ≡ None
 node_clean n count k word read few = rw (read, few) refl
 
 -- ---- the words
@@ -39,14 +41,17 @@ not_nothing zero some = absurd (omega (arith, some))
 not_nothing (suc k) some = search rules
 
 -- a whole number among the nodes is read as that node
-pub whole_node : (z : ℤ) (k : ℕ) (word : List ℕ) → IsWhole word z → FitsUnsignedBits 32 z × (k ≡ nat_abs z) → 1 ≤ k → k ≤ most_nodes → node_or_end most_nodes word ≡ Ok (pos k)
+pub whole_node : (z : ℤ) (k : ℕ) (word : List ℕ) → IsWhole word z → FitsUnsignedBits 32 z × (k ≡ nat_abs z) → 1 ≤ k
+    → k ≤ most_nodes → node_or_end most_nodes word ≡ Ok (pos k)
 whole_node z k word whole from some within =
     let is : z ≡ pos k = natural z from.0 ∙ ap (λ (j : ℕ). pos j) (sym from.1) in
     let read : whole_of word (negsuc 0) (pos most_nodes) ≡ Ok z = whole (negsuc 0) (pos most_nodes) (omega (arith, ints, is)) (omega (arith, ints, is, within)) in
     rw (read, is, not_nothing k some) refl
 
-pub after_end : (n : ℕ) (words : List (List ℕ)) (word : List ℕ) (old new : TourList) (r : Result (Unit {0}) StepFault) → node_or_end most_nodes word ≡ Ok (negsuc 0)
-    → OnOk r ((words : List (List ℕ)) → HoldsTours old words → EndsRunOf new words) → new.count ≡ old.count → IfErr r (λ e. e ≡ steps.Memory)
+pub after_end : (n : ℕ) (words : List (List ℕ)) (word : List ℕ) (old new : TourList) (r : Result (Unit {0}) StepFault)
+    → node_or_end most_nodes word ≡ Ok (negsuc 0)
+    → OnOk r ((words : List (List ℕ)) → HoldsTours old words → EndsRunOf new words) → new.count ≡ old.count
+    → IfErr r (λ e. e ≡ steps.Memory)
     → HoldsTours old words → Takes n (place_of_tour words) word (HoldsTours new (words ++ word ∷ [])) r
 after_end n words word old new (Ok done) read ok same err h =
     let ended = ok words h in
@@ -66,7 +71,8 @@ after_end n words word old new (Ok done) read ok same err h =
 after_end n words word old new (Err steps.Memory) read ok same err h = tt
 after_end n words word old new (Err (steps.Fault fault)) read ok same err h = cc
 
-pub after_node : (n k : ℕ) (words : List (List ℕ)) (word : List ℕ) (old new : TourList) → node_or_end most_nodes word ≡ Ok (pos k) → nat_le most_tour_nodes old.count ≡ false
+pub after_node : (n k : ℕ) (words : List (List ℕ)) (word : List ℕ) (old new : TourList) → node_or_end most_nodes word ≡ Ok (pos k)
+    → nat_le most_tour_nodes old.count ≡ false
     → new.done ≡ old.done → new.run.items ≡ old.run.items ++ k ∷ [] → new.count ≡ old.count + 1
     → HoldsTours old words → (word_fault n (place_of_tour words) word ≡ None) × HoldsTours new (words ++ word ∷ [])
 after_node n k words word old new read few same more counted h =

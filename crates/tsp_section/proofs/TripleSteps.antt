@@ -10,24 +10,26 @@ use Rattle.tsp_number.specs.declared.fault.NumberFault.{NumberFault}
 use Rattle.tsp_number.specs.Reading.{whole_of}
 use Rattle.tsp_format.specs.Limits.{most_fixed, most_multiplier}
 use Rattle.tsp_text.specs.declared.fault.LineFault.TheVariants as row
-use Rattle.tsp_text.specs.Numbers.{node, node_or_end, is_end, is_minus_one}
-use Rattle.tsp_text.specs.Places.{Amount, PastEnd, FirstAfter, SecondOf}
+use Rattle.tsp_text.specs.SectionNumbers.{node, node_or_end, is_end, is_minus_one}
+use Rattle.tsp_text.specs.WordPlaces.{Amount, PastEnd, FirstAfter, SecondOf}
 use Rattle.tsp_text.specs.Groups.{threes_in, begun_triple}
 use Rattle.tsp_text.specs.Lists.{fixed_triple, triple_firsts_in, place_of_triple}
 use Rattle.tsp_text.specs.Spells.{wants_more}
 use Rattle.tsp_section.specs.states.Parts.{BeginsTriple, TriplesHold}
-use Rattle.tsp_text.specs.Rows.{word_fault}
+use Rattle.tsp_text.specs.FaultRows.{word_fault}
 use Rattle.tsp_text.proofs.Ended.{any_push, and_false}
 use Rattle.tsp_section.proofs.DepotSteps.{past_end_clean}
 use Rattle.tsp_text.proofs.TripleWords.{triples_begin, begun_begin, firsts_begin, triples_middle, begun_middle, firsts_middle, triples_end, begun_end, firsts_end, firsts_kept, triples_kept, triples_none}
 
 -- ---- the words of a triple that has begun
 
-none_begun : (n : ℕ) (second : Option ℕ) (words : List (List ℕ)) → BeginsTriple n None second words → (words ≡ []) × (second ≡ None)
+none_begun : (n : ℕ) (second : Option ℕ) (words : List (List ℕ)) → BeginsTriple n None second words
+    → (words ≡ []) × (second ≡ None)
 none_begun n second [] h = (refl, h)
 none_begun n second (word ∷ words) h = absurd h
 
-one_begun : (n i : ℕ) (words : List (List ℕ)) → BeginsTriple n (Some i) None words → (word : List ℕ) × (words ≡ word ∷ []) × (node_or_end n word ≡ Ok (pos i))
+one_begun : (n i : ℕ) (words : List (List ℕ)) → BeginsTriple n (Some i) None words
+    → (word : List ℕ) × (words ≡ word ∷ []) × (node_or_end n word ≡ Ok (pos i))
 one_begun n i [] h = absurd h
 one_begun n i (word ∷ []) h = (word, refl, h)
 one_begun n i (word ∷ other ∷ words) h = absurd h
@@ -39,34 +41,40 @@ two_begun n i j (word ∷ []) h = absurd h
 two_begun n i j (word ∷ other ∷ []) h = (word, other, refl, h.0, h.1)
 two_begun n i j (word ∷ other ∷ more ∷ words) h = absurd h
 
-begins : (o p : Option ℕ) (triples : List (ℕ × ℕ × ℤ)) (first second : Option ℕ) (ended : Bool) (n : ℕ) (words : List (List ℕ)) → ended ≡ false → first ≡ o → second ≡ p
+begins : (o p : Option ℕ) (triples : List (ℕ × ℕ × ℤ)) (first second : Option ℕ) (ended : Bool) (n : ℕ) (words : List (List ℕ))
+    → ended ≡ false → first ≡ o → second ≡ p
     → TriplesHold triples first second ended n words → BeginsTriple n o p (begun_triple words)
 begins o p triples first second ended n words open_ended is also h = rw (← is, ← also) (h.cut open_ended)
 
 -- ---- the place of the next word
 
-place_past_end : (triples : List (ℕ × ℕ × ℤ)) (first second : Option ℕ) (ended : Bool) (n : ℕ) (words : List (List ℕ)) → ended ≡ true
+place_past_end : (triples : List (ℕ × ℕ × ℤ)) (first second : Option ℕ) (ended : Bool) (n : ℕ) (words : List (List ℕ))
+    → ended ≡ true
     → TriplesHold triples first second ended n words → place_of_triple n words ≡ PastEnd
 place_past_end triples first second ended n words e h =
     let any : list_any (is_end n) (triple_firsts_in words) ≡ true = sym h.closed ∙ e in
     rw any refl
 
-place_of_first : (triples : List (ℕ × ℕ × ℤ)) (first second : Option ℕ) (ended : Bool) (n : ℕ) (words : List (List ℕ)) → ended ≡ false → first ≡ None
+place_of_first : (triples : List (ℕ × ℕ × ℤ)) (first second : Option ℕ) (ended : Bool) (n : ℕ) (words : List (List ℕ))
+    → ended ≡ false → first ≡ None
     → TriplesHold triples first second ended n words → place_of_triple n words ≡ FirstAfter (length triples)
 place_of_first triples first second ended n words open_ended is h =
     let none : list_any (is_end n) (triple_firsts_in words) ≡ false = sym h.closed ∙ open_ended in
     let start = none_begun n second (begun_triple words) (begins None second triples first second ended n words open_ended is refl h) in
     rw (none, start.0) (ap (λ count. FirstAfter count) (sym (h.count open_ended)))
 
-place_of_second : (triples : List (ℕ × ℕ × ℤ)) (first second : Option ℕ) (ended : Bool) (n : ℕ) (words : List (List ℕ)) (i : ℕ) → ended ≡ false → first ≡ Some i → second ≡ None
+place_of_second : (triples : List (ℕ × ℕ × ℤ)) (first second : Option ℕ) (ended : Bool) (n : ℕ) (words : List (List ℕ)) (i : ℕ)
+    → ended ≡ false → first ≡ Some i → second ≡ None
     → TriplesHold triples first second ended n words → place_of_triple n words ≡ SecondOf (pos i)
 place_of_second triples first second ended n words i open_ended is also h =
     let none : list_any (is_end n) (triple_firsts_in words) ≡ false = sym h.closed ∙ open_ended in
     let begun = one_begun n i (begun_triple words) (begins (Some i) None triples first second ended n words open_ended is also h) in
     rw (none, begun.1, begun.2) refl
 
-place_of_multiplier : (triples : List (ℕ × ℕ × ℤ)) (first second : Option ℕ) (ended : Bool) (n : ℕ) (words : List (List ℕ)) (i j : ℕ) → ended ≡ false → first ≡ Some i
-    → second ≡ Some j → TriplesHold triples first second ended n words → place_of_triple n words ≡ Amount (pos 0) (pos most_multiplier)
+place_of_multiplier : (triples : List (ℕ × ℕ × ℤ)) (first second : Option ℕ) (ended : Bool) (n : ℕ) (words : List (List ℕ)) (i j : ℕ)
+    → ended ≡ false → first ≡ Some i
+    → second ≡ Some j → TriplesHold triples first second ended n words
+    → place_of_triple n words ≡ Amount (pos 0) (pos most_multiplier)
 place_of_multiplier triples first second ended n words i j open_ended is also h =
     let none : list_any (is_end n) (triple_firsts_in words) ≡ false = sym h.closed ∙ open_ended in
     let begun = two_begun n i j (begun_triple words) (begins (Some i) (Some j) triples first second ended n words open_ended is also h) in
@@ -74,13 +82,17 @@ place_of_multiplier triples first second ended n words i j open_ended is also h 
 
 -- ---- words with a fault
 
-pub first_bad : (triples : List (ℕ × ℕ × ℤ)) (first second : Option ℕ) (ended : Bool) (n : ℕ) (words : List (List ℕ)) (word : List ℕ) (fault : NumberFault) → ended ≡ false
+pub first_bad : (triples : List (ℕ × ℕ × ℤ)) (first second : Option ℕ) (ended : Bool) (n : ℕ) (words : List (List ℕ)) (word : List ℕ) (fault : NumberFault)
+    → ended ≡ false
     → first ≡ None → node_or_end n word ≡ Err fault → TriplesHold triples first second ended n words
     → word_fault n (place_of_triple n words) word ≡ Some (row.Number fault)
-first_bad triples first second ended n words word fault open_ended is read h = rw (place_of_first triples first second ended n words open_ended is h, read) refl
+first_bad triples first second ended n words word fault open_ended is read h =
+    rw (place_of_first triples first second ended n words open_ended is h, read) refl
 
-pub first_surplus : (triples : List (ℕ × ℕ × ℤ)) (first second : Option ℕ) (ended : Bool) (n : ℕ) (words : List (List ℕ)) (word : List ℕ) (i : ℕ) → ended ≡ false
-    → first ≡ None → node_or_end n word ≡ Ok (pos i) → most_fixed ≤ length triples → TriplesHold triples first second ended n words
+pub first_surplus : (triples : List (ℕ × ℕ × ℤ)) (first second : Option ℕ) (ended : Bool) (n : ℕ) (words : List (List ℕ)) (word : List ℕ) (i : ℕ)
+    → ended ≡ false
+    → first ≡ None → node_or_end n word ≡ Ok (pos i) → most_fixed ≤ length triples
+    → TriplesHold triples first second ended n words
     → word_fault n (place_of_triple n words) word ≡ Some row.Surplus
 first_surplus triples first second ended n words word i open_ended is read many h =
     let over : nat_le most_fixed (length triples) ≡ true = grind (arith, nat_tests) in
@@ -92,7 +104,8 @@ pub second_bad : (triples : List (ℕ × ℕ × ℤ)) (first second : Option ℕ
 second_bad triples first second ended n words word i fault open_ended is also read h =
     rw (place_of_second triples first second ended n words i open_ended is also h, read) refl
 
-pub second_same : (triples : List (ℕ × ℕ × ℤ)) (first second : Option ℕ) (ended : Bool) (n : ℕ) (words : List (List ℕ)) (word : List ℕ) (i : ℕ) → ended ≡ false
+pub second_same : (triples : List (ℕ × ℕ × ℤ)) (first second : Option ℕ) (ended : Bool) (n : ℕ) (words : List (List ℕ)) (word : List ℕ) (i : ℕ)
+    → ended ≡ false
     → first ≡ Some i → second ≡ None → node n word ≡ Ok (pos i) → TriplesHold triples first second ended n words
     → word_fault n (place_of_triple n words) word ≡ Some row.SelfEdge
 second_same triples first second ended n words word i open_ended is also read h =
@@ -100,14 +113,16 @@ second_same triples first second ended n words word i open_ended is also read h 
     rw (place_of_second triples first second ended n words i open_ended is also h, read, same) refl
 
 pub multiplier_bad : (triples : List (ℕ × ℕ × ℤ)) (first second : Option ℕ) (ended : Bool) (n : ℕ) (words : List (List ℕ)) (word : List ℕ) (i j : ℕ) (fault : NumberFault)
-    → ended ≡ false → first ≡ Some i → second ≡ Some j → whole_of word (pos 0) (pos most_multiplier) ≡ Err fault → TriplesHold triples first second ended n words
+    → ended ≡ false → first ≡ Some i → second ≡ Some j → whole_of word (pos 0) (pos most_multiplier) ≡ Err fault
+    → TriplesHold triples first second ended n words
     → word_fault n (place_of_triple n words) word ≡ Some (row.Number fault)
 multiplier_bad triples first second ended n words word i j fault open_ended is also read h =
     rw (place_of_multiplier triples first second ended n words i j open_ended is also h, read) refl
 
 -- ---- the part after the word
 
-pub triple_past_end : (triples : List (ℕ × ℕ × ℤ)) (first second : Option ℕ) (ended : Bool) (n : ℕ) (words : List (List ℕ)) (word : List ℕ) → ended ≡ true
+pub triple_past_end : (triples : List (ℕ × ℕ × ℤ)) (first second : Option ℕ) (ended : Bool) (n : ℕ) (words : List (List ℕ)) (word : List ℕ)
+    → ended ≡ true
     → is_minus_one word ≡ true → TriplesHold triples first second ended n words
     → (word_fault n (place_of_triple n words) word ≡ None) × TriplesHold triples first second ended n (words ++ word ∷ [])
 triple_past_end triples first second ended n words word e minus_one h =
@@ -122,7 +137,8 @@ triple_past_end triples first second ended n words word e minus_one h =
       },
     )
 
-pub triples_ended : (triples : List (ℕ × ℕ × ℤ)) (first second : Option ℕ) (ended : Bool) (n : ℕ) (words : List (List ℕ)) (word : List ℕ) → ended ≡ false → first ≡ None
+pub triples_ended : (triples : List (ℕ × ℕ × ℤ)) (first second : Option ℕ) (ended : Bool) (n : ℕ) (words : List (List ℕ)) (word : List ℕ)
+    → ended ≡ false → first ≡ None
     → node_or_end n word ≡ Ok (negsuc 0) → TriplesHold triples first second ended n words
     → (word_fault n (place_of_triple n words) word ≡ None) × TriplesHold triples first second true n (words ++ word ∷ [])
 triples_ended triples first second ended n words word e is read h =
@@ -140,7 +156,8 @@ triples_ended triples first second ended n words word e is read h =
     )
 
 -- the first node
-pub triple_begins : (triples : List (ℕ × ℕ × ℤ)) (first second : Option ℕ) (ended : Bool) (n : ℕ) (words : List (List ℕ)) (word : List ℕ) (i : ℕ) → ended ≡ false → first ≡ None
+pub triple_begins : (triples : List (ℕ × ℕ × ℤ)) (first second : Option ℕ) (ended : Bool) (n : ℕ) (words : List (List ℕ)) (word : List ℕ) (i : ℕ)
+    → ended ≡ false → first ≡ None
     → node_or_end n word ≡ Ok (pos i) → length triples < most_fixed → TriplesHold triples first second ended n words
     → (word_fault n (place_of_triple n words) word ≡ None) × TriplesHold triples (Some i) second ended n (words ++ word ∷ [])
 triple_begins triples first second ended n words word i e is read room h =
@@ -159,7 +176,8 @@ triple_begins triples first second ended n words word i e is read room h =
     )
 
 -- the second node
-pub triple_goes_on : (triples : List (ℕ × ℕ × ℤ)) (first second : Option ℕ) (ended : Bool) (n : ℕ) (words : List (List ℕ)) (word : List ℕ) (i j : ℕ) → ended ≡ false
+pub triple_goes_on : (triples : List (ℕ × ℕ × ℤ)) (first second : Option ℕ) (ended : Bool) (n : ℕ) (words : List (List ℕ)) (word : List ℕ) (i j : ℕ)
+    → ended ≡ false
     → first ≡ Some i → second ≡ None → node n word ≡ Ok (pos j) → j ≢ i → TriplesHold triples first second ended n words
     → (word_fault n (place_of_triple n words) word ≡ None) × TriplesHold triples first (Some j) ended n (words ++ word ∷ [])
 triple_goes_on triples first second ended n words word i j e is also read apart h =
@@ -178,8 +196,10 @@ triple_goes_on triples first second ended n words word i j e is also read apart 
     )
 
 -- the multiplier
-pub triple_ends : (triples : List (ℕ × ℕ × ℤ)) (first second : Option ℕ) (ended : Bool) (n : ℕ) (words : List (List ℕ)) (word : List ℕ) (i j : ℕ) (l : ℤ) → ended ≡ false
-    → first ≡ Some i → second ≡ Some j → whole_of word (pos 0) (pos most_multiplier) ≡ Ok l → TriplesHold triples first second ended n words
+pub triple_ends : (triples : List (ℕ × ℕ × ℤ)) (first second : Option ℕ) (ended : Bool) (n : ℕ) (words : List (List ℕ)) (word : List ℕ) (i j : ℕ) (l : ℤ)
+    → ended ≡ false
+    → first ≡ Some i → second ≡ Some j → whole_of word (pos 0) (pos most_multiplier) ≡ Ok l
+    → TriplesHold triples first second ended n words
     → (word_fault n (place_of_triple n words) word ≡ None) × TriplesHold (triples ++ (i, j, l) ∷ []) None None ended n (words ++ word ∷ [])
 triple_ends triples first second ended n words word i j l e is also read h =
     let begun = two_begun n i j (begun_triple words) (begins (Some i) (Some j) triples first second ended n words e is also h) in
@@ -205,10 +225,14 @@ triple_ends triples first second ended n words word i j l e is also read h =
 -- ---- the end
 
 -- a triple is cut short exactly where it has begun
-pub triple_cut_short : (triples : List (ℕ × ℕ × ℤ)) (first second : Option ℕ) (ended : Bool) (n : ℕ) (words : List (List ℕ)) → TriplesHold triples first second ended n words
+pub triple_cut_short : (triples : List (ℕ × ℕ × ℤ)) (first second : Option ℕ) (ended : Bool) (n : ℕ) (words : List (List ℕ))
+    → TriplesHold triples first second ended n words
     → is_some first ≡ wants_more (place_of_triple n words)
-triple_cut_short triples first second true n words h = ap is_some (h.whole refl) ∙ sym (ap wants_more (place_past_end triples first second true n words refl h))
-triple_cut_short triples None second false n words h = sym (ap wants_more (place_of_first triples None second false n words refl refl h))
-triple_cut_short triples (Some i) None false n words h = sym (ap wants_more (place_of_second triples (Some i) None false n words i refl refl refl h))
+triple_cut_short triples first second true n words h =
+    ap is_some (h.whole refl) ∙ sym (ap wants_more (place_past_end triples first second true n words refl h))
+triple_cut_short triples None second false n words h =
+    sym (ap wants_more (place_of_first triples None second false n words refl refl h))
+triple_cut_short triples (Some i) None false n words h =
+    sym (ap wants_more (place_of_second triples (Some i) None false n words i refl refl refl h))
 triple_cut_short triples (Some i) (Some j) false n words h =
     sym (ap wants_more (place_of_multiplier triples (Some i) (Some j) false n words i j refl refl refl h))

@@ -4,14 +4,16 @@ use Rattle.std.specs.Prelude.{ℤ, nat_le}
 use Rattle.std.proofs.lemmas.List.{map_push, length_push, length-map}
 use Rattle.std.proofs.lemmas.Bool.Decides.{nat_tests}
 use Rattle.tsp_format.specs.Limits.{most_weight}
-use Rattle.tsp_text.specs.Numbers.{number, whole_of_size}
-use Rattle.tsp_text.specs.Places.{Weight}
-use Rattle.tsp_text.specs.Weights.{place_of_weight}
+use Rattle.tsp_text.specs.SectionNumbers.{number, whole_of_size}
+use Rattle.tsp_text.specs.WordPlaces.{Weight}
+use Rattle.tsp_text.specs.WeightSection.{place_of_weight}
 use Rattle.tsp_section.specs.states.Parts.{WeightsHold}
-use Rattle.tsp_text.specs.Rows.{word_fault}
+use Rattle.tsp_text.specs.FaultRows.{word_fault}
 
-pub weight_more : (weights : List ℤ) (most n : ℕ) (words : List (List ℕ)) (word : List ℕ) (z : ℤ) → length weights < most → whole_of_size most_weight word ≡ Ok z
-    → WeightsHold weights most n words → (word_fault n (place_of_weight n words) word ≡ None) × WeightsHold (weights ++ z ∷ []) most n (words ++ word ∷ [])
+pub weight_more : (weights : List ℤ) (most n : ℕ) (words : List (List ℕ)) (word : List ℕ) (z : ℤ) → length weights < most
+    → whole_of_size most_weight word ≡ Ok z
+    → WeightsHold weights most n words
+    → (word_fault n (place_of_weight n words) word ≡ None) × WeightsHold (weights ++ z ∷ []) most n (words ++ word ∷ [])
 weight_more weights most n words word z room read h =
     let f : List ℕ → ℤ = λ word. number (whole_of_size most_weight word) in
     let is : f word ≡ z = ap number read in

@@ -1,4 +1,4 @@
 pub mod Parts
-pub mod Held
+pub mod HeldParts
 pub mod CutLine
-pub mod Run
+pub mod PartRun

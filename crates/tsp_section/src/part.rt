@@ -33,7 +33,7 @@ impl Part {
     ghost use Rattle.tsp_format.specs.declared.field.Shape.TheVariants as shapes;
     ghost use Rattle.tsp_text.specs.Sections.{place_by};
     ghost use Rattle.tsp_section.specs.states.Parts.{Takes};
-    ghost use Rattle.tsp_section.specs.states.Held.{shape_by, HoldsPart, HoldsShape};
+    ghost use Rattle.tsp_section.specs.states.HeldParts.{shape_by, HoldsPart, HoldsShape};
 
     /// A section of this shape with no words so far, in a file of `n` nodes, of which there are no
     /// more than a file may have.

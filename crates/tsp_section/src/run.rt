@@ -2,11 +2,11 @@
 
 ghost use Rattle.std.specs.Prelude.{◌≡◌, ◌<◌, ◌-◌, pos, List, length, slice_index_or, ℕ, Ok, true, false};
 ghost use Rattle.tsp_number.specs.Reading.{decimal_of};
-ghost use Rattle.tsp_text.specs.Numbers.{IsWhole};
+ghost use Rattle.tsp_text.specs.SectionNumbers.{IsWhole};
 ghost use Rattle.tsp_section.specs.declared.part.Part.{Part};
 ghost use Rattle.tsp_section.specs.declared.part.Part.TheVariants as parts;
 ghost use Rattle.tsp_section.specs.states.Parts.{IsNodeOf};
-ghost use Rattle.tsp_section.specs.states.Run.{in_group, groups_left, marks_of, TakesRead, KeepsWords};
+ghost use Rattle.tsp_section.specs.states.PartRun.{in_group, groups_left, marks_of, TakesRead, KeepsWords};
 
 use crate::parts::numbers::NumberList;
 use crate::parts::points::PointList;

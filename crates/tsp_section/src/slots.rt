@@ -4,7 +4,7 @@ ghost use Rattle.tsp_text.specs.Lines.{first_word};
 ghost use Rattle.std.specs.Prelude.{◌≡◌, map};
 ghost use Rattle.std.specs.Option.{option_map};
 ghost use Rattle.tsp_section.specs.states.CutLine.{seen, SetsNamed, SetsName, AddsComment, AddsOther};
-ghost use Rattle.tsp_text.specs.Rows.{is_too_long_to_keep};
+ghost use Rattle.tsp_text.specs.FaultRows.{is_too_long_to_keep};
 
 use crate::fault::StepFault;
 use crate::line::{CutLine, named};

@@ -7,7 +7,7 @@ use Rattle.std.proofs.lemmas.Grind.{flat_map-append}
 use Rattle.std.proofs.lemmas.List.FromFn.{length-enumerate_from, get_or-enumerate_from}
 use Rattle.std.specs.List.{flat_map, enumerate_from}
 use Rattle.tsp_stream.specs.Sink.{HasWritten, HasStopped, Sink}
-use Rattle.tsp_stream.specs.states.Way.{Way, Carries, Carried}
+use Rattle.tsp_stream.specs.states.WriteProgress.{Way, Carries, Carried}
 use Rattle.std.proofs.KnownBytes.{Appends-nil, Appends-trans, Appends-kept}
 
 -- the sink between two states
@@ -16,11 +16,13 @@ between old new = record { held = old.held; holds = new.held; had_failed = old.f
 
 -- nothing added
 pub carried_none : (a : Way) → Carried a a []
-carried_none a start text h = record { front = h.front; rest = h.rest; parts = h.parts ∙ sym (append-nil text); written = h.written; waits = h.waits }
+carried_none a start text h =
+    record { front = h.front; rest = h.rest; parts = h.parts ∙ sym (append-nil text); written = h.written; waits = h.waits }
 
 -- one part, then the next
 pub carried_then : (a b c : Way) (x y : List ℕ) → Carried a b x → Carried b c y → Carried a c (x ++ y)
-carried_then a b c x y h k start text before = subst (λ t. Carries start c t) (append_assoc text x y) (k start (text ++ x) (h start text before))
+carried_then a b c x y h k start text before =
+    subst (λ t. Carries start c t) (append_assoc text x y) (k start (text ++ x) (h start text before))
 
 -- a writer that has failed gets nothing more of any text
 pub carried_failed : (a : Way) (bytes : List ℕ) → a.failed ≡ true → Carried a a bytes
@@ -33,7 +35,8 @@ carried_failed a bytes failed start text h = record {
 }
 
 -- the piece grows
-pub carried_waits : (a b : Way) (bytes : List ℕ) → b.held ≡ a.held → b.failed ≡ a.failed → b.piece ≡ a.piece ++ bytes → Carried a b bytes
+pub carried_waits : (a b : Way) (bytes : List ℕ) → b.held ≡ a.held → b.failed ≡ a.failed → b.piece ≡ a.piece ++ bytes
+    → Carried a b bytes
 carried_waits a b bytes held failed piece start text h = record {
   front = h.front;
   rest = h.rest ++ bytes;
@@ -43,7 +46,8 @@ carried_waits a b bytes held failed piece start text h = record {
 }
 
 -- The piece, and the bytes added to it, are sent to the writer.
-pub carried_sent : (a b : Way) (bytes added : List ℕ) → (b.failed ≡ true → HasStopped (between a b) bytes) → (b.failed ≡ false → HasWritten (between a b) bytes)
+pub carried_sent : (a b : Way) (bytes added : List ℕ) → (b.failed ≡ true → HasStopped (between a b) bytes)
+    → (b.failed ≡ false → HasWritten (between a b) bytes)
     → a.piece ++ added ≡ bytes → b.piece ≡ [] → Carried a b added
 carried_sent a b bytes added stopped written whole empty start text h = by_failed b.failed a.failed refl refl
   where
@@ -96,20 +100,25 @@ carried_next f xs i x a b c lt is h k =
 -- the same where the element is read with another default
 pub carried_next_or : {X : Type 0} (f : X → List ℕ) (xs : List X) (i : ℕ) (d : X) (a b c : Way) → i < length xs
     → Carried a b (flat_map f (take i xs)) → Carried b c (f (get_or xs i d)) → Carried a c (flat_map f (take (i + 1) xs))
-carried_next_or f xs i d a b c lt h k = carried_next f xs i (get_or xs i d) a b c lt (get_or_default xs i d (get_or xs i d) lt) h k
+carried_next_or f xs i d a b c lt h k =
+    carried_next f xs i (get_or xs i d) a b c lt (get_or_default xs i d (get_or xs i d) lt) h k
 
 -- the parts of all elements
-pub carried_all : {X : Type 0} (f : X → List ℕ) (xs : List X) (i : ℕ) (a b : Way) → length xs ≤ i → Carried a b (flat_map f (take i xs)) → Carried a b (flat_map f xs)
+pub carried_all : {X : Type 0} (f : X → List ℕ) (xs : List X) (i : ℕ) (a b : Way) → length xs ≤ i
+    → Carried a b (flat_map f (take i xs)) → Carried a b (flat_map f xs)
 carried_all f xs i a b all h = subst (λ ys. Carried a b (flat_map f ys)) (take_all i xs all) h
 
 -- the same where the elements are seen by g
 pub carried_mapped : {X Y : Type 0} (f : Y → List ℕ) (g : X → Y) (xs : List X) (i : ℕ) (a b : Way) → length xs ≤ i
     → Carried a b (flat_map (λ x. f (g x)) (take i xs)) → Carried a b (flat_map f (map g xs))
-carried_mapped f g xs i a b all h = subst (λ t. Carried a b t) (sym (flat_map-map f g xs)) (carried_all (λ x. f (g x)) xs i a b all h)
+carried_mapped f g xs i a b all h =
+    subst (λ t. Carried a b t) (sym (flat_map-map f g xs)) (carried_all (λ x. f (g x)) xs i a b all h)
 
 -- the part of the next node
-pub carried_node : {X : Type 0} (f : ℕ × X → List ℕ) (xs : List X) (i : ℕ) (x : X) (a b c : Way) → i < length xs → x ≡ get_or xs i x
-    → Carried a b (flat_map f (take i (enumerate_from 1 xs))) → Carried b c (f (i + 1, x)) → Carried a c (flat_map f (take (i + 1) (enumerate_from 1 xs)))
+pub carried_node : {X : Type 0} (f : ℕ × X → List ℕ) (xs : List X) (i : ℕ) (x : X) (a b c : Way) → i < length xs
+    → x ≡ get_or xs i x
+    → Carried a b (flat_map f (take i (enumerate_from 1 xs))) → Carried b c (f (i + 1, x))
+    → Carried a c (flat_map f (take (i + 1) (enumerate_from 1 xs)))
 carried_node {X} f xs i x a b c lt is h k =
     let number : 1 + i ≡ i + 1 = omega arith in
     let entry : (i + 1, x) ≡ get_or (enumerate_from 1 xs) i (i + 1, x) =
@@ -122,8 +131,10 @@ carried_nodes f xs i a b all h = carried_all f (enumerate_from 1 xs) i a b (omeg
 
 -- the same where the entry is read with another default
 pub carried_node_or : {X : Type 0} (f : ℕ × X → List ℕ) (xs : List X) (i : ℕ) (d : X) (a b c : Way) → i < length xs
-    → Carried a b (flat_map f (take i (enumerate_from 1 xs))) → Carried b c (f (i + 1, get_or xs i d)) → Carried a c (flat_map f (take (i + 1) (enumerate_from 1 xs)))
-carried_node_or f xs i d a b c lt h k = carried_node f xs i (get_or xs i d) a b c lt (get_or_default xs i d (get_or xs i d) lt) h k
+    → Carried a b (flat_map f (take i (enumerate_from 1 xs))) → Carried b c (f (i + 1, get_or xs i d))
+    → Carried a c (flat_map f (take (i + 1) (enumerate_from 1 xs)))
+carried_node_or f xs i d a b c lt h k =
+    carried_node f xs i (get_or xs i d) a b c lt (get_or_default xs i d (get_or xs i d) lt) h k
 
 -- ---- the end
 
@@ -132,14 +143,16 @@ begun : (a : Way) → a.piece ≡ [] → Carries a.held a []
 begun a empty = record { front = []; rest = []; parts = refl; written = Appends-nil a.held; waits = λ sound. sym empty }
 
 -- A text began with no piece, and the writer failed.
-pub text_stopped : (a b : Way) (text : List ℕ) → a.piece ≡ [] → a.failed ≡ false → Carried a b text → b.failed ≡ true → HasStopped (between a b) text
+pub text_stopped : (a b : Way) (text : List ℕ) → a.piece ≡ [] → a.failed ≡ false → Carried a b text → b.failed ≡ true
+    → HasStopped (between a b) text
 text_stopped a b text empty sound h failed =
     let done : Carries a.held b text = h a.held [] (begun a empty) in
     let front : take (length done.front) text ≡ done.front = ap (λ (t : List ℕ). take (length done.front) t) (sym done.parts) ∙ take-append_seam done.front done.rest in
     (failed, (λ had. absurd (cc)), (length done.front, subst (λ t. Appends a.held b.held t) (sym front) done.written))
 
 -- A text began with no piece, no piece is left, and the writer hasn't failed.
-pub text_written : (a b : Way) (text : List ℕ) → a.piece ≡ [] → a.failed ≡ false → Carried a b text → b.piece ≡ [] → b.failed ≡ false → HasWritten (between a b) text
+pub text_written : (a b : Way) (text : List ℕ) → a.piece ≡ [] → a.failed ≡ false → Carried a b text → b.piece ≡ []
+    → b.failed ≡ false → HasWritten (between a b) text
 text_written a b text empty sound h left failed =
     let done : Carries a.held b text = h a.held [] (begun a empty) in
     let whole : done.front ≡ text = sym (append-nil done.front) ∙ ap (λ (t : List ℕ). done.front ++ t) (sym (done.waits failed ∙ left)) ∙ done.parts in

@@ -12,7 +12,8 @@ pub record Sent (start held : Option (List ℕ)) (text rest : List ℕ) : Type 0
   pub written : Appends start held front
 
 -- the next part of the rest
-pub sent_more : (a b c : Option (List ℕ)) (text rest left : List ℕ) (n : ℕ) → Sent a b text rest → Appends b c (take n rest) → left ≡ drop n rest → Sent a c text left
+pub sent_more : (a b c : Option (List ℕ)) (text rest left : List ℕ) (n : ℕ) → Sent a b text rest → Appends b c (take n rest)
+    → left ≡ drop n rest → Sent a c text left
 sent_more a b c text rest left n h k e = record {
   front = h.front ++ take n rest;
   parts = append_assoc h.front (take n rest) left ∙ ap (λ t. h.front ++ t) (ap (λ t. take n rest ++ t) e ∙ take-append-drop n rest) ∙ h.parts;

@@ -1,4 +1,4 @@
 pub mod states
-pub mod FaultText
+pub mod WriteFaultText
 pub mod Sink
 pub mod Turn

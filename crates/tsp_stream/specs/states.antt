@@ -1,3 +1,3 @@
 pub mod Watched
-pub mod Way
+pub mod WriteProgress
 pub mod Script

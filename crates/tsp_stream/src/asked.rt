@@ -19,7 +19,8 @@ pub trait Gives: Read {
     /// Reads once.
     fn give(&mut self, room: &mut [u8]) -> io::Result<usize>
         ensures bound { ReadsAtMost result room.new }
-        ensures bytes { ReadConsumes (Self.remaining self.old) (Self.remaining self.new) result room.new }
+        ensures bytes { ReadConsumes (Self.remaining self.old)
+            (Self.remaining self.new) result room.new }
         ensures once { gives self.old room.old result room.new self.new };
 }
 
@@ -42,7 +43,8 @@ pub trait Takes: Write {
     /// Writes once.
     fn take_some(&mut self, text: &[u8]) -> io::Result<usize>
         ensures bound { WritesAtMost result text.now }
-        ensures bytes { WriteAppends (Self.contents self.old) (Self.contents self.new) result text.now }
+        ensures bytes { WriteAppends (Self.contents self.old)
+            (Self.contents self.new) result text.now }
         ensures once { takes self.old text.now result self.new };
 
     /// Flushes once.

@@ -4,7 +4,7 @@
 ghost use Rattle.std.specs.Prelude.{◌≡◌, true, false, [], ◌∷◌, Ok, Err, codes};
 ghost use Rattle.std.specs.declared.io.Error.{Error};
 ghost use Rattle.tsp_stream.specs.declared.output.WriteFault.TheVariants as faults;
-ghost use Rattle.tsp_stream.specs.FaultText.{write_fault_text};
+ghost use Rattle.tsp_stream.specs.WriteFaultText.{write_fault_text};
 ghost use Rattle.tsp_stream.specs.states.Watched.{write_fails};
 
 /// Which writes fail: those that return an error, also of an empty text, and those that take no

@@ -23,7 +23,7 @@ pub enum WriteFault {
 
 impl fmt::Display for WriteFault {
     ghost use Rattle.std.specs.Prelude.{Some};
-    ghost use Rattle.tsp_stream.specs.FaultText.{write_fault_text};
+    ghost use Rattle.tsp_stream.specs.WriteFaultText.{write_fault_text};
 
     ghost output = { λ fault. Some (write_fault_text fault) };
 
@@ -62,11 +62,12 @@ pub fn send<W: Write>(out: &mut Watched<W>, text: &[u8])
 /// fails, which the writer then remembers, with what the system says of it.
 fn send_part<W: Takes>(out: &mut Watched<W>, text: &[u8]) -> usize
     ensures part { result ≤ length text.now }
-    ensures bytes { Appends (W.contents (watched out.old)) (W.contents (watched out.new)) (take result text.now) }
+    ensures bytes { Appends (W.contents (watched out.old))
+        (W.contents (watched out.new)) (take result text.now) }
     ensures sound { 0 < result → has_failed out.new ≡ has_failed out.old }
     ensures failed { result ≡ 0 → 0 < length text.now → has_failed out.new ≡ true }
-    ensures error { (answer : Result ℕ Error) × W.takes (watched out.old) text.now answer (watched out.new)
-        × KeepsError answer (error_of out.old) (error_of out.new) }
+    ensures error { (answer : Result ℕ Error) × W.takes (watched out.old) text.now answer
+        (watched out.new) × KeepsError answer (error_of out.old) (error_of out.new) }
 {
     match out.write(text) {
         Err(error) => {

@@ -31,7 +31,8 @@ impl Script {
 /// answers that come out of it, call by call, are those that went in, one for one. It is asked by
 /// `ask`, as each reader and writer is.
 pub fn answers_go_through(script: &mut Watched<Script>) -> io::Result<usize>
-    ensures next { AnswersNext (answers_of (watched script.old)) result (answers_of (watched script.new)) }
+    ensures next { AnswersNext (answers_of (watched script.old)) result
+        (answers_of (watched script.new)) }
     ensures failed { has_failed script.new ≡ (has_failed script.old || is_err result) }
 {
     script.ask(&mut [], |inner, _| (inner.next(), false))

@@ -97,8 +97,8 @@ impl<R: Gives> Read for Watched<R> {
 
     fn read(&mut self, buf: &mut [u8]) -> io::Result<usize>
         ensures bound { ReadsAtMost result buf.new }
-        ensures bytes { ReadConsumes (R.remaining (watched self.old)) (R.remaining (watched self.new))
-            result buf.new }
+        ensures bytes { ReadConsumes (R.remaining (watched self.old))
+            (R.remaining (watched self.new)) result buf.new }
         ensures once { R.gives (watched self.old) buf.old result buf.new (watched self.new) }
         ensures failed { has_failed self.new ≡ (has_failed self.old || is_err result) }
         ensures error { error_of self.new ≡ error_of self.old }

@@ -27,7 +27,8 @@ impl<F> Task<F> {
     /// The file with this number, counted from 1 in the order in which they are read, and what it
     /// is given for where that matters; or `None` where the task reads fewer.
     pub fn file(&self, number: u32) -> Option<(Option<Role>, &F)>
-        ensures { option_map (λ file. (file.0, file.1.now)) result ≡ numbered number (files_of self.now) }
+        ensures { option_map (λ file. (file.0, file.1.now)) result
+            ≡ numbered number (files_of self.now) }
     {
         match (self, number) {
             (Task::Show(file) | Task::Convert(file, _), 1) => Some((None, file)),

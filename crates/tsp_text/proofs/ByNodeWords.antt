@@ -11,17 +11,17 @@ use Rattle.tsp_format.specs.declared.field.Field.{Field}
 use Rattle.tsp_format.specs.declared.field.Field.TheVariants.{NameKey, TypeKey, CommentKey, OtherKey, DimensionKey, CapacityKey, ScaleKey, EdgeWeightTypeKey, EdgeWeightFormatKey, NodeCoordTypeKey, DisplayDataTypeKey, NodeCoordPart, DisplayDataPart, DemandPart, DepotPart, FixedEdgesPart, EdgeWeightPart, TourPart, NodePotentialPart, RowPotentialPart, ColumnPotentialPart, FixedEdgePotentialPart, CombPart, BranchPart}
 use Rattle.tsp_format.specs.Limits.{most_demand, most_potential}
 use Rattle.tsp_text.specs.declared.fault.LineFault.TheVariants as row
-use Rattle.tsp_text.specs.Numbers.{number, node}
+use Rattle.tsp_text.specs.SectionNumbers.{number, node}
 use Rattle.tsp_text.specs.Items.{Item}
 use Rattle.tsp_text.specs.Earlier.{same_field, has_line, words_of}
-use Rattle.tsp_text.specs.Places.{Place, NodeAfter, Coordinate, Amount, PastGroups}
+use Rattle.tsp_text.specs.WordPlaces.{Place, NodeAfter, Coordinate, Amount, PastGroups}
 use Rattle.tsp_text.specs.Groups.{pairs_in, threes_in, fours_in, begun_pair, begun_triple, begun_four, place_of_number, place_of_point, number_groups, point_in_words, point_groups, space_point_of, space_point_groups, place_in_group, nodes_of_groups}
 use Rattle.tsp_text.specs.Values.{spatial_after}
 use Rattle.tsp_text.specs.Sections.{place_in, dimension_in}
-use Rattle.tsp_text.specs.Rows.{when, number_fault_at, is_repeated_node_at, is_self_edge_at, is_surplus_at, is_after_end_at, word_fault}
+use Rattle.tsp_text.specs.FaultRows.{when, number_fault_at, is_repeated_node_at, is_self_edge_at, is_surplus_at, is_after_end_at, word_fault}
 use Rattle.tsp_text.specs.FirstFault.{IsClean}
 use Rattle.tsp_text.specs.Spells.{wants_more, is_incomplete}
-use Rattle.tsp_text.specs.ByNode.{is_by_node_field, group_nodes, HasEachNodeOnce}
+use Rattle.tsp_text.specs.GroupNodes.{is_by_node_field, group_nodes, HasEachNodeOnce}
 use Rattle.tsp_text.proofs.ValidRows.{when_none, map_none, none_applies}
 use Rattle.tsp_text.proofs.Grown.{Grows, grown, grown_in}
 use Rattle.tsp_text.proofs.EachOnce.{AreOnce, IsFree, once_more, all_once}
@@ -44,10 +44,12 @@ record NodesHold (firsts begun : Words → Words) (limit n : ℕ) (words : Words
 not_both : (words : Words) (first : List ℕ) (rest : Words) → words ≡ [] → words ≡ first ∷ rest → ⊥
 not_both words first rest none some = absurd cc
 
-same_first : (words : Words) (first other : List ℕ) (rest more : Words) → words ≡ first ∷ rest → words ≡ other ∷ more → first ≡ other
+same_first : (words : Words) (first other : List ℕ) (rest more : Words) → words ≡ first ∷ rest → words ≡ other ∷ more
+    → first ≡ other
 same_first words first other rest more e f = cc
 
-none_hold : (size : ℕ) (firsts begun : Words → Words) → IsShape size firsts begun → (limit n : ℕ) → NodesHold firsts begun limit n []
+none_hold : (size : ℕ) (firsts begun : Words → Words) → IsShape size firsts begun → (limit n : ℕ)
+    → NodesHold firsts begun limit n []
 none_hold size firsts begun s limit n =
     let empty : nodes_by firsts limit n [] ≡ [] = ap (λ (words : Words). nodes_read n (firsts words)) (take_all limit [] (omega arith)) ∙ ap (nodes_read n) s.no_firsts in
     record {
@@ -56,7 +58,8 @@ none_hold size firsts begun s limit n =
     }
 
 -- words past the groups change nothing
-full_holds : (firsts begun : Words → Words) (limit n : ℕ) (words : Words) (word : List ℕ) → nat_le limit (length words) ≡ true → NodesHold firsts begun limit n words
+full_holds : (firsts begun : Words → Words) (limit n : ℕ) (words : Words) (word : List ℕ) → nat_le limit (length words) ≡ true
+    → NodesHold firsts begun limit n words
     → NodesHold firsts begun limit n (words ++ word ∷ [])
 full_holds firsts begun limit n words word full h =
     let le = leb-true limit (length words) full in
@@ -67,7 +70,8 @@ full_holds firsts begun limit n words word full h =
     }
 
 -- the nodes with one word more within the limit
-room_nodes : (firsts : Words → Words) (limit n : ℕ) (words : Words) (word : List ℕ) (found : Words) → nat_le limit (length words) ≡ false → firsts (words ++ word ∷ []) ≡ found
+room_nodes : (firsts : Words → Words) (limit n : ℕ) (words : Words) (word : List ℕ) (found : Words)
+    → nat_le limit (length words) ≡ false → firsts (words ++ word ∷ []) ≡ found
     → (nodes_by firsts limit n (words ++ word ∷ []) ≡ nodes_read n found) × (nodes_by firsts limit n words ≡ nodes_read n (firsts words))
 room_nodes firsts limit n words word found room e =
     let lt = leb-false limit (length words) room in (
@@ -76,8 +80,10 @@ room_nodes firsts limit n words word found room e =
     )
 
 -- the first words stay, and the word that has begun a group is free
-same_holds : (firsts begun : Words → Words) (limit n : ℕ) (words : Words) (word first : List ℕ) (rest : Words) → nat_le limit (length words) ≡ false → NodesHold firsts begun limit n words
-    → firsts (words ++ word ∷ []) ≡ firsts words → begun (words ++ word ∷ []) ≡ first ∷ rest → IsFree n (nodes_by firsts limit n words) first
+same_holds : (firsts begun : Words → Words) (limit n : ℕ) (words : Words) (word first : List ℕ) (rest : Words)
+    → nat_le limit (length words) ≡ false → NodesHold firsts begun limit n words
+    → firsts (words ++ word ∷ []) ≡ firsts words → begun (words ++ word ∷ []) ≡ first ∷ rest
+    → IsFree n (nodes_by firsts limit n words) first
     → NodesHold firsts begun limit n (words ++ word ∷ [])
 same_holds firsts begun limit n words word first rest room h same_firsts next free =
     let both = room_nodes firsts limit n words word (firsts words) room same_firsts in
@@ -89,8 +95,10 @@ same_holds firsts begun limit n words word first rest room h same_firsts next fr
     }
 
 -- a group ends
-ended_holds : (firsts begun : Words → Words) (limit n : ℕ) (words : Words) (word first : List ℕ) → nat_le limit (length words) ≡ false → NodesHold firsts begun limit n words
-    → firsts (words ++ word ∷ []) ≡ firsts words ++ first ∷ [] → begun (words ++ word ∷ []) ≡ [] → IsFree n (nodes_by firsts limit n words) first
+ended_holds : (firsts begun : Words → Words) (limit n : ℕ) (words : Words) (word first : List ℕ)
+    → nat_le limit (length words) ≡ false → NodesHold firsts begun limit n words
+    → firsts (words ++ word ∷ []) ≡ firsts words ++ first ∷ [] → begun (words ++ word ∷ []) ≡ []
+    → IsFree n (nodes_by firsts limit n words) first
     → NodesHold firsts begun limit n (words ++ word ∷ [])
 ended_holds firsts begun limit n words word first room h one_first next free =
     let both = room_nodes firsts limit n words word (firsts words ++ first ∷ []) room one_first in
@@ -112,13 +120,16 @@ free_node n nodes word e =
     (map_none (λ fault. row.Number fault) (result_err (node n word)) rows.0, when_none (is_repeated_node_at n place word) row.RepeatedNode rows.1.0)
 
 -- one word more without a fault
-room_holds : (size : ℕ) (firsts begun : Words → Words) → IsShape size firsts begun → (limit n : ℕ) (words : Words) (word : List ℕ) (number_place : Place) (nodes : List ℤ) (found : Words)
-    → begun words ≡ found → nodes ≡ nodes_by firsts limit n words → nat_le limit (length words) ≡ false → NodesHold firsts begun limit n words
+room_holds : (size : ℕ) (firsts begun : Words → Words) → IsShape size firsts begun
+    → (limit n : ℕ) (words : Words) (word : List ℕ) (number_place : Place) (nodes : List ℤ) (found : Words)
+    → begun words ≡ found → nodes ≡ nodes_by firsts limit n words → nat_le limit (length words) ≡ false
+    → NodesHold firsts begun limit n words
     → word_fault n (place_in_group number_place nodes found) word ≡ None → NodesHold firsts begun limit n (words ++ word ∷ [])
 room_holds size firsts begun s limit n words word number_place nodes [] e is room h none =
     let next = s.starts words word e in
     same_holds firsts begun limit n words word word [] room h next.0 next.1 (subst (λ (ns : List ℤ). IsFree n ns word) is (free_node n nodes word none))
-room_holds size firsts begun s limit n words word number_place nodes (first ∷ rest) e is room h none = by_case (s.goes_on words first rest word e) (h.free first rest e room)
+room_holds size firsts begun s limit n words word number_place nodes (first ∷ rest) e is room h none =
+    by_case (s.goes_on words first rest word e) (h.free first rest e room)
   where
     by_case : ((firsts (words ++ word ∷ []) ≡ firsts words) × (begun (words ++ word ∷ []) ≡ first ∷ (rest ++ word ∷ [])))
         ⊎ ((firsts (words ++ word ∷ []) ≡ firsts words ++ first ∷ []) × (begun (words ++ word ∷ []) ≡ []))
@@ -126,22 +137,27 @@ room_holds size firsts begun s limit n words word number_place nodes (first ∷ 
     by_case (inl next) free = same_holds firsts begun limit n words word first (rest ++ word ∷ []) room h next.0 next.1 free
     by_case (inr next) free = ended_holds firsts begun limit n words word first room h next.0 next.1 free
 
-more_hold : (size : ℕ) (firsts begun : Words → Words) → IsShape size firsts begun → (limit n : ℕ) (words : Words) (word : List ℕ) (number_place : Place) (nodes : List ℤ) (full : Bool)
+more_hold : (size : ℕ) (firsts begun : Words → Words) → IsShape size firsts begun
+    → (limit n : ℕ) (words : Words) (word : List ℕ) (number_place : Place) (nodes : List ℤ) (full : Bool)
     → nat_le limit (length words) ≡ full → nodes ≡ nodes_by firsts limit n words → NodesHold firsts begun limit n words
-    → word_fault n (cond full PastGroups (place_in_group number_place nodes (begun words))) word ≡ None → NodesHold firsts begun limit n (words ++ word ∷ [])
-more_hold size firsts begun s limit n words word number_place nodes true e is h none = full_holds firsts begun limit n words word e h
+    → word_fault n (cond full PastGroups (place_in_group number_place nodes (begun words))) word ≡ None
+    → NodesHold firsts begun limit n (words ++ word ∷ [])
+more_hold size firsts begun s limit n words word number_place nodes true e is h none =
+    full_holds firsts begun limit n words word e h
 more_hold size firsts begun s limit n words word number_place nodes false e is h none =
     room_holds size firsts begun s limit n words word number_place nodes (begun words) refl is e h none
 
 -- ---- the end
 
-full_end : (full : Bool) (number_place : Place) (nodes : List ℤ) (begun : Words) → wants_more number_place ≡ true → wants_more (cond full PastGroups (place_in_group number_place nodes begun)) ≡ false
+full_end : (full : Bool) (number_place : Place) (nodes : List ℤ) (begun : Words) → wants_more number_place ≡ true
+    → wants_more (cond full PastGroups (place_in_group number_place nodes begun)) ≡ false
     → full ≡ true
 full_end true number_place nodes begun more e = refl
 full_end false number_place nodes [] more e = absurd (true≢false e)
 full_end false number_place nodes (word ∷ begun) more e = absurd (true≢false (sym more ∙ e))
 
-all_there : (size : ℕ) (firsts begun : Words → Words) → IsShape size firsts begun → (n : ℕ) (words : Words) (nodes : List ℤ) → nodes ≡ nodes_by firsts (size * n) n words
+all_there : (size : ℕ) (firsts begun : Words → Words) → IsShape size firsts begun → (n : ℕ) (words : Words) (nodes : List ℤ)
+    → nodes ≡ nodes_by firsts (size * n) n words
     → nat_le (size * n) (length words) ≡ true → NodesHold firsts begun (size * n) n words → HasEachNodeOnce n nodes
 all_there size firsts begun s n words nodes is full h =
     let front = take (size * n) words in
@@ -200,7 +216,8 @@ space_points_more n words word h none =
 abbrev StandsAt : Field → (ℕ → Words → Place) → Type 0
 StandsAt field place = (b : Bool) (n : ℕ) (words : Words) → place_in b field n words ≡ place n words
 
-numbers_grow : (field : Field) (low high : ℤ) → same_field TourPart field ≡ false → StandsAt field (place_of_number low high) → Grows false field NumbersHold
+numbers_grow : (field : Field) (low high : ℤ) → same_field TourPart field ≡ false → StandsAt field (place_of_number low high)
+    → Grows false field NumbersHold
 numbers_grow field low high other at = record {
   none = λ n. none_hold 2 pair_firsts begun_pair pair_shape (2 * n) n;
   more = λ b same n words word h none. numbers_more low high n words word h (subst (λ (place : Place). word_fault n place word ≡ None) (at b n words) none);
@@ -234,9 +251,11 @@ complete : (stands wants : Bool) → stands ≡ true → (stands && wants) ≡ f
 complete true wants e f = f
 complete false wants e f = absurd (false≢true e)
 
-numbers_once : (items : List Item) (field : Field) (low high : ℤ) → same_field TourPart field ≡ false → same_field NodeCoordPart field ≡ false
+numbers_once : (items : List Item) (field : Field) (low high : ℤ) → same_field TourPart field ≡ false
+    → same_field NodeCoordPart field ≡ false
     → StandsAt field (place_of_number low high)
-    → IsClean items → has_line field items ≡ true → is_incomplete items field ≡ false → HasEachNodeOnce (dimension_in items) (nodes_of_groups (number_groups low high (dimension_in items) (words_of field items)))
+    → IsClean items → has_line field items ≡ true → is_incomplete items field ≡ false
+    → HasEachNodeOnce (dimension_in items) (nodes_of_groups (number_groups low high (dimension_in items) (words_of field items)))
 numbers_once items field low high other flat at clean stands whole =
     let n = dimension_in items in
     let words = words_of field items in
@@ -247,13 +266,15 @@ numbers_once items field low high other flat at clean stands whole =
     (grown field NumbersHold flat (numbers_grow field low high other at) items clean)
 
 -- points of the plane
-points_once : (n : ℕ) (words : Words) → wants_more (place_of_point n words) ≡ false → PointsHold n words → HasEachNodeOnce n (nodes_of_groups (point_groups n words))
+points_once : (n : ℕ) (words : Words) → wants_more (place_of_point n words) ≡ false → PointsHold n words
+    → HasEachNodeOnce n (nodes_of_groups (point_groups n words))
 points_once n words ended held =
     let nodes = nodes_of_groups (point_groups n words) in
     let full = full_end (nat_le (3 * n) (length words)) Coordinate nodes (begun_triple words) refl ended in
     all_there 3 triple_firsts begun_triple triple_shape n words nodes (point_nodes n (threes_in (take (3 * n) words))) full held
 
-display_once : (items : List Item) → IsClean items → has_line DisplayDataPart items ≡ true → is_incomplete items DisplayDataPart ≡ false
+display_once : (items : List Item) → IsClean items → has_line DisplayDataPart items ≡ true
+    → is_incomplete items DisplayDataPart ≡ false
     → HasEachNodeOnce (dimension_in items) (nodes_of_groups (point_groups (dimension_in items) (words_of DisplayDataPart items)))
 display_once items clean stands whole =
     let n = dimension_in items in
@@ -261,7 +282,8 @@ display_once items clean stands whole =
     points_once n words (complete (has_line DisplayDataPart items) (wants_more (place_of_point n words)) stands whole)
     (grown DisplayDataPart PointsHold refl display_grows items clean)
 
-coords_once : (items : List Item) (in_space : Bool) → spatial_after items ≡ in_space → IsClean items → has_line NodeCoordPart items ≡ true
+coords_once : (items : List Item) (in_space : Bool) → spatial_after items ≡ in_space → IsClean items
+    → has_line NodeCoordPart items ≡ true
     → wants_more (place_in in_space NodeCoordPart (dimension_in items) (words_of NodeCoordPart items)) ≡ false
     → HasEachNodeOnce (dimension_in items) (group_nodes in_space NodeCoordPart (dimension_in items) (words_of NodeCoordPart items))
 coords_once items false is clean stands ended =
@@ -275,7 +297,8 @@ coords_once items true is clean stands ended =
     all_there 4 four_firsts begun_four four_shape n words nodes (space_point_nodes n (fours_in (take (4 * n) words))) full
     (grown_in true NodeCoordPart SpacePointsHold space_points_grow items clean (λ coords there. is))
 
-pub each_once : (items : List Item) (field : Field) → IsClean items → is_by_node_field field ≡ true → has_line field items ≡ true → is_incomplete items field ≡ false
+pub each_once : (items : List Item) (field : Field) → IsClean items → is_by_node_field field ≡ true → has_line field items ≡ true
+    → is_incomplete items field ≡ false
     → HasEachNodeOnce (dimension_in items) (group_nodes (spatial_after items) field (dimension_in items) (words_of field items))
 each_once items NameKey clean by_node = absurd (false≢true by_node)
 each_once items TypeKey clean by_node = absurd (false≢true by_node)
@@ -291,14 +314,18 @@ each_once items DisplayDataTypeKey clean by_node = absurd (false≢true by_node)
 each_once items NodeCoordPart clean by_node = λ stands whole. coords_once items (spatial_after items) refl clean stands
     (complete (has_line NodeCoordPart items) (wants_more (place_in (spatial_after items) NodeCoordPart (dimension_in items) (words_of NodeCoordPart items))) stands whole)
 each_once items DisplayDataPart clean by_node = display_once items clean
-each_once items DemandPart clean by_node = numbers_once items DemandPart (pos 0) (pos most_demand) refl refl (λ b n words. refl) clean
+each_once items DemandPart clean by_node =
+    numbers_once items DemandPart (pos 0) (pos most_demand) refl refl (λ b n words. refl) clean
 each_once items DepotPart clean by_node = absurd (false≢true by_node)
 each_once items FixedEdgesPart clean by_node = absurd (false≢true by_node)
 each_once items EdgeWeightPart clean by_node = absurd (false≢true by_node)
 each_once items TourPart clean by_node = absurd (false≢true by_node)
-each_once items NodePotentialPart clean by_node = numbers_once items NodePotentialPart (neg_ℤ (pos most_potential)) (pos most_potential) refl refl (λ b n words. refl) clean
-each_once items RowPotentialPart clean by_node = numbers_once items RowPotentialPart (neg_ℤ (pos most_potential)) (pos most_potential) refl refl (λ b n words. refl) clean
-each_once items ColumnPotentialPart clean by_node = numbers_once items ColumnPotentialPart (neg_ℤ (pos most_potential)) (pos most_potential) refl refl (λ b n words. refl) clean
+each_once items NodePotentialPart clean by_node =
+    numbers_once items NodePotentialPart (neg_ℤ (pos most_potential)) (pos most_potential) refl refl (λ b n words. refl) clean
+each_once items RowPotentialPart clean by_node =
+    numbers_once items RowPotentialPart (neg_ℤ (pos most_potential)) (pos most_potential) refl refl (λ b n words. refl) clean
+each_once items ColumnPotentialPart clean by_node =
+    numbers_once items ColumnPotentialPart (neg_ℤ (pos most_potential)) (pos most_potential) refl refl (λ b n words. refl) clean
 each_once items FixedEdgePotentialPart clean by_node = absurd (false≢true by_node)
 each_once items CombPart clean by_node = absurd (false≢true by_node)
 each_once items BranchPart clean by_node = absurd (false≢true by_node)

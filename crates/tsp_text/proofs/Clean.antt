@@ -2,7 +2,7 @@
 use Rattle.std.proofs.Common.{◌≡◌, List, ◌∷◌, None, ap, ◌∙◌}
 use Rattle.std.specs.Option.{option_or, option_map}
 use Rattle.tsp_text.specs.Items.{Item}
-use Rattle.tsp_text.specs.Rows.{row_of}
+use Rattle.tsp_text.specs.FaultRows.{row_of}
 use Rattle.tsp_text.specs.FirstFault.{fault_here, IsClean}
 
 pub clean_more : (earlier : List Item) (item : Item) → IsClean earlier → row_of earlier item ≡ None → IsClean (item ∷ earlier)

@@ -11,8 +11,8 @@ use Rattle.std.proofs.lemmas.List.FromFn.{length-map-range_with_len, get_or-map-
 use Rattle.std.proofs.lemmas.List.Sorted.{IsPermutation-refl, IsPermutation-remove, IsPermutation-cons, IsPermutation-sym, IsPermutation-trans, Contains-permutation, length_permutation}
 use Rattle.tsp_format.specs.Cells.{nodes_to}
 use Rattle.tsp_draft.specs.Validity.{is_node}
-use Rattle.tsp_text.specs.Numbers.{number, reads_as, node}
-use Rattle.tsp_text.specs.ByNode.{HasEachNodeOnce}
+use Rattle.tsp_text.specs.SectionNumbers.{number, reads_as, node}
+use Rattle.tsp_text.specs.GroupNodes.{HasEachNodeOnce}
 use Rattle.tsp_text.proofs.ValidNumbers.{read_node}
 
 -- ---- different elements
@@ -22,18 +22,21 @@ abbrev pub AllApart : {X : Type 0} → List X → Type 0
 AllApart [] = Unit {0}
 AllApart (x ∷ xs) = AllByRecursion (λ y. x ≢ y) xs × AllApart xs
 
-in_tail : {X : Type 0} (x : X) (zs : List X) (w : X) (k : ℕ) → k < length (x ∷ zs) → get_or (x ∷ zs) k w ≡ w → x ≢ w → Contains zs w
+in_tail : {X : Type 0} (x : X) (zs : List X) (w : X) (k : ℕ) → k < length (x ∷ zs) → get_or (x ∷ zs) k w ≡ w → x ≢ w
+    → Contains zs w
 in_tail x zs w zero lt is other = absurd (other is)
 in_tail x zs w (suc k) lt is other = (k, omega arith, is)
 
-still_inside : {X : Type 0} (xs ys zs : List X) (x : X) → IsPermutation ys (x ∷ zs) → AllByRecursion (λ y. x ≢ y) xs → AllByRecursion (Contains ys) xs → AllByRecursion (Contains zs) xs
+still_inside : {X : Type 0} (xs ys zs : List X) (x : X) → IsPermutation ys (x ∷ zs) → AllByRecursion (λ y. x ≢ y) xs
+    → AllByRecursion (Contains ys) xs → AllByRecursion (Contains zs) xs
 still_inside [] ys zs x p other inside = tt
 still_inside (w ∷ xs) ys zs x p other inside =
     let found = Contains-permutation ys (x ∷ zs) w p inside.0 in
     (in_tail x zs w found.0 found.1 found.2 other.0, still_inside xs ys zs x p other.1 inside.1)
 
 -- different elements, all from a list that is no longer, are that list in another order
-permutation_from_inside : {X : Type 0} (xs ys : List X) → AllApart xs → AllByRecursion (Contains ys) xs → length ys ≤ length xs → IsPermutation xs ys
+permutation_from_inside : {X : Type 0} (xs ys : List X) → AllApart xs → AllByRecursion (Contains ys) xs → length ys ≤ length xs
+    → IsPermutation xs ys
 permutation_from_inside [] [] apart inside few = IsPermutation-refl []
 permutation_from_inside [] (y ∷ ys) apart inside few = absurd (omega arith)
 permutation_from_inside (x ∷ xs) ys apart inside few =
@@ -77,7 +80,8 @@ node_inside n k e =
     let long = length-map-range_with_len (λ (i : ℕ). pos i) 1 n in
     (k - 1, omega (arith, low, high, long), get_or-map-range_with_len (λ (i : ℕ). pos i) 1 n (k - 1) k (pos k) (omega (arith, low, high)) (omega (arith, low)))
 
-pub once_more : (n : ℕ) (nodes : List ℤ) (word : List ℕ) → AreOnce n nodes → IsFree n nodes word → AreOnce n (nodes ++ number (node n word) ∷ [])
+pub once_more : (n : ℕ) (nodes : List ℤ) (word : List ℕ) → AreOnce n nodes → IsFree n nodes word
+    → AreOnce n (nodes ++ number (node n word) ∷ [])
 once_more n nodes word once free =
     let read = read_node n word free.0 in
     let is : number (node n word) ≡ pos read.0 = ap number read.1 in

@@ -26,7 +26,8 @@ or_step false any more h e = h e
 
 -- ---- the part before it
 
-pub kept_step : {A : Type 0} (b any : Bool) (x : A) (xs ys : List A) → (any ≡ true → xs ≡ ys) → (b || any) ≡ true → cond b [] (x ∷ xs) ≡ cond b [] (x ∷ ys)
+pub kept_step : {A : Type 0} (b any : Bool) (x : A) (xs ys : List A) → (any ≡ true → xs ≡ ys) → (b || any) ≡ true
+    → cond b [] (x ∷ xs) ≡ cond b [] (x ∷ ys)
 kept_step true any x xs ys h e = refl
 kept_step false any x xs ys h e = ap (λ zs. x ∷ zs) (h e)
 
@@ -34,7 +35,8 @@ pub last_step : {A : Type 0} (b : Bool) (x : A) → (b || false) ≡ true → co
 last_step true x e = refl
 last_step false x e = cc
 
-pub none_step : {A : Type 0} (b any : Bool) (x : A) (xs ys : List A) → (any ≡ false → xs ≡ ys) → (b || any) ≡ false → cond b [] (x ∷ xs) ≡ x ∷ ys
+pub none_step : {A : Type 0} (b any : Bool) (x : A) (xs ys : List A) → (any ≡ false → xs ≡ ys) → (b || any) ≡ false
+    → cond b [] (x ∷ xs) ≡ x ∷ ys
 none_step true any x xs ys h e = cc
 none_step false any x xs ys h e = ap (λ zs. x ∷ zs) (h e)
 
@@ -49,10 +51,12 @@ before_none p [] any = refl
 before_none p (y ∷ ys) any = none_step (p y) (list_any p ys) y (before p ys) ys (before_none p ys) any
 
 -- the end itself doesn't count
-pub before_end : {A : Type 0} (p : A → Bool) (xs : List A) (x : A) → p x ≡ true → list_any p xs ≡ false → before p (xs ++ x ∷ []) ≡ xs
+pub before_end : {A : Type 0} (p : A → Bool) (xs : List A) (x : A) → p x ≡ true → list_any p xs ≡ false
+    → before p (xs ++ x ∷ []) ≡ xs
 before_end p [] x e any = rw e refl
 before_end p (y ∷ ys) x e any = none_step (p y) (list_any p ys) y (before p (ys ++ x ∷ [])) ys (before_end p ys x e) any
 
 -- one element more that isn't the end
-pub before_push : {A : Type 0} (p : A → Bool) (xs : List A) (x : A) → p x ≡ false → list_any p xs ≡ false → before p (xs ++ x ∷ []) ≡ xs ++ x ∷ []
+pub before_push : {A : Type 0} (p : A → Bool) (xs : List A) (x : A) → p x ≡ false → list_any p xs ≡ false
+    → before p (xs ++ x ∷ []) ≡ xs ++ x ∷ []
 before_push p xs x e any = before_none p (xs ++ x ∷ []) (any_push p xs x any ∙ e)

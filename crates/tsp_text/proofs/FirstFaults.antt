@@ -5,7 +5,7 @@ use Rattle.std.proofs.lemmas.Option.{none-some, same_Some}
 use Rattle.tsp_text.specs.declared.fault.LineFault.{LineFault}
 use Rattle.tsp_text.specs.declared.fault.ReadFault.{ReadFault}
 use Rattle.tsp_text.specs.Items.{Item}
-use Rattle.tsp_text.specs.Rows.{row_of}
+use Rattle.tsp_text.specs.FaultRows.{row_of}
 use Rattle.tsp_text.specs.FirstFault.{fault_here, fault_in, IsClean, IsFirstFault}
 use Rattle.tsp_text.specs.Answering.{NoneHasRow}
 use Rattle.tsp_text.proofs.Clean.{clean_more}
@@ -19,7 +19,8 @@ found_here earlier item fault clean row =
     ∙ ap (λ found. option_map (fault_here earlier item) found) row
 
 -- a fault stays the first, whatever follows
-pub fault_stays : (later earlier : List Item) (found : ReadFault) → fault_in earlier ≡ Some found → fault_in (later ++ earlier) ≡ Some found
+pub fault_stays : (later earlier : List Item) (found : ReadFault) → fault_in earlier ≡ Some found
+    → fault_in (later ++ earlier) ≡ Some found
 fault_stays [] earlier found e = e
 fault_stays (item ∷ later) earlier found e =
     ap (λ o. option_or o (option_map (fault_here (later ++ earlier) item) (row_of (later ++ earlier) item))) (fault_stays later earlier found e)
@@ -29,7 +30,8 @@ first_found items found h =
     ap fault_in h.parts
     ∙ fault_stays h.later (h.item ∷ h.earlier) found (found_here h.earlier h.item h.fault h.clean h.row ∙ ap (λ x. Some x) (sym h.here))
 
-first_step : (item : Item) (earlier : List Item) (found : ReadFault) (before : Option ReadFault) (row : Option LineFault) → fault_in earlier ≡ before → row_of earlier item ≡ row
+first_step : (item : Item) (earlier : List Item) (found : ReadFault) (before : Option ReadFault) (row : Option LineFault)
+    → fault_in earlier ≡ before → row_of earlier item ≡ row
     → ((other : ReadFault) → fault_in earlier ≡ Some other → IsFirstFault earlier other)
     → option_or before (option_map (fault_here earlier item) row) ≡ Some found → IsFirstFault (item ∷ earlier) found
 first_step item earlier found (Some other) row e f before_is h =

@@ -36,7 +36,8 @@ fours_second (a ∷ b ∷ []) first x e = cc
 fours_second (a ∷ b ∷ c ∷ []) first x e = cc
 fours_second (a ∷ b ∷ c ∷ d ∷ xs) first x e = ap (λ fs. (a, b, c, d) ∷ fs) (fours_second xs first x e)
 
-pub begun_second : {A : Type 0} (xs : List A) (first x : A) → begun_four xs ≡ first ∷ [] → begun_four (xs ++ x ∷ []) ≡ first ∷ x ∷ []
+pub begun_second : {A : Type 0} (xs : List A) (first x : A) → begun_four xs ≡ first ∷ []
+    → begun_four (xs ++ x ∷ []) ≡ first ∷ x ∷ []
 begun_second [] first x e = cc
 begun_second (a ∷ []) first x e = let same : a ≡ first = cc in rw same refl
 begun_second (a ∷ b ∷ []) first x e = cc

@@ -10,7 +10,7 @@ use Rattle.tsp_text.specs.Items.{WordLine, Item, Line, NumberWord}
 use Rattle.tsp_text.specs.Earlier.{same_field, open_section, words_of}
 use Rattle.tsp_text.specs.Values.{spatial_after}
 use Rattle.tsp_text.specs.Sections.{place_in, dimension_in}
-use Rattle.tsp_text.specs.Rows.{row_of, word_fault}
+use Rattle.tsp_text.specs.FaultRows.{row_of, word_fault}
 
 pub same_self : (f : Field) → same_field f f ≡ true
 same_self NameKey = refl
@@ -43,8 +43,10 @@ pub word_rows : (earlier : List Item) (word : List ℕ) (f : Field) → open_sec
     → row_of earlier (NumberWord word) ≡ word_fault (dimension_in earlier) (place_in (spatial_after earlier) f (dimension_in earlier) (words_of f earlier)) word
 word_rows earlier word f o = rw o refl
 
-pub words_more : (earlier : List Item) (word : List ℕ) (f : Field) → open_section earlier ≡ Some f → words_of f (NumberWord word ∷ earlier) ≡ words_of f earlier ++ word ∷ []
+pub words_more : (earlier : List Item) (word : List ℕ) (f : Field) → open_section earlier ≡ Some f
+    → words_of f (NumberWord word ∷ earlier) ≡ words_of f earlier ++ word ∷ []
 words_more earlier word f o = rw (o, same_self f) refl
 
-pub long_line : (key : Keyword) (line : WordLine) (earlier : List Item) → nat_lt most_line_bytes line.size ≡ true → row_of earlier (Line key line) ≡ Some row.LongLine
+pub long_line : (key : Keyword) (line : WordLine) (earlier : List Item) → nat_lt most_line_bytes line.size ≡ true
+    → row_of earlier (Line key line) ≡ Some row.LongLine
 long_line key line earlier long = rw long refl

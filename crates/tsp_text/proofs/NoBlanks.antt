@@ -23,7 +23,8 @@ start_filled b bytes e = ap (λ c. drop (cond c (1 + prefix_len is_blank bytes) 
 reversed : (front : List ℕ) (last : ℕ) → reverse (front ++ last ∷ []) ≡ last ∷ reverse front
 reversed front last = reverse-append front (last ∷ [])
 
-pub end_blank : (text front : List ℕ) (last : ℕ) → text ≡ front ++ last ∷ [] → is_blank last ≡ true → without_end front ≡ without_end text
+pub end_blank : (text front : List ℕ) (last : ℕ) → text ≡ front ++ last ∷ [] → is_blank last ≡ true
+    → without_end front ≡ without_end text
 end_blank text front last parts e =
     sym (ap without_end parts ∙ ap (λ xs. reverse (without_start xs)) (reversed front last) ∙ ap reverse (start_blank last (reverse front) e))
 

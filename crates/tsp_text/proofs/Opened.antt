@@ -33,7 +33,8 @@ past : (a b : Bool) → cond a true b ≡ false → b ≡ false
 past true b e = cc
 past false b e = e
 
-word_case : (f : Field) (word : List ℕ) (earlier : List Item) (b : Bool) → is_open f (open_section earlier) ≡ b → has_line f earlier ≡ false → words_of f earlier ≡ []
+word_case : (f : Field) (word : List ℕ) (earlier : List Item) (b : Bool) → is_open f (open_section earlier) ≡ b
+    → has_line f earlier ≡ false → words_of f earlier ≡ []
     → cond b (words_of f earlier ++ word ∷ []) (words_of f earlier) ≡ []
 word_case f word earlier true e none ih = let there = open_there f earlier e in cc
 word_case f word earlier false e none ih = ih
@@ -42,5 +43,6 @@ word_case f word earlier false e none ih = ih
 pub no_words : (f : Field) (earlier : List Item) → has_line f earlier ≡ false → words_of f earlier ≡ []
 no_words f [] none = refl
 no_words f (Line key line ∷ earlier) none = no_words f earlier (past (is_key f key) (has_line f earlier) none)
-no_words f (NumberWord word ∷ earlier) none = word_case f word earlier (is_open f (open_section earlier)) refl none (no_words f earlier none)
+no_words f (NumberWord word ∷ earlier) none =
+    word_case f word earlier (is_open f (open_section earlier)) refl none (no_words f earlier none)
 no_words f (LineEnd ∷ earlier) none = no_words f earlier none

@@ -31,7 +31,8 @@ firsts_begin (a ∷ b ∷ xs) x e = ap (λ ys. a ∷ ys) (firsts_begin xs x e)
 
 -- ---- a word that ends a pair
 
-pub pairs_end : {A : Type 0} (xs : List A) (first x : A) → begun_pair xs ≡ first ∷ [] → pairs_in (xs ++ x ∷ []) ≡ pairs_in xs ++ (first, x) ∷ []
+pub pairs_end : {A : Type 0} (xs : List A) (first x : A) → begun_pair xs ≡ first ∷ []
+    → pairs_in (xs ++ x ∷ []) ≡ pairs_in xs ++ (first, x) ∷ []
 pairs_end [] first x e = cc
 pairs_end (a ∷ []) first x e = let same : a ≡ first = cc in rw same refl
 pairs_end (a ∷ b ∷ xs) first x e = ap (λ ps. (a, b) ∷ ps) (pairs_end xs first x e)
@@ -48,10 +49,12 @@ firsts_end (a ∷ b ∷ xs) first x e = ap (λ ys. a ∷ ys) (firsts_end xs firs
 
 -- ---- a first word of a pair that ends the list
 
-pub firsts_kept : {A : Type 0} (p : A → Bool) (xs : List A) (x : A) → list_any p (firsts_in xs) ≡ true → list_any p (firsts_in (xs ++ x ∷ [])) ≡ true
+pub firsts_kept : {A : Type 0} (p : A → Bool) (xs : List A) (x : A) → list_any p (firsts_in xs) ≡ true
+    → list_any p (firsts_in (xs ++ x ∷ [])) ≡ true
 firsts_kept p [] x any = cc
 firsts_kept p (a ∷ []) x any = any
-firsts_kept p (a ∷ b ∷ xs) x any = or_step (p a) (list_any p (firsts_in xs)) (list_any p (firsts_in (xs ++ x ∷ []))) (firsts_kept p xs x) any
+firsts_kept p (a ∷ b ∷ xs) x any =
+    or_step (p a) (list_any p (firsts_in xs)) (list_any p (firsts_in (xs ++ x ∷ []))) (firsts_kept p xs x) any
 
 -- past it no pair counts
 pub pairs_kept : {A : Type 0} (p : A → Bool) (xs : List A) (x : A) → list_any p (firsts_in xs) ≡ true
@@ -62,7 +65,8 @@ pairs_kept p (a ∷ b ∷ xs) x any =
     kept_step (p a) (list_any p (firsts_in xs)) (a, b) (before (λ pair. p pair.0) (pairs_in (xs ++ x ∷ []))) (before (λ pair. p pair.0) (pairs_in xs)) (pairs_kept p xs x) any
 
 -- without one all pairs count
-pub pairs_none : {A : Type 0} (p : A → Bool) (xs : List A) → list_any p (firsts_in xs) ≡ false → before (λ pair. p pair.0) (pairs_in xs) ≡ pairs_in xs
+pub pairs_none : {A : Type 0} (p : A → Bool) (xs : List A) → list_any p (firsts_in xs) ≡ false
+    → before (λ pair. p pair.0) (pairs_in xs) ≡ pairs_in xs
 pairs_none p [] any = refl
 pairs_none p (a ∷ []) any = refl
 pairs_none p (a ∷ b ∷ xs) any =

@@ -14,7 +14,7 @@ use Rattle.tsp_text.specs.Items.{WordLine, Item, Line}
 use Rattle.tsp_text.specs.Earlier.{has_line}
 use Rattle.tsp_text.specs.Values.{spatial_after}
 use Rattle.tsp_text.specs.Sections.{dimension_in}
-use Rattle.tsp_text.specs.Rows.{row_of}
+use Rattle.tsp_text.specs.FaultRows.{row_of}
 use Rattle.tsp_text.specs.Opening.{opening_rows}
 use Rattle.tsp_text.specs.Spells.{fields_by}
 
@@ -88,7 +88,8 @@ points_open true stands known value n = refl
 points_open false stands known value n = refl
 
 -- its rows
-pub opening : (in_space : Bool) (earlier : List Item) (line : WordLine) → nat_lt most_line_bytes line.size ≡ false → (f : Field) → is_section_field f ≡ true
+pub opening : (in_space : Bool) (earlier : List Item) (line : WordLine) → nat_lt most_line_bytes line.size ≡ false → (f : Field)
+    → is_section_field f ≡ true
     → row_of earlier (Line (Known f) line)
     ≡ option_map_or (λ shape. opening_rows shape (has_line f earlier) line.value (has_line DimensionKey earlier) (dimension_in earlier)) (shape_of in_space f) None
 opening in_space earlier line short = by_section (λ f. row_of earlier (Line (Known f) line)

@@ -18,13 +18,13 @@ use Rattle.tsp_text.specs.declared.fault.LineFault.{LineFault}
 use Rattle.tsp_text.specs.declared.fault.LineFault.TheVariants as row
 use Rattle.tsp_text.specs.declared.fault.ReadFault.{ReadFault}
 use Rattle.tsp_text.specs.declared.fault.ReadFault.TheVariants as faults
-use Rattle.tsp_text.specs.Numbers.{is_minus_one}
+use Rattle.tsp_text.specs.SectionNumbers.{is_minus_one}
 use Rattle.tsp_text.specs.Items.{Item, Line, NumberWord, LineEnd, items_of, settled_items, is_end_line, has_end_line, to_end_line}
 use Rattle.tsp_text.specs.Earlier.{open_section, words_of}
-use Rattle.tsp_text.specs.Places.{Place, NodeAfter, Coordinate, Amount, PastGroups, DepotAfter, FirstAfter, SecondOf, PastEnd, Weight, PastWeights, TourNode, SetNode, StepAfter, IndexAfter}
+use Rattle.tsp_text.specs.WordPlaces.{Place, NodeAfter, Coordinate, Amount, PastGroups, DepotAfter, FirstAfter, SecondOf, PastEnd, Weight, PastWeights, TourNode, SetNode, StepAfter, IndexAfter}
 use Rattle.tsp_text.specs.Values.{spatial_after}
 use Rattle.tsp_text.specs.Sections.{place_in, dimension_in}
-use Rattle.tsp_text.specs.Rows.{when, first_row, row_of, word_fault}
+use Rattle.tsp_text.specs.FaultRows.{when, first_row, row_of, word_fault}
 use Rattle.tsp_text.specs.FirstFault.{fault_here, fault_in, IsClean}
 use Rattle.tsp_text.specs.Spells.{fault_at_end}
 use Rattle.tsp_text.specs.Text.{is_too_long, part, fault, settled_part, settled_fault}
@@ -40,11 +40,13 @@ IsLong word = nat_lt most_word_bytes (length word) ≡ true
 
 whole_long : (word : List ℕ) (low high : ℤ) → IsLong word → whole_of word low high ≡ Err LongWord
 unfolding whole_of
-whole_long word low high long = ap (λ (b : Bool). if b then whole_from low high (numeral_in word) else Err LongWord) (lt-leb (length word) 64 (ltb-true 64 (length word) long))
+whole_long word low high long =
+    ap (λ (b : Bool). if b then whole_from low high (numeral_in word) else Err LongWord) (lt-leb (length word) 64 (ltb-true 64 (length word) long))
 
 decimal_long : (word : List ℕ) → IsLong word → decimal_of word ≡ Err LongWord
 unfolding decimal_of
-decimal_long word long = ap (λ (b : Bool). if b then decimal_from (numeral_in word) else Err LongWord) (lt-leb (length word) 64 (ltb-true 64 (length word) long))
+decimal_long word long =
+    ap (λ (b : Bool). if b then decimal_from (numeral_in word) else Err LongWord) (lt-leb (length word) 64 (ltb-true 64 (length word) long))
 
 minus_long : (word : List ℕ) → IsLong word → is_minus_one word ≡ false
 minus_long word long = by_case (is_minus_one word) refl
@@ -86,7 +88,8 @@ long_fault n (SetNode begun combs count) word long = rw (whole_long word (negsuc
 long_fault n (StepAfter branches) word long = rw (whole_long word (pos 0) (pos n) long) refl
 long_fault n (IndexAfter count) word long = rw (whole_long word (negsuc 0) (pos (n + most_combs)) long) refl
 
-same_word_row : (earlier : List Item) (word next : List ℕ) (opened : Option Field) → IsLong word → IsLong next → open_section earlier ≡ opened
+same_word_row : (earlier : List Item) (word next : List ℕ) (opened : Option Field) → IsLong word → IsLong next
+    → open_section earlier ≡ opened
     → row_of earlier (NumberWord word) ≡ row_of earlier (NumberWord next)
 same_word_row earlier word next None long also e = rw e refl
 same_word_row earlier word next (Some f) long also e =
@@ -108,7 +111,8 @@ same_fault earlier LineEnd y h = absurd h
 -- ---- the fault of items that stay
 
 turned : (x : Item) (xs earlier : List Item) → reverse (x ∷ xs) ++ earlier ≡ reverse xs ++ (x ∷ earlier)
-turned x xs earlier = ap (λ (zs : List Item). zs ++ earlier) (reverse-append (x ∷ []) xs) ∙ append_assoc (reverse xs) (x ∷ []) earlier
+turned x xs earlier =
+    ap (λ (zs : List Item). zs ++ earlier) (reverse-append (x ∷ []) xs) ∙ append_assoc (reverse xs) (x ∷ []) earlier
 
 alone_by : (b : Bool) (x : Item) (earlier : List Item) → reverse (x ∷ cond b [] []) ++ earlier ≡ x ∷ earlier
 alone_by true x earlier = refl
@@ -119,11 +123,14 @@ alone x xs earlier e = ap (λ (zs : List Item). reverse (to_end_line (x ∷ zs))
 
 fault_step : (b : Bool) (x : Item) (xs ys earlier : List Item) (found : ReadFault)
     → (fault_in (reverse xs ++ (x ∷ earlier)) ≡ Some found → fault_in (reverse ys ++ (x ∷ earlier)) ≡ Some found)
-    → fault_in (reverse (x ∷ cond b [] xs) ++ earlier) ≡ Some found → fault_in (reverse (x ∷ cond b [] ys) ++ earlier) ≡ Some found
+    → fault_in (reverse (x ∷ cond b [] xs) ++ earlier) ≡ Some found
+    → fault_in (reverse (x ∷ cond b [] ys) ++ earlier) ≡ Some found
 fault_step true x xs ys earlier found after e = e
-fault_step false x xs ys earlier found after e = ap fault_in (turned x ys earlier) ∙ after (ap fault_in (sym (turned x xs earlier)) ∙ e)
+fault_step false x xs ys earlier found after e =
+    ap fault_in (turned x ys earlier) ∙ after (ap fault_in (sym (turned x xs earlier)) ∙ e)
 
-fault_after : (xs ys earlier : List Item) (found : ReadFault) → Stay xs ys → fault_in (reverse (to_end_line xs) ++ earlier) ≡ Some found → fault_in (reverse (to_end_line ys) ++ earlier) ≡ Some found
+fault_after : (xs ys earlier : List Item) (found : ReadFault) → Stay xs ys
+    → fault_in (reverse (to_end_line xs) ++ earlier) ≡ Some found → fault_in (reverse (to_end_line ys) ++ earlier) ≡ Some found
 fault_after [] ys earlier found h e = fault_stays (reverse (to_end_line ys)) earlier found e
 fault_after (x ∷ xs) [] earlier found h e = absurd h
 fault_after (x ∷ xs) (y ∷ ys) earlier found (inl h) e =
@@ -134,25 +141,31 @@ fault_after (x ∷ xs) (y ∷ ys) earlier found (inr h) e =
     ap fault_in (turned y rest earlier)
     ∙ fault_stays (reverse rest) (y ∷ earlier) found (sym (same_fault earlier x y h.0) ∙ ap fault_in (sym (alone x xs earlier h.1)) ∙ e)
 
-fault_of_items : (xs ys : List Item) (found : ReadFault) → Stay xs ys → fault_in (reverse (to_end_line xs)) ≡ Some found → fault_in (reverse (to_end_line ys)) ≡ Some found
+fault_of_items : (xs ys : List Item) (found : ReadFault) → Stay xs ys → fault_in (reverse (to_end_line xs)) ≡ Some found
+    → fault_in (reverse (to_end_line ys)) ≡ Some found
 fault_of_items xs ys found h e =
     ap fault_in (sym (append-nil (reverse (to_end_line ys)))) ∙ fault_after xs ys [] found h (ap fault_in (append-nil (reverse (to_end_line xs))) ∙ e)
 
 -- ---- the end line of items that stay
 
 no_long_end : (earlier : List Item) (x y : Item) → AreLong x y → IsClean (x ∷ earlier) → has_end_line (x ∷ []) ≡ true → ⊥
-no_long_end earlier (Line key line) (Line other next) h clean ended = none-some row.LongLine (sym (clean_parts earlier (Line key line) clean).1 ∙ long_line key line earlier h.0)
+no_long_end earlier (Line key line) (Line other next) h clean ended =
+    none-some row.LongLine (sym (clean_parts earlier (Line key line) clean).1 ∙ long_line key line earlier h.0)
 no_long_end earlier (Line key line) (NumberWord word) h clean ended = h
 no_long_end earlier (Line key line) LineEnd h clean ended = h
 no_long_end earlier (NumberWord word) y h clean ended = false≢true ended
 no_long_end earlier LineEnd y h clean ended = h
 
-end_step : (b : Bool) (x : Item) (xs ys earlier : List Item) → (IsClean (reverse (to_end_line xs) ++ (x ∷ earlier)) → has_end_line xs ≡ true → to_end_line ys ≡ to_end_line xs)
-    → IsClean (reverse (x ∷ cond b [] (to_end_line xs)) ++ earlier) → (b || has_end_line xs) ≡ true → x ∷ cond b [] (to_end_line ys) ≡ x ∷ cond b [] (to_end_line xs)
+end_step : (b : Bool) (x : Item) (xs ys earlier : List Item)
+    → (IsClean (reverse (to_end_line xs) ++ (x ∷ earlier)) → has_end_line xs ≡ true → to_end_line ys ≡ to_end_line xs)
+    → IsClean (reverse (x ∷ cond b [] (to_end_line xs)) ++ earlier) → (b || has_end_line xs) ≡ true
+    → x ∷ cond b [] (to_end_line ys) ≡ x ∷ cond b [] (to_end_line xs)
 end_step true x xs ys earlier after clean ended = refl
-end_step false x xs ys earlier after clean ended = ap (λ (zs : List Item). x ∷ zs) (after (ap fault_in (sym (turned x (to_end_line xs) earlier)) ∙ clean) ended)
+end_step false x xs ys earlier after clean ended =
+    ap (λ (zs : List Item). x ∷ zs) (after (ap fault_in (sym (turned x (to_end_line xs) earlier)) ∙ clean) ended)
 
-end_after : (xs ys earlier : List Item) → Stay xs ys → IsClean (reverse (to_end_line xs) ++ earlier) → has_end_line xs ≡ true → to_end_line ys ≡ to_end_line xs
+end_after : (xs ys earlier : List Item) → Stay xs ys → IsClean (reverse (to_end_line xs) ++ earlier) → has_end_line xs ≡ true
+    → to_end_line ys ≡ to_end_line xs
 end_after [] ys earlier h clean ended = absurd (false≢true ended)
 end_after (x ∷ xs) [] earlier h clean ended = absurd h
 end_after (x ∷ xs) (y ∷ ys) earlier (inl h) clean ended =
@@ -160,7 +173,8 @@ end_after (x ∷ xs) (y ∷ ys) earlier (inl h) clean ended =
 end_after (x ∷ xs) (y ∷ ys) earlier (inr h) clean ended =
     absurd (no_long_end earlier x y h.0 (ap fault_in (sym (alone x xs earlier h.1)) ∙ clean) (subst (λ (zs : List Item). has_end_line (x ∷ zs) ≡ true) h.1 ended))
 
-end_of_items : (xs ys : List Item) → Stay xs ys → IsClean (reverse (to_end_line xs)) → has_end_line xs ≡ true → to_end_line ys ≡ to_end_line xs
+end_of_items : (xs ys : List Item) → Stay xs ys → IsClean (reverse (to_end_line xs)) → has_end_line xs ≡ true
+    → to_end_line ys ≡ to_end_line xs
 end_of_items xs ys h clean ended = end_after xs ys [] h (ap fault_in (append-nil (reverse (to_end_line xs))) ∙ clean) ended
 
 or_turned : (a b : Bool) → (a || (b || false)) ≡ (b || a)
@@ -175,7 +189,8 @@ ends_turned (x ∷ items) =
     ap has_end_line (reverse-append (x ∷ []) items) ∙ list_any-append is_end_line (reverse items) (x ∷ [])
     ∙ or_turned (has_end_line (reverse items)) (is_end_line x) ∙ ap (λ (b : Bool). is_end_line x || b) (ends_turned items)
 
-ends_step : (b : Bool) (xs ys : List Item) → has_end_line xs ≡ has_end_line ys → (b || has_end_line (cond b [] xs)) ≡ (b || has_end_line ys)
+ends_step : (b : Bool) (xs ys : List Item) → has_end_line xs ≡ has_end_line ys
+    → (b || has_end_line (cond b [] xs)) ≡ (b || has_end_line ys)
 ends_step true xs ys e = refl
 ends_step false xs ys e = e
 
@@ -191,19 +206,23 @@ take_front size bytes more e = take-append-le size bytes more (omega (arith, ltb
 take_whole : (size : ℕ) (bytes : List ℕ) → nat_lt size (length bytes) ≡ false → take size bytes ≡ bytes
 take_whole size bytes e = take_all size bytes (ltb-false size (length bytes) e)
 
-take_over : (size : ℕ) (bytes more : List ℕ) → nat_lt size (length bytes) ≡ false → take size (bytes ++ more) ≡ bytes ++ take (size - length bytes) more
+take_over : (size : ℕ) (bytes more : List ℕ) → nat_lt size (length bytes) ≡ false
+    → take size (bytes ++ more) ≡ bytes ++ take (size - length bytes) more
 take_over size bytes more e =
     let room : length bytes + (size - length bytes) ≡ size = omega (arith, ltb-false size (length bytes) e) in
     ap (λ (n : ℕ). take n (bytes ++ more)) (sym room) ∙ take-append-add bytes more (size - length bytes)
 
 pub part_long : (bytes : List ℕ) → is_too_long bytes ≡ true → part bytes ≡ settled_part bytes
-part_long bytes e = ap (λ (b : Bool). reverse (to_end_line (cond b (settled_items (take most_file_bytes bytes)) (items_of bytes)))) e
+part_long bytes e =
+    ap (λ (b : Bool). reverse (to_end_line (cond b (settled_items (take most_file_bytes bytes)) (items_of bytes)))) e
 
 pub part_short : (bytes : List ℕ) → is_too_long bytes ≡ false → part bytes ≡ reverse (to_end_line (items_of bytes))
-part_short bytes e = ap (λ (b : Bool). reverse (to_end_line (cond b (settled_items (take most_file_bytes bytes)) (items_of bytes)))) e
+part_short bytes e =
+    ap (λ (b : Bool). reverse (to_end_line (cond b (settled_items (take most_file_bytes bytes)) (items_of bytes)))) e
 
 settled_long : (bytes more : List ℕ) → is_too_long bytes ≡ true → settled_part (bytes ++ more) ≡ settled_part bytes
-settled_long bytes more e = ap (λ (bs : List ℕ). reverse (to_end_line (settled_items bs))) (take_front most_file_bytes bytes more e)
+settled_long bytes more e =
+    ap (λ (bs : List ℕ). reverse (to_end_line (settled_items bs))) (take_front most_file_bytes bytes more e)
 
 settled_short : (bytes : List ℕ) → is_too_long bytes ≡ false → settled_part bytes ≡ reverse (to_end_line (settled_items bytes))
 settled_short bytes e = ap (λ (bs : List ℕ). reverse (to_end_line (settled_items bs))) (take_whole most_file_bytes bytes e)
@@ -211,31 +230,38 @@ settled_short bytes e = ap (λ (bs : List ℕ). reverse (to_end_line (settled_it
 abbrev room_for : List ℕ → ℕ
 room_for bytes = most_file_bytes - length bytes
 
-settled_over : (bytes more : List ℕ) → is_too_long bytes ≡ false → settled_part (bytes ++ more) ≡ reverse (to_end_line (settled_items (bytes ++ take (room_for bytes) more)))
-settled_over bytes more e = ap (λ (bs : List ℕ). reverse (to_end_line (settled_items bs))) (take_over most_file_bytes bytes more e)
+settled_over : (bytes more : List ℕ) → is_too_long bytes ≡ false
+    → settled_part (bytes ++ more) ≡ reverse (to_end_line (settled_items (bytes ++ take (room_for bytes) more)))
+settled_over bytes more e =
+    ap (λ (bs : List ℕ). reverse (to_end_line (settled_items bs))) (take_over most_file_bytes bytes more e)
 
 -- ---- faults of texts
 
-first_wins : (o : Option ReadFault) (rest : List (Option ReadFault)) (found : ReadFault) → o ≡ Some found → first_row (o ∷ rest) ≡ Some found
+first_wins : (o : Option ReadFault) (rest : List (Option ReadFault)) (found : ReadFault) → o ≡ Some found
+    → first_row (o ∷ rest) ≡ Some found
 first_wins o rest found e = ap (λ (p : Option ReadFault). first_row (p ∷ rest)) e
 
-more_rows : (o : Option ReadFault) (b : Bool) (rest : Option ReadFault) (found : ReadFault) → first_row (o ∷ when b faults.TooLong ∷ []) ≡ Some found
+more_rows : (o : Option ReadFault) (b : Bool) (rest : Option ReadFault) (found : ReadFault)
+    → first_row (o ∷ when b faults.TooLong ∷ []) ≡ Some found
     → first_row (o ∷ when b faults.TooLong ∷ rest ∷ []) ≡ Some found
 more_rows (Some other) b rest found e = e
 more_rows None true rest found e = e
 more_rows None false rest found e = absurd (none-some found e)
 
-only_first : (o : Option ReadFault) (b c : Bool) (found : ReadFault) → b ≡ false → first_row (o ∷ when (b && c) faults.TooLong ∷ []) ≡ Some found → o ≡ Some found
+only_first : (o : Option ReadFault) (b c : Bool) (found : ReadFault) → b ≡ false
+    → first_row (o ∷ when (b && c) faults.TooLong ∷ []) ≡ Some found → o ≡ Some found
 only_first (Some other) b c found e h = h
 only_first None true c found e h = absurd (true≢false e)
 only_first None false c found e h = absurd (none-some found h)
 
 -- in a text that isn't too long only an item has a settled fault
-short_fault : (bytes : List ℕ) (found : ReadFault) → is_too_long bytes ≡ false → settled_fault bytes ≡ Some found → fault_in (reverse (to_end_line (settled_items bytes))) ≡ Some found
+short_fault : (bytes : List ℕ) (found : ReadFault) → is_too_long bytes ≡ false → settled_fault bytes ≡ Some found
+    → fault_in (reverse (to_end_line (settled_items bytes))) ≡ Some found
 short_fault bytes found e h =
     ap fault_in (sym (settled_short bytes e)) ∙ only_first (fault_in (settled_part bytes)) (is_too_long bytes) (not (has_end_line (settled_part bytes))) found e h
 
-over_fault : (bytes more : List ℕ) (found : ReadFault) → is_too_long bytes ≡ false → settled_fault bytes ≡ Some found → fault_in (settled_part (bytes ++ more)) ≡ Some found
+over_fault : (bytes more : List ℕ) (found : ReadFault) → is_too_long bytes ≡ false → settled_fault bytes ≡ Some found
+    → fault_in (settled_part (bytes ++ more)) ≡ Some found
 over_fault bytes more found e h =
     ap fault_in (settled_over bytes more e)
     ∙ fault_of_items (settled_items bytes) (settled_items (bytes ++ take (room_for bytes) more)) found (items_settled bytes (take (room_for bytes) more)) (short_fault bytes found e h)
@@ -253,7 +279,8 @@ long_fault_kept bytes more found e h =
     subst (λ (b : Bool). first_row (fault_in (settled_part bytes) ∷ when (b && not (has_end_line (settled_part bytes))) faults.TooLong ∷ []) ≡ Some found)
     (e ∙ sym (longer most_file_bytes bytes more e)) h
 
-fault_kept_by : (bytes more : List ℕ) (found : ReadFault) (b : Bool) → is_too_long bytes ≡ b → settled_fault bytes ≡ Some found → fault (bytes ++ more) ≡ Some found
+fault_kept_by : (bytes more : List ℕ) (found : ReadFault) (b : Bool) → is_too_long bytes ≡ b → settled_fault bytes ≡ Some found
+    → fault (bytes ++ more) ≡ Some found
 fault_kept_by bytes more found true e h =
     subst (λ (items : List Item). first_row (fault_in items ∷ when (is_too_long (bytes ++ more) && not (has_end_line items)) faults.TooLong
     ∷ option_map (λ fault. faults.End fault) (fault_at_end items) ∷ []) ≡ Some found)
@@ -269,7 +296,8 @@ fault_kept_by bytes more found false e h =
 pub fault_kept : (bytes more : List ℕ) (found : ReadFault) → settled_fault bytes ≡ Some found → fault (bytes ++ more) ≡ Some found
 fault_kept bytes more found h = fault_kept_by bytes more found (is_too_long bytes) refl h
 
-settled_kept_by : (bytes more : List ℕ) (found : ReadFault) (b : Bool) → is_too_long bytes ≡ b → settled_fault bytes ≡ Some found → settled_fault (bytes ++ more) ≡ Some found
+settled_kept_by : (bytes more : List ℕ) (found : ReadFault) (b : Bool) → is_too_long bytes ≡ b → settled_fault bytes ≡ Some found
+    → settled_fault (bytes ++ more) ≡ Some found
 settled_kept_by bytes more found true e h =
     subst (λ (items : List Item). first_row (fault_in items ∷ when (is_too_long (bytes ++ more) && not (has_end_line items)) faults.TooLong ∷ []) ≡ Some found)
     (sym (settled_long bytes more e)) (long_fault_kept bytes more found e h)
@@ -277,12 +305,14 @@ settled_kept_by bytes more found false e h =
     first_wins (fault_in (settled_part (bytes ++ more))) (when (is_too_long (bytes ++ more) && not (has_end_line (settled_part (bytes ++ more)))) faults.TooLong ∷ []) found
     (over_fault bytes more found e h)
 
-pub settled_kept : (bytes more : List ℕ) (found : ReadFault) → settled_fault bytes ≡ Some found → settled_fault (bytes ++ more) ≡ Some found
+pub settled_kept : (bytes more : List ℕ) (found : ReadFault) → settled_fault bytes ≡ Some found
+    → settled_fault (bytes ++ more) ≡ Some found
 settled_kept bytes more found h = settled_kept_by bytes more found (is_too_long bytes) refl h
 
 -- ---- a settled end line
 
-short_end : (bytes : List ℕ) (ys : List Item) → is_too_long bytes ≡ false → IsClean (settled_part bytes) → has_end_line (settled_part bytes) ≡ true → Stay (settled_items bytes) ys
+short_end : (bytes : List ℕ) (ys : List Item) → is_too_long bytes ≡ false → IsClean (settled_part bytes)
+    → has_end_line (settled_part bytes) ≡ true → Stay (settled_items bytes) ys
     → reverse (to_end_line ys) ≡ settled_part bytes
 short_end bytes ys e clean ended stay =
     let whole = settled_short bytes e in
@@ -290,27 +320,34 @@ short_end bytes ys e clean ended stay =
     sym (ends_kept (settled_items bytes)) ∙ sym (ends_turned (to_end_line (settled_items bytes))) ∙ ap has_end_line (sym whole) ∙ ended in
     ap reverse (end_of_items (settled_items bytes) ys stay (ap fault_in (sym whole) ∙ clean) has) ∙ sym whole
 
-part_kept_by : (bytes more : List ℕ) (b c : Bool) → is_too_long bytes ≡ b → is_too_long (bytes ++ more) ≡ c → IsClean (settled_part bytes) → has_end_line (settled_part bytes) ≡ true
+part_kept_by : (bytes more : List ℕ) (b c : Bool) → is_too_long bytes ≡ b → is_too_long (bytes ++ more) ≡ c
+    → IsClean (settled_part bytes) → has_end_line (settled_part bytes) ≡ true
     → part (bytes ++ more) ≡ settled_part bytes
-part_kept_by bytes more true c e t clean ended = part_long (bytes ++ more) (longer most_file_bytes bytes more e) ∙ settled_long bytes more e
+part_kept_by bytes more true c e t clean ended =
+    part_long (bytes ++ more) (longer most_file_bytes bytes more e) ∙ settled_long bytes more e
 part_kept_by bytes more false true e t clean ended =
     part_long (bytes ++ more) t ∙ settled_over bytes more e
     ∙ short_end bytes (settled_items (bytes ++ take (room_for bytes) more)) e clean ended (items_settled bytes (take (room_for bytes) more))
-part_kept_by bytes more false false e t clean ended = part_short (bytes ++ more) t ∙ short_end bytes (items_of (bytes ++ more)) e clean ended (items_stay bytes more)
+part_kept_by bytes more false false e t clean ended =
+    part_short (bytes ++ more) t ∙ short_end bytes (items_of (bytes ++ more)) e clean ended (items_stay bytes more)
 
-pub part_kept : (bytes more : List ℕ) → IsClean (settled_part bytes) → has_end_line (settled_part bytes) ≡ true → part (bytes ++ more) ≡ settled_part bytes
+pub part_kept : (bytes more : List ℕ) → IsClean (settled_part bytes) → has_end_line (settled_part bytes) ≡ true
+    → part (bytes ++ more) ≡ settled_part bytes
 part_kept bytes more clean ended = part_kept_by bytes more (is_too_long bytes) (is_too_long (bytes ++ more)) refl refl clean ended
 
-ended_stays_by : (bytes more : List ℕ) (b : Bool) → is_too_long bytes ≡ b → IsClean (settled_part bytes) → has_end_line (settled_part bytes) ≡ true
+ended_stays_by : (bytes more : List ℕ) (b : Bool) → is_too_long bytes ≡ b → IsClean (settled_part bytes)
+    → has_end_line (settled_part bytes) ≡ true
     → settled_part (bytes ++ more) ≡ settled_part bytes
 ended_stays_by bytes more true e clean ended = settled_long bytes more e
 ended_stays_by bytes more false e clean ended =
     settled_over bytes more e ∙ short_end bytes (settled_items (bytes ++ take (room_for bytes) more)) e clean ended (items_settled bytes (take (room_for bytes) more))
 
-pub ended_stays : (bytes more : List ℕ) → IsClean (settled_part bytes) → has_end_line (settled_part bytes) ≡ true → settled_part (bytes ++ more) ≡ settled_part bytes
+pub ended_stays : (bytes more : List ℕ) → IsClean (settled_part bytes) → has_end_line (settled_part bytes) ≡ true
+    → settled_part (bytes ++ more) ≡ settled_part bytes
 ended_stays bytes more clean ended = ended_stays_by bytes more (is_too_long bytes) refl clean ended
 
-only_last : (o last : Option ReadFault) (b c : Bool) → o ≡ None → c ≡ true → first_row (o ∷ when (b && not c) faults.TooLong ∷ last ∷ []) ≡ last
+only_last : (o last : Option ReadFault) (b c : Bool) → o ≡ None → c ≡ true
+    → first_row (o ∷ when (b && not c) faults.TooLong ∷ last ∷ []) ≡ last
 only_last (Some other) last b c e t = absurd (none-some other (sym e))
 only_last None last b false e t = absurd (false≢true t)
 only_last None None true true e t = refl
@@ -318,12 +355,14 @@ only_last None None false true e t = refl
 only_last None (Some found) true true e t = refl
 only_last None (Some found) false true e t = refl
 
-ended_fault : (bytes : List ℕ) (items : List Item) → part bytes ≡ items → IsClean items → has_end_line items ≡ true → fault bytes ≡ option_map (λ fault. faults.End fault) (fault_at_end items)
+ended_fault : (bytes : List ℕ) (items : List Item) → part bytes ≡ items → IsClean items → has_end_line items ≡ true
+    → fault bytes ≡ option_map (λ fault. faults.End fault) (fault_at_end items)
 ended_fault bytes items e clean ended =
     ap (λ (xs : List Item). first_row (fault_in xs ∷ when (is_too_long bytes && not (has_end_line xs)) faults.TooLong ∷ option_map (λ fault. faults.End fault) (fault_at_end xs) ∷ [])) e
     ∙ only_last (fault_in items) (option_map (λ fault. faults.End fault) (fault_at_end items)) (is_too_long bytes) (has_end_line items) clean ended
 
-pub ended_kept : (bytes more : List ℕ) → IsClean (settled_part bytes) → has_end_line (settled_part bytes) ≡ true → fault (bytes ++ more) ≡ fault bytes
+pub ended_kept : (bytes more : List ℕ) → IsClean (settled_part bytes) → has_end_line (settled_part bytes) ≡ true
+    → fault (bytes ++ more) ≡ fault bytes
 ended_kept bytes more clean ended =
     let here : part bytes ≡ settled_part bytes = subst (λ (bs : List ℕ). part bs ≡ settled_part bytes) (append-nil bytes) (part_kept bytes [] clean ended) in
     ended_fault (bytes ++ more) (settled_part bytes) (part_kept bytes more clean ended) clean ended ∙ sym (ended_fault bytes (settled_part bytes) here clean ended)

@@ -44,7 +44,8 @@ grown_onto {A} b (x ∷ []) (y ∷ ys) h = (h.0, ap (λ (zs : List A). b ∷ zs)
 grown_onto b (x ∷ next ∷ xs) [] h = absurd h
 grown_onto {A} b (x ∷ next ∷ xs) (y ∷ ys) h = (ap (λ (zs : List A). b ∷ zs) h.0, h.1)
 
-grown_step : {A : Type 0} (b : Bool) (x : A) (xs ys : List (List A)) → Grown xs ys → Grown (cond b ([] ∷ xs) (onto_first x xs)) (cond b ([] ∷ ys) (onto_first x ys))
+grown_step : {A : Type 0} (b : Bool) (x : A) (xs ys : List (List A)) → Grown xs ys
+    → Grown (cond b ([] ∷ xs) (onto_first x xs)) (cond b ([] ∷ ys) (onto_first x ys))
 grown_step true x xs ys h = grown_cons [] xs ys h
 grown_step false x xs ys h = grown_onto x xs ys h
 
@@ -60,7 +61,8 @@ AreLong (Line key line) (Line other next) = (nat_lt most_line_bytes line.size �
 AreLong (Line key line) (NumberWord word) = ⊥
 AreLong (Line key line) LineEnd = ⊥
 AreLong (NumberWord word) (Line key line) = ⊥
-AreLong (NumberWord word) (NumberWord next) = (nat_lt most_word_bytes (length word) ≡ true) × (nat_lt most_word_bytes (length next) ≡ true)
+AreLong (NumberWord word) (NumberWord next) =
+    (nat_lt most_word_bytes (length word) ≡ true) × (nat_lt most_word_bytes (length next) ≡ true)
 AreLong (NumberWord word) LineEnd = ⊥
 AreLong LineEnd item = ⊥
 
@@ -88,7 +90,8 @@ longer n xs more e = lt-ltb n (length (xs ++ more)) (omega (arith, length-append
 abbrev word_items : List (List ℕ) → List Item
 word_items words = map (λ word. NumberWord word) words
 
-front_stays : (b : Bool) (x : List ℕ) (xs ys : List (List ℕ)) → Stay (word_items xs) (word_items ys) → Stay (word_items (cond b (x ∷ xs) xs)) (word_items (cond b (x ∷ ys) ys))
+front_stays : (b : Bool) (x : List ℕ) (xs ys : List (List ℕ)) → Stay (word_items xs) (word_items ys)
+    → Stay (word_items (cond b (x ∷ xs) xs)) (word_items (cond b (x ∷ ys) ys))
 front_stays true x xs ys h = inl (refl, h)
 front_stays false x xs ys h = h
 
@@ -98,7 +101,8 @@ last_stays x more ys false e = tt
 last_stays [] more ys true e = absurd (false≢true e)
 last_stays (a ∷ x) more ys true e = inr ((e, longer most_word_bytes (a ∷ x) more e), refl)
 
-pieces_stay : (xs ys : List (List ℕ)) → Grown xs ys → Stay (word_items (filter is_filled (settled_pieces xs))) (word_items (filter is_filled ys))
+pieces_stay : (xs ys : List (List ℕ)) → Grown xs ys
+    → Stay (word_items (filter is_filled (settled_pieces xs))) (word_items (filter is_filled ys))
 pieces_stay [] ys h = absurd h
 pieces_stay (x ∷ []) [] h = absurd h
 pieces_stay (x ∷ []) (y ∷ ys) h =
@@ -116,7 +120,8 @@ last_settled x more true e =
     subst (λ (c : Bool). Stay (word_items (filter is_filled (x ∷ []))) (word_items (filter is_filled (cond c ((x ++ more) ∷ []) [])))) (sym (longer most_word_bytes x more e))
     (last_stays x more [] true e)
 
-pieces_settled : (xs ys : List (List ℕ)) → Grown xs ys → Stay (word_items (filter is_filled (settled_pieces xs))) (word_items (filter is_filled (settled_pieces ys)))
+pieces_settled : (xs ys : List (List ℕ)) → Grown xs ys
+    → Stay (word_items (filter is_filled (settled_pieces xs))) (word_items (filter is_filled (settled_pieces ys)))
 pieces_settled [] ys h = absurd h
 pieces_settled (x ∷ []) [] h = absurd h
 pieces_settled (x ∷ []) (y ∷ []) h =
@@ -133,7 +138,8 @@ pieces_settled (x ∷ next ∷ xs) (y ∷ after ∷ ys) h =
 
 -- ---- where a line begins
 
-empty_first : (pieces : List (List ℕ)) → filter is_filled (settled_pieces ([] ∷ pieces)) ≡ filter is_filled (settled_pieces pieces)
+empty_first : (pieces : List (List ℕ))
+    → filter is_filled (settled_pieces ([] ∷ pieces)) ≡ filter is_filled (settled_pieces pieces)
 empty_first [] = refl
 empty_first (piece ∷ pieces) = refl
 
@@ -162,27 +168,35 @@ begins_alike (b ∷ line) more = by_case (is_blank b) refl (begins_alike line mo
 -- ---- a line that goes on
 
 settled_none : (line : List ℕ) → without_start line ≡ [] → settled_words line ≡ [] → settled_in line ≡ []
-settled_none line e none = ap (λ (s : List ℕ). cond (begins is_letter s) (settled_line s) (word_items (settled_words line))) e ∙ ap word_items none
+settled_none line e none =
+    ap (λ (s : List ℕ). cond (begins is_letter s) (settled_line s) (word_items (settled_words line))) e ∙ ap word_items none
 
-long_line_stays : (s more : List ℕ) (b : Bool) → nat_lt most_line_bytes (length s) ≡ b → Stay (cond b (line_item s ∷ []) []) (line_item (s ++ more) ∷ [])
+long_line_stays : (s more : List ℕ) (b : Bool) → nat_lt most_line_bytes (length s) ≡ b
+    → Stay (cond b (line_item s ∷ []) []) (line_item (s ++ more) ∷ [])
 long_line_stays s more true e = inr ((e, longer most_line_bytes s more e), refl)
 long_line_stays s more false e = tt
 
-long_line_settled : (s more : List ℕ) (b : Bool) → nat_lt most_line_bytes (length s) ≡ b → Stay (cond b (line_item s ∷ []) []) (settled_line (s ++ more))
+long_line_settled : (s more : List ℕ) (b : Bool) → nat_lt most_line_bytes (length s) ≡ b
+    → Stay (cond b (line_item s ∷ []) []) (settled_line (s ++ more))
 long_line_settled s more true e =
     subst (λ (c : Bool). Stay (line_item s ∷ []) (cond c (line_item (s ++ more) ∷ []) [])) (sym (longer most_line_bytes s more e)) (long_line_stays s more true e)
 long_line_settled s more false e = tt
 
-letter_stays : (b : Bool) (line more s : List ℕ) → Stay (cond b (settled_line s) (word_items (settled_words line))) (cond b (line_item (s ++ more) ∷ []) (word_items (words_in (line ++ more))))
+letter_stays : (b : Bool) (line more s : List ℕ)
+    → Stay (cond b (settled_line s) (word_items (settled_words line))) (cond b (line_item (s ++ more) ∷ []) (word_items (words_in (line ++ more))))
 letter_stays true line more s = long_line_stays s more (nat_lt most_line_bytes (length s)) refl
-letter_stays false line more s = pieces_stay (slice_split is_blank line) (slice_split is_blank (line ++ more)) (grown_split is_blank line more)
+letter_stays false line more s =
+    pieces_stay (slice_split is_blank line) (slice_split is_blank (line ++ more)) (grown_split is_blank line more)
 
-letter_settled : (b : Bool) (line more s : List ℕ) → Stay (cond b (settled_line s) (word_items (settled_words line))) (cond b (settled_line (s ++ more)) (word_items (settled_words (line ++ more))))
+letter_settled : (b : Bool) (line more s : List ℕ)
+    → Stay (cond b (settled_line s) (word_items (settled_words line))) (cond b (settled_line (s ++ more)) (word_items (settled_words (line ++ more))))
 letter_settled true line more s = long_line_settled s more (nat_lt most_line_bytes (length s)) refl
-letter_settled false line more s = pieces_settled (slice_split is_blank line) (slice_split is_blank (line ++ more)) (grown_split is_blank line more)
+letter_settled false line more s =
+    pieces_settled (slice_split is_blank line) (slice_split is_blank (line ++ more)) (grown_split is_blank line more)
 
 line_stays_by : (line more : List ℕ) → BeginsAlike line more → Stay (settled_in line) (items_in (line ++ more))
-line_stays_by line more (inl h) = subst (λ (xs : List Item). Stay xs (items_in (line ++ more))) (sym (settled_none line h.0 h.1)) tt
+line_stays_by line more (inl h) =
+    subst (λ (xs : List Item). Stay xs (items_in (line ++ more))) (sym (settled_none line h.0 h.1)) tt
 line_stays_by line more (inr h) =
     subst (λ (s : List ℕ). Stay (cond (begins is_letter s) (settled_line s) (word_items (settled_words line))) (items_in (line ++ more))) (sym h.2)
     (subst (λ (t : List ℕ). Stay (cond (is_letter h.0) (settled_line (h.0 ∷ h.1)) (word_items (settled_words line)))
@@ -190,7 +204,8 @@ line_stays_by line more (inr h) =
     (letter_stays (is_letter h.0) line more (h.0 ∷ h.1)))
 
 line_settled_by : (line more : List ℕ) → BeginsAlike line more → Stay (settled_in line) (settled_in (line ++ more))
-line_settled_by line more (inl h) = subst (λ (xs : List Item). Stay xs (settled_in (line ++ more))) (sym (settled_none line h.0 h.1)) tt
+line_settled_by line more (inl h) =
+    subst (λ (xs : List Item). Stay xs (settled_in (line ++ more))) (sym (settled_none line h.0 h.1)) tt
 line_settled_by line more (inr h) =
     subst (λ (s : List ℕ). Stay (cond (begins is_letter s) (settled_line s) (word_items (settled_words line))) (settled_in (line ++ more))) (sym h.2)
     (subst (λ (t : List ℕ). Stay (cond (is_letter h.0) (settled_line (h.0 ∷ h.1)) (word_items (settled_words line)))
@@ -205,7 +220,8 @@ line_settled line more = line_settled_by line more (begins_alike line more)
 
 -- ---- lines
 
-lines_stay : (last : List ℕ → List Item) → ((line more : List ℕ) → Stay (settled_in line) (last (line ++ more))) → (xs ys : List (List ℕ)) → Grown xs ys
+lines_stay : (last : List ℕ → List Item) → ((line more : List ℕ) → Stay (settled_in line) (last (line ++ more)))
+    → (xs ys : List (List ℕ)) → Grown xs ys
     → Stay (items_by settled_in xs) (items_by last ys)
 lines_stay last goes_on [] ys h = absurd h
 lines_stay last goes_on (x ∷ []) [] h = absurd h
@@ -220,7 +236,9 @@ lines_stay last goes_on (x ∷ next ∷ xs) (y ∷ after ∷ ys) h =
     (stay_after (items_in x) (LineEnd ∷ items_by settled_in (next ∷ xs)) (LineEnd ∷ items_by last (after ∷ ys)) (inl (refl, lines_stay last goes_on (next ∷ xs) (after ∷ ys) h.1)))
 
 pub items_stay : (bytes more : List ℕ) → Stay (settled_items bytes) (items_of (bytes ++ more))
-items_stay bytes more = lines_stay items_in line_stays (lines_of bytes) (lines_of (bytes ++ more)) (grown_split ends_line bytes more)
+items_stay bytes more =
+    lines_stay items_in line_stays (lines_of bytes) (lines_of (bytes ++ more)) (grown_split ends_line bytes more)
 
 pub items_settled : (bytes more : List ℕ) → Stay (settled_items bytes) (settled_items (bytes ++ more))
-items_settled bytes more = lines_stay settled_in line_settled (lines_of bytes) (lines_of (bytes ++ more)) (grown_split ends_line bytes more)
+items_settled bytes more =
+    lines_stay settled_in line_settled (lines_of bytes) (lines_of (bytes ++ more)) (grown_split ends_line bytes more)

@@ -25,7 +25,8 @@ pub record IsShape (size : ℕ) (firsts begun : Words → Words) : Type 0 where
 abbrev pub pair_firsts : Words → Words
 pair_firsts words = map (λ group. group.0) (pairs_in words)
 
-pair_starts : (words : Words) (word : List ℕ) → begun_pair words ≡ [] → (pair_firsts (words ++ word ∷ []) ≡ pair_firsts words) × (begun_pair (words ++ word ∷ []) ≡ word ∷ [])
+pair_starts : (words : Words) (word : List ℕ) → begun_pair words ≡ []
+    → (pair_firsts (words ++ word ∷ []) ≡ pair_firsts words) × (begun_pair (words ++ word ∷ []) ≡ word ∷ [])
 pair_starts words word e =
     let both = pair_begins words word e in
     (ap (λ (groups : List (List ℕ × List ℕ)). map (λ group. group.0) groups) both.0, both.1)
@@ -54,25 +55,30 @@ pair_shape = record { no_firsts = refl; none_begun = refl; starts = pair_starts;
 abbrev pub triple_firsts : Words → Words
 triple_firsts words = map (λ group. group.0) (threes_in words)
 
-triple_starts : (words : Words) (word : List ℕ) → begun_triple words ≡ [] → (triple_firsts (words ++ word ∷ []) ≡ triple_firsts words) × (begun_triple (words ++ word ∷ []) ≡ word ∷ [])
+triple_starts : (words : Words) (word : List ℕ) → begun_triple words ≡ []
+    → (triple_firsts (words ++ word ∷ []) ≡ triple_firsts words) × (begun_triple (words ++ word ∷ []) ≡ word ∷ [])
 triple_starts words word e =
     (ap (λ (groups : List (List ℕ × List ℕ × List ℕ)). map (λ group. group.0) groups) (triples_begin words word e), begun_begin words word e)
 
 abbrev TripleGoesOn : Words → List ℕ → Words → List ℕ → Type 0
-TripleGoesOn words first rest word = ((triple_firsts (words ++ word ∷ []) ≡ triple_firsts words) × (begun_triple (words ++ word ∷ []) ≡ first ∷ (rest ++ word ∷ [])))
+TripleGoesOn words first rest word =
+    ((triple_firsts (words ++ word ∷ []) ≡ triple_firsts words) × (begun_triple (words ++ word ∷ []) ≡ first ∷ (rest ++ word ∷ [])))
     ⊎ ((triple_firsts (words ++ word ∷ []) ≡ triple_firsts words ++ first ∷ []) × (begun_triple (words ++ word ∷ []) ≡ []))
 
-triple_before : (a b c : List ℕ) (words : Words) (first : List ℕ) (rest : Words) (word : List ℕ) → TripleGoesOn words first rest word → TripleGoesOn (a ∷ b ∷ c ∷ words) first rest word
+triple_before : (a b c : List ℕ) (words : Words) (first : List ℕ) (rest : Words) (word : List ℕ)
+    → TripleGoesOn words first rest word → TripleGoesOn (a ∷ b ∷ c ∷ words) first rest word
 triple_before a b c words first rest word (inl h) = inl (ap (λ (firsts : Words). a ∷ firsts) h.0, h.1)
 triple_before a b c words first rest word (inr h) = inr (ap (λ (firsts : Words). a ∷ firsts) h.0, h.1)
 
-triple_goes_on : (words : Words) (first : List ℕ) (rest : Words) (word : List ℕ) → begun_triple words ≡ first ∷ rest → TripleGoesOn words first rest word
+triple_goes_on : (words : Words) (first : List ℕ) (rest : Words) (word : List ℕ) → begun_triple words ≡ first ∷ rest
+    → TripleGoesOn words first rest word
 triple_goes_on [] first rest word e = absurd cc
 triple_goes_on (a ∷ []) first rest word e = inl (refl, ap (λ (begun : Words). begun ++ word ∷ []) e)
 triple_goes_on (a ∷ b ∷ []) first rest word e =
     let same : a ≡ first = cc in
     inr (ap (λ (x : List ℕ). x ∷ []) same, refl)
-triple_goes_on (a ∷ b ∷ c ∷ words) first rest word e = triple_before a b c words first rest word (triple_goes_on words first rest word e)
+triple_goes_on (a ∷ b ∷ c ∷ words) first rest word e =
+    triple_before a b c words first rest word (triple_goes_on words first rest word e)
 
 triple_counted : (m : ℕ) (words : Words) → length words ≡ 3 * m → length (triple_firsts words) ≡ m
 triple_counted m [] e = omega arith
@@ -84,33 +90,39 @@ triple_counted m (a ∷ b ∷ c ∷ words) e =
     omega arith
 
 pub triple_shape : IsShape 3 triple_firsts begun_triple
-triple_shape = record { no_firsts = refl; none_begun = refl; starts = triple_starts; goes_on = triple_goes_on; counted = triple_counted }
+triple_shape =
+    record { no_firsts = refl; none_begun = refl; starts = triple_starts; goes_on = triple_goes_on; counted = triple_counted }
 
 -- ---- fours
 
 abbrev pub four_firsts : Words → Words
 four_firsts words = map (λ group. group.0) (fours_in words)
 
-four_starts : (words : Words) (word : List ℕ) → begun_four words ≡ [] → (four_firsts (words ++ word ∷ []) ≡ four_firsts words) × (begun_four (words ++ word ∷ []) ≡ word ∷ [])
+four_starts : (words : Words) (word : List ℕ) → begun_four words ≡ []
+    → (four_firsts (words ++ word ∷ []) ≡ four_firsts words) × (begun_four (words ++ word ∷ []) ≡ word ∷ [])
 four_starts words word e =
     (ap (λ (groups : List (List ℕ × List ℕ × List ℕ × List ℕ)). map (λ group. group.0) groups) (fours_begin words word e), begun_begin_four words word e)
 
 abbrev FourGoesOn : Words → List ℕ → Words → List ℕ → Type 0
-FourGoesOn words first rest word = ((four_firsts (words ++ word ∷ []) ≡ four_firsts words) × (begun_four (words ++ word ∷ []) ≡ first ∷ (rest ++ word ∷ [])))
+FourGoesOn words first rest word =
+    ((four_firsts (words ++ word ∷ []) ≡ four_firsts words) × (begun_four (words ++ word ∷ []) ≡ first ∷ (rest ++ word ∷ [])))
     ⊎ ((four_firsts (words ++ word ∷ []) ≡ four_firsts words ++ first ∷ []) × (begun_four (words ++ word ∷ []) ≡ []))
 
-four_before : (a b c d : List ℕ) (words : Words) (first : List ℕ) (rest : Words) (word : List ℕ) → FourGoesOn words first rest word → FourGoesOn (a ∷ b ∷ c ∷ d ∷ words) first rest word
+four_before : (a b c d : List ℕ) (words : Words) (first : List ℕ) (rest : Words) (word : List ℕ)
+    → FourGoesOn words first rest word → FourGoesOn (a ∷ b ∷ c ∷ d ∷ words) first rest word
 four_before a b c d words first rest word (inl h) = inl (ap (λ (firsts : Words). a ∷ firsts) h.0, h.1)
 four_before a b c d words first rest word (inr h) = inr (ap (λ (firsts : Words). a ∷ firsts) h.0, h.1)
 
-four_goes_on : (words : Words) (first : List ℕ) (rest : Words) (word : List ℕ) → begun_four words ≡ first ∷ rest → FourGoesOn words first rest word
+four_goes_on : (words : Words) (first : List ℕ) (rest : Words) (word : List ℕ) → begun_four words ≡ first ∷ rest
+    → FourGoesOn words first rest word
 four_goes_on [] first rest word e = absurd cc
 four_goes_on (a ∷ []) first rest word e = inl (refl, ap (λ (begun : Words). begun ++ word ∷ []) e)
 four_goes_on (a ∷ b ∷ []) first rest word e = inl (refl, ap (λ (begun : Words). begun ++ word ∷ []) e)
 four_goes_on (a ∷ b ∷ c ∷ []) first rest word e =
     let same : a ≡ first = cc in
     inr (ap (λ (x : List ℕ). x ∷ []) same, refl)
-four_goes_on (a ∷ b ∷ c ∷ d ∷ words) first rest word e = four_before a b c d words first rest word (four_goes_on words first rest word e)
+four_goes_on (a ∷ b ∷ c ∷ d ∷ words) first rest word e =
+    four_before a b c d words first rest word (four_goes_on words first rest word e)
 
 four_counted : (m : ℕ) (words : Words) → length words ≡ 4 * m → length (four_firsts words) ≡ m
 four_counted m [] e = omega arith

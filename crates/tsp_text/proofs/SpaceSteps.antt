@@ -14,21 +14,23 @@ use Rattle.tsp_format.specs.Space.{weighs_three, has_three}
 use Rattle.tsp_text.specs.Values.{named_at, coord_kind_named, weight_kind_named, says_space, spatial_after}
 use Rattle.tsp_text.specs.Groups.{coords_by_node}
 use Rattle.tsp_text.specs.Sections.{place_in}
-use Rattle.tsp_text.specs.Rows.{row_of, is_repeated, is_late}
+use Rattle.tsp_text.specs.FaultRows.{row_of, is_repeated, is_late}
 use Rattle.tsp_text.specs.Spells.{wants_more, sections_in_order}
 use Rattle.tsp_text.proofs.ValidRows.{no_row}
 use Rattle.tsp_text.proofs.ValidSections.{same_field_is}
 
 -- ---- a line that isn't there has no value
 
-no_value_here : (b stands : Bool) (value : List ℕ) (rest : Option (List ℕ)) → cond b true stands ≡ false → (stands ≡ false → rest ≡ None)
+no_value_here : (b stands : Bool) (value : List ℕ) (rest : Option (List ℕ)) → cond b true stands ≡ false
+    → (stands ≡ false → rest ≡ None)
     → cond b (Some value) rest ≡ None
 no_value_here true stands value rest none ih = absurd (true≢false none)
 no_value_here false stands value rest none ih = ih none
 
 no_value : (f : Field) (items : List Item) → has_line f items ≡ false → value_at f items ≡ None
 no_value f [] none = refl
-no_value f (Line key line ∷ earlier) none = no_value_here (is_key f key) (has_line f earlier) line.value (value_at f earlier) none (no_value f earlier)
+no_value f (Line key line ∷ earlier) none =
+    no_value_here (is_key f key) (has_line f earlier) line.value (value_at f earlier) none (no_value f earlier)
 no_value f (NumberWord word ∷ earlier) none = no_value f earlier none
 no_value f (LineEnd ∷ earlier) none = no_value f earlier none
 
@@ -51,7 +53,8 @@ or_turned true false = refl
 or_turned false true = refl
 or_turned false false = refl
 
-coords_said : (line : WordLine) (earlier : List Item) → has_line NodeCoordPart earlier ≡ true → has_line NodeCoordTypeKey earlier ≡ false
+coords_said : (line : WordLine) (earlier : List Item) → has_line NodeCoordPart earlier ≡ true
+    → has_line NodeCoordTypeKey earlier ≡ false
     → is_late earlier (Line (Known NodeCoordTypeKey) line) ≡ false
     → spatial_after (Line (Known NodeCoordTypeKey) line ∷ earlier) ≡ spatial_after earlier
 coords_said line earlier known first late =
@@ -61,7 +64,8 @@ coords_said line earlier known first late =
     (no_value NodeCoordTypeKey earlier first) in
     ap (λ b. says || b) (sym before) ∙ said_before says (has_line NodeCoordPart earlier) (spatial_after earlier) known late
 
-weights_said : (line : WordLine) (earlier : List Item) → has_line NodeCoordPart earlier ≡ true → has_line EdgeWeightTypeKey earlier ≡ false
+weights_said : (line : WordLine) (earlier : List Item) → has_line NodeCoordPart earlier ≡ true
+    → has_line EdgeWeightTypeKey earlier ≡ false
     → is_late earlier (Line (Known EdgeWeightTypeKey) line) ≡ false
     → spatial_after (Line (Known EdgeWeightTypeKey) line ∷ earlier) ≡ spatial_after earlier
 weights_said line earlier known first late =
@@ -71,8 +75,10 @@ weights_said line earlier known first late =
     (no_value EdgeWeightTypeKey earlier first) ∙ or_none coords in
     or_turned coords says ∙ ap (λ b. says || b) (sym before) ∙ said_before says (has_line NodeCoordPart earlier) (spatial_after earlier) known late
 
-key_said : (f : Field) (line : WordLine) (earlier : List Item) (by_coords by_weights : Bool) → same_field NodeCoordTypeKey f ≡ by_coords
-    → same_field EdgeWeightTypeKey f ≡ by_weights → has_line NodeCoordPart earlier ≡ true → is_repeated earlier (Line (Known f) line) ≡ false
+key_said : (f : Field) (line : WordLine) (earlier : List Item) (by_coords by_weights : Bool)
+    → same_field NodeCoordTypeKey f ≡ by_coords
+    → same_field EdgeWeightTypeKey f ≡ by_weights → has_line NodeCoordPart earlier ≡ true
+    → is_repeated earlier (Line (Known f) line) ≡ false
     → is_late earlier (Line (Known f) line) ≡ false → spatial_after (Line (Known f) line ∷ earlier) ≡ spatial_after earlier
 key_said f line earlier true by_weights is also known first late =
     let P : Field → Type 0 = λ g. is_repeated earlier (Line (Known g) line) ≡ false → is_late earlier (Line (Known g) line) ≡ false
@@ -105,7 +111,8 @@ coords_stay true before after n words same = ap (λ b. Some (coords_by_node b n 
 coords_stay false before after n words same = refl
 
 abbrev pub first_by : Bool → ℕ → List Item → Option Field
-first_by in_space n earlier = find (λ field. has_line field earlier && wants_more (place_in in_space field n (words_of field earlier))) sections_in_order
+first_by in_space n earlier =
+    find (λ field. has_line field earlier && wants_more (place_in in_space field n (words_of field earlier))) sections_in_order
 
 pub first_stays : (earlier : List Item) (n : ℕ) (before after there : Bool) → has_line NodeCoordPart earlier ≡ there
     → (there ≡ true → after ≡ before) → first_by before n earlier ≡ first_by after n earlier

@@ -27,7 +27,8 @@ begun_begin (a ∷ []) x e = cc
 begun_begin (a ∷ b ∷ []) x e = cc
 begun_begin (a ∷ b ∷ c ∷ xs) x e = begun_begin xs x e
 
-pub firsts_begin : {A : Type 0} (xs : List A) (x : A) → begun_triple xs ≡ [] → triple_firsts_in (xs ++ x ∷ []) ≡ triple_firsts_in xs ++ x ∷ []
+pub firsts_begin : {A : Type 0} (xs : List A) (x : A) → begun_triple xs ≡ []
+    → triple_firsts_in (xs ++ x ∷ []) ≡ triple_firsts_in xs ++ x ∷ []
 firsts_begin [] x e = refl
 firsts_begin (a ∷ []) x e = cc
 firsts_begin (a ∷ b ∷ []) x e = cc
@@ -35,19 +36,22 @@ firsts_begin (a ∷ b ∷ c ∷ xs) x e = ap (λ ys. a ∷ ys) (firsts_begin xs 
 
 -- ---- a word in the middle of a group
 
-pub triples_middle : {A : Type 0} (xs : List A) (first x : A) → begun_triple xs ≡ first ∷ [] → threes_in (xs ++ x ∷ []) ≡ threes_in xs
+pub triples_middle : {A : Type 0} (xs : List A) (first x : A) → begun_triple xs ≡ first ∷ []
+    → threes_in (xs ++ x ∷ []) ≡ threes_in xs
 triples_middle [] first x e = cc
 triples_middle (a ∷ []) first x e = refl
 triples_middle (a ∷ b ∷ []) first x e = cc
 triples_middle (a ∷ b ∷ c ∷ xs) first x e = ap (λ ts. (a, b, c) ∷ ts) (triples_middle xs first x e)
 
-pub begun_middle : {A : Type 0} (xs : List A) (first x : A) → begun_triple xs ≡ first ∷ [] → begun_triple (xs ++ x ∷ []) ≡ first ∷ x ∷ []
+pub begun_middle : {A : Type 0} (xs : List A) (first x : A) → begun_triple xs ≡ first ∷ []
+    → begun_triple (xs ++ x ∷ []) ≡ first ∷ x ∷ []
 begun_middle [] first x e = cc
 begun_middle (a ∷ []) first x e = let same : a ≡ first = cc in rw same refl
 begun_middle (a ∷ b ∷ []) first x e = cc
 begun_middle (a ∷ b ∷ c ∷ xs) first x e = begun_middle xs first x e
 
-pub firsts_middle : {A : Type 0} (xs : List A) (first x : A) → begun_triple xs ≡ first ∷ [] → triple_firsts_in (xs ++ x ∷ []) ≡ triple_firsts_in xs
+pub firsts_middle : {A : Type 0} (xs : List A) (first x : A) → begun_triple xs ≡ first ∷ []
+    → triple_firsts_in (xs ++ x ∷ []) ≡ triple_firsts_in xs
 firsts_middle [] first x e = cc
 firsts_middle (a ∷ []) first x e = refl
 firsts_middle (a ∷ b ∷ []) first x e = cc
@@ -65,13 +69,15 @@ triples_end (a ∷ b ∷ []) first second x e =
     rw (same, other) refl
 triples_end (a ∷ b ∷ c ∷ xs) first second x e = ap (λ ts. (a, b, c) ∷ ts) (triples_end xs first second x e)
 
-pub begun_end : {A : Type 0} (xs : List A) (first second x : A) → begun_triple xs ≡ first ∷ second ∷ [] → begun_triple (xs ++ x ∷ []) ≡ []
+pub begun_end : {A : Type 0} (xs : List A) (first second x : A) → begun_triple xs ≡ first ∷ second ∷ []
+    → begun_triple (xs ++ x ∷ []) ≡ []
 begun_end [] first second x e = cc
 begun_end (a ∷ []) first second x e = cc
 begun_end (a ∷ b ∷ []) first second x e = refl
 begun_end (a ∷ b ∷ c ∷ xs) first second x e = begun_end xs first second x e
 
-pub firsts_end : {A : Type 0} (xs : List A) (first second x : A) → begun_triple xs ≡ first ∷ second ∷ [] → triple_firsts_in (xs ++ x ∷ []) ≡ triple_firsts_in xs
+pub firsts_end : {A : Type 0} (xs : List A) (first second x : A) → begun_triple xs ≡ first ∷ second ∷ []
+    → triple_firsts_in (xs ++ x ∷ []) ≡ triple_firsts_in xs
 firsts_end [] first second x e = cc
 firsts_end (a ∷ []) first second x e = cc
 firsts_end (a ∷ b ∷ []) first second x e = refl
@@ -79,7 +85,8 @@ firsts_end (a ∷ b ∷ c ∷ xs) first second x e = ap (λ ys. a ∷ ys) (first
 
 -- ---- a first word of a triple that ends the list
 
-pub firsts_kept : {A : Type 0} (p : A → Bool) (xs : List A) (x : A) → list_any p (triple_firsts_in xs) ≡ true → list_any p (triple_firsts_in (xs ++ x ∷ [])) ≡ true
+pub firsts_kept : {A : Type 0} (p : A → Bool) (xs : List A) (x : A) → list_any p (triple_firsts_in xs) ≡ true
+    → list_any p (triple_firsts_in (xs ++ x ∷ [])) ≡ true
 firsts_kept p [] x any = cc
 firsts_kept p (a ∷ []) x any = any
 firsts_kept p (a ∷ b ∷ []) x any = any
@@ -97,7 +104,8 @@ triples_kept p (a ∷ b ∷ c ∷ xs) x any =
     (before (λ triple. p triple.0) (threes_in xs)) (triples_kept p xs x) any
 
 -- without one all triples count
-pub triples_none : {A : Type 0} (p : A → Bool) (xs : List A) → list_any p (triple_firsts_in xs) ≡ false → before (λ triple. p triple.0) (threes_in xs) ≡ threes_in xs
+pub triples_none : {A : Type 0} (p : A → Bool) (xs : List A) → list_any p (triple_firsts_in xs) ≡ false
+    → before (λ triple. p triple.0) (threes_in xs) ≡ threes_in xs
 triples_none p [] any = refl
 triples_none p (a ∷ []) any = refl
 triples_none p (a ∷ b ∷ []) any = refl

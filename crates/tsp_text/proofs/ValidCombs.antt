@@ -12,12 +12,12 @@ use Rattle.tsp_draft.specs.Validity.{is_node, is_set, is_comb, are_combs}
 use Rattle.tsp_text.specs.Lines.{is_filled}
 use Rattle.tsp_text.specs.Items.{Item}
 use Rattle.tsp_text.specs.Earlier.{words_of}
-use Rattle.tsp_text.specs.Numbers.{number, is_end}
-use Rattle.tsp_text.specs.Places.{SetNode, PastEnd}
-use Rattle.tsp_text.specs.Combs.{CombsSoFar, no_combs, comb_node, with_end, with_comb_word, combs_after, whole_combs, has_begun_comb, place_in_combs}
+use Rattle.tsp_text.specs.SectionNumbers.{number, is_end}
+use Rattle.tsp_text.specs.WordPlaces.{SetNode, PastEnd}
+use Rattle.tsp_text.specs.CombSection.{CombsSoFar, no_combs, comb_node, with_end, with_comb_word, combs_after, whole_combs, has_begun_comb, place_in_combs}
 use Rattle.tsp_text.specs.Sections.{dimension_in}
 use Rattle.tsp_text.specs.FirstFault.{IsClean}
-use Rattle.tsp_text.specs.Rows.{is_past_combs, word_fault}
+use Rattle.tsp_text.specs.FaultRows.{is_past_combs, word_fault}
 use Rattle.tsp_text.proofs.ValidRows.{is_taken}
 use Rattle.tsp_text.proofs.Grown.{Grows, grown}
 use Rattle.tsp_text.proofs.ValidNumbers.{read_listed}
@@ -36,12 +36,15 @@ pub record CombsHold (n : ℕ) (combs : List (List (List ℕ))) (sets : List (Li
 abbrev AreSoFar : ℕ → CombsSoFar → Type 0
 AreSoFar n s = CombsHold n s.combs s.sets s.nodes s.count
 
-all_push : {A : Type 0} (test : A → Bool) (xs : List A) (x : A) → list_all test xs ≡ true → test x ≡ true → list_all test (xs ++ x ∷ []) ≡ true
-all_push test xs x held passes = list_all-append test xs (x ∷ []) ∙ and_from (list_all test xs) (test x && true) held (and_from (test x) true passes refl)
+all_push : {A : Type 0} (test : A → Bool) (xs : List A) (x : A) → list_all test xs ≡ true → test x ≡ true
+    → list_all test (xs ++ x ∷ []) ≡ true
+all_push test xs x held passes =
+    list_all-append test xs (x ∷ []) ∙ and_from (list_all test xs) (test x && true) held (and_from (test x) true passes refl)
 
 -- ---- a -1
 
-end_holds : (n : ℕ) (combs : List (List (List ℕ))) (sets : List (List ℕ)) (nodes : List ℕ) (count : ℕ) → CombsHold n combs sets nodes count
+end_holds : (n : ℕ) (combs : List (List (List ℕ))) (sets : List (List ℕ)) (nodes : List ℕ) (count : ℕ)
+    → CombsHold n combs sets nodes count
     → AreSoFar n (with_end (record { combs = combs; sets = sets; nodes = nodes; count = count; ended = false }))
 end_holds n combs sets (k ∷ nodes) count h = record {
   all_combs = h.all_combs;
@@ -82,8 +85,10 @@ has_room begun combs count room other = by_count (nat_le most_comb_nodes count) 
     by_count true e none = absurd (true≢false none)
     by_count false e none = (leb-false most_comb_nodes count e, by_begun begun (nat_le most_combs combs) refl refl none)
 
-node_holds : (n : ℕ) (combs : List (List (List ℕ))) (sets : List (List ℕ)) (nodes : List ℕ) (count node : ℕ) → CombsHold n combs sets nodes count
-    → is_node n node ≡ true → count < most_comb_nodes → length combs < most_combs → CombsHold n combs sets (nodes ++ node ∷ []) (count + 1)
+node_holds : (n : ℕ) (combs : List (List (List ℕ))) (sets : List (List ℕ)) (nodes : List ℕ) (count node : ℕ)
+    → CombsHold n combs sets nodes count
+    → is_node n node ≡ true → count < most_comb_nodes → length combs < most_combs
+    → CombsHold n combs sets (nodes ++ node ∷ []) (count + 1)
 node_holds n combs sets nodes count node h passes few room = record {
   all_combs = h.all_combs;
   all_sets = h.all_sets;
@@ -96,7 +101,8 @@ node_holds n combs sets nodes count node h passes few room = record {
 
 -- ---- one word more
 
-word_holds : (n : ℕ) (s : CombsSoFar) (word : List ℕ) (ended end : Bool) → s.ended ≡ ended → is_end n word ≡ end → word_fault n (place_in_combs s) word ≡ None
+word_holds : (n : ℕ) (s : CombsSoFar) (word : List ℕ) (ended end : Bool) → s.ended ≡ ended → is_end n word ≡ end
+    → word_fault n (place_in_combs s) word ≡ None
     → AreSoFar n s → AreSoFar n (with_comb_word n s word)
 word_holds n s word true end e is row h = rw e h
 word_holds n s word false true e is row h = rw (e, is) (end_holds n s.combs s.sets s.nodes s.count h)
@@ -127,7 +133,8 @@ all_taken = record {
   any_nodes = λ n m words tours held. absurd (false≢true tours);
 }
 
-pub combs_fit : (items : List Item) → IsClean items → are_combs (dimension_in items) (whole_combs (dimension_in items) (words_of CombPart items)) ≡ true
+pub combs_fit : (items : List Item) → IsClean items
+    → are_combs (dimension_in items) (whole_combs (dimension_in items) (words_of CombPart items)) ≡ true
 combs_fit items clean =
     let n = dimension_in items in
     let combs = whole_combs n (words_of CombPart items) in

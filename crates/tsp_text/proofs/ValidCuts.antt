@@ -46,7 +46,8 @@ while_passes {A} test (x ∷ xs) = by_case (test x) refl (while_passes test xs)
 letter_in_keyword : (b : ℕ) → is_letter b ≡ true → is_keyword_byte b ≡ true
 letter_in_keyword b e = grind (arith, nat_tests)
 
-first_kept : (b : ℕ) (bytes : List ℕ) (k : Bool) → is_keyword_byte b ≡ k → k ≡ true → get_or (take (cond k (1 + prefix_len is_keyword_byte bytes) 0) (b ∷ bytes)) 0 0 ≡ b
+first_kept : (b : ℕ) (bytes : List ℕ) (k : Bool) → is_keyword_byte b ≡ k → k ≡ true
+    → get_or (take (cond k (1 + prefix_len is_keyword_byte bytes) 0) (b ∷ bytes)) 0 0 ≡ b
 first_kept b bytes true e is = ap (λ n. get_or (take n (b ∷ bytes)) 0 0) (one_more (prefix_len is_keyword_byte bytes))
 first_kept b bytes false e is = absurd (false≢true is)
 
@@ -73,7 +74,8 @@ cut_end bytes =
     let n = prefix_len is_blank back in
     sym (reverse-append (take n back) (drop n back)) ∙ ap reverse (take-append-drop n back) ∙ reverse-reverse bytes
 
-front_filled : (front rest whole : List ℕ) → front ++ rest ≡ whole → is_blank (slice_index whole 0) ≡ false → is_blank (slice_index front 0) ≡ false
+front_filled : (front rest whole : List ℕ) → front ++ rest ≡ whole → is_blank (slice_index whole 0) ≡ false
+    → is_blank (slice_index front 0) ≡ false
 front_filled [] rest whole e filled = refl
 front_filled (b ∷ front) rest whole e filled = subst (λ (bytes : List ℕ). is_blank (slice_index bytes 0) ≡ false) (sym e) filled
 
@@ -120,9 +122,11 @@ append_cut (item ∷ items) more cut rest = (cut.0, append_cut items more cut.1 
 
 -- a word line's text
 text_cut : (line : List ℕ) → is_word_line line ≡ true → has_no_line_end line ≡ true → IsCut (line_item (without_start line))
-text_cut line word one = line_cut (without_start line) word (drop_passes (λ b. not (ends_line b)) (prefix_len is_blank line) line one)
+text_cut line word one =
+    line_cut (without_start line) word (drop_passes (λ b. not (ends_line b)) (prefix_len is_blank line) line one)
 
-in_line_cut : (line : List ℕ) (b : Bool) → is_word_line line ≡ b → has_no_line_end line ≡ true → AreCut (cond b (line_item (without_start line) ∷ []) (map (λ word. NumberWord word) (words_in line)))
+in_line_cut : (line : List ℕ) (b : Bool) → is_word_line line ≡ b → has_no_line_end line ≡ true
+    → AreCut (cond b (line_item (without_start line) ∷ []) (map (λ word. NumberWord word) (words_in line)))
 in_line_cut line true word one = (text_cut line word one, tt)
 in_line_cut line false word one = words_cut (words_in line)
 
@@ -132,7 +136,8 @@ settled_cut line true true word one = (text_cut line word one, tt)
 settled_cut line true false word one = tt
 settled_cut line false long word one = words_cut (settled_words line)
 
-by_lines_cut : (last : List ℕ → List Item) → ((line : List ℕ) → has_no_line_end line ≡ true → AreCut (last line)) → (lines : List (List ℕ))
+by_lines_cut : (last : List ℕ → List Item) → ((line : List ℕ) → has_no_line_end line ≡ true → AreCut (last line))
+    → (lines : List (List ℕ))
     → list_all has_no_line_end lines ≡ true → AreCut (items_by last lines)
 by_lines_cut last each [] one = tt
 by_lines_cut last each (line ∷ []) one = each line (and_parts (has_no_line_end line) true one).0
@@ -145,13 +150,16 @@ ends_or_not true = refl
 ends_or_not false = refl
 
 lines_one : (bytes : List ℕ) → list_all has_no_line_end (lines_of bytes) ≡ true
-lines_one bytes = pieces_pass ends_line (λ b. not (ends_line b)) bytes (all_pass (λ b. ends_line b || not (ends_line b)) bytes (λ b. ends_or_not (ends_line b)))
+lines_one bytes =
+    pieces_pass ends_line (λ b. not (ends_line b)) bytes (all_pass (λ b. ends_line b || not (ends_line b)) bytes (λ b. ends_or_not (ends_line b)))
 
 pub items_cut : (bytes : List ℕ) → AreCut (items_of bytes)
-items_cut bytes = by_lines_cut items_in (λ line one. in_line_cut line (is_word_line line) refl one) (lines_of bytes) (lines_one bytes)
+items_cut bytes =
+    by_lines_cut items_in (λ line one. in_line_cut line (is_word_line line) refl one) (lines_of bytes) (lines_one bytes)
 
 pub settled_items_cut : (bytes : List ℕ) → AreCut (settled_items bytes)
-settled_items_cut bytes = by_lines_cut settled_in (λ line one. settled_cut line (is_word_line line) (nat_lt most_line_bytes (length (without_start line))) refl one) (lines_of bytes) (lines_one bytes)
+settled_items_cut bytes =
+    by_lines_cut settled_in (λ line one. settled_cut line (is_word_line line) (nat_lt most_line_bytes (length (without_start line))) refl one) (lines_of bytes) (lines_one bytes)
 
 ended_cut : (items : List Item) → AreCut items → AreCut (to_end_line items)
 ended_cut [] cut = tt
@@ -163,10 +171,13 @@ ended_cut (item ∷ items) cut = (cut.0, by_case (is_end_line item) (ended_cut i
 
 reverse_cut : (items : List Item) → AreCut items → AreCut (reverse items)
 reverse_cut [] cut = tt
-reverse_cut (item ∷ items) cut = subst (λ (all : List Item). AreCut all) (sym (reverse-append (item ∷ []) items)) (append_cut (reverse items) (item ∷ []) (reverse_cut items cut.1) (cut.0, tt))
+reverse_cut (item ∷ items) cut =
+    subst (λ (all : List Item). AreCut all) (sym (reverse-append (item ∷ []) items)) (append_cut (reverse items) (item ∷ []) (reverse_cut items cut.1) (cut.0, tt))
 
-part_by : (bytes : List ℕ) (long : Bool) → AreCut (reverse (to_end_line (cond long (settled_items (take most_file_bytes bytes)) (items_of bytes))))
-part_by bytes true = reverse_cut (to_end_line (settled_items (take most_file_bytes bytes))) (ended_cut (settled_items (take most_file_bytes bytes)) (settled_items_cut (take most_file_bytes bytes)))
+part_by : (bytes : List ℕ) (long : Bool)
+    → AreCut (reverse (to_end_line (cond long (settled_items (take most_file_bytes bytes)) (items_of bytes))))
+part_by bytes true =
+    reverse_cut (to_end_line (settled_items (take most_file_bytes bytes))) (ended_cut (settled_items (take most_file_bytes bytes)) (settled_items_cut (take most_file_bytes bytes)))
 part_by bytes false = reverse_cut (to_end_line (items_of bytes)) (ended_cut (items_of bytes) (items_cut bytes))
 
 pub part_cut : (bytes : List ℕ) → AreCut (part bytes)

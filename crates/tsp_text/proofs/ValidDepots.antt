@@ -9,12 +9,12 @@ use Rattle.tsp_format.specs.Limits.{most_depots}
 use Rattle.tsp_draft.specs.Validity.{is_node, are_depots}
 use Rattle.tsp_text.specs.Items.{Item}
 use Rattle.tsp_text.specs.Earlier.{words_of}
-use Rattle.tsp_text.specs.Numbers.{number, node_or_end, is_end}
-use Rattle.tsp_text.specs.Places.{DepotAfter, PastEnd}
+use Rattle.tsp_text.specs.SectionNumbers.{number, node_or_end, is_end}
+use Rattle.tsp_text.specs.WordPlaces.{DepotAfter, PastEnd}
 use Rattle.tsp_text.specs.Lists.{before, depots_in}
 use Rattle.tsp_text.specs.Sections.{dimension_in}
 use Rattle.tsp_text.specs.FirstFault.{IsClean}
-use Rattle.tsp_text.specs.Rows.{word_fault}
+use Rattle.tsp_text.specs.FaultRows.{word_fault}
 use Rattle.tsp_text.proofs.Ended.{before_kept, before_none, before_end, before_push}
 use Rattle.tsp_text.proofs.ValidRows.{is_taken}
 use Rattle.tsp_text.proofs.Grown.{Grows, grown}
@@ -25,12 +25,16 @@ use Rattle.tsp_text.proofs.ValidLists.{few_more, first_of_both}
 abbrev AreListed : ℕ → List (List ℕ) → Type 0
 AreListed n words = are_depots n (depots_in n words) ≡ true
 
-listed_same : (n : ℕ) (words more : List (List ℕ)) → before (is_end n) more ≡ before (is_end n) words → AreListed n words → AreListed n more
-listed_same n words more same held = ap (λ (ws : List (List ℕ)). are_depots n (map (λ word. nat_abs (number (node_or_end n word))) ws)) same ∙ held
+listed_same : (n : ℕ) (words more : List (List ℕ)) → before (is_end n) more ≡ before (is_end n) words → AreListed n words
+    → AreListed n more
+listed_same n words more same held =
+    ap (λ (ws : List (List ℕ)). are_depots n (map (λ word. nat_abs (number (node_or_end n word))) ws)) same ∙ held
 
 -- one depot more
-listed_more : (n : ℕ) (words : List (List ℕ)) (word : List ℕ) → before (is_end n) words ≡ words → before (is_end n) (words ++ word ∷ []) ≡ words ++ word ∷ []
-    → nat_le most_depots (length words) ≡ false → is_node n (nat_abs (number (node_or_end n word))) ≡ true → AreListed n words → AreListed n (words ++ word ∷ [])
+listed_more : (n : ℕ) (words : List (List ℕ)) (word : List ℕ) → before (is_end n) words ≡ words
+    → before (is_end n) (words ++ word ∷ []) ≡ words ++ word ∷ []
+    → nat_le most_depots (length words) ≡ false → is_node n (nat_abs (number (node_or_end n word))) ≡ true → AreListed n words
+    → AreListed n (words ++ word ∷ [])
 listed_more n words word all more room node held =
     let value : List ℕ → ℕ = λ word. nat_abs (number (node_or_end n word)) in
     let before_this : are_depots n (map value words) ≡ true = ap (λ (ws : List (List ℕ)). are_depots n (map value ws)) (sym all) ∙ held in
@@ -38,8 +42,10 @@ listed_more n words word all more room node held =
     ∙ ap (are_depots n) (map_push value words word)
     ∙ few_more most_depots (is_node n) (map value words) (value word) before_this (ap (λ k. nat_le most_depots k) (length-map words value) ∙ room) node
 
-taken : (n : ℕ) (words : List (List ℕ)) (word : List ℕ) (ended end : Bool) → list_any (is_end n) words ≡ ended → is_end n word ≡ end
-    → word_fault n (cond ended PastEnd (DepotAfter (length words))) word ≡ None → AreListed n words → AreListed n (words ++ word ∷ [])
+taken : (n : ℕ) (words : List (List ℕ)) (word : List ℕ) (ended end : Bool) → list_any (is_end n) words ≡ ended
+    → is_end n word ≡ end
+    → word_fault n (cond ended PastEnd (DepotAfter (length words))) word ≡ None → AreListed n words
+    → AreListed n (words ++ word ∷ [])
 taken n words word true end e is row held = listed_same n words (words ++ word ∷ []) (before_kept (is_end n) words word e) held
 taken n words word false true e is row held =
     listed_same n words (words ++ word ∷ []) (before_end (is_end n) words word is e ∙ sym (before_none (is_end n) words e)) held
@@ -56,5 +62,6 @@ all_taken = record {
   any_nodes = λ n m words tours held. absurd (false≢true tours);
 }
 
-pub depots_fit : (items : List Item) → IsClean items → are_depots (dimension_in items) (depots_in (dimension_in items) (words_of DepotPart items)) ≡ true
+pub depots_fit : (items : List Item) → IsClean items
+    → are_depots (dimension_in items) (depots_in (dimension_in items) (words_of DepotPart items)) ≡ true
 depots_fit items clean = grown DepotPart AreListed refl all_taken items clean

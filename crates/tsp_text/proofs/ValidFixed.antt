@@ -10,13 +10,13 @@ use Rattle.tsp_format.specs.Limits.{most_fixed}
 use Rattle.tsp_draft.specs.Validity.{is_node, is_node_pair, are_fixed}
 use Rattle.tsp_text.specs.Items.{Item}
 use Rattle.tsp_text.specs.Earlier.{words_of}
-use Rattle.tsp_text.specs.Numbers.{number, reads_as, node, node_or_end, is_end}
-use Rattle.tsp_text.specs.Places.{FirstAfter, SecondOf, PastEnd}
+use Rattle.tsp_text.specs.SectionNumbers.{number, reads_as, node, node_or_end, is_end}
+use Rattle.tsp_text.specs.WordPlaces.{FirstAfter, SecondOf, PastEnd}
 use Rattle.tsp_text.specs.Groups.{pairs_in, begun_pair}
 use Rattle.tsp_text.specs.Lists.{before, fixed_in, firsts_in, place_in_pair}
 use Rattle.tsp_text.specs.Sections.{dimension_in}
 use Rattle.tsp_text.specs.FirstFault.{IsClean}
-use Rattle.tsp_text.specs.Rows.{word_fault}
+use Rattle.tsp_text.specs.FaultRows.{word_fault}
 use Rattle.tsp_text.proofs.Ended.{any_push}
 use Rattle.tsp_text.proofs.PairWords.{pairs_begin, begun_begin, firsts_begin, pairs_end, begun_end, firsts_end, firsts_kept, pairs_kept, pairs_none}
 use Rattle.tsp_text.proofs.ValidRows.{is_taken}
@@ -46,7 +46,8 @@ same_first found first other is e = cc
 
 -- ---- one word more
 
-past_end : (n : ℕ) (words : List (List ℕ)) (word : List ℕ) → list_any (is_end n) (firsts_in words) ≡ true → ArePaired n words → ArePaired n (words ++ word ∷ [])
+past_end : (n : ℕ) (words : List (List ℕ)) (word : List ℕ) → list_any (is_end n) (firsts_in words) ≡ true → ArePaired n words
+    → ArePaired n (words ++ word ∷ [])
 past_end n words word ended held = record {
   pairs = same_pairs n words (words ++ word ∷ []) (pairs_kept (is_end n) words word ended) held.pairs;
   begun = λ none first e. absurd (true≢false (sym (firsts_kept (is_end n) words word ended) ∙ none));
@@ -71,7 +72,8 @@ begins n words word open_ended is row held =
     }
 
 -- two different nodes
-pub valid_pair : (n : ℕ) (first word : List ℕ) → result_err (node_or_end n first) ≡ None → is_end n first ≡ false → result_err (node n word) ≡ None
+pub valid_pair : (n : ℕ) (first word : List ℕ) → result_err (node_or_end n first) ≡ None → is_end n first ≡ false
+    → result_err (node n word) ≡ None
     → reads_as (number (node_or_end n first)) (node n word) ≡ false → is_node_pair n (pair_of n (first, word)) ≡ true
 valid_pair n first word read no_end read_second other =
     let a = read_listed n first read no_end in
@@ -84,7 +86,8 @@ none_begun [] first e f = absurd cc
 none_begun (x ∷ xs) first e f = absurd cc
 
 -- the second node
-ends : (n : ℕ) (words : List (List ℕ)) (first word : List ℕ) → list_any (is_end n) (firsts_in words) ≡ false → begun_pair words ≡ first ∷ []
+ends : (n : ℕ) (words : List (List ℕ)) (first word : List ℕ) → list_any (is_end n) (firsts_in words) ≡ false
+    → begun_pair words ≡ first ∷ []
     → word_fault n (SecondOf (number (node_or_end n first))) word ≡ None → ArePaired n words → ArePaired n (words ++ word ∷ [])
 ends n words first word open_ended is row held =
     let t = is_taken n (SecondOf (number (node_or_end n first))) word row in
@@ -104,8 +107,10 @@ ends n words first word open_ended is row held =
       begun = λ none other e. absurd (none_begun (begun_pair (words ++ word ∷ [])) other (begun_end words first word is) e);
     }
 
-taken : (n : ℕ) (words : List (List ℕ)) (word : List ℕ) (ended : Bool) (begun : List (List ℕ)) → list_any (is_end n) (firsts_in words) ≡ ended → begun_pair words ≡ begun
-    → word_fault n (cond ended PastEnd (place_in_pair n (length (pairs_in words)) begun)) word ≡ None → ArePaired n words → ArePaired n (words ++ word ∷ [])
+taken : (n : ℕ) (words : List (List ℕ)) (word : List ℕ) (ended : Bool) (begun : List (List ℕ))
+    → list_any (is_end n) (firsts_in words) ≡ ended → begun_pair words ≡ begun
+    → word_fault n (cond ended PastEnd (place_in_pair n (length (pairs_in words)) begun)) word ≡ None → ArePaired n words
+    → ArePaired n (words ++ word ∷ [])
 taken n words word true begun e is row held = past_end n words word e held
 taken n words word false [] e is row held = begins n words word e is row held
 taken n words word false (first ∷ []) e is row held = ends n words first word e is row held
@@ -121,7 +126,8 @@ all_taken = record {
   any_nodes = λ n m words tours held. absurd (false≢true tours);
 }
 
-pub fixed_fit : (items : List Item) → IsClean items → are_fixed (dimension_in items) (fixed_in (dimension_in items) (words_of FixedEdgesPart items)) ≡ true
+pub fixed_fit : (items : List Item) → IsClean items
+    → are_fixed (dimension_in items) (fixed_in (dimension_in items) (words_of FixedEdgesPart items)) ≡ true
 fixed_fit items clean =
     let held : ArePaired (dimension_in items) (words_of FixedEdgesPart items) = grown FixedEdgesPart ArePaired refl all_taken items clean in
     held.pairs

@@ -24,7 +24,7 @@ use Rattle.tsp_text.specs.Items.{WordLine, Item, Line, NumberWord, LineEnd}
 use Rattle.tsp_text.specs.Earlier.{same_field, is_key, value_at, values_at, others_in}
 use Rattle.tsp_text.specs.Values.{number_at, dimension_of}
 use Rattle.tsp_text.specs.Cuts.{IsCutLine, AreCut}
-use Rattle.tsp_text.specs.Rows.{is_too_long_to_keep, has_bad_value, row_of}
+use Rattle.tsp_text.specs.FaultRows.{is_too_long_to_keep, has_bad_value, row_of}
 use Rattle.tsp_text.specs.FirstFault.{IsClean}
 use Rattle.tsp_text.proofs.ValidRows.{clean_parts, no_row}
 use Rattle.tsp_text.proofs.ValidSections.{same_field_is}
@@ -50,8 +50,10 @@ known_field (Some g) f e = by_case (is_others g) e
     by_case false e = cc
 
 -- a keyword is that of a field by the field's word, but for the other word of fixed edges
-word_known : (word : List ℕ) (f : Field) (edges format part end : Bool) → bytes_eq word (codes "FIXED_EDGES") ≡ edges → same_field FixedEdgesPart f ≡ false
-    → cond edges (Known FixedEdgesPart) (cond format EdgeDataFormat (cond part EdgeDataSection (cond end Eof (known_or_not (field_of word))))) ≡ Known f → word ≡ field_word f
+word_known : (word : List ℕ) (f : Field) (edges format part end : Bool) → bytes_eq word (codes "FIXED_EDGES") ≡ edges
+    → same_field FixedEdgesPart f ≡ false
+    → cond edges (Known FixedEdgesPart) (cond format EdgeDataFormat (cond part EdgeDataSection (cond end Eof (known_or_not (field_of word))))) ≡ Known f
+    → word ≡ field_word f
 word_known word f true format part end is other e = absurd (true≢false (ap (is_key FixedEdgesPart) e ∙ other))
 word_known word f false true part end is other e = absurd cc
 word_known word f false false true end is other e = absurd cc
@@ -65,7 +67,8 @@ keyword_word word f other e = word_known word f (bytes_eq word (codes "FIXED_EDG
 
 -- ---- kept values
 
-kept : (key : Keyword) (line : WordLine) → IsCutLine key line → is_too_long_to_keep line ≡ false → is_kept line.keyword line.value ≡ true
+kept : (key : Keyword) (line : WordLine) → IsCutLine key line → is_too_long_to_keep line ≡ false
+    → is_kept line.keyword line.value ≡ true
 kept key line cut short =
     let size : nat_le (length line.keyword + length line.value) most_kept_bytes ≡ true =
     le-leb (length line.keyword + length line.value) most_kept_bytes (ltb-false most_kept_bytes (length line.keyword + length line.value) short) in
@@ -76,13 +79,17 @@ kept key line cut short =
     (not_from_false (is_blank (slice_index line.value 0)) cut.begins_filled))
     (not_from_false (is_blank (slice_index line.value (length line.value - 1))) cut.ends_filled)
 
-kept_known : (f : Field) (line : WordLine) → same_field FixedEdgesPart f ≡ false → IsCutLine (Known f) line → is_too_long_to_keep line ≡ false → is_kept (field_word f) line.value ≡ true
-kept_known f line other cut short = subst (λ (word : List ℕ). is_kept word line.value ≡ true) (keyword_word line.keyword f other (sym cut.of_keyword)) (kept (Known f) line cut short)
+kept_known : (f : Field) (line : WordLine) → same_field FixedEdgesPart f ≡ false → IsCutLine (Known f) line
+    → is_too_long_to_keep line ≡ false → is_kept (field_word f) line.value ≡ true
+kept_known f line other cut short =
+    subst (λ (word : List ℕ). is_kept word line.value ≡ true) (keyword_word line.keyword f other (sym cut.of_keyword)) (kept (Known f) line cut short)
 
 -- ---- NAME
 
-name_line : (f : Field) (line : WordLine) (earlier : List Item) (b : Bool) → same_field NameKey f ≡ b → IsCutLine (Known f) line → has_bad_value earlier (Line (Known f) line) ≡ false
-    → if_there (is_kept (field_word NameKey)) (value_at NameKey earlier) ≡ true → if_there (is_kept (field_word NameKey)) (value_at NameKey (Line (Known f) line ∷ earlier)) ≡ true
+name_line : (f : Field) (line : WordLine) (earlier : List Item) (b : Bool) → same_field NameKey f ≡ b → IsCutLine (Known f) line
+    → has_bad_value earlier (Line (Known f) line) ≡ false
+    → if_there (is_kept (field_word NameKey)) (value_at NameKey earlier) ≡ true
+    → if_there (is_kept (field_word NameKey)) (value_at NameKey (Line (Known f) line ∷ earlier)) ≡ true
 name_line f line earlier false e cut good before = rw e before
 name_line f line earlier true e cut good before =
     let same = sym (same_field_is NameKey f e) in
@@ -90,22 +97,27 @@ name_line f line earlier true e cut good before =
     let short : is_too_long_to_keep line ≡ false = subst (λ (g : Field). has_bad_value earlier (Line (Known g) line) ≡ false) same good in
     rw e (kept_known NameKey line refl here short)
 
-pub name_fits : (items : List Item) → AreCut items → IsClean items → if_there (is_kept (field_word NameKey)) (value_at NameKey items) ≡ true
+pub name_fits : (items : List Item) → AreCut items → IsClean items
+    → if_there (is_kept (field_word NameKey)) (value_at NameKey items) ≡ true
 name_fits [] cut clean = refl
 name_fits (NumberWord word ∷ earlier) cut clean = name_fits earlier cut.1 (clean_parts earlier (NumberWord word) clean).0
 name_fits (LineEnd ∷ earlier) cut clean = name_fits earlier cut.1 (clean_parts earlier LineEnd clean).0
 name_fits (Line (Known f) line ∷ earlier) cut clean =
     let parts = clean_parts earlier (Line (Known f) line) clean in
     name_line f line earlier (same_field NameKey f) refl cut.0 (no_row earlier (Line (Known f) line) parts.1).good_value (name_fits earlier cut.1 parts.0)
-name_fits (Line EdgeDataFormat line ∷ earlier) cut clean = name_fits earlier cut.1 (clean_parts earlier (Line EdgeDataFormat line) clean).0
-name_fits (Line EdgeDataSection line ∷ earlier) cut clean = name_fits earlier cut.1 (clean_parts earlier (Line EdgeDataSection line) clean).0
+name_fits (Line EdgeDataFormat line ∷ earlier) cut clean =
+    name_fits earlier cut.1 (clean_parts earlier (Line EdgeDataFormat line) clean).0
+name_fits (Line EdgeDataSection line ∷ earlier) cut clean =
+    name_fits earlier cut.1 (clean_parts earlier (Line EdgeDataSection line) clean).0
 name_fits (Line Eof line ∷ earlier) cut clean = name_fits earlier cut.1 (clean_parts earlier (Line Eof line) clean).0
 name_fits (Line Unknown line ∷ earlier) cut clean = name_fits earlier cut.1 (clean_parts earlier (Line Unknown line) clean).0
 
 -- ---- COMMENT
 
-comment_line : (f : Field) (line : WordLine) (earlier : List Item) (b : Bool) → same_field CommentKey f ≡ b → IsCutLine (Known f) line → row_of earlier (Line (Known f) line) ≡ None
-    → are_comments (values_at CommentKey earlier) ≡ true → are_comments (values_at CommentKey (Line (Known f) line ∷ earlier)) ≡ true
+comment_line : (f : Field) (line : WordLine) (earlier : List Item) (b : Bool) → same_field CommentKey f ≡ b
+    → IsCutLine (Known f) line → row_of earlier (Line (Known f) line) ≡ None
+    → are_comments (values_at CommentKey earlier) ≡ true
+    → are_comments (values_at CommentKey (Line (Known f) line ∷ earlier)) ≡ true
 comment_line f line earlier false e cut row before = rw e before
 comment_line f line earlier true e cut row before =
     let same = sym (same_field_is CommentKey f e) in
@@ -120,14 +132,18 @@ comments_fit (LineEnd ∷ earlier) cut clean = comments_fit earlier cut.1 (clean
 comments_fit (Line (Known f) line ∷ earlier) cut clean =
     let parts = clean_parts earlier (Line (Known f) line) clean in
     comment_line f line earlier (same_field CommentKey f) refl cut.0 parts.1 (comments_fit earlier cut.1 parts.0)
-comments_fit (Line EdgeDataFormat line ∷ earlier) cut clean = comments_fit earlier cut.1 (clean_parts earlier (Line EdgeDataFormat line) clean).0
-comments_fit (Line EdgeDataSection line ∷ earlier) cut clean = comments_fit earlier cut.1 (clean_parts earlier (Line EdgeDataSection line) clean).0
+comments_fit (Line EdgeDataFormat line ∷ earlier) cut clean =
+    comments_fit earlier cut.1 (clean_parts earlier (Line EdgeDataFormat line) clean).0
+comments_fit (Line EdgeDataSection line ∷ earlier) cut clean =
+    comments_fit earlier cut.1 (clean_parts earlier (Line EdgeDataSection line) clean).0
 comments_fit (Line Eof line ∷ earlier) cut clean = comments_fit earlier cut.1 (clean_parts earlier (Line Eof line) clean).0
-comments_fit (Line Unknown line ∷ earlier) cut clean = comments_fit earlier cut.1 (clean_parts earlier (Line Unknown line) clean).0
+comments_fit (Line Unknown line ∷ earlier) cut clean =
+    comments_fit earlier cut.1 (clean_parts earlier (Line Unknown line) clean).0
 
 -- ---- unknown keywords
 
-other_line : (line : WordLine) (earlier : List Item) → IsCutLine Unknown line → row_of earlier (Line Unknown line) ≡ None → are_others (others_in earlier) ≡ true
+other_line : (line : WordLine) (earlier : List Item) → IsCutLine Unknown line → row_of earlier (Line Unknown line) ≡ None
+    → are_others (others_in earlier) ≡ true
     → are_others (others_in (Line Unknown line ∷ earlier)) ≡ true
 other_line line earlier cut row before =
     let rows = no_row earlier (Line Unknown line) row in
@@ -141,9 +157,12 @@ pub others_fit : (items : List Item) → AreCut items → IsClean items → are_
 others_fit [] cut clean = refl
 others_fit (NumberWord word ∷ earlier) cut clean = others_fit earlier cut.1 (clean_parts earlier (NumberWord word) clean).0
 others_fit (LineEnd ∷ earlier) cut clean = others_fit earlier cut.1 (clean_parts earlier LineEnd clean).0
-others_fit (Line (Known f) line ∷ earlier) cut clean = others_fit earlier cut.1 (clean_parts earlier (Line (Known f) line) clean).0
-others_fit (Line EdgeDataFormat line ∷ earlier) cut clean = others_fit earlier cut.1 (clean_parts earlier (Line EdgeDataFormat line) clean).0
-others_fit (Line EdgeDataSection line ∷ earlier) cut clean = others_fit earlier cut.1 (clean_parts earlier (Line EdgeDataSection line) clean).0
+others_fit (Line (Known f) line ∷ earlier) cut clean =
+    others_fit earlier cut.1 (clean_parts earlier (Line (Known f) line) clean).0
+others_fit (Line EdgeDataFormat line ∷ earlier) cut clean =
+    others_fit earlier cut.1 (clean_parts earlier (Line EdgeDataFormat line) clean).0
+others_fit (Line EdgeDataSection line ∷ earlier) cut clean =
+    others_fit earlier cut.1 (clean_parts earlier (Line EdgeDataSection line) clean).0
 others_fit (Line Eof line ∷ earlier) cut clean = others_fit earlier cut.1 (clean_parts earlier (Line Eof line) clean).0
 others_fit (Line Unknown line ∷ earlier) cut clean =
     let parts = clean_parts earlier (Line Unknown line) clean in
@@ -151,13 +170,16 @@ others_fit (Line Unknown line ∷ earlier) cut clean =
 
 -- ---- numbers
 
-read_fits : (low high : ℤ) (r : Result ℤ NumberFault) → ((z : ℤ) → r ≡ Ok z → is_from_to low high z ≡ true) → if_there (is_from_to low high) (result_ok r) ≡ true
+read_fits : (low high : ℤ) (r : Result ℤ NumberFault) → ((z : ℤ) → r ≡ Ok z → is_from_to low high z ≡ true)
+    → if_there (is_from_to low high) (result_ok r) ≡ true
 read_fits low high (Ok z) each = each z refl
 read_fits low high (Err fault) each = refl
 
-number_fits : (low high : ℤ) (o : Option (List ℕ)) → if_there (is_from_to low high) (option_and_then (λ value. result_ok (whole_of (first_word value) low high)) o) ≡ true
+number_fits : (low high : ℤ) (o : Option (List ℕ))
+    → if_there (is_from_to low high) (option_and_then (λ value. result_ok (whole_of (first_word value) low high)) o) ≡ true
 number_fits low high None = refl
-number_fits low high (Some value) = read_fits low high (whole_of (first_word value) low high) (λ z e. whole_in_range (first_word value) low high z e)
+number_fits low high (Some value) =
+    read_fits low high (whole_of (first_word value) low high) (λ z e. whole_in_range (first_word value) low high z e)
 
 pub capacity_fits : (items : List Item) → if_there (is_from_to (pos 1) (pos most_capacity)) (number_at CapacityKey items) ≡ true
 capacity_fits items = number_fits (pos 1) (pos most_capacity) (value_at CapacityKey items)
@@ -165,9 +187,11 @@ capacity_fits items = number_fits (pos 1) (pos most_capacity) (value_at Capacity
 pub scale_fits : (items : List Item) → if_there (is_from_to (pos 1) (pos most_scale)) (number_at ScaleKey items) ≡ true
 scale_fits items = number_fits (pos 1) (pos most_scale) (value_at ScaleKey items)
 
-nodes_fit : (o : Option ℤ) → if_there (is_from_to (pos 1) (pos most_nodes)) o ≡ true → if_there (is_node most_nodes) (option_map nat_abs o) ≡ true
+nodes_fit : (o : Option ℤ) → if_there (is_from_to (pos 1) (pos most_nodes)) o ≡ true
+    → if_there (is_node most_nodes) (option_map nat_abs o) ≡ true
 nodes_fit None e = refl
 nodes_fit (Some z) e = let found = node_read most_nodes z e in ap (λ y. is_node most_nodes (nat_abs y)) found.1 ∙ found.2
 
 pub dimension_fits : (items : List Item) → if_there (is_node most_nodes) (dimension_of items) ≡ true
-dimension_fits items = nodes_fit (number_at DimensionKey items) (number_fits (pos 1) (pos most_nodes) (value_at DimensionKey items))
+dimension_fits items =
+    nodes_fit (number_at DimensionKey items) (number_fits (pos 1) (pos most_nodes) (value_at DimensionKey items))

@@ -9,7 +9,8 @@ use Rattle.tsp_text.specs.Groups.{pairs_in, begun_pair}
 use Rattle.tsp_text.specs.Lists.{firsts_in}
 
 -- one more of a list below its limit, that passes too
-pub few_more : {A : Type 0} (most : ℕ) (test : A → Bool) (xs : List A) (x : A) → (nat_le (length xs) most && list_all test xs) ≡ true → nat_le most (length xs) ≡ false → test x ≡ true
+pub few_more : {A : Type 0} (most : ℕ) (test : A → Bool) (xs : List A) (x : A)
+    → (nat_le (length xs) most && list_all test xs) ≡ true → nat_le most (length xs) ≡ false → test x ≡ true
     → (nat_le (length (xs ++ x ∷ [])) most && list_all test (xs ++ x ∷ [])) ≡ true
 few_more most test xs x held room passes =
     let both = and_parts (nat_le (length xs) most) (list_all test xs) held in

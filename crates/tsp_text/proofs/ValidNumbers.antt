@@ -21,7 +21,7 @@ use Rattle.tsp_format.specs.Cells.{nodes_to}
 use Rattle.tsp_format.specs.Limits.{most_coordinate}
 use Rattle.tsp_draft.specs.Coords.{origin}
 use Rattle.tsp_draft.specs.Validity.{is_from_to, is_within, is_node, is_by_node, is_point}
-use Rattle.tsp_text.specs.Numbers.{number, reads_as, node, not_zero, node_or_end, is_end}
+use Rattle.tsp_text.specs.SectionNumbers.{number, reads_as, node, not_zero, node_or_end, is_end}
 use Rattle.tsp_text.specs.Groups.{pairs_in, threes_in, number_groups, point_in_words, point_groups, entry_of, by_node, numbers_by_node, points_by_node, fours_in, space_point_of, space_point_groups, space_points_by_node, coords_by_node}
 use Rattle.std.proofs.Math.ListN.{take}
 
@@ -54,12 +54,14 @@ whole_read low high (Some n) z e = within_range low high (number_in 9 n) (number
 
 pub whole_in_range : (word : List ℕ) (low high z : ℤ) → whole_of word low high ≡ Ok z → is_from_to low high z ≡ true
 unfolding whole_of
-whole_in_range word low high z e = whole_read low high (numeral_in word) z (picked (nat_le (length word) 64) (whole_from low high (numeral_in word)) LongWord z e).1
+whole_in_range word low high z e =
+    whole_read low high (numeral_in word) z (picked (nat_le (length word) 64) (whole_from low high (numeral_in word)) LongWord z e).1
 
 -- a size is no more than a limit
 size_within : (z : ℤ) → nat_le (unsigned_abs z) most_coordinate ≡ true → is_within most_coordinate z ≡ true
 size_within (pos n) e = e
-size_within (negsuc n) e = and_from (int_le (neg_ℤ (pos most_coordinate)) (negsuc n)) true (below n (leb-true (suc n) most_coordinate e)) refl
+size_within (negsuc n) e =
+    and_from (int_le (neg_ℤ (pos most_coordinate)) (negsuc n)) true (below n (leb-true (suc n) most_coordinate e)) refl
   where
     below : (n : ℕ) → suc n ≤ most_coordinate → int_le (neg_ℤ (pos most_coordinate)) (negsuc n) ≡ true
     below n le = le-leb n 999999999999999999 (omega arith)
@@ -76,22 +78,27 @@ decimal_read (Some n) z e = decimal_within_range (number_in 9 n) z e
 
 decimal_in_range : (word : List ℕ) (z : ℤ) → decimal_of word ≡ Ok z → is_within most_coordinate z ≡ true
 unfolding decimal_of
-decimal_in_range word z e = decimal_read (numeral_in word) z (picked (nat_le (length word) 64) (decimal_from (numeral_in word)) LongWord z e).1
+decimal_in_range word z e =
+    decimal_read (numeral_in word) z (picked (nat_le (length word) 64) (decimal_from (numeral_in word)) LongWord z e).1
 
 -- what is read, or 0, passes a test that 0 passes
-number_passes : (test : ℤ → Bool) (r : Result ℤ NumberFault) → test (pos 0) ≡ true → ((z : ℤ) → r ≡ Ok z → test z ≡ true) → test (number r) ≡ true
+number_passes : (test : ℤ → Bool) (r : Result ℤ NumberFault) → test (pos 0) ≡ true → ((z : ℤ) → r ≡ Ok z → test z ≡ true)
+    → test (number r) ≡ true
 number_passes test (Ok z) zero_passes each = each z refl
 number_passes test (Err fault) zero_passes each = zero_passes
 
-pub whole_passes : (low high : ℤ) (word : List ℕ) → is_from_to low high (pos 0) ≡ true → is_from_to low high (number (whole_of word low high)) ≡ true
-whole_passes low high word zero_passes = number_passes (is_from_to low high) (whole_of word low high) zero_passes (λ z e. whole_in_range word low high z e)
+pub whole_passes : (low high : ℤ) (word : List ℕ) → is_from_to low high (pos 0) ≡ true
+    → is_from_to low high (number (whole_of word low high)) ≡ true
+whole_passes low high word zero_passes =
+    number_passes (is_from_to low high) (whole_of word low high) zero_passes (λ z e. whole_in_range word low high z e)
 
 decimal_passes : (word : List ℕ) → is_within most_coordinate (number (decimal_of word)) ≡ true
 decimal_passes word = number_passes (is_within most_coordinate) (decimal_of word) refl (λ z e. decimal_in_range word z e)
 
 -- ---- lists by node
 
-entry_fits : {X : Type 0} (fits : X → Bool) (missing : X) (groups : List (ℤ × X)) (z : ℤ) → fits missing ≡ true → list_all (λ group. fits group.1) groups ≡ true
+entry_fits : {X : Type 0} (fits : X → Bool) (missing : X) (groups : List (ℤ × X)) (z : ℤ) → fits missing ≡ true
+    → list_all (λ group. fits group.1) groups ≡ true
     → fits (unwrap_or (entry_of groups z) missing) ≡ true
 entry_fits fits missing [] z none all = none
 entry_fits {X} fits missing (group ∷ groups) z none all =
@@ -102,7 +109,8 @@ entry_fits {X} fits missing (group ∷ groups) z none all =
     by_case true here later = here
     by_case false here later = later
 
-by_node_fits : {X : Type 0} (fits : X → Bool) (missing : X) (n : ℕ) (groups : List (ℤ × X)) → fits missing ≡ true → list_all (λ group. fits group.1) groups ≡ true
+by_node_fits : {X : Type 0} (fits : X → Bool) (missing : X) (n : ℕ) (groups : List (ℤ × X)) → fits missing ≡ true
+    → list_all (λ group. fits group.1) groups ≡ true
     → is_by_node fits n (by_node missing n groups) ≡ true
 unfolding nodes_to
 by_node_fits {X} fits missing n groups none all =
@@ -111,13 +119,16 @@ by_node_fits {X} fits missing n groups none all =
     (eq-eqb (length (map entry (nodes_to n))) n (length-map (nodes_to n) entry ∙ length-range_with_len 1 n))
     (list_all-map fits entry (nodes_to n) ∙ all_pass (λ i. fits (entry i)) (nodes_to n) (λ i. entry_fits fits missing groups (pos i) none all))
 
-pub numbers_fit : (low high : ℤ) (n : ℕ) (words : List (List ℕ)) → is_from_to low high (pos 0) ≡ true → is_by_node (is_from_to low high) n (numbers_by_node low high n words) ≡ true
-numbers_fit low high n words zero_passes = by_node_fits (is_from_to low high) (pos 0) n (number_groups low high n words) zero_passes
+pub numbers_fit : (low high : ℤ) (n : ℕ) (words : List (List ℕ)) → is_from_to low high (pos 0) ≡ true
+    → is_by_node (is_from_to low high) n (numbers_by_node low high n words) ≡ true
+numbers_fit low high n words zero_passes =
+    by_node_fits (is_from_to low high) (pos 0) n (number_groups low high n words) zero_passes
     (list_all-map (λ (group : ℤ × ℤ). is_from_to low high group.1) (λ (group : List ℕ × List ℕ). (number (node n group.0), number (whole_of group.1 low high))) (pairs_in (take (2 * n) words))
     ∙ all_pass (λ (group : List ℕ × List ℕ). is_from_to low high (number (whole_of group.1 low high))) (pairs_in (take (2 * n) words)) (λ group. whole_passes low high group.1 zero_passes))
 
 point_fits : (x y : List ℕ) → is_point false (point_in_words x y) ≡ true
-point_fits x y = and_from (is_within most_coordinate (number (decimal_of x)) && is_within most_coordinate (number (decimal_of y))) true
+point_fits x y =
+    and_from (is_within most_coordinate (number (decimal_of x)) && is_within most_coordinate (number (decimal_of y))) true
     (and_from (is_within most_coordinate (number (decimal_of x))) (is_within most_coordinate (number (decimal_of y))) (decimal_passes x) (decimal_passes y)) refl
 
 pub points_fit : (n : ℕ) (words : List (List ℕ)) → is_by_node (is_point false) n (points_by_node n words) ≡ true
@@ -127,7 +138,8 @@ points_fit n words = by_node_fits (is_point false) origin n (point_groups n word
 
 -- with three coordinates each
 space_point_fits : (x y z : List ℕ) → is_point true (space_point_of x y z) ≡ true
-space_point_fits x y z = and_from (is_within most_coordinate (number (decimal_of x)) && is_within most_coordinate (number (decimal_of y)))
+space_point_fits x y z =
+    and_from (is_within most_coordinate (number (decimal_of x)) && is_within most_coordinate (number (decimal_of y)))
     (is_within most_coordinate (number (decimal_of z)))
     (and_from (is_within most_coordinate (number (decimal_of x))) (is_within most_coordinate (number (decimal_of y))) (decimal_passes x) (decimal_passes y))
     (decimal_passes z)
@@ -139,7 +151,8 @@ space_points_fit n words = by_node_fits (is_point true) origin n (space_point_gr
     ∙ all_pass (λ (group : List ℕ × List ℕ × List ℕ × List ℕ). is_point true (space_point_of group.1 group.2 group.3)) (fours_in (take (4 * n) words))
     (λ group. space_point_fits group.1 group.2 group.3))
 
-pub coords_fit : (in_space : Bool) (n : ℕ) (words : List (List ℕ)) → is_by_node (is_point in_space) n (coords_by_node in_space n words) ≡ true
+pub coords_fit : (in_space : Bool) (n : ℕ) (words : List (List ℕ))
+    → is_by_node (is_point in_space) n (coords_by_node in_space n words) ≡ true
 coords_fit true n words = space_points_fit n words
 coords_fit false n words = points_fit n words
 
@@ -150,7 +163,8 @@ node_read n (pos k) e = (k, refl, e)
 node_read n (negsuc k) e = absurd (false≢true e)
 
 -- a node of 1..n
-pub read_node : (n : ℕ) (word : List ℕ) → result_err (node n word) ≡ None → (k : ℕ) × (node n word ≡ Ok (pos k)) × (is_node n k ≡ true)
+pub read_node : (n : ℕ) (word : List ℕ) → result_err (node n word) ≡ None
+    → (k : ℕ) × (node n word ≡ Ok (pos k)) × (is_node n k ≡ true)
 read_node n word = by_result (node n word) (λ z read. whole_in_range word (pos 1) (pos n) z read)
   where
     by_result : (r : Result ℤ NumberFault) → ((z : ℤ) → r ≡ Ok z → is_from_to (pos 1) (pos n) z ≡ true) → result_err r ≡ None → (k : ℕ) × (r ≡ Ok (pos k)) × (is_node n k ≡ true)
@@ -158,11 +172,14 @@ read_node n word = by_result (node n word) (λ z read. whole_in_range word (pos 
     by_result (Err fault) each e = absurd cc
 
 -- a number from -1 to n that is neither 0 nor -1
-listed_node : (n : ℕ) (z : ℤ) → is_from_to (negsuc 0) (pos n) z ≡ true → int_eq z (pos 0) ≡ false → int_eq z (negsuc 0) ≡ false → (k : ℕ) × (z ≡ pos k) × (is_node n k ≡ true)
+listed_node : (n : ℕ) (z : ℤ) → is_from_to (negsuc 0) (pos n) z ≡ true → int_eq z (pos 0) ≡ false → int_eq z (negsuc 0) ≡ false
+    → (k : ℕ) × (z ≡ pos k) × (is_node n k ≡ true)
 listed_node n (pos zero) e nonzero no_end = absurd (true≢false nonzero)
-listed_node n (pos (suc k)) e nonzero no_end = (suc k, refl, and_from (nat_le 1 (suc k)) (nat_le (suc k) n) (le-leb 1 (suc k) (omega arith)) e)
+listed_node n (pos (suc k)) e nonzero no_end =
+    (suc k, refl, and_from (nat_le 1 (suc k)) (nat_le (suc k) n) (le-leb 1 (suc k) (omega arith)) e)
 listed_node n (negsuc zero) e nonzero no_end = absurd (true≢false no_end)
-listed_node n (negsuc (suc k)) e nonzero no_end = absurd (omega (arith, leb-true (suc k) 0 (and_parts (int_le (negsuc 0) (negsuc (suc k))) (int_le (negsuc (suc k)) (pos n)) e).0))
+listed_node n (negsuc (suc k)) e nonzero no_end =
+    absurd (omega (arith, leb-true (suc k) 0 (and_parts (int_le (negsuc 0) (negsuc (suc k))) (int_le (negsuc (suc k)) (pos n)) e).0))
 
 by_zero : (n : ℕ) (z : ℤ) (b : Bool) → int_eq z (pos 0) ≡ b → is_from_to (negsuc 0) (pos n) z ≡ true
     → (let r : Result ℤ NumberFault = cond b (Err OutOfRange) (Ok z) in (result_err r ≡ None → reads_as (negsuc 0) r ≡ false → (k : ℕ) × (r ≡ Ok (pos k)) × (is_node n k ≡ true)))
@@ -170,7 +187,8 @@ by_zero n z true is inside = λ e no_end. absurd cc
 by_zero n z false is inside = λ e no_end. let found = listed_node n z inside is no_end in (found.0, ap (λ y. Ok y) found.1, found.2)
 
 -- a node of a list that -1 ends
-pub read_listed : (n : ℕ) (word : List ℕ) → result_err (node_or_end n word) ≡ None → is_end n word ≡ false → (k : ℕ) × (node_or_end n word ≡ Ok (pos k)) × (is_node n k ≡ true)
+pub read_listed : (n : ℕ) (word : List ℕ) → result_err (node_or_end n word) ≡ None → is_end n word ≡ false
+    → (k : ℕ) × (node_or_end n word ≡ Ok (pos k)) × (is_node n k ≡ true)
 read_listed n word = by_result (whole_of word (negsuc 0) (pos n)) (λ z read. whole_in_range word (negsuc 0) (pos n) z read)
   where
     by_result : (r : Result ℤ NumberFault) → ((z : ℤ) → r ≡ Ok z → is_from_to (negsuc 0) (pos n) z ≡ true)

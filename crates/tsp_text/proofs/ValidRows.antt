@@ -4,8 +4,8 @@ use Rattle.std.specs.Option.{option_or, option_map}
 use Rattle.std.specs.List.{AllByRecursion}
 use Rattle.tsp_text.specs.declared.fault.LineFault.TheVariants as row
 use Rattle.tsp_text.specs.Items.{Item}
-use Rattle.tsp_text.specs.Places.{Place}
-use Rattle.tsp_text.specs.Rows.{when, first_row, table, row_of, is_repeated, has_bad_value, is_early, has_too_many_nodes, number_fault, is_surplus, is_late, number_fault_at, is_repeated_node_at, is_self_edge_at, is_surplus_at, is_after_end_at, word_fault}
+use Rattle.tsp_text.specs.WordPlaces.{Place}
+use Rattle.tsp_text.specs.FaultRows.{when, first_row, table, row_of, is_repeated, has_bad_value, is_early, has_too_many_nodes, number_fault, is_surplus, is_late, number_fault_at, is_repeated_node_at, is_self_edge_at, is_surplus_at, is_after_end_at, word_fault}
 use Rattle.tsp_text.specs.FirstFault.{fault_here, fault_in, IsClean}
 
 pub when_none : {F : Type 0} (test : Bool) (fault : F) → when test fault ≡ None → test ≡ false

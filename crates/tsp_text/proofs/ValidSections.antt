@@ -19,7 +19,7 @@ use Rattle.tsp_format.specs.Shapes.{is_section_field}
 use Rattle.tsp_text.specs.Earlier.{same_field, has_line, open_section, words_of}
 use Rattle.tsp_text.specs.Values.{read_as, dimension_of}
 use Rattle.tsp_text.specs.Sections.{dimension_in}
-use Rattle.tsp_text.specs.Rows.{row_of, may_repeat, is_repeated}
+use Rattle.tsp_text.specs.FaultRows.{row_of, may_repeat, is_repeated}
 use Rattle.tsp_text.specs.FirstFault.{IsClean}
 use Rattle.tsp_text.proofs.ValidRows.{clean_parts, no_row}
 
@@ -35,7 +35,8 @@ same_field_is f g same =
 
 -- ---- DIMENSION before sections
 
-pub late : (section tours dimension known : Bool) → section ≡ true → tours ≡ false → (section && not tours && not dimension) ≡ false → cond known true dimension ≡ true
+pub late : (section tours dimension known : Bool) → section ≡ true → tours ≡ false
+    → (section && not tours && not dimension) ≡ false → cond known true dimension ≡ true
 late true false true true s t e = refl
 late true false true false s t e = refl
 late true false false known s t e = absurd (true≢false e)
@@ -43,9 +44,11 @@ late false tours dimension known s t e = absurd (false≢true s)
 late true true dimension known s t e = absurd (true≢false t)
 
 -- a section other than the tours is open only after DIMENSION
-opened_late : (items : List Item) → IsClean items → (g : Field) → open_section items ≡ Some g → same_field TourPart g ≡ false → has_line DimensionKey items ≡ true
+opened_late : (items : List Item) → IsClean items → (g : Field) → open_section items ≡ Some g → same_field TourPart g ≡ false
+    → has_line DimensionKey items ≡ true
 opened_late [] clean g opened other = absurd (none-some g opened)
-opened_late (NumberWord word ∷ earlier) clean g opened other = opened_late earlier (clean_parts earlier (NumberWord word) clean).0 g opened other
+opened_late (NumberWord word ∷ earlier) clean g opened other =
+    opened_late earlier (clean_parts earlier (NumberWord word) clean).0 g opened other
 opened_late (LineEnd ∷ earlier) clean g opened other = opened_late earlier (clean_parts earlier LineEnd clean).0 g opened other
 opened_late (Line (Known f) line ∷ earlier) clean g opened other =
     let opens = cond_some (is_section_field f) f g opened in
@@ -58,17 +61,20 @@ opened_late (Line Eof line ∷ earlier) clean g opened other = absurd (none-some
 opened_late (Line Unknown line ∷ earlier) clean g opened other = absurd (none-some g opened)
 
 -- once DIMENSION has come, the number of nodes stays
-known_nodes : (f : Field) (line : WordLine) (earlier : List Item) (b : Bool) → same_field DimensionKey f ≡ b → has_line DimensionKey earlier ≡ true
+known_nodes : (f : Field) (line : WordLine) (earlier : List Item) (b : Bool) → same_field DimensionKey f ≡ b
+    → has_line DimensionKey earlier ≡ true
     → is_repeated earlier (Line (Known f) line) ≡ false → dimension_in (Line (Known f) line ∷ earlier) ≡ dimension_in earlier
 known_nodes f line earlier false e known first = rw e refl
 known_nodes f line earlier true e known first =
     let again : has_line DimensionKey earlier ≡ false = subst (λ (g : Field). (not (may_repeat g) && has_line g earlier) ≡ false) (sym (same_field_is DimensionKey f e)) first in
     absurd (true≢false (sym known ∙ again))
 
-pub nodes_kept : (earlier : List Item) (item : Item) → has_line DimensionKey earlier ≡ true → row_of earlier item ≡ None → dimension_in (item ∷ earlier) ≡ dimension_in earlier
+pub nodes_kept : (earlier : List Item) (item : Item) → has_line DimensionKey earlier ≡ true → row_of earlier item ≡ None
+    → dimension_in (item ∷ earlier) ≡ dimension_in earlier
 nodes_kept earlier (NumberWord word) known row = refl
 nodes_kept earlier LineEnd known row = refl
-nodes_kept earlier (Line (Known f) line) known row = known_nodes f line earlier (same_field DimensionKey f) refl known (no_row earlier (Line (Known f) line) row).first_time
+nodes_kept earlier (Line (Known f) line) known row =
+    known_nodes f line earlier (same_field DimensionKey f) refl known (no_row earlier (Line (Known f) line) row).first_time
 nodes_kept earlier (Line EdgeDataFormat line) known row = refl
 nodes_kept earlier (Line EdgeDataSection line) known row = refl
 nodes_kept earlier (Line Eof line) known row = refl
@@ -80,8 +86,10 @@ is_read : (r : Result ℤ NumberFault) → result_err r ≡ None → is_some (op
 is_read (Ok z) e = refl
 is_read (Err fault) e = absurd (none-some fault (sym e))
 
-known_dimension : (f : Field) (line : WordLine) (earlier : List Item) (b : Bool) → same_field DimensionKey f ≡ b → option_and_then result_err (read_as f line.value) ≡ None
-    → (has_line DimensionKey earlier ≡ true → is_some (dimension_of earlier) ≡ true) → cond b true (has_line DimensionKey earlier) ≡ true
+known_dimension : (f : Field) (line : WordLine) (earlier : List Item) (b : Bool) → same_field DimensionKey f ≡ b
+    → option_and_then result_err (read_as f line.value) ≡ None
+    → (has_line DimensionKey earlier ≡ true → is_some (dimension_of earlier) ≡ true)
+    → cond b true (has_line DimensionKey earlier) ≡ true
     → is_some (dimension_of (Line (Known f) line ∷ earlier)) ≡ true
 known_dimension f line earlier false e no_fault before known = rw e (before known)
 known_dimension f line earlier true e no_fault before known =
@@ -90,27 +98,33 @@ known_dimension f line earlier true e no_fault before known =
 
 some_dimension : (items : List Item) → IsClean items → has_line DimensionKey items ≡ true → is_some (dimension_of items) ≡ true
 some_dimension [] clean known = absurd (false≢true known)
-some_dimension (NumberWord word ∷ earlier) clean known = some_dimension earlier (clean_parts earlier (NumberWord word) clean).0 known
+some_dimension (NumberWord word ∷ earlier) clean known =
+    some_dimension earlier (clean_parts earlier (NumberWord word) clean).0 known
 some_dimension (LineEnd ∷ earlier) clean known = some_dimension earlier (clean_parts earlier LineEnd clean).0 known
 some_dimension (Line (Known f) line ∷ earlier) clean known =
     let parts = clean_parts earlier (Line (Known f) line) clean in
     known_dimension f line earlier (same_field DimensionKey f) refl (no_row earlier (Line (Known f) line) parts.1).is_read (some_dimension earlier parts.0) known
-some_dimension (Line EdgeDataFormat line ∷ earlier) clean known = some_dimension earlier (clean_parts earlier (Line EdgeDataFormat line) clean).0 known
-some_dimension (Line EdgeDataSection line ∷ earlier) clean known = some_dimension earlier (clean_parts earlier (Line EdgeDataSection line) clean).0 known
+some_dimension (Line EdgeDataFormat line ∷ earlier) clean known =
+    some_dimension earlier (clean_parts earlier (Line EdgeDataFormat line) clean).0 known
+some_dimension (Line EdgeDataSection line ∷ earlier) clean known =
+    some_dimension earlier (clean_parts earlier (Line EdgeDataSection line) clean).0 known
 some_dimension (Line Eof line ∷ earlier) clean known = some_dimension earlier (clean_parts earlier (Line Eof line) clean).0 known
-some_dimension (Line Unknown line ∷ earlier) clean known = some_dimension earlier (clean_parts earlier (Line Unknown line) clean).0 known
+some_dimension (Line Unknown line ∷ earlier) clean known =
+    some_dimension earlier (clean_parts earlier (Line Unknown line) clean).0 known
 
 there : (o : Option ℕ) → is_some o ≡ true → o ≡ Some (unwrap_or o 0)
 there None e = absurd (false≢true e)
 there (Some n) e = refl
 
-pub dimension_there : (items : List Item) → IsClean items → has_line DimensionKey items ≡ true → dimension_of items ≡ Some (dimension_in items)
+pub dimension_there : (items : List Item) → IsClean items → has_line DimensionKey items ≡ true
+    → dimension_of items ≡ Some (dimension_in items)
 dimension_there items clean known = there (dimension_of items) (some_dimension items clean known)
 
 -- ---- a section's words
 
 -- the words of a section come only after DIMENSION
-opened_none : (field : Field) (word : List ℕ) (earlier : List Item) (opened : Option Field) → open_section earlier ≡ opened → IsClean earlier → same_field TourPart field ≡ false
+opened_none : (field : Field) (word : List ℕ) (earlier : List Item) (opened : Option Field) → open_section earlier ≡ opened
+    → IsClean earlier → same_field TourPart field ≡ false
     → has_line DimensionKey earlier ≡ false → words_of field earlier ≡ [] → words_of field (NumberWord word ∷ earlier) ≡ []
 opened_none field word earlier None e clean other unknown none = rw e none
 opened_none field word earlier (Some g) e clean other unknown none = by_same (same_field field g) refl
@@ -125,15 +139,21 @@ no_dimension_before : (key : Bool) (dimension : Bool) → cond key true dimensio
 no_dimension_before true dimension e = absurd (true≢false e)
 no_dimension_before false dimension e = e
 
-pub no_words : (field : Field) (items : List Item) → IsClean items → same_field TourPart field ≡ false → has_line DimensionKey items ≡ false → words_of field items ≡ []
+pub no_words : (field : Field) (items : List Item) → IsClean items → same_field TourPart field ≡ false
+    → has_line DimensionKey items ≡ false → words_of field items ≡ []
 no_words field [] clean other unknown = refl
-no_words field (LineEnd ∷ earlier) clean other unknown = no_words field earlier (clean_parts earlier LineEnd clean).0 other unknown
+no_words field (LineEnd ∷ earlier) clean other unknown =
+    no_words field earlier (clean_parts earlier LineEnd clean).0 other unknown
 no_words field (NumberWord word ∷ earlier) clean other unknown =
     let before = (clean_parts earlier (NumberWord word) clean).0 in
     opened_none field word earlier (open_section earlier) refl before other unknown (no_words field earlier before other unknown)
 no_words field (Line (Known f) line ∷ earlier) clean other unknown =
     no_words field earlier (clean_parts earlier (Line (Known f) line) clean).0 other (no_dimension_before (same_field DimensionKey f) (has_line DimensionKey earlier) unknown)
-no_words field (Line EdgeDataFormat line ∷ earlier) clean other unknown = no_words field earlier (clean_parts earlier (Line EdgeDataFormat line) clean).0 other unknown
-no_words field (Line EdgeDataSection line ∷ earlier) clean other unknown = no_words field earlier (clean_parts earlier (Line EdgeDataSection line) clean).0 other unknown
-no_words field (Line Eof line ∷ earlier) clean other unknown = no_words field earlier (clean_parts earlier (Line Eof line) clean).0 other unknown
-no_words field (Line Unknown line ∷ earlier) clean other unknown = no_words field earlier (clean_parts earlier (Line Unknown line) clean).0 other unknown
+no_words field (Line EdgeDataFormat line ∷ earlier) clean other unknown =
+    no_words field earlier (clean_parts earlier (Line EdgeDataFormat line) clean).0 other unknown
+no_words field (Line EdgeDataSection line ∷ earlier) clean other unknown =
+    no_words field earlier (clean_parts earlier (Line EdgeDataSection line) clean).0 other unknown
+no_words field (Line Eof line ∷ earlier) clean other unknown =
+    no_words field earlier (clean_parts earlier (Line Eof line) clean).0 other unknown
+no_words field (Line Unknown line ∷ earlier) clean other unknown =
+    no_words field earlier (clean_parts earlier (Line Unknown line) clean).0 other unknown

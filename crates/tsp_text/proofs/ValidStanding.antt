@@ -10,7 +10,7 @@ use Rattle.tsp_format.specs.Shapes.{is_section_field}
 use Rattle.tsp_text.specs.Earlier.{same_field, has_line, words_of}
 use Rattle.tsp_text.specs.Values.{dimension_of}
 use Rattle.tsp_text.specs.Sections.{dimension_in}
-use Rattle.tsp_text.specs.Rows.{is_early}
+use Rattle.tsp_text.specs.FaultRows.{is_early}
 use Rattle.tsp_text.specs.FirstFault.{IsClean}
 use Rattle.tsp_text.specs.Spells.{section_value, stands}
 use Rattle.tsp_text.proofs.ValidRows.{clean_parts, no_row}
@@ -20,29 +20,40 @@ still : (key dimension : Bool) → dimension ≡ true → cond key true dimensio
 still true dimension e = refl
 still false dimension e = e
 
-late_line : (field f : Field) (line : WordLine) (earlier : List Item) (b : Bool) → same_field field f ≡ b → is_section_field field ≡ true → same_field TourPart field ≡ false
-    → is_early earlier (Line (Known f) line) ≡ false → (has_line field earlier ≡ true → has_line DimensionKey earlier ≡ true) → cond b true (has_line field earlier) ≡ true
+late_line : (field f : Field) (line : WordLine) (earlier : List Item) (b : Bool) → same_field field f ≡ b
+    → is_section_field field ≡ true → same_field TourPart field ≡ false
+    → is_early earlier (Line (Known f) line) ≡ false → (has_line field earlier ≡ true → has_line DimensionKey earlier ≡ true)
+    → cond b true (has_line field earlier) ≡ true
     → has_line DimensionKey (Line (Known f) line ∷ earlier) ≡ true
-late_line field f line earlier false e section_value other in_time before stands = still (same_field DimensionKey f) (has_line DimensionKey earlier) (before stands)
+late_line field f line earlier false e section_value other in_time before stands =
+    still (same_field DimensionKey f) (has_line DimensionKey earlier) (before stands)
 late_line field f line earlier true e section_value other in_time before stands =
     let same = same_field_is field f e in
     late (is_section_field f) (same_field TourPart f) (has_line DimensionKey earlier) (same_field DimensionKey f)
     (ap is_section_field (sym same) ∙ section_value) (ap (same_field TourPart) (sym same) ∙ other) in_time
 
-stands_late : (field : Field) → is_section_field field ≡ true → same_field TourPart field ≡ false → (items : List Item) → IsClean items
+stands_late : (field : Field) → is_section_field field ≡ true → same_field TourPart field ≡ false → (items : List Item)
+    → IsClean items
     → has_line field items ≡ true → has_line DimensionKey items ≡ true
 stands_late field section_value other [] clean stands = absurd (false≢true stands)
-stands_late field section_value other (NumberWord word ∷ earlier) clean stands = stands_late field section_value other earlier (clean_parts earlier (NumberWord word) clean).0 stands
-stands_late field section_value other (LineEnd ∷ earlier) clean stands = stands_late field section_value other earlier (clean_parts earlier LineEnd clean).0 stands
+stands_late field section_value other (NumberWord word ∷ earlier) clean stands =
+    stands_late field section_value other earlier (clean_parts earlier (NumberWord word) clean).0 stands
+stands_late field section_value other (LineEnd ∷ earlier) clean stands =
+    stands_late field section_value other earlier (clean_parts earlier LineEnd clean).0 stands
 stands_late field section_value other (Line (Known f) line ∷ earlier) clean stands =
     let parts = clean_parts earlier (Line (Known f) line) clean in
     late_line field f line earlier (same_field field f) refl section_value other (no_row earlier (Line (Known f) line) parts.1).in_time (stands_late field section_value other earlier parts.0) stands
-stands_late field section_value other (Line EdgeDataFormat line ∷ earlier) clean stands = stands_late field section_value other earlier (clean_parts earlier (Line EdgeDataFormat line) clean).0 stands
-stands_late field section_value other (Line EdgeDataSection line ∷ earlier) clean stands = stands_late field section_value other earlier (clean_parts earlier (Line EdgeDataSection line) clean).0 stands
-stands_late field section_value other (Line Eof line ∷ earlier) clean stands = stands_late field section_value other earlier (clean_parts earlier (Line Eof line) clean).0 stands
-stands_late field section_value other (Line Unknown line ∷ earlier) clean stands = stands_late field section_value other earlier (clean_parts earlier (Line Unknown line) clean).0 stands
+stands_late field section_value other (Line EdgeDataFormat line ∷ earlier) clean stands =
+    stands_late field section_value other earlier (clean_parts earlier (Line EdgeDataFormat line) clean).0 stands
+stands_late field section_value other (Line EdgeDataSection line ∷ earlier) clean stands =
+    stands_late field section_value other earlier (clean_parts earlier (Line EdgeDataSection line) clean).0 stands
+stands_late field section_value other (Line Eof line ∷ earlier) clean stands =
+    stands_late field section_value other earlier (clean_parts earlier (Line Eof line) clean).0 stands
+stands_late field section_value other (Line Unknown line ∷ earlier) clean stands =
+    stands_late field section_value other earlier (clean_parts earlier (Line Unknown line) clean).0 stands
 
-pub after_dimension : (field : Field) → is_section_field field ≡ true → same_field TourPart field ≡ false → (items : List Item) → IsClean items
+pub after_dimension : (field : Field) → is_section_field field ≡ true → same_field TourPart field ≡ false → (items : List Item)
+    → IsClean items
     → has_line field items ≡ true → has_line DimensionKey items ≡ true
 after_dimension field section_value other items clean stands = stands_late field section_value other items clean stands
 
@@ -51,11 +62,13 @@ standing_fits : {A : Type 0} (fits : ℕ → A → Bool) (value : List (List ℕ
     → (b ≡ true → dimension ≡ Some n) → (b ≡ true → fits n (value words) ≡ true)
     → if_there (with_dimension fits dimension) (cond b (Some (value words)) None) ≡ true
 standing_fits fits value words n dimension false known each = refl
-standing_fits fits value words n dimension true known each = subst (λ d. with_dimension fits d (value words) ≡ true) (sym (known refl)) (each refl)
+standing_fits fits value words n dimension true known each =
+    subst (λ d. with_dimension fits d (value words) ≡ true) (sym (known refl)) (each refl)
 
 pub section_fits : {A : Type 0} (fits : ℕ → A → Bool) (value : List (List ℕ) → A) (field : Field) → is_section_field field ≡ true
     → same_field TourPart field ≡ false → (items : List Item) → IsClean items
     → (has_line field items ≡ true → fits (dimension_in items) (value (words_of field items)) ≡ true)
     → if_there (with_dimension fits (dimension_of items)) (section_value (stands items) value field items) ≡ true
-section_fits fits value field is_one other items clean each = standing_fits fits value (words_of field items) (dimension_in items) (dimension_of items) (has_line field items)
+section_fits fits value field is_one other items clean each =
+    standing_fits fits value (words_of field items) (dimension_in items) (dimension_of items) (has_line field items)
     (λ stands. dimension_there items clean (stands_late field is_one other items clean stands)) each

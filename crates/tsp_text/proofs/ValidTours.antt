@@ -14,11 +14,11 @@ use Rattle.tsp_draft.specs.Validity.{is_node, is_tour, are_tours}
 use Rattle.tsp_text.specs.Lines.{is_filled}
 use Rattle.tsp_text.specs.Items.{Item}
 use Rattle.tsp_text.specs.Earlier.{words_of}
-use Rattle.tsp_text.specs.Numbers.{number}
-use Rattle.tsp_text.specs.Places.{TourNode}
-use Rattle.tsp_text.specs.Tours.{ends_tour, tour_node, tours_in}
+use Rattle.tsp_text.specs.SectionNumbers.{number}
+use Rattle.tsp_text.specs.WordPlaces.{TourNode}
+use Rattle.tsp_text.specs.TourSection.{ends_tour, tour_node, tours_in}
 use Rattle.tsp_text.specs.FirstFault.{IsClean}
-use Rattle.tsp_text.specs.Rows.{word_fault}
+use Rattle.tsp_text.specs.FaultRows.{word_fault}
 use Rattle.tsp_text.proofs.ValidRows.{is_taken}
 use Rattle.tsp_text.proofs.Grown.{Grows, grown}
 use Rattle.tsp_text.proofs.ValidNumbers.{read_listed}
@@ -26,14 +26,16 @@ use Rattle.tsp_text.proofs.ValidLists.{first_of_both}
 
 -- ---- pieces of a list
 
-onto_passes : {A : Type 0} (good : A → Bool) (x : A) (pieces : List (List A)) → good x ≡ true → list_all (list_all good) pieces ≡ true → list_all (list_all good) (onto_first x pieces) ≡ true
+onto_passes : {A : Type 0} (good : A → Bool) (x : A) (pieces : List (List A)) → good x ≡ true
+    → list_all (list_all good) pieces ≡ true → list_all (list_all good) (onto_first x pieces) ≡ true
 onto_passes good x [] here all = and_from (good x && true) true (and_from (good x) true here refl) refl
 onto_passes good x (piece ∷ pieces) here all =
     let both = and_parts (list_all good piece) (list_all (list_all good) pieces) all in
     and_from (good x && list_all good piece) (list_all (list_all good) pieces) (and_from (good x) (list_all good piece) here both.0) both.1
 
 -- what passes or ends a piece passes in its piece
-pub pieces_pass : {A : Type 0} (test good : A → Bool) (xs : List A) → list_all (λ x. test x || good x) xs ≡ true → list_all (list_all good) (slice_split test xs) ≡ true
+pub pieces_pass : {A : Type 0} (test good : A → Bool) (xs : List A) → list_all (λ x. test x || good x) xs ≡ true
+    → list_all (list_all good) (slice_split test xs) ≡ true
 pieces_pass test good [] all = refl
 pieces_pass test good (x ∷ xs) all =
     let both = and_parts (test x || good x) (list_all (λ x. test x || good x) xs) all in
@@ -46,10 +48,12 @@ pieces_pass test good (x ∷ xs) all =
 
 onto_longer : {A : Type 0} (x : A) (pieces : List (List A)) → sum_by length (onto_first x pieces) ≡ suc (sum_by length pieces)
 onto_longer x [] = refl
-onto_longer {A} x (piece ∷ pieces) = omega (arith, sum_by-cons (λ (p : List A). length p) (x ∷ piece) pieces, sum_by-cons (λ (p : List A). length p) piece pieces)
+onto_longer {A} x (piece ∷ pieces) =
+    omega (arith, sum_by-cons (λ (p : List A). length p) (x ∷ piece) pieces, sum_by-cons (λ (p : List A). length p) piece pieces)
 
 -- the pieces together have all that doesn't end one
-pieces_long : {A : Type 0} (test : A → Bool) (xs : List A) → sum_by length (slice_split test xs) ≡ length (filter (λ x. not (test x)) xs)
+pieces_long : {A : Type 0} (test : A → Bool) (xs : List A)
+    → sum_by length (slice_split test xs) ≡ length (filter (λ x. not (test x)) xs)
 pieces_long test [] = refl
 pieces_long {A} test (x ∷ xs) = by_case (test x) (pieces_long test xs)
   where
@@ -64,7 +68,8 @@ pieces_long {A} test (x ∷ xs) = by_case (test x) (pieces_long test xs)
 abbrev is_tour_node : List ℕ → Bool
 is_tour_node word = is_node most_nodes (tour_node word)
 
-filled_runs : (pieces : List (List (List ℕ))) → list_all (list_all is_tour_node) pieces ≡ true → list_all is_tour (map (map tour_node) (filter is_filled pieces)) ≡ true
+filled_runs : (pieces : List (List (List ℕ))) → list_all (list_all is_tour_node) pieces ≡ true
+    → list_all is_tour (map (map tour_node) (filter is_filled pieces)) ≡ true
 filled_runs [] all = refl
 filled_runs ([] ∷ pieces) all = filled_runs pieces all
 filled_runs ((word ∷ words) ∷ pieces) all =
@@ -89,7 +94,8 @@ pub record AreTourWords (words : List (List ℕ)) : Type 0 where
   pub nodes : list_all (λ word. ends_tour word || is_tour_node word) words ≡ true
   pub few : nat_le (length (filter (λ word. not (ends_tour word)) words)) most_tour_nodes ≡ true
 
-taken : (words : List (List ℕ)) (word : List ℕ) (end : Bool) → ends_tour word ≡ end → word_fault 0 (TourNode (length (filter (λ word. not (ends_tour word)) words))) word ≡ None
+taken : (words : List (List ℕ)) (word : List ℕ) (end : Bool) → ends_tour word ≡ end
+    → word_fault 0 (TourNode (length (filter (λ word. not (ends_tour word)) words))) word ≡ None
     → AreTourWords words → AreTourWords (words ++ word ∷ [])
 taken words word true is row held = record {
   nodes = list_all-append (λ w. ends_tour w || is_tour_node w) words (word ∷ [])

@@ -17,12 +17,12 @@ use Rattle.tsp_format.specs.Steps.{Step, Branch, Leaf, are_whole, branch_count, 
 use Rattle.tsp_draft.specs.Validity.{is_from_to, is_within, is_node, is_node_pair, is_change, is_step, are_steps}
 use Rattle.tsp_text.specs.Items.{Item}
 use Rattle.tsp_text.specs.Earlier.{words_of}
-use Rattle.tsp_text.specs.Numbers.{number, reads_as, node, whole_of_size}
-use Rattle.tsp_text.specs.Places.{StepAfter, SecondOf, IndexAfter, PastGroups}
-use Rattle.tsp_text.specs.Tree.{TreeSoFar, no_steps, node_or_leaf, begins_leaf, index_or_end, ends_leaf, with_word_of, with_tree_word, tree_after, whole_steps, place_in_step, place_in_tree, place_of_step}
+use Rattle.tsp_text.specs.SectionNumbers.{number, reads_as, node, whole_of_size}
+use Rattle.tsp_text.specs.WordPlaces.{StepAfter, SecondOf, IndexAfter, PastGroups}
+use Rattle.tsp_text.specs.BranchSection.{TreeSoFar, no_steps, node_or_leaf, begins_leaf, index_or_end, ends_leaf, with_word_of, with_tree_word, tree_after, whole_steps, place_in_step, place_in_tree, place_of_step}
 use Rattle.tsp_text.specs.Sections.{dimension_in}
 use Rattle.tsp_text.specs.FirstFault.{IsClean}
-use Rattle.tsp_text.specs.Rows.{word_fault}
+use Rattle.tsp_text.specs.FaultRows.{word_fault}
 use Rattle.tsp_text.specs.Spells.{wants_more}
 use Rattle.tsp_text.proofs.ValidRows.{is_taken}
 use Rattle.tsp_text.proofs.Grown.{Grows, grown}
@@ -64,27 +64,33 @@ AreSoFar n s = StepsHold n s.steps s.first s.in_leaf s.leaf s.to_come s.branches
 
 -- ---- lists
 
-all_push : {A : Type 0} (test : A → Bool) (xs : List A) (x : A) → list_all test xs ≡ true → test x ≡ true → list_all test (xs ++ x ∷ []) ≡ true
-all_push test xs x held passes = list_all-append test xs (x ∷ []) ∙ and_from (list_all test xs) (test x && true) held (and_from (test x) true passes refl)
+all_push : {A : Type 0} (test : A → Bool) (xs : List A) (x : A) → list_all test xs ≡ true → test x ≡ true
+    → list_all test (xs ++ x ∷ []) ≡ true
+all_push test xs x held passes =
+    list_all-append test xs (x ∷ []) ∙ and_from (list_all test xs) (test x && true) held (and_from (test x) true passes refl)
 
-branches_push : (steps : List Step) (step : Step) → branch_count (steps ++ step ∷ []) ≡ branch_count steps + branch_count (step ∷ [])
+branches_push : (steps : List Step) (step : Step)
+    → branch_count (steps ++ step ∷ []) ≡ branch_count steps + branch_count (step ∷ [])
 branches_push [] step = omega arith
 branches_push (Branch first second ∷ steps) step = omega (arith, branches_push steps step)
 branches_push (Leaf changes ∷ steps) step = branches_push steps step
 
-changes_push : (steps : List Step) (step : Step) → change_count (steps ++ step ∷ []) ≡ change_count steps + change_count (step ∷ [])
+changes_push : (steps : List Step) (step : Step)
+    → change_count (steps ++ step ∷ []) ≡ change_count steps + change_count (step ∷ [])
 changes_push [] step = omega arith
 changes_push (Branch first second ∷ steps) step = changes_push steps step
 changes_push (Leaf changes ∷ steps) step = omega (arith, changes_push steps step)
 
-whole_push : (steps : List Step) (step : Step) (to_come : ℕ) → ((rest : List Step) → are_whole 1 (steps ++ rest) ≡ are_whole to_come rest)
+whole_push : (steps : List Step) (step : Step) (to_come : ℕ)
+    → ((rest : List Step) → are_whole 1 (steps ++ rest) ≡ are_whole to_come rest)
     → (rest : List Step) → are_whole 1 ((steps ++ step ∷ []) ++ rest) ≡ are_whole to_come (step ∷ rest)
 whole_push steps step to_come h rest = ap (are_whole 1) (append_assoc steps (step ∷ []) rest) ∙ h (step ∷ rest)
 
 -- ---- what is read
 
 -- a node where a step begins
-first_node : (n : ℕ) (z : ℤ) → is_from_to (pos 0) (pos n) z ≡ true → int_eq z (pos 0) ≡ false → (k : ℕ) × (z ≡ pos k) × (is_node n k ≡ true)
+first_node : (n : ℕ) (z : ℤ) → is_from_to (pos 0) (pos n) z ≡ true → int_eq z (pos 0) ≡ false
+    → (k : ℕ) × (z ≡ pos k) × (is_node n k ≡ true)
 first_node n (pos zero) e other = absurd (true≢false other)
 first_node n (pos (suc k)) e other =
     (suc k, refl, and_from (nat_le 1 (suc k)) (nat_le (suc k) n) (le-leb 1 (suc k) (omega arith)) (and_parts (int_le (pos 0) (pos (suc k))) (int_le (pos (suc k)) (pos n)) e).1)
@@ -101,8 +107,10 @@ read_first n word = by_result (node_or_leaf n word) (λ z read. whole_in_range w
 
 -- ---- one word more, where the tree isn't whole
 
-first_holds : (n : ℕ) (s : TreeSoFar) (word : List ℕ) (leaf : Bool) → begins_leaf n word ≡ leaf → word_fault n (StepAfter s.branches) word ≡ None
-    → StepsHold n s.steps None false s.leaf s.to_come s.branches s.changes → s.first ≡ None → s.in_leaf ≡ false → AreSoFar n (with_word_of n false None s word)
+first_holds : (n : ℕ) (s : TreeSoFar) (word : List ℕ) (leaf : Bool) → begins_leaf n word ≡ leaf
+    → word_fault n (StepAfter s.branches) word ≡ None
+    → StepsHold n s.steps None false s.leaf s.to_come s.branches s.changes → s.first ≡ None → s.in_leaf ≡ false
+    → AreSoFar n (with_word_of n false None s word)
 first_holds n s word true is row h none out = rw (is, none) (let held : StepsHold n s.steps None true s.leaf s.to_come s.branches s.changes = record {
   all_steps = h.all_steps;
   all_changes = h.all_changes;
@@ -130,8 +138,10 @@ first_holds n s word false is row h none out =
     } in
     rw (is, out) held
 
-second_holds : (n : ℕ) (s : TreeSoFar) (word : List ℕ) (first left : ℕ) → s.to_come ≡ suc left → word_fault n (SecondOf (pos first)) word ≡ None
-    → StepsHold n s.steps (Some first) false s.leaf s.to_come s.branches s.changes → s.in_leaf ≡ false → AreSoFar n (with_word_of n false (Some first) s word)
+second_holds : (n : ℕ) (s : TreeSoFar) (word : List ℕ) (first left : ℕ) → s.to_come ≡ suc left
+    → word_fault n (SecondOf (pos first)) word ≡ None
+    → StepsHold n s.steps (Some first) false s.leaf s.to_come s.branches s.changes → s.in_leaf ≡ false
+    → AreSoFar n (with_word_of n false (Some first) s word)
 second_holds n s word first left some row h out =
     let t = is_taken n (SecondOf (pos first)) word row in
     let found = read_node n word t.is_read in
@@ -154,8 +164,10 @@ second_holds n s word first left some row h out =
     } in
     rw out held
 
-index_holds : (n : ℕ) (s : TreeSoFar) (word : List ℕ) (left : ℕ) (end : Bool) → s.to_come ≡ suc left → ends_leaf n word ≡ end → word_fault n (IndexAfter s.changes) word ≡ None
-    → StepsHold n s.steps None true s.leaf s.to_come s.branches s.changes → s.first ≡ None → s.in_leaf ≡ true → AreSoFar n (with_word_of n true None s word)
+index_holds : (n : ℕ) (s : TreeSoFar) (word : List ℕ) (left : ℕ) (end : Bool) → s.to_come ≡ suc left → ends_leaf n word ≡ end
+    → word_fault n (IndexAfter s.changes) word ≡ None
+    → StepsHold n s.steps None true s.leaf s.to_come s.branches s.changes → s.first ≡ None → s.in_leaf ≡ true
+    → AreSoFar n (with_word_of n true None s word)
 index_holds n s word left true some is row h none inside =
     let one_less : s.to_come - 1 ≡ left = omega (arith, some) in
     let held : StepsHold n (s.steps ++ Leaf s.leaf ∷ []) None false [] (s.to_come - 1) s.branches s.changes = record {
@@ -187,7 +199,8 @@ index_holds n s word left false some is row h none inside =
     } in
     rw (is, inside) held
 
-difference_holds : (n : ℕ) (s : TreeSoFar) (word : List ℕ) (index : ℕ) → StepsHold n s.steps (Some index) true s.leaf s.to_come s.branches s.changes → s.in_leaf ≡ true
+difference_holds : (n : ℕ) (s : TreeSoFar) (word : List ℕ) (index : ℕ)
+    → StepsHold n s.steps (Some index) true s.leaf s.to_come s.branches s.changes → s.in_leaf ≡ true
     → AreSoFar n (with_word_of n true (Some index) s word)
 difference_holds n s word index h inside =
     let z = number (whole_of_size most_difference word) in
@@ -212,15 +225,18 @@ before_end : (count : ℕ) → (count == 0) ≡ false → (left : ℕ) × (count
 before_end zero some = absurd (true≢false some)
 before_end (suc left) some = (left, refl)
 
-part_holds : (n : ℕ) (s : TreeSoFar) (word : List ℕ) (in_leaf : Bool) (first : Option ℕ) (left : ℕ) → s.in_leaf ≡ in_leaf → s.first ≡ first → s.to_come ≡ suc left
-    → word_fault n (place_in_step in_leaf first s) word ≡ None → StepsHold n s.steps first in_leaf s.leaf s.to_come s.branches s.changes
+part_holds : (n : ℕ) (s : TreeSoFar) (word : List ℕ) (in_leaf : Bool) (first : Option ℕ) (left : ℕ) → s.in_leaf ≡ in_leaf
+    → s.first ≡ first → s.to_come ≡ suc left
+    → word_fault n (place_in_step in_leaf first s) word ≡ None
+    → StepsHold n s.steps first in_leaf s.leaf s.to_come s.branches s.changes
     → AreSoFar n (with_word_of n in_leaf first s word)
 part_holds n s word false None left is none some row h = first_holds n s word (begins_leaf n word) refl row h none is
 part_holds n s word false (Some first) left is begun some row h = second_holds n s word first left some row h is
 part_holds n s word true None left is none some row h = index_holds n s word left (ends_leaf n word) some refl row h none is
 part_holds n s word true (Some index) left is begun some row h = difference_holds n s word index h is
 
-word_holds : (n : ℕ) (s : TreeSoFar) (word : List ℕ) (whole : Bool) → (s.to_come == 0) ≡ whole → word_fault n (place_in_tree s) word ≡ None → AreSoFar n s
+word_holds : (n : ℕ) (s : TreeSoFar) (word : List ℕ) (whole : Bool) → (s.to_come == 0) ≡ whole
+    → word_fault n (place_in_tree s) word ≡ None → AreSoFar n s
     → AreSoFar n (with_tree_word n s word)
 word_holds n s word true e row h = rw e h
 word_holds n s word false e row h =
@@ -248,7 +264,8 @@ all_taken = record {
 
 -- ---- the end
 
-whole_at_end : (whole in_leaf : Bool) (first : Option ℕ) (s : TreeSoFar) → wants_more (cond whole PastGroups (place_in_step in_leaf first s)) ≡ false → whole ≡ true
+whole_at_end : (whole in_leaf : Bool) (first : Option ℕ) (s : TreeSoFar)
+    → wants_more (cond whole PastGroups (place_in_step in_leaf first s)) ≡ false → whole ≡ true
 whole_at_end true in_leaf first s ended = refl
 whole_at_end false false None s ended = absurd (true≢false ended)
 whole_at_end false false (Some first) s ended = absurd (true≢false ended)
@@ -259,7 +276,8 @@ none_to_come : (count : ℕ) → (count == 0) ≡ true → count ≡ 0
 none_to_come zero e = refl
 none_to_come (suc count) e = grind (arith, nat_tests)
 
-pub steps_fit : (items : List Item) → IsClean items → wants_more (place_of_step (dimension_in items) (words_of BranchPart items)) ≡ false
+pub steps_fit : (items : List Item) → IsClean items
+    → wants_more (place_of_step (dimension_in items) (words_of BranchPart items)) ≡ false
     → are_steps (dimension_in items) (whole_steps (dimension_in items) (words_of BranchPart items)) ≡ true
 steps_fit items clean ended =
     let n = dimension_in items in

@@ -11,13 +11,13 @@ use Rattle.tsp_format.specs.Limits.{most_fixed, most_multipliers, most_multiplie
 use Rattle.tsp_draft.specs.Validity.{is_from_to, is_node_pair, is_triple, are_triples}
 use Rattle.tsp_text.specs.Items.{Item}
 use Rattle.tsp_text.specs.Earlier.{words_of}
-use Rattle.tsp_text.specs.Numbers.{number, node_or_end, is_end}
-use Rattle.tsp_text.specs.Places.{FirstAfter, SecondOf, PastEnd}
+use Rattle.tsp_text.specs.SectionNumbers.{number, node_or_end, is_end}
+use Rattle.tsp_text.specs.WordPlaces.{FirstAfter, SecondOf, PastEnd}
 use Rattle.tsp_text.specs.Groups.{threes_in, begun_triple}
 use Rattle.tsp_text.specs.Lists.{before, fixed_triple, fixed_triples_in, triple_firsts_in, place_in_triple}
 use Rattle.tsp_text.specs.Sections.{dimension_in}
 use Rattle.tsp_text.specs.FirstFault.{IsClean}
-use Rattle.tsp_text.specs.Rows.{word_fault}
+use Rattle.tsp_text.specs.FaultRows.{word_fault}
 use Rattle.tsp_text.proofs.Ended.{any_push}
 use Rattle.tsp_text.proofs.TripleWords.{triples_begin, begun_begin, firsts_begin, triples_middle, begun_middle, triples_end, begun_end, firsts_end, firsts_kept, triples_kept, triples_none}
 use Rattle.tsp_text.proofs.ValidRows.{is_taken}
@@ -41,11 +41,14 @@ pub record AreTripled (n : ℕ) (words : List (List ℕ)) : Type 0 where
   pub begun : list_any (is_end n) (triple_firsts_in words) ≡ false → (first : List ℕ) (rest : List (List ℕ)) → begun_triple words ≡ first ∷ rest
       → IsBegun n first rest × (nat_le most_fixed (length (threes_in words)) ≡ false)
 
-same_triples : (n : ℕ) (words more : List (List ℕ)) → before (ends_triples n) (threes_in more) ≡ before (ends_triples n) (threes_in words)
+same_triples : (n : ℕ) (words more : List (List ℕ))
+    → before (ends_triples n) (threes_in more) ≡ before (ends_triples n) (threes_in words)
     → are_triples n (fixed_triples_in n words) ≡ true → are_triples n (fixed_triples_in n more) ≡ true
-same_triples n words more same held = ap (λ (triples : List (List ℕ × List ℕ × List ℕ)). are_triples n (map (fixed_triple n) triples)) same ∙ held
+same_triples n words more same held =
+    ap (λ (triples : List (List ℕ × List ℕ × List ℕ)). are_triples n (map (fixed_triple n) triples)) same ∙ held
 
-same_begun : (n : ℕ) (found : List (List ℕ)) (first other : List ℕ) (rest more : List (List ℕ)) → found ≡ first ∷ rest → found ≡ other ∷ more → IsBegun n first rest
+same_begun : (n : ℕ) (found : List (List ℕ)) (first other : List ℕ) (rest more : List (List ℕ)) → found ≡ first ∷ rest
+    → found ≡ other ∷ more → IsBegun n first rest
     → IsBegun n other more
 same_begun n found first other rest more is e begun =
     let head : first ≡ other = cc in
@@ -54,14 +57,16 @@ same_begun n found first other rest more is e begun =
 
 -- ---- one word more
 
-past_end : (n : ℕ) (words : List (List ℕ)) (word : List ℕ) → list_any (is_end n) (triple_firsts_in words) ≡ true → AreTripled n words → AreTripled n (words ++ word ∷ [])
+past_end : (n : ℕ) (words : List (List ℕ)) (word : List ℕ) → list_any (is_end n) (triple_firsts_in words) ≡ true
+    → AreTripled n words → AreTripled n (words ++ word ∷ [])
 past_end n words word ended held = record {
   triples = same_triples n words (words ++ word ∷ []) (triples_kept (is_end n) words word ended) held.triples;
   begun = λ none first rest e. absurd (true≢false (sym (firsts_kept (is_end n) words word ended) ∙ none));
 }
 
 -- the first node
-begins : (n : ℕ) (words : List (List ℕ)) (word : List ℕ) → list_any (is_end n) (triple_firsts_in words) ≡ false → begun_triple words ≡ []
+begins : (n : ℕ) (words : List (List ℕ)) (word : List ℕ) → list_any (is_end n) (triple_firsts_in words) ≡ false
+    → begun_triple words ≡ []
     → word_fault n (FirstAfter (length (threes_in words))) word ≡ None → AreTripled n words → AreTripled n (words ++ word ∷ [])
 begins n words word open_ended is row held =
     let t = is_taken n (FirstAfter (length (threes_in words))) word row in
@@ -77,7 +82,8 @@ begins n words word open_ended is row held =
     }
 
 -- the second node
-goes_on : (n : ℕ) (words : List (List ℕ)) (first word : List ℕ) → list_any (is_end n) (triple_firsts_in words) ≡ false → begun_triple words ≡ first ∷ []
+goes_on : (n : ℕ) (words : List (List ℕ)) (first word : List ℕ) → list_any (is_end n) (triple_firsts_in words) ≡ false
+    → begun_triple words ≡ first ∷ []
     → word_fault n (SecondOf (number (node_or_end n first))) word ≡ None → AreTripled n words → AreTripled n (words ++ word ∷ [])
 goes_on n words first word open_ended is row held =
     let t = is_taken n (SecondOf (number (node_or_end n first))) word row in
@@ -97,7 +103,8 @@ none_begun [] rest first e f = absurd cc
 none_begun (x ∷ xs) rest first e f = absurd cc
 
 -- the multiplier
-ends : (n : ℕ) (words : List (List ℕ)) (first second word : List ℕ) → list_any (is_end n) (triple_firsts_in words) ≡ false → begun_triple words ≡ first ∷ second ∷ []
+ends : (n : ℕ) (words : List (List ℕ)) (first second word : List ℕ) → list_any (is_end n) (triple_firsts_in words) ≡ false
+    → begun_triple words ≡ first ∷ second ∷ []
     → AreTripled n words → AreTripled n (words ++ word ∷ [])
 ends n words first second word open_ended is held =
     let begun = held.begun open_ended first (second ∷ []) is in
@@ -118,14 +125,17 @@ ends n words first second word open_ended is held =
     }
 
 -- at most two words have begun a triple
-begun_short : {A : Type 0} (words : List A) (first second third : A) (rest : List A) → begun_triple words ≡ first ∷ second ∷ third ∷ rest → ⊥
+begun_short : {A : Type 0} (words : List A) (first second third : A) (rest : List A)
+    → begun_triple words ≡ first ∷ second ∷ third ∷ rest → ⊥
 begun_short [] first second third rest e = absurd cc
 begun_short (a ∷ []) first second third rest e = absurd cc
 begun_short (a ∷ b ∷ []) first second third rest e = absurd cc
 begun_short (a ∷ b ∷ c ∷ words) first second third rest e = begun_short words first second third rest e
 
-taken : (n : ℕ) (words : List (List ℕ)) (word : List ℕ) (ended : Bool) (begun : List (List ℕ)) → list_any (is_end n) (triple_firsts_in words) ≡ ended
-    → begun_triple words ≡ begun → word_fault n (cond ended PastEnd (place_in_triple n (length (threes_in words)) begun)) word ≡ None
+taken : (n : ℕ) (words : List (List ℕ)) (word : List ℕ) (ended : Bool) (begun : List (List ℕ))
+    → list_any (is_end n) (triple_firsts_in words) ≡ ended
+    → begun_triple words ≡ begun
+    → word_fault n (cond ended PastEnd (place_in_triple n (length (threes_in words)) begun)) word ≡ None
     → AreTripled n words → AreTripled n (words ++ word ∷ [])
 taken n words word true begun e is row held = past_end n words word e held
 taken n words word false [] e is row held = begins n words word e is row held
@@ -143,7 +153,8 @@ all_taken = record {
   any_nodes = λ n m words tours held. absurd (false≢true tours);
 }
 
-pub triples_fit : (items : List Item) → IsClean items → are_triples (dimension_in items) (fixed_triples_in (dimension_in items) (words_of FixedEdgePotentialPart items)) ≡ true
+pub triples_fit : (items : List Item) → IsClean items
+    → are_triples (dimension_in items) (fixed_triples_in (dimension_in items) (words_of FixedEdgePotentialPart items)) ≡ true
 triples_fit items clean =
     let held : AreTripled (dimension_in items) (words_of FixedEdgePotentialPart items) = grown FixedEdgePotentialPart AreTripled refl all_taken items clean in
     held.triples

@@ -12,11 +12,11 @@ use Rattle.tsp_format.specs.Limits.{most_matrix_nodes, most_weight}
 use Rattle.tsp_draft.specs.Validity.{is_within, are_weights}
 use Rattle.tsp_text.specs.Items.{WordLine, Item, Line, NumberWord, LineEnd}
 use Rattle.tsp_text.specs.Earlier.{same_field, has_line, words_of}
-use Rattle.tsp_text.specs.Numbers.{number, whole_of_size}
-use Rattle.tsp_text.specs.Places.{Weight, PastWeights}
-use Rattle.tsp_text.specs.Weights.{weights_in}
+use Rattle.tsp_text.specs.SectionNumbers.{number, whole_of_size}
+use Rattle.tsp_text.specs.WordPlaces.{Weight, PastWeights}
+use Rattle.tsp_text.specs.WeightSection.{weights_in}
 use Rattle.tsp_text.specs.Sections.{dimension_in}
-use Rattle.tsp_text.specs.Rows.{row_of, word_fault}
+use Rattle.tsp_text.specs.FaultRows.{row_of, word_fault}
 use Rattle.tsp_text.specs.FirstFault.{IsClean}
 use Rattle.tsp_text.proofs.ValidRows.{clean_parts, no_row, is_taken}
 use Rattle.tsp_text.proofs.ValidSections.{same_field_is, nodes_kept}
@@ -26,10 +26,12 @@ use Rattle.tsp_text.proofs.ValidNumbers.{all_pass, whole_passes}
 
 -- ---- no more weights than the limit
 
-has_room : (n : ℕ) (words : List (List ℕ)) (word : List ℕ) (b : Bool) → nat_le (n * n) (length words) ≡ b → word_fault n (cond b PastWeights Weight) word ≡ None
+has_room : (n : ℕ) (words : List (List ℕ)) (word : List ℕ) (b : Bool) → nat_le (n * n) (length words) ≡ b
+    → word_fault n (cond b PastWeights Weight) word ≡ None
     → nat_le (length (words ++ word ∷ [])) (n * n) ≡ true
 has_room n words word true e row = absurd (true≢false (is_taken n PastWeights word row).has_room)
-has_room n words word false e row = le-leb (length (words ++ word ∷ [])) (n * n) (omega (arith, length_push words word, leb-false (n * n) (length words) e))
+has_room n words word false e row =
+    le-leb (length (words ++ word ∷ [])) (n * n) (omega (arith, length_push words word, leb-false (n * n) (length words) e))
 
 few_weights : Grows false EdgeWeightPart (λ n words. nat_le (length words) (n * n) ≡ true)
 few_weights = record {
@@ -40,8 +42,10 @@ few_weights = record {
 
 -- ---- no more nodes than a matrix may have
 
-few_at : (f : Field) (line : WordLine) (earlier : List Item) (b : Bool) → same_field EdgeWeightPart f ≡ b → IsClean earlier → row_of earlier (Line (Known f) line) ≡ None
-    → (has_line EdgeWeightPart earlier ≡ true → nat_le (dimension_in earlier) most_matrix_nodes ≡ true) → cond b true (has_line EdgeWeightPart earlier) ≡ true
+few_at : (f : Field) (line : WordLine) (earlier : List Item) (b : Bool) → same_field EdgeWeightPart f ≡ b → IsClean earlier
+    → row_of earlier (Line (Known f) line) ≡ None
+    → (has_line EdgeWeightPart earlier ≡ true → nat_le (dimension_in earlier) most_matrix_nodes ≡ true)
+    → cond b true (has_line EdgeWeightPart earlier) ≡ true
     → nat_le (dimension_in (Line (Known f) line ∷ earlier)) most_matrix_nodes ≡ true
 few_at f line earlier false e clean row before stands =
     let kept = nodes_kept earlier (Line (Known f) line) (after_dimension EdgeWeightPart refl refl earlier clean stands) row in
@@ -53,15 +57,18 @@ few_at f line earlier true e clean row before stands =
     subst (λ (g : Field). nat_le (dimension_in (Line (Known g) line ∷ earlier)) most_matrix_nodes ≡ true) same
     (le-leb (dimension_in earlier) most_matrix_nodes (ltb-false most_matrix_nodes (dimension_in earlier) few))
 
-few_nodes : (items : List Item) → IsClean items → has_line EdgeWeightPart items ≡ true → nat_le (dimension_in items) most_matrix_nodes ≡ true
+few_nodes : (items : List Item) → IsClean items → has_line EdgeWeightPart items ≡ true
+    → nat_le (dimension_in items) most_matrix_nodes ≡ true
 few_nodes [] clean stands = absurd (false≢true stands)
 few_nodes (NumberWord word ∷ earlier) clean stands = few_nodes earlier (clean_parts earlier (NumberWord word) clean).0 stands
 few_nodes (LineEnd ∷ earlier) clean stands = few_nodes earlier (clean_parts earlier LineEnd clean).0 stands
 few_nodes (Line (Known f) line ∷ earlier) clean stands =
     let parts = clean_parts earlier (Line (Known f) line) clean in
     few_at f line earlier (same_field EdgeWeightPart f) refl parts.0 parts.1 (few_nodes earlier parts.0) stands
-few_nodes (Line EdgeDataFormat line ∷ earlier) clean stands = few_nodes earlier (clean_parts earlier (Line EdgeDataFormat line) clean).0 stands
-few_nodes (Line EdgeDataSection line ∷ earlier) clean stands = few_nodes earlier (clean_parts earlier (Line EdgeDataSection line) clean).0 stands
+few_nodes (Line EdgeDataFormat line ∷ earlier) clean stands =
+    few_nodes earlier (clean_parts earlier (Line EdgeDataFormat line) clean).0 stands
+few_nodes (Line EdgeDataSection line ∷ earlier) clean stands =
+    few_nodes earlier (clean_parts earlier (Line EdgeDataSection line) clean).0 stands
 few_nodes (Line Eof line ∷ earlier) clean stands = few_nodes earlier (clean_parts earlier (Line Eof line) clean).0 stands
 few_nodes (Line Unknown line ∷ earlier) clean stands = few_nodes earlier (clean_parts earlier (Line Unknown line) clean).0 stands
 
@@ -71,7 +78,8 @@ weights_sized : (words : List (List ℕ)) → list_all (is_within most_weight) (
 weights_sized words = list_all-map (is_within most_weight) (λ word. number (whole_of_size most_weight word)) words
     ∙ all_pass (λ word. is_within most_weight (number (whole_of_size most_weight word))) words (λ word. whole_passes (neg_ℤ (pos most_weight)) (pos most_weight) word refl)
 
-pub weights_fit : (items : List Item) → IsClean items → has_line EdgeWeightPart items ≡ true → are_weights (dimension_in items) (weights_in (words_of EdgeWeightPart items)) ≡ true
+pub weights_fit : (items : List Item) → IsClean items → has_line EdgeWeightPart items ≡ true
+    → are_weights (dimension_in items) (weights_in (words_of EdgeWeightPart items)) ≡ true
 weights_fit items clean stands =
     let n = dimension_in items in
     let words = words_of EdgeWeightPart items in

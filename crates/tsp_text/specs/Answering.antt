@@ -4,7 +4,7 @@ use Rattle.tsp_draft.specs.Fields.{Fields}
 use Rattle.tsp_text.specs.declared.fault.ReadFault.{ReadFault}
 use Rattle.tsp_text.specs.declared.fault.ReadFault.TheVariants as faults
 use Rattle.tsp_text.specs.Items.{Item}
-use Rattle.tsp_text.specs.Rows.{row_of}
+use Rattle.tsp_text.specs.FaultRows.{row_of}
 use Rattle.tsp_text.specs.Text.{fault, Spells}
 
 -- no row applies to any of these items, each after those before it (nearest first)

@@ -10,8 +10,8 @@ use Rattle.tsp_text.specs.declared.fault.LineFault.{LineFault}
 use Rattle.tsp_text.specs.declared.fault.LineFault.TheVariants.{Number}
 use Rattle.tsp_text.specs.declared.fault.ReadFault.TheVariants as faults
 use Rattle.tsp_text.specs.Items.{line_item}
-use Rattle.tsp_text.specs.Places.{Place}
-use Rattle.tsp_text.specs.Rows.{is_surplus, is_surplus_at}
+use Rattle.tsp_text.specs.WordPlaces.{Place}
+use Rattle.tsp_text.specs.FaultRows.{is_surplus, is_surplus_at}
 use Rattle.tsp_text.specs.Spells.{spelled}
 use Rattle.tsp_text.specs.Text.{part, fault}
 

@@ -7,8 +7,8 @@ use Rattle.tsp_distance.specs.Distances.{on_plane}
 use Rattle.tsp_draft.specs.Coords.{origin}
 use Rattle.tsp_number.specs.Reading.{decimal_of, whole_of}
 use Rattle.tsp_format.specs.Cells.{nodes_to}
-use Rattle.tsp_text.specs.Numbers.{number, node}
-use Rattle.tsp_text.specs.Places.{Place, NodeAfter, Coordinate, Amount, PastGroups}
+use Rattle.tsp_text.specs.SectionNumbers.{number, node}
+use Rattle.tsp_text.specs.WordPlaces.{Place, NodeAfter, Coordinate, Amount, PastGroups}
 
 -- ---- words in groups of two, of three and of four
 

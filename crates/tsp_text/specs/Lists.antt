@@ -4,8 +4,8 @@ use Rattle.std.specs.Prelude.{ℕ, ℤ, pos, Bool, cond, List, [], ◌∷◌, le
 use Rattle.std.specs.List.{list_any}
 use Rattle.tsp_number.specs.Reading.{whole_of}
 use Rattle.tsp_format.specs.Limits.{most_multiplier}
-use Rattle.tsp_text.specs.Numbers.{number, node, node_or_end, is_end}
-use Rattle.tsp_text.specs.Places.{Place, Amount, DepotAfter, FirstAfter, SecondOf, PastEnd}
+use Rattle.tsp_text.specs.SectionNumbers.{number, node, node_or_end, is_end}
+use Rattle.tsp_text.specs.WordPlaces.{Place, Amount, DepotAfter, FirstAfter, SecondOf, PastEnd}
 use Rattle.tsp_text.specs.Groups.{pairs_in, begun_pair, threes_in, begun_triple}
 
 -- the elements before the first that passes

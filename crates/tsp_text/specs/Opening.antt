@@ -6,7 +6,7 @@ use Rattle.tsp_format.specs.declared.field.Shape.TheVariants.{Weights, Tours}
 use Rattle.tsp_text.specs.declared.fault.LineFault.{LineFault}
 use Rattle.tsp_text.specs.declared.fault.LineFault.TheVariants as row
 use Rattle.tsp_text.specs.Lines.{is_filled}
-use Rattle.tsp_text.specs.Rows.{when, first_row}
+use Rattle.tsp_text.specs.FaultRows.{when, first_row}
 
 -- all sections but the tours need DIMENSION
 abbrev pub needs_nodes : Shape → Bool

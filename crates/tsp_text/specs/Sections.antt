@@ -8,13 +8,13 @@ use Rattle.tsp_text.specs.Items.{Item}
 use Rattle.tsp_format.specs.Shapes.{shape_of}
 use Rattle.tsp_text.specs.Earlier.{open_section, words_of}
 use Rattle.tsp_text.specs.Values.{dimension_of, spatial_after}
-use Rattle.tsp_text.specs.Places.{Place, PastEnd}
+use Rattle.tsp_text.specs.WordPlaces.{Place, PastEnd}
 use Rattle.tsp_text.specs.Groups.{place_of_number, place_of_point, place_of_space_point}
 use Rattle.tsp_text.specs.Lists.{place_of_depot, place_of_fixed, place_of_triple}
-use Rattle.tsp_text.specs.Weights.{place_of_weight}
-use Rattle.tsp_text.specs.Tours.{place_of_tour}
-use Rattle.tsp_text.specs.Combs.{place_of_comb}
-use Rattle.tsp_text.specs.Tree.{place_of_step}
+use Rattle.tsp_text.specs.WeightSection.{place_of_weight}
+use Rattle.tsp_text.specs.TourSection.{place_of_tour}
+use Rattle.tsp_text.specs.CombSection.{place_of_comb}
+use Rattle.tsp_text.specs.BranchSection.{place_of_step}
 
 -- the place of the next word of a section of this shape after these words of it, with n nodes
 abbrev pub place_by : Shape → ℕ → List (List ℕ) → Place

@@ -12,13 +12,13 @@ use Rattle.tsp_text.specs.Items.{Item}
 use Rattle.tsp_format.specs.Shapes.{is_section_field}
 use Rattle.tsp_text.specs.Earlier.{has_line, value_at, values_at, others_in, words_of}
 use Rattle.tsp_text.specs.Values.{kind_named, weight_kind_named, weight_format_named, coord_kind_named, display_kind_named, number_at, named_at, dimension_of, spatial_after}
-use Rattle.tsp_text.specs.Places.{Place, NodeAfter, Coordinate, Amount, PastGroups, DepotAfter, FirstAfter, SecondOf, PastEnd, Weight, PastWeights, TourNode, SetNode, StepAfter, IndexAfter}
+use Rattle.tsp_text.specs.WordPlaces.{Place, NodeAfter, Coordinate, Amount, PastGroups, DepotAfter, FirstAfter, SecondOf, PastEnd, Weight, PastWeights, TourNode, SetNode, StepAfter, IndexAfter}
 use Rattle.tsp_text.specs.Groups.{numbers_by_node, points_by_node, coords_by_node}
 use Rattle.tsp_text.specs.Lists.{depots_in, fixed_in, fixed_triples_in}
-use Rattle.tsp_text.specs.Weights.{weights_in}
-use Rattle.tsp_text.specs.Tours.{tours_in}
-use Rattle.tsp_text.specs.Combs.{whole_combs}
-use Rattle.tsp_text.specs.Tree.{whole_steps}
+use Rattle.tsp_text.specs.WeightSection.{weights_in}
+use Rattle.tsp_text.specs.TourSection.{tours_in}
+use Rattle.tsp_text.specs.CombSection.{whole_combs}
+use Rattle.tsp_text.specs.BranchSection.{whole_steps}
 use Rattle.tsp_text.specs.Sections.{place_in, dimension_in}
 
 -- ---- the fields

@@ -7,7 +7,7 @@ use Rattle.tsp_draft.specs.Fields.{Fields}
 use Rattle.tsp_text.specs.declared.fault.ReadFault.{ReadFault}
 use Rattle.tsp_text.specs.declared.fault.ReadFault.TheVariants as faults
 use Rattle.tsp_text.specs.Items.{Item, items_of, settled_items, to_end_line, has_end_line}
-use Rattle.tsp_text.specs.Rows.{when, first_row}
+use Rattle.tsp_text.specs.FaultRows.{when, first_row}
 use Rattle.tsp_text.specs.FirstFault.{fault_in}
 use Rattle.tsp_text.specs.Spells.{spelled, fault_at_end}
 

@@ -8,13 +8,13 @@ ghost use Rattle.tsp_text.specs.Values.{spatial_after};
 ghost use Rattle.tsp_text.specs.Sections.{dimension_in};
 ghost use Rattle.tsp_text.specs.FirstFault.{IsClean};
 ghost use Rattle.tsp_text.specs.Spells.{is_incomplete};
-ghost use Rattle.tsp_text.specs.ByNode.{is_by_node_field, group_nodes, HasEachNodeOnce};
+ghost use Rattle.tsp_text.specs.GroupNodes.{is_by_node_field, group_nodes, HasEachNodeOnce};
 
 /// A section by node that is present, has no fault and isn't incomplete has one group for each
 /// node.
 pub fn each_node_has_one_group()
     ensures { (items : List Item) (field : Field)
-        → IsClean items → is_by_node_field field ≡ true
-        → has_line field items ≡ true → is_incomplete items field ≡ false
-        → HasEachNodeOnce (dimension_in items) (group_nodes (spatial_after items) field (dimension_in items) (words_of field items)) }
+        → IsClean items → is_by_node_field field ≡ true → has_line field items ≡ true
+        → is_incomplete items field ≡ false → HasEachNodeOnce (dimension_in items)
+        (group_nodes (spatial_after items) field (dimension_in items) (words_of field items)) }
 {}

@@ -43,7 +43,7 @@ pub enum LineFault {
 
 impl fmt::Display for LineFault {
     ghost use Rattle.std.specs.Prelude.{Some};
-    ghost use Rattle.tsp_text.specs.FaultText.{line_fault_text};
+    ghost use Rattle.tsp_text.specs.ReadFaultText.{line_fault_text};
 
     ghost output = { λ fault. Some (line_fault_text fault) };
 
@@ -90,7 +90,7 @@ pub enum ReadFault {
 
 impl fmt::Display for ReadFault {
     ghost use Rattle.std.specs.Prelude.{Some};
-    ghost use Rattle.tsp_text.specs.FaultText.{read_fault_text};
+    ghost use Rattle.tsp_text.specs.ReadFaultText.{read_fault_text};
 
     ghost output = { λ fault. Some (read_fault_text fault) };
 

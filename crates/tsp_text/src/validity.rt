@@ -14,15 +14,15 @@ ghost use Rattle.tsp_text.specs.Text.{part, Spells};
 /// The fields of items without a fault are valid, field by field, if the tree of cases, where there
 /// is one, is whole.
 pub fn clean_fields_are_valid()
-    ensures of_items { (items : List Item) → AreCut items → IsClean items → is_incomplete items BranchPart ≡ false
-        → bad_field (spelled items) ≡ None }
-    ensures of_text { (bytes : List ℕ) → IsClean (part bytes) → is_incomplete (part bytes) BranchPart ≡ false
-        → bad_field (spelled (part bytes)) ≡ None }
+    ensures of_items { (items : List Item) → AreCut items → IsClean items
+        → is_incomplete items BranchPart ≡ false → bad_field (spelled items) ≡ None }
+    ensures of_text { (bytes : List ℕ) → IsClean (part bytes)
+        → is_incomplete (part bytes) BranchPart ≡ false → bad_field (spelled (part bytes)) ≡ None }
 {}
 
 /// The fields of a text are a file: no field of it, nor its fields together, have a fault.
 pub fn spelled_files_are_valid()
-    ensures of_items { (items : List Item) → AreCut items → IsClean items → fault_at_end items ≡ None
-        → fault_of (spelled items) ≡ None }
+    ensures of_items { (items : List Item) → AreCut items
+        → IsClean items → fault_at_end items ≡ None → fault_of (spelled items) ≡ None }
     ensures of_text { (bytes : List ℕ) (file : Fields) → Spells bytes file → fault_of file ≡ None }
 {}

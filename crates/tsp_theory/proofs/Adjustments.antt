@@ -42,8 +42,10 @@ numbers_turned (t ∷ ts) i j =
     let first : number_on t i j ≡ number_on t j i = ap (λ b. if b then t.2 else pos 0) (same_turned (pair_of t) i j) in
     ap₂ (λ a b. a +ℤ b) first (numbers_turned ts i j)
 
-pub adjusted_even : (taken avoided : List (ℕ × ℕ × ℤ)) (w : ℕ → ℕ → ℤ) → ((i j : ℕ) → w i j ≡ w j i) → (i j : ℕ) → adjusted taken avoided w i j ≡ adjusted taken avoided w j i
-adjusted_even taken avoided w even i j = ap₂ (λ a b. a +ℤ b) (ap₂ (λ a b. a -ℤ b) (even i j) (numbers_turned taken i j)) (numbers_turned avoided i j)
+pub adjusted_even : (taken avoided : List (ℕ × ℕ × ℤ)) (w : ℕ → ℕ → ℤ) → ((i j : ℕ) → w i j ≡ w j i) → (i j : ℕ)
+    → adjusted taken avoided w i j ≡ adjusted taken avoided w j i
+adjusted_even taken avoided w even i j =
+    ap₂ (λ a b. a +ℤ b) (ap₂ (λ a b. a -ℤ b) (even i j) (numbers_turned taken i j)) (numbers_turned avoided i j)
 
 -- ---- the numbers along a cycle
 
@@ -62,7 +64,8 @@ numbers_of_used n nodes (t ∷ ts) laws some cycle used =
     omega (arith, ints, split, first, rest)
 
 -- of pairs that it doesn't use, none
-numbers_of_unused : (nodes : List ℕ) (triples : List (ℕ × ℕ × ℤ)) → Laws → AllByRecursion (λ t. AreNeighbours nodes (pair_of t) → ⊥) triples → length_of (numbers_on triples) nodes ≡ pos 0
+numbers_of_unused : (nodes : List ℕ) (triples : List (ℕ × ℕ × ℤ)) → Laws
+    → AllByRecursion (λ t. AreNeighbours nodes (pair_of t) → ⊥) triples → length_of (numbers_on triples) nodes ≡ pos 0
 numbers_of_unused nodes [] laws unused = sum_zero (links nodes)
 numbers_of_unused nodes (t ∷ ts) laws unused =
     let split = laws.sum (number_on t) (numbers_on ts) nodes in
@@ -83,7 +86,8 @@ adjusted_length taken avoided w nodes laws =
     omega (arith, ints, outer, inner)
 
 -- what a cycle weighs that uses each taken pair and no avoided one
-pub adjusted_cycle : (n : ℕ) (cost : ℕ → ℕ → ℤ) (scale : ℤ) (potentials : List ℤ) (taken avoided : List (ℕ × ℕ × ℤ)) (nodes : List ℕ) → Laws → 3 ≤ n → IsScale scale → length potentials ≡ n
+pub adjusted_cycle : (n : ℕ) (cost : ℕ → ℕ → ℤ) (scale : ℤ) (potentials : List ℤ) (taken avoided : List (ℕ × ℕ × ℤ)) (nodes : List ℕ)
+    → Laws → 3 ≤ n → IsScale scale → length potentials ≡ n
     → IsCycle n nodes → UsesEach taken nodes → UsesNone avoided nodes
     → length_of (adjusted taken avoided (weight_between scale potentials cost)) nodes ≡ ((scale *ℤ length_of cost nodes) +ℤ (pos 2 *ℤ total potentials)) -ℤ triples_total taken
 adjusted_cycle n cost scale potentials taken avoided nodes laws some scale_in long cycle used unused =

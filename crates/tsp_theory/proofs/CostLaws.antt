@@ -20,7 +20,8 @@ pub record Laws : Type 0 where
       → ((i j : ℕ) → IsNode n i → IsNode n j → i ≢ j → lower i j ≤ℤ upper i j) → length_of lower nodes ≤ℤ length_of upper nodes
 
 -- the sum over the numbers of a list, by their places
-sum_by_places : (numbers : List ℤ) (a : ℕ) (f : ℕ → ℤ) → ((k : ℕ) → k < length numbers → f (a + k) ≡ get_or numbers k (pos 0)) → sum_int_by f (range_with_len a (length numbers)) ≡ total numbers
+sum_by_places : (numbers : List ℤ) (a : ℕ) (f : ℕ → ℤ) → ((k : ℕ) → k < length numbers → f (a + k) ≡ get_or numbers k (pos 0))
+    → sum_int_by f (range_with_len a (length numbers)) ≡ total numbers
 sum_by_places [] a f h = refl
 sum_by_places (z ∷ zs) a f h =
     let first : f a ≡ z = subst (λ (i : ℕ). f i ≡ z) (omega arith) (h 0 (omega arith)) in
@@ -35,11 +36,13 @@ entries_of_all n numbers long =
     ∙ sum_by_places numbers 1 (entry numbers) (λ k lt. ap (λ i. get_or numbers i (pos 0)) (omega arith))
 
 -- and so do those of a cycle's nodes
-pub entries_of_cycle : (n : ℕ) (nodes : List ℕ) (numbers : List ℤ) → Laws → length numbers ≡ n → IsCycle n nodes → sum_int_by (entry numbers) nodes ≡ total numbers
+pub entries_of_cycle : (n : ℕ) (nodes : List ℕ) (numbers : List ℤ) → Laws → length numbers ≡ n → IsCycle n nodes
+    → sum_int_by (entry numbers) nodes ≡ total numbers
 entries_of_cycle n nodes numbers laws long cycle = laws.sum_of_cycle n nodes (entry numbers) cycle ∙ entries_of_all n numbers long
 
 -- the length under the sum of a number of the first node and one of the second
-pub entries_of_links : (n : ℕ) (nodes : List ℕ) (firsts seconds : List ℤ) → Laws → length firsts ≡ n → length seconds ≡ n → IsCycle n nodes
+pub entries_of_links : (n : ℕ) (nodes : List ℕ) (firsts seconds : List ℤ) → Laws → length firsts ≡ n → length seconds ≡ n
+    → IsCycle n nodes
     → length_of (λ i j. entry firsts i +ℤ entry seconds j) nodes ≡ total firsts +ℤ total seconds
 entries_of_links n nodes firsts seconds laws long as_long cycle =
     let split = laws.sum (λ i j. entry firsts i) (λ i j. entry seconds j) nodes in

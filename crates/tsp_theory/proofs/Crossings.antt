@@ -22,7 +22,8 @@ sum_to f end from others = sum_int_by (λ link. f link.0 link.1) (links_to end f
 
 -- ---- evenly often
 
-turns : (a b c : Bool) → (half : ℤ) × (one_if (cond a (not b) b) +ℤ one_if (cond b (not c) c) ≡ (half +ℤ half) +ℤ one_if (cond a (not c) c))
+turns : (a b c : Bool)
+    → (half : ℤ) × (one_if (cond a (not b) b) +ℤ one_if (cond b (not c) c) ≡ (half +ℤ half) +ℤ one_if (cond a (not c) c))
 turns true true c = (pos 0, omega (arith, ints))
 turns true false true = (pos 1, refl)
 turns true false false = (pos 0, refl)
@@ -31,7 +32,8 @@ turns false true false = (pos 1, refl)
 turns false false c = (pos 0, omega (arith, ints))
 
 -- from one node to another a list crosses as often as the two ends do alone, or by an even number more
-parity : (part : ℕ → Bool) (end from : ℕ) (others : List ℕ) → (half : ℤ) × (sum_to (crossing part) end from others ≡ (half +ℤ half) +ℤ crossing part from end)
+parity : (part : ℕ → Bool) (end from : ℕ) (others : List ℕ)
+    → (half : ℤ) × (sum_to (crossing part) end from others ≡ (half +ℤ half) +ℤ crossing part from end)
 parity part end from [] = (pos 0, omega (arith, ints))
 parity part end from (next ∷ others) =
     let rest = parity part end next others in
@@ -48,7 +50,8 @@ evenly part (x ∷ xs) = let p = parity part x x xs in (p.0, omega (arith, ints,
 
 -- ---- at least twice
 
-crossed : (part : ℕ → Bool) (side : Bool) (end from : ℕ) (others : List ℕ) → part from ≡ side → AllByRecursion (λ y. part y ≡ side) others ⊎ (pos 1 ≤ℤ sum_to (crossing part) end from others)
+crossed : (part : ℕ → Bool) (side : Bool) (end from : ℕ) (others : List ℕ) → part from ≡ side
+    → AllByRecursion (λ y. part y ≡ side) others ⊎ (pos 1 ≤ℤ sum_to (crossing part) end from others)
 crossed part side end from [] h = inl tt
 crossed part side end from (next ∷ others) h = elim (cases_Bool (crosses part (from, next))) [
   | inl t ↦ inr (omega (arith, ints, ap one_if t, positive next others))

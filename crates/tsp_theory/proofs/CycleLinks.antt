@@ -26,18 +26,21 @@ apart_from_pairs (x ∷ xs) h = (
   apart_from_pairs xs (λ i j d below lt. h (suc i) (suc j) d (omega arith) (omega arith)),
 )
 
-in_tail : {X : Type 0} (x : X) (zs : List X) (w : X) (k : ℕ) → k < length (x ∷ zs) → get_or (x ∷ zs) k w ≡ w → x ≢ w → Contains zs w
+in_tail : {X : Type 0} (x : X) (zs : List X) (w : X) (k : ℕ) → k < length (x ∷ zs) → get_or (x ∷ zs) k w ≡ w → x ≢ w
+    → Contains zs w
 in_tail x zs w zero lt is other = absurd (other is)
 in_tail x zs w (suc k) lt is other = (k, omega arith, is)
 
-still_inside : {X : Type 0} (xs ys zs : List X) (x : X) → IsPermutation ys (x ∷ zs) → AllByRecursion (λ y. x ≢ y) xs → AllByRecursion (Contains ys) xs → AllByRecursion (Contains zs) xs
+still_inside : {X : Type 0} (xs ys zs : List X) (x : X) → IsPermutation ys (x ∷ zs) → AllByRecursion (λ y. x ≢ y) xs
+    → AllByRecursion (Contains ys) xs → AllByRecursion (Contains zs) xs
 still_inside [] ys zs x p other inside = tt
 still_inside (w ∷ xs) ys zs x p other inside =
     let found = Contains-permutation ys (x ∷ zs) w p inside.0 in
     (in_tail x zs w found.0 found.1 found.2 other.0, still_inside xs ys zs x p other.1 inside.1)
 
 -- different elements, all from a list that is no longer, are that list in another order
-permutation_from_inside : {X : Type 0} (xs ys : List X) → AllApart xs → AllByRecursion (Contains ys) xs → length ys ≤ length xs → IsPermutation xs ys
+permutation_from_inside : {X : Type 0} (xs ys : List X) → AllApart xs → AllByRecursion (Contains ys) xs → length ys ≤ length xs
+    → IsPermutation xs ys
 permutation_from_inside [] [] apart inside few = IsPermutation-refl []
 permutation_from_inside [] (y ∷ ys) apart inside few = absurd (omega arith)
 permutation_from_inside (x ∷ xs) ys apart inside few =
@@ -66,11 +69,13 @@ sum_of_cycle n nodes f w = sum_int_by-IsPermutation f nodes (nodes_to n) (cycle_
 
 -- ---- links
 
-firsts_to : (f : ℕ → ℤ) (end node : ℕ) (nodes : List ℕ) → sum_int_by (λ link. f link.0) (links_to end node nodes) ≡ sum_int_by f (node ∷ nodes)
+firsts_to : (f : ℕ → ℤ) (end node : ℕ) (nodes : List ℕ)
+    → sum_int_by (λ link. f link.0) (links_to end node nodes) ≡ sum_int_by f (node ∷ nodes)
 firsts_to f end node [] = refl
 firsts_to f end node (next ∷ nodes) = ap (λ z. f node +ℤ z) (firsts_to f end next nodes)
 
-seconds_to : (f : ℕ → ℤ) (end node : ℕ) (nodes : List ℕ) → sum_int_by (λ link. f link.1) (links_to end node nodes) ≡ sum_int_by f (end ∷ nodes)
+seconds_to : (f : ℕ → ℤ) (end node : ℕ) (nodes : List ℕ)
+    → sum_int_by (λ link. f link.1) (links_to end node nodes) ≡ sum_int_by f (end ∷ nodes)
 seconds_to f end node [] = refl
 seconds_to f end node (next ∷ nodes) = let tail = seconds_to f end next nodes in omega (arith, ints)
 
@@ -83,14 +88,16 @@ pub length_by_second : (f : ℕ → ℤ) (nodes : List ℕ) → length_of (λ i 
 length_by_second f [] = refl
 length_by_second f (first ∷ nodes) = seconds_to f first first nodes
 
-pub length_of_sum : (first second : ℕ → ℕ → ℤ) (nodes : List ℕ) → length_of (λ i j. first i j +ℤ second i j) nodes ≡ length_of first nodes +ℤ length_of second nodes
+pub length_of_sum : (first second : ℕ → ℕ → ℤ) (nodes : List ℕ)
+    → length_of (λ i j. first i j +ℤ second i j) nodes ≡ length_of first nodes +ℤ length_of second nodes
 length_of_sum first second nodes = sum_int_by-add (λ link. first link.0 link.1) (λ link. second link.0 link.1) (links nodes)
 
 -- two different nodes
 abbrev IsLink : ℕ → ℕ × ℕ → Type 0
 IsLink n link = IsNode n link.0 × IsNode n link.1 × (link.0 ≢ link.1)
 
-links_in_to : (n end node : ℕ) (nodes : List ℕ) → IsNode n end → IsNode n node → AllByRecursion (IsNode n) nodes → AllApart (node ∷ nodes) → node ≢ end → AllByRecursion (λ other. end ≢ other) nodes
+links_in_to : (n end node : ℕ) (nodes : List ℕ) → IsNode n end → IsNode n node → AllByRecursion (IsNode n) nodes
+    → AllApart (node ∷ nodes) → node ≢ end → AllByRecursion (λ other. end ≢ other) nodes
     → AllByRecursion (IsLink n) (links_to end node nodes)
 links_in_to n end node [] e h range apart last away = ((h, e, last), tt)
 links_in_to n end node (next ∷ nodes) e h range apart last away =
@@ -105,15 +112,18 @@ cycle_links n nodes more w = go nodes w.count (recursion_from_All (IsNode n) nod
     go (a ∷ b ∷ nodes) count range apart =
         ((range.0, range.1.0, apart.0.0), links_in_to n a b nodes range.0 range.1.0 range.1.1 apart.1 (λ same. apart.0.0 (sym same)) apart.0.1)
 
-each_link : (n : ℕ) (lower upper : ℕ → ℕ → ℤ) → ((i j : ℕ) → IsNode n i → IsNode n j → i ≢ j → lower i j ≤ℤ upper i j) → (pairs : List (ℕ × ℕ)) → AllByRecursion (IsLink n) pairs
+each_link : (n : ℕ) (lower upper : ℕ → ℕ → ℤ) → ((i j : ℕ) → IsNode n i → IsNode n j → i ≢ j → lower i j ≤ℤ upper i j)
+    → (pairs : List (ℕ × ℕ)) → AllByRecursion (IsLink n) pairs
     → AllByRecursion (λ link. lower link.0 link.1 ≤ℤ upper link.0 link.1) pairs
 each_link n lower upper below [] h = tt
 each_link n lower upper below (link ∷ pairs) h = (below link.0 link.1 h.0.0 h.0.1 h.0.2, each_link n lower upper below pairs h.1)
 
 pub length_of_cycle-le : (n : ℕ) (nodes : List ℕ) (lower upper : ℕ → ℕ → ℤ) → 2 ≤ n → IsCycle n nodes
     → ((i j : ℕ) → IsNode n i → IsNode n j → i ≢ j → lower i j ≤ℤ upper i j) → length_of lower nodes ≤ℤ length_of upper nodes
-length_of_cycle-le n nodes lower upper more w below = sum_int_by-le (λ link. lower link.0 link.1) (λ link. upper link.0 link.1) (links nodes)
+length_of_cycle-le n nodes lower upper more w below =
+    sum_int_by-le (λ link. lower link.0 link.1) (λ link. upper link.0 link.1) (links nodes)
     (each_link n lower upper below (links nodes) (cycle_links n nodes more w))
 
-pub length_scaled : (scale : ℕ) (cost : ℕ → ℕ → ℤ) (nodes : List ℕ) → length_of (λ i j. pos scale *ℤ cost i j) nodes ≡ pos scale *ℤ length_of cost nodes
+pub length_scaled : (scale : ℕ) (cost : ℕ → ℕ → ℤ) (nodes : List ℕ)
+    → length_of (λ i j. pos scale *ℤ cost i j) nodes ≡ pos scale *ℤ length_of cost nodes
 length_scaled scale cost nodes = sum_int_by-scaled scale (λ link. cost link.0 link.1) (links nodes)

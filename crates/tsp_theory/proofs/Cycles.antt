@@ -31,7 +31,8 @@ length_through : (cost : ℕ → ℕ → ℤ) (end from middle : ℕ) (before af
 length_through cost end from middle [] after = omega (arith, ints)
 length_through cost end from middle (next ∷ before) after = let rest = length_through cost end next middle before after in omega (arith, ints)
 
-turned_length : (cost : ℕ → ℕ → ℤ) (node : ℕ) (before after : List ℕ) → length_of cost (before ++ node ∷ after) ≡ length_of cost (node ∷ (after ++ before))
+turned_length : (cost : ℕ → ℕ → ℤ) (node : ℕ) (before after : List ℕ)
+    → length_of cost (before ++ node ∷ after) ≡ length_of cost (node ∷ (after ++ before))
 turned_length cost node [] after = ap (λ xs. length_of cost (node ∷ xs)) (sym (append-nil after))
 turned_length cost node (first ∷ before) after =
     let one = length_through cost first first node before after in
@@ -39,7 +40,8 @@ turned_length cost node (first ∷ before) after =
     omega (arith, ints)
 
 -- from node 1 through the others and back
-tour_length : (cost : ℕ → ℕ → ℤ) (end from : ℕ) (nodes : List ℕ) → length_to cost end from nodes ≡ weight_of cost (path from nodes) +ℤ cost (last_of from nodes) end
+tour_length : (cost : ℕ → ℕ → ℤ) (end from : ℕ) (nodes : List ℕ)
+    → length_to cost end from nodes ≡ weight_of cost (path from nodes) +ℤ cost (last_of from nodes) end
 tour_length cost end from [] = omega (arith, ints)
 tour_length cost end from (next ∷ nodes) = let rest = tour_length cost end next nodes in omega (arith, ints)
 
@@ -52,7 +54,8 @@ apart x (y ∷ xs) h = (ne_eqb x y h.0, apart x xs h.1)
 distinct : (xs : List ℕ) → AllPairs (λ a b. a ≢ b) xs → IsDistinct eqb xs
 unfolding IsDistinct
 distinct [] h = tt
-distinct (x ∷ xs) h = IsDistinct-cons eqb x xs (apart x xs (recursion_from_All (λ y. x ≢ y) xs (λ k d lt. h zero (suc k) d (omega arith) (omega arith))))
+distinct (x ∷ xs) h =
+    IsDistinct-cons eqb x xs (apart x xs (recursion_from_All (λ y. x ≢ y) xs (λ k d lt. h zero (suc k) d (omega arith) (omega arith))))
     (distinct xs (λ i j d below lt. h (suc i) (suc j) d (omega arith) (omega arith)))
 
 parts_all : (P : ℕ → Type 0) (xs ys : List ℕ) → AllByRecursion P (xs ++ ys) → AllByRecursion P xs × AllByRecursion P ys
@@ -64,7 +67,8 @@ both_all P [] ys h k = k
 both_all P (x ∷ xs) ys h k = (h.0, both_all P xs ys h.1 k)
 
 -- nodes that aren't 1
-inner : (n : ℕ) (xs : List ℕ) → AllByRecursion (IsNode n) xs → AllByRecursion (λ y. eqb 1 y ≡ false) xs → AllByRecursion (IsInner n) xs
+inner : (n : ℕ) (xs : List ℕ) → AllByRecursion (IsNode n) xs → AllByRecursion (λ y. eqb 1 y ≡ false) xs
+    → AllByRecursion (IsInner n) xs
 inner n [] h other = tt
 inner n (x ∷ xs) h other = let not_one : 1 ≢ x = eqb-false 1 x other.0 in ((omega (arith, h.0.0, not_one), h.0.1), inner n xs h.1 other.1)
 
@@ -96,7 +100,8 @@ has_node n nodes node laws cycle h =
 -- ---- the bound
 
 -- a least 1-tree weighs no more than a cycle
-pub tree_below_cycle : (n : ℕ) (w : ℕ → ℕ → ℤ) (pairs : List (ℕ × ℕ)) (before after : List ℕ) → 3 ≤ n → ((a b : ℕ) → w a b ≡ w b a) → IsLeastOneTree n w pairs
+pub tree_below_cycle : (n : ℕ) (w : ℕ → ℕ → ℤ) (pairs : List (ℕ × ℕ)) (before after : List ℕ) → 3 ≤ n
+    → ((a b : ℕ) → w a b ≡ w b a) → IsLeastOneTree n w pairs
     → IsCycle n (before ++ 1 ∷ after) → weight_of w pairs ≤ℤ length_of w (before ++ 1 ∷ after)
 tree_below_cycle n w pairs before after some symmetric least cycle =
     let below : weight_of w pairs ≤ℤ tour_weight w (after ++ before) = tree_below_tour n w pairs (after ++ before) some symmetric least (turned_nodes n before after cycle) in

@@ -65,14 +65,16 @@ rest_high scale (pos a) low = omega (arith, ints)
 rest_high scale (negsuc a) low = omega (arith, ints)
 
 -- a quotient is no larger than the number
-pub quotient_size : (most scale : ℕ) (z : ℤ) → 0 < scale → IsFromTo (neg_ℤ (pos most)) (pos most) z → IsFromTo (neg_ℤ (pos most)) (pos most) (int_div_euclid z (pos scale))
+pub quotient_size : (most scale : ℕ) (z : ℤ) → 0 < scale → IsFromTo (neg_ℤ (pos most)) (pos most) z
+    → IsFromTo (neg_ℤ (pos most)) (pos most) (int_div_euclid z (pos scale))
 quotient_size most scale (pos a) low size = let less = div-le_self a scale in (omega (arith, ints, size.0, size.1), omega (arith, ints, size.0, size.1))
 quotient_size most scale (negsuc a) low size = let less = div-le_self a scale in (omega (arith, ints, size.0, size.1), omega (arith, ints, size.0, size.1))
 
 -- ---- the bound
 
 -- what is the negative quotient of the negative sum
-pub least_of_negative : (scale : ℕ) (sum q bound : ℤ) → 0 < scale → q ≡ int_div_euclid (pos 0 -ℤ sum) (pos scale) → bound ≡ pos 0 -ℤ q → IsLeastBound (pos scale) sum bound
+pub least_of_negative : (scale : ℕ) (sum q bound : ℤ) → 0 < scale → q ≡ int_div_euclid (pos 0 -ℤ sum) (pos scale)
+    → bound ≡ pos 0 -ℤ q → IsLeastBound (pos scale) sum bound
 least_of_negative scale sum q bound low is turned =
     let r = int_rem_euclid (pos 0 -ℤ sum) (pos scale) in
     let parts : pos 0 -ℤ sum ≡ (pos scale *ℤ q) +ℤ r = whole scale (pos 0 -ℤ sum) low ∙ ap (λ z. (pos scale *ℤ z) +ℤ r) (sym_of q (int_div_euclid (pos 0 -ℤ sum) (pos scale)) is) in
@@ -90,7 +92,8 @@ least_of_negative scale sum q bound low is turned =
 
 -- ---- as the code computes it
 
-pub least_computed : (scale sum whole_scale q : ℤ) → IsScale scale → IsFromTo (neg_ℤ (pos (2 ^ 100))) (pos (2 ^ 100)) sum → whole_scale ≡ to_z w64 (of_z w64 scale)
+pub least_computed : (scale sum whole_scale q : ℤ) → IsScale scale → IsFromTo (neg_ℤ (pos (2 ^ 100))) (pos (2 ^ 100)) sum
+    → whole_scale ≡ to_z w64 (of_z w64 scale)
     → q ≡ int_div_euclid (to_z w128 (of_z w128 (pos 0 -ℤ to_z w128 (of_z w128 sum)))) (to_z w128 (of_z w128 whole_scale))
     → IsLeastBound scale sum (to_z w128 (of_z w128 (pos 0 -ℤ to_z w128 (of_z w128 q)))) × IsBoundSized (to_z w128 (of_z w128 (pos 0 -ℤ to_z w128 (of_z w128 q))))
 least_computed (negsuc m) sum whole_scale q scale_in size scale_is is = absurd (omega (arith, ints, scale_in.0))

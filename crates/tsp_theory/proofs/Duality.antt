@@ -10,7 +10,8 @@ use Rattle.tsp_theory.specs.NodeBound.{weight_between, IsNodeBound}
 use Rattle.tsp_theory.proofs.CostLaws.{Laws, entries_of_links}
 
 -- the length at a scale
-pub scaled_length : (scale : ℤ) (cost : ℕ → ℕ → ℤ) (nodes : List ℕ) → Laws → IsScale scale → length_of (λ i j. scale *ℤ cost i j) nodes ≡ scale *ℤ length_of cost nodes
+pub scaled_length : (scale : ℤ) (cost : ℕ → ℕ → ℤ) (nodes : List ℕ) → Laws → IsScale scale
+    → length_of (λ i j. scale *ℤ cost i j) nodes ≡ scale *ℤ length_of cost nodes
 scaled_length (pos m) cost nodes laws scale_in = laws.scale m cost nodes
 scaled_length (negsuc m) cost nodes laws scale_in = absurd (omega (arith, ints, scale_in.0))
 
@@ -29,7 +30,8 @@ one_bound scale sum a b p q =
     let second = q.least a p.above in
     omega (arith, ints, first, second)
 
-pub one_node_bound : (n : ℕ) (cost : ℕ → ℕ → ℤ) (scale : ℤ) (potentials : List ℤ) (a b : ℤ) → IsNodeBound n cost scale potentials a → IsNodeBound n cost scale potentials b → a ≡ b
+pub one_node_bound : (n : ℕ) (cost : ℕ → ℕ → ℤ) (scale : ℤ) (potentials : List ℤ) (a b : ℤ)
+    → IsNodeBound n cost scale potentials a → IsNodeBound n cost scale potentials b → a ≡ b
 one_node_bound n cost scale potentials a b p q =
     let w = weight_between scale potentials cost in
     let first = p.least.least q.tree q.least.tree in

@@ -68,7 +68,8 @@ pub and_node_old : (part : ℕ → Bool) (v x : ℕ) → part x ≡ true → and
 and_node_old part v x h = or_right (x == v) (part x) h
 
 -- what holds of the node and of each of the part holds of both
-pub and_node_all : (part : ℕ → Bool) (v : ℕ) (P : ℕ → Type 0) → P v → ((y : ℕ) → part y ≡ true → P y) → (x : ℕ) → and_node part v x ≡ true → P x
+pub and_node_all : (part : ℕ → Bool) (v : ℕ) (P : ℕ → Type 0) → P v → ((y : ℕ) → part y ≡ true → P y) → (x : ℕ)
+    → and_node part v x ≡ true → P x
 and_node_all part v P at_v at_part x h = elim (or_cases (x == v) (part x) h) [
   | inl e ↦ subst P (sym (eqb-true x v e)) at_v
   | inr t ↦ at_part x t
@@ -76,16 +77,20 @@ and_node_all part v P at_v at_part x h = elim (or_cases (x == v) (part x) h) [
 
 -- ---- parts that no pair leaves
 
-pub uncrossed_more : (part : ℕ → Bool) (pairs : List (ℕ × ℕ)) (pair : ℕ × ℕ) → IsUncrossed part pairs → crosses part pair ≡ false → IsUncrossed part (pairs ++ pair ∷ [])
+pub uncrossed_more : (part : ℕ → Bool) (pairs : List (ℕ × ℕ)) (pair : ℕ × ℕ) → IsUncrossed part pairs → crosses part pair ≡ false
+    → IsUncrossed part (pairs ++ pair ∷ [])
 uncrossed_more part pairs pair = All-push (λ pair. crosses part pair ≡ false) pairs pair
 
 pub uncrossed_left : (part : ℕ → Bool) (xs ys : List (ℕ × ℕ)) → IsUncrossed part (xs ++ ys) → IsUncrossed part xs
-uncrossed_left part xs ys h k d low = subst (λ pair. crosses part pair ≡ false) (get_or_append_left xs ys d k low) (h k d (omega (arith, length-append xs ys, low)))
+uncrossed_left part xs ys h k d low =
+    subst (λ pair. crosses part pair ≡ false) (get_or_append_left xs ys d k low) (h k d (omega (arith, length-append xs ys, low)))
 
 pub uncrossed_right : (part : ℕ → Bool) (xs ys : List (ℕ × ℕ)) → IsUncrossed part (xs ++ ys) → IsUncrossed part ys
-uncrossed_right part xs ys h k d low = subst (λ pair. crosses part pair ≡ false) (get_or-append-add xs ys k d) (h (length xs + k) d (omega (arith, length-append xs ys, low)))
+uncrossed_right part xs ys h k d low =
+    subst (λ pair. crosses part pair ≡ false) (get_or-append-add xs ys k d) (h (length xs + k) d (omega (arith, length-append xs ys, low)))
 
-pub uncrossed_last : (part : ℕ → Bool) (pairs : List (ℕ × ℕ)) (pair : ℕ × ℕ) → IsUncrossed part (pairs ++ pair ∷ []) → crosses part pair ≡ false
+pub uncrossed_last : (part : ℕ → Bool) (pairs : List (ℕ × ℕ)) (pair : ℕ × ℕ) → IsUncrossed part (pairs ++ pair ∷ [])
+    → crosses part pair ≡ false
 uncrossed_last part pairs pair h = uncrossed_right part pairs (pair ∷ []) h 0 pair (omega arith)
 
 pub uncrossed_from : (part : ℕ → Bool) (pairs : List (ℕ × ℕ)) → list_any (crosses part) pairs ≡ false → IsUncrossed part pairs
@@ -95,7 +100,8 @@ uncrossed_from part (e ∷ es) none =
     All-cons (λ pair. crosses part pair ≡ false) e es parts.0 (uncrossed_from part es parts.1)
 
 -- what two such parts have in common, all that they have, and what one of them has alone
-uncrossed_both : (of : Bool → Bool → Bool) (one two : ℕ → Bool) (pairs : List (ℕ × ℕ)) → IsUncrossed one pairs → IsUncrossed two pairs → IsUncrossed (λ v. of (one v) (two v)) pairs
+uncrossed_both : (of : Bool → Bool → Bool) (one two : ℕ → Bool) (pairs : List (ℕ × ℕ)) → IsUncrossed one pairs
+    → IsUncrossed two pairs → IsUncrossed (λ v. of (one v) (two v)) pairs
 uncrossed_both of one two pairs free also = λ k d low.
     let pair = get_or pairs k d in
     crosses_not (λ v. of (one v) (two v)) pair (ap₂ of (same_side one pair (free k d low)) (same_side two pair (also k d low)))
@@ -111,7 +117,8 @@ pub record IsCut (pairs : List (ℕ × ℕ)) (a b : ℕ) : Type 0 where
 abbrev pub AreTied : List (ℕ × ℕ) → ℕ → ℕ → Type 0
 AreTied pairs a b = (part : ℕ → Bool) → IsUncrossed part pairs → part a ≡ part b
 
-cut_more : (pairs : List (ℕ × ℕ)) (e : ℕ × ℕ) (a b : ℕ) (part : ℕ → Bool) → IsUncrossed part pairs → crosses part e ≡ false → part a ≡ true → part b ≡ false → IsCut (e ∷ pairs) a b
+cut_more : (pairs : List (ℕ × ℕ)) (e : ℕ × ℕ) (a b : ℕ) (part : ℕ → Bool) → IsUncrossed part pairs → crosses part e ≡ false
+    → part a ≡ true → part b ≡ false → IsCut (e ∷ pairs) a b
 cut_more pairs e a b part free here inside outside = record {
   part = part;
   free = All-cons (λ pair. crosses part pair ≡ false) e pairs here free;
@@ -120,7 +127,8 @@ cut_more pairs e a b part free here inside outside = record {
 }
 
 -- a pair whose ends are x and y leaves the part
-leaving_cut : (pairs : List (ℕ × ℕ)) (e : ℕ × ℕ) (a b x y : ℕ) → ((part : ℕ → Bool) → crosses part e ≡ crosses part (x, y)) → (cut : IsCut pairs a b) → cut.part x ≡ true → cut.part y ≡ false
+leaving_cut : (pairs : List (ℕ × ℕ)) (e : ℕ × ℕ) (a b x y : ℕ) → ((part : ℕ → Bool) → crosses part e ≡ crosses part (x, y))
+    → (cut : IsCut pairs a b) → cut.part x ≡ true → cut.part y ≡ false
     → IsCut pairs a x ⊎ AreTied pairs a x → IsCut pairs y b ⊎ AreTied pairs y b → IsCut (e ∷ pairs) a b ⊎ AreTied (e ∷ pairs) a b
 leaving_cut pairs e a b x y alike cut in_x out_y (inl first) other =
     let part : ℕ → Bool = λ v. cut.part v && first.part v in
@@ -159,7 +167,12 @@ differ x y = cond x (not y) y
 
 -- where a pair ties two nodes that a cut has apart, a part that has both or neither and that the earlier pairs don't leave isn't
 -- left by the pair
+<<<<<<< HEAD
 tied_by : (a b : ℕ) (earlier : List (ℕ × ℕ)) (t : ℕ × ℕ) → IsCut earlier a b → AreTied (t ∷ earlier) a b → (part : ℕ → Bool) → IsUncrossed part earlier → part a ≡ part b
+=======
+tied_by : (a b : ℕ) (earlier : List (ℕ × ℕ)) (t : ℕ × ℕ) → IsCut earlier a b → AreTied (t ∷ earlier) a b → (part : ℕ → Bool)
+    → IsUncrossed part earlier → part a ≡ part b
+>>>>>>> origin/structure
     → crosses part t ≡ false
 tied_by a b earlier t cut tied part free same = false_from_ne_true (crosses part t) (λ leaves. elim (cases_Bool (crosses cut.part t)) [
   | inr none ↦ both_ways (cut.part a) (tied cut.part (All-cons (λ pair. crosses cut.part pair ≡ false) t earlier none cut.free) ∙ cut.outside) cut.inside
@@ -187,8 +200,10 @@ pub record IsTie (a b : ℕ) (earlier later : List (ℕ × ℕ)) : Type 0 where
   pub takes : IsPermutation later (pair ∷ rest)
   pub replaced : (part : ℕ → Bool) → IsUncrossed part earlier → IsUncrossed part rest → part a ≡ part b → crosses part pair ≡ false
 
-tie : (a b : ℕ) (earlier later : List (ℕ × ℕ)) → IsCut earlier a b → ((part : ℕ → Bool) → IsUncrossed part earlier → IsUncrossed part later → part a ≡ part b) → IsTie a b earlier later
-tie a b earlier [] cut joined = absurd (both_ways (cut.part a) (joined cut.part cut.free (All-nil (λ pair. crosses cut.part pair ≡ false)) ∙ cut.outside) cut.inside)
+tie : (a b : ℕ) (earlier later : List (ℕ × ℕ)) → IsCut earlier a b
+    → ((part : ℕ → Bool) → IsUncrossed part earlier → IsUncrossed part later → part a ≡ part b) → IsTie a b earlier later
+tie a b earlier [] cut joined =
+    absurd (both_ways (cut.part a) (joined cut.part cut.free (All-nil (λ pair. crosses cut.part pair ≡ false)) ∙ cut.outside) cut.inside)
 tie a b earlier (t ∷ ts) cut joined = elim (cut_or_tied (t ∷ earlier) a b) [
   | inr tied ↦ record {
     pair = t;
@@ -214,10 +229,12 @@ tie a b earlier (t ∷ ts) cut joined = elim (cut_or_tied (t ∷ earlier) a b) [
 
 -- with the earlier pairs these join all nodes: a part that none of them leaves has all nodes or none
 abbrev pub JoinsBeside : (ℕ → Type 0) → List (ℕ × ℕ) → List (ℕ × ℕ) → Type 0
-JoinsBeside Node earlier xs = (part : ℕ → Bool) → IsUncrossed part earlier → IsUncrossed part xs → (x y : ℕ) → Node x → Node y → part x ≡ part y
+JoinsBeside Node earlier xs =
+    (part : ℕ → Bool) → IsUncrossed part earlier → IsUncrossed part xs → (x y : ℕ) → Node x → Node y → part x ≡ part y
 
 pub crossed_joins : (Node : ℕ → Type 0) (xs : List (ℕ × ℕ))
-    → ((part : ℕ → Bool) (inside outside : ℕ) → Node inside → Node outside → part inside ≡ true → part outside ≡ false → IsCrossed xs part) → JoinsBeside Node [] xs
+    → ((part : ℕ → Bool) (inside outside : ℕ) → Node inside → Node outside → part inside ≡ true → part outside ≡ false → IsCrossed xs part)
+    → JoinsBeside Node [] xs
 crossed_joins Node xs crossed part free also x y in_x in_y = elim (cases_Bool (part x)) [
   | inl t ↦ elim (cases_Bool (part y)) [
     | inl u ↦ t ∙ sym u
@@ -237,7 +254,8 @@ pub record IsExchange (Node : ℕ → Type 0) (part : ℕ → Bool) (earlier xs 
   pub leaves : crosses part pair ≡ true
   pub joins : JoinsBeside Node (earlier ++ e ∷ []) rest
 
-pub exchange : (Node : ℕ → Type 0) (w : ℕ → ℕ → ℤ) (earlier xs : List (ℕ × ℕ)) (e : ℕ × ℕ) (join : IsLeastJoin Node w earlier e) → JoinsBeside Node earlier xs
+pub exchange : (Node : ℕ → Type 0) (w : ℕ → ℕ → ℤ) (earlier xs : List (ℕ × ℕ)) (e : ℕ × ℕ) (join : IsLeastJoin Node w earlier e)
+    → JoinsBeside Node earlier xs
     → IsExchange Node join.part earlier xs e
 exchange Node w earlier xs e join joins =
     let leaving : ℕ × ℕ → Bool = crosses join.part in
@@ -283,7 +301,8 @@ abbrev pub IsPairOf : (ℕ → Type 0) → ℕ × ℕ → Type 0
 IsPairOf Node e = Node e.0 × Node e.1
 
 -- the least pair that leaves weighs no more than one that leaves, whichever way it is written
-pub least_below : (Node : ℕ → Type 0) (w : ℕ → ℕ → ℤ) (grown : ℕ → Bool) (e f : ℕ × ℕ) → ((a b : ℕ) → w a b ≡ w b a) → IsLeastLeaving Node w grown e
+pub least_below : (Node : ℕ → Type 0) (w : ℕ → ℕ → ℤ) (grown : ℕ → Bool) (e f : ℕ × ℕ) → ((a b : ℕ) → w a b ≡ w b a)
+    → IsLeastLeaving Node w grown e
     → IsPairOf Node f → crosses grown f ≡ true → w e.0 e.1 ≤ℤ w f.0 f.1
 least_below Node w grown e f symmetric least of h = elim (cases_Bool (grown f.0)) [
   | inl p ↦ elim (cases_Bool (grown f.1)) [

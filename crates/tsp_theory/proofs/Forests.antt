@@ -14,7 +14,8 @@ use Rattle.tsp_theory.proofs.Sums.{sum_int_by-IsPermutation}
 
 -- ---- lists of least joins
 
-pub joins_append : (Node : ℕ → Type 0) (w : ℕ → ℕ → ℤ) (earlier xs ys : List (ℕ × ℕ)) → AreLeastJoins Node w earlier xs → AreLeastJoins Node w (earlier ++ xs) ys
+pub joins_append : (Node : ℕ → Type 0) (w : ℕ → ℕ → ℤ) (earlier xs ys : List (ℕ × ℕ)) → AreLeastJoins Node w earlier xs
+    → AreLeastJoins Node w (earlier ++ xs) ys
     → AreLeastJoins Node w earlier (xs ++ ys)
 joins_append Node w earlier [] ys first later = subst (λ pairs. AreLeastJoins Node w pairs ys) (append-nil earlier) later
 joins_append Node w earlier (x ∷ xs) ys first later = (
@@ -22,14 +23,17 @@ joins_append Node w earlier (x ∷ xs) ys first later = (
   joins_append Node w (earlier ++ x ∷ []) xs ys first.1 (subst (λ pairs. AreLeastJoins Node w pairs ys) (sym (append_assoc earlier (x ∷ []) xs)) later),
 )
 
-pub joins_more : (Node : ℕ → Type 0) (w : ℕ → ℕ → ℤ) (earlier added : List (ℕ × ℕ)) (pair : ℕ × ℕ) → AreLeastJoins Node w earlier added
+pub joins_more : (Node : ℕ → Type 0) (w : ℕ → ℕ → ℤ) (earlier added : List (ℕ × ℕ)) (pair : ℕ × ℕ)
+    → AreLeastJoins Node w earlier added
     → IsLeastJoin Node w (earlier ++ added) pair → AreLeastJoins Node w earlier (added ++ pair ∷ [])
 joins_more Node w earlier added pair joins join = joins_append Node w earlier added (pair ∷ []) joins (join, tt)
 
 -- ---- a growth is one
 
-grown_joins : (Node : ℕ → Type 0) (w : ℕ → ℕ → ℤ) (added : List (ℕ × ℕ)) (grown : ℕ → Bool) (earlier : List (ℕ × ℕ)) → ((x : ℕ) → grown x ≡ true → Node x)
-    → All (λ pair. (grown pair.0 ≡ true) × (grown pair.1 ≡ true)) earlier → Grows Node w grown added → AreLeastJoins Node w earlier added
+grown_joins : (Node : ℕ → Type 0) (w : ℕ → ℕ → ℤ) (added : List (ℕ × ℕ)) (grown : ℕ → Bool) (earlier : List (ℕ × ℕ))
+    → ((x : ℕ) → grown x ≡ true → Node x)
+    → All (λ pair. (grown pair.0 ≡ true) × (grown pair.1 ≡ true)) earlier → Grows Node w grown added
+    → AreLeastJoins Node w earlier added
 grown_joins Node w [] grown earlier nodes within grows = tt
 grown_joins Node w (e ∷ es) grown earlier nodes within grows =
     let more : ℕ → Bool = and_node grown e.1 in (
@@ -48,7 +52,8 @@ grown_joins Node w (e ∷ es) grown earlier nodes within grows =
     )
 
 -- from a single node
-pub growth_joins : (Node : ℕ → Type 0) (w : ℕ → ℕ → ℤ) (start : ℕ) (added : List (ℕ × ℕ)) → Node start → Grows Node w (λ x. x == start) added → AreLeastJoins Node w [] added
+pub growth_joins : (Node : ℕ → Type 0) (w : ℕ → ℕ → ℤ) (start : ℕ) (added : List (ℕ × ℕ)) → Node start
+    → Grows Node w (λ x. x == start) added → AreLeastJoins Node w [] added
 growth_joins Node w start added at_start =
     grown_joins Node w added (λ x. x == start) [] (λ x h. subst Node (sym (eqb-true x start h)) at_start) (All-nil (λ pair. ((pair.0 == start) ≡ true) × ((pair.1 == start) ≡ true)))
 
@@ -60,9 +65,12 @@ growth_is_forest n w added some growth = record {
 
 -- ---- beside the earlier pairs least joins join all nodes where as many others do, and weigh no more than those
 
-joins_least : (Node : ℕ → Type 0) (w : ℕ → ℕ → ℤ) → ((a b : ℕ) → w a b ≡ w b a) → (added earlier xs : List (ℕ × ℕ)) → AreLeastJoins Node w earlier added
-    → length xs ≡ length added → All (IsPairOf Node) xs → JoinsBeside Node earlier xs → (weight_of w added ≤ℤ weight_of w xs) × JoinsBeside Node (earlier ++ added) []
-joins_least Node w symmetric [] earlier [] least size of joins = (omega (arith, ints), subst (λ pairs. JoinsBeside Node pairs []) (sym (append-nil earlier)) joins)
+joins_least : (Node : ℕ → Type 0) (w : ℕ → ℕ → ℤ) → ((a b : ℕ) → w a b ≡ w b a) → (added earlier xs : List (ℕ × ℕ))
+    → AreLeastJoins Node w earlier added
+    → length xs ≡ length added → All (IsPairOf Node) xs → JoinsBeside Node earlier xs
+    → (weight_of w added ≤ℤ weight_of w xs) × JoinsBeside Node (earlier ++ added) []
+joins_least Node w symmetric [] earlier [] least size of joins =
+    (omega (arith, ints), subst (λ pairs. JoinsBeside Node pairs []) (sym (append-nil earlier)) joins)
 joins_least Node w symmetric [] earlier (x ∷ xs) least size of joins = absurd (omega (arith, size))
 joins_least Node w symmetric (e ∷ es) earlier xs least size of joins =
     let join = least.0 in
@@ -100,7 +108,8 @@ star_joins (suc k) part free x node = elim (cases_eq x (k + 3)) [
 -- ---- so least joins as many as it has are one, and weigh no more than any other
 
 pub forest_joins : (n : ℕ) (w : ℕ → ℕ → ℤ) → ((a b : ℕ) → w a b ≡ w b a) → (added : List (ℕ × ℕ)) → IsWholeForest n w added
-    → (part : ℕ → Bool) (inside outside : ℕ) → IsInner n inside → IsInner n outside → part inside ≡ true → part outside ≡ false → IsCrossed added part
+    → (part : ℕ → Bool) (inside outside : ℕ) → IsInner n inside → IsInner n outside → part inside ≡ true → part outside ≡ false
+    → IsCrossed added part
 forest_joins n w symmetric added forest = λ part inside outside in_node out_node in_part out_part.
     let k = length added in
     let star = joins_least (IsInner n) w symmetric added [] (star_of k) forest.joins (star_length k) (star_nodes n k (omega (arith, forest.count)))
@@ -108,6 +117,8 @@ forest_joins n w symmetric added forest = λ part inside outside in_node out_nod
     true_from_ne_false (list_any (crosses part) added) (λ none.
     both_ways (part inside) (star.1 part (uncrossed_from part added none) (All-nil (λ pair. crosses part pair ≡ false)) inside outside in_node out_node ∙ out_part) in_part)
 
-pub forest_least : (n : ℕ) (w : ℕ → ℕ → ℤ) → ((a b : ℕ) → w a b ≡ w b a) → (added xs : List (ℕ × ℕ)) → IsWholeForest n w added → length xs ≡ length added
+pub forest_least : (n : ℕ) (w : ℕ → ℕ → ℤ) → ((a b : ℕ) → w a b ≡ w b a) → (added xs : List (ℕ × ℕ)) → IsWholeForest n w added
+    → length xs ≡ length added
     → All (IsPairOf (IsInner n)) xs → JoinsBeside (IsInner n) [] xs → weight_of w added ≤ℤ weight_of w xs
-forest_least n w symmetric added xs forest size of joins = (joins_least (IsInner n) w symmetric added [] xs forest.joins size of joins).0
+forest_least n w symmetric added xs forest size of joins =
+    (joins_least (IsInner n) w symmetric added [] xs forest.joins size of joins).0

@@ -35,11 +35,13 @@ pub record IsSumOf (count : ℕ) (sum : ℤ) : Type 0 where
 pub sum_none : IsSumOf 0 (pos 0)
 sum_none = record { low = omega (arith, ints); high = omega (arith, ints) }
 
-pub sum_more : (sum cost : ℤ) (count : ℕ) → IsSumOf count sum → neg_ℤ (pos 1000000000000) ≤ℤ cost → cost ≤ℤ pos 1000000000000 → IsSumOf (count + 1) (sum +ℤ cost)
+pub sum_more : (sum cost : ℤ) (count : ℕ) → IsSumOf count sum → neg_ℤ (pos 1000000000000) ≤ℤ cost → cost ≤ℤ pos 1000000000000
+    → IsSumOf (count + 1) (sum +ℤ cost)
 sum_more sum cost count size low high = record { low = omega (arith, ints, size.low); high = omega (arith, ints, size.high) }
 
 -- it is what the code computes
-pub sum_fits : (sum cost : ℤ) (count : ℕ) → count ≤ 1000000 → IsSumOf count sum → neg_ℤ (pos 1000000000000) ≤ℤ cost → cost ≤ℤ pos 1000000000000
+pub sum_fits : (sum cost : ℤ) (count : ℕ) → count ≤ 1000000 → IsSumOf count sum → neg_ℤ (pos 1000000000000) ≤ℤ cost
+    → cost ≤ℤ pos 1000000000000
     → to_z w64 (of_z w64 (sum +ℤ to_z w64 (of_z w64 cost))) ≡ sum +ℤ cost
 sum_fits sum cost count few size low high = omega (arith, ints, size.low, size.high)
 

@@ -15,7 +15,8 @@ most_64 = pos 9223372036854775807
 -- the nearest of the nodes before this one that are outside
 abbrev pub FindsNearest : ℕ → List Bool → ℕ → List ℤ → ℤ → Option ℕ → Type 0
 FindsNearest n inside node least best None = (best ≡ most_64) × ((x : ℕ) → IsInner n x → x < node → is_inside inside x ≡ true)
-FindsNearest n inside node least best (Some v) = IsInner n v × (v < node) × (is_inside inside v ≡ false) × (best ≡ least_at least v)
+FindsNearest n inside node least best (Some v) =
+    IsInner n v × (v < node) × (is_inside inside v ≡ false) × (best ≡ least_at least v)
     × ((x : ℕ) → IsInner n x → x < node → is_inside inside x ≡ false → best ≤ℤ least_at least x)
 
 -- the nodes before this one are brought up to date, and the others are as they were
@@ -36,7 +37,8 @@ pub record IsTaken (weight : ℤ) (next node : ℕ) (near : List ℕ) (least : L
 -- ---- a node inside is passed by
 
 pub brought_inside : (n : ℕ) (w : ℕ → ℕ → ℤ) (inside : List Bool) (next node : ℕ) (old_near : List ℕ) (old_least : List ℤ) (near : List ℕ) (least : List ℤ) (best : ℤ) (nearest : Option ℕ)
-    → IsBrought n w inside next node old_near old_least near least best nearest → is_inside inside node ≡ true → IsBrought n w inside next (node + 1) old_near old_least near least best nearest
+    → IsBrought n w inside next node old_near old_least near least best nearest → is_inside inside node ≡ true
+    → IsBrought n w inside next (node + 1) old_near old_least near least best nearest
 brought_inside n w inside next node old_near old_least near least best nearest b in_node = record {
   done = λ x h below out. b.done x h (earlier x below out) out;
   small = λ x h below out. b.small x h (earlier x below out) out;
@@ -63,7 +65,8 @@ brought_inside n w inside next node old_near old_least near least best nearest b
 
 -- ---- a node outside is taken
 
-below_others : (n : ℕ) (inside : List Bool) (node : ℕ) (least : List ℤ) (best : ℤ) (nearest : Option ℕ) → FindsNearest n inside node least best nearest
+below_others : (n : ℕ) (inside : List Bool) (node : ℕ) (least : List ℤ) (best : ℤ) (nearest : Option ℕ)
+    → FindsNearest n inside node least best nearest
     → (x : ℕ) → IsInner n x → x < node → is_inside inside x ≡ false → best ≤ℤ least_at least x
 below_others n inside node least best None f x h below out = absurd (both_ways (is_inside inside x) out (f.1 x h below))
 below_others n inside node least best (Some v) f x h below out = f.4 x h below out
@@ -76,7 +79,8 @@ taken_small weight next old_near old_least new_near new_least small (inr new) = 
 
 taken_found : (n : ℕ) (inside : List Bool) (node : ℕ) (least new_least : List ℤ) (best kept : ℤ) (nearest : Option ℕ)
     → FindsNearest n inside node least best nearest → ((x : ℕ) → x ≢ node → least_at new_least x ≡ least_at least x)
-    → IsInner n node → is_inside inside node ≡ false → kept ≡ least_at new_least node → kept <ℤ best → FindsNearest n inside (node + 1) new_least kept (Some node)
+    → IsInner n node → is_inside inside node ≡ false → kept ≡ least_at new_least node → kept <ℤ best
+    → FindsNearest n inside (node + 1) new_least kept (Some node)
 taken_found n inside node least new_least best kept nearest f same in_node out_node is less = (
   in_node,
   omega arith,
@@ -111,8 +115,10 @@ kept_found n inside node least new_least best kept (Some v) f same is small less
 
 brought_taken : (n : ℕ) (w : ℕ → ℕ → ℤ) (inside : List Bool) (next node : ℕ) (old_near : List ℕ) (old_least : List ℤ) (near new_near : List ℕ)
     (least new_least : List ℤ) (best new_best : ℤ) (nearest new_nearest : Option ℕ)
-    → IsBrought n w inside next node old_near old_least near least best nearest → IsTaken (w next node) next node near least new_near new_least → w next node <ℤ most_64
-    → FindsNearest n inside (node + 1) new_least new_best new_nearest → IsBrought n w inside next (node + 1) old_near old_least new_near new_least new_best new_nearest
+    → IsBrought n w inside next node old_near old_least near least best nearest
+    → IsTaken (w next node) next node near least new_near new_least → w next node <ℤ most_64
+    → FindsNearest n inside (node + 1) new_least new_best new_nearest
+    → IsBrought n w inside next (node + 1) old_near old_least new_near new_least new_best new_nearest
 brought_taken n w inside next node old_near old_least near new_near least new_least best new_best nearest new_nearest b t small found = record {
   done = λ x h below out. elim (cases_eq x node) [
     | inl here ↦ subst (λ (y : ℕ). IsNearer (w next y) next (slice_index old_near y) (least_at old_least y) (slice_index new_near y) (least_at new_least y)) (sym here)
@@ -135,7 +141,8 @@ pub brought_nearer : (n : ℕ) (w : ℕ → ℕ → ℤ) (inside : List Bool) (n
     (least new_least : List ℤ) (best kept : ℤ) (nearest : Option ℕ)
     → IsBrought n w inside next node old_near old_least near least best nearest → IsInner n node → is_inside inside node ≡ false
     → IsTaken (w next node) next node near least new_near new_least → w next node <ℤ most_64
-    → kept ≡ least_at new_least node → kept <ℤ best → IsBrought n w inside next (node + 1) old_near old_least new_near new_least kept (Some node)
+    → kept ≡ least_at new_least node → kept <ℤ best
+    → IsBrought n w inside next (node + 1) old_near old_least new_near new_least kept (Some node)
 brought_nearer n w inside next node old_near old_least near new_near least new_least best kept nearest b in_node out_node t small is less =
     brought_taken n w inside next node old_near old_least near new_near least new_least best kept nearest (Some node) b t small
     (taken_found n inside node least new_least best kept nearest b.found t.least_other in_node out_node is less)
@@ -143,8 +150,10 @@ brought_nearer n w inside next node old_near old_least near new_near least new_l
 -- it isn't
 pub brought_farther : (n : ℕ) (w : ℕ → ℕ → ℤ) (inside : List Bool) (next node : ℕ) (old_near : List ℕ) (old_least : List ℤ) (near new_near : List ℕ)
     (least new_least : List ℤ) (best kept : ℤ) (nearest : Option ℕ)
-    → IsBrought n w inside next node old_near old_least near least best nearest → IsTaken (w next node) next node near least new_near new_least → w next node <ℤ most_64
-    → kept ≡ least_at new_least node → best ≤ℤ kept → IsBrought n w inside next (node + 1) old_near old_least new_near new_least best nearest
+    → IsBrought n w inside next node old_near old_least near least best nearest
+    → IsTaken (w next node) next node near least new_near new_least → w next node <ℤ most_64
+    → kept ≡ least_at new_least node → best ≤ℤ kept
+    → IsBrought n w inside next (node + 1) old_near old_least new_near new_least best nearest
 brought_farther n w inside next node old_near old_least near new_near least new_least best kept nearest b t small is less =
     brought_taken n w inside next node old_near old_least near new_near least new_least best best nearest nearest b t small
     (kept_found n inside node least new_least best kept nearest b.found t.least_other is
@@ -153,7 +162,8 @@ brought_farther n w inside next node old_near old_least near new_near least new_
 -- ---- the end
 
 pub nearest_found : (n : ℕ) (inside : List Bool) (node : ℕ) (least : List ℤ) (best : ℤ) (nearest : Option ℕ) → n < node
-    → FindsNearest n inside node least best nearest → MatchOption nearest (AllInside n inside) (λ v. IsNearestOutside n inside least v)
+    → FindsNearest n inside node least best nearest
+    → MatchOption nearest (AllInside n inside) (λ v. IsNearestOutside n inside least v)
 nearest_found n inside node least best None past f = λ x h. f.1 x h (omega (arith, h.1, past))
 nearest_found n inside node least best (Some v) past f = record {
   inner = f.0;
@@ -163,7 +173,8 @@ nearest_found n inside node least best (Some v) past f = record {
 
 -- ---- as a pass of the loop shows it
 
-pub taken_by_set : (weight result : ℤ) (next node : ℕ) (near : List ℕ) (least : List ℤ) (new_near : ℕ) (new_least : ℤ) → node < length near
+pub taken_by_set : (weight result : ℤ) (next node : ℕ) (near : List ℕ) (least : List ℤ) (new_near : ℕ) (new_least : ℤ)
+    → node < length near
     → node < length least → FitsSigned w64 result → result ≡ weight
     → IsNearer (to_z w64 (of_z w64 result)) next (get_or near node 0) (get_or least node (pos 0)) new_near new_least
     → IsTaken weight next node near least (set near node new_near) (set least node new_least)
@@ -179,6 +190,8 @@ taken_by_set weight result next node near least new_near new_least in_near in_le
       least_other = λ x other. get_or-set_other least node x new_least (pos 0) other;
     }
 
-pub kept_is : (result new_least : ℤ) (node : ℕ) (least : List ℤ) → node < length least → FitsSigned w64 result → result ≡ new_least
+pub kept_is : (result new_least : ℤ) (node : ℕ) (least : List ℤ) → node < length least → FitsSigned w64 result
+    → result ≡ new_least
     → to_z w64 (of_z w64 result) ≡ least_at (set least node new_least) node
-kept_is result new_least node least in_least fits is = to_z-of_z w64 result fits ∙ is ∙ sym (get_or-set_same least node new_least (pos 0) in_least)
+kept_is result new_least node least in_least fits is =
+    to_z-of_z w64 result fits ∙ is ∙ sym (get_or-set_same least node new_least (pos 0) in_least)

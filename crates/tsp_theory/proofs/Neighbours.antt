@@ -115,7 +115,8 @@ ends_in pair i j h = elim (or_cases ((pair.0 == i) && (pair.1 == j)) ((pair.1 ==
   | inr t ↦ let both = and_parts (pair.1 == i) (pair.0 == j) t in (or_right (pair.0 == i) (pair.1 == i) both.0, or_left (pair.0 == j) (pair.1 == j) both.1)
 ]
 
-of_link : (same x y : Bool) → (same ≡ true → (x ≡ true) × (y ≡ true)) → ((one_if same +ℤ one_if same) +ℤ one_if (cond x (not y) y)) ≤ℤ (one_if x +ℤ one_if y)
+of_link : (same x y : Bool) → (same ≡ true → (x ≡ true) × (y ≡ true))
+    → ((one_if same +ℤ one_if same) +ℤ one_if (cond x (not y) y)) ≤ℤ (one_if x +ℤ one_if y)
 of_link true true true h = omega (arith, ints)
 of_link true false y h = absurd (both_ways false refl (h refl).0)
 of_link true true false h = absurd (both_ways false refl (h refl).1)
@@ -154,7 +155,8 @@ third a b = elim (cases_Bool ((a == 1) || (b == 1))) [
   ]
 ]
 
-neighbours_once : (n : ℕ) (nodes : List ℕ) (pair : ℕ × ℕ) → Laws → 3 ≤ n → IsCycle n nodes → count (is_same_pair pair) (links nodes) ≤ℤ pos 1
+neighbours_once : (n : ℕ) (nodes : List ℕ) (pair : ℕ × ℕ) → Laws → 3 ≤ n → IsCycle n nodes
+    → count (is_same_pair pair) (links nodes) ≤ℤ pos 1
 neighbours_once n nodes pair laws some cycle =
     let ends = degrees nodes pair laws in
     let one = once pair.0 nodes cycle.once in
@@ -170,11 +172,14 @@ neighbours_once n nodes pair laws some cycle =
           omega (arith, ints, ends, one, other, more)
     ]
 
-pub count_neighbours : (n : ℕ) (nodes : List ℕ) (pair : ℕ × ℕ) → Laws → 3 ≤ n → IsCycle n nodes → AreNeighbours nodes pair → count (is_same_pair pair) (links nodes) ≡ pos 1
+pub count_neighbours : (n : ℕ) (nodes : List ℕ) (pair : ℕ × ℕ) → Laws → 3 ≤ n → IsCycle n nodes → AreNeighbours nodes pair
+    → count (is_same_pair pair) (links nodes) ≡ pos 1
 count_neighbours n nodes pair laws some cycle h =
     let most = neighbours_once n nodes pair laws some cycle in
     let least = count_any (is_same_pair pair) (links nodes) (found_neighbours nodes pair h) in
     omega (arith, ints, most, least)
 
-pub count_others : (nodes : List ℕ) (pair : ℕ × ℕ) → (AreNeighbours nodes pair → ⊥) → count (is_same_pair pair) (links nodes) ≡ pos 0
-count_others nodes pair h = count_none (is_same_pair pair) (links nodes) (false_from_ne_true (list_any (is_same_pair pair) (links nodes)) (λ t. h (neighbours_found nodes pair t)))
+pub count_others : (nodes : List ℕ) (pair : ℕ × ℕ) → (AreNeighbours nodes pair → ⊥)
+    → count (is_same_pair pair) (links nodes) ≡ pos 0
+count_others nodes pair h =
+    count_none (is_same_pair pair) (links nodes) (false_from_ne_true (list_any (is_same_pair pair) (links nodes)) (λ t. h (neighbours_found nodes pair t)))

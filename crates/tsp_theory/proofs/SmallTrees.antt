@@ -73,12 +73,15 @@ grows_so w second p so = record {
   count = refl;
 }
 
-pub tree_so : (w : ℕ → ℕ → ℤ) (second p : ℕ) → ((a b : ℕ) → w a b ≡ w b a) → GrowsSo w second p → IsLeastOneTree 4 w (tree_of 2 second ((2, 3) ∷ (p, 4) ∷ []))
-tree_so w second p even so = least_from_growth 4 w 2 second ((2, 3) ∷ (p, 4) ∷ []) ((2, 3) ∷ (p, 4) ∷ []) (tree_of 2 second ((2, 3) ∷ (p, 4) ∷ []))
+pub tree_so : (w : ℕ → ℕ → ℤ) (second p : ℕ) → ((a b : ℕ) → w a b ≡ w b a) → GrowsSo w second p
+    → IsLeastOneTree 4 w (tree_of 2 second ((2, 3) ∷ (p, 4) ∷ []))
+tree_so w second p even so =
+    least_from_growth 4 w 2 second ((2, 3) ∷ (p, 4) ∷ []) ((2, 3) ∷ (p, 4) ∷ []) (tree_of 2 second ((2, 3) ∷ (p, 4) ∷ []))
     (omega arith) even (nearest_so w second p so) (grows_so w second p so) refl refl
 
 -- a least pair at a node leaves the part of that node alone
-pub join_so : (w : ℕ → ℕ → ℤ) (earlier : List (ℕ × ℕ)) (v c : ℕ) → IsInner 4 v → IsInner 4 c → (c == v) ≡ false → IsUncrossed (λ x. x == v) earlier
+pub join_so : (w : ℕ → ℕ → ℤ) (earlier : List (ℕ × ℕ)) (v c : ℕ) → IsInner 4 v → IsInner 4 c → (c == v) ≡ false
+    → IsUncrossed (λ x. x == v) earlier
     → ((b : ℕ) → IsInner 4 b → (b == v) ≡ false → w v c ≤ℤ w v b) → IsLeastJoin (IsInner 4) w earlier (v, c)
 join_so w earlier v c in_v in_c differ free least = record {
   part = λ x. x == v;
@@ -95,7 +98,8 @@ join_so w earlier v c in_v in_c differ free least = record {
 pub costs_even : (costs : List ℤ) (i j : ℕ) → even_costs costs i j ≡ even_costs costs j i
 costs_even costs i j = search rules
 
-pub bound_so : (costs : List ℤ) (scale : ℤ) (potentials : List ℤ) (second p : ℕ) (bound : ℤ) → GrowsSo (weight_between scale potentials (even_costs costs)) second p
+pub bound_so : (costs : List ℤ) (scale : ℤ) (potentials : List ℤ) (second p : ℕ) (bound : ℤ)
+    → GrowsSo (weight_between scale potentials (even_costs costs)) second p
     → IsBoundOfPotentials scale potentials (weight_of (weight_between scale potentials (even_costs costs)) (tree_of 2 second ((2, 3) ∷ (p, 4) ∷ []))) bound
     → IsNodeBound 4 (even_costs costs) scale potentials bound
 bound_so costs scale potentials second p bound so is = record {

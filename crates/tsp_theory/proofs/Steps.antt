@@ -31,12 +31,14 @@ pub record IsState (n : ℕ) (w : ℕ → ℕ → ℤ) (inside : List Bool) (nea
 
 -- ---- a pair more
 
-pub grows_more : (Node : ℕ → Type 0) (w : ℕ → ℕ → ℤ) (added : List (ℕ × ℕ)) (grown : ℕ → Bool) (e : ℕ × ℕ) → Grows Node w grown added
+pub grows_more : (Node : ℕ → Type 0) (w : ℕ → ℕ → ℤ) (added : List (ℕ × ℕ)) (grown : ℕ → Bool) (e : ℕ × ℕ)
+    → Grows Node w grown added
     → IsLeastLeaving Node w (grown_by grown added) e → Grows Node w grown (added ++ e ∷ [])
 grows_more Node w [] grown e g least = (least, tt)
 grows_more Node w (f ∷ fs) grown e g least = (g.0, grows_more Node w fs (and_node grown f.1) e g.1 least)
 
-pub grown_by_more : (added : List (ℕ × ℕ)) (grown : ℕ → Bool) (e : ℕ × ℕ) → grown_by grown (added ++ e ∷ []) ≡ and_node (grown_by grown added) e.1
+pub grown_by_more : (added : List (ℕ × ℕ)) (grown : ℕ → Bool) (e : ℕ × ℕ)
+    → grown_by grown (added ++ e ∷ []) ≡ and_node (grown_by grown added) e.1
 grown_by_more [] grown e = refl
 grown_by_more (f ∷ fs) grown e = grown_by_more fs (and_node grown f.1) e
 
@@ -44,11 +46,13 @@ grown_by_more (f ∷ fs) grown e = grown_by_more fs (and_node grown f.1) e
 pub grown_by_nodes : (Node : ℕ → Type 0) (w : ℕ → ℕ → ℤ) (added : List (ℕ × ℕ)) (grown : ℕ → Bool) → Grows Node w grown added
     → ((x : ℕ) → grown x ≡ true → Node x) → (x : ℕ) → grown_by grown added x ≡ true → Node x
 grown_by_nodes Node w [] grown g nodes = nodes
-grown_by_nodes Node w (e ∷ es) grown g nodes = grown_by_nodes Node w es (and_node grown e.1) g.1 (and_node_all grown e.1 Node g.0.node nodes)
+grown_by_nodes Node w (e ∷ es) grown g nodes =
+    grown_by_nodes Node w es (and_node grown e.1) g.1 (and_node_all grown e.1 Node g.0.node nodes)
 
 -- ---- a mark more
 
-pub marked_more : (inside : List Bool) (v x : ℕ) → v < length inside → is_inside (set inside v true) x ≡ and_node (is_inside inside) v x
+pub marked_more : (inside : List Bool) (v x : ℕ) → v < length inside
+    → is_inside (set inside v true) x ≡ and_node (is_inside inside) v x
 marked_more inside v x h = elim (cases_eq x v) [
   | inl same ↦ subst (λ z. is_inside (set inside v true) z ≡ and_node (is_inside inside) v z) (sym same)
       (get_or-set_same inside v true false h ∙ sym (or_left (v == v) (is_inside inside v) (eq-eqb v v refl)))
@@ -58,7 +62,8 @@ marked_more inside v x h = elim (cases_eq x v) [
 abbrev pub one_if : Bool → ℕ
 one_if b = cond b 1 0
 
-pub insiders_more : (inside : List Bool) (v : ℕ) → v < length inside → is_inside inside v ≡ false → insiders (set inside v true) ≡ suc (insiders inside)
+pub insiders_more : (inside : List Bool) (v : ℕ) → v < length inside → is_inside inside v ≡ false
+    → insiders (set inside v true) ≡ suc (insiders inside)
 insiders_more inside v h free =
     let e = sum_by-set one_if inside v true false h in
     let f : one_if (get_or inside v false) ≡ 0 = ap one_if free in
@@ -69,9 +74,11 @@ insiders_few [] = omega arith
 insiders_few (true ∷ inside) = omega (arith, insiders_few inside, sum_by-cons one_if true inside)
 insiders_few (false ∷ inside) = omega (arith, insiders_few inside, sum_by-cons one_if false inside)
 
-pub insiders_all : (inside : List Bool) → ((x : ℕ) → x < length inside → get_or inside x false ≡ true) → insiders inside ≡ length inside
+pub insiders_all : (inside : List Bool) → ((x : ℕ) → x < length inside → get_or inside x false ≡ true)
+    → insiders inside ≡ length inside
 insiders_all [] all = refl
-insiders_all (true ∷ inside) all = omega (arith, insiders_all inside (λ x h. all (suc x) (omega arith)), sum_by-cons one_if true inside)
+insiders_all (true ∷ inside) all =
+    omega (arith, insiders_all inside (λ x h. all (suc x) (omega arith)), sum_by-cons one_if true inside)
 insiders_all (false ∷ inside) all = absurd (false≢true (all 0 (omega arith)))
 
 -- all but the first two
@@ -91,13 +98,15 @@ insiders_inner (false ∷ false ∷ inside) some none one all = omega (
 -- ---- the step
 
 -- a node that is outside now was outside before
-before : (n : ℕ) (inside : List Bool) (v x : ℕ) → v < length inside → is_inside (set inside v true) x ≡ false → is_inside inside x ≡ false
+before : (n : ℕ) (inside : List Bool) (v x : ℕ) → v < length inside → is_inside (set inside v true) x ≡ false
+    → is_inside inside x ≡ false
 before n inside v x in_list free = (or_parts (x == v) (is_inside inside x) (sym (marked_more inside v x in_list) ∙ free)).1
 
 pub state_more_by : (n : ℕ) (w : ℕ → ℕ → ℤ) (inside : List Bool) (near after : List ℕ) (least least_after : List ℤ) (added : List (ℕ × ℕ)) (u v : ℕ)
     → IsState n w inside near least added → IsInner n v → is_inside inside v ≡ false
     → IsLeastLeaving (IsInner n) w (grown_by (λ x. x == 2) added) (u, v)
-    → length after ≡ length near → length least_after ≡ length least → AreNearer n w (set inside v true) v near least after least_after
+    → length after ≡ length near → length least_after ≡ length least
+    → AreNearer n w (set inside v true) v near least after least_after
     → IsState n w (set inside v true) after least_after (added ++ (u, v) ∷ [])
 state_more_by n w inside near after least least_after added u v s inner outside leaving size least_size nearer =
     let in_list : v < length inside = omega (arith, s.inside_len, inner) in
@@ -139,7 +148,8 @@ state_more_by n w inside near after least least_after added u v s inner outside 
 
 pub state_more : (n : ℕ) (w : ℕ → ℕ → ℤ) (inside : List Bool) (near after : List ℕ) (least least_after : List ℤ) (added : List (ℕ × ℕ)) (v : ℕ)
     → IsState n w inside near least added → IsNearestOutside n inside least v
-    → length after ≡ length near → length least_after ≡ length least → AreNearer n w (set inside v true) v near least after least_after
+    → length after ≡ length near → length least_after ≡ length least
+    → AreNearer n w (set inside v true) v near least after least_after
     → IsState n w (set inside v true) after least_after (added ++ (slice_index near v, v) ∷ [])
 state_more n w inside near after least least_after added v s next size least_size nearer =
     state_more_by n w inside near after least least_after added (slice_index near v) v s next.inner next.outside
@@ -200,7 +210,8 @@ one_start size start x some = elim (cases_eq x start) [
   | inr other ↦ get_or-set_other (replicate size false) start x true false other ∙ none_inside size x ∙ sym (ne_eqb x start other)
 ]
 
-pub state_start : (n : ℕ) (w : ℕ → ℕ → ℤ) (inside : List Bool) (near after : List ℕ) (least least_after : List ℤ) (most : ℤ) → 3 ≤ n
+pub state_start : (n : ℕ) (w : ℕ → ℕ → ℤ) (inside : List Bool) (near after : List ℕ) (least least_after : List ℤ) (most : ℤ)
+    → 3 ≤ n
     → inside ≡ set (replicate (n + 1) false) 2 true → length after ≡ n + 1 → length least_after ≡ n + 1
     → ((x : ℕ) → IsInner n x → least_at least x ≡ most) → ((x : ℕ) → IsInner n x → is_inside inside x ≡ false → w 2 x <ℤ most)
     → AreNearer n w inside 2 near least after least_after → IsState n w inside after least_after []
@@ -227,9 +238,11 @@ state_start n w inside near after least least_after most some is size least_size
     }
 
 -- where no node is inside, and no weight is known, a node's weights are those that are taken
-pub row_reached : (n : ℕ) (w : ℕ → ℕ → ℤ) (size next : ℕ) (inside : List Bool) (near after : List ℕ) (least least_after : List ℤ) (most : ℤ) → n < size
+pub row_reached : (n : ℕ) (w : ℕ → ℕ → ℤ) (size next : ℕ) (inside : List Bool) (near after : List ℕ) (least least_after : List ℤ) (most : ℤ)
+    → n < size
     → inside ≡ replicate size false → least ≡ replicate size most
-    → ((x : ℕ) → IsInner n x → is_inside inside x ≡ false → w next x <ℤ most) → AreNearer n w inside next near least after least_after → (x : ℕ) → IsInner n x → least_at least_after x ≡ w next x
+    → ((x : ℕ) → IsInner n x → is_inside inside x ≡ false → w next x <ℤ most)
+    → AreNearer n w inside next near least after least_after → (x : ℕ) → IsInner n x → least_at least_after x ≡ w next x
 row_reached n w size next inside near after least least_after most enough none full small nearer x h =
     let free : is_inside inside x ≡ false = ap (λ xs. is_inside xs x) none ∙ none_inside size x in
     let old : least_at least x ≡ most = ap (λ zs. least_at zs x) full ∙ get_or-replicate size x most (pos 0) (omega (arith, h.1, enough)) in
@@ -240,17 +253,22 @@ row_reached n w size next inside near after least least_after most enough none f
 
 -- ---- the steps as the code shows them: slices of the vectors, and the slices written back
 
-pub written_back : {X : Type 0} (before after : List X) (len : ℕ) → len ≡ length after → take len (after ++ drop (length after) before) ≡ after
-written_back before after len same = ap (λ k. take k (after ++ drop (length after) before)) same ∙ take-append_seam after (drop (length after) before)
+pub written_back : {X : Type 0} (before after : List X) (len : ℕ) → len ≡ length after
+    → take len (after ++ drop (length after) before) ≡ after
+written_back before after len same =
+    ap (λ k. take k (after ++ drop (length after) before)) same ∙ take-append_seam after (drop (length after) before)
 
 none_yet : (n x : ℕ) (least : List ℤ) (most : ℤ) → least ≡ replicate (n + 1) most → IsInner n x → least_at least x ≡ most
 none_yet n x least most is h = ap (λ xs. least_at xs x) is ∙ get_or-replicate (n + 1) x most (pos 0) (omega (arith, h.1))
 
 pub start_after : (n : ℕ) (w : ℕ → ℕ → ℤ) (size : ℕ) (inside seen : List Bool) (near near_was near_after : List ℕ) (least least_was least_after : List ℤ)
     (near_len least_len : ℕ) (most : ℤ) → 3 ≤ n → size ≡ n + 1
-    → inside ≡ replicate size false → least ≡ replicate size most → seen ≡ set inside 2 true → near_was ≡ near → least_was ≡ least → length near ≡ size
-    → length near_after ≡ length near_was → length least_after ≡ length least_was → near_len ≡ length near → least_len ≡ length least
-    → ((x : ℕ) → IsInner n x → is_inside seen x ≡ false → w 2 x <ℤ most) → AreNearer n w seen 2 near_was least_was near_after least_after
+    → inside ≡ replicate size false → least ≡ replicate size most → seen ≡ set inside 2 true → near_was ≡ near → least_was ≡ least
+    → length near ≡ size
+    → length near_after ≡ length near_was → length least_after ≡ length least_was → near_len ≡ length near
+    → least_len ≡ length least
+    → ((x : ℕ) → IsInner n x → is_inside seen x ≡ false → w 2 x <ℤ most)
+    → AreNearer n w seen 2 near_was least_was near_after least_after
     → IsState n w (set inside 2 true) (take near_len (near_after ++ drop (length near_after) near)) (take least_len (least_after ++ drop (length least_after) least)) []
 start_after n w size inside seen near near_was near_after least least_was least_after near_len least_len most some size_is inside_is least_is seen_is near_same
     least_same near_size near_kept least_kept near_len_is least_len_is small nearer =
@@ -268,7 +286,8 @@ start_after n w size inside seen near near_was near_after least least_was least_
 
 pub state_after : (n : ℕ) (w : ℕ → ℕ → ℤ) (inside seen : List Bool) (near near_was near_after : List ℕ) (least least_was least_after : List ℤ)
     (added pushed : List (ℕ × ℕ)) (v u near_len least_len : ℕ) → IsState n w inside near least added → IsNearestOutside n inside least v
-    → seen ≡ set inside v true → near_was ≡ near → least_was ≡ least → length near_after ≡ length near_was → length least_after ≡ length least_was → near_len ≡ length near → least_len ≡ length least
+    → seen ≡ set inside v true → near_was ≡ near → least_was ≡ least → length near_after ≡ length near_was
+    → length least_after ≡ length least_was → near_len ≡ length near → least_len ≡ length least
     → AreNearer n w seen v near_was least_was near_after least_after → u ≡ get_or near v u → pushed ≡ added ++ (u, v) ∷ []
     → IsState n w (set inside v true) (take near_len (near_after ++ drop (length near_after) near)) (take least_len (least_after ++ drop (length least_after) least)) pushed
 state_after n w inside seen near near_was near_after least least_was least_after added pushed v u near_len least_len s next seen_is near_same least_same
@@ -285,7 +304,8 @@ state_after n w inside seen near near_was near_after least least_was least_after
     (subst (IsState n w (set inside v true) near_after least_after) (ap (λ y. added ++ (y, v) ∷ []) (sym u_is) ∙ sym push) more))
 
 -- what the pass found
-pub nearest_after : (n : ℕ) (inside seen : List Bool) (least least_was least_after : List ℤ) (least_len : ℕ) (nearest : Option ℕ) → seen ≡ inside
+pub nearest_after : (n : ℕ) (inside seen : List Bool) (least least_was least_after : List ℤ) (least_len : ℕ) (nearest : Option ℕ)
+    → seen ≡ inside
     → least_was ≡ least → length least_after ≡ length least_was → least_len ≡ length least
     → MatchOption nearest (AllInside n seen) (λ node. IsNearestOutside n seen least_after node)
     → MatchOption nearest (AllInside n inside) (λ node. IsNearestOutside n inside (take least_len (least_after ++ drop (length least_after) least)) node)

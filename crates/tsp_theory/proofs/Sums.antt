@@ -23,7 +23,8 @@ unfolding above below
 parts (pos n) = omega (arith, ints)
 parts (negsuc n) = omega (arith, ints)
 
-sum_parts : {X : Type 0} (f : X → ℤ) (xs : List X) → sum_int_by f xs +ℤ pos (sum_by (λ x. below (f x)) xs) ≡ pos (sum_by (λ x. above (f x)) xs)
+sum_parts : {X : Type 0} (f : X → ℤ) (xs : List X)
+    → sum_int_by f xs +ℤ pos (sum_by (λ x. below (f x)) xs) ≡ pos (sum_by (λ x. above (f x)) xs)
 sum_parts f [] = refl
 sum_parts f (x ∷ xs) =
     let tail = sum_parts f xs in
@@ -39,7 +40,8 @@ sum_int_by-IsPermutation f xs ys p =
     let highs = sum_by-IsPermutation (λ x. above (f x)) xs ys p in
     omega (arith, ints)
 
-pub sum_int_by-add : {X : Type 0} (f g : X → ℤ) (xs : List X) → sum_int_by (λ x. f x +ℤ g x) xs ≡ sum_int_by f xs +ℤ sum_int_by g xs
+pub sum_int_by-add : {X : Type 0} (f g : X → ℤ) (xs : List X)
+    → sum_int_by (λ x. f x +ℤ g x) xs ≡ sum_int_by f xs +ℤ sum_int_by g xs
 sum_int_by-add f g [] = refl
 sum_int_by-add f g (x ∷ xs) = let tail = sum_int_by-add f g xs in omega (arith, ints)
 
@@ -52,7 +54,8 @@ scaled_sum (suc scale) a b =
     let second = suc_ℤ-*ℤ (pos scale) b in
     omega (arith, ints)
 
-pub sum_int_by-scaled : {X : Type 0} (scale : ℕ) (f : X → ℤ) (xs : List X) → sum_int_by (λ x. pos scale *ℤ f x) xs ≡ pos scale *ℤ sum_int_by f xs
+pub sum_int_by-scaled : {X : Type 0} (scale : ℕ) (f : X → ℤ) (xs : List X)
+    → sum_int_by (λ x. pos scale *ℤ f x) xs ≡ pos scale *ℤ sum_int_by f xs
 sum_int_by-scaled scale f [] = let none = *ℤ-zero (pos scale) in omega (arith, ints)
 sum_int_by-scaled scale f (x ∷ xs) =
     let tail = sum_int_by-scaled scale f xs in
@@ -60,7 +63,8 @@ sum_int_by-scaled scale f (x ∷ xs) =
     omega (arith, ints)
 
 -- what is at most something for each is so for the sum
-pub sum_int_by-le : {X : Type 0} (f g : X → ℤ) (xs : List X) → AllByRecursion (λ x. f x ≤ℤ g x) xs → sum_int_by f xs ≤ℤ sum_int_by g xs
+pub sum_int_by-le : {X : Type 0} (f g : X → ℤ) (xs : List X) → AllByRecursion (λ x. f x ≤ℤ g x) xs
+    → sum_int_by f xs ≤ℤ sum_int_by g xs
 sum_int_by-le f g [] h = omega (arith, ints)
 sum_int_by-le f g (x ∷ xs) h =
     let tail = sum_int_by-le f g xs h.1 in

@@ -34,7 +34,8 @@ none_equal : (x : ℕ) (nodes : List ℕ) → list_any (eqb x) nodes ≡ false �
 none_equal x [] h = tt
 none_equal x (y ∷ nodes) h = let p = or_parts (eqb x y) (list_any (eqb x) nodes) h in (p.0, none_equal x nodes p.1)
 
-all_apart : (n x : ℕ) (nodes : List ℕ) → (IsInner n x → ⊥) → AllByRecursion (IsInner n) nodes → AllByRecursion (λ y. eqb x y ≡ false) nodes
+all_apart : (n x : ℕ) (nodes : List ℕ) → (IsInner n x → ⊥) → AllByRecursion (IsInner n) nodes
+    → AllByRecursion (λ y. eqb x y ≡ false) nodes
 all_apart n x [] never h = tt
 all_apart n x (y ∷ nodes) never h = (ne_eqb x y (λ same. never (subst (IsInner n) (sym same) h.0)), all_apart n x nodes never h.1)
 
@@ -67,7 +68,8 @@ has_each n nodes t x in_x = elim (cases_Bool (list_any (eqb x) nodes)) [
 -- ---- a path crosses each part of its nodes
 
 -- where the path does not cross, its nodes are on one side
-one_side : (part : ℕ → Bool) (side : Bool) (a : ℕ) (nodes : List ℕ) → part a ≡ side → list_any (crosses part) (path a nodes) ≡ false → AllByRecursion (λ y. part y ≡ side) nodes
+one_side : (part : ℕ → Bool) (side : Bool) (a : ℕ) (nodes : List ℕ) → part a ≡ side
+    → list_any (crosses part) (path a nodes) ≡ false → AllByRecursion (λ y. part y ≡ side) nodes
 one_side part side a [] h e = tt
 one_side part side a (b ∷ bs) h e =
     let p = or_parts (crosses part (a, b)) (list_any (crosses part) (path b bs)) e in
@@ -79,7 +81,8 @@ one_side part side a (b ∷ bs) h e =
     same_side true false k = sym k
     same_side false y k = k
 
-path_crosses : (part : ℕ → Bool) (b : ℕ) (bs : List ℕ) (inside outside : ℕ) → list_any (eqb inside) (b ∷ bs) ≡ true → list_any (eqb outside) (b ∷ bs) ≡ true
+path_crosses : (part : ℕ → Bool) (b : ℕ) (bs : List ℕ) (inside outside : ℕ) → list_any (eqb inside) (b ∷ bs) ≡ true
+    → list_any (eqb outside) (b ∷ bs) ≡ true
     → part inside ≡ true → part outside ≡ false → list_any (crosses part) (path b bs) ≡ true
 path_crosses part b bs inside outside has_in has_out in_part out_part = elim (cases_Bool (list_any (crosses part) (path b bs))) [
   | inl h ↦ h
@@ -90,7 +93,8 @@ path_crosses part b bs inside outside has_in has_out in_part out_part = elim (ca
       absurd (both_ways (part inside) (first ∙ (sym second ∙ out_part)) in_part)
 ]
 
-path_links : (n b : ℕ) (bs : List ℕ) → IsInner n b → AllByRecursion (IsInner n) bs → IsDistinct eqb (b ∷ bs) → AllByRecursion (IsLink (IsInner n)) (path b bs)
+path_links : (n b : ℕ) (bs : List ℕ) → IsInner n b → AllByRecursion (IsInner n) bs → IsDistinct eqb (b ∷ bs)
+    → AllByRecursion (IsLink (IsInner n)) (path b bs)
 path_links n b [] in_b h d = tt
 path_links n b (c ∷ cs) in_b h d =
     ((in_b, h.0, eqb-false b c (IsDistinct-head eqb b (c ∷ cs) d).0), path_links n c cs h.0 h.1 (IsDistinct-tail eqb b (c ∷ cs) d))
@@ -119,14 +123,16 @@ tour_tree n b c cs t =
     all_other [] h = tt
     all_other (y ∷ ys) h = (eqb-false b y h.0, all_other ys h.1)
 
-pub tour_tree_weight : (w : ℕ → ℕ → ℤ) → ((a b : ℕ) → w a b ≡ w b a) → (b c : ℕ) (cs : List ℕ) → weight_of w (tree_of b (last_of c cs) (path b (c ∷ cs))) ≡ tour_weight w (b ∷ c ∷ cs)
+pub tour_tree_weight : (w : ℕ → ℕ → ℤ) → ((a b : ℕ) → w a b ≡ w b a) → (b c : ℕ) (cs : List ℕ)
+    → weight_of w (tree_of b (last_of c cs) (path b (c ∷ cs))) ≡ tour_weight w (b ∷ c ∷ cs)
 tour_tree_weight w symmetric b c cs =
     let same : weight_of w (map ordered (path b (c ∷ cs))) ≡ weight_of w (path b (c ∷ cs)) = ordered_weight w symmetric (path b (c ∷ cs)) in
     let back : w (last_of c cs) 1 ≡ w 1 (last_of c cs) = symmetric (last_of c cs) 1 in
     omega (arith, ints, same, back)
 
 -- a least 1-tree weighs no more than a tour
-pub tree_below_tour : (n : ℕ) (w : ℕ → ℕ → ℤ) (pairs : List (ℕ × ℕ)) (nodes : List ℕ) → 3 ≤ n → ((a b : ℕ) → w a b ≡ w b a) → IsLeastOneTree n w pairs
+pub tree_below_tour : (n : ℕ) (w : ℕ → ℕ → ℤ) (pairs : List (ℕ × ℕ)) (nodes : List ℕ) → 3 ≤ n → ((a b : ℕ) → w a b ≡ w b a)
+    → IsLeastOneTree n w pairs
     → AreInner n nodes → weight_of w pairs ≤ℤ tour_weight w nodes
 tree_below_tour n w pairs [] some symmetric least t = absurd (omega (arith, t.count))
 tree_below_tour n w pairs (b ∷ []) some symmetric least t = absurd (omega (arith, t.count))

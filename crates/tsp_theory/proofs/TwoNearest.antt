@@ -21,7 +21,8 @@ pub record AreNearestBefore (n : ℕ) (w : ℕ → ℕ → ℤ) (node first : �
   pub next : (x : ℕ) → IsInner n x → x < node → x ≢ first → second_weight ≤ℤ w 1 x
 
 -- the nodes 2 and 3
-two_nodes : (n : ℕ) (w : ℕ → ℕ → ℤ) (a b : ℕ) (a_weight b_weight : ℤ) → IsInner n a → IsInner n b → a < 4 → b < 4 → a ≢ b → a_weight ≡ w 1 a → b_weight ≡ w 1 b
+two_nodes : (n : ℕ) (w : ℕ → ℕ → ℤ) (a b : ℕ) (a_weight b_weight : ℤ) → IsInner n a → IsInner n b → a < 4 → b < 4 → a ≢ b
+    → a_weight ≡ w 1 a → b_weight ≡ w 1 b
     → a_weight ≤ℤ b_weight → AreNearestBefore n w 4 a a_weight b b_weight
 two_nodes n w a b a_weight b_weight a_in b_in a_few b_few differ a_is b_is less = record {
   first_in = a_in;
@@ -40,14 +41,16 @@ two_nodes n w a b a_weight b_weight a_in b_in a_few b_few differ a_is b_is less 
       subst (λ (y : ℕ). b_weight ≤ℤ w 1 y) (sym here) (omega (arith, ints, b_is));
 }
 
-pub two_first : (n : ℕ) (w : ℕ → ℕ → ℤ) (a b : ℕ) (a_weight b_weight : ℤ) → 3 ≤ n → a ≡ 2 → b ≡ 3 → a_weight ≡ w 1 2 → b_weight ≡ w 1 3 → a_weight ≤ℤ b_weight
+pub two_first : (n : ℕ) (w : ℕ → ℕ → ℤ) (a b : ℕ) (a_weight b_weight : ℤ) → 3 ≤ n → a ≡ 2 → b ≡ 3 → a_weight ≡ w 1 2
+    → b_weight ≡ w 1 3 → a_weight ≤ℤ b_weight
     → AreNearestBefore n w 4 a a_weight b b_weight
 two_first n w a b a_weight b_weight some a_is b_is a_weighs b_weighs less =
     two_nodes n w a b a_weight b_weight (omega (arith, a_is), omega (arith, a_is, some)) (omega (arith, b_is), omega (arith, b_is, some)) (omega (arith, a_is))
     (omega (arith, b_is)) (λ same. omega (arith, a_is, b_is, same))
     (a_weighs ∙ ap (w 1) (sym a_is)) (b_weighs ∙ ap (w 1) (sym b_is)) less
 
-pub three_first : (n : ℕ) (w : ℕ → ℕ → ℤ) (a b : ℕ) (a_weight b_weight : ℤ) → 3 ≤ n → a ≡ 2 → b ≡ 3 → a_weight ≡ w 1 2 → b_weight ≡ w 1 3 → b_weight <ℤ a_weight
+pub three_first : (n : ℕ) (w : ℕ → ℕ → ℤ) (a b : ℕ) (a_weight b_weight : ℤ) → 3 ≤ n → a ≡ 2 → b ≡ 3 → a_weight ≡ w 1 2
+    → b_weight ≡ w 1 3 → b_weight <ℤ a_weight
     → AreNearestBefore n w 4 b b_weight a a_weight
 three_first n w a b a_weight b_weight some a_is b_is a_weighs b_weighs less =
     two_nodes n w b a b_weight a_weight (omega (arith, b_is), omega (arith, b_is, some)) (omega (arith, a_is), omega (arith, a_is, some)) (omega (arith, b_is))
@@ -95,7 +98,8 @@ nearer_second n w node first second here first_weight second_weight weight b low
   ];
 }
 
-pub nearer_none : (n : ℕ) (w : ℕ → ℕ → ℤ) (node first second : ℕ) (first_weight second_weight weight : ℤ) → AreNearestBefore n w node first first_weight second second_weight → weight ≡ w 1 node
+pub nearer_none : (n : ℕ) (w : ℕ → ℕ → ℤ) (node first second : ℕ) (first_weight second_weight weight : ℤ)
+    → AreNearestBefore n w node first first_weight second second_weight → weight ≡ w 1 node
     → first_weight ≤ℤ weight → second_weight ≤ℤ weight → AreNearestBefore n w (node + 1) first first_weight second second_weight
 nearer_none n w node first second first_weight second_weight weight b is not_first not_second = record {
   first_in = b.first_in;
@@ -138,14 +142,16 @@ nearest_by_row n w row first second same h = record {
 
 -- ---- what the code compares
 
-pub less_of : (a b : ℤ) → FitsSigned w64 a → FitsSigned w64 b → int_lt (to_z w64 (of_z w64 a)) (to_z w64 (of_z w64 b)) ≡ true → a <ℤ b
+pub less_of : (a b : ℤ) → FitsSigned w64 a → FitsSigned w64 b → int_lt (to_z w64 (of_z w64 a)) (to_z w64 (of_z w64 b)) ≡ true
+    → a <ℤ b
 less_of a b a_in b_in h =
     let first : to_z w64 (of_z w64 a) ≡ a = to_z-of_z w64 a a_in in
     let second : to_z w64 (of_z w64 b) ≡ b = to_z-of_z w64 b b_in in
     let own : int_lt a b ≡ true = rw (first, second) at h in
     grind (arith, ints, own)
 
-pub not_less_of : (a b : ℤ) → FitsSigned w64 a → FitsSigned w64 b → int_lt (to_z w64 (of_z w64 a)) (to_z w64 (of_z w64 b)) ≡ false → b ≤ℤ a
+pub not_less_of : (a b : ℤ) → FitsSigned w64 a → FitsSigned w64 b → int_lt (to_z w64 (of_z w64 a)) (to_z w64 (of_z w64 b)) ≡ false
+    → b ≤ℤ a
 not_less_of a b a_in b_in h =
     let first : to_z w64 (of_z w64 a) ≡ a = to_z-of_z w64 a a_in in
     let second : to_z w64 (of_z w64 b) ≡ b = to_z-of_z w64 b b_in in

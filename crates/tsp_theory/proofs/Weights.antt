@@ -16,37 +16,48 @@ use Rattle.tsp_theory.proofs.Sizes.{same_scale, size_of}
 use Rattle.tsp_theory.proofs.OneTrees.{ordered_weight}
 use Rattle.tsp_theory.proofs.Steps.{IsState}
 
-pub between_size : (scaled first second : ℤ) → IsFromTo (neg_ℤ (pos (most_scale * most_weight))) (pos (most_scale * most_weight)) scaled
-    → IsFromTo (neg_ℤ (pos most_potential)) (pos most_potential) first → IsFromTo (neg_ℤ (pos most_potential)) (pos most_potential) second
+pub between_size : (scaled first second : ℤ)
+    → IsFromTo (neg_ℤ (pos (most_scale * most_weight))) (pos (most_scale * most_weight)) scaled
+    → IsFromTo (neg_ℤ (pos most_potential)) (pos most_potential) first
+    → IsFromTo (neg_ℤ (pos most_potential)) (pos most_potential) second
     → IsFromTo (neg_ℤ (pos most_between)) (pos most_between) (scaled +ℤ (first +ℤ second))
 between_size scaled first second p q r = (omega (arith, ints, p.0, q.0, r.0), omega (arith, ints, p.1, q.1, r.1))
 
-both_is : (first second : ℤ) → IsFromTo (neg_ℤ (pos most_potential)) (pos most_potential) first → IsFromTo (neg_ℤ (pos most_potential)) (pos most_potential) second
+both_is : (first second : ℤ) → IsFromTo (neg_ℤ (pos most_potential)) (pos most_potential) first
+    → IsFromTo (neg_ℤ (pos most_potential)) (pos most_potential) second
     → to_z w64 (of_z w64 (to_z w64 (of_z w64 first) +ℤ to_z w64 (of_z w64 second))) ≡ first +ℤ second
 both_is first second q r = omega (arith, ints, q.0, q.1, r.0, r.1)
 
-scaled_is : (scaled : ℤ) → IsFromTo (neg_ℤ (pos (most_scale * most_weight))) (pos (most_scale * most_weight)) scaled → to_z w64 (of_z w64 scaled) ≡ scaled
+scaled_is : (scaled : ℤ) → IsFromTo (neg_ℤ (pos (most_scale * most_weight))) (pos (most_scale * most_weight)) scaled
+    → to_z w64 (of_z w64 scaled) ≡ scaled
 scaled_is scaled p = omega (arith, ints, p.0, p.1)
 
 between_fits : (z : ℤ) → IsFromTo (neg_ℤ (pos most_between)) (pos most_between) z → FitsSigned w64 z
 between_fits z h = fits_signed_from_abs w64 z (let size = size_of most_between z h in omega (arith, size))
 
-pub weight_fits : (scaled first second : ℤ) → IsFromTo (neg_ℤ (pos (most_scale * most_weight))) (pos (most_scale * most_weight)) scaled
-    → IsFromTo (neg_ℤ (pos most_potential)) (pos most_potential) first → IsFromTo (neg_ℤ (pos most_potential)) (pos most_potential) second
+pub weight_fits : (scaled first second : ℤ)
+    → IsFromTo (neg_ℤ (pos (most_scale * most_weight))) (pos (most_scale * most_weight)) scaled
+    → IsFromTo (neg_ℤ (pos most_potential)) (pos most_potential) first
+    → IsFromTo (neg_ℤ (pos most_potential)) (pos most_potential) second
     → FitsSigned w64 (to_z w64 (of_z w64 scaled) +ℤ to_z w64 (of_z w64 (to_z w64 (of_z w64 first) +ℤ to_z w64 (of_z w64 second))))
-weight_fits scaled first second p q r = rw (both_is first second q r, scaled_is scaled p) (between_fits (scaled +ℤ (first +ℤ second)) (between_size scaled first second p q r))
+weight_fits scaled first second p q r =
+    rw (both_is first second q r, scaled_is scaled p) (between_fits (scaled +ℤ (first +ℤ second)) (between_size scaled first second p q r))
 
-pub weight_computed : (scaled first second : ℤ) → IsFromTo (neg_ℤ (pos (most_scale * most_weight))) (pos (most_scale * most_weight)) scaled
-    → IsFromTo (neg_ℤ (pos most_potential)) (pos most_potential) first → IsFromTo (neg_ℤ (pos most_potential)) (pos most_potential) second
+pub weight_computed : (scaled first second : ℤ)
+    → IsFromTo (neg_ℤ (pos (most_scale * most_weight))) (pos (most_scale * most_weight)) scaled
+    → IsFromTo (neg_ℤ (pos most_potential)) (pos most_potential) first
+    → IsFromTo (neg_ℤ (pos most_potential)) (pos most_potential) second
     → to_z w64 (of_z w64 (to_z w64 (of_z w64 scaled) +ℤ to_z w64 (of_z w64 (to_z w64 (of_z w64 first) +ℤ to_z w64 (of_z w64 second))))) ≡ scaled +ℤ (first +ℤ second)
 weight_computed scaled first second p q r = rw (both_is first second q r, scaled_is scaled p)
     (to_z-of_z w64 (scaled +ℤ (first +ℤ second)) (between_fits (scaled +ℤ (first +ℤ second)) (between_size scaled first second p q r)))
 
-pub scaled_by : (scale cost scaled both : ℤ) → IsScale scale → scaled ≡ to_z w64 (of_z w64 scale) *ℤ cost → scaled +ℤ both ≡ (scale *ℤ cost) +ℤ both
+pub scaled_by : (scale cost scaled both : ℤ) → IsScale scale → scaled ≡ to_z w64 (of_z w64 scale) *ℤ cost
+    → scaled +ℤ both ≡ (scale *ℤ cost) +ℤ both
 scaled_by scale cost scaled both s is = ap (λ z. z +ℤ both) (is ∙ ap (λ z. z *ℤ cost) (same_scale scale s))
 
 -- the weight is symmetric
-pub weight_even : (scale : ℤ) (potentials : List ℤ) (cost : ℕ → ℕ → ℤ) → IsSymmetric cost → (i j : ℕ) → weight_between scale potentials cost i j ≡ weight_between scale potentials cost j i
+pub weight_even : (scale : ℤ) (potentials : List ℤ) (cost : ℕ → ℕ → ℤ) → IsSymmetric cost → (i j : ℕ)
+    → weight_between scale potentials cost i j ≡ weight_between scale potentials cost j i
 weight_even scale potentials cost even i j = elim (cases_eq i j) [
   | inl same ↦ ap (λ k. weight_between scale potentials cost k j) same ∙ ap (λ k. weight_between scale potentials cost j k) (sym same)
   | inr other ↦ let turned : cost i j ≡ cost j i = even i j other in
@@ -59,28 +70,35 @@ weight_even scale potentials cost even i j = elim (cases_eq i j) [
 
 -- ---- lower weights
 
-lower_size : (weight number : ℤ) → IsFromTo (neg_ℤ (pos most_between)) (pos most_between) weight → IsFromTo (pos 0) (pos most_multiplier) number
+lower_size : (weight number : ℤ) → IsFromTo (neg_ℤ (pos most_between)) (pos most_between) weight
+    → IsFromTo (pos 0) (pos most_multiplier) number
     → IsFromTo (neg_ℤ (pos 1003000000000000000)) (pos 1003000000000000000) (weight -ℤ number)
 lower_size weight number p q = (omega (arith, ints, p.0, q.1), omega (arith, ints, p.1, q.0))
 
-pub lower_is : (weight number : ℤ) → IsFromTo (neg_ℤ (pos most_between)) (pos most_between) weight → IsFromTo (pos 0) (pos most_multiplier) number
+pub lower_is : (weight number : ℤ) → IsFromTo (neg_ℤ (pos most_between)) (pos most_between) weight
+    → IsFromTo (pos 0) (pos most_multiplier) number
     → (to_z w64 (of_z w64 weight) -ℤ to_z w64 (of_z w64 number)) ≡ weight -ℤ number
 lower_is weight number p q = omega (arith, ints, p.0, p.1, q.0, q.1)
 
-lower_in : (weight number : ℤ) → IsFromTo (neg_ℤ (pos most_between)) (pos most_between) weight → IsFromTo (pos 0) (pos most_multiplier) number → FitsSigned w64 (weight -ℤ number)
-lower_in weight number p q = fits_signed_from_abs w64 (weight -ℤ number) (let size = size_of 1003000000000000000 (weight -ℤ number) (lower_size weight number p q) in omega (arith, size))
+lower_in : (weight number : ℤ) → IsFromTo (neg_ℤ (pos most_between)) (pos most_between) weight
+    → IsFromTo (pos 0) (pos most_multiplier) number → FitsSigned w64 (weight -ℤ number)
+lower_in weight number p q =
+    fits_signed_from_abs w64 (weight -ℤ number) (let size = size_of 1003000000000000000 (weight -ℤ number) (lower_size weight number p q) in omega (arith, size))
 
-pub lower_fits : (weight number : ℤ) → IsFromTo (neg_ℤ (pos most_between)) (pos most_between) weight → IsFromTo (pos 0) (pos most_multiplier) number
+pub lower_fits : (weight number : ℤ) → IsFromTo (neg_ℤ (pos most_between)) (pos most_between) weight
+    → IsFromTo (pos 0) (pos most_multiplier) number
     → FitsSigned w64 (to_z w64 (of_z w64 weight) -ℤ to_z w64 (of_z w64 number))
 lower_fits weight number p q = rw (lower_is weight number p q) (lower_in weight number p q)
 
 -- ---- sums of weights
 
-pub sum_more : (sum weight : ℤ) (index : ℕ) → IsFromTo (neg_ℤ (pos (index * 2 ^ 63))) (pos (index * 2 ^ 63)) sum → FitsSigned w64 weight
+pub sum_more : (sum weight : ℤ) (index : ℕ) → IsFromTo (neg_ℤ (pos (index * 2 ^ 63))) (pos (index * 2 ^ 63)) sum
+    → FitsSigned w64 weight
     → IsFromTo (neg_ℤ (pos ((index + 1) * 2 ^ 63))) (pos ((index + 1) * 2 ^ 63)) (sum +ℤ weight)
 sum_more sum weight index s fits = (omega (arith, ints, s.0, fits), omega (arith, ints, s.1, fits))
 
-pub sum_fits : (sum weight from : ℤ) (index : ℕ) → index ≤ most_nodes → IsFromTo (neg_ℤ (pos (index * 2 ^ 63))) (pos (index * 2 ^ 63)) sum → FitsSigned w64 weight
+pub sum_fits : (sum weight from : ℤ) (index : ℕ) → index ≤ most_nodes
+    → IsFromTo (neg_ℤ (pos (index * 2 ^ 63))) (pos (index * 2 ^ 63)) sum → FitsSigned w64 weight
     → from ≡ to_z w64 (of_z w64 weight) → FitsSigned w128 (sum +ℤ to_z w128 (of_z w128 from))
 sum_fits sum weight from index few s fits is =
     let same : from ≡ weight = is ∙ to_z-of_z w64 weight fits in
@@ -88,21 +106,24 @@ sum_fits sum weight from index few s fits is =
     let size : IsFromTo (neg_ℤ (pos (2 ^ 100))) (pos (2 ^ 100)) (sum +ℤ weight) = (omega (arith, ints, s.0, fits, few), omega (arith, ints, s.1, fits, few)) in
     rw own (fits_signed_from_abs w128 (sum +ℤ weight) (let most = size_of (2 ^ 100) (sum +ℤ weight) size in omega (arith, most)))
 
-pub sum_computed : (sum weight from : ℤ) (index : ℕ) → index ≤ most_nodes → IsFromTo (neg_ℤ (pos (index * 2 ^ 63))) (pos (index * 2 ^ 63)) sum → FitsSigned w64 weight
+pub sum_computed : (sum weight from : ℤ) (index : ℕ) → index ≤ most_nodes
+    → IsFromTo (neg_ℤ (pos (index * 2 ^ 63))) (pos (index * 2 ^ 63)) sum → FitsSigned w64 weight
     → from ≡ to_z w64 (of_z w64 weight) → to_z w128 (of_z w128 (sum +ℤ to_z w128 (of_z w128 from))) ≡ sum +ℤ weight
 sum_computed sum weight from index few s fits is =
     let same : from ≡ weight = is ∙ to_z-of_z w64 weight fits in
     omega (arith, ints, s.0, s.1, fits, same)
 
 -- one pair more
-pub weight_added : (w : ℕ → ℕ → ℤ) (pairs : List (ℕ × ℕ)) (pair : ℕ × ℕ) → weight_of w (pairs ++ pair ∷ []) ≡ weight_of w pairs +ℤ w pair.0 pair.1
+pub weight_added : (w : ℕ → ℕ → ℤ) (pairs : List (ℕ × ℕ)) (pair : ℕ × ℕ)
+    → weight_of w (pairs ++ pair ∷ []) ≡ weight_of w pairs +ℤ w pair.0 pair.1
 weight_added w [] pair = omega (arith, ints)
 weight_added w (p ∷ pairs) pair = let rest = weight_added w pairs pair in omega (arith, ints, rest)
 
 -- the pair that a growth adds, with the weight that is kept of it
 pub sum_pushed : (n : ℕ) (w : ℕ → ℕ → ℤ) (inside : List Bool) (near : List ℕ) (least : List ℤ) (pairs after : List (ℕ × ℕ)) (next from : ℕ) (weight : ℤ)
     → IsState n w inside near least pairs → IsNearestOutside n inside least next
-    → from ≡ get_or near next from → weight ≡ get_or least next weight → after ≡ pairs ++ (from, next) ∷ [] → weight_of w after ≡ weight_of w pairs +ℤ weight
+    → from ≡ get_or near next from → weight ≡ get_or least next weight → after ≡ pairs ++ (from, next) ∷ []
+    → weight_of w after ≡ weight_of w pairs +ℤ weight
 sum_pushed n w inside near least pairs after next from weight s outside from_is weight_is pushed =
     let node : from ≡ get_or near next 0 = from_is ∙ get_or_default near next from 0 (omega (arith, s.near_len, outside.inner.1)) in
     let own : weight ≡ get_or least next (pos 0) = weight_is ∙ get_or_default least next weight (pos 0) (omega (arith, s.least_len, outside.inner.1)) in
@@ -114,17 +135,20 @@ sum_pushed n w inside near least pairs after next from weight s outside from_is 
 abbrev pub most_tree : ℕ
 most_tree = (most_nodes + 2) * 2 ^ 63
 
-spokes_is : (first second from other : ℤ) → FitsSigned w64 first → FitsSigned w64 second → from ≡ to_z w64 (of_z w64 first) → other ≡ to_z w64 (of_z w64 second)
+spokes_is : (first second from other : ℤ) → FitsSigned w64 first → FitsSigned w64 second → from ≡ to_z w64 (of_z w64 first)
+    → other ≡ to_z w64 (of_z w64 second)
     → to_z w128 (of_z w128 (to_z w128 (of_z w128 from) +ℤ to_z w128 (of_z w128 other))) ≡ first +ℤ second
 spokes_is first second from other p q is also =
     let one : from ≡ first = is ∙ to_z-of_z w64 first p in
     let two : other ≡ second = also ∙ to_z-of_z w64 second q in
     omega (arith, ints, p, q, one, two)
 
-grown_is : (grown : ℤ) → IsFromTo (neg_ℤ (pos (most_nodes * 2 ^ 63))) (pos (most_nodes * 2 ^ 63)) grown → to_z w128 (of_z w128 grown) ≡ grown
+grown_is : (grown : ℤ) → IsFromTo (neg_ℤ (pos (most_nodes * 2 ^ 63))) (pos (most_nodes * 2 ^ 63)) grown
+    → to_z w128 (of_z w128 grown) ≡ grown
 grown_is grown r = omega (arith, ints, r.0, r.1)
 
-pub tree_size : (first second grown : ℤ) → FitsSigned w64 first → FitsSigned w64 second → IsFromTo (neg_ℤ (pos (most_nodes * 2 ^ 63))) (pos (most_nodes * 2 ^ 63)) grown
+pub tree_size : (first second grown : ℤ) → FitsSigned w64 first → FitsSigned w64 second
+    → IsFromTo (neg_ℤ (pos (most_nodes * 2 ^ 63))) (pos (most_nodes * 2 ^ 63)) grown
     → IsFromTo (neg_ℤ (pos most_tree)) (pos most_tree) ((first +ℤ second) +ℤ grown)
 tree_size first second grown p q r = (omega (arith, ints, p, q, r.0), omega (arith, ints, p, q, r.1))
 
@@ -134,13 +158,15 @@ tree_same z h = omega (arith, ints, h.0, h.1)
 tree_in : (z : ℤ) → IsFromTo (neg_ℤ (pos most_tree)) (pos most_tree) z → FitsSigned w128 z
 tree_in z h = fits_signed_from_abs w128 z (let size = size_of most_tree z h in omega (arith, size))
 
-pub tree_fits : (first second grown from other : ℤ) → FitsSigned w64 first → FitsSigned w64 second → from ≡ to_z w64 (of_z w64 first) → other ≡ to_z w64 (of_z w64 second)
+pub tree_fits : (first second grown from other : ℤ) → FitsSigned w64 first → FitsSigned w64 second
+    → from ≡ to_z w64 (of_z w64 first) → other ≡ to_z w64 (of_z w64 second)
     → IsFromTo (neg_ℤ (pos (most_nodes * 2 ^ 63))) (pos (most_nodes * 2 ^ 63)) grown
     → FitsSigned w128 (to_z w128 (of_z w128 (to_z w128 (of_z w128 from) +ℤ to_z w128 (of_z w128 other))) +ℤ to_z w128 (of_z w128 grown))
 tree_fits first second grown from other p q is also r =
     rw (spokes_is first second from other p q is also, grown_is grown r) (tree_in ((first +ℤ second) +ℤ grown) (tree_size first second grown p q r))
 
-pub tree_computed : (first second grown from other : ℤ) → FitsSigned w64 first → FitsSigned w64 second → from ≡ to_z w64 (of_z w64 first) → other ≡ to_z w64 (of_z w64 second)
+pub tree_computed : (first second grown from other : ℤ) → FitsSigned w64 first → FitsSigned w64 second
+    → from ≡ to_z w64 (of_z w64 first) → other ≡ to_z w64 (of_z w64 second)
     → IsFromTo (neg_ℤ (pos (most_nodes * 2 ^ 63))) (pos (most_nodes * 2 ^ 63)) grown
     → to_z w128 (of_z w128 (to_z w128 (of_z w128 (to_z w128 (of_z w128 from) +ℤ to_z w128 (of_z w128 other))) +ℤ to_z w128 (of_z w128 grown))) ≡ (first +ℤ second) +ℤ grown
 tree_computed first second grown from other p q is also r =
@@ -177,7 +203,8 @@ sum_of_bound weight potentials given all more p q r is also =
     let parts = computed_parts weight (pos 2 *ℤ all) more p size over in
     (rw (twice, own) parts.0, (omega (arith, ints, p.0, size.1, over.0), omega (arith, ints, p.1, size.0, over.1)))
 
-pub bound_of_weight : (scale weight potentials given all more bound : ℤ) → IsScale scale → FitsSigned w128 bound → IsFromTo (neg_ℤ (pos most_tree)) (pos most_tree) weight
+pub bound_of_weight : (scale weight potentials given all more bound : ℤ) → IsScale scale → FitsSigned w128 bound
+    → IsFromTo (neg_ℤ (pos most_tree)) (pos most_tree) weight
     → IsFromTo (neg_ℤ (pos (most_nodes * most_potential))) (pos (most_nodes * most_potential)) potentials
     → IsFromTo (pos 0) (pos (most_multipliers * most_multiplier)) given → potentials ≡ all → given ≡ more
     → IsLeastBound (to_z w64 (of_z w64 scale)) (to_z w128 (of_z w128

@@ -74,7 +74,8 @@ LeastTreesAreBelowCycles = (n : ℕ) (w : ℕ → ℕ → ℤ) (tree : List (ℕ
 abbrev pub AdjustedBoundsBoundCycles : Type 0
 AdjustedBoundsBoundCycles = (n : ℕ) (cost : ℕ → ℕ → ℤ) (scale : ℤ) (potentials : List ℤ)
     (taken avoided : List (ℕ × ℕ × ℤ)) (bound : ℤ) (nodes : List ℕ)
-    → 3 ≤ n → IsSymmetric cost → IsScale scale → length potentials ≡ n → IsAdjustedBound n cost scale potentials taken avoided bound
+    → 3 ≤ n → IsSymmetric cost → IsScale scale → length potentials ≡ n
+    → IsAdjustedBound n cost scale potentials taken avoided bound
     → IsCycle n nodes → UsesEach taken nodes → UsesNone avoided nodes → bound ≤ℤ length_of cost nodes
 
 -- With no pair taken or avoided it is the bound of the potentials.

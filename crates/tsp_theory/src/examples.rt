@@ -27,15 +27,23 @@ pub fn examples_of_numbers()
 /// breaks others, and the bounds that duals give.
 pub fn examples_of_duals()
     ensures good { AreGood 3 directed (pos 1) (three_numbers (pos 1) (pos 2) (pos 3)) three_zeros }
-    ensures columns { AreGood 3 directed (pos 1) three_zeros (three_numbers (pos 3) (pos 1) (pos 2)) }
-    ensures halves { AreGood 3 directed (pos 2) (three_numbers (pos 2) (pos 4) (pos 5)) three_zeros }
+    ensures columns { AreGood 3 directed
+        (pos 1) three_zeros (three_numbers (pos 3) (pos 1) (pos 2)) }
+    ensures halves { AreGood 3 directed
+        (pos 2) (three_numbers (pos 2) (pos 4) (pos 5)) three_zeros }
     ensures no_loops { AreGood 2 with_loops (pos 1) three_zeros three_zeros }
-    ensures broken_in_row_1 { IsFirstBroken 3 directed (pos 1) (three_numbers (pos 2) (pos 3) (pos 3)) three_zeros 1 2 }
-    ensures broken_in_row_3 { IsFirstBroken 3 directed (pos 1) three_zeros (three_numbers (pos 4) (pos 1) (pos 2)) 3 1 }
-    ensures bound { IsDualBound (pos 1) (three_numbers (pos 1) (pos 2) (pos 3)) three_zeros (pos 6) }
-    ensures bound_of_columns { IsDualBound (pos 1) three_zeros (three_numbers (pos 3) (pos 1) (pos 2)) (pos 6) }
-    ensures bound_of_halves { IsDualBound (pos 2) (three_numbers (pos 2) (pos 4) (pos 5)) three_zeros (pos 6) }
-    ensures bound_below_zero { IsDualBound (pos 2) (three_numbers (negsuc 2) (pos 0) (pos 0)) three_zeros (negsuc 0) }
+    ensures broken_in_row_1 { IsFirstBroken 3 directed
+        (pos 1) (three_numbers (pos 2) (pos 3) (pos 3)) three_zeros 1 2 }
+    ensures broken_in_row_3 { IsFirstBroken 3 directed
+        (pos 1) three_zeros (three_numbers (pos 4) (pos 1) (pos 2)) 3 1 }
+    ensures bound { IsDualBound (pos 1)
+        (three_numbers (pos 1) (pos 2) (pos 3)) three_zeros (pos 6) }
+    ensures bound_of_columns { IsDualBound (pos 1) three_zeros
+        (three_numbers (pos 3) (pos 1) (pos 2)) (pos 6) }
+    ensures bound_of_halves { IsDualBound (pos 2)
+        (three_numbers (pos 2) (pos 4) (pos 5)) three_zeros (pos 6) }
+    ensures bound_below_zero { IsDualBound (pos 2)
+        (three_numbers (negsuc 2) (pos 0) (pos 0)) three_zeros (negsuc 0) }
 {}
 
 /// What 1-trees of four nodes are, what they weigh, which is the least, and the bounds that
@@ -47,10 +55,12 @@ pub fn examples_of_trees()
     ensures same_twice_at_node_1 { ¬ IsOneTree 4 (pairs_of 2 2 (2, 3) (3, 4)) }
     ensures weight { weight_of rectangle (pairs_of 2 4 (2, 3) (3, 4)) ≡ pos 14 }
     ensures least { IsLeastOneTree 4 rectangle (pairs_of 2 4 (2, 3) (3, 4)) }
-    ensures both_potentials { weight_between (pos 2) (four_numbers (pos 0) (pos 10) (pos 100) (pos 0)) star 2 3 ≡ pos 112 }
+    ensures both_potentials { weight_between (pos 2)
+        (four_numbers (pos 0) (pos 10) (pos 100) (pos 0)) star 2 3 ≡ pos 112 }
     ensures rectangle_at_zero { IsNodeBound 4 rectangle (pos 1) zeros (pos 14) }
     ensures star_at_zero { IsNodeBound 4 star (pos 1) zeros (pos 5) }
-    ensures star_at_ones { IsNodeBound 4 star (pos 1) (four_numbers (pos 1) (pos 1) (pos 1) (pos 1)) (pos 5) }
+    ensures star_at_ones { IsNodeBound 4 star
+        (pos 1) (four_numbers (pos 1) (pos 1) (pos 1) (pos 1)) (pos 5) }
     ensures star_at_a_half { IsNodeBound 4 star (pos 2) one_on_two (pos 6) }
     ensures below_zero { IsNodeBound 4 star_below_zero (pos 2) zeros (negsuc 34) }
     ensures below_zero_at_a_half { IsNodeBound 4 star_below_zero (pos 2) one_on_two (negsuc 33) }
@@ -72,9 +82,11 @@ pub fn examples_of_multipliers()
     ensures taken { adjusted (on_diagonals (pos 2) (pos 1)) [] rectangle 1 3 ≡ pos 3 }
     ensures taken_in_reverse { adjusted (on_diagonals (pos 2) (pos 1)) [] rectangle 2 4 ≡ pos 4 }
     ensures avoided { adjusted [] (on_diagonals (pos 2) (pos 1)) rectangle 3 1 ≡ pos 7 }
-    ensures elsewhere { adjusted (on_diagonals (pos 2) (pos 1)) (on_diagonals (pos 7) (pos 7)) rectangle 1 4 ≡ pos 4 }
+    ensures elsewhere { adjusted (on_diagonals (pos 2) (pos 1))
+        (on_diagonals (pos 7) (pos 7)) rectangle 1 4 ≡ pos 4 }
     ensures used { UsesEach (on_diagonals (pos 2) (pos 1)) (1 ∷ 3 ∷ 2 ∷ 4 ∷ []) }
     ensures not_used { ¬ UsesEach (on_diagonals (pos 2) (pos 1)) (1 ∷ 2 ∷ 3 ∷ 4 ∷ []) }
     ensures none_used { UsesNone (on_diagonals (pos 2) (pos 1)) (1 ∷ 2 ∷ 3 ∷ 4 ∷ []) }
-    ensures given_back { IsAdjustedBoundOf (pos 2) one_on_two (on_diagonals (pos 2) (pos 1)) (pos 10) (pos 6) }
+    ensures given_back { IsAdjustedBoundOf (pos 2) one_on_two
+        (on_diagonals (pos 2) (pos 1)) (pos 10) (pos 6) }
 {}

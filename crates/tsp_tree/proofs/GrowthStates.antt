@@ -37,19 +37,24 @@ pub record IsState (n : ℕ) (w : ℕ → ℕ → ℤ) (outside near : List ℕ)
   pub joined : (k : ℕ) → k < length outside → IsWeightFrom w (part_of pairs) (slice_index outside k) (slice_index near k) (least_at least k)
   pub least_is : (k a : ℕ) → k < length outside → IsInner n a → part_of pairs a ≡ true → least_at least k ≤ℤ w a (slice_index outside k)
 
-lower_than_old : (weight : ℤ) (next old_near : ℕ) (old : ℤ) (near : ℕ) (new : ℤ) → IsNearer weight next old_near old near new → new ≤ℤ old
+lower_than_old : (weight : ℤ) (next old_near : ℕ) (old : ℤ) (near : ℕ) (new : ℤ) → IsNearer weight next old_near old near new
+    → new ≤ℤ old
 lower_than_old weight next old_near old near new (inl kept) = omega (arith, ints, kept.1)
 lower_than_old weight next old_near old near new (inr taken) = omega (arith, ints, taken.1, taken.2)
 
-lower_than_weight : (weight : ℤ) (next old_near : ℕ) (old : ℤ) (near : ℕ) (new : ℤ) → IsNearer weight next old_near old near new → new ≤ℤ weight
+lower_than_weight : (weight : ℤ) (next old_near : ℕ) (old : ℤ) (near : ℕ) (new : ℤ) → IsNearer weight next old_near old near new
+    → new ≤ℤ weight
 lower_than_weight weight next old_near old near new (inl kept) = omega (arith, ints, kept.1, kept.2)
 lower_than_weight weight next old_near old near new (inr taken) = omega (arith, ints, taken.1)
 
 -- ---- the start
 
-pub state_start : (n : ℕ) (w : ℕ → ℕ → ℤ) (outside old_near : List ℕ) (old : List ℤ) (near : List ℕ) (least : List ℤ) → AreFromThree n outside
+pub state_start : (n : ℕ) (w : ℕ → ℕ → ℤ) (outside old_near : List ℕ) (old : List ℤ) (near : List ℕ) (least : List ℤ)
+    → AreFromThree n outside
     → ((k : ℕ) → k < length outside → least_at old k ≡ most_64)
-    → AreBroughtNearer 2 (w 2) outside old_near old near least → ((k : ℕ) → k < length outside → w 2 (slice_index outside k) <ℤ most_64) → length near ≡ length outside → length least ≡ length outside
+    → AreBroughtNearer 2 (w 2) outside old_near old near least
+    → ((k : ℕ) → k < length outside → w 2 (slice_index outside k) <ℤ most_64) → length near ≡ length outside
+    → length least ≡ length outside
     → IsState n w outside near least [] (pos 0)
 state_start n w outside old_near old near least from_three most nearer small near_same same = record {
   grows = tt;
@@ -80,7 +85,8 @@ state_start n w outside old_near old near least from_three most nearer small nea
 
 -- ---- the nodes that are left
 
-pub inner_left : (n : ℕ) (outside new_outside : List ℕ) (place next : ℕ) → place < length outside → new_outside ≡ swap_remove outside place next → AreInner n outside → AreInner n new_outside
+pub inner_left : (n : ℕ) (outside new_outside : List ℕ) (place next : ℕ) → place < length outside
+    → new_outside ≡ swap_remove outside place next → AreInner n outside → AreInner n new_outside
 inner_left n outside new_outside place next inside is inner = λ k below.
     let last : ℕ = length outside - 1 in
     let shorter : length new_outside ≡ last = ap length is ∙ removed_length outside place next in
@@ -92,9 +98,12 @@ inner_left n outside new_outside place next inside is inner = λ k below.
 -- ---- the step: the nearest of the nodes outside comes inside
 
 pub state_more : (n : ℕ) (w : ℕ → ℕ → ℤ) (outside new_outside near near_left new_near : List ℕ) (least left new_least : List ℤ) (pairs pushed : List (ℕ × ℕ)) (weight : ℤ) (place next joint : ℕ) (here : ℤ)
-    → IsState n w outside near least pairs weight → IsLeastPlace least place → next ≡ slice_index outside place → joint ≡ slice_index near place → here ≡ least_at least place
-    → new_outside ≡ swap_remove outside place next → near_left ≡ swap_remove near place joint → left ≡ swap_remove least place here
-    → AreBroughtNearer next (w next) new_outside near_left left new_near new_least → length new_near ≡ length near_left → length new_least ≡ length left → pushed ≡ pairs ++ (joint, next) ∷ []
+    → IsState n w outside near least pairs weight → IsLeastPlace least place → next ≡ slice_index outside place
+    → joint ≡ slice_index near place → here ≡ least_at least place
+    → new_outside ≡ swap_remove outside place next → near_left ≡ swap_remove near place joint
+    → left ≡ swap_remove least place here
+    → AreBroughtNearer next (w next) new_outside near_left left new_near new_least → length new_near ≡ length near_left
+    → length new_least ≡ length left → pushed ≡ pairs ++ (joint, next) ∷ []
     → IsState n w new_outside new_near new_least pushed (weight +ℤ here)
 state_more n w outside new_outside near near_left new_near least left new_least pairs pushed weight place next joint here s is_least next_is joint_is here_is outside_is near_is left_is nearer near_same same pushed_is =
     rw pushed_is (record {
@@ -196,7 +205,8 @@ state_more n w outside new_outside near near_left new_near least left new_least 
 
 -- ---- the end
 
-pub state_end : (n : ℕ) (w : ℕ → ℕ → ℤ) (outside near : List ℕ) (least : List ℤ) (pairs : List (ℕ × ℕ)) (weight : ℤ) → IsState n w outside near least pairs weight → length outside ≡ 0
+pub state_end : (n : ℕ) (w : ℕ → ℕ → ℤ) (outside near : List ℕ) (least : List ℤ) (pairs : List (ℕ × ℕ)) (weight : ℤ)
+    → IsState n w outside near least pairs weight → length outside ≡ 0
     → IsWholeGrowth n w pairs
 state_end n w outside near least pairs weight s none = record {
   grows = s.grows;

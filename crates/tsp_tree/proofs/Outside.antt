@@ -58,12 +58,14 @@ passed_more next weight nodes place old_near old near new own_near own p near_in
   rest = λ k past. get_or-set_other new place k own (pos 0) (λ same. omega (arith, past, same)) ∙ p.rest k (omega (arith, past));
 }
 
-pub nearer_small : (weight : ℤ) (next old_near : ℕ) (old : ℤ) (near : ℕ) (new : ℤ) → weight <ℤ most_64 → IsNearer weight next old_near old near new → new <ℤ most_64
+pub nearer_small : (weight : ℤ) (next old_near : ℕ) (old : ℤ) (near : ℕ) (new : ℤ) → weight <ℤ most_64
+    → IsNearer weight next old_near old near new → new <ℤ most_64
 nearer_small weight next old_near old near new small (inl kept) = omega (arith, ints, small, kept.1, kept.2)
 nearer_small weight next old_near old near new small (inr taken) = omega (arith, ints, small, taken.1)
 
 -- where the own weight is lower than the best so far
-pub found_lower : (place : ℕ) (least : List ℤ) (best own : ℤ) (nearest : ℕ) → FindsLeast place least best nearest → place < length least → own <ℤ best
+pub found_lower : (place : ℕ) (least : List ℤ) (best own : ℤ) (nearest : ℕ) → FindsLeast place least best nearest
+    → place < length least → own <ℤ best
     → FindsLeast (place + 1) (set least place own) own place
 found_lower place least best own nearest found inside less = inr (
   omega arith,
@@ -84,7 +86,8 @@ found_lower place least best own nearest found inside less = inr (
     before (inr some) k below = some.2 k below
 
 -- where it isn't
-pub found_higher : (place : ℕ) (least : List ℤ) (best own : ℤ) (nearest : ℕ) → FindsLeast place least best nearest → place < length least → own <ℤ most_64 → best ≤ℤ own
+pub found_higher : (place : ℕ) (least : List ℤ) (best own : ℤ) (nearest : ℕ) → FindsLeast place least best nearest
+    → place < length least → own <ℤ most_64 → best ≤ℤ own
     → FindsLeast (place + 1) (set least place own) best nearest
 found_higher place least best own nearest (inl none) inside small less = absurd (omega (arith, ints, none.1, small, less))
 found_higher place least best own nearest (inr found) inside small less = inr (
@@ -101,7 +104,8 @@ found_higher place least best own nearest (inr found) inside small less = inr (
   ],
 )
 
-pub least_found : (size : ℕ) (least : List ℤ) (best : ℤ) (nearest : ℕ) → length least ≡ size → 0 < size → FindsLeast size least best nearest
+pub least_found : (size : ℕ) (least : List ℤ) (best : ℤ) (nearest : ℕ) → length least ≡ size → 0 < size
+    → FindsLeast size least best nearest
     → IsLeastPlace least nearest
 least_found size least best nearest long some (inl none) = absurd (omega (arith, some, none.0))
 least_found size least best nearest long some (inr found) = record {
@@ -124,7 +128,8 @@ removed_at xs i k d e inside below = get_or-take (length xs - 1) (set xs i (get_
 ]
 
 pub removed_length : {X : Type 0} (xs : List X) (i : ℕ) (d : X) → length (swap_remove xs i d) ≡ length xs - 1
-removed_length xs i d = length-take-le (length xs - 1) (set xs i (get_or xs (length xs - 1) d)) (omega (arith, length-set xs i (get_or xs (length xs - 1) d)))
+removed_length xs i d =
+    length-take-le (length xs - 1) (set xs i (get_or xs (length xs - 1) d)) (omega (arith, length-set xs i (get_or xs (length xs - 1) d)))
 
 -- each place that is left was another than the one taken away, and all others are left
 pub moved_others : (i last k : ℕ) → i ≤ last → k < last → (moved_from i last k ≤ last) × (moved_from i last k ≢ i)

@@ -37,8 +37,10 @@ pub struct Grown {
 pub fn grow<W: Weights>(alloc: Global, w: &W, row: &mut [i64]) -> Result<Grown, Refused>
     requires some { 3 ≤ W.nodes w.now }
     requires room { length row.old ≡ W.nodes w.now + 1 }
-    ensures whole { IfOk result (λ grown. IsWholeGrowth (W.nodes w.now) (W.at w.now) grown.pairs.items) }
-    ensures weight { IfOk result (λ grown. grown.weight ≡ weight_of (W.at w.now) grown.pairs.items) }
+    ensures whole { IfOk result
+        (λ grown. IsWholeGrowth (W.nodes w.now) (W.at w.now) grown.pairs.items) }
+    ensures weight { IfOk result
+        (λ grown. grown.weight ≡ weight_of (W.at w.now) grown.pairs.items) }
     ensures size { IfOk result (λ grown. IsFromTo (neg_ℤ (pos (most_nodes * 2 ^ 63)))
         (pos (most_nodes * 2 ^ 63)) grown.weight) }
 {
@@ -86,8 +88,10 @@ fn reach<W: Weights>(
     requires near { length near.old ≡ length outside.now }
     requires least { length least.old ≡ length outside.now }
     requires next_in { IsNode (W.nodes w.now) next }
-    ensures nearer { AreBroughtNearer next (W.at w.now next) outside.now near.old least.old near.new least.new }
-    ensures small { (k : ℕ) → k < length outside.now → W.at w.now next (slice_index outside.now k) <ℤ i64.MAX }
+    ensures nearer { AreBroughtNearer next
+        (W.at w.now next) outside.now near.old least.old near.new least.new }
+    ensures small { (k : ℕ)
+        → k < length outside.now → W.at w.now next (slice_index outside.now k) <ℤ i64.MAX }
     ensures nearest { MatchOption result (length outside.now ≡ 0) (IsLeastPlace least.new) }
 {
     w.fill_at(next, outside, row);
@@ -104,9 +108,12 @@ fn bring(
 ) -> Option<usize>
     requires near { length near.old ≡ length outside.now }
     requires least { length least.old ≡ length outside.now }
-    requires places { (k : ℕ) → k < length outside.now → slice_index outside.now k < length row.now }
-    requires small { (k : ℕ) → k < length outside.now → least_at row.now (slice_index outside.now k) <ℤ i64.MAX }
-    ensures nearer { AreBroughtNearer next (least_at row.now) outside.now near.old least.old near.new least.new }
+    requires places { (k : ℕ)
+        → k < length outside.now → slice_index outside.now k < length row.now }
+    requires small { (k : ℕ)
+        → k < length outside.now → least_at row.now (slice_index outside.now k) <ℤ i64.MAX }
+    ensures nearer { AreBroughtNearer next
+        (least_at row.now) outside.now near.old least.old near.new least.new }
     ensures nearest { MatchOption result (length outside.now ≡ 0) (IsLeastPlace least.new) }
 {
     if outside.is_empty() {

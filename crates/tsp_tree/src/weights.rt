@@ -41,7 +41,8 @@ pub trait Weights {
         requires room { length row.old ≡ nodes self.now + 1 }
         ensures values { (k : ℕ) → k < length to.now → least_at row.new (slice_index to.now k)
             ≡ at self.now from (slice_index to.now k) }
-        ensures small { (k : ℕ) → k < length to.now → least_at row.new (slice_index to.now k) <ℤ i64.MAX }
+        ensures small { (k : ℕ)
+            → k < length to.now → least_at row.new (slice_index to.now k) <ℤ i64.MAX }
     {
         self.fill(from, row);
     }

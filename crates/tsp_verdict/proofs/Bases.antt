@@ -20,7 +20,7 @@ use Rattle.tsp_verdict.specs.Certified.{is_bounded, StandsAgainstCertificate}
 use Rattle.tsp_verdict.specs.Judged.{IsVerdictBy, IsVerdictOn, IsAsClaimed, IsOtherClaimed, IsVerdictWith}
 use Rattle.tsp_verdict.specs.Plan.{total_of, IsLeast}
 use Rattle.tsp_verdict.specs.Reasons.{rank_of, NoneBefore, IsFirstReason}
-use Rattle.tsp_cost.specs.Tours.{capacity_of}
+use Rattle.tsp_cost.specs.ComputedProblems.{capacity_of}
 use Rattle.tsp_verdict.specs.Routes.{StandsAgainstRoutes, IsRoutesVerdict}
 use Rattle.tsp_verdict.specs.Tours.{NoneOfTourUpTo, IsFirstAgainstTour, IsTourVerdict}
 use Rattle.tsp_verdict.specs.states.Known.{against_instance, KnowsInstance}
@@ -44,7 +44,8 @@ instance_rank inst (NotSymmetric i j) stands = omega arith
 instance_rank inst reason stands = absurd stands
 
 -- the first of all is the first against the instance, where it comes before those against the certificate
-of_instance : (by : Certificate) (inst cert : Fields) (reason : Reason) → rank_of reason < 17 → IsFirstReason (StandsAgainstBounded by inst cert) reason
+of_instance : (by : Certificate) (inst cert : Fields) (reason : Reason) → rank_of reason < 17
+    → IsFirstReason (StandsAgainstBounded by inst cert) reason
     → IsFirstReason (StandsAgainstInstance inst) reason
 of_instance by inst cert reason early first = record {
   stands = by_side first.stands;
@@ -56,20 +57,24 @@ of_instance by inst cert reason early first = record {
     by_side (inr stands) = absurd (omega (arith, early, certificate_rank by inst cert reason stands))
 
 -- none applies to the instance, where the first of all comes after those
-after_instance : (by : Certificate) (inst cert : Fields) (reason : Reason) → 4 ≤ rank_of reason → IsFirstReason (StandsAgainstBounded by inst cert) reason → NoneAgainstInstance inst
+after_instance : (by : Certificate) (inst cert : Fields) (reason : Reason) → 4 ≤ rank_of reason
+    → IsFirstReason (StandsAgainstBounded by inst cert) reason → NoneAgainstInstance inst
 after_instance by inst cert reason late first = λ other stands. first.none_before other (omega (arith, late, instance_rank inst other stands)) (inl stands)
 
 -- whether the file is a solution is judged of that alone
-no_solution : (by : Certificate) (inst cert : Fields) → StandsAgainstInstance inst NotASolution ⊎ StandsAgainstCertificate by inst cert NotASolution → ⊥
+no_solution : (by : Certificate) (inst cert : Fields)
+    → StandsAgainstInstance inst NotASolution ⊎ StandsAgainstCertificate by inst cert NotASolution → ⊥
 no_solution by inst cert (inl stands) = stands
 no_solution by inst cert (inr stands) = omega (arith, certificate_rank by inst cert NotASolution stands)
 
-reason_alone : (inst : Fields) (reason : Reason) → IsFirstReason (StandsAgainstInstance inst) reason → KnowsInstance inst (bases.No reason)
+reason_alone : (inst : Fields) (reason : Reason) → IsFirstReason (StandsAgainstInstance inst) reason
+    → KnowsInstance inst (bases.No reason)
 reason_alone inst TooFewNodes first = first
 reason_alone inst (NotSymmetric i j) first = first
 reason_alone inst reason first = absurd first.stands
 
-reason_by : (by : Certificate) (inst cert : Fields) (reason : Reason) → IsFirstReason (StandsAgainstBounded by inst cert) reason → KnowsInstance inst (bases.No reason)
+reason_by : (by : Certificate) (inst cert : Fields) (reason : Reason) → IsFirstReason (StandsAgainstBounded by inst cert) reason
+    → KnowsInstance inst (bases.No reason)
 reason_by by inst cert TooFewNodes first = of_instance by inst cert TooFewNodes (omega arith) first
 reason_by by inst cert (NotSymmetric i j) first = of_instance by inst cert (NotSymmetric i j) (omega arith) first
 reason_by by inst cert NotASolution first = absurd (no_solution by inst cert first.stands)
@@ -90,32 +95,39 @@ knows_by by inst cert (bases.Routes least) b = absurd b
 knows_by by inst cert (bases.No reason) b = reason_by by inst cert reason b
 
 -- a basis of tours has the reason against the instance, where one applies
-pub knows_instance : (given : Option (Certificate × Fields)) (inst : Fields) (basis : Basis) → HasTours inst → IsBasis given inst basis → KnowsInstance inst basis
+pub knows_instance : (given : Option (Certificate × Fields)) (inst : Fields) (basis : Basis) → HasTours inst
+    → IsBasis given inst basis → KnowsInstance inst basis
 knows_instance None inst basis kind b = knows_alone inst basis (alone_of_tours inst basis kind b.1)
 knows_instance (Some given) inst basis kind b = knows_by given.0 inst given.1 basis b.1
 
 -- where it has none, none applies to the instance
-pub none_known : (inst : Fields) (basis : Basis) (found : Option Reason) → found ≡ against_instance basis → found ≡ None → KnowsInstance inst basis → NoneAgainstInstance inst
+pub none_known : (inst : Fields) (basis : Basis) (found : Option Reason) → found ≡ against_instance basis → found ≡ None
+    → KnowsInstance inst basis → NoneAgainstInstance inst
 none_known inst basis found is none knows =
     subst (λ (it : Option Reason). MatchOption it (NoneAgainstInstance inst) (λ reason. IsFirstReason (StandsAgainstInstance inst) reason)) (sym is ∙ none) knows
 
 -- the one that it has is the first
-pub first_known : (inst : Fields) (basis : Basis) (found : Option Reason) (reason : Reason) → found ≡ against_instance basis → found ≡ Some reason → KnowsInstance inst basis
+pub first_known : (inst : Fields) (basis : Basis) (found : Option Reason) (reason : Reason) → found ≡ against_instance basis
+    → found ≡ Some reason → KnowsInstance inst basis
     → IsFirstReason (StandsAgainstInstance inst) reason
 first_known inst basis found reason is some knows =
     subst (λ (it : Option Reason). MatchOption it (NoneAgainstInstance inst) (λ r. IsFirstReason (StandsAgainstInstance inst) r)) (sym is ∙ some) knows
 
 -- ---- the reasons before those against the tours
 
-up_to_instance : (inst sol : Fields) (rank : ℕ) → rank ≤ 3 → is_tours sol.kind ≡ true → NoneBefore (StandsAgainstInstance inst) rank → NoneOfTourUpTo inst sol rank
+up_to_instance : (inst sol : Fields) (rank : ℕ) → rank ≤ 3 → is_tours sol.kind ≡ true
+    → NoneBefore (StandsAgainstInstance inst) rank → NoneOfTourUpTo inst sol rank
 up_to_instance inst sol rank few is none NotASolution low stands = false≢true (sym stands ∙ is)
 up_to_instance inst sol rank few is none TooFewNodes low stands = none TooFewNodes low stands
 up_to_instance inst sol rank few is none reason low stands = absurd (omega (arith, few, low))
 
 -- the first reason against the instance is the first against a solution that has tours
-pub instance_first : (inst sol : Fields) (reason : Reason) → is_tours sol.kind ≡ true → IsFirstReason (StandsAgainstInstance inst) reason → IsFirstAgainstTour inst sol reason
-instance_first inst sol TooFewNodes is first = record { stands = first.stands; none_before = up_to_instance inst sol 2 (omega arith) is first.none_before }
-instance_first inst sol (NotSymmetric i j) is first = record { stands = first.stands; none_before = up_to_instance inst sol 3 (omega arith) is first.none_before }
+pub instance_first : (inst sol : Fields) (reason : Reason) → is_tours sol.kind ≡ true
+    → IsFirstReason (StandsAgainstInstance inst) reason → IsFirstAgainstTour inst sol reason
+instance_first inst sol TooFewNodes is first =
+    record { stands = first.stands; none_before = up_to_instance inst sol 2 (omega arith) is first.none_before }
+instance_first inst sol (NotSymmetric i j) is first =
+    record { stands = first.stands; none_before = up_to_instance inst sol 3 (omega arith) is first.none_before }
 instance_first inst sol reason is first = absurd first.stands
 
 -- where none applies to the instance
@@ -127,12 +139,14 @@ up_to_dimension inst sol is none reason low stands = absurd (omega (arith, low))
 
 -- ---- a tour
 
-tour_alone : (inst sol : Fields) (verdict : Verdict) → HasTours inst → IsTourVerdict inst sol verdict → IsVerdictOn inst sol verdict
+tour_alone : (inst sol : Fields) (verdict : Verdict) → HasTours inst → IsTourVerdict inst sol verdict
+    → IsVerdictOn inst sol verdict
 tour_alone inst sol verdict (inl tsp) v = subst (λ kind. IsVerdictBy kind inst sol verdict) (sym tsp) v
 tour_alone inst sol verdict (inr atsp) v = subst (λ kind. IsVerdictBy kind inst sol verdict) (sym atsp) v
 
 -- the first reason against a tour is that of the verdict
-pub tour_rejected : (inst sol : Fields) (basis : Basis) (claimed : Option ℤ) (reason : Reason) → HasTours inst → IsFirstAgainstTour inst sol reason
+pub tour_rejected : (inst sol : Fields) (basis : Basis) (claimed : Option ℤ) (reason : Reason) → HasTours inst
+    → IsFirstAgainstTour inst sol reason
     → IsVerdictFrom basis claimed inst sol (verdicts.No reason)
 tour_rejected inst sol basis claimed reason kind first = (tt, λ given b. by_given given b)
   where
@@ -141,7 +155,8 @@ tour_rejected inst sol basis claimed reason kind first = (tt, λ given b. by_giv
     by_given (Some given) b = tour_refused given.0 inst sol given.1 claimed reason b.0 first
 
 -- another length than the claimed one
-pub tour_disclaimed : (inst sol : Fields) (basis : Basis) (claimed : Option ℤ) (found : ℤ) → HasTours inst → IsTourVerdict inst sol (verdicts.Tour found None)
+pub tour_disclaimed : (inst sol : Fields) (basis : Basis) (claimed : Option ℤ) (found : ℤ) → HasTours inst
+    → IsTourVerdict inst sol (verdicts.Tour found None)
     → IsOtherClaimed claimed found → IsVerdictFrom basis claimed inst sol (verdicts.No (LengthClaimed found))
 tour_disclaimed inst sol basis claimed found kind v other = (tt, λ given b. by_given given b)
   where
@@ -150,7 +165,8 @@ tour_disclaimed inst sol basis claimed found kind v other = (tt, λ given b. by_
     by_given (Some given) b = tour_of_another_length given.0 inst sol given.1 claimed found b.0 v other
 
 -- a tour to which no reason applies has the bound
-pub tour_accepted : (inst sol : Fields) (bound claimed : Option ℤ) (found : ℤ) → HasTours inst → IsTourVerdict inst sol (verdicts.Tour found None)
+pub tour_accepted : (inst sol : Fields) (bound claimed : Option ℤ) (found : ℤ) → HasTours inst
+    → IsTourVerdict inst sol (verdicts.Tour found None)
     → IsAsClaimed claimed found → IsVerdictFrom (bases.Tours bound) claimed inst sol (verdicts.Tour found bound)
 tour_accepted inst sol bound claimed found kind v claims = (refl, λ given b. by_given bound given b)
   where
@@ -163,7 +179,8 @@ tour_accepted inst sol bound claimed found kind v claims = (refl, λ given b. by
         tour_bounded given.0 inst sol given.1 claimed found least v claims (found_by_certificate given.0 inst sol given.1 (bounds.Bound least) v.0 b.1)
 
 -- the reason against the certificate, where none applies to the tour
-pub tour_uncertified : (inst sol : Fields) (claimed : Option ℤ) (found : ℤ) (reason : Reason) → HasTours inst → IsTourVerdict inst sol (verdicts.Tour found None)
+pub tour_uncertified : (inst sol : Fields) (claimed : Option ℤ) (found : ℤ) (reason : Reason) → HasTours inst
+    → IsTourVerdict inst sol (verdicts.Tour found None)
     → IsAsClaimed claimed found → IsVerdictFrom (bases.No reason) claimed inst sol (verdicts.No reason)
 tour_uncertified inst sol claimed found reason kind v claims = (tt, λ given b. by_given given b)
   where
@@ -173,13 +190,15 @@ tour_uncertified inst sol claimed found reason kind v claims = (tt, λ given b. 
         certificate_refused given.0 inst sol given.1 claimed found reason b.0 v claims (found_by_certificate given.0 inst sol given.1 (bounds.No reason) v.0 b.1)
 
 -- an instance without tours has no tour of a solution
-pub no_tour : (given : Option (Certificate × Fields)) (inst sol : Fields) (found : ℤ) → HasTours inst → IsBasis given inst bases.NoTour
+pub no_tour : (given : Option (Certificate × Fields)) (inst sol : Fields) (found : ℤ) → HasTours inst
+    → IsBasis given inst bases.NoTour
     → IsTourVerdict inst sol (verdicts.Tour found None) → ⊥
 no_tour None inst sol found kind b v = alone_of_tours inst bases.NoTour kind b.1
 no_tour (Some given) inst sol found kind b v = b.1.2 v.1.0 v.1.2
 
 -- an instance with tours has no routes
-pub no_routes : (given : Option (Certificate × Fields)) (inst : Fields) (least : ℕ) → HasTours inst → IsBasis given inst (bases.Routes least) → ⊥
+pub no_routes : (given : Option (Certificate × Fields)) (inst : Fields) (least : ℕ) → HasTours inst
+    → IsBasis given inst (bases.Routes least) → ⊥
 no_routes None inst least kind b = alone_of_tours inst (bases.Routes least) kind b.1
 no_routes (Some given) inst least kind b = b.1
 
@@ -190,7 +209,8 @@ cvrp_apart kind cvrp (inl tsp) = cc
 cvrp_apart kind cvrp (inr atsp) = cc
 
 -- routes have no certificate
-alone_of_routes : (given : Option (Certificate × Fields)) (inst : Fields) (basis : Basis) → inst.kind ≡ Some kinds.Cvrp → IsBasis given inst basis → IsBasisOfRoutes inst basis
+alone_of_routes : (given : Option (Certificate × Fields)) (inst : Fields) (basis : Basis) → inst.kind ≡ Some kinds.Cvrp
+    → IsBasis given inst basis → IsBasisOfRoutes inst basis
 alone_of_routes None inst basis cvrp b = subst (λ kind. IsBasisAlone kind inst basis) cvrp b.1
 alone_of_routes (Some given) inst basis cvrp b = absurd (cvrp_apart inst.kind cvrp (kinds_bounded given.0 inst.kind b.0))
 
@@ -206,25 +226,30 @@ against_routes inst sol DepotDemand stands = stands
 against_routes inst sol FixedEdgesInRoutes stands = stands
 against_routes inst sol reason stands = absurd stands
 
-accepted_basis : (inst sol : Fields) (basis : Basis) (found : ℤ) (count least : ℕ) → IsBasisOfRoutes inst basis → IsRoutesVerdict inst sol (verdicts.Routes found count least)
+accepted_basis : (inst sol : Fields) (basis : Basis) (found : ℤ) (count least : ℕ) → IsBasisOfRoutes inst basis
+    → IsRoutesVerdict inst sol (verdicts.Routes found count least)
     → basis ≡ bases.Routes least
 accepted_basis inst sol (bases.Tours bound) found count least b v = absurd b
 accepted_basis inst sol bases.NoTour found count least b v = absurd b
-accepted_basis inst sol (bases.Routes other) found count least b v = ap bases.Routes (same_least (total_of inst) (capacity_of inst) other least b.1 v.1.least_is)
+accepted_basis inst sol (bases.Routes other) found count least b v =
+    ap bases.Routes (same_least (total_of inst) (capacity_of inst) other least b.1 v.1.least_is)
 accepted_basis inst sol (bases.No reason) found count least b v = absurd (v.0 reason (against_routes inst sol reason b.stands))
 
 -- without the claim a solution is accepted too
-own_tour : (claimed : Option ℤ) (inst sol : Fields) (found : ℤ) (bound : Option ℤ) → IsVerdictWith None claimed inst sol (verdicts.Tour found bound)
+own_tour : (claimed : Option ℤ) (inst sol : Fields) (found : ℤ) (bound : Option ℤ)
+    → IsVerdictWith None claimed inst sol (verdicts.Tour found bound)
     → IsVerdictOn inst sol (verdicts.Tour found bound)
 own_tour None inst sol found bound v = v
 own_tour (Some claim) inst sol found bound v = v.0
 
-own_routes : (claimed : Option ℤ) (inst sol : Fields) (found : ℤ) (count least : ℕ) → IsVerdictWith None claimed inst sol (verdicts.Routes found count least)
+own_routes : (claimed : Option ℤ) (inst sol : Fields) (found : ℤ) (count least : ℕ)
+    → IsVerdictWith None claimed inst sol (verdicts.Routes found count least)
     → IsVerdictOn inst sol (verdicts.Routes found count least)
 own_routes None inst sol found count least v = v
 own_routes (Some claim) inst sol found count least v = v.0
 
-routes_have : (inst sol : Fields) (basis : Basis) (claimed : Option ℤ) (verdict : Verdict) → inst.kind ≡ Some kinds.Cvrp → IsBasisOfRoutes inst basis
+routes_have : (inst sol : Fields) (basis : Basis) (claimed : Option ℤ) (verdict : Verdict) → inst.kind ≡ Some kinds.Cvrp
+    → IsBasisOfRoutes inst basis
     → IsVerdictWith None claimed inst sol verdict → HasBasis verdict basis
 routes_have inst sol basis claimed (verdicts.Tour found bound) cvrp b v =
     absurd (subst (λ kind. IsVerdictBy kind inst sol (verdicts.Tour found bound)) cvrp (own_tour claimed inst sol found bound v))
@@ -233,10 +258,12 @@ routes_have inst sol basis claimed (verdicts.Routes found count least) cvrp b v 
     (subst (λ kind. IsVerdictBy kind inst sol (verdicts.Routes found count least)) cvrp (own_routes claimed inst sol found count least v))
 routes_have inst sol basis claimed (verdicts.No reason) cvrp b v = tt
 
-with_either : (given : Option (Certificate × Fields)) (inst sol : Fields) (basis : Basis) (claimed : Option ℤ) (verdict : Verdict) → inst.kind ≡ Some kinds.Cvrp
+with_either : (given : Option (Certificate × Fields)) (inst sol : Fields) (basis : Basis) (claimed : Option ℤ) (verdict : Verdict)
+    → inst.kind ≡ Some kinds.Cvrp
     → IsVerdictWith None claimed inst sol verdict → IsBasis given inst basis → IsVerdictWith given claimed inst sol verdict
 with_either None inst sol basis claimed verdict cvrp v b = v
-with_either (Some given) inst sol basis claimed verdict cvrp v b = absurd (cvrp_apart inst.kind cvrp (kinds_bounded given.0 inst.kind b.0))
+with_either (Some given) inst sol basis claimed verdict cvrp v b =
+    absurd (cvrp_apart inst.kind cvrp (kinds_bounded given.0 inst.kind b.0))
 
 -- the verdict on routes is that of the solution
 pub routes_verdict : (given : Option (Certificate × Fields)) (inst sol : Fields) (basis : Basis) (claimed : Option ℤ) (verdict next : Verdict)

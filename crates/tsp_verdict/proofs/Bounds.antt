@@ -1,7 +1,7 @@
 -- An instance with a certificate: the reasons against either, in order.
 use Rattle.std.proofs.Common.{◌≡◌, ℕ, ◌<◌, ◌≤◌, ◌⊎◌, inl, inr, refl, arith}
 use Rattle.std.specs.Prelude.{Result, Ok, Err, IfOk, IsErr, MatchResult}
-use Rattle.tsp_draft.specs.Fields.{Fields}
+use Rattle.tsp_draft.specs.Fields.{Fields, nodes_of}
 use Rattle.tsp_reason.specs.declared.certificate.Certificate.{Certificate}
 use Rattle.tsp_reason.specs.declared.verdict.BoundVerdict.{BoundVerdict}
 use Rattle.tsp_reason.specs.declared.verdict.BoundVerdict.TheVariants as bounds
@@ -10,11 +10,10 @@ use Rattle.tsp_reason.specs.declared.verdict.Reason.TheVariants.{TooFewNodes, No
 use Rattle.tsp_file.specs.Cost.{cost}
 use Rattle.tsp_theory.specs.Costs.{IsSymmetric, IsFirstAsymmetric}
 use Rattle.tsp_verdict.specs.declared.tour.TourCosts.{TourCosts}
-use Rattle.tsp_verdict.specs.states.Costs.{AreTourCosts}
+use Rattle.tsp_verdict.specs.states.TourCosts.{AreTourCosts}
 use Rattle.tsp_verdict.specs.Bounded.{StandsAgainstInstance, NoneAgainstInstance, StandsAgainstBounded, IsBoundVerdict}
 use Rattle.tsp_verdict.specs.Certified.{StandsAgainstCertificate, FindsBound, NoneWithoutMemory}
 use Rattle.tsp_verdict.specs.Reasons.{rank_of, IsFirstReason}
-use Rattle.tsp_file.specs.Meant.{nodes_of}
 use Rattle.tsp_verdict.proofs.Certificates.{certificate_rank, symmetric_tsp}
 
 instance_rank : (inst : Fields) (reason : Reason) → StandsAgainstInstance inst reason → rank_of reason < 16
@@ -23,7 +22,8 @@ instance_rank inst (NotSymmetric i j) stands = omega arith
 instance_rank inst reason stands = absurd stands
 
 -- the first reason against the instance is the first of all
-pub instance_refused : (by : Certificate) (inst cert : Fields) (reason : Reason) → IsFirstReason (StandsAgainstInstance inst) reason → IsBoundVerdict by inst cert (bounds.No reason)
+pub instance_refused : (by : Certificate) (inst cert : Fields) (reason : Reason)
+    → IsFirstReason (StandsAgainstInstance inst) reason → IsBoundVerdict by inst cert (bounds.No reason)
 instance_refused by inst cert reason first = record {
   stands = inl first.stands;
   none_before = λ other low stands. by_side other low stands;
@@ -33,13 +33,15 @@ instance_refused by inst cert reason first = record {
     by_side other low (inl stands) = first.none_before other low stands
     by_side other low (inr stands) = omega (arith, low, instance_rank inst reason first.stands, certificate_rank by inst cert other stands)
 
-none_of_both : (by : Certificate) (inst cert : Fields) → NoneAgainstInstance inst → ((other : Reason) → StandsAgainstCertificate by inst cert other → ⊥)
+none_of_both : (by : Certificate) (inst cert : Fields) → NoneAgainstInstance inst
+    → ((other : Reason) → StandsAgainstCertificate by inst cert other → ⊥)
     → (reason : Reason) → StandsAgainstBounded by inst cert reason → ⊥
 none_of_both by inst cert none certificate reason (inl stands) = none reason stands
 none_of_both by inst cert none certificate reason (inr stands) = certificate reason stands
 
 -- where none applies to the instance, it is the certificate that decides
-pub certificate_decides : (by : Certificate) (inst cert : Fields) (found : BoundVerdict) → NoneAgainstInstance inst → FindsBound by inst cert found
+pub certificate_decides : (by : Certificate) (inst cert : Fields) (found : BoundVerdict) → NoneAgainstInstance inst
+    → FindsBound by inst cert found
     → IsBoundVerdict by inst cert found
 certificate_decides by inst cert (bounds.Bound bound) none b = (none_of_both by inst cert none b.0, b.1)
 certificate_decides by inst cert bounds.NoTour none b = (none_of_both by inst cert none b.0, b.1, b.2)
@@ -53,7 +55,8 @@ certificate_decides by inst cert (bounds.No reason) none first = record {
     by_side other low (inr stands) = first.none_before other low stands
 
 -- out of memory, none applies to the instance, and none to the certificate that is found without
-pub either_way : {E : Type 0} (by : Certificate) (inst cert : Fields) (result : Result BoundVerdict E) → NoneAgainstInstance inst → IfOk result (λ found. FindsBound by inst cert found)
+pub either_way : {E : Type 0} (by : Certificate) (inst cert : Fields) (result : Result BoundVerdict E) → NoneAgainstInstance inst
+    → IfOk result (λ found. FindsBound by inst cert found)
     → (IsErr result → NoneWithoutMemory by inst cert)
     → MatchResult result (λ found. IsBoundVerdict by inst cert found) (λ refused. NoneAgainstInstance inst × NoneWithoutMemory by inst cert)
 either_way by inst cert (Ok found) none finds without = certificate_decides by inst cert found none finds

@@ -3,12 +3,12 @@ use Rattle.std.proofs.Common.{◌≡◌, ℕ, List, [], ◌∷◌, get_or, inl, 
 use Rattle.std.specs.Prelude.{Some, ◌≤◌, length, unwrap_or, ℤ, ◌+ℤ◌, ◌-ℤ◌, ◌*ℤ◌, ◌≤ℤ◌, ◌<ℤ◌}
 use Rattle.std.specs.List.{All}
 use Rattle.std.proofs.lemmas.List.Elements.{All-contains}
-use Rattle.tsp_draft.specs.Fields.{Fields}
+use Rattle.tsp_draft.specs.Fields.{Fields, nodes_of}
 use Rattle.tsp_file.specs.Cost.{cost}
 use Rattle.tsp_theory.specs.Costs.{IsSymmetric}
 use Rattle.tsp_theory.specs.Length.{length_of}
 use Rattle.tsp_theory.specs.Tour.{Uses}
-use Rattle.tsp_cost.specs.Tours.{is_directed}
+use Rattle.tsp_cost.specs.ComputedProblems.{is_directed}
 use Rattle.tsp_cost.specs.states.Views.{HasCosts}
 use Rattle.tsp_theory.specs.Cycle.{IsCycle, AreNeighbours}
 use Rattle.tsp_format.specs.declared.kinds.Kind.TheVariants as kinds
@@ -19,8 +19,8 @@ use Rattle.tsp_theory.specs.Adjusted.{pair_of, numbers_on, adjusted, UsesEach, I
 use Rattle.tsp_theory.specs.Assignment.{AreGood, IsFirstBroken, IsDualBound, DualsBoundCycles}
 use Rattle.tsp_reason.specs.declared.verdict.Reason.TheVariants.{DualInfeasible}
 use Rattle.tsp_verdict.specs.Multiplied.{AreListed}
-use Rattle.tsp_file.specs.Meant.{nodes_of, fixed_of, scale_in, multipliers_in}
-use Rattle.tsp_verdict.specs.Certificate.{StandsAgainstPotentials, IsBoundByNodes, IsBoundByDuals}
+use Rattle.tsp_file.specs.Meant.{fixed_of, scale_in, multipliers_in}
+use Rattle.tsp_verdict.specs.PotentialsCertificate.{StandsAgainstPotentials, IsBoundByNodes, IsBoundByDuals}
 use Rattle.tsp_verdict.specs.Certified.{IsBoundBy, IsCertified}
 use Rattle.tsp_reason.specs.declared.certificate.Certificate.TheVariants.{Potentials}
 
@@ -31,7 +31,8 @@ pub weights_same : (v w : ℕ → ℕ → ℤ) → Same v w → (pairs : List (�
 weights_same v w same [] = refl
 weights_same v w same (pair ∷ pairs) = ap₂ (λ a b. a +ℤ b) (same pair.0 pair.1) (weights_same v w same pairs)
 
-pub least_same : (n : ℕ) (v w : ℕ → ℕ → ℤ) → Same v w → (pairs : List (ℕ × ℕ)) → IsLeastOneTree n v pairs → IsLeastOneTree n w pairs
+pub least_same : (n : ℕ) (v w : ℕ → ℕ → ℤ) → Same v w → (pairs : List (ℕ × ℕ)) → IsLeastOneTree n v pairs
+    → IsLeastOneTree n w pairs
 least_same n v w same pairs found = record {
   tree = found.tree;
   least = λ others tree. subst₂ (λ a b. a ≤ℤ b) (weights_same v w same pairs) (weights_same v w same others) (found.least others tree);
@@ -50,7 +51,8 @@ bound_same n a b scale potentials triples bound same found =
     }
 
 -- a tour of a TSP uses each pair that is listed as fixed
-listed_used : (nodes : List ℕ) (pairs : List (ℕ × ℕ)) (triples : List (ℕ × ℕ × ℤ)) → All (AreNeighbours nodes) pairs → AreListed pairs triples → UsesEach triples nodes
+listed_used : (nodes : List ℕ) (pairs : List (ℕ × ℕ)) (triples : List (ℕ × ℕ × ℤ)) → All (AreNeighbours nodes) pairs
+    → AreListed pairs triples → UsesEach triples nodes
 listed_used nodes pairs triples used listed k d lt = elim (listed k d lt) [
   | inl here ↦ All-contains (AreNeighbours nodes) pairs (pair_of (get_or triples k d)) used here
   | inr back ↦ turned (All-contains (AreNeighbours nodes) pairs ((get_or triples k d).1, (get_or triples k d).0) used back)
@@ -68,10 +70,13 @@ keeps_on f m n a b same_count same keeps = record {
 }
 
 -- the bound that a view's costs give is that of the certificate
-pub certified : (inst pot : Fields) (n : ℕ) (costs : ℕ → ℕ → ℤ) (scale : ℤ) (potentials : List ℤ) (triples : List (ℕ × ℕ × ℤ)) (bound : ℤ) → AdjustedBoundsBoundCycles
-    → triples ≡ multipliers_in pot → AreListed (fixed_of inst) (multipliers_in pot) → inst.kind ≡ Some kinds.Tsp → IsSymmetric (cost inst) → 3 ≤ nodes_of inst
+pub certified : (inst pot : Fields) (n : ℕ) (costs : ℕ → ℕ → ℤ) (scale : ℤ) (potentials : List ℤ) (triples : List (ℕ × ℕ × ℤ)) (bound : ℤ)
+    → AdjustedBoundsBoundCycles
+    → triples ≡ multipliers_in pot → AreListed (fixed_of inst) (multipliers_in pot) → inst.kind ≡ Some kinds.Tsp
+    → IsSymmetric (cost inst) → 3 ≤ nodes_of inst
     → IsScale scale → scale ≡ scale_in pot → pot.node_potentials ≡ Some potentials → length potentials ≡ nodes_of inst
-    → HasCosts inst n costs → IsAdjustedBound n costs scale potentials triples [] bound × IsBoundSized bound → IsCertified Potentials inst pot bound
+    → HasCosts inst n costs → IsAdjustedBound n costs scale potentials triples [] bound × IsBoundSized bound
+    → IsCertified Potentials inst pot bound
 certified inst pot n costs scale potentials triples bound law triples_are listed kind even some scale_is scale_in_is potentials_are count keeps found =
     let same : nodes_of inst ≡ n = ap (λ o. unwrap_or o 0) keeps.count in
     let here : IsAdjustedBound (nodes_of inst) (cost inst) scale potentials triples [] bound =
@@ -89,11 +94,13 @@ certified inst pot n costs scale potentials triples bound law triples_are listed
 
 -- ---- duals
 
-good_same : (n : ℕ) (a b : ℕ → ℕ → ℤ) (scale : ℤ) (rows columns : List ℤ) → Same a b → AreGood n a scale rows columns → AreGood n b scale rows columns
+good_same : (n : ℕ) (a b : ℕ → ℕ → ℤ) (scale : ℤ) (rows columns : List ℤ) → Same a b → AreGood n a scale rows columns
+    → AreGood n b scale rows columns
 good_same n a b scale rows columns same good i j row column other =
     subst (λ c. (entry rows i +ℤ entry columns j) ≤ℤ (scale *ℤ c)) (same i j) (good i j row column other)
 
-broken_same : (n : ℕ) (a b : ℕ → ℕ → ℤ) (scale : ℤ) (rows columns : List ℤ) (i j : ℕ) → Same a b → IsFirstBroken n a scale rows columns i j → IsFirstBroken n b scale rows columns i j
+broken_same : (n : ℕ) (a b : ℕ → ℕ → ℤ) (scale : ℤ) (rows columns : List ℤ) (i j : ℕ) → Same a b
+    → IsFirstBroken n a scale rows columns i j → IsFirstBroken n b scale rows columns i j
 broken_same n a b scale rows columns i j same pair = record {
   row = pair.row;
   column = pair.column;
@@ -109,9 +116,11 @@ pub record AreOf (pot : Fields) (scale : ℤ) (rows columns : List ℤ) : Type 0
   pub columns_are : pot.column_potentials ≡ Some columns
 
 -- the bound that a view's costs give is that of the certificate
-pub assigned : (inst pot : Fields) (n : ℕ) (costs : ℕ → ℕ → ℤ) (scale : ℤ) (rows columns : List ℤ) (bound : ℤ) → DualsBoundCycles → inst.kind ≡ Some kinds.Atsp → 3 ≤ nodes_of inst → IsScale scale
+pub assigned : (inst pot : Fields) (n : ℕ) (costs : ℕ → ℕ → ℤ) (scale : ℤ) (rows columns : List ℤ) (bound : ℤ) → DualsBoundCycles
+    → inst.kind ≡ Some kinds.Atsp → 3 ≤ nodes_of inst → IsScale scale
     → AreOf pot scale rows columns → length rows ≡ nodes_of inst → length columns ≡ nodes_of inst → HasCosts inst n costs
-    → AreGood n costs scale rows columns × IsDualBound scale rows columns bound → IsBoundSized bound → IsCertified Potentials inst pot bound
+    → AreGood n costs scale rows columns × IsDualBound scale rows columns bound → IsBoundSized bound
+    → IsCertified Potentials inst pot bound
 assigned inst pot n costs scale rows columns bound law kind some scaled are as_rows as_columns keeps found small =
     let nodes : nodes_of inst ≡ n = ap (λ o. unwrap_or o 0) keeps.count in
     let good : AreGood (nodes_of inst) (cost inst) scale rows columns =
@@ -130,8 +139,10 @@ assigned inst pot n costs scale rows columns bound law kind some scaled are as_r
     )
 
 -- and so is the first pair that breaks them
-pub broken_stands : (inst pot : Fields) (n : ℕ) (costs : ℕ → ℕ → ℤ) (scale : ℤ) (rows columns : List ℤ) (i j : ℕ) → inst.kind ≡ Some kinds.Atsp
-    → AreOf pot scale rows columns → HasCosts inst n costs → IsFirstBroken n costs scale rows columns i j → StandsAgainstPotentials inst pot (DualInfeasible i j)
+pub broken_stands : (inst pot : Fields) (n : ℕ) (costs : ℕ → ℕ → ℤ) (scale : ℤ) (rows columns : List ℤ) (i j : ℕ)
+    → inst.kind ≡ Some kinds.Atsp
+    → AreOf pot scale rows columns → HasCosts inst n costs → IsFirstBroken n costs scale rows columns i j
+    → StandsAgainstPotentials inst pot (DualInfeasible i j)
 broken_stands inst pot n costs scale rows columns i j kind are keeps pair =
     let nodes : nodes_of inst ≡ n = ap (λ o. unwrap_or o 0) keeps.count in
     let here : IsFirstBroken (nodes_of inst) (cost inst) scale rows columns i j =

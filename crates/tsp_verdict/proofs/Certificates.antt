@@ -7,7 +7,7 @@ use Rattle.std.proofs.lemmas.Int.{ints}
 use Rattle.std.proofs.Math.Nat.{lt_of_not-le}
 use Rattle.tsp_format.specs.Cells.{IsNode}
 use Rattle.tsp_format.specs.declared.kinds.Kind.TheVariants as kinds
-use Rattle.tsp_draft.specs.Fields.{Fields}
+use Rattle.tsp_draft.specs.Fields.{Fields, nodes_of}
 use Rattle.tsp_draft.specs.Rules.{is_certificate}
 use Rattle.tsp_theory.specs.Adjusted.{pair_of, is_same_pair, AreOnPairs}
 use Rattle.tsp_reason.specs.declared.verdict.Reason.{Reason}
@@ -15,16 +15,16 @@ use Rattle.tsp_reason.specs.declared.verdict.Reason.TheVariants.{TooFewNodes, No
 use Rattle.tsp_verdict.specs.Multiplied.{AreListed, IsUnlisted, IsPairRepeated, pair_at}
 use Rattle.tsp_verdict.specs.Places.{IsFirstPlace}
 use Rattle.tsp_verdict.specs.Reasons.{rank_of, NoneBefore, IsFirstReason}
-use Rattle.tsp_file.specs.Meant.{nodes_of, fixed_of, scale_in, multipliers_in}
+use Rattle.tsp_file.specs.Meant.{fixed_of, scale_in, multipliers_in}
 use Rattle.tsp_verdict.specs.Tours.{IsFirstAgainstTour, StandsAgainstTour}
 use Rattle.tsp_file.specs.Cost.{cost}
 use Rattle.tsp_theory.specs.Assignment.{AreGood}
-use Rattle.tsp_verdict.specs.Certificate.{has_wanted, BreaksDuals, StandsAgainstPotentials, IsBoundByDuals}
+use Rattle.tsp_verdict.specs.PotentialsCertificate.{has_wanted, BreaksDuals, StandsAgainstPotentials, IsBoundByDuals}
 use Rattle.tsp_verdict.specs.Certified.{is_bounded, IsBoundBy, IsCertified, StandsAgainstCertificate, NoneWithoutMemory, StandsAgainstCertified, IsFirstAgainstCertified}
-use Rattle.tsp_verdict.specs.Tree.{IsBoundByTree}
+use Rattle.tsp_verdict.specs.BranchesCertificate.{IsBoundByTree}
 use Rattle.tsp_verdict.specs.declared.tour.TourCosts.{TourCosts}
 use Rattle.tsp_verdict.specs.declared.tour.TourCosts.TheVariants.{Undirected, Directed}
-use Rattle.tsp_verdict.specs.states.Costs.{AreTourCosts, IsSymmetricTsp}
+use Rattle.tsp_verdict.specs.states.TourCosts.{AreTourCosts, IsSymmetricTsp}
 use Rattle.tsp_reason.specs.declared.certificate.Certificate.{Certificate}
 use Rattle.tsp_reason.specs.declared.certificate.Certificate.TheVariants.{Potentials, Branches}
 use Rattle.tsp_format.specs.declared.kinds.Kind.{Kind}
@@ -32,10 +32,13 @@ use Rattle.tsp_format.specs.declared.kinds.Kind.{Kind}
 -- ---- against the certificate alone
 
 -- the facts before a rank rule out the reasons before it
-pub none_before : (inst pot : Fields) (rank : ℕ) → (17 < rank → is_certificate pot.kind ≡ true) → (18 < rank → nodes_of pot ≡ nodes_of inst)
-    → (19 < rank → has_wanted inst.kind pot ≡ true) → (20 < rank → (index : ℕ) → StandsAgainstPotentials inst pot (MultiplierNotFixed index) → ⊥)
+pub none_before : (inst pot : Fields) (rank : ℕ) → (17 < rank → is_certificate pot.kind ≡ true)
+    → (18 < rank → nodes_of pot ≡ nodes_of inst)
+    → (19 < rank → has_wanted inst.kind pot ≡ true)
+    → (20 < rank → (index : ℕ) → StandsAgainstPotentials inst pot (MultiplierNotFixed index) → ⊥)
     → (21 < rank → (index : ℕ) → StandsAgainstPotentials inst pot (MultiplierRepeated index) → ⊥)
-    → (22 < rank → (i j : ℕ) → StandsAgainstPotentials inst pot (DualInfeasible i j) → ⊥) → NoneBefore (StandsAgainstPotentials inst pot) rank
+    → (22 < rank → (i j : ℕ) → StandsAgainstPotentials inst pot (DualInfeasible i j) → ⊥)
+    → NoneBefore (StandsAgainstPotentials inst pot) rank
 none_before inst pot rank sort size wanted fixed once good NotPotentials low stands = false≢true (sym stands ∙ sort low)
 none_before inst pot rank sort size wanted fixed once good PotentialsDimension low stands = stands (size low)
 none_before inst pot rank sort size wanted fixed once good PotentialsKind low stands = false≢true (sym stands ∙ wanted low)
@@ -45,15 +48,19 @@ none_before inst pot rank sort size wanted fixed once good (DualInfeasible i j) 
 none_before inst pot rank sort size wanted fixed once good reason low stands = stands
 
 -- out of memory, those are ruled out that need none
-pub none_of_potentials : (inst pot : Fields) → is_certificate pot.kind ≡ true → nodes_of pot ≡ nodes_of inst → has_wanted inst.kind pot ≡ true
+pub none_of_potentials : (inst pot : Fields) → is_certificate pot.kind ≡ true → nodes_of pot ≡ nodes_of inst
+    → has_wanted inst.kind pot ≡ true
     → NoneWithoutMemory Potentials inst pot
 none_of_potentials inst pot sort size wanted =
     none_before inst pot 20 (λ low. sort) (λ low. size) (λ low. wanted) (λ low. absurd (omega (arith, low))) (λ low. absurd (omega (arith, low))) (λ low. absurd (omega (arith, low)))
 
 -- all six are ruled out
-pub none_stands : (inst pot : Fields) → is_certificate pot.kind ≡ true → nodes_of pot ≡ nodes_of inst → has_wanted inst.kind pot ≡ true
-    → ((index : ℕ) → StandsAgainstPotentials inst pot (MultiplierNotFixed index) → ⊥) → ((index : ℕ) → StandsAgainstPotentials inst pot (MultiplierRepeated index) → ⊥)
-    → ((i j : ℕ) → StandsAgainstPotentials inst pot (DualInfeasible i j) → ⊥) → (reason : Reason) → StandsAgainstPotentials inst pot reason → ⊥
+pub none_stands : (inst pot : Fields) → is_certificate pot.kind ≡ true → nodes_of pot ≡ nodes_of inst
+    → has_wanted inst.kind pot ≡ true
+    → ((index : ℕ) → StandsAgainstPotentials inst pot (MultiplierNotFixed index) → ⊥)
+    → ((index : ℕ) → StandsAgainstPotentials inst pot (MultiplierRepeated index) → ⊥)
+    → ((i j : ℕ) → StandsAgainstPotentials inst pot (DualInfeasible i j) → ⊥) → (reason : Reason)
+    → StandsAgainstPotentials inst pot reason → ⊥
 none_stands inst pot sort size wanted fixed once good NotPotentials stands = false≢true (sym stands ∙ sort)
 none_stands inst pot sort size wanted fixed once good PotentialsDimension stands = stands size
 none_stands inst pot sort size wanted fixed once good PotentialsKind stands = false≢true (sym stands ∙ wanted)
@@ -63,11 +70,14 @@ none_stands inst pot sort size wanted fixed once good (DualInfeasible i j) stand
 none_stands inst pot sort size wanted fixed once good reason stands = stands
 
 -- each multiplier is on a fixed pair
-pub none_unlisted : (inst pot : Fields) → AreListed (fixed_of inst) (multipliers_in pot) → (index : ℕ) → StandsAgainstPotentials inst pot (MultiplierNotFixed index) → ⊥
-none_unlisted inst pot listed index stands = stands.1.holds (listed (index - 1) (0, 0, pos 0) (omega (arith, stands.1.here.0, stands.1.here.1)))
+pub none_unlisted : (inst pot : Fields) → AreListed (fixed_of inst) (multipliers_in pot) → (index : ℕ)
+    → StandsAgainstPotentials inst pot (MultiplierNotFixed index) → ⊥
+none_unlisted inst pot listed index stands =
+    stands.1.holds (listed (index - 1) (0, 0, pos 0) (omega (arith, stands.1.here.0, stands.1.here.1)))
 
 -- no two are on the same
-pub none_repeated : (n : ℕ) (inst pot : Fields) → AreOnPairs n (multipliers_in pot) → (index : ℕ) → StandsAgainstPotentials inst pot (MultiplierRepeated index) → ⊥
+pub none_repeated : (n : ℕ) (inst pot : Fields) → AreOnPairs n (multipliers_in pot) → (index : ℕ)
+    → StandsAgainstPotentials inst pot (MultiplierRepeated index) → ⊥
 none_repeated n inst pot are index stands =
     let again = stands.1.holds in
     let apart : is_same_pair (pair_at (multipliers_in pot) again.0) (pair_at (multipliers_in pot) index) ≡ false =
@@ -75,9 +85,11 @@ none_repeated n inst pot are index stands =
     false≢true (sym apart ∙ again.3)
 
 -- the first multiplier that isn't on a fixed pair is the first reason
-pub not_fixed : (inst pot : Fields) (fixed : List (ℕ × ℕ)) (triples : List (ℕ × ℕ × ℤ)) (index : ℕ) → fixed ≡ fixed_of inst → triples ≡ multipliers_in pot
+pub not_fixed : (inst pot : Fields) (fixed : List (ℕ × ℕ)) (triples : List (ℕ × ℕ × ℤ)) (index : ℕ) → fixed ≡ fixed_of inst
+    → triples ≡ multipliers_in pot
     → inst.kind ≡ Some kinds.Tsp → is_certificate pot.kind ≡ true
-    → nodes_of pot ≡ nodes_of inst → has_wanted (Some kinds.Tsp) pot ≡ true → IsFirstPlace (IsUnlisted fixed triples) triples index
+    → nodes_of pot ≡ nodes_of inst → has_wanted (Some kinds.Tsp) pot ≡ true
+    → IsFirstPlace (IsUnlisted fixed triples) triples index
     → IsFirstReason (StandsAgainstPotentials inst pot) (MultiplierNotFixed index)
 not_fixed inst pot fixed triples index fixed_are triples_are kind sort size wanted first = record {
   stands = (kind, subst₂ (λ fs ts. IsFirstPlace (IsUnlisted fs ts) ts index) fixed_are triples_are first);
@@ -86,9 +98,11 @@ not_fixed inst pot fixed triples index fixed_are triples_are kind sort size want
 }
 
 -- where all are on fixed pairs, so is the first one on the pair of an earlier one
-pub repeats : (inst pot : Fields) (fixed : List (ℕ × ℕ)) (triples : List (ℕ × ℕ × ℤ)) (index : ℕ) → fixed ≡ fixed_of inst → triples ≡ multipliers_in pot
+pub repeats : (inst pot : Fields) (fixed : List (ℕ × ℕ)) (triples : List (ℕ × ℕ × ℤ)) (index : ℕ) → fixed ≡ fixed_of inst
+    → triples ≡ multipliers_in pot
     → inst.kind ≡ Some kinds.Tsp → is_certificate pot.kind ≡ true
-    → nodes_of pot ≡ nodes_of inst → has_wanted (Some kinds.Tsp) pot ≡ true → AreListed fixed triples → IsFirstPlace (IsPairRepeated triples) triples index
+    → nodes_of pot ≡ nodes_of inst → has_wanted (Some kinds.Tsp) pot ≡ true → AreListed fixed triples
+    → IsFirstPlace (IsPairRepeated triples) triples index
     → IsFirstReason (StandsAgainstPotentials inst pot) (MultiplierRepeated index)
 repeats inst pot fixed triples index fixed_are triples_are kind sort size wanted listed first = record {
   stands = (kind, subst (λ ts. IsFirstPlace (IsPairRepeated ts) ts index) triples_are first);
@@ -98,16 +112,20 @@ repeats inst pot fixed triples index fixed_are triples_are kind sort size wanted
 }
 
 -- the findings where neither applies
-pub multiplied : (inst pot : Fields) (fixed : List (ℕ × ℕ)) (triples : List (ℕ × ℕ × ℤ)) → fixed ≡ fixed_of inst → triples ≡ multipliers_in pot → nodes_of pot ≡ nodes_of inst
-    → All (λ triple. IsNode (nodes_of pot) triple.0 × IsNode (nodes_of pot) triple.1) triples → AreListed fixed triples → AllPairs (λ s t. is_same_pair (pair_of s) (pair_of t) ≡ false) triples
+pub multiplied : (inst pot : Fields) (fixed : List (ℕ × ℕ)) (triples : List (ℕ × ℕ × ℤ)) → fixed ≡ fixed_of inst
+    → triples ≡ multipliers_in pot → nodes_of pot ≡ nodes_of inst
+    → All (λ triple. IsNode (nodes_of pot) triple.0 × IsNode (nodes_of pot) triple.1) triples → AreListed fixed triples
+    → AllPairs (λ s t. is_same_pair (pair_of s) (pair_of t) ≡ false) triples
     → AreOnPairs (nodes_of inst) (multipliers_in pot) × AreListed (fixed_of inst) (multipliers_in pot)
 multiplied inst pot fixed triples fixed_are triples_are size nodes listed apart =
     let on_pairs : AreOnPairs (nodes_of pot) triples = record { nodes = nodes; differ = apart } in
     (subst₂ (λ n ts. AreOnPairs n ts) size triples_are on_pairs, subst₂ (λ fs ts. AreListed fs ts) fixed_are triples_are listed)
 
 -- no reason applies to a certificate of a TSP whose multipliers are on different fixed pairs
-pub none_of_tsp : (inst pot : Fields) → inst.kind ≡ Some kinds.Tsp → is_certificate pot.kind ≡ true → nodes_of pot ≡ nodes_of inst → has_wanted inst.kind pot ≡ true
-    → AreOnPairs (nodes_of inst) (multipliers_in pot) → AreListed (fixed_of inst) (multipliers_in pot) → (reason : Reason) → StandsAgainstPotentials inst pot reason → ⊥
+pub none_of_tsp : (inst pot : Fields) → inst.kind ≡ Some kinds.Tsp → is_certificate pot.kind ≡ true → nodes_of pot ≡ nodes_of inst
+    → has_wanted inst.kind pot ≡ true
+    → AreOnPairs (nodes_of inst) (multipliers_in pot) → AreListed (fixed_of inst) (multipliers_in pot) → (reason : Reason)
+    → StandsAgainstPotentials inst pot reason → ⊥
 none_of_tsp inst pot kind sort size wanted on_pairs listed =
     none_stands inst pot sort size wanted (none_unlisted inst pot listed) (none_repeated (nodes_of inst) inst pot on_pairs) (λ i j stands. other (sym kind ∙ stands.0))
   where
@@ -115,7 +133,8 @@ none_of_tsp inst pot kind sort size wanted on_pairs listed =
     other e = cc
 
 -- potentials of another sort than the TYPE of the instance wants
-pub kind_first : (inst pot : Fields) → is_certificate pot.kind ≡ true → nodes_of pot ≡ nodes_of inst → has_wanted inst.kind pot ≡ false
+pub kind_first : (inst pot : Fields) → is_certificate pot.kind ≡ true → nodes_of pot ≡ nodes_of inst
+    → has_wanted inst.kind pot ≡ false
     → IsFirstReason (StandsAgainstPotentials inst pot) PotentialsKind
 kind_first inst pot sort size other = record {
   stands = other;
@@ -127,7 +146,8 @@ not_undirected : (kind : Option Kind) → kind ≡ Some kinds.Atsp → kind ≡ 
 not_undirected kind atsp tsp = cc
 
 -- the first pair that breaks the duals of an ATSP is the first reason
-pub broken_first : (inst pot : Fields) (i j : ℕ) → inst.kind ≡ Some kinds.Atsp → is_certificate pot.kind ≡ true → nodes_of pot ≡ nodes_of inst
+pub broken_first : (inst pot : Fields) (i j : ℕ) → inst.kind ≡ Some kinds.Atsp → is_certificate pot.kind ≡ true
+    → nodes_of pot ≡ nodes_of inst
     → has_wanted (Some kinds.Atsp) pot ≡ true → BreaksDuals inst pot i j
     → IsFirstReason (StandsAgainstPotentials inst pot) (DualInfeasible i j)
 broken_first inst pot i j kind sort size wanted broken = record {
@@ -149,8 +169,10 @@ none_broken inst pot bound i j good bad =
     omega (arith, ints, pair.broken, fits i j pair.row pair.column pair.other)
 
 -- no reason applies to duals that give a bound
-pub none_of_atsp : (inst pot : Fields) (bound : ℤ) → inst.kind ≡ Some kinds.Atsp → is_certificate pot.kind ≡ true → nodes_of pot ≡ nodes_of inst
-    → has_wanted (Some kinds.Atsp) pot ≡ true → IsCertified Potentials inst pot bound → (reason : Reason) → StandsAgainstPotentials inst pot reason → ⊥
+pub none_of_atsp : (inst pot : Fields) (bound : ℤ) → inst.kind ≡ Some kinds.Atsp → is_certificate pot.kind ≡ true
+    → nodes_of pot ≡ nodes_of inst
+    → has_wanted (Some kinds.Atsp) pot ≡ true → IsCertified Potentials inst pot bound → (reason : Reason)
+    → StandsAgainstPotentials inst pot reason → ⊥
 none_of_atsp inst pot bound kind sort size wanted certified =
     let by_duals : IsBoundByDuals inst pot bound = subst (λ k. IsBoundBy Potentials k inst pot bound) kind certified.0 in
     none_stands inst pot sort size (rw kind wanted) (λ index stands. not_undirected inst.kind kind stands.0) (λ index stands. not_undirected inst.kind kind stands.0)
@@ -179,7 +201,8 @@ tour_rank inst sol (BadLeaf index) stands = absurd stands
 tour_rank inst sol (LengthClaimed length) stands = absurd stands
 tour_rank inst sol reason stands = omega arith
 
-pub certificate_rank : (by : Certificate) (inst cert : Fields) (reason : Reason) → StandsAgainstCertificate by inst cert reason → 17 ≤ rank_of reason
+pub certificate_rank : (by : Certificate) (inst cert : Fields) (reason : Reason) → StandsAgainstCertificate by inst cert reason
+    → 17 ≤ rank_of reason
 certificate_rank Potentials inst cert NotPotentials stands = omega arith
 certificate_rank Potentials inst cert PotentialsDimension stands = omega arith
 certificate_rank Potentials inst cert PotentialsKind stands = omega arith
@@ -195,7 +218,8 @@ certificate_rank Branches inst cert (BadLeaf index) stands = omega arith
 certificate_rank Branches inst cert reason stands = absurd stands
 
 -- the first reason against the tour is the first of all
-pub tour_first : (by : Certificate) (inst sol cert : Fields) (reason : Reason) → IsFirstAgainstTour inst sol reason → IsFirstAgainstCertified by inst sol cert reason
+pub tour_first : (by : Certificate) (inst sol cert : Fields) (reason : Reason) → IsFirstAgainstTour inst sol reason
+    → IsFirstAgainstCertified by inst sol cert reason
 tour_first by inst sol cert reason first = record {
   stands = inl first.stands;
   none_before = λ other low stands. by_side other low stands;
@@ -206,7 +230,8 @@ tour_first by inst sol cert reason first = record {
     by_side other low (inr stands) = omega (arith, low, tour_rank inst sol reason first.stands, certificate_rank by inst cert other stands)
 
 -- where none applies to the tour, the first against the certificate is the first of all
-pub certificate_first : (by : Certificate) (inst sol cert : Fields) (reason : Reason) → ((other : Reason) → StandsAgainstTour inst sol other → ⊥)
+pub certificate_first : (by : Certificate) (inst sol cert : Fields) (reason : Reason)
+    → ((other : Reason) → StandsAgainstTour inst sol other → ⊥)
     → IsFirstReason (StandsAgainstCertificate by inst cert) reason → IsFirstAgainstCertified by inst sol cert reason
 certificate_first by inst sol cert reason none first = record {
   stands = inr first.stands;
@@ -217,7 +242,8 @@ certificate_first by inst sol cert reason none first = record {
     by_side other low (inl stands) = none other stands
     by_side other low (inr stands) = first.none_before other low stands
 
-pub none_at_all : (by : Certificate) (inst sol cert : Fields) → ((other : Reason) → StandsAgainstTour inst sol other → ⊥) → ((other : Reason) → StandsAgainstCertificate by inst cert other → ⊥)
+pub none_at_all : (by : Certificate) (inst sol cert : Fields) → ((other : Reason) → StandsAgainstTour inst sol other → ⊥)
+    → ((other : Reason) → StandsAgainstCertificate by inst cert other → ⊥)
     → (reason : Reason) → StandsAgainstCertified by inst sol cert reason → ⊥
 none_at_all by inst sol cert tour certificate reason (inl stands) = tour reason stands
 none_at_all by inst sol cert tour certificate reason (inr stands) = certificate reason stands
@@ -227,11 +253,13 @@ enough inst sol none = omega (arith, lt_of_not-le (λ (few : nodes_of inst ≤ 2
 
 -- ---- by the certificate, and by the TYPE of the instance
 
-pub kinds_by_potentials : (kind : Option Kind) → (kind ≡ Some kinds.Tsp) ⊎ (kind ≡ Some kinds.Atsp) → IsTrue (is_bounded Potentials kind)
+pub kinds_by_potentials : (kind : Option Kind) → (kind ≡ Some kinds.Tsp) ⊎ (kind ≡ Some kinds.Atsp)
+    → IsTrue (is_bounded Potentials kind)
 kinds_by_potentials kind (inl tsp) = ap (is_bounded Potentials) tsp
 kinds_by_potentials kind (inr atsp) = ap (is_bounded Potentials) atsp
 
-pub kinds_bounded : (by : Certificate) (kind : Option Kind) → IsTrue (is_bounded by kind) → (kind ≡ Some kinds.Tsp) ⊎ (kind ≡ Some kinds.Atsp)
+pub kinds_bounded : (by : Certificate) (kind : Option Kind) → IsTrue (is_bounded by kind)
+    → (kind ≡ Some kinds.Tsp) ⊎ (kind ≡ Some kinds.Atsp)
 kinds_bounded Potentials (Some kinds.Tsp) is = inl refl
 kinds_bounded Potentials (Some kinds.Atsp) is = inr refl
 kinds_bounded Branches (Some kinds.Tsp) is = inl refl
@@ -256,7 +284,8 @@ symmetric_tsp inst (Undirected view) are tsp = are.2
 symmetric_tsp inst (Directed view) are tsp = absurd (false≢true (sym (tsp_is_not_atsp inst.kind tsp are.0)))
 
 -- a bound by branches is that of a tree of cases
-pub of_tree : (kind : Option Kind) (inst tree : Fields) (bound : ℤ) → IsBoundBy Branches kind inst tree bound → IsBoundByTree inst tree bound
+pub of_tree : (kind : Option Kind) (inst tree : Fields) (bound : ℤ) → IsBoundBy Branches kind inst tree bound
+    → IsBoundByTree inst tree bound
 of_tree (Some kinds.Tsp) inst tree bound is = is
 of_tree (Some kinds.Atsp) inst tree bound is = is
 of_tree (Some kinds.Cvrp) inst tree bound is = absurd is

@@ -14,13 +14,12 @@ use Rattle.tsp_format.specs.Steps.{Step, Branch, Leaf, are_whole, branch_count, 
 use Rattle.tsp_format.specs.states.TreeSteps.{step_of, steps_of}
 use Rattle.tsp_format.specs.declared.kinds.Kind.{Kind}
 use Rattle.tsp_format.specs.declared.kinds.Kind.TheVariants as kinds
-use Rattle.tsp_draft.specs.Fields.{Fields}
+use Rattle.tsp_draft.specs.Fields.{Fields, nodes_of}
 use Rattle.tsp_draft.specs.Rules.{is_tours}
 use Rattle.tsp_draft.specs.Valid.{AreTours, AreDepots, IsNodeList, IsStep, AreTreeSteps}
 use Rattle.tsp_branch.specs.Listed.{IsStepOf}
-use Rattle.tsp_file.specs.Meant.{nodes_of}
 use Rattle.tsp_verdict.specs.Solution.{visited, tours_of}
-use Rattle.tsp_verdict.specs.states.Routes.{nodes_in, AreToursOf}
+use Rattle.tsp_verdict.specs.states.RouteLists.{nodes_in, AreToursOf}
 use Rattle.tsp_verdict.proofs.Pieces.{nodes_in_is}
 
 in_both : (P : ℕ → Type 0) (xs ys : List ℕ) → AllByRecursion P xs → AllByRecursion P ys → AllByRecursion P (xs ++ ys)
@@ -29,9 +28,11 @@ in_both P (x ∷ xs) ys first second = (first.0, in_both P xs ys first.1 second)
 
 in_all : (tours : List (List ℕ)) → AllByRecursion IsNodeList tours → AllByRecursion (IsNode most_nodes) (concat tours)
 in_all [] filled = tt
-in_all (tour ∷ tours) filled = in_both (IsNode most_nodes) tour (concat tours) (recursion_from_All (IsNode most_nodes) tour filled.0.1) (in_all tours filled.1)
+in_all (tour ∷ tours) filled =
+    in_both (IsNode most_nodes) tour (concat tours) (recursion_from_All (IsNode most_nodes) tour filled.0.1) (in_all tours filled.1)
 
-pub counted_from_one : (tours : List (Vec ℕ)) → AreTours (map (λ (t : Vec ℕ). t.items) tours) → All (λ node. 1 ≤ node) (nodes_in tours)
+pub counted_from_one : (tours : List (Vec ℕ)) → AreTours (map (λ (t : Vec ℕ). t.items) tours)
+    → All (λ node. 1 ≤ node) (nodes_in tours)
 counted_from_one tours held =
     let nodes = All-from_recursion (IsNode most_nodes) (concat (map (λ (t : Vec ℕ). t.items) tours))
     (in_all (map (λ (t : Vec ℕ). t.items) tours) (recursion_from_All IsNodeList (map (λ (t : Vec ℕ). t.items) tours) held.0)) in
@@ -50,7 +51,8 @@ as_many [] = refl
 as_many (t ∷ tours) = ap suc (as_many tours)
 
 pub few_tours : (tours : List (Vec ℕ)) → AreTours (map (λ (t : Vec ℕ). t.items) tours) → length tours ≤ most_tour_nodes
-few_tours tours held = omega (arith, count_le (map (λ (t : Vec ℕ). t.items) tours) (recursion_from_All IsNodeList (map (λ (t : Vec ℕ). t.items) tours) held.0), held.1, as_many tours)
+few_tours tours held =
+    omega (arith, count_le (map (λ (t : Vec ℕ). t.items) tours) (recursion_from_All IsNodeList (map (λ (t : Vec ℕ). t.items) tours) held.0), held.1, as_many tours)
 
 pub few_nodes : (tours : List (Vec ℕ)) → AreTours (map (λ (t : Vec ℕ). t.items) tours) → length (nodes_in tours) ≤ most_tour_nodes
 few_nodes tours held = omega (arith, ap length (nodes_in_is tours), sum_is (map (λ (t : Vec ℕ). t.items) tours), held.1)
@@ -61,7 +63,8 @@ nodes_are f tours same = nodes_in_is tours ∙ ap concat same
 pub tours_are : (f : Fields) (tours : List (List ℕ)) → f.tours ≡ Some tours → tours ≡ tours_of f
 tours_are f tours stand = sym (ap (λ (o : Option (List (List ℕ))). unwrap_or o []) stand)
 
-pub tours_held : (f : Fields) (tours : List (Vec ℕ)) → f.kind ≡ Some kinds.Tour → f.tours ≡ Some (map (λ (t : Vec ℕ). t.items) tours) → AreTours (map (λ (t : Vec ℕ). t.items) tours) → AreToursOf f tours
+pub tours_held : (f : Fields) (tours : List (Vec ℕ)) → f.kind ≡ Some kinds.Tour
+    → f.tours ≡ Some (map (λ (t : Vec ℕ). t.items) tours) → AreTours (map (λ (t : Vec ℕ). t.items) tours) → AreToursOf f tours
 tours_held f tours sort stand held = record {
   sort = ap is_tours sort;
   value = tours_are f (map (λ (t : Vec ℕ). t.items) tours) stand;
@@ -92,10 +95,12 @@ depots_in f depots held k d lt =
 -- ---- steps
 
 -- a leaf's differences are some of all
-few_changes : (n most : ℕ) (steps : List Step) → most < 2 ^ 32 → AllByRecursion (IsStep n) steps → change_count steps ≤ most → AllByRecursion (IsStepOf n) steps
+few_changes : (n most : ℕ) (steps : List Step) → most < 2 ^ 32 → AllByRecursion (IsStep n) steps → change_count steps ≤ most
+    → AllByRecursion (IsStepOf n) steps
 few_changes n most [] low each few = tt
 few_changes n most (Branch a b ∷ steps) low each few = (each.0, few_changes n most steps low each.1 few)
-few_changes n most (Leaf changes ∷ steps) low each few = (omega (arith, low, few), few_changes n most steps low each.1 (omega (arith, few)))
+few_changes n most (Leaf changes ∷ steps) low each few =
+    (omega (arith, low, few), few_changes n most steps low each.1 (omega (arith, few)))
 
 pub steps_hold : (f : Fields) (steps : List Step) → AreTreeSteps f steps → All (IsStepOf (nodes_of f)) steps
 steps_hold f steps held =
@@ -118,4 +123,5 @@ all_counted (Branch a b ∷ steps) = let rest = all_counted steps in omega (arit
 all_counted (Leaf changes ∷ steps) = let rest = all_counted steps in omega (arith, rest)
 
 pub steps_few : (f : Fields) (steps : List TreeStep) → AreTreeSteps f (steps_of steps) → length steps < 2 ^ 32
-steps_few f steps held = omega (arith, length-map steps step_of, all_counted (steps_of steps), leaves_of_trees 1 (steps_of steps) held.whole, held.few)
+steps_few f steps held =
+    omega (arith, length-map steps step_of, all_counted (steps_of steps), leaves_of_trees 1 (steps_of steps) held.whole, held.few)

@@ -5,15 +5,19 @@ use Rattle.std.proofs.lemmas.Bool.{eqb-true, eq-eqb, false≢true}
 use Rattle.tsp_theory.specs.Tour.{Uses}
 use Rattle.tsp_verdict.specs.states.Next.{AreNext}
 
-pub uses_next : (directed : Bool) (cycle next : List ℕ) (pair : ℕ × ℕ) → AreNext cycle next → 1 ≤ pair.1 → get_or next pair.0 0 ≡ pair.1 → Uses directed cycle pair
+pub uses_next : (directed : Bool) (cycle next : List ℕ) (pair : ℕ × ℕ) → AreNext cycle next → 1 ≤ pair.1
+    → get_or next pair.0 0 ≡ pair.1 → Uses directed cycle pair
 uses_next true cycle next pair m some e = m.only pair.0 pair.1 some e
 uses_next false cycle next pair m some e = inl (m.only pair.0 pair.1 some e)
 
 -- where the second node doesn't come next, the first one must, and there may be no direction
-pub uses_other : (directed : Bool) (cycle next : List ℕ) (pair : ℕ × ℕ) (back : Bool) → AreNext cycle next → 1 ≤ pair.0 → get_or next pair.0 0 ≢ pair.1
-    → directed ≡ false → back ≡ eqb (get_or next pair.1 0) pair.0 → MatchBool back (Uses directed cycle pair) (Uses directed cycle pair → ⊥)
+pub uses_other : (directed : Bool) (cycle next : List ℕ) (pair : ℕ × ℕ) (back : Bool) → AreNext cycle next → 1 ≤ pair.0
+    → get_or next pair.0 0 ≢ pair.1
+    → directed ≡ false → back ≡ eqb (get_or next pair.1 0) pair.0
+    → MatchBool back (Uses directed cycle pair) (Uses directed cycle pair → ⊥)
 uses_other true cycle next pair back m some other two e = absurd (false≢true (sym two))
-uses_other false cycle next pair true m some other two e = inr (m.only pair.1 pair.0 some (eqb-true (get_or next pair.1 0) pair.0 (sym e)))
+uses_other false cycle next pair true m some other two e =
+    inr (m.only pair.1 pair.0 some (eqb-true (get_or next pair.1 0) pair.0 (sym e)))
 uses_other false cycle next pair false m some other two e = none
   where
     none : Uses false cycle pair → ⊥

@@ -18,7 +18,8 @@ against_tour inst sol TooFewNodes stands = stands
 against_tour inst sol (NotSymmetric i j) stands = stands
 against_tour inst sol reason stands = absurd stands
 
-first_of_certificate : (by : Certificate) (inst sol cert : Fields) (reason : Reason) → ((other : Reason) → StandsAgainstTour inst sol other → ⊥)
+first_of_certificate : (by : Certificate) (inst sol cert : Fields) (reason : Reason)
+    → ((other : Reason) → StandsAgainstTour inst sol other → ⊥)
     → IsFirstReason (StandsAgainstBounded by inst cert) reason → IsFirstReason (StandsAgainstCertificate by inst cert) reason
 first_of_certificate by inst sol cert reason none first = record {
   stands = by_side first.stands;
@@ -30,7 +31,8 @@ first_of_certificate by inst sol cert reason none first = record {
     by_side (inr stands) = stands
 
 -- where no reason applies to the tour, what was found is what the certificate gives
-pub found_by_certificate : (by : Certificate) (inst sol cert : Fields) (found : BoundVerdict) → ((other : Reason) → StandsAgainstTour inst sol other → ⊥)
+pub found_by_certificate : (by : Certificate) (inst sol cert : Fields) (found : BoundVerdict)
+    → ((other : Reason) → StandsAgainstTour inst sol other → ⊥)
     → IsBoundVerdict by inst cert found → FindsBound by inst cert found
 found_by_certificate by inst sol cert (bounds.Bound bound) none is = (λ reason stands. is.0 reason (inr stands), is.1)
 found_by_certificate by inst sol cert bounds.NoTour none is = (λ reason stands. is.0 reason (inr stands), is.1, is.2)

@@ -7,7 +7,8 @@ use Rattle.tsp_theory.specs.Cycle.{IsCycle, links_to}
 use Rattle.tsp_verdict.specs.states.Next.{AreNext}
 
 -- the k-th link goes from the k-th node to the one after it
-link_at : (end node : ℕ) (nodes : List ℕ) (k : ℕ) (d : ℕ × ℕ) → k < suc (length nodes) → get_or (links_to end node nodes) k d ≡ (get_or (node ∷ nodes) k 0, get_or (nodes ++ end ∷ []) k 0)
+link_at : (end node : ℕ) (nodes : List ℕ) (k : ℕ) (d : ℕ × ℕ) → k < suc (length nodes)
+    → get_or (links_to end node nodes) k d ≡ (get_or (node ∷ nodes) k 0, get_or (nodes ++ end ∷ []) k 0)
 link_at end node [] zero d lt = refl
 link_at end node [] (suc k) d lt = absurd (omega (arith, lt))
 link_at end node (next ∷ nodes) zero d lt = refl
@@ -22,7 +23,8 @@ pub record SetUpTo (firsts seconds next : List ℕ) (count : ℕ) : Type 0 where
   pub set_to : (k : ℕ) → k < count → get_or next (get_or firsts k 0) 0 ≡ get_or seconds k 0
   pub only : (a b : ℕ) → 1 ≤ b → get_or next a 0 ≡ b → (k : ℕ) × (k < count) × (get_or firsts k 0 ≡ a) × (get_or seconds k 0 ≡ b)
 
-set_read : (next : List ℕ) (at value a : ℕ) → at < length next → ((a ≡ at) × (get_or (set next at value) a 0 ≡ value)) ⊎ ((a ≢ at) × (get_or (set next at value) a 0 ≡ get_or next a 0))
+set_read : (next : List ℕ) (at value a : ℕ) → at < length next
+    → ((a ≡ at) × (get_or (set next at value) a 0 ≡ value)) ⊎ ((a ≢ at) × (get_or (set next at value) a 0 ≡ get_or next a 0))
 set_read [] at value a lt = absurd (omega (arith, lt))
 set_read (x ∷ next) zero value zero lt = inl (refl, refl)
 set_read (x ∷ next) zero value (suc a) lt = inr (λ e. omega (arith, e), refl)
@@ -42,8 +44,10 @@ last_or_before k count h = by_cases (cases_lt k count)
     by_cases (inr le) = inl (omega arith)
 
 -- one link more, from a node that is nowhere before
-pub set_more : (firsts seconds next : List ℕ) (count : ℕ) → count < length firsts → get_or firsts count 0 < length next → AllPairs (λ a b. a ≢ b) firsts
-    → SetUpTo firsts seconds next count → SetUpTo firsts seconds (set next (get_or firsts count 0) (get_or seconds count 0)) (count + 1)
+pub set_more : (firsts seconds next : List ℕ) (count : ℕ) → count < length firsts → get_or firsts count 0 < length next
+    → AllPairs (λ a b. a ≢ b) firsts
+    → SetUpTo firsts seconds next count
+    → SetUpTo firsts seconds (set next (get_or firsts count 0) (get_or seconds count 0)) (count + 1)
 set_more firsts seconds next count inside fits once m = record {
   set_to = λ k lt. set_at k (last_or_before k count lt);
   only = λ a b some is. only_at a b some is (set_read next (get_or firsts count 0) (get_or seconds count 0) a fits);
@@ -69,7 +73,8 @@ set_more firsts seconds next count inside fits once m = record {
     only_at a b some is (inr h) = let found = m.only a b some (sym h.1 ∙ is) in (found.0, omega (arith, found.1), found.2, found.3)
 
 -- with all links in it the table says what comes next
-pub are_next : (first : ℕ) (others next : List ℕ) → SetUpTo (first ∷ others) (others ++ first ∷ []) next (suc (length others)) → AreNext (first ∷ others) next
+pub are_next : (first : ℕ) (others next : List ℕ) → SetUpTo (first ∷ others) (others ++ first ∷ []) next (suc (length others))
+    → AreNext (first ∷ others) next
 are_next first others next m = record {
   follows = λ a b found.
       let lt : found.0 < suc (length others) = omega (arith, found.1, link_count first first others) in
@@ -90,13 +95,15 @@ are_next first others next m = record {
 
 -- ---- in the code's terms
 
-pub from_in : (n first : ℕ) (others : List ℕ) (index from size : ℕ) → IsCycle n (first ∷ others) → index < suc (length others) → from ≡ get_or (first ∷ others) index 0 → size ≡ n + 1 → from < size
+pub from_in : (n first : ℕ) (others : List ℕ) (index from size : ℕ) → IsCycle n (first ∷ others) → index < suc (length others)
+    → from ≡ get_or (first ∷ others) index 0 → size ≡ n + 1 → from < size
 from_in n first others index from size cycle lt is wide = omega (arith, (cycle.range index 0 lt).1, is, wide)
 
 pub further : (first : ℕ) (others : List ℕ) (index : ℕ) → get_or others index 0 ≡ get_or (first ∷ others) (index + 1) 0
 further first others index = ap (λ k. get_or (first ∷ others) k 0) (sym (add-one index))
 
-pub next_at : (first : ℕ) (others : List ℕ) (index : ℕ) → index < length others → get_or others index 0 ≡ get_or (others ++ first ∷ []) index 0
+pub next_at : (first : ℕ) (others : List ℕ) (index : ℕ) → index < length others
+    → get_or others index 0 ≡ get_or (others ++ first ∷ []) index 0
 next_at first [] index lt = absurd (omega (arith, lt))
 next_at first (x ∷ others) zero lt = refl
 next_at first (x ∷ others) (suc index) lt = next_at first others index (omega (arith, lt))
@@ -105,9 +112,11 @@ pub last_at : (first : ℕ) (others : List ℕ) → first ≡ get_or (others ++ 
 last_at first [] = refl
 last_at first (x ∷ others) = last_at first others
 
-pub set_next : (n first : ℕ) (others next : List ℕ) (index from value : ℕ) → IsCycle n (first ∷ others) → index < suc (length others) → length next ≡ n + 1
+pub set_next : (n first : ℕ) (others next : List ℕ) (index from value : ℕ) → IsCycle n (first ∷ others)
+    → index < suc (length others) → length next ≡ n + 1
     → from ≡ get_or (first ∷ others) index 0 → value ≡ get_or (others ++ first ∷ []) index 0
-    → SetUpTo (first ∷ others) (others ++ first ∷ []) next index → SetUpTo (first ∷ others) (others ++ first ∷ []) (set next from value) (index + 1)
+    → SetUpTo (first ∷ others) (others ++ first ∷ []) next index
+    → SetUpTo (first ∷ others) (others ++ first ∷ []) (set next from value) (index + 1)
 set_next n first others next index from value cycle lt wide from_is value_is m =
     let fits : get_or (first ∷ others) index 0 < length next = from_in n first others index (get_or (first ∷ others) index 0) (length next) cycle lt refl wide in
     subst (λ (v : ℕ). SetUpTo (first ∷ others) (others ++ first ∷ []) (set next v value) (index + 1)) (sym from_is)

@@ -42,7 +42,8 @@ here : (nodes : List ℕ) (place count : ℕ) → place ≡ count + 1 → node_a
 here nodes place count e = let k : place - 1 ≡ count = omega arith in rw k refl
 
 -- one node more, which isn't marked
-pub mark_more : (nodes : List ℕ) (seen : List Bool) (count : ℕ) → get_or nodes count 0 < length seen → get_or seen (get_or nodes count 0) false ≡ false
+pub mark_more : (nodes : List ℕ) (seen : List Bool) (count : ℕ) → get_or nodes count 0 < length seen
+    → get_or seen (get_or nodes count 0) false ≡ false
     → Marked nodes seen count → Marked nodes (set seen (get_or nodes count 0) true) (count + 1)
 mark_more nodes seen count fits free m = record {
   marked = λ place low high. marked_at place low (last_or_before place count high);
@@ -66,7 +67,8 @@ mark_more nodes seen count fits free m = record {
     once_at place low (inr le) r = m.once place low le r
 
 -- the next node is marked: it is the first that is repeated
-pub repeated_here : (nodes : List ℕ) (seen : List Bool) (count : ℕ) → count < length nodes → get_or seen (get_or nodes count 0) false ≡ true
+pub repeated_here : (nodes : List ℕ) (seen : List Bool) (count : ℕ) → count < length nodes
+    → get_or seen (get_or nodes count 0) false ≡ true
     → Marked nodes seen count → IsFirstPlace (IsRepeated nodes) nodes (count + 1)
 repeated_here nodes seen count lt taken m =
     let found = m.only (get_or nodes count 0) taken in
@@ -77,7 +79,8 @@ repeated_here nodes seen count lt taken m =
     }
 
 -- what a read of a mark says
-pub mark_is : (seen : List Bool) (k : ℕ) (mark value : Bool) → k < length seen → mark ≡ get_or seen k mark → mark ≡ value → get_or seen k false ≡ value
+pub mark_is : (seen : List Bool) (k : ℕ) (mark value : Bool) → k < length seen → mark ≡ get_or seen k mark → mark ≡ value
+    → get_or seen k false ≡ value
 mark_is seen k mark value h read e = get_or_default seen k false mark h ∙ sym read ∙ e
 
 -- no node is marked, and none is at the first 0 places
@@ -94,7 +97,8 @@ none_marked nodes m = record {
     unmarked (suc m) (suc node) = unmarked m node
 
 -- one node more of a piece, which isn't marked
-pub mark_next : (nodes piece : List ℕ) (seen : List Bool) (before index : ℕ) → StandsAfter before nodes piece → index < length piece
+pub mark_next : (nodes piece : List ℕ) (seen : List Bool) (before index : ℕ) → StandsAfter before nodes piece
+    → index < length piece
     → get_or piece index 0 < length seen → get_or seen (get_or piece index 0) false ≡ false
     → Marked nodes seen (before + index) → Marked nodes (set seen (get_or piece index 0) true) (before + (index + 1))
 mark_next nodes piece seen before index stands lt fits free m =
@@ -106,7 +110,8 @@ mark_next nodes piece seen before index stands lt fits free m =
     subst (λ k. Marked nodes (set seen (get_or piece index 0) true) k) count (subst (λ v. Marked nodes (set seen v true) (before + index + 1)) same more)
 
 -- the next node of a piece is marked
-pub repeated_next : (nodes piece : List ℕ) (seen : List Bool) (before index : ℕ) → StandsAfter before nodes piece → index < length piece → get_or seen (get_or piece index 0) false ≡ true
+pub repeated_next : (nodes piece : List ℕ) (seen : List Bool) (before index : ℕ) → StandsAfter before nodes piece
+    → index < length piece → get_or seen (get_or piece index 0) false ≡ true
     → Marked nodes seen (before + index) → IsFirstPlace (IsRepeated nodes) nodes (before + (index + 1))
 repeated_next nodes piece seen before index stands lt taken m =
     let same : get_or nodes (before + index) 0 ≡ get_or piece index 0 = stands.same index lt in
@@ -123,7 +128,8 @@ stands_whole nodes = record {
 }
 
 -- what was found from the first place on
-pub found_whole : (nodes : List ℕ) (seen : List Bool) (found : Option ℕ) → MatchOption found (Marked nodes seen (0 + length nodes)) (λ place. IsFirstPlace (IsRepeated nodes) nodes (0 + place))
+pub found_whole : (nodes : List ℕ) (seen : List Bool) (found : Option ℕ)
+    → MatchOption found (Marked nodes seen (0 + length nodes)) (λ place. IsFirstPlace (IsRepeated nodes) nodes (0 + place))
     → MatchOption found (HoldsAtNone (IsRepeated nodes) (length nodes)) (λ place. IsFirstPlace (IsRepeated nodes) nodes place)
 found_whole nodes seen None m = λ place low high. m.once place low (omega (arith, high))
 found_whole nodes seen (Some place) first = subst (λ k. IsFirstPlace (IsRepeated nodes) nodes k) (omega arith) first
@@ -138,12 +144,14 @@ all_apart xs once i j d before inside same =
     once (suc j) (omega arith) (omega (arith, inside)) (suc i, omega arith, omega (arith, before), first ∙ sym first_is ∙ same ∙ second_is ∙ sym second)
 
 -- a node is marked exactly where the list has it
-pub marked_there : (nodes : List ℕ) (seen : List Bool) (node : ℕ) → Marked nodes seen (length nodes) → get_or seen node false ≡ true → Contains nodes node
+pub marked_there : (nodes : List ℕ) (seen : List Bool) (node : ℕ) → Marked nodes seen (length nodes)
+    → get_or seen node false ≡ true → Contains nodes node
 marked_there nodes seen node m is =
     let found = m.only node is in
     (found.0 - 1, omega (arith, found.1, found.2), get_or_default nodes (found.0 - 1) node 0 (omega (arith, found.1, found.2)) ∙ found.3)
 
-pub there_marked : (nodes : List ℕ) (seen : List Bool) (node : ℕ) → Marked nodes seen (length nodes) → Contains nodes node → get_or seen node false ≡ true
+pub there_marked : (nodes : List ℕ) (seen : List Bool) (node : ℕ) → Marked nodes seen (length nodes) → Contains nodes node
+    → get_or seen node false ≡ true
 there_marked nodes seen node m there =
     let place : node_at nodes (suc there.0) ≡ node = ap (λ k. get_or nodes k 0) (omega arith) ∙ get_or_default nodes there.0 0 node there.1 ∙ there.2 in
     subst (λ v. get_or seen v false ≡ true) place (m.marked (suc there.0) (omega arith) (omega (arith, there.1)))

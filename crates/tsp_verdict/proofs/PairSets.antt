@@ -21,7 +21,8 @@ pub has_none : {X : Type 0} (pair_in : X → ℕ × ℕ) (s : BTreeSet (ℕ × �
 has_none pair_in s empty = λ pair. ap (λ ks. list_any (is_at (pair_cmp (undirected pair))) ks) empty
 
 -- one pair more
-pub has_more : {X : Type 0} (pair_in : X → ℕ × ℕ) (s n : BTreeSet (ℕ × ℕ)) (xs : List X) (i : ℕ) (d : X) → i < length xs → Updates pair_cmp s n (undirected (pair_in (get_or xs i d))) true
+pub has_more : {X : Type 0} (pair_in : X → ℕ × ℕ) (s n : BTreeSet (ℕ × ℕ)) (xs : List X) (i : ℕ) (d : X) → i < length xs
+    → Updates pair_cmp s n (undirected (pair_in (get_or xs i d))) true
     → HasPairs pair_in s (take i xs) → HasPairs pair_in n (take (i + 1) xs)
 has_more pair_in s n xs i d lt updates has = λ pair.
     let here : is_at (pair_cmp (undirected (pair_in (get_or xs i d)))) (undirected pair) ≡ is_same_pair pair (pair_in (get_or xs i d)) = same_keys (pair_in (get_or xs i d)) pair in
@@ -46,13 +47,17 @@ listed pairs pair h =
     ]
 
 found_listed : (pairs : List (ℕ × ℕ)) (pair : ℕ × ℕ) → IsListed pairs pair → list_any (λ x. is_same_pair pair x) pairs ≡ true
-found_listed pairs pair (inl at) = list_any_at (λ x. is_same_pair pair x) pairs at.0 pair at.1 (rw at.2 (straight pair pair refl refl))
-found_listed pairs pair (inr at) = list_any_at (λ x. is_same_pair pair x) pairs at.0 (pair.1, pair.0) at.1 (rw at.2 (crossed pair (pair.1, pair.0) refl refl))
+found_listed pairs pair (inl at) =
+    list_any_at (λ x. is_same_pair pair x) pairs at.0 pair at.1 (rw at.2 (straight pair pair refl refl))
+found_listed pairs pair (inr at) =
+    list_any_at (λ x. is_same_pair pair x) pairs at.0 (pair.1, pair.0) at.1 (rw at.2 (crossed pair (pair.1, pair.0) refl refl))
 
-pub has_listed : (pairs : List (ℕ × ℕ)) (s : BTreeSet (ℕ × ℕ)) (pair : ℕ × ℕ) → HasPairs (λ p. p) s pairs → contains pair_cmp s (undirected pair) ≡ true → IsListed pairs pair
+pub has_listed : (pairs : List (ℕ × ℕ)) (s : BTreeSet (ℕ × ℕ)) (pair : ℕ × ℕ) → HasPairs (λ p. p) s pairs
+    → contains pair_cmp s (undirected pair) ≡ true → IsListed pairs pair
 has_listed pairs s pair has is = listed pairs pair (sym (has pair) ∙ is)
 
-pub lacks_unlisted : (pairs : List (ℕ × ℕ)) (s : BTreeSet (ℕ × ℕ)) (pair : ℕ × ℕ) → HasPairs (λ p. p) s pairs → contains pair_cmp s (undirected pair) ≡ false → IsListed pairs pair → ⊥
+pub lacks_unlisted : (pairs : List (ℕ × ℕ)) (s : BTreeSet (ℕ × ℕ)) (pair : ℕ × ℕ) → HasPairs (λ p. p) s pairs
+    → contains pair_cmp s (undirected pair) ≡ false → IsListed pairs pair → ⊥
 lacks_unlisted pairs s pair has isnt is = false≢true (sym isnt ∙ has pair ∙ found_listed pairs pair is)
 
 -- ---- the same of pairs that may have a direction
@@ -60,7 +65,8 @@ lacks_unlisted pairs s pair has isnt is = false≢true (sym isnt ∙ has pair �
 pub has_no_keys : (directed : Bool) (s : BTreeSet (ℕ × ℕ)) → IsEmpty s → HasKeys directed s []
 has_no_keys directed s empty = λ pair. ap (λ ks. list_any (is_at (pair_cmp (key_of directed pair))) ks) empty
 
-pub has_more_keys : (directed : Bool) (s n : BTreeSet (ℕ × ℕ)) (pairs : List (ℕ × ℕ)) (i : ℕ) (d : ℕ × ℕ) → i < length pairs → Updates pair_cmp s n (key_of directed (get_or pairs i d)) true
+pub has_more_keys : (directed : Bool) (s n : BTreeSet (ℕ × ℕ)) (pairs : List (ℕ × ℕ)) (i : ℕ) (d : ℕ × ℕ) → i < length pairs
+    → Updates pair_cmp s n (key_of directed (get_or pairs i d)) true
     → HasKeys directed s (take i pairs) → HasKeys directed n (take (i + 1) pairs)
 has_more_keys directed s n pairs i d lt updates has = λ pair.
     let here = key_at directed (get_or pairs i d) pair in
@@ -74,14 +80,17 @@ abbrev none : ℕ × ℕ × ℤ
 none = (0, 0, pos 0)
 
 abbrev pub AreApart : List (ℕ × ℕ × ℤ) → ℕ → Type 0
-AreApart triples count = (i j : ℕ) → i < j → j < count → is_same_pair (pair_of (get_or triples i (0, 0, pos 0))) (pair_of (get_or triples j (0, 0, pos 0))) ≡ false
+AreApart triples count =
+    (i j : ℕ) → i < j → j < count → is_same_pair (pair_of (get_or triples i (0, 0, pos 0))) (pair_of (get_or triples j (0, 0, pos 0))) ≡ false
 
 at_place : (triples : List (ℕ × ℕ × ℤ)) (k : ℕ) → pair_at triples (k + 1) ≡ pair_of (get_or triples k none)
 at_place triples k = let e : (k + 1) - 1 ≡ k = omega arith in ap (λ m. pair_of (get_or triples m none)) e
 
 -- the set has the pair of the next triple: it is the first that is repeated
-pub repeated_pair : (triples : List (ℕ × ℕ × ℤ)) (s : BTreeSet (ℕ × ℕ)) (i : ℕ) → i < length triples → HasPairs pair_of s (take i triples) → AreApart triples i
-    → contains pair_cmp s (undirected (pair_of (get_or triples i (0, 0, pos 0)))) ≡ true → IsFirstPlace (IsPairRepeated triples) triples (i + 1)
+pub repeated_pair : (triples : List (ℕ × ℕ × ℤ)) (s : BTreeSet (ℕ × ℕ)) (i : ℕ) → i < length triples
+    → HasPairs pair_of s (take i triples) → AreApart triples i
+    → contains pair_cmp s (undirected (pair_of (get_or triples i (0, 0, pos 0)))) ≡ true
+    → IsFirstPlace (IsPairRepeated triples) triples (i + 1)
 repeated_pair triples s i lt has apart there =
     let pair = pair_of (get_or triples i none) in
     let found = Any-from_list_any (λ x. is_same_pair pair (pair_of x)) (take i triples) (sym (has pair) ∙ there) in
@@ -101,7 +110,8 @@ not_same true h = absurd (h refl)
 not_same false h = refl
 
 -- it hasn't: they are apart up to that one too
-pub apart_more : (triples : List (ℕ × ℕ × ℤ)) (s : BTreeSet (ℕ × ℕ)) (i : ℕ) → i < length triples → HasPairs pair_of s (take i triples) → AreApart triples i
+pub apart_more : (triples : List (ℕ × ℕ × ℤ)) (s : BTreeSet (ℕ × ℕ)) (i : ℕ) → i < length triples
+    → HasPairs pair_of s (take i triples) → AreApart triples i
     → contains pair_cmp s (undirected (pair_of (get_or triples i (0, 0, pos 0)))) ≡ false → AreApart triples (i + 1)
 apart_more triples s i lt has apart lacks k j before inside = elim (cases_lt j i) [
   | inl low ↦ apart k j before low
@@ -120,14 +130,17 @@ apart_more triples s i lt has apart lacks k j before inside = elim (cases_lt j i
     last : k < i → is_same_pair (pair_of (get_or triples k (0, 0, pos 0))) (pair_of (get_or triples i (0, 0, pos 0))) ≡ false
     last low = not_same _ (λ same. false≢true (sym lacks ∙ has (pair_of (get_or triples i none)) ∙ known low same))
 
-pub apart_all : (triples : List (ℕ × ℕ × ℤ)) → AreApart triples (length triples) → AllPairs (λ s t. is_same_pair (pair_of s) (pair_of t) ≡ false) triples
+pub apart_all : (triples : List (ℕ × ℕ × ℤ)) → AreApart triples (length triples)
+    → AllPairs (λ s t. is_same_pair (pair_of s) (pair_of t) ≡ false) triples
 apart_all triples apart i j d before inside =
     ap₂ (λ s t. is_same_pair (pair_of s) (pair_of t)) (get_or_default triples i d none (omega (arith, before, inside))) (get_or_default triples j d none inside) ∙ apart i j before inside
 
 -- ---- of triples whose pairs are looked up
 
-pub outside_here : (pairs : List (ℕ × ℕ)) (s : BTreeSet (ℕ × ℕ)) (triples : List (ℕ × ℕ × ℤ)) (i : ℕ) → HasPairs (λ p. p) s pairs → i < length triples
-    → ((k : ℕ) (d : ℕ × ℕ × ℤ) → k < i → contains pair_cmp s (undirected (pair_of (get_or triples k d))) ≡ true) → contains pair_cmp s (undirected (pair_of (get_or triples i (0, 0, pos 0)))) ≡ false
+pub outside_here : (pairs : List (ℕ × ℕ)) (s : BTreeSet (ℕ × ℕ)) (triples : List (ℕ × ℕ × ℤ)) (i : ℕ) → HasPairs (λ p. p) s pairs
+    → i < length triples
+    → ((k : ℕ) (d : ℕ × ℕ × ℤ) → k < i → contains pair_cmp s (undirected (pair_of (get_or triples k d))) ≡ true)
+    → contains pair_cmp s (undirected (pair_of (get_or triples i (0, 0, pos 0)))) ≡ false
     → IsFirstPlace (IsUnlisted pairs triples) triples (i + 1)
 outside_here pairs s triples i has lt inside lacks = record {
   here = (omega arith, omega (arith, lt));
@@ -136,7 +149,8 @@ outside_here pairs s triples i has lt inside lacks = record {
 }
 
 pub inside_more : (s : BTreeSet (ℕ × ℕ)) (triples : List (ℕ × ℕ × ℤ)) (i : ℕ) → i < length triples
-    → ((k : ℕ) (d : ℕ × ℕ × ℤ) → k < i → contains pair_cmp s (undirected (pair_of (get_or triples k d))) ≡ true) → contains pair_cmp s (undirected (pair_of (get_or triples i (0, 0, pos 0)))) ≡ true
+    → ((k : ℕ) (d : ℕ × ℕ × ℤ) → k < i → contains pair_cmp s (undirected (pair_of (get_or triples k d))) ≡ true)
+    → contains pair_cmp s (undirected (pair_of (get_or triples i (0, 0, pos 0)))) ≡ true
     → (k : ℕ) (d : ℕ × ℕ × ℤ) → k < i + 1 → contains pair_cmp s (undirected (pair_of (get_or triples k d))) ≡ true
 inside_more s triples i lt inside there k d low = elim (cases_lt k i) [
   | inl before ↦ inside k d before

@@ -9,10 +9,11 @@ use Rattle.std.proofs.lemmas.List.Concat.{get_or-flat_map}
 use Rattle.std.proofs.lemmas.List.Folds.{length-flat_map-take}
 use Rattle.tsp_verdict.specs.states.Marks.{StandsAfter}
 use Rattle.tsp_verdict.specs.Places.{node_at, IsFirstPlace}
-use Rattle.tsp_verdict.specs.states.Routes.{nodes_in}
+use Rattle.tsp_verdict.specs.states.RouteLists.{nodes_in}
 
 -- a route is after the nodes of those before it
-pub route_stands : (routes : List (Vec ℕ)) (i : ℕ) (route : Vec ℕ) → i < length routes → route ≡ get_or routes i route → StandsAfter (length (nodes_in (take i routes))) (nodes_in routes) route.items
+pub route_stands : (routes : List (Vec ℕ)) (i : ℕ) (route : Vec ℕ) → i < length routes → route ≡ get_or routes i route
+    → StandsAfter (length (nodes_in (take i routes))) (nodes_in routes) route.items
 route_stands routes i route lt is = record {
   inside = subst (λ (r : Vec ℕ). length (nodes_in (take i routes)) + length r.items ≤ length (nodes_in routes)) (sym is) (length-flat_map-take (λ (r : Vec ℕ). r.items) routes i route lt);
   same = λ k inside.
@@ -31,21 +32,26 @@ count_more (r ∷ routes) (suc i) route lt is =
     rw further (omega (arith, length-append r.items (nodes_in (take i routes)), length-append r.items (nodes_in (take (i + 1) routes)), tail))
 
 -- in the code's terms
-pub stands_here : (routes : List (Vec ℕ)) (i before : ℕ) (route : Vec ℕ) (nodes : List ℕ) → i < length routes → route ≡ get_or routes i route
+pub stands_here : (routes : List (Vec ℕ)) (i before : ℕ) (route : Vec ℕ) (nodes : List ℕ) → i < length routes
+    → route ≡ get_or routes i route
     → before ≡ length (nodes_in (take i routes)) → nodes ≡ route.items
     → StandsAfter before (nodes_in routes) nodes
 stands_here routes i before route nodes lt is counted same =
     subst (λ (b : ℕ). StandsAfter b (nodes_in routes) nodes) (sym counted)
     (subst (λ (xs : List ℕ). StandsAfter (length (nodes_in (take i routes))) (nodes_in routes) xs) (sym same) (route_stands routes i route lt is))
 
-pub count_here : (routes : List (Vec ℕ)) (i before : ℕ) (route : Vec ℕ) (nodes : List ℕ) → i < length routes → route ≡ get_or routes i route
+pub count_here : (routes : List (Vec ℕ)) (i before : ℕ) (route : Vec ℕ) (nodes : List ℕ) → i < length routes
+    → route ≡ get_or routes i route
     → before ≡ length (nodes_in (take i routes)) → nodes ≡ route.items
     → before + length nodes ≡ length (nodes_in (take (i + 1) routes))
-count_here routes i before route nodes lt is counted same = omega (arith, count_more routes i route lt is, counted, ap length same)
+count_here routes i before route nodes lt is counted same =
+    omega (arith, count_more routes i route lt is, counted, ap length same)
 
 -- the first place of a route at which P holds is the first one of all, where P holds nowhere before
-pub first_after : (P Q : ℕ → Type 0) (nodes piece : List ℕ) (before place : ℕ) → ((v : ℕ) → P v → Q v → ⊥) → StandsAfter before nodes piece
-    → ((k d : ℕ) → k < before → Q (slice_index_or nodes k d)) → IsFirstPlace (λ k. P (node_at piece k)) piece place → IsFirstPlace (λ k. P (node_at nodes k)) nodes (before + place)
+pub first_after : (P Q : ℕ → Type 0) (nodes piece : List ℕ) (before place : ℕ) → ((v : ℕ) → P v → Q v → ⊥)
+    → StandsAfter before nodes piece
+    → ((k d : ℕ) → k < before → Q (slice_index_or nodes k d)) → IsFirstPlace (λ k. P (node_at piece k)) piece place
+    → IsFirstPlace (λ k. P (node_at nodes k)) nodes (before + place)
 first_after P Q nodes piece before place apart stands none first = record {
   here = (omega (arith, first.here.0), omega (arith, first.here.1, stands.inside));
   holds = subst P (at_place place first.here.0 first.here.1) first.holds;
@@ -63,7 +69,8 @@ first_after P Q nodes piece before place apart stands none first = record {
     earlier_out earlier low less (inr le) p = apart (node_at nodes earlier) p (none (earlier - 1) 0 (omega (arith, low, le)))
 
 -- what holds of all nodes before a route and of its own
-pub all_more : (Q : ℕ → Type 0) (nodes piece : List ℕ) (before : ℕ) → StandsAfter before nodes piece → ((k d : ℕ) → k < before → Q (slice_index_or nodes k d)) → All Q piece
+pub all_more : (Q : ℕ → Type 0) (nodes piece : List ℕ) (before : ℕ) → StandsAfter before nodes piece
+    → ((k d : ℕ) → k < before → Q (slice_index_or nodes k d)) → All Q piece
     → (k d : ℕ) → k < before + length piece → Q (slice_index_or nodes k d)
 all_more Q nodes piece before stands so_far all k d less = by_place (cases_lt k before)
   where

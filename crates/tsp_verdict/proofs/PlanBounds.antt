@@ -21,7 +21,8 @@ sum_append f [] ys = omega (arith, ints)
 sum_append f (x ∷ xs) ys = let tail = sum_append f xs ys in omega (arith, ints)
 
 -- what the routes carry is at most as many times the capacity
-carried : (demands : List ℤ) (capacity : ℤ) (routes : List (List ℕ)) → AllByRecursion (λ route. load_of demands route ≤ℤ capacity) routes
+carried : (demands : List ℤ) (capacity : ℤ) (routes : List (List ℕ))
+    → AllByRecursion (λ route. load_of demands route ≤ℤ capacity) routes
     → load_of demands (concat routes) ≤ℤ (pos (length routes) *ℤ capacity)
 carried demands capacity [] within = let none = zero-*ℤ capacity in omega (arith, ints, none)
 carried demands capacity (route ∷ routes) within =
@@ -30,7 +31,8 @@ carried demands capacity (route ∷ routes) within =
     let times = suc_ℤ-*ℤ (pos (length routes)) capacity in
     omega (arith, ints, tail, both, times, within.0)
 
-sum_remove : (f : ℕ → ℤ) (xs : List ℕ) (i x : ℕ) → i < length xs → get_or xs i x ≡ x → sum_int_by f xs ≡ f x +ℤ sum_int_by f (remove xs i)
+sum_remove : (f : ℕ → ℤ) (xs : List ℕ) (i x : ℕ) → i < length xs → get_or xs i x ≡ x
+    → sum_int_by f xs ≡ f x +ℤ sum_int_by f (remove xs i)
 sum_remove f [] i x lt is = absurd (omega (arith, lt))
 sum_remove f (y ∷ xs) zero x lt is = ap (λ v. f v +ℤ sum_int_by f xs) is
 sum_remove f (y ∷ xs) (suc i) x lt is = let tail = sum_remove f xs i x (omega (arith, lt)) is in omega (arith, ints, tail)
@@ -48,7 +50,8 @@ still_there xs i x w lt is other there =
     in_tail x (remove xs i) w found.0 found.1 found.2 other
 
 -- a run of numbers that are all in a list sums to no more than the list, where nothing is below 0
-run_sum : (f : ℕ → ℤ) → ((v : ℕ) → pos 0 ≤ℤ f v) → (m a : ℕ) (xs : List ℕ) → ((v : ℕ) → a ≤ v → v < a + m → Contains xs v) → sum_int_by f (range_with_len a m) ≤ℤ sum_int_by f xs
+run_sum : (f : ℕ → ℤ) → ((v : ℕ) → pos 0 ≤ℤ f v) → (m a : ℕ) (xs : List ℕ) → ((v : ℕ) → a ≤ v → v < a + m → Contains xs v)
+    → sum_int_by f (range_with_len a m) ≤ℤ sum_int_by f xs
 run_sum f low zero a xs inside = all_low xs
   where
     all_low : (xs : List ℕ) → pos 0 ≤ℤ sum_int_by f xs
@@ -63,7 +66,8 @@ run_sum f low (suc m) a xs inside =
 
 -- ---- plans
 
-pub demand_low : (demands : List ℤ) → ((k : ℕ) (d : ℤ) → k < length demands → pos 0 ≤ℤ get_or demands k d) → (node : ℕ) → pos 0 ≤ℤ demand_of demands node
+pub demand_low : (demands : List ℤ) → ((k : ℕ) (d : ℤ) → k < length demands → pos 0 ≤ℤ get_or demands k d) → (node : ℕ)
+    → pos 0 ≤ℤ demand_of demands node
 demand_low demands low node = at_index (node - 1) (cases_lt (node - 1) (length demands))
   where
     at_index : (k : ℕ) → (k < length demands) ⊎ (length demands ≤ k) → pos 0 ≤ℤ get_or demands k (pos 0)
@@ -92,6 +96,8 @@ plan_carries problem routes low none plan =
         let found = plan.served v ((above, omega (arith, below)), other.1) in
         (suc found.0, omega (arith, found.1), found.2)
 
-pub none_fewer : (problem : RoutingProblem) (least : ℕ) → ((node : ℕ) → pos 0 ≤ℤ demand_of problem.demands node) → demand_of problem.demands problem.depot ≡ pos 0
-    → IsLeast (load_of problem.demands (nodes_to problem.nodes)) problem.capacity least → (routes : List (List ℕ)) → IsPlan problem routes → least ≤ length routes
+pub none_fewer : (problem : RoutingProblem) (least : ℕ) → ((node : ℕ) → pos 0 ≤ℤ demand_of problem.demands node)
+    → demand_of problem.demands problem.depot ≡ pos 0
+    → IsLeast (load_of problem.demands (nodes_to problem.nodes)) problem.capacity least → (routes : List (List ℕ))
+    → IsPlan problem routes → least ≤ length routes
 none_fewer problem least low none is routes plan = is.none_less (length routes) (plan_carries problem routes low none plan)

@@ -31,7 +31,8 @@ length_last cost so_far total end from others none e =
     ∙ subst (λ (xs : List ℕ). so_far +ℤ length_to cost end from xs ≡ total) none e
 
 pub sum_more : (sum cost : ℤ) (count more : ℕ) → IsSumOf count sum → IsSumOf more cost → IsSumOf (count + more) (sum +ℤ cost)
-sum_more sum cost count more size other = record { low = omega (arith, ints, size.low, other.low); high = omega (arith, ints, size.high, other.high) }
+sum_more sum cost count more size other =
+    record { low = omega (arith, ints, size.low, other.low); high = omega (arith, ints, size.high, other.high) }
 
 pub sum_one : (cost : ℤ) → neg_ℤ (pos most_weight) ≤ℤ cost → cost ≤ℤ pos most_weight → IsSumOf 1 cost
 sum_one cost low high = record { low = omega (arith, ints, low); high = omega (arith, ints, high) }
@@ -42,7 +43,8 @@ pub sum_fits : (sum cost : ℤ) (count more : ℕ) → (count + more) ≤ 200000
 sum_fits sum cost count more few size other = omega (arith, ints, size.low, size.high, other.low, other.high)
 
 -- one route more
-pub plan_more : (cost : ℕ → ℕ → ℤ) (depot : ℕ) (so_far total : ℤ) (routes : List (Vec ℕ)) (i : ℕ) (route : Vec ℕ) → i < length routes → route ≡ get_or routes i route
+pub plan_more : (cost : ℕ → ℕ → ℤ) (depot : ℕ) (so_far total : ℤ) (routes : List (Vec ℕ)) (i : ℕ) (route : Vec ℕ)
+    → i < length routes → route ≡ get_or routes i route
     → so_far +ℤ plan_length cost depot (map (λ r. r.items) (drop i routes)) ≡ total
     → (so_far +ℤ length_of cost (depot ∷ route.items)) +ℤ plan_length cost depot (map (λ r. r.items) (drop (i + 1) routes)) ≡ total
 plan_more cost depot so_far total routes i route lt is e =

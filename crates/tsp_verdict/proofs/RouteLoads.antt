@@ -22,17 +22,22 @@ pub load_none : IsLoadOf 0 (pos 0)
 load_none = record { low = omega (arith, ints); high = omega (arith, ints) }
 
 pub load_more : (sum demand : ℤ) (count : ℕ) → IsLoadOf count sum → IsDemand demand → IsLoadOf (count + 1) (sum +ℤ demand)
-load_more sum demand count size more = record { low = omega (arith, ints, size.low, more.0); high = omega (arith, ints, size.high, more.1) }
+load_more sum demand count size more =
+    record { low = omega (arith, ints, size.low, more.0); high = omega (arith, ints, size.high, more.1) }
 
-pub load_fits : (sum demand : ℤ) (count : ℕ) → count ≤ 1000000 → IsLoadOf count sum → IsDemand demand → to_z w64 (of_z w64 (sum +ℤ to_z w64 (of_z w64 demand))) ≡ sum +ℤ demand
+pub load_fits : (sum demand : ℤ) (count : ℕ) → count ≤ 1000000 → IsLoadOf count sum → IsDemand demand
+    → to_z w64 (of_z w64 (sum +ℤ to_z w64 (of_z w64 demand))) ≡ sum +ℤ demand
 load_fits sum demand count few size more = omega (arith, ints, size.low, size.high, more.0, more.1)
 
 -- one demand further
-pub sum_step : {X : Type 0} (f : X → ℤ) (so_far total : ℤ) (x : X) (others rest : List X) → others ≡ x ∷ rest → so_far +ℤ sum_int_by f others ≡ total → (so_far +ℤ f x) +ℤ sum_int_by f rest ≡ total
-sum_step {X} f so_far total x others rest parts e = +ℤ_assoc so_far (f x) (sum_int_by f rest) ∙ subst (λ (xs : List X). so_far +ℤ sum_int_by f xs ≡ total) parts e
+pub sum_step : {X : Type 0} (f : X → ℤ) (so_far total : ℤ) (x : X) (others rest : List X) → others ≡ x ∷ rest
+    → so_far +ℤ sum_int_by f others ≡ total → (so_far +ℤ f x) +ℤ sum_int_by f rest ≡ total
+sum_step {X} f so_far total x others rest parts e =
+    +ℤ_assoc so_far (f x) (sum_int_by f rest) ∙ subst (λ (xs : List X). so_far +ℤ sum_int_by f xs ≡ total) parts e
 
 -- at the end
-pub sum_end : {X : Type 0} (f : X → ℤ) (so_far total : ℤ) (others : List X) → others ≡ [] → so_far +ℤ sum_int_by f others ≡ total → so_far ≡ total
+pub sum_end : {X : Type 0} (f : X → ℤ) (so_far total : ℤ) (others : List X) → others ≡ [] → so_far +ℤ sum_int_by f others ≡ total
+    → so_far ≡ total
 sum_end {X} f so_far total others none e = sym (+ℤ_idr so_far) ∙ subst (λ (xs : List X). so_far +ℤ sum_int_by f xs ≡ total) none e
 
 -- the least number of routes
@@ -54,7 +59,8 @@ least_is total capacity some = record {
         let nat : total ≤ count * capacity = omega (arith, ints, carries) in
         absurd (omega (arith, more, below, nat, some))
 
-pub least_of : (total capacity : ℤ) → pos 0 ≤ℤ total → pos 1 ≤ℤ capacity → IsLeast total capacity ((nat_abs total + (nat_abs capacity - 1)) / nat_abs capacity)
+pub least_of : (total capacity : ℤ) → pos 0 ≤ℤ total → pos 1 ≤ℤ capacity
+    → IsLeast total capacity ((nat_abs total + (nat_abs capacity - 1)) / nat_abs capacity)
 least_of (pos total) (pos capacity) low some = least_is total capacity (omega (arith, ints, some))
 least_of (pos total) (negsuc capacity) low some = absurd (omega (arith, ints, some))
 least_of (negsuc total) capacity low some = absurd (omega (arith, ints, low))
@@ -65,7 +71,8 @@ run_parts a zero some = absurd (omega (arith, some))
 run_parts a (suc m) some = ap (λ k. a ∷ range_with_len (a + 1) k) (omega arith)
 
 -- one node further, over all nodes
-pub total_more : (demands : List ℤ) (so_far total : ℤ) (i : ℕ) → i < length demands → so_far +ℤ load_of demands (range_with_len (i + 1) (length demands - i)) ≡ total
+pub total_more : (demands : List ℤ) (so_far total : ℤ) (i : ℕ) → i < length demands
+    → so_far +ℤ load_of demands (range_with_len (i + 1) (length demands - i)) ≡ total
     → (so_far +ℤ slice_index_or demands i (pos 0)) +ℤ load_of demands (range_with_len (i + 1 + 1) (length demands - (i + 1))) ≡ total
 total_more demands so_far total i lt e =
     let some : 0 < length demands - i = omega (arith, lt) in
@@ -77,19 +84,22 @@ total_more demands so_far total i lt e =
     subst (λ k. (so_far +ℤ slice_index_or demands k (pos 0)) +ℤ load_of demands (range_with_len (i + 1 + 1) (length demands - (i + 1))) ≡ total) at
     (subst (λ k. (so_far +ℤ demand_of demands (i + 1)) +ℤ load_of demands (range_with_len (i + 1 + 1) k) ≡ total) (sym less) step)
 
-pub total_end : (demands : List ℤ) (so_far total : ℤ) (i : ℕ) → length demands ≤ i → so_far +ℤ load_of demands (range_with_len (i + 1) (length demands - i)) ≡ total → so_far ≡ total
+pub total_end : (demands : List ℤ) (so_far total : ℤ) (i : ℕ) → length demands ≤ i
+    → so_far +ℤ load_of demands (range_with_len (i + 1) (length demands - i)) ≡ total → so_far ≡ total
 total_end demands so_far total i le e =
     let none : length demands - i ≡ 0 = omega (arith, le) in
     sum_end (demand_of demands) so_far total (range_with_len (i + 1) (length demands - i)) (ap (range_with_len (i + 1)) none) e
 
 -- ---- loads of several routes
 
-pub read_route : (routes : List (Vec ℕ)) (i : ℕ) (route : Vec ℕ) (d : List ℕ) → i < length routes → route ≡ get_or routes i route → get_or (map (λ (r : Vec ℕ). r.items) routes) i d ≡ route.items
+pub read_route : (routes : List (Vec ℕ)) (i : ℕ) (route : Vec ℕ) (d : List ℕ) → i < length routes → route ≡ get_or routes i route
+    → get_or (map (λ (r : Vec ℕ). r.items) routes) i d ≡ route.items
 read_route [] i route d lt is = absurd (omega (arith, lt))
 read_route (r ∷ routes) zero route d lt is = ap (λ (v : Vec ℕ). v.items) (sym is)
 read_route (r ∷ routes) (suc i) route d lt is = read_route routes i route d (omega (arith, lt)) is
 
-pub carried_more : (demands : List ℤ) (capacity : ℤ) (routes : List (Vec ℕ)) (i : ℕ) (route : Vec ℕ) → i < length routes → route ≡ get_or routes i route → load_of demands route.items ≤ℤ capacity
+pub carried_more : (demands : List ℤ) (capacity : ℤ) (routes : List (Vec ℕ)) (i : ℕ) (route : Vec ℕ) → i < length routes
+    → route ≡ get_or routes i route → load_of demands route.items ≤ℤ capacity
     → ((k : ℕ) (d : List ℕ) → k < i → load_of demands (slice_index_or (map (λ (r : Vec ℕ). r.items) routes) k d) ≤ℤ capacity)
     → (k : ℕ) (d : List ℕ) → k < i + 1 → load_of demands (slice_index_or (map (λ (r : Vec ℕ). r.items) routes) k d) ≤ℤ capacity
 carried_more demands capacity routes i route lt is carries so_far k d less = by_place (cases_lt k i)

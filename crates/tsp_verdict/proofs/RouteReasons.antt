@@ -1,33 +1,37 @@
 -- The reasons against routes, ruled out one by one.
 use Rattle.std.proofs.Common.{ℕ, arith}
-use Rattle.tsp_draft.specs.Fields.{Fields}
+use Rattle.tsp_draft.specs.Fields.{Fields, nodes_of}
 use Rattle.tsp_reason.specs.declared.verdict.Reason.{Reason}
 use Rattle.tsp_reason.specs.declared.verdict.Reason.TheVariants.{NotPotentials, PotentialsDimension, PotentialsKind, MultiplierNotFixed, MultiplierRepeated, DualInfeasible, NotSymmetric, TourCount, TourLength, NodeOutOfRange, RepeatedNode, FixedEdgeUnused, DepotInRoute, Unserved, Overload, NotBranches, BranchesDimension, BadComb, BranchTwice, BadLeaf, LengthClaimed}
 use Rattle.tsp_verdict.specs.Places.{IsFirstPlace, IsLarger, IsAt, IsRepeated}
 use Rattle.tsp_verdict.specs.Plan.{depot_of}
-use Rattle.tsp_file.specs.Meant.{nodes_of}
-use Rattle.tsp_cost.specs.Tours.{demands_of, capacity_of}
+use Rattle.tsp_cost.specs.ComputedProblems.{demands_of, capacity_of}
 use Rattle.tsp_verdict.specs.Solution.{visited, tours_of}
 use Rattle.tsp_verdict.specs.Routes.{IsFirstUnserved, IsOverloaded, StandsAgainstRoutes, NoneOfRoutesUpTo}
 
-pub after_depot : (inst sol : Fields) → NoneOfRoutesUpTo inst sol 10 → ((place : ℕ) → IsFirstPlace (IsAt (depot_of inst) (visited sol)) (visited sol) place → ⊥) → NoneOfRoutesUpTo inst sol 11
+pub after_depot : (inst sol : Fields) → NoneOfRoutesUpTo inst sol 10
+    → ((place : ℕ) → IsFirstPlace (IsAt (depot_of inst) (visited sol)) (visited sol) place → ⊥) → NoneOfRoutesUpTo inst sol 11
 after_depot inst sol before out (DepotInRoute place) low stands = out place stands
 after_depot inst sol before out reason low stands = before reason (omega (arith, low)) stands
 
-pub after_range : (inst sol : Fields) → NoneOfRoutesUpTo inst sol 11 → ((place : ℕ) → IsFirstPlace (IsLarger (nodes_of inst) (visited sol)) (visited sol) place → ⊥) → NoneOfRoutesUpTo inst sol 12
+pub after_range : (inst sol : Fields) → NoneOfRoutesUpTo inst sol 11
+    → ((place : ℕ) → IsFirstPlace (IsLarger (nodes_of inst) (visited sol)) (visited sol) place → ⊥) → NoneOfRoutesUpTo inst sol 12
 after_range inst sol before inside (NodeOutOfRange place) low stands = inside place stands
 after_range inst sol before inside reason low stands = before reason (omega (arith, low)) stands
 
-pub after_repeats : (inst sol : Fields) → NoneOfRoutesUpTo inst sol 12 → ((place : ℕ) → IsFirstPlace (IsRepeated (visited sol)) (visited sol) place → ⊥) → NoneOfRoutesUpTo inst sol 14
+pub after_repeats : (inst sol : Fields) → NoneOfRoutesUpTo inst sol 12
+    → ((place : ℕ) → IsFirstPlace (IsRepeated (visited sol)) (visited sol) place → ⊥) → NoneOfRoutesUpTo inst sol 14
 after_repeats inst sol before once (RepeatedNode place) low stands = once place stands
 after_repeats inst sol before once (FixedEdgeUnused index) low stands = stands
 after_repeats inst sol before once reason low stands = before reason (omega (arith, low)) stands
 
-pub after_served : (inst sol : Fields) → NoneOfRoutesUpTo inst sol 14 → ((node : ℕ) → IsFirstUnserved (nodes_of inst) (depot_of inst) (visited sol) node → ⊥) → NoneOfRoutesUpTo inst sol 15
+pub after_served : (inst sol : Fields) → NoneOfRoutesUpTo inst sol 14
+    → ((node : ℕ) → IsFirstUnserved (nodes_of inst) (depot_of inst) (visited sol) node → ⊥) → NoneOfRoutesUpTo inst sol 15
 after_served inst sol before served (Unserved node) low stands = served node stands
 after_served inst sol before served reason low stands = before reason (omega (arith, low)) stands
 
-pub after_loads : (inst sol : Fields) → NoneOfRoutesUpTo inst sol 15 → ((route : ℕ) → IsFirstPlace (IsOverloaded (demands_of inst) (capacity_of inst) (tours_of sol)) (tours_of sol) route → ⊥)
+pub after_loads : (inst sol : Fields) → NoneOfRoutesUpTo inst sol 15
+    → ((route : ℕ) → IsFirstPlace (IsOverloaded (demands_of inst) (capacity_of inst) (tours_of sol)) (tours_of sol) route → ⊥)
     → (reason : Reason) → StandsAgainstRoutes inst sol reason → ⊥
 after_loads inst sol before carried (Overload route) stands = carried route stands
 after_loads inst sol before carried (NotSymmetric i j) stands = stands

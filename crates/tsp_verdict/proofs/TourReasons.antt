@@ -2,15 +2,15 @@
 use Rattle.std.proofs.Common.{◌≡◌, ℕ, ◌≤◌, true, length, Some, sym, ◌∙◌, arith}
 use Rattle.std.proofs.lemmas.Bool.{false≢true}
 use Rattle.tsp_format.specs.declared.kinds.Kind.TheVariants as kinds
-use Rattle.tsp_draft.specs.Fields.{Fields}
+use Rattle.tsp_draft.specs.Fields.{Fields, nodes_of}
 use Rattle.tsp_draft.specs.Rules.{is_tours}
 use Rattle.tsp_file.specs.Cost.{cost}
 use Rattle.tsp_theory.specs.Costs.{IsFirstAsymmetric}
-use Rattle.tsp_cost.specs.Tours.{is_directed}
+use Rattle.tsp_cost.specs.ComputedProblems.{is_directed}
 use Rattle.tsp_reason.specs.declared.verdict.Reason.{Reason}
 use Rattle.tsp_reason.specs.declared.verdict.Reason.TheVariants.{NotASolution, TooFewNodes, NotSymmetric, Dimension, TourCount, TourLength, NodeOutOfRange, RepeatedNode, FixedEdgeUnused, NotPotentials, PotentialsDimension, PotentialsKind, MultiplierNotFixed, MultiplierRepeated, DualInfeasible, DepotCount, DepotDemand, FixedEdgesInRoutes, DepotInRoute, Unserved, Overload, NotBranches, BranchesDimension, BadComb, BranchTwice, BadLeaf, LengthClaimed}
 use Rattle.tsp_verdict.specs.Places.{IsFirstPlace, IsLarger, IsRepeated, IsUnused}
-use Rattle.tsp_file.specs.Meant.{nodes_of, fixed_of}
+use Rattle.tsp_file.specs.Meant.{fixed_of}
 use Rattle.tsp_verdict.specs.Solution.{visited, tours_of}
 use Rattle.tsp_verdict.specs.Tours.{StandsAgainstTour, NoneOfTourUpTo}
 
@@ -22,11 +22,14 @@ pub after_nodes : (inst sol : Fields) → NoneOfTourUpTo inst sol 2 → 3 ≤ no
 after_nodes inst sol before enough TooFewNodes low stands = omega (arith, enough, stands)
 after_nodes inst sol before enough reason low stands = before reason (omega (arith, low)) stands
 
-pub after_symmetry : (inst sol : Fields) → NoneOfTourUpTo inst sol 3 → (inst.kind ≡ Some kinds.Tsp → (i j : ℕ) → IsFirstAsymmetric (nodes_of inst) (cost inst) (i, j) → ⊥) → NoneOfTourUpTo inst sol 4
+pub after_symmetry : (inst sol : Fields) → NoneOfTourUpTo inst sol 3
+    → (inst.kind ≡ Some kinds.Tsp → (i j : ℕ) → IsFirstAsymmetric (nodes_of inst) (cost inst) (i, j) → ⊥)
+    → NoneOfTourUpTo inst sol 4
 after_symmetry inst sol before even (NotSymmetric i j) low stands = even stands.0 i j stands.1
 after_symmetry inst sol before even reason low stands = before reason (omega (arith, low)) stands
 
-pub after_dimension : (inst sol : Fields) → NoneOfTourUpTo inst sol 4 → ((n : ℕ) → sol.dimension ≡ Some n → n ≡ nodes_of inst) → NoneOfTourUpTo inst sol 5
+pub after_dimension : (inst sol : Fields) → NoneOfTourUpTo inst sol 4 → ((n : ℕ) → sol.dimension ≡ Some n → n ≡ nodes_of inst)
+    → NoneOfTourUpTo inst sol 5
 after_dimension inst sol before same Dimension low stands = stands.2 (same stands.0 stands.1)
 after_dimension inst sol before same reason low stands = before reason (omega (arith, low)) stands
 
@@ -34,7 +37,8 @@ pub after_count : (inst sol : Fields) → NoneOfTourUpTo inst sol 5 → length (
 after_count inst sol before one TourCount low stands = stands one
 after_count inst sol before one reason low stands = before reason (omega (arith, low)) stands
 
-pub after_length : (inst sol : Fields) → NoneOfTourUpTo inst sol 6 → length (visited sol) ≡ nodes_of inst → NoneOfTourUpTo inst sol 11
+pub after_length : (inst sol : Fields) → NoneOfTourUpTo inst sol 6 → length (visited sol) ≡ nodes_of inst
+    → NoneOfTourUpTo inst sol 11
 after_length inst sol before full TourLength low stands = stands full
 after_length inst sol before full DepotCount low stands = stands
 after_length inst sol before full DepotDemand low stands = stands
@@ -42,11 +46,13 @@ after_length inst sol before full FixedEdgesInRoutes low stands = stands
 after_length inst sol before full (DepotInRoute place) low stands = stands
 after_length inst sol before full reason low stands = before reason (omega (arith, low)) stands
 
-pub after_range : (inst sol : Fields) → NoneOfTourUpTo inst sol 11 → ((place : ℕ) → IsFirstPlace (IsLarger (nodes_of inst) (visited sol)) (visited sol) place → ⊥) → NoneOfTourUpTo inst sol 12
+pub after_range : (inst sol : Fields) → NoneOfTourUpTo inst sol 11
+    → ((place : ℕ) → IsFirstPlace (IsLarger (nodes_of inst) (visited sol)) (visited sol) place → ⊥) → NoneOfTourUpTo inst sol 12
 after_range inst sol before inside (NodeOutOfRange place) low stands = inside place stands
 after_range inst sol before inside reason low stands = before reason (omega (arith, low)) stands
 
-pub after_repeats : (inst sol : Fields) → NoneOfTourUpTo inst sol 12 → ((place : ℕ) → IsFirstPlace (IsRepeated (visited sol)) (visited sol) place → ⊥) → NoneOfTourUpTo inst sol 13
+pub after_repeats : (inst sol : Fields) → NoneOfTourUpTo inst sol 12
+    → ((place : ℕ) → IsFirstPlace (IsRepeated (visited sol)) (visited sol) place → ⊥) → NoneOfTourUpTo inst sol 13
 after_repeats inst sol before once (RepeatedNode place) low stands = once place stands
 after_repeats inst sol before once reason low stands = before reason (omega (arith, low)) stands
 

@@ -4,23 +4,24 @@ use Rattle.std.specs.Prelude.{ℤ}
 use Rattle.std.specs.Global.{Vec}
 use Rattle.std.specs.List.{All, concat}
 use Rattle.std.proofs.lemmas.List.{append-nil}
-use Rattle.tsp_draft.specs.Fields.{Fields}
+use Rattle.tsp_draft.specs.Fields.{Fields, nodes_of}
 use Rattle.tsp_file.specs.Cost.{cost}
 use Rattle.tsp_theory.specs.Length.{length_of}
 use Rattle.tsp_theory.specs.Tour.{Uses}
-use Rattle.tsp_cost.specs.Tours.{is_directed, IsTourOf}
+use Rattle.tsp_cost.specs.ComputedProblems.{is_directed, IsTourOf}
 use Rattle.tsp_theory.specs.Cycle.{IsCycle}
 use Rattle.tsp_reason.specs.declared.verdict.Reason.{Reason}
 use Rattle.tsp_reason.specs.declared.verdict.Reason.TheVariants.{NodeOutOfRange, RepeatedNode, FixedEdgeUnused}
 use Rattle.tsp_verdict.specs.Places.{IsFirstPlace, HoldsAtNone, IsLarger, IsRepeated, IsUnused}
-use Rattle.tsp_file.specs.Meant.{nodes_of, fixed_of}
+use Rattle.tsp_file.specs.Meant.{fixed_of}
 use Rattle.tsp_verdict.specs.Solution.{visited, tours_of}
 use Rattle.tsp_verdict.specs.Tours.{StandsAgainstTour, NoneOfTourUpTo, IsFirstAgainstTour}
 use Rattle.tsp_verdict.proofs.MarkedNodes.{all_apart}
 use Rattle.tsp_verdict.proofs.TourReasons.{after_count, after_length, after_range, after_repeats, after_fixed}
 
 -- the only one of several tours
-pub one_tour : (tours : List (Vec ℕ)) (tour : Vec ℕ) → length tours ≡ 1 → tour ≡ get_or tours 0 tour → map (λ t. t.items) tours ≡ tour.items ∷ []
+pub one_tour : (tours : List (Vec ℕ)) (tour : Vec ℕ) → length tours ≡ 1 → tour ≡ get_or tours 0 tour
+    → map (λ t. t.items) tours ≡ tour.items ∷ []
 one_tour [] tour one first = absurd (omega (arith, one))
 one_tour (t ∷ []) tour one first = ap (λ (v : Vec ℕ). v.items ∷ []) (sym first)
 one_tour (t ∷ u ∷ tours) tour one first = absurd (omega (arith, one))
@@ -29,14 +30,16 @@ pub visited_is : (sol : Fields) (tour : List ℕ) → tours_of sol ≡ tour ∷ 
 visited_is sol tour only = ap concat only ∙ append-nil tour
 
 -- one tour that has this many nodes
-pub tour_found : (inst sol : Fields) (tour : List ℕ) → tours_of sol ≡ tour ∷ [] → length tour ≡ nodes_of inst → All (λ node. 1 ≤ node) (visited sol) → NoneOfTourUpTo inst sol 5
+pub tour_found : (inst sol : Fields) (tour : List ℕ) → tours_of sol ≡ tour ∷ [] → length tour ≡ nodes_of inst
+    → All (λ node. 1 ≤ node) (visited sol) → NoneOfTourUpTo inst sol 5
     → (tours_of sol ≡ tour ∷ []) × (length tour ≡ nodes_of inst) × All (λ node. 1 ≤ node) tour × NoneOfTourUpTo inst sol 11
 tour_found inst sol tour only full low none =
     let low_all : All (λ node. 1 ≤ node) tour = subst (λ (xs : List ℕ). All (λ node. 1 ≤ node) xs) (visited_is sol tour only) low in
     (only, full, low_all, after_length inst sol (after_count inst sol none (ap length only)) (ap length (visited_is sol tour only) ∙ full))
 
 -- nodes of 1..n, as many as n and none repeated, are a cycle
-pub is_cycle : (n : ℕ) (tour : List ℕ) → length tour ≡ n → All (λ node. 1 ≤ node) tour → All (λ node. node ≤ n) tour → HoldsAtNone (IsRepeated tour) (length tour) → IsCycle n tour
+pub is_cycle : (n : ℕ) (tour : List ℕ) → length tour ≡ n → All (λ node. 1 ≤ node) tour → All (λ node. node ≤ n) tour
+    → HoldsAtNone (IsRepeated tour) (length tour) → IsCycle n tour
 is_cycle n tour full low high once = record {
   count = full;
   range = λ k d lt. (low k d lt, high k d lt);
@@ -44,7 +47,8 @@ is_cycle n tour full low high once = record {
 }
 
 -- the first node that is too large
-pub larger_first : (inst sol : Fields) (tour : List ℕ) (n place : ℕ) → tours_of sol ≡ tour ∷ [] → n ≡ nodes_of inst → NoneOfTourUpTo inst sol 11
+pub larger_first : (inst sol : Fields) (tour : List ℕ) (n place : ℕ) → tours_of sol ≡ tour ∷ [] → n ≡ nodes_of inst
+    → NoneOfTourUpTo inst sol 11
     → IsFirstPlace (IsLarger n tour) tour place → IsFirstAgainstTour inst sol (NodeOutOfRange place)
 larger_first inst sol tour n place only n_is none first = record {
   stands = subst (λ m. IsFirstPlace (IsLarger m (visited sol)) (visited sol) place) n_is
@@ -53,7 +57,8 @@ larger_first inst sol tour n place only n_is none first = record {
 }
 
 -- where no node is too large
-pub none_up_to_repeats : (inst sol : Fields) (tour : List ℕ) → tours_of sol ≡ tour ∷ [] → NoneOfTourUpTo inst sol 11 → All (λ node. node ≤ nodes_of inst) tour
+pub none_up_to_repeats : (inst sol : Fields) (tour : List ℕ) → tours_of sol ≡ tour ∷ [] → NoneOfTourUpTo inst sol 11
+    → All (λ node. node ≤ nodes_of inst) tour
     → NoneOfTourUpTo inst sol 12
 none_up_to_repeats inst sol tour only none high =
     let high_all : All (λ node. node ≤ nodes_of inst) (visited sol) = subst (λ (xs : List ℕ). All (λ node. node ≤ nodes_of inst) xs) (sym (visited_is sol tour only)) high in
@@ -68,7 +73,8 @@ repeated_first inst sol tour place only none first = record {
 }
 
 -- reasons 1 to 8 are ruled out
-pub none_up_to_fixed : (inst sol : Fields) (tour : List ℕ) → tours_of sol ≡ tour ∷ [] → NoneOfTourUpTo inst sol 11 → All (λ node. node ≤ nodes_of inst) tour
+pub none_up_to_fixed : (inst sol : Fields) (tour : List ℕ) → tours_of sol ≡ tour ∷ [] → NoneOfTourUpTo inst sol 11
+    → All (λ node. node ≤ nodes_of inst) tour
     → HoldsAtNone (IsRepeated tour) (length tour) → NoneOfTourUpTo inst sol 13
 none_up_to_fixed inst sol tour only none high once =
     let is : tour ≡ visited sol = sym (visited_is sol tour only) in
@@ -76,8 +82,10 @@ none_up_to_fixed inst sol tour only none high once =
     after_repeats inst sol (none_up_to_repeats inst sol tour only none high) (λ place first. once_all place first.here.0 first.here.1 first.holds)
 
 -- the first fixed pair that isn't used
-pub unused_first : (inst sol : Fields) (tour : List ℕ) (directed : Bool) (pairs : List (ℕ × ℕ)) (index : ℕ) → tours_of sol ≡ tour ∷ [] → directed ≡ is_directed inst.kind → pairs ≡ fixed_of inst
-    → NoneOfTourUpTo inst sol 13 → IsFirstPlace (IsUnused directed tour pairs) pairs index → IsFirstAgainstTour inst sol (FixedEdgeUnused index)
+pub unused_first : (inst sol : Fields) (tour : List ℕ) (directed : Bool) (pairs : List (ℕ × ℕ)) (index : ℕ)
+    → tours_of sol ≡ tour ∷ [] → directed ≡ is_directed inst.kind → pairs ≡ fixed_of inst
+    → NoneOfTourUpTo inst sol 13 → IsFirstPlace (IsUnused directed tour pairs) pairs index
+    → IsFirstAgainstTour inst sol (FixedEdgeUnused index)
 unused_first inst sol tour directed pairs index only way listed none first = record {
   stands = subst (λ (xs : List ℕ). IsFirstPlace (IsUnused (is_directed inst.kind) xs (fixed_of inst)) (fixed_of inst) index) (sym (visited_is sol tour only))
       (subst (λ (ps : List (ℕ × ℕ)). IsFirstPlace (IsUnused (is_directed inst.kind) tour ps) ps index) listed
@@ -86,8 +94,10 @@ unused_first inst sol tour directed pairs index only way listed none first = rec
 }
 
 -- where every fixed pair is used it is accepted
-pub is_yes : (inst sol : Fields) (tour : List ℕ) (directed : Bool) (pairs : List (ℕ × ℕ)) (size : ℤ) → tours_of sol ≡ tour ∷ [] → directed ≡ is_directed inst.kind → pairs ≡ fixed_of inst
-    → NoneOfTourUpTo inst sol 13 → IsCycle (nodes_of inst) tour → All (Uses directed tour) pairs → size ≡ length_of (cost inst) tour
+pub is_yes : (inst sol : Fields) (tour : List ℕ) (directed : Bool) (pairs : List (ℕ × ℕ)) (size : ℤ) → tours_of sol ≡ tour ∷ []
+    → directed ≡ is_directed inst.kind → pairs ≡ fixed_of inst
+    → NoneOfTourUpTo inst sol 13 → IsCycle (nodes_of inst) tour → All (Uses directed tour) pairs
+    → size ≡ length_of (cost inst) tour
     → ((reason : Reason) → StandsAgainstTour inst sol reason → ⊥) × ((cycle : List ℕ) × (tours_of sol ≡ cycle ∷ []) × IsTourOf inst cycle × (size ≡ length_of (cost inst) cycle))
 is_yes inst sol tour directed pairs size only way listed none cycle used measured =
     let used_all : All (Uses (is_directed inst.kind) tour) (fixed_of inst) =

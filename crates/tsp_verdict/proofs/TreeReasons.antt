@@ -10,13 +10,13 @@ use Rattle.std.proofs.lemmas.List.Elements.{recursion_from_All}
 use Rattle.tsp_format.specs.declared.kinds.Kind.{Kind}
 use Rattle.tsp_format.specs.declared.kinds.Kind.TheVariants as kinds
 use Rattle.tsp_format.specs.Steps as listed
-use Rattle.tsp_draft.specs.Fields.{Fields}
+use Rattle.tsp_draft.specs.Fields.{Fields, nodes_of}
 use Rattle.tsp_draft.specs.states.Drafts.{combs_of as lists_of_combs}
 use Rattle.tsp_draft.specs.Rules.{is_tree}
 use Rattle.tsp_file.specs.Cost.{cost}
 use Rattle.tsp_theory.specs.Costs.{IsSymmetric}
 use Rattle.tsp_theory.specs.Tour.{HasNoTour}
-use Rattle.tsp_cost.specs.Tours.{is_directed, problem_of, IsTourOf}
+use Rattle.tsp_cost.specs.ComputedProblems.{is_directed, problem_of, IsTourOf}
 use Rattle.tsp_theory.specs.Numbers.{IsScale, IsBoundSized}
 use Rattle.tsp_branch.specs.declared.steps.BranchVerdict.{BranchVerdict}
 use Rattle.tsp_branch.specs.declared.steps.BranchVerdict.TheVariants as found
@@ -33,12 +33,12 @@ use Rattle.tsp_branch.specs.Listed.{leaf_changes, listed_steps, AreGoodLeaves, I
 use Rattle.tsp_branch.specs.Twice.{divided, IsFirstTwice}
 use Rattle.tsp_reason.specs.declared.verdict.Reason.{Reason}
 use Rattle.tsp_reason.specs.declared.verdict.Reason.TheVariants.{NotBranches, BranchesDimension, BadComb, BranchTwice, BadLeaf}
-use Rattle.tsp_file.specs.Meant.{scale_in, nodes_of, fixed_of, combs_in}
+use Rattle.tsp_file.specs.Meant.{scale_in, fixed_of, combs_in}
 use Rattle.tsp_verdict.specs.states.Numbered.{numbered_from}
 use Rattle.tsp_verdict.specs.Places.{IsFirstPlace}
 use Rattle.tsp_verdict.specs.Reasons.{NoneBefore, IsFirstReason}
-use Rattle.tsp_verdict.specs.states.Costs.{IsSymmetricTsp}
-use Rattle.tsp_verdict.specs.Tree.{each_once, given_in, tree_in, told_families, AreNumbersOf, IsBadComb, StandsAgainstTree, HasBoundByTree, IsBoundByTree, HasNoBoundByTree}
+use Rattle.tsp_verdict.specs.states.TourCosts.{IsSymmetricTsp}
+use Rattle.tsp_verdict.specs.BranchesCertificate.{each_once, given_in, tree_in, told_families, AreNumbersOf, IsBadComb, StandsAgainstTree, HasBoundByTree, IsBoundByTree, HasNoBoundByTree}
 use Rattle.tsp_verdict.specs.Certified.{IsBoundBy, IsCertified, NoneWithoutMemory}
 use Rattle.tsp_reason.specs.declared.certificate.Certificate.TheVariants.{Branches}
 use Rattle.tsp_verdict.proofs.CarriedBounds.{Same}
@@ -55,7 +55,8 @@ branches_within (case ∷ cases) (listed.Branch a b ∷ steps) =
     let less = branches_within (decide (a, b) true case ∷ decide (a, b) false case ∷ cases) steps in omega (arith, less)
 branches_within (case ∷ cases) (listed.Leaf changes ∷ steps) = let less = branches_within cases steps in omega (arith, less)
 
-pub twice_within : (directed : Bool) (given : List Decision) (steps : List listed.Step) (first : ℕ) → IsFirstTwice directed given steps first → first ≤ length steps
+pub twice_within : (directed : Bool) (given : List Decision) (steps : List listed.Step) (first : ℕ)
+    → IsFirstTwice directed given steps first → first ≤ length steps
 twice_within directed given steps first h =
     let most = h.most in
     let less = branches_within (given ∷ []) steps in
@@ -66,7 +67,8 @@ leaves_within [] = omega arith
 leaves_within (listed.Branch a b ∷ steps) = let less = leaves_within steps in omega (arith, less)
 leaves_within (listed.Leaf changes ∷ steps) = let less = leaves_within steps in omega (arith, less)
 
-pub bad_within : (n : ℕ) (crossed : List Crossings) (steps : List listed.Step) (bad : ℕ) → IsFirstBadLeaf n crossed steps bad → bad ≤ length steps
+pub bad_within : (n : ℕ) (crossed : List Crossings) (steps : List listed.Step) (bad : ℕ) → IsFirstBadLeaf n crossed steps bad
+    → bad ≤ length steps
 bad_within n crossed steps bad h =
     let most = h.most in
     let less = leaves_within steps in
@@ -94,8 +96,10 @@ pub record AreOf (inst tree : Fields) (directed : Bool) (n : ℕ) (scale : ℤ) 
   pub steps_are : tree.branches ≡ Some steps
 
 pub are_of : (inst tree : Fields) (directed : Bool) (n : ℕ) (scale : ℤ) (combs : List (Vec (Vec ℕ))) (sets : List NumberedSet) (fixed : List (ℕ × ℕ)) (given : List Decision) (steps : List listed.Step)
-    → directed ≡ is_directed inst.kind → inst.dimension ≡ Some n → scale ≡ scale_in tree → lists_of_combs combs ≡ combs_in tree → sets ≡ numbered_from 0 (lists_of_combs combs) → fixed ≡ fixed_of inst
-    → given ≡ take_pairs (each_once directed fixed) → tree.branches ≡ Some steps → AreOf inst tree directed n scale (length combs) sets given steps
+    → directed ≡ is_directed inst.kind → inst.dimension ≡ Some n → scale ≡ scale_in tree → lists_of_combs combs ≡ combs_in tree
+    → sets ≡ numbered_from 0 (lists_of_combs combs) → fixed ≡ fixed_of inst
+    → given ≡ take_pairs (each_once directed fixed) → tree.branches ≡ Some steps
+    → AreOf inst tree directed n scale (length combs) sets given steps
 are_of inst tree directed n scale combs sets fixed given steps directed_is count scale_is combs_are sets_are fixed_are given_is steps_are = record {
   directed_is = directed_is;
   nodes_are = sym (ap (λ (d : Option ℕ). unwrap_or d 0) count);
@@ -107,7 +111,8 @@ are_of inst tree directed n scale combs sets fixed given steps directed_is count
 }
 
 pub told : (inst tree : Fields) (directed : Bool) (n : ℕ) (costs : ℕ → ℕ → ℤ) (scale : ℤ) (count : ℕ) (sets : List NumberedSet) (given : List Decision) (steps : List listed.Step) (verdict : BranchVerdict)
-    → AreOf inst tree directed n scale count sets given steps → IsBranchVerdict directed n costs scale count sets given steps verdict → IsTold inst tree costs verdict
+    → AreOf inst tree directed n scale count sets given steps
+    → IsBranchVerdict directed n costs scale count sets given steps verdict → IsTold inst tree costs verdict
 told inst tree directed n costs scale count sets given steps verdict are h =
     let to : Bool = is_directed inst.kind in
     let by_steps =
@@ -124,7 +129,8 @@ told inst tree directed n costs scale count sets given steps verdict are h =
 own_comb : (tree : Fields) (j : ℕ) → of_comb j (numbered_from 0 (combs_in tree)) ≡ get_or (combs_in tree) j []
 own_comb tree j = own_sets 0 j j (combs_in tree) (omega arith)
 
-bad_comb : (inst tree : Fields) (index : ℕ) → IsFirstBadComb (nodes_of inst) (length (combs_in tree)) (numbered_from 0 (combs_in tree)) index
+bad_comb : (inst tree : Fields) (index : ℕ)
+    → IsFirstBadComb (nodes_of inst) (length (combs_in tree)) (numbered_from 0 (combs_in tree)) index
     → IsFirstPlace (IsBadComb (nodes_of inst) (combs_in tree)) (combs_in tree) index
 bad_comb inst tree index bad = record {
   here = (bad.least, bad.most);
@@ -133,20 +139,24 @@ bad_comb inst tree index bad = record {
 }
 
 -- where all combs are good, none is bad
-no_bad_comb : (inst tree : Fields) → ((comb : ℕ) → comb < length (combs_in tree) → IsGoodFamily (nodes_of inst) (of_comb comb (numbered_from 0 (combs_in tree))))
+no_bad_comb : (inst tree : Fields)
+    → ((comb : ℕ) → comb < length (combs_in tree) → IsGoodFamily (nodes_of inst) (of_comb comb (numbered_from 0 (combs_in tree))))
     → (index : ℕ) → StandsAgainstTree inst tree (BadComb index) → ⊥
 no_bad_comb inst tree good index stands =
     stands.holds (subst (IsGoodFamily (nodes_of inst)) (own_comb tree (index - 1)) (good (index - 1) (omega (arith, stands.here.0, stands.here.1))))
 
 -- the numbers of the families are those of the file's
-numbers_told : (inst tree : Fields) (crossed : List Crossings) → AreFamilies (nodes_of inst) (length (combs_in tree)) (numbered_from 0 (combs_in tree)) crossed → AreNumbersOf inst tree crossed
+numbers_told : (inst tree : Fields) (crossed : List Crossings)
+    → AreFamilies (nodes_of inst) (length (combs_in tree)) (numbered_from 0 (combs_in tree)) crossed
+    → AreNumbersOf inst tree crossed
 numbers_told inst tree crossed are = record {
   many = are.many;
   are = subst (All (IsFamily (nodes_of inst))) (families_told crossed (combs_in tree) are.many) are.are;
 }
 
 -- where all leaves are good, none is bad, by whichever numbers
-no_bad_leaf : NumbersAreUnique → (inst tree : Fields) (steps : List listed.Step) (crossed : List Crossings) → tree.branches ≡ Some steps → AreNumbersOf inst tree crossed
+no_bad_leaf : NumbersAreUnique → (inst tree : Fields) (steps : List listed.Step) (crossed : List Crossings)
+    → tree.branches ≡ Some steps → AreNumbersOf inst tree crossed
     → AreGoodLeaves (nodes_of inst) crossed steps → (index : ℕ) → StandsAgainstTree inst tree (BadLeaf index) → ⊥
 no_bad_leaf unique inst tree steps crossed steps_are are good index stands =
     let n : ℕ = nodes_of inst in
@@ -157,14 +167,17 @@ no_bad_leaf unique inst tree steps crossed steps_are are good index stands =
     bad.bad (good index bad.least bad.most)
 
 -- where no case is divided twice, none is, as the file lists its steps
-no_twice : (inst tree : Fields) (steps : List listed.Step) → tree.branches ≡ Some steps → ((index : ℕ) → IsFirstTwice (is_directed inst.kind) (given_in inst) steps index → ⊥) → (index : ℕ)
+no_twice : (inst tree : Fields) (steps : List listed.Step) → tree.branches ≡ Some steps
+    → ((index : ℕ) → IsFirstTwice (is_directed inst.kind) (given_in inst) steps index → ⊥) → (index : ℕ)
     → StandsAgainstTree inst tree (BranchTwice index) → ⊥
 no_twice inst tree steps steps_are none index stands =
     none index (subst (λ (ss : List listed.Step). IsFirstTwice (is_directed inst.kind) (given_in inst) ss index) (one_list tree.branches stands.0 steps stands.1 steps_are) stands.2)
 
 -- the facts before a rank rule out the reasons before it
-none_before : (inst tree : Fields) (rank : ℕ) → (23 < rank → is_tree tree.kind ≡ true) → (24 < rank → nodes_of tree ≡ nodes_of inst)
-    → (25 < rank → (index : ℕ) → StandsAgainstTree inst tree (BadComb index) → ⊥) → (26 < rank → (index : ℕ) → StandsAgainstTree inst tree (BranchTwice index) → ⊥)
+none_before : (inst tree : Fields) (rank : ℕ) → (23 < rank → is_tree tree.kind ≡ true)
+    → (24 < rank → nodes_of tree ≡ nodes_of inst)
+    → (25 < rank → (index : ℕ) → StandsAgainstTree inst tree (BadComb index) → ⊥)
+    → (26 < rank → (index : ℕ) → StandsAgainstTree inst tree (BranchTwice index) → ⊥)
     → (27 < rank → (index : ℕ) → StandsAgainstTree inst tree (BadLeaf index) → ⊥) → NoneBefore (StandsAgainstTree inst tree) rank
 none_before inst tree rank sort size combs once leaves NotBranches low stands = false≢true (sym stands ∙ sort low)
 none_before inst tree rank sort size combs once leaves BranchesDimension low stands = stands (size low)
@@ -174,36 +187,44 @@ none_before inst tree rank sort size combs once leaves (BadLeaf index) low stand
 none_before inst tree rank sort size combs once leaves reason low stands = stands
 
 -- out of memory, those are ruled out that need none
-pub none_of_tree : (inst tree : Fields) → is_tree tree.kind ≡ true → nodes_of tree ≡ nodes_of inst → NoneWithoutMemory Branches inst tree
-none_of_tree inst tree sort size = none_before inst tree 25 (λ low. sort) (λ low. size) (λ low. absurd (omega (arith, low))) (λ low. absurd (omega (arith, low))) (λ low. absurd (omega (arith, low)))
+pub none_of_tree : (inst tree : Fields) → is_tree tree.kind ≡ true → nodes_of tree ≡ nodes_of inst
+    → NoneWithoutMemory Branches inst tree
+none_of_tree inst tree sort size =
+    none_before inst tree 25 (λ low. sort) (λ low. size) (λ low. absurd (omega (arith, low))) (λ low. absurd (omega (arith, low))) (λ low. absurd (omega (arith, low)))
 
-pub comb_first : (inst tree : Fields) (costs : ℕ → ℕ → ℤ) (index : ℕ) → is_tree tree.kind ≡ true → nodes_of tree ≡ nodes_of inst → IsTold inst tree costs (found.BadComb index)
+pub comb_first : (inst tree : Fields) (costs : ℕ → ℕ → ℤ) (index : ℕ) → is_tree tree.kind ≡ true → nodes_of tree ≡ nodes_of inst
+    → IsTold inst tree costs (found.BadComb index)
     → IsFirstReason (StandsAgainstTree inst tree) (BadComb index)
 comb_first inst tree costs index sort size is = record {
   stands = bad_comb inst tree index is.by_steps;
   none_before = none_before inst tree 25 (λ low. sort) (λ low. size) (λ low. absurd (omega (arith, low))) (λ low. absurd (omega (arith, low))) (λ low. absurd (omega (arith, low)));
 }
 
-pub twice_first : (inst tree : Fields) (costs : ℕ → ℕ → ℤ) (index : ℕ) → is_tree tree.kind ≡ true → nodes_of tree ≡ nodes_of inst → IsTold inst tree costs (found.BranchTwice index)
+pub twice_first : (inst tree : Fields) (costs : ℕ → ℕ → ℤ) (index : ℕ) → is_tree tree.kind ≡ true → nodes_of tree ≡ nodes_of inst
+    → IsTold inst tree costs (found.BranchTwice index)
     → IsFirstReason (StandsAgainstTree inst tree) (BranchTwice index)
 twice_first inst tree costs index sort size is = record {
   stands = (is.steps, is.steps_are, is.by_steps.2);
   none_before = none_before inst tree 26 (λ low. sort) (λ low. size) (λ low. no_bad_comb inst tree is.by_steps.1.good) (λ low. absurd (omega (arith, low))) (λ low. absurd (omega (arith, low)));
 }
 
-pub leaf_first : (inst tree : Fields) (costs : ℕ → ℕ → ℤ) (index : ℕ) → is_tree tree.kind ≡ true → nodes_of tree ≡ nodes_of inst → IsTold inst tree costs (found.BadLeaf index)
+pub leaf_first : (inst tree : Fields) (costs : ℕ → ℕ → ℤ) (index : ℕ) → is_tree tree.kind ≡ true → nodes_of tree ≡ nodes_of inst
+    → IsTold inst tree costs (found.BadLeaf index)
     → IsFirstReason (StandsAgainstTree inst tree) (BadLeaf index)
 leaf_first inst tree costs index sort size is = record {
   stands = (is.steps, is.steps_are, is.by_steps.crossed, numbers_told inst tree is.by_steps.crossed is.by_steps.are_families, is.by_steps.leaves);
   none_before = none_before inst tree 27 (λ low. sort) (λ low. size) (λ low. no_bad_comb inst tree is.by_steps.are_families.good) (λ low. no_twice inst tree is.steps is.steps_are is.by_steps.are_once.0) (λ low. absurd (omega (arith, low)));
 }
 
-pub none_stands : NumbersAreUnique → (inst tree : Fields) (costs : ℕ → ℕ → ℤ) (bound : Option ℤ) → is_tree tree.kind ≡ true → nodes_of tree ≡ nodes_of inst → IsTold inst tree costs (found.Bound bound)
+pub none_stands : NumbersAreUnique → (inst tree : Fields) (costs : ℕ → ℕ → ℤ) (bound : Option ℤ) → is_tree tree.kind ≡ true
+    → nodes_of tree ≡ nodes_of inst → IsTold inst tree costs (found.Bound bound)
     → (reason : Reason) → StandsAgainstTree inst tree reason → ⊥
 none_stands unique inst tree costs bound sort size is NotBranches stands = false≢true (sym stands ∙ sort)
 none_stands unique inst tree costs bound sort size is BranchesDimension stands = stands size
-none_stands unique inst tree costs bound sort size is (BadComb index) stands = no_bad_comb inst tree is.by_steps.are_families.good index stands
-none_stands unique inst tree costs bound sort size is (BranchTwice index) stands = no_twice inst tree is.steps is.steps_are is.by_steps.are_once.0 index stands
+none_stands unique inst tree costs bound sort size is (BadComb index) stands =
+    no_bad_comb inst tree is.by_steps.are_families.good index stands
+none_stands unique inst tree costs bound sort size is (BranchTwice index) stands =
+    no_twice inst tree is.steps is.steps_are is.by_steps.are_once.0 index stands
 none_stands unique inst tree costs bound sort size is (BadLeaf index) stands =
     no_bad_leaf unique inst tree is.steps is.by_steps.crossed is.steps_are (numbers_told inst tree is.by_steps.crossed is.by_steps.are_families) is.by_steps.leaves.2 index stands
 none_stands unique inst tree costs bound sort size is reason stands = stands
@@ -219,15 +240,18 @@ pub tsp_of_undirected : (inst : Fields) → HasArcsOrEdges inst → is_directed 
 tsp_of_undirected inst (inl tsp) undirected = tsp
 tsp_of_undirected inst (inr atsp) undirected = absurd (false≢true (sym undirected ∙ ap is_directed atsp))
 
-pub directed_is : (directed : Bool) (inst : Fields) (kind : Kind) → directed ≡ is_directed (Some kind) → Some kind ≡ inst.kind → directed ≡ is_directed inst.kind
+pub directed_is : (directed : Bool) (inst : Fields) (kind : Kind) → directed ≡ is_directed (Some kind) → Some kind ≡ inst.kind
+    → directed ≡ is_directed inst.kind
 directed_is directed inst kind is same = is ∙ ap is_directed same
 
-costs_for : (directed : Bool) (n : ℕ) (cost : ℕ → ℕ → ℤ) → 3 ≤ n → (directed ≡ false → IsSymmetric cost) → AreCostsFor directed n cost
+costs_for : (directed : Bool) (n : ℕ) (cost : ℕ → ℕ → ℤ) → 3 ≤ n → (directed ≡ false → IsSymmetric cost)
+    → AreCostsFor directed n cost
 costs_for false n cost some even = (some, even refl)
 costs_for true n cost some even = omega (arith, some)
 
 -- the costs of a view are the same in both directions where those of the instance are
-pub even_view : (inst : Fields) (directed : Bool) (costs : ℕ → ℕ → ℤ) → HasArcsOrEdges inst → directed ≡ is_directed inst.kind → IsSymmetricTsp inst → Same costs (cost inst)
+pub even_view : (inst : Fields) (directed : Bool) (costs : ℕ → ℕ → ℤ) → HasArcsOrEdges inst → directed ≡ is_directed inst.kind
+    → IsSymmetricTsp inst → Same costs (cost inst)
     → directed ≡ false → IsSymmetric costs
 even_view inst directed costs kind is even same undirected i j differ =
     same i j ∙ even (tsp_of_undirected inst kind (sym is ∙ undirected)) i j differ ∙ sym (same j i)
@@ -264,13 +288,16 @@ module _ (inst tree : Fields) (costs : ℕ → ℕ → ℤ) (bound : Option ℤ)
 tour_keeps : (inst : Fields) (nodes : List ℕ) → IsTourOf inst nodes → KeepsAll (is_directed inst.kind) nodes (given_in inst)
 tour_keeps inst nodes tour = keeps_given (is_directed inst.kind) nodes (fixed_of inst) tour.fixed_used
 
-bound_by : (inst tree : Fields) (bound : ℤ) → HasArcsOrEdges inst → IsBoundByTree inst tree bound → IsBoundBy Branches inst.kind inst tree bound
+bound_by : (inst tree : Fields) (bound : ℤ) → HasArcsOrEdges inst → IsBoundByTree inst tree bound
+    → IsBoundBy Branches inst.kind inst tree bound
 bound_by inst tree bound (inl tsp) is = subst (λ k. IsBoundBy Branches k inst tree bound) (sym tsp) is
 bound_by inst tree bound (inr atsp) is = subst (λ k. IsBoundBy Branches k inst tree bound) (sym atsp) is
 
 -- the bound that a view's costs give is that of the certificate
-pub certified : (inst tree : Fields) (costs : ℕ → ℕ → ℤ) (bound : ℤ) → CertificatesBoundCycles → HasArcsOrEdges inst → 3 ≤ nodes_of inst → IsSymmetricTsp inst → IsScale (scale_in tree)
-    → Same costs (cost inst) → IsBoundSized bound → IsTold inst tree costs (found.Bound (Some bound)) → IsCertified Branches inst tree bound
+pub certified : (inst tree : Fields) (costs : ℕ → ℕ → ℤ) (bound : ℤ) → CertificatesBoundCycles → HasArcsOrEdges inst
+    → 3 ≤ nodes_of inst → IsSymmetricTsp inst → IsScale (scale_in tree)
+    → Same costs (cost inst) → IsBoundSized bound → IsTold inst tree costs (found.Bound (Some bound))
+    → IsCertified Branches inst tree bound
 certified inst tree costs bound law kind some even scaled same sized is = (
   bound_by inst tree bound kind (has_bound inst tree costs (Some bound) same is),
   λ nodes tour. cycles_bounded inst tree costs (Some bound) same is law kind some even scaled nodes tour.cycle (tour_keeps inst nodes tour),
@@ -278,8 +305,10 @@ certified inst tree costs bound law kind some even scaled same sized is = (
 )
 
 -- where no leaf has a bound, the certificate gives none, and the instance has no tour
-pub no_tour : (inst tree : Fields) (costs : ℕ → ℕ → ℤ) → CertificatesBoundCycles → HasArcsOrEdges inst → 3 ≤ nodes_of inst → IsSymmetricTsp inst → IsScale (scale_in tree)
-    → Same costs (cost inst) → IsTold inst tree costs (found.Bound None) → HasNoBoundByTree inst tree × HasNoTour (problem_of inst)
+pub no_tour : (inst tree : Fields) (costs : ℕ → ℕ → ℤ) → CertificatesBoundCycles → HasArcsOrEdges inst → 3 ≤ nodes_of inst
+    → IsSymmetricTsp inst → IsScale (scale_in tree)
+    → Same costs (cost inst) → IsTold inst tree costs (found.Bound None)
+    → HasNoBoundByTree inst tree × HasNoTour (problem_of inst)
 no_tour inst tree costs law kind some even scaled same is = (
   has_bound inst tree costs None same is,
   λ nodes tour. cycles_bounded inst tree costs None same is law kind some even scaled nodes tour.cycle (tour_keeps inst nodes tour),

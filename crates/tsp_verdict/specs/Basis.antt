@@ -3,9 +3,9 @@
 use Rattle.std.specs.Prelude.{◌≡◌, ◌≢◌, ◌<◌, ◌≤◌, length, Option, None, Some, IsTrue, ℤ, pos}
 use Rattle.tsp_format.specs.declared.kinds.Kind.{Kind}
 use Rattle.tsp_format.specs.declared.kinds.Kind.TheVariants as kinds
-use Rattle.tsp_draft.specs.Fields.{Fields}
-use Rattle.tsp_file.specs.Meant.{nodes_of, fixed_of}
-use Rattle.tsp_cost.specs.Tours.{depots_of, demands_of, capacity_of}
+use Rattle.tsp_draft.specs.Fields.{Fields, nodes_of}
+use Rattle.tsp_file.specs.Meant.{fixed_of}
+use Rattle.tsp_cost.specs.ComputedProblems.{depots_of, demands_of, capacity_of}
 use Rattle.tsp_reason.specs.declared.basis.Basis.{Basis}
 use Rattle.tsp_reason.specs.declared.basis.Basis.TheVariants as bases
 use Rattle.tsp_reason.specs.declared.certificate.Certificate.{Certificate}

@@ -2,11 +2,11 @@
 -- gives.
 use Rattle.std.specs.Prelude.{◌≡◌, ◌⊎◌, ◌<◌, Some}
 use Rattle.tsp_format.specs.declared.kinds.Kind.TheVariants as kinds
-use Rattle.tsp_draft.specs.Fields.{Fields}
+use Rattle.tsp_draft.specs.Fields.{Fields, nodes_of}
 use Rattle.tsp_file.specs.Cost.{cost}
 use Rattle.tsp_theory.specs.Costs.{IsFirstAsymmetric}
 use Rattle.tsp_theory.specs.Tour.{HasNoTour}
-use Rattle.tsp_cost.specs.Tours.{problem_of}
+use Rattle.tsp_cost.specs.ComputedProblems.{problem_of}
 use Rattle.tsp_reason.specs.declared.certificate.Certificate.{Certificate}
 use Rattle.tsp_reason.specs.declared.verdict.BoundVerdict.{BoundVerdict}
 use Rattle.tsp_reason.specs.declared.verdict.BoundVerdict.TheVariants as bounds
@@ -14,7 +14,6 @@ use Rattle.tsp_reason.specs.declared.verdict.Reason.{Reason}
 use Rattle.tsp_reason.specs.declared.verdict.Reason.TheVariants.{TooFewNodes, NotSymmetric}
 use Rattle.tsp_verdict.specs.Certified.{StandsAgainstCertificate, IsCertified, HasNoBound}
 use Rattle.tsp_verdict.specs.Reasons.{IsFirstReason}
-use Rattle.tsp_file.specs.Meant.{nodes_of}
 
 -- When a reason applies to an instance, whatever the tour: the two that are judged of a tour too. No other reason does.
 abbrev pub StandsAgainstInstance : Fields → Reason → Type 0

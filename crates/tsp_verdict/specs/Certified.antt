@@ -7,7 +7,7 @@ use Rattle.tsp_draft.specs.Fields.{Fields}
 use Rattle.tsp_file.specs.Cost.{cost}
 use Rattle.tsp_theory.specs.Length.{length_of}
 use Rattle.tsp_theory.specs.Tour.{BoundsTours, HasNoTour}
-use Rattle.tsp_cost.specs.Tours.{problem_of, IsTourOf}
+use Rattle.tsp_cost.specs.ComputedProblems.{problem_of, IsTourOf}
 use Rattle.tsp_theory.specs.Numbers.{IsBoundSized}
 use Rattle.tsp_reason.specs.declared.certificate.Certificate.{Certificate}
 use Rattle.tsp_reason.specs.declared.certificate.Certificate.TheVariants.{Potentials, Branches}
@@ -20,8 +20,8 @@ use Rattle.tsp_reason.specs.declared.verdict.Verdict.TheVariants as verdicts
 use Rattle.tsp_verdict.specs.Reasons.{rank_of, NoneBefore, IsFirstReason}
 use Rattle.tsp_verdict.specs.Solution.{tours_of}
 use Rattle.tsp_verdict.specs.Tours.{StandsAgainstTour}
-use Rattle.tsp_verdict.specs.Certificate.{StandsAgainstPotentials, IsBoundByNodes, IsBoundByDuals}
-use Rattle.tsp_verdict.specs.Tree.{StandsAgainstTree, IsBoundByTree, HasNoBoundByTree}
+use Rattle.tsp_verdict.specs.PotentialsCertificate.{StandsAgainstPotentials, IsBoundByNodes, IsBoundByDuals}
+use Rattle.tsp_verdict.specs.BranchesCertificate.{StandsAgainstTree, IsBoundByTree, HasNoBoundByTree}
 
 -- ---- by the certificate, and by the TYPE of the instance
 

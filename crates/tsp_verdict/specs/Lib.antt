@@ -6,8 +6,8 @@ pub mod Reasons
 pub mod Routes
 pub mod Solution
 pub mod Tours
-pub mod Certificate
-pub mod Tree
+pub mod PotentialsCertificate
+pub mod BranchesCertificate
 pub mod Certified
 pub mod Judged
 pub mod Bounded

@@ -2,12 +2,11 @@
 use Rattle.std.specs.Prelude.{ℤ}
 use Rattle.std.specs.List.{All}
 use Rattle.tsp_format.specs.Cells.{nodes_to}
-use Rattle.tsp_draft.specs.Fields.{Fields}
-use Rattle.tsp_file.specs.Meant.{nodes_of}
-use Rattle.tsp_cost.specs.Tours.{demands_of}
+use Rattle.tsp_draft.specs.Fields.{Fields, nodes_of}
+use Rattle.tsp_cost.specs.ComputedProblems.{demands_of}
 use Rattle.tsp_verdict.specs.Solution.{visited}
 pub use Rattle.tsp_theory.specs.Routing.{demand_of, load_of, IsCustomer, IsPlan, plan_length, IsLeast}
-pub use Rattle.tsp_cost.specs.Tours.{depot_of, IsPlanOf}
+pub use Rattle.tsp_cost.specs.ComputedProblems.{depot_of, IsPlanOf}
 
 -- the sum of all demands
 abbrev pub total_of : Fields → ℤ

@@ -2,7 +2,7 @@
 -- Source: TSPLIB 95 (G. Reinelt), capacitated vehicle routing; the reasons and their order are this project's.
 use Rattle.std.specs.Prelude.{◌≡◌, ◌≢◌, ℕ, ◌-◌, ◌<◌, ◌≤◌, false, List, [], length, Some, slice_index_or, ℤ, pos, ◌<ℤ◌}
 use Rattle.std.specs.List.{Contains}
-use Rattle.tsp_draft.specs.Fields.{Fields}
+use Rattle.tsp_draft.specs.Fields.{Fields, nodes_of}
 use Rattle.tsp_draft.specs.Rules.{is_tours}
 use Rattle.tsp_file.specs.Cost.{cost}
 use Rattle.tsp_reason.specs.declared.verdict.Reason.{Reason}
@@ -11,8 +11,8 @@ use Rattle.tsp_reason.specs.declared.verdict.Verdict.{Verdict}
 use Rattle.tsp_reason.specs.declared.verdict.Verdict.TheVariants as verdicts
 use Rattle.tsp_verdict.specs.Places.{IsFirstPlace, IsLarger, IsAt, IsRepeated}
 use Rattle.tsp_verdict.specs.Plan.{demand_of, load_of, IsCustomer, plan_length, IsLeast, depot_of, total_of, IsPlanOf}
-use Rattle.tsp_file.specs.Meant.{nodes_of, fixed_of}
-use Rattle.tsp_cost.specs.Tours.{depots_of, demands_of, capacity_of}
+use Rattle.tsp_file.specs.Meant.{fixed_of}
+use Rattle.tsp_cost.specs.ComputedProblems.{depots_of, demands_of, capacity_of}
 use Rattle.tsp_verdict.specs.Reasons.{rank_of, NoneBefore, IsFirstReason}
 use Rattle.tsp_verdict.specs.Solution.{visited, tours_of}
 

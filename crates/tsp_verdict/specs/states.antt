@@ -1,7 +1,7 @@
-pub mod Costs
+pub mod TourCosts
 pub mod Known
 pub mod Marks
 pub mod Next
 pub mod Numbered
 pub mod Sums
-pub mod Routes
+pub mod RouteLists

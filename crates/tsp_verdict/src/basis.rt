@@ -5,16 +5,15 @@ ghost use Rattle.std.specs.Prelude.{◌≡◌, ◌⊎◌, ◌≤◌, IsTrue, len
 ghost use Rattle.std.specs.List.{All};
 ghost use Rattle.tsp_format.specs.declared.kinds.Kind.TheVariants as kinds;
 ghost use Rattle.tsp_format.specs.Cells.{IsNode};
-ghost use Rattle.tsp_draft.specs.Fields.{Fields};
-ghost use Rattle.tsp_file.specs.Meant.{nodes_of};
-ghost use Rattle.tsp_cost.specs.Tours.{demands_of, depots_of};
+ghost use Rattle.tsp_draft.specs.Fields.{Fields, nodes_of};
+ghost use Rattle.tsp_cost.specs.ComputedProblems.{demands_of, depots_of};
 ghost use Rattle.tsp_reason.specs.declared.certificate.Certificate.{Certificate};
 ghost use Rattle.tsp_verdict.specs.Basis.{IsBasis, IsBasisBy, IsBasisOfRoutes, StandsAgainstRouting, NoneAgainstRouting, NoneOfBasisWithoutMemory, IsVerdictFrom};
 ghost use Rattle.tsp_verdict.specs.Bounded.{IsBoundVerdict};
 ghost use Rattle.tsp_verdict.specs.Judged.{is_judged, NoneBeforeRepeatsOn};
 ghost use Rattle.tsp_verdict.specs.Reasons.{IsFirstReason};
 ghost use Rattle.tsp_verdict.specs.Tours.{NoneOfTourBeforeRepeats};
-ghost use Rattle.tsp_verdict.specs.states.Costs.{IsLengthOf};
+ghost use Rattle.tsp_verdict.specs.states.TourCosts.{IsLengthOf};
 ghost use Rattle.tsp_verdict.specs.states.Known.{KnowsInstance, against_instance};
 
 use crate::bounded::{costs_of_tours, judge_bound};
@@ -49,11 +48,11 @@ pub fn judge_basis(
     instance: &Instance,
     certificate: Option<(Certificate, &File)>,
 ) -> Result<Basis, AllocError>
-    requires { IsTrue (is_judged (option_map (λ given. (given.0, given.1.now)) certificate) instance.now.kind) }
-    ensures { MatchResult result
-        (λ basis. IsBasis (option_map (λ given. (given.0, given.1.now)) certificate.entry) instance.now basis)
-        (λ refused. NoneOfBasisWithoutMemory (option_map (λ given. (given.0, given.1.now)) certificate.entry)
-        instance.now) }
+    requires { IsTrue
+        (is_judged (option_map (λ given. (given.0, given.1.now)) certificate) instance.now.kind) }
+    ensures { MatchResult result (λ basis. IsBasis (option_map (λ given. (given.0, given.1.now))
+        certificate.entry) instance.now basis) (λ refused. NoneOfBasisWithoutMemory
+        (option_map (λ given. (given.0, given.1.now)) certificate.entry) instance.now) }
 {
     match certificate {
         None => Ok(basis_alone(instance)),
@@ -117,8 +116,8 @@ fn first_against_routing(inst: &Instance, routing: &RoutingData<'_>) -> Option<R
 /// What [`judge_basis`] finds of an instance with a certificate, by what [`judge_bound`] has found
 /// of the two.
 pub fn basis_of(found: BoundVerdict) -> Basis
-    ensures { (by : Certificate) (instance certificate : Fields) → IsBoundVerdict by instance certificate found
-        → IsBasisBy by instance certificate result }
+    ensures { (by : Certificate) (instance certificate : Fields)
+        → IsBoundVerdict by instance certificate found → IsBasisBy by instance certificate result }
 {
     match found {
         BoundVerdict::Bound(bound) => Basis::Tours { bound: Some(bound) },

@@ -5,8 +5,8 @@ ghost use Rattle.tsp_format.specs.declared.kinds.Kind.TheVariants as kinds;
 ghost use Rattle.tsp_verdict.specs.Bounded.{StandsAgainstInstance, NoneAgainstInstance, IsBoundVerdict};
 ghost use Rattle.tsp_verdict.specs.Certified.{is_bounded, NoneWithoutMemory};
 ghost use Rattle.tsp_verdict.specs.Reasons.{IsFirstReason};
-ghost use Rattle.tsp_file.specs.Meant.{nodes_of};
-ghost use Rattle.tsp_verdict.specs.states.Costs.{AreTourCosts};
+ghost use Rattle.tsp_draft.specs.Fields.{nodes_of};
+ghost use Rattle.tsp_verdict.specs.states.TourCosts.{AreTourCosts};
 
 use crate::certified::bound_of;
 use crate::tour::{FEWEST_NODES, TourCosts, tour_costs};

@@ -15,8 +15,9 @@ ghost use Rattle.tsp_bound.specs.states.Duals.{dual_scale as scale_of_duals, row
 ghost use Rattle.tsp_bound.specs.states.Multipliers.{triples_of};
 ghost use Rattle.tsp_bound.specs.states.Potentials.{scale_of, numbers_of};
 ghost use Rattle.tsp_verdict.specs.Reasons.{IsFirstReason};
-ghost use Rattle.tsp_file.specs.Meant.{nodes_of, fixed_of, multipliers_in};
-ghost use Rattle.tsp_verdict.specs.Certificate.{has_wanted, BreaksDuals, StandsAgainstPotentials};
+ghost use Rattle.tsp_draft.specs.Fields.{nodes_of};
+ghost use Rattle.tsp_file.specs.Meant.{fixed_of, multipliers_in};
+ghost use Rattle.tsp_verdict.specs.PotentialsCertificate.{has_wanted, BreaksDuals, StandsAgainstPotentials};
 ghost use Rattle.tsp_reason.specs.declared.certificate.Certificate.TheVariants as certificates;
 ghost use Rattle.tsp_verdict.specs.Certified.{IsCertified, FindsBound, NoneWithoutMemory};
 ghost use Rattle.tsp_verdict.specs.Multiplied.{AreListed};
@@ -58,7 +59,8 @@ pub(crate) fn bound_by_nodes(
     requires some { 3 ≤ nodes_of inst.now }
     requires shows { ShowsEven inst.now view }
     requires even { IsSymmetric (cost inst.now) }
-    ensures found { IfOk result (λ found. FindsBound certificates.Potentials inst.now pot.now found) }
+    ensures found { IfOk result
+        (λ found. FindsBound certificates.Potentials inst.now pot.now found) }
     ensures refused { IsErr result → NoneWithoutMemory certificates.Potentials inst.now pot.now }
 {
     if let Some(reason) = first_against_file(inst, pot) {
@@ -192,7 +194,8 @@ fn bound_of_duals(
     requires some { 3 ≤ nodes_of inst.now }
     requires shows { Shows inst.now view }
     requires count { nodes_of pot.now ≡ nodes_of inst.now }
-    requires held { HoldsDuals pot.now (scale_of_duals duals.now) (rows_of duals.now) (columns_of duals.now) }
+    requires held { HoldsDuals pot.now
+        (scale_of_duals duals.now) (rows_of duals.now) (columns_of duals.now) }
     ensures { MatchResult result
         (λ bound. IsCertified certificates.Potentials inst.now pot.now bound)
         (λ pair. BreaksDuals inst.now pot.now pair.i pair.j) }
@@ -217,7 +220,8 @@ fn assignment_bound<C: Costs>(
     requires kind { inst.now.kind ≡ Some kinds.Atsp }
     requires some { 3 ≤ nodes_of inst.now }
     requires count { nodes_of pot.now ≡ nodes_of inst.now }
-    requires held { HoldsDuals pot.now (scale_of_duals duals.now) (rows_of duals.now) (columns_of duals.now) }
+    requires held { HoldsDuals pot.now
+        (scale_of_duals duals.now) (rows_of duals.now) (columns_of duals.now) }
     ensures { MatchResult result
         (λ bound. IsCertified certificates.Potentials inst.now pot.now bound)
         (λ pair. BreaksDuals inst.now pot.now pair.i pair.j) }

@@ -2,12 +2,11 @@
 
 ghost use Rattle.std.specs.Prelude.{◌≡◌, ◌⊎◌, ◌≤◌, IsTrue, Some, IfOk, IsOk, IsErr, MatchResult};
 ghost use Rattle.tsp_format.specs.declared.kinds.Kind.TheVariants as kinds;
-ghost use Rattle.tsp_draft.specs.Fields.{Fields};
+ghost use Rattle.tsp_draft.specs.Fields.{Fields, nodes_of};
 ghost use Rattle.tsp_reason.specs.declared.certificate.Certificate.{Certificate};
 ghost use Rattle.tsp_reason.specs.declared.certificate.Certificate.TheVariants as certificates;
-ghost use Rattle.tsp_file.specs.Meant.{nodes_of};
 ghost use Rattle.tsp_verdict.specs.Tours.{NoneOfTourBeforeRepeats};
-ghost use Rattle.tsp_verdict.specs.states.Costs.{AreTourCosts, IsSymmetricTsp};
+ghost use Rattle.tsp_verdict.specs.states.TourCosts.{AreTourCosts, IsSymmetricTsp};
 ghost use Rattle.tsp_verdict.specs.Certified.{is_bounded, FindsBound, NoneWithoutMemory, IsCertifiedVerdict};
 ghost use Rattle.tsp_verdict.specs.Judged.{IsVerdictWith};
 
@@ -61,8 +60,8 @@ pub(crate) fn judge_with_claim(
     claimed: Option<i64>,
 ) -> Result<Verdict, Refused>
     requires { IsTrue (is_bounded by instance.now.kind) }
-    ensures { MatchResult result
-        (λ verdict. IsVerdictWith (Some (by, certificate.now)) claimed instance.now solution.now verdict)
+    ensures { MatchResult result (λ verdict. IsVerdictWith
+        (Some (by, certificate.now)) claimed instance.now solution.now verdict)
         (λ refused. NoneOfTourBeforeRepeats instance.now solution.now) }
 {
     let (length, costs) = match length_of_tour(alloc, instance, solution)? {
@@ -134,8 +133,8 @@ pub fn judge_tour_branches(
 ) -> Result<Verdict, AllocError>
     requires { (instance.now.kind ≡ Some kinds.Tsp) ⊎ (instance.now.kind ≡ Some kinds.Atsp) }
     ensures { MatchResult result
-        (λ verdict. IsCertifiedVerdict certificates.Branches instance.now solution.now branches.now verdict)
-        (λ refused. NoneOfTourBeforeRepeats instance.now solution.now) }
+        (λ verdict. IsCertifiedVerdict certificates.Branches instance.now solution.now
+        branches.now verdict) (λ refused. NoneOfTourBeforeRepeats instance.now solution.now) }
 {
     judge_certified(alloc, Certificate::Branches, instance, solution, branches)
 }
@@ -169,7 +168,8 @@ pub(crate) fn bound_of(
     requires even { IsSymmetricTsp instance.now }
     ensures found { IfOk result (λ found. FindsBound by instance.now certificate.now found) }
     ensures refused { IsErr result → NoneWithoutMemory by instance.now certificate.now }
-    ensures memory { by ≡ certificates.Potentials → instance.now.kind ≡ Some kinds.Atsp → IsOk result }
+    ensures memory { by ≡ certificates.Potentials
+        → instance.now.kind ≡ Some kinds.Atsp → IsOk result }
 {
     match (by, costs) {
         (Certificate::Potentials, TourCosts::Undirected(view)) => {

@@ -9,7 +9,7 @@ ghost use Rattle.tsp_reason.specs.declared.verdict.Reason.TheVariants as reasons
 ghost use Rattle.tsp_reason.specs.declared.verdict.Verdict.TheVariants as verdicts;
 ghost use Rattle.tsp_verdict.specs.Examples.{nodes};
 ghost use Rattle.tsp_verdict.specs.Judged.{IsAsClaimed, IsOtherClaimed, IsOfLength, IsVerdictOn, IsVerdictWith};
-ghost use Rattle.tsp_verdict.specs.Tree.{given_in};
+ghost use Rattle.tsp_verdict.specs.BranchesCertificate.{given_in};
 
 /// A claim above the length, and one below it, are both other claims.
 pub fn examples_of_other_claims()
@@ -22,24 +22,30 @@ pub fn examples_of_other_claims()
 
 /// The verdict on a solution whose length is 14. The reason tells that length, not the claim.
 pub fn examples_of_claimed_verdicts()
-    ensures above { (instance solution : Fields) → IsOfLength instance solution (pos 14)
-        → IsVerdictWith None (Some (pos 15)) instance solution (verdicts.No (reasons.LengthClaimed (pos 14))) }
-    ensures below { (instance solution : Fields) → IsOfLength instance solution (pos 14)
-        → IsVerdictWith None (Some (pos 13)) instance solution (verdicts.No (reasons.LengthClaimed (pos 14))) }
-    ensures same { (instance solution : Fields) → IsVerdictOn instance solution (verdicts.Tour (pos 14) None)
+    ensures above { (instance solution : Fields)
+        → IsOfLength instance solution (pos 14) → IsVerdictWith None
+        (Some (pos 15)) instance solution (verdicts.No (reasons.LengthClaimed (pos 14))) }
+    ensures below { (instance solution : Fields)
+        → IsOfLength instance solution (pos 14) → IsVerdictWith None
+        (Some (pos 13)) instance solution (verdicts.No (reasons.LengthClaimed (pos 14))) }
+    ensures same { (instance solution : Fields)
+        → IsVerdictOn instance solution (verdicts.Tour (pos 14) None)
         → IsVerdictWith None (Some (pos 14)) instance solution (verdicts.Tour (pos 14) None) }
     ensures not_above { (instance solution : Fields)
         → ¬ IsVerdictWith None (Some (pos 15)) instance solution (verdicts.Tour (pos 14) None) }
     ensures not_below { (instance solution : Fields)
         → ¬ IsVerdictWith None (Some (pos 13)) instance solution (verdicts.Routes (pos 14) 3 2) }
-    ensures unclaimed { (instance solution : Fields) → IsVerdictOn instance solution (verdicts.Tour (pos 14) None)
+    ensures unclaimed { (instance solution : Fields)
+        → IsVerdictOn instance solution (verdicts.Tour (pos 14) None)
         → IsVerdictWith None None instance solution (verdicts.Tour (pos 14) None) }
 {}
 
 /// Two fixed arcs in opposite directions are two decisions, and two fixed edges are one.
 pub fn examples_of_fixed_arcs()
-    ensures arcs { given_in (nodes kinds.Atsp 4 ((1, 2) ∷ (2, 1) ∷ [])) ≡ with_pair 1 2 ∷ with_pair 2 1 ∷ [] }
+    ensures arcs { given_in (nodes kinds.Atsp 4 ((1, 2) ∷ (2, 1) ∷ []))
+        ≡ with_pair 1 2 ∷ with_pair 2 1 ∷ [] }
     ensures same_arc { given_in (nodes kinds.Atsp 4 ((1, 2) ∷ (1, 2) ∷ [])) ≡ with_pair 1 2 ∷ [] }
-    ensures one_head { given_in (nodes kinds.Atsp 4 ((1, 2) ∷ (3, 2) ∷ [])) ≡ with_pair 1 2 ∷ with_pair 3 2 ∷ [] }
+    ensures one_head { given_in (nodes kinds.Atsp 4 ((1, 2) ∷ (3, 2) ∷ []))
+        ≡ with_pair 1 2 ∷ with_pair 3 2 ∷ [] }
     ensures edges { given_in (nodes kinds.Tsp 4 ((1, 2) ∷ (2, 1) ∷ [])) ≡ with_pair 1 2 ∷ [] }
 {}

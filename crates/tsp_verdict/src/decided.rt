@@ -2,7 +2,7 @@
 
 ghost use Rattle.std.specs.Prelude.{◌≡◌, ◌≤◌, IfOk};
 ghost use Rattle.tsp_branch.specs.Decisions.{take_pairs};
-ghost use Rattle.tsp_verdict.specs.Tree.{each_once};
+ghost use Rattle.tsp_verdict.specs.BranchesCertificate.{each_once};
 
 use std::alloc::Global;
 use std::collections::BTreeSet;

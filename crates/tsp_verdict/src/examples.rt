@@ -15,9 +15,9 @@ ghost use Rattle.tsp_verdict.specs.Judged.{IsAsClaimed, IsOtherClaimed, HasLengt
 ghost use Rattle.tsp_verdict.specs.Plan.{IsPlanOf, IsLeast, plan_length, total_of};
 ghost use Rattle.tsp_verdict.specs.Tours.{StandsAgainstTour, NoneOfTourBeforeRepeats};
 ghost use Rattle.tsp_verdict.specs.Routes.{StandsAgainstRoutes, NoneOfRoutesBeforeRepeats};
-ghost use Rattle.tsp_verdict.specs.Certificate.{StandsAgainstPotentials};
+ghost use Rattle.tsp_verdict.specs.PotentialsCertificate.{StandsAgainstPotentials};
 ghost use Rattle.tsp_file.specs.Meant.{scale_in};
-ghost use Rattle.tsp_verdict.specs.Tree.{StandsAgainstTree, given_in};
+ghost use Rattle.tsp_verdict.specs.BranchesCertificate.{StandsAgainstTree, given_in};
 ghost use Rattle.tsp_verdict.specs.Examples.{of_nodes, of_rows, of_both, multiplying, nodes, vehicles, carrying, solution, sized, lone, both, two, three, four, branching, two_leaves, three_leaves, node_twice, Before};
 
 /// The order in which reasons against a tour, and then against its certificate, are judged: each
@@ -36,7 +36,8 @@ pub fn examples_of_order()
     ensures their_dimension { Before reasons.NotPotentials reasons.PotentialsDimension }
     ensures their_kind { Before reasons.PotentialsDimension reasons.PotentialsKind }
     ensures not_fixed { Before reasons.PotentialsKind (reasons.MultiplierNotFixed 1) }
-    ensures multiplied_twice { Before (reasons.MultiplierNotFixed 9) (reasons.MultiplierRepeated 1) }
+    ensures multiplied_twice { Before (reasons.MultiplierNotFixed 9)
+        (reasons.MultiplierRepeated 1) }
     ensures duals { Before (reasons.MultiplierRepeated 9) (reasons.DualInfeasible 1 2) }
     ensures branches { Before (reasons.LengthClaimed (pos 9)) reasons.NotBranches }
     ensures number_of_nodes { Before reasons.NotBranches reasons.BranchesDimension }
@@ -86,47 +87,75 @@ pub fn examples_of_claims()
 
 /// When the reasons against a tour apply.
 pub fn examples_against_tours()
-    ensures no_solution { StandsAgainstTour (nodes kinds.Tsp 4 []) (nodes kinds.Potentials 4 []) reasons.NotASolution }
-    ensures two_nodes { StandsAgainstTour (nodes kinds.Tsp 2 []) (lone (two 1 2)) reasons.TooFewNodes }
-    ensures three_nodes { ¬ StandsAgainstTour (nodes kinds.Tsp 3 []) (lone (two 1 2)) reasons.TooFewNodes }
+    ensures no_solution { StandsAgainstTour (nodes kinds.Tsp 4 [])
+        (nodes kinds.Potentials 4 []) reasons.NotASolution }
+    ensures two_nodes { StandsAgainstTour (nodes kinds.Tsp 2 [])
+        (lone (two 1 2)) reasons.TooFewNodes }
+    ensures three_nodes { ¬ StandsAgainstTour
+        (nodes kinds.Tsp 3 []) (lone (two 1 2)) reasons.TooFewNodes }
     ensures dimension { StandsAgainstTour (nodes kinds.Tsp 4 []) (sized 5 []) reasons.Dimension }
-    ensures same_dimension { ¬ StandsAgainstTour (nodes kinds.Tsp 4 []) (sized 4 []) reasons.Dimension }
-    ensures no_dimension { ¬ StandsAgainstTour (nodes kinds.Tsp 4 []) (solution []) reasons.Dimension }
+    ensures same_dimension { ¬ StandsAgainstTour
+        (nodes kinds.Tsp 4 []) (sized 4 []) reasons.Dimension }
+    ensures no_dimension { ¬ StandsAgainstTour
+        (nodes kinds.Tsp 4 []) (solution []) reasons.Dimension }
     ensures no_tour { StandsAgainstTour (nodes kinds.Tsp 4 []) (solution []) reasons.TourCount }
-    ensures two_tours { StandsAgainstTour (nodes kinds.Tsp 4 []) (both (two 1 2) (two 3 4)) reasons.TourCount }
-    ensures one_tour { ¬ StandsAgainstTour (nodes kinds.Tsp 4 []) (lone (two 1 2)) reasons.TourCount }
-    ensures short { StandsAgainstTour (nodes kinds.Tsp 4 []) (lone (three 1 2 3)) reasons.TourLength }
-    ensures past_the_last { StandsAgainstTour (nodes kinds.Tsp 4 []) (lone (four 1 2 3 5)) (reasons.NodeOutOfRange 4) }
-    ensures the_last { ¬ StandsAgainstTour (nodes kinds.Tsp 4 []) (lone (four 1 2 3 4)) (reasons.NodeOutOfRange 4) }
-    ensures first_past { ¬ StandsAgainstTour (nodes kinds.Tsp 4 []) (lone (four 1 2 5 6)) (reasons.NodeOutOfRange 4) }
-    ensures repeated { StandsAgainstTour (nodes kinds.Tsp 4 []) (lone (four 1 2 2 3)) (reasons.RepeatedNode 3) }
-    ensures first_repeated { StandsAgainstTour (nodes kinds.Tsp 4 []) (lone (four 1 1 4 4)) (reasons.RepeatedNode 2) }
-    ensures not_the_second { ¬ StandsAgainstTour (nodes kinds.Tsp 4 []) (lone (four 1 1 4 4)) (reasons.RepeatedNode 4) }
-    ensures unused { StandsAgainstTour (nodes kinds.Tsp 4 ((1, 3) ∷ [])) (lone (four 1 2 3 4)) (reasons.FixedEdgeUnused 1) }
-    ensures arc { StandsAgainstTour (nodes kinds.Atsp 3 ((2, 1) ∷ [])) (lone (three 1 2 3)) (reasons.FixedEdgeUnused 1) }
-    ensures no_arc { ¬ StandsAgainstTour (nodes kinds.Tsp 3 ((2, 1) ∷ [])) (lone (three 1 2 3)) (reasons.FixedEdgeUnused 1) }
+    ensures two_tours { StandsAgainstTour (nodes kinds.Tsp 4 [])
+        (both (two 1 2) (two 3 4)) reasons.TourCount }
+    ensures one_tour { ¬ StandsAgainstTour
+        (nodes kinds.Tsp 4 []) (lone (two 1 2)) reasons.TourCount }
+    ensures short { StandsAgainstTour (nodes kinds.Tsp 4 [])
+        (lone (three 1 2 3)) reasons.TourLength }
+    ensures past_the_last { StandsAgainstTour (nodes kinds.Tsp 4 [])
+        (lone (four 1 2 3 5)) (reasons.NodeOutOfRange 4) }
+    ensures the_last { ¬ StandsAgainstTour
+        (nodes kinds.Tsp 4 []) (lone (four 1 2 3 4)) (reasons.NodeOutOfRange 4) }
+    ensures first_past { ¬ StandsAgainstTour
+        (nodes kinds.Tsp 4 []) (lone (four 1 2 5 6)) (reasons.NodeOutOfRange 4) }
+    ensures repeated { StandsAgainstTour (nodes kinds.Tsp 4 [])
+        (lone (four 1 2 2 3)) (reasons.RepeatedNode 3) }
+    ensures first_repeated { StandsAgainstTour (nodes kinds.Tsp 4 [])
+        (lone (four 1 1 4 4)) (reasons.RepeatedNode 2) }
+    ensures not_the_second { ¬ StandsAgainstTour
+        (nodes kinds.Tsp 4 []) (lone (four 1 1 4 4)) (reasons.RepeatedNode 4) }
+    ensures unused { StandsAgainstTour (nodes kinds.Tsp 4 ((1, 3) ∷ [])) (lone (four 1 2 3 4))
+        (reasons.FixedEdgeUnused 1) }
+    ensures arc { StandsAgainstTour (nodes kinds.Atsp 3 ((2, 1) ∷ [])) (lone (three 1 2 3))
+        (reasons.FixedEdgeUnused 1) }
+    ensures no_arc { ¬ StandsAgainstTour
+        (nodes kinds.Tsp 3 ((2, 1) ∷ [])) (lone (three 1 2 3)) (reasons.FixedEdgeUnused 1) }
 {}
 
 /// When the reasons against a certificate apply. None is broken here by its numbers.
 pub fn examples_against_certificates()
     ensures scale { scale_in (of_nodes 4) ≡ pos 1 }
-    ensures no_potentials { StandsAgainstPotentials (nodes kinds.Tsp 4 []) (solution []) reasons.NotPotentials }
-    ensures potentials { ¬ StandsAgainstPotentials (nodes kinds.Tsp 4 []) (of_nodes 4) reasons.NotPotentials }
-    ensures dimension { StandsAgainstPotentials (nodes kinds.Tsp 4 []) (of_nodes 3) reasons.PotentialsDimension }
-    ensures same_dimension { ¬ StandsAgainstPotentials (nodes kinds.Tsp 4 []) (of_nodes 4) reasons.PotentialsDimension }
-    ensures tsp { ¬ StandsAgainstPotentials (nodes kinds.Tsp 4 []) (of_nodes 4) reasons.PotentialsKind }
-    ensures tsp_by_rows { StandsAgainstPotentials (nodes kinds.Tsp 4 []) (of_both 4) reasons.PotentialsKind }
-    ensures atsp { ¬ StandsAgainstPotentials (nodes kinds.Atsp 4 []) (of_both 4) reasons.PotentialsKind }
-    ensures atsp_by_nodes { StandsAgainstPotentials (nodes kinds.Atsp 4 []) (of_nodes 4) reasons.PotentialsKind }
-    ensures atsp_by_rows { StandsAgainstPotentials (nodes kinds.Atsp 4 []) (of_rows 4) reasons.PotentialsKind }
+    ensures no_potentials { StandsAgainstPotentials (nodes kinds.Tsp 4 [])
+        (solution []) reasons.NotPotentials }
+    ensures potentials { ¬ StandsAgainstPotentials
+        (nodes kinds.Tsp 4 []) (of_nodes 4) reasons.NotPotentials }
+    ensures dimension { StandsAgainstPotentials (nodes kinds.Tsp 4 [])
+        (of_nodes 3) reasons.PotentialsDimension }
+    ensures same_dimension { ¬ StandsAgainstPotentials
+        (nodes kinds.Tsp 4 []) (of_nodes 4) reasons.PotentialsDimension }
+    ensures tsp { ¬ StandsAgainstPotentials
+        (nodes kinds.Tsp 4 []) (of_nodes 4) reasons.PotentialsKind }
+    ensures tsp_by_rows { StandsAgainstPotentials (nodes kinds.Tsp 4 [])
+        (of_both 4) reasons.PotentialsKind }
+    ensures atsp { ¬ StandsAgainstPotentials
+        (nodes kinds.Atsp 4 []) (of_both 4) reasons.PotentialsKind }
+    ensures atsp_by_nodes { StandsAgainstPotentials (nodes kinds.Atsp 4 [])
+        (of_nodes 4) reasons.PotentialsKind }
+    ensures atsp_by_rows { StandsAgainstPotentials (nodes kinds.Atsp 4 [])
+        (of_rows 4) reasons.PotentialsKind }
 {}
 
 /// When the reasons against a certificate by branching apply, and which pairs are decided in all of
 /// its cases.
 pub fn examples_against_trees()
     ensures no_tree { StandsAgainstTree (nodes kinds.Tsp 4 []) (of_nodes 4) reasons.NotBranches }
-    ensures tree { ¬ StandsAgainstTree (nodes kinds.Tsp 4 []) (branching 4 [] (Leaf [] ∷ [])) reasons.NotBranches }
-    ensures dimension { StandsAgainstTree (nodes kinds.Tsp 4 []) (branching 3 [] (Leaf [] ∷ [])) reasons.BranchesDimension }
+    ensures tree { ¬ StandsAgainstTree
+        (nodes kinds.Tsp 4 []) (branching 4 [] (Leaf [] ∷ [])) reasons.NotBranches }
+    ensures dimension { StandsAgainstTree (nodes kinds.Tsp 4 [])
+        (branching 3 [] (Leaf [] ∷ [])) reasons.BranchesDimension }
     ensures same_dimension { ¬ StandsAgainstTree (nodes kinds.Tsp 4 [])
         (branching 4 [] (Leaf [] ∷ [])) reasons.BranchesDimension }
     ensures node_twice { StandsAgainstTree (nodes kinds.Tsp 4 [])
@@ -137,24 +166,36 @@ pub fn examples_against_trees()
         (branching 4 [] (Branch 1 2 ∷ two_leaves)) (reasons.BranchTwice 1) }
     ensures past_the_nodes { StandsAgainstTree (nodes kinds.Tsp 4 [])
         (branching 4 [] (Leaf ((5, pos 1) ∷ []) ∷ [])) (reasons.BadLeaf 1) }
-    ensures given_once { given_in (nodes kinds.Tsp 4 ((1, 2) ∷ (3, 4) ∷ (2, 1) ∷ [])) ≡ with_pair 1 2 ∷ with_pair 3 4 ∷ [] }
+    ensures given_once { given_in (nodes kinds.Tsp 4 ((1, 2) ∷ (3, 4) ∷ (2, 1) ∷ []))
+        ≡ with_pair 1 2 ∷ with_pair 3 4 ∷ [] }
 {}
 
 /// When the reasons against routes apply. Node 1 is the depot.
 pub fn examples_against_routes()
-    ensures one_node { StandsAgainstRoutes (nodes kinds.Cvrp 1 []) (solution []) reasons.TooFewNodes }
-    ensures two_nodes { ¬ StandsAgainstRoutes (nodes kinds.Cvrp 2 []) (solution []) reasons.TooFewNodes }
-    ensures no_depot { StandsAgainstRoutes (vehicles [] (pos 0) (pos 4) (pos 8)) (solution []) reasons.DepotCount }
-    ensures two_depots { StandsAgainstRoutes (vehicles (two 1 1) (pos 0) (pos 4) (pos 8)) (solution []) reasons.DepotCount }
+    ensures one_node { StandsAgainstRoutes (nodes kinds.Cvrp 1 [])
+        (solution []) reasons.TooFewNodes }
+    ensures two_nodes { ¬ StandsAgainstRoutes
+        (nodes kinds.Cvrp 2 []) (solution []) reasons.TooFewNodes }
+    ensures no_depot { StandsAgainstRoutes (vehicles [] (pos 0) (pos 4) (pos 8))
+        (solution []) reasons.DepotCount }
+    ensures two_depots { StandsAgainstRoutes (vehicles (two 1 1) (pos 0) (pos 4) (pos 8))
+        (solution []) reasons.DepotCount }
     ensures one_depot { ¬ StandsAgainstRoutes (carrying (pos 8)) (solution []) reasons.DepotCount }
-    ensures demand { StandsAgainstRoutes (vehicles (1 ∷ []) (pos 1) (pos 4) (pos 8)) (solution []) reasons.DepotDemand }
+    ensures demand { StandsAgainstRoutes (vehicles (1 ∷ []) (pos 1) (pos 4) (pos 8))
+        (solution []) reasons.DepotDemand }
     ensures no_demand { ¬ StandsAgainstRoutes (carrying (pos 8)) (solution []) reasons.DepotDemand }
-    ensures fixed { StandsAgainstRoutes (nodes kinds.Cvrp 4 ((2, 3) ∷ [])) (solution []) reasons.FixedEdgesInRoutes }
-    ensures depot { StandsAgainstRoutes (carrying (pos 8)) (lone (three 2 1 3)) (reasons.DepotInRoute 2) }
-    ensures repeated { StandsAgainstRoutes (carrying (pos 8)) (both (two 2 3) (3 ∷ [])) (reasons.RepeatedNode 3) }
-    ensures unserved { StandsAgainstRoutes (carrying (pos 8)) (lone (two 2 3)) (reasons.Unserved 4) }
-    ensures past_capacity { StandsAgainstRoutes (carrying (pos 7)) (both (two 2 3) (4 ∷ [])) (reasons.Overload 1) }
-    ensures at_capacity { ¬ StandsAgainstRoutes (carrying (pos 8)) (both (two 2 3) (4 ∷ [])) (reasons.Overload 1) }
+    ensures fixed { StandsAgainstRoutes (nodes kinds.Cvrp 4 ((2, 3) ∷ [])) (solution [])
+        reasons.FixedEdgesInRoutes }
+    ensures depot { StandsAgainstRoutes (carrying (pos 8))
+        (lone (three 2 1 3)) (reasons.DepotInRoute 2) }
+    ensures repeated { StandsAgainstRoutes (carrying (pos 8))
+        (both (two 2 3) (3 ∷ [])) (reasons.RepeatedNode 3) }
+    ensures unserved { StandsAgainstRoutes (carrying (pos 8))
+        (lone (two 2 3)) (reasons.Unserved 4) }
+    ensures past_capacity { StandsAgainstRoutes (carrying (pos 7))
+        (both (two 2 3) (4 ∷ [])) (reasons.Overload 1) }
+    ensures at_capacity { ¬ StandsAgainstRoutes
+        (carrying (pos 8)) (both (two 2 3) (4 ∷ [])) (reasons.Overload 1) }
 {}
 
 /// What plans are, how long they are, how many routes are the least.
@@ -165,7 +206,8 @@ pub fn examples_of_plans()
     ensures unserved { ¬ IsPlanOf (carrying (pos 8)) (two 2 3 ∷ []) }
     ensures twice { ¬ IsPlanOf (carrying (pos 8)) (two 2 3 ∷ two 3 4 ∷ []) }
     ensures depot { ¬ IsPlanOf (carrying (pos 8)) (two 2 3 ∷ two 1 4 ∷ []) }
-    ensures length { plan_length (λ i j. pos (10 * i + j)) 1 (two 2 3 ∷ (4 ∷ []) ∷ []) ≡ pos (12 + 23 + 31 + 14 + 41) }
+    ensures length { plan_length (λ i j. pos (10 * i + j)) 1 (two 2 3 ∷ (4 ∷ []) ∷ [])
+        ≡ pos (12 + 23 + 31 + 14 + 41) }
     ensures direction { plan_length (λ i j. pos (i * i + j)) 1 (two 3 2 ∷ []) ≡ pos (4 + 11 + 5) }
     ensures total { total_of (carrying (pos 8)) ≡ pos 12 }
     ensures least { IsLeast (pos 12) (pos 8) 2 }
@@ -177,18 +219,20 @@ pub fn examples_of_plans()
 /// What is known out of memory: no reason applies that is found without it. The last of those
 /// before the first one that needs memory is named, and one before it.
 pub fn examples_of_reasons_before_memory()
-    ensures length { (inst sol : Fields) → StandsAgainstTour inst sol reasons.TourLength → ¬ NoneOfTourBeforeRepeats inst sol }
-    ensures range { (inst sol : Fields) (place : ℕ) → StandsAgainstTour inst sol (reasons.NodeOutOfRange place)
-        → ¬ NoneOfTourBeforeRepeats inst sol }
-    ensures depots { (inst sol : Fields) → StandsAgainstRoutes inst sol reasons.DepotCount → ¬ NoneOfRoutesBeforeRepeats inst sol }
-    ensures range_of_routes { (inst sol : Fields) (place : ℕ) → StandsAgainstRoutes inst sol (reasons.NodeOutOfRange place)
-        → ¬ NoneOfRoutesBeforeRepeats inst sol }
-    ensures kind_of_potentials { (inst cert : Fields) → StandsAgainstPotentials inst cert reasons.PotentialsKind
-        → ¬ NoneWithoutMemory certificates.Potentials inst cert }
-    ensures no_potentials { (inst cert : Fields) → StandsAgainstPotentials inst cert reasons.NotPotentials
-        → ¬ NoneWithoutMemory certificates.Potentials inst cert }
-    ensures nodes_of_branches { (inst cert : Fields) → StandsAgainstTree inst cert reasons.BranchesDimension
-        → ¬ NoneWithoutMemory certificates.Branches inst cert }
+    ensures length { (inst sol : Fields)
+        → StandsAgainstTour inst sol reasons.TourLength → ¬ NoneOfTourBeforeRepeats inst sol }
+    ensures range { (inst sol : Fields) (place : ℕ) → StandsAgainstTour inst sol
+        (reasons.NodeOutOfRange place) → ¬ NoneOfTourBeforeRepeats inst sol }
+    ensures depots { (inst sol : Fields)
+        → StandsAgainstRoutes inst sol reasons.DepotCount → ¬ NoneOfRoutesBeforeRepeats inst sol }
+    ensures range_of_routes { (inst sol : Fields) (place : ℕ) → StandsAgainstRoutes inst sol
+        (reasons.NodeOutOfRange place) → ¬ NoneOfRoutesBeforeRepeats inst sol }
+    ensures kind_of_potentials { (inst cert : Fields) → StandsAgainstPotentials inst
+        cert reasons.PotentialsKind → ¬ NoneWithoutMemory certificates.Potentials inst cert }
+    ensures no_potentials { (inst cert : Fields) → StandsAgainstPotentials inst
+        cert reasons.NotPotentials → ¬ NoneWithoutMemory certificates.Potentials inst cert }
+    ensures nodes_of_branches { (inst cert : Fields) → StandsAgainstTree inst
+        cert reasons.BranchesDimension → ¬ NoneWithoutMemory certificates.Branches inst cert }
     ensures no_branches { (inst cert : Fields) → StandsAgainstTree inst cert reasons.NotBranches
         → ¬ NoneWithoutMemory certificates.Branches inst cert }
 {}
@@ -204,16 +248,16 @@ pub fn examples_of_dimensions_of_routes()
 
 /// Which multipliers aren't on a fixed pair, or on that of an earlier one.
 pub fn examples_of_multipliers()
-    ensures fixed { ¬ StandsAgainstPotentials (nodes kinds.Tsp 4 ((1, 2) ∷ [])) (multiplying ((1, 2, pos 5) ∷ []))
-        (reasons.MultiplierNotFixed 1) }
-    ensures turned_round { ¬ StandsAgainstPotentials (nodes kinds.Tsp 4 ((1, 2) ∷ [])) (multiplying ((2, 1, pos 5) ∷ []))
-        (reasons.MultiplierNotFixed 1) }
-    ensures not_fixed { StandsAgainstPotentials (nodes kinds.Tsp 4 ((1, 2) ∷ [])) (multiplying ((1, 3, pos 5) ∷ []))
-        (reasons.MultiplierNotFixed 1) }
-    ensures twice { StandsAgainstPotentials (nodes kinds.Tsp 4 ((1, 2) ∷ [])) (multiplying ((1, 2, pos 5) ∷ (1, 2, pos 5) ∷ []))
-        (reasons.MultiplierRepeated 2) }
+    ensures fixed { ¬ StandsAgainstPotentials (nodes kinds.Tsp 4
+        ((1, 2) ∷ [])) (multiplying ((1, 2, pos 5) ∷ [])) (reasons.MultiplierNotFixed 1) }
+    ensures turned_round { ¬ StandsAgainstPotentials (nodes kinds.Tsp 4
+        ((1, 2) ∷ [])) (multiplying ((2, 1, pos 5) ∷ [])) (reasons.MultiplierNotFixed 1) }
+    ensures not_fixed { StandsAgainstPotentials (nodes kinds.Tsp 4
+        ((1, 2) ∷ [])) (multiplying ((1, 3, pos 5) ∷ [])) (reasons.MultiplierNotFixed 1) }
+    ensures twice { StandsAgainstPotentials (nodes kinds.Tsp 4 ((1, 2)
+        ∷ [])) (multiplying ((1, 2, pos 5) ∷ (1, 2, pos 5) ∷ [])) (reasons.MultiplierRepeated 2) }
     ensures twice_turned_round { StandsAgainstPotentials (nodes kinds.Tsp 4 ((1, 2) ∷ []))
         (multiplying ((1, 2, pos 5) ∷ (2, 1, pos 7) ∷ [])) (reasons.MultiplierRepeated 2) }
-    ensures of_an_atsp { ¬ StandsAgainstPotentials (nodes kinds.Atsp 4 ((1, 2) ∷ [])) (multiplying ((1, 3, pos 5) ∷ []))
-        (reasons.MultiplierNotFixed 1) }
+    ensures of_an_atsp { ¬ StandsAgainstPotentials (nodes kinds.Atsp 4
+        ((1, 2) ∷ [])) (multiplying ((1, 3, pos 5) ∷ [])) (reasons.MultiplierNotFixed 1) }
 {}

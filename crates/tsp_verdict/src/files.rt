@@ -7,9 +7,9 @@ ghost use Rattle.tsp_format.specs.Cells.{IsNode};
 ghost use Rattle.tsp_format.specs.Limits.{most_capacity};
 ghost use Rattle.tsp_draft.specs.Rules.{is_tours};
 ghost use Rattle.tsp_draft.specs.Valid.{IsDemand, IsFromTo};
-ghost use Rattle.tsp_file.specs.Meant.{nodes_of};
-ghost use Rattle.tsp_cost.specs.Tours.{depots_of, demands_of, capacity_of};
-ghost use Rattle.tsp_verdict.specs.states.Routes.{AreToursOf};
+ghost use Rattle.tsp_draft.specs.Fields.{nodes_of};
+ghost use Rattle.tsp_cost.specs.ComputedProblems.{depots_of, demands_of, capacity_of};
+ghost use Rattle.tsp_verdict.specs.states.RouteLists.{AreToursOf};
 
 use tsp_cost::Instance;
 use tsp_file::{File, RoutingData};

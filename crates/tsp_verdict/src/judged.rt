@@ -35,11 +35,11 @@ pub fn judge(
     certificate: Option<(Certificate, &File)>,
     claimed: Option<i64>,
 ) -> Result<Verdict, AllocError>
-    requires { IsTrue (is_judged (option_map (λ given. (given.0, given.1.now)) certificate) instance.now.kind) }
-    ensures { MatchResult result
-        (λ verdict. IsVerdictWith (option_map (λ given. (given.0, given.1.now)) certificate.entry) claimed
-        instance.now solution.now verdict)
-        (λ refused. NoneBeforeRepeatsOn instance.now solution.now) }
+    requires { IsTrue
+        (is_judged (option_map (λ given. (given.0, given.1.now)) certificate) instance.now.kind) }
+    ensures { MatchResult result (λ verdict. IsVerdictWith
+        (option_map (λ given. (given.0, given.1.now)) certificate.entry) claimed instance.now
+        solution.now verdict) (λ refused. NoneBeforeRepeatsOn instance.now solution.now) }
 {
     match certificate {
         None => {

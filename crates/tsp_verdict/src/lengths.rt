@@ -7,8 +7,8 @@ ghost use Rattle.tsp_format.specs.Limits.{most_tour_nodes};
 ghost use Rattle.tsp_file.specs.Cost.{cost};
 ghost use Rattle.tsp_theory.specs.Length.{length_of};
 ghost use Rattle.tsp_verdict.specs.Plan.{plan_length};
-ghost use Rattle.tsp_file.specs.Meant.{nodes_of};
-ghost use Rattle.tsp_verdict.specs.states.Routes.{nodes_in};
+ghost use Rattle.tsp_draft.specs.Fields.{nodes_of};
+ghost use Rattle.tsp_verdict.specs.states.RouteLists.{nodes_in};
 ghost use Rattle.tsp_verdict.specs.states.Sums.{IsSumOf};
 
 use tsp_cost::{Costs, Instance};

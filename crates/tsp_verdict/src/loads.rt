@@ -8,7 +8,7 @@ ghost use Rattle.tsp_draft.specs.Valid.{IsDemand, IsFromTo};
 ghost use Rattle.tsp_verdict.specs.Places.{IsFirstPlace};
 ghost use Rattle.tsp_verdict.specs.Plan.{load_of, IsLeast};
 ghost use Rattle.tsp_verdict.specs.Routes.{IsOverloaded};
-ghost use Rattle.tsp_verdict.specs.states.Routes.{nodes_in};
+ghost use Rattle.tsp_verdict.specs.states.RouteLists.{nodes_in};
 
 /// The first route, counted from 1, whose demands sum to more than the capacity.
 pub(crate) fn first_overload(routes: &[Vec<u32>], demands: &[i64], capacity: i64) -> Option<u32>
@@ -16,11 +16,10 @@ pub(crate) fn first_overload(routes: &[Vec<u32>], demands: &[i64], capacity: i64
     requires size { length (nodes_in routes.now) ≤ most_tour_nodes }
     requires few { length routes.now ≤ most_tour_nodes }
     requires demands { All IsDemand demands.now }
-    ensures { MatchOption result
-        (All (λ route. load_of demands.now route ≤ℤ capacity) (map (λ route. route.items) routes.now))
-        (λ place. IsFirstPlace
-        (IsOverloaded demands.now capacity (map (λ route. route.items) routes.now))
-        (map (λ route. route.items) routes.now) place) }
+    ensures { MatchOption result (All (λ route. load_of demands.now route
+        ≤ℤ capacity) (map (λ route. route.items) routes.now))
+        (λ place. IsFirstPlace (IsOverloaded demands.now capacity
+        (map (λ route. route.items) routes.now)) (map (λ route. route.items) routes.now) place) }
 {
     let mut index = 0;
     'routes: for route in routes {

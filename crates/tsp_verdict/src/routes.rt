@@ -5,12 +5,12 @@ ghost use Rattle.std.specs.List.{All};
 ghost use Rattle.tsp_format.specs.declared.kinds.Kind.TheVariants as kinds;
 ghost use Rattle.tsp_format.specs.Cells.{IsNode};
 ghost use Rattle.tsp_verdict.specs.Plan.{demand_of, depot_of, AreCustomers};
-ghost use Rattle.tsp_file.specs.Meant.{nodes_of};
-ghost use Rattle.tsp_cost.specs.Tours.{demands_of, depots_of};
+ghost use Rattle.tsp_draft.specs.Fields.{nodes_of};
+ghost use Rattle.tsp_cost.specs.ComputedProblems.{demands_of, depots_of};
 ghost use Rattle.tsp_verdict.specs.Routes.{NoneOfRoutesUpTo, NoneOfRoutesBeforePlaces, IsFirstAgainstRoutes, IsRoutesVerdict, NoneOfRoutesBeforeRepeats};
 ghost use Rattle.tsp_reason.specs.declared.verdict.Reason.TheVariants.{DepotCount};
 ghost use Rattle.tsp_verdict.specs.Reasons.{rank_of};
-ghost use Rattle.tsp_verdict.specs.states.Routes.{AreToursOf};
+ghost use Rattle.tsp_verdict.specs.states.RouteLists.{AreToursOf};
 
 use crate::files::{routing, solution_tours};
 use crate::lengths::plan_length;
@@ -101,11 +101,10 @@ fn the_depot<'a>(
     requires each { length routing.now.demands.now ≡ nodes_of inst.now }
     requires depots { routing.now.depots.now ≡ depots_of inst.now }
     requires each_depot { All (IsNode (nodes_of inst.now)) routing.now.depots.now }
-    ensures { MatchResult result
-        (λ found. (found.0 ≡ depot_of inst.now) × IsNode (nodes_of inst.now) found.0
-        × (demand_of (demands_of inst.now) found.0 ≡ pos 0) × NoneOfRoutesBeforePlaces inst.now sol.now
-        × AreToursOf sol.now found.1.now)
-        (λ reason. IsFirstAgainstRoutes inst.now sol.now reason) }
+    ensures { MatchResult result (λ found. (found.0 ≡ depot_of inst.now)
+        × IsNode (nodes_of inst.now) found.0 × (demand_of (demands_of inst.now) found.0 ≡ pos 0)
+        × NoneOfRoutesBeforePlaces inst.now sol.now
+        × AreToursOf sol.now found.1.now) (λ reason. IsFirstAgainstRoutes inst.now sol.now reason) }
 {
     let routes = match first_against_files(inst, sol) {
         Ok(routes) => routes,
@@ -125,8 +124,8 @@ fn the_depot<'a>(
 
 /// The routes of a solution, or the first reason that needs no look at the depot.
 fn first_against_files<'a>(inst: &Instance, sol: &'a File) -> Result<&'a [Vec<u32>], Reason>
-    ensures { MatchResult result
-        (λ routes. AreToursOf sol.now routes.now × NoneOfRoutesUpTo inst.now sol.now (rank_of DepotCount))
+    ensures { MatchResult result (λ routes. AreToursOf sol.now routes.now
+        × NoneOfRoutesUpTo inst.now sol.now (rank_of DepotCount))
         (λ reason. IsFirstAgainstRoutes inst.now sol.now reason) }
 {
     let nodes = inst.count();

@@ -3,16 +3,16 @@
 ghost use Rattle.std.specs.Prelude.{◌≡◌, ◌⊎◌, ◌<◌, ◌≤◌, [], ◌∷◌, length, Some, MatchResult};
 ghost use Rattle.std.specs.List.{All};
 ghost use Rattle.tsp_format.specs.declared.kinds.Kind.TheVariants as kinds;
-ghost use Rattle.tsp_cost.specs.Tours.{is_directed};
+ghost use Rattle.tsp_cost.specs.ComputedProblems.{is_directed};
 ghost use Rattle.tsp_reason.specs.declared.verdict.Reason.TheVariants.{TourCount};
 ghost use Rattle.tsp_verdict.specs.Reasons.{rank_of};
-ghost use Rattle.tsp_file.specs.Meant.{nodes_of};
+ghost use Rattle.tsp_draft.specs.Fields.{nodes_of};
 ghost use Rattle.tsp_verdict.specs.Solution.{tours_of};
 ghost use Rattle.tsp_verdict.specs.Tours.{NoneOfTourUpTo, NoneOfTourBeforeNodes, IsFirstAgainstTour, IsTourVerdict, NoneOfTourBeforeRepeats};
 ghost use Rattle.tsp_file.specs.Cost.{cost};
 ghost use Rattle.tsp_theory.specs.Costs.{IsFirstAsymmetric};
-ghost use Rattle.tsp_verdict.specs.states.Costs.{AreTourCosts, IsLengthOf, FindsLength};
-ghost use Rattle.tsp_verdict.specs.states.Routes.{AreToursOf};
+ghost use Rattle.tsp_verdict.specs.states.TourCosts.{AreTourCosts, IsLengthOf, FindsLength};
+ghost use Rattle.tsp_verdict.specs.states.RouteLists.{AreToursOf};
 
 use crate::files::solution_tours;
 use crate::fixed::{first_unused, next_nodes};

@@ -8,9 +8,9 @@ ghost use Rattle.tsp_draft.specs.Rules.{is_tree};
 ghost use Rattle.tsp_file.specs.Typed.{HoldsCases};
 ghost use Rattle.tsp_cost.specs.states.Views.{HasCosts};
 ghost use Rattle.tsp_verdict.specs.Reasons.{IsFirstReason};
-ghost use Rattle.tsp_file.specs.Meant.{nodes_of};
-ghost use Rattle.tsp_verdict.specs.states.Costs.{IsSymmetricTsp};
-ghost use Rattle.tsp_verdict.specs.Tree.{StandsAgainstTree};
+ghost use Rattle.tsp_draft.specs.Fields.{nodes_of};
+ghost use Rattle.tsp_verdict.specs.states.TourCosts.{IsSymmetricTsp};
+ghost use Rattle.tsp_verdict.specs.BranchesCertificate.{StandsAgainstTree};
 ghost use Rattle.tsp_reason.specs.declared.certificate.Certificate.TheVariants as certificates;
 ghost use Rattle.tsp_verdict.specs.Certified.{FindsBound, NoneWithoutMemory};
 
@@ -41,8 +41,10 @@ pub(crate) fn bound_of_tree(
     requires kind { (instance.now.kind ≡ Some kinds.Tsp) ⊎ (instance.now.kind ≡ Some kinds.Atsp) }
     requires some { 3 ≤ nodes_of instance.now }
     requires even { IsSymmetricTsp instance.now }
-    ensures found { IfOk result (λ found. FindsBound certificates.Branches instance.now branches.now found) }
-    ensures refused { IsErr result → NoneWithoutMemory certificates.Branches instance.now branches.now }
+    ensures found { IfOk result
+        (λ found. FindsBound certificates.Branches instance.now branches.now found) }
+    ensures refused { IsErr result
+        → NoneWithoutMemory certificates.Branches instance.now branches.now }
 {
     let tree = match tree_of(instance, branches) {
         Ok(tree) => tree,
@@ -59,8 +61,8 @@ pub(crate) fn bound_of_tree(
 
 /// The tree that a certificate holds, or the first reason that needs no look at it.
 fn tree_of<'a>(instance: &Instance, branches: &'a File) -> Result<TreeData<'a>, Reason>
-    ensures { MatchResult result
-        (λ tree. (is_tree branches.now.kind ≡ true) × (nodes_of branches.now ≡ nodes_of instance.now)
+    ensures { MatchResult result (λ tree. (is_tree branches.now.kind ≡ true)
+        × (nodes_of branches.now ≡ nodes_of instance.now)
         × HoldsCases branches.now tree.scale (combs_of tree.combs.now) (steps_of tree.steps.now))
         (λ reason. IsFirstReason (StandsAgainstTree instance.now branches.now) reason) }
 {
@@ -92,8 +94,10 @@ fn judge_tree<C: Costs>(
     requires even { IsSymmetricTsp instance.now }
     requires sort { is_tree branches.now.kind ≡ true }
     requires count { nodes_of branches.now ≡ nodes_of instance.now }
-    requires held { HoldsCases branches.now tree.now.scale (combs_of tree.now.combs.now) (steps_of tree.now.steps.now) }
-    ensures { IfOk result (λ found. FindsBound certificates.Branches instance.now branches.now found) }
+    requires held { HoldsCases branches.now tree.now.scale
+        (combs_of tree.now.combs.now) (steps_of tree.now.steps.now) }
+    ensures { IfOk result
+        (λ found. FindsBound certificates.Branches instance.now branches.now found) }
 {
     certificates_bound_cycles();
     numbers_are_unique();

@@ -4,7 +4,7 @@ ghost use Rattle.std.specs.Prelude.{◌≡◌, ◌≢◌, ◌+◌, ◌^◌, ◌<
 ghost use Rattle.std.specs.List.{All};
 ghost use Rattle.tsp_verdict.specs.states.Marks.{Marked};
 ghost use Rattle.tsp_verdict.specs.Places.{IsFirstPlace, IsLarger, IsAt, IsRepeated};
-ghost use Rattle.tsp_verdict.specs.states.Routes.{nodes_in};
+ghost use Rattle.tsp_verdict.specs.states.RouteLists.{nodes_in};
 
 use crate::places::{first_larger, first_of, mark};
 

@@ -12,7 +12,7 @@ use Rattle.tsp_families.specs.declared.family.Crossings.{Crossings}
 use Rattle.tsp_branch.specs.LeafBound.{crossings_of, leaf_weight}
 use Rattle.tsp_branch.specs.Certificate.{multiplied}
 use Rattle.tsp_branch.specs.CombsOfSets.{NumberedSet, families_of}
-use Rattle.tsp_branch.specs.Judged.{most_crossed}
+use Rattle.tsp_branch.specs.GoodNumbers.{most_crossed}
 use Rattle.tsp_branch.specs.states.Sets.{IsMoved, added}
 use Rattle.tsp_families.specs.declared.comb_set.CombSet.{CombSet}
 
@@ -66,7 +66,8 @@ set_weight scale potentials multipliers sets cost i j =
 -- a value is what is left in 64 bits of a weight as if no set had two nodes, which without sets is so large at most
 abbrev pub IsApart : ℤ → List ℤ → List ℤ → List NumberedSet → (ℕ → ℕ → ℤ) → ℕ → ℕ → ℤ → Type 0
 IsApart scale potentials multipliers sets cost i j value =
-    IsMoved (neg_ℤ (multipliers_at multipliers sets i) +ℤ neg_ℤ (multipliers_at multipliers sets j)) (weight_between scale potentials cost i j) value
+    IsMoved (neg_ℤ (multipliers_at multipliers sets i) +ℤ neg_ℤ (multipliers_at multipliers sets j))
+    (weight_between scale potentials cost i j) value
     × IsFromTo (neg_ℤ (pos most_between)) (pos most_between) (weight_between scale potentials cost i j)
 
 -- two nodes of 1..n don't cross the sets too often; and how large a weight is

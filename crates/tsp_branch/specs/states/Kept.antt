@@ -25,7 +25,8 @@ pub record IsKeptRow (n : ℕ) (cost weight : ℕ → ℤ) (row : List ℤ) : Ty
 -- the rows of the first nodes
 pub record AreRows (n : ℕ) (cost weight : ℕ → ℕ → ℤ) (count : ℕ) (rows : List (Vec ℤ)) : Type 0 where
   pub many : length rows ≡ count
-  pub each : (k : ℕ) (default : Vec ℤ) → k < count → IsKeptRow n (cost (k + 1)) (weight (k + 1)) (slice_index_or rows k default).items
+  pub each : (k : ℕ) (default : Vec ℤ) → k < count
+      → IsKeptRow n (cost (k + 1)) (weight (k + 1)) (slice_index_or rows k default).items
 
 -- those of all nodes, where there are any
 abbrev pub AreRowsIfAny : ℕ → (ℕ → ℕ → ℤ) → (ℕ → ℕ → ℤ) → List (Vec ℤ) → Type 0
@@ -34,9 +35,11 @@ AreRowsIfAny n cost weight rows = 1 ≤ length rows → AreRows n cost weight n 
 -- rows to which the sets of each node, whose numbers are listed, have added
 pub record AreAdded (multipliers : List ℤ) (sets : List CombSet) (by_node : List (Vec ℕ)) (old new : List (Vec ℤ)) : Type 0 where
   pub many : length new ≡ length old
-  pub long : (k : ℕ) (a b : Vec ℤ) → k < length old → length (slice_index_or new k a).items ≡ length (slice_index_or old k b).items
+  pub long : (k : ℕ) (a b : Vec ℤ) → k < length old
+      → length (slice_index_or new k a).items ≡ length (slice_index_or old k b).items
   pub moved : (k x : ℕ) (a b : Vec ℤ) (c : Vec ℕ) → k < length old
-      → IsMoved (inside_both multipliers (plain sets) (slice_index_or by_node (k + 1) c).items x) (least_at (slice_index_or old k b).items x) (least_at (slice_index_or new k a).items x)
+      → IsMoved (inside_both multipliers (plain sets) (slice_index_or by_node (k + 1) c).items x)
+      (least_at (slice_index_or old k b).items x) (least_at (slice_index_or new k a).items x)
 
 -- numbers that are each the difference of two others
 abbrev pub AreDifferences : List ℤ → List ℤ → List ℤ → Type 0
@@ -45,7 +48,8 @@ AreDifferences old new differences = (k : ℕ) → least_at new k ≡ least_at o
 -- by node what is left in 64 bits of what the multipliers of its sets take off its potential
 pub record AreEnds (n : ℕ) (multipliers : List ℤ) (sets : List CombSet) (ends : List ℤ) : Type 0 where
   pub places : length ends ≡ n + 1
-  pub taken : (x : ℕ) → IsNode n x → int_wrap w64 (least_at ends x) ≡ int_wrap w64 (neg_ℤ (multipliers_at multipliers (plain sets) x))
+  pub taken : (x : ℕ) → IsNode n x
+      → int_wrap w64 (least_at ends x) ≡ int_wrap w64 (neg_ℤ (multipliers_at multipliers (plain sets) x))
 
 -- rows and ends, and the multipliers that they have been brought to
 pub record HoldsRows (n combs : ℕ) (scale : ℤ) (sets : List CombSet) (cost : ℕ → ℕ → ℤ) (kept : KeptRows) : Type 0 where

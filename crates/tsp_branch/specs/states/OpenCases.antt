@@ -18,7 +18,8 @@ listed_at lists x default = stack_of (slice_index_or lists x default).items
 -- by node the decisions of a case, which has the last one first
 pub record AreByNode (n : ℕ) (held : NodeDecisions) (case : List Decision) : Type 0 where
   pub places : length held.lists.items ≡ n + 1
-  pub each : (x : ℕ) (default : Vec Decision) → x ≤ n → listed_at held.lists.items x default ≡ filter (bears_on held.directed x) case
+  pub each : (x : ℕ) (default : Vec Decision) → x ≤ n
+      → listed_at held.lists.items x default ≡ filter (bears_on held.directed x) case
   pub taken : stack_of held.taken.items ≡ filter (λ decision. decision.taken) case
 
 -- lists of which one has a decision more at its end, or less
@@ -30,7 +31,8 @@ pub record HaveOneMore (node : ℕ) (decision : Decision) (old new : List (Vec D
 pub record HaveOneLess (node : ℕ) (old new : List (Vec Decision)) : Type 0 where
   pub places : length new ≡ length old
   pub others : (x : ℕ) (a b : Vec Decision) → x < length old → x ≢ node → listed_at new x a ≡ listed_at old x b
-  pub here : (a b : Vec Decision) (last : Decision) (rest : List Decision) → listed_at old node b ≡ last ∷ rest → listed_at new node a ≡ rest
+  pub here : (a b : Vec Decision) (last : Decision) (rest : List Decision) → listed_at old node b ≡ last ∷ rest
+      → listed_at new node a ≡ rest
 
 -- the decisions of the open case: those on the stack, the last one first, and those that are given for all cases
 abbrev pub decisions_in : OpenCase → List Decision

@@ -30,7 +30,8 @@ key_of false pair = undirected pair
 
 -- the set has exactly the pairs of a list; undirected: in either direction
 abbrev pub HasKeys : Bool → BTreeSet (ℕ × ℕ) → List (ℕ × ℕ) → Type 0
-HasKeys directed set pairs = (pair : ℕ × ℕ) → contains pair_cmp set (key_of directed pair) ≡ list_any (is_same directed pair) pairs
+HasKeys directed set pairs =
+    (pair : ℕ × ℕ) → contains pair_cmp set (key_of directed pair) ≡ list_any (is_same directed pair) pairs
 
 -- the set has exactly the pairs that a case decides
 abbrev pub HasDecided : Bool → BTreeSet (ℕ × ℕ) → List Decision → Type 0

@@ -23,8 +23,8 @@ abbrev pub AreSmall : List ℤ → Type 0
 AreSmall numbers = All (IsFromTo (neg_ℤ (pos (2 ^ 64))) (pos (2 ^ 64))) numbers
 
 -- What is found of a leaf that is good, whose numbers are kept for the next one; nothing of one that isn't.
-abbrev pub IsJudgedLeaf : (List Decision × LeafNumbers → Option ℤ → Type 0) → ℕ → List Crossings → List Decision → List ℤ → List (ℕ × ℤ)
-    → List ℤ → JudgedLeaf → Type 0
+abbrev pub IsJudgedLeaf : (List Decision × LeafNumbers → Option ℤ → Type 0) → ℕ → List Crossings → List Decision → List ℤ
+    → List (ℕ × ℤ) → List ℤ → JudgedLeaf → Type 0
 IsJudgedLeaf found n crossed case old changes new leaves.Bad = IsGoodLeaf n crossed old changes → ⊥
 IsJudgedLeaf found n crossed case old changes new (leaves.Found own) = IsGoodLeaf n crossed old changes
     × (new ≡ all_grown changes old) × AreSmall new × found (case, split_at n (all_grown changes old)) own

@@ -23,7 +23,8 @@ points_nodes p = length p.points.now
 
 -- of points that have these places in space
 abbrev pub points_cost : {P : Type 0} → (P → Point) → Points P → ℕ → ℕ → ℤ
-points_cost place p i j = distance (weight_kind_of p.metric) (point_of (map place p.points.now) i) (point_of (map place p.points.now) j)
+points_cost place p i j =
+    distance (weight_kind_of p.metric) (point_of (map place p.points.now) i) (point_of (map place p.points.now) j)
 
 abbrev pub points_place : {P : Type 0} → (P → Point) → Points P → ℕ → Point
 points_place place p node = point_of (map place p.points.now) node

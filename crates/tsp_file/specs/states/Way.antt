@@ -7,10 +7,9 @@ use Rattle.tsp_format.specs.declared.kinds.WeightFormat.TheVariants.{Listed}
 use Rattle.tsp_format.specs.Limits.{most_weight}
 use Rattle.tsp_file.specs.declared.way.Way.{Way}
 use Rattle.tsp_file.specs.declared.way.Way.TheVariants.{Already, Within, Across, Anew}
-use Rattle.tsp_draft.specs.Fields.{Fields}
+use Rattle.tsp_draft.specs.Fields.{Fields, nodes_of}
 use Rattle.tsp_draft.specs.Valid.{IsWithin}
 use Rattle.tsp_file.specs.Cost.{cost}
-use Rattle.tsp_file.specs.Meant.{nodes_of}
 use Rattle.tsp_file.specs.Relayout.{costs_in}
 
 -- what is so of a file whose weights get into the layout in this way

@@ -3,7 +3,7 @@
 ghost use Rattle.std.specs.Prelude.{◌≡◌, ◌≤◌, ◌∷◌, length, drop, IfSome};
 ghost use Rattle.std.specs.List.{flat_map};
 ghost use Rattle.std.specs.Fmt.{signed_decimal};
-ghost use Rattle.tsp_stream.specs.states.Way.{Puts};
+ghost use Rattle.tsp_stream.specs.states.WriteProgress.{Puts};
 
 use crate::writer::digits::write_digits;
 use std::io::Write;

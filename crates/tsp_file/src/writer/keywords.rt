@@ -3,8 +3,8 @@
 ghost use Rattle.std.specs.Prelude.{map};
 ghost use Rattle.std.specs.List.{flat_map};
 ghost use Rattle.std.specs.Option.{option_map};
-ghost use Rattle.tsp_file.specs.Text.{value_line, keyword_line, other_line, optional};
-ghost use Rattle.tsp_stream.specs.states.Way.{Puts};
+ghost use Rattle.tsp_file.specs.CanonicalText.{value_line, keyword_line, other_line, optional};
+ghost use Rattle.tsp_stream.specs.states.WriteProgress.{Puts};
 
 use itoa::{Buffer, Integer};
 use std::io::Write;
@@ -13,7 +13,8 @@ use tsp_stream::{Piece, Watched, put};
 
 /// Adds the line of a keyword and its value.
 fn put_value<W: Write>(piece: &mut Piece, out: &mut Watched<W>, keyword: &[u8], value: &[u8])
-    ensures { Puts W.contents out.old piece.old out.new piece.new (value_line keyword.now value.now) }
+    ensures { Puts W.contents out.old piece.old out.new piece.new
+        (value_line keyword.now value.now) }
 {
     put(piece, out, keyword);
     put(piece, out, b" :");

@@ -5,8 +5,8 @@ ghost use Rattle.std.specs.List.{flat_map};
 ghost use Rattle.std.specs.Fmt.{signed_decimal};
 ghost use Rattle.std.specs.Option.{option_map};
 ghost use Rattle.tsp_format.specs.Cells.{nodes_to, cells_of_line};
-ghost use Rattle.tsp_file.specs.Text.{weight_line, matrix_lines, line_lens, section_text, optional};
-ghost use Rattle.tsp_stream.specs.states.Way.{Puts};
+ghost use Rattle.tsp_file.specs.CanonicalText.{weight_line, matrix_lines, line_lens, section_text, optional};
+ghost use Rattle.tsp_stream.specs.states.WriteProgress.{Puts};
 
 use crate::writer::block::{BLOCK, MOST_WEIGHTS, put_block};
 use crate::writer::sections::put_opening;
@@ -50,8 +50,8 @@ fn put_lines<W: Write>(
     nodes: u32,
     weights: &[i64],
 )
-    ensures { Puts W.contents out.old piece.old out.new piece.new
-        (matrix_lines (map (λ k. length (cells_of_line layout nodes k)) (nodes_to nodes)) weights.now) }
+    ensures { Puts W.contents out.old piece.old out.new piece.new (matrix_lines
+        (map (λ k. length (cells_of_line layout nodes k)) (nodes_to nodes)) weights.now) }
 {
     let mut rest = weights;
     'lines: for index in 0..nodes {
@@ -100,8 +100,8 @@ pub(crate) fn put_weight_section<W: Write>(
     weights: &Option<Vec<i64>>,
 )
     ensures { Puts W.contents out.old piece.old out.new piece.new
-        (optional (λ weights. section_text field (matrix_lines (line_lens format dimension) weights))
-        (option_map (λ v. v.items) weights.now)) }
+        (optional (λ weights. section_text field (matrix_lines (line_lens format dimension)
+        weights)) (option_map (λ v. v.items) weights.now)) }
 {
     if let Some(weights) = weights {
         put_opening(piece, out, field);

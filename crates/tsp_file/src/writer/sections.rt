@@ -7,8 +7,8 @@ ghost use Rattle.std.specs.Option.{option_map};
 ghost use Rattle.tsp_number.specs.Spelling.{spelling};
 ghost use Rattle.tsp_format.specs.Words.{field_word};
 ghost use Rattle.tsp_draft.specs.states.Drafts.{points_of};
-ghost use Rattle.tsp_file.specs.Text.{line_end, number_line, section_text, lines_by_node, node_list, pair_list, triple_list, point_numbers, whole_number, optional};
-ghost use Rattle.tsp_stream.specs.states.Way.{Puts};
+ghost use Rattle.tsp_file.specs.CanonicalText.{line_end, number_line, section_text, lines_by_node, node_list, pair_list, triple_list, point_numbers, whole_number, optional};
+ghost use Rattle.tsp_stream.specs.states.WriteProgress.{Puts};
 
 use std::io::Write;
 use tsp_distance::{Decimal, InSpace, Point};
@@ -181,7 +181,8 @@ pub(crate) fn put_number_section<W: Write>(
     numbers: Option<&[i64]>,
 )
     ensures { Puts W.contents out.old piece.old out.new piece.new
-        (optional (λ numbers. section_text field (lines_by_node whole_number numbers)) (option_map (λ entries. entries.now) numbers.entry)) }
+        (optional (λ numbers. section_text field (lines_by_node whole_number numbers))
+        (option_map (λ entries. entries.now) numbers.entry)) }
 {
     if let Some(numbers) = numbers {
         put_opening(piece, out, field);
@@ -218,8 +219,8 @@ pub(crate) fn put_node_section<W: Write>(
     field: Field,
     depots: &Option<Vec<u32>>,
 )
-    ensures { Puts W.contents out.old piece.old out.new piece.new
-        (optional (λ depots. section_text field (node_list depots)) (option_map (λ v. v.items) depots.now)) }
+    ensures { Puts W.contents out.old piece.old out.new piece.new (optional
+        (λ depots. section_text field (node_list depots)) (option_map (λ v. v.items) depots.now)) }
 {
     if let Some(depots) = depots {
         put_opening(piece, out, field);
@@ -234,8 +235,8 @@ pub(crate) fn put_pair_section<W: Write>(
     field: Field,
     pairs: &Option<Vec<(u32, u32)>>,
 )
-    ensures { Puts W.contents out.old piece.old out.new piece.new
-        (optional (λ pairs. section_text field (pair_list pairs)) (option_map (λ v. v.items) pairs.now)) }
+    ensures { Puts W.contents out.old piece.old out.new piece.new (optional
+        (λ pairs. section_text field (pair_list pairs)) (option_map (λ v. v.items) pairs.now)) }
 {
     if let Some(pairs) = pairs {
         put_opening(piece, out, field);
@@ -250,8 +251,8 @@ pub(crate) fn put_triple_section<W: Write>(
     field: Field,
     triples: &Option<Vec<(u32, u32, i64)>>,
 )
-    ensures { Puts W.contents out.old piece.old out.new piece.new
-        (optional (λ triples. section_text field (triple_list triples)) (option_map (λ v. v.items) triples.now)) }
+    ensures { Puts W.contents out.old piece.old out.new piece.new (optional (λ triples. section_text
+        field (triple_list triples)) (option_map (λ v. v.items) triples.now)) }
 {
     if let Some(triples) = triples {
         put_opening(piece, out, field);
@@ -267,7 +268,8 @@ pub(crate) fn put_tour_section<W: Write>(
     tours: &Option<Vec<Vec<u32>>>,
 )
     ensures { Puts W.contents out.old piece.old out.new piece.new
-        (optional (λ tours. section_text field (flat_map node_list tours)) (option_map (λ v. map (λ t. t.items) v.items) tours.now)) }
+        (optional (λ tours. section_text field (flat_map node_list tours))
+        (option_map (λ v. map (λ t. t.items) v.items) tours.now)) }
 {
     if let Some(tours) = tours {
         put_opening(piece, out, field);

@@ -6,8 +6,8 @@ ghost use Rattle.std.specs.Option.{option_map};
 ghost use Rattle.tsp_format.specs.Steps.{Leaf};
 ghost use Rattle.tsp_format.specs.states.TreeSteps.{step_of, steps_of};
 ghost use Rattle.tsp_draft.specs.states.Drafts.{combs_of};
-ghost use Rattle.tsp_stream.specs.states.Way.{Puts};
-ghost use Rattle.tsp_file.specs.Text.{before_blank, set_line, comb_lines, comb_list, change_words, step_line, step_lines, section_text, optional};
+ghost use Rattle.tsp_stream.specs.states.WriteProgress.{Puts};
+ghost use Rattle.tsp_file.specs.CanonicalText.{before_blank, set_line, comb_lines, comb_list, change_words, step_line, step_lines, section_text, optional};
 
 use crate::writer::sections::{put_opening, put_pair_line};
 use itoa::Integer;
@@ -94,7 +94,8 @@ fn put_step<W: Write>(piece: &mut Piece, out: &mut Watched<W>, step: &TreeStep)
 
 /// Adds a line for each step.
 fn put_steps<W: Write>(piece: &mut Piece, out: &mut Watched<W>, steps: &[TreeStep])
-    ensures { Puts W.contents out.old piece.old out.new piece.new (step_lines (steps_of steps.now)) }
+    ensures { Puts W.contents out.old piece.old out.new piece.new
+        (step_lines (steps_of steps.now)) }
 {
     'steps: for step in steps {
         put_step(piece, out, step);
@@ -108,8 +109,8 @@ pub(crate) fn put_comb_section<W: Write>(
     field: Field,
     combs: &Option<Vec<Vec<Vec<u32>>>>,
 )
-    ensures { Puts W.contents out.old piece.old out.new piece.new
-        (optional (λ combs. section_text field (comb_list combs)) (option_map (λ v. combs_of v.items) combs.now)) }
+    ensures { Puts W.contents out.old piece.old out.new piece.new (optional (λ combs. section_text
+        field (comb_list combs)) (option_map (λ v. combs_of v.items) combs.now)) }
 {
     if let Some(combs) = combs {
         put_opening(piece, out, field);
@@ -124,8 +125,8 @@ pub(crate) fn put_step_section<W: Write>(
     field: Field,
     steps: &Option<Vec<TreeStep>>,
 )
-    ensures { Puts W.contents out.old piece.old out.new piece.new
-        (optional (λ steps. section_text field (step_lines steps)) (option_map (λ v. steps_of v.items) steps.now)) }
+    ensures { Puts W.contents out.old piece.old out.new piece.new (optional (λ steps. section_text
+        field (step_lines steps)) (option_map (λ v. steps_of v.items) steps.now)) }
 {
     if let Some(steps) = steps {
         put_opening(piece, out, field);

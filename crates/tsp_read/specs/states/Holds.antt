@@ -16,10 +16,10 @@ use Rattle.tsp_text.specs.Cuts.{AreCut}
 use Rattle.tsp_text.specs.Earlier.{has_line, open_section, is_open, words_of}
 use Rattle.tsp_text.specs.Values.{spatial_after}
 use Rattle.tsp_text.specs.Sections.{dimension_in}
-use Rattle.tsp_text.specs.Rows.{row_of}
+use Rattle.tsp_text.specs.FaultRows.{row_of}
 use Rattle.tsp_text.specs.FirstFault.{IsClean}
 use Rattle.tsp_text.specs.Spells.{fields_by, is_incomplete, sections_in_order, first_incomplete}
-use Rattle.tsp_read.specs.states.Open.{HoldsSection}
+use Rattle.tsp_read.specs.states.OpenSection.{HoldsSection}
 
 -- the section has come and no longer takes words
 abbrev pub is_closed : List Item → Field → Bool

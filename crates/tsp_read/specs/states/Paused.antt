@@ -56,6 +56,8 @@ HasRoom stage intake begun count = stage ≡ Going → (most_lines intake begun 
 
 -- there are bytes, this many, that were taken so far; of a refused text nothing is said
 abbrev pub HasBytes : Stage → Intake → Begun → ℕ → Type 0
-HasBytes Going intake begun count = (bytes : List ℕ) × (count ≡ length bytes) × (length bytes ≤ most_file_bytes) × IsPaused intake begun bytes
-HasBytes Ended intake begun count = (bytes : List ℕ) × Holds intake.reading (settled_part bytes) × (has_end_line (settled_part bytes) ≡ true)
+HasBytes Going intake begun count =
+    (bytes : List ℕ) × (count ≡ length bytes) × (length bytes ≤ most_file_bytes) × IsPaused intake begun bytes
+HasBytes Ended intake begun count =
+    (bytes : List ℕ) × Holds intake.reading (settled_part bytes) × (has_end_line (settled_part bytes) ≡ true)
 HasBytes (Refused found) intake begun count = Unit {0}

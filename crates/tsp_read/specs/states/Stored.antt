@@ -8,10 +8,10 @@ use Rattle.tsp_format.specs.declared.field.Shape.TheVariants.{Numbers, Points, S
 use Rattle.tsp_text.specs.Groups.{numbers_by_node, points_by_node, space_points_by_node}
 use Rattle.tsp_text.specs.Lists.{depots_in, fixed_in, fixed_triples_in}
 use Rattle.tsp_format.specs.Shapes.{shape_of}
-use Rattle.tsp_text.specs.Tours.{tours_in}
-use Rattle.tsp_text.specs.Combs.{whole_combs}
-use Rattle.tsp_text.specs.Tree.{whole_steps}
-use Rattle.tsp_text.specs.Weights.{weights_in}
+use Rattle.tsp_text.specs.TourSection.{tours_in}
+use Rattle.tsp_text.specs.CombSection.{whole_combs}
+use Rattle.tsp_text.specs.BranchSection.{whole_steps}
+use Rattle.tsp_text.specs.WeightSection.{weights_in}
 
 -- the value of these words of a section of this shape, with n nodes
 abbrev pub with_words : Shape → Field → ℕ → List (List ℕ) → Fields → Fields

@@ -6,7 +6,7 @@ use Rattle.tsp_text.specs.declared.fault.ReadFault.{ReadFault}
 use Rattle.tsp_text.specs.declared.fault.ReadFault.TheVariants as faults
 use Rattle.tsp_read.specs.declared.state.reading.Reading.{Reading}
 use Rattle.tsp_text.specs.Items.{Item, is_end_line, has_end_line, to_end_line}
-use Rattle.tsp_text.specs.Rows.{row_of}
+use Rattle.tsp_text.specs.FaultRows.{row_of}
 use Rattle.tsp_text.specs.FirstFault.{fault_in}
 use Rattle.tsp_read.specs.states.Holds.{Holds}
 

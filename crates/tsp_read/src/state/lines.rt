@@ -43,8 +43,8 @@ impl Reading {
 
     /// Whether a line says that the nodes have three coordinates, after a section of two of each.
     fn is_late(&self, field: Field, value: &[u8]) -> bool
-        ensures { result ≡ (says_space field (first_word value.now) && is_some (fields_of self.now.draft).coords
-            && not (spatial (fields_of self.now.draft))) }
+        ensures { result ≡ (says_space field (first_word value.now) && is_some
+            (fields_of self.now.draft).coords && not (spatial (fields_of self.now.draft))) }
     {
         says_space(field, value) && self.draft.coords.is_some() && !self.draft.is_spatial()
     }

@@ -5,7 +5,7 @@ ghost use Rattle.tsp_draft.specs.states.Drafts.{fields_of};
 ghost use Rattle.tsp_section.specs.declared.fault.StepFault.TheVariants.{Memory};
 ghost use Rattle.tsp_text.specs.Sections.{place_in};
 ghost use Rattle.tsp_text.specs.Spells.{wants_more};
-ghost use Rattle.tsp_read.specs.states.Open.{HoldsSection};
+ghost use Rattle.tsp_read.specs.states.OpenSection.{HoldsSection};
 ghost use Rattle.tsp_read.specs.states.Stored.{with_section};
 
 use crate::state::reading::OpenSection;

@@ -15,7 +15,7 @@ use Rattle.tsp_format.specs.declared.field.Shape.{Shape}
 use Rattle.tsp_text.specs.Lines.{is_filled, first_word}
 use Rattle.tsp_text.specs.Items.{WordLine, Item, Line}
 use Rattle.tsp_text.specs.Values.{named, is_left_out}
-use Rattle.tsp_text.specs.Rows.{when, first_row, is_too_long_to_keep}
+use Rattle.tsp_text.specs.FaultRows.{when, first_row, is_too_long_to_keep}
 use Rattle.tsp_text.specs.Opening.{opening_rows}
 
 abbrev pub seen : CutLine → WordLine

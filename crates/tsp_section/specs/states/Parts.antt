@@ -12,13 +12,13 @@ use Rattle.tsp_text.specs.declared.fault.LineFault.TheVariants as row
 use Rattle.tsp_section.specs.declared.fault.StepFault.{StepFault}
 use Rattle.tsp_section.specs.declared.fault.StepFault.TheVariants as steps
 use Rattle.tsp_text.specs.Lines.{is_filled}
-use Rattle.tsp_text.specs.Numbers.{node, node_or_end, is_end}
-use Rattle.tsp_text.specs.Places.{Place}
+use Rattle.tsp_text.specs.SectionNumbers.{node, node_or_end, is_end}
+use Rattle.tsp_text.specs.WordPlaces.{Place}
 use Rattle.tsp_text.specs.Groups.{pairs_in, threes_in, begun_pair, begun_triple, begun_four, number_groups, point_groups, space_point_groups, entry_of}
 use Rattle.tsp_text.specs.Lists.{depots_in, fixed_in, firsts_in, fixed_triples_in, triple_firsts_in}
-use Rattle.tsp_text.specs.Weights.{weights_in}
-use Rattle.tsp_text.specs.Tours.{ends_tour, tour_node, tours_in}
-use Rattle.tsp_text.specs.Rows.{word_fault}
+use Rattle.tsp_text.specs.WeightSection.{weights_in}
+use Rattle.tsp_text.specs.TourSection.{ends_tour, tour_node, tours_in}
+use Rattle.tsp_text.specs.FaultRows.{word_fault}
 
 -- ---- a word at its place
 

@@ -24,11 +24,11 @@ pub struct CombList {
 impl CombList {
     ghost use Rattle.tsp_section.specs.declared.fault.StepFault.TheVariants.{Memory};
     ghost use Rattle.tsp_draft.specs.states.Drafts.{combs_of};
-    ghost use Rattle.tsp_text.specs.Combs.{whole_combs, with_set, with_comb, with_end, has_begun_comb, place_of_comb};
-    ghost use Rattle.tsp_text.specs.Rows.{is_past_combs};
+    ghost use Rattle.tsp_text.specs.CombSection.{whole_combs, with_set, with_comb, with_end, has_begun_comb, place_of_comb};
+    ghost use Rattle.tsp_text.specs.FaultRows.{is_past_combs};
     ghost use Rattle.tsp_text.specs.Spells.{wants_more};
     ghost use Rattle.tsp_section.specs.states.Parts.{Takes};
-    ghost use Rattle.tsp_section.specs.states.Held.{combs_held, HoldsCombs};
+    ghost use Rattle.tsp_section.specs.states.HeldParts.{combs_held, HoldsCombs};
 
     /// The section with no words so far, in a file of `n` nodes.
     pub fn open(alloc: Global, n: u32) -> CombList
@@ -58,8 +58,8 @@ impl CombList {
         ensures takes { (n : ℕ) (words : List (List ℕ)) → HoldsCombs self.old n words
             → Takes n (place_of_comb n words) word.now
             (HoldsCombs self.new n (words ++ word.now ∷ [])) result }
-        ensures kept { IfErr result (λ _. (n : ℕ) (words : List (List ℕ)) → HoldsCombs self.old n words
-            → HoldsCombs self.new n words) }
+        ensures kept { IfErr result (λ _. (n : ℕ) (words : List (List ℕ))
+            → HoldsCombs self.old n words → HoldsCombs self.new n words) }
     {
         if self.ended {
             if is_minus_one(word) {

@@ -19,7 +19,7 @@ pub struct DepotList {
 impl DepotList {
     ghost use Rattle.tsp_text.specs.Lists.{place_of_depot, depots_in};
     ghost use Rattle.tsp_section.specs.states.Parts.{Takes};
-    ghost use Rattle.tsp_section.specs.states.Held.{HoldsDepots};
+    ghost use Rattle.tsp_section.specs.states.HeldParts.{HoldsDepots};
 
     /// The section with no words so far, in a file of `n` nodes.
     pub fn open(alloc: Global, n: u32) -> DepotList
@@ -45,8 +45,8 @@ impl DepotList {
         ensures takes { (n : ℕ) (words : List (List ℕ)) → HoldsDepots self.old n words
             → Takes n (place_of_depot n words) word.now
             (HoldsDepots self.new n (words ++ word.now ∷ [])) result }
-        ensures kept { IfErr result (λ _. (n : ℕ) (words : List (List ℕ)) → HoldsDepots self.old n words
-            → HoldsDepots self.new n words) }
+        ensures kept { IfErr result (λ _. (n : ℕ) (words : List (List ℕ))
+            → HoldsDepots self.old n words → HoldsDepots self.new n words) }
     {
         if self.ended {
             if is_minus_one(word) {

@@ -21,7 +21,7 @@ impl FixedList {
     ghost use Rattle.tsp_text.specs.Lists.{place_of_fixed, fixed_in};
     ghost use Rattle.tsp_text.specs.Spells.{wants_more};
     ghost use Rattle.tsp_section.specs.states.Parts.{Takes};
-    ghost use Rattle.tsp_section.specs.states.Held.{HoldsFixed};
+    ghost use Rattle.tsp_section.specs.states.HeldParts.{HoldsFixed};
 
     /// The section with no words so far, in a file of `n` nodes.
     pub fn open(alloc: Global, n: u32) -> FixedList
@@ -49,8 +49,8 @@ impl FixedList {
         ensures takes { (n : ℕ) (words : List (List ℕ)) → HoldsFixed self.old n words
             → Takes n (place_of_fixed n words) word.now
             (HoldsFixed self.new n (words ++ word.now ∷ [])) result }
-        ensures kept { IfErr result (λ _. (n : ℕ) (words : List (List ℕ)) → HoldsFixed self.old n words
-            → HoldsFixed self.new n words) }
+        ensures kept { IfErr result (λ _. (n : ℕ) (words : List (List ℕ))
+            → HoldsFixed self.old n words → HoldsFixed self.new n words) }
     {
         if self.ended {
             if is_minus_one(word) {
@@ -70,8 +70,8 @@ impl FixedList {
             → self.old.ended ≡ false → self.old.first ≡ None
             → Takes n (place_of_fixed n words) word.now
             (HoldsFixed self.new n (words ++ word.now ∷ [])) result }
-        ensures kept { IfErr result (λ _. (n : ℕ) (words : List (List ℕ)) → HoldsFixed self.old n words
-            → HoldsFixed self.new n words) }
+        ensures kept { IfErr result (λ _. (n : ℕ) (words : List (List ℕ))
+            → HoldsFixed self.old n words → HoldsFixed self.new n words) }
     {
         match read_node_or_end(word, self.n) {
             Err(fault) => Err(StepFault::Fault(LineFault::Number(fault))),
@@ -95,8 +95,8 @@ impl FixedList {
             → self.old.ended ≡ false → self.old.first ≡ Some first
             → Takes n (place_of_fixed n words) word.now
             (HoldsFixed self.new n (words ++ word.now ∷ [])) result }
-        ensures kept { IfErr result (λ _. (n : ℕ) (words : List (List ℕ)) → HoldsFixed self.old n words
-            → HoldsFixed self.new n words) }
+        ensures kept { IfErr result (λ _. (n : ℕ) (words : List (List ℕ))
+            → HoldsFixed self.old n words → HoldsFixed self.new n words) }
     {
         match read_node(word, self.n) {
             Err(fault) => Err(StepFault::Fault(LineFault::Number(fault))),

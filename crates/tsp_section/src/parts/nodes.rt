@@ -2,8 +2,8 @@
 
 ghost use Rattle.std.specs.Prelude.{◌≡◌, ◌<◌, ◌-◌, ◌^◌, ℕ, pos, true, false, List, length, slice_index_or, Ok, None, IfOk, IfSome};
 ghost use Rattle.std.specs.Option.{ForSome};
-ghost use Rattle.tsp_text.specs.Numbers.{node, node_or_end, is_minus_one, IsWhole};
-ghost use Rattle.tsp_text.specs.Tree.{node_or_leaf};
+ghost use Rattle.tsp_text.specs.SectionNumbers.{node, node_or_end, is_minus_one, IsWhole};
+ghost use Rattle.tsp_text.specs.BranchSection.{node_or_leaf};
 ghost use Rattle.tsp_section.specs.states.Parts.{as_number, as_node_or_end, as_node_or_leaf, IsNodeOf, IsNewNode};
 
 use tsp_number::{NumberFault, parse_whole};

@@ -26,10 +26,10 @@ pub struct NumberList {
 impl NumberList {
     ghost use Rattle.tsp_section.specs.declared.fault.StepFault.TheVariants.{Memory};
     ghost use Rattle.tsp_text.specs.Groups.{place_of_number, numbers_by_node};
-    ghost use Rattle.tsp_text.specs.Numbers.{IsWhole};
+    ghost use Rattle.tsp_text.specs.SectionNumbers.{IsWhole};
     ghost use Rattle.tsp_text.specs.Spells.{wants_more};
     ghost use Rattle.tsp_section.specs.states.Parts.{Takes, IsNodeOf};
-    ghost use Rattle.tsp_section.specs.states.Held.{HoldsNumbers};
+    ghost use Rattle.tsp_section.specs.states.HeldParts.{HoldsNumbers};
 
     /// The section with no words so far, in a file of `n` nodes. Its numbers are from `low` to
     /// `high`.
@@ -97,16 +97,16 @@ impl NumberList {
     /// Returns whether it was taken.
     #[inline(always)]
     pub fn push_read(&mut self, number: i64) -> bool
-        ensures taken { result ≡ true → (low high : ℤ) (n : ℕ) (words : List (List ℕ)) (word : List ℕ)
-            → IsWhole word number → HoldsNumbers self.old low high n words
-            → Takes n (place_of_number low high n words) word
-            (HoldsNumbers self.new low high n (words ++ word ∷ [])) (Ok tt) }
+        ensures taken { result ≡ true
+            → (low high : ℤ) (n : ℕ) (words : List (List ℕ)) (word : List ℕ) → IsWhole word number
+            → HoldsNumbers self.old low high n words → Takes n (place_of_number low high n words)
+            word (HoldsNumbers self.new low high n (words ++ word ∷ [])) (Ok tt) }
         ensures kept { result ≡ false → self.new ≡ self.old }
-        ensures node { result ≡ false → 0 < self.old.left → self.old.begun ≡ None → (k : ℕ) → number ≡ pos k
-            → IsNodeOf (length self.old.seen.items) k
+        ensures node { result ≡ false → 0 < self.old.left → self.old.begun ≡ None
+            → (k : ℕ) → number ≡ pos k → IsNodeOf (length self.old.seen.items) k
             → slice_index_or self.old.seen.items (k - 1) false ≡ true }
-        ensures amount { result ≡ false → 0 < self.old.left → (node : ℕ) → self.old.begun ≡ Some node
-            → self.old.low ≤ℤ number → number ≤ℤ self.old.high → ⊥ }
+        ensures amount { result ≡ false → 0 < self.old.left → (node : ℕ)
+            → self.old.begun ≡ Some node → self.old.low ≤ℤ number → number ≤ℤ self.old.high → ⊥ }
     {
         if self.left == 0 {
             return false;
@@ -134,8 +134,8 @@ impl NumberList {
 
     /// The list by node, and whether a group is still to come.
     pub fn finish(self) -> (Vec<i64>, bool)
-        ensures { (low high : ℤ) (n : ℕ) (words : List (List ℕ)) → HoldsNumbers self low high n words
-            → (result.0.items ≡ numbers_by_node low high n words)
+        ensures { (low high : ℤ) (n : ℕ) (words : List (List ℕ)) → HoldsNumbers self
+            low high n words → (result.0.items ≡ numbers_by_node low high n words)
             × (result.1 ≡ wants_more (place_of_number low high n words)) }
     {
         let wants_more = self.left > 0;

@@ -54,13 +54,13 @@ fn at_origin(alloc: Global, n: u32, in_space: bool) -> Result<Coords, AllocError
 impl PointList {
     ghost use Rattle.tsp_section.specs.declared.fault.StepFault.TheVariants.{Memory};
     ghost use Rattle.tsp_number.specs.Reading.{decimal_of};
-    ghost use Rattle.tsp_text.specs.Numbers.{IsWhole};
+    ghost use Rattle.tsp_text.specs.SectionNumbers.{IsWhole};
     ghost use Rattle.tsp_text.specs.Groups.{coords_by_node};
     ghost use Rattle.tsp_text.specs.Sections.{place_by};
     ghost use Rattle.tsp_text.specs.Spells.{wants_more};
     ghost use Rattle.tsp_section.specs.states.Parts.{Takes, IsNodeOf};
-    ghost use Rattle.tsp_text.specs.Rows.{word_fault};
-    ghost use Rattle.tsp_section.specs.states.Held.{shape_of_points, HoldsPoints};
+    ghost use Rattle.tsp_text.specs.FaultRows.{word_fault};
+    ghost use Rattle.tsp_section.specs.states.HeldParts.{shape_of_points, HoldsPoints};
 
     /// The section with no words so far, in a file of `n` nodes, of points of the plane or in
     /// space.
@@ -89,9 +89,9 @@ impl PointList {
     /// (`RepeatedNode`), or every node has one (`Surplus`). The list has the words from before
     /// then. No memory is taken.
     pub fn push(&mut self, word: &[u8]) -> Result<(), StepFault>
-        ensures takes { (in_space : Bool) (n : ℕ) (words : List (List ℕ)) → HoldsPoints self.old in_space n words
-            → Takes n (place_by (shape_of_points in_space) n words) word.now
-            (HoldsPoints self.new in_space n (words ++ word.now ∷ [])) result }
+        ensures takes { (in_space : Bool) (n : ℕ) (words : List (List ℕ))
+            → HoldsPoints self.old in_space n words → Takes n (place_by (shape_of_points in_space)
+            n words) word.now (HoldsPoints self.new in_space n (words ++ word.now ∷ [])) result }
         ensures kept { IfErr result (λ _. (in_space : Bool) (n : ℕ) (words : List (List ℕ))
             → HoldsPoints self.old in_space n words → HoldsPoints self.new in_space n words) }
         ensures memory { result ≢ Err Memory }
@@ -125,8 +125,8 @@ impl PointList {
     fn put(&mut self, node: u32, coordinate: Decimal)
         requires to_come { 0 < self.old.left }
         requires begun { self.old.begun ≡ Some node }
-        ensures { (in_space : Bool) (n : ℕ) (words : List (List ℕ)) (word : List ℕ) → HoldsPoints self.old in_space n words
-            → decimal_of word ≡ Ok coordinate
+        ensures { (in_space : Bool) (n : ℕ) (words : List (List ℕ)) (word : List ℕ)
+            → HoldsPoints self.old in_space n words → decimal_of word ≡ Ok coordinate
             → (word_fault n (place_by (shape_of_points in_space) n words) word ≡ None)
             × HoldsPoints self.new in_space n (words ++ word ∷ []) }
     {
@@ -170,14 +170,14 @@ impl PointList {
     /// whether it was taken.
     #[inline(always)]
     pub fn push_read(&mut self, number: i64) -> bool
-        ensures taken { result ≡ true → (in_space : Bool) (n : ℕ) (words : List (List ℕ)) (word : List ℕ)
-            → IsWhole word number → HoldsPoints self.old in_space n words
+        ensures taken { result ≡ true → (in_space : Bool) (n : ℕ) (words : List (List ℕ))
+            (word : List ℕ) → IsWhole word number → HoldsPoints self.old in_space n words
             → Takes n (place_by (shape_of_points in_space) n words) word
             (HoldsPoints self.new in_space n (words ++ word ∷ [])) (Ok tt) }
         ensures kept { result ≡ false → (in_space : Bool) (n : ℕ) (words : List (List ℕ))
             → HoldsPoints self.old in_space n words → HoldsPoints self.new in_space n words }
-        ensures refused { result ≡ false → 0 < self.old.left → self.old.begun ≡ None → (k : ℕ) → number ≡ pos k
-            → IsNodeOf (length self.old.seen.items) k
+        ensures refused { result ≡ false → 0 < self.old.left → self.old.begun ≡ None
+            → (k : ℕ) → number ≡ pos k → IsNodeOf (length self.old.seen.items) k
             → slice_index_or self.old.seen.items (k - 1) false ≡ true }
     {
         match self.begun {
@@ -196,7 +196,8 @@ impl PointList {
     /// it was taken.
     #[inline(always)]
     pub fn push_coordinate(&mut self, coordinate: Decimal) -> bool
-        ensures taken { result ≡ true → (in_space : Bool) (n : ℕ) (words : List (List ℕ)) (word : List ℕ)
+        ensures taken { result ≡ true
+            → (in_space : Bool) (n : ℕ) (words : List (List ℕ)) (word : List ℕ)
             → decimal_of word ≡ Ok coordinate → HoldsPoints self.old in_space n words
             → Takes n (place_by (shape_of_points in_space) n words) word
             (HoldsPoints self.new in_space n (words ++ word ∷ [])) (Ok tt) }
@@ -215,8 +216,8 @@ impl PointList {
 
     /// The list by node, and whether a group is still to come.
     pub fn finish(self) -> (Coords, bool)
-        ensures { (in_space : Bool) (n : ℕ) (words : List (List ℕ)) → HoldsPoints self in_space n words
-            → (points_of result.0 ≡ coords_by_node in_space n words)
+        ensures { (in_space : Bool) (n : ℕ) (words : List (List ℕ)) → HoldsPoints self
+            in_space n words → (points_of result.0 ≡ coords_by_node in_space n words)
             × (result.1 ≡ wants_more (place_by (shape_of_points in_space) n words)) }
     {
         let wants_more = self.left > 0;

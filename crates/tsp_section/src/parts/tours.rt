@@ -1,7 +1,7 @@
 //! The tours.
 
 ghost use Rattle.std.specs.Prelude.{◌≡◌, [], ℕ, List, ◌∷◌, ◌++◌, Ok, OnOk, IfOk, IfErr, map, true, false};
-ghost use Rattle.tsp_text.specs.Numbers.{IsWhole};
+ghost use Rattle.tsp_text.specs.SectionNumbers.{IsWhole};
 
 use crate::fault::StepFault;
 use crate::parts::nodes::read_node_or_end;
@@ -21,9 +21,9 @@ pub struct TourList {
 
 impl TourList {
     ghost use Rattle.tsp_section.specs.declared.fault.StepFault.TheVariants.{Memory};
-    ghost use Rattle.tsp_text.specs.Tours.{place_of_tour, tours_in};
+    ghost use Rattle.tsp_text.specs.TourSection.{place_of_tour, tours_in};
     ghost use Rattle.tsp_section.specs.states.Parts.{Takes};
-    ghost use Rattle.tsp_section.specs.states.Held.{HoldsTours, EndsRunOf};
+    ghost use Rattle.tsp_section.specs.states.HeldParts.{HoldsTours, EndsRunOf};
 
     /// The section with no words so far.
     pub fn open(alloc: Global) -> TourList
@@ -75,8 +75,8 @@ impl TourList {
     #[inline(always)]
     pub fn push_read(&mut self, number: i64) -> bool
         ensures taken { result ≡ true → (n : ℕ) (words : List (List ℕ)) (word : List ℕ)
-            → IsWhole word number → HoldsTours self.old words
-            → Takes n (place_of_tour words) word (HoldsTours self.new (words ++ word ∷ [])) (Ok tt) }
+            → IsWhole word number → HoldsTours self.old words → Takes n
+            (place_of_tour words) word (HoldsTours self.new (words ++ word ∷ [])) (Ok tt) }
         ensures kept { result ≡ false → (words : List (List ℕ)) → HoldsTours self.old words
             → HoldsTours self.new words }
     {

@@ -29,10 +29,10 @@ pub struct TreeList {
 impl TreeList {
     ghost use Rattle.tsp_section.specs.declared.fault.StepFault.TheVariants.{Memory};
     ghost use Rattle.tsp_format.specs.states.TreeSteps.{steps_of};
-    ghost use Rattle.tsp_text.specs.Tree.{whole_steps, with_leaf, place_of_step};
+    ghost use Rattle.tsp_text.specs.BranchSection.{whole_steps, with_leaf, place_of_step};
     ghost use Rattle.tsp_text.specs.Spells.{wants_more};
     ghost use Rattle.tsp_section.specs.states.Parts.{Takes};
-    ghost use Rattle.tsp_section.specs.states.Held.{tree_held, HoldsTree};
+    ghost use Rattle.tsp_section.specs.states.HeldParts.{tree_held, HoldsTree};
 
     /// The section with no words so far, in a file of `n` nodes, of which there are no more than a
     /// file may have.
@@ -66,8 +66,8 @@ impl TreeList {
         ensures takes { (n : ℕ) (words : List (List ℕ)) → HoldsTree self.old n words
             → Takes n (place_of_step n words) word.now
             (HoldsTree self.new n (words ++ word.now ∷ [])) result }
-        ensures kept { IfErr result (λ _. (n : ℕ) (words : List (List ℕ)) → HoldsTree self.old n words
-            → HoldsTree self.new n words) }
+        ensures kept { IfErr result (λ _. (n : ℕ) (words : List (List ℕ))
+            → HoldsTree self.old n words → HoldsTree self.new n words) }
     {
         if self.to_come == 0 {
             if is_minus_one(word) {
@@ -89,8 +89,8 @@ impl TreeList {
             → self.old.to_come ≢ 0 → self.old.in_leaf ≡ false → self.old.first ≡ None
             → Takes n (place_of_step n words) word.now
             (HoldsTree self.new n (words ++ word.now ∷ [])) result }
-        ensures kept { IfErr result (λ _. (n : ℕ) (words : List (List ℕ)) → HoldsTree self.old n words
-            → HoldsTree self.new n words) }
+        ensures kept { IfErr result (λ _. (n : ℕ) (words : List (List ℕ))
+            → HoldsTree self.old n words → HoldsTree self.new n words) }
     {
         match read_node_or_leaf(word, self.n) {
             Err(fault) => Err(StepFault::Fault(LineFault::Number(fault))),
@@ -115,8 +115,8 @@ impl TreeList {
             → self.old.to_come ≢ 0 → self.old.in_leaf ≡ false → self.old.first ≡ Some first
             → Takes n (place_of_step n words) word.now
             (HoldsTree self.new n (words ++ word.now ∷ [])) result }
-        ensures kept { IfErr result (λ _. (n : ℕ) (words : List (List ℕ)) → HoldsTree self.old n words
-            → HoldsTree self.new n words) }
+        ensures kept { IfErr result (λ _. (n : ℕ) (words : List (List ℕ))
+            → HoldsTree self.old n words → HoldsTree self.new n words) }
     {
         match read_node(word, self.n) {
             Err(fault) => Err(StepFault::Fault(LineFault::Number(fault))),
@@ -138,8 +138,8 @@ impl TreeList {
             → self.old.to_come ≢ 0 → self.old.in_leaf ≡ true → self.old.first ≡ None
             → Takes n (place_of_step n words) word.now
             (HoldsTree self.new n (words ++ word.now ∷ [])) result }
-        ensures kept { IfErr result (λ _. (n : ℕ) (words : List (List ℕ)) → HoldsTree self.old n words
-            → HoldsTree self.new n words) }
+        ensures kept { IfErr result (λ _. (n : ℕ) (words : List (List ℕ))
+            → HoldsTree self.old n words → HoldsTree self.new n words) }
     {
         match read_node_or_end(word, self.last_index) {
             Err(fault) => Err(StepFault::Fault(LineFault::Number(fault))),
@@ -186,8 +186,8 @@ impl TreeList {
             → self.old.to_come ≢ 0 → self.old.in_leaf ≡ true → self.old.first ≡ Some index
             → Takes n (place_of_step n words) word.now
             (HoldsTree self.new n (words ++ word.now ∷ [])) result }
-        ensures kept { IfErr result (λ _. (n : ℕ) (words : List (List ℕ)) → HoldsTree self.old n words
-            → HoldsTree self.new n words) }
+        ensures kept { IfErr result (λ _. (n : ℕ) (words : List (List ℕ))
+            → HoldsTree self.old n words → HoldsTree self.new n words) }
     {
         match parse_whole(word, -MOST_DIFFERENCE, MOST_DIFFERENCE) {
             Err(fault) => Err(StepFault::Fault(LineFault::Number(fault))),

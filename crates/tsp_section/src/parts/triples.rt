@@ -23,7 +23,7 @@ impl TripleList {
     ghost use Rattle.tsp_text.specs.Lists.{place_of_triple, fixed_triples_in};
     ghost use Rattle.tsp_text.specs.Spells.{wants_more};
     ghost use Rattle.tsp_section.specs.states.Parts.{Takes};
-    ghost use Rattle.tsp_section.specs.states.Held.{HoldsTriples};
+    ghost use Rattle.tsp_section.specs.states.HeldParts.{HoldsTriples};
 
     /// The section with no words so far, in a file of `n` nodes.
     pub fn open(alloc: Global, n: u32) -> TripleList
@@ -52,8 +52,8 @@ impl TripleList {
         ensures takes { (n : ℕ) (words : List (List ℕ)) → HoldsTriples self.old n words
             → Takes n (place_of_triple n words) word.now
             (HoldsTriples self.new n (words ++ word.now ∷ [])) result }
-        ensures kept { IfErr result (λ _. (n : ℕ) (words : List (List ℕ)) → HoldsTriples self.old n words
-            → HoldsTriples self.new n words) }
+        ensures kept { IfErr result (λ _. (n : ℕ) (words : List (List ℕ))
+            → HoldsTriples self.old n words → HoldsTriples self.new n words) }
     {
         if self.ended {
             if is_minus_one(word) {
@@ -74,8 +74,8 @@ impl TripleList {
             → self.old.ended ≡ false → self.old.first ≡ None
             → Takes n (place_of_triple n words) word.now
             (HoldsTriples self.new n (words ++ word.now ∷ [])) result }
-        ensures kept { IfErr result (λ _. (n : ℕ) (words : List (List ℕ)) → HoldsTriples self.old n words
-            → HoldsTriples self.new n words) }
+        ensures kept { IfErr result (λ _. (n : ℕ) (words : List (List ℕ))
+            → HoldsTriples self.old n words → HoldsTriples self.new n words) }
     {
         match read_node_or_end(word, self.n) {
             Err(fault) => Err(StepFault::Fault(LineFault::Number(fault))),
@@ -99,8 +99,8 @@ impl TripleList {
             → self.old.ended ≡ false → self.old.first ≡ Some first → self.old.second ≡ None
             → Takes n (place_of_triple n words) word.now
             (HoldsTriples self.new n (words ++ word.now ∷ [])) result }
-        ensures kept { IfErr result (λ _. (n : ℕ) (words : List (List ℕ)) → HoldsTriples self.old n words
-            → HoldsTriples self.new n words) }
+        ensures kept { IfErr result (λ _. (n : ℕ) (words : List (List ℕ))
+            → HoldsTriples self.old n words → HoldsTriples self.new n words) }
     {
         match read_node(word, self.n) {
             Err(fault) => Err(StepFault::Fault(LineFault::Number(fault))),
@@ -118,8 +118,8 @@ impl TripleList {
             → self.old.ended ≡ false → self.old.first ≡ Some first → self.old.second ≡ Some second
             → Takes n (place_of_triple n words) word.now
             (HoldsTriples self.new n (words ++ word.now ∷ [])) result }
-        ensures kept { IfErr result (λ _. (n : ℕ) (words : List (List ℕ)) → HoldsTriples self.old n words
-            → HoldsTriples self.new n words) }
+        ensures kept { IfErr result (λ _. (n : ℕ) (words : List (List ℕ))
+            → HoldsTriples self.old n words → HoldsTriples self.new n words) }
     {
         match parse_whole(word, 0, MOST_MULTIPLIER) {
             Err(fault) => Err(StepFault::Fault(LineFault::Number(fault))),

@@ -1,7 +1,7 @@
 //! The weights of a matrix.
 
 ghost use Rattle.std.specs.Prelude.{◌≡◌, ◌+◌, ◌≤◌, [], ℕ, List, ◌∷◌, ◌++◌, Ok, IfErr, vec_len, vec_capacity, true, false};
-ghost use Rattle.tsp_text.specs.Numbers.{IsWhole};
+ghost use Rattle.tsp_text.specs.SectionNumbers.{IsWhole};
 
 use crate::fault::StepFault;
 use std::alloc::Global;
@@ -19,9 +19,9 @@ pub struct WeightList {
 }
 
 impl WeightList {
-    ghost use Rattle.tsp_text.specs.Weights.{place_of_weight, weights_in};
+    ghost use Rattle.tsp_text.specs.WeightSection.{place_of_weight, weights_in};
     ghost use Rattle.tsp_section.specs.states.Parts.{Takes};
-    ghost use Rattle.tsp_section.specs.states.Held.{HoldsWeights};
+    ghost use Rattle.tsp_section.specs.states.HeldParts.{HoldsWeights};
 
     /// The section with no words so far, in a file of `n` nodes.
     pub fn open(alloc: Global, n: u32) -> WeightList
@@ -46,8 +46,8 @@ impl WeightList {
         ensures takes { (n : ℕ) (words : List (List ℕ)) → HoldsWeights self.old n words
             → Takes n (place_of_weight n words) word.now
             (HoldsWeights self.new n (words ++ word.now ∷ [])) result }
-        ensures kept { IfErr result (λ _. (n : ℕ) (words : List (List ℕ)) → HoldsWeights self.old n words
-            → HoldsWeights self.new n words) }
+        ensures kept { IfErr result (λ _. (n : ℕ) (words : List (List ℕ))
+            → HoldsWeights self.old n words → HoldsWeights self.new n words) }
     {
         if self.weights.len() >= self.most {
             return Err(StepFault::Fault(LineFault::Surplus));
@@ -109,9 +109,9 @@ pub struct Gathered {
 impl Gathered {
     ghost use Rattle.std.specs.Prelude.{◌<◌, unsigned_abs};
     ghost use Rattle.tsp_format.specs.Limits.{most_weight};
-    ghost use Rattle.tsp_text.specs.Weights.{place_of_weight};
+    ghost use Rattle.tsp_text.specs.WeightSection.{place_of_weight};
     ghost use Rattle.tsp_section.specs.states.Parts.{Takes};
-    ghost use Rattle.tsp_section.specs.states.Held.{HoldsWeights};
+    ghost use Rattle.tsp_section.specs.states.HeldParts.{HoldsWeights};
 
     /// A list with capacity for this many more weights, or for all that the matrix still needs; for
     /// none where memory was refused.

@@ -3,32 +3,33 @@ use Rattle.std.proofs.Common.{ℕ, ◌≡◌, ◌≢◌, ◌/◌, Option, arith,
 use Rattle.tsp_format.specs.Cells.{IsNode}
 use Rattle.tsp_bound.specs.states.Potentials.{numbers_of, weight_under}
 use Rattle.tsp_bound.specs.declared.area.Area.{Area}
-use Rattle.tsp_bound.specs.states.Boxes.{HoldsNode, IsSearched, no_best, node_of}
+use Rattle.tsp_bound.specs.states.Boxes.{HoldsNode, IsSearched, no_best}
 use Rattle.tsp_bound.proofs.Trees.{searched_alone, searched_both}
 use Rattle.tsp_bound.proofs.nearest.nearest_from.Goals as goal
 use Rattle.tsp_bound.proofs.nearest.nearest_from.Goals.{then-v-eq0, else-v-eq0, then-not-is_left_alone, else-not-is_left_alone}
 
 pub climb-preserved : goal.climb-preserved
 climb-preserved g c =
-    let w = weight_under c.args.p.now (g.C.Costs.at c.args.c.now) in
-    let In : Option Area → ℕ → Type 0 = HoldsNode (g.C.Grouped.place c.args.c.now) (numbers_of c.args.p.now) in
+    let s = c.args.search.now in
+    let w = weight_under s.p.now (g.C.Costs.at s.c.now) in
+    let In : Option Area → ℕ → Type 0 = HoldsNode (g.C.Grouped.place s.c.now) (numbers_of s.p.now) in
+    let outside = g.S.Seen.outside_of s.seen.now in
     let v = c.climb.v in
     let other = c.if-v-eq0.other in
-    let from : ℕ = node_of c.args.order.now c.args.place in
     let halves : (other / 2 ≡ v / 2) × (v ≢ other) = elim c.if-v-eq0.branch [
       | then-v-eq0 u ↦ (omega (arith, u.other-is, u.if-v-eq0.true), λ e. omega (arith, u.other-is, e))
       | else-v-eq0 u ↦ (omega (arith, u.other-is, u.if-v-eq0.false), λ e. omega (arith, u.other-is, e, u.if-v-eq0.false))
     ] in
     let fits : SFits w64 c.climb.best.weight = search rules in
-    let searched : IsSearched w c.args.order.now (g.S.Seen.outside_of c.args.seen.now) from other c.climb.best c.if-not-is_left_alone.best = elim c.if-not-is_left_alone.branch [
+    let searched : IsSearched w s.order.now outside s.from other c.climb.best c.if-not-is_left_alone.best = elim c.if-not-is_left_alone.branch [
       | then-not-is_left_alone u ↦ rw u.best-is u.below-best.ensures
       | else-not-is_left_alone u ↦
-          rw u.best-is (searched_alone In (IsNode (g.C.Costs.nodes c.args.c.now)) w c.args.order.now (g.S.Seen.outside_of c.args.seen.now) (g.S.Seen.area_of c.args.seen.now) from other c.climb.best
-          fits (omega (arith, halves.0, c.climb-test.true)) c.requires.held c.requires.nodes u.if-not-is_left_alone.ensures)
+          rw u.best-is (searched_alone In (IsNode (g.C.Costs.nodes s.c.now)) w s.order.now outside (g.S.Seen.area_of s.seen.now)
+          s.from other c.climb.best fits (omega (arith, halves.0, c.climb-test.true)) s.held s.nodes u.if-not-is_left_alone.ensures)
     ] in
     record {
       low = omega (arith, c.climb-test.true);
       high = omega (arith, c.climb.invariant.high);
-      searched = searched_both w c.args.order.now (g.S.Seen.outside_of c.args.seen.now) from (v / 2) v other no_best c.climb.best c.if-not-is_left_alone.best
+      searched = searched_both w s.order.now outside s.from (v / 2) v other no_best c.climb.best c.if-not-is_left_alone.best
           (omega (arith, c.climb.invariant.high)) (omega arith) halves.0 halves.1 c.climb.invariant.searched searched;
     }

@@ -8,7 +8,8 @@ abbrev pub invariant-climb : goal.invariant-climb
 invariant-climb g l = record {
   low : 1 ≤ l.v;
   high : l.v < 2 * length l.search.order.now;
-  searched : IsSearched (weight_under l.search.p.now (g.C.Costs.at l.search.c.now)) l.search.order.now (g.S.Seen.outside_of l.search.seen.now) l.search.from l.v no_best l.best;
+  searched : IsSearched (weight_under l.search.p.now (g.C.Costs.at l.search.c.now)) l.search.order.now
+      (g.S.Seen.outside_of l.search.seen.now) l.search.from l.v no_best l.best;
 }
 
 abbrev pub decreases-climb : goal.decreases-climb

@@ -2,7 +2,7 @@
 use Rattle.std.proofs.Common.{◌≡◌, ◌*◌, ◌^◌, drop}
 use Rattle.std.specs.Prelude.{pos, ◌+ℤ◌, ◌*ℤ◌, ◌≤ℤ◌}
 use Rattle.tsp_theory.specs.Numbers.{total}
-use Rattle.tsp_branch.specs.Judged.{most_crossed}
+use Rattle.tsp_branch.specs.GoodNumbers.{most_crossed}
 use Rattle.tsp_branch.specs.CombsOfSets.{least_with}
 use Rattle.tsp_branch.proofs.given_back.multiplied_crossings.Given as goal
 

@@ -13,7 +13,7 @@ use Rattle.tsp_branch.specs.states.Combed.{plain}
 use Rattle.tsp_branch.specs.CombsOfSets.{of_comb}
 use Rattle.tsp_branch.specs.GoodCombs.{IsGoodFamily}
 use Rattle.tsp_branch.specs.states.Marked.{AreUnmarked}
-use Rattle.tsp_branch.specs.states.Numbers.{HasNumbers, IsSmall, AreSmallCrossings}
+use Rattle.tsp_branch.specs.states.FamilyNumbers.{HasNumbers, IsSmall, AreSmallCrossings}
 use Rattle.tsp_branch.proofs.Judging.{written}
 use Rattle.tsp_branch.proofs.CombRuns.{later_left, later_sets, all_good, first_found, in_order_left, own_judged, HaveNumbers, numbers_more, good_so_far}
 use Rattle.tsp_branch.proofs.good_combs.judge_families.Goals as goal

@@ -5,7 +5,7 @@ use Rattle.tsp_families.specs.FamilySets.{AreSetsOf}
 use Rattle.tsp_branch.specs.states.Sets.{AreInOrder}
 use Rattle.tsp_branch.specs.states.Combed.{plain}
 use Rattle.tsp_branch.specs.CombsOfSets.{of_comb}
-use Rattle.tsp_branch.specs.states.Numbers.{AreSmallCrossings}
+use Rattle.tsp_branch.specs.states.FamilyNumbers.{AreSmallCrossings}
 use Rattle.tsp_branch.proofs.CombRuns.{HaveNumbers}
 use Rattle.tsp_branch.specs.states.Marked.{AreUnmarked}
 use Rattle.tsp_branch.proofs.good_combs.judge_families.Given as goal

@@ -5,7 +5,7 @@ use Rattle.std.specs.Int.{w64, w128}
 use Rattle.std.proofs.Math.IntN.{+ℤ_assoc}
 use Rattle.std.proofs.lemmas.Int.{to_z-of_z}
 use Rattle.tsp_families.specs.declared.family.Crossings.{Crossings}
-use Rattle.tsp_branch.specs.Judged.{most_with}
+use Rattle.tsp_branch.specs.GoodNumbers.{most_with}
 use Rattle.tsp_branch.proofs.MostCrossed.{most_left, AddsMost, adds_most}
 use Rattle.tsp_branch.proofs.judge.most_crossings.Goals as goal
 

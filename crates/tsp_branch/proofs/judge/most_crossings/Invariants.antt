@@ -2,7 +2,7 @@
 use Rattle.std.proofs.Common.{◌≡◌, ◌*◌, ◌^◌, drop}
 use Rattle.std.specs.Prelude.{pos, ◌+ℤ◌}
 use Rattle.tsp_theory.specs.Numbers.{IsFromTo}
-use Rattle.tsp_branch.specs.Judged.{most_with}
+use Rattle.tsp_branch.specs.GoodNumbers.{most_with}
 use Rattle.tsp_branch.proofs.judge.most_crossings.Given as goal
 
 abbrev pub invariant-families : goal.invariant-families

@@ -5,7 +5,7 @@ use Rattle.std.specs.Int.{w128}
 use Rattle.std.proofs.lemmas.Int.{to_z-of_z}
 use Rattle.tsp_theory.specs.Numbers.{IsLeastBound}
 use Rattle.tsp_theory.proofs.Sizes.{same_scale}
-use Rattle.tsp_branch.specs.Weighed.{IsBoundOfWeights}
+use Rattle.tsp_branch.specs.LeafWeight.{IsBoundOfWeights}
 use Rattle.tsp_branch.proofs.Leaves.{bounds_each_leaf, sum_is}
 use Rattle.tsp_branch.proofs.leaf.leaf_bound.Goals as goal
 

@@ -5,7 +5,7 @@ use Rattle.tsp_distance.specs.declared.decimal.Point.{Point}
 use Rattle.tsp_distance.specs.Distances.{IsInSpace}
 use Rattle.tsp_file.specs.Cost.{distance}
 use Rattle.tsp_c.specs.Ended.{nth}
-use Rattle.tsp_c.specs.Numbers.{distance_kinds}
+use Rattle.tsp_c.specs.NumberCalls.{distance_kinds}
 use Rattle.tsp_c.proofs.Distances.{kind_found}
 use Rattle.tsp_c.proofs.distance.distance_of.Goals as goal
 

@@ -7,8 +7,8 @@ use Rattle.std.proofs.lemmas.List.Elements.{All-drop}
 use Rattle.tsp_format.specs.Cells.{IsNode}
 use Rattle.tsp_theory.specs.Length.{length_of}
 use Rattle.tsp_file.specs.Cost.{cost}
-use Rattle.tsp_c.specs.Numbers.{IsFilled, list_length, lists_in}
-use Rattle.tsp_file.specs.Meant.{nodes_of}
+use Rattle.tsp_c.specs.NumberCalls.{IsFilled, list_length, lists_in}
+use Rattle.tsp_draft.specs.Fields.{nodes_of}
 use Rattle.tsp_c.proofs.Lists.{end_found, end_missing, lists_none, next_list, nodes_before}
 use Rattle.tsp_c.proofs.lengths.put_lengths.Goals as goal
 

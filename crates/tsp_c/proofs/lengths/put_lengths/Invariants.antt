@@ -1,8 +1,8 @@
 -- The loop of `put_lengths` in src/lengths.rt.
 use Rattle.std.proofs.Common.{◌≡◌, ◌≤◌, length, drop}
 use Rattle.std.specs.List.{All}
-use Rattle.tsp_c.specs.Numbers.{IsFilled, list_length, lists_in}
-use Rattle.tsp_file.specs.Meant.{nodes_of}
+use Rattle.tsp_c.specs.NumberCalls.{IsFilled, list_length, lists_in}
+use Rattle.tsp_draft.specs.Fields.{nodes_of}
 use Rattle.tsp_c.proofs.lengths.put_lengths.Given as goal
 
 abbrev pub invariant-lists : goal.invariant-lists

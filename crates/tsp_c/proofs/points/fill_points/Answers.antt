@@ -1,6 +1,6 @@
 -- The goals of `fill_points` in src/points.rt: what it ensures.
 use Rattle.std.proofs.Common.{inl, inr, refl, rules}
-use Rattle.tsp_c.specs.Numbers.{IsSection}
+use Rattle.tsp_c.specs.NumberCalls.{IsSection}
 use Rattle.tsp_c.proofs.points.fill_points.Goals as goal
 
 pub returns-in-Err : goal.returns-in-Err

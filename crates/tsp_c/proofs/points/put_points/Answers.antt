@@ -4,7 +4,7 @@ use Rattle.std.specs.Prelude.{slice_index_or}
 use Rattle.std.proofs.lemmas.Int.{to_z-of_z}
 use Rattle.tsp_draft.specs.states.Drafts.{points_of}
 use Rattle.tsp_draft.specs.Coords.{origin}
-use Rattle.tsp_c.specs.Numbers.{point_number, coordinate}
+use Rattle.tsp_c.specs.NumberCalls.{point_number, coordinate}
 use Rattle.tsp_c.proofs.points.put_points.Goals as goal
 
 pub places-preserved : goal.places-preserved

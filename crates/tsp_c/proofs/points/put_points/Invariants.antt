@@ -1,6 +1,6 @@
 -- The loop of `put_points` in src/points.rt.
 use Rattle.tsp_draft.specs.states.Drafts.{points_of}
-use Rattle.tsp_c.specs.Numbers.{IsFilled, point_number}
+use Rattle.tsp_c.specs.NumberCalls.{IsFilled, point_number}
 use Rattle.tsp_c.proofs.points.put_points.Given as goal
 
 abbrev pub invariant-places : goal.invariant-places

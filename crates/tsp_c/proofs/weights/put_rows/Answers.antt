@@ -2,7 +2,7 @@
 use Rattle.std.proofs.Common.{ℕ, ◌+◌, ◌/◌, ◌%◌, ap, ◌∙◌, rules, FitsSigned, w64}
 use Rattle.std.proofs.lemmas.Int.{to_z-of_z}
 use Rattle.tsp_file.specs.Cost.{cost}
-use Rattle.tsp_c.specs.Numbers.{row_cost}
+use Rattle.tsp_c.specs.NumberCalls.{row_cost}
 use Rattle.tsp_c.proofs.weights.put_rows.Goals as goal
 
 pub places-preserved : goal.places-preserved

@@ -1,5 +1,5 @@
 -- The loop of `put_rows` in src/weights.rt.
-use Rattle.tsp_c.specs.Numbers.{IsFilled, row_cost}
+use Rattle.tsp_c.specs.NumberCalls.{IsFilled, row_cost}
 use Rattle.tsp_c.proofs.weights.put_rows.Given as goal
 
 abbrev pub invariant-places : goal.invariant-places

@@ -1,7 +1,7 @@
 -- The goals of `put_weights` in src/weights.rt: its loop.
 use Rattle.std.proofs.Common.{◌∙◌, rules, FitsSigned, w64}
 use Rattle.std.proofs.lemmas.Int.{to_z-of_z}
-use Rattle.tsp_c.specs.Numbers.{pair_cost}
+use Rattle.tsp_c.specs.NumberCalls.{pair_cost}
 use Rattle.tsp_c.proofs.weights.put_weights.Goals as goal
 
 pub pairs-preserved : goal.pairs-preserved

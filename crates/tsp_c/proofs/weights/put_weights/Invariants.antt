@@ -1,5 +1,5 @@
 -- The loop of `put_weights` in src/weights.rt.
-use Rattle.tsp_c.specs.Numbers.{IsFilled, pair_cost}
+use Rattle.tsp_c.specs.NumberCalls.{IsFilled, pair_cost}
 use Rattle.tsp_c.proofs.weights.put_weights.Given as goal
 
 abbrev pub invariant-pairs : goal.invariant-pairs

@@ -4,7 +4,7 @@ use Rattle.clap.specs.Words.{App, HasKind, Row, Text, fault_of, found_of, is_sim
 use Rattle.clap.specs.Faults.{is_simple_and_free}
 use Rattle.clap.specs.declared.parser.matches.ArgMatches.TheViews.{out-ArgMatches}
 use Rattle.tsp_cli.specs.Grammar.{tsp}
-use Rattle.tsp_cli.specs.Words.{IsJobOf, word_of}
+use Rattle.tsp_cli.specs.CommandWords.{IsJobOf, word_of}
 use Rattle.tsp_cli.proofs.Refusals.{refused}
 use Rattle.tsp_cli.proofs.Subcommands.{both, named, verb_found}
 use Rattle.tsp_cli.proofs.words.job_of.Goals as goal

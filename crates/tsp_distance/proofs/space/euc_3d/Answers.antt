@@ -12,7 +12,7 @@ returns-clause-value c =
     let same : unsigned_abs (to_z w64 (of_z w64 c.from.result)) ≡ c.nearest_root_in_space.result = search (arith, ints) in
     let P : ℕ → Type 0 = λ k. IsEuc3d c.args.a c.args.b k in
     subst P (sym same)
-    (is_euc_3d _ _ _ _ _ _ (way_is c.way.result c.args.a.x c.args.b.x c.way.ensures.value c.way.ensures.most)
+    (is_euc_3d c.args.a c.args.b _ _ _ _ (way_is c.way.result c.args.a.x c.args.b.x c.way.ensures.value c.way.ensures.most)
     (way_is c.way-2.result c.args.a.y c.args.b.y c.way-2.ensures.value c.way-2.ensures.most)
     (way_is c.way-3.result c.args.a.z c.args.b.z c.way-3.ensures.value c.way-3.ensures.most) c.nearest_root_in_space.ensures.enough c.nearest_root_in_space.ensures.least)
 

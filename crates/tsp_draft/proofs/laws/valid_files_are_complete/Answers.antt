@@ -3,4 +3,5 @@ use Rattle.tsp_draft.proofs.ValidFields.{has_kind, has_instance, has_routing, ha
 use Rattle.tsp_draft.proofs.laws.valid_files_are_complete.Goals as goal
 
 pub returns : goal.returns
-returns c = record { kind = has_kind; instance = has_instance; routing = has_routing; tours = has_tours; potentials = has_potentials; branches = has_branches }
+returns c =
+    record { kind = has_kind; instance = has_instance; routing = has_routing; tours = has_tours; potentials = has_potentials; branches = has_branches }

@@ -4,5 +4,6 @@ use Rattle.tsp_draft.proofs.Ranges.{all_from_to}
 use Rattle.tsp_draft.proofs.range.are_from_to.Goals as goal
 
 pub returns-then-all_bits-cast_unsigned : goal.returns-then-all_bits-cast_unsigned
-returns-then-all_bits-cast_unsigned c = sym (all_from_to c.args.low c.args.high c.all_bits.result c.args.numbers.now (search rules) (search rules)
+returns-then-all_bits-cast_unsigned c =
+    sym (all_from_to c.args.low c.args.high c.all_bits.result c.args.numbers.now (search rules) (search rules)
     (c.all_bits.ensures (search rules)))

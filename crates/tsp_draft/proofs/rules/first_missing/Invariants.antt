@@ -7,4 +7,5 @@ use Rattle.tsp_draft.proofs.rules.first_missing.Given as goal
 
 -- the answer is that of what is left
 abbrev pub invariant-loop-field : goal.invariant-loop-field
-invariant-loop-field l = first_failing (is_there (standing_of (fields_of l.draft))) (drop l.field-index l.fields) ≡ first_failing (is_there (standing_of (fields_of l.draft))) l.fields
+invariant-loop-field l =
+    first_failing (is_there (standing_of (fields_of l.draft))) (drop l.field-index l.fields) ≡ first_failing (is_there (standing_of (fields_of l.draft))) l.fields

@@ -6,4 +6,5 @@ use Rattle.tsp_draft.proofs.table.first_bad.Given as goal
 
 -- the answer is that of what is left
 abbrev pub invariant-loop-field : goal.invariant-loop-field
-invariant-loop-field l = first_failing (fits (fields_of l.draft)) (drop l.field-index l.fields) ≡ first_failing (fits (fields_of l.draft)) l.fields
+invariant-loop-field l =
+    first_failing (fits (fields_of l.draft)) (drop l.field-index l.fields) ≡ first_failing (fits (fields_of l.draft)) l.fields

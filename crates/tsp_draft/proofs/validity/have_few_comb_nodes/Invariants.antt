@@ -5,4 +5,5 @@ use Rattle.tsp_format.specs.Limits.{most_comb_nodes}
 use Rattle.tsp_draft.proofs.validity.have_few_comb_nodes.Given as goal
 
 abbrev pub invariant-combs : goal.invariant-combs
-invariant-combs l = (l.total ≡ sum_by (λ comb. sum_by (λ set. length set.items) comb.items) (take l.comb-index l.combs)) × (l.total ≤ most_comb_nodes)
+invariant-combs l =
+    (l.total ≡ sum_by (λ comb. sum_by (λ set. length set.items) comb.items) (take l.comb-index l.combs)) × (l.total ≤ most_comb_nodes)

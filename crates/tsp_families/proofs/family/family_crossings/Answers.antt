@@ -3,7 +3,7 @@ use Rattle.std.proofs.Common.{◌≡◌, ℕ, Bool, List, length, arith, ap, sym
 use Rattle.std.specs.Prelude.{pos, ◌≤◌}
 use Rattle.std.specs.List.{All}
 use Rattle.tsp_families.specs.Crossed.{sets_of, sets_crossed, IsLeastLength, IsMostCost}
-use Rattle.tsp_families.specs.Parts.{ArePartsOf}
+use Rattle.tsp_families.specs.SetParts.{ArePartsOf}
 use Rattle.tsp_families.specs.Memberships.{AreMemberships, IsLargest}
 use Rattle.tsp_families.specs.FamilySets.{lists_of}
 use Rattle.tsp_families.specs.Paths.{cost_by_rows, as_whole}

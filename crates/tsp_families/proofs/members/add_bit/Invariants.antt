@@ -4,4 +4,5 @@ use Rattle.tsp_families.proofs.NodeMembers.{with_bit}
 use Rattle.tsp_families.proofs.members.add_bit.Given as goal
 
 abbrev pub invariant-nodes : goal.invariant-nodes
-invariant-nodes l = (x : ℕ) → x < length l.fn.memberships → get_or l.memberships x 0 ≡ with_bit l.bit (take l.node-index l.nodes) x (get_or l.fn.memberships x 0)
+invariant-nodes l =
+    (x : ℕ) → x < length l.fn.memberships → get_or l.memberships x 0 ≡ with_bit l.bit (take l.node-index l.nodes) x (get_or l.fn.memberships x 0)

@@ -24,7 +24,9 @@ returns-then-len-ge-MOST_PARTS-clause-firsts c =
       differ_more memberships firsts node h.differ new,
     )
 
-more_nodes : (memberships firsts : List ℕ) (node : ℕ) → ((x : ℕ) → 1 ≤ x → x < node → Any (λ first. get_or memberships x 0 ≡ get_or memberships first 0) firsts) → Any (λ first. get_or memberships node 0 ≡ get_or memberships first 0) firsts
+more_nodes : (memberships firsts : List ℕ) (node : ℕ)
+    → ((x : ℕ) → 1 ≤ x → x < node → Any (λ first. get_or memberships x 0 ≡ get_or memberships first 0) firsts)
+    → Any (λ first. get_or memberships node 0 ≡ get_or memberships first 0) firsts
     → (x : ℕ) → 1 ≤ x → x < node + 1 → Any (λ first. get_or memberships x 0 ≡ get_or memberships first 0) firsts
 more_nodes memberships firsts node each here x low high = elim (cases_eq node x) [
   | inl same ↦ subst (λ (y : ℕ). Any (λ first. get_or memberships y 0 ≡ get_or memberships first 0) firsts) same here
@@ -38,7 +40,8 @@ record IsKept (memberships firsts : List ℕ) (node : ℕ) : Type 0 where
   pub each : (x : ℕ) → 1 ≤ x → x < node → Any (λ first. get_or memberships x 0 ≡ get_or memberships first 0) firsts
   pub few : length firsts ≤ 14
 
-pushed_kept : (memberships firsts : List ℕ) (node : ℕ) → IsKept memberships firsts node → IsNodePlace memberships node → (Any (λ first. get_or memberships node 0 ≡ get_or memberships first 0) firsts → ⊥) → length firsts < 14
+pushed_kept : (memberships firsts : List ℕ) (node : ℕ) → IsKept memberships firsts node → IsNodePlace memberships node
+    → (Any (λ first. get_or memberships node 0 ≡ get_or memberships first 0) firsts → ⊥) → length firsts < 14
     → IsKept memberships (firsts ++ node ∷ []) (node + 1)
 pushed_kept memberships firsts node h place new room = record {
   places = All-push (IsNodePlace memberships) firsts node h.places place;

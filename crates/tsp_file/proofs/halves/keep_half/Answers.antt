@@ -24,4 +24,5 @@ lines-preserved c =
     moved.by_index.0 moved.by_index.1 moved.by_index.2
 
 pub returns : goal.returns
-returns c = c.truncate.ensures.items ∙ all_kept c.args.to c.args.nodes c.lines.line c.lines.kept c.args.weights.now.items c.lines.weights.items (omega arith) c.lines.invariant
+returns c =
+    c.truncate.ensures.items ∙ all_kept c.args.to c.args.nodes c.lines.line c.lines.kept c.args.weights.now.items c.lines.weights.items (omega arith) c.lines.invariant

@@ -1,8 +1,8 @@
 -- The goals of `put_fields` in src/writer.rt: its loop and what it ensures.
 use Rattle.std.proofs.Common.{arith}
 use Rattle.tsp_draft.specs.states.Drafts.{fields_of}
-use Rattle.tsp_file.specs.Text.{text_of_field}
-use Rattle.tsp_stream.specs.states.Way.{way_of}
+use Rattle.tsp_file.specs.CanonicalText.{text_of_field}
+use Rattle.tsp_stream.specs.states.WriteProgress.{way_of}
 use Rattle.tsp_stream.proofs.Carrying.{carried_all, carried_none, carried_next_or}
 use Rattle.tsp_file.proofs.writer.put_fields.Goals as goal
 

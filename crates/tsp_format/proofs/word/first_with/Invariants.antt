@@ -6,4 +6,5 @@ use Rattle.tsp_format.proofs.word.first_with.Given as goal
 
 -- the answer is that of what is left
 abbrev pub invariant-loop-value : goal.invariant-loop-value
-invariant-loop-value g l = find (λ value. bytes_eq l.word (g.V.Word.text value)) (drop l.value-index l.values) ≡ find (λ value. bytes_eq l.word (g.V.Word.text value)) l.values
+invariant-loop-value g l =
+    find (λ value. bytes_eq l.word (g.V.Word.text value)) (drop l.value-index l.values) ≡ find (λ value. bytes_eq l.word (g.V.Word.text value)) l.values

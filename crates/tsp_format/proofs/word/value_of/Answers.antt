@@ -3,7 +3,9 @@ use Rattle.tsp_format.proofs.FoundWords.{found_is_known, none_is_unknown}
 use Rattle.tsp_format.proofs.word.value_of.Goals as goal
 
 pub returns-clause-known : goal.returns-clause-known
-returns-clause-known g c = found_is_known g.V.Word.text g.V.Word.values g.met.V.Word.found c.args.word.now c.first_with.result (rw (← c.all.ensures) c.first_with.ensures)
+returns-clause-known g c =
+    found_is_known g.V.Word.text g.V.Word.values g.met.V.Word.found c.args.word.now c.first_with.result (rw (← c.all.ensures) c.first_with.ensures)
 
 pub returns-clause-unknown : goal.returns-clause-unknown
-returns-clause-unknown g c = none_is_unknown g.V.Word.text g.V.Word.values g.met.V.Word.found c.args.word.now c.first_with.result (rw (← c.all.ensures) c.first_with.ensures)
+returns-clause-unknown g c =
+    none_is_unknown g.V.Word.text g.V.Word.values g.met.V.Word.found c.args.word.now c.first_with.result (rw (← c.all.ensures) c.first_with.ensures)

@@ -4,7 +4,7 @@ use Rattle.tsp_stream.specs.Turn.{Turn}
 use Rattle.tsp_read.specs.Reads.{StopsAt}
 use Rattle.tsp_read.specs.declared.ReadFault.{ReadFault}
 use Rattle.tsp_reason.specs.declared.certificate.Certificate.{Certificate}
-use Rattle.tsp_judge.specs.Run.{Given, IsUnreadIn, IsSomeFile}
+use Rattle.tsp_judge.specs.CheckRun.{Given, IsUnreadIn, IsSomeFile}
 use Rattle.tsp_judge.proofs.compare_examples.examples_of_faulty_files_of_comparisons.Goals as goal
 
 pub returns-clause-first : goal.returns-clause-first

@@ -4,7 +4,7 @@ use Rattle.std.specs.Prelude.{max}
 use Rattle.tsp_stream.specs.states.Watched.{sink_of}
 use Rattle.tsp_judge.proofs.HandedOn.{handed_on}
 use Rattle.tsp_judge.proofs.Comparing.{HasCompared, compared_none, compared_next, compared_ends, compared_all}
-use Rattle.tsp_judge.proofs.Tellings.{told_next}
+use Rattle.tsp_judge.proofs.Tellings.{told_next, told_before}
 use Rattle.tsp_judge.specs.CompareRun.{IsTurnAt, status_of_found}
 use Rattle.tsp_judge.specs.Following.{AreTold}
 use Rattle.tsp_judge.proofs.compared.compare_all.Goals as goal
@@ -31,7 +31,13 @@ solutions-preserved g c =
 pub returns-in_err-found-clause-told : goal.returns-in_err-found-clause-told
 returns-in_err-found-clause-told g c =
     let same : c.from_residual.result ≡ Err c.in_err-found.field-0.0 = handed_on _ _ c.from_residual.ensures.1 in
-    rw same (c.solutions.index, omega (arith, c.solutions-test.true, c.count-index-end.ensures), c.solutions.invariant.told)
+    let more : c.solutions.index < length (g.S.Solutions.names c.args.solutions.now) = omega (arith, c.solutions-test.true, c.count-index-end.ensures) in
+    rw same (
+      c.solutions.index,
+      told_before (IsTurnAt g.R.Read.remaining (g.S.Solutions.opens c.args.solutions.now)) (g.S.Solutions.names c.args.solutions.now) c.args.common.now c.solutions.index
+          (sink_of g.W.Write.contents c.solutions.out c.compare_one.new.out) _ _ more c.in_err-found.ensures,
+      c.solutions.invariant.told,
+    )
 
 pub returns-clause-told : goal.returns-clause-told
 returns-clause-told g c =

@@ -5,7 +5,7 @@ use Rattle.tsp_stream.specs.states.Watched.{sink_of, turn_of}
 use Rattle.tsp_stream.specs.Sink.{HasWritten, Writes}
 use Rattle.tsp_judge.proofs.Comparing.{found_sized, one_stopped}
 use Rattle.tsp_judge.specs.CompareRun.{IsTurnAt, result_of}
-use Rattle.tsp_report.specs.Compare.{solution_line}
+use Rattle.tsp_report.specs.ComparisonText.{solution_line}
 use Rattle.tsp_report.specs.Report.{IsSized}
 use Rattle.tsp_judge.proofs.compared.compare_one.Goals as goal
 

@@ -5,7 +5,7 @@ use Rattle.tsp_read.specs.Reads.{IsFile}
 use Rattle.tsp_stream.specs.states.Watched.{sink_of}
 use Rattle.tsp_cost.specs.ProblemLaws.{IsProblem}
 use Rattle.tsp_judge.specs.declared.fault.RunFault.TheVariants.{WrongKind}
-use Rattle.tsp_judge.specs.Run.{IsFileIn}
+use Rattle.tsp_judge.specs.CheckRun.{IsFileIn}
 use Rattle.tsp_judge.specs.CompareRun.{IsTurnAt}
 use Rattle.tsp_judge.proofs.HandedOn.{handed_on}
 use Rattle.tsp_judge.proofs.Runs.{none_judged}

@@ -7,7 +7,7 @@ use Rattle.tsp_reason.specs.Verdicts.{is_clear}
 use Rattle.tsp_judge.proofs.Comparing.{after_head}
 use Rattle.tsp_judge.specs.CompareRun.{IsTurnAt, ComparesBy}
 use Rattle.tsp_judge.specs.Following.{AreAllTold, IsFollowedBy}
-use Rattle.tsp_report.specs.Compare.{head_of}
+use Rattle.tsp_report.specs.ComparisonText.{head_of}
 use Rattle.tsp_judge.proofs.compared.compare_with.Goals as goal
 
 pub returns-clause-text : goal.returns-clause-text

@@ -3,7 +3,7 @@ use Rattle.std.proofs.Common.{◌≡◌, ◌⊎◌, ℕ, refl, inl, inr, arith}
 use Rattle.tsp_stream.specs.Turn.{Turn, IsUnread}
 use Rattle.tsp_read.specs.Reads.{StopsAt}
 use Rattle.tsp_read.specs.declared.ReadFault.{ReadFault}
-use Rattle.tsp_judge.specs.Run.{IsSomeFile}
+use Rattle.tsp_judge.specs.CheckRun.{IsSomeFile}
 use Rattle.tsp_judge.proofs.examples.examples_of_faulty_files_of_bounds.Goals as goal
 
 pub returns-clause-first : goal.returns-clause-first

@@ -6,7 +6,8 @@ use Rattle.tsp_number.proofs.EightDigits.{front_is_digits}
 use Rattle.tsp_number.proofs.eight.front_of_eight.Goals as goal
 
 pub value_in-requires-clause-within : goal.value_in-requires-clause-within
-value_in-requires-clause-within c = omega (arith, prefix_len-le-length is_ascii_digit c.args.eight.now, c.count_in-count.ensures, c.told-eight)
+value_in-requires-clause-within c =
+    omega (arith, prefix_len-le-length is_ascii_digit c.args.eight.now, c.count_in-count.ensures, c.told-eight)
 
 pub value_in-requires-clause-digits : goal.value_in-requires-clause-digits
 value_in-requires-clause-digits c = rw c.count_in-count.ensures (front_is_digits c.args.eight.now)

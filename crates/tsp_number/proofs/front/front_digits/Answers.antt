@@ -22,7 +22,8 @@ returns-then-count-lt-EIGHT-clause-size c =
     let read = eight_more _ _ _ _ c.in-Some.ensures.cases eight.within eight.digits eight.value in
     read.size
 
-read_on : (c : goal.After-power_of_ten) → ReadsFront c.args.bytes.now (8 + c.single_digits-more.result.1) (c.front_of_eight-value.result.0 * c.power_of_ten.result + c.single_digits-more.result.0)
+read_on : (c : goal.After-power_of_ten)
+    → ReadsFront c.args.bytes.now (8 + c.single_digits-more.result.1) (c.front_of_eight-value.result.0 * c.power_of_ten.result + c.single_digits-more.result.0)
 read_on c =
     let eight = c.front_of_eight-value.ensures in
     let more = c.single_digits-more.ensures in
@@ -32,7 +33,8 @@ read_on c =
     record { digits = rw take_rest at more.digits; value_is = rw take_rest at more.value; size = more.size } in
     eight_and_more _ _ _ _ _ (rw whole at first) then (rw take_rest at more.within) c.power_of_ten.ensures
 
-fits : (c : goal.After-power_of_ten) → c.front_of_eight-value.result.0 * c.power_of_ten.result + c.single_digits-more.result.0 < 2 ^ 64
+fits : (c : goal.After-power_of_ten)
+    → c.front_of_eight-value.result.0 * c.power_of_ten.result + c.single_digits-more.result.0 < 2 ^ 64
 fits c =
     let few : 8 + c.single_digits-more.result.1 ≤ 18 = omega (arith, c.single_digits-more.ensures.few, c.requires) in
     few_fit _ _ _ (read_on c) few

@@ -29,7 +29,8 @@ returns-clause-number c =
     rw (to_z-of_z w64 c.signed.result fits, c.signed.ensures) number
 
 pub returns-clause-within : goal.returns-clause-within
-returns-clause-within c = omega (arith, c.in-Some.ensures.cases.enough, c.front_of_eight-size.ensures.within, c.if-count-eq-EIGHT.false)
+returns-clause-within c =
+    omega (arith, c.in-Some.ensures.cases.enough, c.front_of_eight-size.ensures.within, c.if-count-eq-EIGHT.false)
 
 pub returns-clause-end : goal.returns-clause-end
 returns-clause-end c =

@@ -48,7 +48,8 @@ returns-in-Some-within c =
 
 -- what is not within a range is outside it
 outside : (v low high : ℤ) → ¬ ((low ≤ℤ v) × (v ≤ℤ high)) → (v <ℤ low) ⊎ (high <ℤ v)
-outside v low high not_within = by_lt_z v low (λ below. inl below) (λ from. by_lt_z high v (λ above. inr above) (λ to. absurd (not_within (from, to))))
+outside v low high not_within =
+    by_lt_z v low (λ below. inl below) (λ from. by_lt_z high v (λ above. inr above) (λ to. absurd (not_within (from, to))))
 
 pub returns-in-None-within : goal.returns-in-None-within
 returns-in-None-within c =

@@ -4,7 +4,8 @@ use Rattle.tsp_read.proofs.InTime.{bytes_fault, bytes_memory}
 use Rattle.tsp_read.proofs.read.read_bytes.Goals as goal
 
 pub returns-in-Err-clause-answer : goal.returns-in-Err-clause-answer
-returns-in-Err-clause-answer c = bytes_fault c.args.bytes.now c.feed.new.self c.in-Err.fault (c.in-Err.ensures.taken [] c.new-feed.ensures)
+returns-in-Err-clause-answer c =
+    bytes_fault c.args.bytes.now c.feed.new.self c.in-Err.fault (c.in-Err.ensures.taken [] c.new-feed.ensures)
 
 pub returns-in-Ok-clause-answer : goal.returns-in-Ok-clause-answer
 returns-in-Ok-clause-answer c = c.finish.ensures.read c.args.bytes.now (c.in-Ok.ensures.taken [] c.new-feed.ensures).0

@@ -4,7 +4,8 @@ use Rattle.tsp_read.proofs.InTime.{in_time, answer_of}
 use Rattle.tsp_read.proofs.read.read_from.Goals as goal
 
 pub returns-in-Ok-clause-in_time : goal.returns-in-Ok-clause-in_time
-returns-in-Ok-clause-in_time g c = in_time (turn_of g.R.Read.remaining c.args.reader.now c.feed_all.new.reader) c.feed_all.new.feed c.finish.result
+returns-in-Ok-clause-in_time g c =
+    in_time (turn_of g.R.Read.remaining c.args.reader.now c.feed_all.new.reader) c.feed_all.new.feed c.finish.result
     c.in-Ok.ensures c.finish.ensures.read c.finish.ensures.memory
 
 pub returns-in-Ok-clause-answer : goal.returns-in-Ok-clause-answer

@@ -4,11 +4,12 @@ use Rattle.std.proofs.lemmas.Grind.{common_steps}
 use Rattle.std.specs.Prelude.{pos, ◌*ℤ◌}
 use Rattle.std.proofs.lemmas.Int.{to_z-of_z}
 use Rattle.tsp_distance.specs.Decimal.{unit}
-use Rattle.tsp_read.specs.states.Front.{left_from}
+use Rattle.tsp_read.specs.states.WordFront.{left_from}
 use Rattle.tsp_read.proofs.FrontSteps.{EndsNumber, begins_filled, front_gives, front_reads}
 use Rattle.tsp_read.proofs.run.few_number.Goals as goal
 
-number_at_front : (c : goal.In-Some-word_end) → EndsNumber c.args.text.now c.args.text.now c.in-Some.end (c.in-Some.number *ℤ pos unit)
+number_at_front : (c : goal.In-Some-word_end)
+    → EndsNumber c.args.text.now c.args.text.now c.in-Some.end (c.in-Some.number *ℤ pos unit)
     c.split_at.result.1.now (left_from c.in-Some-word_end.end)
 number_at_front c = record {
   filled_is = begins_filled _ _ _ c.in-Some.ensures.number;

@@ -1,11 +1,12 @@
 -- The goals of `front_coordinate` in src/run.rt: what it ensures.
 use Rattle.std.proofs.Common.{arith}
 use Rattle.std.proofs.lemmas.Grind.{common_steps}
-use Rattle.tsp_read.specs.states.Front.{left_from}
+use Rattle.tsp_read.specs.states.WordFront.{left_from}
 use Rattle.tsp_read.proofs.FrontSteps.{EndsNumber, front_gives, front_reads_decimal}
 use Rattle.tsp_read.proofs.run.front_coordinate.Goals as goal
 
-number_at_front : (c : goal.In-Some-word_end) → EndsNumber c.args.text.now c.without_start-filled.result.now c.in-Some.found.1 c.in-Some.found.0 c.split_at.result.1.now (left_from c.in-Some-word_end.end)
+number_at_front : (c : goal.In-Some-word_end)
+    → EndsNumber c.args.text.now c.without_start-filled.result.now c.in-Some.found.1 c.in-Some.found.0 c.split_at.result.1.now (left_from c.in-Some-word_end.end)
 number_at_front c = record {
   filled_is = c.without_start-filled.ensures;
   number = c.in-Some.ensures.number;

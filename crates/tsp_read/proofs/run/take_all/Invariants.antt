@@ -1,6 +1,6 @@
 -- The loop of `take_all` in src/run.rt.
 use Rattle.std.proofs.Common.{length}
-use Rattle.tsp_read.specs.states.Run.{RunsTo}
+use Rattle.tsp_read.specs.states.ReadingRun.{RunsTo}
 use Rattle.tsp_read.proofs.run.take_all.Given as goal
 
 abbrev pub invariant-run : goal.invariant-run

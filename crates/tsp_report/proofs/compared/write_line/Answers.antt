@@ -1,10 +1,10 @@
 -- The goals of `write_line` in src/compared.rt: what it ensures.
 use Rattle.std.proofs.Common.{◌∙◌, ◌++◌, sym}
 use Rattle.std.specs.Prelude.{codes}
-use Rattle.tsp_stream.specs.states.Way.{way_of}
+use Rattle.tsp_stream.specs.states.WriteProgress.{way_of}
 use Rattle.tsp_stream.proofs.Carrying.{text_stopped, text_written}
 use Rattle.tsp_report.proofs.Texts.{with_path}
-use Rattle.tsp_report.specs.Compare.{solution_line, found_words}
+use Rattle.tsp_report.specs.ComparisonText.{solution_line, found_words}
 use Rattle.tsp_report.proofs.compared.write_line.Goals as goal
 
 pub returns-then-failed-2 : goal.returns-then-failed-2

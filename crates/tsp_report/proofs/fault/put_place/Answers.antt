@@ -1,8 +1,8 @@
 -- The goals of `put_place` in src/fault.rt: what it ensures.
 use Rattle.std.proofs.Common.{◌++◌}
 use Rattle.std.specs.Prelude.{codes, decimal}
-use Rattle.tsp_text.specs.FaultText.{line_fault_text}
-use Rattle.tsp_stream.specs.states.Way.{way_of}
+use Rattle.tsp_text.specs.ReadFaultText.{line_fault_text}
+use Rattle.tsp_stream.specs.states.WriteProgress.{way_of}
 use Rattle.tsp_stream.proofs.Carrying.{carried_then}
 use Rattle.tsp_report.proofs.fault.put_place.Goals as goal
 

@@ -1,7 +1,7 @@
 -- The goals of `put_reason` in src/reason.rt: what it ensures.
 use Rattle.std.proofs.Common.{◌++◌, Option, ℕ, subst}
 use Rattle.std.specs.Prelude.{ℤ}
-use Rattle.tsp_stream.specs.states.Way.{Carried, way_of}
+use Rattle.tsp_stream.specs.states.WriteProgress.{Carried, way_of}
 use Rattle.tsp_stream.proofs.Carrying.{carried_then}
 use Rattle.tsp_report.specs.Report.{reason_name, reason_numbers, reason_length, after_blank, length_after_blank}
 use Rattle.tsp_report.proofs.reason.put_reason.Goals as goal

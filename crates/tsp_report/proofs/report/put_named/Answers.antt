@@ -1,5 +1,5 @@
 -- The goals of `put_named` in src/report.rt: what it ensures.
-use Rattle.tsp_stream.specs.states.Way.{way_of}
+use Rattle.tsp_stream.specs.states.WriteProgress.{way_of}
 use Rattle.tsp_stream.proofs.Carrying.{carried_then}
 use Rattle.tsp_report.proofs.report.put_named.Goals as goal
 

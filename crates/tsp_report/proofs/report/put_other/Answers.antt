@@ -1,7 +1,7 @@
 -- The goals of `put_other` in src/report.rt: what it ensures.
 use Rattle.std.proofs.Common.{◌++◌}
 use Rattle.std.specs.Prelude.{codes}
-use Rattle.tsp_stream.specs.states.Way.{way_of}
+use Rattle.tsp_stream.specs.states.WriteProgress.{way_of}
 use Rattle.tsp_stream.proofs.Carrying.{carried_then}
 use Rattle.tsp_report.proofs.report.put_other.Goals as goal
 

@@ -1,10 +1,11 @@
 -- The loop of `put_others` in src/report.rt.
 use Rattle.std.proofs.Common.{take}
 use Rattle.std.specs.List.{flat_map}
-use Rattle.tsp_stream.specs.states.Way.{way_of, Carried}
+use Rattle.tsp_stream.specs.states.WriteProgress.{way_of, Carried}
 use Rattle.tsp_report.proofs.Texts.{unknown_line}
 use Rattle.tsp_report.proofs.report.put_others.Given as goal
 
 abbrev pub invariant-lines : goal.invariant-lines
-invariant-lines g l = Carried (way_of g.W.Write.contents l.initial.out l.initial.piece.items) (way_of g.W.Write.contents l.out l.piece.items)
+invariant-lines g l =
+    Carried (way_of g.W.Write.contents l.initial.out l.initial.piece.items) (way_of g.W.Write.contents l.out l.piece.items)
     (flat_map (λ line. unknown_line (line.0.items, line.1.items)) (take l.keyword-index l.others))

@@ -1,10 +1,11 @@
 -- The loop of `put_each_tour` in src/shown.rt.
 use Rattle.std.proofs.Common.{take, map}
 use Rattle.std.specs.List.{flat_map, enumerate_from}
-use Rattle.tsp_stream.specs.states.Way.{way_of, Carried}
+use Rattle.tsp_stream.specs.states.WriteProgress.{way_of, Carried}
 use Rattle.tsp_report.specs.Show.{tour_line}
 use Rattle.tsp_report.proofs.shown.put_each_tour.Given as goal
 
 abbrev pub invariant-tours : goal.invariant-tours
-invariant-tours g l = Carried (way_of g.W.Write.contents l.initial.out l.initial.piece.items) (way_of g.W.Write.contents l.out l.piece.items)
+invariant-tours g l =
+    Carried (way_of g.W.Write.contents l.initial.out l.initial.piece.items) (way_of g.W.Write.contents l.out l.piece.items)
     (flat_map tour_line (take l.index (enumerate_from 1 (map (λ tour. tour.items) l.tours))))

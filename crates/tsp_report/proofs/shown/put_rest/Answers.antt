@@ -1,7 +1,7 @@
 -- The goals of `put_rest` in src/shown.rt: what it ensures.
 use Rattle.std.proofs.Common.{ap, ◌∙◌, map}
 use Rattle.tsp_draft.specs.Fields.{Fields}
-use Rattle.tsp_stream.specs.states.Way.{way_of}
+use Rattle.tsp_stream.specs.states.WriteProgress.{way_of}
 use Rattle.tsp_report.proofs.Instances.{rest_of_instance}
 use Rattle.tsp_report.proofs.shown.put_rest.Goals as goal
 

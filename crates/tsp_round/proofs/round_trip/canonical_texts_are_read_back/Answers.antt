@@ -2,7 +2,7 @@
 use Rattle.std.proofs.Common.{ℕ, List, sym, subst, ◌∙◌, Result, Ok, Err}
 use Rattle.std.proofs.lemmas.Option.{none-some}
 use Rattle.tsp_draft.specs.Fields.{Fields}
-use Rattle.tsp_file.specs.Text.{text_of}
+use Rattle.tsp_file.specs.CanonicalText.{text_of}
 use Rattle.tsp_text.specs.declared.fault.ReadFault.{ReadFault}
 use Rattle.tsp_text.specs.declared.fault.ReadFault.TheVariants as faults
 use Rattle.tsp_read.specs.Reads.{Reads}
@@ -24,9 +24,11 @@ returns-clause-alone c =
     λ f other valid also. c.texts_have_one_answer.ensures.one_file (text_of f) other f also (spells f valid)
 
 -- a text that parses to a file is read as that file
-only_this : (bytes : List ℕ) (file : Fields) (answer : Result Fields ReadFault) → Spells bytes file → Reads bytes answer → IsThisFile file answer
+only_this : (bytes : List ℕ) (file : Fields) (answer : Result Fields ReadFault) → Spells bytes file → Reads bytes answer
+    → IsThisFile file answer
 only_this bytes file (Ok other) spells reads = reads.fields ∙ sym spells.fields
-only_this bytes file (Err (faults.Line line word found)) spells reads = absurd (none-some (faults.Line line word found) (sym spells.no_fault ∙ reads))
+only_this bytes file (Err (faults.Line line word found)) spells reads =
+    absurd (none-some (faults.Line line word found) (sym spells.no_fault ∙ reads))
 only_this bytes file (Err (faults.End found)) spells reads = absurd (none-some (faults.End found) (sym spells.no_fault ∙ reads))
 only_this bytes file (Err faults.OutOfMemory) spells reads = tt
 only_this bytes file (Err faults.Device) spells reads = reads

@@ -1,5 +1,5 @@
 -- By the parts of each text.
-use Rattle.tsp_judge.specs.FaultText.{run_fault_text}
+use Rattle.tsp_judge.specs.RunFaultText.{run_fault_text}
 use Rattle.tsp_run.proofs.OneLines.{line_of_run}
 use Rattle.tsp_run.proofs.laws.faults_are_told_on_one_line.Goals as goal
 

@@ -4,7 +4,7 @@ use Rattle.std.proofs.KnownBytes.{Keeps-refl}
 use Rattle.clap.specs.Words.{Text, kind_of}
 use Rattle.clap.specs.declared.error.kind.ErrorKind.TheVariants as kinds
 use Rattle.tsp_judge.specs.Sink.{Sink}
-use Rattle.tsp_cli.specs.Words.{GivesJob}
+use Rattle.tsp_cli.specs.CommandWords.{GivesJob}
 use Rattle.tsp_cli.specs.declared.task.Place.{Place}
 use Rattle.tsp_cli.specs.declared.words.Job.{Job}
 use Rattle.tsp_cli.specs.declared.words.JobFault.TheVariants.{OutOfMemory, Refused}
@@ -13,7 +13,7 @@ use Rattle.tsp_run.specs.declared.ending.Ending.TheVariants.{NoJob, Version, NoT
 use Rattle.std.specs.String.{string_bytes}
 use Rattle.tsp_judge.specs.Watched.{sink_of}
 use Rattle.tsp_run.specs.Ending.{Tells}
-use Rattle.tsp_run.specs.Run.{Ends, EndsWith}
+use Rattle.tsp_run.specs.ProgramRun.{Ends, EndsWith}
 use Rattle.tsp_run.proofs.running.run.Goals as goal
 
 pub returns-in_default : goal.returns-in_default

@@ -1,7 +1,7 @@
 -- The goals of `put` in src/piece.rt: what it ensures.
 use Rattle.std.proofs.Common.{◌≡◌, List, ℕ, [], ◌++◌, ◌∙◌, sym, refl, ap, true, false, Result, Ok, Err, append-nil}
 use Rattle.std.specs.Prelude.{OnOk, OnErr, is_ok, is_err}
-use Rattle.tsp_stream.specs.states.Way.{way_of}
+use Rattle.tsp_stream.specs.states.WriteProgress.{way_of}
 use Rattle.tsp_stream.proofs.Carrying.{carried_sent, carried_waits, carried_then}
 use Rattle.tsp_stream.proofs.piece.put.Goals as goal
 
@@ -22,7 +22,8 @@ ok_is (Ok x) e = refl
 ok_is (Err x) e = absurd (cc)
 
 pub returns-then-is_ok : goal.returns-then-is_ok
-returns-then-is_ok g c = carried_waits (way_of g.W.Write.contents c.args.out.now c.args.piece.now.items) (way_of g.W.Write.contents c.args.out.now c.try_extend_from_slice.new.self.items)
+returns-then-is_ok g c =
+    carried_waits (way_of g.W.Write.contents c.args.out.now c.args.piece.now.items) (way_of g.W.Write.contents c.args.out.now c.try_extend_from_slice.new.self.items)
     c.args.bytes.now refl refl (when_ok c.try_extend_from_slice.result _ (sym c.if-is_ok.true ∙ c.is_ok.ensures.value) c.try_extend_from_slice.ensures.ok)
 
 pub returns-then-is_err : goal.returns-then-is_err

@@ -1,6 +1,6 @@
 -- The goals of `put_next_number` in src/piece.rt: what it ensures.
 use Rattle.std.proofs.Common.{[], ◌∷◌}
-use Rattle.tsp_stream.specs.states.Way.{way_of}
+use Rattle.tsp_stream.specs.states.WriteProgress.{way_of}
 use Rattle.tsp_stream.proofs.Carrying.{carried_then}
 use Rattle.tsp_stream.proofs.piece.put_next_number.Goals as goal
 

@@ -32,7 +32,8 @@ pub returns-clause-from_both_ends : goal.returns-clause-from_both_ends
 returns-clause-from_both_ends c = both_ends
 
 pub returns-clause-least : goal.returns-clause-least
-returns-clause-least c = least_from_forest 4 rectangle 2 4 ((4, 3) ∷ (2, 3) ∷ []) ((4, 3) ∷ (2, 3) ∷ []) _ (omega arith) (costs_even rectangle_costs)
+returns-clause-least c =
+    least_from_forest 4 rectangle 2 4 ((4, 3) ∷ (2, 3) ∷ []) ((4, 3) ∷ (2, 3) ∷ []) _ (omega arith) (costs_even rectangle_costs)
     (nearest_so rectangle 4 3 (search rules)) both_ends refl refl
 
 -- the pair of node 3 with node 4 or with node 2 leaves the part too

@@ -9,7 +9,8 @@ use Rattle.tsp_theory.proofs.examples.examples_of_multipliers.Goals as goal
 
 -- 1 and 3 are the first link, 2 and 4 the third
 pub returns-clause-used : goal.returns-clause-used
-returns-clause-used c = All-from_recursion (λ triple. AreNeighbours (1 ∷ 3 ∷ 2 ∷ 4 ∷ []) (pair_of triple)) (on_diagonals (pos 2) (pos 1))
+returns-clause-used c =
+    All-from_recursion (λ triple. AreNeighbours (1 ∷ 3 ∷ 2 ∷ 4 ∷ []) (pair_of triple)) (on_diagonals (pos 2) (pos 1))
     (inl (0, omega arith, refl), (inr (2, omega arith, refl), tt))
 
 pub returns-clause-not_used : goal.returns-clause-not_used

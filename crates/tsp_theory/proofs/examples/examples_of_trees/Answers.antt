@@ -29,7 +29,8 @@ pub returns-clause-star_at_zero : goal.returns-clause-star_at_zero
 returns-clause-star_at_zero c = bound_so star_costs (pos 1) zeros 3 2 (pos 5) (search rules) (search rules)
 
 pub returns-clause-star_at_ones : goal.returns-clause-star_at_ones
-returns-clause-star_at_ones c = bound_so star_costs (pos 1) (four_numbers (pos 1) (pos 1) (pos 1) (pos 1)) 3 2 (pos 5) (search rules) (search rules)
+returns-clause-star_at_ones c =
+    bound_so star_costs (pos 1) (four_numbers (pos 1) (pos 1) (pos 1) (pos 1)) 3 2 (pos 5) (search rules) (search rules)
 
 pub returns-clause-star_at_a_half : goal.returns-clause-star_at_a_half
 returns-clause-star_at_a_half c = bound_so star_costs (pos 2) one_on_two 3 2 (pos 6) (search rules) (search rules)

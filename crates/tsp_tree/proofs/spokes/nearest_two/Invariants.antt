@@ -5,4 +5,5 @@ use Rattle.tsp_theory.proofs.TwoNearest.{AreNearestBefore}
 use Rattle.tsp_tree.proofs.spokes.nearest_two.Given as goal
 
 abbrev pub invariant-nodes : goal.invariant-nodes
-invariant-nodes l = AreNearestBefore (length l.weights - 1) (λ i j. least_at l.weights j) l.node l.first.node l.first.weight l.second.node l.second.weight
+invariant-nodes l =
+    AreNearestBefore (length l.weights - 1) (λ i j. least_at l.weights j) l.node l.first.node l.first.weight l.second.node l.second.weight

@@ -1,7 +1,7 @@
 -- The goals of `length_of_next` in src/basis.rt: what its calls require and what it ensures.
 use Rattle.std.proofs.Common.{◌≡◌, ℕ, true, Some, rules}
 use Rattle.tsp_draft.specs.Rules.{is_tours}
-use Rattle.tsp_file.specs.Meant.{nodes_of}
+use Rattle.tsp_draft.specs.Fields.{nodes_of}
 use Rattle.tsp_verdict.proofs.Bases.{none_known, first_known, instance_first, up_to_dimension}
 use Rattle.tsp_verdict.proofs.TourReasons.{after_dimension}
 use Rattle.tsp_verdict.proofs.basis.length_of_next.Goals as goal

@@ -7,7 +7,7 @@ use Rattle.tsp_reason.specs.declared.basis.Basis.{Basis}
 use Rattle.tsp_reason.specs.declared.verdict.Verdict.TheVariants as verdicts
 use Rattle.tsp_verdict.specs.Basis.{IsVerdictFrom}
 use Rattle.tsp_verdict.specs.Judged.{IsAsClaimed, IsOtherClaimed}
-use Rattle.tsp_verdict.specs.states.Costs.{IsLengthOf}
+use Rattle.tsp_verdict.specs.states.TourCosts.{IsLengthOf}
 use Rattle.tsp_verdict.proofs.Bases.{knows_instance, tour_rejected, tour_disclaimed, tour_accepted, tour_uncertified}
 use Rattle.tsp_verdict.proofs.basis.next_tour.Goals as goal
 

@@ -5,8 +5,9 @@ use Rattle.std.specs.Int.{w128}
 use Rattle.std.proofs.lemmas.Int.{to_z-of_z}
 use Rattle.tsp_format.specs.declared.kinds.Kind.TheVariants as kinds
 use Rattle.tsp_theory.specs.Adjusted.{AreOnPairs}
-use Rattle.tsp_verdict.specs.Certificate.{has_wanted, StandsAgainstPotentials}
-use Rattle.tsp_file.specs.Meant.{multipliers_in, nodes_of, fixed_of}
+use Rattle.tsp_verdict.specs.PotentialsCertificate.{has_wanted, StandsAgainstPotentials}
+use Rattle.tsp_draft.specs.Fields.{nodes_of}
+use Rattle.tsp_file.specs.Meant.{multipliers_in, fixed_of}
 use Rattle.tsp_verdict.specs.Multiplied.{AreListed}
 use Rattle.tsp_verdict.specs.Reasons.{IsFirstReason}
 use Rattle.tsp_verdict.proofs.Certificates.{none_of_tsp, none_of_potentials}

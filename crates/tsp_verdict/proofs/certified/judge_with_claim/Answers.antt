@@ -5,7 +5,7 @@ use Rattle.std.specs.Prelude.{FitsSigned}
 use Rattle.std.proofs.lemmas.Int.{to_z-of_z}
 use Rattle.tsp_verdict.specs.Certified.{FindsBound}
 use Rattle.tsp_verdict.specs.Judged.{IsAsClaimed, IsOtherClaimed}
-use Rattle.tsp_verdict.specs.states.Costs.{FindsLength}
+use Rattle.tsp_verdict.specs.states.TourCosts.{FindsLength}
 use Rattle.tsp_verdict.proofs.Certificates.{enough, kinds_bounded, symmetric_tsp}
 use Rattle.tsp_verdict.proofs.Claims.{tour_of_another_length, certificate_refused}
 use Rattle.tsp_verdict.proofs.certified.judge_with_claim.Goals as goal

@@ -33,4 +33,5 @@ pairs-preserved c =
     ]
 
 pub returns : goal.returns
-returns c = taken_all c.args.directed c.args.pairs.now c.pairs.taken.items c.pairs.pair-index (omega (arith, c.pairs-test.false)) c.pairs.invariant.so_far
+returns c =
+    taken_all c.args.directed c.args.pairs.now c.pairs.taken.items c.pairs.pair-index (omega (arith, c.pairs-test.false)) c.pairs.invariant.so_far

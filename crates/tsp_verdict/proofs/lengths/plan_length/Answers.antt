@@ -7,8 +7,8 @@ use Rattle.tsp_format.specs.Cells.{IsNode}
 use Rattle.tsp_file.specs.Cost.{cost}
 use Rattle.tsp_theory.specs.Length.{length_of}
 use Rattle.tsp_verdict.specs.states.Marks.{StandsAfter}
-use Rattle.tsp_verdict.specs.states.Routes.{nodes_in}
-use Rattle.tsp_file.specs.Meant.{nodes_of}
+use Rattle.tsp_verdict.specs.states.RouteLists.{nodes_in}
+use Rattle.tsp_draft.specs.Fields.{nodes_of}
 use Rattle.tsp_verdict.specs.states.Sums.{IsSumOf}
 use Rattle.tsp_verdict.proofs.Pieces.{stands_here, count_here, all_here}
 use Rattle.tsp_verdict.proofs.RouteLengths.{sum_more, sum_fits, plan_more}

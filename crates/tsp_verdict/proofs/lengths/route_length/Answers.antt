@@ -6,7 +6,7 @@ use Rattle.std.proofs.lemmas.Int.{ints}
 use Rattle.std.proofs.lemmas.List.{drop_all}
 use Rattle.tsp_format.specs.Cells.{IsNode}
 use Rattle.tsp_file.specs.Cost.{cost}
-use Rattle.tsp_file.specs.Meant.{nodes_of}
+use Rattle.tsp_draft.specs.Fields.{nodes_of}
 use Rattle.tsp_verdict.specs.states.Sums.{IsSumOf}
 use Rattle.tsp_verdict.proofs.RouteLengths.{length_to, length_more, length_last, sum_more, sum_one, sum_fits}
 use Rattle.tsp_verdict.proofs.lengths.route_length.Goals as goal

@@ -29,4 +29,5 @@ triples-preserved c =
     }
 
 pub returns : goal.returns
-returns c = apart_all c.args.triples.now (λ i j before inside. c.triples.invariant.apart i j before (omega (arith, inside, c.triples-test.false, c.triples.auto.triple-index-end)))
+returns c =
+    apart_all c.args.triples.now (λ i j before inside. c.triples.invariant.apart i j before (omega (arith, inside, c.triples-test.false, c.triples.auto.triple-index-end)))

@@ -3,7 +3,8 @@ use Rattle.tsp_verdict.proofs.RouteVerdicts.{depot_first, no_depot, larger_first
 use Rattle.tsp_verdict.proofs.routes.first_against_places.Goals as goal
 
 pub returns-in-Some : goal.returns-in-Some
-returns-in-Some c = depot_first c.args.inst.now c.args.sol.now _ c.args.depot c.in-Some.place c.requires.routes.nodes c.requires.depot (c.requires.before 0) c.in-Some.ensures
+returns-in-Some c =
+    depot_first c.args.inst.now c.args.sol.now _ c.args.depot c.in-Some.place c.requires.routes.nodes c.requires.depot (c.requires.before 0) c.in-Some.ensures
 
 pub returns-in-Some-first_larger_in : goal.returns-in-Some-first_larger_in
 returns-in-Some-first_larger_in c =

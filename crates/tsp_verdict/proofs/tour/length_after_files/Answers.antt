@@ -4,17 +4,17 @@ use Rattle.std.specs.Prelude.{FitsSigned}
 use Rattle.std.specs.Int.{w64}
 use Rattle.std.specs.List.{All}
 use Rattle.std.proofs.lemmas.Int.{to_z-of_z}
-use Rattle.tsp_draft.specs.Fields.{Fields}
-use Rattle.tsp_cost.specs.Tours.{is_directed}
+use Rattle.tsp_draft.specs.Fields.{Fields, nodes_of}
+use Rattle.tsp_cost.specs.ComputedProblems.{is_directed}
 use Rattle.tsp_theory.specs.Cycle.{IsCycle}
 use Rattle.tsp_verdict.specs.states.Next.{AreNext}
-use Rattle.tsp_file.specs.Meant.{nodes_of}
 use Rattle.tsp_verdict.specs.Tours.{NoneOfTourUpTo, NoneOfTourBeforeRepeats}
 use Rattle.tsp_verdict.proofs.TourVerdicts.{is_cycle, larger_first, none_up_to_repeats, repeated_first, none_up_to_fixed, unused_first, is_yes}
 use Rattle.tsp_verdict.proofs.tour.length_after_files.Goals as goal
 
 pub returns-in-Some : goal.returns-in-Some
-returns-in-Some c = larger_first c.args.inst.now c.args.sol.now c.in-Ok.tour.now c.count-nodes.result c.in-Some.place c.in-Ok.ensures.0
+returns-in-Some c =
+    larger_first c.args.inst.now c.args.sol.now c.in-Ok.tour.now c.count-nodes.result c.in-Some.place c.in-Ok.ensures.0
     c.count-nodes.ensures.value (c.in-Ok.ensures.3 0) c.in-Some.ensures
 
 pub returns-in_err-place : goal.returns-in_err-place

@@ -15,7 +15,7 @@ use Rattle.tsp_branch.specs.BranchVerdicts.{IsBranchVerdict, IsSizedVerdict}
 use Rattle.tsp_branch.specs.states.Combed.{plain}
 use Rattle.tsp_branch.specs.Listed.{IsStepOf}
 use Rattle.tsp_families.specs.FamilySets.{AreSetsOf}
-use Rattle.tsp_file.specs.Meant.{nodes_of}
+use Rattle.tsp_draft.specs.Fields.{nodes_of}
 use Rattle.tsp_verdict.proofs.FilesHold.{steps_hold, steps_few}
 use Rattle.tsp_verdict.proofs.GivenPairs.{given_once, given_are, given_few}
 use Rattle.tsp_verdict.proofs.NumberedSets.{sets_of_nodes, sets_of_combs, sets_in_order, sets_few}
@@ -23,7 +23,8 @@ use Rattle.tsp_verdict.proofs.TreeReasons.{directed_is, even_view, no_tour, are_
 use Rattle.tsp_verdict.proofs.tree.judge_tree.Goals as goal
 
 pub judge_branches-requires-clause-few_sets : goal.judge_branches-requires-clause-few_sets
-judge_branches-requires-clause-few_sets g c = sets_few (nodes_of c.args.branches.now) c.deref.result.now (combs_of c.args.tree.now.combs.now)
+judge_branches-requires-clause-few_sets g c =
+    sets_few (nodes_of c.args.branches.now) c.deref.result.now (combs_of c.args.tree.now.combs.now)
     (ap plain c.deref.ensures.value ∙ c.in_ok-sets.ensures) c.requires.held.each_comb
 
 pub judge_branches-requires-clause-few_given : goal.judge_branches-requires-clause-few_given
@@ -44,7 +45,8 @@ judge_branches-requires-clause-of_combs g c = λ k d lt.
     omega (arith, within, as_many)
 
 pub judge_branches-requires-clause-in_order : goal.judge_branches-requires-clause-in_order
-judge_branches-requires-clause-in_order g c = sets_in_order c.deref.result.now (combs_of c.args.tree.now.combs.now) (ap plain c.deref.ensures.value ∙ c.in_ok-sets.ensures)
+judge_branches-requires-clause-in_order g c =
+    sets_in_order c.deref.result.now (combs_of c.args.tree.now.combs.now) (ap plain c.deref.ensures.value ∙ c.in_ok-sets.ensures)
 
 pub judge_branches-requires-clause-few_steps : goal.judge_branches-requires-clause-few_steps
 judge_branches-requires-clause-few_steps g c = steps_few c.args.branches.now c.args.tree.now.steps.now c.requires.held.each_step
@@ -63,7 +65,8 @@ judge_branches-requires-clause-given_are g c =
     (subst (λ (m : ℕ). All (IsPairOf m) c.fixed.result.now) same c.fixed.ensures.range)
 
 pub judge_branches-requires-clause-given_once : goal.judge_branches-requires-clause-given_once
-judge_branches-requires-clause-given_once g c = given_once c.is_directed-directed.result c.deref-2.result.now c.fixed.result.now (c.deref-2.ensures.value ∙ c.in_ok-given.ensures)
+judge_branches-requires-clause-given_once g c =
+    given_once c.is_directed-directed.result c.deref-2.result.now c.fixed.result.now (c.deref-2.ensures.value ∙ c.in_ok-given.ensures)
 
 pub judge_branches-requires-clause-even : goal.judge_branches-requires-clause-even
 judge_branches-requires-clause-even g c =

@@ -1,7 +1,7 @@
 -- The goals of `first_of_in` in src/visits.rt: that no sum overflows, its loop and what it ensures.
 use Rattle.std.proofs.Common.{◌≡◌, ◌≢◌, ℕ, List, arith}
 use Rattle.tsp_verdict.specs.states.Marks.{StandsAfter}
-use Rattle.tsp_verdict.specs.states.Routes.{nodes_in}
+use Rattle.tsp_verdict.specs.states.RouteLists.{nodes_in}
 use Rattle.tsp_verdict.proofs.Pieces.{stands_here, count_here, first_after, all_more}
 use Rattle.tsp_verdict.proofs.visits.first_of_in.Goals as goal
 

@@ -1,7 +1,7 @@
 -- The loop of `first_of_in` in src/visits.rt.
 use Rattle.std.proofs.Common.{◌≡◌, ◌≢◌, ◌<◌, ℕ, length, take}
 use Rattle.std.specs.Prelude.{slice_index_or}
-use Rattle.tsp_verdict.specs.states.Routes.{nodes_in}
+use Rattle.tsp_verdict.specs.states.RouteLists.{nodes_in}
 use Rattle.tsp_verdict.proofs.visits.first_of_in.Given as goal
 
 abbrev pub invariant-routes : goal.invariant-routes

@@ -2,7 +2,7 @@
 use Rattle.std.proofs.Common.{◌≡◌, length, take}
 use Rattle.std.specs.Prelude.{vec_len}
 use Rattle.tsp_verdict.specs.states.Marks.{Marked}
-use Rattle.tsp_verdict.specs.states.Routes.{nodes_in}
+use Rattle.tsp_verdict.specs.states.RouteLists.{nodes_in}
 use Rattle.tsp_verdict.proofs.visits.mark_all.Given as goal
 
 abbrev pub invariant-routes : goal.invariant-routes

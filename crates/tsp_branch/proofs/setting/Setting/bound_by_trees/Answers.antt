@@ -9,7 +9,7 @@ use Rattle.tsp_branch.specs.declared.decision.Decision.{Decision}
 use Rattle.tsp_branch.specs.Decisions.{on_taken, on_avoided, decided_number}
 use Rattle.tsp_branch.specs.LeafBound.{IsLeafBound}
 use Rattle.tsp_branch.specs.Certificate.{multiplied}
-use Rattle.tsp_branch.specs.Weighed.{BoundsEachLeaf, given_back_of}
+use Rattle.tsp_branch.specs.LeafWeight.{BoundsEachLeaf, given_back_of}
 use Rattle.tsp_branch.specs.states.Combed.{plain, set_weight}
 use Rattle.tsp_branch.specs.CombsOfSets.{families_of}
 use Rattle.tsp_branch.specs.states.Decided.{stack_of, decided}

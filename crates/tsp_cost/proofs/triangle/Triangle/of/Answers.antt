@@ -1,5 +1,5 @@
 -- The goals of `Triangle::of` in src/triangle.rt: the invariants of its types.
-use Rattle.tsp_file.specs.Listed.{UnlistedHaveNoPlace}
+use Rattle.tsp_file.specs.ListedWeights.{UnlistedHaveNoPlace}
 use Rattle.tsp_file.proofs.Listed.{unlisted_has_no_place, triangle_even}
 use Rattle.tsp_cost.proofs.triangle.Triangle.of.Goals as goal
 

@@ -1,8 +1,7 @@
 -- The goals of `File::relayout` in src/relayout.rt: what it ensures.
 use Rattle.std.proofs.Common.{subst, ap, sym, ◌∙◌}
-use Rattle.tsp_draft.specs.Fields.{Fields}
+use Rattle.tsp_draft.specs.Fields.{Fields, nodes_of}
 use Rattle.tsp_file.specs.Cost.{cost}
-use Rattle.tsp_file.specs.Meant.{nodes_of}
 use Rattle.tsp_file.specs.Relayout.{with_weights, costs_in}
 use Rattle.tsp_file.specs.states.Way.{LeadsTo}
 use Rattle.tsp_file.proofs.Relaid.{relaid, already}

@@ -5,13 +5,12 @@ use Rattle.std.specs.Option.{option_map}
 use Rattle.tsp_format.specs.declared.layout.Layout.{Layout}
 use Rattle.tsp_format.specs.declared.layout.Layout.TheVariants.{FullMatrix}
 use Rattle.tsp_format.specs.declared.kinds.WeightFormat.TheVariants.{Listed}
-use Rattle.tsp_draft.specs.Fields.{Fields}
+use Rattle.tsp_draft.specs.Fields.{Fields, nodes_of}
 use Rattle.tsp_draft.specs.states.Drafts.{fields_of}
 use Rattle.tsp_draft.specs.Rules.{fault_of}
 use Rattle.tsp_file.specs.Cost.{cost}
-use Rattle.tsp_file.specs.Listed.{ListsWeights}
+use Rattle.tsp_file.specs.ListedWeights.{ListsWeights}
 use Rattle.tsp_file.specs.Relayout.{HoldsPairs, CanGo, with_weights, costs_in}
-use Rattle.tsp_file.specs.Meant.{nodes_of}
 use Rattle.tsp_draft.proofs.ValidFields.{in_range}
 use Rattle.tsp_file.proofs.WithWeights.{some_is}
 use Rattle.tsp_file.proofs.Listed.{lists}
@@ -22,7 +21,8 @@ use Rattle.tsp_file.proofs.file.File.with_half.Goals as goal
 as_held : (f g : Fields) (to : Layout) → f ≡ g → CanGo g to → CanGo f to
 as_held f g to same can = subst (λ (h : Fields). CanGo h to) (sym same) can
 
-held : (f g : Fields) (n : ℕ) (weights : List ℤ) → f ≡ g → fault_of f ≡ None → g.weight_format ≡ Some (Listed FullMatrix) → f.dimension ≡ Some n
+held : (f g : Fields) (n : ℕ) (weights : List ℤ) → f ≡ g → fault_of f ≡ None → g.weight_format ≡ Some (Listed FullMatrix)
+    → f.dimension ≡ Some n
     → f.weights ≡ Some weights → ListsWeights f FullMatrix n weights
 held f g n weights same valid full dimension stand =
     lists f FullMatrix n weights (in_range f valid) (subst (λ (h : Fields). h.weight_format ≡ Some (Listed FullMatrix)) (sym same) full) dimension stand

@@ -5,4 +5,5 @@ use Rattle.tsp_file.specs.states.Weights.{costs_of}
 use Rattle.tsp_file.proofs.weights.ListedWeights.first_asymmetric_by_rows.Given as goal
 
 abbrev pub invariant-rows : goal.invariant-rows
-invariant-rows l = (a b : ℕ) → IsNode l.self.nodes a → IsNode l.self.nodes b → a < b → a < l.i → costs_of l.self a b ≡ costs_of l.self b a
+invariant-rows l =
+    (a b : ℕ) → IsNode l.self.nodes a → IsNode l.self.nodes b → a < b → a < l.i → costs_of l.self a b ≡ costs_of l.self b a

@@ -4,4 +4,5 @@ use Rattle.tsp_file.specs.states.Weights.{costs_of}
 use Rattle.tsp_file.proofs.weights.ListedWeights.is_symmetric_block.Given as goal
 
 abbrev pub invariant-rows : goal.invariant-rows
-invariant-rows l = (a b : ℕ) → l.top ≤ a → a < l.i → l.left ≤ b → b < l.left + 64 → b ≤ l.self.nodes → costs_of l.self a b ≡ costs_of l.self b a
+invariant-rows l =
+    (a b : ℕ) → l.top ≤ a → a < l.i → l.left ≤ b → b < l.left + 64 → b ≤ l.self.nodes → costs_of l.self a b ≡ costs_of l.self b a

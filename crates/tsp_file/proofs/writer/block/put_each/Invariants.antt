@@ -2,9 +2,10 @@
 use Rattle.std.proofs.Common.{◌∷◌, take}
 use Rattle.std.specs.List.{flat_map}
 use Rattle.std.specs.Fmt.{signed_decimal}
-use Rattle.tsp_stream.specs.states.Way.{way_of, Carried}
+use Rattle.tsp_stream.specs.states.WriteProgress.{way_of, Carried}
 use Rattle.tsp_file.proofs.writer.block.put_each.Given as goal
 
 abbrev pub invariant-weights : goal.invariant-weights
-invariant-weights g l = Carried (way_of g.W.Write.contents l.initial.out l.initial.piece.items) (way_of g.W.Write.contents l.out l.piece.items)
+invariant-weights g l =
+    Carried (way_of g.W.Write.contents l.initial.out l.initial.piece.items) (way_of g.W.Write.contents l.out l.piece.items)
     (flat_map (λ weight. 32 ∷ signed_decimal weight) (take l.weight-index l.weights))

@@ -1,8 +1,8 @@
 -- The goals of `put_comments` in src/writer/keywords.rt: its loop and what it ensures.
 use Rattle.std.proofs.Common.{arith}
 use Rattle.tsp_format.specs.declared.field.Field.TheVariants.{CommentKey}
-use Rattle.tsp_file.specs.Text.{keyword_line}
-use Rattle.tsp_stream.specs.states.Way.{way_of}
+use Rattle.tsp_file.specs.CanonicalText.{keyword_line}
+use Rattle.tsp_stream.specs.states.WriteProgress.{way_of}
 use Rattle.tsp_stream.proofs.Carrying.{carried_mapped, carried_none, carried_next}
 use Rattle.tsp_file.proofs.writer.keywords.put_comments.Goals as goal
 

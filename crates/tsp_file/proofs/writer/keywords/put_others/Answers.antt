@@ -1,7 +1,7 @@
 -- The goals of `put_others` in src/writer/keywords.rt: its loop and what it ensures.
 use Rattle.std.proofs.Common.{arith}
-use Rattle.tsp_file.specs.Text.{other_line, value_line}
-use Rattle.tsp_stream.specs.states.Way.{way_of}
+use Rattle.tsp_file.specs.CanonicalText.{other_line, value_line}
+use Rattle.tsp_stream.specs.states.WriteProgress.{way_of}
 use Rattle.tsp_stream.proofs.Carrying.{carried_mapped, carried_none, carried_next}
 use Rattle.tsp_file.proofs.writer.keywords.put_others.Goals as goal
 

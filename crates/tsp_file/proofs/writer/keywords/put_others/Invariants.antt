@@ -1,10 +1,11 @@
 -- The loop of `put_others` in src/writer/keywords.rt.
 use Rattle.std.proofs.Common.{take}
 use Rattle.std.specs.List.{flat_map}
-use Rattle.tsp_file.specs.Text.{value_line}
-use Rattle.tsp_stream.specs.states.Way.{way_of, Carried}
+use Rattle.tsp_file.specs.CanonicalText.{value_line}
+use Rattle.tsp_stream.specs.states.WriteProgress.{way_of, Carried}
 use Rattle.tsp_file.proofs.writer.keywords.put_others.Given as goal
 
 abbrev pub invariant-loop-keyword : goal.invariant-loop-keyword
-invariant-loop-keyword g l = Carried (way_of g.W.Write.contents l.initial.out l.initial.piece.items) (way_of g.W.Write.contents l.out l.piece.items)
+invariant-loop-keyword g l =
+    Carried (way_of g.W.Write.contents l.initial.out l.initial.piece.items) (way_of g.W.Write.contents l.out l.piece.items)
     (flat_map (λ p. value_line p.0.items p.1.items) (take l.keyword-index l.others))

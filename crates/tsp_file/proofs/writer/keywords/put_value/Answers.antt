@@ -1,10 +1,10 @@
 -- The goals of `put_value` in src/writer/keywords.rt: what it ensures.
 use Rattle.std.proofs.Common.{[], ◌∷◌, ◌++◌, sym, ◌∙◌}
 use Rattle.std.specs.Prelude.{codes}
-use Rattle.tsp_stream.specs.states.Way.{Carried, way_of}
+use Rattle.tsp_stream.specs.states.WriteProgress.{Carried, way_of}
 use Rattle.tsp_stream.proofs.Carrying.{carried_none, carried_then}
 use Rattle.tsp_file.proofs.Lines.{no_value, some_value}
-use Rattle.tsp_file.specs.Text.{blank_before, line_end}
+use Rattle.tsp_file.specs.CanonicalText.{blank_before, line_end}
 use Rattle.tsp_file.proofs.writer.keywords.put_value.Goals.{then-not-is_empty, else-not-is_empty}
 use Rattle.tsp_file.proofs.writer.keywords.put_value.Goals as goal
 

@@ -1,13 +1,14 @@
 -- The goals of `put_lines` in src/writer/matrix.rt: its loop and what it ensures.
 use Rattle.std.proofs.Common.{◌≡◌, ◌∙◌, sym, length, map, min, arith}
 use Rattle.tsp_format.specs.Cells.{nodes_to, cells_of_line}
-use Rattle.tsp_file.specs.Text.{matrix_lines}
-use Rattle.tsp_stream.specs.states.Way.{way_of}
+use Rattle.tsp_file.specs.CanonicalText.{matrix_lines}
+use Rattle.tsp_stream.specs.states.WriteProgress.{way_of}
 use Rattle.tsp_file.proofs.Matrices.{comes_begins, comes_next, comes_last, comes_failed}
 use Rattle.tsp_file.proofs.writer.matrix.put_lines.Goals as goal
 
 pub lines-init : goal.lines-init
-lines-init g c = comes_begins (λ k. length (cells_of_line c.args.layout c.args.nodes k)) c.args.nodes c.args.weights.now (way_of g.W.Write.contents c.args.out.now c.args.piece.now.items)
+lines-init g c =
+    comes_begins (λ k. length (cells_of_line c.args.layout c.args.nodes k)) c.args.nodes c.args.weights.now (way_of g.W.Write.contents c.args.out.now c.args.piece.now.items)
 
 pub lines-preserved : goal.lines-preserved
 lines-preserved g c =
@@ -23,5 +24,6 @@ pub returns-then-failed : goal.returns-then-failed
 returns-then-failed g c = comes_failed _ _ _ _ c.lines.invariant (sym c.failed.ensures ∙ c.if-failed.true)
 
 pub returns : goal.returns
-returns g c = comes_last (λ k. length (cells_of_line c.args.layout c.args.nodes k)) c.args.nodes c.lines.index c.lines.rest.now _ _ _
+returns g c =
+    comes_last (λ k. length (cells_of_line c.args.layout c.args.nodes k)) c.args.nodes c.lines.index c.lines.rest.now _ _ _
     (way_of g.W.Write.contents c.put_weight_line-2.new.out c.put_weight_line-2.new.piece.items) (omega arith) c.lines.invariant c.put_weight_line-2.ensures

@@ -1,12 +1,13 @@
 -- The loop of `put_lines` in src/writer/matrix.rt.
 use Rattle.std.proofs.Common.{◌+◌, ◌-◌, length, map}
 use Rattle.tsp_format.specs.Cells.{nodes_to, cells_of_line}
-use Rattle.tsp_file.specs.Text.{matrix_lines}
-use Rattle.tsp_stream.specs.states.Way.{way_of}
+use Rattle.tsp_file.specs.CanonicalText.{matrix_lines}
+use Rattle.tsp_stream.specs.states.WriteProgress.{way_of}
 use Rattle.tsp_file.proofs.Matrices.{Comes, lines_from}
 use Rattle.tsp_file.proofs.writer.matrix.put_lines.Given as goal
 
 abbrev pub invariant-lines : goal.invariant-lines
-invariant-lines g l = Comes (way_of g.W.Write.contents l.initial.out l.initial.piece.items) (way_of g.W.Write.contents l.out l.piece.items)
+invariant-lines g l =
+    Comes (way_of g.W.Write.contents l.initial.out l.initial.piece.items) (way_of g.W.Write.contents l.out l.piece.items)
     (lines_from (λ k. length (cells_of_line l.layout l.nodes k)) (l.index + 1) (l.nodes - l.index) l.rest)
     (matrix_lines (map (λ k. length (cells_of_line l.layout l.nodes k)) (nodes_to l.nodes)) l.weights)

@@ -1,12 +1,13 @@
 -- The goals of `put_more_weights` in src/writer/matrix.rt: its loop and what it ensures.
 use Rattle.std.proofs.Common.{[], refl}
-use Rattle.tsp_stream.specs.states.Way.{way_of}
+use Rattle.tsp_stream.specs.states.WriteProgress.{way_of}
 use Rattle.tsp_stream.proofs.Carrying.{carried_none}
 use Rattle.tsp_file.proofs.Matrices.{after_blanks, comes_block, comes_blocks}
 use Rattle.tsp_file.proofs.writer.matrix.put_more_weights.Goals as goal
 
 pub parts-init : goal.parts-init
-parts-init g c = record { done = []; carried = carried_none (way_of g.W.Write.contents c.args.out.now c.args.piece.now.items); parts = refl }
+parts-init g c =
+    record { done = []; carried = carried_none (way_of g.W.Write.contents c.args.out.now c.args.piece.now.items); parts = refl }
 
 pub parts-preserved : goal.parts-preserved
 parts-preserved g c =

@@ -2,12 +2,13 @@
 use Rattle.std.proofs.Common.{◌∷◌, length}
 use Rattle.std.specs.List.{flat_map}
 use Rattle.std.specs.Fmt.{signed_decimal}
-use Rattle.tsp_stream.specs.states.Way.{way_of}
+use Rattle.tsp_stream.specs.states.WriteProgress.{way_of}
 use Rattle.tsp_file.proofs.Matrices.{Comes}
 use Rattle.tsp_file.proofs.writer.matrix.put_more_weights.Given as goal
 
 abbrev pub invariant-parts : goal.invariant-parts
-invariant-parts g l = Comes (way_of g.W.Write.contents l.initial.out l.initial.piece.items) (way_of g.W.Write.contents l.out l.piece.items)
+invariant-parts g l =
+    Comes (way_of g.W.Write.contents l.initial.out l.initial.piece.items) (way_of g.W.Write.contents l.out l.piece.items)
     (flat_map (λ weight. 32 ∷ signed_decimal weight) l.rest)
     (flat_map (λ weight. 32 ∷ signed_decimal weight) l.weights)
 

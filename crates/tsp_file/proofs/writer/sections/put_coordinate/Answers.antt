@@ -1,7 +1,7 @@
 -- The goals of `put_coordinate` in src/writer/sections.rt: what it ensures.
 use Rattle.std.proofs.Common.{[], ◌∷◌, refl}
 use Rattle.tsp_number.specs.Spelling.{spelling}
-use Rattle.tsp_stream.specs.states.Way.{way_of}
+use Rattle.tsp_stream.specs.states.WriteProgress.{way_of}
 use Rattle.tsp_stream.proofs.Carrying.{carried_then, carried_waits}
 use Rattle.tsp_file.proofs.writer.sections.put_coordinate.Goals as goal
 

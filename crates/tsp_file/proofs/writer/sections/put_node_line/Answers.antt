@@ -1,8 +1,8 @@
 -- The goals of `put_node_line` in src/writer/sections.rt: what it ensures.
 use Rattle.std.specs.Fmt.{decimal}
-use Rattle.tsp_stream.specs.states.Way.{way_of}
+use Rattle.tsp_stream.specs.states.WriteProgress.{way_of}
 use Rattle.tsp_stream.proofs.Carrying.{carried_then}
-use Rattle.tsp_file.specs.Text.{line_end}
+use Rattle.tsp_file.specs.CanonicalText.{line_end}
 use Rattle.tsp_file.proofs.writer.sections.put_node_line.Goals as goal
 
 pub returns : goal.returns

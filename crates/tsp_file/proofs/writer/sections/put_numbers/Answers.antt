@@ -4,8 +4,8 @@ use Rattle.std.specs.Prelude.{ℤ, pos, FitsSigned}
 use Rattle.std.specs.Int.{w64}
 use Rattle.std.proofs.lemmas.Int.{to_z-of_z}
 use Rattle.std.specs.Fmt.{decimal}
-use Rattle.tsp_file.specs.Text.{number_line, whole_number}
-use Rattle.tsp_stream.specs.states.Way.{way_of}
+use Rattle.tsp_file.specs.CanonicalText.{number_line, whole_number}
+use Rattle.tsp_stream.specs.states.WriteProgress.{way_of}
 use Rattle.tsp_stream.proofs.Carrying.{carried_node_or, carried_nodes}
 use Rattle.tsp_file.proofs.writer.sections.put_numbers.Goals as goal
 
@@ -19,6 +19,7 @@ nodes-preserved g c =
     (omega arith) c.nodes.invariant line
 
 pub returns : goal.returns
-returns g c = carried_nodes (λ (entry : ℕ × ℤ). number_line (decimal entry.0) (whole_number entry.1)) c.args.numbers.now c.nodes.index
+returns g c =
+    carried_nodes (λ (entry : ℕ × ℤ). number_line (decimal entry.0) (whole_number entry.1)) c.args.numbers.now c.nodes.index
     (way_of g.W.Write.contents c.args.out.now c.args.piece.now.items) (way_of g.W.Write.contents c.nodes.out c.nodes.piece.items) (omega arith)
     c.nodes.invariant

@@ -1,8 +1,8 @@
 -- The goals of `put_opening` in src/writer/sections.rt: what it ensures.
 use Rattle.tsp_format.specs.Words.{field_word}
-use Rattle.tsp_stream.specs.states.Way.{way_of}
+use Rattle.tsp_stream.specs.states.WriteProgress.{way_of}
 use Rattle.tsp_stream.proofs.Carrying.{carried_then}
-use Rattle.tsp_file.specs.Text.{line_end}
+use Rattle.tsp_file.specs.CanonicalText.{line_end}
 use Rattle.tsp_file.proofs.writer.sections.put_opening.Goals as goal
 
 pub returns : goal.returns

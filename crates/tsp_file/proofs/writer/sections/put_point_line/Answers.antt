@@ -2,9 +2,9 @@
 use Rattle.std.proofs.Common.{◌∷◌}
 use Rattle.std.specs.Fmt.{decimal}
 use Rattle.tsp_number.specs.Spelling.{spelling}
-use Rattle.tsp_stream.specs.states.Way.{Carried, way_of}
+use Rattle.tsp_stream.specs.states.WriteProgress.{Carried, way_of}
 use Rattle.tsp_file.proofs.Lines.{three_numbers, four_numbers}
-use Rattle.tsp_file.specs.Text.{line_end}
+use Rattle.tsp_file.specs.CanonicalText.{line_end}
 use Rattle.tsp_file.proofs.writer.sections.put_point_line.Goals.{then-spatial, else-spatial}
 use Rattle.tsp_file.proofs.writer.sections.put_point_line.Goals as goal
 

@@ -2,10 +2,11 @@
 use Rattle.std.proofs.Common.{[], ◌∷◌, ℕ, ℤ, take}
 use Rattle.std.specs.List.{flat_map}
 use Rattle.std.specs.Fmt.{decimal, signed_decimal}
-use Rattle.tsp_file.specs.Text.{number_line}
-use Rattle.tsp_stream.specs.states.Way.{way_of, Carried}
+use Rattle.tsp_file.specs.CanonicalText.{number_line}
+use Rattle.tsp_stream.specs.states.WriteProgress.{way_of, Carried}
 use Rattle.tsp_file.proofs.writer.sections.put_triples.Given as goal
 
 abbrev pub invariant-triples : goal.invariant-triples
-invariant-triples g l = Carried (way_of g.W.Write.contents l.initial.out l.initial.piece.items) (way_of g.W.Write.contents l.out l.piece.items)
+invariant-triples g l =
+    Carried (way_of g.W.Write.contents l.initial.out l.initial.piece.items) (way_of g.W.Write.contents l.out l.piece.items)
     (flat_map (λ (triple : ℕ × ℕ × ℤ). number_line (decimal triple.0) (decimal triple.1 ∷ signed_decimal triple.2 ∷ [])) (take l.first-index l.triples))

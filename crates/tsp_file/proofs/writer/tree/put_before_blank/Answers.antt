@@ -1,6 +1,6 @@
 -- The goals of `put_before_blank` in src/writer/tree.rt: what it ensures.
 use Rattle.std.proofs.Common.{[], ◌∷◌}
-use Rattle.tsp_stream.specs.states.Way.{way_of}
+use Rattle.tsp_stream.specs.states.WriteProgress.{way_of}
 use Rattle.tsp_stream.proofs.Carrying.{carried_then}
 use Rattle.tsp_file.proofs.writer.tree.put_before_blank.Goals as goal
 

@@ -1,9 +1,9 @@
 -- The goals of `put_change` in src/writer/tree.rt: what it ensures.
 use Rattle.std.proofs.Common.{[], ◌++◌, rules}
 use Rattle.std.specs.Fmt.{decimal, signed_decimal}
-use Rattle.tsp_stream.specs.states.Way.{way_of}
+use Rattle.tsp_stream.specs.states.WriteProgress.{way_of}
 use Rattle.tsp_stream.proofs.Carrying.{carried_none, carried_then}
-use Rattle.tsp_file.specs.Text.{before_blank}
+use Rattle.tsp_file.specs.CanonicalText.{before_blank}
 use Rattle.std.specs.Int.{w64}
 use Rattle.std.proofs.lemmas.Int.{to_z-of_z}
 use Rattle.std.specs.Prelude.{FitsSigned}

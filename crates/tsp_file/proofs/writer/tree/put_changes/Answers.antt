@@ -2,8 +2,8 @@
 use Rattle.std.proofs.Common.{ℕ, List, sym, subst, arith, rules, get_or}
 use Rattle.std.specs.Prelude.{ℤ, pos, FitsSigned}
 use Rattle.std.specs.List.{flat_map}
-use Rattle.tsp_file.specs.Text.{before_blank, change_words}
-use Rattle.tsp_stream.specs.states.Way.{Carried, way_of}
+use Rattle.tsp_file.specs.CanonicalText.{before_blank, change_words}
+use Rattle.tsp_stream.specs.states.WriteProgress.{Carried, way_of}
 use Rattle.tsp_stream.proofs.Carrying.{carried_all, carried_none, carried_next_or}
 use Rattle.tsp_file.proofs.TreeLengths.{flat_of_flat}
 use Rattle.std.specs.Int.{w64}

@@ -1,10 +1,11 @@
 -- The loop of `put_changes` in src/writer/tree.rt.
 use Rattle.std.proofs.Common.{take, ℕ, ℤ}
 use Rattle.std.specs.List.{flat_map}
-use Rattle.tsp_file.specs.Text.{before_blank, change_words}
-use Rattle.tsp_stream.specs.states.Way.{way_of, Carried}
+use Rattle.tsp_file.specs.CanonicalText.{before_blank, change_words}
+use Rattle.tsp_stream.specs.states.WriteProgress.{way_of, Carried}
 use Rattle.tsp_file.proofs.writer.tree.put_changes.Given as goal
 
 abbrev pub invariant-changes : goal.invariant-changes
-invariant-changes g l = Carried (way_of g.W.Write.contents l.initial.out l.initial.piece.items) (way_of g.W.Write.contents l.out l.piece.items)
+invariant-changes g l =
+    Carried (way_of g.W.Write.contents l.initial.out l.initial.piece.items) (way_of g.W.Write.contents l.out l.piece.items)
     (flat_map (λ (change : ℕ × ℤ). flat_map before_blank (change_words change)) (take l.index-index l.changes))

@@ -3,8 +3,8 @@ use Rattle.std.proofs.Common.{map, arith}
 use Rattle.std.specs.Prelude.{codes}
 use Rattle.std.specs.List.{flat_map}
 use Rattle.tsp_draft.specs.states.Drafts.{combs_of}
-use Rattle.tsp_file.specs.Text.{comb_lines}
-use Rattle.tsp_stream.specs.states.Way.{way_of}
+use Rattle.tsp_file.specs.CanonicalText.{comb_lines}
+use Rattle.tsp_stream.specs.states.WriteProgress.{way_of}
 use Rattle.tsp_stream.proofs.Carrying.{carried_then, carried_mapped, carried_none, carried_next}
 use Rattle.tsp_file.proofs.writer.tree.put_combs.Goals as goal
 

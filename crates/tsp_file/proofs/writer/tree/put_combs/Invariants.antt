@@ -1,10 +1,11 @@
 -- The loop of `put_combs` in src/writer/tree.rt.
 use Rattle.std.proofs.Common.{take, map}
 use Rattle.std.specs.List.{flat_map}
-use Rattle.tsp_file.specs.Text.{comb_lines}
-use Rattle.tsp_stream.specs.states.Way.{way_of, Carried}
+use Rattle.tsp_file.specs.CanonicalText.{comb_lines}
+use Rattle.tsp_stream.specs.states.WriteProgress.{way_of, Carried}
 use Rattle.tsp_file.proofs.writer.tree.put_combs.Given as goal
 
 abbrev pub invariant-combs : goal.invariant-combs
-invariant-combs g l = Carried (way_of g.W.Write.contents l.initial.out l.initial.piece.items) (way_of g.W.Write.contents l.out l.piece.items)
+invariant-combs g l =
+    Carried (way_of g.W.Write.contents l.initial.out l.initial.piece.items) (way_of g.W.Write.contents l.out l.piece.items)
     (flat_map (λ comb. comb_lines (map (λ set. set.items) comb.items)) (take l.comb-index l.combs))

@@ -2,8 +2,8 @@
 use Rattle.std.proofs.Common.{◌++◌}
 use Rattle.std.specs.Prelude.{codes}
 use Rattle.std.specs.List.{flat_map}
-use Rattle.tsp_file.specs.Text.{before_blank, change_words}
-use Rattle.tsp_stream.specs.states.Way.{way_of}
+use Rattle.tsp_file.specs.CanonicalText.{before_blank, change_words}
+use Rattle.tsp_stream.specs.states.WriteProgress.{way_of}
 use Rattle.tsp_stream.proofs.Carrying.{carried_then}
 use Rattle.tsp_file.proofs.writer.tree.put_leaf.Goals as goal
 

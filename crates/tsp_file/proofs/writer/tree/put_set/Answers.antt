@@ -3,8 +3,8 @@ use Rattle.std.proofs.Common.{map, arith, ℕ}
 use Rattle.std.specs.Prelude.{codes}
 use Rattle.std.specs.List.{flat_map}
 use Rattle.std.specs.Fmt.{decimal}
-use Rattle.tsp_file.specs.Text.{before_blank}
-use Rattle.tsp_stream.specs.states.Way.{way_of}
+use Rattle.tsp_file.specs.CanonicalText.{before_blank}
+use Rattle.tsp_stream.specs.states.WriteProgress.{way_of}
 use Rattle.tsp_stream.proofs.Carrying.{carried_then, carried_mapped, carried_none, carried_next_or}
 use Rattle.tsp_file.proofs.writer.tree.put_set.Goals as goal
 

@@ -1,8 +1,8 @@
 -- The goals of `put_steps` in src/writer/tree.rt: its loop and what it ensures.
 use Rattle.std.proofs.Common.{arith}
 use Rattle.tsp_format.specs.states.TreeSteps.{step_of}
-use Rattle.tsp_file.specs.Text.{step_line}
-use Rattle.tsp_stream.specs.states.Way.{way_of}
+use Rattle.tsp_file.specs.CanonicalText.{step_line}
+use Rattle.tsp_stream.specs.states.WriteProgress.{way_of}
 use Rattle.tsp_stream.proofs.Carrying.{carried_mapped, carried_none, carried_next}
 use Rattle.tsp_file.proofs.writer.tree.put_steps.Goals as goal
 

@@ -1,7 +1,7 @@
 -- The goals of `DepotList::push` in src/parts/depots.rt: what it ensures.
 use Rattle.std.proofs.Common.{◌≡◌, ◌∙◌, sym, ap, Ok, arith}
 use Rattle.std.specs.Prelude.{pos, negsuc}
-use Rattle.tsp_text.specs.Numbers.{node_or_end}
+use Rattle.tsp_text.specs.SectionNumbers.{node_or_end}
 use Rattle.tsp_section.specs.states.Parts.{as_node_or_end}
 use Rattle.tsp_section.proofs.DepotSteps.{depot_past_end, depot_end, depot_more}
 use Rattle.tsp_section.proofs.parts.depots.DepotList.push.Goals as goal

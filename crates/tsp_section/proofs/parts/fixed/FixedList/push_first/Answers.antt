@@ -1,7 +1,7 @@
 -- The goals of `FixedList::push_first` in src/parts/fixed.rt: what it ensures.
 use Rattle.std.proofs.Common.{◌≡◌, ◌∙◌, ap, Ok, Err, arith}
 use Rattle.std.specs.Prelude.{pos, negsuc}
-use Rattle.tsp_text.specs.Numbers.{node_or_end}
+use Rattle.tsp_text.specs.SectionNumbers.{node_or_end}
 use Rattle.tsp_section.specs.states.Parts.{as_node_or_end}
 use Rattle.tsp_section.proofs.FixedSteps.{first_bad, first_surplus, pairs_ended, pair_begins}
 use Rattle.tsp_section.proofs.parts.fixed.FixedList.push_first.Goals as goal

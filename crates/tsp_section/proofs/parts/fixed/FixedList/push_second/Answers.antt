@@ -1,7 +1,7 @@
 -- The goals of `FixedList::push_second` in src/parts/fixed.rt: what it ensures.
 use Rattle.std.proofs.Common.{◌≡◌, ◌∙◌, ap, Ok, Err}
 use Rattle.std.specs.Prelude.{pos}
-use Rattle.tsp_text.specs.Numbers.{node}
+use Rattle.tsp_text.specs.SectionNumbers.{node}
 use Rattle.tsp_section.specs.states.Parts.{as_number}
 use Rattle.tsp_section.proofs.FixedSteps.{second_bad, second_same, pair_ends}
 use Rattle.tsp_section.proofs.parts.fixed.FixedList.push_second.Goals as goal

@@ -1,7 +1,7 @@
 -- The goals of `TourList::push` in src/parts/tours.rt: what it ensures.
 use Rattle.std.proofs.Common.{◌+◌, ◌≡◌, ◌∙◌, ap, false, refl, tests, rules, Ok}
 use Rattle.std.specs.Prelude.{nat_le, negsuc, pos}
-use Rattle.tsp_text.specs.Numbers.{node_or_end}
+use Rattle.tsp_text.specs.SectionNumbers.{node_or_end}
 use Rattle.tsp_section.specs.states.Parts.{as_node_or_end}
 use Rattle.tsp_section.specs.declared.parts.tours.TourList.{TourList}
 use Rattle.tsp_section.proofs.TourSteps.{after_end, after_node}

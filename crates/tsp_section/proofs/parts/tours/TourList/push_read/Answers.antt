@@ -2,7 +2,7 @@
 use Rattle.std.proofs.Common.{◌+◌, ◌≡◌, ◌++◌, ◌∷◌, [], false, refl, arith, tests, rules, Ok, FitsSigned, w64}
 use Rattle.std.specs.Prelude.{nat_le, pos}
 use Rattle.std.proofs.lemmas.Int.{to_z-of_z}
-use Rattle.tsp_text.specs.Numbers.{node_or_end}
+use Rattle.tsp_text.specs.SectionNumbers.{node_or_end}
 use Rattle.tsp_section.specs.declared.parts.tours.TourList.{TourList}
 use Rattle.tsp_section.proofs.TourSteps.{whole_node, after_node}
 use Rattle.tsp_section.proofs.parts.tours.TourList.push_read.Goals as goal

@@ -4,7 +4,7 @@ use Rattle.std.specs.Prelude.{pos, neg_ℤ}
 use Rattle.std.proofs.lemmas.Int.{to_z-of_z}
 use Rattle.tsp_number.specs.Reading.{whole_of}
 use Rattle.tsp_format.specs.Limits.{most_difference}
-use Rattle.tsp_section.specs.states.Held.{tree_held}
+use Rattle.tsp_section.specs.states.HeldParts.{tree_held}
 use Rattle.tsp_section.proofs.TreeSteps.{difference_taken}
 use Rattle.tsp_section.proofs.parts.tree.TreeList.push_difference.Goals as goal
 

@@ -1,7 +1,7 @@
 -- The goals of `TripleList::push_second` in src/parts/triples.rt: what it ensures.
 use Rattle.std.proofs.Common.{◌≡◌, ◌∙◌, ap, Ok, Err}
 use Rattle.std.specs.Prelude.{pos}
-use Rattle.tsp_text.specs.Numbers.{node}
+use Rattle.tsp_text.specs.SectionNumbers.{node}
 use Rattle.tsp_section.specs.states.Parts.{as_number}
 use Rattle.tsp_section.proofs.TripleSteps.{second_bad, second_same, triple_goes_on}
 use Rattle.tsp_section.proofs.parts.triples.TripleList.push_second.Goals as goal

@@ -3,7 +3,7 @@ use Rattle.std.proofs.Common.{◌≡◌, ◌∙◌, sym, Ok, arith, w64}
 use mir.Val.{SFits}
 use Rattle.std.proofs.lemmas.Int.{ints, to_z-of_z}
 use Rattle.tsp_format.specs.Limits.{most_weight}
-use Rattle.tsp_text.specs.Numbers.{whole_of_size}
+use Rattle.tsp_text.specs.SectionNumbers.{whole_of_size}
 use Rattle.tsp_section.proofs.WeightSteps.{weight_more}
 use Rattle.tsp_section.proofs.parts.weights.WeightList.push.Goals as goal
 

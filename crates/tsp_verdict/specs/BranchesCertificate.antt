@@ -2,11 +2,11 @@
 use Rattle.std.specs.Prelude.{◌≡◌, ◌≢◌, ℕ, ◌-◌, Bool, false, not, List, [], ◌∷◌, length, filter, slice_index_or, Option, None, Some, ℤ}
 use Rattle.std.specs.List.{All}
 use Rattle.tsp_format.specs.Steps as listed
-use Rattle.tsp_draft.specs.Fields.{Fields}
+use Rattle.tsp_draft.specs.Fields.{Fields, nodes_of}
 use Rattle.tsp_draft.specs.Rules.{is_tree}
-use Rattle.tsp_file.specs.Meant.{nodes_of, fixed_of, scale_in, combs_in}
+use Rattle.tsp_file.specs.Meant.{fixed_of, scale_in, combs_in}
 use Rattle.tsp_file.specs.Cost.{cost}
-use Rattle.tsp_cost.specs.Tours.{is_directed}
+use Rattle.tsp_cost.specs.ComputedProblems.{is_directed}
 use Rattle.tsp_families.specs.declared.family.Crossings.{Crossings}
 use Rattle.tsp_branch.specs.Families.{Family, IsFamily}
 use Rattle.tsp_branch.specs.CombsOfSets.{family_with}

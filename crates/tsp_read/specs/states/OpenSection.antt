@@ -1,7 +1,7 @@
 -- What the section that is open holds.
 use Rattle.std.specs.Prelude.{◌≡◌, ℕ, Bool, List, Some}
 use Rattle.tsp_format.specs.Shapes.{shape_of}
-use Rattle.tsp_section.specs.states.Held.{shape_by, HoldsPart}
+use Rattle.tsp_section.specs.states.HeldParts.{shape_by, HoldsPart}
 use Rattle.tsp_read.specs.declared.state.reading.OpenSection.{OpenSection}
 
 -- its part is one for it, in a spatial file or in another, and holds these words of it

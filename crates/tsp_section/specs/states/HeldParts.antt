@@ -12,8 +12,8 @@ use Rattle.tsp_section.specs.declared.parts.tree.TreeList.{TreeList}
 use Rattle.tsp_format.specs.Limits.{most_combs}
 use Rattle.tsp_format.specs.states.TreeSteps.{steps_of}
 use Rattle.tsp_draft.specs.states.Drafts.{points_of, combs_of}
-use Rattle.tsp_text.specs.Combs.{CombsSoFar, combs_after}
-use Rattle.tsp_text.specs.Tree.{TreeSoFar, tree_after}
+use Rattle.tsp_text.specs.CombSection.{CombsSoFar, combs_after}
+use Rattle.tsp_text.specs.BranchSection.{TreeSoFar, tree_after}
 use Rattle.tsp_section.specs.declared.part.Part.{Part}
 use Rattle.tsp_section.specs.declared.part.Part.TheVariants as parts
 use Rattle.tsp_format.specs.declared.field.Shape.{Shape}

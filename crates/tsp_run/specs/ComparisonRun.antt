@@ -7,7 +7,7 @@ use Rattle.tsp_judge.specs.Watched.{watched, has_failed, turn_of}
 use Rattle.tsp_judge.specs.Turn.{TakesAtMost}
 use Rattle.tsp_judge.specs.Sink.{Sink}
 use Rattle.tsp_judge.specs.Reads.{most_taken}
-use Rattle.tsp_judge.specs.Run.{Given}
+use Rattle.tsp_judge.specs.CheckRun.{Given}
 use Rattle.tsp_judge.specs.CompareRun.{IsCompareRun}
 use Rattle.tsp_judge.specs.declared.compared.Compared.{Compared}
 use Rattle.tsp_judge.specs.declared.fault.RunFault.{RunFault}

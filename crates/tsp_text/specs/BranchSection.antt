@@ -7,8 +7,8 @@ use Rattle.tsp_number.specs.declared.fault.NumberFault.{NumberFault}
 use Rattle.tsp_number.specs.Reading.{whole_of}
 use Rattle.tsp_format.specs.Limits.{most_combs, most_difference}
 use Rattle.tsp_format.specs.Steps.{Step, Branch, Leaf}
-use Rattle.tsp_text.specs.Numbers.{number, reads_as, node, whole_of_size, node_or_end, is_end}
-use Rattle.tsp_text.specs.Places.{Place, StepAfter, SecondOf, IndexAfter, Amount, PastGroups}
+use Rattle.tsp_text.specs.SectionNumbers.{number, reads_as, node, whole_of_size, node_or_end, is_end}
+use Rattle.tsp_text.specs.WordPlaces.{Place, StepAfter, SecondOf, IndexAfter, Amount, PastGroups}
 
 -- the contents after some words of the section
 pub record TreeSoFar : Type 0 where

@@ -3,8 +3,8 @@
 use Rattle.std.specs.Prelude.{ℕ, ◌+◌, Bool, true, false, cond, ◌||◌, List, [], ◌∷◌, ◌++◌, length, nat_abs}
 use Rattle.std.specs.List.{fold}
 use Rattle.tsp_text.specs.Lines.{is_filled}
-use Rattle.tsp_text.specs.Numbers.{number, node_or_end, is_end}
-use Rattle.tsp_text.specs.Places.{Place, SetNode, PastEnd}
+use Rattle.tsp_text.specs.SectionNumbers.{number, node_or_end, is_end}
+use Rattle.tsp_text.specs.WordPlaces.{Place, SetNode, PastEnd}
 
 -- the contents after some words of the section
 pub record CombsSoFar : Type 0 where

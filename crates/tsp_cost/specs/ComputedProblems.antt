@@ -2,9 +2,9 @@
 use Rattle.std.specs.Prelude.{ℕ, Bool, true, false, List, [], Option, None, Some, unwrap_or, slice_index, ℤ, pos}
 use Rattle.tsp_format.specs.declared.kinds.Kind.{Kind}
 use Rattle.tsp_format.specs.declared.kinds.Kind.TheVariants.{Tsp, Atsp, Cvrp, Tour, Potentials, Branches}
-use Rattle.tsp_draft.specs.Fields.{Fields}
+use Rattle.tsp_draft.specs.Fields.{Fields, nodes_of}
 use Rattle.tsp_file.specs.Cost.{cost}
-use Rattle.tsp_file.specs.Meant.{nodes_of, fixed_of}
+use Rattle.tsp_file.specs.Meant.{fixed_of}
 use Rattle.tsp_theory.specs.Routing.{RoutingProblem, IsPlan}
 use Rattle.tsp_theory.specs.Tour.{Problem, IsTour}
 

@@ -7,9 +7,8 @@ use Rattle.tsp_format.specs.declared.kinds.WeightKind.{WeightKind}
 use Rattle.tsp_format.specs.declared.kinds.WeightKind.TheVariants.{Euc2d, Ceil2d, Man2d, Max2d, Att, Euc3d, Man3d, Max3d}
 use Rattle.tsp_format.specs.Cells.{IsNode}
 use Rattle.tsp_format.specs.Limits.{most_tour_nodes}
-use Rattle.tsp_draft.specs.Fields.{Fields}
+use Rattle.tsp_draft.specs.Fields.{Fields, nodes_of}
 use Rattle.tsp_draft.specs.Rules.{is_instance}
-use Rattle.tsp_file.specs.Meant.{nodes_of}
 use Rattle.tsp_file.specs.Cost.{cost, distance, point_of}
 use Rattle.tsp_text.specs.Text.{Spells}
 use Rattle.tsp_theory.specs.Length.{length_of}

@@ -1,8 +1,8 @@
 -- The weights of a matrix. TSPLIB 95 (G. Reinelt): EDGE_WEIGHT_SECTION.
 use Rattle.std.specs.Prelude.{ℕ, ◌*◌, cond, nat_le, List, length, map, ℤ}
 use Rattle.tsp_format.specs.Limits.{most_weight}
-use Rattle.tsp_text.specs.Numbers.{number, whole_of_size}
-use Rattle.tsp_text.specs.Places.{Place, Weight, PastWeights}
+use Rattle.tsp_text.specs.SectionNumbers.{number, whole_of_size}
+use Rattle.tsp_text.specs.WordPlaces.{Place, Weight, PastWeights}
 
 -- all words of the section
 abbrev pub weights_in : List (List ℕ) → List ℤ

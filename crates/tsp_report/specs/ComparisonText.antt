@@ -4,7 +4,7 @@ use Rattle.std.specs.Ordering.{int_eq}
 use Rattle.std.specs.Fmt.{signed_decimal}
 use Rattle.tsp_draft.specs.Fields.{Fields}
 use Rattle.tsp_text.specs.declared.fault.ReadFault.{ReadFault}
-use Rattle.tsp_text.specs.FaultText.{read_fault_text}
+use Rattle.tsp_text.specs.ReadFaultText.{read_fault_text}
 use Rattle.tsp_reason.specs.declared.basis.Basis.{Basis}
 use Rattle.tsp_reason.specs.declared.basis.Basis.TheVariants as bases
 use Rattle.tsp_reason.specs.declared.verdict.Verdict.{Verdict}

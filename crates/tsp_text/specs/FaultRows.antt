@@ -18,9 +18,9 @@ use Rattle.tsp_text.specs.Items.{WordLine, Item, Line, NumberWord, LineEnd}
 use Rattle.tsp_format.specs.Shapes.{is_section_field}
 use Rattle.tsp_text.specs.Earlier.{same_field, has_line, values_at, others_in, open_section}
 use Rattle.tsp_text.specs.Values.{is_refused, is_left_out, has_number, read_as, is_kept_as_is, says_space, spatial_after}
-use Rattle.tsp_text.specs.Numbers.{reads_as, node, whole_of_size, node_or_end, is_end, is_minus_one}
-use Rattle.tsp_text.specs.Places.{Place, NodeAfter, Coordinate, Amount, PastGroups, DepotAfter, FirstAfter, SecondOf, PastEnd, Weight, PastWeights, TourNode, SetNode, StepAfter, IndexAfter}
-use Rattle.tsp_text.specs.Tree.{node_or_leaf, begins_leaf, index_or_end, ends_leaf}
+use Rattle.tsp_text.specs.SectionNumbers.{reads_as, node, whole_of_size, node_or_end, is_end, is_minus_one}
+use Rattle.tsp_text.specs.WordPlaces.{Place, NodeAfter, Coordinate, Amount, PastGroups, DepotAfter, FirstAfter, SecondOf, PastEnd, Weight, PastWeights, TourNode, SetNode, StepAfter, IndexAfter}
+use Rattle.tsp_text.specs.BranchSection.{node_or_leaf, begins_leaf, index_or_end, ends_leaf}
 use Rattle.tsp_text.specs.Sections.{dimension_in, next_place}
 
 -- a word, where a section is open, at its place and with n nodes

@@ -19,11 +19,11 @@ use Rattle.tsp_cli.specs.declared.task.Place.{Place}
 use Rattle.tsp_task.specs.declared.task.Task.{Task}
 use Rattle.tsp_task.specs.declared.task.Task.TheVariants.{Show, Convert, Check, CheckBy, Bound}
 use Rattle.tsp_cli.specs.declared.words.JobFault.TheVariants.{OutOfMemory, Refused}
-use Rattle.tsp_cli.specs.Words.{GivesJob, IsOtherRefusal}
+use Rattle.tsp_cli.specs.CommandWords.{GivesJob, IsOtherRefusal}
 use Rattle.tsp_cli.specs.declared.task.Comparison.{Comparison}
 use Rattle.tsp_cli.specs.declared.task.Work.TheVariants as works
 use Rattle.tsp_cli.specs.Task.{GivesWork}
-use Rattle.tsp_run.specs.Compare.{IsComparedAs, IsFresh}
+use Rattle.tsp_run.specs.ComparisonRun.{IsComparedAs, IsFresh}
 use Rattle.tsp_perform.specs.Done.{IsDone}
 use Rattle.tsp_run.specs.Ending.{status_of_ending, TellsAll}
 

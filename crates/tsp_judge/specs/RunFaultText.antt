@@ -1,8 +1,8 @@
 -- The text of each fault of a run.
 use Rattle.std.specs.Prelude.{ℕ, List, ◌++◌, codes, decimal}
-use Rattle.tsp_stream.specs.FaultText.{write_fault_text}
-use Rattle.tsp_text.specs.FaultText.{read_fault_text}
-use Rattle.tsp_file.specs.FaultText.{relayout_fault_text}
+use Rattle.tsp_stream.specs.WriteFaultText.{write_fault_text}
+use Rattle.tsp_text.specs.ReadFaultText.{read_fault_text}
+use Rattle.tsp_file.specs.RelayoutFaultText.{relayout_fault_text}
 use Rattle.tsp_judge.specs.declared.fault.RunFault.{RunFault}
 use Rattle.tsp_judge.specs.declared.fault.RunFault.TheVariants.{File, WrongKind, Write, OutOfMemory, Relayout}
 

@@ -4,7 +4,7 @@ use Rattle.tsp_section.specs.declared.part.Part.{Part}
 use Rattle.tsp_section.specs.declared.part.Part.TheVariants as parts
 use Rattle.tsp_text.specs.Sections.{place_by}
 use Rattle.tsp_section.specs.states.Parts.{Takes}
-use Rattle.tsp_section.specs.states.Held.{shape_by, HoldsPart, HoldsShape}
+use Rattle.tsp_section.specs.states.HeldParts.{shape_by, HoldsPart, HoldsShape}
 
 -- a part that held some words holds this one too, which has no fault at its place
 abbrev pub TakesRead : Part → Part → List ℕ → Type 0

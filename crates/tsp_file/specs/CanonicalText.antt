@@ -142,8 +142,10 @@ optional text (Some value) = text value
 abbrev pub text_of_section : Fields → Field → Shape → List ℕ
 text_of_section f field (Numbers low high) =
     optional (λ numbers. section_text field (lines_by_node whole_number numbers)) (numbers_in f field)
-text_of_section f field Points = optional (λ points. section_text field (lines_by_node (point_numbers false) points)) (points_in f field)
-text_of_section f field SpacePoints = optional (λ points. section_text field (lines_by_node (point_numbers true) points)) (points_in f field)
+text_of_section f field Points =
+    optional (λ points. section_text field (lines_by_node (point_numbers false) points)) (points_in f field)
+text_of_section f field SpacePoints =
+    optional (λ points. section_text field (lines_by_node (point_numbers true) points)) (points_in f field)
 text_of_section f field Depots = optional (λ depots. section_text field (node_list depots)) f.depots
 text_of_section f field Pairs = optional (λ pairs. section_text field (pair_list pairs)) f.fixed
 text_of_section f field Weights =

@@ -4,8 +4,8 @@ use Rattle.std.specs.Prelude.{ℕ, Bool, not, List, length, map, nat_abs}
 use Rattle.std.specs.List.{slice_split, filter}
 use Rattle.tsp_format.specs.Limits.{most_nodes}
 use Rattle.tsp_text.specs.Lines.{is_filled}
-use Rattle.tsp_text.specs.Numbers.{number, node_or_end, is_end}
-use Rattle.tsp_text.specs.Places.{Place, TourNode}
+use Rattle.tsp_text.specs.SectionNumbers.{number, node_or_end, is_end}
+use Rattle.tsp_text.specs.WordPlaces.{Place, TourNode}
 
 abbrev pub ends_tour : List ℕ → Bool
 ends_tour word = is_end most_nodes word
