@@ -39,7 +39,11 @@ Relaxation::Relaxation(const Instance& instance, const CutPool& pool, const Tour
 void Relaxation::begin() {
   program_.setLogLevel(0);
   program_.scaling(0);
+  SteepestEdge rule(edge_weights_);
+  program_.setDualRowPivotAlgorithm(rule);
   program_.resize(0, kElastic);
+  edge_weights_.columns.assign(kElastic, 0);
+  edge_weights_.rows.assign(degrees(), 0);
   for (int k = 0; k < kElastic; k++) {
     program_.setColumnBounds(k, 0, COIN_DBL_MAX);
     program_.setObjectiveCoefficient(k, penalty_);
@@ -84,6 +88,7 @@ void Relaxation::add_edges(const std::vector<Pair>& edges) {
     present = 1;
     const int column = columns();
     edges_.emplace_back(i, j);
+    edge_weights_.columns.push_back(0);
     adjacent_[i].push_back({j, column});
     adjacent_[j].push_back({i, column});
     rows.insert(rows.end(), {i, entering_row(j)});
@@ -142,6 +147,7 @@ void Relaxation::add_cuts(const std::vector<int>& cuts) {
     row_of_[cut] = static_cast<int>(cuts_.size());
     cuts_.push_back(cut);
     ages_.push_back(0);
+    edge_weights_.rows.push_back(0);
   }
   if (low.empty()) return;
   program_.addRows(static_cast<int>(low.size()), low.data(), high.data(), starts.data(), columns.data(),
@@ -181,18 +187,21 @@ void Relaxation::purge(int age) {
 
 void Relaxation::drop_rows(const std::vector<char>& dropped) {
   std::vector<int> places, cuts, ages;
+  std::vector<double> weights(edge_weights_.rows.begin(), edge_weights_.rows.begin() + degrees());
   for (std::size_t row = 0; row < cuts_.size(); row++) {
     if (dropped[row]) {
       places.push_back(degrees() + static_cast<int>(row));
     } else {
       cuts.push_back(cuts_[row]);
       ages.push_back(ages_[row]);
+      weights.push_back(edge_weights_.rows[degrees() + row]);
     }
   }
   if (places.empty()) return;
   program_.deleteRows(static_cast<int>(places.size()), places.data());
   cuts_ = cuts;
   ages_ = ages;
+  edge_weights_.rows = weights;
   row_of_.clear();
   for (std::size_t row = 0; row < cuts_.size(); row++) row_of_[cuts_[row]] = static_cast<int>(row);
 }
@@ -202,6 +211,7 @@ void Relaxation::drop_edges() {
   std::vector<int> places;
   std::vector<Pair> edges;
   std::vector<double> solution;
+  std::vector<double> weights(edge_weights_.columns.begin(), edge_weights_.columns.begin() + kElastic);
   for (int column = 0; column < columns(); column++) {
     const int place = column + kElastic;
     const bool free = program_.getColLower()[place] < 0.5 && program_.getColUpper()[place] > 0.5;
@@ -212,12 +222,14 @@ void Relaxation::drop_edges() {
     } else {
       edges.push_back(edges_[column]);
       solution.push_back(solution_[column]);
+      weights.push_back(edge_weights_.columns[place]);
     }
   }
   if (places.empty()) return;
   program_.deleteColumns(static_cast<int>(places.size()), places.data());
   edges_ = edges;
   solution_ = solution;
+  edge_weights_.columns = weights;
   for (std::vector<Place>& adjacent : adjacent_) adjacent.clear();
   for (int column = 0; column < columns(); column++) {
     const auto [i, j] = edges_[column];
@@ -237,10 +249,12 @@ Basis Relaxation::basis() const {
     const ClpSimplex::Status status = program_.getColumnStatus(column + kElastic);
     if (status == ClpSimplex::basic) {
       basis.basic.push_back(edges_[column]);
+      basis.weights.columns.push_back(edge_weights_.columns[column + kElastic]);
     } else if (solution_[column] > 0.5) {
       basis.at_one.push_back(edges_[column]);
     }
   }
+  basis.weights.rows = edge_weights_.rows;
   return basis;
 }
 
@@ -257,15 +271,23 @@ void Relaxation::restore(const Basis& basis) {
   for (int column = 0; column < columns(); column++) {
     program_.setColumnStatus(column + kElastic, ClpSimplex::atLowerBound);
   }
-  for (const Pair& edge : basis.basic)
-    program_.setColumnStatus(column_of(edge) + kElastic, ClpSimplex::basic);
+  edge_weights_.columns.assign(kElastic + edges_.size(), 0);
+  for (std::size_t k = 0; k < basis.basic.size(); k++) {
+    const int place = column_of(basis.basic[k]) + kElastic;
+    program_.setColumnStatus(place, ClpSimplex::basic);
+    edge_weights_.columns[place] = basis.weights.columns[k];
+  }
   for (const Pair& edge : basis.at_one) {
     program_.setColumnStatus(column_of(edge) + kElastic, ClpSimplex::atUpperBound);
   }
+  edge_weights_.rows.assign(basis.weights.rows.begin(), basis.weights.rows.begin() + degrees());
+  edge_weights_.rows.resize(basis.rows.size(), 0);
   for (int row = 0; row < degrees(); row++) program_.setRowStatus(row, basis.rows[row]);
   for (std::size_t k = 0; k < basis.cuts.size(); k++) {
     const int row = row_of_[basis.cuts[k]];
-    program_.setRowStatus(degrees() + row, basis.rows[static_cast<std::size_t>(degrees()) + k]);
+    const std::size_t place = static_cast<std::size_t>(degrees()) + k;
+    program_.setRowStatus(degrees() + row, basis.rows[place]);
+    edge_weights_.rows[degrees() + row] = basis.weights.rows[place];
     ages_[row] = 0;
   }
 }
@@ -407,9 +429,13 @@ Relaxation::Probe::Probe(Relaxation& relaxation, int iterations)
     saved_.emplace_back(places()[k], places()[k] + (k % 2 == 0 ? columns : rows));
   }
   program_.setMaximumIterations(iterations);
+  relaxation_.edge_weights_.frozen = true;
 }
 
-Relaxation::Probe::~Probe() { program_.setMaximumIterations(INT_MAX); }
+Relaxation::Probe::~Probe() {
+  program_.setMaximumIterations(INT_MAX);
+  relaxation_.edge_weights_.frozen = false;
+}
 
 double Relaxation::Probe::gain(int column, int value) {
   program_.setColumnBounds(column + kElastic, value, value);

@@ -10,6 +10,7 @@
 
 #include "cut_pool.h"
 #include "instance.h"
+#include "steepest_edge.h"
 
 namespace certify {
 // A pair of nodes that is used, or isn't.
@@ -23,6 +24,7 @@ struct Basis {
   std::vector<int> cuts;
   std::vector<ClpSimplex::Status> rows, elastic;  // the rows of the degrees, then those of the cuts
   std::vector<Pair> basic, at_one;
+  EdgeWeights weights;  // of the rows, then of the basic edges
 };
 
 class Relaxation {
@@ -106,6 +108,7 @@ class Relaxation {
   int nodes_;
   Weight least_ = 0;
   double unit_ = 1, penalty_ = 1, average_ = 1;  // average_: of an edge of the tour
+  EdgeWeights edge_weights_;
   ClpSimplex program_;
   std::vector<Pair> edges_;
   std::vector<std::vector<Place>> adjacent_;

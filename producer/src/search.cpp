@@ -213,7 +213,8 @@ void Search::widen(Numbers& numbers) {
   }
 }
 
-// Adds cuts while they help. Whether numbers were found that reach the target.
+// Adds cuts while they help, and where no edge is left to branch on. Whether numbers were found that reach
+// the target.
 bool Search::tighten(Numbers& numbers) {
   const Patience patience = root() ? Patience{12, 0.02} : Patience{4, 0.06};
   std::vector<double> values;
@@ -223,7 +224,7 @@ bool Search::tighten(Numbers& numbers) {
     if (clock_.over()) return false;
     values.push_back(relaxation_.value());
     large_tree_ = large_tree_ || leaves_ >= kManyLeaves;
-    const bool stall = stalled(values, patience);
+    const bool stall = stalled(values, patience) && !relaxation_.is_whole();
     if (!stall && add_cuts(level, round)) continue;
     if (!root() || level == kLevels || (families_ && has_large_gap())) return false;
     level++;
