@@ -198,12 +198,8 @@ full_or_not UpperDiagCol = inr (λ e. absurd cc)
 full_or_not LowerDiagCol = inr (λ e. absurd cc)
 
 -- the costs of a triangle are symmetric, and its own layout holds the costs of any weights
-<<<<<<< HEAD
-pub triangle_holds : (layout : Layout) (n : ℕ) (weights : List ℤ) → layout ≢ FullMatrix → IsSymmetric (listed_cost layout n weights)
-=======
 pub triangle_holds : (layout : Layout) (n : ℕ) (weights : List ℤ) → layout ≢ FullMatrix
     → IsSymmetric (listed_cost layout n weights)
->>>>>>> origin/structure
 triangle_holds layout n weights half = triangle_even layout n weights half (no_cell layout n)
 
 pub own_pairs : (layout : Layout) (n : ℕ) (weights : List ℤ) → HoldsPairs layout (listed_cost layout n weights)

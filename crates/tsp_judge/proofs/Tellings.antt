@@ -1,8 +1,4 @@
 -- The follower of a comparison got some lines, and then the next one.
-<<<<<<< HEAD
-use Rattle.std.proofs.Common.{ℕ, ◌+◌, add-one}
-use Rattle.tsp_judge.specs.Following.{AreTold}
-=======
 use Rattle.std.proofs.Common.{ℕ, ◌+◌, ◌<◌, ◌≤◌, List, add-one, arith}
 use Rattle.std.specs.Prelude.{Err}
 use Rattle.tsp_stream.specs.Turn.{Turn}
@@ -12,7 +8,6 @@ use Rattle.tsp_judge.specs.declared.fault.RunFault.{RunFault}
 use Rattle.tsp_judge.specs.declared.fault.RunFault.TheVariants.{File, WrongKind, Write, OutOfMemory, Relayout}
 use Rattle.tsp_judge.specs.CompareRun.{ComparesOne}
 use Rattle.tsp_judge.specs.Following.{AreTold, most_told}
->>>>>>> origin/structure
 
 pub told_next : {E : Type 0} (tells : ℕ → E → E → Type 0) (count : ℕ) (first next last : E) → AreTold tells count first next → tells count next last
     → AreTold tells (count + 1) first last

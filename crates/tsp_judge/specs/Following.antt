@@ -1,9 +1,5 @@
 -- Which lines of a comparison its follower gets.
-<<<<<<< HEAD
-use Rattle.std.specs.Prelude.{◌≡◌, ℕ, zero, suc, ◌≤◌, Bool, true, false, Result, Ok, Err}
-=======
 use Rattle.std.specs.Prelude.{◌≡◌, ℕ, zero, suc, ◌-◌, ◌≤◌, Bool, true, false, Result, Ok, Err}
->>>>>>> origin/structure
 use Rattle.tsp_reason.specs.Verdicts.{is_clear}
 use Rattle.tsp_judge.specs.declared.compared.Compared.{Compared}
 use Rattle.tsp_judge.specs.declared.fault.RunFault.{RunFault}

@@ -58,12 +58,8 @@ by_number P p0 p1 p2 f low high e = by_keyword (λ field shape. shape ≡ Number
     (λ is. absurd cc) (λ is. absurd cc) f (Number low high) e refl
 
 -- a field that is no section, no keyword with a number, and none with its own place
-<<<<<<< HEAD
-pub other_alone : (in_space : Bool) (f : Field) → shape_of in_space f ≡ None → f ≢ NameKey → f ≢ TypeKey → f ≢ CommentKey → f ≢ EdgeWeightTypeKey → f ≢ EdgeWeightFormatKey
-=======
 pub other_alone : (in_space : Bool) (f : Field) → shape_of in_space f ≡ None → f ≢ NameKey → f ≢ TypeKey → f ≢ CommentKey
     → f ≢ EdgeWeightTypeKey → f ≢ EdgeWeightFormatKey
->>>>>>> origin/structure
     → f ≢ NodeCoordTypeKey → f ≢ DisplayDataTypeKey → ((low high : ℤ) → value_shape_of f ≢ Some (Number low high)) → f ≡ OtherKey
 other_alone in_space NameKey shape k0 k1 k2 k3 k4 k5 k6 numbered = absurd (k0 refl)
 other_alone in_space TypeKey shape k0 k1 k2 k3 k4 k5 k6 numbered = absurd (k1 refl)

@@ -167,12 +167,8 @@ differ x y = cond x (not y) y
 
 -- where a pair ties two nodes that a cut has apart, a part that has both or neither and that the earlier pairs don't leave isn't
 -- left by the pair
-<<<<<<< HEAD
-tied_by : (a b : ℕ) (earlier : List (ℕ × ℕ)) (t : ℕ × ℕ) → IsCut earlier a b → AreTied (t ∷ earlier) a b → (part : ℕ → Bool) → IsUncrossed part earlier → part a ≡ part b
-=======
 tied_by : (a b : ℕ) (earlier : List (ℕ × ℕ)) (t : ℕ × ℕ) → IsCut earlier a b → AreTied (t ∷ earlier) a b → (part : ℕ → Bool)
     → IsUncrossed part earlier → part a ≡ part b
->>>>>>> origin/structure
     → crosses part t ≡ false
 tied_by a b earlier t cut tied part free same = false_from_ne_true (crosses part t) (λ leaves. elim (cases_Bool (crosses cut.part t)) [
   | inr none ↦ both_ways (cut.part a) (tied cut.part (All-cons (λ pair. crosses cut.part pair ≡ false) t earlier none cut.free) ∙ cut.outside) cut.inside
