@@ -2,3 +2,4 @@ pub mod Growing
 pub mod Instances
 pub mod Problems
 pub mod Sources
+pub mod Ways

@@ -1,3 +1,4 @@
 pub mod Metrics
 pub mod Sources
 pub mod Views
+pub mod Ways

@@ -1,29 +1,13 @@
 //! The places of nodes: those of points, whose distances grow with the ways along the axes.
 
-ghost use Rattle.std.specs.Prelude.{◌≡◌};
-ghost use Rattle.tsp_format.specs.Cells.{IsNode};
-
 use crate::halves::by_halves;
 use crate::matrix::EvenMatrix;
 use crate::points::Points;
 use crate::triangle::Triangle;
 use std::alloc::Global;
-use tsp_distance::{InSpace, Point, monotone_laws};
+use tsp_distance::{InSpace, monotone_laws};
 use tsp_memory::Refused;
 use tsp_theory::{Grouped, Region};
-
-impl<P: InSpace> Points<'_, P> {
-    ghost use Rattle.tsp_cost.specs.states.Views.{points_nodes, points_place};
-
-    /// The point of a node.
-    #[inline]
-    fn place(&self, node: u32) -> Point
-        requires { IsNode (points_nodes self.now) node }
-        ensures { result ≡ points_place P.place self.now node }
-    {
-        self.points[node as usize - 1].in_space()
-    }
-}
 
 impl<P: InSpace> Grouped for Points<'_, P> {
     ghost use Rattle.tsp_cost.specs.states.Views.{points_place};

@@ -11,6 +11,9 @@ use std::alloc::AllocError;
 use tsp_distance::{InSpace, distance_laws};
 use tsp_theory::{Costs, Symmetric};
 
+/// How many points are looked up before the first of their distances.
+const BLOCK: usize = 32;
+
 /// The costs of an instance whose weight type is a distance: that of the nodes' points.
 ///
 /// The points are those of the plane or those in space, each list in the memory that its points
@@ -25,7 +28,10 @@ pub struct Points<'a, P> {
 }
 
 impl<'a, P: InSpace> Points<'a, P> {
-    ghost use Rattle.tsp_cost.specs.states.Views.{points_nodes, points_cost};
+    ghost use Rattle.std.specs.List.{All};
+    ghost use Rattle.tsp_format.specs.Cells.{IsNode};
+    ghost use Rattle.tsp_cost.specs.states.Views.{points_nodes, points_cost, points_place};
+    ghost use Rattle.tsp_cost.specs.states.Ways.{ArePlaces, IsSumOf, IsWayThrough};
 
     /// The costs by a distance, over points of which there is one for each node.
     pub(crate) fn of(metric: Metric, points: &'a [P]) -> Points<'a, P>
@@ -37,6 +43,51 @@ impl<'a, P: InSpace> Points<'a, P> {
     {
         distance_laws();
         Points { metric, points }
+    }
+
+    /// The point of a node.
+    #[inline]
+    pub(crate) fn place(&self, node: u32) -> Point
+        requires { IsNode (points_nodes self.now) node }
+        ensures { result ≡ points_place P.place self.now node }
+    {
+        self.points[node as usize - 1].in_space()
+    }
+
+    /// The point of a node, and those of a few others behind it.
+    #[inline]
+    fn places(&self, from: u32, nodes: &[u32]) -> [Point; BLOCK + 1]
+        requires from { IsNode (points_nodes self.now) from }
+        requires range { All (IsNode (points_nodes self.now)) nodes.now }
+        requires few { length nodes.now ≤ 32 }
+        ensures { ArePlaces (points_place P.place self.now) from nodes.now (length nodes.now) result }
+    {
+        let mut places = [self.place(from); BLOCK + 1];
+        'nodes: for k in 0..nodes.len() {
+            places[k + 1] = self.place(nodes[k]);
+        }
+        places
+    }
+
+    /// The sum of the costs from a node through a few others, and the last of these.
+    // (the processor waits for several points at once, where they are looked up first)
+    #[inline]
+    fn through(&self, from: u32, nodes: &[u32]) -> (i64, u32)
+        requires from { IsNode (points_nodes self.now) from }
+        requires range { All (IsNode (points_nodes self.now)) nodes.now }
+        requires few { length nodes.now ≤ 32 }
+        ensures sum { IsWayThrough (points_cost P.place self.now) from nodes.now result.0 result.1 }
+        ensures last { IsNode (points_nodes self.now) result.1 }
+        ensures size { IsSumOf (length nodes.now) result.0 }
+    {
+        let places = self.places(from, nodes);
+        let mut last = from;
+        let mut sum = 0;
+        'nodes: for k in 0..nodes.len() {
+            sum += self.metric.between(places[k], places[k + 1]);
+            last = nodes[k];
+        }
+        (sum, last)
     }
 }
 
@@ -70,6 +121,23 @@ impl<P: InSpace> Costs for Points<'_, P> {
     fn cost(&self, i: u32, j: u32) -> i64 {
         let (from, to) = (self.points[i as usize - 1], self.points[j as usize - 1]);
         self.metric.between(from.in_space(), to.in_space())
+    }
+
+    fn length(&self, tour: &[u32]) -> i64 {
+        let Some((first, others)) = tour.split_first() else {
+            return 0;
+        };
+        let mut from = *first;
+        let mut rest = others;
+        let mut length = 0;
+        'blocks: while !rest.is_empty() {
+            let (block, later) = rest.split_at(rest.len().min(BLOCK));
+            let (way, last) = self.through(from, block);
+            length += way;
+            from = last;
+            rest = later;
+        }
+        length + self.cost(from, *first)
     }
 }
 

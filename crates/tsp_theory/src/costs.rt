@@ -1,9 +1,11 @@
 //! What holds of the costs between nodes, wherever they come from.
 
 ghost use Rattle.std.specs.Prelude.{◌≡◌, ◌≢◌, ◌≤◌, ◌+◌, ℕ, ℤ, length, pos, neg_ℤ, ◌≤ℤ◌};
+ghost use Rattle.std.specs.List.{All};
 ghost use Rattle.tsp_format.specs.Cells.{IsNode};
-ghost use Rattle.tsp_format.specs.Limits.{most_nodes, most_weight};
+ghost use Rattle.tsp_format.specs.Limits.{most_nodes, most_tour_nodes, most_weight};
 ghost use Rattle.tsp_theory.specs.Costs.{IsCostRow};
+ghost use Rattle.tsp_theory.specs.Length.{length_of};
 
 /// Costs between the nodes 1 to `count`.
 pub trait Costs {
@@ -42,6 +44,28 @@ pub trait Costs {
         'nodes: for j in 1..self.count() + 1 {
             row[j as usize] = self.cost(i, j);
         }
+    }
+
+    /// The length of a list of nodes, as [`tour_length`](crate::tour_length) gives it.
+    ///
+    /// # Requires
+    ///
+    /// Nodes of 1 to `count`, and at most 1,000,000 of them.
+    fn length(&self, tour: &[u32]) -> i64
+        requires range { All (IsNode (nodes self.now)) tour.now }
+        requires size { length tour.now ≤ most_tour_nodes }
+        ensures { result ≡ length_of (at self.now) tour.now }
+    {
+        let Some((first, others)) = tour.split_first() else {
+            return 0;
+        };
+        let mut from = *first;
+        let mut length = 0;
+        'nodes: for node in others {
+            length += self.cost(from, *node);
+            from = *node;
+        }
+        length + self.cost(from, *first)
     }
 }
 

@@ -22,16 +22,7 @@ pub fn tour_length<C: Costs>(c: &C, tour: &[u32]) -> i64
     requires size { length tour.now ≤ most_tour_nodes }
     ensures { result ≡ length_of (C.at c.now) tour.now }
 {
-    let Some((first, others)) = tour.split_first() else {
-        return 0;
-    };
-    let mut from = *first;
-    let mut length = 0;
-    'nodes: for node in others {
-        length += c.cost(from, *node);
-        from = *node;
-    }
-    length + c.cost(from, *first)
+    c.length(tour)
 }
 
 /// The length of the list 1, 2, .., n of all nodes.

@@ -1,4 +1,4 @@
--- The goals of `tour_length` in src/length.rt: its loop and what its calls require.
+-- The goals of `Costs::length` in src/costs.rt: its loop and what its calls require.
 use Rattle.std.proofs.Common.{◌≤◌, List, ℕ, subst, arith, to_z, drop-cons, add-one}
 use Rattle.std.specs.Prelude.{ℤ, slice_index_or}
 use Rattle.std.specs.Int.{w64}
@@ -6,18 +6,18 @@ use Rattle.std.specs.List.{All}
 use Rattle.std.proofs.lemmas.List.Elements.{All-tail}
 use Rattle.tsp_format.specs.Cells.{IsNode}
 use Rattle.tsp_theory.proofs.Lengths.{sum_fits, sum_more, length_more}
-use Rattle.tsp_theory.proofs.length.tour_length.Goals as goal
+use Rattle.tsp_theory.proofs.costs.Costs.length.Goals as goal
 
 pub cost-length-requires-clause-to : goal.cost-length-requires-clause-to
 cost-length-requires-clause-to g c =
-    let IsIn : ℕ → Type 0 = IsNode (g.C.Costs.nodes c.args.c.now) in
+    let IsIn : ℕ → Type 0 = IsNode (g.Self.Costs.nodes c.args.self.now) in
     let first : ℕ = c.in-Some.first.now in
     let others : List ℕ = c.in-Some.others.now in
     All-tail IsIn first others (subst (λ (xs : List ℕ). All IsIn xs) c.in-Some.ensures.cases.0 c.requires.range) c.nodes.node-index 0 c.nodes-test.true
 
 pub nodes-preserved : goal.nodes-preserved
 nodes-preserved g c =
-    let IsIn : ℕ → Type 0 = IsNode (g.C.Costs.nodes c.args.c.now) in
+    let IsIn : ℕ → Type 0 = IsNode (g.Self.Costs.nodes c.args.self.now) in
     let first : ℕ = c.in-Some.first.now in
     let others : List ℕ = c.in-Some.others.now in
     let index : ℕ = c.nodes.node-index in
@@ -29,5 +29,5 @@ nodes-preserved g c =
     record {
       from = All-tail IsIn first others (subst (λ (xs : List ℕ). All IsIn xs) c.in-Some.ensures.cases.0 c.requires.range) index 0 c.nodes-test.true;
       size = rw sum (sum_more so_far c.cost-length.result index c.nodes.invariant.size cost.low cost.high);
-      so_far = rw (sum, cost.value, add-one index) (length_more (g.C.Costs.at c.args.c.now) so_far _ first c.nodes.from next _ _ (drop-cons others index 0 c.nodes-test.true) c.nodes.invariant.so_far);
+      so_far = rw (sum, cost.value, add-one index) (length_more (g.Self.Costs.at c.args.self.now) so_far _ first c.nodes.from next _ _ (drop-cons others index 0 c.nodes-test.true) c.nodes.invariant.so_far);
     }

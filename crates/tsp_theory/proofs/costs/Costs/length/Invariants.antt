@@ -1,0 +1,13 @@
+-- The loop of `Costs::length` in src/costs.rt.
+use Rattle.std.proofs.Common.{◌≡◌, drop}
+use Rattle.std.specs.Prelude.{◌+ℤ◌}
+use Rattle.tsp_format.specs.Cells.{IsNode}
+use Rattle.tsp_theory.proofs.Lengths.{length_to, IsSumOf}
+use Rattle.tsp_theory.proofs.costs.Costs.length.Given as goal
+
+abbrev pub invariant-nodes : goal.invariant-nodes
+invariant-nodes g l = record {
+  from : IsNode (g.Self.Costs.nodes l.self) l.from;
+  size : IsSumOf l.node-index l.length;
+  so_far : (l.length +ℤ length_to (g.Self.Costs.at l.self) l.first l.from (drop l.node-index l.others)) ≡ length_to (g.Self.Costs.at l.self) l.first l.first l.others;
+}
