@@ -206,6 +206,15 @@ impl Costs for Instance {
             View::Triangle(triangle) => triangle.cost(i, j),
         }
     }
+
+    fn length(&self, tour: &[u32]) -> i64 {
+        match self.view() {
+            View::Plane(points) => points.length(tour),
+            View::Space(points) => points.length(tour),
+            View::Matrix(matrix) => matrix.length(tour),
+            View::Triangle(triangle) => triangle.length(tour),
+        }
+    }
 }
 
 /// What the costs of an instance are taken from, where they are the same in both directions; else

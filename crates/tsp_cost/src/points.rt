@@ -8,7 +8,7 @@ ghost use Rattle.tsp_cost.specs.states.Metrics.{weight_kind_of};
 
 use crate::metric::Metric;
 use std::alloc::AllocError;
-use tsp_distance::{InSpace, distance_laws};
+use tsp_distance::{InSpace, Point, distance_laws};
 use tsp_theory::{Costs, Symmetric};
 
 /// How many points are looked up before the first of their distances.
@@ -31,7 +31,7 @@ impl<'a, P: InSpace> Points<'a, P> {
     ghost use Rattle.std.specs.List.{All};
     ghost use Rattle.tsp_format.specs.Cells.{IsNode};
     ghost use Rattle.tsp_cost.specs.states.Views.{points_nodes, points_cost, points_place};
-    ghost use Rattle.tsp_cost.specs.states.Ways.{ArePlaces, IsSumOf, IsWayThrough};
+    ghost use Rattle.tsp_cost.specs.states.Ways.{ArePlaces, IsSumOfCosts, IsWayThrough};
 
     /// The costs by a distance, over points of which there is one for each node.
     pub(crate) fn of(metric: Metric, points: &'a [P]) -> Points<'a, P>
@@ -78,7 +78,7 @@ impl<'a, P: InSpace> Points<'a, P> {
         requires few { length nodes.now ≤ 32 }
         ensures sum { IsWayThrough (points_cost P.place self.now) from nodes.now result.0 result.1 }
         ensures last { IsNode (points_nodes self.now) result.1 }
-        ensures size { IsSumOf (length nodes.now) result.0 }
+        ensures size { IsSumOfCosts (length nodes.now) result.0 }
     {
         let places = self.places(from, nodes);
         let mut last = from;
@@ -130,7 +130,7 @@ impl<P: InSpace> Costs for Points<'_, P> {
         let mut from = *first;
         let mut rest = others;
         let mut length = 0;
-        'blocks: while !rest.is_empty() {
+        'parts: while !rest.is_empty() {
             let (block, later) = rest.split_at(rest.len().min(BLOCK));
             let (way, last) = self.through(from, block);
             length += way;

@@ -14,11 +14,11 @@ IsWayThrough cost from nodes sum last = (end : ℕ) (more : List ℕ)
     → sum +ℤ length_to cost end last more ≡ length_to cost end from (nodes ++ more)
 
 -- a sum of this many costs is of this size
-pub record IsSumOf (count : ℕ) (sum : ℤ) : Type 0 where
+pub record IsSumOfCosts (count : ℕ) (sum : ℤ) : Type 0 where
   pub low : pos 0 ≤ℤ (sum +ℤ pos (1000000000000 * count))
   pub high : sum ≤ℤ pos (1000000000000 * count)
 
 -- the point of a node, and of as many of the others behind it
 pub record ArePlaces (place : ℕ → Point) (from : ℕ) (nodes : List ℕ) (count : ℕ) (places : List Point) : Type 0 where
   pub long : length places ≡ 33
-  pub each : (k : ℕ) → k ≤ count → slice_index_or places k (place from) ≡ place (slice_index_or (from ∷ nodes) k 0)
+  pub each : (k : ℕ) (other : Point) → k ≤ count → slice_index_or places k other ≡ place (slice_index_or (from ∷ nodes) k 0)

@@ -3,14 +3,14 @@ use Rattle.std.proofs.Common.{◌≡◌, ℕ, List, ◌∷◌, ◌++◌, drop}
 use Rattle.std.specs.Prelude.{◌+ℤ◌, slice_index_or}
 use Rattle.tsp_format.specs.Cells.{IsNode}
 use Rattle.tsp_cost.specs.states.Views.{points_nodes, points_cost}
-use Rattle.tsp_cost.specs.states.Ways.{length_to, IsSumOf}
+use Rattle.tsp_cost.specs.states.Ways.{length_to, IsSumOfCosts}
 use Rattle.tsp_cost.proofs.points.Points.through.Given as goal
 
 abbrev pub invariant-nodes : goal.invariant-nodes
 invariant-nodes g l = record {
   node : IsNode (points_nodes l.self) l.last;
   here : l.last ≡ slice_index_or (l.from ∷ l.nodes) l.k 0;
-  size : IsSumOf l.k l.sum;
+  size : IsSumOfCosts l.k l.sum;
   so_far : (end : ℕ) (more : List ℕ) → (l.sum +ℤ length_to (points_cost g.P.InSpace.place l.self) end l.last (drop l.k l.nodes ++ more))
       ≡ length_to (points_cost g.P.InSpace.place l.self) end l.from (l.nodes ++ more);
 }
