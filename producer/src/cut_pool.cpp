@@ -5,16 +5,27 @@
 #include "random.h"
 
 namespace certify {
-double violation(const Cut& cut, const Graph& graph, std::vector<char>& scratch) {
+ViolationMeter::ViolationMeter(const Graph& graph) : mark_(graph.size(), 0) {
+  first_.reserve(graph.size() + 1);
+  for (std::size_t v = 0; v < graph.size(); v++) {
+    first_.push_back(edges_.size());
+    for (const Edge& edge : graph[v]) {
+      if (edge.to > static_cast<int>(v)) edges_.push_back(edge);
+    }
+  }
+  first_.push_back(edges_.size());
+}
+
+double ViolationMeter::violation(const Cut& cut) {
   double inside = 0;
   for (const NodeSet& set : cut.sets) {
-    for (const int v : set) scratch[v] = 1;
+    sets_++;
+    for (const int v : set) mark_[v] = sets_;
     for (const int v : set) {
-      for (const Edge& edge : graph[v]) {
-        if (edge.to > v && scratch[edge.to]) inside += edge.value;
+      for (std::size_t k = first_[v]; k < first_[v + 1]; k++) {
+        if (mark_[edges_[k].to] == sets_) inside += edges_[k].value;
       }
     }
-    for (const int v : set) scratch[v] = 0;
   }
   return 2 * (inside - cut.most_inside);
 }

@@ -19,8 +19,21 @@ struct Cut {
   double most_inside;
 };
 
-// How much more often a tour crosses the sets than this solution.
-double violation(const Cut& cut, const Graph& graph, std::vector<char>& scratch);
+// How much more often a tour crosses the sets of cuts than a solution. Each round measures the whole pool, so
+// the edges are in one array, and sets are marked by their number: with lists and marks that are wiped out it
+// took 13 % of the time of uniform 1000 2.
+class ViolationMeter {
+ public:
+  ViolationMeter() = default;
+  explicit ViolationMeter(const Graph& graph);
+  double violation(const Cut& cut);
+
+ private:
+  std::vector<std::size_t> first_;  // of each node's edges to later nodes
+  std::vector<Edge> edges_;
+  std::vector<int> mark_;
+  int sets_ = 0;  // that were measured
+};
 
 class CutPool {
  public:

@@ -10,7 +10,7 @@ namespace {
 constexpr Weight kLargestGrid = 1000000;
 constexpr int kTrials = 60;  // of bounds for a leaf that is made like the last
 constexpr int kChecks = 3;   // of what they made
-constexpr int kCoarseSteps = 40;
+constexpr int kCoarseSteps = 150;
 constexpr double kSurplus = 0.005;
 
 Weight rounded(double number, Weight grid) {
@@ -183,10 +183,24 @@ void Leaves::keep_last(Numbers& numbers, const std::vector<int>& places, std::si
   }
 }
 
+// All potentials may change alike, which leaves the bound as it is: by the median of the differences, most of
+// which are then short.
+void Leaves::align(Numbers& numbers) const {
+  std::vector<Weight> differences;
+  differences.reserve(numbers.potentials.size());
+  for (std::size_t v = 0; v < numbers.potentials.size(); v++) {
+    differences.push_back(numbers.potentials[v] - last_.potentials[v]);
+  }
+  const auto middle = differences.begin() + static_cast<std::ptrdiff_t>(differences.size() / 2);
+  std::nth_element(differences.begin(), middle, differences.end());
+  for (Weight& potential : numbers.potentials) potential -= *middle;
+}
+
 Numbers Leaves::near_last(Numbers numbers, const std::vector<Decision>& decisions, Weight target) {
   if (last_.potentials.empty()) return numbers;
   const Value least = goal(target);
   if (bound_.reaches(last_, decisions, least)) return last_;
+  align(numbers);
   const std::vector<int> places = differing_places(numbers);
   for (int k = 0; k < kChecks; k++) {
     Numbers near = numbers;

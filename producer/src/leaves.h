@@ -30,6 +30,7 @@ class Leaves {
   };
   bool ascend(Numbers& numbers, const std::vector<Decision>& decisions, Weight target, const Ascent& ascent);
   bool step(Numbers& numbers, double length_times_square, Weight grid) const;
+  void align(Numbers& numbers) const;
   std::vector<int> differing_places(const Numbers& numbers) const;
   void keep_last(Numbers& numbers, const std::vector<int>& places, std::size_t from, std::size_t to,
                  const std::vector<Decision>& decisions, Value goal, int& budget);

@@ -33,7 +33,7 @@ int Separation::from_pool(Round& round) {
   std::vector<std::pair<double, int>> missed;
   for (int cut = 0; cut < pool_.size(); cut++) {
     if (relaxation_.has(cut)) continue;
-    const double by = violation(pool_[cut], relaxation_.support(), scratch_);
+    const double by = meter_.violation(pool_[cut]);
     if (by > 0.02) missed.emplace_back(-by, cut);
   }
   std::sort(missed.begin(), missed.end());
@@ -48,7 +48,7 @@ int Separation::subtours(Round& round) {
   for (const NodeSet& set : crossed_too_little(relaxation_.support(), 0.01)) {
     if (set.size() < 2 || set.size() > nodes - 2) continue;
     const int cut = pool_.add_subtour(set);
-    if (relaxation_.has(cut) || violation(pool_[cut], relaxation_.support(), scratch_) <= 0.005) continue;
+    if (relaxation_.has(cut) || meter_.violation(pool_[cut]) <= 0.005) continue;
     round.cuts.push_back(cut);
     count++;
   }
@@ -101,7 +101,7 @@ Tour Separation::tour_for(int k) {
 bool Separation::take(Round& round, int cut, double least_violation) {
   if (relaxation_.has(cut) || std::find(round.cuts.begin(), round.cuts.end(), cut) != round.cuts.end())
     return false;
-  if (violation(pool_[cut], relaxation_.support(), scratch_) < least_violation) return false;
+  if (meter_.violation(pool_[cut]) < least_violation) return false;
   round.cuts.push_back(cut);
   return true;
 }
@@ -139,7 +139,7 @@ void Separation::tighten_cuts(Round& round, const Effort& effort) {
   const std::vector<int> cuts = relaxation_.cuts();
   for (const int cut : cuts) {
     const CutKind kind = pool_[cut].kind;
-    if (kind == CutKind::kSubtour || violation(pool_[cut], relaxation_.support(), scratch_) < -1) continue;
+    if (kind == CutKind::kSubtour || meter_.violation(pool_[cut]) < -1) continue;
     const auto sets = tightened(pool_[cut], relaxation_.support());
     if (!sets || (kind == CutKind::kComb && !pool_.is_comb(*sets))) continue;
     const int moved =
@@ -193,6 +193,7 @@ void Separation::families(Round& round, const Effort& effort) {
 
 bool Separation::add_subtours() {
   Round round;
+  meter_ = ViolationMeter(relaxation_.support());
   from_pool(round);
   subtours(round);
   relaxation_.add_cuts(round.cuts);
@@ -201,6 +202,7 @@ bool Separation::add_subtours() {
 
 bool Separation::add_cuts(const Effort& effort) {
   Round round;
+  meter_ = ViolationMeter(relaxation_.support());
   const int pooled = from_pool(round);
   const int sets = subtours(round);
   // the runs of a tour have three nodes outside

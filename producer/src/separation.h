@@ -57,6 +57,7 @@ class Separation {
   Tour best_;
   std::vector<Tour> further_;
   std::vector<char> scratch_;
+  ViolationMeter meter_;                     // of the solution at hand
   std::unordered_set<std::uint64_t> tried_;  // chunks
   bool whole_ = true;
 };

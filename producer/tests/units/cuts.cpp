@@ -43,8 +43,7 @@ TEST_CASE("the comb of a prism") {
   CombSearch search(graph, pool, runs, random, 0.01);
   const std::vector<FoundComb> found = search.find({}, 10, 1);
   CHECK((!found.empty() && found[0].violation > 0.99 && pool.is_comb(found[0].sets)));  // the comb of a prism
-  std::vector<char> scratch(6, 0);
-  CHECK(violation(pool[pool.add_comb(found.at(0).sets)], graph, scratch) >
+  CHECK(ViolationMeter(graph).violation(pool[pool.add_comb(found.at(0).sets)]) >
         0.99);                                                // its violation by its sets
   CHECK(!pool.is_comb({{0, 1, 2}, {0, 3}, {1, 4}}));          // two teeth are no comb
   CHECK(!pool.is_comb({{0, 1, 2}, {0, 3}, {1, 3}, {2, 5}}));  // teeth with a common node are no comb

@@ -173,8 +173,7 @@ TEST_CASE("the family of a prism is found") {
   for (const Family& family : found) {
     CHECK(family.required == least_crossings(family.sets, 6));
     CutPool pool(6);
-    std::vector<char> scratch(6, 0);
-    CHECK(violation(pool[pool.add_family(family.sets, family.required)], graph, scratch) > 0.01);
+    CHECK(ViolationMeter(graph).violation(pool[pool.add_family(family.sets, family.required)]) > 0.01);
   }
 }
 
@@ -189,11 +188,10 @@ TEST_CASE("tightening moves a node to the atom that it hangs on") {
   join(graph, 3, 7, 0.5);
   join(graph, 7, 4, 0.5);
   CutPool pool(8);
-  std::vector<char> scratch(8, 0);
   const Cut comb = pool[pool.add_comb({{0, 1, 2}, {0, 3}, {1, 4}, {2, 5}})];
   const auto moved = tightened(comb, graph);
   REQUIRE(moved);
   CHECK(required_crossings(*moved, 8) == comb.crossings);
   const Cut& better = pool[pool.add_family(*moved, comb.crossings)];
-  CHECK(violation(better, graph, scratch) >= violation(comb, graph, scratch) + 2 - 1e-9);
+  CHECK(ViolationMeter(graph).violation(better) >= ViolationMeter(graph).violation(comb) + 2 - 1e-9);
 }
