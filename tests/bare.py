@@ -14,6 +14,7 @@ from functools import cache
 from pathlib import Path
 from typing import NamedTuple
 
+TRAIT = re.compile(r"(?:pub(?:\(\w+\))? )?trait (\w+)")
 FUNCTION = re.compile(r" {0,4}(?:pub(?:\(\w+\))? )?(?:const |unsafe |extern \"C\" )*fn (\w+)")
 GOAL = re.compile(r"\s*pub (\S+) : goal\.|note: src/.*\(`([^`]+)`\)|fn .* did not prove `([^`]+)`")
 
@@ -61,6 +62,8 @@ def function_at(path: str, text: str, crate: Path) -> str:
     for line in source[:source.find(text) + len(text)].splitlines():
         if line.startswith("impl"):
             owner = owner_of(line)
+        elif found := TRAIT.match(line):
+            owner = found[1]
         elif line.startswith("}"):
             owner = name = ""
         if found := FUNCTION.match(line):
