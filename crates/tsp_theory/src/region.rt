@@ -53,6 +53,7 @@ impl Region {
         ensures across { (p : Point) → IsIn self p → across from.now result ≤ across from.now p }
         ensures along { (p : Point) → IsIn self p → along from.now result ≤ along from.now p }
         ensures above { (p : Point) → IsIn self p → above from.now result ≤ above from.now p }
+        ensures inside { (p : Point) → IsIn self p → IsIn self result }
     {
         let Region { low, high } = self;
         Point {
@@ -84,8 +85,9 @@ fn higher(a: Decimal, b: Decimal) -> Decimal
 /// The number of a range that is nearest to `x`.
 #[inline]
 fn clamped(x: Decimal, low: Decimal, high: Decimal) -> Decimal
-    ensures { (p : ℤ) → low ≤ℤ p → p ≤ℤ high
+    ensures nearest { (p : ℤ) → low ≤ℤ p → p ≤ℤ high
         → unsigned_abs (x -ℤ result) ≤ unsigned_abs (x -ℤ p) }
+    ensures inside { low ≤ℤ high → (low ≤ℤ result) × (result ≤ℤ high) }
 {
     if x.count() < low.count() {
         low
