@@ -70,12 +70,32 @@ above_one opened two fault written status text ends (inl e) low =
     let refused = says.relayout one in no_relayout opened two fault refused.0 refused.1 ends
 above_one opened two fault written status text ends (inr e) low = let three : status ≡ 3 = e.0 in omega (arith, three, low)
 
+-- no device fails that a text in memory is read from
+status_kept : (opened : Open) (two : List ℕ) (fault : RunFault) → IsNotJudged two opened fault
+    → status_of_fault (without_devices fault) ≡ status_of_fault fault
+status_kept opened two (File file (read_faults.Line line word found)) ends = refl
+status_kept opened two (File file (read_faults.End found)) ends = refl
+status_kept opened two (File file read_faults.TooLong) ends = refl
+status_kept opened two (File file read_faults.OutOfMemory) ends = refl
+status_kept opened two (File file read_faults.Device) ends = absurd ends.1
+status_kept opened two WrongKind ends = refl
+status_kept opened two OutOfMemory ends = refl
+status_kept opened two (Relayout refused) ends = absurd ends
+status_kept opened two (Write found) ends = absurd ends
+
+-- the status 2 is that of the fault
+status_of_it : (opened : Open) (two : List ℕ) (fault : RunFault) (written : List ℕ) (status : ℕ) (text : List ℕ)
+    → IsNotJudged two opened fault → EndsOnTexts (Err fault) written status text → status ≡ 2 → status ≡ status_of_fault fault
+status_of_it opened two fault written status text ends (inl e) two_is = e.0 ∙ status_kept opened two fault ends
+status_of_it opened two fault written status text ends (inr e) two_is =
+    let three : status ≡ 3 = e.0 in absurd (omega (arith, three, two_is))
+
 pub fault_told : (opened : Open) (claimed : Option ℤ) (two : List ℕ) (fault : RunFault) (written : List ℕ) (status : ℕ)
     (text : List ℕ) (told : Told) → IsNotJudged two opened fault → told ≡ told_of_fault fault
     → EndsOnTexts (Err fault) written status text → TellsJudged opened claimed two status told
 fault_told opened claimed two fault written status text told ends is e = record {
   judged = λ low. absurd (above_one opened two fault written status text ends e low);
-  faulty = λ two_is. (fault, ends, is);
+  faulty = λ two_is. (fault, ends, is, status_of_it opened two fault written status text ends e two_is);
 }
 
 -- ---- a verdict

@@ -18,6 +18,7 @@ ghost use Rattle.tsp_c.specs.Texts.{BoundsBy, ChecksBy, ConvertsBy, ExplainsText
 
 mod distance;
 mod ended;
+mod examples;
 mod explain;
 mod fill;
 mod handle;

@@ -99,7 +99,7 @@ fn part(items: &mut [Item], middle: usize)
 fn region_of(items: &[Item]) -> Region
     requires { 1 ≤ length items.now }
 {
-    let mut region = Region::of(items[0].point.in_space());
+    let mut region = Region::of(items[0].point);
     'items: for item in items {
         region = region.joined(Region::of(item.point));
     }

@@ -1,0 +1,97 @@
+//! The numbers of the calls for C, worked out by hand. No body is looked at here: a definition that
+//! is changed together with its code is refused by its examples.
+
+ghost use Rattle.std.specs.Prelude.{◌≡◌, ◌∷◌, ◌+◌, ◌-◌, ◌^◌, ℤ, pos, negsuc, [], None, Some, codes};
+ghost use Rattle.tsp_draft.specs.declared.fault.EndFault.TheVariants as end_faults;
+ghost use Rattle.tsp_draft.specs.Fields.{Fields, nodes_of};
+ghost use Rattle.tsp_file.specs.Cost.{cost};
+ghost use Rattle.tsp_format.specs.declared.field.Field.TheVariants as fields;
+ghost use Rattle.tsp_format.specs.declared.kinds.WeightKind.TheVariants as weight_kinds;
+ghost use Rattle.tsp_format.specs.declared.layout.Layout.TheVariants as layout;
+ghost use Rattle.tsp_format.specs.Words.{layouts};
+ghost use Rattle.tsp_judge.specs.declared.fault.RunFault.TheVariants as run_faults;
+ghost use Rattle.tsp_number.specs.declared.fault.NumberFault.TheVariants as number_faults;
+ghost use Rattle.tsp_reason.specs.declared.certificate.Certificate.TheVariants as certificate;
+ghost use Rattle.tsp_reason.specs.declared.verdict.BoundVerdict.TheVariants as bounds;
+ghost use Rattle.tsp_reason.specs.declared.verdict.Reason.TheVariants as reasons;
+ghost use Rattle.tsp_reason.specs.declared.verdict.Verdict.TheVariants as verdicts;
+ghost use Rattle.tsp_text.specs.declared.fault.LineFault.TheVariants as line_faults;
+ghost use Rattle.tsp_text.specs.declared.fault.ReadFault.TheVariants as read_faults;
+ghost use Rattle.tsp_c.specs.declared.told.Told.{Told};
+ghost use Rattle.tsp_c.specs.Ended.{IsPlaced, nth};
+ghost use Rattle.tsp_c.specs.NumberCalls.{distance_kinds, lists_in, pair_cost, row_cost, row_count};
+ghost use Rattle.tsp_c.specs.Texts.{certificates, claim_of};
+ghost use Rattle.tsp_c.specs.Told.{blank_told, high_half, low_half, told_of_bound, told_of_fault, told_of_verdict};
+
+/// What a number picks, counted from 1: 0 and a number past the last pick nothing.
+pub fn examples_of_picked_numbers()
+    ensures no_certificate { nth 0 certificates ≡ None }
+    ensures potentials { nth 1 certificates ≡ Some certificate.Potentials }
+    ensures branches { nth 2 certificates ≡ Some certificate.Branches }
+    ensures third { nth 3 certificates ≡ None }
+    ensures own_layout { nth 0 layouts ≡ None }
+    ensures first_layout { nth 1 layouts ≡ Some layout.FullMatrix }
+    ensures last_layout { nth 9 layouts ≡ Some layout.LowerDiagCol }
+    ensures euc_2d { nth 1 distance_kinds ≡ Some weight_kinds.Euc2d }
+    ensures ceil_2d { nth 2 distance_kinds ≡ Some weight_kinds.Ceil2d }
+    ensures att { nth 5 distance_kinds ≡ Some weight_kinds.Att }
+    ensures max_3d { nth 8 distance_kinds ≡ Some weight_kinds.Max3d }
+    ensures ninth { nth 9 distance_kinds ≡ None }
+    ensures unclaimed { (claimed : ℤ) → claim_of 0 claimed ≡ None }
+    ensures claimed { (claimed : ℤ) → claim_of 1 claimed ≡ Some claimed }
+{}
+
+/// Which cost, list or row a place is for.
+pub fn examples_of_filled_places()
+    ensures lists { lists_in (1 ∷ 2 ∷ 0 ∷ 3 ∷ 0 ∷ []) ≡ (1 ∷ 2 ∷ []) ∷ (3 ∷ []) ∷ [] }
+    ensures rows { row_count 7 3 2 ≡ 2 }
+    ensures last_row { row_count 7 3 3 ≡ 1 }
+    ensures pair { (instance : Fields) → pair_cost (1 ∷ 2 ∷ 3 ∷ 1 ∷ []) instance 1 ≡ cost instance 3 1 }
+    ensures row { (instance : Fields) → nodes_of instance ≡ 3 → row_cost 2 instance 4 ≡ cost instance 3 2 }
+{}
+
+/// A text in a buffer.
+pub fn examples_of_placed_texts()
+    ensures fits { IsPlaced (codes "no") 1 (codes "1234") (codes "no34") 2 1 }
+    ensures too_small { IsPlaced (codes "no") 1 (codes "1") (codes "1") 2 6 }
+    ensures cut { ¬ IsPlaced (codes "no") 1 (codes "1") (codes "n") 2 6 }
+{}
+
+/// The halves of a bound.
+pub fn examples_of_halves()
+    ensures one_high { high_half (pos 1) ≡ pos 0 }
+    ensures one_low { low_half (pos 1) ≡ 1 }
+    ensures below_high { high_half (negsuc 0) ≡ negsuc 0 }
+    ensures below_low { low_half (negsuc 0) ≡ 2 ^ 64 - 1 }
+    ensures large_high { high_half (pos (2 ^ 64 + 5)) ≡ pos 1 }
+    ensures large_low { low_half (pos (2 ^ 64 + 5)) ≡ 5 }
+{}
+
+/// A verdict in numbers, whatever the instance is.
+pub fn examples_of_told_verdicts()
+    ensures tour { (instance : Fields) → let told : Told = told_of_verdict instance (verdicts.Tour (pos 12) None) in
+        (told.verdict ≡ 1) × (told.length ≡ pos 12) × (told.has_bound ≡ 0) × (told.fault ≡ 0) }
+    ensures bounded { (instance : Fields) → let told : Told = told_of_verdict instance (verdicts.Tour (pos 12) (Some (pos 10))) in
+        (told.verdict ≡ 1) × (told.length ≡ pos 12) × (told.has_bound ≡ 1) × (told.bound_high ≡ pos 0) × (told.bound_low ≡ 10) }
+    ensures routes { (instance : Fields) → let told : Told = told_of_verdict instance (verdicts.Routes (pos 12) 3 2) in
+        (told.verdict ≡ 2) × (told.length ≡ pos 12) × (told.routes ≡ 3) × (told.least ≡ 2) × (told.has_bound ≡ 0) }
+    ensures rejected { (instance : Fields) → let told : Told = told_of_verdict instance (verdicts.No (reasons.NotSymmetric 1 2)) in
+        (told.verdict ≡ 3) × (told.reason ≡ 3) × (told.first ≡ pos 1) × (told.second ≡ pos 2) × (told.length ≡ pos 0) }
+    ensures bound { (instance : Fields) → let told : Told = told_of_bound instance (bounds.Bound (pos 10)) in
+        (told.verdict ≡ 4) × (told.has_bound ≡ 1) × (told.bound_low ≡ 10) }
+    ensures no_tour { (instance : Fields) → let told : Told = told_of_bound instance bounds.NoTour in
+        (told.verdict ≡ 5) × (told.has_bound ≡ 0) }
+{}
+
+/// A fault in numbers.
+pub fn examples_of_told_faults()
+    ensures line { let told : Told = told_of_fault (run_faults.File 2 (read_faults.Line 3 4
+        (line_faults.Number number_faults.OutOfRange))) in
+        (told.fault ≡ 10) × (told.file ≡ 2) × (told.line ≡ 3) × (told.word ≡ 4) × (told.number ≡ 4) × (told.verdict ≡ 0) }
+    ensures end { let told : Told = told_of_fault (run_faults.File 1 (read_faults.End (end_faults.Missing fields.TypeKey))) in
+        (told.fault ≡ 16) × (told.file ≡ 1) × (told.line ≡ 0) × (told.field ≡ 2) }
+    ensures too_long { let told : Told = told_of_fault (run_faults.File 3 read_faults.TooLong) in
+        (told.fault ≡ 20) × (told.file ≡ 3) }
+    ensures wrong_kind { let told : Told = told_of_fault run_faults.WrongKind in (told.fault ≡ 21) × (told.file ≡ 1) }
+    ensures memory { told_of_fault run_faults.OutOfMemory ≡ blank_told }
+{}
