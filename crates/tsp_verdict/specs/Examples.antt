@@ -2,7 +2,7 @@
 use Rattle.std.specs.Prelude.{ℕ, ◌<◌, List, [], ◌∷◌, Option, None, Some, ℤ, pos}
 use Rattle.tsp_format.specs.declared.kinds.Kind.{Kind}
 use Rattle.tsp_format.specs.declared.kinds.Kind.TheVariants as kinds
-use Rattle.tsp_format.specs.Steps.{Step, Leaf}
+use Rattle.tsp_format.specs.Steps.{Step, Branch, Leaf}
 use Rattle.tsp_draft.specs.Fields.{Fields, blank_fields}
 pub use Rattle.tsp_theory.specs.CycleExamples.{two, three, four}
 use Rattle.tsp_reason.specs.declared.verdict.Reason.{Reason}
@@ -71,6 +71,24 @@ two_leaves = Leaf [] ∷ Leaf [] ∷ []
 
 abbrev pub three_leaves : List Step
 three_leaves = Leaf [] ∷ two_leaves
+
+-- a tree of two leaves, both with the potential of a fifth node
+abbrev pub bad_leaves : List Step
+bad_leaves = Branch 1 2 ∷ Leaf ((5, pos 1) ∷ []) ∷ Leaf ((5, pos 1) ∷ []) ∷ []
+
+-- certificates at a scale of 2: by nodes and a multiplier, by rows and columns, and by a single leaf
+abbrev pub halves_of_nodes : Fields
+halves_of_nodes = record (certificate 3 (Some (pos 1 ∷ pos 0 ∷ pos 3 ∷ [])) None None) {
+  scale = Some (pos 2);
+  fixed_potentials = Some ((1, 2, pos 5) ∷ []);
+}
+
+abbrev pub halves_of_rows : Fields
+halves_of_rows =
+    record (certificate 3 None (Some (pos 1 ∷ pos 2 ∷ pos 4 ∷ [])) (Some (pos 0 ∷ pos 1 ∷ pos 1 ∷ []))) { scale = Some (pos 2) }
+
+abbrev pub halves_of_leaf : Fields
+halves_of_leaf = record (branching 3 [] (Leaf [] ∷ [])) { scale = Some (pos 2) }
 
 -- two sets of four nodes, of which the first has a node twice
 abbrev pub node_twice : List (List ℕ)

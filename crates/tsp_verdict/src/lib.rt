@@ -28,6 +28,7 @@ mod places;
 mod routes;
 mod tour;
 mod tree;
+mod verdict_examples;
 mod visits;
 
 pub use basis::{basis_alone, basis_of, judge_basis, judge_next};
@@ -46,3 +47,7 @@ pub use judged::judge;
 pub use routes::judge_routes;
 pub use tour::judge_tour;
 pub use tsp_reason::{Basis, BoundVerdict, Certificate, Reason, Verdict};
+pub use verdict_examples::{
+    examples_against_routing, examples_of_accepted, examples_of_bounds, examples_of_depots,
+    examples_of_first_reasons, examples_of_pairs,
+};
