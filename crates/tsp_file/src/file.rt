@@ -8,8 +8,8 @@ use tsp_format::{CoordKind, DisplayKind, Kind, Layout, TreeStep, WeightFormat, W
 
 /// What a valid file holds.
 ///
-/// It is made from a draft by [`File::of`], which says what is valid, or by a reader. A call for each
-/// field lends it.
+/// It is made from a draft by [`File::of`], which says what is valid, or by a reader. A call for
+/// each field lends it.
 #[derive(Debug)]
 pub struct File {
     draft: Draft,
