@@ -8,8 +8,8 @@
 namespace certify {
 namespace {
 constexpr Weight kLargestGrid = 1000000;
-constexpr int kTrials = 60;  // of bounds for a leaf that is made like the last
-constexpr int kChecks = 3;   // of what they made
+constexpr int kTrials = 20;  // of bounds for a leaf that is made like the last
+constexpr int kChecks = 2;   // of what they made
 constexpr int kCoarseSteps = 150;
 constexpr double kSurplus = 0.005;
 

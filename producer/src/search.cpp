@@ -16,12 +16,13 @@ constexpr Weight kLongLength = 2000000;
 constexpr Weight kFineScale = 2520, kCoarseScale = 840;
 constexpr Weight kMostScaledWeight = 20000000000000;  // so that potentials stay within their limit
 constexpr int kPopulation = 150;                      // of the second search for a tour
+constexpr int kLargePopulation = 600;                 // of a third one, where the gap stays large
 constexpr double kPartForTours = 0.5;                 // of the time, at most
 constexpr double kPartForTree = 0.95;  // of the time; the rest is for short numbers of the leaves
 constexpr double kTrial = 0.1;         // of the time, before the size of the tree is guessed
 constexpr int kRootClimbs = 400, kNodeClimbs = 100, kLevels = 2;
-constexpr int kFamilyAtoms = 14, kFamilyChunks = 800, kFamilyClimbs = 1600;  // at the root
-constexpr int kLightAtoms = 12, kLightChunks = 800, kLightClimbs = 200;      // where the gap is large
+constexpr Effort kFamilies{1600, 2, 0.01, 2, 200, true, 14, 800};      // at the root
+constexpr Effort kLightFamilies{200, 1, 0.01, 2, 200, true, 12, 800};  // where the gap is large
 constexpr int kNodeAtoms = 12, kNodeChunks = 60;
 constexpr int kMostMisses = 3;           // rounds in a row without a cut
 constexpr double kLargeTree = 300;       // leaves, from which families are looked for in the tree
@@ -137,7 +138,7 @@ void Search::take_tour(const Tour& tour) {
 
 // Looks once more, by the weights less the duals: the nodes that are near by these are more often neighbours
 // in a shortest tour. The tour at hand isn't in the population, which would take after it.
-void Search::look_for_tour() {
+void Search::look_for_tour(int population) {
   const int nodes = instance_.nodes();
   if (instance_.directed) {
     const Instance changed{less_duals(instance_, relaxation_), instance_.fixed, true};
@@ -149,7 +150,7 @@ void Search::look_for_tour() {
   std::vector<Weight> potentials(nodes);
   for (int v = 0; v < nodes; v++) potentials[v] = std::llround(relaxation_.leaving_dual(v));
   const Matrix costs = with_potentials(costs_, potentials);
-  Eax eax(costs, instance_.fixed, kPopulation, seed_ + 1);
+  Eax eax(costs, instance_.fixed, population, seed_ + 1);
   take_tour(eax.run([&] { return clock_.over(kPartForTours); }, [&](Weight) { progress_.show(standing()); }));
 }
 
@@ -234,10 +235,7 @@ bool Search::tighten(Numbers& numbers) {
 }
 
 // The same at the root with families. Rounds that met many subtours aren't counted.
-bool Search::tighten_by_families(Numbers& numbers) {
-  const bool light = has_large_gap();
-  Effort effort{kFamilyClimbs, 2, 0.01, 2, 200, true, kFamilyAtoms, kFamilyChunks};
-  if (light) effort = {kLightClimbs, 1, 0.01, 2, 200, true, kLightAtoms, kLightChunks};
+bool Search::tighten_by_families(const Effort& effort, Numbers& numbers) {
   std::vector<double> values;
   int misses = 0;
   for (int round = 1; misses < kMostMisses; round++) {
@@ -263,19 +261,28 @@ bool Search::wants_families() {
   return leaves >= kVeryLargeTree;
 }
 
+// A gap that stays large may be the tour's too.
+bool Search::settle_by_families(Numbers& numbers) {
+  choice_.reset();
+  branching_.forget();
+  if (tighten_by_families(has_large_gap() ? kLightFamilies : kFamilies, numbers)) return true;
+  if (named_ || clock_.over() || !has_large_gap()) return false;
+  const Weight before = length_;
+  look_for_tour(kLargePopulation);
+  return length_ < before && solve(1, numbers);
+}
+
 // With one more search for a tour where a gap is left.
 bool Search::settle_root(Numbers& numbers) {
   if (tighten(numbers)) return true;
   if (!named_ && !clock_.over()) {
     const Weight before = length_;
-    look_for_tour();
+    look_for_tour(kPopulation);
     if (length_ < before && tighten(numbers)) return true;
   }
   if (!wants_families()) return false;
   large_tree_ = true;
-  choice_.reset();
-  branching_.forget();
-  return tighten_by_families(numbers);
+  return settle_by_families(numbers);
 }
 
 bool Search::settle(Numbers& numbers) { return root() ? settle_root(numbers) : tighten(numbers); }

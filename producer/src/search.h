@@ -71,7 +71,8 @@ class Search {
   };
   bool solve(int round, Numbers& numbers);
   bool tighten(Numbers& numbers);
-  bool tighten_by_families(Numbers& numbers);
+  bool tighten_by_families(const Effort& effort, Numbers& numbers);
+  bool settle_by_families(Numbers& numbers);
   bool settle(Numbers& numbers);
   bool settle_root(Numbers& numbers);
   bool has_large_gap() const;
@@ -94,7 +95,7 @@ class Search {
   void widen(Numbers& numbers);
   void offer_tour();
   void take_tour(const Tour& tour);
-  void look_for_tour();
+  void look_for_tour(int population);
   Standing standing() const;
   void log(std::string_view event) { progress_.log(event, standing()); }
   bool root() const { return decisions_.size() == instance_.fixed.size(); }

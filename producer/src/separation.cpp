@@ -9,6 +9,7 @@
 namespace certify {
 namespace {
 constexpr std::size_t kMostFromPool = 150;
+constexpr int kLongestRest = 4;  // rounds
 constexpr int kMostHandlesOfNode = 12;
 constexpr int kMostSetsOfNode = 60;  // of the families of a round
 constexpr std::size_t kLargestTight = 80;
@@ -28,15 +29,25 @@ void Separation::set_tours(const Tour& best, const std::vector<Tour>& further) {
   further_ = further;
 }
 
-// Known cuts that the solution misses, the worst first. How many it misses.
-int Separation::from_pool(Round& round) {
+// Known cuts that the solution misses, the worst first. Those that earlier solutions crossed much more often
+// than a tour has to rest for some rounds, unless that is over for all.
+std::vector<std::pair<double, int>> Separation::missed_in_pool(bool rested) {
   std::vector<std::pair<double, int>> missed;
+  rest_.resize(pool_.size(), 0);
   for (int cut = 0; cut < pool_.size(); cut++) {
-    if (relaxation_.has(cut)) continue;
+    if (relaxation_.has(cut) || (!rested && rest_[cut]-- > 0)) continue;
     const double by = meter_.violation(pool_[cut]);
+    rest_[cut] = std::clamp(static_cast<int>(-2 * by), 0, kLongestRest);
     if (by > 0.02) missed.emplace_back(-by, cut);
   }
   std::sort(missed.begin(), missed.end());
+  return missed;
+}
+
+// How many known cuts the solution misses.
+int Separation::from_pool(Round& round) {
+  std::vector<std::pair<double, int>> missed = missed_in_pool(false);
+  if (missed.empty()) missed = missed_in_pool(true);
   for (std::size_t k = 0; k < std::min(missed.size(), kMostFromPool); k++)
     round.cuts.push_back(missed[k].second);
   return static_cast<int>(missed.size());

@@ -36,6 +36,7 @@ class Separation {
     std::vector<int> uses;  // of each node in handles
     int combs = 0;
   };
+  std::vector<std::pair<double, int>> missed_in_pool(bool rested);
   int from_pool(Round& round);
   int subtours(Round& round);
   void combs(Round& round, const Effort& effort);
@@ -58,6 +59,7 @@ class Separation {
   std::vector<Tour> further_;
   std::vector<char> scratch_;
   ViolationMeter meter_;                     // of the solution at hand
+  std::vector<int> rest_;                    // rounds that a cut of the pool is left out
   std::unordered_set<std::uint64_t> tried_;  // chunks
   bool whole_ = true;
 };
