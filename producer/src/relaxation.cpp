@@ -9,6 +9,7 @@ namespace certify {
 namespace {
 constexpr int kElastic = 3;  // the first columns
 constexpr double kTiny = 1e-6;
+constexpr double kRise = 10, kMostRise = 1e5;  // of the penalty, at a time and in all
 }  // namespace
 
 Relaxation::Relaxation(const Instance& instance, const CutPool& pool, const Tour& tour)
@@ -27,10 +28,12 @@ Relaxation::Relaxation(const Instance& instance, const CutPool& pool, const Tour
       most = std::max(most, weights_(i, j));
     }
   }
-  const double above = static_cast<double>(length_of(weights_, tour)) - static_cast<double>(least_) * nodes_;
+  length_ = static_cast<double>(length_of(weights_, tour));
+  const double above = length_ - static_cast<double>(least_) * nodes_;
   average_ = above / nodes_;
   unit_ = std::max(1.0, average_ / 1000);
   penalty_ = (20 * above + 4 * static_cast<double>(most - least_) + 1) / unit_;
+  most_penalty_ = kMostRise * penalty_;
   present_.assign(static_cast<std::size_t>(nodes_) * nodes_, 0);
   begin();
 }
@@ -391,10 +394,22 @@ void Relaxation::read_solution() {
     ages_[row] = cut_duals_[row] > 1e-7 ? 0 : ages_[row] + 1;
 }
 
+// A set with a large dual raises the duals of its nodes. Where clusters lie far apart, they sum up to more
+// than the penalty: all degrees then fall short a little, and the value is far too low. A value above the
+// length of the tour closes the case as it is.
+bool Relaxation::raise_penalty() {
+  const double* values = program_.getColSolution();
+  const bool elastic = std::any_of(values, values + kElastic, [](double value) { return value > kTiny; });
+  if (!elastic || value_ > length_ || penalty_ >= most_penalty_) return false;
+  penalty_ *= kRise;
+  for (int k = 0; k < kElastic; k++) program_.setObjectiveCoefficient(k, penalty_);
+  return true;
+}
+
 void Relaxation::solve() {
   do {
     optimize();
-  } while (price() > 0);
+  } while (price() > 0 || raise_penalty());
   read_solution();
 }
 

@@ -93,6 +93,7 @@ class Relaxation {
   void begin();
   void optimize();
   int price();
+  bool raise_penalty();
   void read_duals();
   void read_solution();
   void add_support(int node, int to, double value);
@@ -107,7 +108,8 @@ class Relaxation {
   const CutPool& pool_;
   int nodes_;
   Weight least_ = 0;
-  double unit_ = 1, penalty_ = 1, average_ = 1;  // average_: of an edge of the tour
+  double unit_ = 1, length_ = 0, average_ = 1;  // length_: of the tour; average_: of an edge of it
+  double penalty_ = 1, most_penalty_ = 1;       // of the elastic columns
   EdgeWeights edge_weights_;
   ClpSimplex program_;
   std::vector<Pair> edges_;

@@ -202,15 +202,14 @@ bool Search::solve(int round, Numbers& numbers) {
 }
 
 // A whole solution is a tour that just reaches the target. Its numbers become ones that bear rounding: for
-// them its edges are the best ones by a margin.
+// them its edges are the best ones by a margin, the largest before the first that is too large.
 void Search::widen(Numbers& numbers) {
-  for (double margin = kMostMargin; margin >= kLeastMargin && !clock_.over(); margin /= 4) {
+  for (double margin = kLeastMargin; margin <= kMostMargin && !clock_.over(); margin *= 4) {
     relaxation_.take_margin(margin);
     Numbers wide = made_.extract(relaxation_, 1);
     relaxation_.solve();
-    if (!bound_->reaches(wide, decisions_, made_.goal(target_))) continue;
+    if (!bound_->reaches(wide, decisions_, made_.goal(target_))) return;
     numbers = std::move(wide);
-    return;
   }
 }
 

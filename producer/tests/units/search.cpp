@@ -96,3 +96,30 @@ TEST_CASE("the edges of a whole solution are the best ones by a margin") {
   relaxation.solve();
   CHECK(std::abs(relaxation.value() - 14) < 1e-6);  // the weights are as they were
 }
+
+// Two grids of 8 by 8, far apart. A solution has two edges of 99993 or more between them, and in each 63
+// edges of 1 or more. The duals of the nodes sum up to more than the first penalty, and without a larger one
+// the value is far too low.
+TEST_CASE("degrees don't fall short where clusters are far apart") {
+  Matrix weights(128);
+  for (int i = 0; i < 128; i++) {
+    for (int j = 0; j < i; j++) {
+      const double x = i / 64 * 100000 + i % 8 - j / 64 * 100000 - j % 8, y = i / 8 % 8 - j / 8 % 8;
+      weights.set(i, j, std::lround(std::hypot(x, y)));
+    }
+  }
+  Tour tour;
+  for (int part = 0; part < 2; part++) {
+    for (int k = 0; k < 64; k++) tour.push_back(64 * part + (k / 8 % 2 == 0 ? k : k / 8 * 8 + 7 - k % 8));
+  }
+  CutPool pool(128);
+  const Instance instance{weights, {}, false};
+  Relaxation relaxation(instance, pool, tour);
+  relaxation.add_edges(edges_of(tour));
+  NodeSet half(64);
+  for (int v = 0; v < 64; v++) half[v] = v;
+  relaxation.add_cuts({pool.add_subtour(half)});
+  relaxation.solve();
+  CHECK(relaxation.value() > 2 * 99993 + 2 * 63 - 0.01);
+  CHECK(relaxation.value() < static_cast<double>(length_of(weights, tour)) + 0.01);
+}
