@@ -1,4 +1,4 @@
-/* The program's verbs over the library, so that tests/run-tables can run it on its rows: the report or the
+/* The program's verbs over the library, so that tests/program/run-tables can run it on its rows: the report or the
  * text goes to standard output, the line of a fault to standard error, and the status is the exit status. */
 #include "../tsp.h"
 #include "files.h"

@@ -1,6 +1,6 @@
-"""Each row of tests/tables, by the package's calls and by its command in this process.
+"""Each row of tests/program/tables, by the package's calls and by its command in this process.
 
-tests/rows.py knows what a row is. Here what it starts as a process is done by the package.
+tests/support/rows.py knows what a row is. Here what it starts as a process is done by the package.
 """
 
 import io
@@ -15,7 +15,7 @@ from support import ROOT
 from yokecairn.__main__ import Run, length_of
 from yokecairn.compare import line_of
 
-sys.path.append(str(ROOT / "tests"))
+sys.path.append(str(ROOT / "tests/support"))
 import rows  # noqa: E402
 
 

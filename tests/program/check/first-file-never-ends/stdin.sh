@@ -1,2 +1,0 @@
-# Lines of blanks for ever.
-exec yes '  '

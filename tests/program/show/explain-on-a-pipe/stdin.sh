@@ -1,1 +1,0 @@
-printf 'TYPE : TSP\nFOO\n'

@@ -1,0 +1,91 @@
+"""What the tests written in Python share: the program that they run, and the counts with which each ends."""
+from __future__ import annotations
+
+import argparse
+import json
+import os
+import sys
+from collections.abc import Callable
+from pathlib import Path
+from typing import NoReturn
+
+TESTS = Path(__file__).resolve().parents[1]
+ROOT = TESTS.parent
+BUILT = ROOT / "crates/tsp_tool/out/tsp_tool"
+
+
+def the_program() -> Path:
+    """The program that the first word of the command line names, or the one that was built last."""
+    return program_at(sys.argv[1] if len(sys.argv) > 1 else BUILT)
+
+
+def program_at(path: str | Path) -> Path:
+    """The program at a path, whole. Where there is none, the test ends."""
+    named = Path(path)
+    if not (named.is_file() and os.access(named, os.X_OK)):
+        stop(f"there is no program {named}: run ./check or ./tsp first")
+    return named.resolve()
+
+
+def words_given(doc: str, more: Callable[[argparse.ArgumentParser], object] = lambda _: None) -> argparse.Namespace:
+    """The words of a test whose cases can be picked: `program` and `only`, and what `more` adds."""
+    formed = argparse.RawDescriptionHelpFormatter
+    parser = argparse.ArgumentParser(usage=argparse.SUPPRESS, description=doc, formatter_class=formed, add_help=False)
+    parser.add_argument("--help", action="help", help=argparse.SUPPRESS)
+    parser.add_argument("program", nargs="?", default=BUILT, help=argparse.SUPPRESS)
+    parser.add_argument("--only", default="", help=argparse.SUPPRESS)
+    more(parser)
+    given = parser.parse_args()
+    given.program = program_at(given.program)
+    return given
+
+
+def stop(why: str) -> NoReturn:
+    """Ends a test that can't begin, as one failure."""
+    print(f"{Path(sys.argv[0]).name}: {why}", file=sys.stderr)
+    counts = Counts()
+    counts.add(False, name=why)
+    sys.exit(counts.end())
+
+
+class Counts:
+    """How many cases have passed, failed and been skipped. Where the variable CHECK_RECORD names a file, each case is
+    written there, a line of JSON each, for the report of ./check."""
+
+    def __init__(self) -> None:
+        self.passed = self.failed = self.skipped = 0
+        self.cases: list[dict[str, str]] = []
+
+    def add(self, is_well: object, told: str = "", name: str = "") -> None:
+        """Counts a case, and tells of one that failed."""
+        outcome = "passed" if is_well else "failed"
+        self.cases.append({"name": name or str(len(self.cases) + 1), "outcome": outcome, "told": "" if is_well else told})
+        if is_well:
+            self.passed += 1
+        else:
+            self.failed += 1
+            if told:
+                print(told, flush=True)
+
+    def add_all(self, faults: list[str]) -> None:
+        """Counts a case that has these faults: as passed where there are none, else each fault."""
+        for fault in faults:
+            self.add(False, fault)
+        if not faults:
+            self.add(True)
+
+    def skip(self, what: str, needed: str) -> None:
+        """Counts what isn't run, and tells what it needs: the packages to install."""
+        self.skipped += 1
+        self.cases.append({"name": what, "outcome": "skipped", "told": needed})
+        print(f"skipped: {what}: {needed}", flush=True)
+
+    def end(self) -> int:
+        """Prints the last line of a test, 'N passed, M failed', with ', K skipped' where something was; its exit
+        status, which is 0 where something ran or was skipped and nothing failed, else 1."""
+        if record := os.environ.get("CHECK_RECORD"):
+            with open(record, "a", encoding="utf-8") as file:
+                file.writelines(json.dumps(case) + "\n" for case in self.cases)
+        skipped = f", {self.skipped} skipped" if self.skipped else ""
+        print(f"{self.passed} passed, {self.failed} failed{skipped}", flush=True)
+        return 0 if self.passed + self.skipped and not self.failed else 1
