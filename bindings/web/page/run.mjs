@@ -108,7 +108,7 @@ function rowsOfTours(library, job) {
             return { name: solution.name, word: text.trim() || "Out of memory", length: "", gap: "", percent: "" };
         }
         const word = report.yes ? verdictOf(report).word : [`No: ${report.reason}`, ...report.numbers].join(" ");
-        const gap = report.optimal ? "0" : String(report.gap ?? "");
+        const gap = String(report.gap ?? "");
         return { name: solution.name, word, length: String(report.length ?? ""), gap, percent: percentOf(report) };
     });
 }

@@ -34,6 +34,7 @@ test("a report of a result in numbers", () => {
     const refused = refusedReport(3, 1n, 2n);
     assert.deepEqual([refused.yes, refused.reason, refused.numbers], [false, "NotSymmetric", [1, 2]]);
     assert.deepEqual([refused.length, refused.bound, refused.gap, refused.optimal], [null, null, null, false]);
+    assert.deepEqual([tourReport(5n, 5n).gap, tourReport(5n).gap], [0n, null], "a gap of 0, and none");
     const last = refusedReport(27, 4n);
     assert.deepEqual([last.reason, last.numbers], ["BadLeaf", [4]]);
     assert.equal(reportWith({ kind: 3 }).type, "CVRP");
