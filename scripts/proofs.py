@@ -1,0 +1,65 @@
+"""The run of `rt ci` that proves every crate, and its critical path.
+
+`rt ci` proves many crates at once, each after those below it. The critical path of a run is the chain of crates of
+which each began when the one before it had ended. It says what would shorten the run.
+"""
+from __future__ import annotations
+
+import re
+import shutil
+import subprocess
+import time
+from collections.abc import Callable
+
+from sources import ROOT, crates
+from suites import Outcome, outcome_of
+
+PROVED = re.compile(r"rt: (\w+) (proved|is kept: .*)$")
+Times = dict[str, float]
+
+
+def critical_path(ends: Times, lower: dict[str, list[str]]) -> list[tuple[str, float]]:
+    """The chain of crates up to the one that ended last, each with the seconds after the end of the one before it.
+    Where two of those below a crate ended, the later one is in the chain."""
+    chain: list[tuple[str, float]] = []
+    name = max(ends, key=lambda crate: ends[crate], default="")
+    while name:
+        below = [crate for crate in lower.get(name, []) if crate in ends]
+        before = max(below, key=lambda crate: ends[crate], default="")
+        chain.append((name, ends[name] - ends.get(before, 0.0)))
+        name = before
+    return chain[::-1]
+
+
+def told_path(ends: Times, kept: set[str], lower: dict[str, list[str]]) -> str:
+    """The critical path in words."""
+    proved = {name: end for name, end in ends.items() if name not in kept}
+    if not proved:
+        return "critical path: every crate was kept"
+    steps = [f"{name} {seconds:.0f} s" for name, seconds in critical_path(proved, lower)]
+    return f"critical path, {max(proved.values()):.0f} s: " + ", ".join(steps)
+
+
+def prove(say: Callable[[str], None]) -> Outcome:
+    """Runs `rt ci`, and says what it says as it comes."""
+    # (It would put back what a developer's own checks have left there, in place of the statements that it proves. They
+    # are made again over those checks, in seconds each.)
+    for folder in ROOT.glob("crates/*/out/rlib"):
+        shutil.rmtree(folder)
+    begun, lines, ends, kept = time.monotonic(), [], {}, set()
+    sources = subprocess.run([ROOT / "scripts/mark"], stdout=subprocess.PIPE, text=True, check=True).stdout.split()
+    streams = {"stdin": subprocess.DEVNULL, "stdout": subprocess.PIPE, "stderr": subprocess.STDOUT}
+    with subprocess.Popen(["rt", "ci"], cwd=ROOT, text=True, errors="replace", **streams) as ran:
+        for line in ran.stdout:
+            say(line.rstrip("\n"))
+            lines.append(line)
+            if (found := PROVED.match(line)) and found[1] not in ends:
+                ends[found[1]] = time.monotonic() - begun
+                if found[2] != "proved":
+                    kept.add(found[1])
+    outcome = outcome_of("proofs", "".join(lines), ran.returncode)
+    if subprocess.run([ROOT / "scripts/mark", *sources], check=False).returncode:
+        outcome.failed += 1
+    say(told_path(ends, kept, {name: lower for name, (_, lower) in crates().items()}))
+    outcome.seconds = time.monotonic() - begun
+    return outcome

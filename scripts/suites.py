@@ -1,0 +1,125 @@
+"""The suites of tests/suites.toml, and their runs beside each other."""
+from __future__ import annotations
+
+import json
+import os
+import re
+import shutil
+import subprocess
+import tempfile
+import time
+import tomllib
+from collections.abc import Callable, Iterator
+from concurrent.futures import Future, ThreadPoolExecutor, as_completed
+from dataclasses import dataclass, field
+from pathlib import Path
+
+from sources import ROOT
+
+MANIFEST = ROOT / "tests/suites.toml"
+FIRST = "repository"  # the folder of the suites that come first
+RUNNING: set[subprocess.Popen[str]] = set()
+LAST_LINE = re.compile(r"(\d+) passed, (\d+) failed(?:, (\d+) skipped)?$")
+
+
+@dataclass(frozen=True)
+class Suite:
+    """A suite of the manifest, which says what each field means."""
+
+    name: str
+    folder: str
+    seconds: int
+    script: str = ""
+    words: tuple[str, ...] = ()
+    on: tuple[str, ...] = ()
+    proof: bool = False
+    needs: dict[str, str] = field(default_factory=dict)
+    nice: bool = False
+
+    def command(self) -> list[str]:
+        """Its script and words, without a program."""
+        return [f"tests/{self.folder}/{self.script or self.name}", *self.words]
+
+    def lacks(self) -> list[str]:
+        """What has to be installed."""
+        return sorted({package for tool, package in self.needs.items() if shutil.which(tool) is None})
+
+
+@dataclass
+class Outcome:
+    """What came of a run: its counts, its time, and its cases where it told them."""
+
+    name: str
+    passed: int = 0
+    failed: int = 0
+    skipped: int = 0
+    seconds: float = 0.0
+    said: str = ""
+    cases: list[dict[str, str]] = field(default_factory=list)
+
+    def counts(self) -> str:
+        """The counts, as the last line of a suite has them."""
+        return f"{self.passed} passed, {self.failed} failed" + (f", {self.skipped} skipped" if self.skipped else "")
+
+
+def manifest(path: Path = MANIFEST) -> list[Suite]:
+    """The suites of the manifest, in its order."""
+    tables = tomllib.loads(path.read_text())
+    lists = {"words", "on"}
+    return [Suite(name, **{key: tuple(it) if key in lists else it for key, it in fields.items()}) for name, fields in tables.items()]
+
+
+def outcome_of(name: str, said: str, status: int) -> Outcome:
+    """The counts of a suite that wrote this and ended with this status. One that ends in another way than its last line
+    says has failed once more."""
+    found = LAST_LINE.match(said.rstrip("\n").rpartition("\n")[2])
+    if found is None:
+        return Outcome(name, failed=1, said=f"{said}{name}: it ended with status {status}, without its counts\n")
+    passed, failed, skipped = (int(count or 0) for count in found.groups())
+    if status and not failed:
+        failed, said = 1, f"{said}{name}: it ended with status {status}\n"
+    return Outcome(name, passed, failed, skipped, said=said)
+
+
+def skipped(name: str, needed: str) -> Outcome:
+    """The outcome of a suite that isn't run."""
+    told = {"name": name, "outcome": "skipped", "told": needed}
+    return Outcome(name, skipped=1, said=f"skipped: {name}: {needed}\n", cases=[told])
+
+
+def run(name: str, suite: Suite, more: list[str]) -> Outcome:
+    """Runs a suite with more words."""
+    if lacking := suite.lacks():
+        packages = " ".join(lacking)
+        return skipped(name, packages if " " in packages and len(lacking) == 1 else f"apt-get install {packages}")
+    begun = time.monotonic()
+    with tempfile.NamedTemporaryFile("r", suffix=".jsonl") as record:
+        words = [*(["nice", "-n", "5"] if suite.nice else []), *suite.command(), *more]
+        environment = {**os.environ, "CHECK_RECORD": record.name}
+        streams = {"stdin": subprocess.DEVNULL, "stdout": subprocess.PIPE, "stderr": subprocess.STDOUT}
+        with subprocess.Popen(words, cwd=ROOT, env=environment, text=True, errors="replace", **streams) as ran:
+            RUNNING.add(ran)
+            said = ran.stdout.read()
+        RUNNING.discard(ran)
+        outcome = outcome_of(name, said, ran.returncode)
+        outcome.cases = [json.loads(line) for line in record]
+    outcome.seconds = time.monotonic() - begun
+    return outcome
+
+
+Job = tuple[int, Callable[[], Outcome]]
+
+
+def run_all(jobs: list[Job], workers: int) -> Iterator[Outcome]:
+    """The outcomes of jobs that run side by side, as they end. Each has its seconds, and the longest start first."""
+    with ThreadPoolExecutor(workers) as pool:
+        waiting: list[Future[Outcome]] = [pool.submit(job) for _, job in sorted(jobs, key=lambda job: -job[0])]
+        try:
+            for ended in as_completed(waiting):
+                yield ended.result()
+        except BaseException:  # (an interrupt, for example)
+            for job in waiting:
+                job.cancel()
+            for process in list(RUNNING):
+                process.terminate()
+            raise
