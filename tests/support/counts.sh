@@ -1,5 +1,5 @@
 # shellcheck shell=sh
-# What the tests in this folder share that are written for the shell: the folder `here`, a folder `scratch` that
+# What the tests share that are written for the shell: their folder `here`, a folder `scratch` that
 # is removed at the end, and the counts.
 LC_ALL=C
 export LC_ALL
@@ -20,6 +20,7 @@ fi
 
 passed=0
 failed=0
+skipped=0
 
 # Counts a case that is well.
 pass() {
@@ -32,10 +33,28 @@ fail() {
     printf '%s\n' "$1"
 }
 
+# Counts what isn't run: what it is, and what has to be installed.
+skip() {
+    skipped=$((skipped + 1))
+    printf 'skipped: %s: %s\n' "$1" "$2"
+}
+
+# Adds the counts of a test whose output is in the file $1. One without them has failed.
+add_counts() {
+    # (the three numbers are words)
+    # shellcheck disable=SC2046
+    set -- $(sed -n '$s/^\([0-9]*\) passed, \([0-9]*\) failed\(, \([0-9]*\) skipped\)*$/\1 \2 0\4/p' "$1")
+    passed=$((passed + ${1:-0}))
+    failed=$((failed + ${2:-1}))
+    skipped=$((skipped + ${3:-0}))
+}
+
 # Ends a test with its counts.
 end_test() {
-    echo "$passed passed, $failed failed"
-    [ "$passed" -gt 0 ] && [ "$failed" -eq 0 ]
+    counts="$passed passed, $failed failed"
+    [ "$skipped" -eq 0 ] || counts="$counts, $skipped skipped"
+    echo "$counts"
+    [ $((passed + skipped)) -gt 0 ] && [ "$failed" -eq 0 ]
     exit
 }
 

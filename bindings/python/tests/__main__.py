@@ -29,11 +29,12 @@ def main():
             suite.addTests(loader.loadTestsFromName(path.stem))
     result = unittest.TextTestRunner(resultclass=Result).run(suite)
     for test, reason in result.skipped:
-        print(f"not run: {test.id()}: {reason}")
+        print(f"skipped: {test.id()}: {reason}")
     failed = len(result.failures) + len(result.errors) + len(result.unexpectedSuccesses)
     rows = sys.modules.get("test_tables")
     passed = result.passed + (rows.Rows.passed if rows else 0)
-    print(f"{passed} passed, {failed} failed")
+    skipped = f", {len(result.skipped)} skipped" if result.skipped else ""
+    print(f"{passed} passed, {failed} failed{skipped}")
     sys.exit(0 if failed == 0 and passed else 1)
 
 

@@ -87,5 +87,5 @@ def needs(module):
     try:
         __import__(module)
     except ImportError:
-        return unittest.skip(f"{module} isn't installed")
+        return unittest.skip(f"pip install {module}, or apt-get install python3-{module}")
     return lambda test: test
