@@ -11,13 +11,14 @@ use Rattle.tsp_theory.specs.Cycle.{IsCycle}
 use Rattle.tsp_theory.specs.Length.{length_of}
 use Rattle.tsp_theory.specs.Tree.{crossing}
 use Rattle.tsp_theory.proofs.Crossings.{one_if, none_or_one}
-use Rattle.tsp_families.specs.Crossed.{has, sets_of, AreAlike, AreTooMany}
+use Rattle.tsp_families.specs.Crossed.{has, sets_of, AreAlike, AreTooMany, IsLeastLength}
 use Rattle.tsp_families.specs.SetParts.{ArePartsOf, UnlikeNodesNeedParts}
 use Rattle.tsp_families.proofs.Lists.{cycle_from}
+use Rattle.tsp_families.proofs.NodeMembers.{same_least}
 use Rattle.tsp_branch.specs.Combs.{comb_of, crossings}
 use Rattle.tsp_branch.specs.Families.{CyclesCrossFamilies, NumbersAreUnique}
 use Rattle.tsp_branch.specs.CombsOfSets.{family_with}
-use Rattle.tsp_branch.specs.FamilyExamples.{one_set_twice, all_six, IsCrossed, IsNoFamily}
+use Rattle.tsp_branch.specs.FamilyExamples.{one_set_twice, beside_all_six, all_six, IsCrossed, IsNoFamily}
 use Rattle.tsp_branch.proofs.SmallVerdicts.{of_six}
 
 abbrev three : List ℕ
@@ -118,6 +119,67 @@ module _ (cross : CyclesCrossFamilies) (add : (first second : ℕ → ℕ → �
   not_others unique least most is =
       let same = unique 6 (family_with (record { least = 4; most = 2 }) one_set_twice) (family_with (record { least = least; most = most }) one_set_twice) refl set_twice is in
       (ap (λ c. c.least) same, ap (λ c. c.most) same)
+
+-- ---- a set beside one that has all nodes
+
+abbrev six : List ℕ
+six = 1 ∷ 2 ∷ 3 ∷ 4 ∷ 5 ∷ 6 ∷ []
+
+in_six : (node : ℕ) → IsNode 6 node → has six node ≡ true
+in_six = of_six (λ x. has six x ≡ true) refl refl refl refl refl refl
+
+-- two nodes cross no other set than the first one
+by_the_first : (i j : ℕ) → IsNode 6 i → IsNode 6 j → crossing (has three) i j +ℤ pos 0 ≡ crossings (comb_of three all_six) i j
+by_the_first i j in_i in_j = rw (in_six i in_i, in_six j in_j) refl
+
+parts_beside : ArePartsOf 6 (sets_of beside_all_six) (1 ∷ 4 ∷ [])
+parts_beside = record {
+  nodes = All-from_recursion (IsNode 6) (1 ∷ 4 ∷ []) ((omega arith, omega arith), ((omega arith, omega arith), tt));
+  apart = AllPairs-cons (λ (i j : ℕ). AreAlike (sets_of beside_all_six) i j → ⊥) 1 (4 ∷ [])
+      (All-from_recursion (λ (j : ℕ). AreAlike (sets_of beside_all_six) 1 j → ⊥) (4 ∷ []) ((λ same. both_ways true (same 0 (has three) (omega arith)) refl), tt))
+      (λ i j d below lt. absurd (omega (arith, below, lt)));
+  each = of_six (λ node. Any (AreAlike (sets_of beside_all_six) node) (1 ∷ 4 ∷ [])) (first 1 refl refl) (first 2 refl refl) (first 3 refl refl) (second 4 refl refl) (second 5 refl refl) (second 6 refl refl);
+}
+  where
+    first : (node : ℕ) → has three node ≡ true → has six node ≡ true → Any (AreAlike (sets_of beside_all_six) node) (1 ∷ 4 ∷ [])
+    first node is inside = (0, 1, omega arith, refl, All-from_recursion (λ set. set node ≡ set 1) (sets_of beside_all_six) (is, (inside, tt)))
+
+    second : (node : ℕ) → has three node ≡ false → has six node ≡ true → Any (AreAlike (sets_of beside_all_six) node) (1 ∷ 4 ∷ [])
+    second node is inside = (1, 4, omega arith, refl, All-from_recursion (λ set. set node ≡ set 4) (sets_of beside_all_six) (is, (inside, tt)))
+
+pub set_beside_all : CyclesCrossFamilies → UnlikeNodesNeedParts → IsCrossed 2 1 beside_all_six
+set_beside_all cross unlike = inr (record {
+  unknown = λ kind. elim kind [
+    | inl lone ↦ absurd (let none = ap length lone.alone in omega (arith, none))
+    | inr comb ↦ let odd = comb.odd in let some = comb.some in omega (arith, odd, some)
+  ];
+  few = few;
+  parted = omega arith;
+  least_is = same_least 6 (λ i j. crossing (has three) i j +ℤ pos 0) (crossings (comb_of three all_six)) (pos 2) by_the_first alone;
+  most_is = record {
+    first = 1;
+    second = 4;
+    first_node = (omega arith, omega arith);
+    second_node = (omega arith, omega arith);
+    most_is = refl;
+    above = λ i j in_i in_j.
+        let one = none_or_one (cond (has three i) (not (has three j)) (has three j)) in
+        let same = by_the_first i j in_i in_j in
+        omega (arith, ints, one.1, same);
+  };
+})
+  where
+    few : AreTooMany 6 (sets_of beside_all_six) → ⊥
+    few (inl many) = omega (arith, many)
+    few (inr parts) = let most = unlike 6 (sets_of beside_all_six) (1 ∷ 4 ∷ []) parts.0 parts_beside parts.2 parts.3 in omega (arith, most, parts.1)
+
+    alone : IsLeastLength 6 (λ i j. crossing (has three) i j +ℤ pos 0) (pos 2)
+    alone = record {
+      nodes = 1 ∷ 2 ∷ 3 ∷ 4 ∷ 5 ∷ 6 ∷ [];
+      cycle = around;
+      length_is = refl;
+      below = λ nodes cycle. cross 6 (family_with (record { least = 2; most = 3 }) (three ∷ [])) nodes lone_set cycle;
+    }
 
 -- ---- no families
 

@@ -7,10 +7,12 @@ use Rattle.std.proofs.lemmas.Int.{ints}
 use Rattle.std.proofs.lemmas.List.Elements.{All-nil, All-head, All-tail, All-from_recursion}
 use Rattle.tsp_format.specs.Cells.{IsNode, nodes_to}
 use Rattle.tsp_theory.specs.Numbers.{IsLeastBound}
+use Rattle.tsp_theory.specs.NodeBound.{weight_between}
 use Rattle.tsp_branch.specs.declared.decision.Decision.{Decision}
 use Rattle.tsp_branch.specs.Rows.{Allows, IsAllowed, IsLeastFrom, HasNoLink, IsSumOfLeast, IsRowBound}
 use Rattle.tsp_branch.specs.Examples.{with_pair, without_pair}
-use Rattle.tsp_branch.specs.RowExamples.{cost_of_three, ThreeHave}
+use Rattle.tsp_branch.specs.LeafBound.{combed}
+use Rattle.tsp_branch.specs.RowExamples.{cost_of_three, ThreeHave, lone_one, LeafOfThreeHas}
 
 -- what holds of 1 to 3 holds of three nodes
 of_three : (P : ℕ → Type 0) → P 1 → P 2 → P 3 → (i : ℕ) → IsNode 3 i → P i
@@ -80,25 +82,23 @@ unfolding nodes_to
 nodes_to_three = refl
 
 -- the least weight from i, where the link to `to` is allowed, and each other one is absurd or weighs no less
-least_from : (decisions : List Decision) (i to : ℕ) → IsAllowed 3 decisions i to
-    → (IsAllowed 3 decisions i 1 → cost_of_three i to ≤ℤ cost_of_three i 1)
-    → (IsAllowed 3 decisions i 2 → cost_of_three i to ≤ℤ cost_of_three i 2)
-    → (IsAllowed 3 decisions i 3 → cost_of_three i to ≤ℤ cost_of_three i 3)
-    → IsLeastFrom 3 cost_of_three decisions i (cost_of_three i to)
-least_from decisions i to allowed one two three = record {
+least_from : (w : ℕ → ℕ → ℤ) (decisions : List Decision) (i to : ℕ) → IsAllowed 3 decisions i to
+    → (IsAllowed 3 decisions i 1 → w i to ≤ℤ w i 1) → (IsAllowed 3 decisions i 2 → w i to ≤ℤ w i 2)
+    → (IsAllowed 3 decisions i 3 → w i to ≤ℤ w i 3) → IsLeastFrom 3 w decisions i (w i to)
+least_from w decisions i to allowed one two three = record {
   to = to;
   allowed = allowed;
   reached = refl;
-  below = λ j h. of_three (λ x. IsAllowed 3 decisions i x → cost_of_three i to ≤ℤ cost_of_three i x) one two three j h.node h;
+  below = λ j h. of_three (λ x. IsAllowed 3 decisions i x → w i to ≤ℤ w i x) one two three j h.node h;
 }
 
 -- the sum of the least weights to these nodes
-sum_of : (decisions : List Decision) (a b c : ℕ) → IsLeastFrom 3 cost_of_three decisions 1 (cost_of_three 1 a)
-    → IsLeastFrom 3 cost_of_three decisions 2 (cost_of_three 2 b) → IsLeastFrom 3 cost_of_three decisions 3 (cost_of_three 3 c)
-    → IsSumOfLeast 3 cost_of_three decisions 3 (cost_of_three 1 a +ℤ (cost_of_three 2 b +ℤ (cost_of_three 3 c +ℤ pos 0)))
-sum_of decisions a b c one two three = record {
-  least = λ i. cost_of_three i (slice_index_or (a ∷ b ∷ c ∷ []) (i - 1) 0);
-  each = λ i node. of_three (λ x. IsLeastFrom 3 cost_of_three decisions x (cost_of_three x (slice_index_or (a ∷ b ∷ c ∷ []) (x - 1) 0))) one two three i node;
+sum_of : (w : ℕ → ℕ → ℤ) (decisions : List Decision) (a b c : ℕ) → IsLeastFrom 3 w decisions 1 (w 1 a)
+    → IsLeastFrom 3 w decisions 2 (w 2 b) → IsLeastFrom 3 w decisions 3 (w 3 c)
+    → IsSumOfLeast 3 w decisions 3 (w 1 a +ℤ (w 2 b +ℤ (w 3 c +ℤ pos 0)))
+sum_of w decisions a b c one two three = record {
+  least = λ i. w i (slice_index_or (a ∷ b ∷ c ∷ []) (i - 1) 0);
+  each = λ i node. of_three (λ x. IsLeastFrom 3 w decisions x (w x (slice_index_or (a ∷ b ∷ c ∷ []) (x - 1) 0))) one two three i node;
   sum_is = rw nodes_to_three refl;
 }
 
@@ -106,21 +106,21 @@ itself : (decisions : List Decision) (i : ℕ) → IsAllowed 3 decisions i i →
 itself decisions i h = h.other refl
 
 sum_without : IsSumOfLeast 3 cost_of_three [] 3 (pos 6)
-sum_without = sum_of [] 2 3 1
-    (least_from [] 1 2 (by_none 1 2 (omega arith, omega arith) (λ e. omega (arith, e)))
+sum_without = sum_of cost_of_three [] 2 3 1
+    (least_from cost_of_three [] 1 2 (by_none 1 2 (omega arith, omega arith) (λ e. omega (arith, e)))
     (λ h. absurd (itself [] 1 h)) (λ h. le_z_yes tt) (λ h. le_z_yes tt))
-    (least_from [] 2 3 (by_none 2 3 (omega arith, omega arith) (λ e. omega (arith, e)))
+    (least_from cost_of_three [] 2 3 (by_none 2 3 (omega arith, omega arith) (λ e. omega (arith, e)))
     (λ h. le_z_yes tt) (λ h. absurd (itself [] 2 h)) (λ h. le_z_yes tt))
-    (least_from [] 3 1 (by_none 3 1 (omega arith, omega arith) (λ e. omega (arith, e)))
+    (least_from cost_of_three [] 3 1 (by_none 3 1 (omega arith, omega arith) (λ e. omega (arith, e)))
     (λ h. le_z_yes tt) (λ h. le_z_yes tt) (λ h. absurd (itself [] 3 h)))
 
 sum_with : IsSumOfLeast 3 cost_of_three (with_pair 1 3 ∷ []) 3 (pos 23)
 sum_with =
     let case : List Decision = with_pair 1 3 ∷ [] in
-    sum_of case 3 1 1
-    (least_from case 1 3 taken (λ h. absurd (itself case 1 h)) (λ h. absurd (row_of_taken h)) (λ h. le_z_yes tt))
-    (least_from case 2 1 beside_taken (λ h. le_z_yes tt) (λ h. absurd (itself case 2 h)) (λ h. absurd (column_of_taken h)))
-    (least_from case 3 1 from_the_last (λ h. le_z_yes tt) (λ h. le_z_yes tt) (λ h. absurd (itself case 3 h)))
+    sum_of cost_of_three case 3 1 1
+    (least_from cost_of_three case 1 3 taken (λ h. absurd (itself case 1 h)) (λ h. absurd (row_of_taken h)) (λ h. le_z_yes tt))
+    (least_from cost_of_three case 2 1 beside_taken (λ h. le_z_yes tt) (λ h. absurd (itself case 2 h)) (λ h. absurd (column_of_taken h)))
+    (least_from cost_of_three case 3 1 from_the_last (λ h. le_z_yes tt) (λ h. le_z_yes tt) (λ h. absurd (itself case 3 h)))
 
 avoided_two : IsAllowed 3 (without_pair 1 2 ∷ []) 1 2 → ⊥
 avoided_two h = first_of (without_pair 1 2) [] 1 2 h refl refl
@@ -129,12 +129,12 @@ sum_avoiding : IsSumOfLeast 3 cost_of_three (without_pair 1 2 ∷ []) 3 (pos 15)
 sum_avoiding =
     let case : List Decision = without_pair 1 2 ∷ [] in
     let apart : (i j : ℕ) → IsNode 3 j → i ≢ j → (i ≡ 1 → j ≢ 2) → IsAllowed 3 case i j = by_one (without_pair 1 2) in
-    sum_of case 3 3 1
-    (least_from case 1 3 (apart 1 3 (omega arith, omega arith) (λ e. omega (arith, e)) (λ e f. omega (arith, f)))
+    sum_of cost_of_three case 3 3 1
+    (least_from cost_of_three case 1 3 (apart 1 3 (omega arith, omega arith) (λ e. omega (arith, e)) (λ e f. omega (arith, f)))
     (λ h. absurd (itself case 1 h)) (λ h. absurd (avoided_two h)) (λ h. le_z_yes tt))
-    (least_from case 2 3 (apart 2 3 (omega arith, omega arith) (λ e. omega (arith, e)) (λ e f. omega (arith, e)))
+    (least_from cost_of_three case 2 3 (apart 2 3 (omega arith, omega arith) (λ e. omega (arith, e)) (λ e f. omega (arith, e)))
     (λ h. le_z_yes tt) (λ h. absurd (itself case 2 h)) (λ h. le_z_yes tt))
-    (least_from case 3 1 (apart 3 1 (omega arith, omega arith) (λ e. omega (arith, e)) (λ e f. omega (arith, e)))
+    (least_from cost_of_three case 3 1 (apart 3 1 (omega arith, omega arith) (λ e. omega (arith, e)) (λ e f. omega (arith, e)))
     (λ h. le_z_yes tt) (λ h. le_z_yes tt) (λ h. absurd (itself case 3 h)))
 
 -- ---- bounds
@@ -173,3 +173,33 @@ given_back = record {
   least = sum_with;
   bound_is = record { above = le_z_yes tt; least = λ other above. let known : pos 28 ≤ℤ (pos 2 *ℤ other) = above in omega (arith, ints, known) };
 }
+
+-- ---- leaves
+
+abbrev weight_at : ℤ → ℕ → ℕ → ℤ
+weight_at scale = combed ((lone_one, pos 2) ∷ []) (weight_between scale (pos 3 ∷ pos 0 ∷ pos 1 ∷ []) cost_of_three)
+
+pub leaf_alone : LeafOfThreeHas [] (pos 1) (pos 6)
+leaf_alone = record {
+  sum = pos 10;
+  least = sum_of (weight_at (pos 1)) [] 2 3 1
+      (least_from (weight_at (pos 1)) [] 1 2 (by_none 1 2 (omega arith, omega arith) (λ e. omega (arith, e)))
+      (λ h. absurd (itself [] 1 h)) (λ h. le_z_yes tt) (λ h. le_z_yes tt))
+      (least_from (weight_at (pos 1)) [] 2 3 (by_none 2 3 (omega arith, omega arith) (λ e. omega (arith, e)))
+      (λ h. le_z_yes tt) (λ h. absurd (itself [] 2 h)) (λ h. le_z_yes tt))
+      (least_from (weight_at (pos 1)) [] 3 1 (by_none 3 1 (omega arith, omega arith) (λ e. omega (arith, e)))
+      (λ h. le_z_yes tt) (λ h. le_z_yes tt) (λ h. absurd (itself [] 3 h)));
+  bound_is = record { above = le_z_yes tt; least = λ other above. let known : pos 6 ≤ℤ (pos 1 *ℤ other) = above in omega (arith, ints, known) };
+}
+
+pub leaf_with_arc : LeafOfThreeHas (with_pair 1 3 ∷ []) (pos 2) (pos 24)
+leaf_with_arc =
+    let case : List Decision = with_pair 1 3 ∷ [] in
+    record {
+      sum = pos 51;
+      least = sum_of (weight_at (pos 2)) case 3 1 1
+          (least_from (weight_at (pos 2)) case 1 3 taken (λ h. absurd (itself case 1 h)) (λ h. absurd (row_of_taken h)) (λ h. le_z_yes tt))
+          (least_from (weight_at (pos 2)) case 2 1 beside_taken (λ h. le_z_yes tt) (λ h. absurd (itself case 2 h)) (λ h. absurd (column_of_taken h)))
+          (least_from (weight_at (pos 2)) case 3 1 from_the_last (λ h. le_z_yes tt) (λ h. le_z_yes tt) (λ h. absurd (itself case 3 h)));
+      bound_is = record { above = le_z_yes tt; least = λ other above. let known : pos 47 ≤ℤ (pos 2 *ℤ other) = above in omega (arith, ints, known) };
+    }

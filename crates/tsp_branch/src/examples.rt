@@ -2,6 +2,7 @@
 
 ghost use Rattle.std.specs.Prelude.{◌≡◌, ℕ, ℤ, List, [], ◌∷◌, true, false, pos, ◌-ℤ◌, ◌+ℤ◌};
 ghost use Rattle.tsp_branch.specs.Combs.{least_crossings};
+ghost use Rattle.tsp_branch.specs.Decisions.{decided_number};
 ghost use Rattle.tsp_branch.specs.Families.{least_crossings_of};
 ghost use Rattle.tsp_branch.specs.Cases.{Branch, Leaf};
 ghost use Rattle.tsp_branch.specs.Examples.{small_comb, Crosses, CrossesInAll, large, no_numbers, one_at_two, WeighsAt, WeighsUnderComb, four_rows, six_rows, LengthIs, FourHave, SixHave, IsTreeOf, IsNoTree, with_pair, without_pair};
@@ -28,6 +29,7 @@ pub fn examples_of_crossings()
 
 /// What some pairs weigh at the leaves of two certificates.
 pub fn examples_of_weights()
+    ensures number { decided_number ≡ large }
     ensures taken { WeighsAt (with_pair 1 2 ∷ []) 1 2 (pos 2 -ℤ large) }
     ensures taken_turned { WeighsAt (with_pair 2 1 ∷ []) 1 2 (pos 2 -ℤ large) }
     ensures avoided { WeighsAt (without_pair 1 2 ∷ []) 1 2 (pos 2 +ℤ large) }

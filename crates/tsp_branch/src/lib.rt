@@ -64,7 +64,7 @@ pub use laws::{
 pub use leaf::leaf_bound;
 pub use number_examples::{examples_of_differences, examples_of_good_numbers};
 pub use pairs::key_of;
-pub use row_examples::{examples_of_arcs, examples_of_links, examples_of_rows};
+pub use row_examples::{examples_of_arcs, examples_of_leaves, examples_of_links, examples_of_rows};
 pub use stack::next_case;
 pub use steps::{BranchVerdict, Judged, JudgedFamilies};
 pub use tsp_families::{CombSet, Crossings};

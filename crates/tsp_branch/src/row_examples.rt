@@ -3,7 +3,7 @@
 ghost use Rattle.std.specs.Prelude.{ℕ, List, [], ◌∷◌, true, pos};
 ghost use Rattle.tsp_branch.specs.Rows.{IsAllowed, HasNoLink, IsRowBound};
 ghost use Rattle.tsp_branch.specs.Examples.{with_pair, without_pair};
-ghost use Rattle.tsp_branch.specs.RowExamples.{cost_of_three, ThreeHave};
+ghost use Rattle.tsp_branch.specs.RowExamples.{cost_of_three, ThreeHave, LeafOfThreeHas};
 ghost use Rattle.tsp_branch.specs.VerdictExamples.{IsGood, TwiceAt, branches};
 
 /// Which links are allowed beside a taken arc, beside an avoided one, and without any.
@@ -32,6 +32,14 @@ pub fn examples_of_rows()
     ensures avoided { ThreeHave (without_pair 1 2 ∷ []) (pos 1) (pos 15) }
     ensures rounded_up { ThreeHave (with_pair 1 3 ∷ []) (pos 2) (pos 12) }
     ensures given_back { IsRowBound 3 cost_of_three (with_pair 1 3 ∷ []) (pos 2) (pos 5) (pos 14) }
+{}
+
+/// Bounds of leaves by rows. A potential of 3 at node 1 and of 1 at node 3 and a multiplier of 2
+/// for the crossings of node 1 alone make the least weights 2, 3 and 5 at the scale 1. The two
+/// crossings of each cycle give 4 back, and the potentials take 8.
+pub fn examples_of_leaves()
+    ensures alone { LeafOfThreeHas [] (pos 1) (pos 6) }
+    ensures taken { LeafOfThreeHas (with_pair 1 3 ∷ []) (pos 2) (pos 24) }
 {}
 
 /// Two arcs with the same last node are two pairs, and a lone set may have one node.

@@ -7,3 +7,4 @@ pub mod BestPaths
 pub mod LeastCycles
 pub mod NodeMembers
 pub mod Divisions
+pub mod SmallSets

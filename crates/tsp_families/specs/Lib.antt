@@ -3,3 +3,4 @@ pub mod SetParts
 pub mod Paths
 pub mod Memberships
 pub mod FamilySets
+pub mod SetExamples

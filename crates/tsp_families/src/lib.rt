@@ -9,6 +9,7 @@
 mod comb_set;
 mod cycles;
 mod differences;
+mod examples;
 mod family;
 mod laws;
 mod members;
@@ -17,6 +18,7 @@ mod paths;
 
 pub use comb_set::CombSet;
 pub use cycles::least_cycle;
+pub use examples::examples_of_limits;
 pub use family::{Crossings, family_crossings};
 pub use laws::{
     divisions_bound_cycles, least_lengths_are_unique, memberships_tell_sets, most_costs_are_unique,

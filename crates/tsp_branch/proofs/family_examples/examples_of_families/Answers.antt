@@ -1,6 +1,6 @@
 -- The goals of `examples_of_families` in src/family_examples.rt: what it ensures.
 use Rattle.std.proofs.Common.{arith}
-use Rattle.tsp_branch.proofs.SmallFamilies.{lone_set, set_twice, not_others, all_nodes, node_twice}
+use Rattle.tsp_branch.proofs.SmallFamilies.{lone_set, set_twice, set_beside_all, not_others, all_nodes, node_twice}
 use Rattle.tsp_branch.proofs.family_examples.examples_of_families.Goals as goal
 
 pub returns : goal.returns
@@ -16,6 +16,7 @@ returns c =
       not_more = λ is. let same = not_others cross add unlike unique 5 2 is in omega (arith, same.0);
       not_fewer = λ is. let same = not_others cross add unlike unique 3 2 is in omega (arith, same.0);
       not_one_set = λ is. let same = not_others cross add unlike unique 4 1 is in omega (arith, same.1);
+      crossed_by_one_set = set_beside_all cross unlike;
       all_nodes = all_nodes;
       node_twice = node_twice;
     }

@@ -1,0 +1,12 @@
+-- Sets of which there are as many as there may be, and one more.
+use Rattle.std.specs.Prelude.{ℕ, Bool, List, [], ◌∷◌, map}
+use Rattle.std.specs.List.{range_with_len}
+use Rattle.tsp_families.specs.Crossed.{has}
+
+-- the set of node 1, this often
+abbrev pub one_set_times : ℕ → List (ℕ → Bool)
+one_set_times count = map (λ number. has (1 ∷ [])) (range_with_len 1 count)
+
+-- the sets of one node each, from 1 to a last one: the nodes after it are one part more
+abbrev pub single_sets : ℕ → List (ℕ → Bool)
+single_sets last = map (λ node. has (node ∷ [])) (range_with_len 1 last)
