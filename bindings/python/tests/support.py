@@ -61,7 +61,7 @@ def report_in(text):
         reason=reason[0] if reason else None,
         numbers=tuple(map(int, reason[1:])),
         text=text,
-        **{word: found.get(word) for word in words},
+        **{**{word: found.get(word) for word in words}, **({"gap": 0} if "optimal" in lines else {})},
     )
 
 

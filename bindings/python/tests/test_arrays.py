@@ -39,6 +39,7 @@ class Points(unittest.TestCase):
         for points, kind, words in (
             ([[0, "1"]], TypeError, "coordinate of point 1 is no number, but of type str: '1'"),
             ([[0, 1], [2]], ValueError, "point 2 has 1 coordinates, and 2 are wanted"),
+            ([[0, 1, 2]], ValueError, 'and 2 are wanted; edge_weight_type="EUC_3D" takes three'),
             ([[0, float("nan")]], ValueError, "point 1 isn't finite"),
             ({1: [0, 1]}, TypeError, "field node_coords"),
             (5, TypeError, "points are rows of numbers, and this is of type int"),

@@ -2,6 +2,8 @@
 
 import pickle
 import unittest
+from decimal import Decimal
+from fractions import Fraction
 
 import yokecairn
 from support import EXAMPLES, GALLERY, RECTANGLE
@@ -16,7 +18,7 @@ class Tours(unittest.TestCase):
         )
         self.assertTrue(report)
         self.assertEqual((report.type, report.nodes, report.length), ("TSP", 8, 226))
-        self.assertEqual((report.bound, report.gap, report.optimal), (226, None, True))
+        self.assertEqual((report.bound, report.gap, report.optimal), (226, 0, True))
         self.assertEqual((report.reason, report.numbers, report.routes), (None, (), None))
         self.assertEqual(report.text, "type TSP\nnodes 8\nlength 226\nbound 226\noptimal\nyes\n")
 
@@ -78,6 +80,25 @@ class Tours(unittest.TestCase):
         self.assertEqual((report.type, report.routes, report.length), ("CVRP", 2, 231))
         self.assertEqual((report.least, report.bound), (2, None))
         self.assertEqual(yokecairn.check(EXAMPLES / "dairy.vrp", [[5, 6, 4, 7], [2, 8]]).reason, "Unserved")
+
+    def test_real_lengths(self):
+        """A tour of 4 edges whose distances were multiplied by 1000 and rounded."""
+        report = yokecairn.check(RECTANGLE.encode(), [1, 2, 3, 4], potentials=EXAMPLES / "rectangle-zero.potentials")
+        self.assertEqual((report.length, report.bound), (14, 14))
+        self.assertEqual(report.real_length(1000), (Decimal("0.012"), Decimal("0.016")))
+        self.assertEqual(report.real_length(10, "up"), (Decimal("1.0"), Decimal("1.4")))
+        self.assertEqual(report.real_bound(1000), Decimal("0.012"))
+        least, most = report.real_length(7)  # 12/7 and 16/7, which have no last digit: the next outside
+        least, most = Fraction(least), Fraction(most)
+        self.assertTrue(7 * least < 12 < 7 * (least + Fraction("1e-28")) and 7 * (most - Fraction("1e-28")) < 16 < 7 * most)
+        self.assertIsNone(yokecairn.check(RECTANGLE.encode(), [1, 2, 2, 4]).real_length(10))
+        routes = yokecairn.check(EXAMPLES / "dairy.vrp", [[5, 6, 4, 7], [2, 8, 3]])
+        self.assertEqual(routes.real_length(1), (231 - Decimal("4.5"), 231 + Decimal("4.5")))  # 7 customers, 2 routes
+        for scale, wrong in ((0, ValueError), (1.5, TypeError), (True, TypeError)):
+            with self.assertRaises(wrong):
+                report.real_length(scale)
+        with self.assertRaises(ValueError):
+            report.real_length(10, "down")
 
     def test_reports_are_values(self):
         report = yokecairn.check(RECTANGLE.encode(), [1, 2, 3, 4], ZEROS)

@@ -83,7 +83,15 @@ class Command(unittest.TestCase):
         for words in (("--help",), ("check", "--help"), ("--version",)):
             status, out, err = run(*words)
             self.assertEqual((status, err), (0, b""), words)
-            self.assertTrue(out.startswith(b"tsp " if "--version" in words else b"usage: tsp"), out)
+            self.assertTrue(out.startswith(b"yokecairn " if "--version" in words else b"usage: python3 -m yokecairn"), out)
+
+    def test_a_best_known_length(self):
+        words = ("compare", EXAMPLES / "harbour.tsp", EXAMPLES / "harbour.tour", "--tsv", "--best")
+        row = run(*words, "200")[1].decode().splitlines()[1].split("\t")
+        self.assertEqual(row[7:9], ["200", "13.0000"])
+        with tempfile.TemporaryDirectory() as folder:
+            Path(folder, "200").write_text("harbour8 226\n")
+            self.assertEqual(run(*words, "200", cwd=folder)[1].decode().splitlines()[1].split("\t")[7:9], ["226", "0.0000"])
 
     def test_a_path_that_can_not_be_read_is_explained(self):
         status, out, err = run("show", "--explain", "no such file")

@@ -31,6 +31,13 @@ class Calls(unittest.TestCase):
         self.assertEqual([name for name, _ in found.accepted()], found.names[:5])
         self.assertEqual(found.shortest()[0], str(AROUND))
 
+    def test_by_name(self):
+        found = yokecairn.compare(RECT, {"around": AROUND, "twice": TWICE})
+        self.assertEqual((found["around"].length, found["twice"].reason), (14, "RepeatedNode"))
+        self.assertEqual(yokecairn.compare(RECT, [AROUND])[str(AROUND)].length, 14)
+        with self.assertRaises(KeyError):
+            found["other"]
+
     def test_reports_are_those_of_check(self):
         solutions = [AROUND, ACROSS, TWICE, [1, 2]]
         for words in ({}, {"potentials": ZERO}):
@@ -43,7 +50,7 @@ class Calls(unittest.TestCase):
         self.assertIsInstance(found[1], FileNotFoundError)
         self.assertEqual((found[2].length, found.names, found.status), (14, ["bad", "gone", "good"], 5))
         self.assertEqual([row["verdict"] for row in found.as_rows()], ["fault", "unread", "yes"])
-        self.assertEqual(found.as_rows()[0]["detail"], "line 2 word 0: UnknownLine")
+        self.assertEqual(found.as_rows()[0]["detail"], "line 2 word 0: UnknownLine: x")
 
     def test_gaps_and_best_known_lengths(self):
         found = yokecairn.compare(RECT, [AROUND, ACROSS], potentials=ZERO, best={"rectangle": 10})
@@ -141,8 +148,10 @@ class Tables(unittest.TestCase):
 
     def test_html(self):
         text = self.found._repr_html_()
-        self.assertIn("<th>solution</th><th>verdict</th>", text)
-        self.assertIn("<td>&lt;b&gt;</td><td>yes</td><td>16</td>", text)
+        self.assertIn('<th style="text-align: left">solution</th><th style="text-align: left">verdict</th>', text)
+        self.assertIn('&lt;b&gt;</td><td style="text-align: left">yes</td><td style="text-align: right">16</td>', text)
+        many = yokecairn.compare(RECT, [[1, 2, 3, 4]] * 33)._repr_html_()
+        self.assertEqual((many.count("<tr>"), many.count("<p>and 13 more</p>"), many.count("33 of 33 accepted")), (21, 1, 1))
         self.assertEqual(yokecairn.compare(RECT, [])._repr_html_(), "<p>0 of 0 accepted</p>")
 
     def test_csv(self):

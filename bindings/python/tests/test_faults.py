@@ -26,6 +26,17 @@ class Faults(unittest.TestCase):
         fault = fault_of("DIMENSION : 4\nTYPE : TSP\nDIMENSION : 4\n")
         self.assertEqual((fault.line, fault.word, fault.name, fault.details), (3, 0, "Repeated", ()))
 
+    def test_what_is_found_there(self):
+        self.assertEqual(fault_of(POINTS).found, "x")
+        fault = fault_of("TYPE : TSP\nEDGE_WEIGHT_TYPE : GEO\n")
+        self.assertEqual((fault.name, fault.found), ("Outside", "GEO"))
+        self.assertTrue(str(fault).startswith("file 1: line 2 word 0: Outside: GEO"))
+        self.assertEqual(pickle.loads(pickle.dumps(fault)).found, "GEO")
+        self.assertIsNone(fault_of("").found)
+        with self.assertRaises(yokecairn.LineFault) as caught:
+            yokecairn.check(RECTANGLE.encode(), b"TYPE : TOUR\nTOUR_SECTION\n1 zwei\n")
+        self.assertEqual(caught.exception.found, "zwei")
+
     def test_an_end(self):
         fault = fault_of(POINTS.replace("2 3 x\n", ""))
         self.assertIsInstance(fault, yokecairn.EndFault)

@@ -51,6 +51,9 @@ class Many(unittest.TestCase):
     def test_a_job_that_is_none(self):
         with self.assertRaises(TypeError):
             yokecairn.check_many([(1, 2, 3, 4, 5, 6)])
+        for job in ("a.tsp", 5, ("a.tsp",), {"instance": "a.tsp"}, {"instance": "a", "tour": "b"}):
+            with self.assertRaisesRegex(TypeError, "a job is a Job, a tuple of instance, solution, potentials, branches, length"):
+                yokecairn.check_many([job])
 
     def test_calls_run_side_by_side(self):
         """Eight threads call the library on a file of their own."""

@@ -20,6 +20,13 @@ EVERY_KEYWORD = (
 
 
 class Fields(unittest.TestCase):
+    def test_a_path_is_no_number(self):
+        for path in (5, 3.5, None, b"x"):
+            with self.assertRaisesRegex(TypeError, "a path is of type str or os.PathLike, and this is of type"):
+                yokecairn.load(path)
+        with self.assertRaises(TypeError):
+            yokecairn.parse(RECTANGLE).save(1)
+
     def test_keywords(self):
         problem = yokecairn.parse(EVERY_KEYWORD)
         self.assertEqual(problem.name, "all")

@@ -43,6 +43,16 @@ class Forms(unittest.TestCase):
         self.assertEqual(self.tours("3\n0 2 1", first=0), [[4, 1, 3, 2]])
         self.assertEqual(self.tours("[[2, 3], [4]]"), [[2, 3], [4]])
 
+    def test_tables_and_numbers_of_numpy(self):
+        for text in ("1.000000000000000000e+00\n3.0e+00\n2.00\n", "node\n1\n3\n2\n", "order,node\n0,1\n1,3\n2,2\n",
+                     "node;order\n1;1\n3;2\n2;3\n", "1 1\n2 3\n3 2\n", '"step","city"\n1,0\n2,2\n3,1\n',
+                     '{"tour": [1, 3, 2], "length": 12}', '{"route": [0, 2, 1]}'):
+            self.assertEqual(self.tours(text), [[1, 3, 2]], text)
+        # two nodes in a line are no table: there is no column of an order
+        self.assertEqual(self.tours("1 4\n2 3\n"), [[1, 4, 2, 3]])
+        self.assertEqual(self.tours('{"routes": [[2, 3], [4]]}'), [[2, 3], [4]])
+        self.assertEqual(self.tours("Route #1: 0 1 2 0\nRoute #2: 0 3 0\nCost 7\n"), [[2, 3], [4]])
+
     def test_edges(self):
         self.assertEqual(self.tours("4 4\n2 0 1\n1 3 1\n3 2 1\n0 1 1\n"), [[1, 3, 4, 2]])
         with self.assertRaisesRegex(SolutionError, "more than one cycle"):
@@ -73,7 +83,11 @@ class Forms(unittest.TestCase):
             ("1 2.5", "2.5"),
             ("Route #1: 0 1", "line 1: .*from 1 on.*: 0"),
             ("Route #1: 1\n2 3\n", "line 2: this is neither a route nor the cost"),
-            ('{"tour": [1, 2]}', "a list of nodes is wanted"),
+            ('{"tour": 1}', "a list of nodes is wanted"),
+            ('{"tour": [1, 2], "other": [2, 1]}', "an object with one list"),
+            ("Route #1: 0 1 0 2 0", "from 1 on.*: 0"),
+            ("1.5e0 2", "line 1: .*1.5e0"),
+            ("node city\n1 x\n", "line 2: .*x"),
             ("[1, true]", "whole numbers, and this is none: true"),
             ("[1, 2.5]", "2.5"),
             ("{", "no JSON"),

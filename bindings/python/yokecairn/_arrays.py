@@ -53,7 +53,8 @@ def points(table: Any, axes: int, scale: int, decimals: Optional[int]) -> List[L
     found = []
     for node, row in enumerate(_rows(table, "points"), 1):
         if len(row) != axes:
-            raise ValueError(f"point {node} has {len(row)} coordinates, and {axes} are wanted")
+            advice = '; edge_weight_type="EUC_3D" takes three' if (len(row), axes) == (3, 2) else ""
+            raise ValueError(f"point {node} has {len(row)} coordinates, and {axes} are wanted{advice}")
         exact = [_scaled(_number(value, f"a coordinate of point {node}"), scale) for value in row]
         if decimals is not None:
             exact = [it.quantize(Decimal(1).scaleb(-decimals), context=_EXACT) for it in exact]

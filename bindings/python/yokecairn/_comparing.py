@@ -2,7 +2,8 @@
 
 import io
 import json
-from typing import Any
+import os
+from typing import Any, Union
 
 from ._grammar import Task
 from .compare import Comparison, Judge, cells, line_of, rows_to
@@ -15,7 +16,7 @@ class Lines:
 
     def __init__(self, run: Any, judge: Judge, task: Task) -> None:
         self.run, self.judge, self.task = run, judge, task
-        best = self.text_of(task.best) if task.best else None
+        best = self.best_of(task.best) if task.best else None
         self.found = Comparison(judge.basis, task.paths[0], judge.best(best))
         self.counts = task.form != "json" and run.err.isatty() and not run.out.isatty()
 
@@ -25,6 +26,11 @@ class Lines:
             return self.run.stdin.read()  # type: ignore[no-any-return]
         with open(path, "rb") as file:
             return file.read()
+
+    def best_of(self, word: str) -> Union[int, bytes]:
+        """The best-known length: the word itself, where it is a whole number and no file; or the text of a file."""
+        is_length = word.isascii() and word.isdigit() and not os.path.exists(word)
+        return int(word) if is_length else self.text_of(word)
 
     def write(self, text: str) -> None:
         self.run.write(text.encode("utf-8", "surrogateescape"))

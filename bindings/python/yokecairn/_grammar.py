@@ -40,7 +40,7 @@ _OPTIONS: Dict[str, Dict[str, Any]] = {
     "--branches": {"metavar": "B", "help": "a file of branches"},
     "--length": {"metavar": "L", "help": "a no where the length isn't L"},
     "--foreign": {"action": "store_true", "help": "T may have another program's form"},
-    "--best": {"metavar": "FILE", "help": "best-known lengths, in lines NAME LENGTH"},
+    "--best": {"metavar": "BEST", "help": "the best-known length, or a file of lines NAME LENGTH"},
     "--tsv": {"action": "store_true", "help": "write a table with a tab between its columns"},
     "--json": {"action": "store_true", "help": "write JSON, when all are judged"},
     "--summary": {"action": "store_true", "help": "write what came of all to standard error, in one line"},
@@ -71,12 +71,12 @@ class _Tell(argparse.Action):
     """Writes a text in place of doing anything else."""
 
     def __call__(self, parser: argparse.ArgumentParser, *_: Any) -> NoReturn:
-        raise Asked(parser.format_help() if self.dest == "help" else f"tsp {__version__}\n")
+        raise Asked(parser.format_help() if self.dest == "help" else f"yokecairn {__version__}\n")
 
 
 def _parser() -> argparse.ArgumentParser:
     """The parser of the table."""
-    parser = _Parser(prog="tsp", description="Reads, writes and judges files of TSPLIB 95.")
+    parser = _Parser(prog="python3 -m yokecairn", description="Reads, writes and judges files of TSPLIB 95.")
     parser.add_argument("-V", "--version", action=_Tell, nargs=0, help="print the version")
     verbs = parser.add_subparsers(dest="verb", metavar="VERB", title="verbs")
     for name, (told, files, options) in _VERBS.items():
@@ -180,6 +180,6 @@ def task_of(words: Sequence[str]) -> Tuple[Task, bool]:
         parser.error(f"unrecognized arguments: {' '.join(others)}")
     if given.verb is None:
         if words:
-            raise Refused("tsp: a verb is missing\n")
+            raise Refused("python3 -m yokecairn: a verb is missing\n")
         given.file = "-"
     return Task(given), getattr(given, "explain", False)

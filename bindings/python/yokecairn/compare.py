@@ -10,8 +10,8 @@ from dataclasses import dataclass
 from functools import cached_property
 from typing import Any, Callable, Dict, Iterable, Iterator, List, Mapping, NoReturn, Optional, Sequence, Tuple, Union, overload
 
-from . import _library
-from .faults import Error, OutOfMemory, text_of
+from . import _library, _plots
+from .faults import Error, Fault, OutOfMemory, text_of
 from .many import Outcome
 from .problem import Path, Problem, parse
 from .report import (
@@ -50,6 +50,7 @@ COLUMNS = (
     "detail",
 )
 _PERCENTS = ("gap_percent", "best_percent")
+_MOST_ROWS = 20  # of the table in a notebook
 
 
 @dataclass(frozen=True)
@@ -292,8 +293,15 @@ class Comparison(Sequence[Outcome]):
     def __getitem__(self, place: int) -> Outcome: ...
     @overload
     def __getitem__(self, place: slice) -> List[Outcome]: ...
-    def __getitem__(self, place: Union[int, slice]) -> Union[Outcome, List[Outcome]]:
-        return self._outcomes[place]
+    @overload
+    def __getitem__(self, place: str) -> Outcome: ...
+    def __getitem__(self, place: Union[int, slice, str]) -> Union[Outcome, List[Outcome]]:
+        """What came of a solution, by its place from 0 on, or by its name."""
+        if not isinstance(place, str):
+            return self._outcomes[place]
+        if place not in self.names:
+            raise KeyError(place)
+        return self._outcomes[self.names.index(place)]
 
     def __repr__(self) -> str:
         return f"<Comparison of {len(self)} solutions of {self.instance}: {self.summary()}>"
@@ -352,9 +360,9 @@ class Comparison(Sequence[Outcome]):
         if not isinstance(outcome, Report):
             unread = isinstance(outcome, OSError)
             said = outcome.strerror if isinstance(outcome, OSError) else _fault(outcome)
+            said = f"{said}: {outcome.found}" if isinstance(outcome, Fault) and outcome.found else said
             return {**row, "verdict": "unread" if unread else "fault", "detail": said}
-        gap = 0 if outcome.optimal else outcome.gap
-        row.update(length=outcome.length, gap=gap, gap_percent=outcome.gap_percent, routes=outcome.routes)
+        row.update(length=outcome.length, gap=outcome.gap, gap_percent=outcome.gap_percent, routes=outcome.routes)
         if outcome.yes and self.best is not None:
             row["best_percent"] = outcome.percent_over(self.best)
         if outcome.yes:
@@ -411,15 +419,27 @@ class Comparison(Sequence[Outcome]):
         return "\n".join([*lines, self.summary()])
 
     def _repr_html_(self) -> str:
-        """The table in a notebook."""
+        """The table in a notebook, with its first rows."""
         head, *rows = self._table() or [[]]
+        sides = ["left" if name in ("solution", "verdict", "detail") else "right" for name in head]
 
         def line(tag: str, row: List[str]) -> str:
-            return "<tr>" + "".join(f"<{tag}>{html.escape(_shown(it))}</{tag}>" for it in row) + "</tr>"
+            cells = (f'<{tag} style="text-align: {side}">{html.escape(_shown(it))}</{tag}>' for it, side in zip(row, sides))
+            return f"<tr>{''.join(cells)}</tr>"
 
-        body = "".join(line("td", row) for row in rows)
+        body = "".join(line("td", row) for row in rows[:_MOST_ROWS])
         table = f"<table><thead>{line('th', head)}</thead><tbody>{body}</tbody></table>" if rows else ""
-        return f"{table}<p>{html.escape(_shown(self.summary()))}</p>"
+        rest = f"<p>and {len(rows) - _MOST_ROWS} more</p>" if len(rows) > _MOST_ROWS else ""
+        return f"{table}{rest}<p>{html.escape(_shown(self.summary()))}</p>"
+
+    def plot(self, ax: Any = None) -> Any:
+        """Draws the length of each accepted solution beside the bound and the best-known length, by matplotlib,
+        which has to be installed. Returns the axes: `ax`, or new ones.
+
+        Raises:
+            ImportError: matplotlib isn't installed.
+        """
+        return _plots.plot_comparison(self, ax)
 
 
 def _shown(text: str) -> str:

@@ -18,6 +18,7 @@ from typing import Callable, Optional, Sequence, Tuple, Type, Union
 
 from . import _library
 
+_MOST_SHOWN = 60  # characters of a word that has a fault
 _LINE = re.compile(r"(?:file (\d+): )?(?:line (\d+) word (\d+): |(end: )|(relayout: ))?(.*)", re.DOTALL)
 
 
@@ -74,10 +75,14 @@ class Fault(Error, ValueError):
         details: what follows the name there: a number's fault, a field, or nodes.
         explanation: what `tsp --explain` tells of it, for a person; it may be empty.
         path: the path of the text, where it was read from one.
+        found: the word that has the fault; of a line as a whole its value, or all of it; None where the
+            fault is none of a line.
     """
 
-    def __init__(self, told: str, explanation: str = "", path: Optional[str] = None) -> None:
-        super().__init__(told, explanation, path)
+    def __init__(
+        self, told: str, explanation: str = "", path: Optional[str] = None, found: Optional[str] = None
+    ) -> None:
+        super().__init__(told, explanation, path, found)
         match = _LINE.fullmatch(told)
         assert match is not None  # any text matches
         file, line, word, _, _, rest = match.groups()
@@ -92,10 +97,12 @@ class Fault(Error, ValueError):
             self.details = tuple(int(it) if it.isdigit() else it for it in details)
         self.explanation = explanation
         self.path = path
+        self.found = found
 
     def __str__(self) -> str:
         where = f"{self.path}: " if self.path else ""
-        return where + self.told + (f"\n{self.explanation}" if self.explanation else "")
+        found = f": {self.found}" if self.found else ""
+        return where + self.told + found + (f"\n{self.explanation}" if self.explanation else "")
 
 
 # Faults that are told in words.
@@ -134,6 +141,18 @@ def _class_of(told: str) -> Type[Fault]:
     return {"too long": TooLong, "wrong kind": WrongKind}.get(match[6], Fault)
 
 
+def _found(text: bytes, line: int, word: int) -> Optional[str]:
+    """The word of a text at this place; of a line as a whole the value behind its colon, or all of it."""
+    lines = text.split(b"\n", line)
+    if len(lines) < line:
+        return None
+    whole = text_of(lines[line - 1]).strip(" \t\v\f\r")
+    parts = whole.split()
+    if word:
+        return parts[word - 1][:_MOST_SHOWN] if word <= len(parts) else None
+    return (whole.partition(":")[2].strip() or whole)[:_MOST_SHOWN] or None
+
+
 def text_of(told: bytes) -> str:
     """Bytes as text. Bytes that are no UTF-8 come back as they were by `surrogateescape`."""
     return told.decode("utf-8", "surrogateescape")
@@ -160,6 +179,7 @@ def error_of(
     told: bytes,
     explain: Callable[[], str] = str,
     paths: Sequence[Optional[str]] = (),
+    texts: Sequence[bytes] = (),
 ) -> Error:
     """The exception for a call that ended with this status and this line.
 
@@ -172,5 +192,9 @@ def error_of(
         return OutOfMemory(line or "out of memory", file)
     if status in (_library.NO, _library.FAULT):
         path = paths[file - 1] if file is not None and file <= len(paths) else None
-        return _class_of(line)(line, explain(), path)
+        at = (file or 1) - 1
+        found = None
+        if match and match[2] and at < len(texts):
+            found = _found(texts[at], int(match[2]), int(match[3]))
+        return _class_of(line)(line, explain(), path, found)
     raise AssertionError(f"libtsp answered the status {status}: {line}")

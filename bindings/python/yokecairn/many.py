@@ -33,8 +33,23 @@ AnyJob = Union[Job, Sequence[Any], Mapping[str, Any]]
 
 
 def job_of(job: AnyJob) -> Job:
-    """A job from its parts in order, or by their names."""
-    return Job(**job) if isinstance(job, Mapping) else Job(*job)
+    """A job from its parts in order, or by their names.
+
+    Raises:
+        TypeError: it is none.
+    """
+    try:
+        if isinstance(job, Mapping):
+            return Job(**job)
+        if isinstance(job, (tuple, list)):
+            return Job(*job)
+    except TypeError:
+        pass
+    told = f"with {len(job)} parts: {job!r:.60}" if isinstance(job, (tuple, list, Mapping)) else f"{job!r:.60}"
+    raise TypeError(
+        f"a job is a Job, a tuple of {', '.join(Job._fields)} in this order, the last three optional, or a mapping"
+        f" by these names, and this is of type {type(job).__name__} {told}"
+    )
 
 
 def outcome(job: AnyJob) -> Outcome:

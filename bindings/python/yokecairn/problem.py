@@ -8,7 +8,7 @@ from decimal import Decimal
 from itertools import chain, product
 from typing import IO, Any, Dict, Iterable, Iterator, List, Mapping, Optional, Sequence, Tuple, Union
 
-from . import _arrays, _canonical, _library
+from . import _arrays, _canonical, _library, _plots
 from .faults import LineFault, NodeError, WrongKind, error_of, explained, text_of
 
 Path = Union[str, "os.PathLike[str]"]
@@ -37,7 +37,7 @@ def canonical(text: bytes, layout: Optional[str] = None, path: Optional[str] = N
         def more() -> str:
             return explained(_library.CONVERT, (text,), (path,), number)
 
-        raise error_of(status, told, more, (path,))
+        raise error_of(status, told, more, (path,), (text,))
     return told
 
 
@@ -155,7 +155,7 @@ class Problem:
             if "TooFine" not in fault.details:
                 raise
             advice = "  from_points(.., decimals=9) rounds coordinates to nine decimals."
-            raise LineFault(fault.told, f"{fault.explanation}\n{advice}") from None
+            raise LineFault(fault.told, f"{fault.explanation}\n{advice}", found=fault.found) from None
 
     @classmethod
     def from_matrix(
@@ -334,7 +334,7 @@ class Problem:
 
     def save(self, path: Path) -> None:
         """Writes the canonical text to a path."""
-        with open(path, "wb") as file:
+        with open(_checked(path), "wb") as file:
             file.write(self._text)
 
     # ---- what it is
@@ -378,6 +378,21 @@ class Problem:
         if not self.is_depictable():
             return None
         return (self.display_data or self.node_coords).get(i)
+
+    def plot(self, tour: Any = None, other: Any = None, *, ax: Any = None) -> Any:
+        """Draws the nodes, a tour and another one below it, by matplotlib, which has to be installed. Returns the
+        axes: `ax`, or new ones.
+
+        A tour is a list of nodes, for routes a list of such lists, or a `Problem` of TYPE TOUR. Edges of one tour
+        alone differ in colour from those of both. Nodes are drawn at their first two coordinates, or at those of
+        DISPLAY_DATA_SECTION, and the depot as a square.
+
+        Raises:
+            ImportError: matplotlib isn't installed.
+            ValueError: the nodes have no places.
+            NodeError: a tour has a node that isn't there.
+        """
+        return _plots.plot_problem(self, tour, other, ax)
 
     # ---- nodes and weights
 
@@ -595,7 +610,14 @@ def load(path: Path, *, floats: bool = False) -> Problem:
         OSError: it can't be read.
         MemoryError: out of memory.
     """
-    with open(path, "rb") as file:
+    with open(_checked(path), "rb") as file:
         return parse(file.read(), floats=floats, path=path)
+
+
+def _checked(path: Path) -> Path:
+    """A path. (A number would be a file that the process has open.)"""
+    if not isinstance(path, (str, os.PathLike)):
+        raise TypeError(f"a path is of type str or os.PathLike, and this is of type {type(path).__name__}")
+    return path
 
 

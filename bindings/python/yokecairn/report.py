@@ -4,6 +4,7 @@ import dataclasses
 import operator
 import os
 from dataclasses import dataclass
+from decimal import ROUND_CEILING, ROUND_FLOOR, Context, Decimal
 from typing import Any, Dict, Iterable, List, Optional, Sequence, Tuple, Union
 
 from . import _library
@@ -18,6 +19,10 @@ Solution = Union[Source, Sequence[int], Sequence[Sequence[int]]]
 
 # What an explanation says where distances are rounded to 0 and 1.
 _ROUNDED = ": every distance along the solution is 0 or 1, "
+
+# By how many halves a whole distance may be above the real one, and below it.
+_ROUNDINGS = {"nearest": (1, 1), "up": (2, 0)}
+_DOWN, _UP = (Context(prec=30, rounding=rounding) for rounding in (ROUND_FLOOR, ROUND_CEILING))
 
 # The words of a report's lines with a number.
 _NUMBERS = ("nodes", "routes", "least", "length", "bound", "gap")
@@ -34,7 +39,7 @@ class Report:
         not_judged: the unknown keywords of the instance, which the verdict doesn't speak of.
         length: the length of the tour, or of all routes.
         bound: a number that no tour of the instance is below.
-        gap: the length less the bound.
+        gap: the length less the bound: 0 where the tour is optimal.
         optimal: whether the length is the bound.
         no_tour: whether the certificate shows that the instance has no tour; `bound` is None then.
         routes: how many routes there are.
@@ -71,14 +76,16 @@ class Report:
         return self.yes
 
     def __repr__(self) -> str:
-        words = [f"{word}={value}" for word in _NUMBERS if (value := getattr(self, word)) is not None]
+        values = ((word, getattr(self, word)) for word in _NUMBERS if word != "gap" or not self.optimal)
+        words = [f"{word}={value}" for word, value in values if value is not None]
         verdict = "yes" if self.yes else " ".join(map(str, ("no", self.reason, *self.numbers)))
         return f"<Report {verdict}: {' '.join([self.type, *words])}{' optimal' * self.optimal}>"
 
     def as_dict(self) -> Dict[str, Any]:
-        """The attributes by their names, as numbers, texts and lists that `json.dumps` takes."""
+        """The attributes by their names, `gap_percent` too, as numbers, texts and lists that `json.dumps` takes."""
         found = dataclasses.asdict(self)
-        return {name: list(it) if isinstance(it, tuple) else it for name, it in found.items()}
+        plain = {name: list(it) if isinstance(it, tuple) else it for name, it in found.items()}
+        return {**plain, "gap_percent": self.gap_percent}
 
     @property
     def gap_percent(self) -> Optional[float]:
@@ -90,6 +97,39 @@ class Report:
         if self.length is None or length <= 0:
             return None
         return 100 * (self.length - length) / length
+
+    def real_length(self, scale: int, rounding: str = "nearest") -> Optional[Tuple[Decimal, Decimal]]:
+        """The limits of the length in real numbers, where the instance is one whose coordinates or weights were
+        multiplied by `scale` and then rounded to whole numbers: `(least, most)`; None where there is no length.
+
+        Each distance is rounded by at most a half, so a tour of n edges is within n/2 units of 1/scale. With
+        `rounding="up"`, as of CEIL_2D and ATT, each is above the real one by less than 1. The limits are exact
+        where they have at most 30 digits, and else the next number outside.
+
+        Raises:
+            TypeError: the scale is no whole number.
+            ValueError: it is below 1, or there is no such rounding.
+        """
+        return None if self.length is None else self._real(self.length, scale, rounding)
+
+    def real_bound(self, scale: int, rounding: str = "nearest") -> Optional[Decimal]:
+        """A real number that no tour is below, where the distances are as in `real_length`; None without a bound."""
+        return None if self.bound is None else self._real(self.bound, scale, rounding)[0]
+
+    def _real(self, length: int, scale: int, rounding: str) -> Tuple[Decimal, Decimal]:
+        """The least and the most real length of a tour, or of all routes, with this whole one."""
+        if isinstance(scale, bool) or not isinstance(scale, int):
+            raise TypeError(f"a scale is a whole number, and this is of type {_type(scale)}")
+        if scale < 1:
+            raise ValueError(f"a scale is 1 or more, and this is {scale}")
+        if rounding not in _ROUNDINGS:
+            raise ValueError(f"a rounding is one of {', '.join(_ROUNDINGS)}, and this is {rounding!r:.60}")
+        # as many edges as nodes; of routes each customer's, and one more of each route
+        edges = self.nodes if self.routes is None else self.nodes - 1 + self.routes
+        less, more = _ROUNDINGS[rounding]
+        least, most = (Decimal(2 * length + side * edges) for side in (-less, more))
+        halves = Decimal(2 * scale)
+        return _DOWN.divide(least, halves), _UP.divide(most, halves)
 
     @classmethod
     def of_result(cls, result: _library.Result, text: str, explanation: str = "") -> "Report":
@@ -105,7 +145,7 @@ class Report:
             not_judged=_not_judged(text.split("\n")),
             length=length,
             bound=result.bound,
-            gap=gap or None,
+            gap=gap,
             optimal=gap == 0,
             no_tour=result.verdict == _library.NO_TOUR,
             routes=result.routes if is_routes else None,
@@ -232,7 +272,7 @@ def report_of(
         return explained(_library.CHECK, texts, paths, by, length)
 
     if status not in (_library.DONE, _library.NO):
-        raise error_of(status, told, more, paths)
+        raise error_of(status, told, more, paths, texts)
     report = Report.of_result(result, text_of(told), more() if explain else "")
     # such a solution is at most as long as it has edges, so others aren't looked at again
     if report.yes and 0 <= (report.length or 0) <= report.nodes + (report.routes or 0):
@@ -291,7 +331,7 @@ def bound_of(
         return explained(_library.BOUND, (texts[0], b"", texts[1]), (paths[0], None, paths[1]), by)
 
     if status not in (_library.DONE, _library.NO):
-        raise error_of(status, told, more, paths)
+        raise error_of(status, told, more, paths, texts)
     return Report.of_result(result, text_of(told), more() if explain else "")
 
 
@@ -306,5 +346,5 @@ def show(file: Source) -> str:
     text, path = text_and_path(file)
     status, told = _library.show(text)
     if status != _library.DONE:
-        raise error_of(status, told, lambda: explained(_library.SHOW, (text,), (path,)), (path,))
+        raise error_of(status, told, lambda: explained(_library.SHOW, (text,), (path,)), (path,), (text,))
     return text_of(told)

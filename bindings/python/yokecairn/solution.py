@@ -7,6 +7,7 @@ file that comes of it.
 
 import json
 import re
+from decimal import Decimal
 from typing import Any, Dict, List, NamedTuple, Optional, Sequence
 
 from .faults import Fault, SolutionError, text_of
@@ -18,6 +19,8 @@ _ROUTE = re.compile(r"[ \t]*route[^:]*:", re.I)
 _COST = re.compile(r"[ \t]*cost[ \t]*[:=]?[ \t]*(\S*)", re.I)
 _PRINTED = re.compile(r"[ \t]*\[[0-9]+\]")
 _MARKS = re.compile(r"[\s,;\[\]]+")
+_DECIMAL = re.compile(r"[0-9]{1,30}\.[0-9]{0,30}(?:[eE][+-]?[0-9]{1,2})?|[0-9]{1,30}[eE]\+?[0-9]{1,2}")
+_NAME = re.compile(r"[\"']?[A-Za-z_][\w.-]*[\"']?")
 
 
 class _Found(NamedTuple):
@@ -28,16 +31,35 @@ class _Found(NamedTuple):
 
 
 def _whole(word: str, line: int, least: int = 0) -> int:
-    if not (word.isascii() and word.isdigit()) or int(word) < least:
+    """A node, which may be written as numpy writes it: 1.000000e+00."""
+    number = int(word) if word.isascii() and word.isdigit() else -1
+    if number < 0 and _DECIMAL.fullmatch(word):
+        exact = Decimal(word)
+        number = int(exact) if exact == exact.to_integral_value() else -1
+    if number < least:
         raise SolutionError(f"nodes are whole numbers from {least} on, and this is none: {word}", line)
-    return int(word)
+    return number
 
 
 def _numbers(text: str) -> List[List[int]]:
-    """The numbers of each line that has some."""
-    lines = ((number, _MARKS.split(line.strip())) for number, line in enumerate(text.splitlines(), 1))
-    rows = ([_whole(word, number) for word in words if word] for number, words in lines)
-    return [row for row in rows if row]
+    """The numbers of each line that has some. The first line may have the names of columns."""
+    lines = [(number, _MARKS.split(line.strip())) for number, line in enumerate(text.splitlines(), 1)]
+    filled = [(number, list(filter(None, words))) for number, words in lines if any(words)]
+    if len(filled) > 1 and all(_NAME.fullmatch(word) for word in filled[0][1]):
+        del filled[0]
+    return [[_whole(word, number) for word in words] for number, words in filled]
+
+
+def _ordered(rows: Sequence[Sequence[int]]) -> Optional[List[int]]:
+    """The nodes of a table with a column of their order beside them; None where it is no such table."""
+    if len(rows) < 2 or any(len(row) != 2 for row in rows):
+        return None
+    places = [[row[side] for row in rows] for side in (0, 1)]
+    for order, nodes in (places, places[::-1]):
+        begins = order[0] in (0, 1) and order == list(range(order[0], order[0] + len(rows)))
+        if begins and sorted(nodes) in (list(range(len(rows))), list(range(1, len(rows) + 1))):
+            return nodes
+    return None
 
 
 def _routes(text: str) -> _Found:
@@ -47,7 +69,10 @@ def _routes(text: str) -> _Found:
     for number, line in enumerate(text.splitlines(), 1):
         head, claim = _ROUTE.match(line), _COST.match(line)
         if head:
-            tours.append([_whole(word, number, 1) + 1 for word in line[head.end() :].split()])
+            words = line[head.end() :].split()
+            if len(words) > 2 and words[0] == words[-1] == "0":
+                words = words[1:-1]  # the depot at both ends
+            tours.append([_whole(word, number, 1) + 1 for word in words])
         elif claim:
             cost = f"Cost {claim[1]}"
         elif line.strip():
@@ -120,6 +145,9 @@ def _of_numbers(rows: List[List[int]], dimension: Optional[int], first: Optional
     """What the lines of numbers of another program mean."""
     if not rows:
         raise SolutionError("there are no numbers")
+    ordered = _ordered(rows)
+    if ordered is not None:
+        return _list(ordered, first)
     if first is None and len(rows[0]) == 2 and rows[0][0] == rows[0][1]:
         return _edges(rows)  # as many edges as nodes; a list has no node twice
     words = [number for row in rows for number in row]
@@ -131,9 +159,12 @@ def _of_numbers(rows: List[List[int]], dimension: Optional[int], first: Optional
 
 
 def _of_json(value: Any, first: Optional[int]) -> _Found:
-    """A list in JSON: a tour, or a list of routes, whose nodes count from 1."""
+    """A list in JSON, or the only one of an object: a tour, or a list of routes, whose nodes count from 1."""
+    if isinstance(value, dict):
+        lists = [part for part in value.values() if isinstance(part, list)]
+        value = lists[0] if len(lists) == 1 else value
     if not isinstance(value, list):
-        raise SolutionError("of JSON a list of nodes is wanted")
+        raise SolutionError("of JSON a list of nodes is wanted, or an object with one list")
     if value and all(isinstance(part, list) for part in value):
         parts = [_checked(part) for part in value]
         base = 1 if first is None else first
@@ -196,8 +227,9 @@ def read_solution(
     """A solution in the form of another program, as a file of TYPE TOUR.
 
     The form is recognized: TSPLIB's TYPE TOUR, which LKH writes too; Concorde's tour (`.sol`) or edges;
-    CVRPLIB's routes (`.sol`); LKH-3's routes; a tour that R prints; a list of nodes; JSON. A list counts
-    from 0 where it has a node 0, else from 1, or from `first`. Customers of CVRPLIB count from 1 without
+    CVRPLIB's routes (`.sol`), with the depot 0 at both ends or without; LKH-3's routes; a tour that R prints; a
+    list of nodes, as numpy's `savetxt` writes it too, below a line of names or beside a column of their order;
+    JSON, also an object with one list. A list counts from 0 where it has a node 0, else from 1, or from `first`. Customers of CVRPLIB count from 1 without
     the depot, which has to be node 1.
 
     `dimension` is the instance's: it is wanted for LKH-3's copies of the depot, and tells a tour of
