@@ -1,10 +1,11 @@
 #!/usr/bin/env python3
-"""Multiplies the coordinates of an instance by a power of ten: scale.py F --by 1000 > OUT
+"""Multiplies the coordinates of an instance by a power of ten, or rounds them: scale.py F --by 1000 > OUT
 
 TSPLIB's distances are whole numbers. Between points that are near each other, as in a unit square, they
 round to 0 or 1, and say little. After this they don't. The lengths of OUT are those of another instance:
 publish them with the factor, which a COMMENT of OUT has. All else stays as it is, the NAME too. Digits
-are exact; `--decimals 9` rounds the result to so many. It needs Python 3.9 and its standard library
+are exact, and more than nine decimals are refused, as `tsp` does: `--decimals 9` rounds the result to so
+many, with `--by` or without. It needs Python 3.9 and its standard library
 alone, and isn't proved.
 """
 from __future__ import annotations
@@ -18,7 +19,12 @@ from typing import Iterator, Optional
 from recheck import DISTANCES, Faulty, Fields, dimension_of, fields_of
 
 SECTION = "NODE_COORD_SECTION"
+FINEST = Decimal("1e-9")
 decimal.getcontext().prec = 400  # of the 64 bytes of a word each digit counts
+
+
+class TooFine(ValueError):
+    """A coordinate has more decimals than count."""
 
 
 def power_of(word: str) -> int:
@@ -35,6 +41,13 @@ def scaled(word: str, power: int, decimals: Optional[int]) -> str:
     number = Decimal(word).scaleb(power)
     if decimals is not None:
         number = number.quantize(Decimal(1).scaleb(-decimals), decimal.ROUND_HALF_EVEN)
+    elif number != number.quantize(FINEST):
+        raise TooFine(f"{plain(number)} would be TooFine: add --decimals 9")
+    return plain(number)
+
+
+def plain(number: Decimal) -> str:
+    """A number without an exponent."""
     text = f"{number:f}"
     return (text.rstrip("0").rstrip(".") if "." in text else text) or "0"
 
@@ -51,6 +64,8 @@ def points_of(fields: Fields, power: int, decimals: Optional[int]) -> Iterator[s
     for at in range(0, group * count, group):
         try:
             yield " ".join([words[at], *(scaled(word, power, decimals) for word in words[at + 1 : at + group])])
+        except TooFine as fault:
+            raise fields.faulty(SECTION, str(fault), at) from None
         except ArithmeticError:
             raise fields.faulty(SECTION, "a node and its coordinates are wanted", at) from None
 
@@ -58,7 +73,8 @@ def points_of(fields: Fields, power: int, decimals: Optional[int]) -> Iterator[s
 def lines_of(path: str, power: int, decimals: Optional[int]) -> Iterator[str]:
     """The lines of the instance with other points."""
     points = list(points_of(fields_of(path), power, decimals))
-    rounded = "" if decimals is None else f", rounded to {decimals} decimals"
+    changes = [f"multiplied by {10**power}"] if power else []
+    changes += [] if decimals is None else [f"rounded to {decimals} decimals"]
     is_inside = False
     with open(path, encoding="latin-1", newline="\n") as file:
         for line in file:
@@ -66,7 +82,7 @@ def lines_of(path: str, power: int, decimals: Optional[int]) -> Iterator[str]:
             if line.strip()[:1].isalpha():
                 is_inside = line.strip().startswith(SECTION)
                 if is_inside:
-                    yield f"COMMENT : Coordinates multiplied by {10**power}{rounded}"
+                    yield f"COMMENT : Coordinates {', '.join(changes)}"
                     yield from (line, *points)
                     continue
             if not is_inside:
@@ -76,11 +92,13 @@ def lines_of(path: str, power: int, decimals: Optional[int]) -> Iterator[str]:
 def main() -> None:
     words = argparse.ArgumentParser(description="Multiplies the coordinates of an instance by a power of ten.")
     words.add_argument("instance", metavar="F", help="an instance with points")
-    words.add_argument("--by", required=True, metavar="N", help="10, 100, .. up to 10^18")
+    words.add_argument("--by", metavar="N", help="10, 100, .. up to 10^18")
     words.add_argument("--decimals", type=int, metavar="D", help="round to so many decimals, 0 to 9")
     given = words.parse_args()
+    if given.by is None and given.decimals is None:
+        words.error("--by or --decimals is wanted")
     try:
-        power = power_of(given.by)
+        power = 0 if given.by is None else power_of(given.by)
     except (ArithmeticError, ValueError):
         words.error(f"--by is a power of ten from 10 on, and this is none: {given.by}")
     if given.decimals is not None and not 0 <= given.decimals <= 9:

@@ -7,6 +7,7 @@
 #include <cerrno>
 #include <cstdlib>
 #include <filesystem>
+#include <fstream>
 #include <sstream>
 
 namespace certify {
@@ -82,6 +83,16 @@ Output output_of(const std::vector<std::string>& words, bool with_errors) {
   while (waitpid(child, &status, 0) < 0 && errno == EINTR) continue;
   return {text, WIFEXITED(status) && WEXITSTATUS(status) == 0};
 }
+
+// Whether a file has EDGE_WEIGHT_TYPE GEO, which the program tsp doesn't read.
+bool is_geographic(const std::string& path) {
+  std::ifstream file(path);
+  for (std::string line; std::getline(file, line);) {
+    if (line.find("EDGE_WEIGHT_TYPE") != std::string::npos) return line.find("GEO") != std::string::npos;
+    if (line.find("_SECTION") != std::string::npos) return false;
+  }
+  return false;
+}
 }  // namespace
 
 // Debian's task-spooler is called tsp too.
@@ -102,7 +113,10 @@ std::string canonical_text(const std::string& tsp, const std::string& path,
   all.insert(all.end(), words.begin(), words.end());
   all.insert(all.end(), {"--", path});
   const Output output = output_of(all, false);
-  if (!output.well) throw Refusal(path + ": " + tsp + " convert doesn't read this file");
+  if (!output.well) {
+    const std::string way = is_geographic(path) ? ": the script examples/geo.py converts GEO" : "";
+    throw Refusal(path + ": " + tsp + " convert doesn't read this file" + way);
+  }
   return output.text;
 }
 }  // namespace certify

@@ -346,10 +346,12 @@ def bad_input():
     Path("ring.tsp").write_text(text.replace("EOF", "FIXED_EDGES_SECTION\n1 2\n2 3\n3 1\n-1\nEOF"))
     Path("two.tsp").write_text("TYPE:TSP\nDIMENSION:2\nEDGE_WEIGHT_TYPE:EUC_2D\nNODE_COORD_SECTION\n1 0 0\n2 1 1\nEOF\n")
     Path("short.tour").write_text("TYPE : TOUR\nTOUR_SECTION\n1 2 3 -1\nEOF\n")
+    Path("geo.tsp").write_text(text.replace("EUC_2D", "GEO"))
     out = ["-o", "out.branches"]
     both = [*out, "--tour-out", "out.tour"]
     faults = [
         (["routes.vrp", *both], "TYPE CVRP"),
+        (["geo.tsp", *both], "the script examples/geo.py converts GEO"),
         (["back.atsp", *both], "no tour uses all fixed edges"),
         (["one.atsp", *both], "three nodes"),
         (["odd.tsp", *both], "symmetric"),

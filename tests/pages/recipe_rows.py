@@ -42,7 +42,8 @@ def potentials(scale: int, dimension: int, *rows: str) -> str:
 
 def routes(cost: int, *nodes: int) -> str:
     """A file of TYPE TOUR whose tours are routes."""
-    return lines("TYPE : TOUR", f"COMMENT : Cost {cost}", "TOUR_SECTION", *nodes, "EOF")
+    counted = "COMMENT : Customer k of CVRPLIB is node k + 1"
+    return lines("TYPE : TOUR", f"COMMENT : Cost {cost}", counted, "TOUR_SECTION", *nodes, "EOF")
 
 
 HARBOUR = tour(8, 1, 2, 3, 4, 8, 5, 6, 7, -1)
@@ -62,7 +63,25 @@ WRITTEN = [
             routes(231, 5, 6, 4, 7, -1, 2, 8, 3, -1)),
     Written("-f examples/recipes/cvrplib-sol.awk", "other.sol", routes(3000, 2, 3, -1),
             "Route #1: 1 2\nCost : 3000\n"),
+    Written("-f examples/recipes/cvrplib-sol.awk", "with-depot.sol", routes(7, 2, 3, -1, 4, -1),
+            "Route #1: 0 1 2 0\nRoute #2: 0 3 0\nCost 7\n"),
     Written("-v first=0 -f examples/recipes/node-list.awk", "blanks", THREE, "0 2 1"),
+    Written("-f examples/recipes/node-list.awk", "numpy", THREE, "1.000000000000000000e+00\n3.0e+00\n2.00\n"),
+    Written("-f examples/recipes/node-list.awk", "names", THREE, "city\n1\n3\n2\n"),
+    Written("-f examples/recipes/node-list.awk", "order-first", THREE, "order,city\n0,1\n1,3\n2,2\n"),
+    Written("-v first=0 -f examples/recipes/node-list.awk", "order-last", THREE, "0;1\n2;2\n1;3\n"),
+    Written("-f examples/recipes/node-list.awk", "two-in-a-line", tour(4, 1, 4, 2, 3, -1), "1 4\n2 3\n"),
+    Written("-f examples/recipes/tidy.awk", "small.vrp",
+            lines("NAME : x y", "TYPE : CVRP", "DIMENSION : 3", "EDGE_WEIGHT_TYPE : EUC_2D", "NODE_COORD_SECTION", "1 0.0 5",
+                  "2 3 4", "3 1 245.0", "DEMAND_SECTION", "1 0", "2 1", "3 1", "DEPOT_SECTION", "1", "-1", "EOF"),
+            "name : x y\ntype : cvrp\nDimension: 3\nedge_weight_type : euc_2d\nnode_coord_section\n1 0.0 5\n2 3 4\n3 1 245.0\n"
+            "demand_section\n1 0\n2 1\n3 1\ndepot_section\n 0.0 5.0\n -1\neof\n"),
+    Written("-f examples/recipes/tidy.awk", "ends-early",
+            lines("DIMENSION : 2", "NODE_COORD_SECTION", "1 0 0", "2 3 245.0", "EOF"),
+            "DIMENSION : 2\nNODE_COORD_SECTION\n1 0 0\n2 3 245.0 EOF\n"),
+    Written("-f examples/recipes/tidy.awk", "two-depots",
+            lines("NODE_COORD_SECTION", "1 1 2", "2 1 2", "DEPOT_SECTION", "1", "2", "-1", "EOF"),
+            "NODE_COORD_SECTION\n1 1 2\n2 1 2\nDEPOT_SECTION\n1 2 -1\nEOF\n"),
     Written("-v first=0 -f examples/recipes/node-list.awk", "commas", THREE, "0,2,1,0"),
     Written("-v first=0 -f examples/recipes/node-list.awk", "brackets", THREE, "[0, 2, 1]\n"),
     Written("-f examples/recipes/node-list.awk", "from-1", THREE, "1\n3\n2\n"),
@@ -97,6 +116,11 @@ REFUSED = [
     Refused("lkh-pi", "2\n3 1\n", "line 2: nodes are 1 to 2: 3 1"),
     Refused("lkh-pi", "1\n1 0\n", "the scale is a whole number from 1 on", "-v scale=0"),
     Refused("node-list", "", "0 nodes"),
+    Refused("node-list", "1.5 1\n", "line 1: this is no node: 1.5"),
+    Refused("node-list", "city\n1 b\n", "line 2: this is no node: b"),
+    Refused("cvrplib-sol", "Route #1: 0 1 0 2 0\n", "line 1: customers are 1, 2, .., and this is none: 0"),
+    Refused("tidy", "NODE_COORD_SECTION\n1 0 0\nDEPOT_SECTION\n5 0.5\n-1\n", "line 4: DEPOT_SECTION has coordinates, and they are"),
+    Refused("tidy", "NODE_COORD_SECTION\n1 0 0\n2 0 0\nDEPOT_SECTION\n0 0\n-1\n", "several nodes: 1 2"),
     Refused("node-list", "0 1 2\n", "line 1: nodes count from 1, and this is 0"),
     Refused("node-list", "1 2 4\n", "3 nodes, and the largest is node 4"),
     Refused("node-list", "1 2 2 4\n", "node 2 comes twice"),
@@ -113,4 +137,4 @@ REFUSED = [
 ]
 
 # What examples/recipes/json-tour.jq refuses.
-REFUSED_JSON = ["[]", '{"a": 1}', "[0, 1, 1]", "[0, 1.5]", "[1, 2, 3]", '["a"]']
+REFUSED_JSON = ["[]", '{"a": 1}', '{"a": [0], "b": [0]}', "[0, 1, 1]", "[0, 1.5]", "[1, 2, 3]", '["a"]']

@@ -107,7 +107,7 @@ class Command(unittest.TestCase):
 
     def test_solutions_of_other_programs(self):
         sol = EXAMPLES / "solvers/dairy.cvrplib.sol"
-        text = b"COMMENT : Cost 231\nTYPE : TOUR\nTOUR_SECTION\n5\n6\n4\n7\n-1\n2\n8\n3\n-1\nEOF\n"
+        text = b"COMMENT : Cost 231\nCOMMENT : Customer k of CVRPLIB is node k + 1\nTYPE : TOUR\nTOUR_SECTION\n5\n6\n4\n7\n-1\n2\n8\n3\n-1\nEOF\n"
         self.assertEqual(run("solution", sol), (0, text, b""))
         self.assertEqual(run("solution", "-", stdin=sol.read_bytes()), (0, text, b""))
         report = b"type CVRP\nnodes 8\nroutes 2\nleast 2\nlength 231\nyes\n"

@@ -9,6 +9,7 @@ from support import EXAMPLES, RECTANGLE
 from yokecairn import SolutionError, best_known, check, read_solution
 
 SOLVERS = EXAMPLES / "solvers"
+COUNTED = "Customer k of CVRPLIB is node k + 1"
 HARBOUR = [1, 2, 3, 4, 8, 5, 6, 7]
 
 
@@ -23,7 +24,7 @@ class Forms(unittest.TestCase):
         self.assertEqual(read_solution(SOLVERS / "harbour.concorde.sol").tours, [HARBOUR])
         self.assertEqual(sorted(read_solution(SOLVERS / "harbour.concorde.edges").tours[0]), list(range(1, 9)))
         routes = read_solution(SOLVERS / "dairy.cvrplib.sol")
-        self.assertEqual((routes.tours, routes.comment), ([[5, 6, 4, 7], [2, 8, 3]], "Cost 231"))
+        self.assertEqual((routes.tours, routes.comment), ([[5, 6, 4, 7], [2, 8, 3]], f"Cost 231\n{COUNTED}"))
         self.assertEqual(check(EXAMPLES / "dairy.vrp", routes).length, 231)
 
     def test_tsplib_stays(self):
@@ -66,7 +67,7 @@ class Forms(unittest.TestCase):
 
     def test_routes(self):
         self.assertEqual(self.tours("Route #1: 1 2\r\nroute 2 : 3\r\nCost : 3000\r\n"), [[2, 3], [4]])
-        self.assertEqual(read_solution(b"Route #1: 1\nCost : 3000\n").comment, "Cost 3000")
+        self.assertEqual(read_solution(b"Route #1: 1\nCost : 3000\n").comment, f"Cost 3000\n{COUNTED}")
         lkh = "x, Cost: 12\n1 3 4 1 (#2)  Cost: 6\n1 5 2 1 (#2)  Cost: 6\n"
         self.assertEqual(self.tours(lkh, dimension=5), [[3, 4], [5, 2]])
         with self.assertRaisesRegex(SolutionError, "DIMENSION"):

@@ -18,6 +18,7 @@ _TSPLIB = re.compile(r"^[ \t]*(?:TOUR_SECTION|TYPE[ \t]*:)", re.M)
 _ROUTE = re.compile(r"[ \t]*route[^:]*:", re.I)
 _COST = re.compile(r"[ \t]*cost[ \t]*[:=]?[ \t]*(\S*)", re.I)
 _PRINTED = re.compile(r"[ \t]*\[[0-9]+\]")
+_COUNTED = "Customer k of CVRPLIB is node k + 1"  # which explanations look for
 _MARKS = re.compile(r"[\s,;\[\]]+")
 _DECIMAL = re.compile(r"[0-9]{1,30}\.[0-9]{0,30}(?:[eE][+-]?[0-9]{1,2})?|[0-9]{1,30}[eE]\+?[0-9]{1,2}")
 _NAME = re.compile(r"[\"']?[A-Za-z_][\w.-]*[\"']?")
@@ -77,7 +78,7 @@ def _routes(text: str) -> _Found:
             cost = f"Cost {claim[1]}"
         elif line.strip():
             raise SolutionError("this is neither a route nor the cost", number)
-    return _Found(tours, cost)
+    return _Found(tours, "\n".join(filter(None, (cost, _COUNTED))))
 
 
 def _split(nodes: Sequence[int], dimension: int) -> List[List[int]]:
@@ -217,7 +218,7 @@ def solution_text(text: bytes, dimension: Optional[int] = None, first: Optional[
         found = _Found(_split(tours[0], dimension))
     else:
         found = _found(plain, dimension, first)
-    head = f"COMMENT : {found.comment}\n" if found.comment else ""
+    head = "".join(f"COMMENT : {line}\n" for line in (found.comment or "").splitlines())
     return head.encode("utf-8", "surrogateescape") + tour_text(found.tours)
 
 
