@@ -27,7 +27,11 @@ def program_at(path: str | Path) -> Path:
     return named.resolve()
 
 
-def words_given(doc: str, more: Callable[[argparse.ArgumentParser], object] = lambda _: None) -> argparse.Namespace:
+def words_given(
+    doc: str,
+    more: Callable[[argparse.ArgumentParser], object] = lambda _: None,
+    needs_program: Callable[[argparse.Namespace], bool] = lambda _: True,
+) -> argparse.Namespace:
     """The words of a test whose cases can be picked: `program` and `only`, and what `more` adds."""
     formed = argparse.RawDescriptionHelpFormatter
     parser = argparse.ArgumentParser(usage=argparse.SUPPRESS, description=doc, formatter_class=formed, add_help=False)
@@ -36,7 +40,8 @@ def words_given(doc: str, more: Callable[[argparse.ArgumentParser], object] = la
     parser.add_argument("--only", default="", help=argparse.SUPPRESS)
     more(parser)
     given = parser.parse_args()
-    given.program = program_at(given.program)
+    if needs_program(given):
+        given.program = program_at(given.program)
     return given
 
 
