@@ -1,8 +1,8 @@
 // The page: files come in, a worker judges them, and what it answers is shown.
 
-import { By, Status } from "./library.mjs";
+import { By, Status } from "../../javascript/library.mjs";
 import { barOf, pictureOf } from "./picture.mjs";
-import { verdictOf } from "./report.mjs";
+import { verdictOf } from "../../javascript/report.mjs";
 import { roleOf } from "./roles.mjs";
 import { tableOf, verbOf } from "./run.mjs";
 
@@ -326,7 +326,7 @@ function draw() {
 /**
  * How a tour is drawn.
  *
- * @param {import("./report.mjs").Report | null} report
+ * @param {import("../../javascript/report.mjs").Report | null} report
  * @returns {string}
  */
 function kindOf(report) {
@@ -340,7 +340,7 @@ function kindOf(report) {
  * What the drawing shows, in words.
  *
  * @param {import("./scene.mjs").Scene} scene
- * @param {import("./report.mjs").Report | null} report
+ * @param {import("../../javascript/report.mjs").Report | null} report
  * @returns {string}
  */
 function legendOf(scene, report) {

@@ -209,7 +209,7 @@ function markShapes({ marks }, place, nodes) {
 /**
  * A bar of the length, in which bound and gap have their shares; null without a bound.
  *
- * @param {import("./report.mjs").Report} report
+ * @param {import("../../javascript/report.mjs").Report} report
  * @param {number} room
  * @returns {Picture | null}
  */

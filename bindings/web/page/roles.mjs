@@ -1,7 +1,7 @@
 // What a file is for, as its beginning and its name say. It only fills in the page: what a file is, the
 // library judges.
 
-import { By } from "./library.mjs";
+import { By } from "../../javascript/library.mjs";
 
 /** The line with the TYPE is looked for in so many bytes. */
 const LOOKED_AT = 65536;

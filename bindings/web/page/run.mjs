@@ -1,9 +1,10 @@
 // What is done with the files that are given: the verb of the program that they ask for.
 
-import { By, Call, Status } from "./library.mjs";
-import { percentOf, reportOf, verdictOf } from "./report.mjs";
+import { Judge } from "../../javascript/judge.mjs";
+import { By, Call, Status } from "../../javascript/library.mjs";
+import { percentOf, reportOf, verdictOf } from "../../javascript/report.mjs";
 import { sceneOf } from "./scene.mjs";
-import { NoSolution, converted } from "./solutions.mjs";
+import { NoSolution, converted } from "../../javascript/solutions.mjs";
 
 /**
  * @typedef {object} Given
@@ -32,7 +33,7 @@ import { NoSolution, converted } from "./solutions.mjs";
  * @property {Uint8Array} bytes the report, what is shown of the file, or the line of a fault
  * @property {string} text the same as a text
  * @property {string} explanation
- * @property {import("./report.mjs").Report | null} report of a check or a bound
+ * @property {import("../../javascript/report.mjs").Report | null} report of a check or a bound
  * @property {import("./scene.mjs").Scene | null} scene
  * @property {{ given: Given, form: string, from: string } | null} converted a solution of another program as it was read
  * @property {Row[]} rows
@@ -59,7 +60,7 @@ export function verbOf({ instance, solution, certificate }) {
 /**
  * Does what the files ask for.
  *
- * @param {import("./library.mjs").Library} library
+ * @param {import("../../javascript/library.mjs").Library} library
  * @param {Job} job whose verb isn't null
  * @returns {Outcome}
  */
@@ -71,7 +72,7 @@ export function run(library, job) {
 /**
  * The solution of another program as a file of TYPE TOUR; null where it is one, or none that is known.
  *
- * @param {import("./library.mjs").Library} library
+ * @param {import("../../javascript/library.mjs").Library} library
  * @param {Job} job
  * @returns {{ given: Given, form: string, from: string } | null}
  */
@@ -95,22 +96,39 @@ function readOf(library, { instance, solution, foreign }) {
 /**
  * What comes of each solution, where there are several.
  *
- * @param {import("./library.mjs").Library} library
+ * @param {import("../../javascript/library.mjs").Library} library
  * @param {Job} job
  * @returns {Row[]}
  */
 function rowsOfTours(library, job) {
     const tours = job.instance && (job.tours ?? []).length > 1 ? (job.tours ?? []) : [];
-    return tours.map((solution) => {
+    if (job.instance === null || tours.length === 0) {
+        return [];
+    }
+    const judge = new Judge(library, job.instance.bytes, job.certificate?.bytes ?? NOTHING, byOf(job));
+    const rows = tours.map((solution) => {
         const read = readOf(library, { ...job, solution });
-        const { text, report } = answerOf(library, { ...job, solution: read?.given ?? solution }, "check");
-        if (report === null) {
-            return { name: solution.name, word: text.trim() || "Out of memory", length: "", gap: "", percent: "" };
-        }
-        const word = report.yes ? verdictOf(report).word : [`No: ${report.reason}`, ...report.numbers].join(" ");
-        const gap = String(report.gap ?? "");
-        return { name: solution.name, word, length: String(report.length ?? ""), gap, percent: percentOf(report) };
+        return rowOf(solution.name, judge.check((read?.given ?? solution).bytes, job.claimed));
     });
+    judge.close();
+    return rows;
+}
+
+/**
+ * The row of a solution.
+ *
+ * @param {string} name
+ * @param {import("../../javascript/library.mjs").Judged} judged
+ * @returns {Row}
+ */
+function rowOf(name, { status, bytes, result }) {
+    const text = new TextDecoder().decode(bytes);
+    if (status !== Status.YES && status !== Status.NO) {
+        return { name, word: text.trim() || "Out of memory", length: "", gap: "", percent: "" };
+    }
+    const report = reportOf(result, text);
+    const word = report.yes ? verdictOf(report).word : [`No: ${report.reason}`, ...report.numbers].join(" ");
+    return { name, word, length: String(report.length ?? ""), gap: String(report.gap ?? ""), percent: percentOf(report) };
 }
 
 /**
@@ -127,7 +145,7 @@ export function tableOf(rows) {
 /**
  * What comes of the files of a job.
  *
- * @param {import("./library.mjs").Library} library
+ * @param {import("../../javascript/library.mjs").Library} library
  * @param {Job} job
  * @returns {Omit<Outcome, "converted" | "rows">}
  */
@@ -149,10 +167,10 @@ function judged(library, job) {
 /**
  * What a verb answers: with its report, where files are judged.
  *
- * @param {import("./library.mjs").Library} library
+ * @param {import("../../javascript/library.mjs").Library} library
  * @param {Job} job
  * @param {string | null} verb
- * @returns {{ status: number, bytes: Uint8Array, text: string, report: import("./report.mjs").Report | null }}
+ * @returns {{ status: number, bytes: Uint8Array, text: string, report: import("../../javascript/report.mjs").Report | null }}
  */
 function answerOf(library, job, verb) {
     if (verb === "show") {
@@ -168,10 +186,10 @@ function answerOf(library, job, verb) {
 /**
  * What a check or a bound answers.
  *
- * @param {import("./library.mjs").Library} library
+ * @param {import("../../javascript/library.mjs").Library} library
  * @param {Job} job
  * @param {string | null} verb
- * @returns {import("./library.mjs").Judged}
+ * @returns {import("../../javascript/library.mjs").Judged}
  */
 function judgedBy(library, job, verb) {
     const [instance, solution, certificate] = textsOf(job);
@@ -182,7 +200,7 @@ function judgedBy(library, job, verb) {
 }
 
 /**
- * @param {import("./library.mjs").Library} library
+ * @param {import("../../javascript/library.mjs").Library} library
  * @param {Job} job
  * @param {string | null} verb
  * @returns {Uint8Array}

@@ -1,6 +1,6 @@
 // What is drawn of a run: points, tours, and the places that a reason is about.
 
-import { Section, Status } from "./library.mjs";
+import { Section, Status } from "../../javascript/library.mjs";
 
 /**
  * @typedef {[number, number]} Pair two nodes, which count from 1
@@ -26,10 +26,10 @@ const MOST_EXTRAS = 10_000;
 /**
  * The scene of an instance and a solution; null where the instance has no points.
  *
- * @param {import("./library.mjs").Library} library
+ * @param {import("../../javascript/library.mjs").Library} library
  * @param {Uint8Array} instance
  * @param {Uint8Array | null} solution
- * @param {import("./report.mjs").Report | null} report
+ * @param {import("../../javascript/report.mjs").Report | null} report
  * @returns {Scene | null}
  */
 export function sceneOf(library, instance, solution, report) {
@@ -62,7 +62,7 @@ export function sceneOf(library, instance, solution, report) {
 /**
  * The text of an answer; empty where it is none.
  *
- * @param {import("./library.mjs").Answer} answer
+ * @param {import("../../javascript/library.mjs").Answer} answer
  * @returns {string}
  */
 function textOf({ status, bytes }) {
@@ -161,7 +161,7 @@ export function missingOf(nodes, tours, depot) {
 /**
  * What the reason of a report is about.
  *
- * @param {import("./report.mjs").Report | null} report
+ * @param {import("../../javascript/report.mjs").Report | null} report
  * @param {number[][]} tours
  * @param {number[][]} fixed
  * @returns {Marks}

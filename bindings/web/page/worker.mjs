@@ -1,6 +1,6 @@
 // Runs jobs outside of the page's own thread. The first message is the module, each later one a job.
 
-import { Library } from "./library.mjs";
+import { Library } from "../../javascript/library.mjs";
 import { run } from "./run.mjs";
 
 /** @type {Promise<WebAssembly.Module> | null} */

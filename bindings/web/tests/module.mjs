@@ -2,7 +2,7 @@
 
 import { readFileSync } from "node:fs";
 
-import { Library } from "../page/library.mjs";
+import { Library } from "../../javascript/library.mjs";
 
 /**
  * The bytes of the WebAssembly module that a page has inside.

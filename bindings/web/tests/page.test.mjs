@@ -4,13 +4,13 @@ import assert from "node:assert/strict";
 import { readFileSync } from "node:fs";
 import { test } from "node:test";
 
-import { By, Section, Status, Verdict } from "../page/library.mjs";
+import { By, Section, Status, Verdict } from "../../javascript/library.mjs";
 import { barOf, pictureOf } from "../page/picture.mjs";
-import { percentOf, reportOf, verdictOf } from "../page/report.mjs";
+import { percentOf, reportOf, verdictOf } from "../../javascript/report.mjs";
 import { roleOf } from "../page/roles.mjs";
 import { run, tableOf, verbOf } from "../page/run.mjs";
 import { marksOf, missingOf, rowsOf, toursOf } from "../page/scene.mjs";
-import { NoSolution, converted } from "../page/solutions.mjs";
+import { NoSolution, converted } from "../../javascript/solutions.mjs";
 import { libraryOf } from "./module.mjs";
 
 const PAGE = process.env.PAGE ?? "";

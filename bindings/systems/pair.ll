@@ -1,8 +1,6 @@
-; The three calls by which the proved code takes memory, over heap.c. Two of them return a pair: 1 and the
-; address, or 0 where there is no memory. C has no such result, so this is in LLVM's language.
-target datalayout = "e-m:e-p:64:64-p10:8:8-p20:8:8-i64:64-i128:128-n32:64-S128-ni:1:10:20"
-target triple = "wasm64-unknown-unknown"
-
+; The three calls by which the proved code takes memory, over a heap in C (heap_take, heap_resize, heap_free). Two of
+; them return a pair: 1 and the address, or 0 where there is no memory. C has no such result in two registers on every
+; system, so this is in LLVM's language. Before it come the two lines of a target.
 declare ptr @heap_take(i64)
 declare ptr @heap_resize(ptr, i64)
 declare void @heap_free(ptr)

@@ -1,4 +1,4 @@
-/* What the module's heap offers: to heap.ll, which the proved code calls, and to the page, which puts texts
+/* What the module's heap offers: to pair.ll, which the proved code calls, and to JavaScript, which puts texts
  * into the memory before a call. */
 #ifndef HEAP_H
 #define HEAP_H

@@ -1,0 +1,127 @@
+// Many solutions of one instance, beside each other.
+
+import { Fault, SolutionError } from "./errors.mjs";
+import { Status, Verdict } from "./library.mjs";
+import { percentOf, reasonOf, reportOf } from "./report.mjs";
+
+/**
+ * @typedef {import("../node/index.mjs").Basis} Basis
+ * @typedef {import("./yokecairn.mjs").Report} Report
+ */
+
+/** A solution without a tour: its check says what is wrong with the instance. */
+const NO_TOUR = new TextEncoder().encode("TYPE : TOUR\nTOUR_SECTION\nEOF\n");
+
+/** The reasons that are of the instance alone. */
+const OF_INSTANCE = ["TooFewNodes", "NotSymmetric", "DepotCount", "DepotDemand", "FixedEdgesInRoutes"];
+
+/**
+ * What holds for all solutions, before any is read; null where a text has a fault.
+ *
+ * @param {import("./library.mjs").Library} library
+ * @param {import("./judge.mjs").Judge} judge
+ * @param {Uint8Array} instance
+ * @returns {Basis | null}
+ */
+export function basisOf(library, judge, instance) {
+    if (!judge.isRead) {
+        return null;
+    }
+    const { status, bytes, result } = judge.check(NO_TOUR, null);
+    if (status !== Status.YES && status !== Status.NO) {
+        return null;
+    }
+    const report = reportOf(result, new TextDecoder().decode(bytes));
+    const { type, notJudged } = report;
+    /** @type {Basis} */
+    const basis = { type, nodes: result.nodes, notJudged, least: null, bound: null, noTour: false, reason: null, numbers: [] };
+    if (OF_INSTANCE.includes(report.reason)) {
+        return { ...basis, reason: report.reason, numbers: report.numbers };
+    }
+    if (judge.bound !== null && judge.bound.reason !== 0) {
+        return { ...basis, ...reasonOf(judge.bound) };
+    }
+    if (type === "CVRP") {
+        return { ...basis, least: leastOf(new TextDecoder().decode(library.convert(instance).bytes)) };
+    }
+    return judge.bound === null ? basis : { ...basis, bound: judge.bound.bound, noTour: judge.bound.verdict === Verdict.NO_TOUR };
+}
+
+/**
+ * The least number of routes whose capacities sum to all demands.
+ *
+ * @param {string} text of a CVRP, as the library writes it
+ * @returns {number}
+ */
+function leastOf(text) {
+    const capacity = BigInt(/^CAPACITY : (\d+)$/m.exec(text)?.[1] ?? "0") || 1n;
+    const [, demands = ""] = /^DEMAND_SECTION\n((?:\d+ \d+\n)*)/m.exec(text) ?? [];
+    const all = demands.split("\n").reduce((sum, line) => sum + BigInt(line.split(" ")[1] ?? "0"), 0n);
+    return Number((all + capacity - 1n) / capacity);
+}
+
+/** What comes of each of several solutions. */
+export class Comparison {
+    /**
+     * @param {Basis} basis
+     * @param {string[]} names of the solutions
+     * @param {(Report | Error)[]} outcomes
+     */
+    constructor(basis, names, outcomes) {
+        this.basis = basis;
+        this.names = names;
+        this.outcomes = outcomes;
+    }
+
+    /** What `tsp compare` prints. */
+    toString() {
+        const { type, nodes, notJudged, least, bound, noTour, reason, numbers } = this.basis;
+        const lines = [`type ${type}`, `nodes ${nodes}`, ...notJudged.map((it) => `not judged ${it}`)];
+        if (reason !== null) {
+            lines.push(["no", reason, ...numbers].join(" "));
+        } else if (least !== null) {
+            lines.push(`least ${least}`);
+        } else if (noTour || bound !== null) {
+            lines.push(`bound ${noTour ? "none" : bound}`);
+        }
+        return [...lines, ...this.outcomes.map((outcome, at) => lineOf(this.names[at], outcome)), ""].join("\n");
+    }
+
+    /** The rows of a table, with a tab between the cells. */
+    toTSV() {
+        const rows = this.outcomes.map((outcome, at) => {
+            if (outcome instanceof Error) {
+                return [this.names[at], "error", "", "", "", "", outcome instanceof Fault ? outcome.told : outcome.message];
+            }
+            const { yes, length, bound, gap, routes, reason, numbers } = outcome;
+            const detail = [reason ?? "", ...numbers].join(" ");
+            return [this.names[at], yes ? "yes" : "no", length ?? "", bound ?? "", gap ?? "", percentOf(outcome), detail || (routes ?? "")];
+        });
+        const head = ["solution", "verdict", "length", "bound", "gap", "gap_percent", "detail"];
+        return [head, ...rows].map((row) => `${row.map((it) => String(it).replace(/[\t\n]/g, " ")).join("\t")}\n`).join("");
+    }
+}
+
+/**
+ * The line of `tsp compare` for a solution.
+ *
+ * @param {string} name
+ * @param {Report | Error} outcome
+ * @returns {string}
+ */
+function lineOf(name, outcome) {
+    if (outcome instanceof Fault) {
+        return `${outcome.told.replace(/^file \d+: /, "")} ${name}`;
+    }
+    if (outcome instanceof Error) {
+        return `${outcome instanceof SolutionError ? outcome.message : "device"} ${name}`;
+    }
+    const { yes, length, gap, optimal, routes, reason, numbers } = outcome;
+    if (!yes) {
+        return ["no", reason, ...numbers, name].join(" ");
+    }
+    if (routes !== null) {
+        return `${length} routes ${routes} ${name}`;
+    }
+    return [length, ...(optimal ? ["optimal"] : gap === null ? [] : ["gap", gap]), name].join(" ");
+}

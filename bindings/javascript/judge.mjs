@@ -1,0 +1,52 @@
+// Many solutions of one instance: the instance and its certificate are read once.
+
+import { By } from "./library.mjs";
+
+/** Judges solutions of an instance, by a certificate where there is one. */
+export class Judge {
+    /** @type {import("./library.mjs").Handle | null} */
+    #handle;
+
+    /**
+     * @param {import("./library.mjs").Library} library
+     * @param {Uint8Array} instance
+     * @param {Uint8Array} certificate
+     * @param {number} by
+     */
+    constructor(library, instance, certificate, by) {
+        this.library = library;
+        this.texts = { instance, certificate, by };
+        const handle = library.open(instance);
+        /** @type {import("./library.mjs").Result | null} what the certificate gives */
+        this.bound = by === By.NOTHING ? null : handle.bind(certificate, by).result;
+        // (a text with a fault has none)
+        const isRead = handle.nodes > 0 && this.bound?.verdict !== 0;
+        if (!isRead) {
+            handle.close();
+        }
+        this.#handle = isRead ? handle : null;
+    }
+
+    /** Whether the instance and the certificate are read. If not, each check says why. */
+    get isRead() {
+        return this.#handle !== null;
+    }
+
+    /**
+     * Judges a solution: the answer is that of a check of the three texts.
+     *
+     * @param {Uint8Array} solution
+     * @param {bigint | null} claimed
+     * @returns {import("./library.mjs").Judged}
+     */
+    check(solution, claimed) {
+        const { instance, certificate, by } = this.texts;
+        return this.#handle?.check(solution, claimed) ?? this.library.check(instance, solution, certificate, by, claimed);
+    }
+
+    /** Frees what was read. */
+    close() {
+        this.#handle?.close();
+        this.#handle = null;
+    }
+}

@@ -1,0 +1,5 @@
+// Node's own modules and names, of any type: the declarations of Node itself aren't a package of Debian.
+
+declare module "node:*";
+declare const Buffer: any;
+declare const process: any;

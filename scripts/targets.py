@@ -1,0 +1,93 @@
+"""Modules for LLVM that the toolchain makes for Linux on x86-64, for other systems.
+
+The proved code has no instruction of x86-64 in them, and neither vectors nor floating point that another processor
+does in another way. All targets have words of 64 bits, put the least byte first, and align numbers of 128 bits to 16
+bytes. So only the target's two lines, and the function attributes of the processor and of its stack, are replaced.
+"""
+from __future__ import annotations
+
+import re
+import subprocess
+from dataclasses import dataclass
+from pathlib import Path
+
+import module
+
+# Words that the toolchain gives to its own call of clang, but those of x86-64 alone.
+LIKE_TOOLCHAIN = """-mllvm -no-trap-after-noreturn -mllvm -trap-unreachable -mllvm -disable-machine-licm
+    -mllvm -disable-postra-machine-licm -mllvm -sink-common-insts=false""".split()
+# A multiplication and an addition are never joined to one operation, which would round once.
+COMPILE = ["-O3", "-ffp-contract=off", "-ffunction-sections", "-fdata-sections", "-Werror", "-c"]
+PROCESSOR = re.compile(rb' "(?:target-cpu|target-features|tune-cpu)"="[^"]*"')
+PROBES = re.compile(rb' "(?:probe-stack|stack-probe-size)"="[^"]*"')
+MAIN = re.compile(rb"^define i32 @main\(\)", re.M)
+# The calls of the system that the program makes.
+CALLS = """isatty open read write close fcntl statx __xpg_strerror_r __sysv_signal
+    rattle_arg rattle_env rattle_env_at rattle_errno rattle_set_errno""".split()
+CALLED = re.compile(rb"@(" + "|".join(CALLS).encode() + rb")\(")
+
+
+@dataclass(frozen=True)
+class Target:
+    """A system: how clang calls it, clang's words for it, whether LLVM knows how to probe its stack as on Linux, and
+    whether the program's calls get names of their own (`host_open`), since its C library has other ones."""
+
+    triple: str
+    words: tuple[str, ...] = ()
+    probes: bool = False
+    renames: bool = False
+
+    def clang(self, *words: str | Path) -> None:
+        """Runs the toolchain's clang for this target."""
+        clang = module.kit() / "toolchain/bin/clang"
+        subprocess.run([clang, "--no-default-config", f"--target={self.triple}", *words], check=True)
+
+    def lines(self) -> list[bytes]:
+        """The two lines by which a module names its target."""
+        words = [module.kit() / "toolchain/bin/clang", "--no-default-config", f"--target={self.triple}"]
+        words += ["-S", "-emit-llvm", "-x", "c", "-o", "-", "/dev/null"]
+        made = subprocess.run(words, check=True, capture_output=True).stdout
+        return re.findall(rb'^target (?:datalayout|triple) = "[^"]*"$', made, re.M)
+
+    def text(self, text: bytes) -> bytes:
+        """The text of a module for Linux on x86-64, for this target. Its `main` is `tsp_main`."""
+        for line in self.lines():
+            begins = line[: line.index(b" = ")]
+            text = re.sub(rb"^" + begins + rb' = "[^"]*"$', lambda _: line, text, count=1, flags=re.M)
+        text = PROCESSOR.sub(b"", text)
+        if not self.probes:
+            text = PROBES.sub(b"", text)
+        if self.renames:
+            text = CALLED.sub(rb"@host_\1(", text)
+        return MAIN.sub(b"define i32 @tsp_main()", text)
+
+    def compile(self, text: bytes, made: Path) -> Path:
+        """The object file of a module's text in LLVM's language, which is for this target."""
+        source = made.with_suffix(".ll")
+        source.write_bytes(text)
+        self.clang(*self.words, *COMPILE, "-x", "ir", source, "-o", made)
+        return made
+
+    def pair(self, made: Path) -> Path:
+        """The object file of the calls by which the proved code takes memory, over a heap in C."""
+        return self.compile(b"\n".join([*self.lines(), PAIR.read_bytes()]), made)
+
+    def module(self, given: Path, made: Path) -> Path:
+        """The object file of a module that the toolchain made for Linux on x86-64."""
+        return self.compile(self.text(text_of(given, made.with_suffix(".x86.ll"))), made)
+
+
+PAIR = Path(__file__).resolve().parent.parent / "bindings/systems/pair.ll"
+TARGETS = {
+    "linux-aarch64": Target("aarch64-unknown-linux-gnu", ("-fPIC", *LIKE_TOOLCHAIN), probes=True),
+    "windows-x86_64": Target("x86_64-w64-windows-gnu", (*LIKE_TOOLCHAIN,), renames=True),
+    "wasm": Target("wasm64-unknown-unknown", ("-mcpu=mvp", "-mbulk-memory", "-msign-ext", "-mnontrapping-fptoint")),
+}
+
+
+def text_of(given: Path, text: Path) -> bytes:
+    """A module in LLVM's language, which is left in a file."""
+    words = [module.kit() / "toolchain/bin/clang", "--no-default-config", "--target=x86_64-unknown-linux-gnu"]
+    words += ["-x", "ir", given, "-S", "-emit-llvm", "-Xclang", "-disable-llvm-passes", "-o", text]
+    subprocess.run(words, check=True)
+    return text.read_bytes()
