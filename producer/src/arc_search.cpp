@@ -2,10 +2,11 @@
 
 #include <algorithm>
 
+#include "parameters.h"
+
 namespace certify {
 namespace {
-constexpr int kFewest = 5;        // nodes; fewer have no kick
-constexpr int kLongestPart = 30;  // of a kick
+constexpr int kFewest = 5;  // nodes; fewer have no kick
 }  // namespace
 
 ArcSearch::ArcSearch(const Matrix& costs, const Neighbours& near, std::uint64_t seed)
@@ -116,7 +117,7 @@ void ArcSearch::improve(Tour& tour) {
 
 // Turns three parts A B C that follow each other to C B A, which no single exchange undoes.
 void ArcSearch::kick() {
-  const int longest = std::clamp((count_ - 2) / 3, 1, kLongestPart);
+  const int longest = std::clamp((count_ - 2) / 3, 1, kArcTours.longest_kick);
   const int start = random_.below(count_);
   int sizes[3];
   int total = 0;

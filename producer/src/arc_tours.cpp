@@ -7,13 +7,11 @@
 
 #include "arc_search.h"
 #include "assignment.h"
+#include "parameters.h"
 #include "tsp_program.h"
 
 namespace certify {
 namespace {
-constexpr int kNear = 8;
-constexpr int kFewNodes = 8;
-
 // The cycle that each node is in.
 std::vector<int> cycle_numbers(const std::vector<int>& next) {
   std::vector<int> numbers(next.size(), -1);
@@ -53,7 +51,7 @@ Neighbours nearest_by_duals(const Matrix& costs, const Assignment& assignment) {
       reduced.set_arc(i, j, costs(i, j) - assignment.leaving[i] - assignment.entering[j]);
     }
   }
-  return nearest(reduced, kNear);
+  return nearest(reduced, kArcTours.near);
 }
 
 Tour shortest_of_all(const Matrix& costs) {
@@ -143,7 +141,7 @@ ArcTours find_arc_tours(const Instance& instance, int runs, int patience, std::u
   if (paths.size() == 1) return {paths[0], {}, {}};
   const Matrix costs = costs_between(instance.weights, paths);
   ArcTours found;
-  if (costs.nodes() <= kFewNodes) {
+  if (costs.nodes() <= kTours.few_nodes) {
     found.best = spelled_out(shortest_of_all(costs), paths);
     return found;
   }

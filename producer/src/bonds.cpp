@@ -3,11 +3,10 @@
 #include <algorithm>
 #include <bit>
 
+#include "parameters.h"
+
 namespace certify {
 namespace {
-constexpr double kMostCrossed = 4.6;
-constexpr long kMostSteps = 400000;
-
 class BondSearch {
  public:
   BondSearch(const AtomGraph& graph, int atoms) : graph_(graph), atoms_(atoms), adjacent_(atoms, 0) {
@@ -62,7 +61,7 @@ class BondSearch {
   }
 
   void extend(std::size_t depth, const Level& here) {
-    if (steps_++ > kMostSteps) return;
+    if (steps_++ > kFamilies.most_steps) return;
     if (depth == order_.size()) {
       const std::uint32_t others = ((1U << atoms_) - 1) & ~here.set;
       if (here.set != 0 && connected(here.set) && connected(others))
@@ -81,7 +80,7 @@ class BondSearch {
         next.out[a] = here.out[a] + (inside ? 0 : graph_[v][a]);
         more += std::min(next.in[a], next.out[a]);
       }
-      if (next.crossed + more <= kMostCrossed) extend(depth + 1, next);
+      if (next.crossed + more <= kFamilies.most_crossed) extend(depth + 1, next);
     }
   }
 

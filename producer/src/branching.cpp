@@ -1,22 +1,15 @@
 #include "branching.h"
 
 #include <algorithm>
-#include <functional>
+
+#include "parameters.h"
 
 namespace certify {
-namespace {
-constexpr std::size_t kCandidates = 12, kFinalists = 4;
-constexpr int kFewIterations = 25, kManyIterations = 300;
-constexpr int kFreshChoices = 30;
-constexpr int kSlackSolutions = 3;                    // in a row; a row that is slack in more isn't passed on
-constexpr double kLeastPart = 1e-4, kMostPart = 1.2;  // of the gap, that a branch gains
-}  // namespace
-
 // A candidate with what it gained a short time ago.
 Branching::Candidate Branching::candidate_of(const Relaxation& relaxation, int column) const {
   Candidate candidate{column};
-  const auto found = history_.find(relaxation.edge(column));
-  if (found != history_.end() && choices_ - found->second.when <= kFreshChoices) {
+  const auto found = history_.known.find(relaxation.edge(column));
+  if (found != history_.known.end() && history_.choices - found->second.when <= kBranching.fresh_choices) {
     candidate.gains = found->second.gains;
   }
   return candidate;
@@ -36,41 +29,63 @@ std::vector<Branching::Candidate> Branching::candidates(const Relaxation& relaxa
   std::sort(sorted.begin(), sorted.end());
   std::vector<Candidate> candidates;
   for (const auto& [score, column] : sorted) {
-    const auto found = history_.find(relaxation.edge(column));
-    if (candidates.size() < kCandidates) {
+    const auto found = history_.known.find(relaxation.edge(column));
+    if (candidates.size() < kBranching.candidates) {
       candidates.push_back(candidate_of(relaxation, column));
-    } else if (found != history_.end()) {
+    } else if (found != history_.known.end()) {
       known.emplace_back(-found->second.score, column);
     }
   }
   std::sort(known.begin(), known.end());
-  for (std::size_t k = 0; k < std::min(known.size(), kCandidates / 2); k++) {
+  for (std::size_t k = 0; k < std::min(known.size(), kBranching.candidates / 2); k++) {
     candidates.push_back(candidate_of(relaxation, known[k].second));
   }
   return candidates;
 }
 
+// What a value gains, as a part of the gap.
+double Branching::part(const Candidate& candidate, int value, const Trial& trial) {
+  return std::clamp(candidate.gains[value].value_or(0) / trial.gap, kBranching.least_part,
+                    kBranching.most_part);
+}
+
+// Tries the first or the second values of candidates, and scores them.
+void Branching::try_values(const Relaxation& relaxation, const std::vector<Candidate*>& candidates,
+                           bool second, const Trial& trial) {
+  std::vector<Relaxation::Fixing> fixings;
+  std::vector<double*> places;
+  for (Candidate* candidate : candidates) {
+    const int value = second ? 1 - candidate->first : candidate->first;
+    std::optional<double>& gain = candidate->gains[value];
+    if (gain) continue;
+    fixings.push_back({candidate->column, value});
+    places.push_back(&gain.emplace(0));
+  }
+  const std::vector<double> gains = relaxation.gains(fixings, trial.iterations);
+  for (std::size_t k = 0; k < gains.size(); k++) *places[k] = gains[k];
+  for (Candidate* candidate : candidates) {
+    const double first = part(*candidate, candidate->first, trial);
+    const double other = second ? part(*candidate, 1 - candidate->first, trial) : kBranching.most_part;
+    candidate->score = first * other;
+    if (second && other < first) candidate->first = 1 - candidate->first;
+  }
+}
+
 // Scores candidates by the product of what both values gain, and sorts them, the best first. The second value
 // isn't tried where the candidate can't be among the best.
-void Branching::score(Relaxation& relaxation, std::vector<Candidate>& candidates, const Trial& trial) {
-  Relaxation::Probe probe(relaxation, trial.iterations);
-  std::vector<double> best;
-  for (Candidate& candidate : candidates) {
-    const auto part = [&](int value) {
-      std::optional<double>& gain = candidate.gains[value];
-      if (!gain) gain = probe.gain(candidate.column, value);
-      return std::clamp(*gain / trial.gap, kLeastPart, kMostPart);
-    };
-    const double first = part(candidate.first);
-    candidate.score = first * kMostPart;
-    if (best.size() == trial.wanted && candidate.score <= best.back()) continue;
-    const double second = part(1 - candidate.first);
-    candidate.score = first * second;
-    if (second < first) candidate.first = 1 - candidate.first;
-    best.insert(std::upper_bound(best.begin(), best.end(), candidate.score, std::greater<>()),
-                candidate.score);
-    best.resize(std::min(best.size(), trial.wanted));
-  }
+void Branching::score(const Relaxation& relaxation, std::vector<Candidate>& candidates, const Trial& trial) {
+  std::vector<Candidate*> order;
+  for (Candidate& candidate : candidates) order.push_back(&candidate);
+  try_values(relaxation, order, false, trial);
+  std::stable_sort(order.begin(), order.end(), [](auto* a, auto* b) { return a->score > b->score; });
+  const std::size_t wanted = std::min(trial.wanted, order.size());
+  const std::vector<Candidate*> best(order.begin(), order.begin() + static_cast<std::ptrdiff_t>(wanted));
+  try_values(relaxation, best, true, trial);
+  double least = kBranching.most_part * kBranching.most_part;
+  for (const Candidate* candidate : best) least = std::min(least, candidate->score);
+  order.erase(order.begin(), order.begin() + static_cast<std::ptrdiff_t>(wanted));
+  std::erase_if(order, [&](const Candidate* candidate) { return candidate->score <= least; });
+  try_values(relaxation, order, true, trial);
   std::sort(candidates.begin(), candidates.end(), [](const Candidate& a, const Candidate& b) {
     return a.score > b.score || (a.score == b.score && a.column < b.column);
   });
@@ -89,21 +104,22 @@ double Branching::leaves() const {
 }
 
 std::optional<Pair> Branching::choose(Relaxation& relaxation, double target) {
-  relaxation.purge(kSlackSolutions);
+  relaxation.purge(kProgram.slack_at_branch);
   relaxation.solve();
   const double gap = std::max(target - relaxation.value(), 1e-6);
   relaxation.drop_edges();
-  choices_++;
+  history_.choices++;
   std::vector<Candidate> tried = candidates(relaxation, target);
-  score(relaxation, tried, {kFewIterations, gap, kFinalists});
+  score(relaxation, tried, {kBranching.few_iterations, gap, kBranching.finalists});
   for (const Candidate& candidate : tried) {
-    const auto found = history_.emplace(relaxation.edge(candidate.column), Known{}).first;
-    if (found->second.gains != candidate.gains) found->second = {candidate.gains, candidate.score, choices_};
+    const auto found = history_.known.emplace(relaxation.edge(candidate.column), Known{}).first;
+    if (found->second.gains != candidate.gains)
+      found->second = {candidate.gains, candidate.score, history_.choices};
   }
-  tried.resize(std::min(tried.size(), kFinalists));
+  tried.resize(std::min(tried.size(), kBranching.finalists));
   if (tried.empty()) return std::nullopt;
   for (Candidate& candidate : tried) candidate.gains = {};
-  score(relaxation, tried, {kManyIterations, gap, 1});
+  score(relaxation, tried, {kBranching.many_iterations, gap, 1});
   for (const int value : {0, 1}) gained_[value] = tried[0].gains[value].value_or(0) / gap;
   return relaxation.edge(tried[0].column);
 }

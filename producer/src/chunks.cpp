@@ -4,11 +4,11 @@
 #include <limits>
 #include <numeric>
 
+#include "parameters.h"
+
 namespace certify {
 namespace {
 constexpr double kWhole = 1 - 1e-6;
-constexpr int kFewestParts = 5;  // of a ball
-constexpr std::size_t kLargestSet[] = {0, 8, 20, 80};
 }  // namespace
 
 void Chunks::add_part(NodeSet part) {
@@ -88,7 +88,7 @@ void Chunks::link_parts() {
 void Chunks::shrink(int kind) {
   part_of_.assign(nodes_, std::nullopt);
   parts_.clear();
-  if (kind > 0) take_tight_sets(kLargestSet[kind]);
+  if (kind > 0) take_tight_sets(kFamilies.largest_sets[kind]);
   for (int v = 0; v < nodes_; v++) {
     if (!part_of_[v]) take_path(v, kind > 1 && random_.below(2) == 0);
   }
@@ -107,7 +107,7 @@ std::vector<int> Chunks::centers() {
 }
 
 // Parts that pull each other, from the center on.
-std::vector<int> Chunks::grow(int center, int size) {
+std::vector<int> Chunks::grow(int center, int size, Random& random) const {
   std::vector<double> pull(parts_.size(), 0);
   std::vector<char> inside(parts_.size(), 0);
   std::vector<int> border;
@@ -117,7 +117,7 @@ std::vector<int> Chunks::grow(int center, int size) {
     grown.push_back(next);
     for (const Edge& edge : links_[next]) {
       if (pull[edge.to] == 0) border.push_back(edge.to);
-      pull[edge.to] += edge.value * (0.6 + 0.8 * random_.unit());
+      pull[edge.to] += edge.value * (0.6 + 0.8 * random.unit());
     }
     next = -1;
     double most = 0;
@@ -150,7 +150,7 @@ Chunks::Ball Chunks::ball_of(const std::vector<int>& parts) const {
 }
 
 // Joins two parts again and again whose union is crossed little, far from the center first.
-bool Chunks::contract(Ball& ball, int atoms) {
+bool Chunks::contract(Ball& ball, int atoms, Random& random) {
   const int size = static_cast<int>(ball.parts.size());
   std::vector<int> left(size);
   std::iota(left.begin(), left.end(), 0);
@@ -163,7 +163,7 @@ bool Chunks::contract(Ball& ball, int atoms) {
         const int b = left[l];
         if (ball.joined[a][b] <= 0) continue;
         const double crossed = ball.crossed[a] + ball.crossed[b] - 2 * ball.joined[a][b];
-        const double score = crossed + 0.7 * random_.unit() - 1.5 * (a + b) / (2.0 * size);
+        const double score = crossed + 0.7 * random.unit() - 1.5 * (a + b) / (2.0 * size);
         if (score >= least) continue;
         least = score;
         best = {a, b};
@@ -205,11 +205,11 @@ Chunk Chunks::chunk_of(const Ball& ball) const {
   return chunk;
 }
 
-std::optional<Chunk> Chunks::around(int center, int atoms, int ball) {
-  const std::vector<int> parts = grow(center, ball);
-  if (static_cast<int>(parts.size()) < kFewestParts) return std::nullopt;
+std::optional<Chunk> Chunks::around(int center, int atoms, int ball, Random& random) const {
+  const std::vector<int> parts = grow(center, ball, random);
+  if (static_cast<int>(parts.size()) < kFamilies.fewest_parts) return std::nullopt;
   Ball grown = ball_of(parts);
-  if (!contract(grown, grown.whole ? atoms : atoms - 1)) return std::nullopt;
+  if (!contract(grown, grown.whole ? atoms : atoms - 1, random)) return std::nullopt;
   return chunk_of(grown);
 }
 }  // namespace certify

@@ -24,7 +24,7 @@ class Chunks {
   // The parts of the shrunk graph with an edge in part, in a random order.
   std::vector<int> centers();
   // A ball of this many parts around one, and the rest, as atoms. Nothing if the ball is too small.
-  std::optional<Chunk> around(int center, int atoms, int ball);
+  std::optional<Chunk> around(int center, int atoms, int ball, Random& random) const;
 
  private:
   // Parts of the ball, and what they have in common while they are contracted.
@@ -40,9 +40,9 @@ class Chunks {
   int end_of_path(int start) const;
   void add_part(NodeSet part);
   void link_parts();
-  std::vector<int> grow(int center, int size);
+  std::vector<int> grow(int center, int size, Random& random) const;
   Ball ball_of(const std::vector<int>& parts) const;
-  bool contract(Ball& ball, int atoms);
+  static bool contract(Ball& ball, int atoms, Random& random);
   Chunk chunk_of(const Ball& ball) const;
 
   const Graph& graph_;

@@ -1,5 +1,6 @@
 #include "clock.h"
 
+#include <chrono>
 #include <csignal>
 #include <ctime>
 
@@ -7,6 +8,8 @@ namespace certify {
 namespace {
 volatile std::sig_atomic_t first_signal = 0;
 timespec first_time{};  // of the signal; written once, before any later signal is looked at
+
+const auto program_start = std::chrono::steady_clock::now();
 
 double seconds_since_first() {
   timespec now{};
@@ -28,6 +31,10 @@ void note_signal(int signal) {
 }  // namespace
 
 double Clock::now() {
+  return std::chrono::duration<double>(std::chrono::steady_clock::now() - program_start).count();
+}
+
+double Clock::processor() {
   timespec time{};
   clock_gettime(CLOCK_PROCESS_CPUTIME_ID, &time);
   return static_cast<double>(time.tv_sec) + static_cast<double>(time.tv_nsec) * 1e-9;

@@ -5,10 +5,12 @@
 namespace certify {
 class Clock {
  public:
-  // 0 seconds mean no limit.
+  // 0 seconds mean no limit. They count from the start of the program.
   explicit Clock(double seconds) : seconds_(seconds) {}
-  // Processor seconds of this process. Other work on the machine doesn't count.
+  // Seconds since the program's start.
   static double now();
+  // Processor seconds of all threads of this process.
+  static double processor();
   // SIGINT or SIGTERM, where one came. Another one within a second counts as the first, since `timeout`
   // signals the process and its group; a later one ends the process.
   static std::optional<int> signal();

@@ -3,13 +3,11 @@
 #include <algorithm>
 #include <array>
 
+#include "parameters.h"
+
 namespace certify {
 namespace {
 constexpr double kNoComb = -9;
-constexpr int kMostSteps = 30;
-constexpr int kPatience = 3;
-constexpr std::size_t kLargestHandle = 200;
-constexpr std::size_t kLongestPath = 60;
 }  // namespace
 
 void Handle::flip(int node) {
@@ -322,7 +320,7 @@ CombSearch::Step CombSearch::best_step() {
   std::vector<int> tried, flipped;
   for (const int v : nodes) {
     const NodeSet& path = paths_[path_of_[v]];
-    if (path.size() < 2 || path.size() > kLongestPath) continue;
+    if (path.size() < 2 || path.size() > kCombs.longest_path) continue;
     if (std::find(tried.begin(), tried.end(), path_of_[v]) != tried.end()) continue;
     tried.push_back(path_of_[v]);
     flipped.clear();
@@ -344,8 +342,9 @@ CombSearch::Step CombSearch::best_step() {
 void CombSearch::climb(const NodeSet& start) {
   handle_.set(start);
   double best = with_runs(kNoComb);
-  int patience = kPatience;
-  for (int k = 0; k < kMostSteps && patience > 0 && handle_.nodes().size() < kLargestHandle; k++) {
+  int patience = kCombs.patience;
+  for (int k = 0; k < kCombs.most_steps && patience > 0 && handle_.nodes().size() < kCombs.largest_handle;
+       k++) {
     const Step step = best_step();
     if (step.node < 0) break;
     if (step.path) {
@@ -354,7 +353,7 @@ void CombSearch::climb(const NodeSet& start) {
       handle_.flip(step.node);
     }
     with_edges();
-    patience = step.violation > best + 1e-6 ? kPatience : patience - 1;
+    patience = step.violation > best + 1e-6 ? kCombs.patience : patience - 1;
     best = std::max(best, step.violation);
   }
   handle_.clear();

@@ -81,18 +81,47 @@ int CutPool::add(CutKind kind, std::vector<NodeSet> sets, int crossings) {
     std::sort(set.begin(), set.end());
   }
   std::sort(sets.begin() + (any ? 0 : 1), sets.end());
-  std::uint64_t hash = kind == CutKind::kSubtour ? 0 : 1;
+  const std::uint64_t hash = hash_of(kind, sets);
+  if (const int number = known(hash, kind, sets); number >= 0) return number;
   double nodes = 0;
-  for (const NodeSet& set : sets) {
-    hash = hash * 31 + hash_of(set);
-    nodes += static_cast<double>(set.size());
-  }
-  const auto [first, last] = by_hash_.equal_range(hash);
-  for (auto known = first; known != last; ++known) {
-    if (cuts_[known->second].kind == kind && cuts_[known->second].sets == sets) return known->second;
-  }
+  for (const NodeSet& set : sets) nodes += static_cast<double>(set.size());
   by_hash_.emplace(hash, size());
-  cuts_.push_back({kind, std::move(sets), crossings, nodes - crossings / 2.0});
+  cuts_.push_back(
+      std::make_shared<const Cut>(Cut{kind, std::move(sets), crossings, nodes - crossings / 2.0}));
   return size() - 1;
+}
+
+int CutPool::add(const std::shared_ptr<const Cut>& cut) {
+  const std::uint64_t hash = hash_of(cut->kind, cut->sets);
+  if (const int number = known(hash, cut->kind, cut->sets); number >= 0) return number;
+  by_hash_.emplace(hash, size());
+  cuts_.push_back(cut);
+  return size() - 1;
+}
+
+void CutPool::shrink_to(int size) {
+  while (this->size() > size) {
+    const Cut& last = *cuts_.back();
+    const auto [first, end] = by_hash_.equal_range(hash_of(last.kind, last.sets));
+    by_hash_.erase(
+        std::find_if(first, end, [&](const auto& entry) { return entry.second == this->size() - 1; }));
+    cuts_.pop_back();
+  }
+}
+
+std::uint64_t CutPool::hash_of(CutKind kind, const std::vector<NodeSet>& sets) const {
+  std::uint64_t hash = kind == CutKind::kSubtour ? 0 : 1;
+  for (const NodeSet& set : sets) hash = hash * 31 + hash_of(set);
+  return hash;
+}
+
+// The number of a known cut, or -1.
+int CutPool::known(std::uint64_t hash, CutKind kind, const std::vector<NodeSet>& sets) const {
+  const auto [first, last] = by_hash_.equal_range(hash);
+  for (auto entry = first; entry != last; ++entry) {
+    const Cut& cut = *cuts_[entry->second];
+    if (cut.kind == kind && cut.sets == sets) return entry->second;
+  }
+  return -1;
 }
 }  // namespace certify

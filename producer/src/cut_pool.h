@@ -5,6 +5,7 @@
 // Source: M. Grötschel and M. Padberg, On the symmetric travelling salesman problem I (1979).
 #pragma once
 #include <cstdint>
+#include <memory>
 #include <unordered_map>
 
 #include "support.h"
@@ -48,7 +49,15 @@ class CutPool {
     return add(CutKind::kFamily, sets, crossings);
   }
   bool is_comb(const std::vector<NodeSet>& sets) const;
-  const Cut& operator[](int cut) const { return cuts_[cut]; }
+  const Cut& operator[](int cut) const { return *cuts_[cut]; }
+  // Adds a cut of another pool. Its number, which may be known already.
+  int add(const std::shared_ptr<const Cut>& cut);
+  // The cuts from one number up to another one. Cuts are shared, not copied.
+  std::vector<std::shared_ptr<const Cut>> part(int first, int last) const {
+    return {cuts_.begin() + first, cuts_.begin() + last};
+  }
+  // Forgets the cuts from a number on.
+  void shrink_to(int size);
   int size() const { return static_cast<int>(cuts_.size()); }
   std::uint64_t key_of(int node) const { return keys_[node]; }
 
@@ -56,10 +65,12 @@ class CutPool {
   int add(CutKind kind, std::vector<NodeSet> sets, int crossings);
   NodeSet smaller_side(NodeSet set) const;
   std::uint64_t hash_of(const NodeSet& set) const;
+  std::uint64_t hash_of(CutKind kind, const std::vector<NodeSet>& sets) const;
+  int known(std::uint64_t hash, CutKind kind, const std::vector<NodeSet>& sets) const;
 
   int nodes_;
   std::vector<std::uint64_t> keys_;  // random, one of each node
-  std::vector<Cut> cuts_;
+  std::vector<std::shared_ptr<const Cut>> cuts_;
   std::unordered_multimap<std::uint64_t, int> by_hash_;
 };
 }  // namespace certify

@@ -6,13 +6,12 @@
 #include <numeric>
 
 #include "local_search.h"
+#include "parameters.h"
+#include "threads.h"
 #include "tsp_program.h"
 
 namespace certify {
 namespace {
-constexpr int kChildren = 30;
-constexpr int kPatience = 30;
-constexpr int kMostGenerations = 2000;
 constexpr Weight kNone = std::numeric_limits<Weight>::max();
 
 // The edges of two tours that are in one of them alone, from which AB-cycles are taken.
@@ -333,14 +332,15 @@ void Crossover::undo() {
   }
 }
 
-Eax::Eax(const Matrix& costs, const std::vector<Pair>& fixed, int population, std::uint64_t seed)
+Eax::Eax(const Matrix& costs, const Instance& instance, int population, std::uint64_t seed)
     : costs_(costs),
-      paths_(paths_of(fixed, costs.nodes())),
+      paths_(paths_of(instance.fixed, costs.nodes())),
       population_(population),
       random_(seed),
-      near_(nearest(costs, 10)),
-      crossover_(costs, near_),
-      frequency_(static_cast<std::size_t>(costs.nodes()) * costs.nodes(), 0) {}
+      near_(nearest(costs, kTours.near)),
+      frequency_(static_cast<std::size_t>(costs.nodes()) * costs.nodes(), 0) {
+  add_by_quadrants(costs, instance.points, kTours.near_in_quadrant, near_);
+}
 
 Tour Eax::random_tour() {
   Tour tour;
@@ -379,50 +379,77 @@ double Eax::entropy_change(const Crossover& crossover) const {
   return change;
 }
 
-// Replaces member a by its best child with b, where one is shorter.
-void Eax::cross(int a, int b) {
-  std::vector<Cycle> cycles = CycleFinder(members_[a], members_[b], random_).find();
-  if (cycles.empty()) return;
-  crossover_.begin(members_[a], order_of(members_[a]));
+Eax::Child Eax::cross(int a, int b, Random random) const {
+  Child best;
+  std::vector<Cycle> cycles = CycleFinder(members_[a], members_[b], random).find();
+  if (cycles.empty()) return best;
+  Links links = members_[a];
+  Crossover crossover(costs_, near_);
+  crossover.begin(links, order_of(links));
   double best_score = 0;
-  int best = -1;
-  const int tries = std::min<int>(kChildren, static_cast<int>(cycles.size()));
+  int chosen = -1;
+  const int tries = std::min<int>(kTours.children, static_cast<int>(cycles.size()));
   for (int k = 0; k < tries; k++) {
-    std::swap(cycles[k], cycles[k + random_.below(cycles.size() - k)]);
-    if (crossover_.apply(cycles[k]) && crossover_.change() < 0) {
-      const double loss = -entropy_change(crossover_);
-      const double score = static_cast<double>(-crossover_.change()) / std::max(loss, 1e-9);
+    std::swap(cycles[k], cycles[k + random.below(cycles.size() - k)]);
+    if (crossover.apply(cycles[k]) && crossover.change() < 0) {
+      const double loss = -entropy_change(crossover);
+      const double score = static_cast<double>(-crossover.change()) / std::max(loss, 1e-9);
       if (score > best_score) {
         best_score = score;
-        best = k;
+        chosen = k;
       }
     }
-    crossover_.undo();
+    crossover.undo();
   }
-  if (best < 0) return;
-  crossover_.apply(cycles[best]);
-  lengths_[a] += crossover_.change();
-  count_edges(crossover_.removed(), -1);
-  count_edges(crossover_.added(), 1);
+  if (chosen < 0) return best;
+  crossover.apply(cycles[chosen]);
+  return {std::move(links), crossover.change(), crossover.removed(), crossover.added()};
+}
+
+// Replaces each member by its best child with the next one, some members at once.
+void Eax::cross_all(const std::vector<int>& order, const std::function<bool()>& stop) {
+  std::vector<Child> children;
+  for (std::size_t first = 0; first < order.size() && !stop(); first += kTours.at_once) {
+    const std::size_t count = std::min(kTours.at_once, order.size() - first);
+    std::vector<Random> chances;
+    for (std::size_t k = 0; k < count; k++) chances.emplace_back(random_.next());
+    children.assign(count, {});
+    for_each_at_once(count, [&](std::size_t k) {
+      children[k] = cross(order[first + k], order[(first + k + 1) % order.size()], chances[k]);
+    });
+    for (std::size_t k = 0; k < count; k++) {
+      if (children[k].links.empty()) continue;
+      members_[order[first + k]] = std::move(children[k].links);
+      lengths_[order[first + k]] += children[k].change;
+      count_edges(children[k].removed, -1);
+      count_edges(children[k].added, 1);
+    }
+  }
 }
 
 void Eax::keep_snapshots() {
   for (int k = 0; k < 3; k++) snapshots_.push_back(order_of(members_[random_.below(members_.size())]));
 }
 
-Tour Eax::run(const std::function<bool()>& stop, const std::function<void(Weight)>& show) {
-  LocalSearch search(costs_, near_);
-  for (int k = 0; k < population_ && (k == 0 || !stop()); k++) {
-    Tour tour = random_tour();
-    search.improve(tour);
-    add_member(tour);
+void Eax::add_members(const std::function<bool()>& stop) {
+  while (static_cast<int>(members_.size()) < population_ && (members_.empty() || !stop())) {
+    std::vector<Tour> tours(
+        std::min(kTours.at_once, static_cast<std::size_t>(population_) - members_.size()));
+    for (Tour& tour : tours) tour = random_tour();
+    for_each_at_once(tours.size(), [&](std::size_t k) { LocalSearch(costs_, near_).improve(tours[k]); });
+    for (const Tour& tour : tours) add_member(tour);
   }
+}
+
+Tour Eax::run(const std::function<bool()>& stop, const std::function<void(Weight)>& show) {
+  add_members(stop);
   std::vector<int> order(members_.size());
   std::iota(order.begin(), order.end(), 0);
   Weight best = *std::min_element(lengths_.begin(), lengths_.end());
-  for (int generation = 0, stall = 0; generation < kMostGenerations && stall < kPatience; generation++) {
+  for (int generation = 0, stall = 0; generation < kTours.most_generations && stall < kTours.patience;
+       generation++) {
     random_.shuffle(order);
-    for (std::size_t k = 0; k < order.size() && !stop(); k++) cross(order[k], order[(k + 1) % order.size()]);
+    cross_all(order, stop);
     const Weight now = *std::min_element(lengths_.begin(), lengths_.end());
     stall = now < best ? 0 : stall + 1;
     best = now;

@@ -7,6 +7,7 @@
 #include <functional>
 
 #include "clock.h"
+#include "instance.h"
 #include "random.h"
 #include "tour.h"
 
@@ -64,16 +65,24 @@ class Crossover {
 class Eax {
  public:
   // The fixed pairs are paths that each tour keeps; their costs have to be low.
-  Eax(const Matrix& costs, const std::vector<Pair>& fixed, int population, std::uint64_t seed);
+  Eax(const Matrix& costs, const Instance& instance, int population, std::uint64_t seed);
   // Ends where nothing gets better, or where stop says so.
   Tour run(const std::function<bool()>& stop, const std::function<void(Weight)>& show);
   const std::vector<Tour>& snapshots() const { return snapshots_; }
   std::vector<Pair> edges() const;
 
  private:
+  // The best child of two members, as a change of the first one.
+  struct Child {
+    Links links;
+    Weight change = 0;
+    std::vector<Pair> removed, added;
+  };
   Tour random_tour();
   void add_member(const Tour& tour);
-  void cross(int a, int b);
+  void add_members(const std::function<bool()>& stop);
+  Child cross(int a, int b, Random random) const;
+  void cross_all(const std::vector<int>& order, const std::function<bool()>& stop);
   double entropy_change(const Crossover& crossover) const;
   void count_edges(const std::vector<Pair>& edges, int by);
   void keep_snapshots();
@@ -89,7 +98,6 @@ class Eax {
   int population_;
   Random random_;
   Neighbours near_;
-  Crossover crossover_;
   std::vector<Links> members_;
   std::vector<Weight> lengths_;
   std::vector<std::uint16_t> frequency_;  // of each edge in the population, the smaller node first

@@ -72,6 +72,9 @@ void measure(const Fields& fields, Instance& instance) {
       instance.weights.set(i, j, distance_of(kind, a[0] - b[0], a[1] - b[1], a[2] - b[2]));
     }
   }
+  if (!deep) {
+    for (const auto& point : points) instance.points.emplace_back(point[0], point[1]);
+  }
   instance.rounded =
       std::any_of(points.begin(), points.end(), [&](const auto& point) { return point != points[0]; });
 }

@@ -16,6 +16,7 @@ struct Instance {
   std::vector<Pair> fixed;  // each once; of a TSP the smaller node first
   bool directed = false;
   bool rounded = false;  // the weights are rounded distances of points that aren't all the same
+  std::vector<std::pair<Weight, Weight>> points{};  // in the plane, where there are such
 
   int nodes() const { return weights.nodes(); }
   // The pairs of a tour, of a TSP each with the smaller node first.

@@ -5,14 +5,10 @@
 #include <cstdlib>
 #include <set>
 
+#include "parameters.h"
+
 namespace certify {
 namespace {
-constexpr Weight kLargestGrid = 1000000;
-constexpr int kTrials = 20;  // of bounds for a leaf that is made like the last
-constexpr int kChecks = 2;   // of what they made
-constexpr int kCoarseSteps = 150;
-constexpr double kSurplus = 0.005;
-
 Weight rounded(double number, Weight grid) {
   return static_cast<Weight>(std::llround(number / static_cast<double>(grid))) * grid;
 }
@@ -44,13 +40,12 @@ Numbers Leaves::extract(const Relaxation& relaxation, Weight grid) {
     }
   }
   for (const double potential : potentials) numbers.potentials.push_back(rounded(potential, grid));
-  if (!has_shift_) {  // small numbers make a short file
+  if (!shift_) {  // small numbers make a short file
     std::vector<Weight> sorted = numbers.potentials;
     std::nth_element(sorted.begin(), sorted.begin() + nodes / 2, sorted.end());
-    shift_ = sorted[nodes / 2] / kLargestGrid * kLargestGrid;
-    has_shift_ = true;
+    shift_ = sorted[nodes / 2] / kLeaves.largest_grid * kLeaves.largest_grid;
   }
-  for (Weight& potential : numbers.potentials) potential -= shift_;
+  for (Weight& potential : numbers.potentials) potential -= *shift_;
   return numbers;
 }
 
@@ -98,11 +93,11 @@ bool Leaves::ascend(Numbers& numbers, const std::vector<Decision>& decisions, We
 bool Leaves::reach(const Relaxation& relaxation, const std::vector<Decision>& decisions, Weight target,
                    Numbers& numbers) {
   const double surplus = relaxation.value() - static_cast<double>(target - 1);
-  if (surplus <= kSurplus) return false;
+  if (surplus <= kLeaves.least_surplus) return false;
   const double nodes = static_cast<double>(relaxation.support().size());
   Weight grid = 1;
   while (static_cast<double>(grid) * 10 <= surplus * static_cast<double>(bound_.scale()) * 50 / nodes) {
-    if (grid >= kLargestGrid) break;
+    if (grid >= kLeaves.largest_grid) break;
     grid *= 10;
   }
   for (; grid > 1; grid /= 10) {
@@ -110,7 +105,8 @@ bool Leaves::reach(const Relaxation& relaxation, const std::vector<Decision>& de
     if (bound_.reaches(numbers, decisions, goal(target))) return true;
   }
   numbers = extract(relaxation, 1);
-  return ascend(numbers, decisions, target, {surplus > 0.02 ? 20 : 60});
+  return ascend(numbers, decisions, target,
+                {surplus > kLeaves.small_surplus ? kLeaves.steps : kLeaves.many_steps});
 }
 
 std::optional<Numbers> Leaves::coarse(const Numbers& numbers, const std::vector<Decision>& decisions,
@@ -124,7 +120,7 @@ std::optional<Numbers> Leaves::coarse(const Numbers& numbers, const std::vector<
     const Weight whole = rounded(static_cast<double>(multiplier), grid);
     if (whole > 0) coarse.multipliers[cut] = whole;
   }
-  if (!ascend(coarse, decisions, target, {kCoarseSteps, grid})) return std::nullopt;
+  if (!ascend(coarse, decisions, target, {kLeaves.coarse_steps, grid})) return std::nullopt;
   return coarse;
 }
 
@@ -202,9 +198,9 @@ Numbers Leaves::near_last(Numbers numbers, const std::vector<Decision>& decision
   if (bound_.reaches(last_, decisions, least)) return last_;
   align(numbers);
   const std::vector<int> places = differing_places(numbers);
-  for (int k = 0; k < kChecks; k++) {
+  for (int k = 0; k < kLeaves.checks; k++) {
     Numbers near = numbers;
-    int budget = kTrials;
+    int budget = kLeaves.trials;
     keep_last(near, places, 0, places.size(), decisions, least, budget);
     if (bound_.value(near, decisions) >= least) return near;
   }

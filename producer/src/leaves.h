@@ -7,8 +7,10 @@
 namespace certify {
 class Leaves {
  public:
-  Leaves(ExactBound& bound, const CutPool& pool, bool directed)
-      : bound_(bound), pool_(pool), directed_(directed) {}
+  // The shift is on all potentials, and makes them small. The first solution decides where it isn't known.
+  Leaves(ExactBound& bound, const CutPool& pool, bool directed, std::optional<Weight> shift = std::nullopt)
+      : bound_(bound), pool_(pool), directed_(directed), shift_(shift) {}
+  std::optional<Weight> shift() const { return shift_; }
   // The duals of the solution, as multiples of a grid.
   Numbers extract(const Relaxation& relaxation, Weight grid);
   // Numbers that reach the goal under the decisions. False where none were found.
@@ -40,8 +42,7 @@ class Leaves {
   ExactBound& bound_;
   const CutPool& pool_;
   const bool directed_;
-  bool has_shift_ = false;
-  Weight shift_ = 0;
+  std::optional<Weight> shift_;
   Numbers last_;
 };
 }  // namespace certify

@@ -3,7 +3,8 @@
 #include <utility>
 
 namespace certify {
-int LocalSearch::beside(int node, int step) const {
+template <typename Costs>
+int LocalSearch<Costs>::beside(int node, int step) const {
   const int nodes = static_cast<int>(tour_.size());
   int place = place_[node] + step;
   if (place < 0) place += nodes;
@@ -11,7 +12,8 @@ int LocalSearch::beside(int node, int step) const {
 }
 
 // Reverses the places from one on to another, or the rest where that is shorter.
-void LocalSearch::reverse(int from, int to) {
+template <typename Costs>
+void LocalSearch<Costs>::reverse(int from, int to) {
   const int nodes = static_cast<int>(tour_.size());
   int count = (to - from + nodes) % nodes + 1;
   if (2 * count > nodes) {
@@ -30,7 +32,8 @@ void LocalSearch::reverse(int from, int to) {
 }
 
 // Replaces the edges a b and c d by a c and b d. b follows a as d follows c.
-void LocalSearch::exchange(int a, int b, int c, int d) {
+template <typename Costs>
+void LocalSearch<Costs>::exchange(int a, int b, int c, int d) {
   if (beside(a, 1) == b && beside(c, 1) == d) {
     reverse(place_[b], place_[c]);
   } else {
@@ -38,13 +41,15 @@ void LocalSearch::exchange(int a, int b, int c, int d) {
   }
 }
 
-void LocalSearch::push(int node) {
+template <typename Costs>
+void LocalSearch<Costs>::push(int node) {
   if (queued_[node]) return;
   queued_[node] = 1;
   queue_.push_back(node);
 }
 
-bool LocalSearch::two_opt(int node, int step) {
+template <typename Costs>
+bool LocalSearch<Costs>::two_opt(int node, int step) {
   const int next = beside(node, step);
   for (const int other : near_[node]) {
     const Weight gain = costs_(node, next) - costs_(node, other);
@@ -59,7 +64,8 @@ bool LocalSearch::two_opt(int node, int step) {
 }
 
 // Moves a run {before, first, last, after} between two neighbours, the first node beside the near one.
-bool LocalSearch::insert(const int (&run)[4], int near, int next, bool reversed) {
+template <typename Costs>
+bool LocalSearch<Costs>::insert(const int (&run)[4], int near, int next, bool reversed) {
   const auto [before, first, last, after] = run;
   if (reversed) {  // before [first .. last] after .. next near
     exchange(before, first, next, near);
@@ -74,7 +80,8 @@ bool LocalSearch::insert(const int (&run)[4], int near, int next, bool reversed)
 }
 
 // Moves the run of this many nodes from the node on to one of its neighbours.
-bool LocalSearch::or_opt(int node, int step, int size) {
+template <typename Costs>
+bool LocalSearch<Costs>::or_opt(int node, int step, int size) {
   const int nodes = static_cast<int>(tour_.size());
   const int before = beside(node, -step);
   const int last = beside(node, step * (size - 1));
@@ -96,7 +103,8 @@ bool LocalSearch::or_opt(int node, int step, int size) {
   return false;
 }
 
-void LocalSearch::improve(Tour& tour) {
+template <typename Costs>
+void LocalSearch<Costs>::improve(Tour& tour) {
   const int nodes = static_cast<int>(tour.size());
   if (nodes < 8) return;
   tour_ = std::move(tour);
@@ -117,4 +125,7 @@ void LocalSearch::improve(Tour& tour) {
   }
   tour = std::move(tour_);
 }
+
+template class LocalSearch<Matrix>;
+template class LocalSearch<LoweredCosts>;
 }  // namespace certify

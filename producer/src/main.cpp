@@ -1,6 +1,10 @@
 // tsp-certify: from an instance to a certificate of TYPE BRANCHES, and to a tour.
 //
 // Nothing here is proved, and nothing has to be trusted: `tsp check` decides what a certificate is worth.
+#include <oneapi/tbb/global_control.h>
+#include <oneapi/tbb/info.h>
+#include <oneapi/tbb/task_arena.h>
+
 #include <algorithm>
 #include <exception>
 #include <iomanip>
@@ -9,17 +13,13 @@
 #include "arc_tours.h"
 #include "eax.h"
 #include "options.h"
+#include "parameters.h"
+#include "search.h"
 #include "tsp_program.h"
 #include "writing.h"
 
 namespace certify {
 namespace {
-constexpr int kArcRuns = 4, kArcPatience = 200;  // of the search for a tour of an ATSP
-constexpr int kPopulation = 200;
-constexpr int kSmallPopulation = 30;   // where a tour was named
-constexpr double kPartForTours = 0.4;  // of the time
-constexpr int kFewNodes = 8;
-
 // The shortest tour of up to eight nodes, by all orders.
 Tour shortest_by_orders(const Matrix& costs) {
   Tour order(costs.nodes()), best;
@@ -32,8 +32,8 @@ Tour shortest_by_orders(const Matrix& costs) {
 }
 
 Start find_arcs(const Instance& instance, const Options& options, const Clock& clock, Start start) {
-  const auto late = [&] { return clock.over(kPartForTours); };
-  ArcTours found = find_arc_tours(instance, kArcRuns, kArcPatience, options.seed, late);
+  const auto late = [&] { return clock.over(kTours.part_of_time); };
+  ArcTours found = find_arc_tours(instance, kArcTours.runs, kArcTours.patience, options.seed, late);
   start.tour = std::move(found.best);
   start.further = std::move(found.further);
   start.edges = std::move(found.arcs);
@@ -49,12 +49,12 @@ Start find_tours(const Instance& instance, const Options& options, const Clock& 
   if (instance.directed) return find_arcs(instance, options, clock, std::move(start));
   const Matrix costs = with_fixed_lowered(instance.weights, instance.fixed);
   paths_of(instance.fixed, instance.nodes());
-  if (instance.nodes() <= kFewNodes) {
+  if (instance.nodes() <= kTours.few_nodes) {
     start.tour = shortest_by_orders(costs);
     return start;
   }
-  Eax eax(costs, instance.fixed, options.tour ? kSmallPopulation : kPopulation, options.seed);
-  start.tour = eax.run([&] { return clock.over(kPartForTours); },
+  Eax eax(costs, instance, options.tour ? kTours.small_population : kTours.population, options.seed);
+  start.tour = eax.run([&] { return clock.over(kTours.part_of_time); },
                        [&](Weight) {
                          std::string line = "seconds " + std::to_string(static_cast<int>(Clock::now()));
                          progress.show(line.append(" looking for a tour"));
@@ -82,20 +82,31 @@ void report(const Options& options, const Search& search, const Instance& instan
   const Weight length = length_of(instance.weights, search.tour());
   const Weight bound = std::min(search.bound(), length);
   std::cerr << "tsp-certify: length " << length << ", bound " << bound << " as reckoned here, leaves "
-            << search.leaves() << ", processor seconds " << std::fixed << std::setprecision(1) << Clock::now()
-            << "\n";
+            << search.leaves() << ", seconds " << std::fixed << std::setprecision(1) << Clock::now()
+            << ", processor seconds " << Clock::processor() << "\n";
   if (bound < length) std::cerr << "tsp-certify: a gap of " << length - bound << " is left\n";
   if (!given.empty() && length < length_of(instance.weights, given)) {
     std::cerr << "tsp-certify: a shorter tour than the named one was found"
               << (options.tour_out ? "" : "; --tour-out says where it goes") << "\n";
   }
   warn_of_rounding(instance, search.tour());
+  if (options.leaf) {
+    std::cerr << "tsp-certify: this is a part: tsp-certify " << options.instance << " --tree "
+              << *options.tree << " --join PART.. -o CERTIFICATE puts parts together\n";
+    return;
+  }
   const std::string tour = options.tour_out.value_or(options.tour.value_or("TOUR"));
   std::cerr << "tsp-certify: this decides: tsp check " << options.instance << " " << tour << " --branches "
             << options.certificate << "\n";
 }
 
-int run(const Options& options) {
+Certificate read_tree(const std::string& tsp, const std::string& path, const Instance& instance) {
+  Certificate tree = read_certificate(tsp, path);
+  if (tree.nodes != instance.nodes()) throw Refusal(path + ": this is of another instance");
+  return tree;
+}
+
+int certify_instance(const Options& options) {
   const std::string tsp = find_tsp(options.tsp);
   const Instance instance = read_instance(tsp, options.instance);
   const Tour given = options.tour ? read_tour(tsp, *options.tour, instance) : Tour{};
@@ -107,13 +118,38 @@ int run(const Options& options) {
   if (!given.empty() && length_of(instance.weights, given) <= length_of(instance.weights, start.tour)) {
     start.tour = given;
   }
-  Search search(instance, start, clock, progress);
+  if (options.tree) start.tree = read_tree(tsp, *options.tree, instance);
+  start.leaf = options.leaf;
+  Search search(instance, start, clock, progress, {options.window, options.split});
   search.run();
-  write_certificate(options.certificate, search);
+  write_certificate(options.certificate, search.certificate(), options.split > 0);
   if (options.tour_out) write_tour(*options.tour_out, search.tour());
   progress.end();
+  if (options.split > 0) {
+    for (const int leaf : search.open_leaves()) std::cout << leaf << "\n";
+  }
   report(options, search, instance, given);
   return Clock::signal() ? 128 + *Clock::signal() : 0;
+}
+
+// Leaves whose parts are missing stay as they are, so that what is joined is always a certificate.
+int join(const Options& options) {
+  const std::string tsp = find_tsp(options.tsp);
+  std::vector<Certificate> parts;
+  for (const std::string& path : options.parts) parts.push_back(read_certificate(tsp, path));
+  const Certificate whole = joined(read_certificate(tsp, *options.tree), parts);
+  write_certificate(options.certificate, whole, is_open(whole));
+  return 0;
+}
+
+// All loops run in an arena of as many threads.
+int run(const Options& options) {
+  if (!options.parts.empty()) return join(options);
+  const int threads = options.threads > 0 ? options.threads : oneapi::tbb::info::default_concurrency();
+  const oneapi::tbb::global_control most(oneapi::tbb::global_control::max_allowed_parallelism,
+                                         static_cast<std::size_t>(threads));
+  oneapi::tbb::task_arena arena(threads);
+  return arena.execute([&] { return certify_instance(options); });
 }
 }  // namespace
 }  // namespace certify

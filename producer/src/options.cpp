@@ -17,6 +17,29 @@ constexpr const char* kFooter =
     "\n"
     "Exit status: 0 the files are written, 2 a fault, 130 they are written after SIGINT, 143 after SIGTERM";
 
+// The words by which machines share a tree.
+void declare_trees(CLI::App& app, Options& options) {
+  CLI::Option* const split =
+      app.add_option("--split", options.split,
+                     "end where as many cases are open, and print the numbers of their leaves")
+          ->type_name("K")
+          ->check(CLI::PositiveNumber);
+  CLI::Option* const tree =
+      app.add_option("--tree", options.tree, "a certificate with a gap, that is gone on with")
+          ->type_name("CERTIFICATE");
+  CLI::Option* const leaf =
+      app.add_option("--leaf", options.leaf,
+                     "go on with this leaf of --tree alone, from 1 on: the certificate is then a part")
+          ->type_name("N")
+          ->check(CLI::PositiveNumber)
+          ->needs(tree);
+  app.add_option("--join", options.parts, "put parts in the places of leaves of --tree, and do nothing else")
+      ->type_name("PART")
+      ->needs(tree)
+      ->excludes(leaf)
+      ->excludes(split);
+}
+
 void declare(CLI::App& app, Options& options) {
   app.set_help_flag("-h,--help", "this text");
   app.add_option("INSTANCE", options.instance, "a file of TYPE TSP or ATSP")->required();
@@ -26,7 +49,7 @@ void declare(CLI::App& app, Options& options) {
       ->type_name("CERTIFICATE");
   app.add_option("--tour-out", options.tour_out, "where the shortest tour that was found is written")
       ->type_name("TOUR");
-  app.add_option("--seconds", options.seconds, "processor seconds, 0 for no limit")
+  app.add_option("--seconds", options.seconds, "seconds, 0 for no limit")
       ->type_name("S")
       ->check(CLI::NonNegativeNumber)
       ->capture_default_str();
@@ -40,7 +63,17 @@ void declare(CLI::App& app, Options& options) {
   app.add_flag_callback(
       "--no-families", [&options] { options.families = false; },
       "cuts are sets and combs alone, as they are of an ATSP");
+  app.add_option("--threads", options.threads, "at most as many threads, 0 for one on each processor")
+      ->type_name("N")
+      ->check(CLI::NonNegativeNumber)
+      ->capture_default_str();
+  app.add_option("--window", options.window,
+                 "as many cases of the tree at once at most; another number gives another tree")
+      ->type_name("W")
+      ->check(CLI::PositiveNumber)
+      ->capture_default_str();
   app.add_option("--log", options.log, "where each event is written as a line of JSON")->type_name("FILE");
+  declare_trees(app, options);
   app.footer(kFooter);
 }
 
@@ -58,7 +91,10 @@ bool same_file(const std::string& one, const std::string& other) {
 
 void refuse_overwriting(const Options& options) {
   std::vector<std::string> taken{options.instance};
-  if (options.tour) taken.push_back(*options.tour);
+  for (const std::optional<std::string>& read : {options.tour, options.tree}) {
+    if (read) taken.push_back(*read);
+  }
+  taken.insert(taken.end(), options.parts.begin(), options.parts.end());
   for (const std::optional<std::string>& written :
        {std::optional(options.certificate), options.tour_out, options.log}) {
     if (!written) continue;
@@ -83,7 +119,7 @@ std::variant<Options, Help> parse_options(int count, const char* const* words) {
   } catch (const CLI::ParseError& fault) {
     throw Refusal(std::string(fault.what()) + "; --help tells of all words");
   }
-  if (!options.tour && !options.tour_out && !options.upper) {
+  if (!options.tour && !options.tour_out && !options.upper && options.parts.empty()) {
     throw Refusal("name a tour, or say by --tour-out where the one that is found goes");
   }
   refuse_overwriting(options);

@@ -4,7 +4,9 @@
 #include <optional>
 #include <string>
 #include <variant>
+#include <vector>
 
+#include "parameters.h"
 #include "tour.h"
 
 namespace certify {
@@ -15,6 +17,12 @@ struct Options {
   std::uint64_t seed = 1;
   std::optional<Weight> upper;
   bool families = true;
+  int threads = 0;                    // 0 for one by processor
+  int window = kTree.window;          // cases that are begun and not ended
+  std::size_t split = 0;              // ends where as many cases are open
+  std::optional<std::string> tree{};  // a certificate that is gone on with
+  std::optional<int> leaf{};          // of it alone
+  std::vector<std::string> parts{};   // that are joined with it
 };
 
 // What --help prints.

@@ -40,11 +40,11 @@ void Progress::clear() {
 
 void Progress::log(std::string_view event, const Standing& standing) {
   if (!log_.is_open()) return;
-  log_ << R"({"event": ")" << event << R"(", "seconds": )" << Clock::now() << R"(, "length": )"
-       << standing.length << R"(, "bound": )" << standing.bound << R"(, "gap": )"
-       << standing.length - standing.bound << R"(, "leaves": )" << standing.leaves << R"(, "open": )"
-       << standing.open << R"(, "cuts": {"subtours": )" << standing.subtours << R"(, "combs": )"
-       << standing.combs << R"(, "families": )" << standing.families << "}}" << std::endl;
+  log_ << R"({"event": ")" << event << R"(", "seconds": )" << Clock::now() << R"(, "processor": )"
+       << Clock::processor() << R"(, "length": )" << standing.length << R"(, "bound": )" << standing.bound
+       << R"(, "gap": )" << standing.length - standing.bound << R"(, "leaves": )" << standing.leaves
+       << R"(, "open": )" << standing.open << R"(, "cuts": {"subtours": )" << standing.subtours
+       << R"(, "combs": )" << standing.combs << R"(, "families": )" << standing.families << "}}" << std::endl;
 }
 
 void Progress::end() {

@@ -6,19 +6,12 @@
 #include <numeric>
 
 #include "atom_tours.h"
+#include "parameters.h"
 #include "quotient_simplex.h"
+#include "threads.h"
 
 namespace certify {
 namespace {
-constexpr std::size_t kMostBonds = 1600;
-constexpr std::size_t kFewestBonds = 4;
-constexpr double kLeastLack = 0.002;  // of 1, that a combination is crossed
-constexpr int kMostTimes = 6;         // of a set in a family
-constexpr int kRounds = 300, kPivots = 400;
-constexpr std::size_t kManyRows = 60;
-constexpr int kPasses = 24;
-constexpr int kWideBall = 4;  // times as many parts as atoms
-
 using Multipliers = std::vector<std::pair<std::uint32_t, double>>;
 
 // The tour's atoms, each where it comes first.
@@ -45,7 +38,7 @@ std::optional<Multipliers> least_combination(const std::vector<std::pair<double,
   QuotientSimplex program(costs);
   std::vector<AtomTour> rows;
   std::vector<AtomTour> fresh{first};
-  for (int round = 0; round < kRounds; round++) {
+  for (int round = 0; round < kFamilies.rounds; round++) {
     for (const AtomTour& tour : fresh) {
       std::vector<std::uint32_t> times(sets.size(), 0);
       for (std::size_t k = 0; k < tour.size(); k++)
@@ -53,8 +46,9 @@ std::optional<Multipliers> least_combination(const std::vector<std::pair<double,
       program.add_row(times);
       rows.push_back(tour);
     }
-    if (!program.solve(kPivots) || program.objective() > 1 - kLeastLack) return std::nullopt;
-    if (program.rows() > kManyRows) program.drop(0.15F);
+    if (!program.solve(kFamilies.pivots) || program.objective() > 1 - kFamilies.least_lack)
+      return std::nullopt;
+    if (program.rows() > kFamilies.many_rows) program.drop(0.15F);
     Multipliers multipliers;
     for (const auto& [bond, value] : program.solution()) multipliers.emplace_back(sets[bond], value);
     const AtomTours tours(atoms, multipliers);
@@ -84,7 +78,7 @@ std::optional<std::vector<int>> whole_multipliers(const Multipliers& multipliers
   bool near = false;
   for (int factor = 1; factor <= 12 && !near; factor++) near = round_by(factor) < 0.01 + 0.01 * factor;
   if (!near) round_by(4);
-  if (*std::max_element(times.begin(), times.end()) > kMostTimes) return std::nullopt;
+  if (*std::max_element(times.begin(), times.end()) > kFamilies.most_times) return std::nullopt;
   return times;
 }
 
@@ -135,14 +129,21 @@ std::uint64_t QuotientSearch::hash_of(const Chunk& chunk, const AtomGraph& betwe
   return hash;
 }
 
-std::optional<Family> QuotientSearch::family_of(const Chunk& chunk) {
-  const AtomGraph between = graph_of(chunk);
-  if (!tried_.insert(hash_of(chunk, between)).second) return std::nullopt;
-  const auto bonds = bonds_of(between, chunk.atoms, kMostBonds);
-  if (bonds.size() < kFewestBonds) return std::nullopt;
-  const auto multipliers = least_combination(bonds, chunk.atoms, first_tour(chunk, tour_), random_);
+void QuotientSearch::begin(Trial& trial, int atoms) const {
+  const int balls[] = {atoms - 1, atoms + atoms / 2, kFamilies.wide_ball * atoms};
+  trial.chunk = chunks_.around(trial.center, atoms, balls[trial.random.below(3)], trial.random);
+  if (!trial.chunk) return;
+  trial.between = graph_of(*trial.chunk);
+  trial.hash = hash_of(*trial.chunk, trial.between);
+}
+
+std::optional<Family> QuotientSearch::family_of(Trial& trial) const {
+  const Chunk& chunk = *trial.chunk;
+  const auto bonds = bonds_of(trial.between, chunk.atoms, kFamilies.most_bonds);
+  if (bonds.size() < kFamilies.fewest_bonds) return std::nullopt;
+  const auto multipliers = least_combination(bonds, chunk.atoms, first_tour(chunk, tour_), trial.random);
   if (!multipliers || multipliers->empty()) return std::nullopt;
-  return rounded(chunk, between, *multipliers);
+  return rounded(chunk, trial.between, *multipliers);
 }
 
 // The sets by nodes, each on its smaller side.
@@ -200,19 +201,26 @@ std::optional<Family> QuotientSearch::rounded(const Chunk& chunk, const AtomGrap
 std::vector<Family> QuotientSearch::find(int atoms, int most_chunks) {
   std::vector<Family> found;
   int tried = 0;
-  for (int pass = 0; tried < most_chunks && pass < kPasses; pass++) {
+  for (int pass = 0; tried < most_chunks && pass < kFamilies.passes; pass++) {
     chunks_.shrink(pass % 4);
     std::vector<int> centers = chunks_.centers();
     if (centers.empty()) break;
     centers.resize(
         std::min(centers.size(), std::max<std::size_t>(20, static_cast<std::size_t>(most_chunks) / 8)));
-    for (const int center : centers) {
-      if (tried >= most_chunks) break;
-      const int balls[] = {atoms - 1, atoms + atoms / 2, kWideBall * atoms};
-      const auto chunk = chunks_.around(center, atoms, balls[random_.below(3)]);
-      if (!chunk) continue;
-      tried++;
-      if (auto family = family_of(*chunk)) found.push_back(std::move(*family));
+    std::vector<Trial> trials;
+    trials.reserve(centers.size());
+    for (const int center : centers) trials.push_back({center, Random(random_.next())});
+    for_each_at_once(trials.size(), [&](std::size_t k) { begin(trials[k], atoms); });
+    std::erase_if(trials, [](const Trial& trial) { return !trial.chunk; });
+    trials.resize(std::min(trials.size(), static_cast<std::size_t>(most_chunks - tried)), {0, Random(0)});
+    tried += static_cast<int>(trials.size());
+    std::vector<Trial*> fresh;
+    for (Trial& trial : trials) {
+      if (tried_.insert(trial.hash).second) fresh.push_back(&trial);
+    }
+    for_each_at_once(fresh.size(), [&](std::size_t k) { fresh[k]->family = family_of(*fresh[k]); });
+    for (Trial& trial : trials) {
+      if (trial.family) found.push_back(std::move(*trial.family));
     }
   }
   std::stable_sort(found.begin(), found.end(),

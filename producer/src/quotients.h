@@ -21,9 +21,19 @@ class QuotientSearch {
   std::vector<Family> find(int atoms, int most_chunks);
 
  private:
+  // A chunk around a part, with the values between its atoms.
+  struct Trial {
+    int center;
+    Random random;
+    std::optional<Chunk> chunk{};
+    AtomGraph between{};
+    std::uint64_t hash = 0;
+    std::optional<Family> family{};
+  };
+  void begin(Trial& trial, int atoms) const;
   AtomGraph graph_of(const Chunk& chunk) const;
   std::uint64_t hash_of(const Chunk& chunk, const AtomGraph& between) const;
-  std::optional<Family> family_of(const Chunk& chunk);
+  std::optional<Family> family_of(Trial& trial) const;
   std::optional<Family> rounded(const Chunk& chunk, const AtomGraph& between,
                                 const std::vector<std::pair<std::uint32_t, double>>& multipliers) const;
   std::vector<NodeSet> sets_of(const Chunk& chunk,

@@ -2,14 +2,49 @@
 
 #include <algorithm>
 #include <array>
-#include <climits>
 #include <cmath>
+
+#include "parameters.h"
+#include "threads.h"
 
 namespace certify {
 namespace {
 constexpr int kElastic = 3;  // the first columns
 constexpr double kTiny = 1e-6;
-constexpr double kRise = 10, kMostRise = 1e5;  // of the penalty, at a time and in all
+constexpr std::size_t kFixingsOfCopy = 4;  // a copy of the program takes as long as a short trial
+
+// A copy of a program, on which bounds of single columns are tried, each from the same solution.
+class Probe {
+ public:
+  Probe(const ClpSimplex& program, int iterations) : program_(program) {
+    const int rows = program_.numberRows(), columns = program_.numberColumns();
+    status_.assign(program_.statusArray(), program_.statusArray() + rows + columns);
+    for (std::size_t k = 0; k < places().size(); k++) {
+      saved_.emplace_back(places()[k], places()[k] + (k % 2 == 0 ? columns : rows));
+    }
+    program_.setMaximumIterations(iterations);
+  }
+  // The objective where a column has this value.
+  double objective(int column, double value) {
+    program_.setColumnBounds(column, value, value);
+    program_.dual(0);
+    const double reached = program_.objectiveValue();
+    program_.setColumnBounds(column, 0, 1);
+    std::copy(status_.begin(), status_.end(), program_.statusArray());
+    for (std::size_t k = 0; k < saved_.size(); k++)
+      std::copy(saved_[k].begin(), saved_[k].end(), places()[k]);
+    return reached;
+  }
+
+ private:
+  std::array<double*, 4> places() {
+    return {program_.primalColumnSolution(), program_.primalRowSolution(), program_.dualColumnSolution(),
+            program_.dualRowSolution()};
+  }
+  ClpSimplex program_;
+  std::vector<unsigned char> status_;
+  std::vector<std::vector<double>> saved_;
+};
 }  // namespace
 
 Relaxation::Relaxation(const Instance& instance, const CutPool& pool, const Tour& tour)
@@ -32,10 +67,26 @@ Relaxation::Relaxation(const Instance& instance, const CutPool& pool, const Tour
   const double above = length_ - static_cast<double>(least_) * nodes_;
   average_ = above / nodes_;
   unit_ = std::max(1.0, average_ / 1000);
-  penalty_ = (20 * above + 4 * static_cast<double>(most - least_) + 1) / unit_;
-  most_penalty_ = kMostRise * penalty_;
+  least_penalty_ = (20 * above + 4 * static_cast<double>(most - least_) + 1) / unit_;
   present_.assign(static_cast<std::size_t>(nodes_) * nodes_, 0);
   begin();
+}
+
+void Relaxation::reset() {
+  program_ = ClpSimplex();
+  edge_weights_ = {};
+  edges_.clear();
+  for (std::vector<Place>& adjacent : adjacent_) adjacent.clear();
+  std::fill(present_.begin(), present_.end(), 0);
+  cuts_.clear();
+  ages_.clear();
+  row_of_.clear();
+  begin();
+}
+
+void Relaxation::set_penalty(double penalty) {
+  penalty_ = penalty;
+  for (int k = 0; k < kElastic; k++) program_.setObjectiveCoefficient(k, penalty);
 }
 
 // The rows of degrees, and the elastic columns: one for all cuts, and two for all degrees.
@@ -47,10 +98,8 @@ void Relaxation::begin() {
   program_.resize(0, kElastic);
   edge_weights_.columns.assign(kElastic, 0);
   edge_weights_.rows.assign(degrees(), 0);
-  for (int k = 0; k < kElastic; k++) {
-    program_.setColumnBounds(k, 0, COIN_DBL_MAX);
-    program_.setObjectiveCoefficient(k, penalty_);
-  }
+  for (int k = 0; k < kElastic; k++) program_.setColumnBounds(k, 0, COIN_DBL_MAX);
+  set_penalty(least_penalty_);
   const std::vector<double> degree(degrees(), instance_.directed ? 1 : 2);
   std::vector<CoinBigIndex> starts{0};
   std::vector<int> columns;
@@ -258,10 +307,14 @@ Basis Relaxation::basis() const {
     }
   }
   basis.weights.rows = edge_weights_.rows;
+  basis.edges = edges_;
+  basis.penalty = penalty_;
   return basis;
 }
 
 void Relaxation::restore(const Basis& basis) {
+  set_penalty(basis.penalty);
+  add_edges(basis.edges);
   add_edges(basis.basic);
   add_edges(basis.at_one);
   std::vector<char> dropped(cuts_.size(), 1);
@@ -270,6 +323,7 @@ void Relaxation::restore(const Basis& basis) {
   }
   drop_rows(dropped);
   add_cuts(basis.cuts);
+  if (!program_.statusExists()) program_.createStatus();
   for (int k = 0; k < kElastic; k++) program_.setColumnStatus(k, basis.elastic[k]);
   for (int column = 0; column < columns(); column++) {
     program_.setColumnStatus(column + kElastic, ClpSimplex::atLowerBound);
@@ -400,9 +454,8 @@ void Relaxation::read_solution() {
 bool Relaxation::raise_penalty() {
   const double* values = program_.getColSolution();
   const bool elastic = std::any_of(values, values + kElastic, [](double value) { return value > kTiny; });
-  if (!elastic || value_ > length_ || penalty_ >= most_penalty_) return false;
-  penalty_ *= kRise;
-  for (int k = 0; k < kElastic; k++) program_.setObjectiveCoefficient(k, penalty_);
+  if (!elastic || value_ > length_ || penalty_ >= kProgram.most_rise * least_penalty_) return false;
+  set_penalty(kProgram.rise * penalty_);
   return true;
 }
 
@@ -431,34 +484,18 @@ void Relaxation::take_margin(double margin) {
   for (const auto& [place, cost] : used) program_.setObjectiveCoefficient(place, cost);
 }
 
-std::array<double*, 4> Relaxation::Probe::places() const {
-  return {program_.primalColumnSolution(), program_.primalRowSolution(), program_.dualColumnSolution(),
-          program_.dualRowSolution()};
-}
-
-Relaxation::Probe::Probe(Relaxation& relaxation, int iterations)
-    : relaxation_(relaxation), program_(relaxation.program_) {
-  const int rows = program_.numberRows(), columns = program_.numberColumns();
-  status_.assign(program_.statusArray(), program_.statusArray() + rows + columns);
-  for (std::size_t k = 0; k < places().size(); k++) {
-    saved_.emplace_back(places()[k], places()[k] + (k % 2 == 0 ? columns : rows));
-  }
-  program_.setMaximumIterations(iterations);
-  relaxation_.edge_weights_.frozen = true;
-}
-
-Relaxation::Probe::~Probe() {
-  program_.setMaximumIterations(INT_MAX);
-  relaxation_.edge_weights_.frozen = false;
-}
-
-double Relaxation::Probe::gain(int column, int value) {
-  program_.setColumnBounds(column + kElastic, value, value);
-  program_.dual(0);
-  const double reached = program_.objectiveValue() * relaxation_.unit_ + relaxation_.offset();
-  program_.setColumnBounds(column + kElastic, 0, 1);
-  std::copy(status_.begin(), status_.end(), program_.statusArray());
-  for (std::size_t k = 0; k < saved_.size(); k++) std::copy(saved_[k].begin(), saved_[k].end(), places()[k]);
-  return std::max(0.0, reached - relaxation_.value());
+std::vector<double> Relaxation::gains(const std::vector<Fixing>& fixings, int iterations) const {
+  std::vector<double> gains(fixings.size());
+  edge_weights_.frozen = true;
+  for_each_at_once((fixings.size() + kFixingsOfCopy - 1) / kFixingsOfCopy, [&](std::size_t copy) {
+    Probe probe(program_, iterations);
+    const std::size_t last = std::min(fixings.size(), (copy + 1) * kFixingsOfCopy);
+    for (std::size_t k = copy * kFixingsOfCopy; k < last; k++) {
+      const double objective = probe.objective(fixings[k].column + kElastic, fixings[k].value);
+      gains[k] = std::max(0.0, objective * unit_ + offset() - value_);
+    }
+  });
+  edge_weights_.frozen = false;
+  return gains;
 }
 }  // namespace certify

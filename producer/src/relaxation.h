@@ -4,7 +4,6 @@
 // feasible. Clp solves it. Source: D. Applegate, R. Bixby, V. Chvatal and W. Cook, The Traveling Salesman
 // Problem (2006).
 #pragma once
-#include <array>
 #include <coin/ClpSimplex.hpp>
 #include <unordered_map>
 
@@ -19,17 +18,20 @@ struct Decision {
   bool used;
 };
 
-// Where a solution began from: the cuts, and the basis.
+// A warm start: the edges and cuts of a program, and the basis of its solution.
 struct Basis {
   std::vector<int> cuts;
   std::vector<ClpSimplex::Status> rows, elastic;  // the rows of the degrees, then those of the cuts
-  std::vector<Pair> basic, at_one;
+  std::vector<Pair> edges, basic, at_one;
+  double penalty;       // of the elastic columns
   EdgeWeights weights;  // of the rows, then of the basic edges
 };
 
 class Relaxation {
  public:
   Relaxation(const Instance& instance, const CutPool& pool, const Tour& tour);
+  // Becomes the program without edges, cuts and decisions, as if it were new.
+  void reset();
   void add_edges(const std::vector<Pair>& edges);
   void add_cuts(const std::vector<int>& cuts);
   void decide(const Decision& decision);
@@ -46,7 +48,7 @@ class Relaxation {
   // if there are any. The next call is solve().
   void take_margin(double margin);
   Basis basis() const;
-  // Takes the cuts and the basis. No pair may be decided.
+  // Takes the edges, the cuts and the basis. No pair may be decided.
   void restore(const Basis& basis);
 
   double value() const { return value_; }
@@ -64,23 +66,13 @@ class Relaxation {
   const Pair& edge(int column) const { return edges_[column]; }
   double solution(int column) const { return solution_[column]; }
 
-  // Tries bounds of single edges from the solution at hand, which is there again afterwards.
-  class Probe {
-   public:
-    Probe(Relaxation& relaxation, int iterations);
-    ~Probe();
-    Probe(const Probe&) = delete;
-    Probe& operator=(const Probe&) = delete;
-    // What the value gains, by at most as many dual iterations, where an edge has the value 0 or 1.
-    double gain(int column, int value);
-
-   private:
-    std::array<double*, 4> places() const;
-    Relaxation& relaxation_;
-    ClpSimplex& program_;
-    std::vector<unsigned char> status_;
-    std::vector<std::vector<double>> saved_;
+  // A column, and the value 0 or 1 that its edge takes.
+  struct Fixing {
+    int column, value;
   };
+  // What the value gains by each of these, with at most as many dual iterations from the solution at hand.
+  // They are tried at once, on copies of the program.
+  std::vector<double> gains(const std::vector<Fixing>& fixings, int iterations) const;
 
  private:
   // The program takes the weights less the least one. A tour has as many edges as nodes.
@@ -91,6 +83,7 @@ class Relaxation {
   int entering_row(int node) const { return instance_.directed ? nodes_ + node : node; }
   int degrees() const { return instance_.directed ? 2 * nodes_ : nodes_; }  // as many rows, before the cuts
   void begin();
+  void set_penalty(double penalty);
   void optimize();
   int price();
   bool raise_penalty();
@@ -109,8 +102,8 @@ class Relaxation {
   int nodes_;
   Weight least_ = 0;
   double unit_ = 1, length_ = 0, average_ = 1;  // length_: of the tour; average_: of an edge of it
-  double penalty_ = 1, most_penalty_ = 1;       // of the elastic columns
-  EdgeWeights edge_weights_;
+  double penalty_ = 1, least_penalty_ = 1;      // of the elastic columns
+  mutable EdgeWeights edge_weights_;            // gains() freezes them
   ClpSimplex program_;
   std::vector<Pair> edges_;
   std::vector<std::vector<Place>> adjacent_;

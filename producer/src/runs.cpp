@@ -2,23 +2,20 @@
 
 #include <algorithm>
 
-namespace certify {
-namespace {
-constexpr int kLongestRun = 100;
-constexpr int kLongestTooth = 60;
-}  // namespace
+#include "parameters.h"
 
+namespace certify {
 Runs::Runs(const Graph& graph, const Tour& given)
     : tour(given),
       place(given.size()),
       nodes_(static_cast<int>(given.size())),
-      longest_(std::min(kLongestRun, nodes_ - 2)),
+      longest_(std::min(kCombs.longest_run, nodes_ - 2)),
       crossings_(static_cast<std::size_t>(nodes_) * (longest_ + 1), 0),
       over_(nodes_),
       best_gain_(nodes_, 0) {
   for (int k = 0; k < nodes_; k++) place[tour[k]] = k;
   count_crossings(graph);
-  std::vector<double> shortest(kLongestTooth + 2);
+  std::vector<double> shortest(kCombs.longest_tooth + 2);
   for (int k = 0; k < nodes_; k++) choose_runs(k, shortest);
 }
 
@@ -39,7 +36,7 @@ void Runs::count_crossings(const Graph& graph) {
 // Keeps the runs from k - a to k + b that gain more than each shorter one inside them. shortest[b] is
 // the best gain of those with a smaller a.
 void Runs::choose_runs(int k, std::vector<double>& shortest) {
-  const int most = std::min(longest_, kLongestTooth);
+  const int most = std::min(longest_, kCombs.longest_tooth);
   std::fill(shortest.begin(), shortest.end(), 0.02);
   for (int a = 0; a < most; a++) {
     const int left = (k - a + nodes_) % nodes_;

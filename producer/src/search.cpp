@@ -1,378 +1,351 @@
 #include "search.h"
 
+#include <oneapi/tbb/parallel_pipeline.h>
+
 #include <algorithm>
 #include <cmath>
-#include <cstdlib>
 #include <utility>
 
-#include "arc_tours.h"
-#include "eax.h"
-#include "row_bound.h"
-#include "tree_bound.h"
+#include "bound_for.h"
+#include "threads.h"
 
 namespace certify {
 namespace {
-constexpr Weight kLongLength = 2000000;
-constexpr Weight kFineScale = 2520, kCoarseScale = 840;
-constexpr Weight kMostScaledWeight = 20000000000000;  // so that potentials stay within their limit
-constexpr int kPopulation = 150;                      // of the second search for a tour
-constexpr int kLargePopulation = 600;                 // of a third one, where the gap stays large
-constexpr double kPartForTours = 0.5;                 // of the time, at most
-constexpr double kPartForTree = 0.95;  // of the time; the rest is for short numbers of the leaves
-constexpr double kTrial = 0.1;         // of the time, before the size of the tree is guessed
-constexpr int kRootClimbs = 400, kNodeClimbs = 100, kLevels = 2;
-constexpr Effort kFamilies{1600, 2, 0.01, 2, 200, true, 14, 800};      // at the root
-constexpr Effort kLightFamilies{200, 1, 0.01, 2, 200, true, 12, 800};  // where the gap is large
-constexpr int kNodeAtoms = 12, kNodeChunks = 60;
-constexpr int kMostMisses = 3;           // rounds in a row without a cut
-constexpr double kLargeTree = 300;       // leaves, from which families are looked for in the tree
-constexpr double kVeryLargeTree = 1000;  // and at the root
-constexpr double kLargeGap = 0.0025;     // of the length, where they are before further climbs
-constexpr int kManyLeaves = 10;          // that are done, after which they are looked for
-constexpr double kPartOfRootGap = 0.3;   // cases with more of it get families of their own
-constexpr double kMostMargin = 256, kLeastMargin = 0.25;  // of the edges of a whole solution
-constexpr int kArcRuns = 2, kArcPatience = 100;           // of the second search for a tour of an ATSP
-
-// Whole multiples of many fractions, coarser for long tours, whose numbers are long as they are.
-Weight scale_for(const Matrix& weights, Weight length) {
-  Weight most = 1;
-  for (int i = 0; i < weights.nodes(); i++) {
-    for (int j = 0; j < weights.nodes(); j++) most = std::max(most, std::abs(weights(i, j)));
-  }
-  const Weight scale = std::abs(length) > kLongLength ? kCoarseScale : kFineScale;
-  return std::max<Weight>(1, std::min(scale, kMostScaledWeight / most));
-}
-
-Matrix costs_of(const Instance& instance) {
-  if (!instance.directed) return with_fixed_lowered(instance.weights, instance.fixed);
-  Matrix costs(instance.nodes());
-  for (int i = 0; i < instance.nodes(); i++) {
-    for (int j = 0; j < i; j++) costs.set(i, j, instance.weights(i, j) + instance.weights(j, i));
-  }
-  return costs;
-}
-
-std::unique_ptr<ExactBound> bound_for(const Instance& instance, const CutPool& pool, Weight scale) {
-  if (instance.directed) return std::make_unique<RowBound>(instance.weights, pool, scale);
-  return std::make_unique<TreeBound>(instance.weights, pool, scale);
-}
-
-// The weights less the duals of the solution. The lengths of all tours change alike.
-Matrix less_duals(const Instance& instance, const Relaxation& relaxation) {
-  Matrix costs(instance.nodes());
-  for (int i = 0; i < instance.nodes(); i++) {
-    for (int j = 0; j < instance.nodes(); j++) {
-      const Weight duals =
-          std::llround(relaxation.leaving_dual(i)) + std::llround(relaxation.entering_dual(j));
-      if (i != j) costs.set_arc(i, j, instance.weights(i, j) - duals);
-    }
-  }
-  return costs;
+// The cuts with multipliers.
+std::vector<int> rows_of(const Numbers& numbers) {
+  std::vector<int> rows;
+  rows.reserve(numbers.multipliers.size());
+  for (const auto& [cut, multiplier] : numbers.multipliers) rows.push_back(cut);
+  return rows;
 }
 }  // namespace
 
-Search::Search(const Instance& instance, const Start& start, const Clock& clock, Progress& progress)
-    : instance_(instance),
-      costs_(costs_of(instance)),
-      seed_(start.seed),
-      named_(start.named),
-      families_(start.families),
+Search::Search(const Instance& instance, const Start& start, const Clock& clock, Progress& progress,
+               const Plan& plan)
+    : problem_(instance, start),
       clock_(clock),
       progress_(progress),
-      tour_(start.tour),
-      length_(length_of(instance.weights, start.tour)),
-      target_(start.upper ? std::min(*start.upper, length_) : length_),
+      plan_(plan),
+      goal_{start.tour, length_of(instance.weights, start.tour), 0},
       pool_(instance.nodes()),
-      relaxation_(instance, pool_, start.tour),
-      separation_(costs_, pool_, relaxation_, start.seed),
-      bound_(bound_for(instance, pool_, scale_for(instance.weights, length_))),
+      bound_(bound_for(instance, pool_, problem_.scale)),
       made_(*bound_, pool_, instance.directed),
-      branching_(instance.weights),
+      history_(std::make_shared<const History>()),
       least_(-ExactBound::nothing()) {
-  separation_.set_tours(start.tour, start.further);
-  std::vector<Pair> edges = start.edges;
-  const Neighbours near = nearest(instance.weights, 6);
-  for (int v = 0; v < instance.nodes(); v++) {
-    for (const int w : near[v]) edges.emplace_back(v, w);
-  }
-  for (const Pair& edge : instance.links_of(tour_)) edges.push_back(edge);
-  relaxation_.add_edges(edges);
-  bound_->add_likely(edges);
-  for (const Pair& pair : instance.fixed) {
-    decisions_.push_back({pair, true});
-    relaxation_.decide(decisions_.back());
-  }
+  goal_.target = start.upper ? std::min(*start.upper, goal_.length) : goal_.length;
+  bound_->add_likely(problem_.edges);
+  for (const Pair& pair : instance.fixed) above_.push_back({pair, true});
 }
 
-// Takes the solution as the tour where it is a shorter one.
-void Search::offer_tour() {
-  const Graph& support = relaxation_.support();
-  Tour tour{0};
-  std::vector<char> seen(support.size(), 0);
-  seen[0] = 1;
-  for (int next = 0; next >= 0;) {
-    const std::vector<Edge>& edges = support[tour.back()];
-    if (edges.size() != 2 || edges[0].value < 1 || edges[1].value < 1) return;
-    next = -1;
-    for (const Edge& edge : edges) {
-      if (!seen[edge.to]) next = edge.to;
-    }
-    if (next < 0) continue;
-    seen[next] = 1;
-    tour.push_back(next);
+// The families of a certificate are the first cuts. Their numbers in the pool.
+std::vector<int> Search::take_families(const Certificate& tree) {
+  std::vector<int> cuts;
+  cuts.reserve(tree.families.size());
+  for (const std::vector<NodeSet>& family : tree.families)
+    cuts.push_back(add_family(pool_, family, problem_.instance.nodes()));
+  root_gap_ = note_of(tree, "root-gap", 0);
+  large_tree_ = note_of(tree, "large-tree", 1) > 0;
+  return cuts;
+}
+
+// The numbers of a leaf of a certificate.
+Numbers Search::numbers_of(const Numbers& numbers, const std::vector<int>& cuts) const {
+  const Weight factor = problem_.scale / problem_.start.tree->scale;
+  Numbers own;
+  own.potentials.reserve(numbers.potentials.size());
+  for (const Weight potential : numbers.potentials) own.potentials.push_back(potential * factor);
+  for (const auto& [family, multiplier] : numbers.multipliers)
+    own.multipliers[cuts[family]] += multiplier * factor;
+  return own;
+}
+
+// Takes the next step: a branch, or a leaf, which is open where its numbers don't reach the target.
+void Search::take_step(const TreeStep& step, std::vector<Origin>& rest, const std::vector<int>& cuts) {
+  const int place = static_cast<int>(places_.size());
+  Place& here = places_.emplace_back();
+  if (place > 0) {
+    here.origin = rest.back();
+    rest.pop_back();
+    Branch& above = *places_[here.origin->parent].branch;
+    (here.origin->decision.used ? above.used : above.unused) = place;
   }
-  if (tour.size() < support.size()) return;
-  take_tour(tour);
-  if (instance_.directed) take_tour(Tour(tour.rbegin(), tour.rend()));
-}
-
-void Search::take_tour(const Tour& tour) {
-  const Weight length = length_of(instance_.weights, tour);
-  if (length >= length_ || !instance_.allows(tour)) return;
-  tour_ = tour;
-  length_ = length;
-  target_ = std::min(target_, length);
-  separation_.set_best(tour_);
-  log("tour");
-}
-
-// Looks once more, by the weights less the duals: the nodes that are near by these are more often neighbours
-// in a shortest tour. The tour at hand isn't in the population, which would take after it.
-void Search::look_for_tour(int population) {
-  const int nodes = instance_.nodes();
-  if (instance_.directed) {
-    const Instance changed{less_duals(instance_, relaxation_), instance_.fixed, true};
-    const auto late = [&] { return clock_.over(kPartForTours); };
-    for (const Tour& tour : find_arc_tours(changed, kArcRuns, kArcPatience, seed_ + 1, late).further)
-      take_tour(tour);
+  if (const auto* pair = std::get_if<Pair>(&step)) {
+    here.branch = Branch{*pair, -1, -1};
+    for (const bool used : {false, true}) rest.push_back({place, {*pair, used}});
     return;
   }
-  std::vector<Weight> potentials(nodes);
-  for (int v = 0; v < nodes; v++) potentials[v] = std::llround(relaxation_.leaving_dual(v));
-  const Matrix costs = with_potentials(costs_, potentials);
-  Eax eax(costs, instance_.fixed, population, seed_ + 1);
-  take_tour(eax.run([&] { return clock_.over(kPartForTours); }, [&](Weight) { progress_.show(standing()); }));
+  here.numbers = numbers_of(std::get<Numbers>(step), cuts);
+  here.value = bound_->value(here.numbers, decisions_of(place));
+  open_.emplace(here.value, -place);
+}
+
+void Search::take_tree(const Certificate& tree) {
+  const std::vector<int> cuts = take_families(tree);
+  std::vector<Origin> rest;
+  for (const TreeStep& step : tree.steps) take_step(step, rest, cuts);
+  finish_reached();
+  if (root_gap_ == 0 && !open_.empty())
+    root_gap_ = static_cast<double>(goal_.target - bound_->bound_of(open_.begin()->first));
+}
+
+// The whole problem, or one leaf of a certificate.
+Case Search::first_case() {
+  Case first{.goal = goal_, .seed = problem_.start.seed, .whole = true};
+  if (const std::optional<Certificate>& tree = problem_.start.tree) {
+    const int number = problem_.start.leaf.value_or(1);
+    const OpenLeaf leaf = leaf_of(*tree, number);
+    above_.insert(above_.end(), leaf.decisions.begin(), leaf.decisions.end());
+    first.numbers = numbers_of(leaf.numbers, take_families(*tree));
+    first.rows = rows_of(first.numbers);
+    first.seed += static_cast<std::uint64_t>(number);
+    first.whole = leaf.decisions.empty();
+    notes_ = {{"tree", identity_of(*tree)}, {"leaf", std::to_string(number)}};
+  }
+  first.decisions = above_;
+  first.cuts = pool_.part(0, pool_.size());
+  first.known = pool_.size();
+  first.large_tree = large_tree_;
+  first.root_gap = root_gap_;
+  return first;
 }
 
 Standing Search::standing() const {
-  const Value least = open_.empty() ? here_ : std::min(here_, open_.begin()->first);
-  const bool known = cases_.size() > 1;
-  const Weight reached = known ? bound_->bound_of(least) : static_cast<Weight>(relaxation_.value());
-  Standing standing{length_, std::min(reached, target_), leaves_, static_cast<int>(open_.size())};
-  for (const int cut : relaxation_.cuts()) {
-    const CutKind kind = pool_[cut].kind;
-    (kind == CutKind::kSubtour ? standing.subtours
-     : kind == CutKind::kComb  ? standing.combs
-                               : standing.families)++;
+  Value least = open_.empty() ? -ExactBound::nothing() : open_.begin()->first;
+  for (const Begun& job : running_) {
+    if (job->place >= 0) least = std::min(least, places_[job->place].value);
   }
-  return standing;
+  const Weight reached = least == -ExactBound::nothing() ? goal_.target : bound_->bound_of(least);
+  const auto open =
+      open_.size() + static_cast<std::size_t>(std::count_if(running_.begin(), running_.end(),
+                                                            [](auto& job) { return job->place >= 0; }));
+  return {goal_.length,   std::min(reached, goal_.target),
+          leaves_,        static_cast<int>(open),
+          rows_.subtours, rows_.combs,
+          rows_.families};
 }
-
-bool Search::stalled(const std::vector<double>& values, const Patience& patience) const {
-  if (values.size() <= patience.window) return false;
-  return values.back() - values[values.size() - 1 - patience.window] < patience.least_gain * gap();
-}
-
-bool Search::add_cuts(const Effort& effort, int round) {
-  const bool added = separation_.add_cuts(effort);
-  if (added && round % 3 == 0) relaxation_.purge(root() ? 5 : 4);
-  return added;
-}
-
-bool Search::add_cuts(int level, int round) {
-  if (root()) return add_cuts({kRootClimbs << level, 1 + level, 0.01, 4, 200}, round);
-  Effort effort{kNodeClimbs, 1, 0.02, 2, 100, families_ && large_tree_};
-  if (effort.tighten && gap() > kPartOfRootGap * root_gap_) {
-    effort.atoms = kNodeAtoms;
-    effort.chunks = kNodeChunks;
-  }
-  return add_cuts(effort, round);
-}
-
-// Solves the relaxation. Whether numbers were found that reach the target.
-bool Search::solve(int round, Numbers& numbers) {
-  relaxation_.solve();
-  offer_tour();
-  if (root() && round % 6 == 0) relaxation_.drop_edges();
-  progress_.show(standing());
-  if (root()) log("round");
-  if (!made_.reach(relaxation_, decisions_, target_, numbers)) return false;
-  if (relaxation_.is_whole()) widen(numbers);
-  return true;
-}
-
-// A whole solution is a tour that just reaches the target. Its numbers become ones that bear rounding: for
-// them its edges are the best ones by a margin, the largest before the first that is too large.
-void Search::widen(Numbers& numbers) {
-  for (double margin = kLeastMargin; margin <= kMostMargin && !clock_.over(); margin *= 4) {
-    relaxation_.take_margin(margin);
-    Numbers wide = made_.extract(relaxation_, 1);
-    relaxation_.solve();
-    if (!bound_->reaches(wide, decisions_, made_.goal(target_))) return;
-    numbers = std::move(wide);
-  }
-}
-
-// Adds cuts while they help, and where no edge is left to branch on. Whether numbers were found that reach
-// the target.
-bool Search::tighten(Numbers& numbers) {
-  const Patience patience = root() ? Patience{12, 0.02} : Patience{4, 0.06};
-  std::vector<double> values;
-  int level = 0;
-  for (int round = 1;; round++) {
-    if (solve(round, numbers)) return true;
-    if (clock_.over()) return false;
-    values.push_back(relaxation_.value());
-    large_tree_ = large_tree_ || leaves_ >= kManyLeaves;
-    const bool stall = stalled(values, patience) && !relaxation_.is_whole();
-    if (!stall && add_cuts(level, round)) continue;
-    if (!root() || level == kLevels || (families_ && has_large_gap())) return false;
-    level++;
-    if (stall) values.clear();
-    if (stall && !add_cuts(level, round) && level == kLevels) return false;
-  }
-}
-
-// The same at the root with families. Rounds that met many subtours aren't counted.
-bool Search::tighten_by_families(const Effort& effort, Numbers& numbers) {
-  std::vector<double> values;
-  int misses = 0;
-  for (int round = 1; misses < kMostMisses; round++) {
-    if (solve(round, numbers)) return true;
-    if (clock_.over()) return false;
-    if (!values.empty() && (misses > 0 || !separation_.was_whole())) values.pop_back();
-    values.push_back(relaxation_.value());
-    if (stalled(values, {8, 0.02})) return false;
-    misses = add_cuts(effort, round) ? 0 : misses + 1;
-  }
-  return false;
-}
-
-bool Search::has_large_gap() const { return gap() >= kLargeGap * std::abs(static_cast<double>(length_)); }
-
-// Whether the root is worth families: where the gap is large, or the tree by what the best branch gains.
-bool Search::wants_families() {
-  if (!families_ || clock_.over()) return false;
-  if (has_large_gap()) return true;
-  choice_ = branching_.choose(relaxation_, static_cast<double>(target_));
-  const double leaves = branching_.leaves();
-  large_tree_ = leaves >= kLargeTree;
-  return leaves >= kVeryLargeTree;
-}
-
-// A gap that stays large may be the tour's too.
-bool Search::settle_by_families(Numbers& numbers) {
-  choice_.reset();
-  branching_.forget();
-  if (tighten_by_families(has_large_gap() ? kLightFamilies : kFamilies, numbers)) return true;
-  if (named_ || clock_.over() || !has_large_gap()) return false;
-  const Weight before = length_;
-  look_for_tour(kLargePopulation);
-  return length_ < before && solve(1, numbers);
-}
-
-// With one more search for a tour where a gap is left.
-bool Search::settle_root(Numbers& numbers) {
-  if (tighten(numbers)) return true;
-  if (!named_ && !clock_.over()) {
-    const Weight before = length_;
-    look_for_tour(kPopulation);
-    if (length_ < before && tighten(numbers)) return true;
-  }
-  if (!wants_families()) return false;
-  large_tree_ = true;
-  return settle_by_families(numbers);
-}
-
-bool Search::settle(Numbers& numbers) { return root() ? settle_root(numbers) : tighten(numbers); }
 
 std::vector<Decision> Search::decisions_of(int place) const {
-  std::vector<Decision> decisions;
-  decisions.reserve(instance_.fixed.size());
-  for (const Pair& pair : instance_.fixed) decisions.push_back({pair, true});
-  const std::size_t fixed = decisions.size();
-  for (auto origin = cases_[place].origin; origin; origin = cases_[origin->parent].origin) {
+  std::vector<Decision> decisions = above_;
+  const auto fixed = static_cast<std::ptrdiff_t>(decisions.size());
+  for (auto origin = places_[place].origin; origin; origin = places_[origin->parent].origin) {
     decisions.push_back(origin->decision);
   }
-  std::reverse(decisions.begin() + static_cast<std::ptrdiff_t>(fixed), decisions.end());
+  std::reverse(decisions.begin() + fixed, decisions.end());
   return decisions;
 }
 
-// Brings the relaxation to a case.
-void Search::enter(int place) {
-  for (const Decision& decision : decisions_) relaxation_.release(decision.pair);
-  const std::shared_ptr<const Basis>& basis = cases_[place].basis;
-  if (basis && basis != basis_) relaxation_.restore(*basis);
-  basis_ = nullptr;
-  decisions_ = decisions_of(place);
-  for (const Decision& decision : decisions_) relaxation_.decide(decision);
+// Each thread has a solver of its own, since a solver is large.
+CaseSolver& Search::own_solver() {
+  std::unique_ptr<CaseSolver>& solver = solvers_.local();
+  if (!solver) solver = std::make_unique<CaseSolver>(problem_, clock_);
+  return *solver;
 }
 
-// Takes the numbers of the last solution where they are better than those from above.
-void Search::improve(Case& here) {
-  Numbers numbers = made_.extract(relaxation_, 1);
-  const Value value = bound_->value(numbers, decisions_);
-  if (!here.numbers.potentials.empty()) {
-    here.value = std::max(here.value, bound_->value(here.numbers, decisions_));
-    if (here.value >= value) return;
+// The new cuts get the numbers of the pool of the tree.
+void Search::renumber(Outcome& outcome) {
+  std::vector<int> numbers;
+  {
+    const std::lock_guard lock(pool_access_);
+    for (const auto& cut : outcome.cuts) numbers.push_back(pool_.add(cut));
   }
-  here.numbers = std::move(numbers);
-  here.value = value;
+  const auto number = [&](int cut) { return cut < outcome.first ? cut : numbers[cut - outcome.first]; };
+  std::map<int, Weight> multipliers;
+  for (const auto& [cut, multiplier] : outcome.numbers.multipliers) multipliers[number(cut)] += multiplier;
+  outcome.numbers.multipliers = std::move(multipliers);
+  if (!outcome.warm) return;
+  WarmStart warm = *outcome.warm;
+  for (int& cut : warm.basis.cuts) cut = number(cut);
+  std::vector<signed char> rest(pool_.size(), 0);
+  for (std::size_t cut = 0; cut < warm.experience.rest.size(); cut++)
+    rest[number(static_cast<int>(cut))] = warm.experience.rest[cut];
+  warm.experience.rest = std::move(rest);
+  outcome.warm = std::make_shared<const WarmStart>(std::move(warm));
 }
 
 // A case's numbers hold for the cases of its branch too.
-void Search::branch(int place, const Pair& pair) {
-  basis_ = std::make_shared<const Basis>(relaxation_.basis());
-  const int next = static_cast<int>(cases_.size());
-  cases_[place].branch = Branch{pair, next + 1, next};
+void Search::branch(int place, const Outcome& outcome) {
+  const int next = static_cast<int>(places_.size());
+  places_[place].branch = Branch{*outcome.pair, next + 1, next};
   for (const bool used : {false, true}) {
-    Case below;
-    below.origin = Origin{place, {pair, used}};
-    below.basis = basis_;
-    below.numbers = cases_[place].numbers;
-    below.value = cases_[place].value;
-    open_.emplace(below.value, -static_cast<int>(cases_.size()));
-    cases_.push_back(std::move(below));
+    Place below;
+    below.origin = Origin{place, {*outcome.pair, used}};
+    below.warm = outcome.warm;
+    below.numbers = places_[place].numbers;
+    below.value = places_[place].value;
+    open_.emplace(below.value, -static_cast<int>(places_.size()));
+    places_.push_back(std::move(below));
   }
-  cases_[place].numbers = {};
-  cases_[place].basis = nullptr;
+  places_[place].numbers = {};
+}
+
+int Search::depth_of(int place) const {
+  int depth = 0;
+  for (auto origin = places_[place].origin; origin; origin = places_[origin->parent].origin) depth++;
+  return depth;
 }
 
 void Search::finish(int place) {
-  cases_[place].done = true;
+  places_[place].done = true;
   leaves_++;
-  int depth = 0;
-  for (auto origin = cases_[place].origin; origin; origin = cases_[origin->parent].origin) depth++;
-  done_ += std::ldexp(1.0, -depth);
+  done_ += std::ldexp(1.0, -depth_of(place));
   log("leaf");
 }
 
-void Search::visit(int place) {
-  here_ = cases_[place].value;
-  if (here_ >= made_.goal(target_)) {  // a shorter tour was found meanwhile
+// Takes what came of a case.
+void Search::take(int place, Outcome& outcome) {
+  renumber(outcome);
+  rows_ = outcome.rows;
+  if (outcome.tour) {
+    const Weight length = length_of(problem_.instance.weights, *outcome.tour);
+    if (length < goal_.length) {
+      goal_ = {*outcome.tour, length, std::min(goal_.target, length)};
+      log("tour");
+    }
+  }
+  places_[place].numbers = std::move(outcome.numbers);
+  places_[place].value = outcome.value;
+  places_[place].warm = nullptr;
+  if (outcome.done) {
     finish(place);
     return;
   }
-  enter(place);
-  Numbers numbers;
-  if (settle(numbers)) {
-    cases_[place].numbers = std::move(numbers);
-    finish(place);
-    return;
-  }
-  improve(cases_[place]);
-  here_ = cases_[place].value;
-  if (clock_.over()) return;
-  if (!choice_) choice_ = branching_.choose(relaxation_, static_cast<double>(target_));
-  if (const auto pair = std::exchange(choice_, std::nullopt)) branch(place, *pair);
+  if (outcome.pair) branch(place, outcome);
   log("branch");
 }
 
+void Search::solve_first() {
+  places_.emplace_back();
+  const auto note = [&](std::string_view event, const Standing& standing) {
+    event.empty() ? progress_.show(standing) : progress_.log(event, standing);
+  };
+  const Case first = first_case();
+  Outcome outcome = own_solver().solve(first, note);
+  shift_ = outcome.shift;
+  large_tree_ = large_tree_ || outcome.large_tree;
+  if (root_gap_ == 0) root_gap_ = outcome.gap;
+  history_ = std::make_shared<const History>(std::move(outcome.history));
+  take(0, outcome);
+}
+
+bool ends_in_time(double done, double begun, double used) {
+  const double spent = used - begun;
+  return spent < kTree.trial || done * (1 - begun) * (5 - 4 * used) > spent;
+}
+
+// The newest case where the tree may end in time, since the pool has cuts from near it. Else that
+// with the least bound, so that the bound grows until the time is over.
+int Search::next_place() {
+  auto next = open_.begin();
+  if (plan_.split == 0 && ends_in_time(done_, begun_, clock_.used())) {
+    next = std::min_element(open_.begin(), open_.end(), [](auto& a, auto& b) { return a.second < b.second; });
+  }
+  const int place = -next->second;
+  open_.erase(next);
+  return place;
+}
+
+Case Search::case_of(int place) {
+  Case here{.decisions = decisions_of(place),
+            .warm = std::exchange(places_[place].warm, nullptr),
+            .rows = rows_of(places_[place].numbers),
+            .numbers = places_[place].numbers,
+            .value = places_[place].value,
+            .goal = goal_,
+            .seed = problem_.start.seed + 0x9E3779B97F4A7C15ull * ++begun_cases_,
+            .known = pool_.size(),
+            .history = history_,
+            .shift = shift_,
+            .large_tree = large_tree_ || leaves_ >= kCutting.many_leaves,
+            .root_gap = root_gap_};
+  return here;
+}
+
+// Trials of branches, the latest of each pair.
+void Search::remember(const History& fresh) {
+  if (fresh.choices <= history_->choices) return;
+  auto history = std::make_shared<History>(*history_);
+  history->choices++;
+  for (const auto& [pair, known] : fresh.known) {
+    const auto [found, first] = history->known.emplace(pair, known);
+    if (!first && found->second.when < known.when) found->second = known;
+  }
+  history_ = std::move(history);
+}
+
+// Takes what came of the case that was begun first.
+void Search::take_oldest() {
+  const Begun oldest = running_.front();
+  running_.pop_front();
+  if (oldest->place < 0) return;
+  remember(oldest->outcome.history);
+  take(oldest->place, oldest->outcome);
+}
+
+// Finishes the open cases that reach the target: where a shorter tour was found meanwhile.
+void Search::finish_reached() {
+  while (!open_.empty() && open_.rbegin()->first >= aim()) {
+    const int place = -open_.rbegin()->second;
+    open_.erase(std::prev(open_.end()));
+    finish(place);
+  }
+}
+
+bool Search::waits_for_none() const {
+  return std::all_of(running_.begin(), running_.end(), [](const Begun& job) { return job->place < 0; });
+}
+
+// Begins the next case. A null pointer where all are done or the time is over; a job without a case where
+// none is open until another one has ended.
+Search::Begun Search::begin_next() {
+  while (static_cast<int>(running_.size()) >= plan_.window) take_oldest();
+  finish_reached();
+  if ((open_.empty() && waits_for_none()) || clock_.over(kTree.part_of_time)) return nullptr;
+  if (plan_.split > 0 && open_.size() + running_.size() >= plan_.split) return nullptr;
+  auto job = std::make_shared<Job>();
+  if (!open_.empty()) {
+    job->place = next_place();
+    job->here = case_of(job->place);
+  }
+  running_.push_back(job);
+  progress_.show(standing());
+  return job;
+}
+
+void Search::solve(Job& job) {
+  if (job.place < 0) return;
+  CaseSolver& solver = own_solver();
+  {
+    const std::lock_guard lock(pool_access_);
+    job.here.cuts = pool_.part(solver.known(), job.here.known);
+  }
+  job.outcome = solver.solve(job.here);
+  job.here = {};
+}
+
+// A pipeline keeps the order: its first filter begins cases one by one, and its last one lets as many be on
+// the way as the window has places.
+void Search::grow_tree() {
+  using oneapi::tbb::filter_mode;
+  using oneapi::tbb::make_filter;
+  const auto begin = make_filter<void, Begun>(filter_mode::serial_in_order, [&](auto& flow) {
+    Begun job = begin_next();
+    if (!job) flow.stop();
+    return job;
+  });
+  const auto work = make_filter<Begun, Begun>(filter_mode::parallel, [&](const Begun& job) {
+    if (job) solve(*job);
+    return job;
+  });
+  const auto end = make_filter<Begun, void>(filter_mode::serial_in_order, [](const Begun&) {});
+  oneapi::tbb::parallel_pipeline(static_cast<std::size_t>(plan_.window), begin & work & end);
+  while (!running_.empty()) take_oldest();
+}
+
 // A leaf that is done gets numbers near those of the leaf before, which makes a short file.
-void Search::add_leaf(const Case& leaf, const std::vector<Decision>& decisions) {
+void Search::add_leaf(const Place& leaf, const std::vector<Decision>& decisions) {
   const bool time = !clock_.over();
   const Numbers numbers =
-      leaf.done && time ? made_.near_last(leaf.numbers, decisions, target_) : leaf.numbers;
+      leaf.done && time ? made_.near_last(leaf.numbers, decisions, goal_.target) : leaf.numbers;
   least_ = std::min(least_, bound_->value(numbers, decisions));
   made_.set_last(numbers);
   steps_.emplace_back(numbers);
@@ -384,14 +357,14 @@ bool Search::coarsen_to(Weight grid, std::vector<int>& leaves) {
   std::vector<Numbers> coarse;
   coarse.reserve(leaves.size());
   for (auto leaf = leaves.begin(); leaf != leaves.end(); ++leaf) {
-    auto numbers = made_.coarse(cases_[*leaf].numbers, decisions_of(*leaf), target_, grid);
+    auto numbers = made_.coarse(places_[*leaf].numbers, decisions_of(*leaf), goal_.target, grid);
     if (!numbers) {
       std::rotate(leaves.begin(), leaf, leaf + 1);
       return false;
     }
     coarse.push_back(std::move(*numbers));
   }
-  for (std::size_t k = 0; k < leaves.size(); k++) cases_[leaves[k]].numbers = std::move(coarse[k]);
+  for (std::size_t k = 0; k < leaves.size(); k++) places_[leaves[k]].numbers = std::move(coarse[k]);
   return true;
 }
 
@@ -399,9 +372,9 @@ bool Search::coarsen_to(Weight grid, std::vector<int>& leaves) {
 // reach the target. A file has them divided by it, which makes it short.
 void Search::coarsen() {
   std::vector<int> leaves;
-  for (std::size_t place = 0; place < cases_.size(); place++) {
-    if (cases_[place].branch) continue;
-    if (!cases_[place].done) return;
+  for (std::size_t place = 0; place < places_.size(); place++) {
+    if (places_[place].branch) continue;
+    if (!places_[place].done) return;
     leaves.push_back(static_cast<int>(place));
   }
   Weight tried = 0;
@@ -418,11 +391,12 @@ void Search::list_steps() {
   std::vector<int> rest{0};
   while (!rest.empty()) {
     const int place = rest.back();
-    const Case& here = cases_[place];
+    const Place& here = places_[place];
     rest.pop_back();
     if (!here.branch) {
       add_leaf(here, decisions_of(place));
       leaves_++;
+      if (!here.done) open_leaves_.push_back(leaves_);
       continue;
     }
     steps_.emplace_back(here.branch->pair);
@@ -431,38 +405,50 @@ void Search::list_steps() {
   }
 }
 
-bool ends_in_time(double done, double begun, double used) {
-  const double spent = used - begun;
-  return spent < kTrial || done * (1 - begun) * (5 - 4 * used) > spent;
-}
-
-// The newest case where the tree may end in time, since the pool has cuts from near it. Else that
-// with the least bound, so that the bound grows until the time is over.
-int Search::next_case() {
-  auto next = open_.begin();
-  if (ends_in_time(done_, begun_, clock_.used())) {
-    next = std::min_element(open_.begin(), open_.end(), [](auto& a, auto& b) { return a.second < b.second; });
+// Cuts get new numbers, in the order of their first leaf.
+Certificate Search::certificate() const {
+  Certificate certificate{problem_.instance.nodes(), scale(), notes_};
+  std::map<int, int> numbers;
+  const auto number = [&](int cut) {
+    const auto [place, fresh] = numbers.emplace(cut, certificate.families.size());
+    if (fresh) certificate.families.push_back(pool_[cut].sets);
+    return place->second;
+  };
+  for (TreeStep step : steps_) {
+    if (auto* leaf = std::get_if<Numbers>(&step)) {
+      std::map<int, Weight> multipliers;
+      for (const auto& [cut, multiplier] : leaf->multipliers) {
+        if (multiplier != 0) multipliers[number(cut)] = multiplier;
+      }
+      leaf->multipliers = std::move(multipliers);
+    }
+    certificate.steps.push_back(std::move(step));
   }
-  const int place = -next->second;
-  open_.erase(next);
-  return place;
+  if (open_leaves_.empty()) return certificate;
+  certificate.notes["open"] = std::to_string(open_leaves_.size());
+  certificate.notes["root-gap"] = std::to_string(root_gap_);
+  certificate.notes["large-tree"] = large_tree_ || leaves_ >= kCutting.many_leaves ? "1" : "0";
+  if (plan_.split == 0) return certificate;
+  for (const auto& [value, place] : open_) {
+    const std::shared_ptr<const WarmStart>& warm = places_[-place].warm;
+    if (!warm) continue;
+    for (const int cut : warm->basis.cuts) number(cut);
+  }
+  return certificate;
 }
 
 void Search::run() {
-  relaxation_.solve();
-  while (!clock_.over() && separation_.add_subtours()) {
-    relaxation_.solve();
-    progress_.show(standing());
+  if (problem_.start.tree && !problem_.start.leaf) {
+    take_tree(*problem_.start.tree);
+  } else {
+    solve_first();
   }
-  cases_.emplace_back();
-  visit(0);
-  root_gap_ = gap();
   begun_ = clock_.used();
-  while (!open_.empty() && !clock_.over(kPartForTree)) visit(next_case());
+  grow_tree();
   coarsen();
   list_steps();
   Standing last = standing();
-  last.bound = std::min(bound(), length_);
+  last.bound = std::min(bound(), goal_.length);
   progress_.log("end", last);
   progress_.clear();
 }

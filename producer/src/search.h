@@ -1,52 +1,49 @@
-// Branch and cut: cuts and branches until each leaf reaches the target, or the time is over. A case that is
+// Branch and cut: cases by branches until each leaf reaches the target, or the time is over. A case that is
 // left open keeps the best numbers above it.
-// Source: M. Padberg and G. Rinaldi, A branch-and-cut algorithm for the resolution of large-scale
-// symmetric traveling salesman problems, SIAM Review 33 (1991).
+//
+// Cases are solved at once. A case begins when all but the last few before it have ended, and it knows what
+// came of those and of no others. So the tree is the same for any number of threads. Source: M. Padberg and
+// G. Rinaldi, A branch-and-cut algorithm for the resolution of large-scale symmetric traveling salesman
+// problems, SIAM Review 33 (1991).
 #pragma once
-#include <memory>
-#include <optional>
-#include <set>
-#include <variant>
+#include <oneapi/tbb/enumerable_thread_specific.h>
 
-#include "branching.h"
-#include "clock.h"
-#include "leaves.h"
-#include "progress.h"
-#include "separation.h"
+#include <deque>
+#include <mutex>
+#include <set>
+
+#include "case_solver.h"
+#include "certificate.h"
+#include "parameters.h"
 
 namespace certify {
-// What the search begins with.
-struct Start {
-  Tour tour;
-  std::vector<Tour> further;  // other good tours
-  std::vector<Pair> edges;    // likely edges
-  std::optional<Weight> upper;
-  std::uint64_t seed = 1;
-  bool named = false;    // the tour was named, so that none is looked for again
-  bool families = true;  // cuts may be families of any sets
-};
-
-// A branch on a pair, or a leaf with its numbers.
-using TreeStep = std::variant<Pair, Numbers>;
-
 // Whether a tree may end in time: this part of it is done, which took the time from begun to used. The guess
 // is a rough one, so the tree may seem too large by a factor that falls from 5 to 1.
 bool ends_in_time(double done, double begun, double used);
 
+// How a search goes about its cases.
+struct Plan {
+  int window = kTree.window;  // as many are begun and not ended at most
+  std::size_t split = 0;      // it ends where as many are open; 0 for never
+};
+
 class Search {
  public:
-  Search(const Instance& instance, const Start& start, const Clock& clock, Progress& progress);
+  Search(const Instance& instance, const Start& start, const Clock& clock, Progress& progress,
+         const Plan& plan = {});
   void run();
-  const std::vector<TreeStep>& steps() const { return steps_; }
-  const Tour& tour() const { return tour_; }
-  const CutPool& pool() const { return pool_; }
-  Weight scale() const { return bound_->scale(); }
+  // The tree, with the families of its numbers. Where it was split, all cuts of its open cases follow.
+  Certificate certificate() const;
+  // The leaves that don't reach the target, from 1 on.
+  const std::vector<int>& open_leaves() const { return open_leaves_; }
+  const Tour& tour() const { return goal_.tour; }
+  Weight scale() const { return problem_.scale; }
   // The least bound of the leaves, as reckoned here.
   Weight bound() const { return bound_->bound_of(least_); }
   int leaves() const { return leaves_; }
 
  private:
-  // What leads to a case from the one above.
+  // What leads to a case from the one above it.
   struct Origin {
     int parent;
     Decision decision;
@@ -55,77 +52,78 @@ class Search {
     Pair pair;
     int used, unused;  // the cases below
   };
-  // A case: what is decided from the root on to here, and the best numbers for it.
-  struct Case {
-    std::optional<Origin> origin{};        // nothing at the root
-    std::shared_ptr<const Basis> basis{};  // of the parent's last solution
+  // A case's place in the tree, and the best numbers for it.
+  struct Place {
+    std::optional<Origin> origin{};           // nothing at the root
+    std::shared_ptr<const WarmStart> warm{};  // of the parent
     Numbers numbers{};
     Value value = ExactBound::nothing();
     bool done = false;  // its numbers reach the target
     std::optional<Branch> branch{};
   };
-  // When cuts stop to help: over a window of rounds the value gains less than this part of the gap.
-  struct Patience {
-    std::size_t window;
-    double least_gain;
+  // A case that is solved, or was; nothing where there was none to begin.
+  struct Job {
+    int place = -1;
+    Case here;
+    Outcome outcome;
   };
-  bool solve(int round, Numbers& numbers);
-  bool tighten(Numbers& numbers);
-  bool tighten_by_families(const Effort& effort, Numbers& numbers);
-  bool settle_by_families(Numbers& numbers);
-  bool settle(Numbers& numbers);
-  bool settle_root(Numbers& numbers);
-  bool has_large_gap() const;
-  bool wants_families();
-  bool add_cuts(int level, int round);
-  bool add_cuts(const Effort& effort, int round);
-  bool stalled(const std::vector<double>& values, const Patience& patience) const;
-  double gap() const { return static_cast<double>(target_) - relaxation_.value(); }
+  using Begun = std::shared_ptr<Job>;
+  Value aim() const { return static_cast<Value>(problem_.scale) * (goal_.target - 1) + 1; }
   std::vector<Decision> decisions_of(int place) const;
-  void enter(int place);
-  void visit(int place);
-  void improve(Case& here);
-  void branch(int place, const Pair& pair);
+  Numbers numbers_of(const Numbers& numbers, const std::vector<int>& cuts) const;
+  std::vector<int> take_families(const Certificate& tree);
+  void take_tree(const Certificate& tree);
+  void take_step(const TreeStep& step, std::vector<Origin>& rest, const std::vector<int>& cuts);
+  Case first_case();
+  void solve_first();
+  int depth_of(int place) const;
+  void grow_tree();
+  Begun begin_next();
+  void solve(Job& job);
+  void take_oldest();
+  void remember(const History& history);
+  void take(int place, Outcome& outcome);
+  void renumber(Outcome& outcome);
+  void branch(int place, const Outcome& outcome);
   void finish(int place);
-  int next_case();
+  void finish_reached();
+  int next_place();
+  Case case_of(int place);
+  CaseSolver& own_solver();
+  bool waits_for_none() const;
   bool coarsen_to(Weight grid, std::vector<int>& leaves);
   void coarsen();
   void list_steps();
-  void add_leaf(const Case& leaf, const std::vector<Decision>& decisions);
-  void widen(Numbers& numbers);
-  void offer_tour();
-  void take_tour(const Tour& tour);
-  void look_for_tour(int population);
+  void add_leaf(const Place& leaf, const std::vector<Decision>& decisions);
   Standing standing() const;
   void log(std::string_view event) { progress_.log(event, standing()); }
-  bool root() const { return decisions_.size() == instance_.fixed.size(); }
 
-  const Instance& instance_;
-  const Matrix costs_;  // the weights, those of fixed pairs lowered; of an ATSP those of both directions
-  const std::uint64_t seed_;
-  const bool named_, families_;
+  const Problem problem_;
   const Clock& clock_;
   Progress& progress_;
-  Tour tour_;
-  Weight length_, target_;
+  const Plan plan_;
+  std::vector<Decision> above_;  // what is decided at the root
+  std::map<std::string, std::string> notes_;
+  Goal goal_;
+  std::mutex pool_access_;
   CutPool pool_;
-  Relaxation relaxation_;
-  Separation separation_;
   const std::unique_ptr<ExactBound> bound_;
+  std::optional<Weight> shift_;
   Leaves made_;
-  Branching branching_;
-  std::vector<Decision> decisions_;
-  std::shared_ptr<const Basis> basis_;  // that the relaxation is at, where it is known
-  std::vector<Case> cases_;
-  std::set<std::pair<Value, int>> open_;  // cases by value, and of the same value the newest first
-  Value here_ = -ExactBound::nothing();   // that of the case at hand
+  std::vector<Place> places_;
+  std::set<std::pair<Value, int>> open_;  // places by value, and of the same value the newest first
+  oneapi::tbb::enumerable_thread_specific<std::unique_ptr<CaseSolver>> solvers_;
+  std::deque<Begun> running_;  // begun and not taken, in order
+  std::uint64_t begun_cases_ = 0;
+  std::shared_ptr<const History> history_;
   std::vector<TreeStep> steps_;
+  std::vector<int> open_leaves_;
   Value least_;
   int leaves_ = 0;
   bool large_tree_ = false;  // the tree seems to be large, so that families are worth their time
   double root_gap_ = 0;
-  std::optional<Pair> choice_;  // the branch of the root, where it was chosen before
-  double begun_ = 0;            // the part of the time before the tree
-  double done_ = 0;  // the part of the tree that is done, where both cases of a branch are one half
+  double begun_ = 0;  // the part of the time before the tree
+  double done_ = 0;   // the part of the tree that is done, where both cases of a branch are one half
+  Rows rows_;         // of the last case
 };
 }  // namespace certify

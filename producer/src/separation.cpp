@@ -1,27 +1,21 @@
 #include "separation.h"
 
 #include <algorithm>
+#include <optional>
 
 #include "local_search.h"
+#include "parameters.h"
 #include "subtours.h"
+#include "threads.h"
 #include "tightening.h"
 
 namespace certify {
-namespace {
-constexpr std::size_t kMostFromPool = 150;
-constexpr int kLongestRest = 4;  // rounds
-constexpr int kMostHandlesOfNode = 12;
-constexpr int kMostSetsOfNode = 60;  // of the families of a round
-constexpr std::size_t kLargestTight = 80;
-constexpr int kManySubtours = 10, kManyFromPool = 50;  // then no combs are looked for
-}  // namespace
-
 Separation::Separation(const Matrix& costs, CutPool& pool, Relaxation& relaxation, std::uint64_t seed)
     : pool_(pool),
       relaxation_(relaxation),
       random_(seed),
       costs_(costs),
-      near_(nearest(costs, 6)),
+      near_(nearest(costs, kSeparation.near)),
       scratch_(costs.nodes(), 0) {}
 
 void Separation::set_tours(const Tour& best, const std::vector<Tour>& further) {
@@ -29,16 +23,23 @@ void Separation::set_tours(const Tour& best, const std::vector<Tour>& further) {
   further_ = further;
 }
 
+void Separation::begin(Experience experience, std::uint64_t seed) {
+  experience_ = std::move(experience);
+  random_ = Random(seed);
+  whole_ = true;
+}
+
 // Known cuts that the solution misses, the worst first. Those that earlier solutions crossed much more often
 // than a tour has to rest for some rounds, unless that is over for all.
 std::vector<std::pair<double, int>> Separation::missed_in_pool(bool rested) {
   std::vector<std::pair<double, int>> missed;
-  rest_.resize(pool_.size(), 0);
+  std::vector<signed char>& rest = experience_.rest;
+  rest.resize(pool_.size(), 0);
   for (int cut = 0; cut < pool_.size(); cut++) {
-    if (relaxation_.has(cut) || (!rested && rest_[cut]-- > 0)) continue;
+    if (relaxation_.has(cut) || (!rested && rest[cut]-- > 0)) continue;
     const double by = meter_.violation(pool_[cut]);
-    rest_[cut] = std::clamp(static_cast<int>(-2 * by), 0, kLongestRest);
-    if (by > 0.02) missed.emplace_back(-by, cut);
+    rest[cut] = static_cast<signed char>(std::clamp(static_cast<int>(-2 * by), 0, kSeparation.longest_rest));
+    if (by > kSeparation.least_in_pool) missed.emplace_back(-by, cut);
   }
   std::sort(missed.begin(), missed.end());
   return missed;
@@ -48,7 +49,7 @@ std::vector<std::pair<double, int>> Separation::missed_in_pool(bool rested) {
 int Separation::from_pool(Round& round) {
   std::vector<std::pair<double, int>> missed = missed_in_pool(false);
   if (missed.empty()) missed = missed_in_pool(true);
-  for (std::size_t k = 0; k < std::min(missed.size(), kMostFromPool); k++)
+  for (std::size_t k = 0; k < std::min(missed.size(), kSeparation.most_from_pool); k++)
     round.cuts.push_back(missed[k].second);
   return static_cast<int>(missed.size());
 }
@@ -78,34 +79,31 @@ std::vector<NodeSet> Separation::known_handles() const {
 }
 
 // A tour along the edges of the solution, by chance.
-Tour Separation::guided_tour() {
+Tour Separation::guided_tour(Random& random) const {
   const Graph& support = relaxation_.support();
   const double average =
       static_cast<double>(std::abs(length_of(costs_, best_))) / static_cast<double>(best_.size());
-  std::vector<std::pair<Pair, Weight>> changed;
+  LoweredCosts costs(costs_);
   Neighbours near = near_;
-  for (int v = 0; v < costs_.nodes(); v++) {
+  for (int v = 0; v < costs.nodes(); v++) {
     for (const Edge& edge : support[v]) {
       if (std::find(near[v].begin(), near[v].end(), edge.to) == near[v].end()) near[v].push_back(edge.to);
       if (edge.to < v) continue;
-      const Weight cost = costs_(v, edge.to);
-      changed.emplace_back(Pair(v, edge.to), cost);
-      costs_.set(v, edge.to, cost - static_cast<Weight>(average * 3 * edge.value * (0.5 + random_.unit())));
+      const double by = average * kSeparation.pull * edge.value * (0.5 + random.unit());
+      costs.lower(v, edge.to, static_cast<Weight>(by));
     }
   }
-  for (int v = 0; v < costs_.nodes(); v++) {
-    const Weight* row = costs_.row(v);
-    std::stable_sort(near[v].begin(), near[v].end(), [&](int a, int b) { return row[a] < row[b]; });
+  for (int v = 0; v < costs.nodes(); v++) {
+    std::stable_sort(near[v].begin(), near[v].end(), [&](int a, int b) { return costs(v, a) < costs(v, b); });
   }
-  Tour tour = further_.empty() || random_.below(2) == 1 ? best_ : further_[random_.below(further_.size())];
-  LocalSearch(costs_, near).improve(tour);
-  for (const auto& [pair, cost] : changed) costs_.set(pair.first, pair.second, cost);
+  Tour tour = further_.empty() || random.below(2) == 1 ? best_ : further_[random.below(further_.size())];
+  LocalSearch(costs, near).improve(tour);
   return tour;
 }
 
-Tour Separation::tour_for(int k) {
+Tour Separation::tour_for(int k, Random& random) const {
   if (k == 0) return best_;
-  return k % 2 == 1 || further_.empty() ? guided_tour() : further_[random_.below(further_.size())];
+  return k % 2 == 1 || further_.empty() ? guided_tour(random) : further_[random.below(further_.size())];
 }
 
 // Takes a cut that is new and violated by as much.
@@ -121,8 +119,9 @@ void Separation::take_combs(Round& round, const std::vector<FoundComb>& found, c
   for (const FoundComb& comb : found) {
     if (round.combs >= effort.most_cuts) return;
     const NodeSet& handle = comb.sets[0];
-    const bool crowded =
-        std::any_of(handle.begin(), handle.end(), [&](int v) { return round.uses[v] >= kMostHandlesOfNode; });
+    const bool crowded = std::any_of(handle.begin(), handle.end(), [&](int v) {
+      return round.uses[v] >= kSeparation.most_handles_of_node;
+    });
     if (crowded || !pool_.is_comb(comb.sets)) continue;
     if (!take(round, pool_.add_comb(comb.sets), effort.least_violation)) continue;
     for (const int v : handle) round.uses[v]++;
@@ -130,32 +129,57 @@ void Separation::take_combs(Round& round, const std::vector<FoundComb>& found, c
   }
 }
 
+// What a tour gives: runs that are crossed too little, and combs.
+struct Separation::CombTrial {
+  int number;
+  Random random;
+  std::vector<NodeSet> sets{};
+  std::vector<FoundComb> found{};
+};
+
+void Separation::look(CombTrial& trial, const std::vector<NodeSet>& known, const Effort& effort) const {
+  const Runs runs(relaxation_.support(), tour_for(trial.number, trial.random));
+  trial.sets = runs.crossed_too_little(0.01);
+  CombSearch search(relaxation_.support(), pool_, runs, trial.random, effort.least_violation);
+  trial.found = search.find(known, effort.climbs, effort.growths);
+}
+
+// As many tours at once as there are threads. What is taken is the same for any number of them.
 void Separation::combs(Round& round, const Effort& effort) {
   const std::vector<NodeSet> known = known_handles();
   round.uses.assign(scratch_.size(), 0);
-  for (int k = 0; k <= effort.further_tours; k++) {
-    if (k > 0 && round.combs > effort.most_cuts / 2) return;
-    const Runs runs(relaxation_.support(), tour_for(k));
-    for (const NodeSet& set : runs.crossed_too_little(0.01)) {
-      const int known_cuts = pool_.size(), cut = pool_.add_subtour(set);
-      if (cut == known_cuts) round.cuts.push_back(cut);
+  std::vector<CombTrial> trials;
+  for (int k = 0; k <= effort.further_tours; k++) trials.push_back({k, Random(random_.next())});
+  for (std::size_t first = 0; first < trials.size(); first += threads()) {
+    const std::size_t count = std::min(threads(), trials.size() - first);
+    for_each_at_once(count, [&](std::size_t k) { look(trials[first + k], known, effort); });
+    for (std::size_t k = first; k < first + count; k++) {
+      if (k > 0 && round.combs > effort.most_cuts / 2) return;
+      for (const NodeSet& set : trials[k].sets) {
+        const int known_cuts = pool_.size(), cut = pool_.add_subtour(set);
+        if (cut == known_cuts) round.cuts.push_back(cut);
+      }
+      take_combs(round, trials[k].found, effort);
     }
-    CombSearch search(relaxation_.support(), pool_, runs, random_, effort.least_violation);
-    take_combs(round, search.find(known, effort.climbs, effort.growths), effort);
   }
 }
 
 // Cuts of the linear program, with nodes in other atoms.
 void Separation::tighten_cuts(Round& round, const Effort& effort) {
-  const std::vector<int> cuts = relaxation_.cuts();
-  for (const int cut : cuts) {
-    const CutKind kind = pool_[cut].kind;
-    if (kind == CutKind::kSubtour || meter_.violation(pool_[cut]) < -1) continue;
-    const auto sets = tightened(pool_[cut], relaxation_.support());
-    if (!sets || (kind == CutKind::kComb && !pool_.is_comb(*sets))) continue;
-    const int moved =
-        kind == CutKind::kComb ? pool_.add_comb(*sets) : pool_.add_family(*sets, pool_[cut].crossings);
-    take(round, moved, effort.least_violation);
+  std::vector<int> cuts;
+  for (const int cut : relaxation_.cuts()) {
+    if (pool_[cut].kind != CutKind::kSubtour && meter_.violation(pool_[cut]) >= -1) cuts.push_back(cut);
+  }
+  std::vector<std::optional<std::vector<NodeSet>>> moved(cuts.size());
+  for_each_at_once(cuts.size(),
+                   [&](std::size_t k) { moved[k] = tightened(pool_[cuts[k]], relaxation_.support()); });
+  for (std::size_t k = 0; k < cuts.size(); k++) {
+    const std::shared_ptr<const Cut> cut = pool_.part(cuts[k], cuts[k] + 1)[0];
+    if (!moved[k] || (cut->kind == CutKind::kComb && !pool_.is_comb(*moved[k]))) continue;
+    take(
+        round,
+        cut->kind == CutKind::kComb ? pool_.add_comb(*moved[k]) : pool_.add_family(*moved[k], cut->crossings),
+        effort.least_violation);
   }
 }
 
@@ -176,7 +200,8 @@ std::vector<const NodeSet*> Separation::tight_sets() {
   for (std::size_t row = 0; row < relaxation_.cuts().size(); row++) {
     if (relaxation_.cut_dual(row) <= 1e-7) continue;
     for (const NodeSet& set : pool_[relaxation_.cuts()[row]].sets) {
-      if (set.size() >= 3 && set.size() <= kLargestTight && crossed(set) < 2 + 1e-5) tight.push_back(&set);
+      if (set.size() >= 3 && set.size() <= kSeparation.largest_tight && crossed(set) < 2 + 1e-5)
+        tight.push_back(&set);
     }
   }
   return tight;
@@ -184,14 +209,16 @@ std::vector<const NodeSet*> Separation::tight_sets() {
 
 void Separation::families(Round& round, const Effort& effort) {
   const std::vector<const NodeSet*> tight = tight_sets();
-  QuotientSearch search(relaxation_.support(), tight, best_, random_, tried_, effort.least_violation);
+  QuotientSearch search(relaxation_.support(), tight, best_, random_, experience_.chunks,
+                        effort.least_violation);
   const std::vector<Family> found = search.find(effort.atoms, effort.chunks);
   std::vector<int> uses(scratch_.size(), 0);
   int count = 0;
   for (const Family& family : found) {
     if (count >= effort.most_cuts) return;
     const bool crowded = std::any_of(family.sets.begin(), family.sets.end(), [&](const NodeSet& set) {
-      return std::any_of(set.begin(), set.end(), [&](int v) { return uses[v] >= kMostSetsOfNode; });
+      return std::any_of(set.begin(), set.end(),
+                         [&](int v) { return uses[v] >= kSeparation.most_sets_of_node; });
     });
     if (crowded || !take(round, pool_.add_family(family.sets, family.required), effort.least_violation))
       continue;
@@ -217,7 +244,7 @@ bool Separation::add_cuts(const Effort& effort) {
   const int pooled = from_pool(round);
   const int sets = subtours(round);
   // the runs of a tour have three nodes outside
-  whole_ = sets < kManySubtours && pooled < kManyFromPool;
+  whole_ = sets < kSeparation.many_subtours && pooled < kSeparation.many_from_pool;
   if (whole_ && scratch_.size() >= 6) {
     if (effort.tighten) tighten_cuts(round, effort);
     combs(round, effort);

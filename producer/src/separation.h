@@ -5,23 +5,24 @@
 // Traveling Salesman Problem (2006).
 #pragma once
 #include "combs.h"
+#include "parameters.h"
 #include "quotients.h"
 #include "relaxation.h"
 
 namespace certify {
-// How much a round tries.
-struct Effort {
-  int climbs, growths;
-  double least_violation;
-  int further_tours, most_cuts;
-  bool tighten = false;
-  int atoms = 0, chunks = 0;  // of families; 0 looks for none
+// What separation learns in one case for those of its branch.
+struct Experience {
+  std::vector<signed char> rest;             // of each cut of the pool, the rounds that it is left out
+  std::unordered_set<std::uint64_t> chunks;  // that were tried
 };
 
 class Separation {
  public:
   Separation(const Matrix& costs, CutPool& pool, Relaxation& relaxation, std::uint64_t seed);
   void set_tours(const Tour& best, const std::vector<Tour>& further);
+  // Begins a case.
+  void begin(Experience experience, std::uint64_t seed);
+  const Experience& experience() const { return experience_; }
   void set_best(const Tour& best) { best_ = best; }
   // Adds subtours and cuts of the pool. Whether any joined.
   bool add_subtours();
@@ -47,20 +48,21 @@ class Separation {
   bool take(Round& round, int cut, double least_violation);
   void take_combs(Round& round, const std::vector<FoundComb>& found, const Effort& effort);
   std::vector<NodeSet> known_handles() const;
-  Tour guided_tour();
-  Tour tour_for(int k);
+  Tour guided_tour(Random& random) const;
+  Tour tour_for(int k, Random& random) const;
+  struct CombTrial;
+  void look(CombTrial& trial, const std::vector<NodeSet>& known, const Effort& effort) const;
 
   CutPool& pool_;
   Relaxation& relaxation_;
   Random random_;
-  Matrix costs_;
+  const Matrix& costs_;
   Neighbours near_;
   Tour best_;
   std::vector<Tour> further_;
   std::vector<char> scratch_;
-  ViolationMeter meter_;                     // of the solution at hand
-  std::vector<int> rest_;                    // rounds that a cut of the pool is left out
-  std::unordered_set<std::uint64_t> tried_;  // chunks
+  ViolationMeter meter_;  // of the solution at hand
+  Experience experience_;
   bool whole_ = true;
 };
 }  // namespace certify

@@ -4,10 +4,10 @@
 #include <map>
 #include <optional>
 
+#include "parameters.h"
+
 namespace certify {
 namespace {
-constexpr std::size_t kMostCuts = 60;
-
 class MinimumCuts {
  public:
   MinimumCuts(const Graph& graph, double least_violation)
@@ -20,7 +20,7 @@ class MinimumCuts {
   std::vector<NodeSet> find() {
     shrink_whole_edges();
     std::vector<int> active = remaining();
-    while (active.size() > 2 && cuts_.size() < kMostCuts) {
+    while (active.size() > 2 && cuts_.size() < kSeparation.most_subtours) {
       const std::optional<Pair> last = phase(active);
       if (!last) break;
       note_if_small(last->second);

@@ -6,11 +6,10 @@
 #include <map>
 
 #include "families.h"
+#include "parameters.h"
 
 namespace certify {
 namespace {
-constexpr int kMostMoves = 4000;
-constexpr int kIdleMoves = 40;  // that change nothing
 constexpr double kTiny = 1e-6;
 
 class Tightening {
@@ -30,8 +29,8 @@ class Tightening {
   // Whether the solution crosses the sets less at the end.
   bool run() {
     bool better = false;
-    int idle = kIdleMoves;
-    for (std::size_t next = 0; next < queue_.size() && next < kMostMoves; next++) {
+    int idle = kFamilies.idle_moves;
+    for (std::size_t next = 0; next < queue_.size() && next < kFamilies.most_moves; next++) {
       const int v = queue_[next];
       queued_[v] = 0;
       if (size_[atom_[v]] < 2) continue;

@@ -1,6 +1,7 @@
 #include "tour.h"
 
 #include <algorithm>
+#include <array>
 
 namespace certify {
 Weight length_of(const Matrix& weights, const Tour& tour) {
@@ -42,5 +43,30 @@ Neighbours nearest(const Matrix& weights, int count) {
     lists[i].assign(others.begin(), others.begin() + count);
   }
   return lists;
+}
+
+void add_by_quadrants(const Matrix& weights, const std::vector<std::pair<Weight, Weight>>& points, int count,
+                      Neighbours& lists) {
+  const int nodes = weights.nodes();
+  std::array<std::vector<int>, 4> quadrants;
+  for (int i = 0; i < static_cast<int>(points.size()); i++) {
+    for (std::vector<int>& quadrant : quadrants) quadrant.clear();
+    for (int j = 0; j < nodes; j++) {
+      const Weight x = points[j].first - points[i].first, y = points[j].second - points[i].second;
+      if (j != i) quadrants[x > 0 && y >= 0 ? 0 : x <= 0 && y > 0 ? 1 : x < 0 ? 2 : 3].push_back(j);
+    }
+    const Weight* row = weights.row(i);
+    std::vector<int>& list = lists[i];
+    for (std::vector<int>& quadrant : quadrants) {
+      const auto end =
+          quadrant.begin() + std::min<std::ptrdiff_t>(count, static_cast<std::ptrdiff_t>(quadrant.size()));
+      std::partial_sort(quadrant.begin(), end, quadrant.end(),
+                        [&](int a, int b) { return row[a] != row[b] ? row[a] < row[b] : a < b; });
+      for (auto near = quadrant.begin(); near != end; ++near) {
+        if (std::find(list.begin(), list.end(), *near) == list.end()) list.push_back(*near);
+      }
+    }
+    std::stable_sort(list.begin(), list.end(), [&](int a, int b) { return row[a] < row[b]; });
+  }
 }
 }  // namespace certify

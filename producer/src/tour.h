@@ -35,4 +35,9 @@ std::vector<Pair> edges_of(const Tour& tour);
 // Each node with the one that comes next.
 std::vector<Pair> arcs_of(const Tour& tour);
 Neighbours nearest(const Matrix& weights, int count);
+// Adds to each node's list the nearest nodes of each quadrant around its point. The nearest nodes of all may
+// lie in one cluster, from which no list then leads to another one. Source: D. Johnson and L. McGeoch,
+// Experimental analysis of heuristics for the STSP (2002).
+void add_by_quadrants(const Matrix& weights, const std::vector<std::pair<Weight, Weight>>& points, int count,
+                      Neighbours& lists);
 }  // namespace certify

@@ -1,10 +1,11 @@
-// Writes files of TYPE BRANCHES and TYPE TOUR. docs/format.md says what is in them.
+// Writes files whole, or throws Refusal.
 #pragma once
 #include <string>
 
-#include "search.h"
+#include "tour.h"
 
 namespace certify {
-void write_certificate(const std::string& path, const Search& search);
+void write_text(const std::string& path, const std::string& text);
+// A file of TYPE TOUR. docs/format.md says what is in it.
 void write_tour(const std::string& path, const Tour& tour);
 }  // namespace certify

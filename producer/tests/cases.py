@@ -19,6 +19,9 @@ from math import dist
 from pathlib import Path
 
 CERTIFY, TSP = (os.path.abspath(path) for path in sys.argv[2:4])
+GUIDE = Path(__file__).resolve().parents[2] / "docs/guide.md"
+EXAMPLE = Path(__file__).resolve().parents[2] / "bindings/python/examples/spread_leaves.py"
+SKIPPED = 77  # the status that ctest counts as a test that wasn't run
 POINTS = ["EUC_2D", "CEIL_2D", "MAN_2D", "MAX_2D", "ATT"]
 SPACE = ["EUC_3D", "MAN_3D", "MAX_3D"]
 
@@ -26,6 +29,11 @@ SPACE = ["EUC_3D", "MAN_3D", "MAX_3D"]
 def need(holds, what):
     if not holds:
         sys.exit(f"FAILED: {what}")
+
+
+def skip(what, package):
+    print(f"{what} is missing: apt-get install {package}")
+    sys.exit(SKIPPED)
 
 
 def certify(*words, status=0):
@@ -201,12 +209,16 @@ def upper():
 
 
 def time_limit():
-    """A second is too short, and the file has a bound all the same."""
-    write_points("a.tsp", "EUC_2D", 400, random.Random(10), side=10**6)
-    said = certify("a.tsp", "-o", "out.branches", "--tour-out", "out.tour", "--seconds", "1")
-    report = judged("a.tsp")
-    need("a gap of" in said and report.get("gap", "0") in said, f"the gap isn't told: {said}")
-    need(int(report["bound"]) > 0.9 * int(report["length"]), f"a poor bound: {report}")
+    """Two seconds are too short, by any number of threads, and the file has a bound all the same."""
+    write_points("a.tsp", "EUC_2D", 1200, random.Random(10), side=10**6)
+    for count in ("1", "4"):
+        words = ["--seconds", "2", "--threads", count]
+        begun = time.monotonic()
+        said = certify("a.tsp", "-o", "out.branches", "--tour-out", "out.tour", *words)
+        need(time.monotonic() - begun < 60, f"{count} threads: the limit isn't kept")
+        report = judged("a.tsp")
+        need("a gap of" in said and report.get("gap", "0") in said, f"the gap isn't told: {said}")
+        need(int(report["bound"]) > 0.7 * int(report["length"]), f"a poor bound: {report}")
 
 
 def same_bytes():
@@ -218,6 +230,139 @@ def same_bytes():
     need(texts[0] == texts[1], "the same seed gives other bytes")
 
 
+def threads():
+    """Any number of threads gives the same bytes."""
+    write_points("a.tsp", "EUC_2D", 200, random.Random(6), side=10**6)
+    texts = []
+    for count in ("1", "2", "4"):
+        certify("a.tsp", "-o", "out.branches", "--tour-out", "out.tour", "--seconds", "0", "--threads", count)
+        need("optimal" in judged("a.tsp"), "not optimal")
+        texts.append((Path("out.branches").read_bytes(), Path("out.tour").read_bytes()))
+    need(texts[0] == texts[1] == texts[2], "another number of threads gives other bytes")
+    need(texts[0][0].partition(b"BRANCH_SECTION\n")[2].count(b"\n") > 6, "the tree has too few branches for a test")
+
+
+def split_tree(leaves=3):
+    """Writes a.tsp, and tree and out.tour with at least two open leaves, whose numbers it returns."""
+    write_points("a.tsp", "EUC_2D", 200, random.Random(6), side=10**6)
+    words = ["a.tsp", "-o", "tree", "--tour-out", "out.tour", "--split", str(leaves), "--seconds", "0", "--tsp", TSP]
+    done = subprocess.run([CERTIFY, *words], capture_output=True, text=True, timeout=250)
+    need(done.returncode == 0, f"no split: {done.stderr}")
+    numbers = done.stdout.split()
+    need(len(numbers) >= 2, f"too few leaves are open: {numbers} {done.stderr}")
+    need("gap" in judged("a.tsp", certificate="tree"), "the tree has no gap")
+    return numbers
+
+
+def split():
+    """Leaves of a tree are gone on with alone, and parts are joined. A part that is missing leaves a gap."""
+    leaves = split_tree()
+    for leaf in leaves:
+        certify("a.tsp", "out.tour", "--tree", "tree", "--leaf", leaf, "-o", f"part-{leaf}", "--threads", "1")
+    parts = [f"part-{leaf}" for leaf in leaves]
+    for given, whole in ((parts, True), (parts[1:], False), (parts[::-1], True)):
+        certify("a.tsp", "--tree", "tree", "-o", "out.branches", "--join", *given)
+        need(("optimal" in judged("a.tsp")) == whole, f"{given}: {judged('a.tsp')}")
+    certify("a.tsp", "--tree", "tree", "-o", "again", "--join", *parts[1:])
+    certify("a.tsp", "out.tour", "--tree", "again", "-o", "out.branches")
+    need("optimal" in judged("a.tsp"), "what was joined isn't gone on with")
+    faults = [
+        (["--tree", "again", "--join", parts[0], "-o", "b"], "another tree"),
+        (["--tree", "tree", "--join", "tree", "-o", "b"], "another tree"),
+        (["out.tour", "--tree", "tree", "--leaf", "99999", "-o", "b"], "--leaf 99999"),
+        (["out.tour", "--tree", "out.tour", "-o", "b"], "BRANCHES"),
+        (["out.tour", "--leaf", "1", "-o", "b"], "--tree"),
+        (["--join", parts[0], "-o", "b"], "--tree"),
+        (["out.tour", "--tree", "tree", "--leaf", "1", "-o", "tree"], "overwritten"),
+        (["--tree", "tree", "--join", parts[0], "-o", parts[0]], "overwritten"),
+    ]
+    for words, part in faults:
+        need(part in certify("a.tsp", *words, status=2), f"{words}: the fault doesn't tell of {part}")
+
+
+def resume():
+    """What a limit of time leaves open is gone on with, at another scale too, and split."""
+    leaves = split_tree()
+    text = Path("tree").read_text()
+    need(" open " in text and "COMMENT : tsp-certify root-gap" in text, "the tree has no notes")
+    certify("a.tsp", "out.tour", "--tree", "tree", "-o", "out.branches", "--seconds", "0")
+    need("optimal" in judged("a.tsp"), "not optimal")
+    need("COMMENT" not in Path("out.branches").read_text(), "a whole certificate has notes of open leaves")
+    words = ["a.tsp", "out.tour", "--tree", "tree", "-o", "same", "--split", "1", "--tsp", TSP]
+    done = subprocess.run([CERTIFY, *words], capture_output=True, text=True, check=True, timeout=250)
+    need(done.stdout.split() == leaves, f"other leaves are open: {done.stdout.split()} and not {leaves}")
+    # A tree by other hands: one leaf, whose scale is none of ours.
+    Path("seven").write_text("TYPE : BRANCHES\nDIMENSION : 200\nSCALE : 11\nBRANCH_SECTION\n0 1 5 2 -5 -1\nEOF\n")
+    certify("a.tsp", "out.tour", "--tree", "seven", "-o", "out.branches", "--seconds", "0")
+    need("optimal" in judged("a.tsp"), "a leaf at another scale isn't gone on with")
+    write_points("b.tsp", "EUC_2D", 20, random.Random(6))
+    need("another instance" in certify("b.tsp", "--tour-out", "b.tour", "--tree", "tree", "-o", "b", status=2), "a tree")
+
+
+def lines_of_guide(command):
+    """The indented lines of the guide's section Many machines, from the one with --split on, with one that spreads
+    leaves by this command."""
+    section = GUIDE.read_text().partition("## Many machines\n")[2].partition("\n## ")[0]
+    lines = [line.strip() for line in section.splitlines() if line.startswith("    ")]
+    first = next(line for line in lines if "--split" in line)
+    spread = next(line for line in lines if line.startswith(command))
+    return [first, spread, *(line for line in lines if "--join" in line and "tsp-certify" in line)][:3]
+
+
+def run_lines(*lines):
+    """Runs lines of the guide where tsp-certify and tsp are on PATH, on this machine alone."""
+    os.makedirs("bin", exist_ok=True)
+    for name, path in (("tsp-certify", CERTIFY), ("tsp", TSP)):
+        os.symlink(path, f"bin/{name}")
+    path = f"{os.path.abspath('bin')}:{os.environ['PATH']}"
+    for line in lines:
+        done = subprocess.run(["sh", "-c", line], capture_output=True, text=True, timeout=250, env={**os.environ, "PATH": path})
+        need(done.returncode == 0, f"{line}: {done.stdout}{done.stderr}")
+
+
+def parallel():
+    """The guide's lines for GNU parallel, with this machine as the only host."""
+    if not shutil.which("parallel"):
+        skip("parallel", "parallel")
+    write_points("a.tsp", "EUC_2D", 200, random.Random(6), side=10**6)
+    Path("hosts").write_text(":\n")
+    first, spread, join = lines_of_guide("parallel")
+    run_lines(first.replace("--split 24", "--split 3"), spread, join)  # the tree is small
+    need(len(list(Path(".").glob("part-*"))) > 1, "there are no parts")
+    need("optimal" in judged("a.tsp", "a.tour", "a.branches"), "not optimal")
+
+
+def dask():
+    """The example for Dask, by two processes of this machine. A part that fails is tried again, and left out."""
+    python = next((path for path in (sys.executable, "/usr/bin/python3") if has_dask(path)), None)
+    if not python:
+        skip("Dask", "python3-distributed")
+    leaves = split_tree()
+    Path("leaves").write_text("\n".join(leaves) + "\n")
+    words = [python, str(EXAMPLE), "a.tsp", "out.tour", "--tree", "tree", "--leaves", "leaves", "--workers", "2"]
+    for certificate, more, whole in (("out.branches", [CERTIFY], True), ("gap.branches", [write_failing(leaves[0])], False)):
+        done = subprocess.run([*words, "-o", certificate, "--tsp", TSP, "--tsp-certify", *more], capture_output=True,
+                              text=True, timeout=250)
+        need(done.returncode == (0 if whole else 1), f"{certificate}: {done.stdout}{done.stderr}")
+        need(("optimal" in judged("a.tsp", certificate=certificate)) == whole, f"{certificate}: {done.stderr}")
+    need(f"leaf {leaves[0]}" in done.stderr, f"the leaf that is left out isn't named: {done.stderr}")
+    need(Path("tries").read_text().count("again") == 3, f"it was tried as often: {Path('tries').read_text()}")
+
+
+def has_dask(python):
+    return subprocess.run([python, "-c", "import distributed"], capture_output=True, check=False).returncode == 0
+
+
+def write_failing(leaf):
+    """A program that fails for one leaf, and is tsp-certify for the others."""
+    tries = os.path.abspath("tries")
+    Path("failing").write_text(
+        f"#!/bin/sh\ncase \" $* \" in *' --leaf {leaf} '*) echo again >> {tries}; exit 9;; esac\nexec {CERTIFY} \"$@\"\n"
+    )
+    os.chmod("failing", 0o755)
+    return os.path.abspath("failing")
+
+
 def short_numbers():
     """The numbers of leaves that are done are multiples of as much as lets them be."""
     write_points("a.tsp", "EUC_2D", 120, random.Random(5), side=10**6)
@@ -226,9 +371,10 @@ def short_numbers():
     need(scale < 840, f"the scale is {scale}")
 
 
-def signalled(*signals):
-    """The status of a run that gets these signals, each so many seconds after the one before."""
+def signalled(threads, *signals):
+    """The status of a run that gets these signals, each as many seconds after the one before."""
     words = [CERTIFY, "a.tsp", "-o", "out.branches", "--tour-out", "out.tour", "--seconds", "0", "--tsp", TSP]
+    words += ["--threads", threads]
     Path("out.branches").unlink(missing_ok=True)
     with subprocess.Popen(words, stderr=subprocess.PIPE) as process:
         for wait, number in signals:
@@ -239,14 +385,14 @@ def signalled(*signals):
 
 
 def interrupt():
-    write_points("a.tsp", "EUC_2D", 700, random.Random(12), side=10**6)
-    for signals, status in (
-        ([(3, signal.SIGINT)], 130),
-        ([(3, signal.SIGTERM)], 143),
-        ([(3, signal.SIGINT), (0.1, signal.SIGINT)], 130),  # as `timeout -s INT` does
-        ([(3, signal.SIGTERM), (0, signal.SIGINT)], None),  # either may come first
+    write_points("a.tsp", "EUC_2D", 1500, random.Random(12), side=10**6)
+    for threads, signals, status in (
+        ("4", [(3, signal.SIGINT)], 130),
+        ("1", [(3, signal.SIGTERM)], 143),
+        ("4", [(6, signal.SIGINT), (0.1, signal.SIGINT)], 130),  # as `timeout -s INT` does
+        ("2", [(3, signal.SIGTERM), (0, signal.SIGINT)], None),  # either may come first
     ):
-        found = signalled(*signals)
+        found = signalled(threads, *signals)
         need(found in ((status,) if status else (130, 143)), f"status {found} after {signals}")
         need("bound" in judged("a.tsp"), f"no bound after {signals}")
 
@@ -324,7 +470,8 @@ def log():
     need(last["length"] == int(judged("a.tsp")["length"]), f"another length: {last}")
     need(all(0 <= event["bound"] <= event["length"] for event in events), "a bound is above, or none")
     need(all(event["cuts"]["combs"] >= 0 for event in events), "no cuts are told")
-    need([event["seconds"] for event in events] == sorted(event["seconds"] for event in events), "not in order")
+    for clock in ("seconds", "processor"):
+        need([event[clock] for event in events] == sorted(event[clock] for event in events), f"{clock}: not in order")
     certify("a.tsp", "-o", "out.branches", "--tour-out", "out.tour", "--log", "no/folder/log", status=2)
 
 
@@ -368,6 +515,9 @@ def bad_input():
         (["a.tsp", *both, "--seconds", "x"], "--seconds"),
         (["a.tsp", *both, "--seconds", "-1"], "--seconds"),
         (["a.tsp", *both, "--seed", "1.5"], "--seed"),
+        (["a.tsp", *both, "--threads", "-1"], "--threads"),
+        (["a.tsp", *both, "--window", "0"], "--window"),
+        (["a.tsp", *both, "--split", "0"], "--split"),
         (["a.tsp", "out.tour", "more", *out], "more"),
         (["a.tsp", *both, "--wrong"], "--wrong"),
         (["a.tsp", "-o", "no/folder/out", "--tour-out", "out.tour"], "no/folder/out"),
@@ -419,6 +569,7 @@ def installing():
 
 
 CASES = [weights, fixed, small, matrix, atsp_small, atsp, atsp_named_tour, named_tour, upper, time_limit, same_bytes,
+         threads, split, resume, parallel, dask,
          short_numbers, interrupt, rounding, overwriting, families, log, bad_input, finding_tsp, installing]
 
 

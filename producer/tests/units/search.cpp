@@ -3,7 +3,9 @@
 #include <algorithm>
 #include <cmath>
 
+#include "certificate.h"
 #include "fixtures.h"
+#include "local_search.h"
 #include "subtours.h"
 
 using namespace certify;
@@ -55,11 +57,7 @@ TEST_CASE("a solution is found again from its basis") {
   for (int column = 0; column < relaxation.columns(); column += 5) {
     const Pair pair = relaxation.edge(column);
     for (const bool used : {true, false}) {
-      double gain = 0;
-      {
-        Relaxation::Probe probe(relaxation, 1000);
-        gain = probe.gain(column, used ? 1 : 0);
-      }
+      const double gain = relaxation.gains({{column, used ? 1 : 0}}, 1000)[0];
       relaxation.decide({pair, used});
       relaxation.solve();
       CHECK(relaxation.value() >= value - 1e-6 * value);         // a decision lowers the value
@@ -122,4 +120,76 @@ TEST_CASE("degrees don't fall short where clusters are far apart") {
   relaxation.solve();
   CHECK(relaxation.value() > 2 * 99993 + 2 * 63 - 0.01);
   CHECK(relaxation.value() < static_cast<double>(length_of(weights, tour)) + 0.01);
+}
+
+// A tree of a branch on 0-1, whose second leaf becomes a branch on 0-2.
+TEST_CASE("a part takes the place of a leaf") {
+  const auto leaf = [](Weight first, std::map<int, Weight> multipliers) {
+    return TreeStep(Numbers{{first, 0, 0, 0}, std::move(multipliers)});
+  };
+  const std::vector<NodeSet> pair{{0, 1}}, other{{1, 2}};
+  const Certificate tree{4, 2, {{"open", "2"}}, {pair}, {Pair(0, 1), leaf(1, {{0, 3}}), leaf(2, {})}};
+  Certificate part{4, 3, {{"tree", identity_of(tree)}, {"leaf", "2"}}, {other, pair}, {}};
+  part.steps = {Pair(0, 2), leaf(3, {{0, 1}}), leaf(4, {{1, 5}})};
+  const OpenLeaf open = leaf_of(tree, 2);
+  CHECK((open.decisions.size() == 1 && !open.decisions[0].used));
+  CHECK(leaf_of(tree, 1).decisions[0].used);
+  CHECK_THROWS(leaf_of(tree, 3));
+  const Certificate whole = joined(tree, {part});
+  CHECK(whole.scale == 6);
+  CHECK(whole.notes == std::map<std::string, std::string>{{"open", "1"}});
+  CHECK(whole.families == std::vector<std::vector<NodeSet>>{pair, other});
+  REQUIRE(whole.steps.size() == 5);
+  CHECK(std::get<Pair>(whole.steps[2]) == Pair(0, 2));
+  const auto numbers = [&](int step) { return std::get<Numbers>(whole.steps[step]); };
+  CHECK((numbers(1).potentials[0] == 3 && numbers(1).multipliers == std::map<int, Weight>{{0, 9}}));
+  CHECK((numbers(3).potentials[0] == 6 && numbers(3).multipliers == std::map<int, Weight>{{1, 2}}));
+  CHECK((numbers(4).potentials[0] == 8 && numbers(4).multipliers == std::map<int, Weight>{{0, 10}}));
+  CHECK(joined(tree, {}).steps.size() == tree.steps.size());
+  Certificate changed = tree;
+  changed.families[0] = other;
+  CHECK(identity_of(changed) != identity_of(tree));
+  part.notes["tree"] = identity_of(changed);
+  CHECK_THROWS(joined(tree, {part}));
+  part.notes.clear();
+  CHECK_THROWS(joined(tree, {part}));  // no part at all
+}
+
+// Cuts have the same numbers in a pool that takes them from another one.
+TEST_CASE("a pool takes cuts and forgets them") {
+  CutPool pool(9), other(9);
+  CHECK(pool.add_subtour({1, 2}) == 0);
+  CHECK(pool.add_subtour({2, 3}) == 1);
+  for (const auto& cut : pool.part(0, 2)) other.add(cut);
+  CHECK((other.size() == 2 && other.add_subtour({3, 2}) == 1));
+  CHECK(other.add_subtour({4, 5}) == 2);
+  other.shrink_to(1);
+  CHECK((other.size() == 1 && other.add_subtour({4, 5}) == 1));
+}
+
+// Eight edges are lowered so far that a tour by exchanges has most of them.
+TEST_CASE("lowered costs change the search and not the matrix") {
+  Matrix costs(8);
+  for (int i = 0; i < 8; i++) {
+    for (int j = 0; j < i; j++) costs.set(i, j, 10 + std::abs(i - j));
+  }
+  LoweredCosts lowered(costs);
+  const std::vector<Pair> wanted{{0, 4}, {4, 1}, {1, 5}, {5, 2}, {2, 6}, {6, 3}, {3, 7}, {7, 0}};
+  for (const auto& [i, j] : wanted) lowered.lower(i, j, 100);
+  CHECK((lowered(0, 4) == -86 && lowered(4, 0) == -86 && lowered(0, 1) == 11 && costs(0, 4) == 14));
+  Neighbours near(8);
+  for (int i = 0; i < 8; i++) {
+    for (int j = 0; j < 8; j++) {
+      if (j != i) near[i].push_back(j);
+    }
+    std::sort(near[i].begin(), near[i].end(), [&](int a, int b) { return lowered(i, a) < lowered(i, b); });
+  }
+  Tour tour{0, 1, 2, 3, 4, 5, 6, 7};
+  LocalSearch(lowered, near).improve(tour);
+  int taken = 0;
+  for (const Pair& edge : edges_of(tour)) {
+    taken += std::count_if(wanted.begin(), wanted.end(),
+                           [&](Pair pair) { return edge == Pair(std::minmax(pair.first, pair.second)); });
+  }
+  CHECK(taken >= 6);  // of 8, by exchanges alone
 }

@@ -12,7 +12,7 @@ TEST_CASE("tours of nine nodes are shortest, and local search shortens") {
   Random random(3);
   for (int trial = 0; trial < 20; trial++) {
     const Matrix weights = random_matrix(9, random);
-    Eax eax(weights, {}, 30, trial + 1);
+    Eax eax(weights, Instance{weights, {}}, 30, trial + 1);
     const Tour tour = eax.run([] { return false; }, [](Weight) {});
     CHECK(length_of(weights, tour) == shortest(weights));  // EAX finds the shortest tour of nine nodes
   }
@@ -53,4 +53,28 @@ TEST_CASE("potentials change each length alike") {
   for (const Tour& tour : {Tour{0, 1, 2, 3, 4, 5, 6, 7, 8}, Tour{3, 8, 1, 0, 6, 2, 7, 5, 4}}) {
     CHECK(length_of(costs, tour) == length_of(weights, tour) - 2 * all);  // each length changes alike
   }
+}
+
+// Two clusters of five points: by distance alone no list leads from one to the other.
+TEST_CASE("neighbours of each quadrant lead to other clusters") {
+  std::vector<std::pair<Weight, Weight>> points;
+  for (const Weight left : {0, 1000}) {
+    for (const auto& [x, y] :
+         std::vector<std::pair<Weight, Weight>>{{0, 0}, {10, 0}, {0, 10}, {10, 10}, {5, 5}})
+      points.emplace_back(left + x, y);
+  }
+  Matrix weights(10);
+  for (int i = 0; i < 10; i++) {
+    for (int j = 0; j < i; j++) {
+      weights.set(
+          i, j,
+          std::lround(std::hypot(points[i].first - points[j].first, points[i].second - points[j].second)));
+    }
+  }
+  Neighbours lists = nearest(weights, 4);
+  CHECK(lists[4] == std::vector<int>{0, 1, 2, 3});
+  add_by_quadrants(weights, points, 2, lists);
+  std::sort(lists[4].begin(), lists[4].end());
+  CHECK(lists[4] == std::vector<int>{0, 1, 2, 3, 5, 7});  // the left corners of the other cluster join
+  CHECK(std::count_if(lists[5].begin(), lists[5].end(), [](int v) { return v < 5; }) >= 2);
 }

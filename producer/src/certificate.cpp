@@ -1,0 +1,312 @@
+#include "certificate.h"
+
+#include <algorithm>
+#include <cstdlib>
+#include <numeric>
+#include <sstream>
+
+#include "families.h"
+#include "tsp_program.h"
+#include "writing.h"
+
+namespace certify {
+namespace {
+const std::string kNote = "COMMENT : tsp-certify ";
+constexpr std::size_t kMostFamilies = 10000, kMostNodes = 1000000;  // of COMB_SECTION
+
+void read_families(std::istream& words, Certificate& certificate) {
+  for (int v = 0; words >> v && v != -1;) {
+    std::vector<NodeSet>& family = certificate.families.emplace_back();
+    for (; v != -1; words >> v) {
+      NodeSet& set = family.emplace_back();
+      for (; v != -1; words >> v) set.push_back(v - 1);
+    }
+  }
+}
+
+// Differences become numbers.
+void read_tree(std::istream& words, Certificate& certificate) {
+  Numbers numbers;
+  numbers.potentials.assign(certificate.nodes, 0);
+  int open = 1;
+  for (int first = 0; open > 0 && words >> first;) {
+    if (first > 0) {
+      int second = 0;
+      words >> second;
+      certificate.steps.emplace_back(Pair(first - 1, second - 1));
+      open++;
+      continue;
+    }
+    Weight difference = 0;
+    for (int index = 0; words >> index && index != -1;) {
+      words >> difference;
+      if (index <= certificate.nodes) {
+        numbers.potentials[index - 1] += difference;
+      } else {
+        numbers.multipliers[index - certificate.nodes - 1] += difference;
+      }
+    }
+    std::erase_if(numbers.multipliers, [](const auto& entry) { return entry.second == 0; });
+    certificate.steps.emplace_back(numbers);
+    open--;
+  }
+}
+
+std::vector<const Numbers*> leaves_of(const Certificate& certificate) {
+  std::vector<const Numbers*> leaves;
+  for (const TreeStep& step : certificate.steps) {
+    if (const auto* numbers = std::get_if<Numbers>(&step)) leaves.push_back(numbers);
+  }
+  return leaves;
+}
+
+// The largest whole number that divides the scale and all numbers.
+Weight common_divisor(const Certificate& certificate) {
+  Weight divisor = certificate.scale;
+  for (const Numbers* numbers : leaves_of(certificate)) {
+    for (const Weight potential : numbers->potentials) divisor = std::gcd(divisor, potential);
+    for (const auto& [cut, multiplier] : numbers->multipliers) divisor = std::gcd(divisor, multiplier);
+  }
+  return divisor;
+}
+
+// The families with multipliers, in the order of their first leaf, and their numbers from 0 on.
+std::map<int, int> number_families(const Certificate& certificate, std::vector<int>& order) {
+  std::map<int, int> places;
+  for (const Numbers* numbers : leaves_of(certificate)) {
+    for (const auto& [family, multiplier] : numbers->multipliers) {
+      if (multiplier != 0 && places.emplace(family, order.size()).second) order.push_back(family);
+    }
+  }
+  return places;
+}
+
+// Adds the other families, as many as a file may have.
+void add_others(const Certificate& certificate, const std::map<int, int>& places, std::vector<int>& order) {
+  const auto size_of = [&](int family) {
+    std::size_t nodes = 0;
+    for (const NodeSet& set : certificate.families[family]) nodes += set.size();
+    return nodes;
+  };
+  std::size_t nodes = 0;
+  for (const int family : order) nodes += size_of(family);
+  for (int family = 0; family < static_cast<int>(certificate.families.size()); family++) {
+    if (places.contains(family)) continue;
+    nodes += size_of(family);
+    if (order.size() >= kMostFamilies || nodes > kMostNodes) return;
+    order.push_back(family);
+  }
+}
+
+void write_families(std::ostream& text, const Certificate& certificate, const std::vector<int>& order) {
+  if (order.empty()) return;
+  text << "COMB_SECTION\n";
+  for (const int family : order) {
+    for (const NodeSet& set : certificate.families[family]) {
+      for (const int v : set) text << v + 1 << ' ';
+      text << "-1\n";
+    }
+    text << "-1\n";
+  }
+  text << "-1\n";
+}
+
+// A leaf by the differences of its numbers to those of the leaf before.
+void write_leaf(std::ostream& text, const Numbers& numbers, const Numbers& before,
+                const std::map<int, int>& families, Weight divisor) {
+  text << '0';
+  const auto add = [&](std::size_t index, Weight difference) {
+    if (difference != 0) text << ' ' << index << ' ' << difference / divisor;
+  };
+  const std::size_t nodes = numbers.potentials.size();
+  for (std::size_t v = 0; v < nodes; v++) add(v + 1, numbers.potentials[v] - before.potentials[v]);
+  std::map<int, Weight> differences;
+  for (const auto& [family, multiplier] : numbers.multipliers) differences[family] += multiplier;
+  for (const auto& [family, multiplier] : before.multipliers) differences[family] -= multiplier;
+  for (const auto& [family, difference] : differences) {
+    if (difference != 0) add(nodes + 1 + static_cast<std::size_t>(families.at(family)), difference);
+  }
+  text << " -1\n";
+}
+
+// The numbers of a part at the scale of the whole, by the families of the whole.
+Numbers moved(const Numbers& numbers, Weight factor, const std::vector<int>& families) {
+  Numbers moved;
+  for (const Weight potential : numbers.potentials) moved.potentials.push_back(potential * factor);
+  for (const auto& [family, multiplier] : numbers.multipliers) {
+    moved.multipliers[families.at(family)] += multiplier * factor;
+  }
+  return moved;
+}
+}  // namespace
+
+// The canonical text has each keyword on a line of its own, and sections in one order.
+Certificate read_certificate(const std::string& tsp, const std::string& path) {
+  Certificate certificate;
+  std::istringstream text(canonical_text(tsp, path, {}));
+  for (std::string line; std::getline(text, line) && line != "EOF";) {
+    std::istringstream words(line);
+    std::string keyword, colon;
+    words >> keyword >> colon;
+    if (keyword == "TYPE" && line != "TYPE : BRANCHES") break;
+    if (keyword == "DIMENSION") words >> certificate.nodes;
+    if (keyword == "SCALE") words >> certificate.scale;
+    if (line.rfind(kNote, 0) == 0) {
+      std::string maker, key;
+      words >> maker >> key >> certificate.notes[key];
+    }
+    if (keyword == "COMB_SECTION") read_families(text, certificate);
+    if (keyword == "BRANCH_SECTION") read_tree(text, certificate);
+  }
+  if (certificate.steps.empty()) throw Refusal(path + ": this is no file of TYPE BRANCHES");
+  return certificate;
+}
+
+double note_of(const Certificate& certificate, const std::string& key, double otherwise) {
+  const auto found = certificate.notes.find(key);
+  return found == certificate.notes.end() ? otherwise : std::strtod(found->second.c_str(), nullptr);
+}
+
+void write_certificate(const std::string& path, const Certificate& certificate, bool all) {
+  const Weight divisor = common_divisor(certificate);
+  std::vector<int> order;
+  const std::map<int, int> places = number_families(certificate, order);
+  if (all) add_others(certificate, places, order);
+  std::ostringstream text;
+  text << "TYPE : BRANCHES\n";
+  for (const auto& [key, value] : certificate.notes) text << kNote << key << ' ' << value << '\n';
+  text << "DIMENSION : " << certificate.nodes << "\nSCALE : " << certificate.scale / divisor << "\n";
+  write_families(text, certificate, order);
+  text << "BRANCH_SECTION\n";
+  Numbers before;
+  before.potentials.assign(certificate.nodes, 0);
+  for (const TreeStep& step : certificate.steps) {
+    if (const auto* branch = std::get_if<Pair>(&step)) {
+      text << branch->first + 1 << ' ' << branch->second + 1 << '\n';
+    } else {
+      write_leaf(text, std::get<Numbers>(step), before, places, divisor);
+      before = std::get<Numbers>(step);
+    }
+  }
+  text << "EOF\n";
+  write_text(path, text.str());
+}
+
+OpenLeaf leaf_of(const Certificate& certificate, int number) {
+  std::vector<Decision> above;
+  int leaves = 0;
+  for (const TreeStep& step : certificate.steps) {
+    if (const auto* pair = std::get_if<Pair>(&step)) {
+      above.push_back({*pair, true});
+      continue;
+    }
+    if (++leaves == number) return {above, std::get<Numbers>(step)};
+    while (!above.empty() && !above.back().used) above.pop_back();
+    if (!above.empty()) above.back().used = false;
+  }
+  throw Refusal("--leaf " + std::to_string(number) + ": the tree has no such leaf");
+}
+
+int add_family(CutPool& pool, const std::vector<NodeSet>& family, int nodes) {
+  if (family.size() == 1) return pool.add_subtour(family[0]);
+  if (pool.is_comb(family)) return pool.add_comb(family);
+  const auto crossings = required_crossings(family, nodes);
+  if (!crossings) throw Refusal("a family has too many parts");
+  return pool.add_family(family, *crossings);
+}
+
+namespace {
+// Parts put into a tree.
+class Joining {
+ public:
+  Joining(const Certificate& tree, const std::vector<Certificate>& parts)
+      : tree_(tree), whole_{tree.nodes, tree.scale} {
+    const std::string identity = identity_of(tree);
+    for (const Certificate& part : parts) {
+      const auto of = part.notes.find("tree"), leaf = part.notes.find("leaf");
+      if (part.nodes != tree.nodes || of == part.notes.end() || leaf == part.notes.end() ||
+          of->second != identity)
+        throw Refusal("--join: a part is of another tree");
+      parts_[static_cast<int>(std::strtol(leaf->second.c_str(), nullptr, 10))] = &part;
+      whole_.scale = std::lcm(whole_.scale, part.scale);
+    }
+  }
+  Certificate whole() {
+    const std::vector<int> places = places_of(tree_);
+    int leaves = 0;
+    for (const TreeStep& step : tree_.steps) {
+      const bool is_leaf = std::holds_alternative<Numbers>(step);
+      const auto part = is_leaf ? parts_.find(++leaves) : parts_.end();
+      if (part == parts_.end()) {
+        add(tree_, places, step);
+        continue;
+      }
+      const std::vector<int> own = places_of(*part->second);
+      for (const TreeStep& below : part->second->steps) add(*part->second, own, below);
+    }
+    for (const char* key : {"root-gap", "large-tree"}) {
+      const auto note = tree_.notes.find(key);
+      if (note != tree_.notes.end()) whole_.notes.insert(*note);
+    }
+    double open = note_of(tree_, "open", 0);
+    for (const auto& [leaf, part] : parts_) open += note_of(*part, "open", 0) - 1;
+    if (open > 0) whole_.notes["open"] = std::to_string(static_cast<int>(open));
+    return std::move(whole_);
+  }
+
+ private:
+  // The places of a part's families in the whole.
+  std::vector<int> places_of(const Certificate& part) {
+    std::vector<int> places;
+    for (const std::vector<NodeSet>& family : part.families) {
+      const auto [place, fresh] = known_.emplace(family, whole_.families.size());
+      if (fresh) whole_.families.push_back(family);
+      places.push_back(place->second);
+    }
+    return places;
+  }
+  void add(const Certificate& part, const std::vector<int>& places, const TreeStep& step) {
+    const auto* numbers = std::get_if<Numbers>(&step);
+    whole_.steps.push_back(numbers ? TreeStep(moved(*numbers, whole_.scale / part.scale, places)) : step);
+  }
+
+  const Certificate& tree_;
+  Certificate whole_;
+  std::map<int, const Certificate*> parts_;  // by their leaf
+  std::map<std::vector<NodeSet>, int> known_;
+};
+}  // namespace
+
+Certificate joined(const Certificate& tree, const std::vector<Certificate>& parts) {
+  return Joining(tree, parts).whole();
+}
+
+std::string identity_of(const Certificate& certificate) {
+  std::uint64_t sum = 0xcbf29ce484222325ull;  // FNV-1a
+  const auto add = [&](Weight number) {
+    sum = (sum ^ static_cast<std::uint64_t>(number)) * 0x100000001b3ull;
+  };
+  add(certificate.nodes);
+  add(certificate.scale);
+  for (const std::vector<NodeSet>& family : certificate.families) {
+    for (const NodeSet& set : family) {
+      for (const int v : set) add(v);
+      add(-1);
+    }
+    add(-1);
+  }
+  for (const TreeStep& step : certificate.steps) {
+    if (const auto* pair = std::get_if<Pair>(&step)) {
+      add(pair->first);
+      add(pair->second);
+      continue;
+    }
+    for (const Weight potential : std::get<Numbers>(step).potentials) add(potential);
+    for (const auto& [family, multiplier] : std::get<Numbers>(step).multipliers) {
+      add(family);
+      add(multiplier);
+    }
+  }
+  return std::to_string(sum);
+}
+}  // namespace certify

@@ -1,0 +1,47 @@
+// A certificate as it is in a file of TYPE BRANCHES: families, and a tree of branches and leaves. Each leaf
+// of a certificate with a gap can be gone on with elsewhere, and what comes of it takes the leaf's place.
+#pragma once
+#include <map>
+#include <string>
+#include <variant>
+#include <vector>
+
+#include "exact_bound.h"
+
+namespace certify {
+// A branch on a pair, or a leaf with its numbers.
+using TreeStep = std::variant<Pair, Numbers>;
+
+struct Certificate {
+  int nodes = 0;
+  Weight scale = 1;
+  std::map<std::string, std::string> notes{};    // of lines COMMENT : tsp-certify KEY VALUE
+  std::vector<std::vector<NodeSet>> families{};  // as many as multipliers name, and more
+  std::vector<TreeStep> steps{};                 // from the root on, a branch before its cases
+};
+
+// A leaf with what is decided above it.
+struct OpenLeaf {
+  std::vector<Decision> decisions;
+  Numbers numbers;  // the multipliers by the place of a family
+};
+
+// Throws Refusal where the file isn't of TYPE BRANCHES.
+Certificate read_certificate(const std::string& tsp, const std::string& path);
+// Divides by a common divisor. With `all` the families that no leaf names follow the others, as many as a
+// file may have; else they are left out.
+void write_certificate(const std::string& path, const Certificate& certificate, bool all);
+// Adds a family of a file to a pool, as what it is: a set, a comb or a family. The number of the cut.
+int add_family(CutPool& pool, const std::vector<NodeSet>& family, int nodes);
+// The leaf of a number. Throws Refusal where there is none.
+OpenLeaf leaf_of(const Certificate& certificate, int number);
+// The value of a note, or another one where there is no such note.
+double note_of(const Certificate& certificate, const std::string& key, double otherwise);
+// Whether leaves are open, by a note of whoever made it.
+inline bool is_open(const Certificate& certificate) { return certificate.notes.contains("open"); }
+// Puts parts in the places of leaves. Each part's notes say of which leaf it is, and of which tree. Throws
+// Refusal where it is of another one.
+Certificate joined(const Certificate& tree, const std::vector<Certificate>& parts);
+// By what a tree's parts name it: a sum over all that its file says.
+std::string identity_of(const Certificate& certificate);
+}  // namespace certify
