@@ -87,7 +87,7 @@ def whole_lines(kind: str) -> list[str]:
 
 ALL_KEYWORDS = [*TEXTS, *WORDS, *NUMBERS, *OUTSIDE, *SECTIONS, "FIXED_EDGES", "EOF", "FOO", "Type", "E\xe9", "DIMENSION1"]
 ALL_VALUES = [*sum(WORDS.values(), []), *sum(LEFT_OUT.values(), []), "", "x", "4", "4.0", "+4e0", "0", "-1", "100000", "100001",
-              "1e6", "1000001", "1e12", "1000000000001", "4 x", "4.5", "1e-10", "tsp", ":", "a" * 3_990, "a" * 4_001, "\xff \xe9"]
+              "1e6", "1000001", "1e12", "1000000000001", "4 x", "4.5", "1e-10", "tsp", ":", "a" * 3_990, "a" * 3_996, "a" * 3_997, "a" * 4_001, "\xff \xe9"]
 
 
 def word_line(pick: random.Random, number: int) -> Case:
@@ -104,22 +104,22 @@ def word_line(pick: random.Random, number: int) -> Case:
     return Case(pick.choice(["show", "convert"]), (joined(*lines),))
 
 
-PLACED = ["0", "-1", "-1.0", "-01", "+1", "1", "2", "3", "4", "5", "6", "7", "10004", "10005", "1.5", "1e3", "100000", "100001", "x", "-", ".", "1e",
+PLACES = [(name, at) for name, body in BODIES.items() for at in range(len(body.split()) + 1)]
+PLACED = ["0", "-1", "-1.0", "-01", "+1", "1", "2", "3", "4", "5", "6", "7", "10004", "10005", "10006", "10007", "1.5", "1e3", "100000", "100001", "x", "-", ".", "1e",
           "1e-10", "1e12", "1000000000001", "-1000000000001", "1e15", "1000000000000001", "2e15", "-2000000000000001", "1e9", "1000000001",
           "1000000000.000000001", "1000000000", "-1e9", "0.000000001", "1e-9", "1" * 64, "1" * 65, "0" * 63 + "1", "\xff", "EOF"]
 
 
 def place(pick: random.Random, number: int) -> Case:
     """A word at a place of a section: in the place of another, before it, or after all."""
-    name, where, word, how = choice_of(number, SECTIONS, list(range(18)), PLACED, ["replace", "insert", "delete"])
-    words = BODIES[name].split()
-    at = min(where, len(words))
-    if how == "insert" or at == len(words):
+    (name, at), word = choice_of(number, PLACES, PLACED)
+    words, how = BODIES[name].split(), pick.randrange(6)
+    if how == 0 or at == len(words):
         words.insert(at, word)
-    elif how == "replace":
-        words[at] = word
-    else:
+    elif how == 1:
         del words[at:]
+    else:
+        words[at] = word
     words += pick.choice([[], [], ["-1"], ["-1", "-1"], ["0"], ["-1.0"], ["1 -1"]])
     kind = next((kind for kind in TYPES if name in OF_TYPE[kind]), pick.choice(TYPES))
     if "POTENTIAL" in name:
