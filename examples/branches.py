@@ -291,7 +291,9 @@ def main() -> None:
         search.explore(instance.fixed)
         with open(given.branches, "w") as file:
             print(*lines_of(instance, search.steps), sep="\n", file=file)
-    except (No, Faulty, OSError) as reason:  # no tour, no instance, no file
+    except No as reason:
+        sys.exit(f"branches: {given.tour} is no tour of {given.instance}: {reason}")
+    except (Faulty, OSError) as reason:  # no instance, no file
         sys.exit(f"branches: {reason}")
 
 
