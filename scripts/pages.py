@@ -28,6 +28,8 @@ NOTE = "Commands and paths of this page are those of the sources at the commit o
 
 MARKED = re.compile(r"<!-- (checkout|%s) -->(.*?)<!-- end -->" % "|".join(PARTS), re.S)
 RELEASE = re.compile(r"<!-- release\s(.*?)\s*-->", re.S)
+# Links to files that only the repository has.
+BEYOND = re.compile(r"\[([^\]\n]+)\]\((?:\.\./)*(?:bench|bindings|crates|scripts|tests)/(?![^)]*README\.md)[^)]*\)")
 PROGRAM = re.compile(r"(?<![\w/.])\./tsp\b")
 
 
@@ -38,6 +40,7 @@ def of_release(name: str, text: str, without: Iterable[str] = ()) -> str:
     text = RELEASE.sub(lambda found: found[1], text)
     if left := re.search(r"<!--.*", text):
         raise ValueError(f"{name}: this mark has no other end: {left[0]}")
+    text = BEYOND.sub(lambda found: found[1], text)
     if name in SOURCES or name.startswith("tests/"):
         head, _, rest = text.partition("\n")
         return f"{head}\n\n{NOTE}\n{rest}"
