@@ -1,7 +1,7 @@
 -- The weights of code at a leaf are those of its case.
 use Rattle.std.proofs.Common.{◌≡◌, ◌≢◌, ℕ, ◌<◌, ◌≤◌, List, [], ◌∷◌, length, Option, None, Some, true, ℤ, ◌≤ℤ◌, ◌∙◌, ap, sym, subst, arith}
 use Rattle.std.specs.Prelude.{pos, ◌+ℤ◌, ◌-ℤ◌, ◌*ℤ◌, MatchOption}
-use Rattle.std.specs.List.{All, AllPairs, AllByRecursion}
+use Rattle.std.specs.List.{All, AllByRecursion}
 use Rattle.std.proofs.lemmas.Int.{ints}
 use Rattle.std.proofs.lemmas.List.Elements.{recursion_from_All, All-from_recursion}
 use Rattle.tsp_theory.specs.Numbers.{IsFromTo, total}
@@ -13,26 +13,24 @@ use Rattle.tsp_theory.specs.NodeBound.{weight_between}
 use Rattle.tsp_branch.specs.LeafBound.{combed, least_of, leaf_weight}
 use Rattle.tsp_branch.specs.Rows.{HasNoLink, IsRowBound}
 use Rattle.tsp_branch.specs.Certificate.{multiplied, IsFoundAt}
-use Rattle.tsp_branch.specs.states.Combed.{plain, AreSmallMultipliers, AreFewCrossings, set_weight}
-use Rattle.tsp_branch.specs.CombsOfSets.{NumberedSet, families_of}
+use Rattle.tsp_branch.specs.states.Combed.{AreSmallMultipliers, AreFewCrossings, set_weight}
+use Rattle.tsp_branch.specs.CombsOfSets.{families_with}
 use Rattle.tsp_branch.specs.states.Decided.{decided}
 use Rattle.tsp_branch.specs.GoodNumbers.{AreGoodNumbers, as_leaf_numbers, most_crossed, most_with}
-use Rattle.tsp_families.specs.declared.comb_set.CombSet.{CombSet}
 use Rattle.tsp_branch.proofs.Changes.{changes_are}
 use Rattle.tsp_branch.proofs.CombSizes.{families_crossed_few, families_some, multipliers_below}
 use Rattle.tsp_branch.proofs.CombsBySets.{sets_tell_combs, sets_give_leaves}
-use Rattle.tsp_branch.proofs.GivenBack.{below_from_sets}
 use Rattle.tsp_branch.proofs.RowLeaves.{agreed_rows}
 
 -- weights that are those by sets, under the decisions of a case, are those of the leaf
-pub case_weight : (w : ℕ → ℕ → ℤ) (scale : ℤ) (crossed : List Crossings) (potentials multipliers : List ℤ) (sets : List NumberedSet) (case : List Decision) (cost : ℕ → ℕ → ℤ) (i j : ℕ)
-    → length multipliers ≡ length crossed → All (λ set. set.comb < length multipliers) sets → w i j ≡ set_weight scale potentials multipliers sets cost i j
+pub case_weight : (w : ℕ → ℕ → ℤ) (scale : ℤ) (crossed : List Crossings) (potentials multipliers : List ℤ) (families : List (List (List ℕ))) (case : List Decision) (cost : ℕ → ℕ → ℤ) (i j : ℕ)
+    → length crossed ≡ length families → length multipliers ≡ length families → w i j ≡ set_weight scale potentials multipliers families cost i j
     → decided case w i j
     ≡ leaf_weight scale potentials (on_taken decided_number case) (on_avoided decided_number case)
-    (multiplied (families_of crossed sets) multipliers) cost i j
-case_weight w scale crossed potentials multipliers sets case cost i j long below is =
-    let v : ℕ → ℕ → ℤ = set_weight scale potentials multipliers sets cost in
-    let leaf = sets_give_leaves scale crossed potentials multipliers (on_taken decided_number case) (on_avoided decided_number case) sets cost i j long below in
+    (multiplied (families_with crossed families) multipliers) cost i j
+case_weight w scale crossed potentials multipliers families case cost i j many long is =
+    let v : ℕ → ℕ → ℤ = set_weight scale potentials multipliers families cost in
+    let leaf = sets_give_leaves scale crossed potentials multipliers (on_taken decided_number case) (on_avoided decided_number case) families cost i j many long in
     let by = changes_are case v i j in
     let own = changes_are case w i j in
     omega (arith, ints, leaf, by, own, is)
@@ -65,30 +63,23 @@ small_multipliers n crossed potentials ms some good =
     (own.0, let most = own.1 in let sum = few_multipliers crossed ms good.each_comb some good.signs good.sum in omega (arith, ints, most, sum))
 
 -- some two nodes cross each family
-pub all_some : (n : ℕ) (crossed : List Crossings) (sets : List NumberedSet) → All (IsFamily n) (families_of crossed sets) → All (λ own. 1 ≤ own.most) crossed
-all_some n crossed sets are = All-from_recursion (λ own. 1 ≤ own.most) crossed (families_some n 0 crossed sets (recursion_from_All (IsFamily n) (families_of crossed sets) are))
+pub all_some : (n : ℕ) (crossed : List Crossings) (families : List (List (List ℕ))) → length crossed ≡ length families → All (IsFamily n) (families_with crossed families) → All (λ own. 1 ≤ own.most) crossed
+all_some n crossed families many are = All-from_recursion (λ own. 1 ≤ own.most) crossed (families_some n crossed families many (recursion_from_All (IsFamily n) (families_with crossed families) are))
 
-pub few_crossings : (n : ℕ) (crossed : List Crossings) (potentials multipliers : List ℤ) (sets : List NumberedSet) → AreGoodNumbers n crossed (as_leaf_numbers potentials multipliers)
-    → All (IsFamily n) (families_of crossed sets) → All (λ set. set.comb < length multipliers) sets → AreFewCrossings n multipliers sets
-few_crossings n crossed potentials ms sets good are below = λ i j in_i in_j.
-    let few = families_crossed_few n 0 crossed sets ms i j in_i in_j (recursion_from_All (IsFamily n) (families_of crossed sets) are) (recursion_from_All (λ m. pos 0 ≤ℤ m) ms good.signs) in
-    let same = sets_tell_combs crossed ms sets i j good.each_comb below in
+pub few_crossings : (n : ℕ) (crossed : List Crossings) (potentials multipliers : List ℤ) (families : List (List (List ℕ))) → AreGoodNumbers n crossed (as_leaf_numbers potentials multipliers)
+    → length crossed ≡ length families → All (IsFamily n) (families_with crossed families) → AreFewCrossings n multipliers families
+few_crossings n crossed potentials ms families good many are = λ i j in_i in_j.
+    let few = families_crossed_few n crossed families ms i j in_i in_j many (recursion_from_All (IsFamily n) (families_with crossed families) are) (recursion_from_All (λ m. pos 0 ≤ℤ m) ms good.signs) in
+    let same = sets_tell_combs crossed ms families i j many (good.each_comb ∙ many) in
     let sum = good.sum in
     (let low = few.0 in omega (arith, ints, low, same), let high = few.1 in omega (arith, ints, high, same, sum))
-
--- ---- the sets as code has them
-
-pub sets_below_count : (count combs : ℕ) (sets : List CombSet) → combs ≡ count → All (λ set. (set.comb < count) × AllPairs (λ a b. a ≢ b) set.nodes.items) sets → All (λ set. set.comb < combs) (plain sets)
-sets_below_count count combs sets same h =
-    All-from_recursion (λ set. set.comb < combs) (plain sets) (below_from_sets combs sets (λ k default lt. let own = (h k default lt).0 in omega (arith, own, same)))
 
 -- ---- the least links from each node
 
 -- weights that are those by sets are those of a leaf by rows
-pub row_weight : (crossed : List Crossings) (scale : ℤ) (potentials multipliers : List ℤ) (sets : List NumberedSet) (cost : ℕ → ℕ → ℤ) (i j : ℕ) → length multipliers ≡ length crossed
-    → All (λ set. set.comb < length multipliers) sets
-    → set_weight scale potentials multipliers sets cost i j ≡ combed (multiplied (families_of crossed sets) multipliers) (weight_between scale potentials cost) i j
-row_weight crossed scale ps ms sets cost i j long below = ap (λ (z : ℤ). weight_between scale ps cost i j -ℤ z) (sym (sets_tell_combs crossed ms sets i j long below))
+pub row_weight : (crossed : List Crossings) (scale : ℤ) (potentials multipliers : List ℤ) (families : List (List (List ℕ))) (cost : ℕ → ℕ → ℤ) (i j : ℕ) → length crossed ≡ length families → length multipliers ≡ length families
+    → set_weight scale potentials multipliers families cost i j ≡ combed (multiplied (families_with crossed families) multipliers) (weight_between scale potentials cost) i j
+row_weight crossed scale ps ms families cost i j many long = ap (λ (z : ℤ). weight_between scale ps cost i j -ℤ z) (sym (sets_tell_combs crossed ms families i j many long))
 
 -- what the code finds by rows is what is found of the leaf
 pub found_by_rows : (n k : ℕ) (cost : ℕ → ℕ → ℤ) (scale held number : ℤ) (families : List Family) (case : List Decision) (potentials multipliers : List ℤ) (w : ℕ → ℕ → ℤ) (back : ℤ)

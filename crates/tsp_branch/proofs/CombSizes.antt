@@ -19,7 +19,7 @@ use Rattle.tsp_branch.specs.Combs.{Comb, AreApart, crossings}
 use Rattle.tsp_branch.specs.Families.{Family, IsLoneOrComb, IsFamily}
 use Rattle.tsp_branch.specs.LeafBound.{crossings_of}
 use Rattle.tsp_branch.specs.Certificate.{multiplied}
-use Rattle.tsp_branch.specs.CombsOfSets.{NumberedSet, of_comb, family_with, families_from}
+use Rattle.tsp_branch.specs.CombsOfSets.{family_with, families_with}
 use Rattle.tsp_branch.specs.GoodNumbers.{most_crossed, most_with}
 use Rattle.tsp_branch.specs.states.Combed.{most_combed}
 use Rattle.tsp_branch.proofs.Combs.{Apart, apart_from_pairs}
@@ -93,24 +93,27 @@ times_at_most (pos m) crossed most some low high =
     let least = product_below m (pos 0) crossed low in
     (omega (arith, ints, none, least), product_below m crossed (pos most) high)
 
-pub families_crossed_few : (n first : ℕ) (crossed : List Crossings) (sets : List NumberedSet) (multipliers : List ℤ) (i j : ℕ) → IsNode n i → IsNode n j
-    → AllByRecursion (IsFamily n) (families_from first crossed sets) → AllByRecursion (λ multiplier. pos 0 ≤ℤ multiplier) multipliers
-    → (pos 0 ≤ℤ crossings_of (multiplied (families_from first crossed sets) multipliers) i j)
-    × (crossings_of (multiplied (families_from first crossed sets) multipliers) i j ≤ℤ most_with crossed multipliers)
-families_crossed_few n first [] sets ms i j in_i in_j are signs = (omega (arith, ints), omega (arith, ints))
-families_crossed_few n first (own ∷ crossed) sets [] i j in_i in_j are signs = (omega (arith, ints), omega (arith, ints))
-families_crossed_few n first (own ∷ crossed) sets (m ∷ ms) i j in_i in_j are signs =
-    let rest = families_crossed_few n (suc first) crossed sets ms i j in_i in_j are.1 signs.1 in
-    let family : Family = family_with own (of_comb first sets) in
+pub families_crossed_few : (n : ℕ) (crossed : List Crossings) (families : List (List (List ℕ))) (multipliers : List ℤ) (i j : ℕ) → IsNode n i → IsNode n j → length crossed ≡ length families
+    → AllByRecursion (IsFamily n) (families_with crossed families) → AllByRecursion (λ multiplier. pos 0 ≤ℤ multiplier) multipliers
+    → (pos 0 ≤ℤ crossings_of (multiplied (families_with crossed families) multipliers) i j)
+    × (crossings_of (multiplied (families_with crossed families) multipliers) i j ≤ℤ most_with crossed multipliers)
+families_crossed_few n [] families ms i j in_i in_j many are signs = (omega (arith, ints), omega (arith, ints))
+families_crossed_few n (own ∷ crossed) [] ms i j in_i in_j many are signs = absurd (omega (arith, many))
+families_crossed_few n (own ∷ crossed) (sets ∷ families) [] i j in_i in_j many are signs = (omega (arith, ints), omega (arith, ints))
+families_crossed_few n (own ∷ crossed) (sets ∷ families) (m ∷ ms) i j in_i in_j many are signs =
+    let rest = families_crossed_few n crossed families ms i j in_i in_j (omega (arith, many)) are.1 signs.1 in
+    let family : Family = family_with own sets in
     let one = times_at_most m (crossings family.sets i j) own.most signs.0 (crossed_some family.sets i j) (family_crossed_few n family i j in_i in_j are.0) in
     (omega (arith, ints, rest.0, one.0), omega (arith, ints, rest.1, one.1))
 
 -- some two nodes cross each family
-pub families_some : (n first : ℕ) (crossed : List Crossings) (sets : List NumberedSet) → AllByRecursion (IsFamily n) (families_from first crossed sets) → AllByRecursion (λ own. 1 ≤ own.most) crossed
-families_some n first [] sets are = tt
-families_some n first (own ∷ crossed) sets are = (some are.0, families_some n (suc first) crossed sets are.1)
+pub families_some : (n : ℕ) (crossed : List Crossings) (families : List (List (List ℕ))) → length crossed ≡ length families → AllByRecursion (IsFamily n) (families_with crossed families)
+    → AllByRecursion (λ own. 1 ≤ own.most) crossed
+families_some n [] families many are = tt
+families_some n (own ∷ crossed) [] many are = absurd (omega (arith, many))
+families_some n (own ∷ crossed) (sets ∷ families) many are = (some are.0, families_some n crossed families (omega (arith, many)) are.1)
   where
-    some : IsFamily n (family_with own (of_comb first sets)) → 1 ≤ own.most
+    some : IsFamily n (family_with own sets) → 1 ≤ own.most
     some (inl known) = omega (arith, known.most_is)
     some (inr other) = other.parted
 

@@ -9,7 +9,7 @@ use Rattle.tsp_format.specs.Cells.{IsNode}
 use Rattle.tsp_families.specs.Crossed.{IsLeastLength, IsMostCost, has, sets_of, sets_crossed, AreTooMany}
 use Rattle.tsp_families.specs.SetParts.{MostCostsAreUnique}
 use Rattle.tsp_families.specs.FamilySets.{AreSetsOf, lists_of}
-use Rattle.tsp_families.specs.declared.comb_set.CombSet.{CombSet}
+use Rattle.std.specs.Global.{Vec}
 use Rattle.tsp_families.specs.declared.family.Crossings.{Crossings}
 use Rattle.tsp_branch.specs.Families.{IsFamily, least_crossings_of}
 use Rattle.tsp_branch.specs.CombsOfSets.{comb_with, family_with}
@@ -75,17 +75,17 @@ one_part n most (handle ∷ teeth) unique unknown none is good = elim good.famil
 
 -- ---- each node once
 
-pub set_here : (sets : List CombSet) (index : ℕ) (default : CombSet) (nodes other : List ℕ) → index < length sets → nodes ≡ (get_or sets index default).nodes.items → get_or (lists_of sets) index other ≡ nodes
-set_here sets index default nodes other lt same = get_or-map (λ (set : CombSet). set.nodes.items) sets index default other lt ∙ sym same
+pub set_here : (sets : List (Vec ℕ)) (index : ℕ) (default : Vec ℕ) (nodes other : List ℕ) → index < length sets → nodes ≡ (get_or sets index default).items → get_or (lists_of sets) index other ≡ nodes
+set_here sets index default nodes other lt same = get_or-map (λ (set : Vec ℕ). set.items) sets index default other lt ∙ sym same
 
-pub lists_long : (sets : List CombSet) → length (lists_of sets) ≡ length sets
-lists_long sets = length-map sets (λ (set : CombSet). set.nodes.items)
+pub lists_long : (sets : List (Vec ℕ)) → length (lists_of sets) ≡ length sets
+lists_long sets = length-map sets (λ (set : Vec ℕ). set.items)
 
 -- nodes of which none has the mark are new exactly where they are each there once
 pub new_once : (marks : List ℕ) (mark : ℕ) (nodes : List ℕ) → AreUnmarked marks mark → HasEachOnce nodes → AreNew (is_marked marks mark) nodes
 new_once marks mark nodes none once = record { unused = λ k d lt. none (get_or nodes k d); once = once }
 
-pub once_more : (sets : List CombSet) (index : ℕ) (default : CombSet) (nodes : List ℕ) → index < length sets → nodes ≡ (get_or sets index default).nodes.items
+pub once_more : (sets : List (Vec ℕ)) (index : ℕ) (default : Vec ℕ) (nodes : List ℕ) → index < length sets → nodes ≡ (get_or sets index default).items
     → ((k : ℕ) (d : List ℕ) → k < index → HasEachOnce (get_or (lists_of sets) k d)) → HasEachOnce nodes → (k : ℕ) (d : List ℕ) → k < index + 1 → HasEachOnce (get_or (lists_of sets) k d)
 once_more sets index default nodes lt same before here k d less = elim (cases_eq k index) [
   | inl last ↦ subst (λ (m : ℕ). HasEachOnce (get_or (lists_of sets) m d)) (sym last) (subst HasEachOnce (sym (set_here sets index default nodes d lt same)) here)

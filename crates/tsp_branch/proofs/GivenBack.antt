@@ -17,11 +17,9 @@ use Rattle.tsp_branch.specs.LeafBound.{least_of}
 use Rattle.tsp_branch.specs.Certificate.{multiplied}
 use Rattle.tsp_branch.specs.declared.decision.Decision.{Decision}
 use Rattle.tsp_branch.specs.Decisions.{on_taken, decided_number}
-use Rattle.tsp_branch.specs.states.Combed.{plain}
 use Rattle.tsp_branch.specs.GoodNumbers.{most_crossed}
-use Rattle.tsp_branch.specs.CombsOfSets.{NumberedSet, families_from, least_with}
+use Rattle.tsp_branch.specs.CombsOfSets.{families_with, least_with}
 use Rattle.tsp_branch.specs.states.Decided.{stack_of}
-use Rattle.tsp_families.specs.declared.comb_set.CombSet.{CombSet}
 use Rattle.tsp_branch.proofs.LeafBounds.{product_below}
 
 -- ---- sums of numbers
@@ -90,13 +88,6 @@ taken_left ds index default lt =
       | inr f ↦ rw f (omega (arith, ints))
     ])
 
-pub below_from_sets : (k : ℕ) (sets : List CombSet) → All (λ set. set.comb < k) sets → AllByRecursion (λ set. set.comb < k) (plain sets)
-below_from_sets k sets h = by sets (recursion_from_All (λ set. set.comb < k) sets h)
-  where
-    by : (sets : List CombSet) → AllByRecursion (λ set. set.comb < k) sets → AllByRecursion (λ set. set.comb < k) (plain sets)
-    by [] h = tt
-    by (set ∷ sets) h = (h.0, by sets h.1)
-
 -- ---- one family
 
 pub product_size : (m : ℤ) (r : ℕ) → pos 0 ≤ℤ m → r < 2 ^ 34 → (pos 0 ≤ℤ (m *ℤ pos r)) × ((m *ℤ pos r) ≤ℤ (pos (2 ^ 34) *ℤ m))
@@ -122,10 +113,11 @@ least_left crossed ms index default lt below =
     ∙ rw (add-one index) refl
 
 -- what the families give back, whatever their sets
-pub least_told : (first : ℕ) (crossed : List Crossings) (ms : List ℤ) (sets : List NumberedSet) → least_of (multiplied (families_from first crossed sets) ms) ≡ least_with crossed ms
-least_told first [] ms sets = refl
-least_told first (own ∷ crossed) [] sets = refl
-least_told first (own ∷ crossed) (m ∷ ms) sets = ap (λ (z : ℤ). (m *ℤ pos own.least) +ℤ z) (least_told (suc first) crossed ms sets)
+pub least_told : (crossed : List Crossings) (ms : List ℤ) (families : List (List (List ℕ))) → length crossed ≡ length families → least_of (multiplied (families_with crossed families) ms) ≡ least_with crossed ms
+least_told [] ms families many = refl
+least_told (own ∷ crossed) ms [] many = absurd (omega (arith, many))
+least_told (own ∷ crossed) [] (sets ∷ families) many = refl
+least_told (own ∷ crossed) (m ∷ ms) (sets ∷ families) many = ap (λ (z : ℤ). (m *ℤ pos own.least) +ℤ z) (least_told crossed ms families (omega (arith, many)))
 
 -- ---- as the code computes it
 

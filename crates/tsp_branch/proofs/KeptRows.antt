@@ -3,7 +3,7 @@ use Rattle.std.proofs.Common.{◌≡◌, ℕ, zero, suc, ◌+◌, ◌<◌, ◌�
 use Rattle.std.specs.Prelude.{◌⊎◌, ◌≤◌, ℤ, pos, neg_ℤ, ◌+ℤ◌, ◌*ℤ◌, slice_index_or as get_or}
 use Rattle.std.specs.Int.{w64, int_wrap}
 use Rattle.std.specs.Global.{Vec}
-use Rattle.std.specs.List.{AllPairs}
+use Rattle.std.specs.List.{All}
 use Rattle.std.proofs.Math.ListN.{set}
 use Rattle.std.proofs.lemmas.Bool.{cases_Bool, cases_eq, cases_lt}
 use Rattle.std.proofs.lemmas.Int.{ints, int_wrap-add_left, int_wrap-add_same, int_wrap_fits, SFits-int_wrap}
@@ -13,11 +13,12 @@ use Rattle.tsp_format.specs.Cells.{IsNode}
 use Rattle.tsp_theory.specs.NodeBound.{weight_between, most_between}
 use Rattle.tsp_theory.specs.Numbers.{IsFromTo, entry}
 use Rattle.tsp_theory.specs.states.Nearest.{least_at}
-use Rattle.tsp_families.specs.declared.comb_set.CombSet.{CombSet}
-use Rattle.tsp_branch.specs.CombsOfSets.{NumberedSet}
+use Rattle.tsp_theory.specs.Length.{sum_int_by}
+use Rattle.tsp_branch.specs.GoodCombs.{HasEachOnce}
 use Rattle.tsp_branch.specs.GoodNumbers.{most_crossed}
-use Rattle.tsp_branch.specs.states.Sets.{IsMoved, added, sets_with, IsSetTable}
-use Rattle.tsp_branch.specs.states.Combed.{AreSmallMultipliers, AreMultipliedSets, no_set, plain, multipliers_at, twice_in, inside_both, set_crossings, most_combed, set_weight}
+use Rattle.tsp_branch.specs.declared.set_place.SetPlace.{SetPlace}
+use Rattle.tsp_branch.specs.states.Sets.{IsMoved, added, places_with, IsSetTable}
+use Rattle.tsp_branch.specs.states.Combed.{AreSmallMultipliers, summed_from, multipliers_at, set_in, twice_in, inside_both, set_crossings, most_combed, set_weight}
 use Rattle.tsp_branch.specs.states.Kept.{kept_weight, IsKeptRow, AreRows, AreRowsIfAny, AreAdded, AreDifferences, AreEnds}
 use Rattle.tsp_branch.proofs.CombedRows.{added_none}
 use Rattle.tsp_branch.proofs.CombedValues.{combed_at}
@@ -64,20 +65,20 @@ added_sum a b (node ∷ nodes) x =
       | inr other ↦ rw other (omega (arith, ints, rest))
     ]
 
-twice_sum : (old new differences : List ℤ) (sets : List NumberedSet) (number x : ℕ) → AreDifferences old new differences
-    → twice_in new sets number x ≡ twice_in old sets number x +ℤ twice_in differences sets number x
-twice_sum old new differences sets number x are =
-    let own : NumberedSet = get_or sets number no_set in
-    let more = are own.comb in
-    let twice : pos 2 *ℤ get_or new own.comb (pos 0) ≡ (pos 2 *ℤ get_or old own.comb (pos 0)) +ℤ (pos 2 *ℤ get_or differences own.comb (pos 0)) = omega (arith, ints, more) in
-    ap (λ (z : ℤ). added z own.nodes x) twice ∙ added_sum (pos 2 *ℤ get_or old own.comb (pos 0)) (pos 2 *ℤ get_or differences own.comb (pos 0)) own.nodes x
+twice_sum : (old new differences : List ℤ) (families : List (List (List ℕ))) (place : SetPlace) (x : ℕ) → AreDifferences old new differences
+    → twice_in new families place x ≡ twice_in old families place x +ℤ twice_in differences families place x
+twice_sum old new differences families place x are =
+    let own : List ℕ = set_in families place in
+    let more = are place.family in
+    let twice : pos 2 *ℤ get_or new place.family (pos 0) ≡ (pos 2 *ℤ get_or old place.family (pos 0)) +ℤ (pos 2 *ℤ get_or differences place.family (pos 0)) = omega (arith, ints, more) in
+    ap (λ (z : ℤ). added z own x) twice ∙ added_sum (pos 2 *ℤ get_or old place.family (pos 0)) (pos 2 *ℤ get_or differences place.family (pos 0)) own x
 
-inside_sum : (old new differences : List ℤ) (sets : List NumberedSet) (numbers : List ℕ) (x : ℕ) → AreDifferences old new differences
-    → inside_both new sets numbers x ≡ inside_both old sets numbers x +ℤ inside_both differences sets numbers x
-inside_sum old new differences sets [] x are = refl
-inside_sum old new differences sets (number ∷ numbers) x are =
-    let own = twice_sum old new differences sets number x are in
-    let rest = inside_sum old new differences sets numbers x are in
+inside_sum : (old new differences : List ℤ) (families : List (List (List ℕ))) (places : List SetPlace) (x : ℕ) → AreDifferences old new differences
+    → inside_both new families places x ≡ inside_both old families places x +ℤ inside_both differences families places x
+inside_sum old new differences families [] x are = refl
+inside_sum old new differences families (place ∷ places) x are =
+    let own = twice_sum old new differences families place x are in
+    let rest = inside_sum old new differences families places x are in
     omega (arith, ints, own, rest)
 
 row_brought : (n : ℕ) (cost was is change : ℕ → ℤ) (old new : List ℤ) → length new ≡ length old → ((x : ℕ) → is x ≡ was x +ℤ change x)
@@ -93,42 +94,52 @@ some_of : {A : Type 0} (xs : List A) (k : ℕ) → k < length xs → A
 some_of [] k less = absurd (omega (arith, less))
 some_of (x ∷ xs) k less = x
 
-pub rows_brought : (n : ℕ) (scale : ℤ) (sets : List CombSet) (cost : ℕ → ℕ → ℤ) (old new differences : List ℤ) (by_node : List (Vec ℕ)) (rows brought : List (Vec ℤ))
-    → AreDifferences old new differences → IsSetTable n sets by_node → AreAdded differences sets by_node rows brought → AreRowsIfAny n cost (kept_weight scale sets cost old) rows
-    → AreRowsIfAny n cost (kept_weight scale sets cost new) brought
-rows_brought n scale sets cost old new differences by_node rows brought are table more all some =
+pub rows_brought : (n : ℕ) (scale : ℤ) (families : List (List (List ℕ))) (cost : ℕ → ℕ → ℤ) (old new differences : List ℤ) (by_node : List (Vec SetPlace)) (rows brought : List (Vec ℤ))
+    → AreDifferences old new differences → IsSetTable n families by_node → AreAdded differences families by_node rows brought → AreRowsIfAny n cost (kept_weight scale families cost old) rows
+    → AreRowsIfAny n cost (kept_weight scale families cost new) brought
+rows_brought n scale families cost old new differences by_node rows brought are table more all some =
     let kept = all (omega (arith, some, more.many)) in
     record {
       many = more.many ∙ kept.many;
       each = λ k default less.
           let inside : k < length rows = omega (arith, less, kept.many) in
-          let list : Vec ℕ = some_of by_node (k + 1) (omega (arith, less, table.count)) in
+          let list : Vec SetPlace = some_of by_node (k + 1) (omega (arith, less, table.count)) in
           let listed = table.said (k + 1) list (omega (arith, less)) in
-          row_brought n (cost (k + 1)) (kept_weight scale sets cost old (k + 1)) (kept_weight scale sets cost new (k + 1)) (λ x. inside_both differences (plain sets) (sets_with 0 sets (k + 1)) x)
+          row_brought n (cost (k + 1)) (kept_weight scale families cost old (k + 1)) (kept_weight scale families cost new (k + 1)) (λ x. inside_both differences families (places_with 0 families (k + 1)) x)
           (get_or rows k default).items (get_or brought k default).items (more.long k default default inside)
-          (λ x. let sum = inside_sum old new differences (plain sets) (sets_with 0 sets (k + 1)) x are in omega (arith, ints, sum))
-          (λ x. subst (λ (ns : List ℕ). IsMoved (inside_both differences (plain sets) ns x) (least_at (get_or rows k default).items x) (least_at (get_or brought k default).items x)) listed
+          (λ x. let sum = inside_sum old new differences families (places_with 0 families (k + 1)) x are in omega (arith, ints, sum))
+          (λ x. subst (λ (ns : List SetPlace). IsMoved (inside_both differences families ns x) (least_at (get_or rows k default).items x) (least_at (get_or brought k default).items x)) listed
           (more.moved k x default default list inside)) (kept.each k default less);
     }
 
-ends_sum : (old new differences : List ℤ) (sets : List NumberedSet) (x : ℕ) → AreDifferences old new differences
-    → multipliers_at new sets x ≡ multipliers_at old sets x +ℤ multipliers_at differences sets x
-ends_sum old new differences [] x are = refl
-ends_sum old new differences (set ∷ sets) x are =
-    let own = ap (λ (z : ℤ). added z set.nodes x) (are set.comb) ∙ added_sum (get_or old set.comb (pos 0)) (get_or differences set.comb (pos 0)) set.nodes x in
-    let rest = ends_sum old new differences sets x are in
+abbrev at_sets : ℤ → List (List ℕ) → ℕ → ℤ
+at_sets number sets x = sum_int_by (λ set. added number set x) sets
+
+family_sum : (a b : ℤ) (sets : List (List ℕ)) (x : ℕ) → at_sets (a +ℤ b) sets x ≡ at_sets a sets x +ℤ at_sets b sets x
+family_sum a b [] x = refl
+family_sum a b (set ∷ sets) x = let own = added_sum a b set x in let rest = family_sum a b sets x in omega (arith, ints, own, rest)
+
+abbrev taken_from : ℕ → List ℤ → List (List (List ℕ)) → ℕ → ℤ
+taken_from first multipliers families x = summed_from first (λ multiplier set. added multiplier set x) multipliers families
+
+ends_sum : (first : ℕ) (old new differences : List ℤ) (families : List (List (List ℕ))) (x : ℕ) → AreDifferences old new differences
+    → taken_from first new families x ≡ taken_from first old families x +ℤ taken_from first differences families x
+ends_sum first old new differences [] x are = refl
+ends_sum first old new differences (sets ∷ families) x are =
+    let own = ap (λ (z : ℤ). at_sets z sets x) (are first) ∙ family_sum (get_or old first (pos 0)) (get_or differences first (pos 0)) sets x in
+    let rest = ends_sum (suc first) old new differences families x are in
     omega (arith, ints, own, rest)
 
-pub ends_brought : (n : ℕ) (sets : List CombSet) (old new differences ends brought : List ℤ) → AreDifferences old new differences → length brought ≡ length ends
-    → ((x : ℕ) → IsMoved (neg_ℤ (multipliers_at differences (plain sets) x)) (least_at ends x) (least_at brought x)) → AreEnds n old sets ends → AreEnds n new sets brought
-ends_brought n sets old new differences ends brought are same moved was = record {
+pub ends_brought : (n : ℕ) (families : List (List (List ℕ))) (old new differences ends brought : List ℤ) → AreDifferences old new differences → length brought ≡ length ends
+    → ((x : ℕ) → IsMoved (neg_ℤ (multipliers_at differences families x)) (least_at ends x) (least_at brought x)) → AreEnds n old families ends → AreEnds n new families brought
+ends_brought n families old new differences ends brought are same moved was = record {
   places = same ∙ was.places;
   taken = λ x x_in.
-      let change : ℤ = neg_ℤ (multipliers_at differences (plain sets) x) in
-      let sum : neg_ℤ (multipliers_at old (plain sets) x) +ℤ change ≡ neg_ℤ (multipliers_at new (plain sets) x) =
-      (let all = ends_sum old new differences (plain sets) x are in omega (arith, ints, all)) in
+      let change : ℤ = neg_ℤ (multipliers_at differences families x) in
+      let sum : neg_ℤ (multipliers_at old families x) +ℤ change ≡ neg_ℤ (multipliers_at new families x) =
+      (let all = ends_sum 0 old new differences families x are in omega (arith, ints, all)) in
       wrapped_by change (least_at ends x) (least_at brought x) (least_at ends x) (moved x) refl
-      ∙ int_wrap-add_same w64 (least_at ends x) (neg_ℤ (multipliers_at old (plain sets) x)) change (was.taken x x_in) ∙ ap (int_wrap w64) sum;
+      ∙ int_wrap-add_same w64 (least_at ends x) (neg_ℤ (multipliers_at old families x)) change (was.taken x x_in) ∙ ap (int_wrap w64) sum;
 }
 
 -- the potential of a node with its end
@@ -147,21 +158,19 @@ none_at count k = elim (cases_lt k count) [
   | inr past ↦ get_or_past (replicate count (pos 0)) k (pos 0) (omega (arith, past, length-replicate count (pos 0)))
 ]
 
-twice_none : (count : ℕ) (sets : List NumberedSet) (number x : ℕ) → twice_in (replicate count (pos 0)) sets number x ≡ pos 0
-twice_none count sets number x =
-    let own : NumberedSet = get_or sets number no_set in
-    ap (λ (z : ℤ). added (pos 2 *ℤ z) own.nodes x) (none_at count own.comb) ∙ added_none own.nodes x
+twice_none : (count : ℕ) (families : List (List (List ℕ))) (place : SetPlace) (x : ℕ) → twice_in (replicate count (pos 0)) families place x ≡ pos 0
+twice_none count families place x = ap (λ (z : ℤ). added (pos 2 *ℤ z) (set_in families place) x) (none_at count place.family) ∙ added_none (set_in families place) x
 
-inside_none : (count : ℕ) (sets : List NumberedSet) (numbers : List ℕ) (x : ℕ) → inside_both (replicate count (pos 0)) sets numbers x ≡ pos 0
-inside_none count sets [] x = refl
-inside_none count sets (number ∷ numbers) x =
-    let own = twice_none count sets number x in
-    let rest = inside_none count sets numbers x in
+inside_none : (count : ℕ) (families : List (List (List ℕ))) (places : List SetPlace) (x : ℕ) → inside_both (replicate count (pos 0)) families places x ≡ pos 0
+inside_none count families [] x = refl
+inside_none count families (place ∷ places) x =
+    let own = twice_none count families place x in
+    let rest = inside_none count families places x in
     omega (arith, ints, own, rest)
 
-pub kept_at_start : (n combs : ℕ) (scale held : ℤ) (sets : List CombSet) (cost : ℕ → ℕ → ℤ) (rows : List (Vec ℤ)) → held ≡ scale
-    → AreRowsIfAny n cost (λ i x. held *ℤ cost i x) rows → AreRowsIfAny n cost (kept_weight scale sets cost (replicate combs (pos 0))) rows
-kept_at_start n combs scale held sets cost rows same all some =
+pub kept_at_start : (n combs : ℕ) (scale held : ℤ) (families : List (List (List ℕ))) (cost : ℕ → ℕ → ℤ) (rows : List (Vec ℤ)) → held ≡ scale
+    → AreRowsIfAny n cost (λ i x. held *ℤ cost i x) rows → AreRowsIfAny n cost (kept_weight scale families cost (replicate combs (pos 0))) rows
+kept_at_start n combs scale held families cost rows same all some =
     let kept = all some in
     record {
       many = kept.many;
@@ -171,21 +180,25 @@ kept_at_start n combs scale held sets cost rows same all some =
             long = row.long;
             costs = row.costs;
             weights = λ x x_in. row.weights x x_in ∙ ap (int_wrap w64)
-                (let none = inside_none combs (plain sets) (sets_with 0 sets (k + 1)) x in let whole = ap (λ (z : ℤ). z *ℤ cost (k + 1) x) same in omega (arith, ints, none, whole));
+                (let none = inside_none combs families (places_with 0 families (k + 1)) x in let whole = ap (λ (z : ℤ). z *ℤ cost (k + 1) x) same in omega (arith, ints, none, whole));
           };
     }
 
-none_taken : (count : ℕ) (sets : List NumberedSet) (x : ℕ) → multipliers_at (replicate count (pos 0)) sets x ≡ pos 0
-none_taken count [] x = refl
-none_taken count (set ∷ sets) x =
-    let own = ap (λ (z : ℤ). added z set.nodes x) (none_at count set.comb) ∙ added_none set.nodes x in
-    let rest = none_taken count sets x in
+family_none : (sets : List (List ℕ)) (x : ℕ) → at_sets (pos 0) sets x ≡ pos 0
+family_none [] x = refl
+family_none (set ∷ sets) x = let own = added_none set x in let rest = family_none sets x in omega (arith, ints, own, rest)
+
+none_taken : (first count : ℕ) (families : List (List (List ℕ))) (x : ℕ) → taken_from first (replicate count (pos 0)) families x ≡ pos 0
+none_taken first count [] x = refl
+none_taken first count (sets ∷ families) x =
+    let own = ap (λ (z : ℤ). at_sets z sets x) (none_at count first) ∙ family_none sets x in
+    let rest = none_taken (suc first) count families x in
     omega (arith, ints, own, rest)
 
-pub ends_at_start : (n combs places : ℕ) (sets : List CombSet) → places ≡ n + 1 → AreEnds n (replicate combs (pos 0)) sets (replicate places (pos 0))
-ends_at_start n combs places sets same = record {
+pub ends_at_start : (n combs places : ℕ) (families : List (List (List ℕ))) → places ≡ n + 1 → AreEnds n (replicate combs (pos 0)) families (replicate places (pos 0))
+ends_at_start n combs places families same = record {
   places = length-replicate places (pos 0) ∙ same;
-  taken = λ x x_in. ap (int_wrap w64) (let one = none_at places x in let two = none_taken combs (plain sets) x in omega (arith, ints, one, two));
+  taken = λ x x_in. ap (int_wrap w64) (let one = none_at places x in let two = none_taken 0 combs families x in omega (arith, ints, one, two));
 }
 
 pub small_at_start : (combs : ℕ) → AreSmallMultipliers (replicate combs (pos 0))
@@ -195,18 +208,18 @@ small_at_start combs k default less =
 -- ---- what the sets add, row by row
 
 -- the rows before this one have it, and the others are as they were
-pub record IsAddedTo (index : ℕ) (multipliers : List ℤ) (sets : List CombSet) (by_node : List (Vec ℕ)) (old new : List (Vec ℤ)) : Type 0 where
+pub record IsAddedTo (index : ℕ) (multipliers : List ℤ) (families : List (List (List ℕ))) (by_node : List (Vec SetPlace)) (old new : List (Vec ℤ)) : Type 0 where
   pub many : length new ≡ length old
   pub long : (k : ℕ) (a b : Vec ℤ) → k < length old → length (get_or new k a).items ≡ length (get_or old k b).items
-  pub moved : (k x : ℕ) (a b : Vec ℤ) (c : Vec ℕ) → k < index → k < length old
-      → IsMoved (inside_both multipliers (plain sets) (get_or by_node (k + 1) c).items x) (least_at (get_or old k b).items x) (least_at (get_or new k a).items x)
+  pub moved : (k x : ℕ) (a b : Vec ℤ) (c : Vec SetPlace) → k < index → k < length old
+      → IsMoved (inside_both multipliers families (get_or by_node (k + 1) c).items x) (least_at (get_or old k b).items x) (least_at (get_or new k a).items x)
   pub rest : (k : ℕ) (a b : Vec ℤ) → index < k + 1 → k < length old → get_or new k a ≡ get_or old k b
 
-pub one_more_row : (index : ℕ) (multipliers : List ℤ) (sets : List CombSet) (by_node : List (Vec ℕ)) (old rows : List (Vec ℤ)) (slot row : Vec ℤ) (numbers : List ℕ) → index < length old
-    → IsAddedTo index multipliers sets by_node old rows → slot ≡ get_or rows index slot → ((c : Vec ℕ) → (get_or by_node (index + 1) c).items ≡ numbers)
-    → ((x : ℕ) → IsMoved (inside_both multipliers (plain sets) numbers x) (least_at slot.items x) (least_at row.items x)) → length row.items ≡ length slot.items
-    → IsAddedTo (index + 1) multipliers sets by_node old (set rows index row)
-one_more_row index multipliers sets by_node old rows slot row numbers less before slot_is listed moved same = record {
+pub one_more_row : (index : ℕ) (multipliers : List ℤ) (families : List (List (List ℕ))) (by_node : List (Vec SetPlace)) (old rows : List (Vec ℤ)) (slot row : Vec ℤ) (numbers : List SetPlace) → index < length old
+    → IsAddedTo index multipliers families by_node old rows → slot ≡ get_or rows index slot → ((c : Vec SetPlace) → (get_or by_node (index + 1) c).items ≡ numbers)
+    → ((x : ℕ) → IsMoved (inside_both multipliers families numbers x) (least_at slot.items x) (least_at row.items x)) → length row.items ≡ length slot.items
+    → IsAddedTo (index + 1) multipliers families by_node old (set rows index row)
+one_more_row index multipliers families by_node old rows slot row numbers less before slot_is listed moved same = record {
   many = length-set rows index row ∙ before.many;
   long = λ k a b inside. elim (cases_eq k index) [
     | inl here ↦ ap (λ (v : Vec ℤ). length v.items) (row_at k a here) ∙ same ∙ ap (λ (v : Vec ℤ). length v.items) (slot_at k b here inside)
@@ -214,12 +227,12 @@ one_more_row index multipliers sets by_node old rows slot row numbers less befor
   ];
   moved = λ k x a b c below inside. elim (cases_eq k index) [
     | inl here ↦
-        subst (λ (ns : List ℕ). IsMoved (inside_both multipliers (plain sets) ns x) (least_at (get_or old k b).items x) (least_at (get_or (set rows index row) k a).items x))
+        subst (λ (ns : List SetPlace). IsMoved (inside_both multipliers families ns x) (least_at (get_or old k b).items x) (least_at (get_or (set rows index row) k a).items x))
         (sym (ap (λ (i : ℕ). (get_or by_node (i + 1) c).items) here ∙ listed c))
-        (subst (λ (v : Vec ℤ). IsMoved (inside_both multipliers (plain sets) numbers x) (least_at (get_or old k b).items x) (least_at v.items x)) (sym (row_at k a here))
-        (subst (λ (v : Vec ℤ). IsMoved (inside_both multipliers (plain sets) numbers x) (least_at v.items x) (least_at row.items x)) (slot_at k b here inside) (moved x)))
+        (subst (λ (v : Vec ℤ). IsMoved (inside_both multipliers families numbers x) (least_at (get_or old k b).items x) (least_at v.items x)) (sym (row_at k a here))
+        (subst (λ (v : Vec ℤ). IsMoved (inside_both multipliers families numbers x) (least_at v.items x) (least_at row.items x)) (slot_at k b here inside) (moved x)))
     | inr other ↦
-        subst (λ (v : Vec ℤ). IsMoved (inside_both multipliers (plain sets) (get_or by_node (k + 1) c).items x) (least_at (get_or old k b).items x) (least_at v.items x))
+        subst (λ (v : Vec ℤ). IsMoved (inside_both multipliers families (get_or by_node (k + 1) c).items x) (least_at (get_or old k b).items x) (least_at v.items x))
         (sym (get_or-set_other rows index k row a other)) (before.moved k x a b c (omega (arith, below, other)) inside)
   ];
   rest = λ k a b past inside. get_or-set_other rows index k row a (λ e. omega (arith, past, e)) ∙ before.rest k a b (omega (arith, past)) inside;
@@ -233,20 +246,20 @@ one_more_row index multipliers sets by_node old rows slot row numbers less befor
 
 -- ---- the weights
 
-pub kept_at : (scale : ℤ) (potentials multipliers : List ℤ) (sets : List CombSet) (cost : ℕ → ℕ → ℤ) (from x : ℕ) (m k kept value : ℤ)
-    → AreMultipliedSets multipliers sets → IsFromTo (pos 0) (pos most_crossed) (set_crossings multipliers (plain sets) from x)
+pub kept_at : (scale : ℤ) (potentials multipliers : List ℤ) (families : List (List (List ℕ))) (cost : ℕ → ℕ → ℤ) (from x : ℕ) (m k kept value : ℤ)
+    → All (All HasEachOnce) families → IsFromTo (pos 0) (pos most_crossed) (set_crossings multipliers families from x)
     → IsFromTo (neg_ℤ (pos most_between)) (pos most_between) (weight_between scale potentials cost from x)
-    → int_wrap w64 m ≡ int_wrap w64 (entry potentials from +ℤ neg_ℤ (multipliers_at multipliers (plain sets) from))
-    → int_wrap w64 k ≡ int_wrap w64 (entry potentials x +ℤ neg_ℤ (multipliers_at multipliers (plain sets) x))
-    → int_wrap w64 kept ≡ int_wrap w64 (kept_weight scale sets cost multipliers from x) → value ≡ int_wrap w64 (kept +ℤ int_wrap w64 (m +ℤ k))
-    → (value ≡ set_weight scale potentials multipliers (plain sets) cost from x) × IsFromTo (neg_ℤ (pos most_combed)) (pos most_combed) value
-kept_at scale potentials multipliers sets cost from x m k kept value combs crossed size m_is k_is kept_is value_is =
+    → int_wrap w64 m ≡ int_wrap w64 (entry potentials from +ℤ neg_ℤ (multipliers_at multipliers families from))
+    → int_wrap w64 k ≡ int_wrap w64 (entry potentials x +ℤ neg_ℤ (multipliers_at multipliers families x))
+    → int_wrap w64 kept ≡ int_wrap w64 (kept_weight scale families cost multipliers from x) → value ≡ int_wrap w64 (kept +ℤ int_wrap w64 (m +ℤ k))
+    → (value ≡ set_weight scale potentials multipliers families cost from x) × IsFromTo (neg_ℤ (pos most_combed)) (pos most_combed) value
+kept_at scale potentials multipliers families cost from x m k kept value once crossed size m_is k_is kept_is value_is =
     let scaled : ℤ = scale *ℤ cost from x in
     let both : ℤ = int_wrap w64 (m +ℤ k) in
-    let inside : ℤ = inside_both multipliers (plain sets) (sets_with 0 sets from) x in
+    let inside : ℤ = inside_both multipliers families (places_with 0 families from) x in
     let apart : ℤ = int_wrap w64 (scaled +ℤ both) in
-    let first = apart_is scaled (entry potentials from) (entry potentials x) (multipliers_at multipliers (plain sets) from) (multipliers_at multipliers (plain sets) x) m k both apart m_is k_is refl refl in
+    let first = apart_is scaled (entry potentials from) (entry potentials x) (multipliers_at multipliers families from) (multipliers_at multipliers families x) m k both apart m_is k_is refl refl in
     let order : (scaled +ℤ inside) +ℤ both ≡ (scaled +ℤ both) +ℤ inside = omega (arith, ints) in
     let gained : value ≡ int_wrap w64 (apart +ℤ inside) =
     value_is ∙ int_wrap-add_same w64 kept (scaled +ℤ inside) both kept_is ∙ ap (int_wrap w64) order ∙ sym (int_wrap-add_left w64 (scaled +ℤ both) inside) in
-    combed_at scale potentials multipliers sets cost from x apart value combs crossed (inr first, size) (inr gained)
+    combed_at scale potentials multipliers families cost from x apart value once crossed (inr first, size) (inr gained)

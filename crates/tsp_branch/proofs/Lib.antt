@@ -3,7 +3,6 @@ pub mod Certificates
 pub mod Combs
 pub mod Decisions
 pub mod LeafBounds
-pub mod Numbered
 pub mod SmallBounds
 pub mod SmallTrees
 pub mod Leaves
@@ -28,7 +27,7 @@ pub mod GivenBack
 pub mod MostCrossed
 pub mod NodeMarks
 pub mod Teeth
-pub mod CombRuns
+pub mod FirstBad
 pub mod BranchesOnce
 pub mod SmallVerdicts
 pub mod SmallFamilies
@@ -36,7 +35,7 @@ pub mod SmallRows
 pub mod KeptRows
 pub mod Links
 pub mod LeastLinks
-pub mod Families
+pub mod FamilyLaws
 pub mod FamilyKinds
 pub mod RowLeaves
 pub mod Closed

@@ -4,9 +4,11 @@ use Rattle.std.specs.Prelude.{ℤ, pos, neg_ℤ, ◌+ℤ◌}
 use Rattle.std.specs.Int.{w64, int_wrap}
 use Rattle.std.proofs.lemmas.Bool.{cases_Bool}
 use Rattle.std.proofs.lemmas.Int.{ints, int_wrap_fits, SFits-int_wrap}
+use Rattle.std.specs.Global.{Vec}
+use Rattle.tsp_theory.specs.Length.{sum_int_by}
+use Rattle.tsp_families.specs.FamilySets.{lists_of, families_in}
 use Rattle.tsp_branch.specs.states.Sets.{IsMoved, added}
-use Rattle.tsp_branch.specs.states.Combed.{plain, multipliers_at}
-use Rattle.tsp_families.specs.declared.comb_set.CombSet.{CombSet}
+use Rattle.tsp_branch.specs.states.Combed.{summed_from}
 
 pub added_less : (number : ℤ) (nodes : List ℕ) (x : ℕ) → added (neg_ℤ number) nodes x ≡ neg_ℤ (added number nodes x)
 added_less number [] x = refl
@@ -17,12 +19,23 @@ added_less number (node ∷ nodes) x =
       | inr other ↦ rw other (omega (arith, ints, rest))
     ]
 
-pub multipliers_left : (multipliers : List ℤ) (sets : List CombSet) (index x : ℕ) (default : CombSet) → index < length sets
-    → neg_ℤ (multipliers_at multipliers (plain (drop index sets)) x)
-    ≡ neg_ℤ (added (get_or multipliers (get_or sets index default).comb (pos 0)) (get_or sets index default).nodes.items x) +ℤ neg_ℤ (multipliers_at multipliers (plain (drop (index + 1) sets)) x)
-multipliers_left multipliers sets index x default lt =
-    let all = ap (λ ss. multipliers_at multipliers (plain ss) x) (drop-cons sets index default lt) in
+-- the same for the sets of a family
+pub all_less : (number : ℤ) (sets : List (List ℕ)) (x : ℕ) → sum_int_by (λ set. added (neg_ℤ number) set x) sets ≡ neg_ℤ (sum_int_by (λ set. added number set x) sets)
+all_less number [] x = refl
+all_less number (set ∷ sets) x = let own = added_less number set x in let rest = all_less number sets x in omega (arith, ints, own, rest)
+
+-- the family that is next
+pub multipliers_left : (multipliers : List ℤ) (families : List (Vec (Vec ℕ))) (index x : ℕ) (default : Vec (Vec ℕ)) → index < length families
+    → neg_ℤ (summed_from index (λ multiplier set. added multiplier set x) multipliers (families_in (drop index families)))
+    ≡ neg_ℤ (sum_int_by (λ set. added (get_or multipliers index (pos 0)) set x) (lists_of (get_or families index default).items))
+    +ℤ neg_ℤ (summed_from (index + 1) (λ multiplier set. added multiplier set x) multipliers (families_in (drop (index + 1) families)))
+multipliers_left multipliers families index x default lt =
+    let all = ap (λ fs. summed_from index (λ multiplier set. added multiplier set x) multipliers (families_in fs)) (drop-cons families index default lt) in
     rw (add-one index) (omega (arith, ints, all))
+
+pub sets_left : (number : ℤ) (sets : List (Vec ℕ)) (index x : ℕ) (default : Vec ℕ) → index < length sets
+    → sum_int_by (λ set. added number set x) (lists_of (drop index sets)) ≡ added number (get_or sets index default).items x +ℤ sum_int_by (λ set. added number set x) (lists_of (drop (index + 1) sets))
+sets_left number sets index x default lt = ap (λ ss. sum_int_by (λ set. added number set x) (lists_of ss)) (drop-cons sets index default lt) ∙ rw (add-one index) refl
 
 pub wrapped_by : (change old new base : ℤ) → IsMoved change old new → old ≡ base → int_wrap w64 new ≡ int_wrap w64 (base +ℤ change)
 wrapped_by change old new base (inl same) is = ap (int_wrap w64) (let kept = same.0 in let none = same.1 in omega (arith, ints, kept, none, is))

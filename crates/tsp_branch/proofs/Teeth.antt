@@ -15,7 +15,7 @@ use Rattle.tsp_branch.specs.Families.{IsLoneSet, IsLoneOrComb}
 use Rattle.tsp_branch.specs.GoodCombs.{HasEachOnce, IsGoodComb, IsToothCount}
 use Rattle.tsp_families.specs.FamilySets.{lists_of}
 use Rattle.tsp_branch.specs.states.Marked.{AreNew, AreTeeth}
-use Rattle.tsp_families.specs.declared.comb_set.CombSet.{CombSet}
+use Rattle.std.specs.Global.{Vec}
 
 -- ---- one tooth
 
@@ -57,10 +57,10 @@ tooth_outside n handle nodes is = any_had (λ node. handle node ≡ false) nodes
 
 -- ---- tooth by tooth
 
-pub sets_left : (sets : List CombSet) (index : ℕ) (set : CombSet) → index < length sets → set ≡ get_or sets index set
-    → lists_of (drop index sets) ≡ set.nodes.items ∷ lists_of (drop (index + 1) sets)
+pub sets_left : (sets : List (Vec ℕ)) (index : ℕ) (set : Vec ℕ) → index < length sets → set ≡ get_or sets index set
+    → lists_of (drop index sets) ≡ set.items ∷ lists_of (drop (index + 1) sets)
 sets_left sets index set lt is = ap lists_of (drop-cons sets index set lt ∙ ap (λ (k : ℕ). get_or sets index set ∷ drop k sets) (sym (add-one index)))
-    ∙ ap (λ (s : CombSet). s.nodes.items ∷ lists_of (drop (index + 1) sets)) (sym is)
+    ∙ ap (λ (s : Vec ℕ). s.items ∷ lists_of (drop (index + 1) sets)) (sym is)
 
 pub next_teeth : (n : ℕ) (handle used new : ℕ → Bool) (tooth : List ℕ) (teeth : List (List ℕ)) → AreNew used tooth → IsTooth n handle (has tooth)
     → ((x : ℕ) → new x ≡ (used x || has tooth x)) → AreTeeth n handle new teeth ↔ AreTeeth n handle used (tooth ∷ teeth)
@@ -71,13 +71,13 @@ next_teeth n handle used new tooth teeth fresh is more =
     )
 
 -- at the tooth that is next
-module _ (n : ℕ) (handle used start : ℕ → Bool) (teeth : List CombSet) (index : ℕ) (tooth : CombSet) (nodes : List ℕ)
-    (lt : index < length teeth) (is : tooth ≡ get_or teeth index tooth) (read : nodes ≡ tooth.nodes.items) where
+module _ (n : ℕ) (handle used start : ℕ → Bool) (teeth : List (Vec ℕ)) (index : ℕ) (tooth : Vec ℕ) (nodes : List ℕ)
+    (lt : index < length teeth) (is : tooth ≡ get_or teeth index tooth) (read : nodes ≡ tooth.items) where
   left : lists_of (drop index teeth) ≡ nodes ∷ lists_of (drop (index + 1) teeth)
   left = sets_left teeth index tooth lt is ∙ ap (λ (ns : List ℕ). ns ∷ lists_of (drop (index + 1) teeth)) (sym read)
 
-  pub nodes_here : All (λ set. All (IsNode n) set.nodes.items) teeth → All (IsNode n) nodes
-  nodes_here are = subst (All (IsNode n)) (sym read) (subst (λ (set : CombSet). All (IsNode n) set.nodes.items) (sym is) (are index tooth lt))
+  pub nodes_here : All (λ set. All (IsNode n) set.items) teeth → All (IsNode n) nodes
+  nodes_here are = subst (All (IsNode n)) (sym read) (subst (λ (set : Vec ℕ). All (IsNode n) set.items) (sym is) (are index tooth lt))
 
   pub teeth_on : (new : ℕ → Bool) → AreTeeth n handle used (lists_of (drop index teeth)) ↔ AreTeeth n handle start (lists_of teeth) → AreNew used nodes → IsTooth n handle (has nodes)
       → ((x : ℕ) → new x ≡ (used x || has nodes x)) → AreTeeth n handle new (lists_of (drop (index + 1) teeth)) ↔ AreTeeth n handle start (lists_of teeth)
@@ -196,26 +196,26 @@ comb_teeth n used marked handle teeth some none same h = teeth_apart n marked us
 }))
 
 -- by its sets
-module _ (n : ℕ) (sets : List CombSet) (handle : CombSet) (teeth : List CombSet) (nodes : List ℕ) (same : sets ≡ handle ∷ teeth) (read : nodes ≡ handle.nodes.items) where
+module _ (n : ℕ) (sets : List (Vec ℕ)) (handle : Vec ℕ) (teeth : List (Vec ℕ)) (nodes : List ℕ) (same : sets ≡ handle ∷ teeth) (read : nodes ≡ handle.items) where
   told : lists_of sets ≡ nodes ∷ lists_of teeth
   told = ap lists_of same ∙ ap (λ (ns : List ℕ). ns ∷ lists_of teeth) (sym read)
 
-  both : (P : ℕ → Type 0) → All (λ set. All P set.nodes.items) sets → All (λ set. All P set.nodes.items) (handle ∷ teeth)
-  both P h = subst (All (λ (set : CombSet). All P set.nodes.items)) same h
+  both : (P : ℕ → Type 0) → All (λ set. All P set.items) sets → All (λ set. All P set.items) (handle ∷ teeth)
+  both P h = subst (All (λ (set : Vec ℕ). All P set.items)) same h
 
-  pub rest_all : (P : ℕ → Type 0) → All (λ set. All P set.nodes.items) sets → All (λ set. All P set.nodes.items) teeth
-  rest_all P h = All-tail (λ (set : CombSet). All P set.nodes.items) handle teeth (both P h)
+  pub rest_all : (P : ℕ → Type 0) → All (λ set. All P set.items) sets → All (λ set. All P set.items) teeth
+  rest_all P h = All-tail (λ (set : Vec ℕ). All P set.items) handle teeth (both P h)
 
-  pub first_all : (P : ℕ → Type 0) → All (λ set. All P set.nodes.items) sets → All P nodes
-  first_all P h = subst (All P) (sym read) (All-head (λ (set : CombSet). All P set.nodes.items) handle teeth (both P h))
+  pub first_all : (P : ℕ → Type 0) → All (λ set. All P set.items) sets → All P nodes
+  first_all P h = subst (All P) (sym read) (All-head (λ (set : Vec ℕ). All P set.items) handle teeth (both P h))
 
   long_teeth : 1 ≤ length teeth → 1 ≤ length (lists_of teeth)
-  long_teeth some = omega (arith, some, length-map teeth (λ set. set.nodes.items))
+  long_teeth some = omega (arith, some, length-map teeth (λ set. set.items))
 
   pub counted : 1 ≤ length teeth → IsGoodComb n (lists_of sets) → IsToothCount (length teeth)
   counted some h =
       let comb = comb_of_family n nodes (lists_of teeth) (long_teeth some) (subst (IsGoodComb n) told h).kind in
-      (comb.half, comb.some, sym (length-map (lists_of teeth) has ∙ length-map teeth (λ set. set.nodes.items)) ∙ comb.odd)
+      (comb.half, comb.some, sym (length-map (lists_of teeth) has ∙ length-map teeth (λ set. set.items)) ∙ comb.odd)
 
   pub handle_new : (old : ℕ → Bool) → ((x : ℕ) → old x ≡ false) → IsGoodComb n (lists_of sets) → AreNew old nodes
   handle_new old none h = record {
@@ -229,7 +229,7 @@ module _ (n : ℕ) (sets : List CombSet) (handle : CombSet) (teeth : List CombSe
 
     pub comb_found : IsToothCount (length teeth) → AreNew old nodes → AreTeeth n marked used (lists_of teeth) → IsGoodComb n (lists_of sets)
     comb_found count new h =
-        let long : length (lists_of teeth) ≡ length teeth = length-map teeth (λ set. set.nodes.items) in
+        let long : length (lists_of teeth) ≡ length teeth = length-map teeth (λ set. set.items) in
         subst (IsGoodComb n) (sym told) (good_comb n count.0 used marked nodes (lists_of teeth) (long ∙ count.2) count.1 new.once own h)
 
     pub teeth_found : 1 ≤ length teeth → ((x : ℕ) → used x ≡ false) → IsGoodComb n (lists_of sets) → AreTeeth n marked used (lists_of teeth)
@@ -242,7 +242,7 @@ module _ (n : ℕ) (sets : List CombSet) (handle : CombSet) (teeth : List CombSe
     -- without teeth
     module _ (none_left : teeth ≡ []) where
       alone : lists_of sets ≡ nodes ∷ []
-      alone = told ∙ ap (λ (ts : List CombSet). nodes ∷ lists_of ts) none_left
+      alone = told ∙ ap (λ (ts : List (Vec ℕ)). nodes ∷ lists_of ts) none_left
 
       pub lone_found : AreNew old nodes → IsLoneSet n (comb_of nodes []) → IsGoodComb n (lists_of sets)
       lone_found new lone = subst (IsGoodComb n) (sym alone) (record { kind = inl lone; once = All-cons HasEachOnce nodes [] new.once (All-nil HasEachOnce) })
@@ -250,7 +250,7 @@ module _ (n : ℕ) (sets : List CombSet) (handle : CombSet) (teeth : List CombSe
       pub lone_in : IsGoodComb n (lists_of sets) → IsLoneSet n (comb_of nodes [])
       lone_in h = lone_of_family n nodes (subst (IsGoodComb n) alone h).kind
 
-pub no_sets : (sets : List CombSet) → length sets ≡ 0 → sets ≡ []
+pub no_sets : (sets : List (Vec ℕ)) → length sets ≡ 0 → sets ≡ []
 no_sets [] none = refl
 no_sets (set ∷ sets) none = absurd (omega (arith, none))
 

@@ -8,31 +8,31 @@ use Rattle.tsp_branch.specs.declared.steps.BranchVerdict.{BranchVerdict}
 use Rattle.tsp_branch.specs.declared.steps.BranchVerdict.TheVariants as verdict
 use Rattle.tsp_families.specs.declared.family.Crossings.{Crossings}
 use Rattle.tsp_branch.specs.Certificate.{BoundsIfAny}
-use Rattle.tsp_branch.specs.CombsOfSets.{NumberedSet, families_of}
+use Rattle.tsp_branch.specs.CombsOfSets.{families_with}
 use Rattle.tsp_branch.specs.declared.decision.Decision.{Decision}
 use Rattle.tsp_branch.specs.GoodCombs.{AreFamilies, IsFirstBadComb}
 use Rattle.tsp_branch.specs.Listed.{IsJudged}
 use Rattle.tsp_branch.specs.Twice.{AreBranchesJudged}
 
--- the judgement on the leaves, where the sets are those of families with these numbers and no branch comes twice
-pub record AreLeavesJudged (directed : Bool) (n : ℕ) (cost : ℕ → ℕ → ℤ) (scale : ℤ) (combs : ℕ) (sets : List NumberedSet)
-    (given : List Decision) (steps : List listed.Step) (found : Judged) : Type 0 where
+-- the judgement on the leaves, where all families are good and no branch comes twice
+pub record AreLeavesJudged (directed : Bool) (n : ℕ) (cost : ℕ → ℕ → ℤ) (scale : ℤ)
+    (families : List (List (List ℕ))) (given : List Decision) (steps : List listed.Step) (found : Judged) : Type 0 where
   pub crossed : List Crossings
-  pub are_families : AreFamilies n combs sets crossed
+  pub are_families : AreFamilies n families crossed
   pub are_once : AreBranchesJudged directed given steps None
-  pub leaves : IsJudged directed n cost scale (families_of crossed sets) crossed given steps found
+  pub leaves : IsJudged directed n cost scale (families_with crossed families) crossed given steps found
 
 -- the first bad family; where all are good, the first branch that comes twice; where none does, the first bad leaf; and where all
 -- leaves are good, the bound
-abbrev pub IsBranchVerdict : Bool → ℕ → (ℕ → ℕ → ℤ) → ℤ → ℕ → List NumberedSet → List Decision → List listed.Step → BranchVerdict
+abbrev pub IsBranchVerdict : Bool → ℕ → (ℕ → ℕ → ℤ) → ℤ → List (List (List ℕ)) → List Decision → List listed.Step → BranchVerdict
     → Type 0
-IsBranchVerdict directed n cost scale combs sets given steps (verdict.Bound found) =
-    AreLeavesJudged directed n cost scale combs sets given steps (judged.Bound found)
-IsBranchVerdict directed n cost scale combs sets given steps (verdict.BadComb comb) = IsFirstBadComb n combs sets comb
-IsBranchVerdict directed n cost scale combs sets given steps (verdict.BranchTwice branch) =
-    (crossed : List Crossings) × AreFamilies n combs sets crossed × AreBranchesJudged directed given steps (Some branch)
-IsBranchVerdict directed n cost scale combs sets given steps (verdict.BadLeaf leaf) =
-    AreLeavesJudged directed n cost scale combs sets given steps (judged.BadLeaf leaf)
+IsBranchVerdict directed n cost scale families given steps (verdict.Bound found) =
+    AreLeavesJudged directed n cost scale families given steps (judged.Bound found)
+IsBranchVerdict directed n cost scale families given steps (verdict.BadComb comb) = IsFirstBadComb n families comb
+IsBranchVerdict directed n cost scale families given steps (verdict.BranchTwice branch) =
+    (crossed : List Crossings) × AreFamilies n families crossed × AreBranchesJudged directed given steps (Some branch)
+IsBranchVerdict directed n cost scale families given steps (verdict.BadLeaf leaf) =
+    AreLeavesJudged directed n cost scale families given steps (judged.BadLeaf leaf)
 
 -- A bound is at most the length of every cycle that keeps the given decisions; where there is none, no cycle keeps them.
 abbrev pub VerdictBoundsCycles : Bool → ℕ → (ℕ → ℕ → ℤ) → List Decision → BranchVerdict → Type 0

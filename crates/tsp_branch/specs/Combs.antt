@@ -1,7 +1,7 @@
 -- Combs: parts of the nodes that every cycle crosses often.
 -- Source: M. Grötschel and M. W. Padberg, On the symmetric travelling salesman problem, 1979.
-use Rattle.std.specs.Prelude.{◌≡◌, ℕ, ◌+◌, ◌*◌, ◌<◌, ◌≤◌, ◌==◌, map, Bool, true, false, if◌then◌else◌, List, length, slice_index_or, ℤ, pos, ◌+ℤ◌, ◌≤ℤ◌}
-use Rattle.std.specs.List.{All, AllPairs, range_with_len}
+use Rattle.std.specs.Prelude.{◌≡◌, ℕ, ◌+◌, ◌*◌, ◌≤◌, map, Bool, true, false, List, length, ℤ, pos, ◌+ℤ◌, ◌≤ℤ◌}
+use Rattle.std.specs.List.{All, AllPairs}
 use Rattle.tsp_format.specs.Cells.{IsNode}
 use Rattle.tsp_theory.specs.Cycle.{IsCycle}
 use Rattle.tsp_theory.specs.Length.{sum_int_by, length_of}
@@ -53,47 +53,3 @@ CyclesCrossCombs = (n : ℕ) (comb : Comb) (nodes : List ℕ)
 
 abbrev pub comb_of : List ℕ → List (List ℕ) → Comb
 comb_of handle teeth = record { handle = has handle; teeth = map has teeth }
-
--- ---- combs by a number for each node: that of its tooth, 0 where it is in none
-
--- the comb whose teeth 1, 2, .. to a last one have the nodes of these numbers
-abbrev pub numbered_comb : (ℕ → Bool) → ℕ → (ℕ → ℕ) → Comb
-numbered_comb handle last tooth_of =
-    record { handle = handle; teeth = map (λ tooth node. tooth_of node == tooth) (range_with_len 1 last) }
-
-pub record IsNumberedComb (n : ℕ) (handle : ℕ → Bool) (last : ℕ) (tooth_of : ℕ → ℕ) : Type 0 where
-  pub half : ℕ
-  pub some : 1 ≤ half
-  pub odd : last ≡ 2 * half + 1
-  pub range : (node : ℕ) → IsNode n node → tooth_of node ≤ last
-  pub reach : (tooth : ℕ) → 1 ≤ tooth → tooth ≤ last → IsTooth n handle (λ node. tooth_of node == tooth)
-
--- the crossings of two nodes by the numbers of their teeth: where these differ, each of the two teeth is crossed
-abbrev pub one_in_tooth : ℕ → ℤ
-one_in_tooth tooth = if tooth == 0 then pos 0 else pos 1
-
-abbrev pub numbered_crossings : (ℕ → Bool) → (ℕ → ℕ) → ℕ → ℕ → ℤ
-numbered_crossings handle tooth_of i j =
-    crossing handle i j +ℤ (if tooth_of i == tooth_of j then pos 0 else (one_in_tooth (tooth_of i) +ℤ one_in_tooth (tooth_of j)))
-
--- Such numbers give a comb, and tell its crossings.
-abbrev pub NumbersTellCombs : Type 0
-NumbersTellCombs = (n : ℕ) (handle : ℕ → Bool) (last : ℕ) (tooth_of : ℕ → ℕ) → IsNumberedComb n handle last tooth_of
-    → IsComb n (numbered_comb handle last tooth_of)
-    × ((i j : ℕ) → IsNode n i → IsNode n j
-    → crossings (numbered_comb handle last tooth_of) i j ≡ numbered_crossings handle tooth_of i j)
-
--- ---- both: the numbers of the teeth of lists
-
--- the lists have nodes of 1..n alone, and of these a node has the number of the tooth whose list has it, 0 for none
-pub record IsToothNumbering (n : ℕ) (teeth : List (List ℕ)) (tooth_of : ℕ → ℕ) : Type 0 where
-  pub nodes : All (All (IsNode n)) teeth
-  pub range : (node : ℕ) → IsNode n node → tooth_of node ≤ length teeth
-  pub told : (k : ℕ) (default : List ℕ) (node : ℕ) → k < length teeth → IsNode n node
-      → has (slice_index_or teeth k default) node ≡ (tooth_of node == 1 + k)
-
--- Then no two of the teeth have a node in common, and the numbers tell the crossings.
-abbrev pub NumbersTellLists : Type 0
-NumbersTellLists = (n : ℕ) (handle : List ℕ) (teeth : List (List ℕ)) (tooth_of : ℕ → ℕ) → IsToothNumbering n teeth tooth_of
-    → AllPairs AreApart (comb_of handle teeth).teeth
-    × ((i j : ℕ) → IsNode n i → IsNode n j → crossings (comb_of handle teeth) i j ≡ numbered_crossings (has handle) tooth_of i j)

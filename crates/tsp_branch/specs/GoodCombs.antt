@@ -1,11 +1,9 @@
 -- Which family is bad: families are given by sets of nodes, and these may be any.
-use Rattle.std.specs.Prelude.{◌≡◌, ◌≢◌, ℕ, ◌+◌, ◌*◌, ◌≤◌, ◌<◌, List, length}
+use Rattle.std.specs.Prelude.{◌≡◌, ◌≢◌, ℕ, ◌+◌, ◌*◌, ◌≤◌, ◌<◌, List, [], length, slice_index_or}
 use Rattle.std.specs.List.{All, AllPairs}
 use Rattle.tsp_families.specs.declared.family.Crossings.{Crossings}
 use Rattle.tsp_branch.specs.Families.{IsLoneOrComb, IsFamily}
-use Rattle.tsp_branch.specs.CombsOfSets.{NumberedSet, comb_with, family_with, of_comb, families_of}
-use Rattle.tsp_branch.specs.declared.steps.JudgedFamilies.{JudgedFamilies}
-use Rattle.tsp_branch.specs.declared.steps.JudgedFamilies.TheVariants as judged
+use Rattle.tsp_branch.specs.CombsOfSets.{comb_with, family_with, families_with}
 
 -- no node is twice in a set
 abbrev pub HasEachOnce : List ℕ → Type 0
@@ -27,20 +25,15 @@ abbrev pub IsToothCount : ℕ → Type 0
 IsToothCount count = (half : ℕ) × (1 ≤ half) × (count ≡ 2 * half + 1)
 
 -- the first family that isn't good, counted from 1
-pub record IsFirstBadComb (n combs : ℕ) (sets : List NumberedSet) (first : ℕ) : Type 0 where
+pub record IsFirstBadComb (n : ℕ) (families : List (List (List ℕ))) (first : ℕ) : Type 0 where
   pub least : 1 ≤ first
-  pub most : first ≤ combs
-  pub before : (comb : ℕ) → comb + 1 < first → IsGoodFamily n (of_comb comb sets)
-  pub bad : (comb : ℕ) → comb + 1 ≡ first → IsGoodFamily n (of_comb comb sets) → ⊥
+  pub most : first ≤ length families
+  pub before : (place : ℕ) → place + 1 < first → IsGoodFamily n (slice_index_or families place [])
+  pub bad : (place : ℕ) → place + 1 ≡ first → IsGoodFamily n (slice_index_or families place []) → ⊥
 
 -- all are good, and these are their numbers
-pub record AreFamilies (n combs : ℕ) (sets : List NumberedSet) (crossed : List Crossings) : Type 0 where
-  pub many : length crossed ≡ combs
-  pub good : (comb : ℕ) → comb < combs → IsGoodFamily n (of_comb comb sets)
-  pub are : All (IsFamily n) (families_of crossed sets)
-  pub once : All (λ set. HasEachOnce set.nodes) sets
-
--- Where none is bad, the numbers of all; else the first bad one is reported.
-abbrev pub AreFamiliesJudged : ℕ → ℕ → List NumberedSet → JudgedFamilies → Type 0
-AreFamiliesJudged n combs sets (judged.Good crossed) = AreFamilies n combs sets crossed.items
-AreFamiliesJudged n combs sets (judged.Bad first) = IsFirstBadComb n combs sets first
+pub record AreFamilies (n : ℕ) (families : List (List (List ℕ))) (crossed : List Crossings) : Type 0 where
+  pub many : length crossed ≡ length families
+  pub good : (place : ℕ) → place < length families → IsGoodFamily n (slice_index_or families place [])
+  pub are : All (IsFamily n) (families_with crossed families)
+  pub once : All (All HasEachOnce) families

@@ -10,6 +10,7 @@ pub mod LeafWeight
 pub mod CombsOfSets
 pub mod GoodNumbers
 pub mod GoodCombs
+pub mod JudgedSets
 pub mod Twice
 pub mod Listed
 pub mod BranchVerdicts

@@ -1,41 +1,67 @@
 //! What the sets of a node add to its row.
 
-ghost use Rattle.std.specs.Prelude.{◌≡◌, ◌<◌, ◌+ℤ◌, ℕ, length};
+ghost use Rattle.std.specs.Prelude.{◌≡◌, ◌<◌, ◌+◌, ◌+ℤ◌, ℕ, length};
 ghost use Rattle.std.specs.Int.{w64, int_wrap};
 ghost use Rattle.std.specs.List.{All};
 ghost use Rattle.tsp_theory.specs.states.Nearest.{least_at};
-ghost use Rattle.tsp_branch.specs.states.Sets.{IsMoved, added};
-ghost use Rattle.tsp_branch.specs.states.Combed.{plain, AreSmallDifferences, AreMultipliedSets, inside_both};
+ghost use Rattle.tsp_theory.specs.Length.{sum_int_by};
+ghost use Rattle.tsp_families.specs.FamilySets.{lists_of};
+ghost use Rattle.tsp_branch.specs.states.Sets.{IsMoved, IsPlaceIn, added};
+ghost use Rattle.tsp_branch.specs.states.Lent.{lent_in};
+ghost use Rattle.tsp_branch.specs.states.Combed.{AreSmallDifferences, inside_both};
 
+use crate::families::Families;
+use crate::set_place::SetPlace;
 use crate::sets::add_to_nodes;
-use tsp_families::CombSet;
 
-/// Adds to a row, at each node of the sets with these numbers, the set's multiplier twice.
-pub(crate) fn add_sets(row: &mut [i64], numbers: &[u32], sets: &[CombSet], multipliers: &[i64])
-    requires numbers { All (λ number. number < length sets.now) numbers.now }
-    requires nodes { All (λ set. All (λ node. node < length row.old) set.nodes.items) sets.now }
-    requires sets { AreMultipliedSets multipliers.now sets.now }
+/// Adds to a row, at each node of the sets at these places, the multiplier of the set's family
+/// twice.
+pub(crate) fn add_sets(
+    row: &mut [i64],
+    places: &[SetPlace],
+    families: &Families,
+    multipliers: &[i64],
+)
+    requires places { All (IsPlaceIn (lent_in families.now)) places.now }
+    requires row { length row.old ≡ families.now.nodes + 1 }
+    requires as_many { length multipliers.now ≡ length families.now.lent.now }
     requires small { AreSmallDifferences multipliers.now }
-    ensures { (x : ℕ) → IsMoved (inside_both multipliers.now (plain sets.now) numbers.now x)
+    ensures { (x : ℕ) → IsMoved (inside_both multipliers.now (lent_in families.now) places.now x)
         (least_at row.old x) (least_at row.new x) }
 {
-    'numbers: for number in numbers {
-        let set = &sets[*number as usize];
-        add_where_any(row, &set.nodes, 2 * multipliers[set.comb as usize]);
+    'places: for place in places {
+        let nodes = families.set_at(*place);
+        add_where_any(row, nodes, 2 * multipliers[place.family as usize]);
     }
 }
 
 /// The same to a row of a list of rows.
-pub(crate) fn add_to_row(row: &mut Vec<i64>, numbers: &[u32], sets: &[CombSet], multipliers: &[i64])
-    requires numbers { All (λ number. number < length sets.now) numbers.now }
-    requires nodes { All (λ set. All (λ node. node < length row.old.items) set.nodes.items) sets.now }
-    requires sets { AreMultipliedSets multipliers.now sets.now }
+pub(crate) fn add_to_row(
+    row: &mut Vec<i64>,
+    places: &[SetPlace],
+    families: &Families,
+    multipliers: &[i64],
+)
+    requires places { All (IsPlaceIn (lent_in families.now)) places.now }
+    requires row { length row.old.items ≡ families.now.nodes + 1 }
+    requires as_many { length multipliers.now ≡ length families.now.lent.now }
     requires small { AreSmallDifferences multipliers.now }
-    ensures moved { (x : ℕ) → IsMoved (inside_both multipliers.now (plain sets.now) numbers.now x)
+    ensures moved { (x : ℕ) → IsMoved (inside_both multipliers.now (lent_in families.now) places.now x)
         (least_at row.old.items x) (least_at row.new.items x) }
     ensures long { length row.new.items ≡ length row.old.items }
 {
-    add_sets(row, numbers, sets, multipliers);
+    add_sets(row, places, families, multipliers);
+}
+
+/// Adds a number at each node of each of these sets.
+pub(crate) fn add_to_sets(row: &mut [i64], sets: &[Vec<u32>], number: i64)
+    requires { All (λ set. All (λ node. node < length row.old) set.items) sets.now }
+    ensures { (x : ℕ) → IsMoved (sum_int_by (λ set. added number set x) (lists_of sets.now))
+        (least_at row.old x) (least_at row.new x) }
+{
+    'sets: for set in sets {
+        add_where_any(row, set, number);
+    }
 }
 
 /// Adds a number at each node of a list: nothing has to be done for 0.

@@ -1,24 +1,22 @@
 //! The bound of a certificate by branching.
 
-ghost use Rattle.std.specs.Prelude.{◌≡◌, ◌≢◌, ◌≤◌, ◌<◌, ◌^◌, false, length, IfOk};
-ghost use Rattle.std.specs.List.{All, AllPairs};
+ghost use Rattle.std.specs.Prelude.{◌≡◌, ◌≤◌, ◌<◌, ◌^◌, false, length, IfOk};
+ghost use Rattle.std.specs.List.{All};
 ghost use Rattle.tsp_format.specs.states.TreeSteps.{steps_of};
 ghost use Rattle.tsp_theory.specs.Costs.{IsSymmetric};
 ghost use Rattle.tsp_theory.specs.Numbers.{IsScale};
 ghost use Rattle.tsp_branch.specs.Families.{IsFamily};
 ghost use Rattle.tsp_branch.specs.Decisions.{DecideOnce, decided_number};
-ghost use Rattle.tsp_families.specs.FamilySets.{AreSetsOf};
-ghost use Rattle.tsp_branch.specs.states.Combed.{plain};
-ghost use Rattle.tsp_branch.specs.CombsOfSets.{families_of};
+ghost use Rattle.tsp_branch.specs.states.Lent.{lent_in, good_in};
 ghost use Rattle.tsp_branch.specs.Certificate.{IsFoundAt};
 ghost use Rattle.tsp_branch.specs.states.Decided.{IsDecision};
 ghost use Rattle.tsp_branch.specs.states.OpenCases.{IsOpenCase, decisions_in};
 ghost use Rattle.tsp_branch.specs.Listed.{no_numbers_of, listed_steps, AreSteps, IsJudged, BoundsCycles, IsJudgedSized, IsLowest};
-ghost use Rattle.tsp_branch.specs.states.FamilyNumbers.{AreSmallCrossings};
 ghost use Rattle.tsp_branch.specs.states.Kept.{HoldsRows};
 ghost use Rattle.tsp_branch.specs.states.Rooms.{IsRoom, AreSmall, IsJudgedLeaf, IsSizedLeaf};
 
 use crate::case_tree::CaseTree;
+use crate::families::Families;
 use crate::judge::judge;
 use crate::kept::KeptRows;
 use crate::laws::certificates_bound_cycles;
@@ -31,7 +29,6 @@ use crate::sets::sets_by_node;
 use crate::setting::Setting;
 use crate::steps::{Judged, JudgedLeaf};
 use std::alloc::Global;
-use tsp_families::Crossings;
 use tsp_format::TreeStep;
 use tsp_memory::Refused;
 use tsp_theory::Costs;
@@ -45,13 +42,11 @@ use tsp_theory::Costs;
 /// Where pairs have no direction the bound of a leaf is that of a least 1-tree, else that of the
 /// least link from each node.
 ///
-/// The families are given by their numbers too.
-///
 /// # Requires
 ///
 /// Three or more nodes, costs that are the same in both directions where pairs have none, a scale
-/// of 1 to 1,000,000, combs, sets and decisions of nodes, one whole tree of branches, and that no
-/// case decides a pair twice.
+/// of 1 to 1,000,000, good families and decisions of these nodes, one whole tree of branches, and
+/// that no case decides a pair twice.
 ///
 /// # Errors
 ///
@@ -61,25 +56,21 @@ use tsp_theory::Costs;
 pub fn branch_bound<C: Costs>(
     alloc: Global,
     tree: &CaseTree<C>,
-    crossed: &[Crossings],
+    families: &Families,
 ) -> Result<Judged, Refused>
     requires some { 3 ≤ C.nodes tree.now.costs.now }
     requires even { tree.now.directed ≡ false → IsSymmetric (C.at tree.now.costs.now) }
     requires scaled { IsScale tree.now.scale }
-    requires few_combs { length crossed.now < 2 ^ 32 }
-    requires few_sets { length tree.now.sets.now < 2 ^ 32 }
     requires few_given { length tree.now.given.now < 2 ^ 32 }
     requires few_steps { length tree.now.steps.now < 2 ^ 32 }
-    requires nodes { AreSetsOf (C.nodes tree.now.costs.now) tree.now.sets.now }
-    requires of_combs { All (λ set. (set.comb < length crossed.now) × AllPairs (λ a b. a ≢ b) set.nodes.items) tree.now.sets.now }
-    requires are_families { All (IsFamily (C.nodes tree.now.costs.now)) (families_of crossed.now (plain tree.now.sets.now)) }
-    requires small { AreSmallCrossings crossed.now }
+    requires same { families.now.nodes ≡ C.nodes tree.now.costs.now }
+    requires are_families { All (IsFamily (C.nodes tree.now.costs.now)) (good_in families.now) }
     requires given_are { All (IsDecision (C.nodes tree.now.costs.now)) tree.now.given.now }
     requires steps { AreSteps tree.now.directed (C.nodes tree.now.costs.now) tree.now.given.now
         (steps_of tree.now.steps.now)
-        (listed_steps (C.nodes tree.now.costs.now) (length crossed.now) (steps_of tree.now.steps.now)) }
+        (listed_steps (C.nodes tree.now.costs.now) (length families.now.crossed.items) (steps_of tree.now.steps.now)) }
     ensures judged { IfOk result (IsJudged tree.now.directed (C.nodes tree.now.costs.now) (C.at tree.now.costs.now)
-        tree.now.scale (families_of crossed.now (plain tree.now.sets.now)) crossed.now tree.now.given.now
+        tree.now.scale (good_in families.now) families.now.crossed.items tree.now.given.now
         (steps_of tree.now.steps.now)) }
     ensures cycles { IfOk result (BoundsCycles tree.now.directed (C.nodes tree.now.costs.now) (C.at tree.now.costs.now)
         tree.now.given.now) }
@@ -91,18 +82,17 @@ pub fn branch_bound<C: Costs>(
         alloc,
         tree.costs,
         tree.scale,
-        crossed.len(),
+        families.lent.len(),
         tree.steps.len(),
     )?;
-    let by_node = sets_by_node(alloc, count, tree.sets)?;
-    let room = Room::new(alloc, count as usize, crossed.len(), kept)?;
+    let by_node = sets_by_node(alloc, families)?;
+    let room = Room::new(alloc, count as usize, families.lent.len(), kept)?;
     let setting = Setting {
         costs: tree.costs,
         directed: tree.directed,
         scale: tree.scale,
-        sets: tree.sets,
+        families,
         by_node: &by_node,
-        crossed,
         given: tree.given,
     };
     judge_leaves(alloc, &setting, tree.steps, room)
@@ -120,17 +110,16 @@ fn judge_leaves<C: Costs>(
     mut room: Room,
 ) -> Result<Judged, Refused>
     requires few_steps { length steps.now < 2 ^ 32 }
-    requires are_families { All (IsFamily (C.nodes setting.now.costs.now))
-        (families_of setting.now.crossed.now (plain setting.now.sets.now)) }
+    requires are_families { All (IsFamily (C.nodes setting.now.costs.now)) (good_in setting.now.families.now) }
     requires steps { AreSteps setting.now.directed (C.nodes setting.now.costs.now) setting.now.given.now
         (steps_of steps.now)
-        (listed_steps (C.nodes setting.now.costs.now) (length setting.now.crossed.now) (steps_of steps.now)) }
-    requires room { IsRoom (C.nodes setting.now.costs.now) (length setting.now.crossed.now) room }
-    requires kept { HoldsRows (C.nodes setting.now.costs.now) (length setting.now.crossed.now) setting.now.scale
-        setting.now.sets.now (C.at setting.now.costs.now) room.kept }
-    requires start { room.numbers.items ≡ no_numbers_of (C.nodes setting.now.costs.now) (length setting.now.crossed.now) }
+        (listed_steps (C.nodes setting.now.costs.now) (length setting.now.families.now.crossed.items) (steps_of steps.now)) }
+    requires room { IsRoom (C.nodes setting.now.costs.now) (length setting.now.families.now.crossed.items) room }
+    requires kept { HoldsRows (C.nodes setting.now.costs.now) (length setting.now.families.now.crossed.items) setting.now.scale
+        (lent_in setting.now.families.now) (C.at setting.now.costs.now) room.kept }
+    requires start { room.numbers.items ≡ no_numbers_of (C.nodes setting.now.costs.now) (length setting.now.families.now.crossed.items) }
     ensures judged { IfOk result (IsJudged setting.now.directed (C.nodes setting.now.costs.now) (C.at setting.now.costs.now)
-        setting.now.scale (families_of setting.now.crossed.now (plain setting.now.sets.now)) setting.now.crossed.now
+        setting.now.scale (good_in setting.now.families.now) setting.now.families.now.crossed.items
         setting.now.given.now (steps_of steps.now)) }
     ensures size { IfOk result IsJudgedSized }
 {
@@ -167,27 +156,26 @@ fn judge_leaf<C: Costs>(
     case: &OpenCase,
     room: &mut Room,
 ) -> Result<JudgedLeaf, Refused>
-    requires are_families { All (IsFamily (C.nodes setting.now.costs.now))
-        (families_of setting.now.crossed.now (plain setting.now.sets.now)) }
+    requires are_families { All (IsFamily (C.nodes setting.now.costs.now)) (good_in setting.now.families.now) }
     requires few_changes { length changes.now < 2 ^ 32 }
     requires few { length case.now.stack.items < 2 ^ 32 }
     requires case { IsOpenCase (C.nodes setting.now.costs.now) case.now }
     requires direction { case.now.by_node.directed ≡ setting.now.directed }
     requires given { case.now.given.now ≡ setting.now.given.now }
     requires once { DecideOnce setting.now.directed (decisions_in case.now) }
-    requires room { IsRoom (C.nodes setting.now.costs.now) (length setting.now.crossed.now) room.old }
-    requires kept { HoldsRows (C.nodes setting.now.costs.now) (length setting.now.crossed.now) setting.now.scale
-        setting.now.sets.now (C.at setting.now.costs.now) room.old.kept }
+    requires room { IsRoom (C.nodes setting.now.costs.now) (length setting.now.families.now.crossed.items) room.old }
+    requires kept { HoldsRows (C.nodes setting.now.costs.now) (length setting.now.families.now.crossed.items) setting.now.scale
+        (lent_in setting.now.families.now) (C.at setting.now.costs.now) room.old.kept }
     requires small { AreSmall room.old.numbers.items }
     ensures judged { IfOk result (IsJudgedLeaf (IsFoundAt setting.now.directed (C.nodes setting.now.costs.now)
         (C.at setting.now.costs.now) setting.now.scale decided_number
-        (families_of setting.now.crossed.now (plain setting.now.sets.now)))
-        (C.nodes setting.now.costs.now) setting.now.crossed.now
+        (good_in setting.now.families.now))
+        (C.nodes setting.now.costs.now) setting.now.families.now.crossed.items
         (decisions_in case.now) room.old.numbers.items changes.now
         room.new.numbers.items) }
-    ensures room { IfOk result (λ own. IsRoom (C.nodes setting.now.costs.now) (length setting.now.crossed.now) room.new) }
+    ensures room { IfOk result (λ own. IsRoom (C.nodes setting.now.costs.now) (length setting.now.families.now.crossed.items) room.new) }
     ensures kept { IfOk result (λ own. HoldsRows (C.nodes setting.now.costs.now)
-        (length setting.now.crossed.now) setting.now.scale setting.now.sets.now (C.at setting.now.costs.now) room.new.kept) }
+        (length setting.now.families.now.crossed.items) setting.now.scale (lent_in setting.now.families.now) (C.at setting.now.costs.now) room.new.kept) }
     ensures size { IfOk result IsSizedLeaf }
 {
     if !add_differences(&mut room.numbers, changes) {
@@ -195,14 +183,14 @@ fn judge_leaf<C: Costs>(
     }
     if !judge(
         &room.numbers,
-        setting.crossed,
+        setting.families,
         &mut room.potentials,
         &mut room.multipliers,
     ) {
         return Ok(JudgedLeaf::Bad);
     }
     room.kept
-        .bring_to(&room.multipliers, setting.by_node, setting.sets);
+        .bring_to(&room.multipliers, setting.by_node, setting.families);
     fill_moved(&mut room.moved, &room.potentials, &room.kept.ends);
     let leaf = OpenLeaf {
         potentials: &room.potentials,

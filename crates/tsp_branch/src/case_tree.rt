@@ -1,7 +1,6 @@
 //! A certificate by branching.
 
 use crate::decision::Decision;
-use tsp_families::CombSet;
 use tsp_format::TreeStep;
 use tsp_theory::Costs;
 
@@ -12,11 +11,9 @@ pub struct CaseTree<'a, C: Costs> {
     /// Whether pairs have a direction.
     pub directed: bool,
     pub scale: i64,
-    /// How many families there are.
-    pub combs: usize,
-    /// The sets of the families, each with the number of its family from 0 on, family by family, of
-    /// a comb the handle before the teeth. A lone set is a handle without teeth.
-    pub sets: &'a [CombSet],
+    /// The families, each by its sets, of a comb the handle before the teeth. A lone set is a
+    /// handle without teeth.
+    pub families: &'a [Vec<Vec<u32>>],
     /// The decisions of all cases.
     pub given: &'a [Decision],
     /// The branches and leaves.

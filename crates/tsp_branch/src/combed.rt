@@ -5,16 +5,17 @@ ghost use Rattle.std.specs.Int.{w64, int_wrap};
 ghost use Rattle.tsp_format.specs.Cells.{IsNode};
 ghost use Rattle.tsp_theory.specs.Numbers.{IsFromTo, IsScale, ArePotentials, entry};
 ghost use Rattle.tsp_theory.specs.states.Nearest.{least_at};
-ghost use Rattle.tsp_families.specs.FamilySets.{AreSetsOf};
 ghost use Rattle.tsp_branch.specs.states.Sets.{IsMoved, IsSetTable};
-ghost use Rattle.tsp_branch.specs.states.Combed.{plain, AreSmallMultipliers, AreMultipliedSets, AreFewCrossings, set_weight};
+ghost use Rattle.tsp_branch.specs.states.Lent.{lent_in};
+ghost use Rattle.tsp_branch.specs.states.Combed.{AreSmallMultipliers, AreFewCrossings, set_weight};
 ghost use Rattle.tsp_branch.specs.states.Kept.{AreMoved, AreRowsIfAny, kept_weight};
 
 use crate::add_sets::{add_sets, sum_left};
+use crate::families::Families;
 use crate::open_leaf::OpenLeaf;
 use crate::scaled::{scale_row, shift_row};
+use crate::set_place::SetPlace;
 use crate::setting::Setting;
-use tsp_families::CombSet;
 use tsp_theory::Costs;
 use tsp_tree::{Weights, weight_in};
 
@@ -29,22 +30,22 @@ pub(crate) struct CombedWeights<'a, C: Costs> {
     scale: i64,
     potentials: &'a [i64],
     multipliers: &'a [i64],
-    sets: &'a [CombSet],
-    by_node: &'a [Vec<u32>],
+    families: &'a Families<'a>,
+    by_node: &'a [Vec<SetPlace>],
     moved: &'a [i64],
     kept: &'a [Vec<i64>],
     ghost scaled: { IsScale scale },
     ghost small: { AreSmallMultipliers multipliers.now },
-    ghost nodes: { AreSetsOf (C.nodes costs.now) sets.now },
-    ghost combs: { AreMultipliedSets multipliers.now sets.now },
-    ghost table: { IsSetTable (C.nodes costs.now) sets.now by_node.now },
+    ghost same: { families.now.nodes ≡ C.nodes costs.now },
+    ghost as_many: { length multipliers.now ≡ length families.now.lent.now },
+    ghost table: { IsSetTable (C.nodes costs.now) (lent_in families.now) by_node.now },
     ghost places: { length moved.now ≡ C.nodes costs.now + 1 },
-    ghost are_moved: { AreMoved (C.nodes costs.now) potentials.now multipliers.now sets.now moved.now },
+    ghost are_moved: { AreMoved (C.nodes costs.now) potentials.now multipliers.now (lent_in families.now) moved.now },
     ghost are_kept: { AreRowsIfAny (C.nodes costs.now) (C.at costs.now)
-        (kept_weight scale sets.now (C.at costs.now) multipliers.now) kept.now },
+        (kept_weight scale (lent_in families.now) (C.at costs.now) multipliers.now) kept.now },
     ghost long: { length potentials.now ≡ C.nodes costs.now },
     ghost potentials_are: { ArePotentials potentials.now },
-    ghost crossed: { AreFewCrossings (C.nodes costs.now) multipliers.now (plain sets.now) },
+    ghost crossed: { AreFewCrossings (C.nodes costs.now) multipliers.now (lent_in families.now) },
 }
 
 impl<'a, C: Costs> CombedWeights<'a, C> {
@@ -54,9 +55,9 @@ impl<'a, C: Costs> CombedWeights<'a, C> {
     ghost use Rattle.tsp_theory.specs.Numbers.{IsFromTo, IsScale, ArePotentials, entry};
     ghost use Rattle.tsp_theory.specs.states.Nearest.{least_at};
     ghost use Rattle.tsp_theory.specs.NodeBound.{weight_between, most_between};
-    ghost use Rattle.tsp_families.specs.FamilySets.{AreSetsOf};
-    ghost use Rattle.tsp_branch.specs.states.Sets.{IsMoved, IsSetTable};
-    ghost use Rattle.tsp_branch.specs.states.Combed.{plain, AreSmallMultipliers, AreMultipliedSets, multipliers_at, AreFewCrossings, IsApart, most_combed, set_weight};
+    ghost use Rattle.tsp_branch.specs.states.Sets.{IsMoved};
+    ghost use Rattle.tsp_branch.specs.states.Lent.{lent_in};
+    ghost use Rattle.tsp_branch.specs.states.Combed.{AreSmallMultipliers, multipliers_at, AreFewCrossings, IsApart, most_combed, set_weight};
     ghost use Rattle.tsp_branch.specs.states.Kept.{IsOpenLeaf};
 
     /// The weights of a leaf without its decisions.
@@ -66,17 +67,17 @@ impl<'a, C: Costs> CombedWeights<'a, C> {
     /// - as many potentials as nodes, each at most 10^15 in size;
     /// - multipliers from 0 to 9 * 10^17, of which no two nodes cross more than 9 * 10^17.
     pub(crate) fn of(setting: &Setting<'a, C>, leaf: &OpenLeaf<'a>) -> CombedWeights<'a, C>
-        requires leaf { IsOpenLeaf (C.nodes setting.now.costs.now) setting.now.scale setting.now.sets.now
+        requires leaf { IsOpenLeaf (C.nodes setting.now.costs.now) setting.now.scale (lent_in setting.now.families.now)
             (C.at setting.now.costs.now) leaf.now }
         requires small { AreSmallMultipliers leaf.now.multipliers.now }
-        requires combs { AreMultipliedSets leaf.now.multipliers.now setting.now.sets.now }
+        requires as_many { length leaf.now.multipliers.now ≡ length setting.now.families.now.lent.now }
         requires long { length leaf.now.potentials.now ≡ C.nodes setting.now.costs.now }
         requires potentials_are { ArePotentials leaf.now.potentials.now }
-        requires crossed { AreFewCrossings (C.nodes setting.now.costs.now) leaf.now.multipliers.now (plain setting.now.sets.now) }
+        requires crossed { AreFewCrossings (C.nodes setting.now.costs.now) leaf.now.multipliers.now (lent_in setting.now.families.now) }
         ensures nodes { C.nodes result.costs.now ≡ C.nodes setting.now.costs.now }
         ensures weights { (i j : ℕ) → set_weight result.scale result.potentials.now result.multipliers.now
-            (plain result.sets.now) (C.at result.costs.now) i j
-            ≡ set_weight setting.now.scale leaf.now.potentials.now leaf.now.multipliers.now (plain setting.now.sets.now)
+            (lent_in result.families.now) (C.at result.costs.now) i j
+            ≡ set_weight setting.now.scale leaf.now.potentials.now leaf.now.multipliers.now (lent_in setting.now.families.now)
             (C.at setting.now.costs.now) i j }
     {
         CombedWeights {
@@ -84,7 +85,7 @@ impl<'a, C: Costs> CombedWeights<'a, C> {
             scale: setting.scale,
             potentials: leaf.potentials,
             multipliers: leaf.multipliers,
-            sets: setting.sets,
+            families: setting.families,
             by_node: setting.by_node,
             moved: leaf.moved,
             kept: leaf.kept,
@@ -97,8 +98,8 @@ impl<'a, C: Costs> CombedWeights<'a, C> {
         requires from { IsNode (C.nodes self.now.costs.now) from }
         requires room { length row.old ≡ C.nodes self.now.costs.now + 1 }
         ensures values { (x : ℕ) → IsNode (C.nodes self.now.costs.now) x
-            → IsMoved (neg_ℤ (multipliers_at self.now.multipliers.now (plain self.now.sets.now) from)
-            +ℤ neg_ℤ (multipliers_at self.now.multipliers.now (plain self.now.sets.now) x))
+            → IsMoved (neg_ℤ (multipliers_at self.now.multipliers.now (lent_in self.now.families.now) from)
+            +ℤ neg_ℤ (multipliers_at self.now.multipliers.now (lent_in self.now.families.now) x))
             (weight_between self.now.scale self.now.potentials.now (C.at self.now.costs.now) from x)
             (least_at row.new x) }
         ensures sizes { (x : ℕ) → IsNode (C.nodes self.now.costs.now) x
@@ -117,8 +118,8 @@ impl<'a, C: Costs> CombedWeights<'a, C> {
         requires own { own ≡ least_at self.now.moved.now from }
         requires from { IsNode (C.nodes self.now.costs.now) from }
         requires to { IsNode (C.nodes self.now.costs.now) to }
-        ensures value { IsMoved (neg_ℤ (multipliers_at self.now.multipliers.now (plain self.now.sets.now) from)
-            +ℤ neg_ℤ (multipliers_at self.now.multipliers.now (plain self.now.sets.now) to))
+        ensures value { IsMoved (neg_ℤ (multipliers_at self.now.multipliers.now (lent_in self.now.families.now) from)
+            +ℤ neg_ℤ (multipliers_at self.now.multipliers.now (lent_in self.now.families.now) to))
             (weight_between self.now.scale self.now.potentials.now (C.at self.now.costs.now) from to) result }
         ensures size { IsFromTo (neg_ℤ (pos most_between)) (pos most_between)
             (weight_between self.now.scale self.now.potentials.now (C.at self.now.costs.now) from to) }
@@ -135,7 +136,7 @@ impl<'a, C: Costs> CombedWeights<'a, C> {
         requires to { (k : ℕ) → k < length to.now → IsNode (C.nodes self.now.costs.now) (slice_index to.now k) }
         requires room { length row.old ≡ C.nodes self.now.costs.now + 1 }
         ensures { (k : ℕ) → k < length to.now → IsApart self.now.scale self.now.potentials.now self.now.multipliers.now
-            (plain self.now.sets.now) (C.at self.now.costs.now) from (slice_index to.now k)
+            (lent_in self.now.families.now) (C.at self.now.costs.now) from (slice_index to.now k)
             (least_at row.new (slice_index to.now k)) }
     {
         let own = weight_in(self.moved, from);
@@ -152,7 +153,7 @@ impl<'a, C: Costs> CombedWeights<'a, C> {
         requires room { length row.old ≡ C.nodes self.now.costs.now + 1 }
         ensures values { (k : ℕ) → k < length to.now → least_at row.new (slice_index to.now k)
             ≡ set_weight self.now.scale self.now.potentials.now self.now.multipliers.now
-            (plain self.now.sets.now) (C.at self.now.costs.now) from (slice_index to.now k) }
+            (lent_in self.now.families.now) (C.at self.now.costs.now) from (slice_index to.now k) }
         ensures sizes { (k : ℕ) → k < length to.now
             → IsFromTo (neg_ℤ (pos most_combed)) (pos most_combed) (least_at row.new (slice_index to.now k)) }
     {
@@ -160,7 +161,7 @@ impl<'a, C: Costs> CombedWeights<'a, C> {
         add_sets(
             row,
             &self.by_node[from as usize],
-            self.sets,
+            self.families,
             self.multipliers,
         );
     }
@@ -171,7 +172,7 @@ impl<'a, C: Costs> CombedWeights<'a, C> {
         requires room { length row.old ≡ C.nodes self.now.costs.now + 1 }
         ensures values { (x : ℕ) → IsNode (C.nodes self.now.costs.now) x → least_at row.new x
             ≡ set_weight self.now.scale self.now.potentials.now self.now.multipliers.now
-            (plain self.now.sets.now) (C.at self.now.costs.now) from x }
+            (lent_in self.now.families.now) (C.at self.now.costs.now) from x }
         ensures sizes { (x : ℕ) → IsNode (C.nodes self.now.costs.now) x
             → IsFromTo (neg_ℤ (pos most_combed)) (pos most_combed) (least_at row.new x) }
     {
@@ -179,7 +180,7 @@ impl<'a, C: Costs> CombedWeights<'a, C> {
         add_sets(
             row,
             &self.by_node[from as usize],
-            self.sets,
+            self.families,
             self.multipliers,
         );
     }
@@ -191,7 +192,7 @@ impl<'a, C: Costs> CombedWeights<'a, C> {
         requires room { length row.old ≡ C.nodes self.now.costs.now + 1 }
         ensures values { (x : ℕ) → IsNode (C.nodes self.now.costs.now) x → least_at row.new x
             ≡ set_weight self.now.scale self.now.potentials.now self.now.multipliers.now
-            (plain self.now.sets.now) (C.at self.now.costs.now) from x }
+            (lent_in self.now.families.now) (C.at self.now.costs.now) from x }
         ensures sizes { (x : ℕ) → IsNode (C.nodes self.now.costs.now) x
             → IsFromTo (neg_ℤ (pos most_combed)) (pos most_combed) (least_at row.new x) }
     {
@@ -206,7 +207,7 @@ impl<'a, C: Costs> CombedWeights<'a, C> {
         requires room { length row.old ≡ C.nodes self.now.costs.now + 1 }
         ensures values { (k : ℕ) → k < length to.now → least_at row.new (slice_index to.now k)
             ≡ set_weight self.now.scale self.now.potentials.now self.now.multipliers.now
-            (plain self.now.sets.now) (C.at self.now.costs.now) from (slice_index to.now k) }
+            (lent_in self.now.families.now) (C.at self.now.costs.now) from (slice_index to.now k) }
         ensures sizes { (k : ℕ) → k < length to.now
             → IsFromTo (neg_ℤ (pos most_combed)) (pos most_combed) (least_at row.new (slice_index to.now k)) }
     {
@@ -224,7 +225,7 @@ impl<'a, C: Costs> CombedWeights<'a, C> {
         requires room { length row.old ≡ C.nodes self.now.costs.now + 1 }
         ensures values { (x : ℕ) → IsNode (C.nodes self.now.costs.now) x → least_at row.new x
             ≡ set_weight self.now.scale self.now.potentials.now self.now.multipliers.now
-            (plain self.now.sets.now) (C.at self.now.costs.now) from x }
+            (lent_in self.now.families.now) (C.at self.now.costs.now) from x }
         ensures sizes { (x : ℕ) → IsNode (C.nodes self.now.costs.now) x
             → IsFromTo (neg_ℤ (pos most_combed)) (pos most_combed) (least_at row.new x) }
     {
@@ -237,11 +238,12 @@ impl<'a, C: Costs> CombedWeights<'a, C> {
 }
 
 impl<C: Costs> Weights for CombedWeights<'_, C> {
-    ghost use Rattle.tsp_branch.specs.states.Combed.{plain, set_weight};
+    ghost use Rattle.tsp_branch.specs.states.Lent.{lent_in};
+    ghost use Rattle.tsp_branch.specs.states.Combed.{set_weight};
 
     ghost nodes = { λ w. C.nodes w.costs.now };
 
-    ghost at = { λ w. set_weight w.scale w.potentials.now w.multipliers.now (plain w.sets.now) (C.at w.costs.now) };
+    ghost at = { λ w. set_weight w.scale w.potentials.now w.multipliers.now (lent_in w.families.now) (C.at w.costs.now) };
 
     #[inline]
     fn count(&self) -> u32 {

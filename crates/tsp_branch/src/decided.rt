@@ -29,7 +29,8 @@ pub(crate) struct DecidedWeights<'a, C: Costs> {
 
 impl<'a, C: Costs> DecidedWeights<'a, C> {
     ghost use Rattle.std.specs.Prelude.{◌≡◌, ℕ, false};
-    ghost use Rattle.tsp_branch.specs.states.Combed.{plain, set_weight};
+    ghost use Rattle.tsp_branch.specs.states.Lent.{lent_in};
+    ghost use Rattle.tsp_branch.specs.states.Combed.{set_weight};
     ghost use Rattle.tsp_branch.specs.states.Decided.{AreFewChanges, decided};
     ghost use Rattle.tsp_branch.specs.states.OpenCases.{IsOpenCase, decisions_in};
 
@@ -48,23 +49,24 @@ impl<'a, C: Costs> DecidedWeights<'a, C> {
         ensures nodes { C.nodes result.combed.now.costs.now ≡ C.nodes combed.now.costs.now }
         ensures weights { (i j : ℕ) → decided (decisions_in result.case.now)
             (set_weight result.combed.now.scale result.combed.now.potentials.now result.combed.now.multipliers.now
-            (plain result.combed.now.sets.now) (C.at result.combed.now.costs.now)) i j
+            (lent_in result.combed.now.families.now) (C.at result.combed.now.costs.now)) i j
             ≡ decided (decisions_in case.now) (set_weight combed.now.scale combed.now.potentials.now
-            combed.now.multipliers.now (plain combed.now.sets.now) (C.at combed.now.costs.now)) i j }
+            combed.now.multipliers.now (lent_in combed.now.families.now) (C.at combed.now.costs.now)) i j }
     {
         DecidedWeights { combed, case }
     }
 }
 
 impl<C: Costs> Weights for DecidedWeights<'_, C> {
-    ghost use Rattle.tsp_branch.specs.states.Combed.{plain, set_weight};
+    ghost use Rattle.tsp_branch.specs.states.Lent.{lent_in};
+    ghost use Rattle.tsp_branch.specs.states.Combed.{set_weight};
     ghost use Rattle.tsp_branch.specs.states.Decided.{decided};
     ghost use Rattle.tsp_branch.specs.states.OpenCases.{decisions_in};
 
     ghost nodes = { λ w. C.nodes w.combed.now.costs.now };
 
     ghost at = { λ w. decided (decisions_in w.case.now) (set_weight w.combed.now.scale
-        w.combed.now.potentials.now w.combed.now.multipliers.now (plain w.combed.now.sets.now)
+        w.combed.now.potentials.now w.combed.now.multipliers.now (lent_in w.combed.now.families.now)
         (C.at w.combed.now.costs.now)) };
 
     #[inline]

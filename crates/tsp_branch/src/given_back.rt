@@ -1,6 +1,6 @@
 //! What a leaf gives back.
 
-ghost use Rattle.std.specs.Prelude.{◌≡◌, ◌≤◌, ◌<◌, ◌^◌, ◌-◌, List, length, pos, neg_ℤ, ◌-ℤ◌, ◌*ℤ◌, ◌≤ℤ◌};
+ghost use Rattle.std.specs.Prelude.{◌≡◌, ◌≤◌, ◌<◌, ◌^◌, ◌-◌, length, pos, neg_ℤ, ◌-ℤ◌, ◌*ℤ◌, ◌≤ℤ◌};
 ghost use Rattle.std.specs.List.{All};
 ghost use Rattle.tsp_theory.specs.Numbers.{IsFromTo, total};
 ghost use Rattle.tsp_theory.specs.Adjusted.{triples_total};
@@ -8,11 +8,13 @@ ghost use Rattle.tsp_branch.specs.Decisions.{on_taken, decided_number};
 ghost use Rattle.tsp_branch.specs.Certificate.{multiplied};
 ghost use Rattle.tsp_branch.specs.LeafBound.{least_of};
 ghost use Rattle.tsp_branch.specs.GoodNumbers.{most_crossed};
-ghost use Rattle.tsp_branch.specs.CombsOfSets.{NumberedSet, families_of, least_with};
+ghost use Rattle.tsp_branch.specs.CombsOfSets.{least_with};
+ghost use Rattle.tsp_branch.specs.states.Lent.{good_in};
 ghost use Rattle.tsp_branch.specs.states.FamilyNumbers.{AreSmallCrossings};
 
 use crate::decided::DECIDED;
 use crate::decision::Decision;
+use crate::families::Families;
 use tsp_families::Crossings;
 
 /// The least crossings of a leaf's families, each times its multiplier, less each potential twice:
@@ -20,20 +22,17 @@ use tsp_families::Crossings;
 ///
 /// # Requires
 ///
-/// The numbers of each family, and multipliers that aren't negative and sum to at most 9 * 10^17.
-pub(crate) fn given_back(potentials: &[i64], multipliers: &[i64], crossed: &[Crossings]) -> i128
+/// Multipliers of the families that aren't negative and sum to at most 9 * 10^17.
+pub(crate) fn given_back(potentials: &[i64], multipliers: &[i64], families: &Families) -> i128
     requires few_potentials { length potentials.now < 2 ^ 32 }
-    requires few_multipliers { length multipliers.now < 2 ^ 32 }
-    requires as_many { length crossed.now ≡ length multipliers.now }
-    requires small { AreSmallCrossings crossed.now }
+    requires as_many { length families.now.crossed.items ≡ length multipliers.now }
     requires signs { All (λ multiplier. pos 0 ≤ℤ multiplier) multipliers.now }
     requires sum { total multipliers.now ≤ℤ pos most_crossed }
-    ensures value { (sets : List NumberedSet)
-        → result ≡ least_of (multiplied (families_of crossed.now sets) multipliers.now)
+    ensures value { result ≡ least_of (multiplied (good_in families.now) multipliers.now)
         -ℤ (pos 2 *ℤ total potentials.now) }
     ensures size { IsFromTo (neg_ℤ (pos (2 ^ 98))) (pos (2 ^ 98)) result }
 {
-    multiplied_crossings(crossed, multipliers) - 2 * total(potentials)
+    multiplied_crossings(&families.crossed, multipliers) - 2 * total(potentials)
 }
 
 /// The least crossings of families, each times its multiplier.

@@ -1,24 +1,23 @@
 //! Which family is bad, and the numbers of the others.
 
-ghost use Rattle.std.specs.Prelude.{◌≡◌, ◌≤◌, ◌<◌, ◌-◌, ◌+◌, ◌^◌, ◌↔◌, ◌≢◌, ℕ, IsTrue, [], length, take, true, IfOk, IfSome, slice_index_or};
+ghost use Rattle.std.specs.Prelude.{◌≡◌, ◌≤◌, ◌<◌, ◌-◌, ◌+◌, ◌^◌, ◌↔◌, ℕ, IsTrue, [], length, true, IfOk, IfSome};
 ghost use Rattle.std.specs.List.{All};
 ghost use Rattle.tsp_format.specs.Cells.{IsNode};
 ghost use Rattle.tsp_families.specs.Crossed.{has};
-ghost use Rattle.tsp_families.specs.FamilySets.{AreSetsOf, lists_of};
-ghost use Rattle.tsp_families.specs.declared.comb_set.CombSet.{CombSet};
+ghost use Rattle.tsp_families.specs.FamilySets.{AreSetsOf, AreFamiliesOf, lists_of};
 ghost use Rattle.tsp_branch.specs.Combs.{IsTooth, comb_of};
 ghost use Rattle.tsp_branch.specs.Families.{IsLoneSet, least_crossings_of};
-ghost use Rattle.tsp_branch.specs.states.Sets.{AreInOrder};
-ghost use Rattle.tsp_branch.specs.states.Combed.{plain};
-ghost use Rattle.tsp_branch.specs.GoodCombs.{IsGoodComb, IsToothCount, AreFamiliesJudged};
-ghost use Rattle.tsp_branch.specs.states.FamilyNumbers.{AreSmallFamilies, HasNumbers, IsSmall};
+ghost use Rattle.tsp_branch.specs.GoodCombs.{IsGoodComb, IsToothCount};
+ghost use Rattle.tsp_branch.specs.JudgedSets.{AreFamiliesJudged};
+ghost use Rattle.tsp_branch.specs.states.FamilyNumbers.{HasNumbers, IsSmall};
 ghost use Rattle.tsp_branch.specs.states.Marked.{is_marked, AreUnmarked, HavePlaces, AddsNoOther, AreTeeth};
 
+use crate::families::Families;
 use crate::marks::{has_node, leaves_one_out, mark_nodes};
 use crate::other_families::other_crossings;
 use crate::steps::JudgedFamilies;
 use std::alloc::Global;
-use tsp_families::{CombSet, Crossings};
+use tsp_families::Crossings;
 use tsp_memory::{Refused, filled, push};
 
 /// The numbers of families, or the first one that isn't good, counted from 1: one with a node twice
@@ -26,8 +25,7 @@ use tsp_memory::{Refused, filled, push};
 /// nodes make more than 14 parts or one alone. Two nodes are in one part where they are in the same
 /// sets.
 ///
-/// The families are given by their sets, each with the number of its family from 0 on, family by
-/// family, of a comb the handle before the teeth.
+/// The families are given by their sets, of a comb the handle before the teeth.
 ///
 /// # Requires
 ///
@@ -36,37 +34,36 @@ use tsp_memory::{Refused, filled, push};
 /// # Errors
 ///
 /// Out of memory, of which it takes some for each node and for each family.
-pub fn judge_families(
+pub fn judge_families<'a>(
     alloc: Global,
     nodes: u32,
-    combs: usize,
-    sets: &[CombSet],
-) -> Result<JudgedFamilies, Refused>
+    families: &'a [Vec<Vec<u32>>],
+) -> Result<JudgedFamilies<'a>, Refused>
     requires some { 1 ≤ nodes }
     requires few_nodes { nodes < 2 ^ 32 - 1 }
-    requires few_combs { combs < 2 ^ 32 }
-    requires few_sets { length sets.now < 2 ^ 32 }
-    requires nodes { AreSetsOf nodes sets.now }
-    requires of_combs { All (λ set. set.comb < combs) sets.now }
-    requires in_order { AreInOrder sets.now }
-    ensures judged { IfOk result (AreFamiliesJudged nodes combs (plain sets.now)) }
-    ensures small { IfOk result AreSmallFamilies }
+    requires few { length families.now < 2 ^ 32 }
+    requires few_sets { All (λ sets. length sets.items < 2 ^ 32) families.now }
+    requires nodes { AreFamiliesOf nodes families.now }
+    ensures { IfOk result (AreFamiliesJudged nodes families.now) }
 {
     let mut handles = filled(alloc, 0, nodes as usize + 1)?;
     let mut teeth = filled(alloc, 0, nodes as usize + 1)?;
     let mut crossed = Vec::new(alloc);
-    let mut rest = sets;
-    'combs: for comb in 0..combs as u32 {
-        let (own, later) = rest.split_at(count_of(rest, comb));
+    'families: for number in 0..families.len() {
         // Marks from 1 on, since 0 means no mark.
-        let found = crossings_of(alloc, nodes, &mut handles, &mut teeth, comb + 1, own)?;
+        let mark = number as u32 + 1;
+        let own = &families[number];
+        let found = crossings_of(alloc, nodes, &mut handles, &mut teeth, mark, own)?;
         let Some(numbers) = found else {
-            return Ok(JudgedFamilies::Bad(comb as usize + 1));
+            return Ok(JudgedFamilies::Bad(number + 1));
         };
         push(&mut crossed, numbers)?;
-        rest = later;
     }
-    Ok(JudgedFamilies::Good(crossed))
+    Ok(JudgedFamilies::Good(Families {
+        nodes,
+        lent: families,
+        crossed,
+    }))
 }
 
 /// The numbers of the family that sets are, the handle first; `None` where they are none, or one
@@ -81,7 +78,7 @@ fn crossings_of(
     handles: &mut [u32],
     used: &mut [u32],
     mark: u32,
-    sets: &[CombSet],
+    sets: &[Vec<u32>],
 ) -> Result<Option<Crossings>, Refused>
     requires some { 1 ≤ nodes }
     requires few_nodes { nodes < 2 ^ 32 - 1 }
@@ -116,24 +113,11 @@ fn known_crossings(sets: usize) -> Crossings
     Crossings { least, most: 3 }
 }
 
-/// How many sets at the front have the number of a comb.
-fn count_of(sets: &[CombSet], comb: u32) -> usize
-    ensures most { result ≤ length sets.now }
-    ensures own { All (λ set. set.comb ≡ comb) (take result sets.now) }
-    ensures next { (default : CombSet) → result < length sets.now → (slice_index_or sets.now result default).comb ≢ comb }
-{
-    let mut count = 0;
-    'count: while count < sets.len() && sets[count].comb == comb {
-        count += 1;
-    }
-    count
-}
-
 /// Whether sets, the handle first, are a lone set or a comb, each with its nodes once.
 ///
 /// The nodes of the handle get a mark, and so do those of the teeth in marks of their own: a mark
 /// that no node has before.
-fn is_comb(handles: &mut [u32], used: &mut [u32], mark: u32, sets: &[CombSet]) -> bool
+fn is_comb(handles: &mut [u32], used: &mut [u32], mark: u32, sets: &[Vec<u32>]) -> bool
     requires handle_places { HavePlaces handles.old sets.now }
     requires tooth_places { HavePlaces used.old sets.now }
     requires fresh_handle { AreUnmarked handles.old mark }
@@ -147,11 +131,11 @@ fn is_comb(handles: &mut [u32], used: &mut [u32], mark: u32, sets: &[CombSet]) -
     let Some((handle, teeth)) = sets.split_first() else {
         return false;
     };
-    if !mark_nodes(handles, mark, &handle.nodes) {
+    if !mark_nodes(handles, mark, handle) {
         return false;
     }
     if teeth.is_empty() {
-        return is_lone_set(handles, mark, &handle.nodes);
+        return is_lone_set(handles, mark, handle);
     }
     if !is_tooth_count(teeth.len()) {
         return false;
@@ -178,7 +162,7 @@ fn is_tooth_count(count: usize) -> bool
 
 /// Whether sets are teeth of the handle whose nodes have the mark, and all their nodes different
 /// and without the mark. They get it.
-fn are_teeth(handles: &[u32], used: &mut [u32], mark: u32, teeth: &[CombSet]) -> bool
+fn are_teeth(handles: &[u32], used: &mut [u32], mark: u32, teeth: &[Vec<u32>]) -> bool
     requires handle_places { HavePlaces handles.now teeth.now }
     requires tooth_places { HavePlaces used.old teeth.now }
     ensures teeth { (n : ℕ) → AreSetsOf n teeth.now → (IsTrue result
@@ -187,7 +171,7 @@ fn are_teeth(handles: &[u32], used: &mut [u32], mark: u32, teeth: &[CombSet]) ->
     ensures length { length used.new ≡ length used.old }
 {
     'teeth: for tooth in teeth {
-        let nodes: &[u32] = &tooth.nodes;
+        let nodes: &[u32] = tooth;
         if !mark_nodes(used, mark, nodes) {
             return false;
         }

@@ -1,11 +1,11 @@
 //! Whether the numbers of a leaf are good.
 
-ghost use Rattle.std.specs.Prelude.{◌≡◌, ◌≤◌, ◌<◌, ◌+◌, ◌^◌, ◌↔◌, IsTrue, length, take, drop, true};
-ghost use Rattle.std.specs.List.{All};
+ghost use Rattle.std.specs.Prelude.{◌≡◌, ◌<◌, ◌+◌, ◌^◌, ◌↔◌, IsTrue, length, take, drop, true};
 ghost use Rattle.tsp_branch.specs.GoodNumbers.{AreGoodNumbers, as_leaf_numbers, most_with};
 ghost use Rattle.tsp_branch.specs.states.Combed.{AreSmallMultipliers};
 ghost use Rattle.tsp_branch.specs.states.FamilyNumbers.{AreSmallCrossings};
 
+use crate::families::Families;
 use crate::numbers::copy_within;
 use tsp_families::Crossings;
 use tsp_format::MOST_POTENTIAL;
@@ -19,16 +19,13 @@ const MOST_CROSSED: i64 = 900_000_000_000_000_000;
 /// its family, sum to at most 9 * 10^17. Then they are copied.
 pub(crate) fn judge(
     numbers: &[i128],
-    crossed: &[Crossings],
+    families: &Families,
     potentials: &mut [i64],
     multipliers: &mut [i64],
 ) -> bool
     requires long { length numbers.now ≡ length potentials.old + length multipliers.old }
-    requires as_many { length multipliers.old ≡ length crossed.now }
-    requires few { length multipliers.old < 2 ^ 32 }
-    requires numbers { AreSmallCrossings crossed.now }
-    requires some { All (λ own. 1 ≤ own.most) crossed.now }
-    ensures good { IsTrue result ↔ AreGoodNumbers (length potentials.old) crossed.now
+    requires as_many { length multipliers.old ≡ length families.now.crossed.items }
+    ensures good { IsTrue result ↔ AreGoodNumbers (length potentials.old) families.now.crossed.items
         (as_leaf_numbers (take (length potentials.old) numbers.now) (drop (length potentials.old) numbers.now)) }
     ensures potentials { result ≡ true → potentials.new ≡ take (length potentials.old) numbers.now }
     ensures multipliers { result ≡ true → multipliers.new ≡ drop (length potentials.old) numbers.now }
@@ -42,7 +39,7 @@ pub(crate) fn judge(
     if !copy_within(of_combs, 0, MOST_CROSSED, multipliers) {
         return false;
     }
-    most_crossings(crossed, multipliers) <= i128::from(MOST_CROSSED)
+    most_crossings(&families.crossed, multipliers) <= i128::from(MOST_CROSSED)
 }
 
 /// How often two nodes cross the sets of families at most, each as often as its multiplier says.

@@ -6,14 +6,17 @@ ghost use Rattle.std.specs.List.{All};
 ghost use Rattle.tsp_format.specs.Cells.{IsNode};
 ghost use Rattle.tsp_theory.specs.Numbers.{IsScale};
 ghost use Rattle.tsp_theory.specs.states.Nearest.{least_at};
-ghost use Rattle.tsp_branch.specs.states.Combed.{AreSmallMultipliers, AreSmallDifferences, AreMultipliedSets};
+ghost use Rattle.tsp_branch.specs.states.Sets.{IsPlaceIn};
+ghost use Rattle.tsp_branch.specs.states.Lent.{lent_in};
+ghost use Rattle.tsp_branch.specs.states.Combed.{AreSmallMultipliers, AreSmallDifferences};
 ghost use Rattle.tsp_branch.specs.states.Kept.{IsKeptRow, AreRows, AreRowsIfAny, AreAdded, AreDifferences};
 
 use crate::add_sets::add_to_row;
+use crate::families::Families;
 use crate::moved::take_multipliers;
 use crate::scaled::scale_row;
+use crate::set_place::SetPlace;
 use std::alloc::Global;
-use tsp_families::CombSet;
 use tsp_memory::{Refused, filled, push, with_capacity};
 use tsp_theory::Costs;
 
@@ -35,10 +38,9 @@ pub(crate) struct KeptRows {
 impl KeptRows {
     ghost use Rattle.std.specs.Prelude.{◌≡◌, ◌<◌, ◌^◌, ℕ, ℤ, List, [], length, IfOk};
     ghost use Rattle.tsp_theory.specs.Numbers.{IsScale};
-    ghost use Rattle.tsp_families.specs.FamilySets.{AreSetsOf};
-    ghost use Rattle.tsp_families.specs.declared.comb_set.CombSet.{CombSet};
     ghost use Rattle.tsp_branch.specs.states.Sets.{IsSetTable};
-    ghost use Rattle.tsp_branch.specs.states.Combed.{AreSmallMultipliers, AreMultipliedSets};
+    ghost use Rattle.tsp_branch.specs.states.Lent.{lent_in};
+    ghost use Rattle.tsp_branch.specs.states.Combed.{AreSmallMultipliers};
     ghost use Rattle.tsp_branch.specs.states.Kept.{HoldsRows};
 
     /// The rows where all multipliers of this many combs are 0, for a tree of this many steps.
@@ -55,7 +57,8 @@ impl KeptRows {
     ) -> Result<KeptRows, Refused>
         requires scale { IsScale scale }
         requires few { combs < 2 ^ 32 }
-        ensures { IfOk result (λ kept. (sets : List CombSet) → HoldsRows (C.nodes costs.now) combs scale sets (C.at costs.now) kept) }
+        ensures { IfOk result (λ kept. (families : List (List (List ℕ)))
+            → HoldsRows (C.nodes costs.now) combs scale families (C.at costs.now) kept) }
     {
         let multipliers = filled(alloc, 0, combs)?;
         let differences = filled(alloc, 0, combs)?;
@@ -69,13 +72,21 @@ impl KeptRows {
     }
 
     /// Brings the rows to other multipliers.
-    pub(crate) fn bring_to(&mut self, multipliers: &[i64], by_node: &[Vec<u32>], sets: &[CombSet])
-        requires kept { (n : ℕ) × (scale : ℤ) × (cost : ℕ → ℕ → ℤ) × HoldsRows n (length multipliers.now) scale sets.now cost self.old
-            × AreSetsOf n sets.now × IsSetTable n sets.now by_node.now }
+    pub(crate) fn bring_to(
+        &mut self,
+        multipliers: &[i64],
+        by_node: &[Vec<SetPlace>],
+        families: &Families,
+    )
+        requires kept { (n : ℕ) × (scale : ℤ) × (cost : ℕ → ℕ → ℤ)
+            × HoldsRows n (length multipliers.now) scale (lent_in families.now) cost self.old
+            × (families.now.nodes ≡ n) × IsSetTable n (lent_in families.now) by_node.now }
+        requires as_many { length multipliers.now ≡ length families.now.lent.now }
         requires small { AreSmallMultipliers multipliers.now }
-        requires combs { AreMultipliedSets multipliers.now sets.now }
-        ensures kept { (n : ℕ) (scale : ℤ) (cost : ℕ → ℕ → ℤ) → HoldsRows n (length multipliers.now) scale sets.now cost self.old
-            → IsSetTable n sets.now by_node.now → HoldsRows n (length multipliers.now) scale sets.now cost self.new }
+        ensures kept { (n : ℕ) (scale : ℤ) (cost : ℕ → ℕ → ℤ)
+            → HoldsRows n (length multipliers.now) scale (lent_in families.now) cost self.old
+            → IsSetTable n (lent_in families.now) by_node.now
+            → HoldsRows n (length multipliers.now) scale (lent_in families.now) cost self.new }
         ensures multipliers { self.new.multipliers.items ≡ multipliers.now }
     {
         if self.multipliers.as_slice() == multipliers {
@@ -83,8 +94,8 @@ impl KeptRows {
         }
         write_differences(&mut self.differences, &self.multipliers, multipliers);
         self.multipliers.copy_from_slice(multipliers);
-        take_multipliers(&mut self.ends, sets, &self.differences);
-        add_to_rows(&mut self.rows, by_node, sets, &self.differences);
+        take_multipliers(&mut self.ends, families, &self.differences);
+        add_to_rows(&mut self.rows, by_node, families, &self.differences);
     }
 }
 
@@ -153,16 +164,22 @@ fn write_differences(differences: &mut [i64], old: &[i64], new: &[i64])
     }
 }
 
-/// Adds to each row, at each node of the sets of its node, the set's multiplier twice.
-fn add_to_rows(rows: &mut [Vec<i64>], by_node: &[Vec<u32>], sets: &[CombSet], multipliers: &[i64])
+/// Adds to each row, at each node of the sets of its node, the multiplier of the set's family
+/// twice.
+fn add_to_rows(
+    rows: &mut [Vec<i64>],
+    by_node: &[Vec<SetPlace>],
+    families: &Families,
+    multipliers: &[i64],
+)
     requires table { length rows.old < length by_node.now }
-    requires numbers { All (λ list. All (λ number. number < length sets.now) list.items) by_node.now }
-    requires nodes { All (λ row. All (λ set. All (λ node. node < length row.items) set.nodes.items) sets.now) rows.old }
-    requires sets { AreMultipliedSets multipliers.now sets.now }
+    requires places { All (λ list. All (IsPlaceIn (lent_in families.now)) list.items) by_node.now }
+    requires rows { All (λ row. length row.items ≡ families.now.nodes + 1) rows.old }
+    requires as_many { length multipliers.now ≡ length families.now.lent.now }
     requires small { AreSmallDifferences multipliers.now }
-    ensures { AreAdded multipliers.now sets.now by_node.now rows.old rows.new }
+    ensures { AreAdded multipliers.now (lent_in families.now) by_node.now rows.old rows.new }
 {
     'rows: for index in 0..rows.len() {
-        add_to_row(&mut rows[index], &by_node[index + 1], sets, multipliers);
+        add_to_row(&mut rows[index], &by_node[index + 1], families, multipliers);
     }
 }

@@ -1,7 +1,7 @@
 //! What always holds of bounds by branching, as contracts of functions that do nothing.
 
 ghost use Rattle.std.specs.Prelude.{ℕ, ℤ, List, [], ◌∷◌, ◌≤ℤ◌, Bool, true, false};
-ghost use Rattle.tsp_branch.specs.Combs.{CyclesCrossCombs, NumbersTellCombs, NumbersTellLists};
+ghost use Rattle.tsp_branch.specs.Combs.{CyclesCrossCombs};
 ghost use Rattle.tsp_branch.specs.declared.decision.Decision.{Decision};
 ghost use Rattle.tsp_branch.specs.Decisions.{DecidedBoundsBoundCycles, FixedBoundsBoundTours};
 ghost use Rattle.tsp_branch.specs.LeafBound.{LeafBoundsBoundCycles, UncombedBoundsAreAdjustedBounds};
@@ -52,19 +52,7 @@ pub fn cycles_cross_families()
     cycles_cross_combs();
 }
 
-/// Where each node has the number of its tooth, these numbers give a comb, and tell how many of its
-/// parts two nodes cross.
-pub fn numbers_tell_combs()
-    ensures { NumbersTellCombs }
-{}
-
-/// Where each node has the number of the tooth whose list has it, no two teeth have a node in
-/// common, and the numbers tell how many parts two nodes cross.
-pub fn numbers_tell_lists()
-    ensures { NumbersTellLists }
-{}
-
-/// Sets with the numbers of their combs tell what two nodes cross, and give the weights of a leaf.
+/// The sets of families tell what two nodes cross, and give the weights of a leaf.
 pub fn sets_tell_combs()
     ensures combs { SetsTellCombs }
     ensures leaves { SetsGiveLeaves }

@@ -17,6 +17,7 @@ mod combed;
 mod decided;
 mod decision;
 mod examples;
+mod families;
 mod family_examples;
 mod given_back;
 mod good_combs;
@@ -37,6 +38,7 @@ mod room;
 mod row_examples;
 mod rows;
 mod scaled;
+mod set_place;
 mod sets;
 mod setting;
 mod stack;
@@ -51,15 +53,15 @@ pub use examples::{
     examples_of_bounds, examples_of_crossings, examples_of_trees, examples_of_verdicts,
     examples_of_weights,
 };
+pub use families::Families;
 pub use family_examples::examples_of_families;
 pub use good_combs::judge_families;
 pub use laws::{
     cases_bound_cycles, cases_have_no_cycle, certificate_bounds_are_unique,
     certificates_bound_cycles, cycles_cross_combs, cycles_cross_families, cycles_keep_leaves,
     decided_bounds_bound_cycles, fixed_bounds_bound_tours, leaf_bounds_bound_cycles,
-    links_are_allowed, numbers_are_unique, numbers_tell_combs, numbers_tell_lists,
-    row_leaf_bounds_bound_cycles, sets_tell_combs, stacks_hold_cases, steps_leave_cases,
-    sums_are_below_cycles,
+    links_are_allowed, numbers_are_unique, row_leaf_bounds_bound_cycles, sets_tell_combs,
+    stacks_hold_cases, steps_leave_cases, sums_are_below_cycles,
 };
 pub use leaf::leaf_bound;
 pub use number_examples::{examples_of_differences, examples_of_good_numbers};
@@ -67,6 +69,6 @@ pub use pairs::key_of;
 pub use row_examples::{examples_of_arcs, examples_of_leaves, examples_of_links, examples_of_rows};
 pub use stack::next_case;
 pub use steps::{BranchVerdict, Judged, JudgedFamilies};
-pub use tsp_families::{CombSet, Crossings};
+pub use tsp_families::Crossings;
 pub use twice::first_twice;
 pub use verdict::judge_branches;

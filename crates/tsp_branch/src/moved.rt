@@ -1,16 +1,16 @@
 //! The potentials of a leaf, and what the multipliers of its sets take off them.
 
-ghost use Rattle.std.specs.Prelude.{◌≡◌, ◌<◌, ◌+◌, ◌+ℤ◌, ℕ, length, neg_ℤ};
+ghost use Rattle.std.specs.Prelude.{◌≡◌, ◌+◌, ◌+ℤ◌, ℕ, length, neg_ℤ};
 ghost use Rattle.std.specs.Int.{w64, int_wrap};
-ghost use Rattle.std.specs.List.{All};
 ghost use Rattle.tsp_format.specs.Cells.{IsNode};
 ghost use Rattle.tsp_theory.specs.Numbers.{entry};
 ghost use Rattle.tsp_theory.specs.states.Nearest.{least_at};
 ghost use Rattle.tsp_branch.specs.states.Sets.{IsMoved};
-ghost use Rattle.tsp_branch.specs.states.Combed.{plain, AreSmallDifferences, multipliers_at};
+ghost use Rattle.tsp_branch.specs.states.Lent.{lent_in};
+ghost use Rattle.tsp_branch.specs.states.Combed.{AreSmallDifferences, multipliers_at};
 
-use crate::add_sets::{add_where_any, sum_left};
-use tsp_families::CombSet;
+use crate::add_sets::{add_to_sets, sum_left};
+use crate::families::Families;
 
 /// Writes at the place of each node what is left in 64 bits of its potential and another number.
 pub(crate) fn fill_moved(row: &mut [i64], potentials: &[i64], ends: &[i64])
@@ -24,16 +24,15 @@ pub(crate) fn fill_moved(row: &mut [i64], potentials: &[i64], ends: &[i64])
     }
 }
 
-/// Takes off each node of a set the multiplier of the set's comb.
-pub(crate) fn take_multipliers(row: &mut [i64], sets: &[CombSet], multipliers: &[i64])
-    requires nodes { All (λ set. All (λ node. node < length row.old) set.nodes.items) sets.now }
-    requires combs { All (λ set. set.comb < length multipliers.now) sets.now }
+/// Takes off each node of a set the multiplier of the set's family.
+pub(crate) fn take_multipliers(row: &mut [i64], families: &Families, multipliers: &[i64])
+    requires row { length row.old ≡ families.now.nodes + 1 }
+    requires as_many { length multipliers.now ≡ length families.now.lent.now }
     requires small { AreSmallDifferences multipliers.now }
-    ensures { (x : ℕ) → IsMoved (neg_ℤ (multipliers_at multipliers.now (plain sets.now) x))
+    ensures { (x : ℕ) → IsMoved (neg_ℤ (multipliers_at multipliers.now (lent_in families.now) x))
         (least_at row.old x) (least_at row.new x) }
 {
-    'sets: for number in 0..sets.len() {
-        let set = &sets[number];
-        add_where_any(row, &set.nodes, -multipliers[set.comb as usize]);
+    'multipliers: for number in 0..multipliers.len() {
+        add_to_sets(row, &families.lent[number], -multipliers[number]);
     }
 }

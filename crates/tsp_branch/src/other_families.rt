@@ -8,7 +8,7 @@ ghost use Rattle.tsp_branch.specs.states.FamilyNumbers.{HasNumbers, IsSmall};
 
 use crate::marks::mark_nodes;
 use std::alloc::Global;
-use tsp_families::{CombSet, Crossings, family_crossings, most_costs_are_unique};
+use tsp_families::{Crossings, family_crossings, most_costs_are_unique};
 use tsp_memory::{Refused, filled};
 
 /// The numbers of sets that are neither a lone set nor a comb. `None` where one has a node twice,
@@ -20,7 +20,7 @@ use tsp_memory::{Refused, filled};
 pub(crate) fn other_crossings(
     alloc: Global,
     nodes: u32,
-    sets: &[CombSet],
+    sets: &[Vec<u32>],
 ) -> Result<Option<Crossings>, Refused>
     requires some { 1 ≤ nodes }
     requires few_nodes { nodes < 2 ^ 32 - 1 }
@@ -50,7 +50,7 @@ pub(crate) fn other_crossings(
 /// # Errors
 ///
 /// Out of memory, of which it takes some for each node.
-fn have_each_once(alloc: Global, nodes: u32, sets: &[CombSet]) -> Result<bool, Refused>
+fn have_each_once(alloc: Global, nodes: u32, sets: &[Vec<u32>]) -> Result<bool, Refused>
     requires few_nodes { nodes < 2 ^ 32 - 1 }
     requires few_sets { length sets.now < 2 ^ 32 }
     requires nodes { AreSetsOf nodes sets.now }
@@ -59,7 +59,7 @@ fn have_each_once(alloc: Global, nodes: u32, sets: &[CombSet]) -> Result<bool, R
     let mut marks = filled(alloc, 0, nodes as usize + 1)?;
     'sets: for index in 0..sets.len() {
         // Marks from 1 on, since 0 means no mark.
-        if !mark_nodes(&mut marks, index as u32 + 1, &sets[index].nodes) {
+        if !mark_nodes(&mut marks, index as u32 + 1, &sets[index]) {
             return Ok(false);
         }
     }

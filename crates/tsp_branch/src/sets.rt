@@ -3,11 +3,13 @@
 ghost use Rattle.std.specs.Prelude.{◌<◌, ◌-◌, ◌^◌, ℕ, [], length, IfOk};
 ghost use Rattle.std.specs.List.{All};
 ghost use Rattle.tsp_theory.specs.states.Nearest.{least_at};
-ghost use Rattle.tsp_families.specs.FamilySets.{AreSetsOf};
-ghost use Rattle.tsp_branch.specs.states.Sets.{IsMoved, added, times, AreLengthened, IsSetTable};
+ghost use Rattle.tsp_families.specs.FamilySets.{lists_of};
+ghost use Rattle.tsp_branch.specs.states.Sets.{IsMoved, added, times, places_in, AreLengthened, IsSetTable};
+ghost use Rattle.tsp_branch.specs.states.Lent.{lent_in};
 
+use crate::families::Families;
+use crate::set_place::SetPlace;
 use std::alloc::Global;
-use tsp_families::CombSet;
 use tsp_memory::{Refused, push, with_capacity};
 use tsp_tree::add_at;
 
@@ -23,41 +25,57 @@ pub(crate) fn add_to_nodes(row: &mut [i64], nodes: &[u32], number: i64)
     }
 }
 
-/// Of each node from 0 to `count` the numbers of the sets that have it, from 0 on.
+/// Of each node from 0 to the last one the places of the sets that have it.
 ///
 /// # Errors
 ///
 /// Out of memory, of which it takes some for each node and for each node of a set.
 pub(crate) fn sets_by_node(
     alloc: Global,
-    count: u32,
-    sets: &[CombSet],
-) -> Result<Vec<Vec<u32>>, Refused>
-    requires few { count < 2 ^ 32 - 1 }
-    requires fewer { length sets.now < 2 ^ 32 }
-    requires nodes { AreSetsOf count sets.now }
-    ensures { IfOk result (λ lists. IsSetTable count sets.now lists.items) }
+    families: &Families,
+) -> Result<Vec<Vec<SetPlace>>, Refused>
+    ensures { IfOk result (λ lists. IsSetTable families.now.nodes (lent_in families.now) lists.items) }
 {
-    let mut lists = empty_lists(alloc, count)?;
-    'sets: for number in 0..sets.len() {
-        place_set(&mut lists, number as u32, &sets[number].nodes)?;
+    let mut lists = empty_lists(alloc, families.nodes)?;
+    'families: for number in 0..families.lent.len() {
+        place_family(&mut lists, number as u32, &families.lent[number])?;
     }
     Ok(lists)
 }
 
-/// Adds a set's number to the list of each of its nodes.
-fn place_set(lists: &mut Vec<Vec<u32>>, number: u32, nodes: &[u32]) -> Result<(), Refused>
+/// Adds the places of a family's sets to the lists of their nodes.
+fn place_family(
+    lists: &mut Vec<Vec<SetPlace>>,
+    family: u32,
+    sets: &[Vec<u32>],
+) -> Result<(), Refused>
+    requires few { length sets.now < 2 ^ 32 }
+    requires nodes { All (λ set. All (λ node. node < length lists.old.items) set.items) sets.now }
+    ensures { IfOk result (λ unit. AreLengthened (places_in family 0 (lists_of sets.now)) lists.old.items lists.new.items) }
+{
+    'sets: for number in 0..sets.len() {
+        let place = SetPlace {
+            family,
+            set: number as u32,
+        };
+        place_set(lists, place, &sets[number])?;
+    }
+    Ok(())
+}
+
+/// Adds a set's place to the list of each of its nodes.
+fn place_set(lists: &mut Vec<Vec<SetPlace>>, place: SetPlace, nodes: &[u32]) -> Result<(), Refused>
     requires { All (λ node. node < length lists.old.items) nodes.now }
-    ensures { IfOk result (λ unit. AreLengthened (times number nodes.now) lists.old.items lists.new.items) }
+    ensures { IfOk result (λ unit. AreLengthened (times place nodes.now) lists.old.items lists.new.items) }
 {
     'nodes: for node in nodes {
-        push(&mut lists[*node as usize], number)?;
+        push(&mut lists[*node as usize], place)?;
     }
     Ok(())
 }
 
 /// An empty list for each node from 0 to `count`.
-fn empty_lists(alloc: Global, count: u32) -> Result<Vec<Vec<u32>>, Refused>
+fn empty_lists(alloc: Global, count: u32) -> Result<Vec<Vec<SetPlace>>, Refused>
     requires { count < 2 ^ 32 - 1 }
     ensures { IfOk result (λ lists. IsSetTable count [] lists.items) }
 {

@@ -1,6 +1,6 @@
 //! The parts of a certificate that are judged.
 
-use tsp_families::Crossings;
+use crate::families::Families;
 
 /// The parts of a certificate that are judged.
 #[derive(Drop)]
@@ -14,9 +14,9 @@ pub enum Judged {
 
 /// The judgement on families.
 #[derive(Drop)]
-pub enum JudgedFamilies {
-    /// All are good, and these are their numbers.
-    Good(Vec<Crossings>),
+pub enum JudgedFamilies<'a> {
+    /// All are good.
+    Good(Families<'a>),
     /// The first one that isn't good, counted from 1.
     Bad(usize),
 }

@@ -7,9 +7,7 @@ ghost use Rattle.tsp_format.specs.Steps.{are_whole};
 ghost use Rattle.tsp_theory.specs.Costs.{IsSymmetric};
 ghost use Rattle.tsp_theory.specs.Numbers.{IsScale};
 ghost use Rattle.tsp_branch.specs.Decisions.{DecideOnce};
-ghost use Rattle.tsp_families.specs.FamilySets.{AreSetsOf};
-ghost use Rattle.tsp_branch.specs.states.Sets.{AreInOrder};
-ghost use Rattle.tsp_branch.specs.states.Combed.{plain};
+ghost use Rattle.tsp_families.specs.FamilySets.{AreFamiliesOf, families_in};
 ghost use Rattle.tsp_branch.specs.states.Decided.{IsDecision};
 ghost use Rattle.tsp_branch.specs.Listed.{IsStepOf};
 ghost use Rattle.tsp_branch.specs.BranchVerdicts.{IsBranchVerdict, VerdictBoundsCycles, IsSizedVerdict};
@@ -47,31 +45,29 @@ pub fn judge_branches<C: Costs>(alloc: Global, tree: &CaseTree<C>) -> Result<Bra
     requires some { 3 ≤ C.nodes tree.now.costs.now }
     requires even { tree.now.directed ≡ false → IsSymmetric (C.at tree.now.costs.now) }
     requires scaled { IsScale tree.now.scale }
-    requires few_combs { tree.now.combs < 2 ^ 32 }
-    requires few_sets { length tree.now.sets.now < 2 ^ 32 }
+    requires few_families { length tree.now.families.now < 2 ^ 32 }
+    requires few_sets { All (λ sets. length sets.items < 2 ^ 32) tree.now.families.now }
     requires few_given { length tree.now.given.now < 2 ^ 32 }
     requires few_steps { length tree.now.steps.now < 2 ^ 32 }
-    requires nodes { AreSetsOf (C.nodes tree.now.costs.now) tree.now.sets.now }
-    requires of_combs { All (λ set. set.comb < tree.now.combs) tree.now.sets.now }
-    requires in_order { AreInOrder tree.now.sets.now }
+    requires nodes { AreFamiliesOf (C.nodes tree.now.costs.now) tree.now.families.now }
     requires given_are { All (IsDecision (C.nodes tree.now.costs.now)) tree.now.given.now }
     requires given_once { DecideOnce tree.now.directed tree.now.given.now }
     requires steps { All (IsStepOf (C.nodes tree.now.costs.now)) (steps_of tree.now.steps.now) }
     requires whole { are_whole 1 (steps_of tree.now.steps.now) ≡ true }
     ensures verdict { IfOk result (IsBranchVerdict tree.now.directed (C.nodes tree.now.costs.now) (C.at tree.now.costs.now)
-        tree.now.scale tree.now.combs (plain tree.now.sets.now) tree.now.given.now (steps_of tree.now.steps.now)) }
+        tree.now.scale (families_in tree.now.families.now) tree.now.given.now (steps_of tree.now.steps.now)) }
     ensures cycles { IfOk result (VerdictBoundsCycles tree.now.directed (C.nodes tree.now.costs.now) (C.at tree.now.costs.now)
         tree.now.given.now) }
     ensures size { IfOk result IsSizedVerdict }
 {
-    let crossed = match judge_families(alloc, tree.costs.count(), tree.combs, tree.sets)? {
-        JudgedFamilies::Good(crossed) => crossed,
+    let families = match judge_families(alloc, tree.costs.count(), tree.families)? {
+        JudgedFamilies::Good(families) => families,
         JudgedFamilies::Bad(comb) => return Ok(BranchVerdict::BadComb(comb)),
     };
     if let Some(branch) = first_twice(alloc, tree.directed, tree.given, tree.steps)? {
         return Ok(BranchVerdict::BranchTwice(branch));
     }
-    match branch_bound(alloc, tree, &crossed)? {
+    match branch_bound(alloc, tree, &families)? {
         Judged::Bound(bound) => Ok(BranchVerdict::Bound(bound)),
         Judged::BadLeaf(leaf) => Ok(BranchVerdict::BadLeaf(leaf)),
     }

@@ -3,6 +3,7 @@ use Rattle.std.proofs.Common.{◌≡◌, ◌≢◌, ℕ, ◌+◌, ◌-◌, ◌*�
 use Rattle.std.specs.Int.RustNames.{count_ones}
 use lib.Count.{ones, ones_in}
 use Rattle.std.specs.Prelude.{pos, slice_index, if◌then◌else◌}
+use Rattle.std.specs.Global.{Vec}
 use Rattle.std.specs.List.{All, Any, AllByRecursion}
 use Rattle.std.proofs.Math.Nat.{div-lt_iff_lt-mul, mod-lt}
 use Rattle.std.proofs.lemmas.Bool.{both_ways, cases_lt, eq-eqb, ne_eqb}
@@ -19,7 +20,6 @@ use Rattle.tsp_families.specs.Crossed.{IsLeastLength, IsMostCost, has, sets_of, 
 use Rattle.tsp_families.specs.SetParts.{ArePartsOf, between}
 use Rattle.tsp_families.specs.Memberships.{membership, AreMemberships, IsNodePlace, AreDifferent, AreFirsts, MembershipsTellSets, IsLargest}
 use Rattle.tsp_families.specs.FamilySets.{lists_of}
-use Rattle.tsp_families.specs.declared.comb_set.CombSet.{CombSet}
 use Rattle.tsp_families.specs.Paths.{cost_by_rows, as_whole}
 use Rattle.tsp_families.proofs.Walks.{length_to}
 use Rattle.tsp_families.proofs.PartWalks.{alike_crossings, part_found, unlike_nodes_need_parts}
@@ -126,16 +126,16 @@ with_next bit nodes k x old value lt small is =
     )
 
 -- the set at a place, from the sets of the code
-pub set_at : (lists : List CombSet) (i : ℕ) (default : CombSet) (nodes : List ℕ) → i < length lists
-    → nodes ≡ (get_or lists i default).nodes.items
+pub set_at : (lists : List (Vec ℕ)) (i : ℕ) (default : Vec ℕ) (nodes : List ℕ) → i < length lists
+    → nodes ≡ (get_or lists i default).items
     → get_or (sets_of (lists_of lists)) i (has nodes) ≡ has nodes
 set_at lists i default nodes lt same =
-    let inner : i < length (lists_of lists) = omega (arith, lt, length-map lists (λ (set : CombSet). set.nodes.items)) in
+    let inner : i < length (lists_of lists) = omega (arith, lt, length-map lists (λ (set : Vec ℕ). set.items)) in
     get_or-map has (lists_of lists) i nodes (has nodes) inner
-    ∙ ap has (get_or-map (λ (set : CombSet). set.nodes.items) lists i default nodes lt ∙ sym same)
+    ∙ ap has (get_or-map (λ (set : Vec ℕ). set.items) lists i default nodes lt ∙ sym same)
 
-pub sets_long : (lists : List CombSet) → length (sets_of (lists_of lists)) ≡ length lists
-sets_long lists = length-map (lists_of lists) has ∙ length-map lists (λ (set : CombSet). set.nodes.items)
+pub sets_long : (lists : List (Vec ℕ)) → length (sets_of (lists_of lists)) ≡ length lists
+sets_long lists = length-map (lists_of lists) has ∙ length-map lists (λ (set : Vec ℕ). set.items)
 
 -- one set more
 pub so_far_more : (sets : List (ℕ → Bool)) (count x old value bit : ℕ) (nodes : List ℕ) → count < length sets

@@ -1,13 +1,20 @@
 -- Sets of nodes as code has them.
 use Rattle.std.specs.Prelude.{ℕ, List, map}
+use Rattle.std.specs.Global.{Vec}
 use Rattle.std.specs.List.{All}
 use Rattle.tsp_format.specs.Cells.{IsNode}
-use Rattle.tsp_families.specs.declared.comb_set.CombSet.{CombSet}
 
 -- sets of nodes of 1..n
-abbrev pub AreSetsOf : ℕ → List CombSet → Type 0
-AreSetsOf n sets = All (λ set. All (IsNode n) set.nodes.items) sets
+abbrev pub AreSetsOf : ℕ → List (Vec ℕ) → Type 0
+AreSetsOf n sets = All (λ set. All (IsNode n) set.items) sets
 
--- the nodes of sets
-abbrev pub lists_of : List CombSet → List (List ℕ)
-lists_of sets = map (λ set. set.nodes.items) sets
+-- the nodes of sets, and those of families of sets
+abbrev pub lists_of : List (Vec ℕ) → List (List ℕ)
+lists_of sets = map (λ set. set.items) sets
+
+abbrev pub families_in : List (Vec (Vec ℕ)) → List (List (List ℕ))
+families_in families = map (λ sets. lists_of sets.items) families
+
+-- families of sets of nodes of 1..n
+abbrev pub AreFamiliesOf : ℕ → List (Vec (Vec ℕ)) → Type 0
+AreFamiliesOf n families = All (λ sets. AreSetsOf n sets.items) families

@@ -5,7 +5,6 @@ ghost use Rattle.tsp_families.specs.Crossed.{sets_of, sets_crossed, IsLeastLengt
 ghost use Rattle.tsp_families.specs.Memberships.{IsLargest};
 ghost use Rattle.tsp_families.specs.FamilySets.{AreSetsOf, lists_of};
 
-use crate::comb_set::CombSet;
 use crate::cycles::least_cycle;
 use crate::differences::crossings_between;
 use crate::laws::parts_tell_cycles;
@@ -35,7 +34,7 @@ pub struct Crossings {
 pub fn family_crossings(
     alloc: Global,
     nodes: u32,
-    sets: &[CombSet],
+    sets: &[Vec<u32>],
 ) -> Result<Option<Crossings>, Refused>
     requires some { 1 ≤ nodes }
     requires few { nodes < 2 ^ 32 - 1 }

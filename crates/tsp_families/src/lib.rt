@@ -6,7 +6,6 @@
 //! ```
 #![tactic(auto)]
 
-mod comb_set;
 mod cycles;
 mod differences;
 mod examples;
@@ -16,7 +15,6 @@ mod members;
 mod parts;
 mod paths;
 
-pub use comb_set::CombSet;
 pub use cycles::least_cycle;
 pub use examples::examples_of_limits;
 pub use family::{Crossings, family_crossings};

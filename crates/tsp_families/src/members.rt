@@ -6,7 +6,6 @@ ghost use Rattle.tsp_families.specs.Crossed.{has, sets_of};
 ghost use Rattle.tsp_families.specs.Memberships.{AreMemberships};
 ghost use Rattle.tsp_families.specs.FamilySets.{AreSetsOf, lists_of};
 
-use crate::comb_set::CombSet;
 use std::alloc::Global;
 use tsp_memory::{Refused, filled};
 
@@ -18,7 +17,7 @@ use tsp_memory::{Refused, filled};
 pub(crate) fn memberships_of(
     alloc: Global,
     nodes: u32,
-    sets: &[CombSet],
+    sets: &[Vec<u32>],
 ) -> Result<Vec<u64>, Refused>
     requires few { nodes < 2 ^ 32 - 1 }
     requires few_sets { length sets.now ≤ 63 }
@@ -28,7 +27,7 @@ pub(crate) fn memberships_of(
 {
     let mut memberships = filled(alloc, 0, nodes as usize + 1)?;
     'sets: for set in 0..sets.len() {
-        add_bit(&mut memberships, 1 << set, &sets[set].nodes);
+        add_bit(&mut memberships, 1 << set, &sets[set]);
     }
     Ok(memberships)
 }

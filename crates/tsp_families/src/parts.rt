@@ -7,7 +7,6 @@ ghost use Rattle.tsp_families.specs.SetParts.{ArePartsOf};
 ghost use Rattle.tsp_families.specs.Memberships.{AreMemberships, IsNodePlace, AreDifferent, AreFirsts};
 ghost use Rattle.tsp_families.specs.FamilySets.{AreSetsOf, lists_of};
 
-use crate::comb_set::CombSet;
 use crate::members::memberships_of;
 use std::alloc::Global;
 use tsp_memory::{Refused, push};
@@ -30,7 +29,7 @@ pub struct Parts {
 /// # Errors
 ///
 /// Out of memory, of which it takes some for each node.
-pub fn parts_of(alloc: Global, nodes: u32, sets: &[CombSet]) -> Result<Option<Parts>, Refused>
+pub fn parts_of(alloc: Global, nodes: u32, sets: &[Vec<u32>]) -> Result<Option<Parts>, Refused>
     requires few { nodes < 2 ^ 32 - 1 }
     requires few_sets { length sets.now ≤ 63 }
     requires nodes { AreSetsOf nodes sets.now }

@@ -16,7 +16,7 @@ pub mod RouteVerdicts
 pub mod TourReasons
 pub mod TourVerdicts
 pub mod SmallPlans
-pub mod NumberedSets
+pub mod FamiliesHold
 pub mod GivenPairs
 pub mod TreeReasons
 pub mod Bounds

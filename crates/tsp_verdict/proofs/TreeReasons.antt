@@ -25,7 +25,6 @@ use Rattle.tsp_branch.specs.Cases.{decide}
 use Rattle.tsp_branch.specs.Certificate.{IsCertificate, IsCertificateBound, AreCostsFor, BoundsIfAny, CertificatesBoundCycles}
 use Rattle.tsp_families.specs.declared.family.Crossings.{Crossings}
 use Rattle.tsp_branch.specs.Families.{Family, IsFamily, NumbersAreUnique}
-use Rattle.tsp_branch.specs.CombsOfSets.{NumberedSet, of_comb}
 use Rattle.tsp_branch.specs.declared.decision.Decision.{Decision}
 use Rattle.tsp_branch.specs.Decisions.{KeepsAll, take_pairs, decided_number}
 use Rattle.tsp_branch.specs.GoodCombs.{IsGoodFamily, IsFirstBadComb, AreFamilies}
@@ -34,7 +33,6 @@ use Rattle.tsp_branch.specs.Twice.{divided, IsFirstTwice}
 use Rattle.tsp_reason.specs.declared.verdict.Reason.{Reason}
 use Rattle.tsp_reason.specs.declared.verdict.Reason.TheVariants.{NotBranches, BranchesDimension, BadComb, BranchTwice, BadLeaf}
 use Rattle.tsp_file.specs.Meant.{scale_in, fixed_of, combs_in}
-use Rattle.tsp_verdict.specs.states.Numbered.{numbered_from}
 use Rattle.tsp_verdict.specs.Places.{IsFirstPlace}
 use Rattle.tsp_verdict.specs.Reasons.{NoneBefore, IsFirstReason}
 use Rattle.tsp_verdict.specs.states.TourCosts.{IsSymmetricTsp}
@@ -43,7 +41,7 @@ use Rattle.tsp_verdict.specs.Certified.{IsBoundBy, IsCertified, NoneWithoutMemor
 use Rattle.tsp_reason.specs.declared.certificate.Certificate.TheVariants.{Branches}
 use Rattle.tsp_verdict.proofs.CarriedBounds.{Same}
 use Rattle.tsp_verdict.proofs.GivenPairs.{keeps_given}
-use Rattle.tsp_verdict.proofs.NumberedSets.{own_sets, families_told, one_numbers}
+use Rattle.tsp_verdict.proofs.FamiliesHold.{one_numbers}
 
 -- ---- where indexes end
 
@@ -79,79 +77,73 @@ bad_within n crossed steps bad h =
 pub record IsTold (inst tree : Fields) (costs : ℕ → ℕ → ℤ) (verdict : BranchVerdict) : Type 0 where
   pub steps : List listed.Step
   pub steps_are : tree.branches ≡ Some steps
-  pub by_steps : IsBranchVerdict (is_directed inst.kind) (nodes_of inst) costs (scale_in tree) (length (combs_in tree)) (numbered_from 0 (combs_in tree)) (given_in inst) steps verdict
+  pub by_steps : IsBranchVerdict (is_directed inst.kind) (nodes_of inst) costs (scale_in tree) (combs_in tree) (given_in inst) steps verdict
 
 -- a file has one list of steps
 one_list : {A : Type 0} (o : Option (List A)) (xs ys : List A) → o ≡ Some xs → o ≡ Some ys → xs ≡ ys
 one_list o xs ys a b = sym (ap (λ p. unwrap_or p []) a) ∙ ap (λ p. unwrap_or p []) b
 
 -- the values that the code passes are those of the files
-pub record AreOf (inst tree : Fields) (directed : Bool) (n : ℕ) (scale : ℤ) (count : ℕ) (sets : List NumberedSet) (given : List Decision) (steps : List listed.Step) : Type 0 where
+pub record AreOf (inst tree : Fields) (directed : Bool) (n : ℕ) (scale : ℤ) (families : List (List (List ℕ))) (given : List Decision) (steps : List listed.Step) : Type 0 where
   pub directed_is : directed ≡ is_directed inst.kind
   pub nodes_are : n ≡ nodes_of inst
   pub scale_is : scale ≡ scale_in tree
-  pub count_is : count ≡ length (combs_in tree)
-  pub sets_are : sets ≡ numbered_from 0 (combs_in tree)
+  pub families_are : families ≡ combs_in tree
   pub given_is : given ≡ given_in inst
   pub steps_are : tree.branches ≡ Some steps
 
-pub are_of : (inst tree : Fields) (directed : Bool) (n : ℕ) (scale : ℤ) (combs : List (Vec (Vec ℕ))) (sets : List NumberedSet) (fixed : List (ℕ × ℕ)) (given : List Decision) (steps : List listed.Step)
+pub are_of : (inst tree : Fields) (directed : Bool) (n : ℕ) (scale : ℤ) (combs : List (Vec (Vec ℕ))) (fixed : List (ℕ × ℕ)) (given : List Decision) (steps : List listed.Step)
     → directed ≡ is_directed inst.kind → inst.dimension ≡ Some n → scale ≡ scale_in tree → lists_of_combs combs ≡ combs_in tree
-    → sets ≡ numbered_from 0 (lists_of_combs combs) → fixed ≡ fixed_of inst
+    → fixed ≡ fixed_of inst
     → given ≡ take_pairs (each_once directed fixed) → tree.branches ≡ Some steps
-    → AreOf inst tree directed n scale (length combs) sets given steps
-are_of inst tree directed n scale combs sets fixed given steps directed_is count scale_is combs_are sets_are fixed_are given_is steps_are = record {
+    → AreOf inst tree directed n scale (lists_of_combs combs) given steps
+are_of inst tree directed n scale combs fixed given steps directed_is count scale_is combs_are fixed_are given_is steps_are = record {
   directed_is = directed_is;
   nodes_are = sym (ap (λ (d : Option ℕ). unwrap_or d 0) count);
   scale_is = scale_is;
-  count_is = sym (length-map combs _) ∙ ap length combs_are;
-  sets_are = sets_are ∙ ap (numbered_from 0) combs_are;
+  families_are = combs_are;
   given_is = given_is ∙ ap (λ (pairs : List (ℕ × ℕ)). take_pairs (each_once directed pairs)) fixed_are ∙ ap (λ (d : Bool). take_pairs (each_once d (fixed_of inst))) directed_is;
   steps_are = steps_are;
 }
 
-pub told : (inst tree : Fields) (directed : Bool) (n : ℕ) (costs : ℕ → ℕ → ℤ) (scale : ℤ) (count : ℕ) (sets : List NumberedSet) (given : List Decision) (steps : List listed.Step) (verdict : BranchVerdict)
-    → AreOf inst tree directed n scale count sets given steps
-    → IsBranchVerdict directed n costs scale count sets given steps verdict → IsTold inst tree costs verdict
-told inst tree directed n costs scale count sets given steps verdict are h =
+pub told : (inst tree : Fields) (directed : Bool) (n : ℕ) (costs : ℕ → ℕ → ℤ) (scale : ℤ) (families : List (List (List ℕ))) (given : List Decision) (steps : List listed.Step) (verdict : BranchVerdict)
+    → AreOf inst tree directed n scale families given steps
+    → IsBranchVerdict directed n costs scale families given steps verdict → IsTold inst tree costs verdict
+told inst tree directed n costs scale families given steps verdict are h =
     let to : Bool = is_directed inst.kind in
     let by_steps =
-    subst (λ (m : ℕ). IsBranchVerdict to m costs (scale_in tree) (length (combs_in tree)) (numbered_from 0 (combs_in tree)) (given_in inst) steps verdict) are.nodes_are
-    (subst (λ (z : ℤ). IsBranchVerdict to n costs z (length (combs_in tree)) (numbered_from 0 (combs_in tree)) (given_in inst) steps verdict) are.scale_is
-    (subst (λ (m : ℕ). IsBranchVerdict to n costs scale m (numbered_from 0 (combs_in tree)) (given_in inst) steps verdict) are.count_is
-    (subst (λ (ss : List NumberedSet). IsBranchVerdict to n costs scale count ss (given_in inst) steps verdict) are.sets_are
-    (subst (λ (ds : List Decision). IsBranchVerdict to n costs scale count sets ds steps verdict) are.given_is
-    (subst (λ (d : Bool). IsBranchVerdict d n costs scale count sets given steps verdict) are.directed_is h))))) in
+    subst (λ (m : ℕ). IsBranchVerdict to m costs (scale_in tree) (combs_in tree) (given_in inst) steps verdict) are.nodes_are
+    (subst (λ (z : ℤ). IsBranchVerdict to n costs z (combs_in tree) (given_in inst) steps verdict) are.scale_is
+    (subst (λ (fs : List (List (List ℕ))). IsBranchVerdict to n costs scale fs (given_in inst) steps verdict) are.families_are
+    (subst (λ (ds : List Decision). IsBranchVerdict to n costs scale families ds steps verdict) are.given_is
+    (subst (λ (d : Bool). IsBranchVerdict d n costs scale families given steps verdict) are.directed_is h)))) in
     record { steps = steps; steps_are = are.steps_are; by_steps = by_steps }
 
 -- ---- which reasons apply
 
-own_comb : (tree : Fields) (j : ℕ) → of_comb j (numbered_from 0 (combs_in tree)) ≡ get_or (combs_in tree) j []
-own_comb tree j = own_sets 0 j j (combs_in tree) (omega arith)
-
 bad_comb : (inst tree : Fields) (index : ℕ)
-    → IsFirstBadComb (nodes_of inst) (length (combs_in tree)) (numbered_from 0 (combs_in tree)) index
+    → IsFirstBadComb (nodes_of inst) (combs_in tree) index
     → IsFirstPlace (IsBadComb (nodes_of inst) (combs_in tree)) (combs_in tree) index
 bad_comb inst tree index bad = record {
   here = (bad.least, bad.most);
-  holds = λ good. bad.bad (index - 1) (let some = bad.least in omega (arith, some)) (subst (IsGoodFamily (nodes_of inst)) (sym (own_comb tree (index - 1))) good);
-  first = λ earlier from before is. is (subst (IsGoodFamily (nodes_of inst)) (own_comb tree (earlier - 1)) (bad.before (earlier - 1) (omega (arith, from, before))));
+  holds = λ good. bad.bad (index - 1) (let some = bad.least in omega (arith, some)) good;
+  first = λ earlier from before is. is (bad.before (earlier - 1) (omega (arith, from, before)));
 }
 
 -- where all combs are good, none is bad
 no_bad_comb : (inst tree : Fields)
-    → ((comb : ℕ) → comb < length (combs_in tree) → IsGoodFamily (nodes_of inst) (of_comb comb (numbered_from 0 (combs_in tree))))
+    → ((comb : ℕ) → comb < length (combs_in tree) → IsGoodFamily (nodes_of inst) (get_or (combs_in tree) comb []))
     → (index : ℕ) → StandsAgainstTree inst tree (BadComb index) → ⊥
 no_bad_comb inst tree good index stands =
-    stands.holds (subst (IsGoodFamily (nodes_of inst)) (own_comb tree (index - 1)) (good (index - 1) (omega (arith, stands.here.0, stands.here.1))))
+    stands.holds (good (index - 1) (omega (arith, stands.here.0, stands.here.1)))
 
 -- the numbers of the families are those of the file's
 numbers_told : (inst tree : Fields) (crossed : List Crossings)
-    → AreFamilies (nodes_of inst) (length (combs_in tree)) (numbered_from 0 (combs_in tree)) crossed
+    → AreFamilies (nodes_of inst) (combs_in tree) crossed
     → AreNumbersOf inst tree crossed
 numbers_told inst tree crossed are = record {
   many = are.many;
-  are = subst (All (IsFamily (nodes_of inst))) (families_told crossed (combs_in tree) are.many) are.are;
+  are = are.are;
 }
 
 -- where all leaves are good, none is bad, by whichever numbers
@@ -263,19 +255,14 @@ module _ (inst tree : Fields) (costs : ℕ → ℕ → ℤ) (bound : Option ℤ)
 
   certificate_is : IsCertificate (nodes_of inst) (told_families tree is.by_steps.crossed) (given_in inst) (tree_in inst tree is.steps)
   certificate_is =
-      subst (λ (k : ℕ). IsCertificate (nodes_of inst) (told_families tree is.by_steps.crossed) (given_in inst) (listed_steps (nodes_of inst) k is.steps)) numbers_are.many
-      (subst (λ (fs : List Family). IsCertificate (nodes_of inst) fs (given_in inst) (listed_steps (nodes_of inst) (length is.by_steps.crossed) is.steps))
-      (families_told is.by_steps.crossed (combs_in tree) numbers_are.many) is.by_steps.leaves.0)
+      subst (λ (k : ℕ). IsCertificate (nodes_of inst) (told_families tree is.by_steps.crossed) (given_in inst) (listed_steps (nodes_of inst) k is.steps)) numbers_are.many is.by_steps.leaves.0
 
   bound_is : IsCertificateBound (is_directed inst.kind) (nodes_of inst) (cost inst) (scale_in tree) decided_number (told_families tree is.by_steps.crossed) (given_in inst) (tree_in inst tree is.steps) bound
   bound_is =
       subst (λ (f : ℕ → ℕ → ℤ). IsCertificateBound (is_directed inst.kind) (nodes_of inst) f (scale_in tree) decided_number (told_families tree is.by_steps.crossed) (given_in inst) (tree_in inst tree is.steps) bound)
       (fun_ext (λ i. fun_ext (same i)))
       (subst (λ (k : ℕ). IsCertificateBound (is_directed inst.kind) (nodes_of inst) costs (scale_in tree) decided_number (told_families tree is.by_steps.crossed) (given_in inst)
-      (listed_steps (nodes_of inst) k is.steps) bound) numbers_are.many
-      (subst (λ (fs : List Family). IsCertificateBound (is_directed inst.kind) (nodes_of inst) costs (scale_in tree) decided_number fs (given_in inst)
-      (listed_steps (nodes_of inst) (length is.by_steps.crossed) is.steps) bound)
-      (families_told is.by_steps.crossed (combs_in tree) numbers_are.many) is.by_steps.leaves.1))
+      (listed_steps (nodes_of inst) k is.steps) bound) numbers_are.many is.by_steps.leaves.1)
 
   has_bound : HasBoundByTree inst tree bound
   has_bound = record { steps = is.steps; steps_are = is.steps_are; crossed = is.by_steps.crossed; numbers = numbers_are; certificate = certificate_is; bound = bound_is }

@@ -9,7 +9,7 @@ use Rattle.tsp_file.specs.Cost.{cost}
 use Rattle.tsp_cost.specs.ComputedProblems.{is_directed}
 use Rattle.tsp_families.specs.declared.family.Crossings.{Crossings}
 use Rattle.tsp_branch.specs.Families.{Family, IsFamily}
-use Rattle.tsp_branch.specs.CombsOfSets.{family_with}
+use Rattle.tsp_branch.specs.CombsOfSets.{families_with}
 use Rattle.tsp_branch.specs.Cases.{CaseStep}
 use Rattle.tsp_branch.specs.Certificate.{IsCertificate, IsCertificateBound}
 use Rattle.tsp_branch.specs.declared.decision.Decision.{Decision}
@@ -37,11 +37,6 @@ abbrev pub tree_in : Fields → Fields → List listed.Step → List CaseStep
 tree_in inst tree steps = listed_steps (nodes_of inst) (length (combs_in tree)) steps
 
 -- its families, with these numbers
-abbrev pub families_with : List Crossings → List (List (List ℕ)) → List Family
-families_with [] combs = []
-families_with (own ∷ crossed) [] = []
-families_with (own ∷ crossed) (sets ∷ combs) = family_with own sets ∷ families_with crossed combs
-
 abbrev pub told_families : Fields → List Crossings → List Family
 told_families tree crossed = families_with crossed (combs_in tree)
 

@@ -2,6 +2,5 @@ pub mod TourCosts
 pub mod Known
 pub mod Marks
 pub mod Next
-pub mod Numbered
 pub mod Sums
 pub mod RouteLists

@@ -23,7 +23,6 @@ mod judged;
 mod lengths;
 mod loads;
 mod multiplied;
-mod numbered;
 mod places;
 mod routes;
 mod tour;

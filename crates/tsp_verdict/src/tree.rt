@@ -15,7 +15,6 @@ ghost use Rattle.tsp_reason.specs.declared.certificate.Certificate.TheVariants a
 ghost use Rattle.tsp_verdict.specs.Certified.{FindsBound, NoneWithoutMemory};
 
 use crate::decided::taken_once;
-use crate::numbered::numbered_sets;
 use crate::tour::is_directed;
 use std::alloc::Global;
 use tsp_branch::{
@@ -103,13 +102,11 @@ fn judge_tree<C: Costs>(
     numbers_are_unique();
     let directed = is_directed(instance.kind());
     let given = taken_once(alloc, directed, instance.fixed())?;
-    let sets = numbered_sets(alloc, tree.combs)?;
     let cases = CaseTree {
         costs,
         directed,
         scale: tree.scale,
-        combs: tree.combs.len(),
-        sets: &sets,
+        families: tree.combs,
         given: &given,
         steps: tree.steps,
     };

@@ -5,8 +5,6 @@ use Rattle.tsp_families.specs.declared.family.Crossings.{Crossings}
 use Rattle.tsp_branch.specs.Families.{IsFamily}
 use Rattle.tsp_branch.specs.CombsOfSets.{family_with}
 use Rattle.tsp_branch.specs.GoodCombs.{HasEachOnce, IsGoodFamily}
-use Rattle.tsp_branch.specs.declared.steps.JudgedFamilies.{JudgedFamilies}
-use Rattle.tsp_branch.specs.declared.steps.JudgedFamilies.TheVariants as judged
 
 -- the numbers of the family that sets are, each with its nodes once; none where they aren't
 abbrev pub HasNumbers : ℕ → List (List ℕ) → Option Crossings → Type 0
@@ -19,7 +17,3 @@ IsSmall own = (own.least < 2 ^ 34) × (own.most < 2 ^ 32)
 
 abbrev pub AreSmallCrossings : List Crossings → Type 0
 AreSmallCrossings crossed = All IsSmall crossed
-
-abbrev pub AreSmallFamilies : JudgedFamilies → Type 0
-AreSmallFamilies (judged.Good crossed) = AreSmallCrossings crossed.items
-AreSmallFamilies (judged.Bad first) = Unit {0}

@@ -6,15 +6,16 @@ use Rattle.tsp_format.specs.Cells.{IsNode}
 use Rattle.tsp_format.specs.Limits.{most_weight}
 use Rattle.tsp_theory.specs.Numbers.{IsFromTo, entry}
 use Rattle.tsp_theory.specs.states.Nearest.{least_at}
-use Rattle.tsp_families.specs.declared.comb_set.CombSet.{CombSet}
-use Rattle.tsp_branch.specs.states.Sets.{IsMoved, sets_with}
-use Rattle.tsp_branch.specs.states.Combed.{plain, inside_both, multipliers_at, AreSmallMultipliers}
+use Rattle.tsp_branch.specs.declared.set_place.SetPlace.{SetPlace}
+use Rattle.tsp_branch.specs.states.Sets.{IsMoved, places_with}
+use Rattle.tsp_branch.specs.states.Combed.{inside_both, multipliers_at, AreSmallMultipliers}
 use Rattle.tsp_branch.specs.declared.kept.KeptRows.{KeptRows}
 use Rattle.tsp_branch.specs.declared.open_leaf.OpenLeaf.{OpenLeaf}
 
 -- the cost of two nodes at the scale, and what the sets of both add
-abbrev pub kept_weight : ℤ → List CombSet → (ℕ → ℕ → ℤ) → List ℤ → ℕ → ℕ → ℤ
-kept_weight scale sets cost multipliers i x = (scale *ℤ cost i x) +ℤ inside_both multipliers (plain sets) (sets_with 0 sets i) x
+abbrev pub kept_weight : ℤ → List (List (List ℕ)) → (ℕ → ℕ → ℤ) → List ℤ → ℕ → ℕ → ℤ
+kept_weight scale families cost multipliers i x =
+    (scale *ℤ cost i x) +ℤ inside_both multipliers families (places_with 0 families i) x
 
 -- the row of a node, with a place for 0 and for each node: what is left of each weight in 64 bits; and the costs aren't large
 pub record IsKeptRow (n : ℕ) (cost weight : ℕ → ℤ) (row : List ℤ) : Type 0 where
@@ -33,12 +34,12 @@ abbrev pub AreRowsIfAny : ℕ → (ℕ → ℕ → ℤ) → (ℕ → ℕ → ℤ
 AreRowsIfAny n cost weight rows = 1 ≤ length rows → AreRows n cost weight n rows
 
 -- rows to which the sets of each node, whose numbers are listed, have added
-pub record AreAdded (multipliers : List ℤ) (sets : List CombSet) (by_node : List (Vec ℕ)) (old new : List (Vec ℤ)) : Type 0 where
+pub record AreAdded (multipliers : List ℤ) (families : List (List (List ℕ))) (by_node : List (Vec SetPlace)) (old new : List (Vec ℤ)) : Type 0 where
   pub many : length new ≡ length old
   pub long : (k : ℕ) (a b : Vec ℤ) → k < length old
       → length (slice_index_or new k a).items ≡ length (slice_index_or old k b).items
-  pub moved : (k x : ℕ) (a b : Vec ℤ) (c : Vec ℕ) → k < length old
-      → IsMoved (inside_both multipliers (plain sets) (slice_index_or by_node (k + 1) c).items x)
+  pub moved : (k x : ℕ) (a b : Vec ℤ) (c : Vec SetPlace) → k < length old
+      → IsMoved (inside_both multipliers families (slice_index_or by_node (k + 1) c).items x)
       (least_at (slice_index_or old k b).items x) (least_at (slice_index_or new k a).items x)
 
 -- numbers that are each the difference of two others
@@ -46,26 +47,26 @@ abbrev pub AreDifferences : List ℤ → List ℤ → List ℤ → Type 0
 AreDifferences old new differences = (k : ℕ) → least_at new k ≡ least_at old k +ℤ least_at differences k
 
 -- by node what is left in 64 bits of what the multipliers of its sets take off its potential
-pub record AreEnds (n : ℕ) (multipliers : List ℤ) (sets : List CombSet) (ends : List ℤ) : Type 0 where
+pub record AreEnds (n : ℕ) (multipliers : List ℤ) (families : List (List (List ℕ))) (ends : List ℤ) : Type 0 where
   pub places : length ends ≡ n + 1
   pub taken : (x : ℕ) → IsNode n x
-      → int_wrap w64 (least_at ends x) ≡ int_wrap w64 (neg_ℤ (multipliers_at multipliers (plain sets) x))
+      → int_wrap w64 (least_at ends x) ≡ int_wrap w64 (neg_ℤ (multipliers_at multipliers families x))
 
 -- rows and ends, and the multipliers that they have been brought to
-pub record HoldsRows (n combs : ℕ) (scale : ℤ) (sets : List CombSet) (cost : ℕ → ℕ → ℤ) (kept : KeptRows) : Type 0 where
+pub record HoldsRows (n combs : ℕ) (scale : ℤ) (families : List (List (List ℕ))) (cost : ℕ → ℕ → ℤ) (kept : KeptRows) : Type 0 where
   pub multipliers : length kept.multipliers.items ≡ combs
   pub differences : length kept.differences.items ≡ combs
   pub small : AreSmallMultipliers kept.multipliers.items
-  pub ends : AreEnds n kept.multipliers.items sets kept.ends.items
-  pub rows : AreRowsIfAny n cost (kept_weight scale sets cost kept.multipliers.items) kept.rows.items
+  pub ends : AreEnds n kept.multipliers.items families kept.ends.items
+  pub rows : AreRowsIfAny n cost (kept_weight scale families cost kept.multipliers.items) kept.rows.items
 
 -- what is left in 64 bits of each node's potential less the multipliers of its sets
-abbrev pub AreMoved : ℕ → List ℤ → List ℤ → List CombSet → List ℤ → Type 0
-AreMoved n potentials multipliers sets moved = (x : ℕ) → IsNode n x → int_wrap w64 (least_at moved x)
-    ≡ int_wrap w64 (entry potentials x +ℤ neg_ℤ (multipliers_at multipliers (plain sets) x))
+abbrev pub AreMoved : ℕ → List ℤ → List ℤ → List (List (List ℕ)) → List ℤ → Type 0
+AreMoved n potentials multipliers families moved = (x : ℕ) → IsNode n x → int_wrap w64 (least_at moved x)
+    ≡ int_wrap w64 (entry potentials x +ℤ neg_ℤ (multipliers_at multipliers families x))
 
 -- what its weights need of a leaf's numbers
-pub record IsOpenLeaf (n : ℕ) (scale : ℤ) (sets : List CombSet) (cost : ℕ → ℕ → ℤ) (leaf : OpenLeaf) : Type 0 where
+pub record IsOpenLeaf (n : ℕ) (scale : ℤ) (families : List (List (List ℕ))) (cost : ℕ → ℕ → ℤ) (leaf : OpenLeaf) : Type 0 where
   pub places : length leaf.moved.now ≡ n + 1
-  pub moved : AreMoved n leaf.potentials.now leaf.multipliers.now sets leaf.moved.now
-  pub kept : AreRowsIfAny n cost (kept_weight scale sets cost leaf.multipliers.now) leaf.kept.now
+  pub moved : AreMoved n leaf.potentials.now leaf.multipliers.now families leaf.moved.now
+  pub kept : AreRowsIfAny n cost (kept_weight scale families cost leaf.multipliers.now) leaf.kept.now

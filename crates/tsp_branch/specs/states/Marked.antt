@@ -4,7 +4,7 @@ use Rattle.std.specs.List.{All}
 use Rattle.tsp_families.specs.Crossed.{has}
 use Rattle.tsp_branch.specs.Combs.{IsTooth}
 use Rattle.tsp_branch.specs.GoodCombs.{HasEachOnce}
-use Rattle.tsp_families.specs.declared.comb_set.CombSet.{CombSet}
+use Rattle.std.specs.Global.{Vec}
 
 -- whether a node has a mark
 abbrev pub is_marked : List ℕ → ℕ → ℕ → Bool
@@ -14,8 +14,8 @@ abbrev pub AreUnmarked : List ℕ → ℕ → Type 0
 AreUnmarked marks mark = (node : ℕ) → is_marked marks mark node ≡ false
 
 -- marks that have a place for each node of sets
-abbrev pub HavePlaces : List ℕ → List CombSet → Type 0
-HavePlaces marks sets = All (λ set. All (λ node. node < length marks) set.nodes.items) sets
+abbrev pub HavePlaces : List ℕ → List (Vec ℕ) → Type 0
+HavePlaces marks sets = All (λ set. All (λ node. node < length marks) set.items) sets
 
 -- nodes of which none is used, and none appears twice
 pub record AreNew (used : ℕ → Bool) (nodes : List ℕ) : Type 0 where

@@ -1,35 +1,41 @@
--- Sets of nodes as code has them, each with the number of its comb, and what they add to a row of numbers by node.
+-- The sets of families by the nodes that they have, as code lists them, and what a set adds to a row of numbers by node.
 use Rattle.std.specs.Prelude.{◌≡◌, ℕ, suc, ◌==◌, ◌+◌, ◌++◌, ◌<◌, ◌≤◌, if◌then◌else◌, List, [], ◌∷◌, length, slice_index_or, ℤ, pos}
 use Rattle.std.specs.Global.{Vec}
-use Rattle.std.specs.List.{AllPairs}
 use Rattle.tsp_theory.specs.Length.{sum_int_by}
 pub use Rattle.tsp_tree.specs.states.Moved.{IsMoved}
-use Rattle.tsp_families.specs.declared.comb_set.CombSet.{CombSet}
+use Rattle.tsp_branch.specs.declared.set_place.SetPlace.{SetPlace}
 
 -- the number of a node where a number is added for each place with the node
 abbrev pub added : ℤ → List ℕ → ℕ → ℤ
 added number nodes x = sum_int_by (λ node. if node == x then number else pos 0) nodes
 
--- a number, as often as a node is in a list
-abbrev pub times : ℕ → List ℕ → ℕ → List ℕ
-times number [] x = []
-times number (node ∷ nodes) x = if node == x then (number ∷ times number nodes x) else times number nodes x
+abbrev pub place_at : ℕ → ℕ → SetPlace
+place_at family set = record { family = family; set = set }
 
--- the numbers of the sets that have a node, from a first number on
-abbrev pub sets_with : ℕ → List CombSet → ℕ → List ℕ
-sets_with number [] x = []
-sets_with number (set ∷ sets) x = times number set.nodes.items x ++ sets_with (suc number) sets x
+-- these families have a set at the place
+abbrev pub IsPlaceIn : List (List (List ℕ)) → SetPlace → Type 0
+IsPlaceIn families place = (place.family < length families) × (place.set < length (slice_index_or families place.family []))
 
--- lists to which such numbers were added
-abbrev pub AreLengthened : (ℕ → List ℕ) → List (Vec ℕ) → List (Vec ℕ) → Type 0
-AreLengthened more old new = (length new ≡ length old)
-    × ((x : ℕ) (a b : Vec ℕ) → x < length old → (slice_index_or new x a).items ≡ (slice_index_or old x b).items ++ more x)
+-- a place, as often as a node is in a list
+abbrev pub times : SetPlace → List ℕ → ℕ → List SetPlace
+times place [] x = []
+times place (node ∷ nodes) x = if node == x then (place ∷ times place nodes x) else times place nodes x
 
--- of each of 0..n the numbers of the sets that have it
-pub record IsSetTable (n : ℕ) (sets : List CombSet) (lists : List (Vec ℕ)) : Type 0 where
+-- the places of the sets that have a node: of a family's, from a first set on, and of those of families, from a first one on
+abbrev pub places_in : ℕ → ℕ → List (List ℕ) → ℕ → List SetPlace
+places_in family first [] x = []
+places_in family first (set ∷ sets) x = times (place_at family first) set x ++ places_in family (suc first) sets x
+
+abbrev pub places_with : ℕ → List (List (List ℕ)) → ℕ → List SetPlace
+places_with first [] x = []
+places_with first (sets ∷ families) x = places_in first 0 sets x ++ places_with (suc first) families x
+
+-- lists to which such places were added
+abbrev pub AreLengthened : (ℕ → List SetPlace) → List (Vec SetPlace) → List (Vec SetPlace) → Type 0
+AreLengthened more old new = (length new ≡ length old) × ((x : ℕ) (a b : Vec SetPlace) → x < length old
+    → (slice_index_or new x a).items ≡ (slice_index_or old x b).items ++ more x)
+
+-- of each of 0..n the places of the sets that have it
+pub record IsSetTable (n : ℕ) (families : List (List (List ℕ))) (lists : List (Vec SetPlace)) : Type 0 where
   pub count : length lists ≡ n + 1
-  pub said : (x : ℕ) (default : Vec ℕ) → x ≤ n → (slice_index_or lists x default).items ≡ sets_with 0 sets x
-
--- the sets are listed comb by comb
-abbrev pub AreInOrder : List CombSet → Type 0
-AreInOrder sets = AllPairs (λ set later. set.comb ≤ later.comb) sets
+  pub said : (x : ℕ) (default : Vec SetPlace) → x ≤ n → (slice_index_or lists x default).items ≡ places_with 0 families x

@@ -2,9 +2,10 @@
 use Rattle.std.proofs.Common.{ℕ, ℤ, drop}
 use Rattle.tsp_theory.specs.states.Nearest.{least_at}
 use Rattle.tsp_branch.specs.states.Sets.{IsMoved}
-use Rattle.tsp_branch.specs.states.Combed.{plain, inside_both}
+use Rattle.tsp_branch.specs.states.Lent.{lent_in}
+use Rattle.tsp_branch.specs.states.Combed.{inside_both}
 use Rattle.tsp_branch.proofs.add_sets.add_sets.Given as goal
 
-abbrev pub invariant-numbers : goal.invariant-numbers
-invariant-numbers l = (x : ℕ) (last : ℤ) → IsMoved (inside_both l.multipliers (plain l.sets) (drop l.number-index l.numbers) x) (least_at l.row x) last
-    → IsMoved (inside_both l.multipliers (plain l.sets) l.numbers x) (least_at l.fn.row x) last
+abbrev pub invariant-places : goal.invariant-places
+invariant-places l = (x : ℕ) (last : ℤ) → IsMoved (inside_both l.multipliers (lent_in l.families) (drop l.place-index l.places) x) (least_at l.row x) last
+    → IsMoved (inside_both l.multipliers (lent_in l.families) l.places x) (least_at l.fn.row x) last

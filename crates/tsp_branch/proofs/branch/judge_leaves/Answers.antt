@@ -7,8 +7,7 @@ use Rattle.tsp_format.specs.declared.steps.TreeStep.{TreeStep}
 use Rattle.tsp_format.specs.declared.steps.TreeStep.TheVariants as code
 use Rattle.tsp_format.specs.Steps as listed
 use Rattle.tsp_format.specs.states.TreeSteps.{steps_of}
-use Rattle.tsp_branch.specs.states.Combed.{plain}
-use Rattle.tsp_branch.specs.CombsOfSets.{families_of}
+use Rattle.tsp_branch.specs.states.Lent.{good_in}
 use Rattle.tsp_branch.specs.Cases.{LeafNumbers}
 use Rattle.tsp_branch.specs.Certificate.{IsFoundAt}
 use Rattle.tsp_branch.specs.Listed.{no_numbers_of}
@@ -40,19 +39,19 @@ steps-init g c =
     let s = c.args.setting.now in
     let n : ℕ = g.C.Costs.nodes s.costs.now in
     let found : List Decision × LeafNumbers → Option ℤ → Type 0 = IsFoundAt s.directed n
-    (g.C.Costs.at s.costs.now) s.scale decided_number (families_of s.crossed.now (plain s.sets.now)) in
+    (g.C.Costs.at s.costs.now) s.scale decided_number (good_in s.families.now) in
     let given = s.given.now in
     let told : List listed.Step = steps_of c.args.steps.now in
     let case = c.in_ok-case.case in
     record {
-      at = inl (subst (λ (ds : List Decision). IsAtStep found s.directed n s.crossed.now given told c.args.room.numbers.items
+      at = inl (subst (λ (ds : List Decision). IsAtStep found s.directed n s.families.now.crossed.items given told c.args.room.numbers.items
           (Some (stack_of ds)) None 0 told) (sym c.in_ok-case.ensures.stack)
-          (subst (λ (zs : List ℤ). IsAtStep found s.directed n s.crossed.now given told zs (Some []) None 0 told)
+          (subst (λ (zs : List ℤ). IsAtStep found s.directed n s.families.now.crossed.items given told zs (Some []) None 0 told)
           (sym c.requires.start)
-          (at_start found s.directed n s.crossed.now given told c.requires.steps.whole c.requires.steps.once)));
+          (at_start found s.directed n s.families.now.crossed.items given told c.requires.steps.whole c.requires.steps.once)));
       room = c.requires.room;
       kept = c.requires.kept;
-      small = subst AreSmall (sym c.requires.start) (none_small n (length s.crossed.now));
+      small = subst AreSmall (sym c.requires.start) (none_small n (length s.families.now.crossed.items));
       case = subst (λ (k : ℕ). IsOpenCase k case) c.count-count.ensures.value c.in_ok-case.ensures.case;
       given = c.in_ok-case.ensures.given;
       direction = c.in_ok-case.ensures.directed;
@@ -80,16 +79,16 @@ judge_leaf-requires-clause-once g c =
     let s = c.args.setting.now in
     let n : ℕ = g.C.Costs.nodes s.costs.now in
     let found : List Decision × LeafNumbers → Option ℤ → Type 0 = IsFoundAt s.directed n
-    (g.C.Costs.at s.costs.now) s.scale decided_number (families_of s.crossed.now (plain s.sets.now)) in
+    (g.C.Costs.at s.costs.now) s.scale decided_number (good_in s.families.now) in
     let given = s.given.now in
     let all : List TreeStep = c.args.steps.now in
     let told : List listed.Step = steps_of all in
     let st = c.steps in
-    let at = at_next found s.directed n s.crossed.now given all st.room.numbers.items st.case.stack.items st.lowest st.leaf
+    let at = at_next found s.directed n s.families.now.crossed.items given all st.room.numbers.items st.case.stack.items st.lowest st.leaf
     st.step-index c.step-item.result
     (code.Leaf c.in-Leaf.changes) c.steps-test.true c.step-item.is c.in-Leaf.is st.invariant.at in
     subst (λ (ds : List Decision). DecideOnce s.directed (stack_of st.case.stack.items ++ ds)) (sym st.invariant.given)
-    (once_here found s.directed n s.crossed.now given told st.room.numbers.items st.case.stack.items st.lowest st.leaf
+    (once_here found s.directed n s.families.now.crossed.items given told st.room.numbers.items st.case.stack.items st.lowest st.leaf
     c.in-Leaf.changes.items _ at)
 
 pub returns-in_default-clause-judged : goal.returns-in_default-clause-judged
@@ -97,22 +96,22 @@ returns-in_default-clause-judged g c =
     let s = c.args.setting.now in
     let n : ℕ = g.C.Costs.nodes s.costs.now in
     let found : List Decision × LeafNumbers → Option ℤ → Type 0 = IsFoundAt s.directed n
-    (g.C.Costs.at s.costs.now) s.scale decided_number (families_of s.crossed.now (plain s.sets.now)) in
+    (g.C.Costs.at s.costs.now) s.scale decided_number (good_in s.families.now) in
     let given = s.given.now in
     let all : List TreeStep = c.args.steps.now in
     let told : List listed.Step = steps_of all in
     let st = c.steps in
-    let at = at_next found s.directed n s.crossed.now given all st.room.numbers.items st.case.stack.items st.lowest st.leaf
+    let at = at_next found s.directed n s.families.now.crossed.items given all st.room.numbers.items st.case.stack.items st.lowest st.leaf
     st.step-index c.step-item.result
     (code.Leaf c.in-Leaf.changes) c.steps-test.true c.step-item.is c.in-Leaf.is st.invariant.at in
-    let judged = subst (λ (cs : List (ℕ × ℤ)). IsJudgedLeaf found n s.crossed.now
+    let judged = subst (λ (cs : List (ℕ × ℤ)). IsJudgedLeaf found n s.families.now.crossed.items
     (stack_of st.case.stack.items ++ given) st.room.numbers.items cs c.judge_leaf.new.room.numbers.items
     c.in_ok-judged-in-Leaf.judged) c.deref.ensures.value
-    (subst (λ (ds : List Decision). IsJudgedLeaf found n s.crossed.now
+    (subst (λ (ds : List Decision). IsJudgedLeaf found n s.families.now.crossed.items
     (stack_of st.case.stack.items ++ ds) st.room.numbers.items c.deref.result.now c.judge_leaf.new.room.numbers.items
     c.in_ok-judged-in-Leaf.judged) st.invariant.given
     c.in_ok-judged-in-Leaf.ensures.judged) in
-    bad_here found s.directed n s.crossed.now given told st.room.numbers.items st.case.stack.items st.lowest st.leaf
+    bad_here found s.directed n s.families.now.crossed.items given told st.room.numbers.items st.case.stack.items st.lowest st.leaf
     c.in-Leaf.changes.items _ _ c.in_ok-judged-in-Leaf.judged at judged c.in_default.is
 
 pub steps-preserved : goal.steps-preserved
@@ -120,14 +119,14 @@ steps-preserved g c =
     let s = c.args.setting.now in
     let n : ℕ = g.C.Costs.nodes s.costs.now in
     let found : List Decision × LeafNumbers → Option ℤ → Type 0 = IsFoundAt s.directed n
-    (g.C.Costs.at s.costs.now) s.scale decided_number (families_of s.crossed.now (plain s.sets.now)) in
+    (g.C.Costs.at s.costs.now) s.scale decided_number (good_in s.families.now) in
     let given = s.given.now in
     let all : List TreeStep = c.args.steps.now in
     let told : List listed.Step = steps_of all in
     let st = c.steps in
     elim c.match-step.branch [
       | in-Branch+in_ok-take-in-Branch w ↦
-          let at = at_next found s.directed n s.crossed.now given all st.room.numbers.items st.case.stack.items st.lowest st.leaf
+          let at = at_next found s.directed n s.families.now.crossed.items given all st.room.numbers.items st.case.stack.items st.lowest st.leaf
           st.step-index c.step-item.result
           (code.Branch w.in-Branch.first w.in-Branch.second) c.steps-test.true c.step-item.is w.in-Branch.is st.invariant.at in
           let items = w.in_ok-take-in-Branch.ensures.stack in
@@ -137,9 +136,9 @@ steps-preserved g c =
           w.in-Branch.is in
           let longer = length_push st.case.stack.items decision in
           rw (w.room-is, w.case-is, w.lowest-is, w.leaf-is) (record {
-            at = inl (subst (λ (ds : List Decision). IsAtStep found s.directed n s.crossed.now given told st.room.numbers.items
+            at = inl (subst (λ (ds : List Decision). IsAtStep found s.directed n s.families.now.crossed.items given told st.room.numbers.items
                 (Some (stack_of ds)) st.lowest st.leaf (steps_of (drop (st.step-index + 1) all))) (sym items)
-                (at_branch found s.directed n s.crossed.now given told st.room.numbers.items st.case.stack.items st.lowest st.leaf
+                (at_branch found s.directed n s.families.now.crossed.items given told st.room.numbers.items st.case.stack.items st.lowest st.leaf
                 w.in-Branch.first w.in-Branch.second _ at));
             room = st.invariant.room;
             kept = st.invariant.kept;
@@ -152,24 +151,24 @@ steps-preserved g c =
             sized = st.invariant.sized;
           })
       | in-Leaf+in_ok-judged-in-Leaf+in-Found+in_ok-next-in-Leaf w ↦
-          let at = at_next found s.directed n s.crossed.now given all st.room.numbers.items st.case.stack.items st.lowest st.leaf
+          let at = at_next found s.directed n s.families.now.crossed.items given all st.room.numbers.items st.case.stack.items st.lowest st.leaf
           st.step-index c.step-item.result
           (code.Leaf w.in-Leaf.changes) c.steps-test.true c.step-item.is w.in-Leaf.is st.invariant.at in
-          let judged = subst (λ (cs : List (ℕ × ℤ)). IsJudgedLeaf found n s.crossed.now
+          let judged = subst (λ (cs : List (ℕ × ℤ)). IsJudgedLeaf found n s.families.now.crossed.items
           (stack_of st.case.stack.items ++ given) st.room.numbers.items cs w.judge_leaf.new.room.numbers.items
           w.in_ok-judged-in-Leaf.judged) w.deref.ensures.value
-          (subst (λ (ds : List Decision). IsJudgedLeaf found n s.crossed.now
+          (subst (λ (ds : List Decision). IsJudgedLeaf found n s.families.now.crossed.items
           (stack_of st.case.stack.items ++ ds) st.room.numbers.items w.deref.result.now w.judge_leaf.new.room.numbers.items
           w.in_ok-judged-in-Leaf.judged) st.invariant.given
           w.in_ok-judged-in-Leaf.ensures.judged) in
           rw (w.room-is, w.case-is, w.lowest-is, w.leaf-is) (record {
-            at = after_found found s.directed n s.crossed.now given told st.room.numbers.items st.case.stack.items st.lowest
+            at = after_found found s.directed n s.families.now.crossed.items given told st.room.numbers.items st.case.stack.items st.lowest
                 st.leaf w.in-Leaf.changes.items _ _ w.next.new.self.stack.items
                 w.in_ok-judged-in-Leaf.judged w.in-Found.own w.lower-lowest.result at judged w.in-Found.is w.lower-lowest.ensures
                 w.in_ok-next-in-Leaf.ensures.next;
             room = w.in_ok-judged-in-Leaf.ensures.room;
             kept = w.in_ok-judged-in-Leaf.ensures.kept;
-            small = small_found found s.directed n s.crossed.now given told st.room.numbers.items st.case.stack.items
+            small = small_found found s.directed n s.families.now.crossed.items given told st.room.numbers.items st.case.stack.items
                 w.in-Leaf.changes.items _ w.in_ok-judged-in-Leaf.judged w.in-Found.own judged w.in-Found.is;
             case = w.in_ok-next-in-Leaf.ensures.case n st.invariant.case;
             given = w.in_ok-next-in-Leaf.ensures.given ∙ st.invariant.given;
@@ -186,9 +185,9 @@ returns-clause-judged g c =
     let s = c.args.setting.now in
     let n : ℕ = g.C.Costs.nodes s.costs.now in
     let found : List Decision × LeafNumbers → Option ℤ → Type 0 = IsFoundAt s.directed n
-    (g.C.Costs.at s.costs.now) s.scale decided_number (families_of s.crossed.now (plain s.sets.now)) in
+    (g.C.Costs.at s.costs.now) s.scale decided_number (good_in s.families.now) in
     let st = c.steps in
-    all_passed found s.directed n s.crossed.now s.given.now
-    (families_of s.crossed.now (plain s.sets.now)) c.args.steps.now st.room.numbers.items st.case.stack.items st.lowest
+    all_passed found s.directed n s.families.now.crossed.items s.given.now
+    (good_in s.families.now) c.args.steps.now st.room.numbers.items st.case.stack.items st.lowest
     st.leaf st.step-index
     (omega (arith, c.steps-test.false)) st.invariant.at c.requires.are_families c.requires.steps.whole

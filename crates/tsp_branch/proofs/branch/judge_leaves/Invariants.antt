@@ -3,8 +3,7 @@ use Rattle.std.proofs.Common.{◌≡◌, ◌≤◌, ℕ, length, drop}
 use Rattle.std.specs.Prelude.{IfSome}
 use Rattle.tsp_format.specs.states.TreeSteps.{steps_of}
 use Rattle.tsp_theory.specs.Numbers.{IsBoundSized}
-use Rattle.tsp_branch.specs.states.Combed.{plain}
-use Rattle.tsp_branch.specs.CombsOfSets.{families_of}
+use Rattle.tsp_branch.specs.states.Lent.{lent_in, good_in}
 use Rattle.tsp_branch.specs.Certificate.{IsFoundAt}
 use Rattle.tsp_branch.specs.states.OpenCases.{IsOpenCase}
 use Rattle.tsp_branch.specs.Decisions.{decided_number}
@@ -19,11 +18,11 @@ invariant-steps g l =
     let n : ℕ = g.C.Costs.nodes s.costs.now in
     record {
       at : IsPassing (IsFoundAt s.directed n (g.C.Costs.at s.costs.now) s.scale decided_number
-          (families_of s.crossed.now (plain s.sets.now))) s.directed n s.crossed.now s.given.now
+          (good_in s.families.now)) s.directed n s.families.now.crossed.items s.given.now
           (steps_of l.steps) l.room.numbers.items l.case.stack.items l.lowest l.leaf
           (steps_of (drop l.step-index l.steps));
-      room : IsRoom n (length s.crossed.now) l.room;
-      kept : HoldsRows n (length s.crossed.now) s.scale s.sets.now (g.C.Costs.at s.costs.now) l.room.kept;
+      room : IsRoom n (length s.families.now.crossed.items) l.room;
+      kept : HoldsRows n (length s.families.now.crossed.items) s.scale (lent_in s.families.now) (g.C.Costs.at s.costs.now) l.room.kept;
       small : AreSmall l.room.numbers.items;
       case : IsOpenCase n l.case;
       given : l.case.given.now ≡ s.given.now;

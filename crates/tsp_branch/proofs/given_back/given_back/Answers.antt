@@ -1,9 +1,11 @@
 -- The goals of `given_back` in src/given_back.rt: that no sum overflows and what it ensures.
 use Rattle.std.proofs.Common.{◌∙◌, ℤ, List, ap, sym}
 use Rattle.std.specs.Prelude.{pos, ◌-ℤ◌, ◌*ℤ◌}
+use Rattle.tsp_families.specs.declared.family.Crossings.{Crossings}
 use Rattle.tsp_branch.specs.LeafBound.{least_of}
+use Rattle.tsp_branch.specs.CombsOfSets.{least_with}
 use Rattle.tsp_branch.specs.Certificate.{multiplied}
-use Rattle.tsp_branch.specs.CombsOfSets.{families_of}
+use Rattle.tsp_branch.specs.states.Lent.{lent_in, good_in}
 use Rattle.tsp_branch.proofs.GivenBack.{least_told, less_fits, less_held, less_sized}
 use Rattle.tsp_branch.proofs.given_back.given_back.Goals as goal
 
@@ -12,12 +14,13 @@ overflow_sub-result c = less_fits c.multiplied_crossings.result c.total.result c
 
 pub returns : goal.returns
 returns c =
+    let families = c.args.families.now in
     let crossed : ℤ = c.multiplied_crossings.result in
     let ps : ℤ = c.total.result in
     let ms : List ℤ = c.args.multipliers.now in
     let is = less_held crossed ps c.multiplied_crossings.ensures.size c.total.ensures.size in
     rw is (record {
-      value = λ sets. ap (λ (z : ℤ). z -ℤ (pos 2 *ℤ ps)) (c.multiplied_crossings.ensures.value ∙ sym (least_told 0 c.args.crossed.now ms sets))
-          ∙ ap (λ (z : ℤ). least_of (multiplied (families_of c.args.crossed.now sets) ms) -ℤ (pos 2 *ℤ z)) c.total.ensures.value;
+      value = ap (λ (z : ℤ). z -ℤ (pos 2 *ℤ ps)) (c.multiplied_crossings.ensures.value ∙ ap (λ (cs : List Crossings). least_with cs ms) c.deref.ensures.value ∙ sym (least_told families.crossed.items ms (lent_in families) families.many))
+          ∙ ap (λ (z : ℤ). least_of (multiplied (good_in families) ms) -ℤ (pos 2 *ℤ z)) c.total.ensures.value;
       size = less_sized crossed ps c.multiplied_crossings.ensures.size c.total.ensures.size;
     })

@@ -8,7 +8,7 @@ use Rattle.tsp_families.specs.Crossed.{has}
 use Rattle.tsp_branch.specs.Combs.{comb_of}
 use Rattle.tsp_branch.specs.Families.{IsLoneSet}
 use Rattle.tsp_branch.specs.states.Marked.{is_marked}
-use Rattle.tsp_families.specs.declared.comb_set.CombSet.{CombSet}
+use Rattle.std.specs.Global.{Vec}
 use Rattle.tsp_branch.proofs.Teeth.{rest_all, first_all, counted, handle_new, comb_found, teeth_found, own_marks, lone_found, lone_in, no_sets}
 use Rattle.tsp_branch.proofs.good_combs.is_comb.Goals as goal
 
@@ -26,8 +26,8 @@ returns-then-not-mark_nodes-clause-comb c = λ n long are. (
 
 pub returns-then-is_empty-clause-comb : goal.returns-then-is_empty-clause-comb
 returns-then-is_empty-clause-comb c = λ n long are.
-    let sets : List CombSet = c.args.sets.now in
-    let teeth : List CombSet = c.in-Some.teeth.now in
+    let sets : List (Vec ℕ) = c.args.sets.now in
+    let teeth : List (Vec ℕ) = c.in-Some.teeth.now in
     let nodes : List ℕ = c.deref.result.now in
     let same = c.in-Some.ensures.cases.0 in
     let read = c.deref.ensures.value in
@@ -49,14 +49,14 @@ pub returns-then-not-is_tooth_count-clause-comb : goal.returns-then-not-is_tooth
 returns-then-not-is_tooth_count-clause-comb c = λ n long are. (
   λ impossible. absurd (both_ways false refl impossible),
   λ comb. absurd (iff_false c.is_tooth_count.ensures c.if-not-is_tooth_count.true
-      (counted n c.args.sets.now c.in-Some.handle.now c.in-Some.teeth.now (c.in-Some.handle.now).nodes.items c.in-Some.ensures.cases.0 refl (search rules) comb)),
+      (counted n c.args.sets.now c.in-Some.handle.now c.in-Some.teeth.now (c.in-Some.handle.now).items c.in-Some.ensures.cases.0 refl (search rules) comb)),
 )
 
 pub are_teeth-requires-clause-handle_places : goal.are_teeth-requires-clause-handle_places
 are_teeth-requires-clause-handle_places c =
     rest_all 0 c.args.sets.now c.in-Some.handle.now c.in-Some.teeth.now c.deref.result.now c.in-Some.ensures.cases.0 c.deref.ensures.value
     (λ node. node < length c.mark_nodes.new.marks)
-    (subst (λ (k : ℕ). All (λ (set : CombSet). All (λ node. node < k) set.nodes.items) c.args.sets.now) (sym c.mark_nodes.ensures.length) c.requires.handle_places)
+    (subst (λ (k : ℕ). All (λ (set : Vec ℕ). All (λ node. node < k) set.items) c.args.sets.now) (sym c.mark_nodes.ensures.length) c.requires.handle_places)
 
 pub are_teeth-requires-clause-tooth_places : goal.are_teeth-requires-clause-tooth_places
 are_teeth-requires-clause-tooth_places c = rest_all 0 c.args.sets.now c.in-Some.handle.now c.in-Some.teeth.now c.deref.result.now c.in-Some.ensures.cases.0 c.deref.ensures.value
@@ -64,8 +64,8 @@ are_teeth-requires-clause-tooth_places c = rest_all 0 c.args.sets.now c.in-Some.
 
 pub returns-clause-comb : goal.returns-clause-comb
 returns-clause-comb c = λ n long are.
-    let sets : List CombSet = c.args.sets.now in
-    let teeth : List CombSet = c.in-Some.teeth.now in
+    let sets : List (Vec ℕ) = c.args.sets.now in
+    let teeth : List (Vec ℕ) = c.in-Some.teeth.now in
     let nodes : List ℕ = c.deref.result.now in
     let same = c.in-Some.ensures.cases.0 in
     let read = c.deref.ensures.value in

@@ -7,8 +7,9 @@ use Rattle.tsp_branch.proofs.judge.judge.Goals as goal
 pub returns-then-not-copy_within-2-clause-good : goal.returns-then-not-copy_within-2-clause-good
 returns-then-not-copy_within-2-clause-good c =
     let n = length c.args.potentials.now in
+    let families = c.args.families.now in
     let numbers : List ℤ = c.args.numbers.now in (
       λ none. absurd (both_ways false refl none),
       λ good. c.if-not-copy_within-2.ensures.inside.1
-          (rw c.split_at.ensures.back (small_multipliers n c.args.crossed.now (take n numbers) (drop n numbers) c.requires.some good)),
+          (rw c.split_at.ensures.back (small_multipliers n families.crossed.items (take n numbers) (drop n numbers) families.some good)),
     )

@@ -1,6 +1,7 @@
 -- The loop of `add_to_rows` in src/kept.rt.
+use Rattle.tsp_branch.specs.states.Lent.{lent_in}
 use Rattle.tsp_branch.proofs.KeptRows.{IsAddedTo}
 use Rattle.tsp_branch.proofs.kept.add_to_rows.Given as goal
 
 abbrev pub invariant-rows : goal.invariant-rows
-invariant-rows l = IsAddedTo l.index l.multipliers l.sets l.by_node l.fn.rows l.rows
+invariant-rows l = IsAddedTo l.index l.multipliers (lent_in l.families) l.by_node l.fn.rows l.rows

@@ -1,6 +1,6 @@
 -- The goals of `cycles_cross_families` in src/laws.rt: what it ensures.
 use Rattle.tsp_theory.proofs.CostLaws.{Laws}
-use Rattle.tsp_branch.proofs.Families.{cycles_cross_families}
+use Rattle.tsp_branch.proofs.FamilyLaws.{cycles_cross_families}
 use Rattle.tsp_branch.proofs.laws.cycles_cross_families.Goals as goal
 
 pub returns : goal.returns

@@ -1,5 +1,5 @@
 -- The goals of `numbers_are_unique` in src/laws.rt: what it ensures.
-use Rattle.tsp_branch.proofs.Families.{numbers_are_unique}
+use Rattle.tsp_branch.proofs.FamilyLaws.{numbers_are_unique}
 use Rattle.tsp_branch.proofs.laws.numbers_are_unique.Goals as goal
 
 pub returns : goal.returns

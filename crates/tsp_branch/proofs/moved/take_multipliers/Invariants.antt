@@ -2,10 +2,13 @@
 use Rattle.std.proofs.Common.{ℕ, ℤ, drop}
 use Rattle.std.specs.Prelude.{neg_ℤ}
 use Rattle.tsp_theory.specs.states.Nearest.{least_at}
-use Rattle.tsp_branch.specs.states.Sets.{IsMoved}
-use Rattle.tsp_branch.specs.states.Combed.{plain, multipliers_at}
+use Rattle.tsp_families.specs.FamilySets.{families_in}
+use Rattle.tsp_branch.specs.states.Sets.{IsMoved, added}
+use Rattle.tsp_branch.specs.states.Lent.{lent_in}
+use Rattle.tsp_branch.specs.states.Combed.{summed_from, multipliers_at}
 use Rattle.tsp_branch.proofs.moved.take_multipliers.Given as goal
 
-abbrev pub invariant-sets : goal.invariant-sets
-invariant-sets l = (x : ℕ) (last : ℤ) → IsMoved (neg_ℤ (multipliers_at l.multipliers (plain (drop l.number l.sets)) x)) (least_at l.row x) last
-    → IsMoved (neg_ℤ (multipliers_at l.multipliers (plain l.sets) x)) (least_at l.fn.row x) last
+abbrev pub invariant-multipliers : goal.invariant-multipliers
+invariant-multipliers l = (x : ℕ) (last : ℤ)
+    → IsMoved (neg_ℤ (summed_from l.number (λ multiplier set. added multiplier set x) l.multipliers (families_in (drop l.number l.families.lent.now)))) (least_at l.row x) last
+    → IsMoved (neg_ℤ (multipliers_at l.multipliers (lent_in l.families) x)) (least_at l.fn.row x) last

@@ -14,8 +14,8 @@ nodes-preserved c =
     record {
       count = length-set c.nodes.lists.items node c.push.new.list ∙ c.nodes.invariant.count;
       said = λ x a b below.
-          listed_more c.args.number c.args.nodes.now index node c.nodes.lists.items c.index_mut.result.now c.push.new.list x a
-          ((get_or c.args.lists.now.items x b).items ++ times c.args.number c.args.nodes.now x)
+          listed_more c.args.place c.args.nodes.now index node c.nodes.lists.items c.index_mut.result.now c.push.new.list x a
+          ((get_or c.args.lists.now.items x b).items ++ times c.args.place c.args.nodes.now x)
           c.nodes-test.true refl inside c.index_mut.ensures.value c.in_ok-push.ensures.items (λ d. c.nodes.invariant.said x d b below);
     }
 
@@ -26,6 +26,6 @@ returns c =
       c.nodes.invariant.count,
       λ x a b below.
           sym (append-nil (get_or c.nodes.lists.items x a).items)
-          ∙ ap (λ ns. (get_or c.nodes.lists.items x a).items ++ times c.args.number ns x) (sym (drop_all c.nodes.node-index nodes past))
+          ∙ ap (λ ns. (get_or c.nodes.lists.items x a).items ++ times c.args.place ns x) (sym (drop_all c.nodes.node-index nodes past))
           ∙ c.nodes.invariant.said x a b below,
     )

@@ -1,12 +1,13 @@
 -- The loop of `place_set` in src/sets.rt.
 use Rattle.std.proofs.Common.{◌≡◌, ◌<◌, ℕ, ◌++◌, drop, length, get_or}
 use Rattle.std.specs.Global.{Vec}
+use Rattle.tsp_branch.specs.declared.set_place.SetPlace.{SetPlace}
 use Rattle.tsp_branch.specs.states.Sets.{times}
 use Rattle.tsp_branch.proofs.sets.place_set.Given as goal
 
 abbrev pub invariant-nodes : goal.invariant-nodes
 invariant-nodes l = record {
   count : length l.lists.items ≡ length l.fn.lists.items;
-  said : (x : ℕ) (a b : Vec ℕ) → x < length l.fn.lists.items → (get_or l.lists.items x a).items ++ times l.number (drop l.node-index l.nodes) x ≡
-      (get_or l.fn.lists.items x b).items ++ times l.number l.nodes x;
+  said : (x : ℕ) (a b : Vec SetPlace) → x < length l.fn.lists.items → (get_or l.lists.items x a).items ++ times l.place (drop l.node-index l.nodes) x ≡
+      (get_or l.fn.lists.items x b).items ++ times l.place l.nodes x;
 }

@@ -1,5 +1,6 @@
 -- The goals of `memberships_of` in src/members.rt: its loop and what its calls require.
 use Rattle.std.proofs.Common.{◌≡◌, ℕ, ◌+◌, ◌*◌, ◌%◌, ◌^◌, ◌<◌, ◌++◌, List, length, get_or, take, drop, ap, sym, ◌∙◌, subst, arith}
+use Rattle.std.specs.Global.{Vec}
 use Rattle.std.specs.Prelude.{if◌then◌else◌}
 use Rattle.std.proofs.lemmas.List.{take-append-le, take_all}
 use Rattle.std.proofs.lemmas.Nat.{one_shl, pow_below}
@@ -39,6 +40,6 @@ sets-preserved c =
           subst (λ (xs : List ℕ). IsSoFar (sets_of (lists_of c.args.sets.now)) (count + 1) x (get_or xs x 0)) (sym kept)
           (so_far_more (sets_of (lists_of c.args.sets.now)) count x (get_or old x 0) (get_or new x 0) bit c.deref.result.now
           (let long = sets_long c.args.sets.now in omega (arith, long, c.sets-test.true))
-          (set_at c.args.sets.now count c.index-sets-set.result c.deref.result.now c.sets-test.true c.deref.ensures.value)
+          (set_at c.args.sets.now count c.index-sets-set.result c.deref.result.now c.sets-test.true (c.deref.ensures.value ∙ ap (λ (s : Vec ℕ). s.items) c.index-sets-set.is))
           (one_shl count 64 lt) said (h.so_far x in_old));
     }

@@ -1,5 +1,5 @@
 -- The goals of `judge_tree` in src/tree.rt: that no sum overflows, what its calls require and what it ensures.
-use Rattle.std.proofs.Common.{◌≡◌, ◌∙◌, ℕ, ℤ, length, ap, subst, arith, rules, FitsSigned, to_z, of_z}
+use Rattle.std.proofs.Common.{◌≡◌, ◌∙◌, ℕ, ℤ, List, length, ap, subst, arith, rules, FitsSigned, to_z, of_z}
 use Rattle.std.specs.Int.{w64, w128}
 use Rattle.std.specs.Prelude.{Option, None, Some, unwrap_or}
 use Rattle.std.specs.List.{All}
@@ -12,41 +12,28 @@ use Rattle.tsp_draft.specs.Valid.{IsPairOf}
 use Rattle.tsp_theory.specs.Numbers.{IsScale}
 use Rattle.tsp_branch.specs.declared.steps.BranchVerdict.TheVariants as found
 use Rattle.tsp_branch.specs.BranchVerdicts.{IsBranchVerdict, IsSizedVerdict}
-use Rattle.tsp_branch.specs.states.Combed.{plain}
 use Rattle.tsp_branch.specs.Listed.{IsStepOf}
-use Rattle.tsp_families.specs.FamilySets.{AreSetsOf}
+use Rattle.tsp_families.specs.FamilySets.{AreFamiliesOf}
 use Rattle.tsp_draft.specs.Fields.{nodes_of}
 use Rattle.tsp_verdict.proofs.FilesHold.{steps_hold, steps_few}
 use Rattle.tsp_verdict.proofs.GivenPairs.{given_once, given_are, given_few}
-use Rattle.tsp_verdict.proofs.NumberedSets.{sets_of_nodes, sets_of_combs, sets_in_order, sets_few}
+use Rattle.tsp_verdict.proofs.FamiliesHold.{families_hold, families_few}
 use Rattle.tsp_verdict.proofs.TreeReasons.{directed_is, even_view, no_tour, are_of, told, twice_within, bad_within, comb_first, twice_first, leaf_first, none_stands, certified}
 use Rattle.tsp_verdict.proofs.tree.judge_tree.Goals as goal
 
 pub judge_branches-requires-clause-few_sets : goal.judge_branches-requires-clause-few_sets
 judge_branches-requires-clause-few_sets g c =
-    sets_few (nodes_of c.args.branches.now) c.deref.result.now (combs_of c.args.tree.now.combs.now)
-    (ap plain c.deref.ensures.value ∙ c.in_ok-sets.ensures) c.requires.held.each_comb
+    families_few (nodes_of c.args.branches.now) c.args.tree.now.combs.now c.requires.held.each_comb
 
 pub judge_branches-requires-clause-few_given : goal.judge_branches-requires-clause-few_given
 judge_branches-requires-clause-few_given g c =
-    let few = given_few c.is_directed-directed.result most_fixed c.deref-2.result.now c.fixed.result.now (c.deref-2.ensures.value ∙ c.in_ok-given.ensures) c.fixed.ensures.few in
+    let few = given_few c.is_directed-directed.result most_fixed c.deref.result.now c.fixed.result.now (c.deref.ensures.value ∙ c.in_ok-given.ensures) c.fixed.ensures.few in
     omega (arith, few)
 
 pub judge_branches-requires-clause-nodes : goal.judge_branches-requires-clause-nodes
 judge_branches-requires-clause-nodes g c =
     let same : nodes_of c.args.branches.now ≡ g.C.Costs.nodes c.args.costs.now = c.requires.count ∙ ap (λ (d : Option ℕ). unwrap_or d 0) c.requires.keeps.count in
-    subst (λ (n : ℕ). AreSetsOf n c.deref.result.now) same (sets_of_nodes (nodes_of c.args.branches.now) c.deref.result.now (combs_of c.args.tree.now.combs.now)
-    (ap plain c.deref.ensures.value ∙ c.in_ok-sets.ensures) c.requires.held.each_comb)
-
-pub judge_branches-requires-clause-of_combs : goal.judge_branches-requires-clause-of_combs
-judge_branches-requires-clause-of_combs g c = λ k d lt.
-    let within = sets_of_combs c.deref.result.now (combs_of c.args.tree.now.combs.now) (ap plain c.deref.ensures.value ∙ c.in_ok-sets.ensures) k d lt in
-    let as_many : length (combs_of c.args.tree.now.combs.now) ≡ length c.args.tree.now.combs.now = length-map c.args.tree.now.combs.now _ in
-    omega (arith, within, as_many)
-
-pub judge_branches-requires-clause-in_order : goal.judge_branches-requires-clause-in_order
-judge_branches-requires-clause-in_order g c =
-    sets_in_order c.deref.result.now (combs_of c.args.tree.now.combs.now) (ap plain c.deref.ensures.value ∙ c.in_ok-sets.ensures)
+    subst (λ (n : ℕ). AreFamiliesOf n c.args.tree.now.combs.now) same (families_hold (nodes_of c.args.branches.now) c.args.tree.now.combs.now c.requires.held.each_comb)
 
 pub judge_branches-requires-clause-few_steps : goal.judge_branches-requires-clause-few_steps
 judge_branches-requires-clause-few_steps g c = steps_few c.args.branches.now c.args.tree.now.steps.now c.requires.held.each_step
@@ -61,12 +48,12 @@ pub judge_branches-requires-clause-given_are : goal.judge_branches-requires-clau
 judge_branches-requires-clause-given_are g c =
     let same : nodes_of c.args.instance.now ≡ g.C.Costs.nodes c.args.costs.now = ap (λ (d : Option ℕ). unwrap_or d 0) c.requires.keeps.count in
     let n : ℕ = g.C.Costs.nodes c.args.costs.now in
-    given_are c.is_directed-directed.result n c.deref-2.result.now c.fixed.result.now (c.deref-2.ensures.value ∙ c.in_ok-given.ensures)
+    given_are c.is_directed-directed.result n c.deref.result.now c.fixed.result.now (c.deref.ensures.value ∙ c.in_ok-given.ensures)
     (subst (λ (m : ℕ). All (IsPairOf m) c.fixed.result.now) same c.fixed.ensures.range)
 
 pub judge_branches-requires-clause-given_once : goal.judge_branches-requires-clause-given_once
 judge_branches-requires-clause-given_once g c =
-    given_once c.is_directed-directed.result c.deref-2.result.now c.fixed.result.now (c.deref-2.ensures.value ∙ c.in_ok-given.ensures)
+    given_once c.is_directed-directed.result c.deref.result.now c.fixed.result.now (c.deref.ensures.value ∙ c.in_ok-given.ensures)
 
 pub judge_branches-requires-clause-even : goal.judge_branches-requires-clause-even
 judge_branches-requires-clause-even g c =
@@ -81,17 +68,16 @@ returns-in-Bound-Some g c =
     let n : ℕ = g.C.Costs.nodes c.args.costs.now in
     let costs = g.C.Costs.at c.args.costs.now in
     let combs = c.args.tree.now.combs.now in
-    let sets = plain c.deref.result.now in
-    let given = c.deref-2.result.now in
+    let families : List (List (List ℕ)) = combs_of combs in
+    let given = c.deref.result.now in
     let steps = steps_of c.args.tree.now.steps.now in
     let scaled : FitsSigned w64 c.args.tree.now.scale = search rules in
-    let are = are_of inst tree c.is_directed-directed.result n (to_z w64 (of_z w64 c.args.tree.now.scale)) combs sets c.fixed.result.now given steps (directed_is c.is_directed-directed.result inst c.kind.result c.is_directed-directed.ensures c.kind.ensures.value) c.requires.keeps.count
-    (to_z-of_z w64 c.args.tree.now.scale scaled ∙ c.requires.held.scale_is) c.requires.held.combs_are
-    (ap plain c.deref.ensures.value ∙ c.in_ok-sets.ensures) c.fixed.ensures.value (c.deref-2.ensures.value ∙ c.in_ok-given.ensures) c.requires.held.steps_are in
+    let are = are_of inst tree c.is_directed-directed.result n (to_z w64 (of_z w64 c.args.tree.now.scale)) combs c.fixed.result.now given steps (directed_is c.is_directed-directed.result inst c.kind.result c.is_directed-directed.ensures c.kind.ensures.value) c.requires.keeps.count
+    (to_z-of_z w64 c.args.tree.now.scale scaled ∙ c.requires.held.scale_is) c.requires.held.combs_are c.fixed.ensures.value (c.deref.ensures.value ∙ c.in_ok-given.ensures) c.requires.held.steps_are in
     let bound = c.in-Bound-Some.bound in
-    let is = subst (IsBranchVerdict c.is_directed-directed.result n costs (to_z w64 (of_z w64 c.args.tree.now.scale)) (length combs) sets given steps) whole c.in_ok-bound.ensures.verdict in
+    let is = subst (IsBranchVerdict c.is_directed-directed.result n costs (to_z w64 (of_z w64 c.args.tree.now.scale)) families given steps) whole c.in_ok-bound.ensures.verdict in
     let fits : FitsSigned w128 bound = search rules in
-    let all_told = told inst tree c.is_directed-directed.result n costs _ (length combs) sets given steps (found.Bound (Some bound)) are is in
+    let all_told = told inst tree c.is_directed-directed.result n costs _ families given steps (found.Bound (Some bound)) are is in
     rw (to_z-of_z w128 bound fits) (
       none_stands c.numbers_are_unique.ensures inst tree costs (Some bound) c.requires.sort c.requires.count all_told,
       certified inst tree costs bound c.certificates_bound_cycles.ensures.cycles c.requires.kind c.requires.some c.requires.even
@@ -107,15 +93,14 @@ returns-in-Bound-None g c =
     let n : ℕ = g.C.Costs.nodes c.args.costs.now in
     let costs = g.C.Costs.at c.args.costs.now in
     let combs = c.args.tree.now.combs.now in
-    let sets = plain c.deref.result.now in
-    let given = c.deref-2.result.now in
+    let families : List (List (List ℕ)) = combs_of combs in
+    let given = c.deref.result.now in
     let steps = steps_of c.args.tree.now.steps.now in
     let scaled : FitsSigned w64 c.args.tree.now.scale = search rules in
-    let are = are_of inst tree c.is_directed-directed.result n (to_z w64 (of_z w64 c.args.tree.now.scale)) combs sets c.fixed.result.now given steps (directed_is c.is_directed-directed.result inst c.kind.result c.is_directed-directed.ensures c.kind.ensures.value) c.requires.keeps.count
-    (to_z-of_z w64 c.args.tree.now.scale scaled ∙ c.requires.held.scale_is) c.requires.held.combs_are
-    (ap plain c.deref.ensures.value ∙ c.in_ok-sets.ensures) c.fixed.ensures.value (c.deref-2.ensures.value ∙ c.in_ok-given.ensures) c.requires.held.steps_are in
-    let is = subst (IsBranchVerdict c.is_directed-directed.result n costs (to_z w64 (of_z w64 c.args.tree.now.scale)) (length combs) sets given steps) whole c.in_ok-bound.ensures.verdict in
-    let all_told = told inst tree c.is_directed-directed.result n costs _ (length combs) sets given steps (found.Bound None) are is in
+    let are = are_of inst tree c.is_directed-directed.result n (to_z w64 (of_z w64 c.args.tree.now.scale)) combs c.fixed.result.now given steps (directed_is c.is_directed-directed.result inst c.kind.result c.is_directed-directed.ensures c.kind.ensures.value) c.requires.keeps.count
+    (to_z-of_z w64 c.args.tree.now.scale scaled ∙ c.requires.held.scale_is) c.requires.held.combs_are c.fixed.ensures.value (c.deref.ensures.value ∙ c.in_ok-given.ensures) c.requires.held.steps_are in
+    let is = subst (IsBranchVerdict c.is_directed-directed.result n costs (to_z w64 (of_z w64 c.args.tree.now.scale)) families given steps) whole c.in_ok-bound.ensures.verdict in
+    let all_told = told inst tree c.is_directed-directed.result n costs _ families given steps (found.Bound None) are is in
     let gone = no_tour inst tree costs c.certificates_bound_cycles.ensures.cycles c.requires.kind c.requires.some c.requires.even
     (subst IsScale c.requires.held.scale_is c.requires.held.scaled) c.requires.keeps.every all_told in
     (none_stands c.numbers_are_unique.ensures inst tree costs None c.requires.sort c.requires.count all_told, gone.0, gone.1)
@@ -127,21 +112,20 @@ returns-in-BadComb g c =
     let n : ℕ = g.C.Costs.nodes c.args.costs.now in
     let costs = g.C.Costs.at c.args.costs.now in
     let combs = c.args.tree.now.combs.now in
-    let sets = plain c.deref.result.now in
-    let given = c.deref-2.result.now in
+    let families : List (List (List ℕ)) = combs_of combs in
+    let given = c.deref.result.now in
     let steps = steps_of c.args.tree.now.steps.now in
     let scaled : FitsSigned w64 c.args.tree.now.scale = search rules in
-    let are = are_of inst tree c.is_directed-directed.result n (to_z w64 (of_z w64 c.args.tree.now.scale)) combs sets c.fixed.result.now given steps (directed_is c.is_directed-directed.result inst c.kind.result c.is_directed-directed.ensures c.kind.ensures.value) c.requires.keeps.count
-    (to_z-of_z w64 c.args.tree.now.scale scaled ∙ c.requires.held.scale_is) c.requires.held.combs_are
-    (ap plain c.deref.ensures.value ∙ c.in_ok-sets.ensures) c.fixed.ensures.value (c.deref-2.ensures.value ∙ c.in_ok-given.ensures) c.requires.held.steps_are in
-    let is = subst (IsBranchVerdict c.is_directed-directed.result n costs (to_z w64 (of_z w64 c.args.tree.now.scale)) (length combs) sets given steps) c.in-BadComb.is c.in_ok-bound.ensures.verdict in
-    comb_first inst tree costs c.in-BadComb.index c.requires.sort c.requires.count (told inst tree c.is_directed-directed.result n costs _ (length combs) sets given steps (found.BadComb c.in-BadComb.index) are is)
+    let are = are_of inst tree c.is_directed-directed.result n (to_z w64 (of_z w64 c.args.tree.now.scale)) combs c.fixed.result.now given steps (directed_is c.is_directed-directed.result inst c.kind.result c.is_directed-directed.ensures c.kind.ensures.value) c.requires.keeps.count
+    (to_z-of_z w64 c.args.tree.now.scale scaled ∙ c.requires.held.scale_is) c.requires.held.combs_are c.fixed.ensures.value (c.deref.ensures.value ∙ c.in_ok-given.ensures) c.requires.held.steps_are in
+    let is = subst (IsBranchVerdict c.is_directed-directed.result n costs (to_z w64 (of_z w64 c.args.tree.now.scale)) families given steps) c.in-BadComb.is c.in_ok-bound.ensures.verdict in
+    comb_first inst tree costs c.in-BadComb.index c.requires.sort c.requires.count (told inst tree c.is_directed-directed.result n costs _ families given steps (found.BadComb c.in-BadComb.index) are is)
 
 pub overflow_cast-result-in-BranchTwice : goal.overflow_cast-result-in-BranchTwice
 overflow_cast-result-in-BranchTwice g c =
     let steps = steps_of c.args.tree.now.steps.now in
-    let given = c.deref-2.result.now in
-    let is = subst (IsBranchVerdict c.is_directed-directed.result _ _ _ _ _ given steps) c.in-BranchTwice.is c.in_ok-bound.ensures.verdict in
+    let given = c.deref.result.now in
+    let is = subst (IsBranchVerdict c.is_directed-directed.result _ _ _ _ given steps) c.in-BranchTwice.is c.in_ok-bound.ensures.verdict in
     omega (arith, twice_within c.is_directed-directed.result given steps c.in-BranchTwice.index is.2, length-map c.args.tree.now.steps.now step_of, steps_few c.args.branches.now c.args.tree.now.steps.now c.requires.held.each_step)
 
 pub returns-in-BranchTwice : goal.returns-in-BranchTwice
@@ -151,23 +135,21 @@ returns-in-BranchTwice g c =
     let n : ℕ = g.C.Costs.nodes c.args.costs.now in
     let costs = g.C.Costs.at c.args.costs.now in
     let combs = c.args.tree.now.combs.now in
-    let sets = plain c.deref.result.now in
-    let given = c.deref-2.result.now in
+    let families : List (List (List ℕ)) = combs_of combs in
+    let given = c.deref.result.now in
     let steps = steps_of c.args.tree.now.steps.now in
     let scaled : FitsSigned w64 c.args.tree.now.scale = search rules in
-    let are = are_of inst tree c.is_directed-directed.result n (to_z w64 (of_z w64 c.args.tree.now.scale)) combs sets c.fixed.result.now given steps (directed_is c.is_directed-directed.result inst c.kind.result c.is_directed-directed.ensures c.kind.ensures.value) c.requires.keeps.count
-    (to_z-of_z w64 c.args.tree.now.scale scaled ∙ c.requires.held.scale_is) c.requires.held.combs_are
-    (ap plain c.deref.ensures.value ∙ c.in_ok-sets.ensures) c.fixed.ensures.value (c.deref-2.ensures.value ∙ c.in_ok-given.ensures) c.requires.held.steps_are in
-    let is = subst (IsBranchVerdict c.is_directed-directed.result n costs (to_z w64 (of_z w64 c.args.tree.now.scale)) (length combs) sets given steps) c.in-BranchTwice.is c.in_ok-bound.ensures.verdict in
+    let are = are_of inst tree c.is_directed-directed.result n (to_z w64 (of_z w64 c.args.tree.now.scale)) combs c.fixed.result.now given steps (directed_is c.is_directed-directed.result inst c.kind.result c.is_directed-directed.ensures c.kind.ensures.value) c.requires.keeps.count
+    (to_z-of_z w64 c.args.tree.now.scale scaled ∙ c.requires.held.scale_is) c.requires.held.combs_are c.fixed.ensures.value (c.deref.ensures.value ∙ c.in_ok-given.ensures) c.requires.held.steps_are in
+    let is = subst (IsBranchVerdict c.is_directed-directed.result n costs (to_z w64 (of_z w64 c.args.tree.now.scale)) families given steps) c.in-BranchTwice.is c.in_ok-bound.ensures.verdict in
     twice_first inst tree costs c.in-BranchTwice.index c.requires.sort c.requires.count
-    (told inst tree c.is_directed-directed.result n costs _ (length combs) sets given steps (found.BranchTwice c.in-BranchTwice.index) are is)
+    (told inst tree c.is_directed-directed.result n costs _ families given steps (found.BranchTwice c.in-BranchTwice.index) are is)
 
 pub overflow_cast-result-in-BadLeaf : goal.overflow_cast-result-in-BadLeaf
 overflow_cast-result-in-BadLeaf g c =
     let n : ℕ = g.C.Costs.nodes c.args.costs.now in
-    let count = length c.args.tree.now.combs.now in
     let steps = steps_of c.args.tree.now.steps.now in
-    let is = subst (IsBranchVerdict c.is_directed-directed.result n _ _ count _ _ steps) c.in-BadLeaf.is c.in_ok-bound.ensures.verdict in
+    let is = subst (IsBranchVerdict c.is_directed-directed.result n _ _ _ _ steps) c.in-BadLeaf.is c.in_ok-bound.ensures.verdict in
     omega (arith, bad_within n is.crossed steps c.in-BadLeaf.index is.leaves, length-map c.args.tree.now.steps.now step_of, steps_few c.args.branches.now c.args.tree.now.steps.now c.requires.held.each_step)
 
 pub returns : goal.returns
@@ -177,12 +159,11 @@ returns g c =
     let n : ℕ = g.C.Costs.nodes c.args.costs.now in
     let costs = g.C.Costs.at c.args.costs.now in
     let combs = c.args.tree.now.combs.now in
-    let sets = plain c.deref.result.now in
-    let given = c.deref-2.result.now in
+    let families : List (List (List ℕ)) = combs_of combs in
+    let given = c.deref.result.now in
     let steps = steps_of c.args.tree.now.steps.now in
     let scaled : FitsSigned w64 c.args.tree.now.scale = search rules in
-    let are = are_of inst tree c.is_directed-directed.result n (to_z w64 (of_z w64 c.args.tree.now.scale)) combs sets c.fixed.result.now given steps (directed_is c.is_directed-directed.result inst c.kind.result c.is_directed-directed.ensures c.kind.ensures.value) c.requires.keeps.count
-    (to_z-of_z w64 c.args.tree.now.scale scaled ∙ c.requires.held.scale_is) c.requires.held.combs_are
-    (ap plain c.deref.ensures.value ∙ c.in_ok-sets.ensures) c.fixed.ensures.value (c.deref-2.ensures.value ∙ c.in_ok-given.ensures) c.requires.held.steps_are in
-    let is = subst (IsBranchVerdict c.is_directed-directed.result n costs (to_z w64 (of_z w64 c.args.tree.now.scale)) (length combs) sets given steps) c.in-BadLeaf.is c.in_ok-bound.ensures.verdict in
-    leaf_first inst tree costs c.in-BadLeaf.index c.requires.sort c.requires.count (told inst tree c.is_directed-directed.result n costs _ (length combs) sets given steps (found.BadLeaf c.in-BadLeaf.index) are is)
+    let are = are_of inst tree c.is_directed-directed.result n (to_z w64 (of_z w64 c.args.tree.now.scale)) combs c.fixed.result.now given steps (directed_is c.is_directed-directed.result inst c.kind.result c.is_directed-directed.ensures c.kind.ensures.value) c.requires.keeps.count
+    (to_z-of_z w64 c.args.tree.now.scale scaled ∙ c.requires.held.scale_is) c.requires.held.combs_are c.fixed.ensures.value (c.deref.ensures.value ∙ c.in_ok-given.ensures) c.requires.held.steps_are in
+    let is = subst (IsBranchVerdict c.is_directed-directed.result n costs (to_z w64 (of_z w64 c.args.tree.now.scale)) families given steps) c.in-BadLeaf.is c.in_ok-bound.ensures.verdict in
+    leaf_first inst tree costs c.in-BadLeaf.index c.requires.sort c.requires.count (told inst tree c.is_directed-directed.result n costs _ families given steps (found.BadLeaf c.in-BadLeaf.index) are is)

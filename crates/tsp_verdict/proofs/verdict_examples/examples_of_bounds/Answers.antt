@@ -12,7 +12,8 @@ use Rattle.tsp_families.specs.declared.family.Crossings.{Crossings}
 use Rattle.tsp_branch.specs.Certificate.{IsCertificateBound}
 use Rattle.tsp_branch.specs.Decisions.{decided_number}
 use Rattle.tsp_branch.specs.Families.{Family}
-use Rattle.tsp_verdict.specs.BranchesCertificate.{families_with, given_in, tree_in}
+use Rattle.tsp_branch.specs.CombsOfSets.{families_with}
+use Rattle.tsp_verdict.specs.BranchesCertificate.{given_in, tree_in}
 use Rattle.tsp_verdict.specs.Examples.{halves_of_leaf}
 use Rattle.tsp_verdict.proofs.verdict_examples.examples_of_bounds.Goals as goal
 

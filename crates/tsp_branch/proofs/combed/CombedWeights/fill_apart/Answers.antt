@@ -8,7 +8,8 @@ use Rattle.tsp_theory.specs.Numbers.{IsFromTo, entry}
 use Rattle.tsp_theory.specs.states.Nearest.{least_at}
 use Rattle.tsp_theory.proofs.Weights.{between_size}
 use Rattle.tsp_theory.proofs.Sizes.{same_scale, scaled_size}
-use Rattle.tsp_branch.specs.states.Combed.{plain, multipliers_at}
+use Rattle.tsp_branch.specs.states.Lent.{lent_in}
+use Rattle.tsp_branch.specs.states.Combed.{multipliers_at}
 use Rattle.tsp_branch.proofs.SetAlgebra.{apart_is}
 use Rattle.tsp_branch.proofs.combed.CombedWeights.fill_apart.Goals as goal
 
@@ -27,7 +28,7 @@ returns g c = record {
       let value_is : least_at c.shift_row.new.row x ≡ int_wrap w64 ((p.scale *ℤ cost) +ℤ int_wrap w64 (own +ℤ k)) =
       c.shift_row.ensures x (omega (arith, x_in.1, c.requires.room, c.costs_from.auto.row, c.scale_row.auto.row)) ∙ ap (λ z. int_wrap w64 (z +ℤ int_wrap w64 (own +ℤ k))) scaled_is in
       inr (apart_is (p.scale *ℤ cost) (entry p.potentials.now c.args.from) (entry p.potentials.now x)
-      (multipliers_at p.multipliers.now (plain p.sets.now) c.args.from) (multipliers_at p.multipliers.now (plain p.sets.now) x)
+      (multipliers_at p.multipliers.now (lent_in p.families.now) c.args.from) (multipliers_at p.multipliers.now (lent_in p.families.now) x)
       m k (int_wrap w64 (own +ℤ k)) (least_at c.shift_row.new.row x) (ap (int_wrap w64) c.weight_in.ensures ∙ p.are_moved c.args.from c.requires.from) (p.are_moved x x_in)
       (ap (λ z. int_wrap w64 (z +ℤ k)) (to_z-of_z w64 m m_in)) value_is);
   sizes = λ x x_in.

@@ -7,7 +7,8 @@ use Rattle.std.proofs.lemmas.Bool.{cases_eq}
 use Rattle.std.proofs.lemmas.Int.{to_z-of_z}
 use Rattle.std.proofs.lemmas.List.{get_or-set_same, get_or-set_other}
 use Rattle.tsp_theory.specs.states.Nearest.{least_at}
-use Rattle.tsp_branch.specs.states.Combed.{IsApart, plain}
+use Rattle.tsp_branch.specs.states.Lent.{lent_in}
+use Rattle.tsp_branch.specs.states.Combed.{IsApart}
 use Rattle.tsp_branch.proofs.combed.CombedWeights.fill_apart_at.Goals as goal
 
 pub places-preserved : goal.places-preserved
@@ -20,7 +21,7 @@ places-preserved g c = λ k lt below.
     let fits : FitsSigned w64 c.weight_apart.result = search rules in
     let is : value ≡ c.weight_apart.result = to_z-of_z w64 c.weight_apart.result fits in
     let inside : node < length row = omega (arith, c.places.auto.row, c.requires.room, (c.requires.to c.places.place (omega (arith, c.places-test.true))).1) in
-    let Holds : ℕ → ℤ → Type 0 = IsApart p.scale p.potentials.now p.multipliers.now (plain p.sets.now) (g.C.Costs.at p.costs.now) c.args.from in
+    let Holds : ℕ → ℤ → Type 0 = IsApart p.scale p.potentials.now p.multipliers.now (lent_in p.families.now) (g.C.Costs.at p.costs.now) c.args.from in
     elim (cases_eq (slice_index to k) node) [
       | inl same ↦
           let here : least_at (set row node value) node ≡ c.weight_apart.result = get_or-set_same row node value (pos 0) inside ∙ is in

@@ -1,9 +1,10 @@
 -- The loop of `CombedWeights::fill_apart_at` in src/combed.rt.
 use Rattle.std.proofs.Common.{◌<◌, ℕ, length, slice_index}
 use Rattle.tsp_theory.specs.states.Nearest.{least_at}
-use Rattle.tsp_branch.specs.states.Combed.{IsApart, plain}
+use Rattle.tsp_branch.specs.states.Lent.{lent_in}
+use Rattle.tsp_branch.specs.states.Combed.{IsApart}
 use Rattle.tsp_branch.proofs.combed.CombedWeights.fill_apart_at.Given as goal
 
 abbrev pub invariant-places : goal.invariant-places
 invariant-places g l = (k : ℕ) → k < length l.to → k < l.place
-    → IsApart l.self.scale l.self.potentials.now l.self.multipliers.now (plain l.self.sets.now) (g.C.Costs.at l.self.costs.now) l.from (slice_index l.to k) (least_at l.row (slice_index l.to k))
+    → IsApart l.self.scale l.self.potentials.now l.self.multipliers.now (lent_in l.self.families.now) (g.C.Costs.at l.self.costs.now) l.from (slice_index l.to k) (least_at l.row (slice_index l.to k))

@@ -2,40 +2,39 @@
 use Rattle.std.proofs.Common.{◌≡◌, ◌<◌, ℕ, ℤ, List, length, slice_index, arith, sym, subst, ◌∙◌}
 use Rattle.std.specs.Prelude.{pos, neg_ℤ}
 use Rattle.std.specs.List.{All}
-use Rattle.std.proofs.lemmas.List.Elements.{All-from_recursion}
 use Rattle.tsp_theory.specs.Numbers.{IsFromTo}
 use Rattle.tsp_theory.specs.states.Nearest.{least_at}
-use Rattle.tsp_branch.specs.states.Sets.{IsMoved, sets_with}
-use Rattle.tsp_branch.specs.states.Combed.{plain, inside_both, most_combed, set_weight}
-use Rattle.tsp_families.specs.declared.comb_set.CombSet.{CombSet}
-use Rattle.tsp_branch.proofs.SetAlgebra.{sets_below}
+use Rattle.tsp_branch.specs.declared.set_place.SetPlace.{SetPlace}
+use Rattle.tsp_branch.specs.states.Sets.{IsMoved, IsPlaceIn, places_with}
+use Rattle.tsp_branch.specs.states.Lent.{lent_in}
+use Rattle.tsp_branch.specs.states.Combed.{inside_both, most_combed, set_weight}
+use Rattle.tsp_branch.proofs.SetAlgebra.{places_inside}
 use Rattle.tsp_branch.proofs.CombedValues.{combed_at}
 use Rattle.tsp_branch.proofs.combed.CombedWeights.fill_by_sets_at.Goals as goal
 
-pub add_sets-requires-clause-numbers : goal.add_sets-requires-clause-numbers
-add_sets-requires-clause-numbers g c =
+pub add_sets-requires-clause-places : goal.add_sets-requires-clause-places
+add_sets-requires-clause-places g c =
     let p = c.args.self.now in
-    let sets : List CombSet = p.sets.now in
-    let numbers_are : c.deref.result.now ≡ sets_with 0 sets c.args.from = c.deref.ensures.value ∙ p.table.said c.args.from c.index-self-from.result c.requires.from.1 in
-    subst (λ (ns : List ℕ). All (λ n. n < length sets) ns) (sym numbers_are) (All-from_recursion (λ n. n < length sets) (sets_with 0 sets c.args.from)
-    (sets_below (length sets) 0 sets c.args.from (omega arith)))
+    let families : List (List (List ℕ)) = lent_in p.families.now in
+    let places_are : c.deref.result.now ≡ places_with 0 families c.args.from = c.deref.ensures.value ∙ p.table.said c.args.from c.index-self-from.result c.requires.from.1 in
+    subst (All (IsPlaceIn families)) (sym places_are) (places_inside families c.args.from)
 
 pub returns : goal.returns
 returns g c =
     let p = c.args.self.now in
     let from : ℕ = c.args.from in
-    let sets : List CombSet = p.sets.now in
+    let families : List (List (List ℕ)) = lent_in p.families.now in
     let multipliers : List ℤ = p.multipliers.now in
     let cost = g.C.Costs.at p.costs.now in
     let old : List ℤ = c.fill_apart_at.new.row in
     let row : List ℤ = c.add_sets.new.row in
-    let numbers_are : c.deref.result.now ≡ sets_with 0 sets from = c.deref.ensures.value ∙ p.table.said from c.index-self-from.result c.requires.from.1 in
-    let gained : (x : ℕ) → IsMoved (inside_both multipliers (plain sets) (sets_with 0 sets from) x) (least_at old x) (least_at row x) = λ x.
-    subst (λ (ns : List ℕ). IsMoved (inside_both multipliers (plain sets) ns x) (least_at old x) (least_at row x)) numbers_are (c.add_sets.ensures x) in
+    let places_are : c.deref.result.now ≡ places_with 0 families from = c.deref.ensures.value ∙ p.table.said from c.index-self-from.result c.requires.from.1 in
+    let gained : (x : ℕ) → IsMoved (inside_both multipliers families (places_with 0 families from) x) (least_at old x) (least_at row x) = λ x.
+    subst (λ (ps : List SetPlace). IsMoved (inside_both multipliers families ps x) (least_at old x) (least_at row x)) places_are (c.add_sets.ensures x) in
     let node : ℕ → ℕ = slice_index c.args.to.now in
     let both : (k : ℕ) → k < length c.args.to.now
-    → (least_at row (node k) ≡ set_weight p.scale p.potentials.now multipliers (plain sets) cost from (node k)) × IsFromTo (neg_ℤ (pos most_combed)) (pos most_combed) (least_at row (node k)) = λ k h.
-    combed_at p.scale p.potentials.now multipliers sets cost from (node k) (least_at old (node k)) (least_at row (node k)) p.combs (p.crossed from (node k) c.requires.from (c.requires.to k h)) (c.fill_apart_at.ensures k h) (gained (node k)) in
+    → (least_at row (node k) ≡ set_weight p.scale p.potentials.now multipliers families cost from (node k)) × IsFromTo (neg_ℤ (pos most_combed)) (pos most_combed) (least_at row (node k)) = λ k h.
+    combed_at p.scale p.potentials.now multipliers families cost from (node k) (least_at old (node k)) (least_at row (node k)) p.families.now.once (p.crossed from (node k) c.requires.from (c.requires.to k h)) (c.fill_apart_at.ensures k h) (gained (node k)) in
     record {
       values = λ k h. (both k h).0;
       sizes = λ k h. (both k h).1;

@@ -8,7 +8,8 @@ use Rattle.tsp_theory.specs.Numbers.{IsFromTo, entry}
 use Rattle.tsp_theory.specs.states.Nearest.{least_at}
 use Rattle.tsp_theory.proofs.Weights.{between_size}
 use Rattle.tsp_theory.proofs.Sizes.{product_fits, product_is, scaled_size}
-use Rattle.tsp_branch.specs.states.Combed.{plain, multipliers_at}
+use Rattle.tsp_branch.specs.states.Lent.{lent_in}
+use Rattle.tsp_branch.specs.states.Combed.{multipliers_at}
 use Rattle.tsp_branch.proofs.SetAlgebra.{apart_is}
 use Rattle.tsp_branch.proofs.combed.CombedWeights.weight_apart.Goals as goal
 
@@ -37,7 +38,7 @@ returns g c =
     ∙ ap₂ (λ (a b : ℤ). int_wrap w64 (a +ℤ b)) product (to_z-of_z w64 c.sum_left.result inner_in ∙ c.sum_left.ensures) in
     record {
       value = inr (apart_is (p.scale *ℤ cost) (entry p.potentials.now from) (entry p.potentials.now x)
-          (multipliers_at p.multipliers.now (plain p.sets.now) from) (multipliers_at p.multipliers.now (plain p.sets.now) x)
+          (multipliers_at p.multipliers.now (lent_in p.families.now) from) (multipliers_at p.multipliers.now (lent_in p.families.now) x)
           own k inner value (ap (int_wrap w64) c.requires.own ∙ p.are_moved from c.requires.from) (p.are_moved x c.requires.to) inner_is value_is);
       size = between_size (p.scale *ℤ cost) (entry p.potentials.now from) (entry p.potentials.now x)
           (subst (λ (z : ℤ). IsFromTo (neg_ℤ (pos (most_scale * most_weight))) (pos (most_scale * most_weight)) (p.scale *ℤ z)) c.cost.ensures.value

@@ -6,7 +6,8 @@ use Rattle.std.proofs.lemmas.Int.{ints}
 use Rattle.tsp_theory.specs.Numbers.{IsFromTo}
 use Rattle.tsp_theory.specs.states.Nearest.{least_at}
 use Rattle.tsp_theory.proofs.Nearest.{most_64}
-use Rattle.tsp_branch.specs.states.Combed.{plain, set_weight}
+use Rattle.tsp_branch.specs.states.Lent.{lent_in}
+use Rattle.tsp_branch.specs.states.Combed.{set_weight}
 use Rattle.tsp_branch.specs.states.Sets.{IsMoved}
 use Rattle.tsp_branch.specs.declared.decision.Decision.{Decision}
 use Rattle.tsp_branch.specs.states.Decided.{decided, changes, stack_of}
@@ -30,7 +31,7 @@ returns g c =
     let q = p.combed.now in
     let n = g.C.Costs.nodes q.costs.now in
     let from : ℕ = c.args.from in
-    let w : ℕ → ℕ → ℤ = set_weight q.scale q.potentials.now q.multipliers.now (plain q.sets.now) (g.C.Costs.at q.costs.now) in
+    let w : ℕ → ℕ → ℤ = set_weight q.scale q.potentials.now q.multipliers.now (lent_in q.families.now) (g.C.Costs.at q.costs.now) in
     let case : List Decision = decisions_in p.case.now in
     let row : List ℤ = c.change_row.new.row in
     let first : ℕ → ℤ = λ x. least_at c.fill_combed_at.new.row x in
