@@ -32,8 +32,10 @@ def written(outcomes: list[Outcome]) -> xml.ElementTree:
     top = xml.Element("testsuites")
     for outcome in outcomes:
         cases = cases_of(outcome)
-        counts = {"tests": str(len(cases)), "failures": str(outcome.failed), "skipped": str(outcome.skipped), "errors": "0"}
-        suite = xml.SubElement(top, "testsuite", name=outcome.name, time=f"{outcome.seconds:.3f}", **counts)
+        counts = {"tests": len(cases), "failures": outcome.failed, "skipped": outcome.skipped, "errors": 0}
+        suite = xml.SubElement(top, "testsuite", {key: str(count) for key, count in counts.items()})
+        suite.set("name", outcome.name)
+        suite.set("time", f"{outcome.seconds:.3f}")
         for case in cases:
             made = xml.SubElement(suite, "testcase", classname=outcome.name, name=plain(case["name"]))
             if case["outcome"] == "failed":

@@ -46,11 +46,15 @@ def prove(say: Callable[[str], None]) -> Outcome:
     # are made again over those checks, in seconds each.)
     for folder in ROOT.glob("crates/*/out/rlib"):
         shutil.rmtree(folder)
-    begun, lines, ends, kept = time.monotonic(), [], {}, set()
+    begun, lines = time.monotonic(), []
+    ends: Times = {}
+    kept: set[str] = set()
     sources = subprocess.run([ROOT / "scripts/mark"], stdout=subprocess.PIPE, text=True, check=True).stdout.split()
-    streams = {"stdin": subprocess.DEVNULL, "stdout": subprocess.PIPE, "stderr": subprocess.STDOUT}
-    with subprocess.Popen(["rt", "ci"], cwd=ROOT, text=True, errors="replace", **streams) as ran:
-        for line in ran.stdout:
+    with subprocess.Popen(
+        ["rt", "ci"], cwd=ROOT, stdin=subprocess.DEVNULL, stdout=subprocess.PIPE, stderr=subprocess.STDOUT,
+        text=True, errors="replace",
+    ) as ran:
+        for line in ran.stdout or ():
             say(line.rstrip("\n"))
             lines.append(line)
             if (found := PROVED.match(line)) and found[1] not in ends:

@@ -96,10 +96,12 @@ def run(name: str, suite: Suite, more: list[str]) -> Outcome:
     with tempfile.NamedTemporaryFile("r", suffix=".jsonl") as record:
         words = [*(["nice", "-n", "5"] if suite.nice else []), *suite.command(), *more]
         environment = {**os.environ, "CHECK_RECORD": record.name}
-        streams = {"stdin": subprocess.DEVNULL, "stdout": subprocess.PIPE, "stderr": subprocess.STDOUT}
-        with subprocess.Popen(words, cwd=ROOT, env=environment, text=True, errors="replace", **streams) as ran:
+        with subprocess.Popen(
+            words, cwd=ROOT, env=environment, stdin=subprocess.DEVNULL, stdout=subprocess.PIPE,
+            stderr=subprocess.STDOUT, text=True, errors="replace",
+        ) as ran:
             RUNNING.add(ran)
-            said = ran.stdout.read()
+            said = ran.communicate()[0]
         RUNNING.discard(ran)
         outcome = outcome_of(name, said, ran.returncode)
         outcome.cases = [json.loads(line) for line in record]
