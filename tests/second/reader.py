@@ -5,7 +5,9 @@
 from __future__ import annotations
 
 import re
+from collections.abc import Callable
 from dataclasses import dataclass, field
+from typing import Any
 
 BLANKS = b"\t\x0b\x0c\r "
 FINE = 10**9  # coordinates are whole multiples of 1 / FINE
@@ -47,10 +49,10 @@ class Wrong(Exception):
 class File:
     """What a text parses to: the values of keywords, and the words of sections."""
 
-    values: dict[str, object] = field(default_factory=dict)
+    values: dict[str, Any] = field(default_factory=dict)
     comments: list[bytes] = field(default_factory=list)
     others: list[tuple[bytes, bytes]] = field(default_factory=list)
-    sections: dict[str, "Section"] = field(default_factory=dict)
+    sections: dict[str, Any] = field(default_factory=dict)
 
     @property
     def type(self) -> str:
@@ -105,7 +107,7 @@ def coordinate(word: bytes) -> int:
 class Section:
     """The words of a section as they come. `take` reads a word; `is_whole` says whether it may end here."""
 
-    def __init__(self, nodes: int | None) -> None:
+    def __init__(self, nodes: int) -> None:
         self.nodes = nodes
 
     def take(self, word: bytes) -> None:
@@ -118,13 +120,13 @@ class Section:
 class Groups(Section):
     """A section by node: each node once, with so many numbers."""
 
-    def __init__(self, nodes, numbers, read) -> None:
+    def __init__(self, nodes: int, numbers: int, read: Callable[[bytes], int]) -> None:
         super().__init__(nodes)
         self.numbers, self.read = numbers, read
         self.of: dict[int, list[int]] = {}
         self.node, self.rest = 0, 0
 
-    def take(self, word):
+    def take(self, word: bytes) -> None:
         if self.is_whole():
             if word != CLOSED_WORD:
                 raise Wrong("Surplus")
@@ -137,7 +139,7 @@ class Groups(Section):
                 raise Wrong("RepeatedNode")
             self.of[self.node] = []
 
-    def is_whole(self):
+    def is_whole(self) -> bool:
         return len(self.of) == self.nodes and not self.rest
 
 
@@ -146,12 +148,13 @@ class Listed(Section):
 
     MOST = 100_000
 
-    def __init__(self, nodes, parts) -> None:
+    def __init__(self, nodes: int, parts: list[Callable[[bytes], int]]) -> None:
         super().__init__(nodes)
-        self.parts, self.entries, self.ended = parts, [], False
+        self.parts, self.ended = parts, False
+        self.entries: list[tuple[int, ...]] = []
         self.entry: list[int] = []
 
-    def take(self, word):
+    def take(self, word: bytes) -> None:
         if self.ended:
             if word != CLOSED_WORD:
                 raise Wrong("AfterEnd")
@@ -172,18 +175,18 @@ class Listed(Section):
             self.entries.append(tuple(self.entry))
             self.entry = []
 
-    def is_whole(self):
+    def is_whole(self) -> bool:
         return not self.entry
 
 
 class Weights(Section):
     """The weights of a matrix."""
 
-    def __init__(self, nodes) -> None:
+    def __init__(self, nodes: int) -> None:
         super().__init__(nodes)
         self.weights: list[int] = []
 
-    def take(self, word):
+    def take(self, word: bytes) -> None:
         if len(self.weights) == self.nodes**2:
             raise Wrong("Surplus")
         self.weights.append(whole(word, -(10**12), 10**12))
@@ -192,12 +195,12 @@ class Weights(Section):
 class Tours(Section):
     """Tours or routes."""
 
-    def __init__(self, nodes) -> None:
+    def __init__(self, nodes: int) -> None:
         super().__init__(nodes)
         self.runs: list[list[int]] = [[]]
         self.count = 0
 
-    def take(self, word):
+    def take(self, word: bytes) -> None:
         node = whole(word, -1, 100_000, but=0)
         if node == -1:
             self.runs.append([])
@@ -208,20 +211,20 @@ class Tours(Section):
         self.runs[-1].append(node)
 
     @property
-    def tours(self):
+    def tours(self) -> list[list[int]]:
         return [run for run in self.runs if run]
 
 
 class Combs(Section):
     """Families of sets."""
 
-    def __init__(self, nodes) -> None:
+    def __init__(self, nodes: int) -> None:
         super().__init__(nodes)
         self.families: list[list[list[int]]] = []
         self.ended = self.in_set = self.in_family = False
         self.count = 0
 
-    def take(self, word):
+    def take(self, word: bytes) -> None:
         if self.ended:
             if word != CLOSED_WORD:
                 raise Wrong("AfterEnd")
@@ -241,21 +244,21 @@ class Combs(Section):
         self.in_family = self.in_set = True
         self.families[-1][-1].append(node)
 
-    def is_whole(self):
+    def is_whole(self) -> bool:
         return not self.in_family
 
 
 class Tree(Section):
     """The steps of a tree of cases: a branch is a pair, a leaf a list of pairs of index and difference."""
 
-    def __init__(self, nodes) -> None:
+    def __init__(self, nodes: int) -> None:
         super().__init__(nodes)
         self.steps: list[tuple[str, list]] = []
         self.open = 1
         self.inside = ""  # what the next word goes on: nothing, "branch", "leaf" or "index"
         self.branches = self.differences = 0
 
-    def take(self, word):
+    def take(self, word: bytes) -> None:
         if self.is_whole():
             if word != CLOSED_WORD:
                 raise Wrong("Surplus")
@@ -281,7 +284,7 @@ class Tree(Section):
         else:
             self.begin(whole(word, 0, self.nodes))
 
-    def begin(self, word):
+    def begin(self, word: int) -> None:
         """A step begins with this word."""
         if word == 0:
             self.steps.append(("leaf", []))
@@ -293,14 +296,17 @@ class Tree(Section):
         self.steps.append(("branch", [word]))
         self.inside = "branch"
 
-    def is_whole(self):
+    def is_whole(self) -> bool:
         return self.open == 0 and not self.inside
 
 
 def opened(name: str, file: File) -> Section:
     """A section that begins."""
-    nodes = file.values.get("DIMENSION")
-    node = lambda word: whole(word, 1, nodes)
+    nodes = file.values.get("DIMENSION", 0)
+
+    def node(word: bytes) -> int:
+        return whole(word, 1, nodes)
+
     if name == "NODE_COORD_SECTION":
         return Groups(nodes, 3 if file.spatial() else 2, coordinate)
     if name == "DISPLAY_DATA_SECTION":
@@ -320,11 +326,11 @@ def opened(name: str, file: File) -> Section:
 
 def parts_of(line: bytes) -> tuple[str, bool, bytes]:
     """The keyword of a word line, whether a colon follows it, and its value."""
-    length = re.match(rb"[^\t\x0b\x0c\r :]+", line).end()
-    rest = line[length:].lstrip(BLANKS)
+    keyword = re.split(rb"[\t\x0b\x0c\r :]", line, maxsplit=1)[0]
+    rest = line[len(keyword):].lstrip(BLANKS)
     has_colon = rest.startswith(b":")
     value = rest[1:] if has_colon else rest
-    return line[:length].decode("latin-1"), has_colon, value.strip(BLANKS)
+    return keyword.decode("latin-1"), has_colon, value.strip(BLANKS)
 
 
 class Reader:
@@ -465,7 +471,7 @@ def lines_of(layout: str, nodes: int) -> list[list[tuple[int, int]]]:
     half, *middle, way = layout.split("_")
     has_diagonal, by_row = middle == ["DIAG"], way == "ROW"
 
-    def is_listed(i, j):
+    def is_listed(i: int, j: int) -> bool:
         return has_diagonal if i == j else (i < j) == (half == "UPPER")
 
     lines = [[(a, b) if by_row else (b, a) for b in everything] for a in everything]
