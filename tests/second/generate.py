@@ -203,9 +203,8 @@ def coordinate_word(value: int) -> str:
 
 def distances(pick: random.Random, number: int) -> Case:
     """Two points whose distance is beside a half or a whole number, from the smallest to the corners."""
-    kind, magnitude, halves, beside = choice_of(number, FLAT + SPATIAL, list(range(19)), [0, 1], [-1, 0, 1])
-    wanted = (2 * pick.randint(10**magnitude // 2, 10**magnitude) + halves) * FINE // 2 // 10 ** max(0, magnitude - 9) + beside
-    wanted = min(abs(wanted), isqrt(8) * FINE * FINE)
+    kind, magnitude, halves, beside = choice_of(number, FLAT + SPATIAL, list(range(10)), [0, 1], [-1, 0, 1])
+    wanted = abs((2 * pick.randint(0, 14 * 10**magnitude // 5) + halves) * FINE // 2 + beside)
     if pick.randrange(3) == 0:  # a right triangle, whose third side is a whole number of parts
         part = wanted // 5
         steps = [3 * part, 4 * part + beside, 0]
