@@ -13,6 +13,7 @@ and ctypes aren't, and so not how a canonical text becomes Python's values.
 """
 
 from . import _library
+from ._reasons import Reason
 from .compare import Basis, BestUnknown, Comparison, compare
 from .faults import (
     EndFault,
@@ -43,6 +44,7 @@ __all__ = [
     "NodeError",
     "OutOfMemory",
     "Problem",
+    "Reason",
     "RelayoutFault",
     "Report",
     "SolutionError",

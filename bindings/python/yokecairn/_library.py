@@ -46,37 +46,8 @@ SHOW, CONVERT, CHECK, BOUND = range(4)
 # The verdicts, by their numbers.
 TOUR, ROUTES, REJECTED, BOUNDED, NO_TOUR = range(1, 6)
 
-# The TYPEs of instances by their numbers from 1, and the reasons, each with how many numbers it has.
+# The TYPEs of instances by their numbers from 1.
 TYPES = ("TSP", "ATSP", "CVRP")
-REASONS = (
-    ("NotASolution", 0),
-    ("TooFewNodes", 0),
-    ("NotSymmetric", 2),
-    ("Dimension", 0),
-    ("TourCount", 0),
-    ("TourLength", 0),
-    ("DepotCount", 0),
-    ("DepotDemand", 0),
-    ("FixedEdgesInRoutes", 0),
-    ("DepotInRoute", 1),
-    ("NodeOutOfRange", 1),
-    ("RepeatedNode", 1),
-    ("FixedEdgeUnused", 1),
-    ("Unserved", 1),
-    ("Overload", 1),
-    ("LengthClaimed", 1),
-    ("NotPotentials", 0),
-    ("PotentialsDimension", 0),
-    ("PotentialsKind", 0),
-    ("MultiplierNotFixed", 1),
-    ("MultiplierRepeated", 1),
-    ("DualInfeasible", 2),
-    ("NotBranches", 0),
-    ("BranchesDimension", 0),
-    ("BadComb", 1),
-    ("BranchTwice", 1),
-    ("BadLeaf", 1),
-)
 
 # The most numbers that `lengths` takes.
 MOST_NODES = 1_000_000

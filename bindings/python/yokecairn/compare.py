@@ -11,6 +11,7 @@ from functools import cached_property
 from typing import Any, Callable, Dict, Iterable, Iterator, List, Mapping, NoReturn, Optional, Sequence, Tuple, Union, overload
 
 from . import _library, _plots
+from ._reasons import REASONS
 from .faults import Error, Fault, OutOfMemory, text_of
 from .many import Outcome
 from .problem import Path, Problem, parse
@@ -159,7 +160,7 @@ class Judge:
         if report.reason in _OF_INSTANCE:
             known.update(reason=report.reason, numbers=report.numbers)
         elif bound is not None and bound.reason:
-            reason, count = _library.REASONS[bound.reason - 1]
+            reason, count = REASONS[bound.reason - 1]
             known.update(reason=reason, numbers=(bound.first, bound.second)[:count])
         elif report.type == "CVRP":
             known.update(least=_least(parse(self.instance)))

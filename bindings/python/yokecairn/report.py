@@ -8,6 +8,7 @@ from decimal import ROUND_CEILING, ROUND_FLOOR, Context, Decimal
 from typing import Any, Dict, Iterable, List, Optional, Sequence, Tuple, Union
 
 from . import _library
+from ._reasons import REASONS
 from .faults import error_of, explained, text_of
 from .problem import Path, Problem
 
@@ -134,7 +135,7 @@ class Report:
     @classmethod
     def of_result(cls, result: _library.Result, text: str, explanation: str = "") -> "Report":
         """The report of a result in numbers, whose text this is."""
-        reason, numbers = _library.REASONS[result.reason - 1] if result.reason else (None, 0)
+        reason, numbers = REASONS[result.reason - 1] if result.reason else (None, 0)
         is_routes = result.verdict == _library.ROUTES
         length = result.length if is_routes or result.verdict == _library.TOUR else None
         gap = None if result.bound is None or length is None else length - result.bound
