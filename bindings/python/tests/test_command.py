@@ -74,6 +74,7 @@ class Command(unittest.TestCase):
             (("convert", "missing", "--layout", "FUNCTION"), b"unknown layout\n"),
             (("check", "a", "b", "--potentials", "c", "--branches", "d"), b"both potentials and branches\n"),
             (("check", "a", "b", "--length", "12.5"), b"not a length\n"),
+            (("compare", "a", "b", "c\nd"), b"line end in a path\n"),
         ):
             self.assertEqual(run(*words), (4, b"", line))
         for words in ((), ("-",), ("check", "a"), ("other", "a"), ("show", "--no", "a"), ("check", "-", "-")):

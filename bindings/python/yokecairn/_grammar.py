@@ -138,6 +138,8 @@ class Task:
         self.sums: bool = getattr(given, "summary", False)
         if self.form == "tsv" and given.json:
             raise Refused("both --tsv and --json\n")
+        if any("\n" in path for path in self.solutions):
+            raise Refused("line end in a path\n")
         if [*self.paths, *self.solutions, self.best].count("-") > 1:
             raise Refused("standard input is read once\n")
 

@@ -10,9 +10,9 @@ use Rattle.clap.specs.declared.builder.command.Command.TheViews.{out-Command}
 abbrev pub path : Text → Rule
 path id = record (new_rule id) { required = true }
 
--- paths: one at least, and each word more is one more
+-- paths: one at least, and each word more is one more; help has a name of its own for them
 abbrev pub paths : Text → Rule
-paths id = record (path id) { action = Some Append }
+paths id = record (path id) { action = Some Append; value_names = 1 }
 
 -- an option with a value: the two words `--long VALUE`, or the one `--long=VALUE`
 abbrev pub option : Text → Text → Rule
@@ -54,15 +54,15 @@ check_certified = with_rule (with_rule check_files of_potentials) of_branches
 abbrev pub check : App
 check = with_rule (with_rule check_certified (option (codes "N") (codes "length"))) explain
 
--- compare F T..
+-- compare F S..
 abbrev pub compare_files : App
-compare_files = with_rule (with_rule (new_app (codes "compare")) (path (codes "F"))) (paths (codes "T"))
+compare_files = with_rule (with_rule (new_app (codes "compare")) (path (codes "F"))) (paths (codes "S"))
 
--- compare F T.. [--potentials P] [--branches B]
+-- compare F S.. [--potentials P] [--branches B]
 abbrev pub compare_certified : App
 compare_certified = with_rule (with_rule compare_files of_potentials) of_branches
 
--- compare F T.. [--potentials P] [--branches B] [--explain]
+-- compare F S.. [--potentials P] [--branches B] [--explain]
 abbrev pub compare : App
 compare = with_rule compare_certified explain
 

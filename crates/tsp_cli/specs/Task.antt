@@ -1,6 +1,6 @@
 -- What is done with which files.
-use Rattle.std.specs.Prelude.{◌≡◌, ◌≢◌, ◌⊎◌, ◌≤◌, ◌+◌, ℕ, Bool, List, [], Option, None, Some, Result, Ok, Err, String, codes, map, slice_get, ℤ, pos, negsuc}
-use Rattle.std.specs.List.{count_by, sum_by}
+use Rattle.std.specs.Prelude.{◌≡◌, ◌≢◌, ◌⊎◌, ◌≤◌, ◌+◌, ℕ, Bool, true, false, ◌==◌, List, [], Option, None, Some, Result, Ok, Err, String, codes, map, ℤ, pos, negsuc}
+use Rattle.std.specs.List.{count_by, list_any, sum_by}
 use Rattle.std.specs.Str.{bytes_eq}
 use Rattle.std.specs.String.{string_bytes}
 use Rattle.clap.specs.Words.{Text}
@@ -22,7 +22,7 @@ use Rattle.tsp_cli.specs.declared.task.Comparison.{Comparison}
 use Rattle.tsp_cli.specs.declared.task.Work.{Work}
 use Rattle.tsp_cli.specs.declared.task.Work.TheVariants as works
 use Rattle.tsp_cli.specs.declared.task.TaskFault.{TaskFault}
-use Rattle.tsp_cli.specs.declared.task.TaskFault.TheVariants.{UnknownLayout, MissingPath, TwoCertificates, NoCertificate, NotALength, InputTwice}
+use Rattle.tsp_cli.specs.declared.task.TaskFault.TheVariants.{UnknownLayout, MissingPath, TwoCertificates, NoCertificate, NotALength, InputTwice, LineEndInPath}
 
 -- a path names this place: `-` is standard input
 abbrev pub IsPlaceAt : Text → Place → Type 0
@@ -32,13 +32,6 @@ IsPlaceAt path (Path text) = (text.now ≡ path) × (path ≢ codes "-")
 -- the text is there, and names this place
 abbrev pub IsPlaceOf : Option Text → Place → Type 0
 IsPlaceOf path place = (text : Text) × (path ≡ Some text) × IsPlaceAt text place
-
--- the paths of a job's solutions, in the order given, and the first of them
-abbrev pub solutions_of : Job → List Text
-solutions_of job = map string_bytes job.solutions.items
-
-abbrev pub solution_of : Job → Option Text
-solution_of job = slice_get (solutions_of job) 0
 
 -- the text is that of this layout; no layout where there is no text
 abbrev pub IsLayout : {Z : Type 0} → Option (String Z) → Option Layout → Type 0
@@ -100,18 +93,26 @@ IsTask job (Show Input) = (job.verb ≡ None) ⊎ ((job.verb ≡ Some verbs.Show
 IsTask job (Show (Path path)) = (job.verb ≡ Some verbs.Show) × IsPlaceOf (text_in job.file) (Path path)
 IsTask job (Convert file to) = (job.verb ≡ Some verbs.Convert) × IsPlaceOf (text_in job.file) file × IsLayout job.layout to
 IsTask job (Check instance solution claimed) = (job.verb ≡ Some verbs.Check) × IsPlaceOf (text_in job.file) instance
-    × IsPlaceOf (solution_of job) solution × IsClaim job.length claimed × NamesNone job
+    × IsPlaceOf (text_in job.solution) solution × IsClaim job.length claimed × NamesNone job
 IsTask job (CheckBy by instance solution certificate claimed) = (job.verb ≡ Some verbs.Check)
-    × IsPlaceOf (text_in job.file) instance × IsPlaceOf (solution_of job) solution × IsClaim job.length claimed
+    × IsPlaceOf (text_in job.file) instance × IsPlaceOf (text_in job.solution) solution × IsClaim job.length claimed
     × IsNamed job by certificate
 IsTask job (Bound by instance certificate) = (job.verb ≡ Some verbs.Bound) × IsPlaceOf (text_in job.file) instance
     × IsNamed job by certificate
 
--- the comparison of these solutions, all those of the job in their order, and one at least
+-- a path contains byte 10, which ends a line
+abbrev pub has_line_end : Text → Bool
+has_line_end path = list_any (λ b. b == 10) path
+
+abbrev pub any_line_end : {Z : Type 0} → List (String Z) → Bool
+any_line_end paths = list_any (λ path. has_line_end (string_bytes path)) paths
+
+-- The comparison of these solutions, all those of the job in their order, and one at least. No path has a line end, since the
+-- line of its solution ends with it.
 abbrev pub IsComparisonOf : Job → Comparison → Type 0
 IsComparisonOf job comparison = (job.verb ≡ Some verbs.Compare) × IsPlaceOf (text_in job.file) comparison.instance
     × GivesCertificate job (Ok comparison.certificate) × (comparison.solutions.now ≡ job.solutions.items)
-    × (job.solutions.items ≢ [])
+    × (job.solutions.items ≢ []) × (any_line_end job.solutions.items ≡ false)
 
 abbrev pub IsWork : Job → Work → Type 0
 IsWork job (works.Task task) = IsTask job task
@@ -129,26 +130,28 @@ NamesWork job (Err NotALength) = (job.verb ≡ Some verbs.Check) × IsNoLength j
 NamesWork job (Err TwoCertificates) = TakesCertificate job × NamesBoth job
 NamesWork job (Err NoCertificate) = (job.verb ≡ Some verbs.Bound) × NamesNone job
 NamesWork job (Err MissingPath) = (job.verb ≢ None) × ((job.file ≡ None)
-    ⊎ (((job.verb ≡ Some verbs.Check) ⊎ (job.verb ≡ Some verbs.Compare)) × (job.solutions.items ≡ [])))
+    ⊎ ((job.verb ≡ Some verbs.Check) × (job.solution ≡ None)) ⊎ ((job.verb ≡ Some verbs.Compare) × (job.solutions.items ≡ [])))
+NamesWork job (Err LineEndInPath) = (job.verb ≡ Some verbs.Compare) × (any_line_end job.solutions.items ≡ true)
 NamesWork job (Err InputTwice) = ⊥
 
 -- ---- the work of one verb, with the instance at this place
 
 abbrev pub NamesCheck : Job → Place → Result (Task Place) TaskFault → Type 0
-NamesCheck job at (Ok (Check instance solution claimed)) = (instance ≡ at) × IsPlaceOf (solution_of job) solution
+NamesCheck job at (Ok (Check instance solution claimed)) = (instance ≡ at) × IsPlaceOf (text_in job.solution) solution
     × IsClaim job.length claimed × NamesNone job
 NamesCheck job at (Ok (CheckBy by instance solution certificate claimed)) = (instance ≡ at)
-    × IsPlaceOf (solution_of job) solution × IsClaim job.length claimed × IsNamed job by certificate
+    × IsPlaceOf (text_in job.solution) solution × IsClaim job.length claimed × IsNamed job by certificate
 NamesCheck job at (Ok other) = ⊥
-NamesCheck job at (Err MissingPath) = job.solutions.items ≡ []
+NamesCheck job at (Err MissingPath) = job.solution ≡ None
 NamesCheck job at (Err NotALength) = IsNoLength job.length
 NamesCheck job at (Err TwoCertificates) = NamesBoth job
 NamesCheck job at (Err other) = ⊥
 
 abbrev pub NamesComparison : Job → Place → Result Comparison TaskFault → Type 0
 NamesComparison job at (Ok comparison) = (comparison.instance ≡ at) × GivesCertificate job (Ok comparison.certificate)
-    × (comparison.solutions.now ≡ job.solutions.items) × (job.solutions.items ≢ [])
+    × (comparison.solutions.now ≡ job.solutions.items) × (job.solutions.items ≢ []) × (any_line_end job.solutions.items ≡ false)
 NamesComparison job at (Err MissingPath) = job.solutions.items ≡ []
+NamesComparison job at (Err LineEndInPath) = any_line_end job.solutions.items ≡ true
 NamesComparison job at (Err TwoCertificates) = NamesBoth job
 NamesComparison job at (Err other) = ⊥
 
@@ -194,3 +197,4 @@ GivesWork job (Err NotALength) = NamesWork job (Err NotALength)
 GivesWork job (Err TwoCertificates) = NamesWork job (Err TwoCertificates)
 GivesWork job (Err NoCertificate) = NamesWork job (Err NoCertificate)
 GivesWork job (Err MissingPath) = NamesWork job (Err MissingPath)
+GivesWork job (Err LineEndInPath) = NamesWork job (Err LineEndInPath)

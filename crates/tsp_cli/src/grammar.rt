@@ -213,7 +213,7 @@ fn compare_files<'a>(alloc: Global) -> Result<Command<'a>, AllocError>
     let one = with(bare, path(alloc, "F", instance))?;
     with(
         one,
-        paths(alloc, "T", "The paths of the solutions: TYPE TOUR"),
+        paths(alloc, "S", "The paths of the solutions: TYPE TOUR"),
     )
 }
 
@@ -276,12 +276,15 @@ fn path<'a>(alloc: Global, id: &'a str, help: &'a str) -> Arg<'a>
     Arg::new(alloc, id).required(true).help(help)
 }
 
-/// Paths, of which the words have to contain one at least.
+/// Paths, of which the words have to contain one at least. Help calls each `T`, as it does the path
+/// of a single one.
 fn paths<'a>(alloc: Global, id: &'a str, help: &'a str) -> Arg<'a>
     ensures rule { rule_of result ≡ paths id.now }
     ensures local { result.global ≡ false }
 {
-    path(alloc, id, help).action(ArgAction::Append)
+    path(alloc, id, help)
+        .action(ArgAction::Append)
+        .value_name("T")
 }
 
 /// An option with one value.

@@ -34,6 +34,8 @@ pub fn examples_of_lines()
         (codes "check" ∷ codes "a" ∷ codes "b" ∷ []) ≡ Some (codes "a") }
     ensures solution { found_value (codes "T")
         (codes "check" ∷ codes "a" ∷ codes "b" ∷ []) ≡ Some (codes "b") }
+    ensures one_solution { found_values (codes "S")
+        (codes "check" ∷ codes "a" ∷ codes "b" ∷ []) ≡ [] }
     ensures potentials { found_value (codes "P") (codes "check"
         ∷ codes "a" ∷ codes "b" ∷ codes "--potentials" ∷ codes "c" ∷ []) ≡ Some (codes "c") }
     ensures branches { found_value (codes "B") (codes "check"
@@ -44,9 +46,11 @@ pub fn examples_of_lines()
         ∷ codes "a" ∷ codes "b" ∷ codes "--length" ∷ codes "9" ∷ []) ≡ Some (codes "9") }
     ensures compare { IsWholeLine (codes "compare")
         (codes "compare" ∷ codes "a" ∷ codes "b" ∷ codes "c" ∷ []) }
-    ensures solutions { found_values (codes "T")
+    ensures solutions { found_values (codes "S")
         (codes "compare" ∷ codes "a" ∷ codes "b" ∷ codes "c" ∷ []) ≡ codes "b" ∷ codes "c" ∷ [] }
-    ensures around_an_option { found_values (codes "T") (codes "compare" ∷ codes "a" ∷ codes "b"
+    ensures none_alone { found_value (codes "T")
+        (codes "compare" ∷ codes "a" ∷ codes "b" ∷ codes "c" ∷ []) ≡ None }
+    ensures around_an_option { found_values (codes "S") (codes "compare" ∷ codes "a" ∷ codes "b"
         ∷ codes "--branches" ∷ codes "d" ∷ codes "c" ∷ []) ≡ codes "b" ∷ codes "c" ∷ [] }
     ensures compared_by { found_value (codes "B") (codes "compare" ∷ codes "a"
         ∷ codes "b" ∷ codes "--branches" ∷ codes "d" ∷ codes "c" ∷ []) ≡ Some (codes "d") }

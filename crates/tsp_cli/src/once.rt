@@ -14,8 +14,9 @@ use tsp_task::Task;
 ///
 /// `InputTwice` where two files are standard input; `UnknownLayout` where no layout has the given
 /// word; `NotALength` where the word of a length isn't one; `TwoCertificates` where both potentials
-/// and branches are named; `NoCertificate` where a bound has neither; `MissingPath` where a path is
-/// missing, as in no job that words ask for.
+/// and branches are named; `NoCertificate` where a bound has neither; `LineEndInPath` where the
+/// path of a solution that is compared contains byte 10; `MissingPath` where a path is missing, as
+/// in no job that words ask for.
 pub fn work_of(job: &Job) -> Result<Work<'_>, TaskFault>
     ensures { GivesWork job.now result }
 {

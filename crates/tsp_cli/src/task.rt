@@ -2,7 +2,7 @@
 
 ghost use Rattle.std.specs.Prelude.{◌≡◌, Some, option_map};
 ghost use Rattle.std.specs.String.{string_bytes};
-ghost use Rattle.tsp_cli.specs.Task.{GivesPlace, GivesLayout, GivesClaim, GivesCertificate, IsPlaceAt, NamesWork, NamesCheck, NamesComparison, NamesBound};
+ghost use Rattle.tsp_cli.specs.Task.{GivesPlace, GivesLayout, GivesClaim, GivesCertificate, IsPlaceAt, any_line_end, has_line_end, NamesWork, NamesCheck, NamesComparison, NamesBound};
 
 use crate::words::{Job, Verb};
 use tsp_format::Layout;
@@ -55,6 +55,8 @@ pub enum TaskFault {
     NotALength,
     /// Two files are standard input, which gives its bytes once.
     InputTwice,
+    /// The path of a solution that is compared contains the end of a line.
+    LineEndInPath,
 }
 
 /// The work that a job asks for, whose files may be standard input several times. With no verb,
@@ -64,7 +66,8 @@ pub enum TaskFault {
 ///
 /// `UnknownLayout` where no layout has the given word; `NotALength` where the word of a length
 /// isn't one; `TwoCertificates` where both potentials and branches are named; `NoCertificate` where
-/// a bound has neither; `MissingPath` where a path is missing, as in no job that words ask for.
+/// a bound has neither; `LineEndInPath` where the path of a solution that is compared contains byte
+/// 10; `MissingPath` where a path is missing, as in no job that words ask for.
 pub(crate) fn named_work(job: &Job) -> Result<Work<'_>, TaskFault>
     ensures { NamesWork job.now result }
 {
@@ -85,7 +88,7 @@ pub(crate) fn named_work(job: &Job) -> Result<Work<'_>, TaskFault>
 fn check_of<'a>(job: &'a Job, instance: Place<'a>) -> Result<Task<Place<'a>>, TaskFault>
     ensures { NamesCheck job.now instance.entry result }
 {
-    let solution = place_of(job.solutions.first())?;
+    let solution = place_of(job.solution.as_ref())?;
     let claimed = length_of(&job.length)?;
     match certificate_of(job)? {
         None => Ok(Task::Check(instance, solution, claimed)),
@@ -102,11 +105,37 @@ fn comparison_of<'a>(job: &'a Job, instance: Place<'a>) -> Result<Comparison<'a>
     if job.solutions.is_empty() {
         return Err(TaskFault::MissingPath);
     }
+    let certificate = certificate_of(job)?;
+    if any_line_end(&job.solutions) {
+        return Err(TaskFault::LineEndInPath);
+    }
     Ok(Comparison {
         instance,
-        certificate: certificate_of(job)?,
+        certificate,
         solutions: &job.solutions,
     })
+}
+
+/// Whether one of these paths contains the end of a line.
+fn any_line_end(paths: &[String]) -> bool
+    ensures { result ≡ any_line_end paths.now }
+{
+    let mut found = false;
+    'paths: for path in paths {
+        found = found || has_line_end(path.as_bytes());
+    }
+    found
+}
+
+/// Whether a path contains the end of a line.
+fn has_line_end(path: &[u8]) -> bool
+    ensures { result ≡ has_line_end path.now }
+{
+    let mut found = false;
+    'bytes: for byte in path {
+        found = found || *byte == b'\n';
+    }
+    found
 }
 
 /// The bound of a job with this instance.

@@ -44,14 +44,16 @@ impl Verb {
     }
 }
 
-/// What the words of a command line ask for.
+/// What the words of a command line ask for. Its verb looks at no field but its own.
 #[derive(Drop)]
 pub struct Job {
     /// What to do, or `None` where no word says so.
     pub verb: Option<Verb>,
     /// The path of the file, or of the instance.
     pub file: Option<String>,
-    /// The paths of the solutions, in the order given. A check has one.
+    /// The path of the solution that is checked.
+    pub solution: Option<String>,
+    /// The paths of the solutions that are compared, in the order given.
     pub solutions: Vec<String>,
     /// The word of the layout that a matrix gets.
     pub layout: Option<String>,
@@ -107,6 +109,7 @@ pub fn job_of(alloc: Global, words: &[&str]) -> Result<Job, JobFault>
         return Ok(Job {
             verb: None,
             file: None,
+            solution: None,
             solutions: Vec::new(alloc),
             layout: None,
             potentials: None,
@@ -154,7 +157,8 @@ fn job_with(alloc: Global, verb: Option<Verb>, found: &ArgMatches<'_>) -> Result
     Ok(Job {
         verb,
         file: value(alloc, found, "F")?,
-        solutions: values(alloc, found, "T")?,
+        solution: value(alloc, found, "T")?,
+        solutions: values(alloc, found, "S")?,
         layout: value(alloc, found, "L")?,
         potentials: value(alloc, found, "P")?,
         branches: value(alloc, found, "B")?,

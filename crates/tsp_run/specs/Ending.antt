@@ -5,7 +5,7 @@ use Rattle.std.specs.Io.KnownBytes.{Appends, Keeps}
 use Rattle.tsp_judge.specs.RunFaultText.{run_fault_text}
 use Rattle.tsp_judge.specs.Status.{status_of}
 use Rattle.tsp_cli.specs.declared.words.JobFault.TheVariants as job_faults
-use Rattle.tsp_cli.specs.declared.task.TaskFault.TheVariants.{UnknownLayout, MissingPath, TwoCertificates, NoCertificate, NotALength, InputTwice}
+use Rattle.tsp_cli.specs.declared.task.TaskFault.TheVariants.{UnknownLayout, MissingPath, TwoCertificates, NoCertificate, NotALength, InputTwice, LineEndInPath}
 use Rattle.tsp_perform.specs.Done.{is_accepted}
 use Rattle.tsp_run.specs.Telling.{MayTell}
 use Rattle.tsp_run.specs.declared.ending.Ending.{Ending}
@@ -52,6 +52,7 @@ line_text (lines.NoTask TwoCertificates) = ended (codes "both potentials and bra
 line_text (lines.NoTask NoCertificate) = ended (codes "neither potentials nor branches")
 line_text (lines.NoTask NotALength) = ended (codes "not a length")
 line_text (lines.NoTask InputTwice) = ended (codes "standard input twice")
+line_text (lines.NoTask LineEndInPath) = ended (codes "line end in a path")
 line_text (lines.Fault fault) = ended (run_fault_text fault)
 
 -- no byte ends a line

@@ -74,6 +74,7 @@ impl Display for Line<'_> {
             }
             Line::NoTask(TaskFault::NotALength) => f.write_str("not a length\n"),
             Line::NoTask(TaskFault::InputTwice) => f.write_str("standard input twice\n"),
+            Line::NoTask(TaskFault::LineEndInPath) => f.write_str("line end in a path\n"),
             Line::Fault(fault) => {
                 f.write(fault)?;
                 f.write_str("\n")

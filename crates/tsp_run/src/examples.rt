@@ -54,6 +54,7 @@ pub fn examples_of_statuses()
     ensures missing_path { status_of_ending (endings.NoTask task_faults.MissingPath) ≡ 4 }
     ensures no_certificate { status_of_ending (endings.NoTask task_faults.NoCertificate) ≡ 4 }
     ensures no_length { status_of_ending (endings.NoTask task_faults.NotALength) ≡ 4 }
+    ensures line_end { status_of_ending (endings.NoTask task_faults.LineEndInPath) ≡ 4 }
     ensures two_certificates { status_of_ending (endings.NoTask task_faults.TwoCertificates) ≡ 4 }
     ensures device_in { status_of_fault (run_faults.File 2 read_faults.Device) ≡ 5 }
     ensures device_out { status_of_fault (run_faults.Write write_faults.Device) ≡ 5 }
@@ -74,6 +75,7 @@ pub fn examples_of_lines()
     ensures no_certificate { line_text (lines.NoTask task_faults.NoCertificate)
         ≡ Some (codes "neither potentials nor branches\n") }
     ensures no_length { line_text (lines.NoTask task_faults.NotALength) ≡ Some (codes "not a length\n") }
+    ensures line_end { line_text (lines.NoTask task_faults.LineEndInPath) ≡ Some (codes "line end in a path\n") }
     ensures input_twice { line_text (lines.NoTask task_faults.InputTwice) ≡ Some (codes "standard input twice\n") }
     ensures version { (build : Bor (List ℕ)) → build.now ≡ codes "a build"
         → line_text (lines.Version build) ≡ Some (codes "tsp 1.1.0 (a build)\n") }

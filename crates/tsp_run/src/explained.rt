@@ -22,6 +22,7 @@ pub(crate) fn task_explanation(alloc: Global, fault: TaskFault) -> Vec<u8> {
         TaskFault::InputTwice => push_lines(&mut text, INPUT),
         TaskFault::NoCertificate => push_lines(&mut text, NO_CERTIFICATE),
         TaskFault::NotALength => push_lines(&mut text, LENGTHS),
+        TaskFault::LineEndInPath => push_lines(&mut text, LINE_ENDS),
     };
     text
 }
@@ -42,6 +43,10 @@ const INPUT: &str =
 /// What a bound needs.
 const NO_CERTIFICATE: &str =
     "A bound needs a certificate: --potentials with a file of potentials, or --branches with a tree of cases.";
+
+/// What the path of a solution is for.
+const LINE_ENDS: &str =
+    "A line of a comparison ends with the path of its solution, so no path has two lines. Rename the file.";
 
 /// What a length is.
 const LENGTHS: &str =
