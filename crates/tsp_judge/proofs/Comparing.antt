@@ -1,18 +1,20 @@
 -- A comparison, put together from the lines of its solutions.
-use Rattle.std.proofs.Common.{◌≡◌, ℕ, suc, ◌+◌, ◌<◌, ◌≤◌, List, [], ◌∷◌, ◌++◌, length, take, Option, true, false, Bool, refl, sym, ap, subst, ◌∙◌, append_assoc, append-nil, arith, inl, inr}
+use Rattle.std.proofs.Common.{◌≡◌, ◌||◌, ℕ, suc, ◌+◌, ◌<◌, ◌≤◌, List, [], ◌∷◌, ◌++◌, length, take, Option, true, false, Bool, refl, sym, ap, subst, ◌∙◌, append_assoc, append-nil, arith, inl, inr}
 use Rattle.std.specs.Prelude.{max, Result, Ok, Err, IfOk, slice_index_or, Some, None}
+use Rattle.std.specs.declared.io.Error.{Error}
 use Rattle.std.specs.Io.KnownBytes.{Appends}
 use Rattle.std.proofs.KnownBytes.{Appends-nil, Appends-trans, Appends-kept}
 use Rattle.std.proofs.lemmas.Bool.{false≢true}
 use Rattle.tsp_stream.specs.declared.output.WriteFault.{WriteFault}
 use Rattle.tsp_stream.specs.declared.output.WriteFault.TheVariants as write_faults
 use Rattle.tsp_stream.specs.declared.watched.Watched.{Watched}
-use Rattle.tsp_stream.specs.states.Watched.{sink_of, watched, has_failed}
+use Rattle.tsp_stream.specs.states.Watched.{sink_of, turn_of, watched, has_failed}
 use Rattle.tsp_stream.specs.Turn.{Turn}
 use Rattle.tsp_stream.specs.Sink.{Sink, IsUnwritten, HasWritten, HasStopped, Writes}
 use Rattle.tsp_draft.specs.Fields.{Fields}
 use Rattle.tsp_read.specs.declared.ReadFault.{ReadFault}
-use Rattle.tsp_read.specs.Reads.{IsFile}
+use Rattle.tsp_read.specs.Asked.{HasReads, IsReadOn}
+use Rattle.tsp_read.specs.Reads.{IsFile, most_taken}
 use Rattle.tsp_cost.specs.ProblemLaws.{IsProblem}
 use Rattle.tsp_reason.specs.declared.certificate.Certificate.{Certificate}
 use Rattle.tsp_reason.specs.declared.verdict.Verdict.{Verdict}
@@ -22,7 +24,7 @@ use Rattle.tsp_judge.specs.declared.common.Found.{Found}
 use Rattle.tsp_judge.specs.declared.fault.RunFault.{RunFault}
 use Rattle.tsp_judge.specs.declared.fault.RunFault.TheVariants.{File, WrongKind, Write, OutOfMemory, Relayout}
 use Rattle.tsp_judge.specs.CheckRun.{Given, IsUnreadIn, IsFileIn, ReadsFile, ReadsGiven}
-use Rattle.tsp_judge.specs.CompareRun.{IsFoundIn, Finds, result_of, status_of_found, ComparesOne, AreFound, solution_lines, largest_status, ComparesAll, ComparesBy, ComparesOn, LacksBasis, AreReadOnce, EndsCompare}
+use Rattle.tsp_judge.specs.CompareRun.{IsTurnAt, IsFoundIn, Finds, result_of, status_of_found, ComparesOne, AreFound, solution_lines, largest_status, ComparesAll, ComparesBy, ComparesOn, LacksBasis, AreReadOnce, EndsCompare}
 use Rattle.tsp_judge.proofs.Runs.{sized}
 use Rattle.tsp_judge.proofs.Yeses.{accepted}
 use Rattle.tsp_report.specs.ComparisonText.{solution_line, head_of}
@@ -56,6 +58,25 @@ pub unwritten_then : {W : Type 0} (contents : W → Option (List ℕ)) (a b c : 
 unwritten_then contents a b c x h k = (h.0, k.1 ∙ h.1, Appends-kept _ _ _ x h.2 k.0)
 
 -- ---- one solution
+
+-- the turn of a reader that was opened, and has not failed before
+pub turn_at : {R : Type 0} (remaining : R → Option (List ℕ)) (gives : R → List ℕ → Result ℕ Error → List ℕ → R → Type 0) (opens : ℕ → R → Type 0) (place : ℕ) (reader : R)
+    (old new : Watched R) (given : List ℕ) → opens place reader → watched old ≡ reader → has_failed old ≡ false → IsReadOn gives old new → length given ≤ most_taken
+    → IsTurnAt remaining gives opens place (turn_of remaining old new given)
+turn_at remaining gives opens place reader old new given opened is sound on few =
+    let failed : has_failed new ≡ on.1 = on.3 ∙ ap (λ b. b || on.1) sound in record {
+      reader = reader;
+      opened = opened;
+      known = ap remaining is;
+      sound = sound;
+      asked = (
+        on.0,
+        watched new,
+        subst (λ r. HasReads gives on.0 r (watched new) (has_failed new)) is
+            (subst (λ (b : Bool). HasReads gives on.0 (watched old) (watched new) b) (sym failed) on.2),
+      );
+      few = few;
+    }
 
 -- the verdict from what is known of all is that of a check
 pub found_judged : (common : Common) (turn : Turn) (solution : Fields) (verdict : Verdict) → IsProblem common.instance → IsBasis common.certificate common.instance common.basis

@@ -1,12 +1,14 @@
 -- What a comparison does to its readers and its writer, and its result: an instance and a certificate that are read once, and
 -- solutions that are opened, judged and dropped one by one.
 use Rattle.std.specs.Prelude.{◌≡◌, ◌≢◌, ◌⊎◌, ℕ, suc, ◌<◌, ◌≤◌, max, Bool, true, false, List, [], ◌∷◌, ◌++◌, length, Option, None, Some, Result, Ok, Err, IsTrue, slice_index_or}
+use Rattle.std.specs.declared.io.Error.{Error}
 use Rattle.tsp_stream.specs.declared.output.WriteFault.TheVariants as write_faults
 use Rattle.tsp_stream.specs.Turn.{Turn}
 use Rattle.tsp_stream.specs.Sink.{Sink, IsUnwritten, HasWritten, HasStopped}
 use Rattle.tsp_draft.specs.Fields.{Fields}
 use Rattle.tsp_read.specs.declared.ReadFault.{ReadFault}
 use Rattle.tsp_read.specs.declared.ReadFault.TheVariants as read_faults
+use Rattle.tsp_read.specs.Asked.{HasReads}
 use Rattle.tsp_read.specs.Reads.{IsFile, StopsAt, most_taken}
 use Rattle.tsp_cost.specs.ProblemLaws.{IsProblem}
 use Rattle.tsp_reason.specs.declared.certificate.Certificate.{Certificate}
@@ -35,13 +37,15 @@ IsFaultOfCompare given first file fault = ((file ≡ 1) × StopsAt fault first �
 
 -- ---- one solution
 
--- the turn of a reader that was opened for the solution at this place, counted from 0
-pub record IsTurnAt {R : Type 0} (remaining : R → Option (List ℕ)) (opens : ℕ → R → Type 0) (place : ℕ) (turn : Turn)
+-- the turn of a reader that was opened for the solution at this place, counted from 0; it has failed where its last read has
+pub record IsTurnAt {R : Type 0} (remaining : R → Option (List ℕ)) (gives : R → List ℕ → Result ℕ Error → List ℕ → R → Type 0)
+    (opens : ℕ → R → Type 0) (place : ℕ) (turn : Turn)
     : Type 0 where
   pub reader : R
   pub opened : opens place reader
   pub known : turn.known ≡ remaining reader
   pub sound : turn.had_failed ≡ false
+  pub asked : (count : ℕ) × (after : R) × HasReads gives count reader after turn.failed
   pub few : length turn.given ≤ most_taken
 
 -- What is found of the solution that a reader delivers. It is the verdict of a check of the three files, and where the solution
@@ -166,7 +170,7 @@ IsComparison IsTurn paths given first sink (Ok compared) = AreReadOnce given fir
     × ComparesOn IsTurn paths compared.common sink (Ok compared.status)
 IsComparison IsTurn paths given first sink (Err fault) = EndsCompare IsTurn paths given first sink fault
 
-abbrev pub IsCompareRun : {R : Type 0} → (R → Option (List ℕ)) → (ℕ → R → Type 0) → List (List ℕ) → Given → Turn → Sink
-    → Result Compared RunFault → Type 0
-IsCompareRun remaining opens paths given first sink result =
-    IsComparison (IsTurnAt remaining opens) paths given first sink result
+abbrev pub IsCompareRun : {R : Type 0} → (R → Option (List ℕ)) → (R → List ℕ → Result ℕ Error → List ℕ → R → Type 0)
+    → (ℕ → R → Type 0) → List (List ℕ) → Given → Turn → Sink → Result Compared RunFault → Type 0
+IsCompareRun remaining gives opens paths given first sink result =
+    IsComparison (IsTurnAt remaining gives opens) paths given first sink result

@@ -1,4 +1,5 @@
 pub use Rattle.tsp_read.specs.Reads
+pub use Rattle.tsp_read.specs.Asked
 pub use Rattle.tsp_stream.specs.Sink
 pub use Rattle.tsp_stream.specs.Turn
 pub use Rattle.tsp_stream.specs.states.Watched

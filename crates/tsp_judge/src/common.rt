@@ -3,6 +3,7 @@
 ghost use Rattle.std.specs.Prelude.{◌≡◌, MatchResult};
 ghost use Rattle.tsp_stream.specs.states.Watched.{turn_of};
 ghost use Rattle.tsp_stream.specs.Turn.{TakesAtMost};
+ghost use Rattle.tsp_read.specs.Asked.{IsReadOn};
 ghost use Rattle.tsp_read.specs.Reads.{most_taken};
 ghost use Rattle.tsp_cost.specs.ProblemLaws.{IsProblem};
 ghost use Rattle.tsp_verdict.specs.Basis.{IsBasis};
@@ -12,11 +13,10 @@ use crate::fault::RunFault;
 use crate::judging::{is_judged, lent};
 use crate::status::status_of;
 use std::alloc::{AllocError, Global};
-use std::io::Read;
 use tsp_cost::Instance;
 use tsp_file::File;
 use tsp_read::{ReadFault, read_from};
-use tsp_stream::Watched;
+use tsp_stream::{Gives, Watched};
 use tsp_verdict::{Basis, Certificate, Verdict, judge_basis, judge_next};
 
 /// What all solutions of a comparison are judged by.
@@ -95,14 +95,15 @@ pub(crate) fn common_of(
 /// # Errors
 ///
 /// `OutOfMemory`, to read it or to judge it.
-pub(crate) fn find<R: Read>(
+pub(crate) fn find<R: Gives>(
     alloc: Global,
     common: &Common,
     reader: &mut Watched<R>,
 ) -> Result<Found, RunFault>
     requires basis { IsBasis common.now.certificate common.now.instance common.now.basis }
     requires problem { IsProblem common.now.instance }
-    ensures { TakesAtMost most_taken (turn_of R.remaining reader.old reader.new) (λ turn. Finds common.now turn result) }
+    ensures found { TakesAtMost most_taken (turn_of R.remaining reader.old reader.new) (λ turn. Finds common.now turn result) }
+    ensures asked { IsReadOn R.gives reader.old reader.new }
 {
     let solution = match read_from(alloc, reader) {
         Ok(solution) => solution,

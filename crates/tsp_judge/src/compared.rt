@@ -22,7 +22,7 @@ use std::io::{Read, Write};
 use tsp_cost::Instance;
 use tsp_file::File;
 use tsp_report::{write_head, write_line};
-use tsp_stream::Watched;
+use tsp_stream::{Gives, Watched};
 use tsp_verdict::Certificate;
 
 /// The exit status where a reason applies to the instance or the certificate.
@@ -45,6 +45,7 @@ pub struct Compared {
 /// solution is opened. Otherwise each solution in turn is opened, read, and judged as a check of
 /// the three files does. Its line is written, the follower tells of it, and it is dropped. A
 /// solution that is no file, or can't be read, has a line with its fault, and the others follow.
+/// Only a read that returns an error makes a line with `device`.
 /// The follower tells of each line once, in order.
 ///
 /// # Errors
@@ -55,7 +56,7 @@ pub struct Compared {
 /// does: the head and the lines of the solutions before were written. `Write` where the writer
 /// fails, after a prefix of the text. Of each file at most 4,096 bytes past `MOST_FILE_BYTES` are
 /// read.
-pub fn run_compare<I: Read, C: Read, R: Read + Drop, E, S: Solutions<R> + Follow<E>, W: Write>(
+pub fn run_compare<I: Read, C: Read, R: Gives + Drop, E, S: Solutions<R> + Follow<E>, W: Write>(
     alloc: Global,
     inst: &mut Watched<I>,
     by: Option<Certificate>,
@@ -67,7 +68,7 @@ pub fn run_compare<I: Read, C: Read, R: Read + Drop, E, S: Solutions<R> + Follow
     ensures text { TakesAtMost most_taken (turn_of I.remaining inst.old inst.new) (λ first.
         TakesAtMost most_taken (turn_of C.remaining cert.old cert.new) (λ second.
         (by ≡ None → IsUnread second)
-        × IsCompareRun R.remaining (S.opens solutions.now) (S.names solutions.now) (given_by by second) first
+        × IsCompareRun R.remaining R.gives (S.opens solutions.now) (S.names solutions.now) (given_by by second) first
         (sink_of W.contents out.old out.new) result)) }
     ensures told { IsFollowed (S.tells solutions.now) (length (S.names solutions.now)) to.old to.new result }
 {
@@ -77,7 +78,7 @@ pub fn run_compare<I: Read, C: Read, R: Read + Drop, E, S: Solutions<R> + Follow
 }
 
 /// The run on these files, whatever readers they came from.
-fn compare_read<R: Read + Drop, E, S: Solutions<R> + Follow<E>, W: Write>(
+fn compare_read<R: Gives + Drop, E, S: Solutions<R> + Follow<E>, W: Write>(
     alloc: Global,
     instance: File,
     certificate: Option<(Certificate, File)>,
@@ -86,7 +87,7 @@ fn compare_read<R: Read + Drop, E, S: Solutions<R> + Follow<E>, W: Write>(
     to: &mut E,
 ) -> Result<Compared, RunFault>
     ensures text { (given : Given) (first : Turn) → IsFile first instance → IsFileIn given certificate
-        → IsCompareRun R.remaining (S.opens solutions.now) (S.names solutions.now) given first
+        → IsCompareRun R.remaining R.gives (S.opens solutions.now) (S.names solutions.now) given first
         (sink_of W.contents out.old out.new) result }
     ensures told { IsFollowed (S.tells solutions.now) (length (S.names solutions.now)) to.old to.new result }
 {
@@ -99,7 +100,7 @@ fn compare_read<R: Read + Drop, E, S: Solutions<R> + Follow<E>, W: Write>(
 }
 
 /// Writes the head, and compares the solutions where no reason applies to all of them.
-fn compare_with<R: Read + Drop, E, S: Solutions<R> + Follow<E>, W: Write>(
+fn compare_with<R: Gives + Drop, E, S: Solutions<R> + Follow<E>, W: Write>(
     alloc: Global,
     common: &Common,
     solutions: &S,
@@ -108,7 +109,7 @@ fn compare_with<R: Read + Drop, E, S: Solutions<R> + Follow<E>, W: Write>(
 ) -> Result<u8, RunFault>
     requires basis { IsBasis common.now.certificate common.now.instance common.now.basis }
     requires problem { IsProblem common.now.instance }
-    ensures text { ComparesBy (is_clear common.now.basis) (IsTurnAt R.remaining (S.opens solutions.now))
+    ensures text { ComparesBy (is_clear common.now.basis) (IsTurnAt R.remaining R.gives (S.opens solutions.now))
         (S.names solutions.now) common.now (sink_of W.contents out.old out.new) result }
     ensures told { IsFollowedBy (is_clear common.now.basis) (S.tells solutions.now) (length (S.names solutions.now))
         to.old to.new result }
@@ -124,7 +125,7 @@ fn compare_with<R: Read + Drop, E, S: Solutions<R> + Follow<E>, W: Write>(
 }
 
 /// Compares all solutions, in order.
-fn compare_all<R: Read + Drop, E, S: Solutions<R> + Follow<E>, W: Write>(
+fn compare_all<R: Gives + Drop, E, S: Solutions<R> + Follow<E>, W: Write>(
     alloc: Global,
     common: &Common,
     solutions: &S,
@@ -134,7 +135,7 @@ fn compare_all<R: Read + Drop, E, S: Solutions<R> + Follow<E>, W: Write>(
     requires basis { IsBasis common.now.certificate common.now.instance common.now.basis }
     requires problem { IsProblem common.now.instance }
     requires sound { has_failed out.old ≡ false }
-    ensures text { ComparesAll (IsTurnAt R.remaining (S.opens solutions.now)) (S.names solutions.now) common.now []
+    ensures text { ComparesAll (IsTurnAt R.remaining R.gives (S.opens solutions.now)) (S.names solutions.now) common.now []
         (sink_of W.contents out.old out.new) result }
     ensures told { IsFollowedBy true (S.tells solutions.now) (length (S.names solutions.now)) to.old to.new result }
 {
@@ -155,7 +156,7 @@ fn larger(a: u8, b: u8) -> u8
 }
 
 /// Opens a solution, reads and judges it, and writes its line.
-fn compare_one<R: Read + Drop, S: Solutions<R>, W: Write>(
+fn compare_one<R: Gives + Drop, S: Solutions<R>, W: Write>(
     alloc: Global,
     common: &Common,
     solutions: &S,
@@ -165,7 +166,7 @@ fn compare_one<R: Read + Drop, S: Solutions<R>, W: Write>(
     requires basis { IsBasis common.now.certificate common.now.instance common.now.basis }
     requires problem { IsProblem common.now.instance }
     requires index { index < length (S.names solutions.now) }
-    ensures { ComparesOne (IsTurnAt R.remaining (S.opens solutions.now)) (S.names solutions.now) common.now index
+    ensures { ComparesOne (IsTurnAt R.remaining R.gives (S.opens solutions.now)) (S.names solutions.now) common.now index
         (sink_of W.contents out.old out.new) result }
 {
     let mut reader = Watched::new(solutions.open(index));

@@ -21,4 +21,5 @@ pub mod EndLines
 pub mod SectionCases
 pub mod FirstSteps
 pub mod SectionSteps
+pub mod Asking
 mod HandedOn

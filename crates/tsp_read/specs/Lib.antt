@@ -1,4 +1,5 @@
 pub mod states
 pub mod Reads
+pub mod Asked
 pub mod Feed
 pub mod Timely

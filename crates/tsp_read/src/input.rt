@@ -2,13 +2,14 @@
 
 ghost use Rattle.std.specs.Prelude.{◌≡◌, [], false};
 ghost use Rattle.tsp_stream.specs.states.Watched.{turn_of, has_failed};
+ghost use Rattle.tsp_read.specs.Asked.{IsReadOn};
 ghost use Rattle.tsp_read.specs.Feed.{HasTaken};
 ghost use Rattle.tsp_read.specs.Timely.{FeedsAll};
 
 use crate::feed::Feed;
 use std::io::Read;
 use tsp_format::MOST_FILE_BYTES;
-use tsp_stream::Watched;
+use tsp_stream::{Gives, Watched};
 use tsp_text::ReadFault;
 
 /// The most bytes that a reader is asked for at once.
@@ -16,10 +17,11 @@ const MOST_AT_ONCE: usize = 4_096;
 
 /// Feeds the bytes of a reader: up to its end, to an end line, to a fault, or past the most bytes
 /// that a file may have.
-pub(crate) fn feed_all<R: Read>(feed: &mut Feed, reader: &mut Watched<R>) -> Result<(), ReadFault>
+pub(crate) fn feed_all<R: Gives>(feed: &mut Feed, reader: &mut Watched<R>) -> Result<(), ReadFault>
     requires start { HasTaken feed.old [] }
     requires sound { has_failed reader.old ≡ false }
-    ensures { FeedsAll (turn_of R.remaining reader.old reader.new) feed.new result }
+    ensures fed { FeedsAll (turn_of R.remaining reader.old reader.new) feed.new result }
+    ensures asked { IsReadOn R.gives reader.old reader.new }
 {
     let mut taken = 0usize;
     let mut piece = [0u8; MOST_AT_ONCE];

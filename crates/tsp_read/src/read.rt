@@ -4,15 +4,15 @@ ghost use Rattle.std.specs.Prelude.{◌≡◌, Err, false};
 ghost use Rattle.tsp_stream.specs.states.Watched.{turn_of};
 ghost use Rattle.tsp_text.specs.declared.fault.ReadFault.TheVariants.{OutOfMemory};
 ghost use Rattle.tsp_read.specs.states.Onward.{is_bare};
+ghost use Rattle.tsp_read.specs.Asked.{IsReadOn};
 ghost use Rattle.tsp_read.specs.Reads.{Reads, ReadsFrom};
 ghost use Rattle.tsp_read.specs.Timely.{ReadsInTime};
 
 use crate::feed::Feed;
 use crate::input::feed_all;
 use std::alloc::Global;
-use std::io::Read;
 use tsp_file::File;
-use tsp_stream::Watched;
+use tsp_stream::{Gives, Watched};
 use tsp_text::ReadFault;
 
 /// Reads a file from the bytes of a text.
@@ -44,7 +44,8 @@ pub fn read_bytes(alloc: Global, bytes: &[u8]) -> Result<File, ReadFault>
 ///
 /// The answer is that of `read_bytes` for the bytes that the reader delivered, and for all that it
 /// has. At most 4,096 bytes are taken past 1,073,741,824, or past an end line or a fault that is
-/// settled. A reader that had failed before is not read.
+/// settled. A reader that had failed before is not read, and it fails by an error of a read alone,
+/// which is the last one.
 ///
 /// # Errors
 ///
@@ -52,8 +53,9 @@ pub fn read_bytes(alloc: Global, bytes: &[u8]) -> Result<File, ReadFault>
 /// - `Device`: a read failed, or had failed before.
 /// - `OutOfMemory`: memory was refused. It may come in place of any answer but `Device`, where the
 ///   reader delivered more than blanks and bytes 10.
-pub fn read_from<R: Read>(alloc: Global, reader: &mut Watched<R>) -> Result<File, ReadFault>
+pub fn read_from<R: Gives>(alloc: Global, reader: &mut Watched<R>) -> Result<File, ReadFault>
     ensures answer { ReadsFrom (turn_of R.remaining reader.old reader.new) result }
+    ensures asked { IsReadOn R.gives reader.old reader.new }
     ensures in_time { ReadsInTime (turn_of R.remaining reader.old reader.new) result }
 {
     if reader.failed() {

@@ -1,6 +1,7 @@
 -- Solutions compared: which files are opened for that, and what comes of it.
 use Rattle.std.specs.Prelude.{◌≡◌, ℕ, false, List, [], Option, None, Some, Result, map, slice_index_or}
 use Rattle.std.specs.String.{string_bytes}
+use Rattle.std.specs.declared.io.Error.{Error}
 use Rattle.clap.specs.Words.{Text}
 use Rattle.tsp_judge.specs.declared.Watched.{Watched}
 use Rattle.tsp_judge.specs.Watched.{watched, has_failed, turn_of}
@@ -36,8 +37,9 @@ HasGiven {F = F} remaining opens (Some named) Q = (old new : Watched F) × IsFre
     × TakesAtMost most_taken (turn_of remaining old new) (λ turn. Q (Some (named.0, turn)))
 
 -- The instance is opened in its place, and the certificate, and after them each solution in its own, when it is to be read.
-abbrev pub IsComparedAs : {F : Type 0} → (F → Option (List ℕ)) → (Place → F → Type 0) → Comparison → Sink
-    → Result Compared RunFault → Type 0
-IsComparedAs {F = F} remaining opens comparison sink answer = (old new : Watched F) × IsFresh opens comparison.instance old
+abbrev pub IsComparedAs : {F : Type 0} → (F → Option (List ℕ)) → (F → List ℕ → Result ℕ Error → List ℕ → F → Type 0)
+    → (Place → F → Type 0) → Comparison → Sink → Result Compared RunFault → Type 0
+IsComparedAs {F = F} remaining gives opens comparison sink answer = (old new : Watched F) × IsFresh opens comparison.instance old
     × TakesAtMost most_taken (turn_of remaining old new) (λ first. HasGiven remaining opens comparison.certificate
-    (λ given. IsCompareRun remaining (IsOpenedAt opens (paths_of comparison)) (paths_of comparison) given first sink answer))
+    (λ given. IsCompareRun remaining gives (IsOpenedAt opens (paths_of comparison)) (paths_of comparison) given first sink
+    answer))

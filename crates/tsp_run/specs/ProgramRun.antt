@@ -45,15 +45,16 @@ IsDoneAs {F = F} remaining opens task sink answer = (old new : Task (Watched F))
 
 -- How a run ends that has this job: it is no work, and then nothing is written; or the task was done on its files, opened in
 -- their places; or the solutions were compared.
-abbrev pub EndsWith : {F : Type 0} → (F → Option (List ℕ)) → (Place → F → Type 0) → Job → Sink → Ending → Type 0
-EndsWith remaining opens job sink (NoJob fault) = ⊥
-EndsWith remaining opens job sink (Version build) = ⊥
-EndsWith remaining opens job sink (NoTask fault) = GivesWork job (Err fault) × IsUnwritten sink
-EndsWith remaining opens job sink (Ended answer) = (task : Task Place) × GivesWork job (Ok (works.Task task))
+abbrev pub EndsWith : {F : Type 0} → (F → Option (List ℕ)) → (F → List ℕ → Result ℕ Error → List ℕ → F → Type 0)
+    → (Place → F → Type 0) → Job → Sink → Ending → Type 0
+EndsWith remaining gives opens job sink (NoJob fault) = ⊥
+EndsWith remaining gives opens job sink (Version build) = ⊥
+EndsWith remaining gives opens job sink (NoTask fault) = GivesWork job (Err fault) × IsUnwritten sink
+EndsWith remaining gives opens job sink (Ended answer) = (task : Task Place) × GivesWork job (Ok (works.Task task))
     × IsDoneAs remaining opens task sink answer
-EndsWith remaining opens job sink (endings.Compared answer) = (comparison : Comparison) × GivesWork job
+EndsWith remaining gives opens job sink (endings.Compared answer) = (comparison : Comparison) × GivesWork job
     (Ok (works.Compare comparison))
-    × IsComparedAs remaining opens comparison sink answer
+    × IsComparedAs remaining gives opens comparison sink answer
 
 -- the words ask for the version
 abbrev pub AsksVersion : JobFault → Type 0
@@ -63,20 +64,20 @@ AsksVersion OutOfMemory = ⊥
 -- How a run ends with these words, of which the first is the program's own name. They ask for no job, and then nothing is
 -- written: they are refused, or ask for the version, which is printed with this text of the build. Or the run ends with the job
 -- that they ask for. That is explained where the job says so, and on a terminal; nothing else is.
-abbrev pub Ends : {F : Type 0} → (F → Option (List ℕ)) → (Place → F → Type 0) → Bool → Text → List Text → Sink → Bool
-    → Ending → Type 0
-Ends remaining opens on_terminal build words sink explained (NoJob fault) = GivesJob (drop 1 words) (Err fault)
+abbrev pub Ends : {F : Type 0} → (F → Option (List ℕ)) → (F → List ℕ → Result ℕ Error → List ℕ → F → Type 0)
+    → (Place → F → Type 0) → Bool → Text → List Text → Sink → Bool → Ending → Type 0
+Ends remaining gives opens on_terminal build words sink explained (NoJob fault) = GivesJob (drop 1 words) (Err fault)
     × (AsksVersion fault → ⊥) × IsUnwritten sink × (explained ≡ false)
-Ends remaining opens on_terminal build words sink explained (Version told) = (fault : JobFault)
+Ends remaining gives opens on_terminal build words sink explained (Version told) = (fault : JobFault)
     × GivesJob (drop 1 words) (Err fault)
     × AsksVersion fault × (told.now ≡ build) × IsUnwritten sink × (explained ≡ false)
-Ends remaining opens on_terminal build words sink explained (NoTask fault) = (job : Job) × GivesJob (drop 1 words) (Ok job)
-    × EndsWith remaining opens job sink (NoTask fault) × (explained ≡ (job.explain || on_terminal))
-Ends remaining opens on_terminal build words sink explained (Ended answer) = (job : Job) × GivesJob (drop 1 words) (Ok job)
-    × EndsWith remaining opens job sink (Ended answer) × (explained ≡ (job.explain || on_terminal))
-Ends remaining opens on_terminal build words sink explained (endings.Compared answer) = (job : Job) × GivesJob (drop 1 words)
+Ends remaining gives opens on_terminal build words sink explained (NoTask fault) = (job : Job) × GivesJob (drop 1 words) (Ok job)
+    × EndsWith remaining gives opens job sink (NoTask fault) × (explained ≡ (job.explain || on_terminal))
+Ends remaining gives opens on_terminal build words sink explained (Ended answer) = (job : Job) × GivesJob (drop 1 words) (Ok job)
+    × EndsWith remaining gives opens job sink (Ended answer) × (explained ≡ (job.explain || on_terminal))
+Ends remaining gives opens on_terminal build words sink explained (endings.Compared answer) = (job : Job) × GivesJob (drop 1 words)
     (Ok job)
-    × EndsWith remaining opens job sink (endings.Compared answer) × (explained ≡ (job.explain || on_terminal))
+    × EndsWith remaining gives opens job sink (endings.Compared answer) × (explained ≡ (job.explain || on_terminal))
 
 -- the end where the words can't be had: out of memory, or a word is no text, which is reported as refused words are
 abbrev pub HasNoWords : ErrorKind → Bool → Ending → Type 0

@@ -10,6 +10,7 @@ use std::alloc::Global;
 use std::io::{Read, Write};
 use tsp_cli::Place;
 use tsp_judge::{Compared, RunFault, Watched, run_compare};
+use tsp_stream::Gives;
 
 /// Compares solutions: the instance is opened in its place, and the certificate where one is named,
 /// and after them each solution in its own place.
@@ -17,13 +18,13 @@ use tsp_judge::{Compared, RunFault, Watched, run_compare};
 /// # Errors
 ///
 /// Those of `run_compare`.
-pub(crate) fn compare<F: Read + Drop, O: Open<F>, W: Write, E: Write>(
+pub(crate) fn compare<F: Gives + Drop, O: Open<F>, W: Write, E: Write>(
     alloc: Global,
     followed: &Followed<'_, F, O>,
     out: &mut Watched<W>,
     errors: &mut E,
 ) -> Result<Compared, RunFault>
-    ensures text { IsComparedAs F.remaining (O.opens followed.now.files.now) followed.now.comparison
+    ensures text { IsComparedAs F.remaining F.gives (O.opens followed.now.files.now) followed.now.comparison
         (sink_of W.contents out.old out.new) result }
     ensures told { MayTell followed.now.explain (E.contents errors.old) (E.contents errors.new) }
 {

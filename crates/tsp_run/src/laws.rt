@@ -18,7 +18,7 @@ ghost use Rattle.tsp_run.specs.Ending.{is_one_line, IsWritten, EndsLine};
 ghost use Rattle.tsp_run.specs.ProgramRun.{Ends};
 
 use crate::source::Open;
-use std::io::Read;
+use tsp_stream::Gives;
 
 /// The text of a fault is one line, and it is written with its end.
 pub fn faults_are_told_on_one_line()
@@ -29,16 +29,16 @@ pub fn faults_are_told_on_one_line()
 
 /// On a terminal every answer is explained, and every task that can't be begun; elsewhere where the
 /// job says so. No words are explained that ask for no job.
-pub fn explained_on_a_terminal<F: Read + Drop, O: Open<F>>(files: &O)
+pub fn explained_on_a_terminal<F: Gives + Drop, O: Open<F>>(files: &O)
     ensures answer { (build : Text) (words : List Text) (sink : Sink) (explained : Bool) (answer : Result Outcome RunFault)
-        → Ends F.remaining (O.opens files.now) true build words sink explained (endings.Ended answer) → explained ≡ true }
+        → Ends F.remaining F.gives (O.opens files.now) true build words sink explained (endings.Ended answer) → explained ≡ true }
     ensures comparison { (build : Text) (words : List Text) (sink : Sink) (explained : Bool) (answer : Result Compared RunFault)
-        → Ends F.remaining (O.opens files.now) true build words sink explained (endings.Compared answer) → explained ≡ true }
+        → Ends F.remaining F.gives (O.opens files.now) true build words sink explained (endings.Compared answer) → explained ≡ true }
     ensures task { (build : Text) (words : List Text) (sink : Sink) (explained : Bool) (fault : TaskFault)
-        → Ends F.remaining (O.opens files.now) true build words sink explained (endings.NoTask fault) → explained ≡ true }
+        → Ends F.remaining F.gives (O.opens files.now) true build words sink explained (endings.NoTask fault) → explained ≡ true }
     ensures no_job { (build : Text) (words : List Text) (sink : Sink) (explained : Bool) (fault : JobFault)
-        → Ends F.remaining (O.opens files.now) true build words sink explained (endings.NoJob fault) → explained ≡ false }
+        → Ends F.remaining F.gives (O.opens files.now) true build words sink explained (endings.NoJob fault) → explained ≡ false }
     ensures elsewhere { (build : Text) (words : List Text) (sink : Sink) (explained : Bool) (answer : Result Outcome RunFault)
-        → Ends F.remaining (O.opens files.now) false build words sink explained (endings.Ended answer)
+        → Ends F.remaining F.gives (O.opens files.now) false build words sink explained (endings.Ended answer)
         → (job : Job) × GivesJob (drop 1 words) (Ok job) × (explained ≡ job.explain) }
 {}

@@ -23,6 +23,7 @@ use std::marker::PhantomData;
 use tsp_cli::{Job, JobFault, Place, TaskFault, Work, job_of, unread, work_of};
 use tsp_judge::Watched;
 use tsp_perform::perform;
+use tsp_stream::Gives;
 use tsp_task::Task;
 
 /// What a run knows of its surroundings.
@@ -45,7 +46,7 @@ pub struct Setting {
 /// `errors` is a terminal. Of a comparison each line that accepts no solution is explained when it
 /// was written, and on a terminal its solutions are counted. Where the words ask for the version,
 /// that is printed with the text of the build.
-pub fn run<F: Read + Drop, O: Open<F>, W: Write, E: Write>(
+pub fn run<F: Gives + Drop, O: Open<F>, W: Write, E: Write>(
     alloc: Global,
     line: &[String],
     files: &O,
@@ -53,7 +54,7 @@ pub fn run<F: Read + Drop, O: Open<F>, W: Write, E: Write>(
     errors: &mut E,
     setting: Setting,
 ) -> (u8, io::Result<()>)
-    ensures { Runs (Ends F.remaining (O.opens files.now) setting.on_terminal setting.build.now (map string_bytes line.now)
+    ensures { Runs (Ends F.remaining F.gives (O.opens files.now) setting.on_terminal setting.build.now (map string_bytes line.now)
         (sink_of W.contents out.old out.new)) (E.contents errors.old) (E.contents errors.new) result }
 {
     let Ok(words) = words_after_first(alloc, line) else {
@@ -95,7 +96,7 @@ fn end<E: Write>(ending: &Ending, errors: &mut E) -> (u8, io::Result<()>)
 
 /// Does the job, and tells how that ended, with its explanation where that is wanted. The result is
 /// as that of `run`.
-fn run_job<F: Read + Drop, O: Open<F>, W: Write, E: Write>(
+fn run_job<F: Gives + Drop, O: Open<F>, W: Write, E: Write>(
     alloc: Global,
     job: &Job,
     files: &O,
@@ -103,7 +104,7 @@ fn run_job<F: Read + Drop, O: Open<F>, W: Write, E: Write>(
     errors: &mut E,
     setting: Setting,
 ) -> (u8, io::Result<()>)
-    ensures { RunsJob (EndsWith F.remaining (O.opens files.now) job.now (sink_of W.contents out.old out.new))
+    ensures { RunsJob (EndsWith F.remaining F.gives (O.opens files.now) job.now (sink_of W.contents out.old out.new))
         (job.now.explain || setting.on_terminal) (E.contents errors.old) (E.contents errors.new) result }
 {
     let explain = is_explained(job, setting);
@@ -193,13 +194,13 @@ fn tell_task<F: Read + Drop, O: Open<F>, E: Write>(
 }
 
 /// Compares solutions, and tells how that ended.
-fn run_comparison<F: Read + Drop, O: Open<F>, W: Write, E: Write>(
+fn run_comparison<F: Gives + Drop, O: Open<F>, W: Write, E: Write>(
     alloc: Global,
     followed: &Followed<'_, F, O>,
     out: &mut Watched<W>,
     errors: &mut E,
 ) -> (u8, io::Result<()>)
-    ensures { RunsComparison (IsComparedAs F.remaining (O.opens followed.now.files.now) followed.now.comparison
+    ensures { RunsComparison (IsComparedAs F.remaining F.gives (O.opens followed.now.files.now) followed.now.comparison
         (sink_of W.contents out.old out.new)) followed.now.explain (E.contents errors.old) (E.contents errors.new) result }
 {
     let ending = Ending::Compared(compare(alloc, followed, out, errors));

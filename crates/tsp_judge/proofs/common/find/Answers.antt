@@ -4,8 +4,8 @@ use Rattle.tsp_stream.specs.states.Watched.{turn_of}
 use Rattle.tsp_judge.proofs.Comparing.{found_judged}
 use Rattle.tsp_judge.proofs.common.find.Goals as goal
 
-pub returns-in-Ok-judge_next : goal.returns-in-Ok-judge_next
-returns-in-Ok-judge_next g c =
+pub returns-in-Ok-judge_next-clause-found : goal.returns-in-Ok-judge_next-clause-found
+returns-in-Ok-judge_next-clause-found g c =
     let read = c.in-Ok.ensures.answer in (
       read.0,
       read.1,
@@ -13,5 +13,5 @@ returns-in-Ok-judge_next g c =
           c.requires.problem c.requires.basis read.2 c.in-Ok-judge_next.ensures,
     )
 
-pub returns-in-Err-judge_next : goal.returns-in-Err-judge_next
-returns-in-Err-judge_next g c = let read = c.in-Ok.ensures.answer in (read.0, read.1, inr (c.in-Ok.solution, read.2, c.in-Err-judge_next.ensures))
+pub returns-in-Err-judge_next-clause-found : goal.returns-in-Err-judge_next-clause-found
+returns-in-Err-judge_next-clause-found g c = let read = c.in-Ok.ensures.answer in (read.0, read.1, inr (c.in-Ok.solution, read.2, c.in-Err-judge_next.ensures))

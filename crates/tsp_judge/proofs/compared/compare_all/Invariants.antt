@@ -7,7 +7,7 @@ use Rattle.tsp_judge.proofs.compared.compare_all.Given as goal
 
 abbrev pub invariant-solutions : goal.invariant-solutions
 invariant-solutions g l = record {
-  compared : HasCompared (IsTurnAt g.R.Read.remaining (g.S.Solutions.opens l.solutions)) (g.S.Solutions.names l.solutions) l.common
+  compared : HasCompared (IsTurnAt g.R.Read.remaining g.R.Gives.gives (g.S.Solutions.opens l.solutions)) (g.S.Solutions.names l.solutions) l.common
       (sink_of g.W.Write.contents l.initial.out l.out) l.index l.status;
   told : AreTold (g.S.Follow.tells l.solutions) l.index l.initial.to l.to;
 }

@@ -1,30 +1,27 @@
 -- The goals of `compare_one` in src/compared.rt: what it ensures.
-use Rattle.std.proofs.Common.{◌≡◌, List, [], ap, sym, subst, subst₂}
+use Rattle.std.proofs.Common.{◌≡◌, List, [], refl, sym, subst, subst₂}
+use Rattle.std.proofs.KnownBytes.{Keeps-refl}
 use Rattle.std.specs.Prelude.{IfOk, Result, Err, slice_index_or}
 use Rattle.tsp_stream.specs.states.Watched.{sink_of, turn_of}
 use Rattle.tsp_stream.specs.Sink.{HasWritten, Writes}
-use Rattle.tsp_judge.proofs.Comparing.{found_sized, one_stopped}
+use Rattle.tsp_judge.proofs.Comparing.{found_sized, one_refused, one_stopped, turn_at}
 use Rattle.tsp_judge.specs.CompareRun.{IsTurnAt, result_of}
 use Rattle.tsp_report.specs.ComparisonText.{solution_line}
 use Rattle.tsp_report.specs.Report.{IsSized}
+use Rattle.tsp_judge.proofs.HandedOn.{handed_on}
 use Rattle.tsp_judge.proofs.compared.compare_one.Goals as goal
 
 pub write_line-requires : goal.write_line-requires
 write_line-requires g c =
-    let found = c.in_ok-found.ensures in
+    let found = c.in_ok-found.ensures.found in
     subst (λ r. IfOk r IsSized) (sym c.result.ensures) (found_sized c.args.common.now (turn_of g.R.Read.remaining c.new-reader.result c.find.new.reader found.0) _ found.2)
 
 pub returns-in-Ok : goal.returns-in-Ok
 returns-in-Ok g c =
-    let found = c.in_ok-found.ensures in
+    let found = c.in_ok-found.ensures.found in
     let turn = turn_of g.R.Read.remaining c.new-reader.result c.find.new.reader found.0 in
-    let opened : IsTurnAt g.R.Read.remaining (g.S.Solutions.opens c.args.solutions.now) c.args.index turn = record {
-      reader = c.open.result;
-      opened = c.open.ensures;
-      known = ap g.R.Read.remaining c.new-reader.ensures.inner;
-      sound = c.new-reader.ensures.sound;
-      few = found.1;
-    } in (
+    let opened = turn_at g.R.Read.remaining g.R.Gives.gives (g.S.Solutions.opens c.args.solutions.now) c.args.index c.open.result c.new-reader.result c.find.new.reader found.0
+    c.open.ensures c.new-reader.ensures.inner c.new-reader.ensures.sound c.in_ok-found.ensures.asked found.1 in (
       turn,
       opened,
       found.2,
@@ -33,16 +30,21 @@ returns-in-Ok g c =
 
 pub returns : goal.returns
 returns g c =
-    let found = c.in_ok-found.ensures in
+    let found = c.in_ok-found.ensures.found in
     let turn = turn_of g.R.Read.remaining c.new-reader.result c.find.new.reader found.0 in
-    let opened : IsTurnAt g.R.Read.remaining (g.S.Solutions.opens c.args.solutions.now) c.args.index turn = record {
-      reader = c.open.result;
-      opened = c.open.ensures;
-      known = ap g.R.Read.remaining c.new-reader.ensures.inner;
-      sound = c.new-reader.ensures.sound;
-      few = found.1;
-    } in
-    one_stopped (IsTurnAt g.R.Read.remaining (g.S.Solutions.opens c.args.solutions.now)) (g.S.Solutions.names c.args.solutions.now) c.args.common.now c.args.index
+    let opened = turn_at g.R.Read.remaining g.R.Gives.gives (g.S.Solutions.opens c.args.solutions.now) c.args.index c.open.result c.new-reader.result c.find.new.reader found.0
+    c.open.ensures c.new-reader.ensures.inner c.new-reader.ensures.sound c.in_ok-found.ensures.asked found.1 in
+    one_stopped (IsTurnAt g.R.Read.remaining g.R.Gives.gives (g.S.Solutions.opens c.args.solutions.now)) (g.S.Solutions.names c.args.solutions.now) c.args.common.now c.args.index
     (sink_of g.W.Write.contents c.args.out.now c.write_line.new.out) turn _ c.in-Err.fault opened found.2
     (subst₂ (λ r (path : List _). Writes (sink_of g.W.Write.contents c.args.out.now c.write_line.new.out) (solution_line r path) (Err c.in-Err.fault)) c.result.ensures c.name.ensures
     c.in-Err.ensures)
+
+pub returns-in_err-found : goal.returns-in_err-found
+returns-in_err-found g c =
+    let same : c.from_residual.result ≡ Err c.in_err-found.field-0.0 = handed_on _ _ c.from_residual.ensures.1 in
+    let found = c.in_err-found.ensures.found in
+    let turn = turn_of g.R.Read.remaining c.new-reader.result c.find.new.reader found.0 in
+    let opened = turn_at g.R.Read.remaining g.R.Gives.gives (g.S.Solutions.opens c.args.solutions.now) c.args.index c.open.result c.new-reader.result c.find.new.reader found.0
+    c.open.ensures c.new-reader.ensures.inner c.new-reader.ensures.sound c.in_err-found.ensures.asked found.1 in
+    rw same (one_refused (IsTurnAt g.R.Read.remaining g.R.Gives.gives (g.S.Solutions.opens c.args.solutions.now)) (g.S.Solutions.names c.args.solutions.now) c.args.common.now
+    c.args.index (sink_of g.W.Write.contents c.args.out.now c.args.out.now) turn _ opened found.2 (Keeps-refl _, refl))

@@ -14,19 +14,19 @@ use Rattle.tsp_judge.proofs.compared.compare_read.Goals as goal
 
 pub returns-in_default-clause-text : goal.returns-in_default-clause-text
 returns-in_default-clause-text g c = λ given first one two.
-    ends_lacking (IsTurnAt g.R.Read.remaining (g.S.Solutions.opens c.args.solutions.now)) (g.S.Solutions.names c.args.solutions.now) given first c.args.instance c.args.certificate
+    ends_lacking (IsTurnAt g.R.Read.remaining g.R.Gives.gives (g.S.Solutions.opens c.args.solutions.now)) (g.S.Solutions.names c.args.solutions.now) given first c.args.instance c.args.certificate
     (sink_of g.W.Write.contents c.args.out.now c.args.out.now) WrongKind one two (none_judged c.args.certificate _ c.in_default.ensures.2) (Keeps-refl _, refl)
 
 pub returns-in_err-common-clause-text : goal.returns-in_err-common-clause-text
 returns-in_err-common-clause-text g c = λ given first one two.
     let same : c.from_residual.result ≡ Err c.in_err-common.field-0.0 = handed_on _ _ c.from_residual.ensures.1 in
-    rw same (ends_lacking (IsTurnAt g.R.Read.remaining (g.S.Solutions.opens c.args.solutions.now)) (g.S.Solutions.names c.args.solutions.now) given first c.in-Ok.instance c.args.certificate _ _ (subst (IsFile first) (sym c.in-Ok.ensures.0) one) two c.in_err-common.ensures (Keeps-refl _, refl))
+    rw same (ends_lacking (IsTurnAt g.R.Read.remaining g.R.Gives.gives (g.S.Solutions.opens c.args.solutions.now)) (g.S.Solutions.names c.args.solutions.now) given first c.in-Ok.instance c.args.certificate _ _ (subst (IsFile first) (sym c.in-Ok.ensures.0) one) two c.in_err-common.ensures (Keeps-refl _, refl))
 
 pub returns-in_err-status-clause-text : goal.returns-in_err-status-clause-text
 returns-in_err-status-clause-text g c = λ given first one two.
     let same : c.from_residual-in_err-status.result ≡ Err c.in_err-status.field-0.0 = handed_on _ _ c.from_residual-in_err-status.ensures.1 in
     let common = c.in_ok-common.ensures in
-    rw same (ends_comparing (IsTurnAt g.R.Read.remaining (g.S.Solutions.opens c.args.solutions.now)) (g.S.Solutions.names c.args.solutions.now) given first c.in_ok-common.common _ _ (
+    rw same (ends_comparing (IsTurnAt g.R.Read.remaining g.R.Gives.gives (g.S.Solutions.opens c.args.solutions.now)) (g.S.Solutions.names c.args.solutions.now) given first c.in_ok-common.common _ _ (
       subst (IsFile first) (sym (common.0 ∙ c.in-Ok.ensures.0)) one,
       subst (IsFileIn given) (sym common.1) two,
       subst IsProblem (sym (common.0 ∙ c.in-Ok.ensures.0)) c.in-Ok.ensures.2,

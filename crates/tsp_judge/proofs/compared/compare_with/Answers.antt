@@ -14,9 +14,9 @@ pub returns-clause-text : goal.returns-clause-text
 returns-clause-text g c =
     let written = subst (λ (f : Fields). HasWritten (sink_of g.W.Write.contents c.args.out.now c.write_head.new.out) (head_of f c.args.common.now.basis)) c.file.ensures.value c.in-Ok.ensures in
     let clear : is_clear c.args.common.now.basis ≡ true = search rules in
-    subst (λ b. ComparesBy b (IsTurnAt g.R.Read.remaining (g.S.Solutions.opens c.args.solutions.now)) (g.S.Solutions.names c.args.solutions.now) c.args.common.now
+    subst (λ b. ComparesBy b (IsTurnAt g.R.Read.remaining g.R.Gives.gives (g.S.Solutions.opens c.args.solutions.now)) (g.S.Solutions.names c.args.solutions.now) c.args.common.now
     (sink_of g.W.Write.contents c.args.out.now c.compare_all.new.out) c.compare_all.result) (sym clear)
-    (after_head g.W.Write.contents c.args.out.now c.write_head.new.out c.compare_all.new.out (IsTurnAt g.R.Read.remaining (g.S.Solutions.opens c.args.solutions.now))
+    (after_head g.W.Write.contents c.args.out.now c.write_head.new.out c.compare_all.new.out (IsTurnAt g.R.Read.remaining g.R.Gives.gives (g.S.Solutions.opens c.args.solutions.now))
     (g.S.Solutions.names c.args.solutions.now) c.args.common.now (head_of c.args.common.now.instance c.args.common.now.basis) c.compare_all.result written c.compare_all.ensures.text)
 
 pub returns-in-Err-clause-told : goal.returns-in-Err-clause-told

@@ -2,6 +2,7 @@
 use Rattle.std.proofs.Common.{◌≡◌, ◌+◌, ◌-◌, ◌≤◌, false}
 use Rattle.tsp_format.specs.Limits.{most_file_bytes}
 use Rattle.tsp_stream.specs.states.Watched.{watched, has_failed}
+use Rattle.tsp_read.specs.Asked.{IsReadOn}
 use Rattle.tsp_read.specs.Reads.{most_taken}
 use Rattle.tsp_read.proofs.PieceSteps.{Gathered}
 use Rattle.tsp_read.proofs.input.feed_all.Given as goal
@@ -9,6 +10,7 @@ use Rattle.tsp_read.proofs.input.feed_all.Given as goal
 abbrev pub invariant-pieces : goal.invariant-pieces
 invariant-pieces g l = record {
   gathered : Gathered (g.R.Read.remaining (watched l.initial.reader)) (g.R.Read.remaining (watched l.reader)) l.feed l.taken;
+  asked : IsReadOn g.R.Gives.gives l.initial.reader l.reader;
   sound : has_failed l.reader ≡ false;
   few : l.taken ≤ most_taken;
 }

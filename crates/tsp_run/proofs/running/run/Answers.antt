@@ -1,6 +1,7 @@
 -- The goals of `run` in src/running.rt: what it ensures.
-use Rattle.std.proofs.Common.{◌≡◌, ◌||◌, ℕ, Bool, false, List, Option, refl, sym, ◌∙◌, ap, subst, map, drop, Ok, Err, OnOk}
+use Rattle.std.proofs.Common.{◌≡◌, ◌||◌, ℕ, Bool, false, List, Option, Result, refl, sym, ◌∙◌, ap, subst, map, drop, Ok, Err, OnOk}
 use Rattle.std.proofs.KnownBytes.{Keeps-refl}
+use Rattle.std.specs.declared.io.Error.{Error}
 use Rattle.clap.specs.Words.{Text, kind_of}
 use Rattle.clap.specs.declared.error.kind.ErrorKind.TheVariants as kinds
 use Rattle.tsp_judge.specs.Sink.{Sink}
@@ -63,20 +64,20 @@ returns-in-Err-Refused g c =
     )
 
 -- a run ends as its job does
-ends_as_its_job : {F : Type 0} (remaining : F → Option (List ℕ)) (opens : Place → F → Type 0) (on_terminal : Bool) (build : Text)
+ends_as_its_job : {F : Type 0} (remaining : F → Option (List ℕ)) (reads : F → List ℕ → Result ℕ Error → List ℕ → F → Type 0) (opens : Place → F → Type 0) (on_terminal : Bool) (build : Text)
     (words : List Text) (sink : Sink) (job : Job) → GivesJob (drop 1 words) (Ok job) → (ending : Ending)
-    → EndsWith remaining opens job sink ending → Ends remaining opens on_terminal build words sink (job.explain || on_terminal) ending
-ends_as_its_job remaining opens on_terminal build words sink job gives (NoJob fault) ends = absurd ends
-ends_as_its_job remaining opens on_terminal build words sink job gives (Version told) ends = absurd ends
-ends_as_its_job remaining opens on_terminal build words sink job gives (NoTask fault) ends = (job, gives, ends, refl)
-ends_as_its_job remaining opens on_terminal build words sink job gives (Ended answer) ends = (job, gives, ends, refl)
-ends_as_its_job remaining opens on_terminal build words sink job gives (Compared answer) ends = (job, gives, ends, refl)
+    → EndsWith remaining reads opens job sink ending → Ends remaining reads opens on_terminal build words sink (job.explain || on_terminal) ending
+ends_as_its_job remaining reads opens on_terminal build words sink job gives (NoJob fault) ends = absurd ends
+ends_as_its_job remaining reads opens on_terminal build words sink job gives (Version told) ends = absurd ends
+ends_as_its_job remaining reads opens on_terminal build words sink job gives (NoTask fault) ends = (job, gives, ends, refl)
+ends_as_its_job remaining reads opens on_terminal build words sink job gives (Ended answer) ends = (job, gives, ends, refl)
+ends_as_its_job remaining reads opens on_terminal build words sink job gives (Compared answer) ends = (job, gives, ends, refl)
 
 pub returns : goal.returns
 returns g c =
     let job = c.in-Ok-job_of.job in
     let ran = c.run_job-answer.ensures in
     let gives = subst (λ words. GivesJob words (Ok job)) (ap (map (λ word. word.now)) c.deref.ensures.value ∙ c.in-Ok.ensures) c.in-Ok-job_of.ensures in
-    let ends = ends_as_its_job g.F.Read.remaining (g.O.Open.opens c.args.files.now) c.args.setting.on_terminal c.args.setting.build.now
+    let ends = ends_as_its_job g.F.Read.remaining g.F.Gives.gives (g.O.Open.opens c.args.files.now) c.args.setting.on_terminal c.args.setting.build.now
     (map string_bytes c.args.line.now) (sink_of g.W.Write.contents c.args.out.now c.run_job-answer.new.out) job gives ran.0 ran.1 in
     (job.explain || c.args.setting.on_terminal, ran.0, ends, ran.2)
