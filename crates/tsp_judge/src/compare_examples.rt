@@ -1,16 +1,20 @@
 //! The exit status of a comparison, its lines, and which file a fault is of. No body is looked at
 //! here: a definition that is changed together with its code is refused by its examples.
 
-ghost use Rattle.std.specs.Prelude.{◌≡◌, [], ◌∷◌, None, Some, Ok, Err, pos, codes};
+ghost use Rattle.std.specs.Prelude.{◌≡◌, ℕ, List, [], ◌∷◌, true, false, None, Some, Ok, Err, pos, codes};
+ghost use Rattle.tsp_reason.specs.declared.basis.Basis.TheVariants as bases;
 ghost use Rattle.tsp_reason.specs.declared.certificate.Certificate.{Certificate};
 ghost use Rattle.tsp_reason.specs.declared.verdict.Reason.TheVariants as reasons;
 ghost use Rattle.tsp_reason.specs.declared.verdict.Verdict.TheVariants as verdicts;
+ghost use Rattle.tsp_reason.specs.Verdicts.{is_bound_yes, is_clear, is_yes};
+ghost use Rattle.tsp_reason.specs.declared.verdict.BoundVerdict.TheVariants as bounds;
 ghost use Rattle.tsp_read.specs.declared.ReadFault.{ReadFault};
 ghost use Rattle.tsp_read.specs.declared.ReadFault.TheVariants as read_faults;
 ghost use Rattle.tsp_read.specs.Reads.{StopsAt};
+ghost use Rattle.tsp_stream.specs.Sink.{Sink, HasWritten};
 ghost use Rattle.tsp_stream.specs.Turn.{Turn};
 ghost use Rattle.tsp_judge.specs.CheckRun.{Given, IsUnreadIn, IsSomeFile};
-ghost use Rattle.tsp_judge.specs.CompareRun.{IsFaultOfCompare, largest_status, solution_lines};
+ghost use Rattle.tsp_judge.specs.CompareRun.{ComparesNone, IsFaultOfCompare, largest_status, solution_lines};
 
 /// The largest status of the solutions, whichever comes first.
 pub fn examples_of_largest_statuses()
@@ -19,6 +23,24 @@ pub fn examples_of_largest_statuses()
     ensures no { largest_status (Ok (verdicts.No reasons.TourCount) ∷ Ok (verdicts.Tour (pos 14) None) ∷ []) ≡ 1 }
     ensures fault { largest_status (Ok (verdicts.No reasons.TourCount) ∷ Err read_faults.TooLong ∷ []) ≡ 2 }
     ensures device { largest_status (Err read_faults.Device ∷ Err read_faults.TooLong ∷ []) ≡ 5 }
+{}
+
+/// Which verdicts accept, and after which bases solutions are judged one by one: all but a reason,
+/// which ends the text, and the status is 1 then.
+pub fn examples_of_bases()
+    ensures tour { is_yes (verdicts.Tour (pos 14) None) ≡ true }
+    ensures routes { is_yes (verdicts.Routes (pos 20) 3 2) ≡ true }
+    ensures rejected { is_yes (verdicts.No reasons.TourCount) ≡ false }
+    ensures bounded { is_bound_yes (bounds.Bound (pos 12)) ≡ true }
+    ensures without_tours { is_bound_yes bounds.NoTour ≡ true }
+    ensures unbounded { is_bound_yes (bounds.No reasons.TooFewNodes) ≡ false }
+    ensures clear { is_clear (bases.Tours None) ≡ true }
+    ensures clear_by_a_bound { is_clear (bases.Tours (Some (pos 12))) ≡ true }
+    ensures clear_without_tours { is_clear bases.NoTour ≡ true }
+    ensures clear_for_routes { is_clear (bases.Routes 2) ≡ true }
+    ensures reason { is_clear (bases.No reasons.TooFewNodes) ≡ false }
+    ensures status { (head : List ℕ) (sink : Sink) → HasWritten sink head → ComparesNone head sink (Ok 1) }
+    ensures no_other_status { (head : List ℕ) (sink : Sink) → ¬ ComparesNone head sink (Ok 2) }
 {}
 
 /// Lines in the order of the solutions, each with its own path, and whole lines of the first ones

@@ -32,7 +32,7 @@ pub use check::{run_bound_check, run_branch_check, run_check};
 pub use checked::run;
 pub use common::{Common, Found};
 pub use compare_examples::{
-    examples_of_faulty_files_of_comparisons, examples_of_largest_statuses,
+    examples_of_bases, examples_of_faulty_files_of_comparisons, examples_of_largest_statuses,
     examples_of_lines_of_solutions,
 };
 pub use compare_laws::{lines_of_bounded_tours, lines_of_checks, solutions_without_a_basis};

@@ -6,8 +6,10 @@
 //! ```
 #![tactic(auto)]
 
+mod examples;
 mod explained;
 mod outcome;
 
+pub use examples::examples_of_done_tasks;
 pub use explained::{explain_fault, explain_outcome};
 pub use outcome::{Outcome, is_accepted, perform};
