@@ -1,6 +1,6 @@
--- The verdict on a solution by what is known of all.
+-- What is known of all solutions, and the verdict on one of them by that.
 use Rattle.std.proofs.Common.{◌≡◌, ◌⊎◌, ◌<◌, ◌≤◌, ℕ, inl, inr, true, Option, Some, None, refl, sym, ap, subst, ◌∙◌, arith}
-use Rattle.std.specs.Prelude.{ℤ, IsTrue, MatchOption}
+use Rattle.std.specs.Prelude.{ℤ, IsTrue, MatchOption, option_map}
 use Rattle.std.proofs.lemmas.Bool.{false≢true}
 use Rattle.tsp_format.specs.declared.kinds.Kind.{Kind}
 use Rattle.tsp_format.specs.declared.kinds.Kind.TheVariants as kinds
@@ -17,12 +17,15 @@ use Rattle.tsp_reason.specs.declared.verdict.Verdict.TheVariants as verdicts
 use Rattle.tsp_verdict.specs.Basis.{StandsAgainstRouting, IsBasisOfTours, IsBasisOfRoutes, IsBasisAlone, IsBasisBy, IsBasis, HasBasis, IsVerdictFrom}
 use Rattle.tsp_verdict.specs.Bounded.{StandsAgainstInstance, NoneAgainstInstance, StandsAgainstBounded}
 use Rattle.tsp_verdict.specs.Certified.{is_bounded, StandsAgainstCertificate}
-use Rattle.tsp_verdict.specs.Judged.{IsVerdictBy, IsVerdictOn, IsAsClaimed, IsOtherClaimed, IsVerdictWith}
+use Rattle.tsp_verdict.specs.Judged.{is_judged, IsVerdictBy, IsVerdictOn, IsAsClaimed, IsOtherClaimed, IsVerdictWith}
 use Rattle.tsp_verdict.specs.Plan.{total_of, IsLeast}
 use Rattle.tsp_verdict.specs.Reasons.{rank_of, NoneBefore, IsFirstReason}
 use Rattle.tsp_cost.specs.ComputedProblems.{capacity_of}
 use Rattle.tsp_verdict.specs.Routes.{StandsAgainstRoutes, IsRoutesVerdict}
 use Rattle.tsp_verdict.specs.Tours.{NoneOfTourUpTo, IsFirstAgainstTour, IsTourVerdict}
+use Rattle.tsp_verdict.specs.states.Grounds.{verdict_by, IsSubject, IsVerdictGiven, IsBasisGiven}
+use Rattle.tsp_verdict.specs.declared.ground.Given.{Given}
+use Rattle.tsp_verdict.specs.declared.ground.Given.TheVariants as givens
 use Rattle.tsp_verdict.specs.states.Known.{against_instance, KnowsInstance}
 use Rattle.tsp_verdict.proofs.Certificates.{certificate_rank, kinds_bounded}
 use Rattle.tsp_verdict.proofs.Claims.{refused_alone, other_alone, accepted_alone, tour_refused, tour_of_another_length, certificate_refused, tour_bounded}
@@ -145,62 +148,107 @@ tour_alone inst sol verdict (inl tsp) v = subst (λ kind. IsVerdictBy kind inst 
 tour_alone inst sol verdict (inr atsp) v = subst (λ kind. IsVerdictBy kind inst sol verdict) (sym atsp) v
 
 -- the first reason against a tour is that of the verdict
-pub tour_rejected : (inst sol : Fields) (basis : Basis) (claimed : Option ℤ) (reason : Reason) → HasTours inst
-    → IsFirstAgainstTour inst sol reason
-    → IsVerdictFrom basis claimed inst sol (verdicts.No reason)
-tour_rejected inst sol basis claimed reason kind first = (tt, λ given b. by_given given b)
-  where
-    by_given : (given : Option (Certificate × Fields)) → IsBasis given inst basis → IsVerdictWith given claimed inst sol (verdicts.No reason)
-    by_given None b = refused_alone claimed inst sol (verdicts.No reason) tt (tour_alone inst sol (verdicts.No reason) kind first)
-    by_given (Some given) b = tour_refused given.0 inst sol given.1 claimed reason b.0 first
+tour_rejected : (given : Option (Certificate × Fields)) (inst sol : Fields) (claimed : Option ℤ) (reason : Reason) → HasTours inst
+    → IsTrue (is_judged given inst.kind) → IsFirstAgainstTour inst sol reason
+    → IsVerdictWith given claimed inst sol (verdicts.No reason)
+tour_rejected None inst sol claimed reason kind is first =
+    refused_alone claimed inst sol (verdicts.No reason) tt (tour_alone inst sol (verdicts.No reason) kind first)
+tour_rejected (Some given) inst sol claimed reason kind is first = tour_refused given.0 inst sol given.1 claimed reason is first
 
 -- another length than the claimed one
-pub tour_disclaimed : (inst sol : Fields) (basis : Basis) (claimed : Option ℤ) (found : ℤ) → HasTours inst
-    → IsTourVerdict inst sol (verdicts.Tour found None)
-    → IsOtherClaimed claimed found → IsVerdictFrom basis claimed inst sol (verdicts.No (LengthClaimed found))
-tour_disclaimed inst sol basis claimed found kind v other = (tt, λ given b. by_given given b)
-  where
-    by_given : (given : Option (Certificate × Fields)) → IsBasis given inst basis → IsVerdictWith given claimed inst sol (verdicts.No (LengthClaimed found))
-    by_given None b = other_alone claimed inst sol (verdicts.Tour found None) found refl other (tour_alone inst sol (verdicts.Tour found None) kind v)
-    by_given (Some given) b = tour_of_another_length given.0 inst sol given.1 claimed found b.0 v other
+tour_disclaimed : (given : Option (Certificate × Fields)) (inst sol : Fields) (claimed : Option ℤ) (found : ℤ) → HasTours inst
+    → IsTrue (is_judged given inst.kind) → IsTourVerdict inst sol (verdicts.Tour found None) → IsOtherClaimed claimed found
+    → IsVerdictWith given claimed inst sol (verdicts.No (LengthClaimed found))
+tour_disclaimed None inst sol claimed found kind is v other =
+    other_alone claimed inst sol (verdicts.Tour found None) found refl other (tour_alone inst sol (verdicts.Tour found None) kind v)
+tour_disclaimed (Some given) inst sol claimed found kind is v other =
+    tour_of_another_length given.0 inst sol given.1 claimed found is v other
 
 -- a tour to which no reason applies has the bound
-pub tour_accepted : (inst sol : Fields) (bound claimed : Option ℤ) (found : ℤ) → HasTours inst
-    → IsTourVerdict inst sol (verdicts.Tour found None)
-    → IsAsClaimed claimed found → IsVerdictFrom (bases.Tours bound) claimed inst sol (verdicts.Tour found bound)
-tour_accepted inst sol bound claimed found kind v claims = (refl, λ given b. by_given bound given b)
-  where
-    by_given : (bound : Option ℤ) (given : Option (Certificate × Fields)) → IsBasis given inst (bases.Tours bound)
-        → IsVerdictWith given claimed inst sol (verdicts.Tour found bound)
-    by_given None None b = accepted_alone claimed inst sol (verdicts.Tour found None) found refl claims (tour_alone inst sol (verdicts.Tour found None) kind v)
-    by_given None (Some given) b = absurd b.1
-    by_given (Some least) None b = absurd (alone_of_tours inst (bases.Tours (Some least)) kind b.1)
-    by_given (Some least) (Some given) b =
-        tour_bounded given.0 inst sol given.1 claimed found least v claims (found_by_certificate given.0 inst sol given.1 (bounds.Bound least) v.0 b.1)
+tour_accepted : (given : Option (Certificate × Fields)) (inst sol : Fields) (bound claimed : Option ℤ) (found : ℤ) → HasTours inst
+    → IsBasis given inst (bases.Tours bound) → IsTourVerdict inst sol (verdicts.Tour found None) → IsAsClaimed claimed found
+    → IsVerdictWith given claimed inst sol (verdicts.Tour found bound)
+tour_accepted None inst sol None claimed found kind b v claims =
+    accepted_alone claimed inst sol (verdicts.Tour found None) found refl claims (tour_alone inst sol (verdicts.Tour found None) kind v)
+tour_accepted (Some given) inst sol None claimed found kind b v claims = absurd b.1
+tour_accepted None inst sol (Some least) claimed found kind b v claims =
+    absurd (alone_of_tours inst (bases.Tours (Some least)) kind b.1)
+tour_accepted (Some given) inst sol (Some least) claimed found kind b v claims =
+    tour_bounded given.0 inst sol given.1 claimed found least v claims (found_by_certificate given.0 inst sol given.1 (bounds.Bound least) v.0 b.1)
 
 -- the reason against the certificate, where none applies to the tour
-pub tour_uncertified : (inst sol : Fields) (claimed : Option ℤ) (found : ℤ) (reason : Reason) → HasTours inst
-    → IsTourVerdict inst sol (verdicts.Tour found None)
-    → IsAsClaimed claimed found → IsVerdictFrom (bases.No reason) claimed inst sol (verdicts.No reason)
-tour_uncertified inst sol claimed found reason kind v claims = (tt, λ given b. by_given given b)
-  where
-    by_given : (given : Option (Certificate × Fields)) → IsBasis given inst (bases.No reason) → IsVerdictWith given claimed inst sol (verdicts.No reason)
-    by_given None b = absurd (v.0 reason (against_tour inst sol reason (alone_of_tours inst (bases.No reason) kind b.1).stands))
-    by_given (Some given) b =
-        certificate_refused given.0 inst sol given.1 claimed found reason b.0 v claims (found_by_certificate given.0 inst sol given.1 (bounds.No reason) v.0 b.1)
+tour_uncertified : (given : Option (Certificate × Fields)) (inst sol : Fields) (claimed : Option ℤ) (found : ℤ) (reason : Reason)
+    → HasTours inst
+    → IsBasis given inst (bases.No reason) → IsTourVerdict inst sol (verdicts.Tour found None) → IsAsClaimed claimed found
+    → IsVerdictWith given claimed inst sol (verdicts.No reason)
+tour_uncertified None inst sol claimed found reason kind b v claims =
+    absurd (v.0 reason (against_tour inst sol reason (alone_of_tours inst (bases.No reason) kind b.1).stands))
+tour_uncertified (Some given) inst sol claimed found reason kind b v claims =
+    certificate_refused given.0 inst sol given.1 claimed found reason b.0 v claims (found_by_certificate given.0 inst sol given.1 (bounds.No reason) v.0 b.1)
 
 -- an instance without tours has no tour of a solution
-pub no_tour : (given : Option (Certificate × Fields)) (inst sol : Fields) (found : ℤ) → HasTours inst
+no_tour : (given : Option (Certificate × Fields)) (inst sol : Fields) (found : ℤ) → HasTours inst
     → IsBasis given inst bases.NoTour
     → IsTourVerdict inst sol (verdicts.Tour found None) → ⊥
 no_tour None inst sol found kind b v = alone_of_tours inst bases.NoTour kind b.1
 no_tour (Some given) inst sol found kind b v = b.1.2 v.1.0 v.1.2
 
 -- an instance with tours has no routes
-pub no_routes : (given : Option (Certificate × Fields)) (inst : Fields) (least : ℕ) → HasTours inst
+no_routes : (given : Option (Certificate × Fields)) (inst : Fields) (least : ℕ) → HasTours inst
     → IsBasis given inst (bases.Routes least) → ⊥
 no_routes None inst least kind b = alone_of_tours inst (bases.Routes least) kind b.1
 no_routes (Some given) inst least kind b = b.1
+
+-- the verdict on a tour that is accepted on its own, by what is known of all
+tour_judged : (given : Option (Certificate × Fields)) (inst sol : Fields) (basis : Basis) (claimed : Option ℤ) (found : ℤ)
+    → HasTours inst
+    → IsBasis given inst basis → IsTourVerdict inst sol (verdicts.Tour found None) → IsAsClaimed claimed found
+    → IsVerdictWith given claimed inst sol (verdict_by basis found) × HasBasis (verdict_by basis found) basis
+tour_judged given inst sol (bases.Tours bound) claimed found kind b v claims =
+    (tour_accepted given inst sol bound claimed found kind b v claims, refl)
+tour_judged given inst sol bases.NoTour claimed found kind b v claims = absurd (no_tour given inst sol found kind b v)
+tour_judged given inst sol (bases.Routes least) claimed found kind b v claims = absurd (no_routes given inst least kind b)
+tour_judged given inst sol (bases.No reason) claimed found kind b v claims =
+    (tour_uncertified given inst sol claimed found reason kind b v claims, tt)
+
+-- tours have a bound by each certificate
+pub bounded_so : (by : Certificate) (inst : Fields) → HasTours inst → IsTrue (is_bounded by inst.kind)
+bounded_so by inst (inl tsp) = subst (λ kind. IsTrue (is_bounded by kind)) (sym tsp) refl
+bounded_so by inst (inr atsp) = subst (λ kind. IsTrue (is_bounded by kind)) (sym atsp) refl
+
+-- ---- a subject of tours
+
+pub subject_rejected : (given : Given) (inst sol : Fields) (claimed : Option ℤ) (reason : Reason) → HasTours inst
+    → IsSubject inst given → IsFirstAgainstTour inst sol reason → IsVerdictGiven given claimed inst sol (verdicts.No reason)
+subject_rejected (givens.Certificate certificate) inst sol claimed reason kind s first =
+    tour_rejected (option_map (λ it. (it.0, it.1.now)) certificate) inst sol claimed reason kind s first
+subject_rejected (givens.Basis basis) inst sol claimed reason kind s first =
+    (tt, λ other b. tour_rejected other inst sol claimed reason kind b.0 first)
+
+pub subject_disclaimed : (given : Given) (inst sol : Fields) (claimed : Option ℤ) (found : ℤ) → HasTours inst
+    → IsSubject inst given → IsTourVerdict inst sol (verdicts.Tour found None) → IsOtherClaimed claimed found
+    → IsVerdictGiven given claimed inst sol (verdicts.No (LengthClaimed found))
+subject_disclaimed (givens.Certificate certificate) inst sol claimed found kind s v other =
+    tour_disclaimed (option_map (λ it. (it.0, it.1.now)) certificate) inst sol claimed found kind s v other
+subject_disclaimed (givens.Basis basis) inst sol claimed found kind s v other =
+    (tt, λ any b. tour_disclaimed any inst sol claimed found kind b.0 v other)
+
+from_basis : (inst sol : Fields) (basis known : Basis) (claimed : Option ℤ) (found : ℤ) → HasTours inst → basis ≡ known
+    → (given : Option (Certificate × Fields)) × IsBasis given inst known → IsTourVerdict inst sol (verdicts.Tour found None)
+    → IsAsClaimed claimed found → IsVerdictFrom known claimed inst sol (verdict_by basis found)
+from_basis inst sol basis known claimed found kind is s v claims =
+    subst (λ (it : Basis). IsVerdictFrom known claimed inst sol (verdict_by it found)) (sym is) (
+      (tour_judged s.0 inst sol known claimed found kind s.1 v claims).1,
+      λ given b. (tour_judged given inst sol known claimed found kind b v claims).0,
+    )
+
+pub subject_judged : (given : Given) (inst sol : Fields) (basis : Basis) (claimed : Option ℤ) (found : ℤ) → HasTours inst
+    → IsSubject inst given → IsBasisGiven given inst basis → IsTourVerdict inst sol (verdicts.Tour found None)
+    → IsAsClaimed claimed found → IsVerdictGiven given claimed inst sol (verdict_by basis found)
+subject_judged (givens.Certificate certificate) inst sol basis claimed found kind s b v claims =
+    (tour_judged (option_map (λ it. (it.0, it.1.now)) certificate) inst sol basis claimed found kind b v claims).0
+subject_judged (givens.Basis known) inst sol basis claimed found kind s is v claims =
+    from_basis inst sol basis known claimed found kind is s v claims
 
 -- ---- routes
 
@@ -258,20 +306,22 @@ routes_have inst sol basis claimed (verdicts.Routes found count least) cvrp b v 
     (subst (λ kind. IsVerdictBy kind inst sol (verdicts.Routes found count least)) cvrp (own_routes claimed inst sol found count least v))
 routes_have inst sol basis claimed (verdicts.No reason) cvrp b v = tt
 
-with_either : (given : Option (Certificate × Fields)) (inst sol : Fields) (basis : Basis) (claimed : Option ℤ) (verdict : Verdict)
-    → inst.kind ≡ Some kinds.Cvrp
-    → IsVerdictWith None claimed inst sol verdict → IsBasis given inst basis → IsVerdictWith given claimed inst sol verdict
-with_either None inst sol basis claimed verdict cvrp v b = v
-with_either (Some given) inst sol basis claimed verdict cvrp v b =
-    absurd (cvrp_apart inst.kind cvrp (kinds_bounded given.0 inst.kind b.0))
+with_either : (given : Option (Certificate × Fields)) (inst sol : Fields) (claimed : Option ℤ) (verdict : Verdict)
+    → inst.kind ≡ Some kinds.Cvrp → IsTrue (is_judged given inst.kind)
+    → IsVerdictWith None claimed inst sol verdict → IsVerdictWith given claimed inst sol verdict
+with_either None inst sol claimed verdict cvrp is v = v
+with_either (Some given) inst sol claimed verdict cvrp is v = absurd (cvrp_apart inst.kind cvrp (kinds_bounded given.0 inst.kind is))
 
 -- the verdict on routes is that of the solution
-pub routes_verdict : (given : Option (Certificate × Fields)) (inst sol : Fields) (basis : Basis) (claimed : Option ℤ) (verdict next : Verdict)
-    → inst.kind ≡ Some kinds.Cvrp → IsBasis given inst basis → IsRoutesVerdict inst sol verdict
+pub routes_judged : (given : Given) (inst sol : Fields) (claimed : Option ℤ) (verdict next : Verdict)
+    → inst.kind ≡ Some kinds.Cvrp → IsSubject inst given → IsRoutesVerdict inst sol verdict
     → ((instance solution : Fields) → IsVerdictOn instance solution verdict → IsVerdictWith None claimed instance solution next)
-    → IsVerdictFrom basis claimed inst sol next
-routes_verdict given inst sol basis claimed verdict next cvrp b routes claims =
+    → IsVerdictGiven given claimed inst sol next
+routes_judged (givens.Certificate certificate) inst sol claimed verdict next cvrp s routes claims =
+    with_either (option_map (λ it. (it.0, it.1.now)) certificate) inst sol claimed next cvrp s
+    (claims inst sol (subst (λ kind. IsVerdictBy kind inst sol verdict) (sym cvrp) routes))
+routes_judged (givens.Basis basis) inst sol claimed verdict next cvrp s routes claims =
     let own : IsVerdictWith None claimed inst sol next = claims inst sol (subst (λ kind. IsVerdictBy kind inst sol verdict) (sym cvrp) routes) in (
-      routes_have inst sol basis claimed next cvrp (alone_of_routes given inst basis cvrp b) own,
-      λ other is. with_either other inst sol basis claimed next cvrp own is,
+      routes_have inst sol basis claimed next cvrp (alone_of_routes s.0 inst basis cvrp s.1) own,
+      λ other b. with_either other inst sol claimed next cvrp b.0 own,
     )

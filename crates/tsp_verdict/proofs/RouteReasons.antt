@@ -1,13 +1,43 @@
 -- The reasons against routes, ruled out one by one.
-use Rattle.std.proofs.Common.{ℕ, arith}
+use Rattle.std.proofs.Common.{ℕ, ◌≤◌, arith}
 use Rattle.tsp_draft.specs.Fields.{Fields, nodes_of}
 use Rattle.tsp_reason.specs.declared.verdict.Reason.{Reason}
-use Rattle.tsp_reason.specs.declared.verdict.Reason.TheVariants.{NotPotentials, PotentialsDimension, PotentialsKind, MultiplierNotFixed, MultiplierRepeated, DualInfeasible, NotSymmetric, TourCount, TourLength, NodeOutOfRange, RepeatedNode, FixedEdgeUnused, DepotInRoute, Unserved, Overload, NotBranches, BranchesDimension, BadComb, BranchTwice, BadLeaf, LengthClaimed}
+use Rattle.tsp_reason.specs.declared.verdict.Reason.TheVariants.{TooFewNodes, DepotCount, DepotDemand, FixedEdgesInRoutes, NotPotentials, PotentialsDimension, PotentialsKind, MultiplierNotFixed, MultiplierRepeated, DualInfeasible, NotSymmetric, TourCount, TourLength, NodeOutOfRange, RepeatedNode, FixedEdgeUnused, DepotInRoute, Unserved, Overload, NotBranches, BranchesDimension, BadComb, BranchTwice, BadLeaf, LengthClaimed}
 use Rattle.tsp_verdict.specs.Places.{IsFirstPlace, IsLarger, IsAt, IsRepeated}
 use Rattle.tsp_verdict.specs.Plan.{depot_of}
 use Rattle.tsp_cost.specs.ComputedProblems.{demands_of, capacity_of}
 use Rattle.tsp_verdict.specs.Solution.{visited, tours_of}
-use Rattle.tsp_verdict.specs.Routes.{IsFirstUnserved, IsOverloaded, StandsAgainstRoutes, NoneOfRoutesUpTo}
+use Rattle.tsp_verdict.specs.Basis.{StandsAgainstRouting, NoneAgainstRouting}
+use Rattle.tsp_verdict.specs.Reasons.{NoneBefore, IsFirstReason}
+use Rattle.tsp_verdict.specs.Routes.{IsFirstUnserved, IsOverloaded, StandsAgainstRoutes, NoneOfRoutesUpTo, NoneOfRoutesBeforePlaces, IsFirstAgainstRoutes}
+
+-- ---- the reasons against the instance, whatever the routes
+
+up_to_places : (inst sol : Fields) (rank : ℕ) → rank ≤ 10 → NoneOfRoutesUpTo inst sol 7
+    → NoneBefore (StandsAgainstRouting inst) rank → NoneOfRoutesUpTo inst sol rank
+up_to_places inst sol rank few before none DepotCount low stands = none DepotCount low stands
+up_to_places inst sol rank few before none DepotDemand low stands = none DepotDemand low stands
+up_to_places inst sol rank few before none FixedEdgesInRoutes low stands = none FixedEdgesInRoutes low stands
+up_to_places inst sol rank few before none reason low stands = before reason (omega (arith, few, low)) stands
+
+-- the first of them is the first against the routes
+pub routing_first : (inst sol : Fields) (reason : Reason) → NoneOfRoutesUpTo inst sol 7
+    → IsFirstReason (StandsAgainstRouting inst) reason → IsFirstAgainstRoutes inst sol reason
+routing_first inst sol TooFewNodes before first = absurd (before TooFewNodes (omega arith) first.stands)
+routing_first inst sol DepotCount before first =
+    record { stands = first.stands; none_before = up_to_places inst sol 7 (omega arith) before first.none_before }
+routing_first inst sol DepotDemand before first =
+    record { stands = first.stands; none_before = up_to_places inst sol 8 (omega arith) before first.none_before }
+routing_first inst sol FixedEdgesInRoutes before first =
+    record { stands = first.stands; none_before = up_to_places inst sol 9 (omega arith) before first.none_before }
+routing_first inst sol reason before first = absurd first.stands
+
+-- where none applies, the nodes of the routes are judged next
+pub after_routing : (inst sol : Fields) → NoneOfRoutesUpTo inst sol 7 → NoneAgainstRouting inst → NoneOfRoutesBeforePlaces inst sol
+after_routing inst sol before none place =
+    up_to_places inst sol 10 (omega arith) before (λ reason low stands. none reason stands)
+
+-- ---- the reasons against routes
 
 pub after_depot : (inst sol : Fields) → NoneOfRoutesUpTo inst sol 10
     → ((place : ℕ) → IsFirstPlace (IsAt (depot_of inst) (visited sol)) (visited sol) place → ⊥) → NoneOfRoutesUpTo inst sol 11

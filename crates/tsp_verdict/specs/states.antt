@@ -4,3 +4,4 @@ pub mod Marks
 pub mod Next
 pub mod Sums
 pub mod RouteLists
+pub mod Grounds

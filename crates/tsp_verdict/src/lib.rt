@@ -15,24 +15,28 @@ mod bounded;
 mod certificate;
 mod certified;
 mod claim_examples;
+mod claimed;
 mod decided;
 mod examples;
 mod files;
 mod fixed;
+mod ground;
 mod judged;
 mod lengths;
 mod loads;
 mod multiplied;
 mod places;
+mod promised;
 mod routes;
+mod subject;
 mod tour;
 mod tree;
 mod verdict_examples;
 mod visits;
 
-pub use basis::{basis_alone, basis_of, judge_basis, judge_next};
+pub use basis::{basis_alone, basis_of, judge_basis};
 pub use bounded::judge_bound;
-pub use certified::{is_bounded, judge_certified, judge_tour_bound, judge_tour_branches};
+pub use certified::is_bounded;
 pub use claim_examples::{
     examples_of_claimed_verdicts, examples_of_fixed_arcs, examples_of_other_claims,
 };
@@ -42,9 +46,8 @@ pub use examples::{
     examples_of_dimensions_of_routes, examples_of_multipliers, examples_of_order,
     examples_of_order_of_routes, examples_of_plans, examples_of_reasons_before_memory,
 };
-pub use judged::judge;
-pub use routes::judge_routes;
-pub use tour::judge_tour;
+pub use judged::{judge, judge_next};
+pub use promised::{judge_routes, judge_tour, judge_tour_bound, judge_tour_branches};
 pub use tsp_reason::{Basis, BoundVerdict, Certificate, Reason, Verdict};
 pub use verdict_examples::{
     examples_against_routing, examples_of_accepted, examples_of_bounds, examples_of_depots,

@@ -1,6 +1,6 @@
 //! The verdict on routes.
 
-ghost use Rattle.std.specs.Prelude.{◌≡◌, length, pos, Some, MatchOption, MatchResult};
+ghost use Rattle.std.specs.Prelude.{◌≡◌, ◌≤◌, length, pos, Some, MatchOption, MatchResult};
 ghost use Rattle.std.specs.List.{All};
 ghost use Rattle.tsp_format.specs.declared.kinds.Kind.TheVariants as kinds;
 ghost use Rattle.tsp_format.specs.Cells.{IsNode};
@@ -9,14 +9,15 @@ ghost use Rattle.tsp_draft.specs.Fields.{nodes_of};
 ghost use Rattle.tsp_cost.specs.ComputedProblems.{demands_of, depots_of};
 ghost use Rattle.tsp_verdict.specs.Routes.{NoneOfRoutesUpTo, NoneOfRoutesBeforePlaces, IsFirstAgainstRoutes, IsRoutesVerdict, NoneOfRoutesBeforeRepeats};
 ghost use Rattle.tsp_reason.specs.declared.verdict.Reason.TheVariants.{DepotCount};
-ghost use Rattle.tsp_verdict.specs.Reasons.{rank_of};
+ghost use Rattle.tsp_verdict.specs.Basis.{StandsAgainstRouting, NoneAgainstRouting};
+ghost use Rattle.tsp_verdict.specs.Reasons.{rank_of, IsFirstReason};
 ghost use Rattle.tsp_verdict.specs.states.RouteLists.{AreToursOf};
 
 use crate::files::{routing, solution_tours};
 use crate::lengths::plan_length;
 use crate::loads::{first_overload, least_routes};
 use crate::visits::{first_larger_in, first_of_in, first_unmarked, mark_all};
-use std::alloc::{AllocError, Global};
+use std::alloc::Global;
 use tsp_cost::{Costs, Instance};
 use tsp_file::{File, RoutingData};
 use tsp_memory::{Refused, filled};
@@ -25,36 +26,11 @@ use tsp_reason::{Reason, Verdict};
 /// The fewest nodes of an instance whose routes are judged.
 pub(crate) const FEWEST_NODES: u32 = 2;
 
-/// The verdict on a solution of an instance of TYPE CVRP: rejected with the first reason against
-/// it, or accepted, where its tours are a plan of routes, with their length and number.
-///
-/// A plan's routes hold each node other than the depot exactly once and nothing else, and the
-/// demands of each sum to at most the capacity (TSPLIB 95). Each route goes from the depot through
-/// its nodes and back. `least` is the least L with `L * capacity` at least the sum of all demands:
-/// no plan has fewer routes. The reasons are judged in the order that [`Reason`] says.
-///
-/// # Requires
-///
-/// An instance of TYPE CVRP.
+/// The verdict on routes.
 ///
 /// # Errors
 ///
-/// Out of memory for a mark for each node, and then no reason up to `NodeOutOfRange` in that order
-/// applies: those are found without memory.
-pub fn judge_routes(alloc: Global, inst: &Instance, sol: &File) -> Result<Verdict, AllocError>
-    requires { inst.now.kind ≡ Some kinds.Cvrp }
-    ensures { MatchResult result
-        (λ verdict. IsRoutesVerdict inst.now sol.now verdict)
-        (λ refused. NoneOfRoutesBeforeRepeats inst.now sol.now) }
-{
-    Ok(verdict_on_routes(alloc, inst, sol)?)
-}
-
-/// What [`judge_routes`] returns.
-///
-/// # Errors
-///
-/// Those of [`judge_routes`].
+/// Out of memory for a mark for each node, and then no reason up to `NodeOutOfRange` applies.
 pub(crate) fn verdict_on_routes(
     alloc: Global,
     inst: &Instance,
@@ -66,7 +42,7 @@ pub(crate) fn verdict_on_routes(
         (λ refused. NoneOfRoutesBeforeRepeats inst.now sol.now) }
 {
     let routing = routing(inst);
-    let (depot, routes) = match the_depot(inst, &routing, sol) {
+    let (depot, routes) = match depot_and_routes(inst, &routing, sol) {
         Ok(found) => found,
         Err(reason) => return Ok(Verdict::No(reason)),
     };
@@ -90,9 +66,34 @@ pub(crate) fn verdict_on_routes(
     })
 }
 
+/// The only depot of an instance of enough nodes, or the first reason against it, whatever the
+/// routes.
+pub(crate) fn the_depot(inst: &Instance, routing: &RoutingData<'_>) -> Result<u32, Reason>
+    requires some { 2 ≤ nodes_of inst.now }
+    requires demands { routing.now.demands.now ≡ demands_of inst.now }
+    requires each { length routing.now.demands.now ≡ nodes_of inst.now }
+    requires depots { routing.now.depots.now ≡ depots_of inst.now }
+    requires each_depot { All (IsNode (nodes_of inst.now)) routing.now.depots.now }
+    ensures { MatchResult result (λ depot. (depot ≡ depot_of inst.now)
+        × IsNode (nodes_of inst.now) depot × (demand_of (demands_of inst.now) depot ≡ pos 0)
+        × NoneAgainstRouting inst.now)
+        (λ reason. IsFirstReason (StandsAgainstRouting inst.now) reason) }
+{
+    let [depot] = routing.depots else {
+        return Err(Reason::DepotCount);
+    };
+    if routing.demands[*depot as usize - 1] != 0 {
+        return Err(Reason::DepotDemand);
+    }
+    if !inst.fixed().is_empty() {
+        return Err(Reason::FixedEdgesInRoutes);
+    }
+    Ok(*depot)
+}
+
 /// The only depot of an instance and the routes of a solution, or the first reason that needs no
 /// look at the routes.
-fn the_depot<'a>(
+fn depot_and_routes<'a>(
     inst: &Instance,
     routing: &RoutingData<'_>,
     sol: &'a File,
@@ -110,22 +111,16 @@ fn the_depot<'a>(
         Ok(routes) => routes,
         Err(reason) => return Err(reason),
     };
-    let [depot] = routing.depots else {
-        return Err(Reason::DepotCount);
-    };
-    if routing.demands[*depot as usize - 1] != 0 {
-        return Err(Reason::DepotDemand);
+    match the_depot(inst, routing) {
+        Ok(depot) => Ok((depot, routes)),
+        Err(reason) => Err(reason),
     }
-    if !inst.fixed().is_empty() {
-        return Err(Reason::FixedEdgesInRoutes);
-    }
-    Ok((*depot, routes))
 }
 
 /// The routes of a solution, or the first reason that needs no look at the depot.
 fn first_against_files<'a>(inst: &Instance, sol: &'a File) -> Result<&'a [Vec<u32>], Reason>
     ensures { MatchResult result (λ routes. AreToursOf sol.now routes.now
-        × NoneOfRoutesUpTo inst.now sol.now (rank_of DepotCount))
+        × (2 ≤ nodes_of inst.now) × NoneOfRoutesUpTo inst.now sol.now (rank_of DepotCount))
         (λ reason. IsFirstAgainstRoutes inst.now sol.now reason) }
 {
     let nodes = inst.count();

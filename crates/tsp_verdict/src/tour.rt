@@ -8,72 +8,23 @@ ghost use Rattle.tsp_reason.specs.declared.verdict.Reason.TheVariants.{TourCount
 ghost use Rattle.tsp_verdict.specs.Reasons.{rank_of};
 ghost use Rattle.tsp_draft.specs.Fields.{nodes_of};
 ghost use Rattle.tsp_verdict.specs.Solution.{tours_of};
-ghost use Rattle.tsp_verdict.specs.Tours.{NoneOfTourUpTo, NoneOfTourBeforeNodes, IsFirstAgainstTour, IsTourVerdict, NoneOfTourBeforeRepeats};
+ghost use Rattle.tsp_verdict.specs.Tours.{NoneOfTourUpTo, NoneOfTourBeforeNodes, IsFirstAgainstTour, NoneOfTourBeforeRepeats};
 ghost use Rattle.tsp_file.specs.Cost.{cost};
 ghost use Rattle.tsp_theory.specs.Costs.{IsFirstAsymmetric};
-ghost use Rattle.tsp_verdict.specs.states.TourCosts.{AreTourCosts, IsLengthOf, FindsLength};
+ghost use Rattle.tsp_verdict.specs.states.TourCosts.{AreTourCosts, IsLengthOf};
 ghost use Rattle.tsp_verdict.specs.states.RouteLists.{AreToursOf};
 
-use crate::files::solution_tours;
 use crate::fixed::{first_unused, next_nodes};
 use crate::places::{first_larger, first_repeated};
-use std::alloc::{AllocError, Global};
+use std::alloc::Global;
 use tsp_cost::{Costs, EvenView, Instance, View, even_view, tour_length};
 use tsp_file::File;
 use tsp_format::Kind;
 use tsp_memory::Refused;
-use tsp_reason::{Reason, Verdict};
+use tsp_reason::Reason;
 
 /// The fewest nodes of an instance whose tours are judged.
 pub(crate) const FEWEST_NODES: u32 = 3;
-
-/// The verdict on a solution of an instance of TYPE TSP or ATSP: rejected with the first reason
-/// against it, or accepted, where the solution is one tour of the instance, with its length.
-///
-/// A tour has each node of the instance once and uses every fixed pair (TSPLIB 95): as neighbours
-/// in either direction, under TYPE ATSP from the pair's first to its second node. The reasons are
-/// judged in the order of [`Reason`], up to `FixedEdgeUnused`. The bound is `None`.
-///
-/// # Requires
-///
-/// An instance of TYPE TSP or ATSP.
-///
-/// # Errors
-///
-/// Out of memory for a mark and a number for each node, and then no reason up to `NodeOutOfRange`
-/// applies: those are found without memory.
-pub fn judge_tour(alloc: Global, inst: &Instance, sol: &File) -> Result<Verdict, AllocError>
-    requires { (inst.now.kind ≡ Some kinds.Tsp) ⊎ (inst.now.kind ≡ Some kinds.Atsp) }
-    ensures { MatchResult result
-        (λ verdict. IsTourVerdict inst.now sol.now verdict)
-        (λ refused. NoneOfTourBeforeRepeats inst.now sol.now) }
-{
-    Ok(verdict_on_tour(alloc, inst, sol)?)
-}
-
-/// What [`judge_tour`] returns.
-///
-/// # Errors
-///
-/// Those of [`judge_tour`].
-pub(crate) fn verdict_on_tour(
-    alloc: Global,
-    inst: &Instance,
-    sol: &File,
-) -> Result<Verdict, Refused>
-    requires { (inst.now.kind ≡ Some kinds.Tsp) ⊎ (inst.now.kind ≡ Some kinds.Atsp) }
-    ensures { MatchResult result
-        (λ verdict. IsTourVerdict inst.now sol.now verdict)
-        (λ refused. NoneOfTourBeforeRepeats inst.now sol.now) }
-{
-    match length_of_tour(alloc, inst, sol)? {
-        Ok((length, _)) => Ok(Verdict::Tour {
-            length,
-            bound: None,
-        }),
-        Err(reason) => Ok(Verdict::No(reason)),
-    }
-}
 
 /// What the costs of an instance are taken from, by its TYPE.
 #[derive(Clone, Copy, Debug)]
@@ -82,28 +33,6 @@ pub(crate) enum TourCosts<'a> {
     Undirected(EvenView<'a>),
     /// TYPE ATSP.
     Directed(View<'a>),
-}
-
-/// The length of a solution's one tour and the costs of the instance, or the first reason against
-/// it.
-pub(crate) fn length_of_tour<'a>(
-    alloc: Global,
-    inst: &'a Instance,
-    sol: &File,
-) -> Result<Result<(i64, TourCosts<'a>), Reason>, Refused>
-    requires { (inst.now.kind ≡ Some kinds.Tsp) ⊎ (inst.now.kind ≡ Some kinds.Atsp) }
-    ensures { MatchResult result
-        (λ found. FindsLength inst.now sol.now found)
-        (λ refused. NoneOfTourBeforeRepeats inst.now sol.now) }
-{
-    let (tours, costs) = match first_against_files(inst, sol) {
-        Ok(found) => found,
-        Err(reason) => return Ok(Err(reason)),
-    };
-    match length_after_files(alloc, inst, sol, tours)? {
-        Ok(length) => Ok(Ok((length, costs))),
-        Err(reason) => Ok(Err(reason)),
-    }
 }
 
 /// The length of a solution's one tour, or the first reason against it, where none applies that
@@ -157,35 +86,6 @@ fn the_tour<'a>(inst: &Instance, sol: &File, tours: &'a [Vec<u32>]) -> Result<&'
         return Err(Reason::TourLength);
     }
     Ok(tour.as_slice())
-}
-
-/// The tours of a solution and the costs of an instance, or the first reason that needs no look at
-/// the tours.
-fn first_against_files<'a, 'b>(
-    inst: &'a Instance,
-    sol: &'b File,
-) -> Result<(&'b [Vec<u32>], TourCosts<'a>), Reason>
-    requires { (inst.now.kind ≡ Some kinds.Tsp) ⊎ (inst.now.kind ≡ Some kinds.Atsp) }
-    ensures { MatchResult result
-        (λ found. AreToursOf sol.now found.0.now × AreTourCosts inst.now found.1
-        × NoneOfTourUpTo inst.now sol.now (rank_of TourCount))
-        (λ reason. IsFirstAgainstTour inst.now sol.now reason) }
-{
-    let nodes = inst.count();
-    let Some(tours) = solution_tours(sol) else {
-        return Err(Reason::NotASolution);
-    };
-    if nodes < FEWEST_NODES {
-        return Err(Reason::TooFewNodes);
-    }
-    let costs = match tour_costs(inst) {
-        Ok(costs) => costs,
-        Err((i, j)) => return Err(Reason::NotSymmetric { i, j }),
-    };
-    if sol.dimension().is_some_and(|stated| stated != nodes) {
-        return Err(Reason::Dimension);
-    }
-    Ok((tours, costs))
 }
 
 /// The costs of an instance, or under TYPE TSP the first pair of nodes whose two costs differ.

@@ -24,8 +24,3 @@ IsSymmetricTsp inst = inst.kind ≡ Some kinds.Tsp → IsSymmetric (cost inst)
 abbrev pub IsLengthOf : Fields → Fields → Result ℤ Reason → Type 0
 IsLengthOf inst sol (Ok length) = IsTourVerdict inst sol (verdicts.Tour length None)
 IsLengthOf inst sol (Err reason) = IsFirstAgainstTour inst sol reason
-
--- the same with the costs
-abbrev pub FindsLength : Fields → Fields → Result (ℤ × TourCosts) Reason → Type 0
-FindsLength inst sol (Ok found) = IsTourVerdict inst sol (verdicts.Tour found.0 None) × AreTourCosts inst found.1
-FindsLength inst sol (Err reason) = IsFirstAgainstTour inst sol reason

@@ -1,0 +1,13 @@
+-- The goals of `Subject::ground` in src/subject.rt: what it ensures.
+use Rattle.std.proofs.Common.{subst}
+use Rattle.tsp_verdict.specs.declared.ground.Given.{Given}
+use Rattle.tsp_verdict.specs.states.Grounds.{IsSubject}
+use Rattle.tsp_verdict.proofs.Bases.{first_known, knows_instance}
+use Rattle.tsp_verdict.proofs.subject.Subject.ground.Goals as goal
+
+pub returns-in-Some : goal.returns-in-Some
+returns-in-Some c =
+    let inst = c.args.self.now.instance.now in
+    let sound = subst (λ (given : Given). IsSubject inst given) c.in-Basis.is c.requires.sound in
+    first_known inst c.in-Basis.basis c.against_instance.result c.in-Some.reason c.against_instance.ensures c.in-Some.is
+    (knows_instance sound.0 inst c.in-Basis.basis c.requires.kind sound.1)

@@ -1,0 +1,62 @@
+-- What the bound of a verdict is taken from, what an instance of tours was judged by, and the verdict on a tour by what is known
+-- of all.
+use Rattle.std.specs.Prelude.{◌≡◌, ◌≤◌, Option, None, Result, Ok, Err, ℤ, IsTrue, option_map}
+use Rattle.tsp_draft.specs.Fields.{Fields, nodes_of}
+use Rattle.tsp_reason.specs.declared.basis.Basis.{Basis}
+use Rattle.tsp_reason.specs.declared.basis.Basis.TheVariants as bases
+use Rattle.tsp_reason.specs.declared.certificate.Certificate.{Certificate}
+use Rattle.tsp_reason.specs.declared.verdict.Reason.{Reason}
+use Rattle.tsp_reason.specs.declared.verdict.Verdict.{Verdict}
+use Rattle.tsp_reason.specs.declared.verdict.Verdict.TheVariants as verdicts
+use Rattle.tsp_verdict.specs.Basis.{IsBasis, IsVerdictFrom}
+use Rattle.tsp_verdict.specs.Bounded.{NoneAgainstInstance}
+use Rattle.tsp_verdict.specs.Judged.{is_judged, IsVerdictWith}
+use Rattle.tsp_verdict.specs.Tours.{IsTourVerdict, IsFirstAgainstTour}
+use Rattle.tsp_verdict.specs.declared.ground.Given.{Given}
+use Rattle.tsp_verdict.specs.declared.ground.Given.TheVariants as givens
+use Rattle.tsp_verdict.specs.declared.ground.Ground.{Ground}
+use Rattle.tsp_verdict.specs.declared.ground.Ground.TheVariants as grounds
+use Rattle.tsp_verdict.specs.states.TourCosts.{AreTourCosts}
+
+-- ---- a certificate, or what was known before
+
+-- solutions of the instance are judged so; what is known is right, with some certificate or without one
+abbrev pub IsSubject : Fields → Given → Type 0
+IsSubject inst (givens.Certificate certificate) =
+    IsTrue (is_judged (option_map (λ given. (given.0, given.1.now)) certificate) inst.kind)
+IsSubject inst (givens.Basis basis) = (given : Option (Certificate × Fields)) × IsBasis given inst basis
+
+-- the verdict with the certificate, or that by what is known
+abbrev pub IsVerdictGiven : Given → Option ℤ → Fields → Fields → Verdict → Type 0
+IsVerdictGiven (givens.Certificate certificate) claimed inst sol verdict =
+    IsVerdictWith (option_map (λ given. (given.0, given.1.now)) certificate) claimed inst sol verdict
+IsVerdictGiven (givens.Basis basis) claimed inst sol verdict = IsVerdictFrom basis claimed inst sol verdict
+
+-- what is known of all solutions with the certificate, or what was known
+abbrev pub IsBasisGiven : Given → Fields → Basis → Type 0
+IsBasisGiven (givens.Certificate certificate) inst basis =
+    IsBasis (option_map (λ given. (given.0, given.1.now)) certificate) inst basis
+IsBasisGiven (givens.Basis known) inst basis = basis ≡ known
+
+-- ---- an instance to which no reason applies
+
+-- the costs and the certificate, or what was known
+abbrev pub IsGround : Fields → Given → Ground → Type 0
+IsGround inst given (grounds.Costs costs certificate) = (given ≡ givens.Certificate certificate) × (3 ≤ nodes_of inst)
+    × AreTourCosts inst costs
+IsGround inst given (grounds.Basis basis) = given ≡ givens.Basis basis
+
+-- the length of the one tour, where no reason applies to the instance or to it; or the first reason
+abbrev pub FindsLength : Fields → Fields → Given → Result (ℤ × Ground) Reason → Type 0
+FindsLength inst sol given (Ok found) = IsTourVerdict inst sol (verdicts.Tour found.0 None) × NoneAgainstInstance inst
+    × IsGround inst given found.1
+FindsLength inst sol given (Err reason) = IsFirstAgainstTour inst sol reason
+
+-- ---- a tour
+
+-- the verdict on a tour of this length; a basis without tours is none of an instance that has one
+abbrev pub verdict_by : Basis → ℤ → Verdict
+verdict_by (bases.Tours bound) length = verdicts.Tour length bound
+verdict_by bases.NoTour length = verdicts.Tour length None
+verdict_by (bases.Routes least) length = verdicts.Tour length None
+verdict_by (bases.No reason) length = verdicts.No reason

@@ -1,0 +1,165 @@
+//! What solutions are judged by, and the verdict on one of them.
+
+use crate::basis::{against_instance, basis_of};
+use crate::bounded::costs_of_tours;
+use crate::certified::bound_of;
+use crate::claimed::{is_other, with_claim};
+use crate::files::solution_tours;
+use crate::ground::{Given, Ground, verdict_by};
+use crate::routes::verdict_on_routes;
+use crate::tour::length_after_files;
+use std::alloc::{AllocError, Global};
+use tsp_cost::{Costs, Instance};
+use tsp_file::File;
+use tsp_format::Kind;
+use tsp_memory::Refused;
+use tsp_reason::{Basis, Certificate, Reason, Verdict};
+
+/// What solutions are judged by: an instance, and a certificate of a bound, where one is given, or
+/// what is known of all solutions by the two.
+///
+/// The verdict is the same either way. Where it is known, neither the costs of the instance nor the
+/// certificate are judged again. Where it isn't, the certificate is judged after the solution.
+#[derive(Clone, Copy)]
+pub(crate) struct Subject<'a> {
+    pub(crate) instance: &'a Instance,
+    pub(crate) given: Given<'a>,
+}
+
+impl<'a> Subject<'a> {
+    ghost use Rattle.std.specs.Prelude.{◌≡◌, ◌⊎◌, Some, IfOk, MatchResult};
+    ghost use Rattle.tsp_format.specs.declared.kinds.Kind.TheVariants as kinds;
+    ghost use Rattle.tsp_verdict.specs.Bounded.{StandsAgainstInstance, NoneAgainstInstance};
+    ghost use Rattle.tsp_verdict.specs.Judged.{NoneBeforeRepeatsOn};
+    ghost use Rattle.tsp_verdict.specs.Reasons.{IsFirstReason};
+    ghost use Rattle.tsp_verdict.specs.Tours.{NoneOfTourBeforeRepeats};
+    ghost use Rattle.tsp_verdict.specs.states.Grounds.{IsSubject, IsVerdictGiven, IsBasisGiven, IsGround, FindsLength};
+
+    /// The verdict on a solution: on a tour, or for TYPE CVRP on routes. Where a length is claimed,
+    /// a solution of another length is rejected with `LengthClaimed`: after all other reasons
+    /// against the solution, and before those against the certificate.
+    ///
+    /// # Errors
+    ///
+    /// Out of memory, and then no reason up to `NodeOutOfRange`, in the order of the TYPE, applies.
+    pub(crate) fn verdict(
+        &self,
+        alloc: Global,
+        solution: &File,
+        claimed: Option<i64>,
+    ) -> Result<Verdict, AllocError>
+        requires { IsSubject self.now.instance.now self.now.given }
+        ensures { MatchResult result
+            (λ verdict. IsVerdictGiven self.now.given claimed self.now.instance.now solution.now verdict)
+            (λ refused. NoneBeforeRepeatsOn self.now.instance.now solution.now) }
+    {
+        match self.instance.kind() {
+            Kind::Cvrp => {
+                let verdict = verdict_on_routes(alloc, self.instance, solution)?;
+                Ok(with_claim(verdict, claimed))
+            }
+            _ => Ok(self.verdict_on_tour(alloc, solution, claimed)?),
+        }
+    }
+
+    /// The verdict on a solution that should be a tour.
+    fn verdict_on_tour(
+        &self,
+        alloc: Global,
+        solution: &File,
+        claimed: Option<i64>,
+    ) -> Result<Verdict, Refused>
+        requires sound { IsSubject self.now.instance.now self.now.given }
+        requires kind { (self.now.instance.now.kind ≡ Some kinds.Tsp)
+            ⊎ (self.now.instance.now.kind ≡ Some kinds.Atsp) }
+        ensures { MatchResult result
+            (λ verdict. IsVerdictGiven self.now.given claimed self.now.instance.now solution.now verdict)
+            (λ refused. NoneOfTourBeforeRepeats self.now.instance.now solution.now) }
+    {
+        let (length, ground) = match self.length_of_tour(alloc, solution)? {
+            Ok(found) => found,
+            Err(reason) => return Ok(Verdict::No(reason)),
+        };
+        if is_other(claimed, length) {
+            return Ok(Verdict::No(Reason::LengthClaimed { length }));
+        }
+        let basis = self.basis_on(alloc, ground)?;
+        Ok(verdict_by(basis, length))
+    }
+
+    /// The length of a solution's one tour and what the instance was judged by, or the first
+    /// reason against the instance or the solution.
+    fn length_of_tour(
+        &self,
+        alloc: Global,
+        sol: &File,
+    ) -> Result<Result<(i64, Ground<'a>), Reason>, Refused>
+        requires sound { IsSubject self.now.instance.now self.now.given }
+        requires kind { (self.now.instance.now.kind ≡ Some kinds.Tsp)
+            ⊎ (self.now.instance.now.kind ≡ Some kinds.Atsp) }
+        ensures { MatchResult result
+            (λ found. FindsLength self.now.instance.now sol.now self.now.given found)
+            (λ refused. NoneOfTourBeforeRepeats self.now.instance.now sol.now) }
+    {
+        let Some(tours) = solution_tours(sol) else {
+            return Ok(Err(Reason::NotASolution));
+        };
+        let ground = match self.ground() {
+            Ok(ground) => ground,
+            Err(reason) => return Ok(Err(reason)),
+        };
+        if sol
+            .dimension()
+            .is_some_and(|stated| stated != self.instance.count())
+        {
+            return Ok(Err(Reason::Dimension));
+        }
+        match length_after_files(alloc, self.instance, sol, tours)? {
+            Ok(length) => Ok(Ok((length, ground))),
+            Err(reason) => Ok(Err(reason)),
+        }
+    }
+
+    /// What the instance is judged by, or the first reason against it, whatever the tour.
+    fn ground(&self) -> Result<Ground<'a>, Reason>
+        requires sound { IsSubject self.now.instance.now self.now.given }
+        requires kind { (self.now.instance.now.kind ≡ Some kinds.Tsp)
+            ⊎ (self.now.instance.now.kind ≡ Some kinds.Atsp) }
+        ensures { MatchResult result
+            (λ ground. NoneAgainstInstance self.now.instance.now
+            × IsGround self.now.instance.now self.now.given ground)
+            (λ reason. IsFirstReason (StandsAgainstInstance self.now.instance.now) reason) }
+    {
+        match self.given {
+            Given::Certificate(certificate) => match costs_of_tours(self.instance) {
+                Ok(costs) => Ok(Ground::Costs(costs, certificate)),
+                Err(reason) => Err(reason),
+            },
+            Given::Basis(basis) => match against_instance(basis) {
+                None => Ok(Ground::Basis(basis)),
+                Some(reason) => Err(reason),
+            },
+        }
+    }
+
+    /// What is known of all solutions, or is now found: a certificate that wasn't judged before is
+    /// judged here.
+    fn basis_on(&self, alloc: Global, ground: Ground<'_>) -> Result<Basis, Refused>
+        requires sound { IsSubject self.now.instance.now self.now.given }
+        requires kind { (self.now.instance.now.kind ≡ Some kinds.Tsp)
+            ⊎ (self.now.instance.now.kind ≡ Some kinds.Atsp) }
+        requires none { NoneAgainstInstance self.now.instance.now }
+        requires ground { IsGround self.now.instance.now self.now.given ground }
+        ensures { IfOk result (λ basis. IsBasisGiven self.now.given self.now.instance.now basis) }
+    {
+        let (costs, certificate) = match ground {
+            Ground::Costs(costs, certificate) => (costs, certificate),
+            Ground::Basis(basis) => return Ok(basis),
+        };
+        let Some((by, file)) = certificate else {
+            return Ok(Basis::Tours { bound: None });
+        };
+        let found = bound_of(alloc, by, self.instance, costs, file)?;
+        Ok(basis_of(found))
+    }
+}
