@@ -45,13 +45,30 @@ def words(line, texts):
 class Table:
     """Runs that are alike: see the README."""
 
-    def __init__(self, name):
+    def __init__(self, name, number):
         self.name = name
+        self.number = number
         self.runs = []
         self.out = ""
         self.columns = []
         self.swap = None
         self.rows = []
+
+    def take(self, number, key, rest, lines, texts):
+        """Takes a line of the table; whether it is one."""
+        if key == "run":
+            self.runs.append(words(rest, texts))
+        elif key == "out":
+            self.out = text_of(rest, lines, texts)
+        elif key == "columns":
+            self.columns = rest.split()
+        elif key == "swap":
+            self.swap = rest.split()
+        elif key == "row":
+            self.rows.append((number, words(rest, texts)))
+        else:
+            return False
+        return True
 
 
 class Case:
@@ -65,6 +82,23 @@ class Case:
         self.texts = {"stdin": "", "script": "", "stdout": "", "stderr": ""}
         self.streams = {"closed": "", "output": "", "errors": ""}
         self.status = 0
+
+    def take(self, number, key, rest, lines, texts):
+        """Takes a line of the case; whether it is one."""
+        if key == "words":
+            self.words = words(rest, texts)
+        elif key == "file":
+            name, *named = words(rest, texts)
+            self.files[name] = "".join(lines) or named[0]
+        elif key in self.texts:
+            self.texts[key] = text_of(rest, lines, texts)
+        elif key in self.streams:
+            self.streams[key] = rest
+        elif key == "status":
+            self.status = int(rest)
+        else:
+            return False
+        return True
 
 
 def lines_of(path):
@@ -87,55 +121,29 @@ def text_of(rest, lines, texts):
     return "".join(lines) if lines else words(rest, texts)[0]
 
 
-def tables_of(path):
-    """The tables of a file."""
+def blocks_of(path, kind):
+    """The tables or the cases of a file."""
     texts = {}
-    tables = []
+    blocks = []
     for number, key, rest, lines in lines_of(path):
         if key == "let":
             name, _, text = rest.partition(" =")
             texts[name] = text_of(text, lines, texts)
         elif key == "==":
-            tables.append(Table(rest))
-        elif key == "run":
-            tables[-1].runs.append(words(rest, texts))
-        elif key == "out":
-            tables[-1].out = text_of(rest, lines, texts)
-        elif key == "columns":
-            tables[-1].columns = rest.split()
-        elif key == "swap":
-            tables[-1].swap = rest.split()
-        elif key == "row":
-            tables[-1].rows.append((number, words(rest, texts)))
-        else:
-            sys.exit(f"{path}:{number}: no line of a table")
-    return tables
+            blocks.append(kind(rest, number))
+        elif not blocks or not blocks[-1].take(number, key, rest, lines, texts):
+            sys.exit(f"{path}:{number}: no line of a {kind.__name__.lower()}")
+    return blocks
+
+
+def tables_of(path):
+    """The tables of a file."""
+    return blocks_of(path, Table)
 
 
 def cases_of(path):
     """The cases of a file."""
-    texts = {}
-    cases = []
-    for number, key, rest, lines in lines_of(path):
-        if key == "let":
-            name, _, text = rest.partition(" =")
-            texts[name] = text_of(text, lines, texts)
-        elif key == "==":
-            cases.append(Case(rest, number))
-        elif key == "words":
-            cases[-1].words = words(rest, texts)
-        elif key == "file":
-            name, *named = words(rest, texts)
-            cases[-1].files[name] = "".join(lines) or named[0]
-        elif key in cases[-1].texts:
-            cases[-1].texts[key] = text_of(rest, lines, texts)
-        elif key in cases[-1].streams:
-            cases[-1].streams[key] = rest
-        elif key == "status":
-            cases[-1].status = int(rest)
-        else:
-            sys.exit(f"{path}:{number}: no line of a case")
-    return cases
+    return blocks_of(path, Case)
 
 
 def encoded(text):
