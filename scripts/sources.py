@@ -14,6 +14,15 @@ PARTS = ("src", "specs", "proofs")
 # The line that names the build, and what may be in it: nothing that a text of Rust has another sign for.
 UNNAMED = 'const BUILD: &str = "unknown";'
 NAMED = re.compile(r"[\w .-]{1,80}$")
+# What `--version` of a release says of its system. All are of one length, since those of other systems replace the first
+# one in the module that the toolchain made for it.
+NATIVE = "linux-x86_64"
+SYSTEMS = {
+    NATIVE: "for Linux on x86-64",
+    "linux-aarch64": "for Linux on ARM-64",
+    "windows-x86_64": "for Windows, x86-64",
+    "node": "for Node 20 or more",
+}
 # The logic of all toolchains that have proved these crates. (docs/TESTING.md names the last of them.)
 LOGIC = "dac8208d650f15bf"
 

@@ -15,12 +15,11 @@ import tempfile
 from pathlib import Path
 
 import module
-from sources import LIBRARY, PROGRAM, ROOT, below, lay_out, name_build, sum_of
+from sources import LIBRARY, NATIVE, PROGRAM, ROOT, SYSTEMS, below, lay_out, name_build, sum_of
 
-# The files that are made of each crate.
+# The files that are made of each crate, and beside them their modules for LLVM.
 MADE = {LIBRARY: "libtsp_c.a", PROGRAM: "tsp_tool.o"}
-# The library's module for LLVM, beside its archive.
-MODULE = "tsp_c.bc"
+MODULES = {LIBRARY: "tsp_c.bc", PROGRAM: "tsp_tool.bc"}
 
 
 def place_of(name: str, root: Path) -> Path:
@@ -61,8 +60,8 @@ def load_rt():
 
 
 def make(name: str, root: Path, place: Path) -> str:
-    """Makes the file of a crate over the statements in a folder, the library's with its module beside it.
-    Answers nothing, or else what the toolchain said in place of it."""
+    """Makes the file of a crate over the statements in a folder, with its module beside it. Answers nothing, or
+    else what the toolchain said in place of it."""
     rt = load_rt()
     with tempfile.TemporaryDirectory(prefix="tsp-over-") as folder:
         scratch = Path(folder)
@@ -70,7 +69,7 @@ def make(name: str, root: Path, place: Path) -> str:
         copy.mkdir()
         lay_out([name], copy)
         if name == PROGRAM:
-            name_build(copy)
+            name_build(copy, f", {SYSTEMS[NATIVE]}")
         crate = rt.Crate(str(copy / "crates" / name), str(copy), {})
         for lower in crate.below():
             lower.rlib = str(place_of(lower.name, root))
@@ -82,8 +81,8 @@ def make(name: str, root: Path, place: Path) -> str:
             return f"{MADE[name]} isn't made:\n{ran.stdout[-4000:]}{ran.stderr[-4000:]}"
         place.parent.mkdir(parents=True, exist_ok=True)
         files = [(scratch / MADE[name], place)]
-        if name == LIBRARY and (scratch / "module.bc").exists():
-            files.insert(0, (scratch / "module.bc", place.with_name(MODULE)))
+        if (scratch / "module.bc").exists():
+            files.insert(0, (scratch / "module.bc", place.with_name(MODULES[name])))
         for made, to in files:
             # (beside it first, so that a file which is there is whole)
             new = to.with_name(f"{to.name}.new")

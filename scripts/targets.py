@@ -1,7 +1,7 @@
 """Modules for LLVM that the toolchain makes for Linux on x86-64, for other systems.
 
 The proved code has no instruction of x86-64 in them, and neither vectors nor floating point that another processor
-does in another way. All targets have words of 64 bits, put the least byte first, and align numbers of 128 bits to 16
+does in another way. A program's `main` asks for the processor first, which is left out. All targets have words of 64 bits, put the least byte first, and align numbers of 128 bits to 16
 bytes. So only the target's two lines, and the function attributes of the processor and of its stack, are replaced.
 """
 from __future__ import annotations
@@ -12,6 +12,7 @@ from dataclasses import dataclass
 from pathlib import Path
 
 import module
+from sources import NATIVE, ROOT, SYSTEMS
 
 # Words that the toolchain gives to its own call of clang, but those of x86-64 alone.
 LIKE_TOOLCHAIN = """-mllvm -no-trap-after-noreturn -mllvm -trap-unreachable -mllvm -disable-machine-licm
@@ -21,6 +22,12 @@ COMPILE = ["-O3", "-ffp-contract=off", "-ffunction-sections", "-fdata-sections",
 PROCESSOR = re.compile(rb' "(?:target-cpu|target-features|tune-cpu)"="[^"]*"')
 PROBES = re.compile(rb' "(?:probe-stack|stack-probe-size)"="[^"]*"')
 MAIN = re.compile(rb"^define i32 @main\(\)", re.M)
+# A program first asks whether the processor has what x86-64-v2 has, and else writes a line and ends.
+ASKS = re.compile(
+    rb"^  %\w+ = call ptr @__x86_get_cpuid_feature_leaf\(i32 0\)\n(?:  .*\n)*?  br i1 %\w+, label %run, label %refuse\n", re.M
+)
+# What can't be for another processor.
+OF_X86 = re.compile(rb"\b(?:call|invoke)\b[^\n]*(?:@__x86_|@llvm\.x86\.|\basm\b)")
 # The calls of the system that the program makes.
 CALLS = """isatty open read write close fcntl statx __xpg_strerror_r __sysv_signal
     rattle_arg rattle_env rattle_env_at rattle_errno rattle_set_errno""".split()
@@ -29,9 +36,11 @@ CALLED = re.compile(rb"@(" + "|".join(CALLS).encode() + rb")\(")
 
 @dataclass(frozen=True)
 class Target:
-    """A system: how clang calls it, clang's words for it, whether LLVM knows how to probe its stack as on Linux, and
-    whether the program's calls get names of their own (`host_open`), since its C library has other ones."""
+    """A system: its name in SYSTEMS, how clang calls it, clang's words for it, whether LLVM knows how to probe its
+    stack as on Linux, and whether the program's calls get names of their own (`host_open`), since its C library has
+    other ones."""
 
+    name: str
     triple: str
     words: tuple[str, ...] = ()
     probes: bool = False
@@ -50,7 +59,8 @@ class Target:
         return re.findall(rb'^target (?:datalayout|triple) = "[^"]*"$', made, re.M)
 
     def text(self, text: bytes) -> bytes:
-        """The text of a module for Linux on x86-64, for this target. Its `main` is `tsp_main`."""
+        """The text of a module for Linux on x86-64, for this target. Its `main` is `tsp_main`, and its `--version`
+        says which system it is for."""
         for line in self.lines():
             begins = line[: line.index(b" = ")]
             text = re.sub(rb"^" + begins + rb' = "[^"]*"$', lambda _: line, text, count=1, flags=re.M)
@@ -59,6 +69,11 @@ class Target:
             text = PROBES.sub(b"", text)
         if self.renames:
             text = CALLED.sub(rb"@host_\1(", text)
+        text = text.replace(SYSTEMS[NATIVE].encode(), SYSTEMS[self.name].encode())
+        text = ASKS.sub(b"  br label %run\n", text, count=1)
+        found = OF_X86.search(text)
+        if found:
+            raise module.Failed(f"the module is of x86-64 alone: {found[0].decode()}")
         return MAIN.sub(b"define i32 @tsp_main()", text)
 
     def compile(self, text: bytes, made: Path) -> Path:
@@ -77,11 +92,15 @@ class Target:
         return self.compile(self.text(text_of(given, made.with_suffix(".x86.ll"))), made)
 
 
-PAIR = Path(__file__).resolve().parent.parent / "bindings/systems/pair.ll"
+PAIR = ROOT / "bindings/systems/pair.ll"
+OF_WASM = ("-mcpu=mvp", "-mbulk-memory", "-msign-ext", "-mnontrapping-fptoint")
 TARGETS = {
-    "linux-aarch64": Target("aarch64-unknown-linux-gnu", ("-fPIC", *LIKE_TOOLCHAIN), probes=True),
-    "windows-x86_64": Target("x86_64-w64-windows-gnu", (*LIKE_TOOLCHAIN,), renames=True),
-    "wasm": Target("wasm64-unknown-unknown", ("-mcpu=mvp", "-mbulk-memory", "-msign-ext", "-mnontrapping-fptoint")),
+    target.name: target
+    for target in (
+        Target("linux-aarch64", "aarch64-unknown-linux-gnu", ("-fPIC", *LIKE_TOOLCHAIN), probes=True),
+        Target("windows-x86_64", "x86_64-w64-windows-gnu", (*LIKE_TOOLCHAIN,), renames=True),
+        Target("node", "wasm64-unknown-unknown", OF_WASM),
+    )
 }
 
 

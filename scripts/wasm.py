@@ -27,7 +27,7 @@ def make(module: Path, exports: list[str], imports: list[str], stack: int) -> by
 
     Both have words of 64 bits. wasm-opt turns the addresses into those of 32, which all browsers and Node 20 have.
     """
-    target = TARGETS["wasm"]
+    target = TARGETS["node"]
     with tempfile.TemporaryDirectory() as folder:
         scratch = Path(folder)
         objects = [target.module(module, scratch / "tsp.o"), target.pair(scratch / "pair.o")]

@@ -1,7 +1,8 @@
 """Builds the wheel, with the library inside: YOKECAIRN_LIBRARY=PATH python3 setup.py bdist_wheel
 
-Its version is the library's. Its tag is py3-none-manylinux2014_x86_64: any Python 3 calls the library over ctypes, and the library
-needs no glibc above 2.14.
+YOKECAIRN_SYSTEM names the system of the library, one of SYSTEMS, where it isn't Linux on x86-64; then YOKECAIRN_VERSION
+is the library's version, which else the library is asked for. Any Python 3 calls the library over ctypes. For Linux it
+needs no glibc above 2.17.
 """
 
 import ctypes
@@ -19,8 +20,20 @@ if not LIBRARY:
     raise SystemExit("setup.py: YOKECAIRN_LIBRARY has to be the path of libtsp.so")
 
 
+# The tag of each system, and what the library is called in the package there.
+SYSTEMS = {
+    "linux-x86_64": ("manylinux2014_x86_64", "libtsp.so"),
+    "linux-aarch64": ("manylinux2014_aarch64", "libtsp.so"),
+    "windows-x86_64": ("win_amd64", "libtsp.dll"),
+}
+TAG, NAME = SYSTEMS[os.environ.get("YOKECAIRN_SYSTEM", "linux-x86_64")]
+
+
 def version():
     """The library's version."""
+    given = os.environ.get("YOKECAIRN_VERSION")
+    if given:
+        return given
     number = ctypes.CDLL(os.path.abspath(LIBRARY)).tsp_version()
     return f"{number // 10000}.{number // 100 % 100}.{number % 100}"
 
@@ -37,16 +50,16 @@ class WithLibrary(build_py):
 
     def run(self):
         super().run()
-        place = Path(self.build_lib, "yokecairn", "libtsp.so")
+        place = Path(self.build_lib, "yokecairn", NAME)
         shutil.copyfile(LIBRARY, place)
         place.chmod(0o644)
 
 
 class AnyPython(bdist_wheel):
-    """A wheel for any Python 3 on Linux on x86-64."""
+    """A wheel for any Python 3 on one system."""
 
     def get_tag(self):
-        return "py3", "none", "manylinux2014_x86_64"
+        return "py3", "none", TAG
 
 
 setup(version=version(), distclass=Binary, cmdclass={"build_py": WithLibrary, "bdist_wheel": AnyPython})

@@ -163,8 +163,9 @@ class Runner(Counts):
     `subprocess.run` does. Runs that have a word of `without` in their name are left out, and rows without the word
     `only` in their file, their table's name or a cell."""
 
-    def __init__(self, program, folder, run=subprocess.run, without=(), only=""):
+    def __init__(self, program, folder, run=subprocess.run, without=(), only="", each=1):
         super().__init__()
+        self.each, self.rows = each, 0
         self.without = set(without)
         self.only = only
         self.program = program
@@ -234,7 +235,10 @@ class Runner(Counts):
         self.add(found == right, f"{where}\n    wanted {right}\n    found  {found}", where)
 
     def row(self, where, table, cells):
-        """The runs of a row."""
+        """The runs of a row, where it is one of those that are run."""
+        self.rows += 1
+        if self.rows % self.each:
+            return
         wanted = filled(table.out, cells)
         for verb, *texts in table.runs:
             if self.without & set(verb.split("-")):

@@ -5,11 +5,12 @@ handle, so calls may run side by side; ctypes releases Python's lock while one r
 at a time: `Handle` locks.
 
 The library is the file that the environment variable YOKECAIRN_LIBRARY names, else `libtsp.so` in this
-package, else `libtsp.so.0` as the system finds it.
+package, else `libtsp.so.0` as the system finds it. On Windows both are called `libtsp.dll`.
 """
 
 import ctypes
 import os
+import sys
 import threading
 import weakref
 from array import array
@@ -61,8 +62,9 @@ def path() -> str:
     named = os.environ.get("YOKECAIRN_LIBRARY")
     if named:
         return named
-    inside = Path(__file__).with_name("libtsp.so")
-    return str(inside) if inside.exists() else "libtsp.so.0"
+    own, elsewhere = ("libtsp.dll", "libtsp.dll") if sys.platform == "win32" else ("libtsp.so", "libtsp.so.0")
+    inside = Path(__file__).with_name(own)
+    return str(inside) if inside.exists() else elsewhere
 
 
 try:
