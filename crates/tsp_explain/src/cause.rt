@@ -114,7 +114,7 @@ fn cause_of_line(look: &Look, fault: LineFault) -> Option<&'static str> {
         }
         LineFault::Number(NumberFault::TooFine) if look.field == Some(Field::NodeCoordPart) => Some(
             "Write the coordinates with 9 decimals, or multiply all of them by a power of 10.\n\
-             Both change the instance, so say so in a COMMENT.",
+             Both change the instance, so say so in a COMMENT. The script scale.py does it: --decimals 9, or --by 1000.",
         ),
         LineFault::Number(NumberFault::NotWhole) if look.field == Some(Field::EdgeWeightPart) =>
             Some(

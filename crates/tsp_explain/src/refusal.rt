@@ -14,6 +14,9 @@ use tsp_file::File;
 use tsp_format::{Kind, Word};
 use tsp_reason::Reason;
 
+/// The end of the comment that the recipe for CVRPLIB writes.
+const CONVERTED: &[u8] = b"Customer k of CVRPLIB is node k + 1";
+
 /// Appends why a solution is refused. `name` is what the user calls the file that is to blame.
 ///
 /// # Errors
@@ -123,10 +126,35 @@ fn push_of_solution(
         }
         Reason::DepotInRoute { place } => push_depot(text, place, instance, solution),
         Reason::Overload { route } => push_load(text, route, instance, solution),
-        Reason::Unserved { node } => say(text, &[("No route has node ", i64::from(node))]),
+        Reason::Unserved { node } => push_unserved(text, node, solution),
         Reason::LengthClaimed { length } => say(text, &[("Its length is ", length)]),
         _ => Ok(()),
     }
+}
+
+/// Appends a node that is in no route, and which customer it was where the solution was converted.
+fn push_unserved(text: &mut Vec<u8>, node: u32, solution: &File) -> Result<(), AllocError> {
+    say(text, &[("No route has node ", i64::from(node))])?;
+    if !is_converted(solution.comments()) {
+        return Ok(());
+    }
+    say(
+        text,
+        &[(
+            "In the file of CVRPLIB it is customer ",
+            i64::from(node).saturating_sub(1),
+        )],
+    )
+}
+
+/// Whether a comment says that customers were counted without the depot, as the recipe writes it.
+fn is_converted(comments: &[Vec<u8>]) -> bool {
+    'comments: for comment in comments {
+        if comment.trim_ascii_end().ends_with(CONVERTED) {
+            return true;
+        }
+    }
+    false
 }
 
 /// Appends a line of words with a number after each.

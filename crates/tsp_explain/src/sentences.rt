@@ -160,7 +160,8 @@ const TOO_FEW_NODES: &str =
 const NOT_SYMMETRIC: &str =
     "In a TSP the cost between two nodes is the same in both directions. Where it isn't, TYPE is ATSP.";
 
-const DIMENSION: &str = "DIMENSION of the solution isn't that of the instance.";
+const DIMENSION: &str = "DIMENSION of the solution isn't that of the instance.\n\
+    LKH-3 lists copies of the depot in a tour of a CVRP: the recipe lkh-routes.awk makes routes of it.";
 
 const TOUR_COUNT: &str = "The second file has to hold exactly one tour, which -1 ends.";
 
