@@ -28,8 +28,9 @@ NOTE = "Commands and paths of this page are those of the sources at the commit o
 
 MARKED = re.compile(r"<!-- (checkout|%s) -->(.*?)<!-- end -->" % "|".join(PARTS), re.S)
 RELEASE = re.compile(r"<!-- release\s(.*?)\s*-->", re.S)
-# Links to files that only the repository has.
-BEYOND = re.compile(r"\[([^\]\n]+)\]\((?:\.\./)*(?:bench|bindings|crates|scripts|tests)/(?![^)]*README\.md)[^)]*\)")
+# Links to files and parts of pages that only the repository has.
+BEYOND = re.compile(r"\[([^\]\n]+)\]\((?:\.\./)*(?:bench|bindings|crates|scripts|tests)/(?![^)]*README\.md)[^)]*\)"
+                    r"|\[([^\]\n]+)\]\((?:\.\./)*README\.md#quick-start\)")
 PROGRAM = re.compile(r"(?<![\w/.])\./tsp\b")
 
 
@@ -40,7 +41,7 @@ def of_release(name: str, text: str, without: Iterable[str] = ()) -> str:
     text = RELEASE.sub(lambda found: found[1], text)
     if left := re.search(r"<!--.*", text):
         raise ValueError(f"{name}: this mark has no other end: {left[0]}")
-    text = BEYOND.sub(lambda found: found[1], text)
+    text = BEYOND.sub(lambda found: found[1] or found[2], text)
     if name in SOURCES or name.startswith("tests/"):
         head, _, rest = text.partition("\n")
         return f"{head}\n\n{NOTE}\n{rest}"
