@@ -1,6 +1,6 @@
 // The cheapest way to give each node another one that comes next: cycles over all nodes, with duals.
 // Source: R. Jonker and A. Volgenant, A shortest augmenting path algorithm for dense and sparse linear
-// assignment problems (1987), without its first phases.
+// assignment problems (1987).
 #pragma once
 #include "tour.h"
 

@@ -7,6 +7,7 @@
 #include <string>
 #include <vector>
 
+#include "canonical.h"
 #include "tour.h"
 
 namespace certify {
@@ -27,9 +28,16 @@ struct Instance {
 };
 
 Instance read_instance(const std::string& tsp, const std::string& path);
+// The same, where the canonical text is at hand.
+Instance read_instance(const std::string& tsp, const std::string& path, const Canonical& file);
+// Throws Refusal unless the file is of TYPE TSP or ATSP, with three nodes or more.
+void refuse_other_kinds(const Canonical& file, const std::string& path);
+// The matrix of a file whose EDGE_WEIGHT_TYPE is EXPLICIT. Throws Refusal where that of a TSP isn't
+// symmetric.
+Matrix read_matrix(const std::string& tsp, const std::string& path, const Canonical& file);
 Tour read_tour(const std::string& tsp, const std::string& path, const Instance& instance);
+// A tour of this many nodes, whatever the instance says of them.
+Tour read_order(const std::string& tsp, const std::string& path, int nodes);
 // The distance of points that are this far apart along the axes, in counts of 10^-9.
 Weight distance_of(const std::string& kind, Weight x, Weight y, Weight z);
-// A decimal as a count of 10^-9.
-Weight count_of(const std::string& word);
 }  // namespace certify

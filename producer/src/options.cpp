@@ -1,15 +1,13 @@
 #include "options.h"
 
 #include <CLI/CLI.hpp>
-#include <array>
-#include <filesystem>
+#include <utility>
 #include <vector>
 
 #include "tsp_program.h"
+#include "writing.h"
 
 namespace certify {
-namespace fs = std::filesystem;
-
 namespace {
 constexpr const char* kFooter =
     "The certificate isn't proved here. This decides what it is worth:\n"
@@ -76,35 +74,6 @@ void declare(CLI::App& app, Options& options) {
   declare_trees(app, options);
   app.footer(kFooter);
 }
-
-// Whether two paths lead to one file. Of files that aren't there yet the paths decide. Devices may be named
-// twice.
-bool same_file(const std::string& one, const std::string& other) {
-  std::error_code error;
-  if (fs::exists(one, error) && !fs::is_regular_file(one, error)) return false;
-  if (fs::equivalent(one, other, error)) return true;
-  const auto whole = [&](const std::string& path) {
-    return fs::weakly_canonical(fs::absolute(path, error), error);
-  };
-  return whole(one) == whole(other);
-}
-
-void refuse_overwriting(const Options& options) {
-  std::vector<std::string> taken{options.instance};
-  for (const std::optional<std::string>& read : {options.tour, options.tree}) {
-    if (read) taken.push_back(*read);
-  }
-  taken.insert(taken.end(), options.parts.begin(), options.parts.end());
-  for (const std::optional<std::string>& written :
-       {std::optional(options.certificate), options.tour_out, options.log}) {
-    if (!written) continue;
-    for (const std::string& path : taken) {
-      if (same_file(path, *written))
-        throw Refusal(*written + ": this is " + path + ", which would be overwritten");
-    }
-    taken.push_back(*written);
-  }
-}
 }  // namespace
 
 std::variant<Options, Help> parse_options(int count, const char* const* words) {
@@ -122,7 +91,12 @@ std::variant<Options, Help> parse_options(int count, const char* const* words) {
   if (!options.tour && !options.tour_out && !options.upper && options.parts.empty()) {
     throw Refusal("name a tour, or say by --tour-out where the one that is found goes");
   }
-  refuse_overwriting(options);
+  std::vector<std::string> read{options.instance};
+  for (const std::optional<std::string>& path : {options.tour, options.tree}) {
+    if (path) read.push_back(*path);
+  }
+  read.insert(read.end(), options.parts.begin(), options.parts.end());
+  refuse_overwriting(std::move(read), {options.certificate, options.tour_out, options.log});
   return options;
 }
 }  // namespace certify

@@ -40,11 +40,22 @@ void Progress::clear() {
 
 void Progress::log(std::string_view event, const Standing& standing) {
   if (!log_.is_open()) return;
+  std::ostringstream more;
+  more << R"("leaves": )" << standing.leaves << R"(, "open": )" << standing.open
+       << R"(, "cuts": {"subtours": )" << standing.subtours << R"(, "combs": )" << standing.combs
+       << R"(, "families": )" << standing.families << "}";
+  log(event, standing.length, standing.bound, more.str());
+}
+
+void Progress::log(std::string_view event, std::optional<Weight> length, Weight bound,
+                   std::string_view more) {
+  if (!log_.is_open()) return;
   log_ << R"({"event": ")" << event << R"(", "seconds": )" << Clock::now() << R"(, "processor": )"
-       << Clock::processor() << R"(, "length": )" << standing.length << R"(, "bound": )" << standing.bound
-       << R"(, "gap": )" << standing.length - standing.bound << R"(, "leaves": )" << standing.leaves
-       << R"(, "open": )" << standing.open << R"(, "cuts": {"subtours": )" << standing.subtours
-       << R"(, "combs": )" << standing.combs << R"(, "families": )" << standing.families << "}}" << std::endl;
+       << Clock::processor();
+  if (length) log_ << R"(, "length": )" << *length;
+  log_ << R"(, "bound": )" << bound;
+  if (length) log_ << R"(, "gap": )" << *length - bound;
+  log_ << ", " << more << "}" << std::endl;
 }
 
 void Progress::end() {

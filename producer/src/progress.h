@@ -24,6 +24,9 @@ class Progress {
   void show(const Standing& standing);
   void clear();
   void log(std::string_view event, const Standing& standing);
+  // The same for another search. Without a length there is no gap. `more` are further members, as `"steps":
+  // 3`.
+  void log(std::string_view event, std::optional<Weight> length, Weight bound, std::string_view more);
   // Throws Refusal where the log isn't written whole.
   void end();
 

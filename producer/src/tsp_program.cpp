@@ -119,4 +119,10 @@ std::string canonical_text(const std::string& tsp, const std::string& path,
   }
   return output.text;
 }
+
+std::string report_of(const std::string& tsp, const std::vector<std::string>& words) {
+  std::vector<std::string> all{tsp};
+  all.insert(all.end(), words.begin(), words.end());
+  return output_of(all, false).text;
+}
 }  // namespace certify

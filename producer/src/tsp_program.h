@@ -18,4 +18,6 @@ std::string find_tsp(const std::optional<std::string>& named);
 // The canonical text of a file, which `tsp convert` prints. Other words may follow the path.
 std::string canonical_text(const std::string& tsp, const std::string& path,
                            const std::vector<std::string>& words);
+// What the program prints on standard output, whatever its status is.
+std::string report_of(const std::string& tsp, const std::vector<std::string>& words);
 }  // namespace certify

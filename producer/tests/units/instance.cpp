@@ -1,5 +1,6 @@
 #include "instance.h"
 
+#include "canonical.h"
 #include "fixtures.h"
 
 using namespace certify;

@@ -1,0 +1,62 @@
+#include "tours.h"
+
+#include <algorithm>
+#include <numeric>
+#include <utility>
+
+#include "chained_search.h"
+#include "clock.h"
+
+namespace potentials {
+namespace {
+constexpr int kFewNodes = 8;
+constexpr int kNearest = 8;          // of the first tour
+constexpr int kLightest = 5;         // of the search
+constexpr double kTimedPart = 0.05;  // of a kick for each node: those that are timed
+constexpr double kReserve = 0.97;    // of the time is meant to be used
+
+Tour shortest_by_orders(const Problem& problem) {
+  Tour order(problem.nodes());
+  std::iota(order.begin(), order.end(), 0);
+  Tour best;
+  do {
+    if (!problem.allows(order)) continue;
+    if (best.empty() || problem.length(order) < problem.length(best)) best = order;
+  } while (std::next_permutation(order.begin() + 1, order.end()));
+  return best;
+}
+}  // namespace
+
+Tour first_tour(const Problem& problem) {
+  if (problem.nodes() <= kFewNodes) return shortest_by_orders(problem);
+  return greedy_tour(problem, neighbours_of(problem, std::vector<double>(problem.nodes()), kNearest, {}));
+}
+
+// Kicks are timed once, before most of them. Where their number is named, the tour doesn't depend on the
+// clock.
+Shortened shorten(const Problem& problem, const Tour& tour, std::vector<double> numbers,
+                  const std::vector<Edge>& support, const TourSearch& search) {
+  if (problem.nodes() <= kFewNodes) return {tour, 0};
+  numbers = whole_numbers(std::move(numbers));
+  const double begin = certify::Clock::processor();
+  const Neighbours near = neighbours_of(problem, numbers, kLightest, support);
+  ChainedSearch chained(problem, numbers, near, tour, search.seed);
+  chained.improve([&] { return search.watch(0, chained.gain()); });
+  long done = 0;
+  const auto kick = [&](long count) {
+    chained.kick(count, [&](long kicks) { return search.watch(done + kicks, chained.gain()); });
+    done += count;
+  };
+  if (search.kicks) {
+    kick(*search.kicks);
+  } else {
+    const double before = certify::Clock::processor();
+    kick(100 + static_cast<long>(kTimedPart * problem.nodes()));
+    const double now = certify::Clock::processor();
+    const double left = kReserve * search.seconds - (now - begin);
+    const double each = std::max((now - before) / static_cast<double>(done), 1e-7);
+    kick(std::max(0L, static_cast<long>(left / each)));
+  }
+  return {chained.order(), done};
+}
+}  // namespace potentials

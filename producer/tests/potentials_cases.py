@@ -1,0 +1,239 @@
+#!/usr/bin/env python3
+"""Runs one case of the tests of tsp-potentials: potentials_cases.py CASE TSP_POTENTIALS TSP
+
+The proved program TSP judges each file. A wrong answer ends the case with status 1.
+"""
+
+import json
+import os
+import random
+import re
+import signal
+import subprocess
+import sys
+import tempfile
+import time
+from itertools import permutations
+from pathlib import Path
+
+from cases import CERTIFY as PROGRAM
+from cases import POINTS, SPACE, TSP, certify, need, write_arcs, write_matrix, write_points
+
+OUT = ["-o", "out.potentials"]
+BOTH = [*OUT, "--tour-out", "out.tour"]
+
+
+def judged(instance, tour="out.tour", potentials="out.potentials"):
+    """The lines of the report as a dictionary."""
+    words = ["check", instance, tour] if tour else ["bound", instance]
+    done = subprocess.run([TSP, *words, "--potentials", potentials], capture_output=True, text=True, timeout=60)
+    need(done.returncode == 0, f"tsp {words}: {done.stdout}{done.stderr}")
+    return {line.partition(" ")[0]: line.partition(" ")[2] for line in done.stdout.splitlines()}
+
+
+def found(instance, *words):
+    """The bound and the length of a run, which have to be those that the proved program prints."""
+    said = certify(instance, *BOTH, *words)
+    numbers = {name: int(number) for name, number in re.findall(r"(bound|length) (-?\d+)", said)}
+    report = judged(instance)
+    need("as reckoned" not in said, f"{instance}: the bound isn't that of tsp: {said}")
+    need(numbers == {name: int(report[name]) for name in numbers} and len(numbers) == 2, f"{said}, but {report}")
+    need(numbers["bound"] <= numbers["length"], f"{instance}: the bound is above the length")
+    return numbers["bound"], numbers["length"]
+
+
+def near(instance, most, *words):
+    """The gap may be up to this part of the length."""
+    bound, length = found(instance, *words)
+    need(length - bound <= most * length, f"{instance}: length {length}, bound {bound}")
+
+
+def weights():
+    for kind in POINTS + SPACE:
+        for nodes, places in ((9, 9), (60, 3), (400, 0)):
+            write_points("a.tsp", kind, nodes, random.Random(f"{kind} {nodes}"), places=places, side=10**5)
+            near("a.tsp", 0.1 if nodes == 9 else 0.03)
+    write_points("a.tsp", "EUC_2D", 50, random.Random(1), side=3)  # many points at one place
+    found("a.tsp")
+
+
+def small():
+    """Against all orders of the nodes."""
+    for nodes in range(3, 10):
+        matrix = write_matrix("a.tsp", "FULL_MATRIX", nodes, random.Random(nodes), -50, 50)
+        tours = ((0, *order) for order in permutations(range(1, nodes)))
+        least = min(sum(matrix[tour[k - 1]][tour[k]] for k in range(nodes)) for tour in tours)
+        _, length = found("a.tsp", "--kicks", "300")
+        need(length == least, f"{nodes} nodes: length {length}, and {least} is the least")
+
+
+def matrix():
+    ranges = [(1, 10**6), (0, 3), (-(10**6), 10**6), (10**12 - 1000, 10**12)]
+    for layout, (low, high) in zip(["FULL_MATRIX", "UPPER_ROW", "LOWER_DIAG_ROW", "UPPER_COL"], ranges):
+        write_matrix("a.tsp", layout, 60, random.Random(layout), low, high)
+        found("a.tsp")
+    write_matrix("a.tsp", "UPPER_ROW", 20, random.Random(1), 7, 7)
+    need(found("a.tsp") == (140, 140), "all weights are 7")
+
+
+def fixed():
+    chance = random.Random(5)
+    for nodes in (9, 10, 50, 300):
+        order = chance.sample(range(1, nodes + 1), nodes)
+        pairs = [f"{a} {b}" for a, b in zip(order[: nodes // 2], order[1 : nodes // 2]) if chance.randrange(3)]
+        write_points("a.tsp", "EUC_2D", nodes, chance, "FIXED_EDGES_SECTION", *pairs, pairs[0], "-1", side=10**5)
+        near("a.tsp", 0.1 if nodes < 20 else 0.03)
+    every = [f"{a} {a % 12 + 1}" for a in range(1, 13)]
+    write_points("a.tsp", "EUC_2D", 12, chance, "FIXED_EDGES_SECTION", *every, "-1")
+    near("a.tsp", 0)
+    write_matrix("a.tsp", "FULL_MATRIX", 30, chance, 1, 100)
+    text = Path("a.tsp").read_text().replace("EOF", "FIXED_EDGES_SECTION\n1 2\n2 9\n4 7\n-1\nEOF")
+    Path("a.tsp").write_text(text)
+    found("a.tsp")
+
+
+def atsp():
+    chance = random.Random(21)
+    for nodes, low, high in ((3, -5, 5), (40, 1, 1000), (80, -(10**6), 10**6), (40, 0, 3), (30, 10**12 - 1000, 10**12)):
+        write_arcs(nodes, lambda i, j, low=low, high=high: chance.randint(low, high))
+        said = certify("a.atsp", *OUT)
+        need(f"bound {judged('a.atsp', None)['bound']}," in said, f"another bound than that of tsp: {said}")
+    Path("a.tour").write_text("TYPE : TOUR\nTOUR_SECTION\n" + "\n".join(map(str, range(1, 31))) + "\n-1\nEOF\n")
+    said = certify("a.atsp", "a.tour", *OUT)
+    need(f"length {judged('a.atsp', 'a.tour')['length']}," in said, f"another length than that of tsp: {said}")
+    write_points("points.atsp", "EUC_2D", 40, chance)
+    certify("points.atsp", *OUT)
+    need(int(judged("points.atsp", None)["bound"]) > 0, "no bound")
+
+
+def named_tour():
+    """The gap of a tour that is named is told, and a bad one is made shorter."""
+    write_points("a.tsp", "EUC_2D", 100, random.Random(8), side=10**5)
+    Path("bad.tour").write_text("TYPE : TOUR\nTOUR_SECTION\n" + "\n".join(map(str, range(1, 101))) + "\n-1\nEOF\n")
+    bad = int(judged_after(["a.tsp", "bad.tour", *OUT], "bad.tour")["length"])
+    better = int(judged_after(["a.tsp", "bad.tour", *BOTH], "out.tour")["length"])
+    need(better < bad / 3, f"length {better} after {bad}")
+    Path("kept.tour").write_bytes(Path("out.tour").read_bytes())
+    again = int(judged_after(["a.tsp", "kept.tour", *BOTH, "--kicks", "0"], "out.tour")["length"])
+    need(again <= better, "a shorter tour isn't kept")
+
+
+def judged_after(words, tour):
+    certify(*words)
+    return judged("a.tsp", tour)
+
+
+def same_bytes():
+    """The same words give the same files, and so do the numbers that a run by seconds prints."""
+    write_points("a.tsp", "EUC_2D", 500, random.Random(9), side=10**6)
+    said = certify("a.tsp", *BOTH, "--seconds", "1")
+    words = [word for name in ("steps", "kicks") for word in (f"--{name}", re.search(rf"{name} (\d+)", said)[1])]
+    texts = [(Path("out.potentials").read_bytes(), Path("out.tour").read_bytes())]
+    for _ in range(2):
+        certify("a.tsp", *BOTH, *words)
+        texts.append((Path("out.potentials").read_bytes(), Path("out.tour").read_bytes()))
+    need(texts[0] == texts[1], f"{words}: other files than those of a run by seconds")
+    need(texts[1] == texts[2], f"{words}: the files differ")
+    certify("a.tsp", *BOTH, *words, "--seed", "2")
+    need(Path("out.tour").read_bytes() != texts[0][1], "another seed gives the same tour")
+
+
+def interrupt():
+    """A signal in the ascent or in the search for a tour writes what was found."""
+    write_points("a.tsp", "EUC_2D", 3000, random.Random(12), side=10**6)
+    for more in (["--steps", "1000000"], ["--steps", "50", "--kicks", "100000000"]):
+        for wait, number, status in ((2, signal.SIGINT, 130), (2, signal.SIGTERM, 143)):
+            for path in ("out.potentials", "out.tour"):
+                Path(path).unlink(missing_ok=True)
+            with subprocess.Popen([PROGRAM, "a.tsp", *BOTH, *more, "--tsp", TSP], stderr=subprocess.PIPE) as process:
+                time.sleep(wait)
+                process.send_signal(number)
+                process.communicate(timeout=60)
+            need(process.returncode == status, f"status {process.returncode} after {number}")
+            report = judged("a.tsp")
+            need(int(report["bound"]) > 0.8 * int(report["length"]), f"{more}: {report}")
+
+
+def overwriting():
+    write_points("a.tsp", "EUC_2D", 12, random.Random(24))
+    certify("a.tsp", *BOTH)
+    kept = Path("a.tsp").read_bytes(), Path("out.tour").read_bytes()
+    os.symlink("a.tsp", "soft")
+    for words in (
+        ["a.tsp", "-o", "soft"],
+        ["soft", "-o", "b.potentials", "--tour-out", "a.tsp"],
+        ["a.tsp", "out.tour", "-o", "out.tour"],
+        ["a.tsp", "-o", "same", "--tour-out", "./same"],
+        ["a.tsp", "-o", "b.potentials", "--log", "a.tsp"],
+    ):
+        need("overwritten" in certify(*words, status=2), f"{words}: a file would be overwritten")
+        need(kept == (Path("a.tsp").read_bytes(), Path("out.tour").read_bytes()), f"{words}: a file is changed")
+
+
+def log():
+    """Each line is of JSON, and no bound is above its length."""
+    write_points("a.tsp", "EUC_2D", 300, random.Random(5), side=10**6)
+    certify("a.tsp", *BOTH, "--log", "out.log")
+    events = [json.loads(line) for line in Path("out.log").read_text().splitlines()]
+    need([event["event"] for event in events[-2:]] == ["tour", "end"], f"the last events: {events[-2:]}")
+    need(events[-1]["length"] == int(judged("a.tsp")["length"]), f"another length: {events[-1]}")
+    need(all(event["length"] - event["bound"] == event["gap"] >= 0 for event in events), "a bound is above, or none")
+    need([event["seconds"] for event in events] == sorted(event["seconds"] for event in events), "not in order")
+    certify("a.tsp", *OUT, "--log", "out.log")
+    need("gap" not in Path("out.log").read_text(), "a gap without a tour")
+    certify("a.tsp", *OUT, "--log", "no/folder/log", status=2)
+
+
+def bad_input():
+    write_points("a.tsp", "EUC_2D", 12, random.Random(13))
+    text = Path("a.tsp").read_text()
+    rows = "DIMENSION:3\nEDGE_WEIGHT_TYPE:EXPLICIT\nEDGE_WEIGHT_FORMAT:FULL_MATRIX\nEDGE_WEIGHT_SECTION\n"
+    Path("odd.tsp").write_text(f"TYPE:TSP\n{rows}0 1 2 3 0 4 5 6 0\nEOF\n")
+    Path("odd.atsp").write_text(f"TYPE:ATSP\n{rows}0 1 2 3 0 4 5 6 0\nEOF\n")
+    Path("routes.vrp").write_text(text.replace(": TSP", ": CVRP").replace("EOF", "CAPACITY : 9\nDEMAND_SECTION\n")
+        + "".join(f"{v} {min(v - 1, 1)}\n" for v in range(1, 13)) + "DEPOT_SECTION\n1\n-1\nEOF\n")
+    Path("star.tsp").write_text(text.replace("EOF", "FIXED_EDGES_SECTION\n1 2\n1 3\n1 4\n-1\nEOF"))
+    Path("ring.tsp").write_text(text.replace("EOF", "FIXED_EDGES_SECTION\n1 2\n2 3\n3 1\n-1\nEOF"))
+    Path("two.tsp").write_text("TYPE:TSP\nDIMENSION:2\nEDGE_WEIGHT_TYPE:EUC_2D\nNODE_COORD_SECTION\n1 0 0\n2 1 1\nEOF\n")
+    Path("pair.tsp").write_text(text.replace("EOF", "FIXED_EDGES_SECTION\n1 2\n-1\nEOF"))
+    Path("short.tour").write_text("TYPE : TOUR\nTOUR_SECTION\n1 2 3 -1\nEOF\n")
+    Path("other.tour").write_text("TYPE : TOUR\nTOUR_SECTION\n1 3 2 4 5 6 7 8 9 10 11 12 -1\nEOF\n")
+    faults = [
+        (["routes.vrp", *OUT], "TYPE CVRP"),
+        (["odd.tsp", *OUT], "symmetric"),
+        (["odd.atsp", *BOTH], "tsp-certify"),
+        (["none.tsp", *OUT], "convert"),
+        (["star.tsp", *OUT], "no tour uses all fixed edges"),
+        (["ring.tsp", *OUT], "no tour uses all fixed edges"),
+        (["two.tsp", *OUT], "three nodes"),
+        (["a.tsp", "short.tour", *OUT], "no tour of the instance"),
+        (["a.tsp", "a.tsp", *OUT], "TYPE TOUR"),
+        (["pair.tsp", "other.tour", *OUT], "doesn't use all fixed edges"),
+        (["a.tsp"], "-o"),
+        ([], "INSTANCE"),
+        (["a.tsp", *OUT, "--seconds", "0"], "--seconds"),
+        (["a.tsp", *OUT, "--steps", "0"], "--steps"),
+        (["a.tsp", *OUT, "--kicks", "-1"], "--kicks"),
+        (["a.tsp", *OUT, "--wrong"], "--wrong"),
+        (["a.tsp", "-o", "no/folder/out"], "no/folder/out"),
+    ]
+    for words, part in faults:
+        need(part in certify(*words, status=2), f"{words}: the fault doesn't tell of {part}")
+
+
+def installing():
+    """The installed program runs, and its page names each option of its help."""
+    cmake, build = sys.argv[4:6]
+    subprocess.run([cmake, "--install", build, "--prefix", os.path.abspath("here")], check=True, capture_output=True)
+    helped = subprocess.run(["here/bin/tsp-potentials", "--help"], capture_output=True, text=True, check=True).stdout
+    page = Path("here/share/man/man1/tsp-potentials.1").read_text().replace("\\", "")
+    options = set(re.findall(r"(?<![-\w])--?[a-z][-a-z]*", helped))
+    need(len(options) >= 8 and all(option in page for option in options), f"not all on the page: {options}")
+
+
+CASES = [weights, small, matrix, fixed, atsp, named_tour, same_bytes, interrupt, overwriting, log, bad_input, installing]
+
+if __name__ == "__main__":
+    with tempfile.TemporaryDirectory() as folder:
+        os.chdir(folder)
+        {case.__name__: case for case in CASES}[sys.argv[1]]()

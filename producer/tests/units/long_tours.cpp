@@ -1,0 +1,100 @@
+#include <algorithm>
+#include <numeric>
+
+#include "block_tour.h"
+#include "chained_search.h"
+#include "fixtures.h"
+#include "tours.h"
+
+using certify::Pair;
+using certify::Random;
+using certify::Tour;
+using namespace potentials;
+
+namespace {
+// The path from one node to another of a list.
+std::pair<int, int> places_of(const Tour& tour, int a, int b) {
+  const auto place = [&](int v) {
+    return static_cast<int>(std::find(tour.begin(), tour.end(), v) - tour.begin());
+  };
+  return {place(a), place(b)};
+}
+
+void reverse_plainly(Tour& tour, int a, int b) {
+  std::rotate(tour.begin(), std::find(tour.begin(), tour.end(), a), tour.end());
+  std::reverse(tour.begin(), std::find(tour.begin(), tour.end(), b) + 1);
+}
+
+Problem uniform(int nodes, const std::vector<Pair>& fixed, Random& random) {
+  Points points;
+  for (int i = 0; i < nodes; i++) {
+    points.x.push_back(random.below(100000));
+    points.y.push_back(random.below(100000));
+    points.z.push_back(0);
+  }
+  return Problem(std::move(points), fixed);
+}
+}  // namespace
+
+TEST_CASE("a tour of blocks is what a plain list is") {
+  Random random(1);
+  for (const int nodes : {9, 40, 700}) {
+    Tour plain(nodes);
+    std::iota(plain.begin(), plain.end(), 0);
+    BlockTour blocks(plain);
+    for (int trial = 0; trial < 2000; trial++) {
+      const int a = random.below(nodes);
+      const int b = random.below(nodes);
+      reverse_plainly(plain, a, b);
+      blocks.reverse(a, b);
+      if (trial % 5 == 0) {
+        std::reverse(plain.begin(), plain.end());
+        blocks.turn();
+      }
+      const int c = random.below(nodes);
+      const int next = plain[(places_of(plain, c, c).first + 1) % nodes];
+      REQUIRE(blocks.next(c) == next);
+      REQUIRE(blocks.prev(next) == c);
+      std::rotate(plain.begin(), std::find(plain.begin(), plain.end(), a), plain.end());
+      const auto [from, to] = places_of(plain, b, c);
+      REQUIRE(blocks.between(a, b, c) == (from <= to));
+    }
+    Tour order = blocks.order();
+    std::sort(order.begin(), order.end());
+    for (int v = 0; v < nodes; v++) CHECK(order[v] == v);
+  }
+}
+
+TEST_CASE("a search shortens a tour, keeps each node and each fixed edge") {
+  Random random(2);
+  for (const std::vector<Pair>& fixed : {std::vector<Pair>{}, std::vector<Pair>{{1, 2}, {2, 250}, {7, 9}}}) {
+    const Problem problem = uniform(300, fixed, random);
+    const Tour first = first_tour(problem);
+    CHECK(problem.allows(first));
+    TourSearch search;
+    search.kicks = 500;
+    search.watch = [](long, double) { return true; };
+    const Shortened found = shorten(problem, first, std::vector<double>(300), {}, search);
+    CHECK(found.kicks == 500);
+    CHECK(problem.length(found.tour) < 0.95 * problem.length(first));
+    CHECK(problem.allows(found.tour));
+    Tour sorted = found.tour;
+    std::sort(sorted.begin(), sorted.end());
+    for (int v = 0; v < 300; v++) CHECK(sorted[v] == v);
+    CHECK(shorten(problem, first, std::vector<double>(300), {}, search).tour == found.tour);
+  }
+}
+
+TEST_CASE("tours of nine nodes are shortest after kicks") {
+  Random random(3);
+  for (int trial = 0; trial < 20; trial++) {
+    certify::Matrix weights = random_matrix(9, random);
+    const double least = static_cast<double>(shortest(weights));
+    const Problem problem(std::move(weights), {});
+    TourSearch search;
+    search.kicks = 300;
+    search.watch = [](long, double) { return true; };
+    const Shortened found = shorten(problem, first_tour(problem), std::vector<double>(9), {}, search);
+    CHECK(problem.length(found.tour) == least);
+  }
+}
