@@ -232,7 +232,8 @@ enum {
 };
 
 /* tsp_check and tsp_bound, with the result in numbers too: the verdict, if the status is TSP_YES or TSP_NO, and
- * the fault, if it is TSP_FAULT. At TSP_TOO_SMALL they are those of the status that a larger buffer gives. */
+ * the fault, if it is TSP_FAULT. At TSP_OUT_OF_MEMORY and TSP_REFUSED all numbers are 0. At TSP_TOO_SMALL they are
+ * those of the status that a larger buffer gives. */
 uint32_t tsp_check_result(const uint8_t *instance, size_t instance_len, const uint8_t *solution, size_t solution_len,
                           const uint8_t *certificate, size_t certificate_len, uint32_t by, int64_t claimed,
                           uint32_t has_claim, struct tsp_result *result, uint8_t *out, size_t out_len,
@@ -251,7 +252,8 @@ struct tsp_instance {
 };
 
 /* Opens a handle on the instance that a text is. The text may be freed then. If the handle is open, it is closed
- * first. If the status isn't TSP_YES, the handle is closed, and result has the fault, if it is TSP_FAULT. */
+ * first. If the status isn't TSP_YES, the handle is closed, and result has the fault, if it is TSP_FAULT, and else
+ * zeros. */
 uint32_t tsp_open(const uint8_t *instance, size_t instance_len, struct tsp_instance *handle,
                   struct tsp_result *result);
 

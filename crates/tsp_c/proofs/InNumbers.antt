@@ -1,5 +1,5 @@
 -- What the numbers of a run on texts say.
-use Rattle.std.proofs.Common.{◌≡◌, ℕ, ◌≤◌, ◌^◌, List, Result, Ok, Err, inl, inr, sym, ◌∙◌, arith}
+use Rattle.std.proofs.Common.{◌≡◌, ◌≢◌, ℕ, ◌≤◌, ◌^◌, List, Result, Ok, Err, inl, inr, sym, ◌∙◌, arith}
 use Rattle.std.specs.Prelude.{Option, Some, ℤ, pos, negsuc, IfOk, unsigned_abs}
 use Rattle.std.proofs.lemmas.Int.{ints}
 use Rattle.tsp_stream.specs.Turn.{Turn}
@@ -23,7 +23,7 @@ use Rattle.tsp_judge.specs.BoundRun.{EndsUnbounded, IsBoundRun}
 use Rattle.tsp_c.specs.declared.told.Told.{Told}
 use Rattle.tsp_c.specs.Ended.{without_devices, has_bound, EndsOnTexts}
 use Rattle.tsp_c.specs.Texts.{given_text}
-use Rattle.tsp_c.specs.Told.{IsSizedBound, told_of_run, told_of_bound_run, TellsTexts, TellsBound}
+use Rattle.tsp_c.specs.Told.{IsSizedBound, blank_told, told_of_run, told_of_bound_run, TellsTexts, TellsBound}
 use Rattle.tsp_c.proofs.Ends.{fault_status}
 use Rattle.tsp_c.proofs.OnHandles.{not_two}
 use Rattle.tsp_c.proofs.OnTexts.{Reads2, Reads3, are_spelled, unchecked, no_relayout, unbounded, not_relaid, spelled}
@@ -76,10 +76,10 @@ fault_is fault written status text (inr e) two = let three : status ≡ 3 = e.0 
 -- ---- the runs
 
 pub tells_texts : (by : Option Certificate) (claimed : Option ℤ) (first second third : Turn) (sink : Sink) (ended : Result Judged RunFault)
-    (one two three written : List ℕ) (status : ℕ) (text : List ℕ) (numbers : Told) → Reads3 first second third one two three
-    → IsRun (given_by by third) claimed first second sink ended → numbers ≡ told_of_run ended
-    → EndsOnTexts (told ended) written status text → TellsTexts (given_text by three) claimed one two status numbers
-tells_texts by claimed first second third sink (Ok judged) one two three written status text numbers reads run is e = record {
+    (one two three written : List ℕ) (status : ℕ) (text : List ℕ) (made numbers : Told) → Reads3 first second third one two three
+    → IsRun (given_by by third) claimed first second sink ended → made ≡ told_of_run ended
+    → (status ≢ 3 → numbers ≡ made) → (status ≡ 3 → numbers ≡ blank_told) → EndsOnTexts (told ended) written status text → TellsTexts (given_text by three) claimed one two status numbers
+tells_texts by claimed first second third sink (Ok judged) one two three written status text made numbers reads run is kept none e = record {
   judged = λ low. record {
     instance = judged.instance;
     solution = judged.solution;
@@ -88,24 +88,26 @@ tells_texts by claimed first second third sink (Ok judged) one two three written
     spelled = are_spelled by first second third one two three judged.instance judged.solution judged.certificate reads run.0;
     of_type = run.1.0;
     judged = run.1.1;
-    numbers = is;
+    numbers = kept (λ three. absurd (omega (arith, three, low))) ∙ is;
     status_is = e.0;
   };
   faulty = λ two_is. absurd (not_two (is_yes judged.verdict) status e.0 two_is);
+  refused = none;
 }
-tells_texts by claimed first second third sink (Err fault) one two three written status text numbers reads run is e = record {
+tells_texts by claimed first second third sink (Err fault) one two three written status text made numbers reads run is kept none e = record {
   judged = λ low.
       let refused = (fault_status fault).relayout (low_status fault written status text e low) in
       absurd (no_relayout by claimed first second third sink fault refused.0 refused.1 run);
   faulty = λ two_is.
-      (fault, unchecked by claimed first second third sink one two three fault reads run (fault_is fault written status text e two_is), is);
+      (fault, unchecked by claimed first second third sink one two three fault reads run (fault_is fault written status text e two_is), kept (λ three. absurd (omega (arith, three, two_is))) ∙ is);
+  refused = none;
 }
 
 pub tells_bound : (by : Certificate) (first second : Turn) (sink : Sink) (ended : Result Bounded RunFault)
-    (one two written : List ℕ) (status : ℕ) (text : List ℕ) (numbers : Told) → Reads2 first second one two
-    → IsBoundRun by first second sink ended → numbers ≡ told_of_bound_run ended
-    → EndsOnTexts (has_bound ended) written status text → TellsBound by one two status numbers
-tells_bound by first second sink (Ok bounded) one two written status text numbers reads run is e = record {
+    (one two written : List ℕ) (status : ℕ) (text : List ℕ) (made numbers : Told) → Reads2 first second one two
+    → IsBoundRun by first second sink ended → made ≡ told_of_bound_run ended
+    → (status ≢ 3 → numbers ≡ made) → (status ≡ 3 → numbers ≡ blank_told) → EndsOnTexts (has_bound ended) written status text → TellsBound by one two status numbers
+tells_bound by first second sink (Ok bounded) one two written status text made numbers reads run is kept none e = record {
   bounded = λ low. record {
     instance = bounded.instance;
     certificate = bounded.certificate;
@@ -114,15 +116,17 @@ tells_bound by first second sink (Ok bounded) one two written status text number
     second_file = spelled second two bounded.certificate reads.second_is run.1;
     of_type = run.2.0;
     judged = run.2.1;
-    numbers = is;
+    numbers = kept (λ three. absurd (omega (arith, three, low))) ∙ is;
     status_is = e.0;
   };
   faulty = λ two_is. absurd (not_two (is_bound_yes bounded.found) status e.0 two_is);
+  refused = none;
 }
-tells_bound by first second sink (Err fault) one two written status text numbers reads run is e = record {
+tells_bound by first second sink (Err fault) one two written status text made numbers reads run is kept none e = record {
   bounded = λ low.
       let refused = (fault_status fault).relayout (low_status fault written status text e low) in
       absurd (not_relaid by first second sink fault refused.0 refused.1 run);
   faulty = λ two_is.
-      (fault, unbounded by first second sink one two fault reads run (fault_is fault written status text e two_is), is);
+      (fault, unbounded by first second sink one two fault reads run (fault_is fault written status text e two_is), kept (λ three. absurd (omega (arith, three, two_is))) ∙ is);
+  refused = none;
 }

@@ -1,5 +1,5 @@
 -- From the verdict on a solution of an open instance to what is said of the texts that are open.
-use Rattle.std.proofs.Common.{◌≡◌, ℕ, ◌≤◌, List, Bool, true, false, Result, Ok, Err, inl, inr, refl, sym, ap, subst, ◌∙◌, arith}
+use Rattle.std.proofs.Common.{◌≡◌, ◌≢◌, ℕ, ◌≤◌, List, Bool, true, false, Result, Ok, Err, inl, inr, refl, sym, ap, subst, ◌∙◌, arith}
 use Rattle.std.specs.Prelude.{Option, ℤ}
 use Rattle.tsp_stream.specs.declared.output.WriteFault.TheVariants as write_faults
 use Rattle.tsp_stream.specs.Sink.{Sink}
@@ -19,7 +19,7 @@ use Rattle.tsp_c.specs.declared.told.Told.{Told}
 use Rattle.tsp_c.specs.Ended.{without_devices, EndsOnTexts, Reports}
 use Rattle.tsp_c.specs.Opened.{IsOpenOn, ChecksAsTexts, TellsJudged}
 use Rattle.tsp_c.specs.Texts.{GivenText, AreSpelled, IsAcceptedText, StopsCheck, ChecksTexts}
-use Rattle.tsp_c.specs.Told.{told_of_verdict, told_of_fault}
+use Rattle.tsp_c.specs.Told.{blank_told, told_of_verdict, told_of_fault}
 use Rattle.tsp_c.proofs.Ends.{yes_ends, no_ends, fault_ends, fault_status}
 use Rattle.tsp_c.proofs.OnTexts.{Collects, printed_is}
 
@@ -91,11 +91,17 @@ status_of_it opened two fault written status text ends (inr e) two_is =
     let three : status ≡ 3 = e.0 in absurd (omega (arith, three, two_is))
 
 pub fault_told : (opened : Open) (claimed : Option ℤ) (two : List ℕ) (fault : RunFault) (written : List ℕ) (status : ℕ)
-    (text : List ℕ) (told : Told) → IsNotJudged two opened fault → told ≡ told_of_fault fault
-    → EndsOnTexts (Err fault) written status text → TellsJudged opened claimed two status told
-fault_told opened claimed two fault written status text told ends is e = record {
+    (text : List ℕ) (made told : Told) → IsNotJudged two opened fault → made ≡ told_of_fault fault
+    → (status ≢ 3 → told ≡ made) → (status ≡ 3 → told ≡ blank_told) → EndsOnTexts (Err fault) written status text → TellsJudged opened claimed two status told
+fault_told opened claimed two fault written status text made told ends is kept none e = record {
   judged = λ low. absurd (above_one opened two fault written status text ends e low);
-  faulty = λ two_is. (fault, ends, is, status_of_it opened two fault written status text ends e two_is);
+  faulty = λ two_is. (
+    fault,
+    ends,
+    kept (λ three. absurd (omega (arith, three, two_is))) ∙ is,
+    status_of_it opened two fault written status text ends e two_is,
+  );
+  refused = none;
 }
 
 -- ---- a verdict
@@ -177,15 +183,17 @@ not_two true status is two = let zero : status ≡ 0 = is in omega (arith, zero,
 not_two false status is two = let one : status ≡ 1 = is in omega (arith, one, two)
 
 pub reported_told : (opened : Open) (claimed : Option ℤ) (two : List ℕ) (verdict : Verdict) (sink : Sink) (answer : Result Bool RunFault)
-    (written : List ℕ) (status : ℕ) (text : List ℕ) (told : Told) → IsHeldVerdict two claimed opened verdict
-    → told ≡ told_of_verdict opened.instance verdict → Reports sink (report_of opened.instance verdict) (is_yes verdict) answer
+    (written : List ℕ) (status : ℕ) (text : List ℕ) (made told : Told) → IsHeldVerdict two claimed opened verdict
+    → made ≡ told_of_verdict opened.instance verdict → (status ≢ 3 → told ≡ made) → (status ≡ 3 → told ≡ blank_told) → Reports sink (report_of opened.instance verdict) (is_yes verdict) answer
     → EndsOnTexts answer written status text → TellsJudged opened claimed two status told
-reported_told opened claimed two verdict sink (Ok answer) written status text told is told_is reports e = record {
-  judged = λ low. (verdict, is, told_is, e.0 ∙ ap (λ (b : Bool). status_of (Ok b)) reports.1);
+reported_told opened claimed two verdict sink (Ok answer) written status text made told is told_is kept none reports e = record {
+  judged = λ low. (verdict, is, kept (λ three. absurd (omega (arith, three, low))) ∙ told_is, e.0 ∙ ap (λ (b : Bool). status_of (Ok b)) reports.1);
   faulty = λ two_is. absurd (not_two answer status e.0 two_is);
+  refused = none;
 }
-reported_told opened claimed two verdict sink (Err fault) written status text told is told_is reports e =
+reported_told opened claimed two verdict sink (Err fault) written status text made told is told_is kept none reports e =
     let three : status ≡ 3 = unwritten fault written status text reports e in record {
       judged = λ low. absurd (omega (arith, three, low));
       faulty = λ two_is. absurd (omega (arith, three, two_is));
+      refused = none;
     }

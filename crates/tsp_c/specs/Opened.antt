@@ -64,12 +64,13 @@ abbrev pub ChecksAsTexts : Open → Option ℤ → List ℕ → ℕ → List ℕ
 ChecksAsTexts opened claimed two status text = (one : List ℕ) (given : GivenText) → IsOpenOn one given opened
     → ChecksTexts given claimed one two status text
 
--- the numbers are those of the verdict, at 0 and 1, and of the fault, at 2, which is one with this status
+-- the numbers are those of the verdict, at 0 and 1, and of the fault, at 2, which is one with this status; at 3 all are 0
 pub record TellsJudged (opened : Open) (claimed : Option ℤ) (two : List ℕ) (status : ℕ) (told : Told) : Type 0 where
   pub judged : status ≤ 1 → (verdict : Verdict) × IsHeldVerdict two claimed opened verdict
       × (told ≡ told_of_verdict opened.instance verdict) × (status ≡ status_of (Ok (is_yes verdict)))
   pub faulty : status ≡ 2 → (fault : RunFault) × IsNotJudged two opened fault × (told ≡ told_of_fault fault)
       × (status ≡ status_of_fault fault)
+  pub refused : status ≡ 3 → told ≡ blank_told
 
 abbrev pub ChecksOpen : Open → Option ℤ → List ℕ → ℕ → List ℕ → Told → Type 0
 ChecksOpen opened claimed two status text told = ChecksAsTexts opened claimed two status text

@@ -211,7 +211,10 @@ told_field (read_faults.End (end_faults.Missing found)) = field_number found
 told_field (read_faults.End (end_faults.Incomplete found)) = field_number found
 told_field found = 0
 
+-- Out of memory has no numbers, nor has a device.
 abbrev pub told_of_fault : RunFault → Told
+told_of_fault (File file_is read_faults.OutOfMemory) = blank_told
+told_of_fault (File file_is read_faults.Device) = blank_told
 told_of_fault (File file_is (read_faults.Line line_is word_is found)) = record blank_told {
   fault = line_fault_number found;
   file = file_is;
@@ -237,7 +240,7 @@ abbrev pub told_of_bound_run : Result Bounded RunFault → Told
 told_of_bound_run (Ok bounded) = told_of_bound bounded.instance bounded.found
 told_of_bound_run (Err fault) = told_of_fault fault
 
--- ---- what the numbers of a call on texts say: at 0 and 1 they are those of the verdict, at 2 those of the fault
+-- ---- what the numbers of a call on texts say: at 0 and 1 they are those of the verdict, at 2 those of the fault, at 3 all are 0
 
 -- the verdict on the files that the texts parse to
 pub record IsTextVerdict (given : GivenText) (claimed : Option ℤ) (one two : List ℕ) (status : ℕ) (told : Told) : Type 0 where
@@ -254,6 +257,7 @@ pub record IsTextVerdict (given : GivenText) (claimed : Option ℤ) (one two : L
 pub record TellsTexts (given : GivenText) (claimed : Option ℤ) (one two : List ℕ) (status : ℕ) (told : Told) : Type 0 where
   pub judged : status ≤ 1 → IsTextVerdict given claimed one two status told
   pub faulty : status ≡ 2 → (fault : RunFault) × IsUnchecked given one two fault × (told ≡ told_of_fault fault)
+  pub refused : status ≡ 3 → told ≡ blank_told
 
 abbrev pub TellsBy : ℕ → ℕ → ℤ → List ℕ → List ℕ → List ℕ → ℕ → Told → Type 0
 TellsBy by has_claim claimed one two three status told =
@@ -277,6 +281,7 @@ pub record IsTextBound (by : Certificate) (one two : List ℕ) (status : ℕ) (t
 pub record TellsBound (by : Certificate) (one two : List ℕ) (status : ℕ) (told : Told) : Type 0 where
   pub bounded : status ≤ 1 → IsTextBound by one two status told
   pub faulty : status ≡ 2 → (fault : RunFault) × IsUnbounded by one two fault × (told ≡ told_of_fault fault)
+  pub refused : status ≡ 3 → told ≡ blank_told
 
 abbrev pub TellsBoundBy : Option Certificate → List ℕ → List ℕ → ℕ → Told → Type 0
 TellsBoundBy None one two status told = told ≡ blank_told

@@ -8,7 +8,7 @@ use crate::line::{NoLine, line_of};
 use tsp_judge::{ReadFault, RunFault, Watched, WriteFault, status_of};
 
 /// Out of memory.
-const OUT_OF_MEMORY: u8 = 3;
+pub(crate) const OUT_OF_MEMORY: u8 = 3;
 
 /// The status with which a run on texts ends, and the text that goes to the caller: what the run
 /// wrote, or the line of its fault. Where there is no memory for a line, the text is empty.

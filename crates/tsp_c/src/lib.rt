@@ -26,6 +26,7 @@ mod instance;
 mod lengths;
 mod line;
 mod loose;
+mod number_examples;
 mod opened;
 mod parts;
 mod place;

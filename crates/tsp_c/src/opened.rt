@@ -154,13 +154,13 @@ fn check_opened(
     match opened.judge(alloc, solution, claimed) {
         Err(fault) => {
             let (status, text) = ended(Err(fault), report);
-            (status, text, Told::of_fault(fault))
+            (status, text, Told::of_fault(fault).for_status(status))
         }
         Ok(verdict) => {
             let told = Told::of_verdict(opened.instance(), verdict);
             let answer = reported(opened.instance(), verdict, &mut report);
             let (status, text) = ended(answer, report);
-            (status, text, told)
+            (status, text, told.for_status(status))
         }
     }
 }

@@ -63,7 +63,7 @@ pub(crate) fn checked(
     );
     let numbers = Told::of_run(&judged);
     let (status, text) = ended(told(judged), report);
-    (status, text, numbers)
+    (status, text, numbers.for_status(status))
 }
 
 /// The bound of the tours of the instance that a text is, by the certificate that another one is;
@@ -83,7 +83,7 @@ pub(crate) fn bounded(
     let found = run_bound(alloc, &mut first, by, &mut second, &mut report);
     let numbers = Told::of_bound_run(&found);
     let (status, text) = ended(has_bound(found), report);
-    (status, text, numbers)
+    (status, text, numbers.for_status(status))
 }
 
 /// What is done is no no.

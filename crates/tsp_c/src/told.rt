@@ -1,10 +1,11 @@
 //! The result of a call in numbers.
 
-ghost use Rattle.std.specs.Prelude.{◌≡◌, Some, IfOk};
+ghost use Rattle.std.specs.Prelude.{◌≡◌, ◌≢◌, Some, IfOk};
 ghost use Rattle.tsp_report.specs.Report.{IsGapSized, IsSized};
 ghost use Rattle.tsp_verdict.specs.Reasons.{rank_of};
 ghost use Rattle.tsp_c.specs.Told.{IsSizedBound, blank_told, told_field, field_number, first_number, kind_number, line_fault_number, number_fault_number, told_number, read_fault_number, second_number, told_of_bound, told_of_bound_run, told_of_fault, told_of_instance, told_of_run, told_of_verdict, with_bound, with_reason};
 
+use crate::ended::OUT_OF_MEMORY;
 use tsp_cost::{Costs, Instance};
 use tsp_format::{Field, Kind};
 use tsp_judge::{Bounded, EndFault, Judged, LineFault, ReadFault, RunFault};
@@ -188,6 +189,10 @@ impl Told {
     {
         match fault {
             RunFault::File {
+                fault: ReadFault::OutOfMemory | ReadFault::Device,
+                ..
+            } => Told::blank(),
+            RunFault::File {
                 file,
                 fault: ReadFault::Line { line, word, fault },
             } => Told {
@@ -211,6 +216,17 @@ impl Told {
             },
             RunFault::OutOfMemory | RunFault::Write(_) | RunFault::Relayout(_) => Told::blank(),
         }
+    }
+
+    /// The numbers of a call with this status: none out of memory.
+    pub(crate) fn for_status(self, status: u8) -> Told
+        ensures kept { status ≢ 3 → result ≡ self }
+        ensures none { status ≡ 3 → result ≡ blank_told }
+    {
+        if status == OUT_OF_MEMORY {
+            return Told::blank();
+        }
+        self
     }
 
     /// The same with a bound.

@@ -16,7 +16,8 @@ returns-in-Err-clause-texts c = fault_as_texts c.args.opened.now c.args.claimed 
 
 pub returns-in-Err-clause-numbers : goal.returns-in-Err-clause-numbers
 returns-in-Err-clause-numbers c = fault_told c.args.opened.now c.args.claimed c.args.solution.now c.in-Err.fault []
-    c.ended-status.result.0 c.ended-status.result.1.items c.of_fault.result c.in-Err.ensures c.of_fault.ensures c.ended-status.ensures
+    c.ended-status.result.0 c.ended-status.result.1.items c.of_fault.result c.for_status.result c.in-Err.ensures c.of_fault.ensures
+    c.for_status.ensures.kept c.for_status.ensures.none c.ended-status.ensures
 
 pub returns-in-Ok-clause-texts : goal.returns-in-Ok-clause-texts
 returns-in-Ok-clause-texts c =
@@ -40,7 +41,8 @@ returns-in-Ok-clause-numbers c =
     let sink : Sink = sink_of (λ v. Some v.items) c.new-report.result answer.new.out in
     let same : c.instance-in-Ok.result.now ≡ opened.instance = c.instance-in-Ok.ensures in
     reported_told opened c.args.claimed c.args.solution.now c.in-Ok.verdict sink answer.result answer.new.out.inner.items
-    c.ended-status-in-Ok.result.0 c.ended-status-in-Ok.result.1.items c.of_verdict-told.result c.in-Ok.ensures
+    c.ended-status-in-Ok.result.0 c.ended-status-in-Ok.result.1.items c.of_verdict-told.result c.for_status-in-Ok.result c.in-Ok.ensures
     (c.of_verdict-told.ensures ∙ ap (λ (f : Fields). told_of_verdict f c.in-Ok.verdict) c.instance.ensures)
+    c.for_status-in-Ok.ensures.kept c.for_status-in-Ok.ensures.none
     (subst (λ (f : Fields). Reports sink (report_of f c.in-Ok.verdict) (is_yes c.in-Ok.verdict) answer.result) same answer.ensures)
     c.ended-status-in-Ok.ensures

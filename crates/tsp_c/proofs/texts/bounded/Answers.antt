@@ -30,9 +30,9 @@ returns-clause-numbers c = let first = c.run_bound-found.ensures in let second =
     let one : Turn = turn_of (λ s. Some s.now) c.new-first.result c.run_bound-found.new.inst first.0 in
     let two : Turn = turn_of (λ s. Some s.now) c.new-second.result c.run_bound-found.new.cert second.0 in
     let sink : Sink = sink_of (λ v. Some v.items) c.new-report.result c.run_bound-found.new.out in
-    tells_bound c.args.by one two sink c.run_bound-found.result _ _ _ _ _ _
+    tells_bound c.args.by one two sink c.run_bound-found.result _ _ _ _ _ _ _
     (record {
       first_is = ap (λ s. Some s.now) c.new-first.ensures.inner;
       second_is = ap (λ s. Some s.now) c.new-second.ensures.inner;
     })
-    second.2.0 c.of_bound_run-numbers.ensures (rw c.has_bound.ensures at c.ended-status.ensures)
+    second.2.0 c.of_bound_run-numbers.ensures c.for_status.ensures.kept c.for_status.ensures.none (rw c.has_bound.ensures at c.ended-status.ensures)

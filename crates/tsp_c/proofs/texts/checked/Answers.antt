@@ -23,10 +23,10 @@ returns-clause-texts c = let first = c.run-judged.ensures in let second = first.
 
 pub returns-clause-numbers : goal.returns-clause-numbers
 returns-clause-numbers c = let first = c.run-judged.ensures in let second = first.2 in let third = second.2 in let says = third.2 in
-    tells_texts c.args.by c.args.claimed _ _ _ (sink_of (λ v. Some v.items) c.new-report.result c.run-judged.new.out) c.run-judged.result _ _ _ _ _ _ _
+    tells_texts c.args.by c.args.claimed _ _ _ (sink_of (λ v. Some v.items) c.new-report.result c.run-judged.new.out) c.run-judged.result _ _ _ _ _ _ _ _
     (record {
       first_is = ap (λ s. Some s.now) c.new-first.ensures.inner;
       second_is = ap (λ s. Some s.now) c.new-second.ensures.inner;
       third_is = ap (λ s. Some s.now) c.new-third.ensures.inner;
     })
-    says.1.0 c.of_run-numbers.ensures (rw c.told.ensures at c.ended-status.ensures)
+    says.1.0 c.of_run-numbers.ensures c.for_status.ensures.kept c.for_status.ensures.none (rw c.told.ensures at c.ended-status.ensures)
