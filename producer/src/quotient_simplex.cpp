@@ -8,7 +8,7 @@
 
 // Both builds reckon the same.
 #if defined(__x86_64__) && defined(__gnu_linux__) && defined(__GNUC__) && !defined(__clang__) && \
-    !defined(__SANITIZE_ADDRESS__)
+    !defined(__SANITIZE_ADDRESS__) && !defined(__SANITIZE_THREAD__)
 #define CERTIFY_CLONES __attribute__((target_clones("avx2", "default")))
 #else
 #define CERTIFY_CLONES

@@ -144,10 +144,7 @@ CaseSolver& Search::own_solver() {
 // The new cuts get the numbers of the pool of the tree.
 void Search::renumber(Outcome& outcome) {
   std::vector<int> numbers;
-  {
-    const std::lock_guard lock(pool_access_);
-    for (const auto& cut : outcome.cuts) numbers.push_back(pool_.add(cut));
-  }
+  for (const auto& cut : outcome.cuts) numbers.push_back(pool_.add(cut));
   const auto number = [&](int cut) { return cut < outcome.first ? cut : numbers[cut - outcome.first]; };
   std::map<int, Weight> multipliers;
   for (const auto& [cut, multiplier] : outcome.numbers.multipliers) multipliers[number(cut)] += multiplier;
@@ -276,6 +273,7 @@ void Search::remember(const History& fresh) {
 void Search::take_oldest() {
   const Begun oldest = running_.front();
   running_.pop_front();
+  const std::lock_guard lock(oldest->access);
   if (oldest->place < 0) return;
   remember(oldest->outcome.history);
   take(oldest->place, oldest->outcome);
@@ -297,11 +295,13 @@ bool Search::waits_for_none() const {
 // Begins the next case. A null pointer where all are done or the time is over; a job without a case where
 // none is open until another one has ended.
 Search::Begun Search::begin_next() {
+  const std::lock_guard lock(access_);
   while (static_cast<int>(running_.size()) >= plan_.window) take_oldest();
   finish_reached();
   if ((open_.empty() && waits_for_none()) || clock_.over(kTree.part_of_time)) return nullptr;
   if (plan_.split > 0 && open_.size() + running_.size() >= plan_.split) return nullptr;
   auto job = std::make_shared<Job>();
+  const std::lock_guard own(job->access);
   if (!open_.empty()) {
     job->place = next_place();
     job->here = case_of(job->place);
@@ -312,12 +312,13 @@ Search::Begun Search::begin_next() {
 }
 
 void Search::solve(Job& job) {
-  if (job.place < 0) return;
   CaseSolver& solver = own_solver();
   {
-    const std::lock_guard lock(pool_access_);
+    const std::lock_guard lock(access_);
+    if (job.place < 0) return;
     job.here.cuts = pool_.part(solver.known(), job.here.known);
   }
+  const std::lock_guard own(job.access);
   job.outcome = solver.solve(job.here);
   job.here = {};
 }
@@ -328,16 +329,20 @@ void Search::grow_tree() {
   using oneapi::tbb::filter_mode;
   using oneapi::tbb::make_filter;
   const auto begin = make_filter<void, Begun>(filter_mode::serial_in_order, [&](auto& flow) {
+    show_step_begins();
     Begun job = begin_next();
     if (!job) flow.stop();
     return job;
   });
   const auto work = make_filter<Begun, Begun>(filter_mode::parallel, [&](const Begun& job) {
+    show_step_begins();
     if (job) solve(*job);
     return job;
   });
   const auto end = make_filter<Begun, void>(filter_mode::serial_in_order, [](const Begun&) {});
+  show_loop_begins();
   oneapi::tbb::parallel_pipeline(static_cast<std::size_t>(plan_.window), begin & work & end);
+  const std::lock_guard lock(access_);
   while (!running_.empty()) take_oldest();
 }
 

@@ -66,6 +66,7 @@ class Search {
     int place = -1;
     Case here;
     Outcome outcome;
+    std::mutex access{};  // (whoever has the job next sees what the one before wrote)
   };
   using Begun = std::shared_ptr<Job>;
   Value aim() const { return static_cast<Value>(problem_.scale) * (goal_.target - 1) + 1; }
@@ -105,7 +106,7 @@ class Search {
   std::vector<Decision> above_;  // what is decided at the root
   std::map<std::string, std::string> notes_;
   Goal goal_;
-  std::mutex pool_access_;
+  std::mutex access_;  // to the tree and the pool, which one thread after the other has
   CutPool pool_;
   const std::unique_ptr<ExactBound> bound_;
   std::optional<Weight> shift_;
