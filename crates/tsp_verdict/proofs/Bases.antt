@@ -23,9 +23,9 @@ use Rattle.tsp_verdict.specs.Reasons.{rank_of, NoneBefore, IsFirstReason}
 use Rattle.tsp_cost.specs.ComputedProblems.{capacity_of}
 use Rattle.tsp_verdict.specs.Routes.{StandsAgainstRoutes, IsRoutesVerdict}
 use Rattle.tsp_verdict.specs.Tours.{NoneOfTourUpTo, IsFirstAgainstTour, IsTourVerdict}
-use Rattle.tsp_verdict.specs.states.Grounds.{verdict_by, IsSubject, IsVerdictGiven, IsBasisGiven}
-use Rattle.tsp_verdict.specs.declared.ground.Given.{Given}
-use Rattle.tsp_verdict.specs.declared.ground.Given.TheVariants as givens
+use Rattle.tsp_verdict.specs.states.Sources.{verdict_by, IsSubject, IsVerdictGiven, IsBasisGiven}
+use Rattle.tsp_verdict.specs.declared.source.Given.{Given}
+use Rattle.tsp_verdict.specs.declared.source.Given.TheVariants as givens
 use Rattle.tsp_verdict.specs.states.Known.{against_instance, KnowsInstance}
 use Rattle.tsp_verdict.proofs.Certificates.{certificate_rank, kinds_bounded}
 use Rattle.tsp_verdict.proofs.Claims.{refused_alone, other_alone, accepted_alone, tour_refused, tour_of_another_length, certificate_refused, tour_bounded}

@@ -4,4 +4,4 @@ pub mod Marks
 pub mod Next
 pub mod Sums
 pub mod RouteLists
-pub mod Grounds
+pub mod Sources

@@ -7,7 +7,7 @@ ghost use Rattle.tsp_reason.specs.declared.certificate.Certificate.{Certificate}
 ghost use Rattle.tsp_verdict.specs.Basis.{IsBasis, IsVerdictFrom};
 ghost use Rattle.tsp_verdict.specs.Judged.{is_judged, NoneBeforeRepeatsOn, IsVerdictWith};
 
-use crate::ground::Given;
+use crate::source::Given;
 use crate::subject::Subject;
 use std::alloc::{AllocError, Global};
 use tsp_cost::Instance;

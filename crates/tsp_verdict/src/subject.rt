@@ -5,8 +5,8 @@ use crate::bounded::costs_of_tours;
 use crate::certified::bound_of;
 use crate::claimed::{is_other, with_claim};
 use crate::files::solution_tours;
-use crate::ground::{Given, Ground, verdict_by};
 use crate::routes::verdict_on_routes;
+use crate::source::{Given, Source, verdict_by};
 use crate::tour::length_after_files;
 use std::alloc::{AllocError, Global};
 use tsp_cost::{Costs, Instance};
@@ -33,7 +33,7 @@ impl<'a> Subject<'a> {
     ghost use Rattle.tsp_verdict.specs.Judged.{NoneBeforeRepeatsOn};
     ghost use Rattle.tsp_verdict.specs.Reasons.{IsFirstReason};
     ghost use Rattle.tsp_verdict.specs.Tours.{NoneOfTourBeforeRepeats};
-    ghost use Rattle.tsp_verdict.specs.states.Grounds.{IsSubject, IsVerdictGiven, IsBasisGiven, IsGround, FindsLength};
+    ghost use Rattle.tsp_verdict.specs.states.Sources.{IsSubject, IsVerdictGiven, IsBasisGiven, IsSource, FindsLength};
 
     /// The verdict on a solution: on a tour, or for TYPE CVRP on routes. Where a length is claimed,
     /// a solution of another length is rejected with `LengthClaimed`: after all other reasons
@@ -76,14 +76,14 @@ impl<'a> Subject<'a> {
             (λ verdict. IsVerdictGiven self.now.given claimed self.now.instance.now solution.now verdict)
             (λ refused. NoneOfTourBeforeRepeats self.now.instance.now solution.now) }
     {
-        let (length, ground) = match self.length_of_tour(alloc, solution)? {
+        let (length, source) = match self.length_of_tour(alloc, solution)? {
             Ok(found) => found,
             Err(reason) => return Ok(Verdict::No(reason)),
         };
         if is_other(claimed, length) {
             return Ok(Verdict::No(Reason::LengthClaimed { length }));
         }
-        let basis = self.basis_on(alloc, ground)?;
+        let basis = self.basis_on(alloc, source)?;
         Ok(verdict_by(basis, length))
     }
 
@@ -93,7 +93,7 @@ impl<'a> Subject<'a> {
         &self,
         alloc: Global,
         sol: &File,
-    ) -> Result<Result<(i64, Ground<'a>), Reason>, Refused>
+    ) -> Result<Result<(i64, Source<'a>), Reason>, Refused>
         requires sound { IsSubject self.now.instance.now self.now.given }
         requires kind { (self.now.instance.now.kind ≡ Some kinds.Tsp)
             ⊎ (self.now.instance.now.kind ≡ Some kinds.Atsp) }
@@ -104,8 +104,8 @@ impl<'a> Subject<'a> {
         let Some(tours) = solution_tours(sol) else {
             return Ok(Err(Reason::NotASolution));
         };
-        let ground = match self.ground() {
-            Ok(ground) => ground,
+        let source = match self.source() {
+            Ok(source) => source,
             Err(reason) => return Ok(Err(reason)),
         };
         if sol
@@ -115,28 +115,28 @@ impl<'a> Subject<'a> {
             return Ok(Err(Reason::Dimension));
         }
         match length_after_files(alloc, self.instance, sol, tours)? {
-            Ok(length) => Ok(Ok((length, ground))),
+            Ok(length) => Ok(Ok((length, source))),
             Err(reason) => Ok(Err(reason)),
         }
     }
 
     /// What the instance is judged by, or the first reason against it, whatever the tour.
-    fn ground(&self) -> Result<Ground<'a>, Reason>
+    fn source(&self) -> Result<Source<'a>, Reason>
         requires sound { IsSubject self.now.instance.now self.now.given }
         requires kind { (self.now.instance.now.kind ≡ Some kinds.Tsp)
             ⊎ (self.now.instance.now.kind ≡ Some kinds.Atsp) }
         ensures { MatchResult result
-            (λ ground. NoneAgainstInstance self.now.instance.now
-            × IsGround self.now.instance.now self.now.given ground)
+            (λ source. NoneAgainstInstance self.now.instance.now
+            × IsSource self.now.instance.now self.now.given source)
             (λ reason. IsFirstReason (StandsAgainstInstance self.now.instance.now) reason) }
     {
         match self.given {
             Given::Certificate(certificate) => match costs_of_tours(self.instance) {
-                Ok(costs) => Ok(Ground::Costs(costs, certificate)),
+                Ok(costs) => Ok(Source::Costs(costs, certificate)),
                 Err(reason) => Err(reason),
             },
             Given::Basis(basis) => match against_instance(basis) {
-                None => Ok(Ground::Basis(basis)),
+                None => Ok(Source::Basis(basis)),
                 Some(reason) => Err(reason),
             },
         }
@@ -144,17 +144,17 @@ impl<'a> Subject<'a> {
 
     /// What is known of all solutions, or is now found: a certificate that wasn't judged before is
     /// judged here.
-    fn basis_on(&self, alloc: Global, ground: Ground<'_>) -> Result<Basis, Refused>
+    fn basis_on(&self, alloc: Global, source: Source<'_>) -> Result<Basis, Refused>
         requires sound { IsSubject self.now.instance.now self.now.given }
         requires kind { (self.now.instance.now.kind ≡ Some kinds.Tsp)
             ⊎ (self.now.instance.now.kind ≡ Some kinds.Atsp) }
         requires none { NoneAgainstInstance self.now.instance.now }
-        requires ground { IsGround self.now.instance.now self.now.given ground }
+        requires source { IsSource self.now.instance.now self.now.given source }
         ensures { IfOk result (λ basis. IsBasisGiven self.now.given self.now.instance.now basis) }
     {
-        let (costs, certificate) = match ground {
-            Ground::Costs(costs, certificate) => (costs, certificate),
-            Ground::Basis(basis) => return Ok(basis),
+        let (costs, certificate) = match source {
+            Source::Costs(costs, certificate) => (costs, certificate),
+            Source::Basis(basis) => return Ok(basis),
         };
         let Some((by, file)) = certificate else {
             return Ok(Basis::Tours { bound: None });

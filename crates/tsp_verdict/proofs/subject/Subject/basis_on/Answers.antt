@@ -1,7 +1,7 @@
 -- The goals of `Subject::basis_on` in src/subject.rt: what it ensures.
 use Rattle.std.proofs.Common.{subst}
-use Rattle.tsp_verdict.specs.declared.ground.Ground.{Ground}
-use Rattle.tsp_verdict.specs.states.Grounds.{IsGround}
+use Rattle.tsp_verdict.specs.declared.source.Source.{Source}
+use Rattle.tsp_verdict.specs.states.Sources.{IsSource}
 use Rattle.tsp_verdict.proofs.Bases.{bounded_so}
 use Rattle.tsp_verdict.proofs.Bounds.{certificate_decides}
 use Rattle.tsp_verdict.proofs.subject.Subject.basis_on.Goals as goal
@@ -11,6 +11,6 @@ returns c =
     let inst = c.args.self.now.instance.now in
     let by = c.in-Some.by in
     let cert = c.in-Some.file.now in
-    let ground = subst (λ (ground : Ground). IsGround inst c.args.self.now.given ground) c.in-Costs.is c.requires.ground in
+    let source = subst (λ (source : Source). IsSource inst c.args.self.now.given source) c.in-Costs.is c.requires.source in
     let decides = certificate_decides by inst cert c.in_ok-found.found c.requires.none c.in_ok-found.ensures.found in
-    rw ground.0 (rw c.in-Some.is (bounded_so by inst c.requires.kind, c.basis_of.ensures by inst cert decides))
+    rw source.0 (rw c.in-Some.is (bounded_so by inst c.requires.kind, c.basis_of.ensures by inst cert decides))

@@ -12,10 +12,10 @@ use Rattle.tsp_verdict.specs.Basis.{IsBasis, IsVerdictFrom}
 use Rattle.tsp_verdict.specs.Bounded.{NoneAgainstInstance}
 use Rattle.tsp_verdict.specs.Judged.{is_judged, IsVerdictWith}
 use Rattle.tsp_verdict.specs.Tours.{IsTourVerdict, IsFirstAgainstTour}
-use Rattle.tsp_verdict.specs.declared.ground.Given.{Given}
-use Rattle.tsp_verdict.specs.declared.ground.Given.TheVariants as givens
-use Rattle.tsp_verdict.specs.declared.ground.Ground.{Ground}
-use Rattle.tsp_verdict.specs.declared.ground.Ground.TheVariants as grounds
+use Rattle.tsp_verdict.specs.declared.source.Given.{Given}
+use Rattle.tsp_verdict.specs.declared.source.Given.TheVariants as givens
+use Rattle.tsp_verdict.specs.declared.source.Source.{Source}
+use Rattle.tsp_verdict.specs.declared.source.Source.TheVariants as sources
 use Rattle.tsp_verdict.specs.states.TourCosts.{AreTourCosts}
 
 -- ---- a certificate, or what was known before
@@ -41,15 +41,15 @@ IsBasisGiven (givens.Basis known) inst basis = basis ≡ known
 -- ---- an instance to which no reason applies
 
 -- the costs and the certificate, or what was known
-abbrev pub IsGround : Fields → Given → Ground → Type 0
-IsGround inst given (grounds.Costs costs certificate) = (given ≡ givens.Certificate certificate) × (3 ≤ nodes_of inst)
+abbrev pub IsSource : Fields → Given → Source → Type 0
+IsSource inst given (sources.Costs costs certificate) = (given ≡ givens.Certificate certificate) × (3 ≤ nodes_of inst)
     × AreTourCosts inst costs
-IsGround inst given (grounds.Basis basis) = given ≡ givens.Basis basis
+IsSource inst given (sources.Basis basis) = given ≡ givens.Basis basis
 
 -- the length of the one tour, where no reason applies to the instance or to it; or the first reason
-abbrev pub FindsLength : Fields → Fields → Given → Result (ℤ × Ground) Reason → Type 0
+abbrev pub FindsLength : Fields → Fields → Given → Result (ℤ × Source) Reason → Type 0
 FindsLength inst sol given (Ok found) = IsTourVerdict inst sol (verdicts.Tour found.0 None) × NoneAgainstInstance inst
-    × IsGround inst given found.1
+    × IsSource inst given found.1
 FindsLength inst sol given (Err reason) = IsFirstAgainstTour inst sol reason
 
 -- ---- a tour

@@ -1,9 +1,9 @@
--- The goals of `Subject::ground` in src/subject.rt: what it ensures.
+-- The goals of `Subject::source` in src/subject.rt: what it ensures.
 use Rattle.std.proofs.Common.{subst}
-use Rattle.tsp_verdict.specs.declared.ground.Given.{Given}
-use Rattle.tsp_verdict.specs.states.Grounds.{IsSubject}
+use Rattle.tsp_verdict.specs.declared.source.Given.{Given}
+use Rattle.tsp_verdict.specs.states.Sources.{IsSubject}
 use Rattle.tsp_verdict.proofs.Bases.{first_known, knows_instance}
-use Rattle.tsp_verdict.proofs.subject.Subject.ground.Goals as goal
+use Rattle.tsp_verdict.proofs.subject.Subject.source.Goals as goal
 
 pub returns-in-Some : goal.returns-in-Some
 returns-in-Some c =

@@ -2,7 +2,7 @@
 //! verdict on a tour by what is known of all.
 
 ghost use Rattle.std.specs.Prelude.{◌≡◌};
-ghost use Rattle.tsp_verdict.specs.states.Grounds.{verdict_by};
+ghost use Rattle.tsp_verdict.specs.states.Sources.{verdict_by};
 
 use crate::tour::TourCosts;
 use tsp_file::File;
@@ -19,7 +19,7 @@ pub(crate) enum Given<'a> {
 
 /// What shows that no reason applies to an instance of tours.
 #[derive(Clone, Copy)]
-pub(crate) enum Ground<'a> {
+pub(crate) enum Source<'a> {
     /// The costs, which were found for this solution; and the certificate, which is to be judged.
     Costs(TourCosts<'a>, Option<(Certificate, &'a File)>),
     /// What is known of all solutions.
