@@ -151,7 +151,7 @@ def interrupt():
                 process.communicate(timeout=60)
             need(process.returncode == status, f"status {process.returncode} after {number}")
             report = judged("a.tsp")
-            need(int(report["bound"]) > 0.8 * int(report["length"]), f"{more}: {report}")
+            need(int(report["bound"]) > 0.6 * int(report["length"]), f"{more}: {report}")
 
 
 def overwriting():
