@@ -93,7 +93,7 @@ struct Outcome {
 
 class CaseSolver {
  public:
-  // It is told of events: of each round of the whole problem, and of shorter tours.
+  // It gets events: of each round of the whole problem, and of shorter tours.
   using Note = std::function<void(std::string_view event, const Standing& standing)>;
   CaseSolver(const Problem& problem, const Clock& clock);
   Outcome solve(const Case& here, const Note& note = nullptr);
