@@ -1,5 +1,6 @@
-// Solutions in the forms of other programs, as files of TYPE TOUR: Concorde's tour and edges, CVRPLIB's routes, a
-// tour that R prints, lists of nodes, JSON. Nothing here has to be trusted: what comes of it is judged.
+// Solutions in the forms of other programs, as files of TYPE TOUR: Concorde's tour and edges, CVRPLIB's routes,
+// LKH-3's routes, a tour that R prints, lists and tables of nodes, JSON. Nothing here has to be trusted: what comes of
+// it is judged.
 
 /** A solution that has no known form, or breaks it. */
 export class NoSolution extends Error {}
@@ -8,25 +9,43 @@ export class NoSolution extends Error {}
  * @typedef {object} Found
  * @property {number[][]} tours whose nodes count from 1
  * @property {string} form in words
- * @property {string} [comment]
+ * @property {string[]} [comments]
  */
 
+/** The largest number that is taken for a node. */
+const MOST = 999_999_999;
+
+/** What explanations of the library look for. */
+const COUNTED = "Customer k of CVRPLIB is node k + 1";
+
+/** A number as numpy writes it, with a point or a power of ten. */
+const DECIMAL = /^(\d{1,30})(?:\.(\d{0,30}))?(?:e([+-]?\d{1,2}))?$/i;
+
+/** The name of a column. */
+const COLUMN = /^["']?[A-Za-z_][\w.-]*["']?$/;
+
 /**
- * A solution of another program as a file of TYPE TOUR; null where the text has keywords of TSPLIB.
+ * A solution of another program as a file of TYPE TOUR; null where the text has keywords of TSPLIB, but for LKH-3's
+ * copies of the depot.
  *
  * @param {Uint8Array} bytes
  * @param {number} nodes of the instance; 0 where that isn't known
+ * @param {boolean} hasDepot whether nodes above these may be copies of the depot, as LKH-3 lists them
  * @returns {{ bytes: Uint8Array, form: string } | null}
  */
-export function converted(bytes, nodes) {
+export function converted(bytes, nodes, hasDepot) {
     const text = new TextDecoder().decode(bytes);
-    if (/^[ \t]*(?:TOUR_SECTION|TYPE[ \t]*:)/m.test(text) || /^\s*$/.test(text)) {
+    if (/^\s*$/.test(text)) {
         return null;
     }
-    const { tours, form, comment } = found(text, nodes);
-    const head = comment === undefined ? [] : [`COMMENT : ${comment}`];
-    const lines = [...head, "TYPE : TOUR", "TOUR_SECTION", ...tours.flatMap((tour) => [...tour, -1]), "EOF", ""];
-    return { bytes: new TextEncoder().encode(lines.join("\n")), form };
+    const isTsplib = /^[ \t]*(?:TOUR_SECTION|TYPE[ \t]*:)/m.test(text);
+    const read = isTsplib ? copiesOf(text, hasDepot ? nodes : 0) : found(text, nodes);
+    if (read === null) {
+        return null;
+    }
+    const head = (read.comments ?? []).map((comment) => `COMMENT : ${comment}`);
+    const lines = [...head, "TYPE : TOUR", "TOUR_SECTION", ...read.tours.flatMap((tour) => [...tour, -1]), "EOF", ""];
+    return { bytes: new TextEncoder().encode(lines.join("\n")), form: read.form };
 }
 
 /**
@@ -36,9 +55,6 @@ export function converted(bytes, nodes) {
  */
 function found(text, nodes) {
     const lines = text.split(/\r?\n/);
-    if (lines.some((line) => /^[ \t]*route[^:]*:/i.test(line))) {
-        return routesOf(lines);
-    }
     const isPrinted = /^[ \t]*\[\d+\]/.test(text) && !text.includes(",") && !/^\s*\[\d+\]\s*$/.test(text);
     if (/^\s*[[{]/.test(text) && !isPrinted) {
         const list = listInJson(text);
@@ -46,21 +62,32 @@ function found(text, nodes) {
             return list;
         }
     }
-    return ofNumbers(lines.map((line) => numbersOf(isPrinted ? line.replace(/^[ \t]*\[\d+\]/, "") : line)), nodes);
+    if (lines.some((line) => /^[ \t]*route[^:]*:/i.test(line))) {
+        return routesOf(lines);
+    }
+    if (text.includes("(#")) {
+        return routesOfLkh(lines, nodes);
+    }
+    return ofNumbers(rowsIn(isPrinted ? lines.map((line) => line.replace(/^[ \t]*\[\d+\]/, "")) : lines), nodes);
 }
 
 /**
- * The node that a word is.
+ * The node that a word is. It may be written as numpy writes it: 1.000000e+00.
  *
  * @param {string} word
  * @param {number} least
  * @returns {number}
  */
 function nodeOf(word, least) {
-    if (!/^\d{1,9}$/.test(word) || Number(word) < least) {
+    const [, whole, part = "", power = "0"] = DECIMAL.exec(word) ?? [];
+    const digits = `${whole ?? ""}${part}`;
+    const places = digits.length + Number(power) - part.length; // of the digits before the point
+    const node = Number(digits.slice(0, Math.max(0, places)).padEnd(places, "0"));
+    const isWhole = whole !== undefined && /^0*$/.test(digits.slice(Math.max(0, places)));
+    if (!isWhole || node < least || node > MOST) {
         throw new NoSolution(`Nodes are whole numbers from ${least} on, and this is none: ${word}`);
     }
-    return Number(word);
+    return node;
 }
 
 /**
@@ -71,19 +98,91 @@ function nodeOf(word, least) {
  */
 function routesOf(lines) {
     const tours = [];
-    let comment;
+    const costs = [];
     for (const line of lines) {
         const [, route] = /^[ \t]*route[^:]*:(.*)/i.exec(line) ?? [];
         const [, cost] = /^[ \t]*cost[ \t]*[:=]?[ \t]*(\S*)/i.exec(line) ?? [];
         if (route !== undefined) {
-            tours.push(wordsOf(route).map((word) => nodeOf(word, 1) + 1));
+            tours.push(customersOf(wordsOf(route)));
         } else if (cost !== undefined) {
-            comment = `Cost ${cost}`;
+            costs.push(`Cost ${cost}`);
         } else if (line.trim() !== "") {
             throw new NoSolution(`This is neither a route nor the cost: ${line.slice(0, 60)}`);
         }
     }
-    return { tours, form: "routes of CVRPLIB, whose customer 1 is node 2", comment };
+    return { tours, form: "routes of CVRPLIB, whose customer 1 is node 2", comments: [...costs.slice(-1), COUNTED] };
+}
+
+/**
+ * The nodes of a route of CVRPLIB, which may have the depot 0 at both ends.
+ *
+ * @param {string[]} words
+ * @returns {number[]}
+ */
+function customersOf(words) {
+    const hasDepot = words.length > 2 && words[0] === "0" && words.at(-1) === "0";
+    return (hasDepot ? words.slice(1, -1) : words).map((word) => nodeOf(word, 1) + 1);
+}
+
+/**
+ * LKH-3's routes: one in each line, with its length behind a (#).
+ *
+ * @param {string[]} lines
+ * @param {number} nodes
+ * @returns {Found}
+ */
+function routesOfLkh(lines, nodes) {
+    if (nodes === 0) {
+        throw new NoSolution("Of LKH-3's routes the instance's number of nodes is wanted.");
+    }
+    const routes = lines.filter((line) => line.includes("(#")).map((line) => line.slice(0, line.indexOf("(#")));
+    const list = routes.flatMap((route) => wordsOf(route).map((word) => nodeOf(word, 1)));
+    return { tours: split(list, nodes), form: "routes of LKH-3" };
+}
+
+/**
+ * The routes of the only tour of a text of TSPLIB in which nodes above those of the instance are copies of the depot;
+ * null where there are none.
+ *
+ * @param {string} text
+ * @param {number} nodes
+ * @returns {Found | null}
+ */
+function copiesOf(text, nodes) {
+    const [, section = ""] = /^[ \t]*TOUR_SECTION[^\n]*\n([^]*)/m.exec(text) ?? [];
+    const words = wordsOf(section);
+    const end = words.findIndex((word) => word === "-1" || word === "EOF");
+    const [list, others] = end < 0 ? [words, []] : [words.slice(0, end), words.slice(end)];
+    if (nodes === 0 || others.some((word) => word !== "-1" && word !== "EOF") || !list.every((word) => /^\d{1,9}$/.test(word))) {
+        return null;
+    }
+    const tour = list.map(Number);
+    const hasCopies = tour.some((node) => node > nodes);
+    return hasCopies ? { tours: split(tour, nodes), form: "a tour of LKH-3, with copies of the depot" } : null;
+}
+
+/**
+ * The routes of a tour of LKH-3, in which node 1 and those above the instance's are the depot.
+ *
+ * @param {number[]} list
+ * @param {number} nodes
+ * @returns {number[][]}
+ */
+function split(list, nodes) {
+    const start = list.findIndex((node) => node === 1 || node > nodes);
+    if (start < 0) {
+        throw new NoSolution("No node is the depot or a copy of it.");
+    }
+    /** @type {number[][]} */
+    const routes = [[]];
+    for (const node of [...list.slice(start), ...list.slice(0, start)]) {
+        if (node === 1 || node > nodes) {
+            routes.push([]);
+        } else {
+            routes[routes.length - 1].push(node);
+        }
+    }
+    return routes.filter((route) => route.length > 0);
 }
 
 /**
@@ -96,11 +195,20 @@ function wordsOf(line) {
     return line.split(/[\s,;[\]\ufeff]+/).filter((word) => word !== "");
 }
 
-/** @param {string} line */
-const numbersOf = (line) => wordsOf(line).map((word) => nodeOf(word, 0));
+/**
+ * The numbers of each line that has some. The first one may have the names of columns.
+ *
+ * @param {string[]} lines
+ * @returns {number[][]}
+ */
+function rowsIn(lines) {
+    const filled = lines.map(wordsOf).filter((words) => words.length > 0);
+    const hasNames = filled.length > 1 && filled[0].every((word) => COLUMN.test(word));
+    return (hasNames ? filled.slice(1) : filled).map((words) => words.map((word) => nodeOf(word, 0)));
+}
 
 /**
- * A list in JSON; null where the text is none.
+ * A list in JSON, or the only one of an object; null where the text is no JSON.
  *
  * @param {string} text
  * @returns {Found | null}
@@ -112,12 +220,13 @@ function listInJson(text) {
     } catch {
         return null;
     }
-    const list = Array.isArray(value) ? value : null;
-    if (list?.every(Array.isArray) && list.length > 0) {
-        return { tours: list.map((tour) => tour.map((node) => nodeOf(String(node), 1))), form: "lists of nodes in JSON" };
+    const lists = [value, ...(value !== null && typeof value === "object" && !Array.isArray(value) ? Object.values(value) : [])].filter(Array.isArray);
+    if (lists.length !== 1) {
+        throw new NoSolution("Of JSON a list of nodes is wanted, or an object with one list.");
     }
-    if (list === null) {
-        throw new NoSolution("Of JSON a list of nodes is wanted.");
+    const [list] = lists;
+    if (list.every(Array.isArray) && list.length > 0) {
+        return { tours: list.map((tour) => tour.map((node) => nodeOf(String(node), 1))), form: "lists of nodes in JSON" };
     }
     return listOf(list.map((node) => nodeOf(String(node), 0)));
 }
@@ -125,12 +234,15 @@ function listInJson(text) {
 /**
  * What lines of numbers mean.
  *
- * @param {number[][]} all
+ * @param {number[][]} rows
  * @param {number} nodes
  * @returns {Found}
  */
-function ofNumbers(all, nodes) {
-    const rows = all.filter((row) => row.length > 0);
+function ofNumbers(rows, nodes) {
+    const ordered = columnOf(rows);
+    if (ordered !== null) {
+        return listOf(ordered);
+    }
     const [first = [], ...others] = rows;
     if (first.length === 2 && first[0] === first[1]) {
         if (others.length !== first[0] || others.some(({ length }) => length < 2 || length > 3)) {
@@ -144,6 +256,25 @@ function ofNumbers(all, nodes) {
         return { tours: [rest.map((node) => node + 1)], form: "a tour of Concorde, whose nodes count from 0" };
     }
     return listOf(rows.flat());
+}
+
+/**
+ * The nodes of a table with a column of their order beside them; null where it is no such table.
+ *
+ * @param {number[][]} rows
+ * @returns {number[] | null}
+ */
+function columnOf(rows) {
+    if (rows.length < 2 || rows.some(({ length }) => length !== 2)) {
+        return null;
+    }
+    const [first, second] = [0, 1].map((side) => rows.map((row) => row[side]));
+    const isOrder = (/** @type {number[]} */ list) => list[0] < 2 && list.every((place, at) => place === list[0] + at);
+    const hasAll = (/** @type {number[]} */ list) => isOrder([...list].sort((one, other) => one - other));
+    if (isOrder(first) && hasAll(second)) {
+        return second;
+    }
+    return isOrder(second) && hasAll(first) ? first : null;
 }
 
 /**

@@ -226,7 +226,7 @@ export function compare(instance, solutions, options = {}) {
         const outcomes = solutions.map((solution) => {
             try {
                 const second = solutionOf(solution);
-                const text = options.foreign ? { ...second, bytes: foreign(second.bytes, basis.nodes) } : second;
+                const text = options.foreign ? { ...second, bytes: foreign(second.bytes, basis.nodes, basis.type === "CVRP") } : second;
                 /** @type {Asked} */
                 const asked = { call: Call.CHECK, files: [first, text, certificate], number: by, claimed: null };
                 return reported(asked, judge.check(text.bytes, null), options.explain);
@@ -248,11 +248,12 @@ export function compare(instance, solutions, options = {}) {
  *
  * @param {Uint8Array} bytes
  * @param {number} nodes of the instance, 0 where that isn't known
+ * @param {boolean} hasDepot whether nodes above these are copies of it
  * @returns {Uint8Array}
  */
-function foreign(bytes, nodes) {
+function foreign(bytes, nodes, hasDepot) {
     try {
-        return converted(bytes, nodes)?.bytes ?? bytes;
+        return converted(bytes, nodes, hasDepot)?.bytes ?? bytes;
     } catch (error) {
         throw error instanceof NoSolution ? new SolutionError(error.message) : error;
     }
@@ -264,7 +265,7 @@ function foreign(bytes, nodes) {
  * @returns {Uint8Array}
  */
 export function readSolution(source, options = {}) {
-    return foreign(given(source).bytes, options.nodes ?? 0);
+    return foreign(given(source).bytes, options.nodes ?? 0, true);
 }
 
 /**

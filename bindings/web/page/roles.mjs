@@ -38,11 +38,14 @@ export function roleOf(name, bytes) {
 }
 
 /**
- * Whether a text without a TYPE begins as solutions of other programs do: with a number, a list or a route.
+ * Whether a text without a TYPE begins as solutions of other programs do: with a number, a list, a route, or the names
+ * of columns.
  *
  * @param {string} start
  * @returns {boolean}
  */
 function isForeign(start) {
-    return /^\s*(?:\d|\[|route\b[^:]*:)/i.test(start);
+    const [first, second = ""] = start.trimStart().split(/\r?\n/, 2);
+    const isTable = /^["'a-z_][^:]*$/i.test(first) && !first.includes("_SECTION") && /^[ \t]*\d/.test(second);
+    return isTable || /^\s*(?:\d|\[|\{|route\b[^:]*:)|\(#\d+\)/i.test(start);
 }

@@ -82,8 +82,8 @@ function readOf(library, { instance, solution, foreign }) {
     }
     const shown = instance ? new TextDecoder().decode(library.show(instance.bytes).bytes) : "";
     try {
-        const read = converted(solution.bytes, Number(/^nodes (\d+)$/m.exec(shown)?.[1] ?? 0));
-        const name = `${solution.name.replace(/\.(?:sol|edges|cyc|txt|json)$/i, "")}.tour`;
+        const read = converted(solution.bytes, Number(/^nodes (\d+)$/m.exec(shown)?.[1] ?? 0), /^type CVRP$/m.test(shown));
+        const name = `${solution.name.replace(/\.(?:sol|edges|cyc|csv|tsv|txt|json)$/i, "")}.tour`;
         return read && { given: { name, bytes: read.bytes }, form: read.form, from: solution.name };
     } catch (error) {
         if (error instanceof NoSolution) {

@@ -81,13 +81,16 @@ test("what a file is for", () => {
     assert.deepEqual(roleOf("a.potentials", bytesOf("")), { slot: "certificate", by: By.POTENTIALS });
     assert.equal(roleOf("a.tour", bytesOf("")).slot, "solution");
     assert.equal(roleOf("a", bytesOf("")).slot, "instance");
-    for (const start of ["8\n0 1", "[0, 1]", "Route #1: 2", "1,2,3"]) {
+    for (const start of ["8\n0 1", "[0, 1]", "Route #1: 2", "1,2,3", '{"tour": [1]}', "order,node\n0,1\n", "x, Cost: 2\n1 2 1 (#1)\n"]) {
         assert.equal(roleOf("a.txt", bytesOf(start)).slot, "solution", start);
+    }
+    for (const start of ["NODE_COORD_SECTION\n1 0 0\n", "NAME : a\n1\n", "words\nalone\n"]) {
+        assert.equal(roleOf("a.txt", bytesOf(start)).slot, "instance", start);
     }
 });
 
 test("solutions of other programs", () => {
-    const read = (words, nodes = 0) => toursOf(new TextDecoder().decode(converted(bytesOf(words), nodes).bytes));
+    const read = (words, nodes = 0) => toursOf(new TextDecoder().decode(converted(bytesOf(words), nodes, false).bytes));
     for (const words of ["1 3 2", "1\n3\n2\n", "[1, 3, 2]", "1, 3, 2, 1", "1;3;2", "0 2 1", "0,2,1,0", "[0, 2, 1]",
         "3\n0 2 1", " [1] 1 3\n [3] 2\n", "1 3 2\r\n", "\ufeff1 3 2"]) {
         assert.deepEqual(read(words), [[1, 3, 2]], words);
@@ -96,13 +99,40 @@ test("solutions of other programs", () => {
     assert.deepEqual(read("[[2, 3], [4]]"), [[2, 3], [4]]);
     assert.deepEqual(read("4 4\n2 0 1\n1 3 1\n3 2 1\n0 1 1\n"), [[1, 3, 4, 2]]);
     assert.deepEqual(read("Route #1: 1 2\r\nroute 2 : 3\r\nCost : 3000\r\n"), [[2, 3], [4]]);
-    assert.match(new TextDecoder().decode(converted(bytesOf("Route #1: 1\nCost : 3000\n"), 0).bytes), /^COMMENT : Cost 3000$/m);
-    assert.equal(converted(HARBOUR.solution.bytes, 8), null, "a file of TSPLIB stays");
-    assert.equal(converted(bytesOf(" \n"), 8), null);
+    assert.match(new TextDecoder().decode(converted(bytesOf("Route #1: 1\nCost : 3000\n"), 0, false).bytes),
+        /^COMMENT : Cost 3000\nCOMMENT : Customer k of CVRPLIB is node k \+ 1$/m);
+    assert.equal(converted(HARBOUR.solution.bytes, 8, true), null, "a file of TSPLIB stays");
+    assert.equal(converted(bytesOf(" \n"), 8, false), null);
     for (const words of ["x", "1 -2", "1 2.5", "{}", "[1, true]", "Route #1: 0", "Route #1: 1\n2 3\n", "3 3\n0 1 5\n",
-        "6 6\n0 1 1\n1 2 1\n2 0 1\n3 4 1\n4 5 1\n5 3 1\n"]) {
+        "6 6\n0 1 1\n1 2 1\n2 0 1\n3 4 1\n4 5 1\n5 3 1\n", "Route #1: 0 1 0 2 0", "1.5e0 2", "node city\n1 x\n", "1e10 2",
+        '{"tour": 1}', '{"tour": [1, 2], "other": [2, 1]}']) {
         assert.throws(() => read(words), NoSolution, words);
     }
+});
+
+test("tables, and numbers of numpy", () => {
+    const read = (words) => toursOf(new TextDecoder().decode(converted(bytesOf(words), 0, false).bytes));
+    for (const words of ["1.000000000000000000e+00\n3.0e+00\n2.00\n", "0.1e1\n30e-1\n2.\n", "node\n1\n3\n2\n",
+        "order,node\n0,1\n1,3\n2,2\n", "node;order\n1;1\n3;2\n2;3\n", "1 1\n2 3\n3 2\n", '"step","city"\n1,0\n2,2\n3,1\n',
+        '{"tour": [1, 3, 2], "length": 12}', '{"route": [0, 2, 1]}']) {
+        assert.deepEqual(read(words), [[1, 3, 2]], words);
+    }
+    assert.deepEqual(read("1 4\n2 3\n"), [[1, 4, 2, 3]], "two nodes in a line are no table");
+    assert.deepEqual(read('{"routes": [[2, 3], [4]]}'), [[2, 3], [4]]);
+    assert.deepEqual(read("Route #1: 0 1 2 0\nRoute #2: 0 3 0\nCost 7\n"), [[2, 3], [4]], "the depot at both ends");
+});
+
+test("routes and tours of LKH-3", () => {
+    const read = (words, nodes, hasDepot) => converted(bytesOf(words), nodes, hasDepot);
+    const tours = (words) => toursOf(new TextDecoder().decode(read(words, 5, true).bytes));
+    const routes = "x, Cost: 12\n1 3 4 1 (#2)  Cost: 6\n1 5 2 1 (#2)  Cost: 6\n";
+    const copies = "TYPE : TOUR\nTOUR_SECTION\n2\n9\n8\n3\n4\n1\n5\n-1\nEOF\n";
+    assert.deepEqual([tours(routes), tours(copies)], [[[3, 4], [5, 2]], [[3, 4], [5, 2]]]);
+    assert.throws(() => read(routes, 0, true), NoSolution);
+    for (const [nodes, hasDepot] of [[5, false], [0, true], [9, true]]) {
+        assert.equal(read(copies, nodes, hasDepot), null, `${nodes} nodes: these are no copies`);
+    }
+    assert.equal(read("TYPE : TOUR\nTOUR_SECTION\n1 9 -1\n2 3 -1\n", 5, true), null, "of two tours none has copies");
 });
 
 test("a page that isn't shown has pictures of some width", () => {
@@ -182,6 +212,13 @@ test("a tour of Concorde is read by itself, and can be saved", async () => {
     assert.equal(outcome.converted.form, "a tour of Concorde, whose nodes count from 0");
     assert.deepEqual(toursOf(new TextDecoder().decode(outcome.converted.given.bytes)), [[1, 2, 3, 4, 8, 5, 6, 7]]);
     assert.equal(run(library, { ...HARBOUR, foreign: true }).converted, null);
+    const dairy = { ...alone, foreign: true, instance: example("dairy.vrp") };
+    const copies = text("TYPE : TOUR\nTOUR_SECTION\n1 5 6 4 7 9 2 8 3 -1\nEOF\n");
+    const routes = run(library, { ...dairy, solution: copies });
+    assert.deepEqual([routes.report.length, routes.report.routes], [231n, 2]);
+    const unserved = run(library, { ...dairy, solution: text("Route #1: 4 5 3 6\nRoute #2: 1 2\n") });
+    assert.deepEqual([unserved.report.reason, unserved.report.numbers], ["Unserved", [8]]);
+    assert.match(unserved.explanation, /customer 7/);
 });
 
 test("several tours are a table", async () => {
