@@ -16,7 +16,9 @@ import re
 import sys
 from bisect import bisect
 from fractions import Fraction
+from functools import cache
 from math import isqrt
+from operator import add
 from pathlib import Path
 from typing import Any, Callable, Hashable, Iterator, NoReturn, Optional
 
@@ -31,6 +33,8 @@ Case = dict[Hashable, bool]
 BILLION = 10**9
 DECIDED = 4 * BILLION**2
 MOST_KEPT = 5_000_000  # distances
+MOST_EXACT = 2**53  # whole numbers below are exact as floats
+PLAIN = re.compile("[+-]?[0-9]+")
 HALF, MOST_QUICK = DECIDED, 3000  # of numpy: a weight without decisions is less, and tables have so many nodes
 # Sections and keywords whose words are whole numbers, but those of points.
 READ = {"DIMENSION", "SCALE", "TOUR_SECTION", "COMB_SECTION", "BRANCH_SECTION", "FIXED_EDGE_POTENTIAL_SECTION"} | {
@@ -53,6 +57,7 @@ class Fields(dict[str, list[str]]):
         super().__init__({"not judged": []})
         self.path = path
         self.lines: dict[str, list[tuple[int, int]]] = {}  # of each line its first word's place, and its number
+        self.numbers: dict[str, list[int]] = {}  # of fields that were read as whole numbers
 
     def __missing__(self, name: str) -> NoReturn:
         raise Faulty(f"{self.path}: there is no {name}")
@@ -125,10 +130,20 @@ def whole(word: str) -> int:
 
 
 def wholes(fields: Fields, name: str) -> list[int]:
+    """The words of a field as whole numbers."""
+    if name not in fields.numbers:
+        words = fields.get(name, [])
+        plain = all(PLAIN.fullmatch(word) for word in words)
+        fields.numbers[name] = list(map(int, words)) if plain else slowly(fields, name, words)
+    return fields.numbers[name]
+
+
+def slowly(fields: Fields, name: str, words: list[str]) -> list[int]:
+    """Words as whole numbers, of which some may have a point or a power of ten."""
     numbers: list[int] = []
-    for word in fields.get(name, []):
+    for word in words:
         try:
-            numbers.append(int(word) if word.isascii() and word.isdigit() else whole(word))
+            numbers.append(whole(word))
         except (ValueError, ZeroDivisionError):
             raise fields.faulty(name, f"{word} is no whole number", len(numbers)) from None
     return numbers
@@ -315,7 +330,22 @@ class Quick:
             table = numpy.array(half, dtype=numpy.int64)
             table[:, 1:] += table[:, 1:].T.copy()
             self.table = scale * table
+        shape = (count, count + 1)
+        self.weights, self.more = numpy.empty(shape, dtype=numpy.int64), numpy.empty(shape, dtype=numpy.int64)
         self.places: dict[int, Any] = {}
+
+    def inside(self, active: list[tuple[int, set[int]]]) -> Any:
+        """What the sets add to the weights of pairs inside of them, twice each number. Floats are exact here."""
+        count, width = self.more.shape
+        for _, nodes in active:
+            if id(nodes) not in self.places:
+                places = numpy.fromiter(nodes, dtype=numpy.int64)
+                self.places[id(nodes)] = ((places - 1)[:, None] * width + places).ravel()
+        pairs = [self.places[id(nodes)] for _, nodes in active]
+        more = numpy.repeat([2.0 * number for number, _ in active], [len(places) for places in pairs])
+        sums = numpy.bincount(numpy.concatenate(pairs), more, count * width)
+        self.more[:] = sums.reshape(count, width)
+        return self.more
 
     def least(self, p: list[int], active: list[tuple[int, set[int]]], changes: list[tuple[int, int, int]]) -> Optional[int]:
         """The least 1-tree under these weights; None where it has to be found without numpy."""
@@ -323,16 +353,16 @@ class Quick:
         for number, nodes in active:
             for node in nodes:
                 prices[node] -= number
-        size = self.largest + 2 * max(map(abs, prices)) + 2 * sum(number for number, _ in active)
-        if self.table is None or size + sum(abs(change) for *_, change in changes if abs(change) != DECIDED) >= HALF:
+        twice = 2 * sum(number for number, _ in active)
+        size = self.largest + 2 * max(map(abs, prices)) + twice
+        size += sum(abs(change) for *_, change in changes if abs(change) != DECIDED)
+        if self.table is None or size >= HALF or twice >= MOST_EXACT:
             return None
         column = numpy.array(prices, dtype=numpy.int64)
-        weights = self.table + column + column[1:, None]
-        for number, nodes in active:
-            if id(nodes) not in self.places:
-                places = numpy.fromiter(nodes, dtype=numpy.int64)
-                self.places[id(nodes)] = numpy.ix_(places - 1, places)
-            weights[self.places[id(nodes)]] += 2 * number
+        weights = numpy.add(self.table, column, out=self.weights)
+        weights += column[1:, None]
+        if active:
+            weights += self.inside(active)
         for i, j, change in changes:
             weights[i - 1, j] += change
             weights[j - 1, i] += change
@@ -350,7 +380,7 @@ class Quick:
             node = int(near.argmin())
             total += int(near[node])
             inside[node] = True
-            near = numpy.minimum(near, weights[node - 1])
+            numpy.minimum(near, weights[node - 1], out=near)
             near[inside] = far
         return total
 
@@ -451,19 +481,19 @@ def is_family(count: int, handle: list[int], *teeth: list[int]) -> bool:
     return once and apart and across and len(teeth) >= 3 and len(teeth) % 2 == 1
 
 
-def least_cycle(costs: list[list[int]]) -> int:
+@cache
+def least_cycle(costs: tuple[tuple[int, ...], ...]) -> int:
     """The least length of a cycle, by the shortest paths from the last one through each set of the others."""
     last = len(costs) - 1
-    whole = (1 << last) - 1
-    shortest: list[dict[int, int]] = [{} for _ in range(whole + 1)]
-    shortest[0] = {last: 0}
-    for visited, ends in enumerate(shortest):
-        for end, length in ends.items():
-            for new in range(last):
-                if not visited >> new & 1:
-                    longer = shortest[visited | 1 << new]
-                    longer[new] = min(longer.get(new, length + costs[end][new]), length + costs[end][new])
-    return min(length + costs[end][last] for end, length in shortest[whole].items())
+    far = sum(map(sum, costs))
+    shortest = [[far] * last for _ in range(1 << last)]  # by the set of those visited, and by the end
+    for visited in range(1, 1 << last):
+        ends = shortest[visited]
+        for end in range(last):
+            if visited >> end & 1:
+                before = visited ^ 1 << end
+                ends[end] = min(map(add, shortest[before], costs[end])) if before else costs[last][end]
+    return min(map(add, shortest[-1], costs[last]))
 
 
 def crossings_of(count: int, sets: list[list[int]]) -> Optional[tuple[int, int]]:
@@ -479,7 +509,7 @@ def crossings_of(count: int, sets: list[list[int]]) -> Optional[tuple[int, int]]
     parts = sorted(set(marks[1:]))
     if len(sets) > 63 or not 2 <= len(parts) <= 14:
         return None
-    crossed = [[bin(a ^ b).count("1") for b in parts] for a in parts]
+    crossed = tuple(tuple(bin(a ^ b).count("1") for b in parts) for a in parts)
     return least_cycle(crossed), max(map(max, crossed))
 
 
