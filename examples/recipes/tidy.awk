@@ -19,7 +19,7 @@ function put_depot(k, found) {
         put(depot[k])
     put("-1")
 }
-function is_node(word) { return word ~ /^[1-9][0-9]*$/ }
+function is_node(word) { return word ~ /^[1-9][0-9]*$/ && (!nodes || word + 0 <= nodes) }
 function put(text) { out[++lines] = text } # nothing is written of an instance that is refused
 BEGIN {
     split("NAME TYPE COMMENT DIMENSION CAPACITY SCALE EDGE_WEIGHT_TYPE EDGE_WEIGHT_FORMAT NODE_COORD_TYPE DISPLAY_DATA_TYPE " \

@@ -82,6 +82,10 @@ WRITTEN = [
     Written("-f examples/recipes/tidy.awk", "two-depots",
             lines("NODE_COORD_SECTION", "1 1 2", "2 1 2", "DEPOT_SECTION", "1", "2", "-1", "EOF"),
             "NODE_COORD_SECTION\n1 1 2\n2 1 2\nDEPOT_SECTION\n1 2 -1\nEOF\n"),
+    # 30 and 32 are no nodes of an instance with two.
+    Written("-f examples/recipes/tidy.awk", "whole-coordinates",
+            lines("NODE_COORD_SECTION", "1 30 32", "2 1 2", "DEPOT_SECTION", "1", "-1", "EOF"),
+            "NODE_COORD_SECTION\n1 30 32\n2 1 2\nDEPOT_SECTION\n30 32\n-1\nEOF\n"),
     Written("-v first=0 -f examples/recipes/node-list.awk", "commas", THREE, "0,2,1,0"),
     Written("-v first=0 -f examples/recipes/node-list.awk", "brackets", THREE, "[0, 2, 1]\n"),
     Written("-f examples/recipes/node-list.awk", "from-1", THREE, "1\n3\n2\n"),
