@@ -34,6 +34,7 @@ BILLION = 10**9
 DECIDED = 4 * BILLION**2
 MOST_KEPT = 5_000_000  # distances
 MOST_EXACT = 2**53  # whole numbers below are exact as floats
+MOST_NODES = 100_000
 PLAIN = re.compile("[+-]?[0-9]+")
 HALF, MOST_QUICK = DECIDED, 3000  # of numpy: a weight without decisions is less, and tables have so many nodes
 # Sections and keywords whose words are whole numbers, but those of points.
@@ -115,6 +116,9 @@ def fields_of(path: str) -> Fields:
     return fields
 
 
+# What a file of each TYPE has to have.
+NEEDED: dict[str, list[str]] = {"TSP": ["DIMENSION"], "ATSP": ["DIMENSION"], "CVRP": ["DIMENSION"], "TOUR": ["TOUR_SECTION"]}
+NEEDED |= {"POTENTIALS": ["DIMENSION"], "BRANCHES": ["DIMENSION", "BRANCH_SECTION"]}
 KNOWN = {"NAME", "COMMENT", "TYPE", "DIMENSION", "CAPACITY", "SCALE", "EDGE_WEIGHT_TYPE"}
 KNOWN |= {"EDGE_WEIGHT_FORMAT", "NODE_COORD_TYPE", "DISPLAY_DATA_TYPE"}
 
@@ -296,9 +300,6 @@ def tour_of(instance: Fields, solution: Fields, cost: Costs, count: int) -> list
     if len(tours) != 1:
         raise No("TourCount")
     tour = [int(word) for word in tours[0]]
-    if min(tour) < 1:
-        place = wholes(solution, "TOUR_SECTION").index(min(tour))
-        raise solution.faulty("TOUR_SECTION", f"nodes count from 1, and this is {min(tour)}", place)
     if len(tour) != count:
         raise No("TourLength")
     for place, node in enumerate(tour, 1):
@@ -631,13 +632,26 @@ def weights_of(
     return row
 
 
+def look_at(file: Fields) -> None:
+    """Looks for faults of a solution or a certificate, which come before any reason."""
+    for name in READ.intersection(file):
+        wholes(file, name)
+    kind = (file["TYPE"] or ["nothing"])[0]
+    if kind not in NEEDED:
+        raise file.faulty("TYPE", f"{kind} isn't read here")
+    for name in NEEDED[kind]:
+        file[name]
+    for place, node in enumerate(wholes(file, "TOUR_SECTION")):
+        if node != -1 and not 1 <= node <= MOST_NODES:
+            raise file.faulty("TOUR_SECTION", f"nodes count from 1 to {MOST_NODES}, and this is {node}", place)
+
+
 def report(instance: Fields, solution: Fields, kind: str, certificate: Optional[Fields]) -> int:
     """Prints the report, and returns the status."""
     count = dimension_of(instance)
     lines = [f"type {instance['TYPE'][0]}", f"nodes {count}", *(f"not judged {keyword}" for keyword in instance["not judged"])]
-    for fields in filter(None, (solution, certificate)):  # a fault of a file comes before any reason
-        for name in READ.intersection(fields):
-            wholes(fields, name)
+    for fields in filter(None, (solution, certificate)):
+        look_at(fields)
     try:
         cost = costs_of(instance, count)
         tour = tour_of(instance, solution, cost, count)
