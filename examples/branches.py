@@ -293,7 +293,9 @@ def main() -> None:
             print(*lines_of(instance, search.steps), sep="\n", file=file)
     except No as reason:
         sys.exit(f"branches: {given.tour} is no tour of {given.instance}: {reason}")
-    except (Faulty, OSError) as reason:  # no instance, no file
+    except OSError as fault:
+        sys.exit(f"branches: {fault.filename}: {fault.strerror}")
+    except Faulty as reason:  # no instance
         sys.exit(f"branches: {reason}")
 
 
