@@ -5,7 +5,7 @@
 
 import assert from "node:assert/strict";
 import { spawn } from "node:child_process";
-import { mkdtempSync, rmSync, writeFileSync } from "node:fs";
+import { mkdtempSync, readFileSync, rmSync, writeFileSync } from "node:fs";
 import { tmpdir } from "node:os";
 import { join, resolve } from "node:path";
 import { fileURLToPath, pathToFileURL } from "node:url";
@@ -195,6 +195,20 @@ const TESTS = {
         assert.equal(texts[0], "TYPE : TOUR\nTOUR_SECTION\n1\n2\n3\n4\n8\n5\n6\n7\n-1\nEOF\n");
         assert.equal(texts[1], "type TSP\nnodes 8\nlength 226\nyes\n");
         assert.match(texts[2], /^<svg [^>]*xmlns="http:\/\/www.w3.org\/2000\/svg".*<style.*<path /s);
+    },
+    "a table of nodes and routes with copies of the depot are read": async (browser) => {
+        const drop = (files) => browser.value(`(() => { const all = new DataTransfer();
+            for (const [name, text] of ${JSON.stringify(files)}) { all.items.add(new File([text], name)); }
+            document.dispatchEvent(new DragEvent("drop", { dataTransfer: all })); })()`);
+        const own = (name) => [name, readFileSync(join(EXAMPLES, name), "utf8")];
+        await browser.open("");
+        await drop([["tour.csv", "order,node\n0,1\n1,2\n2,3\n3,4\n4,8\n5,5\n6,6\n7,7\n"], own("harbour.tsp")]);
+        await browser.until(`document.getElementById("verdict").textContent === "Yes: a tour"`);
+        assert.match(await browser.value(`document.getElementById("form").textContent`), /^tour\.csv was read as a list of nodes, which count from 1\.$/);
+        await browser.open("");
+        await drop([own("dairy.vrp"), ["lkh.tour", "TYPE : TOUR\nTOUR_SECTION\n1 5 6 4 7 9 2 8 3 -1\nEOF\n"]]);
+        await browser.until(`document.getElementById("verdict").textContent === "Yes"`);
+        assert.match(await browser.value(`document.getElementById("form").textContent`), /copies of the depot\.$/);
     },
     "several tours are a table": async (browser) => {
         await browser.open("");
