@@ -45,10 +45,10 @@ int main(int argc, char **argv) {
     struct text tour = read_file(argv[2]);
     uint8_t none = 0;
     struct text potentials = {&none, 0};
-    uint32_t by = 0;
+    uint32_t by = TSP_BY_NONE;
     if (argc == 4) {
         potentials = read_file(argv[3]);
-        by = 1;
+        by = TSP_BY_POTENTIALS;
     }
 
     /* A report is short, but for a file with many unknown keywords: the second call has the length. */

@@ -44,29 +44,62 @@ enum {
     TSP_TOO_SMALL = 6      /* the buffer is too small, and as it was */
 };
 
+/* What a call has a certificate by. */
+enum { TSP_BY_NONE = 0, TSP_BY_POTENTIALS = 1, TSP_BY_BRANCHES = 2 };
+
+/* Layouts of the weights. */
+enum {
+    TSP_LAYOUT_AS_IT_IS = 0,
+    TSP_LAYOUT_FULL_MATRIX = 1,
+    TSP_LAYOUT_UPPER_ROW = 2,
+    TSP_LAYOUT_LOWER_ROW = 3,
+    TSP_LAYOUT_UPPER_DIAG_ROW = 4,
+    TSP_LAYOUT_LOWER_DIAG_ROW = 5,
+    TSP_LAYOUT_UPPER_COL = 6,
+    TSP_LAYOUT_LOWER_COL = 7,
+    TSP_LAYOUT_UPPER_DIAG_COL = 8,
+    TSP_LAYOUT_LOWER_DIAG_COL = 9
+};
+
+/* Sections of points. */
+enum { TSP_POINTS_NODE_COORD = 1, TSP_POINTS_DISPLAY_DATA = 2 };
+
+/* Distances of two points. */
+enum {
+    TSP_DISTANCE_EUC_2D = 1,
+    TSP_DISTANCE_CEIL_2D = 2,
+    TSP_DISTANCE_MAN_2D = 3,
+    TSP_DISTANCE_MAX_2D = 4,
+    TSP_DISTANCE_ATT = 5,
+    TSP_DISTANCE_EUC_3D = 6,
+    TSP_DISTANCE_MAN_3D = 7,
+    TSP_DISTANCE_MAX_3D = 8
+};
+
+/* TYPEs of instances. */
+enum { TSP_TYPE_TSP = 1, TSP_TYPE_ATSP = 2, TSP_TYPE_CVRP = 3 };
+
 /* Calls that give a text. Where it fits into the out_len bytes of out, it is at the front of out, the bytes
  * behind it are as they were, and *written is its length. Where it doesn't, the status is TSP_TOO_SMALL, out
  * is as it was, and *written is the length that is needed: call again with as much. */
 
-/* Judges a solution of an instance, and gives the report. by is 0 without a certificate, 1 with a file of
- * potentials, 2 with a file of branches; without one certificate_len may be 0. If has_claim is 1, a solution
- * of another length than claimed is a no; if it is 0, claimed counts for nothing. TSP_YES comes only if the
- * report ends in "yes". */
+/* Judges a solution of an instance, and gives the report. by is TSP_BY_NONE without a certificate, and then
+ * certificate_len may be 0. If has_claim is 1, a solution of another length than claimed is a no; if it is 0,
+ * claimed counts for nothing. TSP_YES comes only if the report ends in "yes". */
 uint32_t tsp_check(const uint8_t *instance, size_t instance_len, const uint8_t *solution, size_t solution_len,
                    const uint8_t *certificate, size_t certificate_len, uint32_t by, int64_t claimed,
                    uint32_t has_claim, uint8_t *out, size_t out_len, size_t *written);
 
-/* Bounds the tours of an instance by a certificate, and gives the report: by 1 with a file of potentials, by 2
- * with a file of branches. In the line of a fault the certificate is file 2. */
+/* Bounds the tours of an instance by a certificate, and gives the report: by is TSP_BY_POTENTIALS or
+ * TSP_BY_BRANCHES. In the line of a fault the certificate is file 2. */
 uint32_t tsp_bound(const uint8_t *instance, size_t instance_len, const uint8_t *certificate,
                    size_t certificate_len, uint32_t by, uint8_t *out, size_t out_len, size_t *written);
 
 /* Says what a text is: its name, TYPE, number of nodes and more, as "tsp show" does. */
 uint32_t tsp_show(const uint8_t *file, size_t file_len, uint8_t *out, size_t out_len, size_t *written);
 
-/* Gives the canonical text of a file, its weights in a layout: 0 leaves them as they are, 1 FULL_MATRIX,
- * 2 UPPER_ROW, 3 LOWER_ROW, 4 UPPER_DIAG_ROW, 5 LOWER_DIAG_ROW, 6 UPPER_COL, 7 LOWER_COL, 8 UPPER_DIAG_COL,
- * 9 LOWER_DIAG_COL. TSP_NO comes if the weights can't go into the layout. */
+/* Gives the canonical text of a file, its weights in a layout, one of TSP_LAYOUT_AS_IT_IS, .. TSP_NO comes if the
+ * weights can't go into the layout. */
 uint32_t tsp_convert(const uint8_t *file, size_t file_len, uint32_t layout, uint8_t *out, size_t out_len,
                      size_t *written);
 
@@ -86,8 +119,8 @@ uint32_t tsp_count(const uint8_t *instance, size_t instance_len, uint32_t *count
 
 /* Calls that fill in numbers. At TSP_YES they are at the front of out; else out is as it was. */
 
-/* x, y and z of node 1, of node 2 and so on: three numbers a node. section is 1 for NODE_COORD_SECTION and 2
- * for DISPLAY_DATA_SECTION. TSP_NO comes if the file has no such section. */
+/* x, y and z of node 1, of node 2 and so on: three numbers a node. section is TSP_POINTS_NODE_COORD or
+ * TSP_POINTS_DISPLAY_DATA. TSP_NO comes if the file has no such section. */
 uint32_t tsp_points(const uint8_t *file, size_t file_len, uint32_t section, int64_t *out, size_t out_len);
 
 /* The cost from the first node of each pair to its second. pairs has two nodes for each pair, and pairs_len
@@ -106,16 +139,15 @@ uint32_t tsp_matrix(const uint8_t *instance, size_t instance_len, uint32_t first
 uint32_t tsp_lengths(const uint8_t *instance, size_t instance_len, const uint32_t *nodes, size_t nodes_len,
                      int64_t *out, size_t out_len);
 
-/* The distance of two points: kind is 1 EUC_2D, 2 CEIL_2D, 3 MAN_2D, 4 MAX_2D, 5 ATT, 6 EUC_3D, 7 MAN_3D,
- * 8 MAX_3D. The plane's kinds take no notice of z. It is -1 if there is no such kind, or a coordinate is
- * beyond 10^18. */
+/* The distance of two points: kind is one of TSP_DISTANCE_EUC_2D, .. The plane's kinds take no notice of z. It is
+ * -1 if there is no such kind, or a coordinate is beyond 10^18. */
 int64_t tsp_distance(uint32_t kind, int64_t ax, int64_t ay, int64_t az, int64_t bx, int64_t by, int64_t bz);
 
 /* ---- results in numbers */
 
 /* What a call answers; 0 is none. */
 struct tsp_result {
-    uint32_t kind;    /* the TYPE of the instance: 1 TSP, 2 ATSP, 3 CVRP */
+    uint32_t kind;    /* one of TSP_TYPE_TSP, .. */
     uint32_t nodes;   /* how many nodes it has */
     uint32_t verdict; /* one of TSP_TOUR, .. */
     uint32_t reason;  /* of a TSP_REJECTED: one of TSP_NOT_A_SOLUTION, .. */
@@ -260,8 +292,8 @@ uint32_t tsp_open(const uint8_t *instance, size_t instance_len, struct tsp_insta
 /* Closes a handle, and frees what it holds. A closed one stays closed. */
 void tsp_close(struct tsp_instance *handle);
 
-/* Binds a certificate to an open instance, in the place of the one before, and gives its bound: by 1 a file of
- * potentials, by 2 a file of branches. At TSP_YES and at TSP_NO it is bound; then checks answer as tsp_check with
+/* Binds a certificate to an open instance, in the place of the one before, and gives its bound. by is
+ * TSP_BY_POTENTIALS or TSP_BY_BRANCHES. At TSP_YES and at TSP_NO it is bound; then checks answer as tsp_check with
  * this certificate, and don't judge it again. Else nothing changes. In a fault the certificate is file 2. */
 uint32_t tsp_bind(struct tsp_instance *handle, const uint8_t *certificate, size_t certificate_len, uint32_t by,
                   struct tsp_result *result);

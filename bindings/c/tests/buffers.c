@@ -36,7 +36,7 @@ static void texts(void) {
            "no certificate has the number 3");
     expect(tsp_convert(TEXT(SQUARE), 10, out, sizeof out, &written) == TSP_REFUSED && written == 0,
            "no layout has the number 10");
-    expect(tsp_convert(TEXT(SQUARE), 1, out, sizeof out, &written) == TSP_NO
+    expect(tsp_convert(TEXT(SQUARE), TSP_LAYOUT_FULL_MATRIX, out, sizeof out, &written) == TSP_NO
                && written == 22 && memcmp(out, "relayout: NotExplicit\n", 22) == 0, "points have no layout");
 }
 
@@ -59,18 +59,18 @@ static void answers(void) {
     expect(tsp_check(TEXT(SQUARE), TEXT(TOUR), TEXT(""), 0, 15, 2, out, sizeof out, &written) == TSP_REFUSED
                && written == 0, "has_claim is 0 or 1");
 
-    expect(tsp_bound(TEXT(SQUARE), TEXT(ZEROS), 1, out, sizeof BOUND - 2, &written) == TSP_TOO_SMALL
+    expect(tsp_bound(TEXT(SQUARE), TEXT(ZEROS), TSP_BY_POTENTIALS, out, sizeof BOUND - 2, &written) == TSP_TOO_SMALL
                && written == sizeof BOUND - 1, "a bound's report that is one byte too long");
-    expect(tsp_bound(TEXT(SQUARE), TEXT(ZEROS), 1, out, sizeof BOUND - 1, &written) == TSP_YES
+    expect(tsp_bound(TEXT(SQUARE), TEXT(ZEROS), TSP_BY_POTENTIALS, out, sizeof BOUND - 1, &written) == TSP_YES
                && written == sizeof BOUND - 1 && memcmp(out, BOUND, written) == 0, "a bound's report that fits");
     static const char REFUSED[] = "type TSP\nnodes 4\nno NotBranches\n";
-    expect(tsp_bound(TEXT(SQUARE), TEXT(ZEROS), 2, out, sizeof out, &written) == TSP_NO
+    expect(tsp_bound(TEXT(SQUARE), TEXT(ZEROS), TSP_BY_BRANCHES, out, sizeof out, &written) == TSP_NO
                && written == sizeof REFUSED - 1 && memcmp(out, REFUSED, written) == 0, "potentials are no branches");
     expect(tsp_bound(TEXT(SQUARE), TEXT(ZEROS), 0, out, sizeof out, &written) == TSP_REFUSED && written == 0
                && tsp_bound(TEXT(SQUARE), TEXT(ZEROS), 3, out, sizeof out, &written) == TSP_REFUSED,
            "a bound is by 1 or by 2");
     static const char FAULT[] = "file 2: end: Missing TYPE\n";
-    expect(tsp_bound(TEXT(SQUARE), TEXT(""), 1, out, sizeof out, &written) == TSP_FAULT
+    expect(tsp_bound(TEXT(SQUARE), TEXT(""), TSP_BY_POTENTIALS, out, sizeof out, &written) == TSP_FAULT
                && written == sizeof FAULT - 1 && memcmp(out, FAULT, written) == 0, "a certificate is file 2 of a bound");
 
     uint32_t status = tsp_explain(TSP_OF_CHECK, TEXT(SQUARE), TEXT(TWICE), TEXT(""), NAMES, 0, 0, 0, out, 16, &written);
@@ -133,26 +133,26 @@ static void numbers(void) {
 
     for (int k = 0; k < 16; k++)
         out[k] = -7;
-    expect(tsp_points(TEXT(SQUARE), 1, out, 11) == TSP_TOO_SMALL && out[0] == -7, "one place too few for points");
-    expect(tsp_points(TEXT(SQUARE), 2, out, 16) == TSP_NO && out[0] == -7, "no points to display");
+    expect(tsp_points(TEXT(SQUARE), TSP_POINTS_NODE_COORD, out, 11) == TSP_TOO_SMALL && out[0] == -7, "one place too few for points");
+    expect(tsp_points(TEXT(SQUARE), TSP_POINTS_DISPLAY_DATA, out, 16) == TSP_NO && out[0] == -7, "no points to display");
     expect(tsp_points(TEXT(SQUARE), 3, out, 16) == TSP_REFUSED && out[0] == -7, "no section 3");
-    expect(tsp_points(TEXT("1"), 1, out, 16) == TSP_FAULT && out[0] == -7, "points of no file");
-    expect(tsp_points(TEXT(SQUARE), 1, out, 12) == TSP_YES, "four points");
+    expect(tsp_points(TEXT("1"), TSP_POINTS_NODE_COORD, out, 16) == TSP_FAULT && out[0] == -7, "points of no file");
+    expect(tsp_points(TEXT(SQUARE), TSP_POINTS_NODE_COORD, out, 12) == TSP_YES, "four points");
     expect(out[3] == 3000000000 && out[4] == 0 && out[5] == 0 && out[10] == 4500000000 && out[12] == -7, "their coordinates");
 
-    expect(tsp_distance(1, 0, 0, 0, 3000000000, 4000000000, 9000000000) == 5, "EUC_2D");
-    expect(tsp_distance(2, 0, 0, 0, 1000000000, 1000000000, 0) == 2, "CEIL_2D");
-    expect(tsp_distance(3, 0, 0, 0, 3000000000, -4000000000, 0) == 7, "MAN_2D");
-    expect(tsp_distance(4, 0, 0, 0, 3000000000, -4000000000, 0) == 4, "MAX_2D");
+    expect(tsp_distance(TSP_DISTANCE_EUC_2D, 0, 0, 0, 3000000000, 4000000000, 9000000000) == 5, "EUC_2D");
+    expect(tsp_distance(TSP_DISTANCE_CEIL_2D, 0, 0, 0, 1000000000, 1000000000, 0) == 2, "CEIL_2D");
+    expect(tsp_distance(TSP_DISTANCE_MAN_2D, 0, 0, 0, 3000000000, -4000000000, 0) == 7, "MAN_2D");
+    expect(tsp_distance(TSP_DISTANCE_MAX_2D, 0, 0, 0, 3000000000, -4000000000, 0) == 4, "MAX_2D");
     /* the root of 100 / 10 is 3.2 */
-    expect(tsp_distance(5, 0, 0, 0, 10000000000, 0, 0) == 4, "ATT");
-    expect(tsp_distance(6, 0, 0, 0, 1000000000, 2000000000, 2000000000) == 3, "EUC_3D");
-    expect(tsp_distance(7, 0, 0, 0, 1000000000, 2000000000, 2000000000) == 5, "MAN_3D");
-    expect(tsp_distance(8, 0, 0, 0, 1000000000, 2000000000, 3000000000) == 3, "MAX_3D");
+    expect(tsp_distance(TSP_DISTANCE_ATT, 0, 0, 0, 10000000000, 0, 0) == 4, "ATT");
+    expect(tsp_distance(TSP_DISTANCE_EUC_3D, 0, 0, 0, 1000000000, 2000000000, 2000000000) == 3, "EUC_3D");
+    expect(tsp_distance(TSP_DISTANCE_MAN_3D, 0, 0, 0, 1000000000, 2000000000, 2000000000) == 5, "MAN_3D");
+    expect(tsp_distance(TSP_DISTANCE_MAX_3D, 0, 0, 0, 1000000000, 2000000000, 3000000000) == 3, "MAX_3D");
     expect(tsp_distance(0, 0, 0, 0, 1, 1, 1) == -1 && tsp_distance(9, 0, 0, 0, 1, 1, 1) == -1, "no such distance");
-    expect(tsp_distance(1, 1000000000000000000, 0, 0, 1000000000000000000, 0, 0) == 0, "the largest coordinate");
-    expect(tsp_distance(1, 1000000000000000001, 0, 0, 0, 0, 0) == -1, "a larger coordinate");
-    expect(tsp_distance(1, INT64_MIN, 0, 0, 0, 0, 0) == -1, "the least number");
+    expect(tsp_distance(TSP_DISTANCE_EUC_2D, 1000000000000000000, 0, 0, 1000000000000000000, 0, 0) == 0, "the largest coordinate");
+    expect(tsp_distance(TSP_DISTANCE_EUC_2D, 1000000000000000001, 0, 0, 0, 0, 0) == -1, "a larger coordinate");
+    expect(tsp_distance(TSP_DISTANCE_EUC_2D, INT64_MIN, 0, 0, 0, 0, 0) == -1, "the least number");
 }
 
 int main(void) {

@@ -63,9 +63,9 @@ static void closed(void) {
     int64_t numbers[4] = {-7, -7, -7, -7};
     uint32_t nodes[] = {1, 2, 0, 0}, count = 99;
     expect(check(&handle, TOUR, &r) == TSP_REFUSED && written == 0 && r.verdict == 0 && r.fault == 0, "a check of a closed handle");
-    expect(tsp_bind(&handle, TEXT(ZEROS), 1, &r) == TSP_REFUSED && !handle.is_open, "a bound of a closed handle");
+    expect(tsp_bind(&handle, TEXT(ZEROS), TSP_BY_POTENTIALS, &r) == TSP_REFUSED && !handle.is_open, "a bound of a closed handle");
     expect(tsp_instance_count(&handle, &count) == TSP_REFUSED && count == 99, "nodes of a closed handle");
-    expect(tsp_instance_points(&handle, 1, numbers, 4) == TSP_REFUSED && tsp_instance_weights(&handle, nodes, 2, numbers, 4) == TSP_REFUSED
+    expect(tsp_instance_points(&handle, TSP_POINTS_NODE_COORD, numbers, 4) == TSP_REFUSED && tsp_instance_weights(&handle, nodes, 2, numbers, 4) == TSP_REFUSED
                && tsp_instance_matrix(&handle, 1, numbers, 4) == TSP_REFUSED
                && tsp_instance_lengths(&handle, nodes, 3, numbers, 4) == TSP_REFUSED && numbers[0] == -7,
            "numbers of a closed handle");
@@ -91,20 +91,20 @@ static void checks(void) {
     expect(tsp_instance_check(&handle, TEXT(TOUR), 0, 0, &r, out, 5, &written) == TSP_TOO_SMALL && written == 31 && out[0] == '#'
                && r.verdict == TSP_TOUR && r.length == 15, "numbers need no buffer");
 
-    expect(tsp_bind(&handle, TEXT(ZEROS), 1, &r) == TSP_YES && r.verdict == TSP_BOUND && r.has_bound == 1 && r.bound_high == 0
+    expect(tsp_bind(&handle, TEXT(ZEROS), TSP_BY_POTENTIALS, &r) == TSP_YES && r.verdict == TSP_BOUND && r.has_bound == 1 && r.bound_high == 0
                && r.bound_low == 15 && r.kind == 1, "a bound");
     expect(check(&handle, TOUR, &r) == TSP_YES && says("type TSP\nnodes 4\nlength 15\nbound 15\noptimal\nyes\n"), "an optimal tour");
     expect(r.verdict == TSP_TOUR && r.length == 15 && r.has_bound == 1 && r.bound_high == 0 && r.bound_low == 15, "its bound");
     expect(tsp_bind(&handle, TEXT(TOUR), 0, &r) == TSP_REFUSED && tsp_bind(&handle, TEXT(TOUR), 3, &r) == TSP_REFUSED,
            "a bound is by 1 or by 2");
-    expect(tsp_bind(&handle, TEXT(""), 1, &r) == TSP_FAULT && r.file == 2 && r.fault == TSP_MISSING, "a certificate with a fault");
+    expect(tsp_bind(&handle, TEXT(""), TSP_BY_POTENTIALS, &r) == TSP_FAULT && r.file == 2 && r.fault == TSP_MISSING, "a certificate with a fault");
     expect(check(&handle, TOUR, &r) == TSP_YES && r.has_bound == 1 && r.bound_low == 15, "leaves the one before");
-    expect(tsp_bind(&handle, TEXT(LOW), 1, &r) == TSP_YES && r.has_bound == 1 && r.bound_high == -1, "a negative bound");
+    expect(tsp_bind(&handle, TEXT(LOW), TSP_BY_POTENTIALS, &r) == TSP_YES && r.has_bound == 1 && r.bound_high == -1, "a negative bound");
     int64_t bound = (int64_t)r.bound_low;
     char report[100];
     snprintf(report, sizeof report, "type TSP\nnodes 4\nlength 15\nbound %lld\ngap %lld\nyes\n", (long long)bound, (long long)(15 - bound));
     expect(bound < -1000 && check(&handle, TOUR, &r) == TSP_YES && says(report), "its report");
-    expect(tsp_bind(&handle, TEXT(ZEROS), 2, &r) == TSP_NO && r.verdict == TSP_REJECTED && r.reason == TSP_NOT_BRANCHES
+    expect(tsp_bind(&handle, TEXT(ZEROS), TSP_BY_BRANCHES, &r) == TSP_NO && r.verdict == TSP_REJECTED && r.reason == TSP_NOT_BRANCHES
                && r.has_bound == 0, "potentials are no branches");
     expect(check(&handle, TOUR, &r) == TSP_NO && says("type TSP\nnodes 4\nno NotBranches\n") && r.reason == TSP_NOT_BRANCHES,
            "a check with a certificate that is refused");
@@ -115,7 +115,7 @@ static void checks(void) {
     tsp_open(TEXT(CUSTOMERS), &handle, &r);
     expect(check(&handle, ROUTES, &r) == TSP_YES && r.kind == 3 && r.verdict == TSP_ROUTES && r.length == 16 && r.routes == 2
                && r.least == 2, "routes");
-    expect(tsp_bind(&handle, TEXT(ZEROS), 1, &r) == TSP_FAULT && r.fault == TSP_WRONG_KIND && r.file == 1, "routes have no bound");
+    expect(tsp_bind(&handle, TEXT(ZEROS), TSP_BY_POTENTIALS, &r) == TSP_FAULT && r.fault == TSP_WRONG_KIND && r.file == 1, "routes have no bound");
     tsp_close(&handle);
 }
 
@@ -130,7 +130,7 @@ static void known(void) {
     expect(check(&handle, ZEROS, &r) == TSP_NO && r.reason == TSP_NOT_A_SOLUTION, "and after a file that is no solution");
     expect(tsp_instance_check(&handle, TEXT(TOUR), 1, 1, &r, out, sizeof out, &written) == TSP_NO
                && r.reason == TSP_NOT_SYMMETRIC, "and before a claimed length");
-    expect(tsp_bind(&handle, TEXT(ZEROS), 1, &r) == TSP_NO && r.reason == TSP_NOT_SYMMETRIC && r.second == 3,
+    expect(tsp_bind(&handle, TEXT(ZEROS), TSP_BY_POTENTIALS, &r) == TSP_NO && r.reason == TSP_NOT_SYMMETRIC && r.second == 3,
            "and before a certificate");
     expect(check(&handle, ZEROS, &r) == TSP_NO && r.reason == TSP_NOT_A_SOLUTION, "with a certificate too");
     tsp_open(TEXT(PAIR), &handle, &r);
@@ -145,7 +145,7 @@ static void known(void) {
                && r.reason == TSP_LENGTH_CLAIMED && r.first == 16, "routes of another length than the claimed one");
 
     tsp_open(TEXT(SQUARE), &handle, &r);
-    tsp_bind(&handle, TEXT(ZEROS), 2, &r);
+    tsp_bind(&handle, TEXT(ZEROS), TSP_BY_BRANCHES, &r);
     expect(tsp_instance_check(&handle, TEXT(TOUR), 14, 1, &r, out, sizeof out, &written) == TSP_NO
                && r.reason == TSP_LENGTH_CLAIMED && r.first == 15, "a claimed length comes before the certificate");
     expect(tsp_instance_check(&handle, TEXT(TOUR), 15, 1, &r, out, sizeof out, &written) == TSP_NO
@@ -227,8 +227,8 @@ static void numbers(void) {
            "too few places, and half a pair");
     expect(tsp_instance_matrix(&matrix, 2, found, 16) == TSP_YES && found[0] == 2 && found[5] == 8, "rows of the matrix");
     expect(tsp_instance_lengths(&matrix, lists, 8, found, 2) == TSP_YES && found[0] == 10 && found[1] == 11, "lengths in either direction");
-    expect(tsp_instance_points(&square, 1, found, 12) == TSP_YES && found[10] == 4500000000, "coordinates");
-    expect(tsp_instance_points(&square, 2, found, 12) == TSP_NO && tsp_instance_points(&square, 3, found, 12) == TSP_REFUSED, "sections");
+    expect(tsp_instance_points(&square, TSP_POINTS_NODE_COORD, found, 12) == TSP_YES && found[10] == 4500000000, "coordinates");
+    expect(tsp_instance_points(&square, TSP_POINTS_DISPLAY_DATA, found, 12) == TSP_NO && tsp_instance_points(&square, 3, found, 12) == TSP_REFUSED, "sections");
     tsp_close(&square);
     expect(tsp_instance_weights(&matrix, pairs, 4, found, 2) == TSP_YES && found[0] == 1, "the other handle stays open");
     tsp_close(&matrix);
@@ -242,7 +242,7 @@ static void many(void) {
     uint32_t pair[] = {2, 3};
     for (int k = 0; k < 2000; k++) {
         tsp_open(TEXT(SQUARE), &handle, &r);
-        tsp_bind(&handle, TEXT(ZEROS), 1, &r);
+        tsp_bind(&handle, TEXT(ZEROS), TSP_BY_POTENTIALS, &r);
         sum += check(&handle, TOUR, &r) == TSP_YES ? r.length : 0;
         tsp_instance_weights(&handle, pair, 2, &found, 1);
         sum += found;

@@ -90,10 +90,10 @@ static struct call call_of(int count, char **words) {
             call.number = layout_of(words[++k]);
         } else if (strcmp(words[k], "--potentials") == 0 && k + 1 < count) {
             call.paths[2] = words[++k];
-            call.number = 1;
+            call.number = TSP_BY_POTENTIALS;
         } else if (strcmp(words[k], "--branches") == 0 && k + 1 < count) {
             call.paths[2] = words[++k];
-            call.number = 2;
+            call.number = TSP_BY_BRANCHES;
         } else if (strncmp(words[k], "--length=", 9) == 0) {
             call.claimed = length_of(words[k] + 9);
             call.has_claim = 1;
