@@ -52,15 +52,21 @@ class Command(unittest.TestCase):
         with tempfile.TemporaryDirectory() as folder:
             bad, missing = Path(folder, "bad"), Path(folder, "missing")
             bad.write_text("TYPE : HCP\n")
-            fault = (2, b"", b"file 1: line 1 word 0: Outside\n")
+            fault = (2, b"", f"file 1: line 1 word 0: Outside: {bad}: HCP\n".encode())
+            gone = f"file 1: device: {missing}: No such file or directory\n".encode()
             self.assertEqual(run("show", bad), fault)
             self.assertEqual(run("check", bad, missing), fault)
-            self.assertEqual(run("check", missing, bad), (5, b"", b"file 1: device\n"))
+            self.assertEqual(run("check", missing, bad), (5, b"", gone))
             rectangle = EXAMPLES / "rectangle.tsp"
-            second = (2, b"", b"file 2: line 1 word 0: Outside\n")
+            second = (2, b"", f"file 2: line 1 word 0: Outside: {bad}: HCP\n".encode())
             self.assertEqual(run("check", rectangle, bad), second)
             self.assertEqual(run("check", rectangle, bad, "--potentials", missing), second)
-            self.assertEqual(run("show", folder), (5, b"", b"file 1: device\n"))
+            self.assertEqual(run("bound", rectangle, "--branches", bad), second)
+            self.assertEqual(run("show", folder), (5, b"", f"file 1: device: {folder}: Is a directory\n".encode()))
+            standard = b"file 1: line 3 word 0: UnknownLine: standard input: x y\n"
+            self.assertEqual(run("show", "-", stdin=b"\n\n x y\n"), (2, b"", standard))
+            end = f"file 1: wrong kind: {EXAMPLES / 'harbour.tour'}\n".encode()
+            self.assertEqual(run("check", EXAMPLES / "harbour.tour", rectangle), (2, b"", end))
 
     def test_a_full_device(self):
         if not os.path.exists("/dev/full"):
@@ -114,6 +120,12 @@ class Command(unittest.TestCase):
         report = b"type CVRP\nnodes 8\nroutes 2\nleast 2\nlength 231\nyes\n"
         self.assertEqual(run("check", "--foreign", EXAMPLES / "dairy.vrp", sol), (0, report, b""))
         self.assertEqual(run("check", EXAMPLES / "dairy.vrp", sol)[0], 2)
+        copies = b"TYPE : TOUR\nTOUR_SECTION\n1 5 6 4 7 9 2 8 3 -1\nEOF\n"
+        self.assertEqual(run("check", "--foreign", EXAMPLES / "dairy.vrp", "-", stdin=copies), (0, report, b""))
+        # Without a depot there is no copy of it.
+        tour = b"TYPE : TOUR\nTOUR_SECTION\n1 2 3 4 8 5 6 9 -1\nEOF\n"
+        lines = b"type TSP\nnodes 8\nno NodeOutOfRange 8\n"
+        self.assertEqual(run("check", "--foreign", EXAMPLES / "harbour.tsp", "-", stdin=tour), (1, lines, b""))
         self.assertEqual(run("solution", "-", stdin=b"1 x\n"),
                          (2, b"", b"-: line 1: nodes are whole numbers from 0 on, and this is none: x\n"))
 

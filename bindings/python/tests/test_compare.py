@@ -195,7 +195,9 @@ class Command(unittest.TestCase):
                 f"line 2 word 0: UnknownLine {bad}\ndevice {gone}\n"
             ).encode()
             words = ("compare", RECT, AROUND, ACROSS, "-", bad, gone, "--potentials", ZERO)
-            self.assertEqual(run(*words, stdin=TWICE), (5, lines, b""))
+            more = f"{bad}: line 2 word 0: UnknownLine: x\n{gone}: No such file or directory\n".encode()
+            self.assertEqual(run(*words, stdin=TWICE), (5, lines, more))
+            self.assertEqual(run(*words, "--tsv", stdin=TWICE)[2], b"")
             self.assertEqual(run(*words[:-4], stdin=TWICE)[:2], (1, lines.split(b"line 2")[0].replace(b"bound 14\n", b"")
                              .replace(b" optimal", b"").replace(b" gap 2", b"")))
             self.assertEqual(run("compare", RECT, bad, AROUND)[0], 2)
@@ -216,12 +218,13 @@ class Command(unittest.TestCase):
         self.assertEqual(run("compare", RECT, AROUND, "--tsv", "--json"), (4, b"", b"both --tsv and --json\n"))
 
     def test_first_faults(self):
-        fault = (2, b"", b"file 1: line 1 word 0: Outside\n")
+        fault = (2, b"", b"file 1: line 1 word 0: Outside: standard input: HCP\n")
         self.assertEqual(run("compare", "-", AROUND, stdin=b"TYPE : HCP\n"), fault)
-        fault = (2, b"", b"file 2: line 1 word 0: Outside\n")
+        fault = (2, b"", b"file 2: line 1 word 0: Outside: standard input: HCP\n")
         self.assertEqual(run("compare", RECT, AROUND, "--branches", "-", stdin=b"TYPE : HCP\n"), fault)
-        self.assertEqual(run("compare", AROUND, AROUND), (2, b"", b"file 1: wrong kind\n"))
-        self.assertEqual(run("compare", RECT, AROUND, "--potentials", "gone"), (5, b"", b"file 2: device\n"))
+        self.assertEqual(run("compare", AROUND, AROUND), (2, b"", f"file 1: wrong kind: {AROUND}\n".encode()))
+        gone = b"file 2: device: gone: No such file or directory\n"
+        self.assertEqual(run("compare", RECT, AROUND, "--potentials", "gone"), (5, b"", gone))
         lines = b"type TSP\nnodes 4\nno PotentialsDimension\n"
         wrong = EXAMPLES / "harbour.potentials"
         self.assertEqual(run("compare", RECT, "gone", "--potentials", wrong), (1, lines, b""))

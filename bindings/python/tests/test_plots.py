@@ -21,6 +21,13 @@ def drawn(ax):
     # of each line how many edges it has, by its breaks, and its label
     return sorted((sum(x != x for x in line.get_xdata()), line.get_label()) for line in ax.lines)
 
+def is_inside(ax):
+    # whether the legend and the names are in the picture
+    ax.figure.canvas.draw()
+    texts = [ax.title, *ax.get_xticklabels(), *ax.get_legend().get_texts()]
+    boxes = [text.get_window_extent() for text in texts if text.get_text()]
+    return all(0 <= box.x0 and box.x1 <= ax.figure.bbox.x1 and 0 <= box.y0 and box.y1 <= ax.figure.bbox.y1 for box in boxes)
+
 problem = yokecairn.load(examples / "harbour.tsp")
 tour = yokecairn.load(examples / "harbour.tour")
 ax = problem.plot(tour)
@@ -30,6 +37,7 @@ ax.figure.savefig(folder / "tour.png")
 other = [1, 2, 3, 4, 8, 5, 7, 6]
 ax = problem.plot(tour, other)
 assert drawn(ax) == [(2, "the first tour alone"), (2, "the second tour alone"), (6, "both")], drawn(ax)
+assert is_inside(ax)
 ax.figure.savefig(folder / "tours.png")
 dairy = yokecairn.load(examples / "dairy.vrp")
 ax = dairy.plot([[5, 6, 4, 7], [2, 8, 3]])
@@ -47,7 +55,11 @@ ax = found.plot()
 assert [point[1] for point in ax.collections[0].get_offsets()] == sorted(report.length for _, report in found.accepted())
 assert [line.get_ydata()[0] for line in ax.lines] == [226, 230] and "1 not accepted" in ax.get_title()
 assert [label.get_text() for label in ax.get_xticklabels()] == ["best", "other"]
-ax.figure.savefig(folder / "comparison.png", bbox_inches="tight")
+assert is_inside(ax)
+paths = {{f"/home/ann/a-long-name-of-a-folder/{{it}}.tour": tours[it] for it in ("best", "other")}}
+ax = yokecairn.compare(examples / "harbour.tsp", paths, best=230).plot()
+assert [label.get_text() for label in ax.get_xticklabels()] == ["best.tour", "other.tour"] and is_inside(ax)
+ax.figure.savefig(folder / "comparison.png")
 """
 
 

@@ -5,6 +5,7 @@ tests/support/rows.py knows what a row is. Here what it starts as a process is d
 
 import io
 import os
+import re
 import sys
 import tempfile
 import types
@@ -28,7 +29,20 @@ def by_the_command(program_and_words, cwd, **_):
         status = Run(stdin, out, err).run(program_and_words[1:])
     finally:
         os.chdir(folder)
-    return types.SimpleNamespace(returncode=status, stdout=out.getvalue(), stderr=err.getvalue())
+    told = program_said(err.getvalue(), program_and_words[1:])
+    return types.SimpleNamespace(returncode=status, stdout=out.getvalue(), stderr=told)
+
+
+def program_said(told, words):
+    """What the program says where the command says this: no path, and no word that is wrong, in lines of faults."""
+    paths = "|".join(re.escape(word.rpartition("=")[2]) for word in words if not word.startswith("--") or "=" in word)
+    if "--explain" in words:
+        return told
+    if "compare" in words:  # (a comparison has these lines on standard output)
+        told = re.sub(rf"^(?:{paths}): (?!file ).*\n".encode(), b"", told, flags=re.M)
+    lines, missing = re.subn(rf"^(file \d: .+?): (?:{paths})(?:: .*)?$".encode(), rb"\1", told, flags=re.M)
+    assert missing or not told.startswith(b"file "), told
+    return lines
 
 
 def by_calls(program_and_words, cwd, **_):

@@ -1,9 +1,10 @@
 """The program's verbs: python -m yokecairn show, convert, check, bound and compare, and one of its own: solution.
 
 `solution` writes a solution of another program as a file of TYPE TOUR, and `--foreign` reads one. `compare`
-also writes tables and JSON. The others write what the program `tsp` writes, and end with its statuses. What differs: each file is read
-whole before it is judged, the texts for a refused command line, for help and for the version are
-Python's, and what is explained of standard input has its text.
+also writes tables and JSON. The others write what the program `tsp` writes, and end with its statuses. What
+differs: each file is read whole before it is judged, the texts for a refused command line, for help and for the
+version are Python's, what is explained of standard input has its text, and the line of a fault, where it isn't
+explained, goes on with the path and the word that is wrong, or with what the system says of the file.
 """
 
 import sys
@@ -13,7 +14,7 @@ from . import _library
 from ._comparing import Lines
 from ._grammar import Asked, Refused, Task, length_of, task_of
 from .compare import Judge
-from .faults import Fault, OutOfMemory, SolutionError
+from .faults import Fault, OutOfMemory, SolutionError, error_of, located
 from .solution import solution_text
 
 __all__ = ["Run", "length_of", "main"]
@@ -33,7 +34,7 @@ class Unreadable(Exception):
 
     def __init__(self, file: int, path: str, fault: OSError) -> None:
         super().__init__(file, path, fault)
-        self.file = file
+        self.file, self.path, self.fault = file, path, fault
         self.said = f"{path}: {fault.strerror} (os error {fault.errno})\n{_UNREADABLE}"
 
 
@@ -70,7 +71,7 @@ class Run:
             for path in task.paths:
                 texts.append(self.text_of(len(texts) + 1, path))
         except Unreadable as unreadable:
-            return self.unreadable(unreadable, texts)
+            return self.unreadable(unreadable, task, texts)
         if task.verb == "compare":
             return self.compare(task, texts)
         try:
@@ -78,12 +79,13 @@ class Run:
                 status, nodes = _library.count(texts[0])
                 if status == _library.OUT_OF_MEMORY:
                     return self.tell(status, b"file 1: out of memory\n")
-                texts[1] = solution_text(texts[1], nodes)
+                has_depot = b"type CVRP" in _library.show(texts[0])[1].split(b"\n")
+                texts[1] = solution_text(texts[1], nodes, has_depot=has_depot)
             done = task.done(texts)
         except SolutionError as fault:
             self.say(f"{task.paths[1 if task.is_foreign else 0]}: {fault}\n".encode("utf-8", "surrogateescape"))
             return _library.FAULT
-        ended = self.tell(*done)
+        ended = self.refuse(task, done[1], texts) if done[0] == _library.FAULT else self.tell(*done)
         if self.explains and task.verb != "solution" and ended in (_library.DONE, _library.NO, _library.FAULT):
             self.explain(task.explained(texts))
         return ended
@@ -95,7 +97,7 @@ class Run:
         try:
             return Lines(self, judge, task).written()
         except (Fault, OutOfMemory) as fault:
-            self.say(f"{fault.told}\n".encode())
+            self.explain(fault.told if self.explains or isinstance(fault, OutOfMemory) else located(fault))
             if self.explains:
                 self.explain(getattr(fault, "explanation", ""))
             return _library.FAULT if isinstance(fault, Fault) else _library.OUT_OF_MEMORY
@@ -127,16 +129,25 @@ class Run:
         except OSError as fault:
             raise Unreadable(file, path, fault) from None
 
-    def unreadable(self, fault: Unreadable, texts: List[bytes]) -> int:
+    def unreadable(self, fault: Unreadable, task: Task, texts: List[bytes]) -> int:
         """Tells of the first file with a fault, where one can't be read."""
         for number, text in enumerate(texts, 1):
             status, told = _library.show(text)
+            told = told.replace(b"file 1:", b"file %d:" % number, 1)
             if status != _library.DONE:
-                return self.tell(status, told.replace(b"file 1:", b"file %d:" % number, 1))
-        self.say(b"file %d: device\n" % fault.file)
+                return self.refuse(task, told, texts) if status == _library.FAULT else self.tell(status, told)
+        line = f"file {fault.file}: device"
+        self.explain(line if self.explains else f"{line}: {fault.path}: {fault.fault.strerror}")
         if self.explains:
             self.explain(fault.said)
         return DEVICE
+
+    def refuse(self, task: Task, told: bytes, texts: Sequence[bytes]) -> int:
+        """Tells of a fault, and where it isn't explained in full, which file and which word has it; the exit status."""
+        names = ["standard input" if path == "-" else path for path in task.paths]
+        fault = error_of(_library.FAULT, told, paths=names, texts=texts)
+        self.explain(located(fault) if isinstance(fault, Fault) and not self.explains else told.decode().rstrip("\n"))
+        return _library.FAULT
 
     def tell(self, status: int, told: bytes) -> int:
         """Writes a report, or the line of a fault; the exit status."""

@@ -6,7 +6,7 @@ import os
 from typing import Any, Union
 
 from ._grammar import Task
-from .compare import Comparison, Judge, cells, line_of, rows_to
+from .compare import Comparison, Judge, cells, line_of, rows_to, said_of
 from .many import Outcome
 from .report import Report
 
@@ -70,6 +70,8 @@ class Lines:
         explanation = "" if isinstance(outcome, Report) and outcome.yes else getattr(outcome, "explanation", "")
         if self.run.explains and explanation:
             self.run.explain(("\n" if self.counts else "") + explanation)
+        elif self.task.form == "text" and not isinstance(outcome, Report) and not self.run.explains:
+            self.run.explain(f"{path}: {said_of(outcome)}")
 
     def written(self) -> int:
         """Writes all of it; the exit status."""

@@ -15,8 +15,8 @@ _LONGEST = 24  # characters of a name
 
 
 def _axes(ax: Any) -> Any:
-    """The axes that are given, or new ones."""
-    return importlib.import_module("matplotlib.pyplot").subplots()[1] if ax is None else ax
+    """The axes that are given, or new ones, whose figure leaves space for what is written around them."""
+    return importlib.import_module("matplotlib.pyplot").subplots(layout="constrained")[1] if ax is None else ax
 
 
 def _routes(problem: Any, tour: Any) -> List[Sequence[int]]:
@@ -47,8 +47,8 @@ def plot_problem(problem: Any, tour: Any, other: Any, ax: Any) -> Any:
     first = _pairs(_routes(problem, tour)) if tour is not None else set()
     second = _pairs(_routes(problem, other)) if other is not None else set()
     ax = _axes(ax)
-    kinds = [(first & second, _BOTH, "both", "-"), (second - first, _SECOND, "the second tour alone", "--")]
-    kinds += [(first - second, _FIRST, "the first tour alone" if other is not None else "", "-")]
+    kinds = [(first & second, _BOTH, "both", "-"), (first - second, _FIRST, "the first tour alone" if other is not None else "", "-")]
+    kinds += [(second - first, _SECOND, "the second tour alone", "--")]
     for pairs, colour, label, style in kinds:
         if pairs:
             _draw_pairs(ax, places, sorted(pairs), colour, label, style)
@@ -92,6 +92,12 @@ def _name(name: str) -> str:
     return plain if len(plain) <= _LONGEST else f"..{plain[2 - _LONGEST:]}"
 
 
+def _labels(names: Sequence[str]) -> List[str]:
+    """Names without the folder that all are in."""
+    begin = os.path.commonprefix(list(names)).rfind("/") + 1
+    return [_name(name[begin:]) for name in names]
+
+
 def plot_comparison(comparison: Any, ax: Any) -> Any:
     """Draws the lengths of accepted solutions, shortest first, beside the bound and the best-known length."""
     accepted = sorted(comparison.accepted(), key=lambda pair: int(pair[1].length))
@@ -107,7 +113,7 @@ def plot_comparison(comparison: Any, ax: Any) -> Any:
             style = "-" if label == "bound" else "--"
             ax.axhline(value, color=colour, linestyle=style, linewidth=1.2, label=f"{label} {value}", zorder=1)
     if len(accepted) <= _MOST_NAMES:
-        ax.set_xticks(range(len(accepted)), [_name(name) for name, _ in accepted], rotation=45, ha="right")
+        ax.set_xticks(range(len(accepted)), _labels([name for name, _ in accepted]), rotation=45, ha="right")
     else:
         ax.set_xlabel(f"{len(accepted)} solutions, by length")
     ax.set_ylabel("length")

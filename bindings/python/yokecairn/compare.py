@@ -186,7 +186,7 @@ class Judge:
             Error: it has none.
         """
         if self.is_foreign:
-            solution = solution_text(solution, self.basis.nodes)
+            solution = solution_text(solution, self.basis.nodes, has_depot=self.basis.type == "CVRP")
         paths = (self.paths[0], path, self.paths[1])
         texts = (self.instance, solution, self.certificate)
         return report_of(texts, paths, self.by, explain=explain, handle=self._handle)
@@ -235,6 +235,14 @@ def _fault(fault: Exception) -> str:
     if not told.startswith("file ") and line:
         return f"line {line}: {told}"  # a solution of another program
     return re.sub(r"\Afile \d+: ", "", told)
+
+
+def said_of(fault: Exception) -> str:
+    """A fault of a solution with the word that has it, or what the system says of a file that can't be read."""
+    if isinstance(fault, OSError):
+        return str(fault.strerror)
+    found = fault.found if isinstance(fault, Fault) else None
+    return ": ".join(filter(None, (_fault(fault), found)))
 
 
 def status_of(outcome: Outcome) -> int:
@@ -359,10 +367,7 @@ class Comparison(Sequence[Outcome]):
         row: Dict[str, Any] = dict.fromkeys(COLUMNS)
         row.update(instance=self.instance, solution=name, bound=self.basis.bound, best=self.best)
         if not isinstance(outcome, Report):
-            unread = isinstance(outcome, OSError)
-            said = outcome.strerror if isinstance(outcome, OSError) else _fault(outcome)
-            said = f"{said}: {outcome.found}" if isinstance(outcome, Fault) and outcome.found else said
-            return {**row, "verdict": "unread" if unread else "fault", "detail": said}
+            return {**row, "verdict": "unread" if isinstance(outcome, OSError) else "fault", "detail": said_of(outcome)}
         row.update(length=outcome.length, gap=outcome.gap, gap_percent=outcome.gap_percent, routes=outcome.routes)
         if outcome.yes and self.best is not None:
             row["best_percent"] = outcome.percent_over(self.best)

@@ -158,6 +158,11 @@ def text_of(told: bytes) -> str:
     return told.decode("utf-8", "surrogateescape")
 
 
+def located(fault: Fault) -> str:
+    """The line of a fault with the path of its text, and the word that has it."""
+    return ": ".join(filter(None, (fault.told, fault.path, fault.found)))
+
+
 def explained(
     call: int,
     texts: Sequence[bytes],

@@ -207,12 +207,14 @@ def _tours_of(text: bytes) -> List[List[int]]:
         return []
 
 
-def solution_text(text: bytes, dimension: Optional[int] = None, first: Optional[int] = None) -> bytes:
+def solution_text(
+    text: bytes, dimension: Optional[int] = None, first: Optional[int] = None, has_depot: bool = True
+) -> bytes:
     """The same solution as a text of TYPE TOUR. A text of TSPLIB stays as it is, but for LKH-3's copies of
-    the depot."""
+    the depot, where the instance may have one."""
     plain = text_of(text).lstrip("\ufeff")
     if _TSPLIB.search(plain):
-        tours = [] if dimension is None else _tours_of(text)
+        tours = _tours_of(text) if dimension is not None and has_depot else []
         if dimension is None or len(tours) != 1 or max(tours[0], default=0) <= dimension:
             return text
         found = _Found(_split(tours[0], dimension))
