@@ -345,7 +345,7 @@ function kindOf(report) {
  */
 function legendOf(scene, report) {
     const { points, tours, marks, missing, fixed, depot, note } = scene;
-    const walks = tours.length === 1 ? " and the tour" : ` and ${tours.length} tours or routes`;
+    const walks = depot === null && tours.length === 1 ? " and the tour" : ` and ${tours.length} ${depot === null ? "tours" : "routes"}`;
     return [
         `${(points.length / 2).toLocaleString("en")} nodes${tours.length ? walks : ""}.`,
         depot === null ? "" : "The square is the depot.",

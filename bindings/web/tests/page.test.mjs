@@ -51,7 +51,8 @@ test("what a verdict means", () => {
     assert.equal(word({ verdict: Verdict.ROUTES, routes: 2, length: 9n }), "Yes");
     assert.equal(word({ verdict: Verdict.REJECTED, reason: 6 }), "No");
     const { meaning } = verdictOf(tourReport(300n, 299n));
-    assert.match(meaning, /No tour is more than 1 shorter, which is 0\.34 %\.$/, "a share is rounded up");
+    assert.match(meaning, /No tour is more than 1 shorter: a gap of 0\.3344 % of the bound\.$/, "the percent of the tables");
+    assert.match(verdictOf(reportWith({ length: 5n, bound: -1n })).meaning, /No tour is more than 6 shorter\.$/);
 });
 
 test("sections of a canonical text", () => {
