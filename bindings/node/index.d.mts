@@ -152,8 +152,8 @@ export interface ManyOptions {
 export function checkMany(jobs: Iterable<Job>, options?: ManyOptions): Promise<(Report | Error)[]>;
 
 /**
- * The solution of another program as a text of TYPE TOUR, and a text of TYPE TOUR as it is. `nodes` is the number of
- * nodes of the instance, where it is known.
+ * The solution of another program as a text of TYPE TOUR, and a text of TYPE TOUR as it is, but for LKH-3's copies of
+ * the depot. `nodes` is the number of nodes of the instance, where it is known.
  *
  * @throws {SolutionError} it has no known form
  */
