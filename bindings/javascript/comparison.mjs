@@ -87,17 +87,21 @@ export class Comparison {
         return [...lines, ...this.outcomes.map((outcome, at) => lineOf(this.names[at], outcome)), ""].join("\n");
     }
 
-    /** The rows of a table, with a tab between the cells. */
+    /** The rows of a table, with a tab between the cells. Its columns and verdicts are named as in the package for Python. */
     toTSV() {
+        const known = this.basis.bound ?? "";
         const rows = this.outcomes.map((outcome, at) => {
             if (outcome instanceof Error) {
-                return [this.names[at], "error", "", "", "", "", outcome instanceof Fault ? outcome.told : outcome.message];
+                const verdict = outcome instanceof Fault || outcome instanceof SolutionError ? "fault" : "unread";
+                const detail = outcome instanceof Fault ? outcome.told.replace(/^file \d+: /, "") : outcome.message;
+                return [this.names[at], verdict, "", known, "", "", "", detail];
             }
-            const { yes, length, bound, gap, routes, reason, numbers } = outcome;
+            const { yes, length, gap, optimal, routes, reason, numbers } = outcome;
+            const verdict = optimal ? "optimal" : yes ? "yes" : "no";
             const detail = [reason ?? "", ...numbers].join(" ");
-            return [this.names[at], yes ? "yes" : "no", length ?? "", bound ?? "", gap ?? "", percentOf(outcome), detail || (routes ?? "")];
+            return [this.names[at], verdict, length ?? "", known, gap ?? "", percentOf(outcome), routes ?? "", detail];
         });
-        const head = ["solution", "verdict", "length", "bound", "gap", "gap_percent", "detail"];
+        const head = ["solution", "verdict", "length", "bound", "gap", "gap_percent", "routes", "detail"];
         return [head, ...rows].map((row) => `${row.map((it) => String(it).replace(/[\t\n]/g, " ")).join("\t")}\n`).join("");
     }
 }

@@ -145,7 +145,12 @@ test("many solutions of one instance", () => {
     assert.deepEqual(found.outcomes.map((it) => it.length ?? it.reason ?? it.code ?? it.fault), [14n, "ENOENT", 16n, "RepeatedNode", "UnknownLine"]);
     const lines = ["type TSP", "nodes 4", "bound 14", `14 optimal ${a}`, `device ${file("none.tour")}`, `16 gap 2 ${b}`];
     assert.equal(String(found), [...lines, "no RepeatedNode 4 solution 4", "line 1 word 0: UnknownLine solution 5", ""].join("\n"));
-    assert.equal(found.toTSV().split("\n").length, 7);
+    const cells = found.toTSV().split("\n").map((line) => line.split("\t"));
+    assert.deepEqual(cells[0], ["solution", "verdict", "length", "bound", "gap", "gap_percent", "routes", "detail"]);
+    assert.deepEqual(cells[1], [a, "optimal", "14", "14", "0", "0.0000", "", ""]);
+    assert.deepEqual(cells.slice(2, 6).map((row) => row[1]), ["unread", "yes", "no", "fault"]);
+    assert.deepEqual(cells[5], ["solution 5", "fault", "", "14", "", "", "", "line 1 word 0: UnknownLine"]);
+    assert.equal(cells.length, 7);
     const routes = compare(file("dairy.vrp"), [join(ROOT, "bindings/web/examples/dairy.tour")]);
     assert.match(String(routes), /^type CVRP\nnodes \d+\nleast \d+\n\d+ routes \d+ /);
     assert.throws(() => compare(file("rectangle-1-2-3-4.tour"), [a]), Fault);
