@@ -67,8 +67,9 @@ ON_WINDOWS = {
     "share/yokecairn/examples/": "examples/",
     "share/yokecairn/python/": "python/",
 }
-# The words of a release's README that name its system.
+# The words of a release's README that name its system, and those in their place.
 OF_README = "For Linux on x86-64, from about 2009 on."
+SPOKEN = {"linux-aarch64": "Linux on aarch64", "windows-x86_64": "Windows on x86-64"}
 READ_ME = """Yokecairn for Windows on x86-64
 
 bin/tsp.exe, bin/libtsp.dll   the program and the library; they need no other files
@@ -87,7 +88,7 @@ def name_system(top: Path, system: str) -> None:
     text = (top / "README").read_text()
     if OF_README not in text:
         raise ValueError(f"bindings/README hasn't the words: {OF_README}")
-    (top / "README").write_text(text.replace(OF_README, f"For {system}.\n\n{CLAIM}"))
+    (top / "README").write_text(text.replace(OF_README, f"For {SPOKEN[system]}.\n\n{CLAIM}"))
 
 
 def for_windows(top: Path) -> None:
