@@ -10,6 +10,11 @@ from pathlib import Path
 from support import EXAMPLES, PACKAGE, RECTANGLE
 from yokecairn.__main__ import length_of
 
+try:
+    import resource
+except ImportError:
+    resource = None
+
 
 def run(*words, stdin=b"", **others):
     """The status of a run, and what it writes."""
@@ -47,6 +52,16 @@ class Command(unittest.TestCase):
             run("convert", EXAMPLES / "three-node.atsp", "--layout", "UPPER_ROW"),
             (1, b"", b"relayout: NotSymmetric 1 2\n"),
         )
+
+    @unittest.skipUnless(resource, "the system limits no memory")
+    def test_memory(self):
+        def confine():
+            resource.setrlimit(resource.RLIMIT_AS, (500_000_000, 500_000_000))
+
+        shown = b"name rectangle\ntype TSP\nnodes 4\nweights EUC_2D\ncanonical 14\n"
+        self.assertEqual(run("show", EXAMPLES / "rectangle.tsp", preexec_fn=confine), (0, shown, b""))
+        long = RECTANGLE.replace("NODE_COORD_SECTION", "\n" * 3_000_000 + "NODE_COORD_SECTION").encode()
+        self.assertEqual(run("show", "-", stdin=long, preexec_fn=confine), (0, shown, b""))
 
     def test_faults(self):
         with tempfile.TemporaryDirectory() as folder:

@@ -7,6 +7,7 @@ version are Python's, what is explained of standard input has its text, and the 
 explained, goes on with the path and the word that is wrong, or with what the system says of the file.
 """
 
+import os
 import sys
 from typing import IO, List, Sequence, Tuple
 
@@ -21,6 +22,7 @@ __all__ = ["Run", "length_of", "main"]
 
 WORDS, DEVICE = 4, 5
 MOST_BYTES = 1 << 30  # of a file that count
+PIECE = 1 << 20
 
 _UNREADABLE = "  The file can't be opened, or a read of it failed."
 
@@ -123,9 +125,9 @@ class Run:
         """The text at a path, as far as it counts."""
         try:
             if path == "-":
-                return self.stdin.read(MOST_BYTES + 1)
+                return _whole(self.stdin)
             with open(path, "rb") as source:
-                return source.read(MOST_BYTES + 1)
+                return _whole(source, os.fstat(source.fileno()).st_size)
         except OSError as fault:
             raise Unreadable(file, path, fault) from None
 
@@ -165,6 +167,19 @@ class Run:
         """Writes what is said for a person."""
         if text:
             self.say(f"{text}\n".encode("utf-8", "surrogateescape"))
+
+
+def _whole(source: IO[bytes], size: int = 0) -> bytes:
+    """What counts of a file, which may be of this size. A read takes memory for all that it asks for."""
+    pieces: List[bytes] = []
+    left, asked = MOST_BYTES + 1, max(size + 1, PIECE)
+    while True:
+        asked = min(left, asked)
+        pieces.append(source.read(asked))
+        left -= asked
+        if len(pieces[-1]) < asked or not left:
+            return b"".join(pieces)
+        asked = PIECE
 
 
 def _write(stream: IO[bytes], text: bytes) -> None:
