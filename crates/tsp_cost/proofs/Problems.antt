@@ -119,8 +119,8 @@ listed f range has is =
       section = section;
       count = lists_these.filled;
       cell = λ place i j weight cell here. same i j ∙ listed_cell layout n weights place i j weight cell here;
-      half = λ i j part other. same i j ∙ triangle_even layout n weights part (unlisted layout n) i j other ∙ sym (same j i);
-      diagonal = λ i out. same i i ∙ listed_diagonal layout n weights i out;
+      half = λ i j row column part other. same i j ∙ triangle_even layout n weights part (unlisted layout n) i j other ∙ sym (same j i);
+      diagonal = λ i row out. same i i ∙ listed_diagonal layout n weights i out;
     }
 
 distances : (f : Fields) → AreDefined → AreUnique → IsInRange f → HasInstance f → is_explicit f.weight_kind ≡ false → CostsAreDistances f (nodes_of f) (cost f)
@@ -137,7 +137,7 @@ distances f defined unique range has not = by_kind f.weight_kind refl
           points = points;
           section = section;
           each_node = value f.dimension 0 (length points) (range.coords points section).0;
-          distance = λ i j a b first second.
+          distance = λ i j a b row column first second.
               let by : IsDistanceBy kind (point_of points i) (point_of points j) (unsigned_abs (cost f i j)) = defined f kind i j is other in (
                 unsigned_abs (cost f i j),
                 unique f kind i j (unsigned_abs (cost f i j)) is by,
@@ -210,14 +210,14 @@ same_listed f n costs dimension are i j row column = either i j row column ∙ s
         are.cell place i j (get_or are.weights place (pos 0)) cell (slice_get-get_or are.weights place (pos 0) inside)
         ∙ sym (cost_of_cell are.layout n are.weights i j place there)
 
-    on_diagonal : (i j : ℕ) → i ≡ j → is_listed are.layout (i, j) ≡ false → costs i j ≡ listed_cost are.layout n are.weights i j
-    on_diagonal i j same out =
+    on_diagonal : (i j : ℕ) → IsNode n i → i ≡ j → is_listed are.layout (i, j) ≡ false → costs i j ≡ listed_cost are.layout n are.weights i j
+    on_diagonal i j row same out =
         subst (λ k. is_listed are.layout (i, k) ≡ false → costs i k ≡ listed_cost are.layout n are.weights i k) same
-        (λ none. are.diagonal i none ∙ sym (listed_diagonal are.layout n are.weights i none)) out
+        (λ none. are.diagonal i row none ∙ sym (listed_diagonal are.layout n are.weights i none)) out
 
     in_other_half : (i j : ℕ) → IsNode n i → IsNode n j → i ≢ j → is_listed are.layout (i, j) ≡ false → costs i j ≡ listed_cost are.layout n are.weights i j
     in_other_half i j row column other out =
-        are.half i j (no_matrix are.layout i j out) other
+        are.half i j row column (no_matrix are.layout i j out) other
         ∙ at_cell j i column row (other_listed are.layout i j other out)
         ∙ sym (triangle_even are.layout n are.weights (no_matrix are.layout i j out) (unlisted are.layout n) i j other)
 
@@ -226,7 +226,7 @@ same_listed f n costs dimension are i j row column = either i j row column ∙ s
       where
         by_test : (b : Bool) → is_listed are.layout (i, j) ≡ b → ((eqb i j ≡ true) × (i ≡ j)) ⊎ ((eqb i j ≡ false) × (i ≢ j)) → costs i j ≡ listed_cost are.layout n are.weights i j
         by_test true is tells = at_cell i j row column is
-        by_test false is (inl same) = on_diagonal i j same.1 is
+        by_test false is (inl same) = on_diagonal i j row same.1 is
         by_test false is (inr other) = in_other_half i j row column other.1 is
 
 same_distances : (f : Fields) (n : ℕ) (costs : ℕ → ℕ → ℤ) → AreUnique → CostsAreDistances f n costs → HaveSameCosts n costs (cost f)
@@ -237,7 +237,7 @@ same_distances f n costs unique are i j row column =
     let there : j - 1 < length are.points = omega (arith, are.each_node, column.0, column.1) in
     let first : slice_get are.points (i - 1) ≡ Some a = slice_get-get_or are.points (i - 1) origin here in
     let second : slice_get are.points (j - 1) ≡ Some b = slice_get-get_or are.points (j - 1) origin there in
-    let found = are.distance i j a b first second in
+    let found = are.distance i j a b row column first second in
     let by : IsDistanceBy are.kind (point_of (unwrap_or f.coords []) i) (point_of (unwrap_or f.coords []) j) found.0 =
     subst (λ p. IsDistanceBy are.kind (point_of (unwrap_or f.coords []) i) p found.0) (sym (point_is f are.points j b are.section second))
     (subst (λ p. IsDistanceBy are.kind p b found.0) (sym (point_is f are.points i a are.section first)) found.2) in

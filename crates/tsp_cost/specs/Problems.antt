@@ -9,14 +9,14 @@ use Rattle.tsp_format.specs.declared.kinds.WeightKind.{WeightKind}
 use Rattle.tsp_format.specs.declared.kinds.WeightKind.TheVariants.{Explicit}
 use Rattle.tsp_format.specs.declared.layout.Layout.{Layout}
 use Rattle.tsp_format.specs.declared.layout.Layout.TheVariants.{FullMatrix}
-use Rattle.tsp_format.specs.Cells.{is_listed, cells}
+use Rattle.tsp_format.specs.Cells.{IsNode, is_listed, cells}
 use Rattle.tsp_draft.specs.Fields.{Fields}
 use Rattle.tsp_file.specs.ByInequalities.{IsDistanceBy}
 use Rattle.tsp_theory.specs.Routing.{RoutingProblem}
 use Rattle.tsp_theory.specs.Tour.{Problem}
 
 -- The costs are weights that the instance lists: each is the cost of its cell in the layout. Half a matrix has the same costs in
--- both directions, and a diagonal that isn't listed has 0.
+-- both directions, and a diagonal that isn't listed has 0. Only the costs between nodes are looked at.
 pub record CostsAreListed (instance : Fields) (nodes : ℕ) (cost : ℕ → ℕ → ℤ) : Type 0 where
   pub weight_type : instance.weight_kind ≡ Some Explicit
   pub layout : Layout
@@ -26,8 +26,8 @@ pub record CostsAreListed (instance : Fields) (nodes : ℕ) (cost : ℕ → ℕ 
   pub count : length weights ≡ length (cells layout nodes)
   pub cell : (place i j : ℕ) (weight : ℤ) → slice_get (cells layout nodes) place ≡ Some (i, j) → slice_get weights place ≡ Some weight
       → cost i j ≡ weight
-  pub half : (i j : ℕ) → layout ≢ FullMatrix → i ≢ j → cost i j ≡ cost j i
-  pub diagonal : (i : ℕ) → is_listed layout (i, i) ≡ false → cost i i ≡ pos 0
+  pub half : (i j : ℕ) → IsNode nodes i → IsNode nodes j → layout ≢ FullMatrix → i ≢ j → cost i j ≡ cost j i
+  pub diagonal : (i : ℕ) → IsNode nodes i → is_listed layout (i, i) ≡ false → cost i i ≡ pos 0
 
 -- the costs are distances of the nodes' points, by the inequalities of the weight type
 pub record CostsAreDistances (instance : Fields) (nodes : ℕ) (cost : ℕ → ℕ → ℤ) : Type 0 where
@@ -36,8 +36,8 @@ pub record CostsAreDistances (instance : Fields) (nodes : ℕ) (cost : ℕ → �
   pub points : List Point
   pub section : instance.coords ≡ Some points
   pub each_node : length points ≡ nodes
-  pub distance : (i j : ℕ) (a b : Point) → slice_get points (i - 1) ≡ Some a → slice_get points (j - 1) ≡ Some b
-      → (k : ℕ) × (cost i j ≡ pos k) × IsDistanceBy kind a b k
+  pub distance : (i j : ℕ) (a b : Point) → IsNode nodes i → IsNode nodes j → slice_get points (i - 1) ≡ Some a
+      → slice_get points (j - 1) ≡ Some b → (k : ℕ) × (cost i j ≡ pos k) × IsDistanceBy kind a b k
 
 -- the travelling salesman problem of an instance; without FIXED_EDGES_SECTION no pair is fixed
 pub record IsProblemOf (instance : Fields) (problem : Problem) : Type 0 where

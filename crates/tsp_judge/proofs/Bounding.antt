@@ -19,10 +19,10 @@ use Rattle.tsp_judge.specs.declared.fault.RunFault.TheVariants.{File, WrongKind,
 use Rattle.tsp_judge.specs.BoundRun.{BoundsFiles, EndsUnbounded, IsBoundRun, SaysBound, IsBoundRunOf}
 use Rattle.tsp_cost.specs.ProblemLaws.{IsProblem}
 use Rattle.tsp_cost.specs.ComputedProblems.{problem_of}
-use Rattle.tsp_judge.specs.Accepted.{IsTspOrAtsp, IsBoundAccepted}
+use Rattle.tsp_judge.specs.Accepted.{IsBoundAccepted}
 use Rattle.tsp_judge.specs.CheckRun.{ReadsFile}
 use Rattle.tsp_judge.proofs.HandedOn.{one_value}
-use Rattle.tsp_judge.proofs.Yeses.{of_type, tours_bounded}
+use Rattle.tsp_judge.proofs.Yeses.{IsTspOrAtsp, of_type, tours_bounded}
 
 pub bound_first_stops : (by : Certificate) (first second : Turn) (sink : Sink) (fault : RunFault) → ReadsFile 1 first (Err fault) → IsUnread second → IsUnwritten sink
     → EndsUnbounded by first second sink fault
@@ -55,7 +55,6 @@ bound_accepted : (by : Certificate) (instance certificate : Fields) (found : Bou
 bound_accepted by instance certificate (bounds.Bound bound) problem type v is =
     let tours : IsTspOrAtsp instance.kind = tours_bounded by instance.kind type in
     record {
-      instance_type = tours;
       problem = problem_of instance;
       of_instance = problem.of_tours tours;
       certificate_type = of_type by instance certificate (λ reason stands. v.0 reason (inr stands));
@@ -66,7 +65,6 @@ bound_accepted by instance certificate (bounds.Bound bound) problem type v is =
 bound_accepted by instance certificate bounds.NoTour problem type v is =
     let tours : IsTspOrAtsp instance.kind = tours_bounded by instance.kind type in
     record {
-      instance_type = tours;
       problem = problem_of instance;
       of_instance = problem.of_tours tours;
       certificate_type = of_type by instance certificate (λ reason stands. v.0 reason (inr stands));

@@ -28,7 +28,7 @@ use Rattle.tsp_judge.specs.declared.common.Common.{Common}
 use Rattle.tsp_judge.specs.CompareRun.{IsFoundIn}
 use Rattle.tsp_judge.specs.Accepted.{IsAccepted, IsOptimalOrBounded}
 use Rattle.tsp_judge.specs.Optimal.{IsBoundedTour}
-use Rattle.tsp_judge.proofs.Yeses.{one_tour}
+use Rattle.tsp_judge.proofs.Yeses.{type_of_tours, one_tour}
 use Rattle.tsp_report.specs.Report.{report_of}
 
 -- ---- a tour with a bound
@@ -41,9 +41,8 @@ bounded_in by instance solution certificate length bound problem v accepted =
     let b = v.1 in
     let same : b.least ≡ bound = some_same bound b.least b.bound_is in
     record {
-      instance_type = accepted.instance_type;
       problem = problem_of instance;
-      of_instance = problem.of_tours accepted.instance_type;
+      of_instance = problem.of_tours (type_of_tours accepted.problem.directed instance.kind accepted.only_tour.of_instance.type);
       tour = b.tour;
       only = one_tour solution b.tour b.only;
       is_tour = b.tour_of;

@@ -1,6 +1,6 @@
 -- What an accepted check says, by its verdict.
-use Rattle.std.specs.Prelude.{ℤ, pos, ◌⊎◌, ◌≤ℤ◌, IsTrue, unwrap_or}
-use Rattle.std.proofs.Common.{◌≡◌, ◌≢◌, ℕ, ◌≤◌, ◌<◌, eqb, List, [], ◌∷◌, length, true, false, Option, Some, None, Ok, Err, refl, sym, ap, subst, ◌∙◌, inl, inr, arith}
+use Rattle.std.specs.Prelude.{ℤ, pos, ◌⊎◌, ◌≤ℤ◌, IsTrue, unwrap_or, if◌then◌else◌}
+use Rattle.std.proofs.Common.{◌≡◌, ◌≢◌, ℕ, ◌≤◌, ◌<◌, eqb, Bool, List, [], ◌∷◌, length, true, false, Option, Some, None, Ok, Err, refl, sym, ap, subst, ◌∙◌, inl, inr, arith}
 use Rattle.std.proofs.lemmas.Bool.{false≢true, cases_lt}
 use Rattle.std.proofs.lemmas.Bool.Decides.{eqb_tells}
 use Rattle.tsp_format.specs.declared.kinds.Kind.{Kind}
@@ -32,7 +32,7 @@ use Rattle.tsp_judge.specs.declared.judging.Judged.{Judged}
 use Rattle.tsp_reason.specs.Verdicts.{is_yes}
 use Rattle.tsp_judge.specs.CheckRun.{Given, EndsWithout, IsRun, told}
 use Rattle.tsp_judge.proofs.HandedOn.{one_value}
-use Rattle.tsp_judge.specs.Accepted.{IsTspOrAtsp, IsAcceptedTour, AreAcceptedRoutes, IsOptimalOrBounded, IsAccepted}
+use Rattle.tsp_judge.specs.Accepted.{IsAcceptedTour, AreAcceptedRoutes, IsOptimalOrBounded, IsAccepted}
 use Rattle.tsp_judge.specs.Yes.{SaysYes, IsRunOf}
 
 -- ---- the TYPE of a file
@@ -68,6 +68,15 @@ pub of_type : (by : Certificate) (instance certificate : Fields) → ((reason : 
     → certificate.kind ≡ Some (kind_of by)
 of_type Potentials instance certificate none = potentials certificate.kind (λ other. none NotPotentials other)
 of_type Branches instance certificate none = tree certificate.kind (λ other. none NotBranches other)
+
+-- the TYPEs whose solutions are tours
+abbrev pub IsTspOrAtsp : Option Kind → Type 0
+IsTspOrAtsp kind = (kind ≡ Some kinds.Tsp) ⊎ (kind ≡ Some kinds.Atsp)
+
+-- one whose problem has tours
+pub type_of_tours : (directed : Bool) (kind : Option Kind) → kind ≡ Some (if directed then kinds.Atsp else kinds.Tsp) → IsTspOrAtsp kind
+type_of_tours true kind is = inr is
+type_of_tours false kind is = inl is
 
 -- one whose tours have a bound
 pub tours_bounded : (by : Certificate) (kind : Option Kind) → IsTrue (is_bounded by kind) → IsTspOrAtsp kind
@@ -112,14 +121,15 @@ an_accepted_tour : (claimed : Option ℤ) (instance solution : Fields) (length :
     → IsTourVerdict instance solution (verdicts.Tour length bound) → IsAsClaimed claimed length
     → IsAcceptedTour claimed instance solution (report_of instance (verdicts.Tour length bound))
 an_accepted_tour claimed instance solution length bound problem type v claims = record {
-  instance_type = type;
   problem = problem_of instance;
-  of_instance = problem.of_tours type;
-  solution_type = a_file_of_tours solution.kind (λ other. v.0 NotASolution other);
   tour = v.1.0;
-  only = one_tour solution v.1.0 v.1.1;
-  is_tour = v.1.2;
-  as_claimed = claim_is claimed length (length_of (cost instance) v.1.0) claims v.1.3;
+  only_tour = record {
+    of_instance = problem.of_tours type;
+    solution_type = a_file_of_tours solution.kind (λ other. v.0 NotASolution other);
+    only = one_tour solution v.1.0 v.1.1;
+    is_tour = v.1.2;
+    as_claimed = claim_is claimed length (length_of (cost instance) v.1.0) claims v.1.3;
+  };
   printed = ap (λ l. report_of instance (verdicts.Tour l bound)) v.1.3
       ∙ ap (λ o. report_of instance (verdicts.Tour (length_of (cost instance) v.1.0) o)) v.2;
 }
@@ -142,7 +152,6 @@ accepted_routes claimed instance solution length_is count least problem type v c
     let one_depot : length (depots_of instance) ≡ 1 = not_not (length (depots_of instance)) (λ other. v.0 DepotCount other) in
     let some : 2 ≤ nodes_of instance = not_fewer (nodes_of instance) (λ few. v.0 TooFewNodes few) in
     record {
-      instance_type = type;
       problem = routing_of instance;
       of_instance = problem.of_routes type one_depot;
       solution_type = a_file_of_tours solution.kind (λ other. v.0 NotASolution other);
@@ -206,17 +215,18 @@ bounded_tour by claimed instance solution certificate length bound problem type 
     let b = v.1 in
     let tours : IsTspOrAtsp instance.kind = tours_bounded by instance.kind type in
     record {
-      instance_type = tours;
       problem = problem_of instance;
-      of_instance = problem.of_tours tours;
-      solution_type = a_file_of_tours solution.kind (λ other. v.0 NotASolution (inl other));
-      certificate_type = of_type by instance certificate (λ reason stands. v.0 reason (inr stands));
       tour = b.tour;
-      only = one_tour solution b.tour b.only;
-      is_tour = b.tour_of;
+      only_tour = record {
+        of_instance = problem.of_tours tours;
+        solution_type = a_file_of_tours solution.kind (λ other. v.0 NotASolution (inl other));
+        only = one_tour solution b.tour b.only;
+        is_tour = b.tour_of;
+        as_claimed = claim_is claimed length (length_of (cost instance) b.tour) claims b.measured;
+      };
       bound = b.least;
+      certificate_type = of_type by instance certificate (λ reason stands. v.0 reason (inr stands));
       of_certificate = b.of_certificate;
-      as_claimed = claim_is claimed length (length_of (cost instance) b.tour) claims b.measured;
       printed = ap (λ l. report_of instance (verdicts.Tour l bound)) b.measured
           ∙ ap (λ o. report_of instance (verdicts.Tour (length_of (cost instance) b.tour) o)) b.bound_is;
       below_tours = b.below_tours;

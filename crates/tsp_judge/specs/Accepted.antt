@@ -15,28 +15,26 @@ use Rattle.tsp_reason.specs.declared.verdict.Verdict.TheVariants.{Tour, Routes}
 use Rattle.tsp_verdict.specs.Certified.{kind_of, IsBoundOf}
 use Rattle.tsp_report.specs.Report.{report_of, bound_report_of}
 
--- the TYPEs whose solutions are tours
-abbrev pub IsTspOrAtsp : Option Kind → Type 0
-IsTspOrAtsp kind = (kind ≡ Some kinds.Tsp) ⊎ (kind ≡ Some kinds.Atsp)
-
--- A tour: the solution's one tour visits every node of the instance once and uses every fixed edge. Its length is printed, and
--- is the claimed one, where one is claimed.
-pub record IsAcceptedTour (claimed : Option ℤ) (instance solution : Fields) (report : List ℕ) : Type 0 where
-  pub instance_type : IsTspOrAtsp instance.kind
-  pub problem : Problem
+-- The solution's one tour visits every node of the instance once and uses every fixed edge. Its length is the claimed one, where
+-- one is claimed.
+pub record IsOnlyTour (claimed : Option ℤ) (instance solution : Fields) (problem : Problem) (tour : List ℕ) : Type 0 where
   pub of_instance : IsProblemOf instance problem
   pub solution_type : solution.kind ≡ Some kinds.Tour
-  pub tour : List ℕ
   pub only : solution.tours ≡ Some (tour ∷ [])
   pub is_tour : IsTour problem tour
   pub as_claimed : (claim : ℤ) → claimed ≡ Some claim → claim ≡ length_of problem.cost tour
+
+-- A tour: it is the solution's only one, and its length is printed.
+pub record IsAcceptedTour (claimed : Option ℤ) (instance solution : Fields) (report : List ℕ) : Type 0 where
+  pub problem : Problem
+  pub tour : List ℕ
+  pub only_tour : IsOnlyTour claimed instance solution problem tour
   pub printed : report ≡ report_of instance (Tour (length_of problem.cost tour) None)
 
 -- Routes: they serve every customer of the instance once and within the capacity. Their length and number are printed, and the
 -- length is the claimed one, where one is claimed. The printed `least` is the least number of routes that carry all demands, and
 -- no plan of routes has fewer.
 pub record AreAcceptedRoutes (claimed : Option ℤ) (instance solution : Fields) (report : List ℕ) : Type 0 where
-  pub instance_type : instance.kind ≡ Some kinds.Cvrp
   pub problem : RoutingProblem
   pub of_instance : IsRoutingOf instance problem
   pub solution_type : solution.kind ≡ Some kinds.Tour
@@ -49,21 +47,16 @@ pub record AreAcceptedRoutes (claimed : Option ℤ) (instance solution : Fields)
   pub as_claimed : (claim : ℤ) → claimed ≡ Some claim → claim ≡ plan_length problem.cost problem.depot routes
   pub printed : report ≡ report_of instance (Routes (plan_length problem.cost problem.depot routes) (length routes) least)
 
--- A tour with a certificate: the tour is one as above; its length and the certificate's bound are printed. No tour of the
+-- A tour with a certificate: it is the solution's only one; its length and the certificate's bound are printed. No tour of the
 -- instance is shorter than the bound, so that where the length equals it no tour is shorter than this one.
 pub record IsOptimalOrBounded (by : Certificate) (claimed : Option ℤ) (instance solution certificate : Fields) (report : List ℕ)
     : Type 0 where
-  pub instance_type : IsTspOrAtsp instance.kind
   pub problem : Problem
-  pub of_instance : IsProblemOf instance problem
-  pub solution_type : solution.kind ≡ Some kinds.Tour
-  pub certificate_type : certificate.kind ≡ Some (kind_of by)
   pub tour : List ℕ
-  pub only : solution.tours ≡ Some (tour ∷ [])
-  pub is_tour : IsTour problem tour
+  pub only_tour : IsOnlyTour claimed instance solution problem tour
   pub bound : ℤ
+  pub certificate_type : certificate.kind ≡ Some (kind_of by)
   pub of_certificate : IsBoundOf by instance certificate bound
-  pub as_claimed : (claim : ℤ) → claimed ≡ Some claim → claim ≡ length_of problem.cost tour
   pub printed : report ≡ report_of instance (Tour (length_of problem.cost tour) (Some bound))
   pub below_tours : BoundsTours problem bound
   pub optimal : length_of problem.cost tour ≡ bound → (other : List ℕ) → IsTour problem other
@@ -71,7 +64,6 @@ pub record IsOptimalOrBounded (by : Certificate) (claimed : Option ℤ) (instanc
 
 -- A bound without a tour: the certificate's bound is printed, and no tour of the instance is shorter.
 pub record IsBounded (by : Certificate) (instance certificate : Fields) (bound : ℤ) (report : List ℕ) : Type 0 where
-  pub instance_type : IsTspOrAtsp instance.kind
   pub problem : Problem
   pub of_instance : IsProblemOf instance problem
   pub certificate_type : certificate.kind ≡ Some (kind_of by)
@@ -81,7 +73,6 @@ pub record IsBounded (by : Certificate) (instance certificate : Fields) (bound :
 
 -- With the line `bound none`: the instance has no tour.
 pub record HasNoTours (by : Certificate) (instance certificate : Fields) (report : List ℕ) : Type 0 where
-  pub instance_type : IsTspOrAtsp instance.kind
   pub problem : Problem
   pub of_instance : IsProblemOf instance problem
   pub certificate_type : certificate.kind ≡ Some (kind_of by)

@@ -4,12 +4,10 @@ use Rattle.tsp_draft.specs.Fields.{Fields}
 use Rattle.tsp_theory.specs.Length.{length_of}
 use Rattle.tsp_theory.specs.Tour.{Problem, IsTour}
 use Rattle.tsp_cost.specs.Problems.{IsProblemOf}
-use Rattle.tsp_judge.specs.Accepted.{IsTspOrAtsp}
 
 -- The solution's one tour visits every node of the instance once, uses every fixed edge, and has this length. No tour of the
 -- instance is shorter than the bound.
 pub record IsBoundedTour (instance solution : Fields) (length_is bound : ℤ) : Type 0 where
-  pub instance_type : IsTspOrAtsp instance.kind
   pub problem : Problem
   pub of_instance : IsProblemOf instance problem
   pub tour : List ℕ
