@@ -12,11 +12,11 @@ _tsp() {
         words='show convert check compare bound help'
     elif [ "${word#-}" != "$word" ]; then
         case $verb in
-        show) words='--explain -h --help' ;;
-        convert) words='--layout --explain -h --help' ;;
-        check) words='--potentials --branches --length --explain -h --help' ;;
-        compare) words='--potentials --branches --explain -h --help' ;;
-        bound) words='--potentials --branches --explain -h --help' ;;
+        show) words='--explain -h --help -V --version' ;;
+        convert) words='--layout --explain -h --help -V --version' ;;
+        check) words='--potentials --branches --length --explain -h --help -V --version' ;;
+        compare) words='--potentials --branches --explain -h --help -V --version' ;;
+        bound) words='--potentials --branches --explain -h --help -V --version' ;;
         esac
     fi
     # No word fits: bash completes the names of files.

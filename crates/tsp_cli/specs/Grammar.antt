@@ -74,9 +74,9 @@ bound_files = with_rule (new_app (codes "bound")) (path (codes "F"))
 abbrev pub bound : App
 bound = with_rule (with_rule (with_rule bound_files of_potentials) of_branches) explain
 
--- the program, whose words don't begin with its own name, and which knows its version
+-- the program, whose words don't begin with its own name, and which knows its version, at each verb too
 abbrev pub start : App
-start = on_top (λ top. record top { no_binary_name = true; has_version = true }) (new_app (codes "tsp"))
+start = on_top (λ top. record top { no_binary_name = true; has_version = true; propagate_version = true }) (new_app (codes "tsp"))
 
 -- and its five subcommands, at one level
 abbrev pub tsp : App

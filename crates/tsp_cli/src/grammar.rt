@@ -23,7 +23,7 @@ Exit status:
   1  no, or the matrix can't take the layout
   2  a file has a fault, or the first is of the wrong kind
   3  out of memory
-  4  the words are refused, or ask for help
+  4  the words are refused, or ask for help by --help
   5  a file can't be read, or standard output not written
 
 With --explain, lines after a fault or no say where it is and what to do.
@@ -127,6 +127,7 @@ fn top<'a>(alloc: Global) -> Result<Command<'a>, AllocError>
     command(alloc, "tsp", ABOUT, NOTES)
         .no_binary_name(true)
         .version(VERSION)
+        .propagate_version(true)
         .bin_name("tsp")
 }
 

@@ -18,7 +18,7 @@ mod words;
 
 pub use examples::examples_of_verbs;
 pub use grammar::VERSION;
-pub use line_examples::{examples_of_lines, examples_of_two_certificates};
+pub use line_examples::{examples_of_lines, examples_of_two_certificates, examples_of_versions};
 pub use once::work_of;
 pub use task::{Comparison, Place, TaskFault, Work, place_at};
 pub use words::{Job, JobFault, Verb, job_of, unread};

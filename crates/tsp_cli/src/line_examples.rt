@@ -4,6 +4,7 @@
 
 ghost use Rattle.std.specs.Prelude.{◌≡◌, ◌≢◌, [], ◌∷◌, Option, None, Some, ℤ, codes};
 ghost use Rattle.clap.specs.Words.{fault_of};
+ghost use Rattle.clap.specs.declared.error.kind.ErrorKind.TheVariants as kinds;
 ghost use Rattle.tsp_cli.specs.Grammar.{tsp};
 ghost use Rattle.tsp_format.specs.declared.layout.Layout.{Layout};
 ghost use Rattle.tsp_cli.specs.declared.words.Job.{Job};
@@ -62,6 +63,18 @@ pub fn examples_of_lines()
         (codes "check" ∷ codes "a" ∷ codes "b" ∷ codes "c" ∷ []) ≢ [] }
     ensures none_compared { fault_of tsp (codes "compare" ∷ codes "a" ∷ []) ≢ [] }
     ensures no_layout { fault_of tsp (codes "convert" ∷ codes "a" ∷ codes "--layout" ∷ []) ≢ [] }
+{}
+
+/// Words that ask for the version, alone or at a verb, and for help by the verb `help`.
+#[tactic(auto, unfolding(clap::specs::Faults::flags_fault, clap::specs::Faults::walk_fault, clap::specs::Faults::defaults_fault, clap::specs::Walk::bundle_met, clap::specs::Walk::walked))]
+pub fn examples_of_versions()
+    ensures alone { fault_of tsp (codes "--version" ∷ []) ≡ kinds.DisplayVersion ∷ [] }
+    ensures show { fault_of tsp (codes "show" ∷ codes "--version" ∷ []) ≡ kinds.DisplayVersion ∷ [] }
+    ensures convert { fault_of tsp (codes "convert" ∷ codes "--version" ∷ []) ≡ kinds.DisplayVersion ∷ [] }
+    ensures check { fault_of tsp (codes "check" ∷ codes "a" ∷ codes "--version" ∷ []) ≡ kinds.DisplayVersion ∷ [] }
+    ensures compare { fault_of tsp (codes "compare" ∷ codes "--version" ∷ []) ≡ kinds.DisplayVersion ∷ [] }
+    ensures bound { fault_of tsp (codes "bound" ∷ codes "--version" ∷ codes "a" ∷ []) ≡ kinds.DisplayVersion ∷ [] }
+    ensures help { fault_of tsp (codes "help" ∷ []) ≡ kinds.DisplayHelp ∷ kinds.InvalidSubcommand ∷ [] }
 {}
 
 /// With both certificates a check, a comparison or a bound is no work: with either one it is

@@ -3,33 +3,36 @@ use Rattle.std.specs.Prelude.{◌≡◌, ℕ, Bool, List, [], ◌++◌, ◌∷�
 use Rattle.std.specs.List.{list_all}
 use Rattle.std.specs.Io.KnownBytes.{Appends, Keeps}
 use Rattle.tsp_judge.specs.RunFaultText.{run_fault_text}
+use Rattle.tsp_judge.specs.declared.fault.RunFault.TheVariants.{Write}
 use Rattle.tsp_judge.specs.Status.{status_of}
 use Rattle.tsp_cli.specs.declared.words.JobFault.TheVariants as job_faults
 use Rattle.tsp_cli.specs.declared.task.TaskFault.TheVariants.{UnknownLayout, MissingPath, TwoCertificates, NoCertificate, NotALength, InputTwice, LineEndInPath}
 use Rattle.tsp_perform.specs.Done.{is_accepted}
 use Rattle.tsp_run.specs.Telling.{MayTell}
 use Rattle.tsp_run.specs.declared.ending.Ending.{Ending}
-use Rattle.tsp_run.specs.declared.ending.Ending.TheVariants.{NoJob, Version, NoTask, Ended, Compared}
+use Rattle.tsp_run.specs.declared.ending.Ending.TheVariants.{NoJob, Printed, NoTask, Ended, Compared}
 use Rattle.tsp_run.specs.declared.ending.Line.{Line}
 use Rattle.tsp_run.specs.declared.ending.Line.TheVariants as lines
 
--- 3 is out of memory for the words, 4 a command line that is refused; a task has the status of its answer, and a comparison the
--- largest of its solutions'
+-- 3 is out of memory for the words, 4 a command line that is refused; 0 is a version or help that was printed, and one that
+-- couldn't be has the status of a fault; a task has the status of its answer, and a comparison the largest of its solutions'
 abbrev pub status_of_ending : Ending → ℕ
 status_of_ending (NoJob (job_faults.Refused refusal)) = 4
 status_of_ending (NoJob job_faults.OutOfMemory) = 3
-status_of_ending (Version build) = 4
+status_of_ending (Printed (Ok done)) = 0
+status_of_ending (Printed (Err fault)) = status_of (Err (Write fault))
 status_of_ending (NoTask fault) = 4
 status_of_ending (Ended (Ok outcome)) = status_of (Ok (is_accepted outcome))
 status_of_ending (Ended (Err fault)) = status_of (Err fault)
 status_of_ending (Compared (Ok compared)) = compared.status
 status_of_ending (Compared (Err fault)) = status_of (Err fault)
 
--- the line of an ending; an answer has none, since what it says is on standard output
+-- the line of an ending; an answer has none, nor has a printed text, since that is on standard output
 abbrev pub IsLineOf : Ending → Option Line → Type 0
 IsLineOf (NoJob (job_faults.Refused refusal)) (Some (lines.Refusal told)) = told.now ≡ refusal
 IsLineOf (NoJob job_faults.OutOfMemory) line = line ≡ Some lines.OutOfMemory
-IsLineOf (Version build) line = line ≡ Some (lines.Version build)
+IsLineOf (Printed (Ok done)) line = line ≡ None
+IsLineOf (Printed (Err fault)) line = line ≡ Some (lines.Fault (Write fault))
 IsLineOf (NoTask fault) line = line ≡ Some (lines.NoTask fault)
 IsLineOf (Ended (Ok answer)) line = line ≡ None
 IsLineOf (Ended (Err fault)) line = line ≡ Some (lines.Fault fault)
@@ -45,7 +48,6 @@ ended text = Some (text ++ 10 ∷ [])
 abbrev pub line_text : Line → Option (List ℕ)
 line_text (lines.Refusal refusal) = None
 line_text lines.OutOfMemory = ended (codes "out of memory")
-line_text (lines.Version build) = ended (codes "tsp 1.1.0 (" ++ build.now ++ codes ")")
 line_text (lines.NoTask UnknownLayout) = ended (codes "unknown layout")
 line_text (lines.NoTask MissingPath) = ended (codes "missing path")
 line_text (lines.NoTask TwoCertificates) = ended (codes "both potentials and branches")

@@ -2,5 +2,6 @@ pub mod states
 pub mod Ending
 pub mod ComparisonRun
 pub mod ProgramRun
+pub mod Printing
 pub mod Telling
 pub mod Waiting

@@ -1,14 +1,16 @@
 -- A run of the program: what its words come to.
-use Rattle.std.specs.Prelude.{◌≡◌, ◌≢◌, ◌||◌, ℕ, Bool, List, drop, Option, Result, Ok, Err, OnOk, false}
+use Rattle.std.specs.Prelude.{◌≡◌, ◌≢◌, ◌⊎◌, ◌||◌, ℕ, Bool, List, [], ◌∷◌, codes, drop, Option, Result, Ok, Err, OnOk, true, false}
 use Rattle.std.specs.declared.io.Error.{Error}
+use Rattle.std.specs.Str.{bytes_eq}
 use Rattle.std.specs.declared.io.ErrorKind.{ErrorKind}
 use Rattle.std.specs.declared.io.ErrorKind.TheVariants as io_kinds
 use Rattle.clap.specs.Words.{Text, kind_of}
+use Rattle.clap.specs.declared.error.Error.{Error as Refusal}
 use Rattle.clap.specs.declared.error.kind.ErrorKind.TheVariants as kinds
 use Rattle.tsp_judge.specs.declared.Watched.{Watched}
 use Rattle.tsp_judge.specs.Sink.{Sink, IsUnwritten}
 use Rattle.tsp_run.specs.declared.ending.Ending.{Ending}
-use Rattle.tsp_run.specs.declared.ending.Ending.TheVariants.{NoJob, Version, NoTask, Ended}
+use Rattle.tsp_run.specs.declared.ending.Ending.TheVariants.{NoJob, Printed, NoTask, Ended}
 use Rattle.tsp_run.specs.declared.ending.Ending.TheVariants as endings
 use Rattle.tsp_perform.specs.declared.outcome.Outcome.{Outcome}
 use Rattle.tsp_judge.specs.declared.compared.Compared.{Compared}
@@ -25,7 +27,9 @@ use Rattle.tsp_cli.specs.declared.task.Work.TheVariants as works
 use Rattle.tsp_cli.specs.Task.{GivesWork}
 use Rattle.tsp_run.specs.ComparisonRun.{IsComparedAs, IsFresh}
 use Rattle.tsp_perform.specs.Done.{IsDone}
+use Rattle.tsp_stream.specs.declared.output.WriteFault.{WriteFault}
 use Rattle.tsp_run.specs.Ending.{status_of_ending, TellsAll}
+use Rattle.tsp_run.specs.Printing.{Prints, PrintsSome, version_text}
 
 -- the same task, each of its files opened in its place
 abbrev pub AreFresh : {F : Type 0} → (Place → F → Type 0) → Task Place → Task (Watched F) → Type 0
@@ -48,7 +52,7 @@ IsDoneAs {F = F} remaining opens task sink answer = (old new : Task (Watched F))
 abbrev pub EndsWith : {F : Type 0} → (F → Option (List ℕ)) → (F → List ℕ → Result ℕ Error → List ℕ → F → Type 0)
     → (Place → F → Type 0) → Job → Sink → Ending → Type 0
 EndsWith remaining gives opens job sink (NoJob fault) = ⊥
-EndsWith remaining gives opens job sink (Version build) = ⊥
+EndsWith remaining gives opens job sink (Printed printed) = ⊥
 EndsWith remaining gives opens job sink (NoTask fault) = GivesWork job (Err fault) × IsUnwritten sink
 EndsWith remaining gives opens job sink (Ended answer) = (task : Task Place) × GivesWork job (Ok (works.Task task))
     × IsDoneAs remaining opens task sink answer
@@ -61,16 +65,38 @@ abbrev pub AsksVersion : JobFault → Type 0
 AsksVersion (Refused refusal) = kind_of refusal ≡ kinds.DisplayVersion
 AsksVersion OutOfMemory = ⊥
 
--- How a run ends with these words, of which the first is the program's own name. They ask for no job, and then nothing is
--- written: they are refused, or ask for the version, which is printed with this text of the build. Or the run ends with the job
--- that they ask for. That is explained where the job says so, and on a terminal; nothing else is.
+-- the first of the words is the verb `help`
+abbrev pub begins_with_help : List Text → Bool
+begins_with_help [] = false
+begins_with_help (word ∷ rest) = bytes_eq word (codes "help")
+
+-- the words ask for help by that verb
+abbrev pub AsksHelp : List Text → JobFault → Type 0
+AsksHelp words (Refused refusal) = (kind_of refusal ≡ kinds.DisplayHelp) × (begins_with_help words ≡ true)
+AsksHelp words OutOfMemory = ⊥
+
+-- the version is printed with this text of the build, or help is
+abbrev pub PrintsAsked : Text → List Text → JobFault → Sink → Result (Unit {0}) WriteFault → Type 0
+PrintsAsked build words fault sink printed = (AsksVersion fault × Prints sink (version_text build) printed)
+    ⊎ (AsksHelp words fault × PrintsSome sink printed)
+
+-- the end of words that are refused in these words of clap: the version or help is printed, or nothing is written
+abbrev pub EndsRefused : Text → List Text → Sink → Refusal → Ending → Type 0
+EndsRefused build words sink refusal (NoJob fault) = (fault ≡ Refused refusal) × (AsksVersion (Refused refusal) → ⊥)
+    × (AsksHelp words (Refused refusal) → ⊥) × IsUnwritten sink
+EndsRefused build words sink refusal (Printed printed) = PrintsAsked build words (Refused refusal) sink printed
+EndsRefused build words sink refusal other = ⊥
+
+-- How a run ends with these words, of which the first is the program's own name. They ask for no job: they are refused, and then
+-- nothing is written; or they ask for the version, or for help by the verb `help`, and that is printed. Or the run ends with the
+-- job that they ask for. That is explained where the job says so, and on a terminal; nothing else is.
 abbrev pub Ends : {F : Type 0} → (F → Option (List ℕ)) → (F → List ℕ → Result ℕ Error → List ℕ → F → Type 0)
     → (Place → F → Type 0) → Bool → Text → List Text → Sink → Bool → Ending → Type 0
 Ends remaining gives opens on_terminal build words sink explained (NoJob fault) = GivesJob (drop 1 words) (Err fault)
-    × (AsksVersion fault → ⊥) × IsUnwritten sink × (explained ≡ false)
-Ends remaining gives opens on_terminal build words sink explained (Version told) = (fault : JobFault)
+    × (AsksVersion fault → ⊥) × (AsksHelp (drop 1 words) fault → ⊥) × IsUnwritten sink × (explained ≡ false)
+Ends remaining gives opens on_terminal build words sink explained (Printed printed) = (fault : JobFault)
     × GivesJob (drop 1 words) (Err fault)
-    × AsksVersion fault × (told.now ≡ build) × IsUnwritten sink × (explained ≡ false)
+    × PrintsAsked build (drop 1 words) fault sink printed × (explained ≡ false)
 Ends remaining gives opens on_terminal build words sink explained (NoTask fault) = (job : Job) × GivesJob (drop 1 words) (Ok job)
     × EndsWith remaining gives opens job sink (NoTask fault) × (explained ≡ (job.explain || on_terminal))
 Ends remaining gives opens on_terminal build words sink explained (Ended answer) = (job : Job) × GivesJob (drop 1 words) (Ok job)
@@ -83,7 +109,7 @@ Ends remaining gives opens on_terminal build words sink explained (endings.Compa
 abbrev pub HasNoWords : ErrorKind → Bool → Ending → Type 0
 HasNoWords kind explained (NoJob fault) = (kind ≡ io_kinds.OutOfMemory → fault ≡ OutOfMemory)
     × (kind ≢ io_kinds.OutOfMemory → IsOtherRefusal fault) × (explained ≡ false)
-HasNoWords kind explained (Version build) = ⊥
+HasNoWords kind explained (Printed printed) = ⊥
 HasNoWords kind explained (NoTask fault) = ⊥
 HasNoWords kind explained (Ended answer) = ⊥
 HasNoWords kind explained (endings.Compared answer) = ⊥

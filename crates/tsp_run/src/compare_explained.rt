@@ -27,7 +27,7 @@ pub(crate) fn comparison_explanation<F: Read + Drop, O: Open<F>>(
             push_basis(alloc, &mut text, followed.comparison, &compared.common)
         }
         Ending::Compared(Err(fault)) => push_fault(alloc, &mut text, followed, *fault, write_error),
-        Ending::NoJob(_) | Ending::Version(_) | Ending::NoTask(_) | Ending::Ended(_) => Ok(()),
+        Ending::NoJob(_) | Ending::Printed(_) | Ending::NoTask(_) | Ending::Ended(_) => Ok(()),
     };
     text
 }

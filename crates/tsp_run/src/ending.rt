@@ -11,8 +11,8 @@ use clap::Error as Refusal;
 use std::fmt::{Display, Formatter, Write as _};
 use std::io::Write;
 use std::{fmt, io};
-use tsp_cli::{JobFault, TaskFault, VERSION};
-use tsp_judge::{Compared, RunFault, status_of};
+use tsp_cli::{JobFault, TaskFault};
+use tsp_judge::{Compared, RunFault, WriteFault, status_of};
 use tsp_perform::{Outcome, is_accepted};
 
 /// How many bytes of a fault's line are written at once.
@@ -23,8 +23,8 @@ const MOST_TEXT: usize = 256;
 pub enum Ending {
     /// The words of the command line ask for nothing.
     NoJob(JobFault),
-    /// They ask for the version. The text is that of the build.
-    Version(&'static str),
+    /// They ask for the version, or by the verb `help` for help: that was printed, or couldn't be.
+    Printed(Result<(), WriteFault>),
     /// What they ask for can't be begun.
     NoTask(TaskFault),
     /// A task was done, or ended with a fault.
@@ -40,8 +40,6 @@ pub enum Line<'a> {
     Refusal(&'a Refusal),
     /// Out of memory for the words of the command line.
     OutOfMemory,
-    /// The version, with this text of the build.
-    Version(&'static str),
     /// Why no task was begun.
     NoTask(TaskFault),
     /// Why a task gave no answer.
@@ -57,13 +55,6 @@ impl Display for Line<'_> {
         match self {
             Line::Refusal(refusal) => f.write(*refusal),
             Line::OutOfMemory => f.write_str("out of memory\n"),
-            Line::Version(build) => {
-                f.write_str("tsp ")?;
-                f.write_str(VERSION)?;
-                f.write_str(" (")?;
-                f.write_str(build)?;
-                f.write_str(")\n")
-            }
             Line::NoTask(TaskFault::UnknownLayout) => f.write_str("unknown layout\n"),
             Line::NoTask(TaskFault::MissingPath) => f.write_str("missing path\n"),
             Line::NoTask(TaskFault::TwoCertificates) => {
@@ -83,6 +74,9 @@ impl Display for Line<'_> {
     }
 }
 
+/// The version or help was printed.
+const DONE: u8 = 0;
+
 /// Out of memory for the words of the command line.
 const OUT_OF_MEMORY: u8 = 3;
 
@@ -94,8 +88,10 @@ pub fn status_of_ending(ending: &Ending) -> u8
     ensures { result ≡ status_of_ending ending.now }
 {
     match ending {
-        Ending::NoJob(JobFault::Refused(_)) | Ending::Version(_) | Ending::NoTask(_) => REFUSED,
+        Ending::NoJob(JobFault::Refused(_)) | Ending::NoTask(_) => REFUSED,
         Ending::NoJob(JobFault::OutOfMemory) => OUT_OF_MEMORY,
+        Ending::Printed(Ok(())) => DONE,
+        Ending::Printed(Err(fault)) => status_of(&Err(RunFault::Write(*fault))),
         Ending::Ended(Ok(outcome)) => status_of(&Ok(is_accepted(outcome))),
         Ending::Compared(Ok(compared)) => compared.status,
         Ending::Ended(Err(fault)) | Ending::Compared(Err(fault)) => status_of(&Err(*fault)),
@@ -109,9 +105,9 @@ pub fn line_of(ending: &Ending) -> Option<Line<'_>>
     match ending {
         Ending::NoJob(JobFault::Refused(refusal)) => Some(Line::Refusal(refusal)),
         Ending::NoJob(JobFault::OutOfMemory) => Some(Line::OutOfMemory),
-        Ending::Version(build) => Some(Line::Version(build)),
         Ending::NoTask(fault) => Some(Line::NoTask(*fault)),
-        Ending::Ended(Ok(_)) | Ending::Compared(Ok(_)) => None,
+        Ending::Printed(Ok(())) | Ending::Ended(Ok(_)) | Ending::Compared(Ok(_)) => None,
+        Ending::Printed(Err(fault)) => Some(Line::Fault(RunFault::Write(*fault))),
         Ending::Ended(Err(fault)) | Ending::Compared(Err(fault)) => Some(Line::Fault(*fault)),
     }
 }

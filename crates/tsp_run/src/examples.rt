@@ -1,8 +1,7 @@
 //! The exit status of each ending, each line, and the files of a task. No body is looked at here: a
 //! definition that is changed together with its code is refused by its examples.
 
-ghost use denote.Ref.{Bor};
-ghost use Rattle.std.specs.Prelude.{◌≡◌, ◌++◌, ℕ, ℤ, List, [], true, false, Option, None, Some, Ok, Err, codes, decimal};
+ghost use Rattle.std.specs.Prelude.{◌≡◌, ◌++◌, ◌∷◌, ℤ, [], true, false, Option, None, Some, Ok, Err, codes, decimal};
 ghost use Rattle.clap.specs.declared.error.Error.{Error};
 ghost use Rattle.tsp_judge.specs.declared.EndFault.TheVariants as end_faults;
 ghost use Rattle.tsp_judge.specs.declared.LineFault.TheVariants as line_faults;
@@ -25,7 +24,8 @@ ghost use Rattle.tsp_judge.specs.Watched.{watched};
 ghost use Rattle.tsp_judge.specs.declared.Certificate.{Certificate};
 ghost use Rattle.tsp_cli.specs.declared.task.Place.{Place};
 ghost use Rattle.tsp_task.specs.declared.task.Task.TheVariants as tasks;
-ghost use Rattle.tsp_run.specs.ProgramRun.{AreFresh};
+ghost use Rattle.tsp_run.specs.Printing.{version_text};
+ghost use Rattle.tsp_run.specs.ProgramRun.{AreFresh, begins_with_help};
 ghost use Rattle.tsp_run.specs.Ending.{status_of_ending, line_text, ended, IsWritten};
 
 /// The exit status of each ending.
@@ -48,7 +48,9 @@ pub fn examples_of_statuses()
     ensures memory_for_a_text { status_of_fault (run_faults.Write write_faults.OutOfMemory) ≡ 3 }
     ensures memory_for_a_layout { status_of_fault (run_faults.Relayout relayout_faults.OutOfMemory) ≡ 3 }
     ensures refused { (refusal : Error) → status_of_ending (endings.NoJob (job_faults.Refused refusal)) ≡ 4 }
-    ensures version { (build : Bor (List ℕ)) → status_of_ending (endings.Version build) ≡ 4 }
+    ensures printed { status_of_ending (endings.Printed (Ok tt)) ≡ 0 }
+    ensures unprinted { status_of_ending (endings.Printed (Err write_faults.Device)) ≡ 5 }
+    ensures no_memory_to_print { status_of_ending (endings.Printed (Err write_faults.OutOfMemory)) ≡ 3 }
     ensures input_twice { status_of_ending (endings.NoTask task_faults.InputTwice) ≡ 4 }
     ensures unknown_layout { status_of_ending (endings.NoTask task_faults.UnknownLayout) ≡ 4 }
     ensures missing_path { status_of_ending (endings.NoTask task_faults.MissingPath) ≡ 4 }
@@ -77,8 +79,7 @@ pub fn examples_of_lines()
     ensures no_length { line_text (lines.NoTask task_faults.NotALength) ≡ Some (codes "not a length\n") }
     ensures line_end { line_text (lines.NoTask task_faults.LineEndInPath) ≡ Some (codes "line end in a path\n") }
     ensures input_twice { line_text (lines.NoTask task_faults.InputTwice) ≡ Some (codes "standard input twice\n") }
-    ensures version { (build : Bor (List ℕ)) → build.now ≡ codes "a build"
-        → line_text (lines.Version build) ≡ Some (codes "tsp 1.1.0 (a build)\n") }
+    ensures version { version_text (codes "a build") ≡ codes "tsp 1.1.0 (a build)\n" }
     ensures file { line_text (lines.Fault (run_faults.File 2 read_faults.TooLong))
         ≡ ended (codes "file " ++ (decimal 2 ++ codes ": too long")) }
     ensures wrong_kind { line_text (lines.Fault run_faults.WrongKind) ≡ Some (codes "file 1: wrong kind\n") }
@@ -91,6 +92,14 @@ pub fn examples_of_lines()
     ensures untold_unless_explained { ¬ MayTell false (Some []) (Some (codes "x\n")) }
     ensures told_at_the_end { ¬ MayTell true (Some (codes "x\n")) (Some []) }
     ensures none_made_up { ¬ IsWritten None (Some []) (Some (codes "x\n")) }
+{}
+
+/// Which words begin with the verb `help`.
+pub fn examples_of_help()
+    ensures alone { begins_with_help (codes "help" ∷ []) ≡ true }
+    ensures of_a_verb { begins_with_help (codes "help" ∷ codes "check" ∷ []) ≡ true }
+    ensures by_a_flag { begins_with_help (codes "check" ∷ codes "--help" ∷ []) ≡ false }
+    ensures nothing { begins_with_help [] ≡ false }
 {}
 
 /// Each file of a task is the one that is opened in its place.

@@ -79,7 +79,7 @@ pub(crate) fn explanation<F: Read + Drop, O: Open<F>>(
             push_write_fault(alloc, &mut text, *fault, write_error)
         }
         Ending::Ended(Err(fault)) => push_fault(alloc, &mut text, asked, *fault),
-        Ending::NoJob(_) | Ending::Version(_) | Ending::NoTask(_) | Ending::Compared(_) => Ok(()),
+        Ending::NoJob(_) | Ending::Printed(_) | Ending::NoTask(_) | Ending::Compared(_) => Ok(()),
     };
     text
 }

@@ -3,8 +3,8 @@
 //! The words are a task on files, or solutions to compare (`tsp_cli`). Each file is opened, or is
 //! missing (`source`). The task is done (`tsp_perform`), or the solutions are compared
 //! (`compared`), and the end is reported on standard error and by the exit status (`ending`). Where
-//! the words ask for it, an explanation follows (`explained`, `followed`). The calls of the host
-//! are tsp_tool's.
+//! the words ask for it, an explanation follows (`explained`, `followed`). The version and help are
+//! printed (`printed`). The calls of the host are tsp_tool's.
 //!
 //! ```text
 //! let (status, written) = run(alloc, &words, &files, &mut out, &mut errors, setting);
@@ -18,17 +18,20 @@ mod examples;
 mod explained;
 mod followed;
 mod laws;
+mod printed;
 mod running;
 mod source;
 mod waiting;
 
 pub use ending::{Ending, Line, line_of, status_of_ending, tell};
-pub use examples::{examples_of_lines, examples_of_opened_files, examples_of_statuses};
+pub use examples::{
+    examples_of_help, examples_of_lines, examples_of_opened_files, examples_of_statuses,
+};
 pub use laws::{explained_on_a_terminal, faults_are_told_on_one_line};
 pub use running::{Setting, run, tell_unread};
 pub use source::{Open, Source};
 pub use tsp_cli::{JobFault, Place, TaskFault};
-pub use tsp_judge::Watched;
+pub use tsp_judge::{Watched, WriteFault};
 pub use tsp_perform::{Outcome, perform};
 pub use tsp_task::Task;
 pub use waiting::tell_waiting;

@@ -7,14 +7,16 @@ ghost use Rattle.std.specs.Io.KnownBytes.{Appends};
 ghost use Rattle.tsp_judge.specs.Watched.{sink_of};
 ghost use Rattle.tsp_run.specs.ComparisonRun.{IsComparedAs};
 ghost use Rattle.tsp_run.specs.Ending.{status_of_ending, Tells, TellsAfter, TellsAll};
-ghost use Rattle.tsp_run.specs.ProgramRun.{AreFresh, Ends, EndsWith, HasNoWords, IsDoneAs, Runs, RunsComparison, RunsJob, RunsTask};
+ghost use Rattle.tsp_run.specs.ProgramRun.{AreFresh, Ends, EndsRefused, EndsWith, HasNoWords, IsDoneAs, Runs, RunsComparison, RunsJob, RunsTask, begins_with_help};
 
 use crate::compare_explained::comparison_explanation;
 use crate::compared::{compare, fresh};
 use crate::ending::{Ending, status_of_ending, tell};
 use crate::explained::{Asked, explanation, task_explanation};
 use crate::followed::{Followed, end_count};
+use crate::printed::{print_help, print_version};
 use crate::source::Open;
+use clap::Error as Refusal;
 use clap::error::ErrorKind;
 use std::alloc::{AllocError, Global};
 use std::io;
@@ -45,7 +47,7 @@ pub struct Setting {
 /// when it is to be read. The reason is explained where the words ask for that, and wherever
 /// `errors` is a terminal. Of a comparison each line that accepts no solution is explained when it
 /// was written, and on a terminal its solutions are counted. Where the words ask for the version,
-/// that is printed with the text of the build.
+/// that is printed to `out` with the text of the build, and help where their verb is `help`.
 pub fn run<F: Gives + Drop, O: Open<F>, W: Write, E: Write>(
     alloc: Global,
     line: &[String],
@@ -62,15 +64,44 @@ pub fn run<F: Gives + Drop, O: Open<F>, W: Write, E: Write>(
     };
     match job_of(alloc, &words) {
         Err(JobFault::OutOfMemory) => end(&Ending::NoJob(JobFault::OutOfMemory), errors),
-        Err(JobFault::Refused(refusal)) => match refusal.kind() {
-            ErrorKind::DisplayVersion => end(&Ending::Version(setting.build), errors),
-            _ => end(&Ending::NoJob(JobFault::Refused(refusal)), errors),
-        },
+        Err(JobFault::Refused(refusal)) => {
+            let ending = end_of_refusal(alloc, refusal, &words, setting.build, out);
+            end(&ending, errors)
+        }
         Ok(job) => {
             let answer = run_job(alloc, &job, files, out, errors, setting);
             drop(job);
             answer
         }
+    }
+}
+
+/// The end where `clap` refuses the words: the version and, by the verb `help`, help are printed.
+fn end_of_refusal<W: Write>(
+    alloc: Global,
+    refusal: Refusal,
+    words: &[&str],
+    build: &str,
+    out: &mut Watched<W>,
+) -> Ending
+    ensures { EndsRefused build.now (map (λ word. word.now) words.now) (sink_of W.contents out.old out.new) refusal result }
+{
+    match refusal.kind() {
+        ErrorKind::DisplayVersion => Ending::Printed(print_version(alloc, build, out)),
+        ErrorKind::DisplayHelp if begins_with_help(words) => {
+            Ending::Printed(print_help(alloc, &refusal, out))
+        }
+        _ => Ending::NoJob(JobFault::Refused(refusal)),
+    }
+}
+
+/// Whether the first of the words is the verb `help`.
+fn begins_with_help(words: &[&str]) -> bool
+    ensures { result ≡ begins_with_help (map (λ word. word.now) words.now) }
+{
+    match words {
+        [] => false,
+        [word, ..] => *word == "help",
     }
 }
 

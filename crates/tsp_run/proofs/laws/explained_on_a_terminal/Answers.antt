@@ -21,7 +21,7 @@ pub returns-clause-task : goal.returns-clause-task
 returns-clause-task g c = λ build words sink explained fault ends. ends.3 ∙ or_true ends.0.explain
 
 pub returns-clause-no_job : goal.returns-clause-no_job
-returns-clause-no_job g c = λ build words sink explained fault ends. ends.3
+returns-clause-no_job g c = λ build words sink explained fault ends. ends.4
 
 pub returns-clause-elsewhere : goal.returns-clause-elsewhere
 returns-clause-elsewhere g c = λ build words sink explained answer ends. (ends.0, ends.1, ends.3 ∙ or_false ends.0.explain)

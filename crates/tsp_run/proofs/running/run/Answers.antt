@@ -2,64 +2,74 @@
 use Rattle.std.proofs.Common.{◌≡◌, ◌||◌, ℕ, Bool, false, List, Option, Result, refl, sym, ◌∙◌, ap, subst, map, drop, Ok, Err, OnOk}
 use Rattle.std.proofs.KnownBytes.{Keeps-refl}
 use Rattle.std.specs.declared.io.Error.{Error}
-use Rattle.clap.specs.Words.{Text, kind_of}
-use Rattle.clap.specs.declared.error.kind.ErrorKind.TheVariants as kinds
+use Rattle.clap.specs.Words.{Text}
+use Rattle.clap.specs.declared.error.Error.{Error as Refusal}
 use Rattle.tsp_judge.specs.Sink.{Sink}
 use Rattle.tsp_cli.specs.CommandWords.{GivesJob}
 use Rattle.tsp_cli.specs.declared.task.Place.{Place}
 use Rattle.tsp_cli.specs.declared.words.Job.{Job}
 use Rattle.tsp_cli.specs.declared.words.JobFault.TheVariants.{OutOfMemory, Refused}
 use Rattle.tsp_run.specs.declared.ending.Ending.{Ending}
-use Rattle.tsp_run.specs.declared.ending.Ending.TheVariants.{NoJob, Version, NoTask, Ended, Compared}
+use Rattle.tsp_run.specs.declared.ending.Ending.TheVariants.{NoJob, Printed, NoTask, Ended, Compared}
 use Rattle.std.specs.String.{string_bytes}
 use Rattle.tsp_judge.specs.Watched.{sink_of}
-use Rattle.tsp_run.specs.Ending.{Tells}
-use Rattle.tsp_run.specs.ProgramRun.{Ends, EndsWith}
+use Rattle.tsp_run.specs.Ending.{Tells, TellsAll}
+use Rattle.tsp_run.specs.ProgramRun.{Ends, EndsRefused, EndsWith}
 use Rattle.tsp_run.proofs.running.run.Goals as goal
 
 pub returns-in_default : goal.returns-in_default
 returns-in_default g c =
-    (false, NoJob OutOfMemory, (tt, (λ asks. asks), (Keeps-refl _, refl), refl), (c.end.ensures.status, c.end.ensures.told))
+    (false, NoJob OutOfMemory, (tt, (λ asks. asks), (λ asks. asks), (Keeps-refl _, refl), refl), (c.end.ensures.status, c.end.ensures.told))
 
 pub returns-in-Err-OutOfMemory : goal.returns-in-Err-OutOfMemory
 returns-in-Err-OutOfMemory g c = (
   false,
   NoJob OutOfMemory,
-  (tt, (λ asks. asks), (Keeps-refl _, refl), refl),
+  (tt, (λ asks. asks), (λ asks. asks), (Keeps-refl _, refl), refl),
   (c.end-in-Err-OutOfMemory.ensures.status, c.end-in-Err-OutOfMemory.ensures.told),
 )
 
-pub returns-in-DisplayVersion : goal.returns-in-DisplayVersion
-returns-in-DisplayVersion g c =
-    let gives = subst (λ fault. GivesJob (map (λ word. word.now) c.deref.result.now) (Err fault)) c.in-Err-Refused.field-0-is c.in-Err-Refused.ensures in (
-      false,
-      Version c.args.setting.build,
-      (
-        Refused c.in-Err-Refused.refusal,
-        subst (λ words. GivesJob words (Err (Refused c.in-Err-Refused.refusal))) (ap (map (λ word. word.now)) c.deref.ensures.value ∙ c.in-Ok.ensures) gives,
-        subst (λ refusal. kind_of refusal ≡ kinds.DisplayVersion) c.in-Err-Refused.refusal-is (sym c.kind.ensures ∙ c.in-DisplayVersion.is),
-        refl,
-        (Keeps-refl _, refl),
-        refl,
-      ),
-      (c.end-in-DisplayVersion.ensures.status, c.end-in-DisplayVersion.ensures.told),
-    )
+-- a run ends as refused words do
+ends_refused : {F : Type 0} (remaining : F → Option (List ℕ)) (reads : F → List ℕ → Result ℕ Error → List ℕ → F → Type 0) (opens : Place → F → Type 0) (on_terminal : Bool) (build : Text)
+    (words : List Text) (sink : Sink) (refusal : Refusal) → GivesJob (drop 1 words) (Err (Refused refusal)) → (ending : Ending)
+    → EndsRefused build (drop 1 words) sink refusal ending → Ends remaining reads opens on_terminal build words sink false ending
+ends_refused remaining reads opens on_terminal build words sink refusal gives (NoJob fault) ends = rw ends.0 (gives, ends.1, ends.2, ends.3, refl)
+ends_refused remaining reads opens on_terminal build words sink refusal gives (Printed printed) ends = (Refused refusal, gives, ends, refl)
+ends_refused remaining reads opens on_terminal build words sink refusal gives (NoTask fault) ends = absurd ends
+ends_refused remaining reads opens on_terminal build words sink refusal gives (Ended answer) ends = absurd ends
+ends_refused remaining reads opens on_terminal build words sink refusal gives (Compared answer) ends = absurd ends
+
+-- and no more than its line is reported
+tells_refused : (build : Text) (words : List Text) (sink : Sink) (refusal : Refusal) (ending : Ending) → EndsRefused build words sink refusal ending
+    → (old new : Option (List ℕ)) → Tells ending old new → TellsAll false ending old new
+tells_refused build words sink refusal (NoJob fault) ends old new told = told
+tells_refused build words sink refusal (Printed printed) ends old new told = told
+tells_refused build words sink refusal (NoTask fault) ends old new told = absurd ends
+tells_refused build words sink refusal (Ended answer) ends old new told = absurd ends
+tells_refused build words sink refusal (Compared answer) ends old new told = absurd ends
+
+on_ok : {A B : Type 0} (r : Result A B) (P Q : Type 0) → (P → Q) → OnOk r P → OnOk r Q
+on_ok (Ok a) P Q f told = f told
+on_ok (Err b) P Q f told = told
 
 pub returns-in-Err-Refused : goal.returns-in-Err-Refused
 returns-in-Err-Refused g c =
-    let gives = subst (λ fault. GivesJob (map (λ word. word.now) c.deref.result.now) (Err fault)) c.in-Err-Refused.field-0-is c.in-Err-Refused.ensures in (
+    let words : List Text = map string_bytes c.args.line.now in
+    let refusal : Refusal = c.in-Err-Refused.refusal in
+    let sink : Sink = sink_of g.W.Write.contents c.args.out.now c.end_of_refusal-ending.new.out in
+    let ending : Ending = c.end_of_refusal-ending.result in
+    let old = g.E.Write.contents c.args.errors.now in
+    let new = g.E.Write.contents c.end-in-Err-Refused.new.errors in
+    let gives = subst (λ fault. GivesJob (map (λ word. word.now) c.deref.result.now) (Err fault)) c.in-Err-Refused.field-0-is c.in-Err-Refused.ensures in
+    let given = subst (λ words. GivesJob words (Err (Refused refusal))) (ap (map (λ word. word.now)) c.deref.ensures.value ∙ c.in-Ok.ensures) gives in
+    let ended = subst (λ words. EndsRefused c.args.setting.build.now words sink refusal ending) (ap (map (λ word. word.now)) c.deref-in-Err-Refused.ensures.value ∙ c.in-Ok.ensures) c.end_of_refusal-ending.ensures in
+    let ends = ends_refused g.F.Read.remaining g.F.Gives.gives (g.O.Open.opens c.args.files.now) c.args.setting.on_terminal c.args.setting.build.now words sink refusal given ending ended in (
       false,
-      NoJob (Refused c.in-Err-Refused.refusal),
+      ending,
+      ends,
       (
-        subst (λ words. GivesJob words (Err (Refused c.in-Err-Refused.refusal))) (ap (map (λ word. word.now)) c.deref.ensures.value ∙ c.in-Ok.ensures) gives,
-        (λ asks. c.in_default-kind.not-DisplayVersion (c.kind.ensures ∙ subst (λ refusal. kind_of refusal ≡ kinds.DisplayVersion) (sym c.in-Err-Refused.refusal-is) asks)),
-        (Keeps-refl _, refl),
-        refl,
-      ),
-      (
-        c.end-in_default-kind.ensures.status,
-        subst (λ refusal. OnOk c.end-in_default-kind.result.1 (Tells (NoJob (Refused refusal)) (g.E.Write.contents c.args.errors.now) (g.E.Write.contents c.end-in_default-kind.new.errors)))
-            c.in-Err-Refused.refusal-is c.end-in_default-kind.ensures.told,
+        c.end-in-Err-Refused.ensures.status,
+        on_ok c.end-in-Err-Refused.result.1 _ _ (tells_refused c.args.setting.build.now (drop 1 words) sink refusal ending ended old new) c.end-in-Err-Refused.ensures.told,
       ),
     )
 
@@ -68,7 +78,7 @@ ends_as_its_job : {F : Type 0} (remaining : F → Option (List ℕ)) (reads : F 
     (words : List Text) (sink : Sink) (job : Job) → GivesJob (drop 1 words) (Ok job) → (ending : Ending)
     → EndsWith remaining reads opens job sink ending → Ends remaining reads opens on_terminal build words sink (job.explain || on_terminal) ending
 ends_as_its_job remaining reads opens on_terminal build words sink job gives (NoJob fault) ends = absurd ends
-ends_as_its_job remaining reads opens on_terminal build words sink job gives (Version told) ends = absurd ends
+ends_as_its_job remaining reads opens on_terminal build words sink job gives (Printed printed) ends = absurd ends
 ends_as_its_job remaining reads opens on_terminal build words sink job gives (NoTask fault) ends = (job, gives, ends, refl)
 ends_as_its_job remaining reads opens on_terminal build words sink job gives (Ended answer) ends = (job, gives, ends, refl)
 ends_as_its_job remaining reads opens on_terminal build words sink job gives (Compared answer) ends = (job, gives, ends, refl)
