@@ -16,7 +16,7 @@ use Rattle.tsp_branch.specs.Cases.{decide, leaves_of, cases_of, later_cases, ope
 use Rattle.tsp_branch.specs.states.Decided.{stack_of}
 use Rattle.tsp_branch.specs.Listed.{all_grown, steps_from, no_numbers_of}
 use Rattle.tsp_branch.specs.Twice.{is_decided, IsFirstTwice, AreBranchesJudged}
-use Rattle.tsp_branch.proofs.Cases.{stacks_hold_cases}
+use Rattle.tsp_branch.proofs.CaseLaws.{stacks_hold_cases}
 use Rattle.tsp_branch.proofs.NextCases.{stack_more}
 use Rattle.tsp_branch.proofs.Judging.{left_at}
 use Rattle.tsp_branch.proofs.OnePass.{IsFirstTwiceFrom, first_twice_by_place, first_twice_in_pass}

@@ -1,7 +1,9 @@
 -- The weights of code at a leaf are those of its case.
-use Rattle.std.proofs.Common.{◌≡◌, ◌≢◌, ℕ, ◌<◌, ◌≤◌, List, [], ◌∷◌, length, Option, None, Some, true, ℤ, ◌≤ℤ◌, ◌∙◌, ap, sym, subst, arith}
+use Rattle.std.proofs.Common.{◌≡◌, ℕ, ◌≤◌, List, [], ◌∷◌, length, Option, None, Some, true, ℤ, ◌≤ℤ◌, ◌∙◌, ap, sym, subst, arith}
 use Rattle.std.specs.Prelude.{pos, ◌+ℤ◌, ◌-ℤ◌, ◌*ℤ◌, MatchOption}
 use Rattle.std.specs.List.{All, AllByRecursion}
+use Rattle.std.proofs.Math.Logic.{∥∥₁_elim}
+use Rattle.std.proofs.Props.{props}
 use Rattle.std.proofs.lemmas.Int.{ints}
 use Rattle.std.proofs.lemmas.List.Elements.{recursion_from_All, All-from_recursion}
 use Rattle.tsp_theory.specs.Numbers.{IsFromTo, total}
@@ -67,12 +69,12 @@ pub all_some : (n : ℕ) (crossed : List Crossings) (families : List (List (List
 all_some n crossed families many are = All-from_recursion (λ own. 1 ≤ own.most) crossed (families_some n crossed families many (recursion_from_All (IsFamily n) (families_with crossed families) are))
 
 pub few_crossings : (n : ℕ) (crossed : List Crossings) (potentials multipliers : List ℤ) (families : List (List (List ℕ))) → AreGoodNumbers n crossed (as_leaf_numbers potentials multipliers)
-    → length crossed ≡ length families → All (IsFamily n) (families_with crossed families) → AreFewCrossings n multipliers families
-few_crossings n crossed potentials ms families good many are = λ i j in_i in_j.
-    let few = families_crossed_few n crossed families ms i j in_i in_j many (recursion_from_All (IsFamily n) (families_with crossed families) are) (recursion_from_All (λ m. pos 0 ≤ℤ m) ms good.signs) in
+    → length crossed ≡ length families → ∥ All (IsFamily n) (families_with crossed families) ∥₁ → AreFewCrossings n multipliers families
+few_crossings n crossed potentials ms families good many are = λ i j in_i in_j. ∥∥₁_elim are (hlevel props) (λ sure.
+    let few = families_crossed_few n crossed families ms i j in_i in_j many (recursion_from_All (IsFamily n) (families_with crossed families) sure) (recursion_from_All (λ m. pos 0 ≤ℤ m) ms good.signs) in
     let same = sets_tell_combs crossed ms families i j many (good.each_comb ∙ many) in
     let sum = good.sum in
-    (let low = few.0 in omega (arith, ints, low, same), let high = few.1 in omega (arith, ints, high, same, sum))
+    (let low = few.0 in omega (arith, ints, low, same), let high = few.1 in omega (arith, ints, high, same, sum)))
 
 -- ---- the least links from each node
 

@@ -1,6 +1,6 @@
 -- A weight under combs, once the sets of a node are added to what is there as if no set had two nodes.
-use Rattle.std.proofs.Common.{◌≡◌, ◌+◌, ◌<◌, ◌≢◌, ℕ, ℤ, List, get_or, length, arith, ap, sym, subst, ◌∙◌}
-use Rattle.std.specs.Prelude.{pos, neg_ℤ, ◌+ℤ◌}
+use Rattle.std.proofs.Common.{◌≡◌, ℕ, ℤ, List, arith, sym, subst}
+use Rattle.std.specs.Prelude.{pos, neg_ℤ}
 use Rattle.std.specs.List.{All}
 use Rattle.std.proofs.lemmas.Int.{ints}
 use Rattle.tsp_theory.specs.Numbers.{IsFromTo}

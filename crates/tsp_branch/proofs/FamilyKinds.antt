@@ -1,18 +1,17 @@
 -- Sets as a family: a lone set or a comb, others, and none.
-use Rattle.std.proofs.Common.{◌≡◌, ◌∙◌, ℕ, suc, ◌+◌, ◌-◌, ◌<◌, ◌≤◌, Bool, true, false, List, [], ◌∷◌, map, length, get_or, inl, inr, refl, ap, sym, subst, arith}
-use Rattle.std.specs.Prelude.{pos, Some, ◌↔◌, IsTrue}
+use Rattle.std.proofs.Common.{◌≡◌, ◌∙◌, ℕ, suc, ◌+◌, ◌-◌, ◌<◌, ◌≤◌, false, List, [], ◌∷◌, length, get_or, inl, inr, refl, ap, sym, subst, arith}
+use Rattle.std.specs.Prelude.{pos, Some}
 use Rattle.std.specs.List.{All}
-use Rattle.std.proofs.lemmas.Bool.{both_ways, iff_false, cases_eq}
+use Rattle.std.proofs.lemmas.Bool.{both_ways, cases_eq}
 use Rattle.std.proofs.lemmas.Int.{ints}
 use Rattle.std.proofs.lemmas.List.{length-map, get_or-map}
-use Rattle.tsp_format.specs.Cells.{IsNode}
 use Rattle.tsp_families.specs.Crossed.{IsLeastLength, IsMostCost, has, sets_of, sets_crossed, AreTooMany}
 use Rattle.tsp_families.specs.SetParts.{MostCostsAreUnique}
-use Rattle.tsp_families.specs.FamilySets.{AreSetsOf, lists_of}
+use Rattle.tsp_families.specs.FamilySets.{lists_of}
 use Rattle.std.specs.Global.{Vec}
 use Rattle.tsp_families.specs.declared.family.Crossings.{Crossings}
-use Rattle.tsp_branch.specs.Families.{IsFamily, least_crossings_of}
-use Rattle.tsp_branch.specs.CombsOfSets.{comb_with, family_with}
+use Rattle.tsp_branch.specs.Families.{least_crossings_of}
+use Rattle.tsp_branch.specs.CombsOfSets.{comb_with}
 use Rattle.tsp_branch.specs.GoodCombs.{HasEachOnce, IsGoodComb, IsGoodFamily}
 use Rattle.tsp_branch.specs.states.FamilyNumbers.{HasNumbers}
 use Rattle.tsp_branch.specs.states.Marked.{is_marked, AreUnmarked, AreNew}

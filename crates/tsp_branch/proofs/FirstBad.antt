@@ -1,12 +1,12 @@
 -- Families one after the other: their numbers, and the first one that isn't good.
-use Rattle.std.proofs.Common.{◌≡◌, ◌∙◌, ℕ, zero, suc, ◌+◌, ◌<◌, List, [], ◌∷◌, ◌++◌, length, get_or, inl, inr, refl, ap, sym, subst, arith, length-append}
+use Rattle.std.proofs.Common.{◌≡◌, ◌∙◌, ℕ, suc, ◌+◌, ◌<◌, List, [], ◌∷◌, ◌++◌, length, get_or, inl, inr, ap, sym, subst, arith, length-append}
 use Rattle.std.specs.Prelude.{Some}
 use Rattle.std.specs.Global.{Vec}
 use Rattle.std.specs.List.{All, AllByRecursion}
 use Rattle.std.proofs.lemmas.Bool.{cases_lt}
 use Rattle.std.proofs.lemmas.List.{get_or_append_left, get_or_push, get_or-map, get_or_default}
 use Rattle.std.proofs.lemmas.List.Elements.{All-from_recursion}
-use Rattle.tsp_families.specs.FamilySets.{AreSetsOf, AreFamiliesOf, lists_of, families_in}
+use Rattle.tsp_families.specs.FamilySets.{lists_of, families_in}
 use Rattle.tsp_families.specs.declared.family.Crossings.{Crossings}
 use Rattle.tsp_branch.specs.Families.{IsFamily}
 use Rattle.tsp_branch.specs.CombsOfSets.{family_with, families_with}

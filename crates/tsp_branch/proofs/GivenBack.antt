@@ -1,5 +1,5 @@
 -- What a leaf gives back, in the order in which code sums it.
-use Rattle.std.proofs.Common.{◌≡◌, ◌∙◌, ℕ, Bool, suc, ◌+◌, ◌*◌, ◌-◌, ◌<◌, ◌^◌, List, [], ◌∷◌, ◌++◌, drop, length, get_or, ℤ, ◌≤ℤ◌, FitsSigned, inl, inr, refl, ap, sym, arith, to_z, of_z, drop-cons, add-one}
+use Rattle.std.proofs.Common.{◌≡◌, ◌∙◌, ℕ, Bool, suc, ◌+◌, ◌*◌, ◌<◌, ◌^◌, List, [], ◌∷◌, ◌++◌, drop, length, get_or, ℤ, ◌≤ℤ◌, FitsSigned, inl, inr, refl, ap, sym, arith, to_z, of_z, drop-cons, add-one}
 use Rattle.std.specs.Prelude.{pos, negsuc, neg_ℤ, ◌+ℤ◌, ◌-ℤ◌, ◌*ℤ◌, if◌then◌else◌, reverse}
 use Rattle.std.specs.Int.{w64, w128}
 use Rattle.std.specs.List.{All, AllByRecursion, filter}

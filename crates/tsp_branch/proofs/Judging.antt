@@ -1,9 +1,11 @@
 -- The findings of a leaf, from the numbers in the code's memory.
-use Rattle.std.proofs.Common.{◌≡◌, ◌∙◌, ℕ, zero, suc, ◌+◌, ◌^◌, ◌<◌, ◌≤◌, Bool, true, false, List, [], ◌∷◌, ◌++◌, length, take, drop, get_or, ℤ, inl, inr, refl, sym, ap, subst, arith, drop-cons, add-one}
+use Rattle.std.proofs.Common.{◌≡◌, ◌∙◌, ℕ, zero, suc, ◌+◌, ◌^◌, ◌<◌, ◌≤◌, Bool, true, false, List, [], ◌∷◌, ◌++◌, length, take, drop, get_or, ℤ, inl, inr, refl, sym, ap, subst, arith, drop-cons, add-one, length-append}
 use Rattle.std.specs.Prelude.{Option, None, Some, IfSome, pos, neg_ℤ}
 use Rattle.std.specs.List.{All}
+use Rattle.std.proofs.Math.Logic.{∥∥₁_elim}
+use Rattle.std.proofs.Props.{props}
 use Rattle.std.proofs.lemmas.Int.{ints}
-use Rattle.std.proofs.lemmas.List.{get_or-map, length-map, take-append-drop, take-append-le, take_all, drop_all}
+use Rattle.std.proofs.lemmas.List.{get_or-map, length-map, length-reverse, take-append-drop, take-append-le, take_all, drop_all}
 use Rattle.std.proofs.lemmas.List.Elements.{All-append, All-weaker}
 use Rattle.tsp_format.specs.Cells.{IsNode}
 use Rattle.tsp_format.specs.Limits.{most_potential}
@@ -22,11 +24,12 @@ use Rattle.tsp_branch.specs.Decisions.{DecideOnce, decided_number}
 use Rattle.tsp_branch.specs.declared.steps.JudgedLeaf.{JudgedLeaf}
 use Rattle.tsp_branch.specs.declared.steps.JudgedLeaf.TheVariants as leaves
 use Rattle.tsp_branch.specs.Cases.{LeafNumbers, are_trees, leaves_of, next_stack}
-use Rattle.tsp_branch.specs.Certificate.{IsCertificate, IsLeastFound, AreCostsFor, CertificatesBoundCycles}
+use Rattle.tsp_branch.specs.Certificate.{IsCertificate, IsLeastFound, AreCostsFor, BoundsIfAny, CertificatesBoundCycles}
 use Rattle.tsp_branch.specs.states.Decided.{stack_of, IsLeftStack}
 use Rattle.tsp_branch.specs.GoodNumbers.{AreGoodNumbers, as_leaf_numbers, most_crossed}
-use Rattle.tsp_branch.specs.Listed.{all_grown, split_at, steps_from, no_numbers_of, listed_steps, IsStepOf, AreSteps, AreGoodLeaves, IsFirstBadLeaf, IsJudged, BoundsCycles, IsLowest}
-use Rattle.tsp_branch.specs.Twice.{AreBranchesJudged}
+use Rattle.tsp_branch.specs.Listed.{all_grown, split_at, steps_from, listed_steps, IsStepOf, AreGoodLeaves, IsFirstBadLeaf, IsJudged, BoundsCycles, IsLowest}
+use Rattle.tsp_branch.specs.JudgedTrees.{AreCasesOf}
+use Rattle.tsp_branch.specs.declared.tree_cases.Cases.{Cases}
 use Rattle.tsp_branch.specs.states.Rooms.{AreSmall, IsJudgedLeaf, IsSizedLeaf}
 use Rattle.tsp_branch.proofs.CaseWeights.{small_multipliers}
 use Rattle.tsp_branch.proofs.OnePass.{first_bad_by_place}
@@ -73,6 +76,21 @@ good_read n p crossed read numbers at same good =
     subst (λ (zs : List ℤ). AreGoodNumbers n crossed (split_at n zs)) same
     (subst (λ (k : ℕ). AreGoodNumbers k crossed (split_at k read)) at good)
 
+-- the numbers that are judged to be good, where the code keeps them
+pub numbers_are : (n p : ℕ) (crossed : List Crossings) (read potentials multipliers : List ℤ) → p ≡ n → potentials ≡ take p read → multipliers ≡ drop p read
+    → AreGoodNumbers p crossed (as_leaf_numbers (take p read) (drop p read)) → AreGoodNumbers n crossed (as_leaf_numbers potentials multipliers)
+numbers_are n p crossed read ps ms at of_nodes of_combs good =
+    subst (λ (k : ℕ). AreGoodNumbers k crossed (as_leaf_numbers ps ms)) at
+    (subst (λ (zs : List ℤ). AreGoodNumbers p crossed (as_leaf_numbers ps zs)) (sym of_combs)
+    (subst (λ (zs : List ℤ). AreGoodNumbers p crossed (as_leaf_numbers zs (drop p read))) (sym of_nodes) good))
+
+-- the decisions of a case, those of its stack and the given ones
+pub few_decided : (stack given : List Decision) → length stack < 2 ^ 32 → length given < 2 ^ 32 → length (stack_of stack ++ given) < 2 ^ 33
+few_decided stack given few few_given =
+    let sum = length-append (stack_of stack) given in
+    let same = length-reverse stack in
+    omega (arith, sum, same, few, few_given)
+
 -- ---- the steps
 
 -- a whole tree, whatever its numbers
@@ -84,17 +102,6 @@ whole_trees n numbers zero (listed.Leaf changes ∷ steps) = refl
 whole_trees n numbers (suc count) [] = refl
 whole_trees n numbers (suc count) (listed.Branch a b ∷ steps) = whole_trees n numbers (suc (suc count)) steps
 whole_trees n numbers (suc count) (listed.Leaf changes ∷ steps) = whole_trees n (all_grown changes numbers) count steps
-
--- what the bound of a tree of cases asks of the steps
-pub steps_judged : (directed : Bool) (n : ℕ) (crossed : List Crossings) (given : List Decision) (steps : List listed.Step)
-    (found : Option ℕ) → All (IsStepOf n) steps → are_whole 1 steps ≡ true
-    → AreBranchesJudged directed given steps found → found ≡ None → AreSteps directed n given steps
-    (listed_steps n (length crossed) steps)
-steps_judged directed n crossed given steps found each whole judged none = record {
-  each = each;
-  whole = sym (whole_trees n (no_numbers_of n (length crossed)) 1 steps) ∙ whole;
-  once = (subst (AreBranchesJudged directed given steps) none judged).1 n (length crossed);
-}
 
 -- ---- the step that is next
 
@@ -206,15 +213,42 @@ low_sized lowest own lower found before here some is = sized lowest own before (
 
 pub cycles_of : CertificatesBoundCycles → (directed : Bool) (n : ℕ) (cost : ℕ → ℕ → ℤ) (scale : ℤ) (families : List Family)
     (crossed : List Crossings) (given : List Decision) (steps : List listed.Step) (found : Judged)
-    → AreCostsFor directed n cost → IsScale scale → IsJudged directed n cost scale families crossed given steps found
+    → AreCostsFor directed n cost → IsScale scale → ∥ All (IsFamily n) families ∥₁
+    → (All (IsFamily n) families → IsJudged directed n cost scale families crossed given steps found)
     → BoundsCycles directed n cost given found
-cycles_of bounds directed n cost scale families crossed given steps (judged.Bound found) costs_are scale_in is =
-    bounds directed n cost scale decided_number families given
-    (listed_steps n (length crossed) steps) found costs_are scale_in is.0 is.1
-cycles_of bounds directed n cost scale families crossed given steps (judged.BadLeaf leaf) costs_are scale_in is = tt
+cycles_of bounds directed n cost scale families crossed given steps (judged.Bound found) costs_are scale_in are is =
+    each found (λ sure. let judged = is sure in
+    bounds directed n cost scale decided_number families given (listed_steps n (length crossed) steps) found costs_are scale_in
+    judged.0 judged.1)
+  where
+    each : (own : Option ℤ) → (All (IsFamily n) families → BoundsIfAny directed n cost given own)
+        → BoundsIfAny directed n cost given own
+    each (Some bound) if_sure = λ nodes cycle keeps. ∥∥₁_elim are (hlevel props) (λ sure. if_sure sure nodes cycle keeps)
+    each None if_sure = λ nodes cycle keeps. ∥∥₁_elim are (hlevel props) (λ sure. if_sure sure nodes cycle keeps)
+cycles_of bounds directed n cost scale families crossed given steps (judged.BadLeaf leaf) costs_are scale_in are is = tt
 
 -- three nodes, and costs that are the same in both directions where pairs have none
 pub costs_for : (directed : Bool) (n : ℕ) (cost : ℕ → ℕ → ℤ) → 3 ≤ n → (directed ≡ false → IsSymmetric cost)
     → AreCostsFor directed n cost
 costs_for false n cost some even = (some, even refl)
 costs_for true n cost some even = omega (arith, some)
+
+-- ---- the cases of a tree, with its parts
+
+module _ (n : ℕ) (cost : ℕ → ℕ → ℤ) where
+  pub judged_of : (families : List Family) (crossed : List Crossings) (found : Judged) (cases : Cases) (directed : Bool) (scale : ℤ) (given : List Decision) (steps : List TreeStep)
+      → AreCasesOf n directed scale given steps cases
+      → IsJudged cases.directed n cost cases.scale families crossed cases.given.now (steps_of cases.steps.now) found
+      → IsJudged directed n cost scale families crossed given (steps_of steps) found
+  judged_of families crossed found cases directed scale given steps are is =
+      subst (λ (d : Bool). IsJudged d n cost scale families crossed given (steps_of steps) found) are.direction
+      (subst (λ (z : ℤ). IsJudged cases.directed n cost z families crossed given (steps_of steps) found) are.scale_is
+      (subst (λ (ds : List Decision). IsJudged cases.directed n cost cases.scale families crossed ds (steps_of steps) found) are.given_are
+      (subst (λ (ss : List TreeStep). IsJudged cases.directed n cost cases.scale families crossed cases.given.now (steps_of ss) found) are.steps_are is)))
+
+  pub cycles_of_cases : (found : Judged) (cases : Cases) (directed : Bool) (scale : ℤ) (given : List Decision) (steps : List TreeStep)
+      → AreCasesOf n directed scale given steps cases
+      → BoundsCycles cases.directed n cost cases.given.now found → BoundsCycles directed n cost given found
+  cycles_of_cases found cases directed scale given steps are is =
+      subst (λ (d : Bool). BoundsCycles d n cost given found) are.direction
+      (subst (λ (ds : List Decision). BoundsCycles cases.directed n cost ds found) are.given_are is)

@@ -1,4 +1,4 @@
-pub mod Cases
+pub mod CaseLaws
 pub mod Certificates
 pub mod Combs
 pub mod Decisions

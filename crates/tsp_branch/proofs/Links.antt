@@ -14,7 +14,7 @@ use Rattle.tsp_theory.proofs.Crossings.{one_if, none_or_one}
 use Rattle.tsp_theory.proofs.Neighbours.{sum_below, count}
 use Rattle.tsp_branch.specs.Decisions.{KeepsPair, KeepsDecision}
 use Rattle.tsp_branch.specs.Rows.{AllowsLink, Allows, LinksAreAllowed}
-use Rattle.tsp_branch.proofs.Cases.{is_pair, found_follows}
+use Rattle.tsp_branch.proofs.CaseLaws.{is_pair, found_follows}
 
 -- ---- counts
 

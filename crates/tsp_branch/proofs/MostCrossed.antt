@@ -1,5 +1,5 @@
 -- How often two nodes cross the sets of families at most, in the order in which code sums it.
-use Rattle.std.proofs.Common.{◌≡◌, ◌∙◌, ℕ, suc, ◌+◌, ◌*◌, ◌<◌, ◌^◌, List, [], ◌∷◌, drop, length, get_or, ℤ, ◌≤ℤ◌, FitsSigned, refl, ap, arith, to_z, of_z, drop-cons, add-one}
+use Rattle.std.proofs.Common.{◌≡◌, ◌∙◌, ℕ, suc, ◌+◌, ◌*◌, ◌<◌, ◌^◌, List, ◌∷◌, drop, length, get_or, ℤ, ◌≤ℤ◌, FitsSigned, refl, ap, arith, to_z, of_z, drop-cons, add-one}
 use Rattle.std.specs.Prelude.{pos, negsuc, ◌+ℤ◌, ◌*ℤ◌}
 use Rattle.std.specs.Int.{w128}
 use Rattle.std.proofs.Math.IntN.{*ℤ-zero}

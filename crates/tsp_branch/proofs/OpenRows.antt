@@ -9,7 +9,7 @@ use Rattle.std.proofs.lemmas.List.Sorted.{IsPermutation-reverse, IsPermutation-s
 use Rattle.tsp_format.specs.Cells.{IsNode}
 use Rattle.tsp_theory.specs.states.Nearest.{least_at}
 use Rattle.tsp_branch.specs.declared.decision.Decision.{Decision}
-use Rattle.tsp_branch.specs.states.Decided.{IsDecision, stack_of}
+use Rattle.tsp_branch.specs.states.Decided.{IsDecision, IsInside, stack_of}
 use Rattle.tsp_branch.specs.states.OpenCases.{bears_on}
 use Rattle.tsp_branch.specs.Rows.{AllowsLink, Allows, IsAllowed, IsLeastFrom}
 use Rattle.tsp_branch.specs.states.Closed.{closed, IsShut, IsOpenRow}
@@ -78,8 +78,8 @@ ends_inside n long test case own is own_is all = all_passed (λ decision. decisi
 
 -- the same of both nodes, which differ
 pub both_inside : (n long : ℕ) (test : Decision → Bool) (case own : List Decision) → long ≡ n + 1 → stack_of own ≡ filter test case → All (IsDecision n) case
-    → All (λ decision. (decision.pair.0 < long) × (decision.pair.1 < long) × (decision.pair.0 ≢ decision.pair.1)) own
-both_inside n long test case own is own_is all = all_passed (λ decision. (decision.pair.0 < long) × (decision.pair.1 < long) × (decision.pair.0 ≢ decision.pair.1)) test case own own_is
+    → All (IsInside long) own
+both_inside n long test case own is own_is all = all_passed (IsInside long) test case own own_is
     (λ k d lt. let node = all k d lt in (omega (arith, is, node.0.1), omega (arith, is, node.1.1), node.2))
 
 -- ---- one value

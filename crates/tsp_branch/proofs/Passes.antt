@@ -15,7 +15,7 @@ use Rattle.tsp_branch.specs.Cases.{LeafNumbers, are_trees, decide, leaves_of, ca
 use Rattle.tsp_branch.specs.Certificate.{AreLeafNumbers, IsCertificate, IsAbove, IsLeastFound}
 use Rattle.tsp_branch.specs.states.Decided.{stack_of}
 use Rattle.tsp_branch.specs.Listed.{all_grown, split_at, steps_from, no_numbers_of, listed_steps, IsGoodLeaf, AreGoodLeaves, IsLowest}
-use Rattle.tsp_branch.proofs.Cases.{stacks_hold_cases}
+use Rattle.tsp_branch.proofs.CaseLaws.{stacks_hold_cases}
 use Rattle.tsp_branch.proofs.NextCases.{stack_more}
 use Rattle.tsp_branch.proofs.OnePass.{AreGoodFrom, IsFirstBadFrom, all_good_by_place}
 

@@ -1,7 +1,7 @@
 -- Small families of sets of six nodes.
-use Rattle.std.proofs.Common.{◌≡◌, ◌≢◌, ◌≤◌, ◌⊎◌, ℕ, suc, Bool, true, false, not, cond, List, [], ◌∷◌, length, ◌+ℤ◌, ◌≤ℤ◌, inl, inr, refl, sym, ap, subst, arith}
+use Rattle.std.proofs.Common.{◌≡◌, ◌≢◌, ◌≤◌, ◌⊎◌, ℕ, suc, true, false, not, cond, List, [], ◌∷◌, length, ◌+ℤ◌, ◌≤ℤ◌, inl, inr, refl, ap, arith}
 use Rattle.std.specs.Prelude.{pos, ℤ}
-use Rattle.std.specs.List.{All, Any}
+use Rattle.std.specs.List.{Any}
 use Rattle.std.proofs.lemmas.Bool.{both_ways}
 use Rattle.std.proofs.lemmas.Int.{ints}
 use Rattle.std.proofs.lemmas.List.Elements.{All-from_recursion}
@@ -10,7 +10,7 @@ use Rattle.tsp_format.specs.Cells.{IsNode}
 use Rattle.tsp_theory.specs.Cycle.{IsCycle}
 use Rattle.tsp_theory.specs.Length.{length_of}
 use Rattle.tsp_theory.specs.Tree.{crossing}
-use Rattle.tsp_theory.proofs.Crossings.{one_if, none_or_one}
+use Rattle.tsp_theory.proofs.Crossings.{none_or_one}
 use Rattle.tsp_families.specs.Crossed.{has, sets_of, AreAlike, AreTooMany, IsLeastLength}
 use Rattle.tsp_families.specs.SetParts.{ArePartsOf, UnlikeNodesNeedParts}
 use Rattle.tsp_families.proofs.Lists.{cycle_from}

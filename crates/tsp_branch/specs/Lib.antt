@@ -11,6 +11,7 @@ pub mod CombsOfSets
 pub mod GoodNumbers
 pub mod GoodCombs
 pub mod JudgedSets
+pub mod JudgedTrees
 pub mod Twice
 pub mod Listed
 pub mod BranchVerdicts

@@ -1,5 +1,5 @@
 -- A certificate as it is listed: each leaf by what changes since the leaf before it.
-use Rattle.std.specs.Prelude.{◌≡◌, ◌≢◌, ℕ, ◌+◌, ◌-◌, ◌^◌, ◌<◌, ◌≤◌, length, Bool, true, List, [], ◌∷◌, take, drop, replicate, slice_set, slice_index_or, Option, Some, None, IfSome, ◌⊎◌, ℤ, pos, ◌+ℤ◌, ◌≤ℤ◌}
+use Rattle.std.specs.Prelude.{◌≡◌, ◌≢◌, ℕ, ◌+◌, ◌-◌, ◌^◌, ◌<◌, ◌≤◌, length, Bool, List, [], ◌∷◌, take, drop, replicate, slice_set, slice_index_or, Option, Some, None, IfSome, ◌⊎◌, ℤ, pos, ◌+ℤ◌, ◌≤ℤ◌}
 use Rattle.std.specs.List.{All}
 use Rattle.tsp_format.specs.Cells.{IsNode}
 use Rattle.tsp_format.specs.Steps as listed
@@ -9,8 +9,8 @@ use Rattle.tsp_branch.specs.declared.steps.Judged.TheVariants as judged
 use Rattle.tsp_families.specs.declared.family.Crossings.{Crossings}
 use Rattle.tsp_branch.specs.Families.{Family}
 use Rattle.tsp_branch.specs.declared.decision.Decision.{Decision}
-use Rattle.tsp_branch.specs.Decisions.{DecideOnce, decided_number}
-use Rattle.tsp_branch.specs.Cases.{LeafNumbers, CaseStep, Branch, Leaf, are_trees, leaves_of, cases_of}
+use Rattle.tsp_branch.specs.Decisions.{decided_number}
+use Rattle.tsp_branch.specs.Cases.{LeafNumbers, CaseStep, Branch, Leaf}
 use Rattle.tsp_branch.specs.Certificate.{IsCertificate, IsCertificateBound, BoundsIfAny}
 use Rattle.tsp_branch.specs.GoodNumbers.{AreGoodNumbers}
 
@@ -104,13 +104,6 @@ BoundsCycles directed n cost given (judged.BadLeaf leaf) = Unit {0}
 abbrev pub IsJudgedSized : Judged → Type 0
 IsJudgedSized (judged.Bound found) = IfSome found IsBoundSized
 IsJudgedSized (judged.BadLeaf leaf) = Unit {0}
-
--- what the steps have to be: one whole tree of branches on two different nodes, none of which is on a pair decided above it
-pub record AreSteps (directed : Bool) (n : ℕ) (given : List Decision) (steps : List listed.Step) (listed : List CaseStep)
-    : Type 0 where
-  pub each : All (IsStepOf n) steps
-  pub whole : are_trees 1 listed ≡ true
-  pub once : All (DecideOnce directed) (cases_of (leaves_of (given ∷ []) listed))
 
 -- the lower one of a bound and the lowest so far, where there are both; else the one that there is
 abbrev pub IsLowest : Option ℤ → Option ℤ → Option ℤ → Type 0

@@ -8,49 +8,34 @@ ghost use Rattle.tsp_theory.specs.Length.{sum_int_by};
 ghost use Rattle.tsp_families.specs.FamilySets.{lists_of};
 ghost use Rattle.tsp_branch.specs.states.Sets.{IsMoved, IsPlaceIn, added};
 ghost use Rattle.tsp_branch.specs.states.Lent.{lent_in};
-ghost use Rattle.tsp_branch.specs.states.Combed.{AreSmallDifferences, inside_both};
+ghost use Rattle.tsp_branch.specs.states.Combed.{inside_both};
 
-use crate::families::Families;
+use crate::multiplied::MultipliedFamilies;
 use crate::set_place::SetPlace;
 use crate::sets::add_to_nodes;
 
-/// Adds to a row, at each node of the sets at these places, the multiplier of the set's family
-/// twice.
-pub(crate) fn add_sets(
-    row: &mut [i64],
-    places: &[SetPlace],
-    families: &Families,
-    multipliers: &[i64],
-)
-    requires places { All (IsPlaceIn (lent_in families.now)) places.now }
-    requires row { length row.old ≡ families.now.nodes + 1 }
-    requires as_many { length multipliers.now ≡ length families.now.lent.now }
-    requires small { AreSmallDifferences multipliers.now }
-    ensures { (x : ℕ) → IsMoved (inside_both multipliers.now (lent_in families.now) places.now x)
+/// Adds to a row, at each node of the sets at these places, the number of the set's family twice.
+pub(crate) fn add_sets(row: &mut [i64], places: &[SetPlace], multiplied: &MultipliedFamilies)
+    requires places { All (IsPlaceIn (lent_in multiplied.now.families.now)) places.now }
+    requires row { length row.old ≡ multiplied.now.families.now.nodes + 1 }
+    ensures { (x : ℕ) → IsMoved (inside_both multiplied.now.numbers.now (lent_in multiplied.now.families.now) places.now x)
         (least_at row.old x) (least_at row.new x) }
 {
     'places: for place in places {
-        let nodes = families.set_at(*place);
-        add_where_any(row, nodes, 2 * multipliers[place.family as usize]);
+        let nodes = multiplied.families.set_at(*place);
+        add_where_any(row, nodes, 2 * multiplied.numbers[place.family as usize]);
     }
 }
 
 /// The same to a row of a list of rows.
-pub(crate) fn add_to_row(
-    row: &mut Vec<i64>,
-    places: &[SetPlace],
-    families: &Families,
-    multipliers: &[i64],
-)
-    requires places { All (IsPlaceIn (lent_in families.now)) places.now }
-    requires row { length row.old.items ≡ families.now.nodes + 1 }
-    requires as_many { length multipliers.now ≡ length families.now.lent.now }
-    requires small { AreSmallDifferences multipliers.now }
-    ensures moved { (x : ℕ) → IsMoved (inside_both multipliers.now (lent_in families.now) places.now x)
+pub(crate) fn add_to_row(row: &mut Vec<i64>, places: &[SetPlace], multiplied: &MultipliedFamilies)
+    requires places { All (IsPlaceIn (lent_in multiplied.now.families.now)) places.now }
+    requires row { length row.old.items ≡ multiplied.now.families.now.nodes + 1 }
+    ensures moved { (x : ℕ) → IsMoved (inside_both multiplied.now.numbers.now (lent_in multiplied.now.families.now) places.now x)
         (least_at row.old.items x) (least_at row.new.items x) }
     ensures long { length row.new.items ≡ length row.old.items }
 {
-    add_sets(row, places, families, multipliers);
+    add_sets(row, places, multiplied);
 }
 
 /// Adds a number at each node of each of these sets.

@@ -4,49 +4,45 @@ ghost use Rattle.std.specs.Prelude.{◌≡◌, ◌≤◌, ◌<◌, ◌^◌, fals
 ghost use Rattle.std.specs.List.{All};
 ghost use Rattle.tsp_format.specs.states.TreeSteps.{steps_of};
 ghost use Rattle.tsp_theory.specs.Costs.{IsSymmetric};
-ghost use Rattle.tsp_theory.specs.Numbers.{IsScale};
 ghost use Rattle.tsp_branch.specs.Families.{IsFamily};
 ghost use Rattle.tsp_branch.specs.Decisions.{DecideOnce, decided_number};
 ghost use Rattle.tsp_branch.specs.states.Lent.{lent_in, good_in};
 ghost use Rattle.tsp_branch.specs.Certificate.{IsFoundAt};
-ghost use Rattle.tsp_branch.specs.states.Decided.{IsDecision};
 ghost use Rattle.tsp_branch.specs.states.OpenCases.{IsOpenCase, decisions_in};
-ghost use Rattle.tsp_branch.specs.Listed.{no_numbers_of, listed_steps, AreSteps, IsJudged, BoundsCycles, IsJudgedSized, IsLowest};
+ghost use Rattle.tsp_branch.specs.Listed.{IsJudged, BoundsCycles, IsJudgedSized, IsLowest};
 ghost use Rattle.tsp_branch.specs.states.Kept.{HoldsRows};
 ghost use Rattle.tsp_branch.specs.states.Rooms.{IsRoom, AreSmall, IsJudgedLeaf, IsSizedLeaf};
 
-use crate::case_tree::CaseTree;
+use crate::case_leaf::CaseLeaf;
 use crate::families::Families;
 use crate::judge::judge;
-use crate::kept::KeptRows;
 use crate::laws::certificates_bound_cycles;
 use crate::moved::fill_moved;
 use crate::numbers::add_differences;
 use crate::open_case::OpenCase;
-use crate::open_leaf::OpenLeaf;
 use crate::room::Room;
 use crate::sets::sets_by_node;
 use crate::setting::Setting;
 use crate::steps::{Judged, JudgedLeaf};
+use crate::tree_cases::Cases;
 use std::alloc::Global;
 use tsp_format::TreeStep;
 use tsp_memory::Refused;
 use tsp_theory::Costs;
 
-/// The bound of a tree of cases: the least of the bounds of its leaves, which is at most the length
-/// of every cycle that keeps the given decisions, or none where no leaf has one. Or the first leaf
-/// that isn't good: one with an index past those of the nodes and the families, with a potential
-/// above 10^15 in size, with a negative multiplier, or with multipliers that sum to more than
-/// 9 * 10^17, where each counts as often as two nodes cross its family at most.
+/// The bound of cases: the least of the bounds of the leaves, which is at most the length of every
+/// cycle that keeps the given decisions, or none where no leaf has one. Or the first leaf that is
+/// not good: one with an index past those of the nodes and the families, with a potential above
+/// 10^15 in size, with a negative multiplier, or with multipliers that sum to more than 9 * 10^17,
+/// where each counts as often as two nodes cross its family at most.
 ///
 /// Where pairs have no direction the bound of a leaf is that of a least 1-tree, else that of the
 /// least link from each node.
 ///
 /// # Requires
 ///
-/// Three or more nodes, costs that are the same in both directions where pairs have none, a scale
-/// of 1 to 1,000,000, good families and decisions of these nodes, one whole tree of branches, and
-/// that no case decides a pair twice.
+/// Three or more nodes, costs that are the same in both directions where pairs have none, and
+/// families and cases of these nodes.
 ///
 /// # Errors
 ///
@@ -55,47 +51,30 @@ use tsp_theory::Costs;
 /// 2,000 nodes, where there is any.
 pub fn branch_bound<C: Costs>(
     alloc: Global,
-    tree: &CaseTree<C>,
+    costs: &C,
     families: &Families,
+    cases: &Cases,
 ) -> Result<Judged, Refused>
-    requires some { 3 ≤ C.nodes tree.now.costs.now }
-    requires even { tree.now.directed ≡ false → IsSymmetric (C.at tree.now.costs.now) }
-    requires scaled { IsScale tree.now.scale }
-    requires few_given { length tree.now.given.now < 2 ^ 32 }
-    requires few_steps { length tree.now.steps.now < 2 ^ 32 }
-    requires same { families.now.nodes ≡ C.nodes tree.now.costs.now }
-    requires are_families { All (IsFamily (C.nodes tree.now.costs.now)) (good_in families.now) }
-    requires given_are { All (IsDecision (C.nodes tree.now.costs.now)) tree.now.given.now }
-    requires steps { AreSteps tree.now.directed (C.nodes tree.now.costs.now) tree.now.given.now
-        (steps_of tree.now.steps.now)
-        (listed_steps (C.nodes tree.now.costs.now) (length families.now.crossed.items) (steps_of tree.now.steps.now)) }
-    ensures judged { IfOk result (IsJudged tree.now.directed (C.nodes tree.now.costs.now) (C.at tree.now.costs.now)
-        tree.now.scale (good_in families.now) families.now.crossed.items tree.now.given.now
-        (steps_of tree.now.steps.now)) }
-    ensures cycles { IfOk result (BoundsCycles tree.now.directed (C.nodes tree.now.costs.now) (C.at tree.now.costs.now)
-        tree.now.given.now) }
+    requires some { 3 ≤ C.nodes costs.now }
+    requires even { cases.now.directed ≡ false → IsSymmetric (C.at costs.now) }
+    requires families { families.now.nodes ≡ C.nodes costs.now }
+    requires cases { cases.now.nodes ≡ C.nodes costs.now }
+    ensures judged { IfOk result (λ judged. All (IsFamily (C.nodes costs.now)) (good_in families.now)
+        → IsJudged cases.now.directed (C.nodes costs.now) (C.at costs.now) cases.now.scale (good_in families.now)
+        families.now.crossed.items cases.now.given.now (steps_of cases.now.steps.now) judged) }
+    ensures cycles { IfOk result
+        (BoundsCycles cases.now.directed (C.nodes costs.now) (C.at costs.now) cases.now.given.now) }
     ensures size { IfOk result IsJudgedSized }
 {
     certificates_bound_cycles();
-    let count = tree.costs.count();
-    let kept = KeptRows::new(
-        alloc,
-        tree.costs,
-        tree.scale,
-        families.lent.len(),
-        tree.steps.len(),
-    )?;
     let by_node = sets_by_node(alloc, families)?;
-    let room = Room::new(alloc, count as usize, families.lent.len(), kept)?;
     let setting = Setting {
-        costs: tree.costs,
-        directed: tree.directed,
-        scale: tree.scale,
+        costs,
+        cases,
         families,
         by_node: &by_node,
-        given: tree.given,
     };
-    judge_leaves(alloc, &setting, tree.steps, room)
+    judge_leaves(alloc, &setting)
 }
 
 /// The least of the bounds of the leaves, or the first leaf that isn't good.
@@ -103,31 +82,19 @@ pub fn branch_bound<C: Costs>(
 /// # Errors
 ///
 /// Out of memory.
-fn judge_leaves<C: Costs>(
-    alloc: Global,
-    setting: &Setting<C>,
-    steps: &[TreeStep],
-    mut room: Room,
-) -> Result<Judged, Refused>
-    requires few_steps { length steps.now < 2 ^ 32 }
-    requires are_families { All (IsFamily (C.nodes setting.now.costs.now)) (good_in setting.now.families.now) }
-    requires steps { AreSteps setting.now.directed (C.nodes setting.now.costs.now) setting.now.given.now
-        (steps_of steps.now)
-        (listed_steps (C.nodes setting.now.costs.now) (length setting.now.families.now.crossed.items) (steps_of steps.now)) }
-    requires room { IsRoom (C.nodes setting.now.costs.now) (length setting.now.families.now.crossed.items) room }
-    requires kept { HoldsRows (C.nodes setting.now.costs.now) (length setting.now.families.now.crossed.items) setting.now.scale
-        (lent_in setting.now.families.now) (C.at setting.now.costs.now) room.kept }
-    requires start { room.numbers.items ≡ no_numbers_of (C.nodes setting.now.costs.now) (length setting.now.families.now.crossed.items) }
-    ensures judged { IfOk result (IsJudged setting.now.directed (C.nodes setting.now.costs.now) (C.at setting.now.costs.now)
-        setting.now.scale (good_in setting.now.families.now) setting.now.families.now.crossed.items
-        setting.now.given.now (steps_of steps.now)) }
+fn judge_leaves<C: Costs>(alloc: Global, setting: &Setting<C>) -> Result<Judged, Refused>
+    ensures judged { IfOk result (λ judged. All (IsFamily (C.nodes setting.now.costs.now)) (good_in setting.now.families.now)
+        → IsJudged setting.now.cases.now.directed (C.nodes setting.now.costs.now) (C.at setting.now.costs.now)
+        setting.now.cases.now.scale (good_in setting.now.families.now) setting.now.families.now.crossed.items
+        setting.now.cases.now.given.now (steps_of setting.now.cases.now.steps.now) judged) }
     ensures size { IfOk result IsJudgedSized }
 {
-    let count = setting.costs.count();
-    let mut case = OpenCase::new(alloc, setting.directed, count, setting.given)?;
+    let cases = setting.cases;
+    let mut room = Room::new(alloc, setting)?;
+    let mut case = OpenCase::new(alloc, cases)?;
     let mut lowest = None;
     let mut leaf = 0;
-    'steps: for step in steps {
+    'steps: for step in cases.steps {
         match step {
             TreeStep::Branch(first, second) => case.take((*first, *second))?,
             TreeStep::Leaf(changes) => {
@@ -156,26 +123,24 @@ fn judge_leaf<C: Costs>(
     case: &OpenCase,
     room: &mut Room,
 ) -> Result<JudgedLeaf, Refused>
-    requires are_families { All (IsFamily (C.nodes setting.now.costs.now)) (good_in setting.now.families.now) }
     requires few_changes { length changes.now < 2 ^ 32 }
-    requires few { length case.now.stack.items < 2 ^ 32 }
+    requires few { length (decisions_in case.now) < 2 ^ 33 }
     requires case { IsOpenCase (C.nodes setting.now.costs.now) case.now }
-    requires direction { case.now.by_node.directed ≡ setting.now.directed }
-    requires given { case.now.given.now ≡ setting.now.given.now }
-    requires once { DecideOnce setting.now.directed (decisions_in case.now) }
+    requires direction { case.now.by_node.directed ≡ setting.now.cases.now.directed }
+    requires once { DecideOnce setting.now.cases.now.directed (decisions_in case.now) }
     requires room { IsRoom (C.nodes setting.now.costs.now) (length setting.now.families.now.crossed.items) room.old }
-    requires kept { HoldsRows (C.nodes setting.now.costs.now) (length setting.now.families.now.crossed.items) setting.now.scale
+    requires kept { HoldsRows (C.nodes setting.now.costs.now) (length setting.now.families.now.crossed.items) setting.now.cases.now.scale
         (lent_in setting.now.families.now) (C.at setting.now.costs.now) room.old.kept }
     requires small { AreSmall room.old.numbers.items }
-    ensures judged { IfOk result (IsJudgedLeaf (IsFoundAt setting.now.directed (C.nodes setting.now.costs.now)
-        (C.at setting.now.costs.now) setting.now.scale decided_number
+    ensures judged { IfOk result (IsJudgedLeaf (IsFoundAt setting.now.cases.now.directed (C.nodes setting.now.costs.now)
+        (C.at setting.now.costs.now) setting.now.cases.now.scale decided_number
         (good_in setting.now.families.now))
         (C.nodes setting.now.costs.now) setting.now.families.now.crossed.items
         (decisions_in case.now) room.old.numbers.items changes.now
         room.new.numbers.items) }
     ensures room { IfOk result (λ own. IsRoom (C.nodes setting.now.costs.now) (length setting.now.families.now.crossed.items) room.new) }
     ensures kept { IfOk result (λ own. HoldsRows (C.nodes setting.now.costs.now)
-        (length setting.now.families.now.crossed.items) setting.now.scale (lent_in setting.now.families.now) (C.at setting.now.costs.now) room.new.kept) }
+        (length setting.now.families.now.crossed.items) setting.now.cases.now.scale (lent_in setting.now.families.now) (C.at setting.now.costs.now) room.new.kept) }
     ensures size { IfOk result IsSizedLeaf }
 {
     if !add_differences(&mut room.numbers, changes) {
@@ -192,13 +157,15 @@ fn judge_leaf<C: Costs>(
     room.kept
         .bring_to(&room.multipliers, setting.by_node, setting.families);
     fill_moved(&mut room.moved, &room.potentials, &room.kept.ends);
-    let leaf = OpenLeaf {
+    let leaf = CaseLeaf {
+        setting,
+        case,
         potentials: &room.potentials,
         multipliers: &room.multipliers,
         moved: &room.moved,
         kept: &room.kept.rows,
     };
-    let bound = setting.case_bound(alloc, &leaf, case, &mut room.row)?;
+    let bound = leaf.bound(alloc, &mut room.row)?;
     Ok(JudgedLeaf::Found(bound))
 }
 

@@ -11,11 +11,11 @@ ghost use Rattle.tsp_branch.specs.states.Combed.{AreSmallMultipliers, AreFewCros
 ghost use Rattle.tsp_branch.specs.states.Kept.{AreMoved, AreRowsIfAny, kept_weight};
 
 use crate::add_sets::{add_sets, sum_left};
+use crate::case_leaf::CaseLeaf;
 use crate::families::Families;
-use crate::open_leaf::OpenLeaf;
+use crate::multiplied::MultipliedFamilies;
 use crate::scaled::{scale_row, shift_row};
 use crate::set_place::SetPlace;
-use crate::setting::Setting;
 use tsp_theory::Costs;
 use tsp_tree::{Weights, weight_in};
 
@@ -58,35 +58,22 @@ impl<'a, C: Costs> CombedWeights<'a, C> {
     ghost use Rattle.tsp_branch.specs.states.Sets.{IsMoved};
     ghost use Rattle.tsp_branch.specs.states.Lent.{lent_in};
     ghost use Rattle.tsp_branch.specs.states.Combed.{AreSmallMultipliers, multipliers_at, AreFewCrossings, IsApart, most_combed, set_weight};
-    ghost use Rattle.tsp_branch.specs.states.Kept.{IsOpenLeaf};
 
     /// The weights of a leaf without its decisions.
-    ///
-    /// # Requires
-    ///
-    /// - as many potentials as nodes, each at most 10^15 in size;
-    /// - multipliers from 0 to 9 * 10^17, of which no two nodes cross more than 9 * 10^17.
-    pub(crate) fn of(setting: &Setting<'a, C>, leaf: &OpenLeaf<'a>) -> CombedWeights<'a, C>
-        requires leaf { IsOpenLeaf (C.nodes setting.now.costs.now) setting.now.scale (lent_in setting.now.families.now)
-            (C.at setting.now.costs.now) leaf.now }
-        requires small { AreSmallMultipliers leaf.now.multipliers.now }
-        requires as_many { length leaf.now.multipliers.now ≡ length setting.now.families.now.lent.now }
-        requires long { length leaf.now.potentials.now ≡ C.nodes setting.now.costs.now }
-        requires potentials_are { ArePotentials leaf.now.potentials.now }
-        requires crossed { AreFewCrossings (C.nodes setting.now.costs.now) leaf.now.multipliers.now (lent_in setting.now.families.now) }
-        ensures nodes { C.nodes result.costs.now ≡ C.nodes setting.now.costs.now }
+    pub(crate) fn of(leaf: &CaseLeaf<'a, C>) -> CombedWeights<'a, C>
+        ensures nodes { C.nodes result.costs.now ≡ C.nodes leaf.now.setting.now.costs.now }
         ensures weights { (i j : ℕ) → set_weight result.scale result.potentials.now result.multipliers.now
             (lent_in result.families.now) (C.at result.costs.now) i j
-            ≡ set_weight setting.now.scale leaf.now.potentials.now leaf.now.multipliers.now (lent_in setting.now.families.now)
-            (C.at setting.now.costs.now) i j }
+            ≡ set_weight leaf.now.setting.now.cases.now.scale leaf.now.potentials.now leaf.now.multipliers.now
+            (lent_in leaf.now.setting.now.families.now) (C.at leaf.now.setting.now.costs.now) i j }
     {
         CombedWeights {
-            costs: setting.costs,
-            scale: setting.scale,
+            costs: leaf.setting.costs,
+            scale: leaf.setting.cases.scale,
             potentials: leaf.potentials,
             multipliers: leaf.multipliers,
-            families: setting.families,
-            by_node: setting.by_node,
+            families: leaf.setting.families,
+            by_node: leaf.setting.by_node,
             moved: leaf.moved,
             kept: leaf.kept,
         }
@@ -146,45 +133,6 @@ impl<'a, C: Costs> CombedWeights<'a, C> {
         }
     }
 
-    /// A row of these at some nodes, by the sets of the node.
-    fn fill_by_sets_at(&self, from: u32, to: &[u32], row: &mut [i64])
-        requires from { IsNode (C.nodes self.now.costs.now) from }
-        requires to { (k : ℕ) → k < length to.now → IsNode (C.nodes self.now.costs.now) (slice_index to.now k) }
-        requires room { length row.old ≡ C.nodes self.now.costs.now + 1 }
-        ensures values { (k : ℕ) → k < length to.now → least_at row.new (slice_index to.now k)
-            ≡ set_weight self.now.scale self.now.potentials.now self.now.multipliers.now
-            (lent_in self.now.families.now) (C.at self.now.costs.now) from (slice_index to.now k) }
-        ensures sizes { (k : ℕ) → k < length to.now
-            → IsFromTo (neg_ℤ (pos most_combed)) (pos most_combed) (least_at row.new (slice_index to.now k)) }
-    {
-        self.fill_apart_at(from, to, row);
-        add_sets(
-            row,
-            &self.by_node[from as usize],
-            self.families,
-            self.multipliers,
-        );
-    }
-
-    /// A row of these by the sets of the node.
-    fn fill_by_sets(&self, from: u32, row: &mut [i64])
-        requires from { IsNode (C.nodes self.now.costs.now) from }
-        requires room { length row.old ≡ C.nodes self.now.costs.now + 1 }
-        ensures values { (x : ℕ) → IsNode (C.nodes self.now.costs.now) x → least_at row.new x
-            ≡ set_weight self.now.scale self.now.potentials.now self.now.multipliers.now
-            (lent_in self.now.families.now) (C.at self.now.costs.now) from x }
-        ensures sizes { (x : ℕ) → IsNode (C.nodes self.now.costs.now) x
-            → IsFromTo (neg_ℤ (pos most_combed)) (pos most_combed) (least_at row.new x) }
-    {
-        self.fill_apart(from, row);
-        add_sets(
-            row,
-            &self.by_node[from as usize],
-            self.families,
-            self.multipliers,
-        );
-    }
-
     /// A row of these by the one that is kept.
     fn fill_by_kept(&self, from: u32, row: &mut [i64])
         requires kept { 1 ≤ length self.now.kept.now }
@@ -211,12 +159,17 @@ impl<'a, C: Costs> CombedWeights<'a, C> {
         ensures sizes { (k : ℕ) → k < length to.now
             → IsFromTo (neg_ℤ (pos most_combed)) (pos most_combed) (least_at row.new (slice_index to.now k)) }
     {
-        if self.kept.is_empty() {
-            self.fill_by_sets_at(from, to, row);
-        } else {
+        if !self.kept.is_empty() {
             // A whole row in order takes less time than half of it by node.
             self.fill_by_kept(from, row);
+            return;
         }
+        self.fill_apart_at(from, to, row);
+        let multiplied = MultipliedFamilies {
+            families: self.families,
+            numbers: self.multipliers,
+        };
+        add_sets(row, &self.by_node[from as usize], &multiplied);
     }
 
     /// Writes a row as `fill` does, of weights that are at most 2 * 10^18 in size.
@@ -229,11 +182,16 @@ impl<'a, C: Costs> CombedWeights<'a, C> {
         ensures sizes { (x : ℕ) → IsNode (C.nodes self.now.costs.now) x
             → IsFromTo (neg_ℤ (pos most_combed)) (pos most_combed) (least_at row.new x) }
     {
-        if self.kept.is_empty() {
-            self.fill_by_sets(from, row);
-        } else {
+        if !self.kept.is_empty() {
             self.fill_by_kept(from, row);
+            return;
         }
+        self.fill_apart(from, row);
+        let multiplied = MultipliedFamilies {
+            families: self.families,
+            numbers: self.multipliers,
+        };
+        add_sets(row, &self.by_node[from as usize], &multiplied);
     }
 }
 

@@ -1,10 +1,10 @@
 //! Weights that decisions change.
 
-ghost use Rattle.std.specs.Prelude.{◌≡◌, ◌<◌, ◌≢◌, ℕ, false, length};
+ghost use Rattle.std.specs.Prelude.{◌≡◌, ℕ, false, length};
 ghost use Rattle.std.specs.List.{All};
 ghost use Rattle.tsp_theory.specs.states.Nearest.{least_at};
 ghost use Rattle.tsp_branch.specs.states.Sets.{IsMoved};
-ghost use Rattle.tsp_branch.specs.states.Decided.{IsChanged, AreFewChanges, changes};
+ghost use Rattle.tsp_branch.specs.states.Decided.{IsInside, IsChanged, AreFewChanges, changes};
 ghost use Rattle.tsp_branch.specs.states.OpenCases.{IsOpenCase, decisions_in};
 
 use crate::combed::CombedWeights;
@@ -20,41 +20,11 @@ pub(crate) const DECIDED: i64 = 4_000_000_000_000_000_000;
 /// Weights under combs, less a number for each taken pair and more by it for each avoided one.
 #[derive(Drop)]
 pub(crate) struct DecidedWeights<'a, C: Costs> {
-    combed: &'a CombedWeights<'a, C>,
-    case: &'a OpenCase<'a>,
+    pub(crate) combed: &'a CombedWeights<'a, C>,
+    pub(crate) case: &'a OpenCase<'a>,
     ghost is_case: { IsOpenCase (C.nodes combed.now.costs.now) case.now },
     ghost both: { case.now.by_node.directed ≡ false },
     ghost once: { AreFewChanges (decisions_in case.now) },
-}
-
-impl<'a, C: Costs> DecidedWeights<'a, C> {
-    ghost use Rattle.std.specs.Prelude.{◌≡◌, ℕ, false};
-    ghost use Rattle.tsp_branch.specs.states.Lent.{lent_in};
-    ghost use Rattle.tsp_branch.specs.states.Combed.{set_weight};
-    ghost use Rattle.tsp_branch.specs.states.Decided.{AreFewChanges, decided};
-    ghost use Rattle.tsp_branch.specs.states.OpenCases.{IsOpenCase, decisions_in};
-
-    /// The weights under the decisions of a case.
-    ///
-    /// # Requires
-    ///
-    /// Pairs without a direction, no two of which are the same pair.
-    pub(crate) fn of(
-        combed: &'a CombedWeights<'a, C>,
-        case: &'a OpenCase<'a>,
-    ) -> DecidedWeights<'a, C>
-        requires case { IsOpenCase (C.nodes combed.now.costs.now) case.now }
-        requires both { case.now.by_node.directed ≡ false }
-        requires once { AreFewChanges (decisions_in case.now) }
-        ensures nodes { C.nodes result.combed.now.costs.now ≡ C.nodes combed.now.costs.now }
-        ensures weights { (i j : ℕ) → decided (decisions_in result.case.now)
-            (set_weight result.combed.now.scale result.combed.now.potentials.now result.combed.now.multipliers.now
-            (lent_in result.combed.now.families.now) (C.at result.combed.now.costs.now)) i j
-            ≡ decided (decisions_in case.now) (set_weight combed.now.scale combed.now.potentials.now
-            combed.now.multipliers.now (lent_in combed.now.families.now) (C.at combed.now.costs.now)) i j }
-    {
-        DecidedWeights { combed, case }
-    }
 }
 
 impl<C: Costs> Weights for DecidedWeights<'_, C> {
@@ -87,8 +57,7 @@ impl<C: Costs> Weights for DecidedWeights<'_, C> {
 
 /// Changes the row of a node by decisions.
 fn change_row(row: &mut [i64], decisions: &[Decision], from: u32)
-    requires { All (λ decision. (decision.pair.0 < length row.old) × (decision.pair.1 < length row.old)
-        × (decision.pair.0 ≢ decision.pair.1)) decisions.now }
+    requires { All (IsInside (length row.old)) decisions.now }
     ensures { (x : ℕ) → IsMoved (changes decisions.now from x) (least_at row.old x) (least_at row.new x) }
 {
     'decisions: for decision in decisions {
@@ -101,9 +70,7 @@ fn change_row(row: &mut [i64], decisions: &[Decision], from: u32)
 /// What two decisions on one pair come to may go past 64 bits on the way, so sums are taken in
 /// their remainders.
 fn change(row: &mut [i64], decision: Decision, from: u32)
-    requires first { decision.pair.0 < length row.old }
-    requires second { decision.pair.1 < length row.old }
-    requires differ { decision.pair.0 ≢ decision.pair.1 }
+    requires { IsInside (length row.old) decision }
     ensures { (x : ℕ) → IsChanged decision from x (least_at row.old x) (least_at row.new x) }
 {
     let (first, second) = decision.pair;

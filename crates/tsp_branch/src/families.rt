@@ -3,6 +3,8 @@
 ghost use Rattle.std.specs.Prelude.{◌≡◌, ◌≤◌, ◌<◌, ◌-◌, ◌^◌, length};
 ghost use Rattle.std.specs.List.{All};
 ghost use Rattle.tsp_families.specs.FamilySets.{families_in, AreFamiliesOf};
+ghost use Rattle.tsp_branch.specs.Families.{IsFamily};
+ghost use Rattle.tsp_branch.specs.CombsOfSets.{families_with};
 ghost use Rattle.tsp_branch.specs.GoodCombs.{HasEachOnce};
 ghost use Rattle.tsp_branch.specs.states.FamilyNumbers.{AreSmallCrossings};
 
@@ -24,6 +26,7 @@ pub struct Families<'a> {
     ghost few: { length lent.now < 2 ^ 32 },
     ghost few_sets: { All (λ sets. length sets.items < 2 ^ 32) lent.now },
     ghost inside: { AreFamiliesOf nodes lent.now },
+    ghost are: { ∥ All (IsFamily nodes) (families_with crossed.items (families_in lent.now)) ∥₁ },
     ghost once: { All (All HasEachOnce) (families_in lent.now) },
     ghost small: { AreSmallCrossings crossed.items },
     ghost some: { All (λ own. 1 ≤ own.most) crossed.items },

@@ -12,27 +12,21 @@ ghost use Rattle.tsp_branch.specs.CombsOfSets.{least_with};
 ghost use Rattle.tsp_branch.specs.states.Lent.{good_in};
 ghost use Rattle.tsp_branch.specs.states.FamilyNumbers.{AreSmallCrossings};
 
+use crate::case_leaf::CaseLeaf;
 use crate::decided::DECIDED;
 use crate::decision::Decision;
-use crate::families::Families;
 use tsp_families::Crossings;
+use tsp_theory::Costs;
 
 /// The least crossings of a leaf's families, each times its multiplier, less each potential twice:
 /// at most 2^98 in size.
-///
-/// # Requires
-///
-/// Multipliers of the families that aren't negative and sum to at most 9 * 10^17.
-pub(crate) fn given_back(potentials: &[i64], multipliers: &[i64], families: &Families) -> i128
-    requires few_potentials { length potentials.now < 2 ^ 32 }
-    requires as_many { length families.now.crossed.items ≡ length multipliers.now }
-    requires signs { All (λ multiplier. pos 0 ≤ℤ multiplier) multipliers.now }
-    requires sum { total multipliers.now ≤ℤ pos most_crossed }
-    ensures value { result ≡ least_of (multiplied (good_in families.now) multipliers.now)
-        -ℤ (pos 2 *ℤ total potentials.now) }
+pub(crate) fn given_back<C: Costs>(leaf: &CaseLeaf<C>) -> i128
+    ensures value { result ≡ least_of (multiplied (good_in leaf.now.setting.now.families.now) leaf.now.multipliers.now)
+        -ℤ (pos 2 *ℤ total leaf.now.potentials.now) }
     ensures size { IsFromTo (neg_ℤ (pos (2 ^ 98))) (pos (2 ^ 98)) result }
 {
-    multiplied_crossings(&families.crossed, multipliers) - 2 * total(potentials)
+    let crossed = &leaf.setting.families.crossed;
+    multiplied_crossings(crossed, leaf.multipliers) - 2 * total(leaf.potentials)
 }
 
 /// The least crossings of families, each times its multiplier.

@@ -4,7 +4,7 @@ ghost use Rattle.std.specs.Prelude.{◌≡◌, ◌≤◌, ◌<◌, ◌-◌, ◌+
 ghost use Rattle.std.specs.List.{All};
 ghost use Rattle.tsp_format.specs.Cells.{IsNode};
 ghost use Rattle.tsp_families.specs.Crossed.{has};
-ghost use Rattle.tsp_families.specs.FamilySets.{AreSetsOf, AreFamiliesOf, lists_of};
+ghost use Rattle.tsp_families.specs.FamilySets.{AreSetsOf, lists_of};
 ghost use Rattle.tsp_branch.specs.Combs.{IsTooth, comb_of};
 ghost use Rattle.tsp_branch.specs.Families.{IsLoneSet, least_crossings_of};
 ghost use Rattle.tsp_branch.specs.GoodCombs.{IsGoodComb, IsToothCount};
@@ -12,48 +12,42 @@ ghost use Rattle.tsp_branch.specs.JudgedSets.{AreFamiliesJudged};
 ghost use Rattle.tsp_branch.specs.states.FamilyNumbers.{HasNumbers, IsSmall};
 ghost use Rattle.tsp_branch.specs.states.Marked.{is_marked, AreUnmarked, HavePlaces, AddsNoOther, AreTeeth};
 
+use crate::case_tree::CaseTree;
 use crate::families::Families;
 use crate::marks::{has_node, leaves_one_out, mark_nodes};
 use crate::other_families::other_crossings;
 use crate::steps::JudgedFamilies;
 use std::alloc::Global;
-use tsp_families::Crossings;
+use tsp_families::{Crossings, NodeSets};
 use tsp_memory::{Refused, filled, push};
+use tsp_theory::Costs;
 
-/// The numbers of families, or the first one that isn't good, counted from 1: one with a node twice
+/// The families of a tree, or the first one that isn't good, counted from 1: one with a node twice
 /// in a set, or one that is neither a lone set nor a comb and that has more than 63 sets, or whose
 /// nodes make more than 14 parts or one alone. Two nodes are in one part where they are in the same
 /// sets.
 ///
-/// The families are given by their sets, of a comb the handle before the teeth.
-///
-/// # Requires
-///
-/// Sets of nodes.
-///
 /// # Errors
 ///
 /// Out of memory, of which it takes some for each node and for each family.
-pub fn judge_families<'a>(
+pub fn judge_families<'a, C: Costs>(
     alloc: Global,
-    nodes: u32,
-    families: &'a [Vec<Vec<u32>>],
+    tree: &CaseTree<'a, C>,
 ) -> Result<JudgedFamilies<'a>, Refused>
-    requires some { 1 ≤ nodes }
-    requires few_nodes { nodes < 2 ^ 32 - 1 }
-    requires few { length families.now < 2 ^ 32 }
-    requires few_sets { All (λ sets. length sets.items < 2 ^ 32) families.now }
-    requires nodes { AreFamiliesOf nodes families.now }
-    ensures { IfOk result (AreFamiliesJudged nodes families.now) }
+    ensures { IfOk result (AreFamiliesJudged (C.nodes tree.now.costs.now) tree.now.families.now) }
 {
+    let nodes = tree.costs.count();
     let mut handles = filled(alloc, 0, nodes as usize + 1)?;
     let mut teeth = filled(alloc, 0, nodes as usize + 1)?;
     let mut crossed = Vec::new(alloc);
-    'families: for number in 0..families.len() {
+    'families: for number in 0..tree.families.len() {
         // Marks from 1 on, since 0 means no mark.
         let mark = number as u32 + 1;
-        let own = &families[number];
-        let found = crossings_of(alloc, nodes, &mut handles, &mut teeth, mark, own)?;
+        let own = NodeSets {
+            nodes,
+            sets: &tree.families[number],
+        };
+        let found = crossings_of(alloc, &mut handles, &mut teeth, mark, &own)?;
         let Some(numbers) = found else {
             return Ok(JudgedFamilies::Bad(number + 1));
         };
@@ -61,7 +55,7 @@ pub fn judge_families<'a>(
     }
     Ok(JudgedFamilies::Good(Families {
         nodes,
-        lent: families,
+        lent: tree.families,
         crossed,
     }))
 }
@@ -74,31 +68,26 @@ pub fn judge_families<'a>(
 /// Out of memory.
 fn crossings_of(
     alloc: Global,
-    nodes: u32,
     handles: &mut [u32],
     used: &mut [u32],
     mark: u32,
-    sets: &[Vec<u32>],
+    family: &NodeSets,
 ) -> Result<Option<Crossings>, Refused>
-    requires some { 1 ≤ nodes }
-    requires few_nodes { nodes < 2 ^ 32 - 1 }
-    requires few_sets { length sets.now < 2 ^ 32 }
-    requires nodes { AreSetsOf nodes sets.now }
-    requires handle_places { length handles.old ≡ nodes + 1 }
-    requires tooth_places { length used.old ≡ nodes + 1 }
+    requires handle_places { length handles.old ≡ family.now.nodes + 1 }
+    requires tooth_places { length used.old ≡ family.now.nodes + 1 }
     requires fresh_handle { AreUnmarked handles.old mark }
     requires fresh_teeth { AreUnmarked used.old mark }
-    ensures found { IfOk result (HasNumbers nodes (lists_of sets.now)) }
+    ensures found { IfOk result (HasNumbers family.now.nodes (lists_of family.now.sets.now)) }
     ensures small { IfOk result (λ found. IfSome found IsSmall) }
     ensures handle_others { AddsNoOther mark handles.old handles.new }
     ensures tooth_others { AddsNoOther mark used.old used.new }
     ensures handle_length { length handles.new ≡ length handles.old }
     ensures tooth_length { length used.new ≡ length used.old }
 {
-    if is_comb(handles, used, mark, sets) {
-        return Ok(Some(known_crossings(sets.len())));
+    if is_comb(handles, used, mark, family.sets) {
+        return Ok(Some(known_crossings(family.sets.len())));
     }
-    other_crossings(alloc, nodes, sets)
+    other_crossings(alloc, family)
 }
 
 /// The numbers of a lone set or a comb with this many sets: a cycle crosses a lone set twice at

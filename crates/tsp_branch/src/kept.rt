@@ -4,7 +4,6 @@ ghost use Rattle.std.specs.Prelude.{◌≡◌, ◌≤◌, ◌<◌, ◌+◌, ℕ,
 ghost use Rattle.std.specs.Global.{Vec};
 ghost use Rattle.std.specs.List.{All};
 ghost use Rattle.tsp_format.specs.Cells.{IsNode};
-ghost use Rattle.tsp_theory.specs.Numbers.{IsScale};
 ghost use Rattle.tsp_theory.specs.states.Nearest.{least_at};
 ghost use Rattle.tsp_branch.specs.states.Sets.{IsPlaceIn};
 ghost use Rattle.tsp_branch.specs.states.Lent.{lent_in};
@@ -14,8 +13,10 @@ ghost use Rattle.tsp_branch.specs.states.Kept.{IsKeptRow, AreRows, AreRowsIfAny,
 use crate::add_sets::add_to_row;
 use crate::families::Families;
 use crate::moved::take_multipliers;
+use crate::multiplied::MultipliedFamilies;
 use crate::scaled::scale_row;
 use crate::set_place::SetPlace;
+use crate::setting::Setting;
 use std::alloc::Global;
 use tsp_memory::{Refused, filled, push, with_capacity};
 use tsp_theory::Costs;
@@ -36,35 +37,27 @@ pub(crate) struct KeptRows {
 }
 
 impl KeptRows {
-    ghost use Rattle.std.specs.Prelude.{◌≡◌, ◌<◌, ◌^◌, ℕ, ℤ, List, [], length, IfOk};
-    ghost use Rattle.tsp_theory.specs.Numbers.{IsScale};
+    ghost use Rattle.std.specs.Prelude.{◌≡◌, ℕ, ℤ, length, IfOk};
     ghost use Rattle.tsp_branch.specs.states.Sets.{IsSetTable};
     ghost use Rattle.tsp_branch.specs.states.Lent.{lent_in};
     ghost use Rattle.tsp_branch.specs.states.Combed.{AreSmallMultipliers};
     ghost use Rattle.tsp_branch.specs.states.Kept.{HoldsRows};
 
-    /// The rows where all multipliers of this many combs are 0, for a tree of this many steps.
+    /// The rows where all multipliers are 0.
     ///
     /// # Errors
     ///
     /// Out of memory, where there is none for a number of each comb and each node.
-    pub(crate) fn new<C: Costs>(
-        alloc: Global,
-        costs: &C,
-        scale: i64,
-        combs: usize,
-        steps: usize,
-    ) -> Result<KeptRows, Refused>
-        requires scale { IsScale scale }
-        requires few { combs < 2 ^ 32 }
-        ensures { IfOk result (λ kept. (families : List (List (List ℕ)))
-            → HoldsRows (C.nodes costs.now) combs scale families (C.at costs.now) kept) }
+    pub(crate) fn new<C: Costs>(alloc: Global, setting: &Setting<C>) -> Result<KeptRows, Refused>
+        ensures { IfOk result (HoldsRows (C.nodes setting.now.costs.now) (length setting.now.families.now.crossed.items)
+            setting.now.cases.now.scale (lent_in setting.now.families.now) (C.at setting.now.costs.now)) }
     {
+        let combs = setting.families.crossed.len();
         let multipliers = filled(alloc, 0, combs)?;
         let differences = filled(alloc, 0, combs)?;
-        let ends = filled(alloc, 0, costs.count() as usize + 1)?;
+        let ends = filled(alloc, 0, setting.costs.count() as usize + 1)?;
         Ok(KeptRows {
-            rows: rows_if_any(alloc, costs, scale, steps),
+            rows: rows_if_any(alloc, setting),
             ends,
             multipliers,
             differences,
@@ -94,21 +87,25 @@ impl KeptRows {
         }
         write_differences(&mut self.differences, &self.multipliers, multipliers);
         self.multipliers.copy_from_slice(multipliers);
-        take_multipliers(&mut self.ends, families, &self.differences);
-        add_to_rows(&mut self.rows, by_node, families, &self.differences);
+        let changed = MultipliedFamilies {
+            families,
+            numbers: &self.differences,
+        };
+        take_multipliers(&mut self.ends, &changed);
+        add_to_rows(&mut self.rows, by_node, &changed);
     }
 }
 
 /// The rows of all nodes without combs; none where the tree is a leaf, there are too many nodes, or
 /// no memory is left.
-fn rows_if_any<C: Costs>(alloc: Global, costs: &C, scale: i64, steps: usize) -> Vec<Vec<i64>>
-    requires scale { IsScale scale }
-    ensures { AreRowsIfAny (C.nodes costs.now) (C.at costs.now) (λ i x. scale *ℤ C.at costs.now i x) result.items }
+fn rows_if_any<C: Costs>(alloc: Global, setting: &Setting<C>) -> Vec<Vec<i64>>
+    ensures { AreRowsIfAny (C.nodes setting.now.costs.now) (C.at setting.now.costs.now)
+        (λ i x. setting.now.cases.now.scale *ℤ C.at setting.now.costs.now i x) result.items }
 {
-    if steps <= 1 || costs.count() > MOST_KEPT {
+    if setting.cases.steps.len() <= 1 || setting.costs.count() > MOST_KEPT {
         return Vec::new(alloc);
     }
-    match rows_of(alloc, costs, scale) {
+    match rows_of(alloc, setting) {
         Ok(rows) => rows,
         Err(_) => Vec::new(alloc),
     }
@@ -120,15 +117,14 @@ fn rows_if_any<C: Costs>(alloc: Global, costs: &C, scale: i64, steps: usize) -> 
 ///
 /// Out of memory.
 #[tactic(auto, using(crate::proofs::KeptRows::rows_more))]
-fn rows_of<C: Costs>(alloc: Global, costs: &C, scale: i64) -> Result<Vec<Vec<i64>>, Refused>
-    requires scale { IsScale scale }
-    ensures { IfOk result (λ rows. AreRows (C.nodes costs.now) (C.at costs.now)
-        (λ i x. scale *ℤ C.at costs.now i x) (C.nodes costs.now) rows.items) }
+fn rows_of<C: Costs>(alloc: Global, setting: &Setting<C>) -> Result<Vec<Vec<i64>>, Refused>
+    ensures { IfOk result (λ rows. AreRows (C.nodes setting.now.costs.now) (C.at setting.now.costs.now)
+        (λ i x. setting.now.cases.now.scale *ℤ C.at setting.now.costs.now i x) (C.nodes setting.now.costs.now) rows.items) }
 {
-    let count = costs.count();
+    let count = setting.costs.count();
     let mut rows = with_capacity(alloc, count as usize)?;
     'rows: for index in 0..count {
-        push(&mut rows, row_of(alloc, costs, scale, index + 1)?)?;
+        push(&mut rows, row_of(alloc, setting, index + 1)?)?;
     }
     Ok(rows)
 }
@@ -138,15 +134,14 @@ fn rows_of<C: Costs>(alloc: Global, costs: &C, scale: i64) -> Result<Vec<Vec<i64
 /// # Errors
 ///
 /// Out of memory.
-fn row_of<C: Costs>(alloc: Global, costs: &C, scale: i64, from: u32) -> Result<Vec<i64>, Refused>
-    requires scale { IsScale scale }
-    requires from { IsNode (C.nodes costs.now) from }
-    ensures { IfOk result (λ row. IsKeptRow (C.nodes costs.now) (C.at costs.now from)
-        (λ x. scale *ℤ C.at costs.now from x) row.items) }
+fn row_of<C: Costs>(alloc: Global, setting: &Setting<C>, from: u32) -> Result<Vec<i64>, Refused>
+    requires { IsNode (C.nodes setting.now.costs.now) from }
+    ensures { IfOk result (λ row. IsKeptRow (C.nodes setting.now.costs.now) (C.at setting.now.costs.now from)
+        (λ x. setting.now.cases.now.scale *ℤ C.at setting.now.costs.now from x) row.items) }
 {
-    let mut row = filled(alloc, 0, costs.count() as usize + 1)?;
-    costs.costs_from(from, &mut row);
-    scale_row(&mut row, scale);
+    let mut row = filled(alloc, 0, setting.costs.count() as usize + 1)?;
+    setting.costs.costs_from(from, &mut row);
+    scale_row(&mut row, setting.cases.scale);
     Ok(row)
 }
 
@@ -164,22 +159,14 @@ fn write_differences(differences: &mut [i64], old: &[i64], new: &[i64])
     }
 }
 
-/// Adds to each row, at each node of the sets of its node, the multiplier of the set's family
-/// twice.
-fn add_to_rows(
-    rows: &mut [Vec<i64>],
-    by_node: &[Vec<SetPlace>],
-    families: &Families,
-    multipliers: &[i64],
-)
+/// Adds to each row, at each node of the sets of its node, the number of the set's family twice.
+fn add_to_rows(rows: &mut [Vec<i64>], by_node: &[Vec<SetPlace>], multiplied: &MultipliedFamilies)
     requires table { length rows.old < length by_node.now }
-    requires places { All (λ list. All (IsPlaceIn (lent_in families.now)) list.items) by_node.now }
-    requires rows { All (λ row. length row.items ≡ families.now.nodes + 1) rows.old }
-    requires as_many { length multipliers.now ≡ length families.now.lent.now }
-    requires small { AreSmallDifferences multipliers.now }
-    ensures { AreAdded multipliers.now (lent_in families.now) by_node.now rows.old rows.new }
+    requires places { All (λ list. All (IsPlaceIn (lent_in multiplied.now.families.now)) list.items) by_node.now }
+    requires rows { All (λ row. length row.items ≡ multiplied.now.families.now.nodes + 1) rows.old }
+    ensures { AreAdded multiplied.now.numbers.now (lent_in multiplied.now.families.now) by_node.now rows.old rows.new }
 {
     'rows: for index in 0..rows.len() {
-        add_to_row(&mut rows[index], &by_node[index + 1], families, multipliers);
+        add_to_row(&mut rows[index], &by_node[index + 1], multiplied);
     }
 }

@@ -7,10 +7,10 @@ ghost use Rattle.tsp_theory.specs.Numbers.{entry};
 ghost use Rattle.tsp_theory.specs.states.Nearest.{least_at};
 ghost use Rattle.tsp_branch.specs.states.Sets.{IsMoved};
 ghost use Rattle.tsp_branch.specs.states.Lent.{lent_in};
-ghost use Rattle.tsp_branch.specs.states.Combed.{AreSmallDifferences, multipliers_at};
+ghost use Rattle.tsp_branch.specs.states.Combed.{multipliers_at};
 
 use crate::add_sets::{add_to_sets, sum_left};
-use crate::families::Families;
+use crate::multiplied::MultipliedFamilies;
 
 /// Writes at the place of each node what is left in 64 bits of its potential and another number.
 pub(crate) fn fill_moved(row: &mut [i64], potentials: &[i64], ends: &[i64])
@@ -24,15 +24,17 @@ pub(crate) fn fill_moved(row: &mut [i64], potentials: &[i64], ends: &[i64])
     }
 }
 
-/// Takes off each node of a set the multiplier of the set's family.
-pub(crate) fn take_multipliers(row: &mut [i64], families: &Families, multipliers: &[i64])
-    requires row { length row.old ≡ families.now.nodes + 1 }
-    requires as_many { length multipliers.now ≡ length families.now.lent.now }
-    requires small { AreSmallDifferences multipliers.now }
-    ensures { (x : ℕ) → IsMoved (neg_ℤ (multipliers_at multipliers.now (lent_in families.now) x))
+/// Takes off each node of a set the number of the set's family.
+pub(crate) fn take_multipliers(row: &mut [i64], multiplied: &MultipliedFamilies)
+    requires { length row.old ≡ multiplied.now.families.now.nodes + 1 }
+    ensures { (x : ℕ) → IsMoved (neg_ℤ (multipliers_at multiplied.now.numbers.now (lent_in multiplied.now.families.now) x))
         (least_at row.old x) (least_at row.new x) }
 {
-    'multipliers: for number in 0..multipliers.len() {
-        add_to_sets(row, &families.lent[number], -multipliers[number]);
+    'multipliers: for number in 0..multiplied.numbers.len() {
+        add_to_sets(
+            row,
+            &multiplied.families.lent[number],
+            -multiplied.numbers[number],
+        );
     }
 }

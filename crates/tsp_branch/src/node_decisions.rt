@@ -6,6 +6,7 @@ ghost use Rattle.tsp_branch.specs.declared.decision.Decision.{Decision};
 ghost use Rattle.tsp_branch.specs.states.OpenCases.{HaveOneMore, HaveOneLess};
 
 use crate::decision::Decision;
+use crate::tree_cases::Cases;
 use std::alloc::Global;
 use tsp_memory::{Refused, push, with_capacity};
 
@@ -22,23 +23,23 @@ pub(crate) struct NodeDecisions {
 }
 
 impl NodeDecisions {
-    ghost use Rattle.std.specs.Prelude.{◌≡◌, ◌<◌, ◌≢◌, ◌-◌, ◌^◌, ℕ, List, [], ◌∷◌, IfOk, length};
+    ghost use Rattle.std.specs.Prelude.{◌≡◌, ◌<◌, ◌-◌, ◌^◌, ℕ, List, [], ◌∷◌, IfOk, length};
     ghost use Rattle.tsp_branch.specs.declared.decision.Decision.{Decision};
+    ghost use Rattle.tsp_branch.specs.states.Decided.{IsInside};
     ghost use Rattle.tsp_branch.specs.states.OpenCases.{AreByNode};
 
-    /// No decisions on pairs of this many nodes.
+    /// No decisions on pairs of the nodes of cases.
     ///
     /// # Errors
     ///
     /// Out of memory, of which it takes some for each node.
-    pub(crate) fn new(alloc: Global, directed: bool, count: u32) -> Result<NodeDecisions, Refused>
-        requires { count < 2 ^ 32 - 1 }
-        ensures none { IfOk result (λ made. AreByNode count made []) }
-        ensures directed { IfOk result (λ made. made.directed ≡ directed) }
+    pub(crate) fn new(alloc: Global, cases: &Cases) -> Result<NodeDecisions, Refused>
+        ensures none { IfOk result (λ made. AreByNode cases.now.nodes made []) }
+        ensures directed { IfOk result (λ made. made.directed ≡ cases.now.directed) }
     {
         Ok(NodeDecisions {
-            directed,
-            lists: empty_lists(alloc, count)?,
+            directed: cases.directed,
+            lists: empty_lists(alloc, cases)?,
             taken: Vec::new(alloc),
         })
     }
@@ -49,9 +50,7 @@ impl NodeDecisions {
     ///
     /// Out of memory.
     pub(crate) fn add(&mut self, decision: Decision) -> Result<(), Refused>
-        requires first { decision.pair.0 < length self.old.lists.items }
-        requires second { decision.pair.1 < length self.old.lists.items }
-        requires differ { decision.pair.0 ≢ decision.pair.1 }
+        requires { IsInside (length self.old.lists.items) decision }
         ensures more { IfOk result (λ unit. (n : ℕ) (case : List Decision) → AreByNode n self.old case
             → AreByNode n self.new (decision ∷ case)) }
         ensures places { IfOk result (λ unit. length self.new.lists.items ≡ length self.old.lists.items) }
@@ -70,9 +69,7 @@ impl NodeDecisions {
 
     /// Drops the decision that was added last.
     pub(crate) fn drop_last(&mut self, decision: Decision)
-        requires first { decision.pair.0 < length self.old.lists.items }
-        requires second { decision.pair.1 < length self.old.lists.items }
-        requires differ { decision.pair.0 ≢ decision.pair.1 }
+        requires { IsInside (length self.old.lists.items) decision }
         ensures less { (n : ℕ) (case : List Decision) → AreByNode n self.old (decision ∷ case)
             → AreByNode n self.new case }
         ensures places { length self.new.lists.items ≡ length self.old.lists.items }
@@ -106,15 +103,14 @@ fn unlist_at(lists: &mut Vec<Vec<Decision>>, node: u32)
     lists[node as usize].pop();
 }
 
-/// An empty list for each node from 0 to `count`.
-fn empty_lists(alloc: Global, count: u32) -> Result<Vec<Vec<Decision>>, Refused>
-    requires { count < 2 ^ 32 - 1 }
-    ensures many { IfOk result (λ lists. length lists.items ≡ count + 1) }
-    ensures empty { IfOk result (λ lists. (x : ℕ) (default : Vec Decision) → x ≤ count
+/// An empty list for each node, and one for 0.
+fn empty_lists(alloc: Global, cases: &Cases) -> Result<Vec<Vec<Decision>>, Refused>
+    ensures many { IfOk result (λ lists. length lists.items ≡ cases.now.nodes + 1) }
+    ensures empty { IfOk result (λ lists. (x : ℕ) (default : Vec Decision) → x ≤ cases.now.nodes
         → (slice_index_or lists.items x default).items ≡ []) }
 {
-    let mut lists = with_capacity(alloc, count as usize + 1)?;
-    'lists: for _ in 0..count + 1 {
+    let mut lists = with_capacity(alloc, cases.nodes as usize + 1)?;
+    'lists: for _ in 0..cases.nodes + 1 {
         push(&mut lists, Vec::new(alloc))?;
     }
     Ok(lists)

@@ -6,6 +6,7 @@ ghost use Rattle.tsp_branch.specs.states.Decided.{IsDecision, IsLeftStack};
 
 use crate::decision::Decision;
 use crate::node_decisions::NodeDecisions;
+use crate::tree_cases::Cases;
 use std::alloc::Global;
 use tsp_memory::{Refused, push};
 
@@ -30,27 +31,20 @@ impl<'a> OpenCase<'a> {
     /// # Errors
     ///
     /// Out of memory, of which it takes some for each node and each given decision.
-    pub(crate) fn new(
-        alloc: Global,
-        directed: bool,
-        count: u32,
-        given: &'a [Decision],
-    ) -> Result<OpenCase<'a>, Refused>
-        requires few { count < 2 ^ 32 - 1 }
-        requires pairs { All (IsDecision count) given.now }
-        ensures case { IfOk result (λ case. IsOpenCase count case) }
-        ensures given { IfOk result (λ case. case.given.now ≡ given.now) }
+    pub(crate) fn new(alloc: Global, cases: &Cases<'a>) -> Result<OpenCase<'a>, Refused>
+        ensures case { IfOk result (λ case. IsOpenCase cases.now.nodes case) }
+        ensures given { IfOk result (λ case. case.given.now ≡ cases.now.given.now) }
         ensures stack { IfOk result (λ case. case.stack.items ≡ []) }
-        ensures directed { IfOk result (λ case. case.by_node.directed ≡ directed) }
+        ensures directed { IfOk result (λ case. case.by_node.directed ≡ cases.now.directed) }
     {
-        let mut by_node = NodeDecisions::new(alloc, directed, count)?;
-        let mut left = given.len();
+        let mut by_node = NodeDecisions::new(alloc, cases)?;
+        let mut left = cases.given.len();
         'given: while left > 0 {
             left -= 1;
-            by_node.add(given[left])?;
+            by_node.add(cases.given[left])?;
         }
         Ok(OpenCase {
-            given,
+            given: cases.given,
             stack: Vec::new(alloc),
             by_node,
         })

@@ -1,14 +1,14 @@
 //! The numbers of families that are neither a lone set nor a comb.
 
-ghost use Rattle.std.specs.Prelude.{◌≡◌, ◌≤◌, ◌<◌, ◌-◌, ◌^◌, ◌↔◌, IsTrue, length, IfOk, IfSome};
+ghost use Rattle.std.specs.Prelude.{◌↔◌, IsTrue, IfOk, IfSome};
 ghost use Rattle.std.specs.List.{All};
-ghost use Rattle.tsp_families.specs.FamilySets.{AreSetsOf, lists_of};
+ghost use Rattle.tsp_families.specs.FamilySets.{lists_of};
 ghost use Rattle.tsp_branch.specs.GoodCombs.{HasEachOnce, IsGoodComb};
 ghost use Rattle.tsp_branch.specs.states.FamilyNumbers.{HasNumbers, IsSmall};
 
 use crate::marks::mark_nodes;
 use std::alloc::Global;
-use tsp_families::{Crossings, family_crossings, most_costs_are_unique};
+use tsp_families::{Crossings, NodeSets, family_crossings, most_costs_are_unique};
 use tsp_memory::{Refused, filled};
 
 /// The numbers of sets that are neither a lone set nor a comb. `None` where one has a node twice,
@@ -19,21 +19,17 @@ use tsp_memory::{Refused, filled};
 /// Out of memory, of which it takes some for each node.
 pub(crate) fn other_crossings(
     alloc: Global,
-    nodes: u32,
-    sets: &[Vec<u32>],
+    family: &NodeSets,
 ) -> Result<Option<Crossings>, Refused>
-    requires some { 1 ≤ nodes }
-    requires few_nodes { nodes < 2 ^ 32 - 1 }
-    requires few_sets { length sets.now < 2 ^ 32 }
-    requires nodes { AreSetsOf nodes sets.now }
-    ensures found { (IsGoodComb nodes (lists_of sets.now) → ⊥) → IfOk result (HasNumbers nodes (lists_of sets.now)) }
+    ensures found { (IsGoodComb family.now.nodes (lists_of family.now.sets.now) → ⊥)
+        → IfOk result (HasNumbers family.now.nodes (lists_of family.now.sets.now)) }
     ensures small { IfOk result (λ found. IfSome found IsSmall) }
 {
-    let once = have_each_once(alloc, nodes, sets)?;
+    let once = have_each_once(alloc, family)?;
     if !once {
         return Ok(None);
     }
-    let found = family_crossings(alloc, nodes, sets)?;
+    let found = family_crossings(alloc, family)?;
     let Some(own) = found else {
         return Ok(None);
     };
@@ -50,16 +46,13 @@ pub(crate) fn other_crossings(
 /// # Errors
 ///
 /// Out of memory, of which it takes some for each node.
-fn have_each_once(alloc: Global, nodes: u32, sets: &[Vec<u32>]) -> Result<bool, Refused>
-    requires few_nodes { nodes < 2 ^ 32 - 1 }
-    requires few_sets { length sets.now < 2 ^ 32 }
-    requires nodes { AreSetsOf nodes sets.now }
-    ensures { IfOk result (λ once. IsTrue once ↔ All HasEachOnce (lists_of sets.now)) }
+fn have_each_once(alloc: Global, family: &NodeSets) -> Result<bool, Refused>
+    ensures { IfOk result (λ once. IsTrue once ↔ All HasEachOnce (lists_of family.now.sets.now)) }
 {
-    let mut marks = filled(alloc, 0, nodes as usize + 1)?;
-    'sets: for index in 0..sets.len() {
+    let mut marks = filled(alloc, 0, family.nodes as usize + 1)?;
+    'sets: for index in 0..family.sets.len() {
         // Marks from 1 on, since 0 means no mark.
-        if !mark_nodes(&mut marks, index as u32 + 1, &sets[index]) {
+        if !mark_nodes(&mut marks, index as u32 + 1, &family.sets[index]) {
             return Ok(false);
         }
     }

@@ -1,8 +1,10 @@
 //! What a pass over the steps of a tree of cases writes over.
 
 use crate::kept::KeptRows;
+use crate::setting::Setting;
 use std::alloc::Global;
 use tsp_memory::{Refused, filled};
+use tsp_theory::Costs;
 
 /// The numbers of the leaf before and the rows that are kept at its multipliers, and memory for the
 /// numbers of a leaf and for two rows of its weights.
@@ -17,34 +19,34 @@ pub(crate) struct Room {
 }
 
 impl Room {
-    ghost use Rattle.std.specs.Prelude.{◌≡◌, ◌<◌, ◌^◌, IfOk};
+    ghost use Rattle.std.specs.Prelude.{◌≡◌, length, IfOk};
     ghost use Rattle.tsp_branch.specs.Listed.{no_numbers_of};
+    ghost use Rattle.tsp_branch.specs.states.Lent.{lent_in};
+    ghost use Rattle.tsp_branch.specs.states.Kept.{HoldsRows};
     ghost use Rattle.tsp_branch.specs.states.Rooms.{IsRoom};
 
-    /// Memory for this many nodes and for the combs of these rows, where all numbers are 0.
+    /// Memory for the leaves of a setting, where all numbers are 0.
     ///
     /// # Errors
     ///
     /// Out of memory.
-    pub(crate) fn new(
-        alloc: Global,
-        nodes: usize,
-        combs: usize,
-        kept: KeptRows,
-    ) -> Result<Room, Refused>
-        requires few_nodes { nodes < 2 ^ 32 }
-        requires few_combs { combs < 2 ^ 32 }
-        ensures room { IfOk result (λ room. IsRoom nodes combs room) }
-        ensures kept { IfOk result (λ room. room.kept ≡ kept) }
-        ensures start { IfOk result (λ room. room.numbers.items ≡ no_numbers_of nodes combs) }
+    pub(crate) fn new<C: Costs>(alloc: Global, setting: &Setting<C>) -> Result<Room, Refused>
+        ensures room { IfOk result (IsRoom (C.nodes setting.now.costs.now) (length setting.now.families.now.crossed.items)) }
+        ensures kept { IfOk result (λ room. HoldsRows (C.nodes setting.now.costs.now)
+            (length setting.now.families.now.crossed.items) setting.now.cases.now.scale
+            (lent_in setting.now.families.now) (C.at setting.now.costs.now) room.kept) }
+        ensures start { IfOk result (λ room. room.numbers.items
+            ≡ no_numbers_of (C.nodes setting.now.costs.now) (length setting.now.families.now.crossed.items)) }
     {
+        let nodes = setting.costs.count() as usize;
+        let combs = setting.families.crossed.len();
         Ok(Room {
             numbers: filled(alloc, 0, nodes + combs)?,
             potentials: filled(alloc, 0, nodes)?,
             multipliers: filled(alloc, 0, combs)?,
             row: filled(alloc, 0, nodes + 1)?,
             moved: filled(alloc, 0, nodes + 1)?,
-            kept,
+            kept: KeptRows::new(alloc, setting)?,
         })
     }
 }

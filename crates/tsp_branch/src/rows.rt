@@ -1,15 +1,12 @@
 //! The bound of a leaf by the least link from each node.
 
-ghost use Rattle.std.specs.Prelude.{◌≡◌, ◌≤◌, ◌<◌, ◌+◌, ◌^◌, ℕ, List, true, length, pos, neg_ℤ, MatchOption, IfSome, ◌⊎◌, ℤ, ◌≤ℤ◌};
+ghost use Rattle.std.specs.Prelude.{◌≡◌, ◌≤◌, ◌<◌, ℕ, List, true, length, ◌⊎◌, ℤ, ◌≤ℤ◌};
 ghost use Rattle.std.specs.List.{All, filter};
 ghost use Rattle.tsp_format.specs.Cells.{IsNode};
-ghost use Rattle.tsp_format.specs.Limits.{most_nodes};
-ghost use Rattle.tsp_theory.specs.Numbers.{IsFromTo, IsScale, IsBoundSized, IsSumSized};
 ghost use Rattle.tsp_theory.specs.states.Nearest.{least_at};
 ghost use Rattle.tsp_branch.specs.declared.decision.Decision.{Decision};
 ghost use Rattle.tsp_branch.specs.states.Decided.{stack_of};
-ghost use Rattle.tsp_branch.specs.states.OpenCases.{IsOpenCase, bears_on, decisions_in};
-ghost use Rattle.tsp_branch.specs.Rows.{IsAllowed, HasNoLink, IsLeastFrom, IsSumOfLeast, IsRowBound};
+ghost use Rattle.tsp_branch.specs.states.OpenCases.{IsOpenCase, bears_on};
 ghost use Rattle.tsp_branch.specs.states.Closed.{closed, IsOpenRow};
 
 use crate::closing::{CLOSED, close_all, shut};
@@ -18,70 +15,80 @@ use crate::leaf::rounded_up;
 use crate::open_case::OpenCase;
 use tsp_tree::Weights;
 
-/// The bound of a leaf whose weights are given by rows: the least whole number that at the scale is
-/// no less than the least weights from all nodes plus a sum. `None` where the decisions allow no
-/// link from some node: then no cycle keeps them.
-///
-/// # Requires
-///
-/// A sum of at most 2^99 in size, and a row of one place more than
-/// there are nodes, which is overwritten.
-pub(crate) fn row_bound<W: Weights>(
-    w: &W,
-    case: &OpenCase,
-    row: &mut [i64],
-    scale: i64,
-    given_back: i128,
-) -> Option<i128>
-    requires case { IsOpenCase (W.nodes w.now) case.now }
-    requires direction { case.now.by_node.directed ≡ true }
-    requires room { length row.old ≡ W.nodes w.now + 1 }
-    requires scale { IsScale scale }
-    requires given_back { IsFromTo (neg_ℤ (pos (2 ^ 99))) (pos (2 ^ 99)) given_back }
-    ensures bound { MatchOption result (HasNoLink (W.nodes w.now) (decisions_in case.now))
-        (λ bound. IsRowBound (W.nodes w.now) (W.at w.now) (decisions_in case.now) scale given_back bound) }
-    ensures size { IfSome result IsBoundSized }
-{
-    let sum = sum_of_least(w, case, row)?;
-    Some(rounded_up(scale, sum + given_back))
+/// Weights by rows, and the decisions of a case, by which a link is allowed or not. Pairs have a
+/// direction.
+#[derive(Drop)]
+pub(crate) struct AllowedRows<'a, W: Weights> {
+    pub(crate) weights: &'a W,
+    pub(crate) case: &'a OpenCase<'a>,
+    ghost is_case: { IsOpenCase (W.nodes weights.now) case.now },
+    ghost direction: { case.now.by_node.directed ≡ true },
 }
 
-/// The sum of the least weights of the allowed links from each node.
-fn sum_of_least<W: Weights>(w: &W, case: &OpenCase, row: &mut [i64]) -> Option<i128>
-    requires case { IsOpenCase (W.nodes w.now) case.now }
-    requires direction { case.now.by_node.directed ≡ true }
-    requires room { length row.old ≡ W.nodes w.now + 1 }
-    ensures sum { MatchOption result (HasNoLink (W.nodes w.now) (decisions_in case.now))
-        (λ sum. IsSumOfLeast (W.nodes w.now) (W.at w.now) (decisions_in case.now) (W.nodes w.now) sum) }
-    ensures size { IfSome result (IsSumSized most_nodes) }
-{
-    let mut sum = 0;
-    'nodes: for index in 0..w.count() {
-        let Some(least) = least_from(w, case, index + 1, row) else {
+impl<W: Weights> AllowedRows<'_, W> {
+    ghost use Rattle.std.specs.Prelude.{◌≡◌, ◌+◌, ◌^◌, ℕ, length, pos, neg_ℤ, MatchOption, IfSome};
+    ghost use Rattle.tsp_format.specs.Cells.{IsNode};
+    ghost use Rattle.tsp_format.specs.Limits.{most_nodes};
+    ghost use Rattle.tsp_theory.specs.Numbers.{IsFromTo, IsScale, IsBoundSized, IsSumSized};
+    ghost use Rattle.tsp_branch.specs.states.OpenCases.{decisions_in};
+    ghost use Rattle.tsp_branch.specs.Rows.{IsAllowed, HasNoLink, IsLeastFrom, IsSumOfLeast, IsRowBound};
+
+    /// The bound of a leaf that has these weights: the least whole number that at the scale is no
+    /// less than the least weights from all nodes plus a sum. `None` where the decisions allow no
+    /// link from some node: then no cycle keeps them.
+    ///
+    /// # Requires
+    ///
+    /// A sum of at most 2^99 in size, and a row of one place more than
+    /// there are nodes, which is overwritten.
+    pub(crate) fn bound(&self, row: &mut [i64], scale: i64, given_back: i128) -> Option<i128>
+        requires room { length row.old ≡ W.nodes self.now.weights.now + 1 }
+        requires scale { IsScale scale }
+        requires given_back { IsFromTo (neg_ℤ (pos (2 ^ 99))) (pos (2 ^ 99)) given_back }
+        ensures bound { MatchOption result (HasNoLink (W.nodes self.now.weights.now) (decisions_in self.now.case.now))
+            (λ bound. IsRowBound (W.nodes self.now.weights.now) (W.at self.now.weights.now)
+            (decisions_in self.now.case.now) scale given_back bound) }
+        ensures size { IfSome result IsBoundSized }
+    {
+        let sum = self.sum_of_least(row)?;
+        Some(rounded_up(scale, sum + given_back))
+    }
+
+    /// The sum of the least weights of the allowed links from each node.
+    fn sum_of_least(&self, row: &mut [i64]) -> Option<i128>
+        requires { length row.old ≡ W.nodes self.now.weights.now + 1 }
+        ensures sum { MatchOption result (HasNoLink (W.nodes self.now.weights.now) (decisions_in self.now.case.now))
+            (λ sum. IsSumOfLeast (W.nodes self.now.weights.now) (W.at self.now.weights.now)
+            (decisions_in self.now.case.now) (W.nodes self.now.weights.now) sum) }
+        ensures size { IfSome result (IsSumSized most_nodes) }
+    {
+        let mut sum = 0;
+        'nodes: for index in 0..self.weights.count() {
+            let Some(least) = self.least_from(index + 1, row) else {
+                return None;
+            };
+            sum += i128::from(least);
+        }
+        Some(sum)
+    }
+
+    /// The least weight of the allowed links from a node; `None` where no link is allowed.
+    fn least_from(&self, from: u32, row: &mut [i64]) -> Option<i64>
+        requires from { IsNode (W.nodes self.now.weights.now) from }
+        requires room { length row.old ≡ W.nodes self.now.weights.now + 1 }
+        ensures { MatchOption result
+            ((x : ℕ) → IsAllowed (W.nodes self.now.weights.now) (decisions_in self.now.case.now) from x → ⊥)
+            (λ least. IsLeastFrom (W.nodes self.now.weights.now) (W.at self.now.weights.now)
+            (decisions_in self.now.case.now) from least) }
+    {
+        self.weights.fill(from, row);
+        close_row(row, self.case.at(from), &self.case.by_node.taken, from);
+        let least = least_in(row);
+        if least == CLOSED {
             return None;
-        };
-        sum += i128::from(least);
+        }
+        Some(least)
     }
-    Some(sum)
-}
-
-/// The least weight of the allowed links from a node; `None` where no link is allowed.
-fn least_from<W: Weights>(w: &W, case: &OpenCase, from: u32, row: &mut [i64]) -> Option<i64>
-    requires case { IsOpenCase (W.nodes w.now) case.now }
-    requires direction { case.now.by_node.directed ≡ true }
-    requires from { IsNode (W.nodes w.now) from }
-    requires room { length row.old ≡ W.nodes w.now + 1 }
-    ensures { MatchOption result
-        ((x : ℕ) → IsAllowed (W.nodes w.now) (decisions_in case.now) from x → ⊥)
-        (λ least. IsLeastFrom (W.nodes w.now) (W.at w.now) (decisions_in case.now) from least) }
-{
-    w.fill(from, row);
-    close_row(row, case.at(from), &case.by_node.taken, from);
-    let least = least_in(row);
-    if least == CLOSED {
-        return None;
-    }
-    Some(least)
 }
 
 /// Closes in the row of a node the place of the node itself, and what some decision doesn't allow:

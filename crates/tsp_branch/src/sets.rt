@@ -36,7 +36,7 @@ pub(crate) fn sets_by_node(
 ) -> Result<Vec<Vec<SetPlace>>, Refused>
     ensures { IfOk result (λ lists. IsSetTable families.now.nodes (lent_in families.now) lists.items) }
 {
-    let mut lists = empty_lists(alloc, families.nodes)?;
+    let mut lists = empty_lists(alloc, families)?;
     'families: for number in 0..families.lent.len() {
         place_family(&mut lists, number as u32, &families.lent[number])?;
     }
@@ -74,13 +74,12 @@ fn place_set(lists: &mut Vec<Vec<SetPlace>>, place: SetPlace, nodes: &[u32]) -> 
     Ok(())
 }
 
-/// An empty list for each node from 0 to `count`.
-fn empty_lists(alloc: Global, count: u32) -> Result<Vec<Vec<SetPlace>>, Refused>
-    requires { count < 2 ^ 32 - 1 }
-    ensures { IfOk result (λ lists. IsSetTable count [] lists.items) }
+/// An empty list for each node, and one for 0.
+fn empty_lists(alloc: Global, families: &Families) -> Result<Vec<Vec<SetPlace>>, Refused>
+    ensures { IfOk result (λ lists. IsSetTable families.now.nodes [] lists.items) }
 {
-    let mut lists = with_capacity(alloc, count as usize + 1)?;
-    'lists: for _ in 0..count + 1 {
+    let mut lists = with_capacity(alloc, families.nodes as usize + 1)?;
+    'lists: for _ in 0..families.nodes + 1 {
         push(&mut lists, Vec::new(alloc))?;
     }
     Ok(lists)

@@ -1,6 +1,7 @@
 //! The parts of a certificate that are judged.
 
 use crate::families::Families;
+use crate::tree_cases::Cases;
 
 /// The parts of a certificate that are judged.
 #[derive(Drop)]
@@ -19,6 +20,15 @@ pub enum JudgedFamilies<'a> {
     Good(Families<'a>),
     /// The first one that isn't good, counted from 1.
     Bad(usize),
+}
+
+/// The judgement on the cases of a tree.
+#[derive(Drop)]
+pub enum JudgedCases<'a> {
+    /// None decides a pair twice.
+    Good(Cases<'a>),
+    /// The first branch on a pair that is decided above it or given, counted from 1.
+    Twice(usize),
 }
 
 /// The judgement on a leaf.

@@ -7,27 +7,54 @@ ghost use Rattle.tsp_branch.specs.Decisions.{DecideOnce};
 ghost use Rattle.tsp_branch.specs.states.Decided.{IsNextStack, stack_of};
 ghost use Rattle.tsp_branch.specs.states.PairSets.{HasDecided, HasStack};
 ghost use Rattle.tsp_branch.specs.Twice.{AreBranchesJudged};
+ghost use Rattle.tsp_branch.specs.JudgedTrees.{AreCasesJudged};
 
+use crate::case_tree::CaseTree;
 use crate::decision::Decision;
 use crate::pairs::key_of;
 use crate::stack::next_case;
+use crate::steps::JudgedCases;
+use crate::tree_cases::Cases;
 use std::alloc::Global;
 use std::collections::BTreeSet;
 use tsp_format::TreeStep;
 use tsp_memory::{Refused, insert, push};
+use tsp_theory::Costs;
+
+/// The cases of a tree, or the first branch on a pair that is decided above it or given, counted
+/// from 1.
+///
+/// # Errors
+///
+/// Out of memory, of which it takes some for each decision of a case and each given one.
+pub fn judge_cases<'a, C: Costs>(
+    alloc: Global,
+    tree: &CaseTree<'a, C>,
+) -> Result<JudgedCases<'a>, Refused>
+    ensures { IfOk result (AreCasesJudged (C.nodes tree.now.costs.now) tree.now.directed tree.now.scale tree.now.given.now
+        tree.now.steps.now) }
+{
+    let nodes = tree.costs.count();
+    if let Some(branch) = first_twice(alloc, tree.directed, tree.given, tree.steps)? {
+        return Ok(JudgedCases::Twice(branch));
+    }
+    Ok(JudgedCases::Good(Cases {
+        nodes,
+        directed: tree.directed,
+        scale: tree.scale,
+        given: tree.given,
+        steps: tree.steps,
+    }))
+}
 
 /// The first branch on a pair that is decided above it or given, counted from 1. `None` where each
 /// case decides a pair at most once. Directed pairs are the same in the same order of their nodes
 /// alone, others in either.
 ///
-/// # Requires
-///
-/// No pair that is given twice.
-///
 /// # Errors
 ///
 /// Out of memory, of which it takes some for each decision of a case and each given one.
-pub fn first_twice(
+fn first_twice(
     alloc: Global,
     directed: bool,
     given: &[Decision],

@@ -193,6 +193,12 @@ alone cost least is = record {
 one_place : (n k : ℕ) → 1 + k ≡ (1 - 1) * n + (k + 2 - 1)
 one_place n k = omega arith
 
+pub small_costs : (costs : List ℕ) → All (λ cost. cost ≤ 64) costs → (k : ℕ) → slice_index costs k < 2 ^ 32
+small_costs costs small k = elim (cases_lt k (length costs)) [
+  | inl lt ↦ let own = small k 0 lt in omega (arith, own)
+  | inr ge ↦ let none = get_or_past costs k 0 ge in omega (arith, none)
+]
+
 pub least_of_paths : (n least : ℕ) (costs paths : List ℕ) → 2 ≤ n → n ≤ 14 → ((k : ℕ) → slice_index costs k < 2 ^ 32)
     → length paths ≡ 2 ^ (n - 1) * (n - 1) → AreBestPaths n (cost_by_rows n costs) paths
     → IsLeastSum no_path costs paths 1 ((2 ^ (n - 1) - 1) * (n - 1)) (n - 1) least

@@ -1,13 +1,15 @@
 //! How often cycles cross a family of sets.
 
-ghost use Rattle.std.specs.Prelude.{◌≤◌, ◌<◌, ◌-◌, ◌^◌, pos, MatchOption, IfOk, IfSome};
+ghost use Rattle.std.specs.Prelude.{◌≤◌, pos, MatchOption, IfOk, IfSome};
 ghost use Rattle.tsp_families.specs.Crossed.{sets_of, sets_crossed, IsLeastLength, IsMostCost, AreTooMany};
 ghost use Rattle.tsp_families.specs.Memberships.{IsLargest};
-ghost use Rattle.tsp_families.specs.FamilySets.{AreSetsOf, lists_of};
+ghost use Rattle.tsp_families.specs.FamilySets.{lists_of};
 
+use crate::cost_square::CostSquare;
 use crate::cycles::least_cycle;
 use crate::differences::crossings_between;
 use crate::laws::parts_tell_cycles;
+use crate::node_sets::NodeSets;
 use crate::parts::parts_of;
 use std::alloc::Global;
 use tsp_memory::Refused;
@@ -31,33 +33,30 @@ pub struct Crossings {
 /// # Errors
 ///
 /// Out of memory, of which it takes some for each node.
-pub fn family_crossings(
-    alloc: Global,
-    nodes: u32,
-    sets: &[Vec<u32>],
-) -> Result<Option<Crossings>, Refused>
-    requires some { 1 ≤ nodes }
-    requires few { nodes < 2 ^ 32 - 1 }
-    requires nodes { AreSetsOf nodes sets.now }
+pub fn family_crossings(alloc: Global, family: &NodeSets) -> Result<Option<Crossings>, Refused>
     ensures least { IfOk result
-        (λ found. MatchOption found (AreTooMany nodes (sets_of (lists_of sets.now)))
-        (λ own. IsLeastLength nodes (sets_crossed (sets_of (lists_of sets.now))) (pos own.least))) }
+        (λ found. MatchOption found (AreTooMany family.now.nodes (sets_of (lists_of family.now.sets.now)))
+        (λ own. IsLeastLength family.now.nodes (sets_crossed (sets_of (lists_of family.now.sets.now))) (pos own.least))) }
     ensures most { IfOk result (λ found. IfSome found
-        (λ own. IsMostCost nodes (sets_crossed (sets_of (lists_of sets.now))) (pos own.most))) }
+        (λ own. IsMostCost family.now.nodes (sets_crossed (sets_of (lists_of family.now.sets.now))) (pos own.most))) }
     ensures known { IfOk result
-        (λ found. IfSome found (λ own. AreTooMany nodes (sets_of (lists_of sets.now)) → ⊥)) }
+        (λ found. IfSome found (λ own. AreTooMany family.now.nodes (sets_of (lists_of family.now.sets.now)) → ⊥)) }
     ensures few { IfOk result (λ found. IfSome found (λ own. (own.least ≤ 896) × (own.most ≤ 64))) }
 {
-    if sets.len() > MOST_SETS {
+    if family.sets.len() > MOST_SETS {
         return Ok(None);
     }
-    let found = parts_of(alloc, nodes, sets)?;
+    let found = parts_of(alloc, family)?;
     let Some(parts) = found else {
         return Ok(None);
     };
     let costs = crossings_between(alloc, &parts.memberships, &parts.firsts)?;
-    let least = least_cycle(alloc, &costs, parts.firsts.len())?;
-    let most = u64::from(largest(&costs));
+    let between = CostSquare {
+        nodes: parts.firsts.len(),
+        costs: &costs,
+    };
+    let least = least_cycle(alloc, &between)?;
+    let most = u64::from(largest(between.costs));
     parts_tell_cycles();
     Ok(Some(Crossings { least, most }))
 }

@@ -1,11 +1,12 @@
 //! Of each node a number whose bits say which sets have it.
 
-ghost use Rattle.std.specs.Prelude.{◌≡◌, ℕ, ◌+◌, ◌-◌, ◌<◌, ◌≤◌, ◌^◌, if◌then◌else◌, length, slice_index, IfOk};
+ghost use Rattle.std.specs.Prelude.{◌≡◌, ℕ, ◌+◌, ◌<◌, ◌≤◌, ◌^◌, if◌then◌else◌, length, slice_index, IfOk};
 ghost use Rattle.std.specs.List.{All};
 ghost use Rattle.tsp_families.specs.Crossed.{has, sets_of};
 ghost use Rattle.tsp_families.specs.Memberships.{AreMemberships};
-ghost use Rattle.tsp_families.specs.FamilySets.{AreSetsOf, lists_of};
+ghost use Rattle.tsp_families.specs.FamilySets.{lists_of};
 
+use crate::node_sets::NodeSets;
 use std::alloc::Global;
 use tsp_memory::{Refused, filled};
 
@@ -14,20 +15,14 @@ use tsp_memory::{Refused, filled};
 /// # Errors
 ///
 /// Out of memory, of which it takes some for each node.
-pub(crate) fn memberships_of(
-    alloc: Global,
-    nodes: u32,
-    sets: &[Vec<u32>],
-) -> Result<Vec<u64>, Refused>
-    requires few { nodes < 2 ^ 32 - 1 }
-    requires few_sets { length sets.now ≤ 63 }
-    requires nodes { AreSetsOf nodes sets.now }
-    ensures { IfOk result
-        (λ memberships. AreMemberships nodes (sets_of (lists_of sets.now)) memberships.items) }
+pub(crate) fn memberships_of(alloc: Global, family: &NodeSets) -> Result<Vec<u64>, Refused>
+    requires { length family.now.sets.now ≤ 63 }
+    ensures { IfOk result (λ memberships. AreMemberships family.now.nodes
+        (sets_of (lists_of family.now.sets.now)) memberships.items) }
 {
-    let mut memberships = filled(alloc, 0, nodes as usize + 1)?;
-    'sets: for set in 0..sets.len() {
-        add_bit(&mut memberships, 1 << set, &sets[set]);
+    let mut memberships = filled(alloc, 0, family.nodes as usize + 1)?;
+    'sets: for set in 0..family.sets.len() {
+        add_bit(&mut memberships, 1 << set, &family.sets[set]);
     }
     Ok(memberships)
 }

@@ -1,13 +1,14 @@
 //! The parts into which sets divide the nodes.
 
-ghost use Rattle.std.specs.Prelude.{◌≡◌, ◌≤◌, ◌<◌, ◌+◌, ◌-◌, ◌^◌, ◌↔◌, ℕ, List, IsTrue, MatchOption, IfOk, IfSome, length, slice_index};
+ghost use Rattle.std.specs.Prelude.{◌≡◌, ◌≤◌, ◌<◌, ◌+◌, ◌^◌, ◌↔◌, ℕ, List, IsTrue, MatchOption, IfOk, IfSome, length, slice_index};
 ghost use Rattle.std.specs.List.{All, Any};
 ghost use Rattle.tsp_families.specs.Crossed.{sets_of, HasUnlike};
 ghost use Rattle.tsp_families.specs.SetParts.{ArePartsOf};
 ghost use Rattle.tsp_families.specs.Memberships.{AreMemberships, IsNodePlace, AreDifferent, AreFirsts};
-ghost use Rattle.tsp_families.specs.FamilySets.{AreSetsOf, lists_of};
+ghost use Rattle.tsp_families.specs.FamilySets.{lists_of};
 
 use crate::members::memberships_of;
+use crate::node_sets::NodeSets;
 use std::alloc::Global;
 use tsp_memory::{Refused, push};
 
@@ -29,18 +30,16 @@ pub struct Parts {
 /// # Errors
 ///
 /// Out of memory, of which it takes some for each node.
-pub fn parts_of(alloc: Global, nodes: u32, sets: &[Vec<u32>]) -> Result<Option<Parts>, Refused>
-    requires few { nodes < 2 ^ 32 - 1 }
-    requires few_sets { length sets.now ≤ 63 }
-    requires nodes { AreSetsOf nodes sets.now }
+pub fn parts_of(alloc: Global, family: &NodeSets) -> Result<Option<Parts>, Refused>
+    requires { length family.now.sets.now ≤ 63 }
     ensures parts { IfOk result (λ found. MatchOption found
-        (HasUnlike 15 nodes (sets_of (lists_of sets.now)))
-        (λ parts. ArePartsOf nodes (sets_of (lists_of sets.now)) parts.firsts.items)) }
+        (HasUnlike 15 family.now.nodes (sets_of (lists_of family.now.sets.now)))
+        (λ parts. ArePartsOf family.now.nodes (sets_of (lists_of family.now.sets.now)) parts.firsts.items)) }
     ensures memberships { IfOk result (λ found. IfSome found
-        (λ parts. AreMemberships nodes (sets_of (lists_of sets.now)) parts.memberships.items)) }
+        (λ parts. AreMemberships family.now.nodes (sets_of (lists_of family.now.sets.now)) parts.memberships.items)) }
     ensures few { IfOk result (λ found. IfSome found (λ parts. length parts.firsts.items ≤ 14)) }
 {
-    let memberships = memberships_of(alloc, nodes, sets)?;
+    let memberships = memberships_of(alloc, family)?;
     let found = firsts_of(alloc, &memberships)?;
     match found {
         None => Ok(None),

@@ -4,6 +4,7 @@ ghost use Rattle.std.specs.Prelude.{◌≡◌, ℕ, ◌+◌, ◌-◌, ◌*◌, �
 ghost use Rattle.std.specs.List.{All};
 ghost use Rattle.tsp_families.specs.Paths.{cost_by_rows, no_path, IsBestPath, AreBestPaths, IsLeastSum};
 
+use crate::cost_square::CostSquare;
 use std::alloc::Global;
 use tsp_memory::{Refused, push};
 
@@ -36,30 +37,27 @@ pub(crate) fn least_sum(
 
 /// The least length of the paths from a node through all others of a set to node 1, or `NO_PATH`
 /// where the set doesn't have the node. The node has 2 less as its number.
-fn best_path(costs: &[u32], nodes: usize, paths: &[u64], set: usize, other: usize) -> u64
-    requires some { 2 ≤ nodes }
-    requires few { nodes ≤ 14 }
-    requires square { length costs.now ≡ nodes * nodes }
-    requires set { set < 2 ^ (nodes - 1) }
-    requires other { other < nodes - 1 }
-    requires paths { set * (nodes - 1) ≤ length paths.now }
+fn best_path(between: &CostSquare, paths: &[u64], set: usize, other: usize) -> u64
+    requires set { set < 2 ^ (between.now.nodes - 1) }
+    requires other { other < between.now.nodes - 1 }
+    requires paths { set * (between.now.nodes - 1) ≤ length paths.now }
     requires small { All (λ path. path ≤ no_path) paths.now }
-    requires best { AreBestPaths nodes (cost_by_rows nodes costs.now) paths.now }
-    ensures { IsBestPath nodes (cost_by_rows nodes costs.now) set (other + 2) result }
+    requires best { AreBestPaths between.now.nodes (cost_by_rows between.now.nodes between.now.costs.now) paths.now }
+    ensures { IsBestPath between.now.nodes (cost_by_rows between.now.nodes between.now.costs.now) set (other + 2) result }
 {
-    let others = nodes - 1;
+    let others = between.nodes - 1;
     let bit = power(other);
     if set / bit % 2 == 0 {
         return NO_PATH;
     }
     let rest = set - bit;
-    let row = (other + 1) * nodes;
+    let row = (other + 1) * between.nodes;
     let start = if rest == 0 {
-        u64::from(costs[row])
+        u64::from(between.costs[row])
     } else {
         NO_PATH
     };
-    least_sum(start, costs, paths, row + 1, rest * others, others)
+    least_sum(start, between.costs, paths, row + 1, rest * others, others)
 }
 
 /// A power of two.
@@ -70,26 +68,25 @@ pub(crate) fn power(exponent: usize) -> usize
     1 << exponent
 }
 
-/// The best paths of all sets of the nodes 2 to `nodes`.
+/// The best paths of all sets of the nodes from 2 on.
 ///
 /// # Errors
 ///
 /// Out of memory.
-pub(crate) fn best_paths(alloc: Global, costs: &[u32], nodes: usize) -> Result<Vec<u64>, Refused>
-    requires some { 2 ≤ nodes }
-    requires few { nodes ≤ 14 }
-    requires square { length costs.now ≡ nodes * nodes }
-    ensures long { IfOk result (λ paths. length paths.items ≡ 2 ^ (nodes - 1) * (nodes - 1)) }
+pub(crate) fn best_paths(alloc: Global, between: &CostSquare) -> Result<Vec<u64>, Refused>
+    requires { 2 ≤ between.now.nodes }
+    ensures long { IfOk result
+        (λ paths. length paths.items ≡ 2 ^ (between.now.nodes - 1) * (between.now.nodes - 1)) }
     ensures small { IfOk result (λ paths. All (λ path. path ≤ no_path) paths.items) }
-    ensures best { IfOk result
-        (λ paths. AreBestPaths nodes (cost_by_rows nodes costs.now) paths.items) }
+    ensures best { IfOk result (λ paths. AreBestPaths between.now.nodes
+        (cost_by_rows between.now.nodes between.now.costs.now) paths.items) }
 {
-    let others = nodes - 1;
+    let others = between.nodes - 1;
     let count = power(others);
     let mut paths = Vec::new(alloc);
     'sets: for set in 0..count {
         'nodes: for other in 0..others {
-            let best = best_path(costs, nodes, &paths, set, other);
+            let best = best_path(between, &paths, set, other);
             push(&mut paths, best)?;
         }
     }

@@ -10,7 +10,6 @@ use Rattle.tsp_branch.specs.declared.set_place.SetPlace.{SetPlace}
 use Rattle.tsp_branch.specs.states.Sets.{IsMoved, places_with}
 use Rattle.tsp_branch.specs.states.Combed.{inside_both, multipliers_at, AreSmallMultipliers}
 use Rattle.tsp_branch.specs.declared.kept.KeptRows.{KeptRows}
-use Rattle.tsp_branch.specs.declared.open_leaf.OpenLeaf.{OpenLeaf}
 
 -- the cost of two nodes at the scale, and what the sets of both add
 abbrev pub kept_weight : ℤ → List (List (List ℕ)) → (ℕ → ℕ → ℤ) → List ℤ → ℕ → ℕ → ℤ
@@ -64,9 +63,3 @@ pub record HoldsRows (n combs : ℕ) (scale : ℤ) (families : List (List (List 
 abbrev pub AreMoved : ℕ → List ℤ → List ℤ → List (List (List ℕ)) → List ℤ → Type 0
 AreMoved n potentials multipliers families moved = (x : ℕ) → IsNode n x → int_wrap w64 (least_at moved x)
     ≡ int_wrap w64 (entry potentials x +ℤ neg_ℤ (multipliers_at multipliers families x))
-
--- what its weights need of a leaf's numbers
-pub record IsOpenLeaf (n : ℕ) (scale : ℤ) (families : List (List (List ℕ))) (cost : ℕ → ℕ → ℤ) (leaf : OpenLeaf) : Type 0 where
-  pub places : length leaf.moved.now ≡ n + 1
-  pub moved : AreMoved n leaf.potentials.now leaf.multipliers.now families leaf.moved.now
-  pub kept : AreRowsIfAny n cost (kept_weight scale families cost leaf.multipliers.now) leaf.kept.now

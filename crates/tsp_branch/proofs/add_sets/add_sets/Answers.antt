@@ -15,16 +15,16 @@ use Rattle.tsp_branch.proofs.add_sets.add_sets.Goals as goal
 
 pub places-preserved : goal.places-preserved
 places-preserved c = λ x last rest.
-    let families : List (List (List ℕ)) = lent_in c.args.families.now in
-    let multipliers : List ℤ = c.args.multipliers.now in
+    let families : List (List (List ℕ)) = lent_in c.args.multiplied.now.families.now in
+    let multipliers : List ℤ = c.args.multiplied.now.numbers.now in
     let nodes : List ℕ = c.set_at-nodes.result.now in
     let place : SetPlace = get_or c.args.places.now c.places.place-index (place_at 0 0) in
     let inside = c.requires.places c.places.place-index (place_at 0 0) c.places-test.true in
-    let of_lists = c.args.families.now.many in
-    let of_lent = c.args.families.now.as_many in
-    let family_in : place.family < length multipliers = omega (arith, inside.0, of_lists, of_lent, c.requires.as_many) in
+    let of_lists = c.args.multiplied.now.families.now.many in
+    let of_lent = c.args.multiplied.now.families.now.as_many in
+    let family_in : place.family < length multipliers = omega (arith, inside.0, of_lists, of_lent, c.args.multiplied.now.as_many) in
     let multiplier : ℤ = get_or multipliers place.family (pos 0) in
-    let own = c.requires.small place.family (pos 0) family_in in
+    let own = c.args.multiplied.now.small place.family (pos 0) family_in in
     let twice : to_z w64 (of_z w64 (pos 2 *ℤ multiplier)) ≡ pos 2 *ℤ multiplier = omega (arith, ints, own.0, own.1) in
     let whole : to_z w64 (of_z w64 multiplier) ≡ multiplier = omega (arith, ints, own.0, own.1) in
     let same : added (to_z w64 (of_z w64 (pos 2 *ℤ to_z w64 (of_z w64 multiplier)))) nodes x ≡ twice_in multipliers families place x =
@@ -38,4 +38,4 @@ pub returns : goal.returns
 returns c = λ x.
     let past : length c.args.places.now ≤ c.places.place-index = omega (arith, c.places-test.false) in
     c.places.invariant x (least_at c.places.row x)
-    (inl (refl, ap (λ ps. inside_both c.args.multipliers.now (lent_in c.args.families.now) ps x) (drop_all c.places.place-index c.args.places.now past)))
+    (inl (refl, ap (λ ps. inside_both c.args.multiplied.now.numbers.now (lent_in c.args.multiplied.now.families.now) ps x) (drop_all c.places.place-index c.args.places.now past)))

@@ -7,5 +7,5 @@ use Rattle.tsp_branch.specs.states.Combed.{inside_both}
 use Rattle.tsp_branch.proofs.add_sets.add_sets.Given as goal
 
 abbrev pub invariant-places : goal.invariant-places
-invariant-places l = (x : ℕ) (last : ℤ) → IsMoved (inside_both l.multipliers (lent_in l.families) (drop l.place-index l.places) x) (least_at l.row x) last
-    → IsMoved (inside_both l.multipliers (lent_in l.families) l.places x) (least_at l.fn.row x) last
+invariant-places l = (x : ℕ) (last : ℤ) → IsMoved (inside_both l.multiplied.numbers.now (lent_in l.multiplied.families.now) (drop l.place-index l.places) x) (least_at l.row x) last
+    → IsMoved (inside_both l.multiplied.numbers.now (lent_in l.multiplied.families.now) l.places x) (least_at l.fn.row x) last

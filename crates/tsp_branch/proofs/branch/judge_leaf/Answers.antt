@@ -6,6 +6,7 @@ use Rattle.std.specs.List.{All}
 use Rattle.tsp_format.specs.Cells.{IsNode}
 use Rattle.tsp_theory.specs.Numbers.{entry}
 use Rattle.tsp_theory.specs.states.Nearest.{least_at}
+use Rattle.tsp_branch.specs.Families.{IsFamily}
 use Rattle.tsp_branch.specs.states.Lent.{lent_in, good_in}
 use Rattle.tsp_branch.specs.states.Combed.{AreSmallMultipliers, multipliers_at}
 use Rattle.tsp_branch.specs.states.Kept.{kept_weight, AreRowsIfAny, AreEnds, HoldsRows}
@@ -15,9 +16,9 @@ use Rattle.tsp_branch.specs.declared.decision.Decision.{Decision}
 use Rattle.tsp_branch.specs.Decisions.{decided_number}
 use Rattle.tsp_branch.specs.states.OpenCases.{decisions_in}
 use Rattle.tsp_branch.specs.Listed.{all_grown}
-use Rattle.tsp_branch.proofs.CaseWeights.{all_some, small_multipliers}
+use Rattle.tsp_branch.proofs.CaseWeights.{small_multipliers, few_crossings}
 use Rattle.tsp_branch.proofs.KeptRows.{moved_from_ends}
-use Rattle.tsp_branch.proofs.Judging.{written, good_read, judged_leaf}
+use Rattle.tsp_branch.proofs.Judging.{written, good_read, judged_leaf, numbers_are}
 use Rattle.tsp_branch.proofs.branch.judge_leaf.Goals as goal
 
 pub bring_to-requires-clause-small : goal.bring_to-requires-clause-small
@@ -25,7 +26,7 @@ bring_to-requires-clause-small g c =
     let s = c.args.setting.now in
     let is = c.deref-2.ensures.value ∙ written c.args.room.now.multipliers.len c.judge.new.multipliers _ (c.judge.ensures.multipliers_len ∙ c.deref_mut-3.ensures.len)
     ∙ c.if-not-judge.ensures.multipliers refl in
-    subst AreSmallMultipliers (sym is) (small_multipliers _ s.families.now.crossed.items _ _ (all_some (g.C.Costs.nodes s.costs.now) s.families.now.crossed.items (lent_in s.families.now) s.families.now.many c.requires.are_families)
+    subst AreSmallMultipliers (sym is) (small_multipliers _ s.families.now.crossed.items _ _ s.families.now.some
     (c.if-not-judge.ensures.good.0 refl))
 
 pub fill_moved-requires-clause-ends : goal.fill_moved-requires-clause-ends
@@ -39,12 +40,12 @@ fill_moved-requires-clause-ends g c =
     let ms_len : length c.deref-2.result.now ≡ length s.families.now.crossed.items =
     ap length (c.deref-2.ensures.value ∙ written room.multipliers.len c.judge.new.multipliers _ (c.judge.ensures.multipliers_len ∙ c.deref_mut-3.ensures.len))
     ∙ c.judge.ensures.multipliers_len ∙ ap length c.deref_mut-3.ensures.value ∙ c.requires.room.multipliers in
-    let brought = c.bring_to.ensures.kept n s.scale cost (subst (λ (k : ℕ). HoldsRows n k s.scale (lent_in s.families.now) cost room.kept) (sym ms_len) c.requires.kept) s.table in
+    let brought = c.bring_to.ensures.kept n s.cases.now.scale cost (subst (λ (k : ℕ). HoldsRows n k s.cases.now.scale (lent_in s.families.now) cost room.kept) (sym ms_len) c.requires.kept) s.table in
     let places = ap length c.deref-4.ensures.value ∙ brought.ends.places in
     omega (arith, places, ps_len)
 
-pub case_bound-requires-clause-leaf : goal.case_bound-requires-clause-leaf
-case_bound-requires-clause-leaf g c =
+pub invariant_of-leaf : goal.invariant_of-leaf
+invariant_of-leaf g c =
     let s = c.args.setting.now in
     let n : ℕ = g.C.Costs.nodes s.costs.now in
     let cost = g.C.Costs.at s.costs.now in
@@ -58,20 +59,34 @@ case_bound-requires-clause-leaf g c =
     let ps_same : c.deref-3.result.now ≡ c.deref-5.result.now = c.deref-3.ensures.value ∙ sym c.deref-5.ensures.value in
     let ms_same : c.deref-2.result.now ≡ c.deref-6.result.now = c.deref-2.ensures.value ∙ sym c.deref-6.ensures.value in
     let moved_is = c.deref-7.ensures.value ∙ written room.moved.len c.fill_moved.new.row _ (c.fill_moved.auto.row ∙ c.deref_mut-4.ensures.len) in
-    let brought : HoldsRows n (length c.deref-2.result.now) s.scale families cost c.bring_to.new.self =
-    c.bring_to.ensures.kept n s.scale cost (subst (λ (k : ℕ). HoldsRows n k s.scale families cost room.kept) (sym ms_len) c.requires.kept) s.table in
+    let brought : HoldsRows n (length c.deref-2.result.now) s.cases.now.scale families cost c.bring_to.new.self =
+    c.bring_to.ensures.kept n s.cases.now.scale cost (subst (λ (k : ℕ). HoldsRows n k s.cases.now.scale families cost room.kept) (sym ms_len) c.requires.kept) s.table in
     let now_at : c.bring_to.new.self.multipliers.items ≡ c.deref-6.result.now = c.bring_to.ensures.multipliers ∙ ms_same in
     let ends : AreEnds n c.deref-6.result.now families c.bring_to.new.self.ends.items = subst (λ (ms : List ℤ). AreEnds n ms families c.bring_to.new.self.ends.items) now_at brought.ends in
-    let rows : AreRowsIfAny n cost (kept_weight s.scale families cost c.deref-6.result.now) c.bring_to.new.self.rows.items =
-    subst (λ (ms : List ℤ). AreRowsIfAny n cost (kept_weight s.scale families cost ms) c.bring_to.new.self.rows.items) now_at brought.rows in
+    let rows : AreRowsIfAny n cost (kept_weight s.cases.now.scale families cost c.deref-6.result.now) c.bring_to.new.self.rows.items =
+    subst (λ (ms : List ℤ). AreRowsIfAny n cost (kept_weight s.cases.now.scale families cost ms) c.bring_to.new.self.rows.items) now_at brought.rows in
+    let read : List ℤ = c.deref.result.now in
+    let at = ap length c.deref_mut-2.ensures.value ∙ c.requires.room.potentials in
+    let of_nodes = c.deref-5.ensures.value ∙ written room.potentials.len c.judge.new.potentials _ (c.judge.ensures.potentials_len ∙ c.deref_mut-2.ensures.len)
+    ∙ c.if-not-judge.ensures.potentials refl in
+    let of_combs = c.deref-6.ensures.value ∙ written room.multipliers.len c.judge.new.multipliers _ (c.judge.ensures.multipliers_len ∙ c.deref_mut-3.ensures.len)
+    ∙ c.if-not-judge.ensures.multipliers refl in
+    let crossed = s.families.now.crossed.items in
+    let numbers = numbers_are n _ crossed read c.deref-5.result.now c.deref-6.result.now at of_nodes of_combs (c.if-not-judge.ensures.good.0 refl) in
     record {
+      is_case = c.requires.case;
+      direction = c.requires.direction;
+      once = c.requires.once;
+      few = c.requires.few;
+      numbers = numbers;
+      crossed = few_crossings n crossed c.deref-5.result.now c.deref-6.result.now families numbers s.families.now.many (subst (λ (m : ℕ). ∥ All (IsFamily m) (good_in s.families.now) ∥₁) s.same s.families.now.are);
       places = ap length moved_is ∙ c.fill_moved.auto.row ∙ ap length c.deref_mut-4.ensures.value ∙ c.requires.room.moved;
-      moved = λ x x_in.
+      are_moved = λ x x_in.
           ap (λ (zs : List ℤ). int_wrap w64 (least_at zs x)) moved_is
           ∙ moved_from_ends (entry c.deref-3.result.now x) (least_at c.deref-4.result.now x) (least_at c.fill_moved.new.row x) (neg_ℤ (multipliers_at c.deref-6.result.now families x))
           (c.fill_moved.ensures x (x_in.0, omega (arith, x_in.1, ps_len))) (ap (λ (zs : List ℤ). int_wrap w64 (least_at zs x)) c.deref-4.ensures.value ∙ ends.taken x x_in)
           ∙ ap (λ (ps : List ℤ). int_wrap w64 (entry ps x +ℤ neg_ℤ (multipliers_at c.deref-6.result.now families x))) ps_same;
-      kept = subst (AreRowsIfAny n cost (kept_weight s.scale families cost c.deref-6.result.now)) (sym c.deref-8.ensures.value) rows;
+      are_kept = subst (AreRowsIfAny n cost (kept_weight s.cases.now.scale families cost c.deref-6.result.now)) (sym c.deref-8.ensures.value) rows;
     }
 
 pub returns-clause-kept : goal.returns-clause-kept
@@ -83,8 +98,8 @@ returns-clause-kept g c =
     let ms_len : length c.deref-2.result.now ≡ length s.families.now.crossed.items =
     ap length (c.deref-2.ensures.value ∙ written room.multipliers.len c.judge.new.multipliers _ (c.judge.ensures.multipliers_len ∙ c.deref_mut-3.ensures.len))
     ∙ c.judge.ensures.multipliers_len ∙ ap length c.deref_mut-3.ensures.value ∙ c.requires.room.multipliers in
-    let brought = c.bring_to.ensures.kept n s.scale cost (subst (λ (k : ℕ). HoldsRows n k s.scale (lent_in s.families.now) cost room.kept) (sym ms_len) c.requires.kept) s.table in
-    subst (λ (k : ℕ). HoldsRows n k s.scale (lent_in s.families.now) cost c.bring_to.new.self) ms_len brought
+    let brought = c.bring_to.ensures.kept n s.cases.now.scale cost (subst (λ (k : ℕ). HoldsRows n k s.cases.now.scale (lent_in s.families.now) cost room.kept) (sym ms_len) c.requires.kept) s.table in
+    subst (λ (k : ℕ). HoldsRows n k s.cases.now.scale (lent_in s.families.now) cost c.bring_to.new.self) ms_len brought
 
 pub returns-clause-judged : goal.returns-clause-judged
 returns-clause-judged g c =
@@ -103,8 +118,8 @@ returns-clause-judged g c =
     let of_combs = c.deref-6.ensures.value ∙ written room.multipliers.len c.judge.new.multipliers _ (c.judge.ensures.multipliers_len ∙ c.deref_mut-3.ensures.len)
     ∙ c.if-not-judge.ensures.multipliers refl in
     let setting = c.args.setting.now in
-    let found : List Decision × LeafNumbers → Option ℤ → Type 0 = IsFoundAt setting.directed n (g.C.Costs.at setting.costs.now) setting.scale decided_number (good_in setting.families.now) in
+    let found : List Decision × LeafNumbers → Option ℤ → Type 0 = IsFoundAt setting.cases.now.directed n (g.C.Costs.at setting.costs.now) setting.cases.now.scale decided_number (good_in setting.families.now) in
     judged_leaf found n setting.families.now.crossed.items (decisions_in c.args.case.now) room.numbers.items changes _ c.deref-5.result.now c.deref-6.result.now c.in_ok-bound.bound
-    c.requires.room.numbers (all_some n setting.families.now.crossed.items (lent_in setting.families.now) setting.families.now.many c.requires.are_families) inside (now ∙ grown) good (of_nodes ∙ ap (λ (k : ℕ). take k read) at ∙ ap (take n) c.deref.ensures.value)
+    c.requires.room.numbers setting.families.now.some inside (now ∙ grown) good (of_nodes ∙ ap (λ (k : ℕ). take k read) at ∙ ap (take n) c.deref.ensures.value)
     (of_combs ∙ ap (λ (k : ℕ). drop k read) at ∙ ap (drop n) c.deref.ensures.value)
     c.in_ok-bound.ensures.bound

@@ -1,6 +1,8 @@
 -- The goals of `judge_leaves` in src/branch.rt: its loop, what its calls require and what it ensures.
 use Rattle.std.proofs.Common.{ℕ, ℤ, true, List, [], Option, None, Some, inl, ◌++◌, ◌+◌, ◌^◌, ◌<◌, length, drop, sym, ap, subst, ◌∙◌, arith}
 use Rattle.std.specs.Prelude.{pos}
+use Rattle.std.proofs.Math.Logic.{∥∥₁_elim}
+use Rattle.std.proofs.Props.{props}
 use Rattle.std.proofs.lemmas.Int.{ints}
 use Rattle.std.proofs.lemmas.List.{length_push, length-replicate, get_or-replicate}
 use Rattle.tsp_format.specs.declared.steps.TreeStep.{TreeStep}
@@ -13,21 +15,29 @@ use Rattle.tsp_branch.specs.Certificate.{IsFoundAt}
 use Rattle.tsp_branch.specs.Listed.{no_numbers_of}
 use Rattle.tsp_branch.specs.declared.decision.Decision.{Decision}
 use Rattle.tsp_branch.specs.Decisions.{DecideOnce, decided_number}
-use Rattle.tsp_branch.specs.states.Decided.{stack_of}
+use Rattle.tsp_branch.specs.states.Decided.{IsDecision, stack_of}
 use Rattle.tsp_branch.specs.states.OpenCases.{IsOpenCase}
 use Rattle.tsp_branch.specs.states.Rooms.{AreSmall, IsJudgedLeaf}
 use Rattle.tsp_branch.proofs.Passes.{IsAtStep, at_start, at_branch}
-use Rattle.tsp_branch.proofs.Judging.{own_step, at_next, all_passed, bad_here, after_found, small_found, once_here, low_sized}
+use Rattle.tsp_branch.proofs.Judging.{few_decided, whole_trees, own_step, at_next, all_passed, bad_here, after_found, small_found, once_here, low_sized}
 use Rattle.tsp_branch.proofs.branch.judge_leaves.Goals as goal
 use Rattle.tsp_branch.proofs.branch.judge_leaves.Goals.{in-Branch+in_ok-take-in-Branch, in-Leaf+in_ok-judged-in-Leaf+in-Found+in_ok-next-in-Leaf}
 
 pub judge_leaf-requires-clause-few_changes : goal.judge_leaf-requires-clause-few_changes
 judge_leaf-requires-clause-few_changes g c =
+    let s = c.args.setting.now in
     let st = c.steps in
-    let own : length c.in-Leaf.changes.items < 2 ^ 32 = own_step
-    (g.C.Costs.nodes c.args.setting.now.costs.now) c.args.steps.now st.step-index c.step-item.result
-    (code.Leaf c.in-Leaf.changes) c.requires.steps.each c.steps-test.true c.step-item.is c.in-Leaf.is in
+    let own : length c.in-Leaf.changes.items < 2 ^ 32 = ∥∥₁_elim s.cases.now.steps_are (hlevel props) (λ each. own_step
+    s.cases.now.nodes s.cases.now.steps.now st.step-index c.step-item.result
+    (code.Leaf c.in-Leaf.changes) each c.steps-test.true c.step-item.is c.in-Leaf.is) in
     subst (λ (cs : List (ℕ × ℤ)). length cs < 2 ^ 32) (sym c.deref.ensures.value) own
+
+pub judge_leaf-requires-clause-few : goal.judge_leaf-requires-clause-few
+judge_leaf-requires-clause-few g c =
+    let cases = c.args.setting.now.cases.now in
+    let st = c.steps in
+    few_decided st.case.stack.items st.case.given.now (omega (arith, st.invariant.few, c.steps-test.true, cases.few_steps))
+    (subst (λ (ds : List Decision). length ds < 2 ^ 32) (sym st.invariant.given) cases.few_given)
 
 none_small : (n combs : ℕ) → AreSmall (no_numbers_of n combs)
 none_small n combs k default lt =
@@ -38,21 +48,22 @@ pub steps-init : goal.steps-init
 steps-init g c =
     let s = c.args.setting.now in
     let n : ℕ = g.C.Costs.nodes s.costs.now in
-    let found : List Decision × LeafNumbers → Option ℤ → Type 0 = IsFoundAt s.directed n
-    (g.C.Costs.at s.costs.now) s.scale decided_number (good_in s.families.now) in
-    let given = s.given.now in
-    let told : List listed.Step = steps_of c.args.steps.now in
+    let found : List Decision × LeafNumbers → Option ℤ → Type 0 = IsFoundAt s.cases.now.directed n
+    (g.C.Costs.at s.costs.now) s.cases.now.scale decided_number (good_in s.families.now) in
+    let given = s.cases.now.given.now in
+    let told : List listed.Step = steps_of s.cases.now.steps.now in
     let case = c.in_ok-case.case in
+    let whole = sym (whole_trees n (no_numbers_of n (length s.families.now.crossed.items)) 1 told) ∙ s.cases.now.whole in
     record {
-      at = inl (subst (λ (ds : List Decision). IsAtStep found s.directed n s.families.now.crossed.items given told c.args.room.numbers.items
+      at = inl (subst (λ (ds : List Decision). IsAtStep found s.cases.now.directed n s.families.now.crossed.items given told c.in_ok-room.room.numbers.items
           (Some (stack_of ds)) None 0 told) (sym c.in_ok-case.ensures.stack)
-          (subst (λ (zs : List ℤ). IsAtStep found s.directed n s.families.now.crossed.items given told zs (Some []) None 0 told)
-          (sym c.requires.start)
-          (at_start found s.directed n s.families.now.crossed.items given told c.requires.steps.whole c.requires.steps.once)));
-      room = c.requires.room;
-      kept = c.requires.kept;
-      small = subst AreSmall (sym c.requires.start) (none_small n (length s.families.now.crossed.items));
-      case = subst (λ (k : ℕ). IsOpenCase k case) c.count-count.ensures.value c.in_ok-case.ensures.case;
+          (subst (λ (zs : List ℤ). IsAtStep found s.cases.now.directed n s.families.now.crossed.items given told zs (Some []) None 0 told)
+          (sym c.in_ok-room.ensures.start)
+          (at_start found s.cases.now.directed n s.families.now.crossed.items given told whole (s.cases.now.once n (length s.families.now.crossed.items)))));
+      room = c.in_ok-room.ensures.room;
+      kept = c.in_ok-room.ensures.kept;
+      small = subst AreSmall (sym c.in_ok-room.ensures.start) (none_small n (length s.families.now.crossed.items));
+      case = subst (λ (k : ℕ). IsOpenCase k case) s.own c.in_ok-case.ensures.case;
       given = c.in_ok-case.ensures.given;
       direction = c.in_ok-case.ensures.directed;
       few = omega (arith, ap length c.in_ok-case.ensures.stack);
@@ -62,46 +73,43 @@ steps-init g c =
 
 pub take-requires : goal.take-requires
 take-requires g c =
-    let n : ℕ = g.C.Costs.nodes c.args.setting.now.costs.now in
+    let s = c.args.setting.now in
+    let n : ℕ = g.C.Costs.nodes s.costs.now in
     let st = c.steps in
-    record {
-      case = (
-        n,
-        st.invariant.case,
-        own_step n c.args.steps.now st.step-index c.step-item.result
-            (code.Branch c.in-Branch.first c.in-Branch.second) c.requires.steps.each c.steps-test.true c.step-item.is
-            c.in-Branch.is,
-      );
-    }
+    let decision : Decision = record { pair = (c.in-Branch.first, c.in-Branch.second); taken = true } in
+    let own : IsDecision s.cases.now.nodes decision = ∥∥₁_elim s.cases.now.steps_are (hlevel props) (λ each. own_step
+    s.cases.now.nodes s.cases.now.steps.now st.step-index c.step-item.result
+    (code.Branch c.in-Branch.first c.in-Branch.second) each c.steps-test.true c.step-item.is c.in-Branch.is) in
+    record { case = (n, st.invariant.case, subst (λ (k : ℕ). IsDecision k decision) s.own own) }
 
 pub judge_leaf-requires-clause-once : goal.judge_leaf-requires-clause-once
 judge_leaf-requires-clause-once g c =
     let s = c.args.setting.now in
     let n : ℕ = g.C.Costs.nodes s.costs.now in
-    let found : List Decision × LeafNumbers → Option ℤ → Type 0 = IsFoundAt s.directed n
-    (g.C.Costs.at s.costs.now) s.scale decided_number (good_in s.families.now) in
-    let given = s.given.now in
-    let all : List TreeStep = c.args.steps.now in
+    let found : List Decision × LeafNumbers → Option ℤ → Type 0 = IsFoundAt s.cases.now.directed n
+    (g.C.Costs.at s.costs.now) s.cases.now.scale decided_number (good_in s.families.now) in
+    let given = s.cases.now.given.now in
+    let all : List TreeStep = s.cases.now.steps.now in
     let told : List listed.Step = steps_of all in
     let st = c.steps in
-    let at = at_next found s.directed n s.families.now.crossed.items given all st.room.numbers.items st.case.stack.items st.lowest st.leaf
+    let at = at_next found s.cases.now.directed n s.families.now.crossed.items given all st.room.numbers.items st.case.stack.items st.lowest st.leaf
     st.step-index c.step-item.result
     (code.Leaf c.in-Leaf.changes) c.steps-test.true c.step-item.is c.in-Leaf.is st.invariant.at in
-    subst (λ (ds : List Decision). DecideOnce s.directed (stack_of st.case.stack.items ++ ds)) (sym st.invariant.given)
-    (once_here found s.directed n s.families.now.crossed.items given told st.room.numbers.items st.case.stack.items st.lowest st.leaf
+    subst (λ (ds : List Decision). DecideOnce s.cases.now.directed (stack_of st.case.stack.items ++ ds)) (sym st.invariant.given)
+    (once_here found s.cases.now.directed n s.families.now.crossed.items given told st.room.numbers.items st.case.stack.items st.lowest st.leaf
     c.in-Leaf.changes.items _ at)
 
 pub returns-in_default-clause-judged : goal.returns-in_default-clause-judged
-returns-in_default-clause-judged g c =
+returns-in_default-clause-judged g c = λ are.
     let s = c.args.setting.now in
     let n : ℕ = g.C.Costs.nodes s.costs.now in
-    let found : List Decision × LeafNumbers → Option ℤ → Type 0 = IsFoundAt s.directed n
-    (g.C.Costs.at s.costs.now) s.scale decided_number (good_in s.families.now) in
-    let given = s.given.now in
-    let all : List TreeStep = c.args.steps.now in
+    let found : List Decision × LeafNumbers → Option ℤ → Type 0 = IsFoundAt s.cases.now.directed n
+    (g.C.Costs.at s.costs.now) s.cases.now.scale decided_number (good_in s.families.now) in
+    let given = s.cases.now.given.now in
+    let all : List TreeStep = s.cases.now.steps.now in
     let told : List listed.Step = steps_of all in
     let st = c.steps in
-    let at = at_next found s.directed n s.families.now.crossed.items given all st.room.numbers.items st.case.stack.items st.lowest st.leaf
+    let at = at_next found s.cases.now.directed n s.families.now.crossed.items given all st.room.numbers.items st.case.stack.items st.lowest st.leaf
     st.step-index c.step-item.result
     (code.Leaf c.in-Leaf.changes) c.steps-test.true c.step-item.is c.in-Leaf.is st.invariant.at in
     let judged = subst (λ (cs : List (ℕ × ℤ)). IsJudgedLeaf found n s.families.now.crossed.items
@@ -111,34 +119,35 @@ returns-in_default-clause-judged g c =
     (stack_of st.case.stack.items ++ ds) st.room.numbers.items c.deref.result.now c.judge_leaf.new.room.numbers.items
     c.in_ok-judged-in-Leaf.judged) st.invariant.given
     c.in_ok-judged-in-Leaf.ensures.judged) in
-    bad_here found s.directed n s.families.now.crossed.items given told st.room.numbers.items st.case.stack.items st.lowest st.leaf
+    bad_here found s.cases.now.directed n s.families.now.crossed.items given told st.room.numbers.items st.case.stack.items st.lowest st.leaf
     c.in-Leaf.changes.items _ _ c.in_ok-judged-in-Leaf.judged at judged c.in_default.is
 
 pub steps-preserved : goal.steps-preserved
 steps-preserved g c =
     let s = c.args.setting.now in
     let n : ℕ = g.C.Costs.nodes s.costs.now in
-    let found : List Decision × LeafNumbers → Option ℤ → Type 0 = IsFoundAt s.directed n
-    (g.C.Costs.at s.costs.now) s.scale decided_number (good_in s.families.now) in
-    let given = s.given.now in
-    let all : List TreeStep = c.args.steps.now in
+    let found : List Decision × LeafNumbers → Option ℤ → Type 0 = IsFoundAt s.cases.now.directed n
+    (g.C.Costs.at s.costs.now) s.cases.now.scale decided_number (good_in s.families.now) in
+    let given = s.cases.now.given.now in
+    let all : List TreeStep = s.cases.now.steps.now in
     let told : List listed.Step = steps_of all in
     let st = c.steps in
     elim c.match-step.branch [
       | in-Branch+in_ok-take-in-Branch w ↦
-          let at = at_next found s.directed n s.families.now.crossed.items given all st.room.numbers.items st.case.stack.items st.lowest st.leaf
+          let at = at_next found s.cases.now.directed n s.families.now.crossed.items given all st.room.numbers.items st.case.stack.items st.lowest st.leaf
           st.step-index c.step-item.result
           (code.Branch w.in-Branch.first w.in-Branch.second) c.steps-test.true c.step-item.is w.in-Branch.is st.invariant.at in
           let items = w.in_ok-take-in-Branch.ensures.stack in
           let decision : Decision = record { pair = (w.in-Branch.first, w.in-Branch.second); taken = true } in
-          let own = own_step n all st.step-index c.step-item.result
-          (code.Branch w.in-Branch.first w.in-Branch.second) c.requires.steps.each c.steps-test.true c.step-item.is
-          w.in-Branch.is in
+          let here : IsDecision s.cases.now.nodes decision = ∥∥₁_elim s.cases.now.steps_are (hlevel props) (λ each. own_step
+          s.cases.now.nodes all st.step-index c.step-item.result
+          (code.Branch w.in-Branch.first w.in-Branch.second) each c.steps-test.true c.step-item.is w.in-Branch.is) in
+          let own = subst (λ (k : ℕ). IsDecision k decision) s.own here in
           let longer = length_push st.case.stack.items decision in
           rw (w.room-is, w.case-is, w.lowest-is, w.leaf-is) (record {
-            at = inl (subst (λ (ds : List Decision). IsAtStep found s.directed n s.families.now.crossed.items given told st.room.numbers.items
+            at = inl (subst (λ (ds : List Decision). IsAtStep found s.cases.now.directed n s.families.now.crossed.items given told st.room.numbers.items
                 (Some (stack_of ds)) st.lowest st.leaf (steps_of (drop (st.step-index + 1) all))) (sym items)
-                (at_branch found s.directed n s.families.now.crossed.items given told st.room.numbers.items st.case.stack.items st.lowest st.leaf
+                (at_branch found s.cases.now.directed n s.families.now.crossed.items given told st.room.numbers.items st.case.stack.items st.lowest st.leaf
                 w.in-Branch.first w.in-Branch.second _ at));
             room = st.invariant.room;
             kept = st.invariant.kept;
@@ -151,7 +160,7 @@ steps-preserved g c =
             sized = st.invariant.sized;
           })
       | in-Leaf+in_ok-judged-in-Leaf+in-Found+in_ok-next-in-Leaf w ↦
-          let at = at_next found s.directed n s.families.now.crossed.items given all st.room.numbers.items st.case.stack.items st.lowest st.leaf
+          let at = at_next found s.cases.now.directed n s.families.now.crossed.items given all st.room.numbers.items st.case.stack.items st.lowest st.leaf
           st.step-index c.step-item.result
           (code.Leaf w.in-Leaf.changes) c.steps-test.true c.step-item.is w.in-Leaf.is st.invariant.at in
           let judged = subst (λ (cs : List (ℕ × ℤ)). IsJudgedLeaf found n s.families.now.crossed.items
@@ -162,13 +171,13 @@ steps-preserved g c =
           w.in_ok-judged-in-Leaf.judged) st.invariant.given
           w.in_ok-judged-in-Leaf.ensures.judged) in
           rw (w.room-is, w.case-is, w.lowest-is, w.leaf-is) (record {
-            at = after_found found s.directed n s.families.now.crossed.items given told st.room.numbers.items st.case.stack.items st.lowest
+            at = after_found found s.cases.now.directed n s.families.now.crossed.items given told st.room.numbers.items st.case.stack.items st.lowest
                 st.leaf w.in-Leaf.changes.items _ _ w.next.new.self.stack.items
                 w.in_ok-judged-in-Leaf.judged w.in-Found.own w.lower-lowest.result at judged w.in-Found.is w.lower-lowest.ensures
                 w.in_ok-next-in-Leaf.ensures.next;
             room = w.in_ok-judged-in-Leaf.ensures.room;
             kept = w.in_ok-judged-in-Leaf.ensures.kept;
-            small = small_found found s.directed n s.families.now.crossed.items given told st.room.numbers.items st.case.stack.items
+            small = small_found found s.cases.now.directed n s.families.now.crossed.items given told st.room.numbers.items st.case.stack.items
                 w.in-Leaf.changes.items _ w.in_ok-judged-in-Leaf.judged w.in-Found.own judged w.in-Found.is;
             case = w.in_ok-next-in-Leaf.ensures.case n st.invariant.case;
             given = w.in_ok-next-in-Leaf.ensures.given ∙ st.invariant.given;
@@ -181,13 +190,13 @@ steps-preserved g c =
     ]
 
 pub returns-clause-judged : goal.returns-clause-judged
-returns-clause-judged g c =
+returns-clause-judged g c = λ are.
     let s = c.args.setting.now in
     let n : ℕ = g.C.Costs.nodes s.costs.now in
-    let found : List Decision × LeafNumbers → Option ℤ → Type 0 = IsFoundAt s.directed n
-    (g.C.Costs.at s.costs.now) s.scale decided_number (good_in s.families.now) in
+    let found : List Decision × LeafNumbers → Option ℤ → Type 0 = IsFoundAt s.cases.now.directed n
+    (g.C.Costs.at s.costs.now) s.cases.now.scale decided_number (good_in s.families.now) in
     let st = c.steps in
-    all_passed found s.directed n s.families.now.crossed.items s.given.now
-    (good_in s.families.now) c.args.steps.now st.room.numbers.items st.case.stack.items st.lowest
+    all_passed found s.cases.now.directed n s.families.now.crossed.items s.cases.now.given.now
+    (good_in s.families.now) s.cases.now.steps.now st.room.numbers.items st.case.stack.items st.lowest
     st.leaf st.step-index
-    (omega (arith, c.steps-test.false)) st.invariant.at c.requires.are_families c.requires.steps.whole
+    (omega (arith, c.steps-test.false)) st.invariant.at are (sym (whole_trees n (no_numbers_of n (length s.families.now.crossed.items)) 1 (steps_of s.cases.now.steps.now)) ∙ s.cases.now.whole)

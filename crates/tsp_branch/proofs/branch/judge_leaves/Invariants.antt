@@ -17,16 +17,16 @@ invariant-steps g l =
     let s = l.setting in
     let n : ℕ = g.C.Costs.nodes s.costs.now in
     record {
-      at : IsPassing (IsFoundAt s.directed n (g.C.Costs.at s.costs.now) s.scale decided_number
-          (good_in s.families.now)) s.directed n s.families.now.crossed.items s.given.now
-          (steps_of l.steps) l.room.numbers.items l.case.stack.items l.lowest l.leaf
-          (steps_of (drop l.step-index l.steps));
+      at : IsPassing (IsFoundAt s.cases.now.directed n (g.C.Costs.at s.costs.now) s.cases.now.scale decided_number
+          (good_in s.families.now)) s.cases.now.directed n s.families.now.crossed.items s.cases.now.given.now
+          (steps_of s.cases.now.steps.now) l.room.numbers.items l.case.stack.items l.lowest l.leaf
+          (steps_of (drop l.step-index s.cases.now.steps.now));
       room : IsRoom n (length s.families.now.crossed.items) l.room;
-      kept : HoldsRows n (length s.families.now.crossed.items) s.scale (lent_in s.families.now) (g.C.Costs.at s.costs.now) l.room.kept;
+      kept : HoldsRows n (length s.families.now.crossed.items) s.cases.now.scale (lent_in s.families.now) (g.C.Costs.at s.costs.now) l.room.kept;
       small : AreSmall l.room.numbers.items;
       case : IsOpenCase n l.case;
-      given : l.case.given.now ≡ s.given.now;
-      direction : l.case.by_node.directed ≡ s.directed;
+      given : l.case.given.now ≡ s.cases.now.given.now;
+      direction : l.case.by_node.directed ≡ s.cases.now.directed;
       few : length l.case.stack.items ≤ l.step-index;
       leaves : l.leaf ≤ l.step-index;
       sized : IfSome l.lowest IsBoundSized;

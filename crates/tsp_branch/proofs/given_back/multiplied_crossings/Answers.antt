@@ -1,5 +1,5 @@
 -- The goals of `multiplied_crossings` in src/given_back.rt: that no sum overflows and its loop.
-use Rattle.std.proofs.Common.{◌≡◌, ◌+◌, ◌∙◌, ◌<◌, ◌^◌, ℕ, ℤ, List, drop, length, get_or, arith, rules, ap, sym, FitsSigned, to_z}
+use Rattle.std.proofs.Common.{◌≡◌, ◌+◌, ◌∙◌, ◌<◌, ℕ, ℤ, List, drop, length, get_or, arith, rules, ap, sym, FitsSigned, to_z}
 use Rattle.std.specs.Prelude.{pos, ◌+ℤ◌, ◌*ℤ◌}
 use Rattle.std.specs.Int.{w64, w128}
 use Rattle.std.proofs.Math.IntN.{+ℤ_assoc}

@@ -7,9 +7,9 @@ use Rattle.tsp_branch.proofs.good_combs.crossings_of.Goals as goal
 
 pub returns-then-is_comb-clause-found : goal.returns-then-is_comb-clause-found
 returns-then-is_comb-clause-found c =
-    let sets = c.args.sets.now in
-    known_found c.args.nodes (length sets) (lists_of sets) c.known_crossings.result (lists_long sets) c.known_crossings.ensures.least c.known_crossings.ensures.most
-    ((c.is_comb.ensures.comb c.args.nodes c.requires.handle_places c.requires.nodes).0 c.if-is_comb.true)
+    let sets = c.args.family.now.sets.now in
+    known_found c.args.family.now.nodes (length sets) (lists_of sets) c.known_crossings.result (lists_long sets) c.known_crossings.ensures.least c.known_crossings.ensures.most
+    ((c.is_comb.ensures.comb c.args.family.now.nodes c.requires.handle_places c.args.family.now.inside).0 c.if-is_comb.true)
 
 pub returns-clause-found : goal.returns-clause-found
-returns-clause-found c = c.other_crossings.ensures.found (λ good. iff_false (c.is_comb.ensures.comb c.args.nodes c.requires.handle_places c.requires.nodes) c.if-is_comb.false good)
+returns-clause-found c = c.other_crossings.ensures.found (λ good. iff_false (c.is_comb.ensures.comb c.args.family.now.nodes c.requires.handle_places c.args.family.now.inside) c.if-is_comb.false good)

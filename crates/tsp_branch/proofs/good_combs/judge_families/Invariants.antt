@@ -7,12 +7,14 @@ use Rattle.tsp_branch.proofs.FirstBad.{HaveNumbers}
 use Rattle.tsp_branch.proofs.good_combs.judge_families.Given as goal
 
 abbrev pub invariant-families : goal.invariant-families
-invariant-families l = record {
-  handles_long : length l.handles.items ≡ l.nodes + 1;
-  teeth_long : length l.teeth.items ≡ l.nodes + 1;
-  handles_fresh : (mark : ℕ) → l.number < mark → AreUnmarked l.handles.items mark;
-  teeth_fresh : (mark : ℕ) → l.number < mark → AreUnmarked l.teeth.items mark;
-  many : length l.crossed.items ≡ l.number;
-  have : HaveNumbers l.nodes (families_in l.families) l.crossed.items;
-  small : AreSmallCrossings l.crossed.items;
-}
+invariant-families g l =
+    let n : ℕ = g.C.Costs.nodes l.tree.costs.now in
+    record {
+      handles_long : length l.handles.items ≡ n + 1;
+      teeth_long : length l.teeth.items ≡ n + 1;
+      handles_fresh : (mark : ℕ) → l.number < mark → AreUnmarked l.handles.items mark;
+      teeth_fresh : (mark : ℕ) → l.number < mark → AreUnmarked l.teeth.items mark;
+      many : length l.crossed.items ≡ l.number;
+      have : HaveNumbers n (families_in l.tree.families.now) l.crossed.items;
+      small : AreSmallCrossings l.crossed.items;
+    }

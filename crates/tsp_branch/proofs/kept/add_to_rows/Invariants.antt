@@ -4,4 +4,4 @@ use Rattle.tsp_branch.proofs.KeptRows.{IsAddedTo}
 use Rattle.tsp_branch.proofs.kept.add_to_rows.Given as goal
 
 abbrev pub invariant-rows : goal.invariant-rows
-invariant-rows l = IsAddedTo l.index l.multipliers (lent_in l.families) l.by_node l.fn.rows l.rows
+invariant-rows l = IsAddedTo l.index l.multiplied.numbers.now (lent_in l.multiplied.families.now) l.by_node l.fn.rows l.rows

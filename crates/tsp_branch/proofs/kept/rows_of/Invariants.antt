@@ -4,4 +4,4 @@ use Rattle.tsp_branch.specs.states.Kept.{AreRows}
 use Rattle.tsp_branch.proofs.kept.rows_of.Given as goal
 
 abbrev pub invariant-rows : goal.invariant-rows
-invariant-rows g l = AreRows (g.C.Costs.nodes l.costs) (g.C.Costs.at l.costs) (λ i x. l.scale *ℤ g.C.Costs.at l.costs i x) l.index l.rows.items
+invariant-rows g l = AreRows (g.C.Costs.nodes l.setting.costs.now) (g.C.Costs.at l.setting.costs.now) (λ i x. l.setting.cases.now.scale *ℤ g.C.Costs.at l.setting.costs.now i x) l.index l.rows.items

@@ -1,5 +1,5 @@
 -- The goals of `cases_have_no_cycle` in src/laws.rt: what it ensures.
-use Rattle.tsp_branch.proofs.Cases.{cases_have_no_cycle}
+use Rattle.tsp_branch.proofs.CaseLaws.{cases_have_no_cycle}
 use Rattle.tsp_branch.proofs.laws.cases_have_no_cycle.Goals as goal
 
 pub returns : goal.returns

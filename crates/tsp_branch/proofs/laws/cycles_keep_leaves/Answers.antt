@@ -1,5 +1,5 @@
 -- The goals of `cycles_keep_leaves` in src/laws.rt: what it ensures.
-use Rattle.tsp_branch.proofs.Cases.{cycles_keep_leaves}
+use Rattle.tsp_branch.proofs.CaseLaws.{cycles_keep_leaves}
 use Rattle.tsp_branch.proofs.laws.cycles_keep_leaves.Goals as goal
 
 pub returns : goal.returns

@@ -1,5 +1,5 @@
 -- The goals of `steps_leave_cases` in src/laws.rt: what it ensures.
-use Rattle.tsp_branch.proofs.Cases.{open_start, open_branch, open_leaf, open_none, open_end}
+use Rattle.tsp_branch.proofs.CaseLaws.{open_start, open_branch, open_leaf, open_none, open_end}
 use Rattle.tsp_branch.proofs.laws.steps_leave_cases.Goals as goal
 
 pub returns : goal.returns

@@ -10,5 +10,5 @@ use Rattle.tsp_branch.proofs.moved.take_multipliers.Given as goal
 
 abbrev pub invariant-multipliers : goal.invariant-multipliers
 invariant-multipliers l = (x : ℕ) (last : ℤ)
-    → IsMoved (neg_ℤ (summed_from l.number (λ multiplier set. added multiplier set x) l.multipliers (families_in (drop l.number l.families.lent.now)))) (least_at l.row x) last
-    → IsMoved (neg_ℤ (multipliers_at l.multipliers (lent_in l.families) x)) (least_at l.fn.row x) last
+    → IsMoved (neg_ℤ (summed_from l.number (λ multiplier set. added multiplier set x) l.multiplied.numbers.now (families_in (drop l.number l.multiplied.families.now.lent.now)))) (least_at l.row x) last
+    → IsMoved (neg_ℤ (multipliers_at l.multiplied.numbers.now (lent_in l.multiplied.families.now) x)) (least_at l.fn.row x) last

@@ -7,7 +7,7 @@ use Rattle.tsp_branch.proofs.other_families.have_each_once.Given as goal
 
 abbrev pub invariant-sets : goal.invariant-sets
 invariant-sets l = record {
-  long : length l.marks.items ≡ l.nodes + 1;
+  long : length l.marks.items ≡ l.family.nodes + 1;
   fresh : (mark : ℕ) → l.index < mark → AreUnmarked l.marks.items mark;
-  once : (k : ℕ) (d : List ℕ) → k < l.index → HasEachOnce (get_or (lists_of l.sets) k d);
+  once : (k : ℕ) (d : List ℕ) → k < l.index → HasEachOnce (get_or (lists_of l.family.sets.now) k d);
 }

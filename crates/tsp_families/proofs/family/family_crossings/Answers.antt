@@ -13,8 +13,8 @@ use Rattle.tsp_families.proofs.family.family_crossings.Goals as goal
 
 pub returns-clause-least : goal.returns-clause-least
 returns-clause-least c =
-    let n : ℕ = c.args.nodes in
-    let sets : List (ℕ → Bool) = sets_of (lists_of c.args.sets.now) in
+    let n : ℕ = c.args.family.now.nodes in
+    let sets : List (ℕ → Bool) = sets_of (lists_of c.args.family.now.sets.now) in
     let memberships : List ℕ = c.deref.result.now in
     let firsts : List ℕ = c.deref-2.result.now in
     let costs : List ℕ = c.deref-3.result.now in
@@ -28,12 +28,12 @@ returns-clause-least c =
     subst (λ (m : ℕ). IsLeastLength m (as_whole (cost_by_rows m costs)) (pos least)) count c.in_ok-least.ensures in
     let listed = subst (λ (xs : List ℕ). IsLeastLength (length firsts) (as_whole (cost_by_rows (length firsts) xs)) (pos least)) c.deref-3.ensures.value shortest in
     let whole = least_between n sets memberships firsts c.in_ok-costs.costs.items are (places_from n sets memberships firsts are parts.nodes) c.in_ok-costs.ensures.values (pos least) listed in
-    c.parts_tell_cycles.ensures n sets firsts (pos least) c.requires.some parts whole
+    c.parts_tell_cycles.ensures n sets firsts (pos least) c.args.family.now.some parts whole
 
 pub returns-clause-most : goal.returns-clause-most
 returns-clause-most c =
-    let n : ℕ = c.args.nodes in
-    let sets : List (ℕ → Bool) = sets_of (lists_of c.args.sets.now) in
+    let n : ℕ = c.args.family.now.nodes in
+    let sets : List (ℕ → Bool) = sets_of (lists_of c.args.family.now.sets.now) in
     let memberships : List ℕ = c.deref.result.now in
     let firsts : List ℕ = c.deref-2.result.now in
     let costs : List ℕ = c.in_ok-costs.costs.items in
@@ -41,10 +41,10 @@ returns-clause-most c =
     let told : AreMemberships n sets c.in-Some.parts.memberships.items = rw c.in-Some.is at c.in_ok-found.ensures.memberships in
     let parts : ArePartsOf n sets firsts = subst (ArePartsOf n sets) (sym c.deref-2.ensures.value) found in
     let are : AreMemberships n sets memberships = subst (AreMemberships n sets) (sym c.deref.ensures.value) told in
-    let most : IsLargest costs c.largest.result = subst (λ (xs : List ℕ). IsLargest xs c.largest.result) c.deref-4.ensures.value c.largest.ensures in
+    let most : IsLargest costs c.largest.result = subst (λ (xs : List ℕ). IsLargest xs c.largest.result) c.deref-3.ensures.value c.largest.ensures in
     subst (λ (z : ℕ). IsMostCost n (sets_crossed sets) (pos z)) (sym c.from-most.ensures)
     (most_between n sets memberships firsts costs are (places_from n sets memberships firsts are parts.nodes) c.in_ok-costs.ensures.values c.largest.result
-    c.requires.some c.in_ok-costs.ensures.long parts most)
+    c.args.family.now.some c.in_ok-costs.ensures.long parts most)
 
 pub returns-clause-few : goal.returns-clause-few
 returns-clause-few c =
@@ -53,14 +53,14 @@ returns-clause-few c =
     let least = small_cycle c.len.result 64 c.in_ok-least.least costs small c.in_ok-least.ensures in
     let few : length c.in-Some.parts.firsts.items ≤ 14 = rw c.in-Some.is at c.in_ok-found.ensures.few in
     let count : c.len.result ≡ length c.in-Some.parts.firsts.items = c.len.ensures ∙ sym c.deref-2.ensures.len ∙ ap length c.deref-2.ensures.value in
-    let largest : IsLargest c.in_ok-costs.costs.items c.largest.result = subst (λ (xs : List ℕ). IsLargest xs c.largest.result) c.deref-4.ensures.value c.largest.ensures in
+    let largest : IsLargest c.in_ok-costs.costs.items c.largest.result = subst (λ (xs : List ℕ). IsLargest xs c.largest.result) c.deref-3.ensures.value c.largest.ensures in
     let most = small_largest c.largest.result 64 c.in_ok-costs.costs.items c.in_ok-costs.ensures.small largest in
     (omega (arith, least, few, count), omega (arith, most, c.from-most.ensures))
 
 pub returns-clause-known : goal.returns-clause-known
 returns-clause-known c =
-    let sets : List (ℕ → Bool) = sets_of (lists_of c.args.sets.now) in
-    let found : ArePartsOf c.args.nodes sets c.in-Some.parts.firsts.items = rw c.in-Some.is at c.in_ok-found.ensures.parts in
+    let sets : List (ℕ → Bool) = sets_of (lists_of c.args.family.now.sets.now) in
+    let found : ArePartsOf c.args.family.now.nodes sets c.in-Some.parts.firsts.items = rw c.in-Some.is at c.in_ok-found.ensures.parts in
     let few : length c.in-Some.parts.firsts.items ≤ 14 = rw c.in-Some.is at c.in_ok-found.ensures.few in
-    let long = sets_long c.args.sets.now in
-    few_parts c.args.nodes sets c.in-Some.parts.firsts.items (omega (arith, long, c.if-sets-gt-MOST_SETS.false)) found few
+    let long = sets_long c.args.family.now.sets.now in
+    few_parts c.args.family.now.nodes sets c.in-Some.parts.firsts.items (omega (arith, long, c.if-family-gt-MOST_SETS.false)) found few

@@ -7,6 +7,6 @@ use Rattle.tsp_families.proofs.members.memberships_of.Given as goal
 
 abbrev pub invariant-sets : goal.invariant-sets
 invariant-sets l = record {
-  long : length l.memberships.items ≡ l.nodes + 1;
-  so_far : (x : ℕ) → x < length l.memberships.items → IsSoFar (sets_of (lists_of l.sets)) l.set x (get_or l.memberships.items x 0);
+  long : length l.memberships.items ≡ l.family.nodes + 1;
+  so_far : (x : ℕ) → x < length l.memberships.items → IsSoFar (sets_of (lists_of l.family.sets.now)) l.set x (get_or l.memberships.items x 0);
 }

@@ -9,10 +9,10 @@ use Rattle.tsp_families.proofs.parts.parts_of.Goals as goal
 
 pub returns-in-Some-clause-parts : goal.returns-in-Some-clause-parts
 returns-in-Some-clause-parts c =
-    parts_from c.args.nodes (sets_of (lists_of c.args.sets.now)) c.in_ok-memberships.memberships.items c.in-Some.firsts.items c.in_ok-memberships.ensures
+    parts_from c.args.family.now.nodes (sets_of (lists_of c.args.family.now.sets.now)) c.in_ok-memberships.memberships.items c.in-Some.firsts.items c.in_ok-memberships.ensures
     (subst (λ (memberships : List ℕ). AreFirsts memberships c.in-Some.firsts.items) c.deref.ensures.value (rw c.in-Some.is at c.in_ok-found.ensures.firsts))
 
 pub returns-in-None-clause-parts : goal.returns-in-None-clause-parts
 returns-in-None-clause-parts c =
-    unlike_from c.args.nodes 15 (sets_of (lists_of c.args.sets.now)) c.in_ok-memberships.memberships.items c.in_ok-memberships.ensures
+    unlike_from c.args.family.now.nodes 15 (sets_of (lists_of c.args.family.now.sets.now)) c.in_ok-memberships.memberships.items c.in_ok-memberships.ensures
     (subst (λ (memberships : List ℕ). (nodes : List ℕ) × (length nodes ≡ 15) × All (IsNodePlace memberships) nodes × AreDifferent memberships nodes) c.deref.ensures.value (rw c.in-None.is at c.in_ok-found.ensures.firsts))

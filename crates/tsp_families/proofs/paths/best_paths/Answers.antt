@@ -8,7 +8,7 @@ use Rattle.tsp_families.proofs.paths.best_paths.Goals as goal
 
 pub nodes-preserved : goal.nodes-preserved
 nodes-preserved c =
-    let n : ℕ = c.args.nodes in
+    let n : ℕ = c.args.between.now.nodes in
     let paths : List ℕ = c.nodes.paths.items in
     let h = c.nodes.invariant in
     let pushed = c.in_ok-push.ensures.items in
@@ -16,7 +16,7 @@ nodes-preserved c =
     record {
       long = ap length pushed ∙ omega (arith, long, h.long);
       small = subst (All (λ path. path ≤ no_path)) (sym pushed) (All-push (λ path. path ≤ no_path) paths c.best_path-best.result h.small c.best_path-best.ensures.most);
-      best = subst (AreBestPaths n (cost_by_rows n c.args.costs.now)) (sym pushed)
-          (by_rows_push (n - 1) (λ set other best. IsBestPath n (cost_by_rows n c.args.costs.now) set (other + 2) best) paths c.sets.set c.nodes.other c.best_path-best.result c.nodes-test.true h.long h.best
+      best = subst (AreBestPaths n (cost_by_rows n c.args.between.now.costs.now)) (sym pushed)
+          (by_rows_push (n - 1) (λ set other best. IsBestPath n (cost_by_rows n c.args.between.now.costs.now) set (other + 2) best) paths c.sets.set c.nodes.other c.best_path-best.result c.nodes-test.true h.long h.best
           c.best_path-best.ensures);
     }

@@ -6,14 +6,14 @@ use Rattle.tsp_families.proofs.paths.best_paths.Given as goal
 
 abbrev pub invariant-sets : goal.invariant-sets
 invariant-sets l = record {
-  long : length l.paths.items ≡ l.set * (l.nodes - 1);
+  long : length l.paths.items ≡ l.set * (l.between.nodes - 1);
   small : All (λ path. path ≤ no_path) l.paths.items;
-  best : AreBestPaths l.nodes (cost_by_rows l.nodes l.costs) l.paths.items;
+  best : AreBestPaths l.between.nodes (cost_by_rows l.between.nodes l.between.costs.now) l.paths.items;
 }
 
 abbrev pub invariant-nodes : goal.invariant-nodes
 invariant-nodes l = record {
-  long : length l.paths.items ≡ l.set * (l.nodes - 1) + l.other;
+  long : length l.paths.items ≡ l.set * (l.between.nodes - 1) + l.other;
   small : All (λ path. path ≤ no_path) l.paths.items;
-  best : AreBestPaths l.nodes (cost_by_rows l.nodes l.costs) l.paths.items;
+  best : AreBestPaths l.between.nodes (cost_by_rows l.between.nodes l.between.costs.now) l.paths.items;
 }

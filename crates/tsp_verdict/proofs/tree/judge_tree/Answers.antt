@@ -1,8 +1,9 @@
 -- The goals of `judge_tree` in src/tree.rt: that no sum overflows, what its calls require and what it ensures.
-use Rattle.std.proofs.Common.{◌≡◌, ◌∙◌, ℕ, ℤ, List, length, ap, subst, arith, rules, FitsSigned, to_z, of_z}
+use Rattle.std.proofs.Common.{◌≡◌, ◌∙◌, ℕ, ℤ, List, length, ap, sym, subst, arith, rules, FitsSigned, to_z, of_z}
 use Rattle.std.specs.Int.{w64, w128}
 use Rattle.std.specs.Prelude.{Option, None, Some, unwrap_or}
 use Rattle.std.specs.List.{All}
+use Rattle.std.specs.Global.{Vec}
 use Rattle.std.proofs.lemmas.Int.{to_z-of_z}
 use Rattle.std.proofs.lemmas.List.{length-map}
 use Rattle.tsp_format.specs.Limits.{most_fixed}
@@ -13,7 +14,7 @@ use Rattle.tsp_theory.specs.Numbers.{IsScale}
 use Rattle.tsp_branch.specs.declared.steps.BranchVerdict.TheVariants as found
 use Rattle.tsp_branch.specs.BranchVerdicts.{IsBranchVerdict, IsSizedVerdict}
 use Rattle.tsp_branch.specs.Listed.{IsStepOf}
-use Rattle.tsp_families.specs.FamilySets.{AreFamiliesOf}
+use Rattle.tsp_families.specs.FamilySets.{AreFamiliesOf, lists_of}
 use Rattle.tsp_draft.specs.Fields.{nodes_of}
 use Rattle.tsp_verdict.proofs.FilesHold.{steps_hold, steps_few}
 use Rattle.tsp_verdict.proofs.GivenPairs.{given_once, given_are, given_few}
@@ -21,44 +22,31 @@ use Rattle.tsp_verdict.proofs.FamiliesHold.{families_hold, families_few}
 use Rattle.tsp_verdict.proofs.TreeReasons.{directed_is, even_view, no_tour, are_of, told, twice_within, bad_within, comb_first, twice_first, leaf_first, none_stands, certified}
 use Rattle.tsp_verdict.proofs.tree.judge_tree.Goals as goal
 
-pub judge_branches-requires-clause-few_sets : goal.judge_branches-requires-clause-few_sets
-judge_branches-requires-clause-few_sets g c =
-    families_few (nodes_of c.args.branches.now) c.args.tree.now.combs.now c.requires.held.each_comb
-
-pub judge_branches-requires-clause-few_given : goal.judge_branches-requires-clause-few_given
-judge_branches-requires-clause-few_given g c =
-    let few = given_few c.is_directed-directed.result most_fixed c.deref.result.now c.fixed.result.now (c.deref.ensures.value ∙ c.in_ok-given.ensures) c.fixed.ensures.few in
-    omega (arith, few)
-
-pub judge_branches-requires-clause-nodes : goal.judge_branches-requires-clause-nodes
-judge_branches-requires-clause-nodes g c =
-    let same : nodes_of c.args.branches.now ≡ g.C.Costs.nodes c.args.costs.now = c.requires.count ∙ ap (λ (d : Option ℕ). unwrap_or d 0) c.requires.keeps.count in
-    subst (λ (n : ℕ). AreFamiliesOf n c.args.tree.now.combs.now) same (families_hold (nodes_of c.args.branches.now) c.args.tree.now.combs.now c.requires.held.each_comb)
-
-pub judge_branches-requires-clause-few_steps : goal.judge_branches-requires-clause-few_steps
-judge_branches-requires-clause-few_steps g c = steps_few c.args.branches.now c.args.tree.now.steps.now c.requires.held.each_step
-
-pub judge_branches-requires-clause-steps : goal.judge_branches-requires-clause-steps
-judge_branches-requires-clause-steps g c =
-    let same : nodes_of c.args.branches.now ≡ g.C.Costs.nodes c.args.costs.now = c.requires.count ∙ ap (λ (d : Option ℕ). unwrap_or d 0) c.requires.keeps.count in
-    subst (λ (n : ℕ). All (IsStepOf n) (steps_of c.args.tree.now.steps.now)) same
-    (steps_hold c.args.branches.now (steps_of c.args.tree.now.steps.now) c.requires.held.each_step)
-
-pub judge_branches-requires-clause-given_are : goal.judge_branches-requires-clause-given_are
-judge_branches-requires-clause-given_are g c =
-    let same : nodes_of c.args.instance.now ≡ g.C.Costs.nodes c.args.costs.now = ap (λ (d : Option ℕ). unwrap_or d 0) c.requires.keeps.count in
+pub invariant_of-cases : goal.invariant_of-cases
+invariant_of-cases g c =
+    let tree = c.args.tree.now in
+    let held = c.requires.held in
     let n : ℕ = g.C.Costs.nodes c.args.costs.now in
-    given_are c.is_directed-directed.result n c.deref.result.now c.fixed.result.now (c.deref.ensures.value ∙ c.in_ok-given.ensures)
-    (subst (λ (m : ℕ). All (IsPairOf m) c.fixed.result.now) same c.fixed.ensures.range)
-
-pub judge_branches-requires-clause-given_once : goal.judge_branches-requires-clause-given_once
-judge_branches-requires-clause-given_once g c =
-    given_once c.is_directed-directed.result c.deref.result.now c.fixed.result.now (c.deref.ensures.value ∙ c.in_ok-given.ensures)
-
-pub judge_branches-requires-clause-even : goal.judge_branches-requires-clause-even
-judge_branches-requires-clause-even g c =
-    even_view c.args.instance.now c.is_directed-directed.result (g.C.Costs.at c.args.costs.now) c.requires.kind
-    (directed_is c.is_directed-directed.result c.args.instance.now c.kind.result c.is_directed-directed.ensures c.kind.ensures.value) c.requires.even c.requires.keeps.every
+    let own : nodes_of c.args.instance.now ≡ n = ap (λ (d : Option ℕ). unwrap_or d 0) c.requires.keeps.count in
+    let same : nodes_of c.args.branches.now ≡ n = c.requires.count ∙ own in
+    let directed = c.is_directed-directed.result in
+    let given_is = c.deref.ensures.value ∙ c.in_ok-given.ensures in
+    let scaled : FitsSigned w64 tree.scale = search rules in
+    record {
+      some = omega (arith, c.requires.some, own);
+      even = even_view c.args.instance.now directed (g.C.Costs.at c.args.costs.now) c.requires.kind
+          (directed_is directed c.args.instance.now c.kind.result c.is_directed-directed.ensures c.kind.ensures.value) c.requires.even c.requires.keeps.every;
+      scaled = subst IsScale (sym (to_z-of_z w64 tree.scale scaled)) held.scaled;
+      few_families = let few = held.each_comb.few in let long = length-map tree.combs.now (λ (sets : Vec (Vec ℕ)). lists_of sets.items) in omega (arith, few, long);
+      few_sets = families_few (nodes_of c.args.branches.now) tree.combs.now held.each_comb;
+      few_given = let few = given_few directed most_fixed c.deref.result.now c.fixed.result.now given_is c.fixed.ensures.few in omega (arith, few);
+      few_steps = steps_few c.args.branches.now tree.steps.now held.each_step;
+      sets_are = subst (λ (m : ℕ). AreFamiliesOf m tree.combs.now) same (families_hold (nodes_of c.args.branches.now) tree.combs.now held.each_comb);
+      given_are = given_are directed n c.deref.result.now c.fixed.result.now given_is (subst (λ (m : ℕ). All (IsPairOf m) c.fixed.result.now) own c.fixed.ensures.range);
+      given_once = given_once directed c.deref.result.now c.fixed.result.now given_is;
+      steps_are = ∣ subst (λ (m : ℕ). All (IsStepOf m) (steps_of tree.steps.now)) same (steps_hold c.args.branches.now (steps_of tree.steps.now) held.each_step) ∣₁;
+      whole = held.each_step.whole;
+    }
 
 pub returns-in-Bound-Some : goal.returns-in-Bound-Some
 returns-in-Bound-Some g c =

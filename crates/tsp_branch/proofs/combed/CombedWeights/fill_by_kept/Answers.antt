@@ -1,5 +1,5 @@
 -- The goals of `CombedWeights::fill_by_kept` in src/combed.rt: what it ensures.
-use Rattle.std.proofs.Common.{◌≡◌, ◌∙◌, ◌-◌, ◌+◌, ◌*◌, ℕ, ℤ, List, get_or, ap, sym, subst, arith, rules, to_z, of_z, FitsSigned}
+use Rattle.std.proofs.Common.{◌≡◌, ◌∙◌, ◌-◌, ◌+◌, ℕ, ℤ, List, get_or, ap, sym, subst, arith, rules, to_z, of_z, FitsSigned}
 use Rattle.std.specs.Int.{w64, int_wrap}
 use Rattle.std.specs.Prelude.{pos, neg_ℤ, ◌*ℤ◌}
 use Rattle.std.specs.Global.{Vec}

@@ -1,5 +1,5 @@
 -- The goals of `KeptRows::bring_to` in src/kept.rt: what its calls require and what it ensures.
-use Rattle.std.proofs.Common.{◌≡◌, ◌∙◌, ◌<◌, ◌≤◌, ◌+◌, ℕ, ℤ, List, length, slice_index_or, ap, sym, subst, arith}
+use Rattle.std.proofs.Common.{◌≡◌, ◌∙◌, ℕ, ℤ, List, length, ap, sym, subst, arith}
 use Rattle.std.specs.Global.{Vec}
 use Rattle.std.specs.Prelude.{neg_ℤ}
 use Rattle.tsp_theory.specs.states.Nearest.{least_at}
@@ -9,7 +9,7 @@ use Rattle.std.proofs.lemmas.Slice.Eq.{slice_eq-Decides}
 use Rattle.tsp_branch.specs.declared.set_place.SetPlace.{SetPlace}
 use Rattle.tsp_branch.specs.states.Sets.{IsMoved, IsPlaceIn}
 use Rattle.tsp_branch.specs.states.Lent.{lent_in}
-use Rattle.tsp_branch.specs.states.Combed.{multipliers_at, AreSmallMultipliers}
+use Rattle.tsp_branch.specs.states.Combed.{multipliers_at, AreSmallMultipliers, AreSmallDifferences}
 use Rattle.tsp_branch.specs.states.Kept.{kept_weight, AreRowsIfAny, AreAdded, AreDifferences, AreEnds}
 use Rattle.tsp_branch.proofs.Judging.{written}
 use Rattle.tsp_branch.proofs.KeptRows.{rows_brought, ends_brought}
@@ -27,6 +27,14 @@ add_to_rows-requires-clause-places c = λ k d less.
     let listed = table.said k d (omega (arith, less, table.count)) in
     subst (All (IsPlaceIn families)) (sym listed) (places_inside families k)
 
+pub invariant_of-changed : goal.invariant_of-changed
+invariant_of-changed c =
+    let differences_are = c.deref-2.ensures.value ∙ written c.args.self.now.differences.len c.write_differences.new.differences _ (c.write_differences.auto.differences ∙ c.deref_mut.ensures.len) in
+    record {
+      as_many = ap length differences_are ∙ c.write_differences.auto.differences ∙ ap length c.deref_mut.ensures.value ∙ c.requires.kept.3.differences ∙ c.requires.as_many;
+      small = subst AreSmallDifferences (sym differences_are) c.write_differences.ensures.small;
+    }
+
 pub returns-clause-kept : goal.returns-clause-kept
 returns-clause-kept c = λ n scale cost kept table.
     let old : List ℤ = c.args.self.now.multipliers.items in
@@ -42,8 +50,8 @@ returns-clause-kept c = λ n scale cost kept table.
     let ends_are = written c.args.self.now.ends.len c.take_multipliers.new.row _ (c.take_multipliers.auto.row ∙ c.deref_mut-2.ensures.len) in
     let rows_are = written c.args.self.now.rows.len rows _ (c.add_to_rows.auto.rows ∙ c.deref_mut-3.ensures.len) in
     let added : AreAdded differences families by_node c.args.self.now.rows.items rows =
-    subst (λ (ds : List ℤ). AreAdded ds families by_node c.args.self.now.rows.items rows) (c.deref-3.ensures.value ∙ differences_are)
-    (subst (λ (rs : List (Vec ℤ)). AreAdded c.deref-3.result.now families by_node rs rows) c.deref_mut-3.ensures.value c.add_to_rows.ensures) in
+    subst (λ (ds : List ℤ). AreAdded ds families by_node c.args.self.now.rows.items rows) (c.deref-2.ensures.value ∙ differences_are)
+    (subst (λ (rs : List (Vec ℤ)). AreAdded c.deref-2.result.now families by_node rs rows) c.deref_mut-3.ensures.value c.add_to_rows.ensures) in
     let brought : AreRowsIfAny n cost (kept_weight scale families cost new) rows =
     rows_brought n scale families cost old new differences by_node c.args.self.now.rows.items rows differ table added kept.rows in
     let moved = λ (x : ℕ).

@@ -11,9 +11,9 @@ returns-in_ok-push-clause-more c = λ n case was.
     let d : Decision = c.args.decision in
     let old = c.args.self.now in
     let now : ListsNow n (d ∷ case) old c.if-not-self.self = elim c.if-not-self.branch [
-      | then-not-self+in_ok-list_at-2 w ↦ rw w.self-is (now_more n d case old c.list_at.new.lists.items _ was refl refl c.requires.differ c.requires.first c.requires.second c.in_ok-list_at.ensures
+      | then-not-self+in_ok-list_at-2 w ↦ rw w.self-is (now_more n d case old c.list_at.new.lists.items _ was refl refl c.requires.2 c.requires.0 c.requires.1 c.in_ok-list_at.ensures
           (inr (w.if-not-self.true, w.in_ok-list_at-2.ensures)))
-      | else-not-self w ↦ rw w.self-is (now_more n d case old c.list_at.new.lists.items _ was refl refl c.requires.differ c.requires.first c.requires.second c.in_ok-list_at.ensures
+      | else-not-self w ↦ rw w.self-is (now_more n d case old c.list_at.new.lists.items _ was refl refl c.requires.2 c.requires.0 c.requires.1 c.in_ok-list_at.ensures
           (inl (w.if-not-self.false, refl)))
     ] in
     by_node_now n (d ∷ case) old c.if-not-self.self _ now refl refl
@@ -24,9 +24,9 @@ returns-else-decision-clause-more c = λ n case was.
     let d : Decision = c.args.decision in
     let old = c.args.self.now in
     let now : ListsNow n (d ∷ case) old c.if-not-self.self = elim c.if-not-self.branch [
-      | then-not-self+in_ok-list_at-2 w ↦ rw w.self-is (now_more n d case old c.list_at.new.lists.items _ was refl refl c.requires.differ c.requires.first c.requires.second c.in_ok-list_at.ensures
+      | then-not-self+in_ok-list_at-2 w ↦ rw w.self-is (now_more n d case old c.list_at.new.lists.items _ was refl refl c.requires.2 c.requires.0 c.requires.1 c.in_ok-list_at.ensures
           (inr (w.if-not-self.true, w.in_ok-list_at-2.ensures)))
-      | else-not-self w ↦ rw w.self-is (now_more n d case old c.list_at.new.lists.items _ was refl refl c.requires.differ c.requires.first c.requires.second c.in_ok-list_at.ensures
+      | else-not-self w ↦ rw w.self-is (now_more n d case old c.list_at.new.lists.items _ was refl refl c.requires.2 c.requires.0 c.requires.1 c.in_ok-list_at.ensures
           (inl (w.if-not-self.false, refl)))
     ] in
     by_node_now n (d ∷ case) old c.if-not-self.self _ now refl refl

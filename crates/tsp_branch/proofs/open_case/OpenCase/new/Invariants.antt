@@ -5,9 +5,9 @@ use Rattle.tsp_branch.proofs.open_case.OpenCase.new.Given as goal
 
 abbrev pub invariant-given : goal.invariant-given
 invariant-given l = record {
-  most : l.left ≤ length l.given;
-  by_node : AreByNode l.count l.by_node (drop l.left l.given);
-  directed : l.by_node.directed ≡ l.fn.directed;
+  most : l.left ≤ length l.cases.given.now;
+  by_node : AreByNode l.cases.nodes l.by_node (drop l.left l.cases.given.now);
+  directed : l.by_node.directed ≡ l.cases.directed;
 }
 
 abbrev pub decreases-given : goal.decreases-given

@@ -10,65 +10,26 @@ use Rattle.tsp_branch.proofs.NextCases.{next_avoided}
 use Rattle.tsp_branch.proofs.OpenCases.{one_above, case_less, case_more, case_same, first_pair}
 use Rattle.tsp_branch.proofs.open_case.OpenCase.next.Goals as goal
 
-pub drop_last-requires-clause-first : goal.drop_last-requires-clause-first
-drop_last-requires-clause-first c =
+pub drop_last-requires : goal.drop_last-requires
+drop_last-requires c =
     let old = c.leave.self in
     let last : Decision = c.in-Some.last in
     let popped : OpenCase = record { given = old.given; stack = c.pop.new.self; by_node = old.by_node } in
     let above = one_above old popped last c.in-Some.ensures.items refl in
     let is = c.leave.invariant.case c.requires.0 c.requires.1 in
     let pair : IsDecision c.requires.0 last = first_pair c.requires.0 old popped last is above in
-    omega (arith, is.by_node.places, pair.0.1)
+    (omega (arith, is.by_node.places, pair.0.1), omega (arith, is.by_node.places, pair.1.1), pair.2)
 
-pub drop_last-requires-clause-second : goal.drop_last-requires-clause-second
-drop_last-requires-clause-second c =
+pub add-requires : goal.add-requires
+add-requires c =
     let old = c.leave.self in
     let last : Decision = c.in-Some.last in
     let popped : OpenCase = record { given = old.given; stack = c.pop.new.self; by_node = old.by_node } in
     let above = one_above old popped last c.in-Some.ensures.items refl in
     let is = c.leave.invariant.case c.requires.0 c.requires.1 in
     let pair : IsDecision c.requires.0 last = first_pair c.requires.0 old popped last is above in
-    omega (arith, is.by_node.places, pair.1.1)
-
-pub drop_last-requires-clause-differ : goal.drop_last-requires-clause-differ
-drop_last-requires-clause-differ c =
-    let old = c.leave.self in
-    let last : Decision = c.in-Some.last in
-    let popped : OpenCase = record { given = old.given; stack = c.pop.new.self; by_node = old.by_node } in
-    let above = one_above old popped last c.in-Some.ensures.items refl in
-    let is = c.leave.invariant.case c.requires.0 c.requires.1 in
-    let pair : IsDecision c.requires.0 last = first_pair c.requires.0 old popped last is above in
-    pair.2
-
-pub add-requires-clause-first : goal.add-requires-clause-first
-add-requires-clause-first c =
-    let old = c.leave.self in
-    let last : Decision = c.in-Some.last in
-    let popped : OpenCase = record { given = old.given; stack = c.pop.new.self; by_node = old.by_node } in
-    let above = one_above old popped last c.in-Some.ensures.items refl in
-    let is = c.leave.invariant.case c.requires.0 c.requires.1 in
-    let pair : IsDecision c.requires.0 last = first_pair c.requires.0 old popped last is above in
-    omega (arith, is.by_node.places, pair.0.1, c.drop_last.ensures.places)
-
-pub add-requires-clause-second : goal.add-requires-clause-second
-add-requires-clause-second c =
-    let old = c.leave.self in
-    let last : Decision = c.in-Some.last in
-    let popped : OpenCase = record { given = old.given; stack = c.pop.new.self; by_node = old.by_node } in
-    let above = one_above old popped last c.in-Some.ensures.items refl in
-    let is = c.leave.invariant.case c.requires.0 c.requires.1 in
-    let pair : IsDecision c.requires.0 last = first_pair c.requires.0 old popped last is above in
-    omega (arith, is.by_node.places, pair.1.1, c.drop_last.ensures.places)
-
-pub add-requires-clause-differ : goal.add-requires-clause-differ
-add-requires-clause-differ c =
-    let old = c.leave.self in
-    let last : Decision = c.in-Some.last in
-    let popped : OpenCase = record { given = old.given; stack = c.pop.new.self; by_node = old.by_node } in
-    let above = one_above old popped last c.in-Some.ensures.items refl in
-    let is = c.leave.invariant.case c.requires.0 c.requires.1 in
-    let pair : IsDecision c.requires.0 last = first_pair c.requires.0 old popped last is above in
-    pair.2
+    let long = c.drop_last.ensures.places in
+    (omega (arith, is.by_node.places, pair.0.1, long), omega (arith, is.by_node.places, pair.1.1, long), pair.2)
 
 pub returns-then-last-clause-case : goal.returns-then-last-clause-case
 returns-then-last-clause-case c = λ n was.

@@ -1,4 +1,4 @@
--- The goals of `row_bound` in src/rows.rt: what it ensures.
+-- The goals of `AllowedRows::bound` in src/rows.rt: what it ensures.
 use Rattle.std.proofs.Common.{ℤ, rules, FitsSigned, to_z, of_z, subst, sym}
 use Rattle.std.specs.Prelude.{◌+ℤ◌}
 use Rattle.std.specs.Int.{w128}
@@ -6,7 +6,7 @@ use Rattle.std.proofs.lemmas.Int.{to_z-of_z}
 use Rattle.tsp_theory.specs.Numbers.{IsLeastBound}
 use Rattle.tsp_theory.proofs.Sizes.{same_scale}
 use Rattle.tsp_branch.proofs.Sums.{with_back}
-use Rattle.tsp_branch.proofs.rows.row_bound.Goals as goal
+use Rattle.tsp_branch.proofs.rows.AllowedRows.bound.Goals as goal
 
 pub returns-clause-bound : goal.returns-clause-bound
 returns-clause-bound g c =

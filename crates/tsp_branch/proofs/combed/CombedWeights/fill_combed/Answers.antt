@@ -1,7 +1,9 @@
--- The goals of `CombedWeights::fill_by_sets_at` in src/combed.rt: what its calls require and what it ensures.
-use Rattle.std.proofs.Common.{◌≡◌, ◌<◌, ℕ, ℤ, List, length, slice_index, arith, sym, subst, ◌∙◌}
+-- The goals of `CombedWeights::fill_combed` in src/combed.rt: what its calls require and what it ensures.
+use Rattle.std.proofs.Common.{◌≡◌, ℕ, ℤ, List, arith, sym, subst, ◌∙◌}
 use Rattle.std.specs.Prelude.{pos, neg_ℤ}
 use Rattle.std.specs.List.{All}
+use Rattle.std.proofs.lemmas.Int.{ints}
+use Rattle.tsp_format.specs.Cells.{IsNode}
 use Rattle.tsp_theory.specs.Numbers.{IsFromTo}
 use Rattle.tsp_theory.specs.states.Nearest.{least_at}
 use Rattle.tsp_branch.specs.declared.set_place.SetPlace.{SetPlace}
@@ -10,7 +12,13 @@ use Rattle.tsp_branch.specs.states.Lent.{lent_in}
 use Rattle.tsp_branch.specs.states.Combed.{inside_both, most_combed, set_weight}
 use Rattle.tsp_branch.proofs.SetAlgebra.{places_inside}
 use Rattle.tsp_branch.proofs.CombedValues.{combed_at}
-use Rattle.tsp_branch.proofs.combed.CombedWeights.fill_by_sets_at.Goals as goal
+use Rattle.tsp_branch.proofs.combed.CombedWeights.fill_combed.Goals as goal
+
+pub invariant_of-multiplied : goal.invariant_of-multiplied
+invariant_of-multiplied g c = record {
+  as_many = c.args.self.now.as_many;
+  small = λ k default lt. let own = c.args.self.now.small k default lt in (omega (arith, ints, own.0), own.1);
+}
 
 pub add_sets-requires-clause-places : goal.add_sets-requires-clause-places
 add_sets-requires-clause-places g c =
@@ -26,16 +34,15 @@ returns g c =
     let families : List (List (List ℕ)) = lent_in p.families.now in
     let multipliers : List ℤ = p.multipliers.now in
     let cost = g.C.Costs.at p.costs.now in
-    let old : List ℤ = c.fill_apart_at.new.row in
+    let old : List ℤ = c.fill_apart.new.row in
     let row : List ℤ = c.add_sets.new.row in
     let places_are : c.deref.result.now ≡ places_with 0 families from = c.deref.ensures.value ∙ p.table.said from c.index-self-from.result c.requires.from.1 in
     let gained : (x : ℕ) → IsMoved (inside_both multipliers families (places_with 0 families from) x) (least_at old x) (least_at row x) = λ x.
     subst (λ (ps : List SetPlace). IsMoved (inside_both multipliers families ps x) (least_at old x) (least_at row x)) places_are (c.add_sets.ensures x) in
-    let node : ℕ → ℕ = slice_index c.args.to.now in
-    let both : (k : ℕ) → k < length c.args.to.now
-    → (least_at row (node k) ≡ set_weight p.scale p.potentials.now multipliers families cost from (node k)) × IsFromTo (neg_ℤ (pos most_combed)) (pos most_combed) (least_at row (node k)) = λ k h.
-    combed_at p.scale p.potentials.now multipliers families cost from (node k) (least_at old (node k)) (least_at row (node k)) p.families.now.once (p.crossed from (node k) c.requires.from (c.requires.to k h)) (c.fill_apart_at.ensures k h) (gained (node k)) in
+    let both : (x : ℕ) → IsNode (g.C.Costs.nodes p.costs.now) x
+    → (least_at row x ≡ set_weight p.scale p.potentials.now multipliers families cost from x) × IsFromTo (neg_ℤ (pos most_combed)) (pos most_combed) (least_at row x) = λ x h.
+    combed_at p.scale p.potentials.now multipliers families cost from x (least_at old x) (least_at row x) p.families.now.once (p.crossed from x c.requires.from h) (c.fill_apart.ensures.values x h, c.fill_apart.ensures.sizes x h) (gained x) in
     record {
-      values = λ k h. (both k h).0;
-      sizes = λ k h. (both k h).1;
+      values = λ x h. (both x h).0;
+      sizes = λ x h. (both x h).1;
     }
