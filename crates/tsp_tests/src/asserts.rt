@@ -1,6 +1,6 @@
 //! What the tests assert. (Each is a function with no contract, proved once, so that a test is a
-//! row of calls, and its proof a short one. Each crate of tests has these few, since a library has
-//! no function that may end the program.)
+//! row of calls, and its proof a short one. They are here and not in tsp_tests_support, since a
+//! library has no function that may end the program.)
 
 use std::fmt::Debug;
 use std::process::Abort;

@@ -1,9 +1,10 @@
 //! The tests of the libraries, over their public calls: what no contract says, and no run of the
-//! program shows (see `tests/tables`).
+//! program shows (see `tests/program/tables`).
 //!
-//! They show that calls succeed where memory is ample, how often a cost is asked for, and how calls
-//! end with readers and writers that fail or do little at a time. They are in a crate of their own,
-//! since a crate with tests is proved twice.
+//! They show that calls succeed where memory is ample, how often a cost is asked for, how calls end
+//! with readers and writers that fail, never end or do little at a time, and that a text in pieces
+//! gives the answer of the whole one. They are in a crate of their own, since a crate with tests is
+//! proved twice.
 #![tactic(auto)]
 
 #[cfg(test)]
@@ -16,6 +17,12 @@ mod cost;
 mod drafts;
 #[cfg(test)]
 mod file_names;
+#[cfg(test)]
+mod judge;
+#[cfg(test)]
+mod read;
+#[cfg(test)]
+mod sentences;
 #[cfg(test)]
 mod watched;
 #[cfg(test)]

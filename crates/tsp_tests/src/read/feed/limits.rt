@@ -1,8 +1,8 @@
 //! Lines, words and texts at their limits, in pieces.
 
 use super::{at, file};
-use crate::answers::{answer_in, fault_at_end, fed, feed_all};
 use crate::asserts::{same, same_at};
+use crate::read::answers::{answer_in, fault_at_end, fed, feed_all};
 use std::alloc::Global;
 use std::test::Fail;
 use tsp_draft::EndFault;

@@ -1,8 +1,8 @@
 //! Short texts as a whole, in every cut into two pieces, and byte by byte.
 
 use super::{EXAMPLES, Example, answer_by_bytes, file};
-use crate::answers::{answer_in, answer_of};
 use crate::asserts::same_at;
+use crate::read::answers::{answer_in, answer_of};
 use std::process::Abort;
 use std::test::Fail;
 

@@ -1,8 +1,8 @@
 //! The result at each piece.
 
 use super::{CANONICAL_TOUR, TOUR, answer_by_bytes, file};
-use crate::answers::{answer, answer_of, fault_at_end, fed, long_file};
 use crate::asserts::{same, same_at};
+use crate::read::answers::{answer, answer_of, fault_at_end, fed, long_file};
 use std::test::Fail;
 use tsp_draft::EndFault;
 use tsp_format::Field;

@@ -1,6 +1,7 @@
 //! The sentences for a file that isn't seen a second time, for a refused layout and for a failed
 //! write.
 
+use crate::asserts::same;
 use std::alloc::AllocError;
 use std::process::Abort;
 use std::test::Fail;
@@ -8,11 +9,6 @@ use tsp_explain::{explain_file, relayout_sentence, write_sentence};
 use tsp_file::RelayoutFault;
 use tsp_stream::WriteFault;
 use tsp_text::{LineFault, ReadFault};
-
-/// Asserts that a text is the wanted one.
-fn same(rt: &impl Abort, found: &str, wanted: &str) {
-    assert_eq!(rt; found, wanted);
-}
 
 /// Asserts the explanation of a fault of a file that isn't seen.
 fn explains_unseen(

@@ -1,9 +1,9 @@
 //! A certificate that goes on past its line EOF, and an instance of many nodes.
 
 use crate::asserts::{holds_at, same};
-use crate::failures::look_at;
-use crate::files::{BOUND_REPORT, DUALS, THREE_NODES, TOUR};
-use crate::runs::{Readers, Task};
+use crate::judge::failures::look_at;
+use crate::judge::files::{BOUND_REPORT, DUALS, THREE_NODES, TOUR};
+use crate::judge::runs::{Readers, Task};
 use std::alloc::{AllocError, Global};
 use std::test::Fail;
 use tsp_judge::{RunFault, run_bound_check};

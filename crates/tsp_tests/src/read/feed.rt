@@ -5,7 +5,7 @@ mod limits;
 mod pieces;
 mod readers;
 
-use crate::answers::{Answer, answer, fed};
+use crate::read::answers::{Answer, answer, fed};
 use std::alloc::Global;
 use std::test::Fail;
 use tsp_draft::EndFault;

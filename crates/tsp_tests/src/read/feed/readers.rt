@@ -1,8 +1,8 @@
 //! Readers that deliver little at a time, and readers that must not be asked once more.
 
 use super::{CANONICAL_TOUR, EXAMPLES, RECTANGLE, TOUR, at, file};
-use crate::answers::answer_from;
 use crate::asserts::{holds_at, same, same_at};
+use crate::read::answers::answer_from;
 use std::io::{Error, ErrorKind, Read, Result as IoResult};
 use std::test::Fail;
 use tsp_number::NumberFault::BadNumber;

@@ -2,7 +2,7 @@
 //! byte.
 
 use crate::asserts::{same, same_at};
-use crate::files::{DUALS, THREE_NODES, TOUR};
+use crate::judge::files::{DUALS, THREE_NODES, TOUR};
 use std::alloc::Global;
 use std::io::ErrorKind;
 use std::test::Fail;

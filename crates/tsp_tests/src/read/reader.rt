@@ -1,7 +1,7 @@
 //! Texts that come from a reader: one that does little at a time, fails, or never ends.
 
-use crate::answers::{answer_from, answer_of, long_file};
 use crate::asserts::{holds, holds_at, same, same_at};
+use crate::read::answers::{answer_from, answer_of, long_file};
 use std::io::{ErrorKind, Read};
 use std::test::Fail;
 use tsp_read::{ReadFault, read_from};

@@ -2,7 +2,7 @@
 //! without a solution.
 
 use crate::asserts::same;
-use crate::files::{BOUND_REPORT, DUALS, THREE_NODES, TOUR};
+use crate::judge::files::{BOUND_REPORT, DUALS, THREE_NODES, TOUR};
 use std::alloc::Global;
 use std::test::Fail;
 use tsp_format::Kind;

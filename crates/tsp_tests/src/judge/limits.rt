@@ -1,7 +1,7 @@
 //! Files about as long as the limit, of which two read a gigabyte, and other limits of a file.
 
 use crate::asserts::{holds_at, same, same_at};
-use crate::files::{REPORT, THREE_NODES, TOUR};
+use crate::judge::files::{REPORT, THREE_NODES, TOUR};
 use std::alloc::{AllocError, Global};
 use std::io::Read;
 use std::test::Fail;

@@ -1,9 +1,9 @@
 //! Readers that deliver, and writers that take, a few bytes at a time.
 
 use crate::asserts::same_at;
-use crate::failures::{WRITTEN, look_at};
-use crate::files::{DUALS, THREE_NODES, TOUR};
-use crate::runs::{Readers, Task, printed};
+use crate::judge::failures::{WRITTEN, look_at};
+use crate::judge::files::{DUALS, THREE_NODES, TOUR};
+use crate::judge::runs::{Readers, Task, printed};
 use std::alloc::AllocError;
 use std::process::Abort;
 use std::test::Fail;

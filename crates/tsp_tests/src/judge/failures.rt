@@ -1,11 +1,11 @@
 //! Readers and writers that fail, or had failed before.
 
 use crate::asserts::{holds_at, same_at};
-use crate::files::{
+use crate::judge::files::{
     AROUND, AROUND_REPORT, BOUND_REPORT, CASES, DUALS, POTENTIALS, RECTANGLE, RECTANGLE_SHOWN,
     REPORT, ROUTES, STAR, THREE_NODES, TOUR, WHOLE_STAR, ZEROS,
 };
-use crate::runs::{Readers, Task, run};
+use crate::judge::runs::{Readers, Task, run};
 use std::alloc::Global;
 use std::io::{ErrorKind, Read, Write};
 use std::process::Abort;
