@@ -22,3 +22,6 @@ pub mod TreeReasons
 pub mod Bounds
 pub mod Claims
 pub mod Bases
+mod FirstReasons
+mod OneReason
+mod OneVerdict

@@ -13,3 +13,4 @@ pub mod Judged
 pub mod Bounded
 pub mod Examples
 pub mod Basis
+pub mod OneVerdict

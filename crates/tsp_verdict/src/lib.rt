@@ -24,6 +24,7 @@ mod judged;
 mod lengths;
 mod loads;
 mod multiplied;
+mod one_verdict;
 mod places;
 mod promised;
 mod routes;
@@ -47,6 +48,7 @@ pub use examples::{
     examples_of_order_of_routes, examples_of_plans, examples_of_reasons_before_memory,
 };
 pub use judged::{judge, judge_next};
+pub use one_verdict::files_have_one_verdict;
 pub use promised::{judge_routes, judge_tour, judge_tour_bound, judge_tour_branches};
 pub use tsp_reason::{Basis, BoundVerdict, Certificate, Reason, Verdict};
 pub use verdict_examples::{

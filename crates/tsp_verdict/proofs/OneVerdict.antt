@@ -1,0 +1,405 @@
+-- Files have one verdict: reasons by their ranks and numbers, lengths by the one tour or the plan, bounds by least 1-trees, sums
+-- of duals and leaves, each of which is one number.
+use Rattle.std.proofs.Common.{◌≡◌, ◌∙◌, ℕ, List, [], ◌∷◌, get_or, inl, inr, refl, sym, ap, ap₂, subst, arith}
+use Rattle.std.specs.Prelude.{Option, None, Some, ℤ}
+use Rattle.std.proofs.lemmas.Int.{ints}
+use Rattle.tsp_format.specs.declared.kinds.Kind.{Kind}
+use Rattle.tsp_format.specs.declared.kinds.Kind.TheVariants as kinds
+use Rattle.tsp_format.specs.Steps as listed
+use Rattle.tsp_draft.specs.Fields.{Fields, nodes_of}
+use Rattle.tsp_file.specs.Cost.{cost}
+use Rattle.tsp_file.specs.Meant.{scale_in, multipliers_in}
+use Rattle.tsp_theory.specs.Length.{length_of}
+use Rattle.tsp_theory.specs.Numbers.{total, IsLeastBound}
+use Rattle.tsp_theory.specs.Routing.{IsLeast}
+use Rattle.tsp_theory.specs.Adjusted.{IsAdjustedBound}
+use Rattle.tsp_theory.specs.Assignment.{IsDualBound}
+use Rattle.tsp_cost.specs.ComputedProblems.{is_directed}
+use Rattle.tsp_families.specs.declared.family.Crossings.{Crossings}
+use Rattle.tsp_branch.specs.Families.{NumbersAreUnique}
+use Rattle.tsp_branch.specs.Certificate.{IsCertificateBound, CertificateBoundsAreUnique}
+use Rattle.tsp_branch.specs.Decisions.{decided_number}
+use Rattle.tsp_reason.specs.declared.basis.Basis.{Basis}
+use Rattle.tsp_reason.specs.declared.basis.Basis.TheVariants as bases
+use Rattle.tsp_reason.specs.declared.certificate.Certificate.{Certificate}
+use Rattle.tsp_reason.specs.declared.certificate.Certificate.TheVariants.{Potentials, Branches}
+use Rattle.tsp_reason.specs.declared.verdict.BoundVerdict.{BoundVerdict}
+use Rattle.tsp_reason.specs.declared.verdict.BoundVerdict.TheVariants as bounds
+use Rattle.tsp_reason.specs.declared.verdict.Reason.{Reason}
+use Rattle.tsp_reason.specs.declared.verdict.Reason.TheVariants.{LengthClaimed}
+use Rattle.tsp_reason.specs.declared.verdict.Verdict.{Verdict}
+use Rattle.tsp_reason.specs.declared.verdict.Verdict.TheVariants.{Tour, Routes, No}
+use Rattle.tsp_verdict.specs.Basis.{StandsAgainstRouting, IsBasisOfTours, IsBasisOfRoutes, IsBasisAlone, IsBasisBy, IsBasisWith}
+use Rattle.tsp_verdict.specs.Bounded.{StandsAgainstInstance, StandsAgainstBounded, IsBoundVerdict}
+use Rattle.tsp_verdict.specs.BranchesCertificate.{given_in, tree_in, told_families, HasBoundByTree}
+use Rattle.tsp_verdict.specs.Certified.{IsBoundBy, StandsAgainstCertificate, IsCertified, StandsAgainstCertified, IsCertifiedVerdict}
+use Rattle.tsp_verdict.specs.Judged.{IsVerdictBy, IsVerdictOn, IsUnclaimedVerdict, IsFirstAgainstGiven, HasLength, IsOfLength, IsClaimedVerdict}
+use Rattle.tsp_verdict.specs.OneVerdict.{FilesHaveOneVerdict, FilesHaveOneBound, FilesHaveOneBasis, SolutionsHaveOneVerdict}
+use Rattle.tsp_verdict.specs.Plan.{total_of}
+use Rattle.tsp_cost.specs.ComputedProblems.{capacity_of}
+use Rattle.tsp_verdict.specs.PotentialsCertificate.{IsBoundByNodes, IsBoundByDuals}
+use Rattle.tsp_verdict.specs.Routes.{StandsAgainstRoutes, IsRoutesVerdict}
+use Rattle.tsp_verdict.specs.Solution.{tours_of}
+use Rattle.tsp_verdict.specs.Tours.{StandsAgainstTour, IsTourVerdict}
+use Rattle.tsp_verdict.proofs.FirstReasons.{one_first}
+use Rattle.tsp_verdict.proofs.OneReason.{one_value, tours_by_rank, instances_by_rank, routings_by_rank, routes_by_rank, certificates_by_rank, certified_by_rank, bounded_by_rank, one_crossed}
+
+-- the laws of the crates below
+pub record Laws : Type 0 where
+  pub numbers : NumbersAreUnique
+  pub leaves : CertificateBoundsAreUnique
+
+-- ---- on its own
+
+-- the one list of a list
+one_list : (lists : List (List ℕ)) (a b : List ℕ) → lists ≡ a ∷ [] → lists ≡ b ∷ [] → a ≡ b
+one_list lists a b one other = ap (λ found. get_or found 0 []) (sym one ∙ other)
+
+one_tour : (inst sol : Fields) (one other : Verdict) → IsTourVerdict inst sol one → IsTourVerdict inst sol other → one ≡ other
+one_tour inst sol (No a) (No b) one other = ap No (one_first (StandsAgainstTour inst sol) (tours_by_rank inst sol) a b one other)
+one_tour inst sol (No a) (Tour found bound) one other = absurd (other.0 a one.stands)
+one_tour inst sol (No a) (Routes found routes least) one other = absurd other
+one_tour inst sol (Tour length bound) (No b) one other = absurd (one.0 b other.stands)
+one_tour inst sol (Tour length bound) (Tour found least) one other =
+    let same = one_list (tours_of sol) one.1.0 other.1.0 one.1.1 other.1.1 in
+    ap₂ (λ length bound. Tour length bound) (one.1.3 ∙ ap (length_of (cost inst)) same ∙ sym other.1.3) (one.2 ∙ sym other.2)
+one_tour inst sol (Tour length bound) (Routes found routes least) one other = absurd other
+one_tour inst sol (Routes length routes least) other is none = absurd is
+
+one_least : (total capacity : ℤ) (a b : ℕ) → IsLeast total capacity a → IsLeast total capacity b → a ≡ b
+one_least total capacity a b one other =
+    let first = one.none_less b other.enough in let second = other.none_less a one.enough in omega (arith, first, second)
+
+three : {X Y Z W : Type 0} (f : X → Y → Z → W) (x p : X) (y q : Y) (z r : Z) → x ≡ p → y ≡ q → z ≡ r → f x y z ≡ f p q r
+three f x p y q z r first second third = ap (λ x. f x y z) first ∙ ap₂ (λ y z. f p y z) second third
+
+one_routes : (inst sol : Fields) (one other : Verdict) → IsRoutesVerdict inst sol one → IsRoutesVerdict inst sol other → one ≡ other
+one_routes inst sol (No a) (No b) one other =
+    ap No (one_first (StandsAgainstRoutes inst sol) (routes_by_rank inst sol) a b one other)
+one_routes inst sol (No a) (Routes found routes least) one other = absurd (other.0 a one.stands)
+one_routes inst sol (No a) (Tour found bound) one other = absurd other
+one_routes inst sol (Routes length routes least) (No b) one other = absurd (one.0 b other.stands)
+one_routes inst sol (Routes length routes least) (Routes found count fewest) one other =
+    three (λ length routes least. Routes length routes least) length found routes count least fewest
+    (one.1.measured ∙ sym other.1.measured) (one.1.counted ∙ sym other.1.counted)
+    (one_least (total_of inst) (capacity_of inst) least fewest one.1.least_is other.1.least_is)
+one_routes inst sol (Routes length routes least) (Tour found bound) one other = absurd other
+one_routes inst sol (Tour length bound) other is none = absurd is
+
+one_by_kind : (kind : Option Kind) (inst sol : Fields) (one other : Verdict) → IsVerdictBy kind inst sol one
+    → IsVerdictBy kind inst sol other → one ≡ other
+one_by_kind (Some kinds.Tsp) inst sol one other first second = one_tour inst sol one other first second
+one_by_kind (Some kinds.Atsp) inst sol one other first second = one_tour inst sol one other first second
+one_by_kind (Some kinds.Cvrp) inst sol one other first second = one_routes inst sol one other first second
+one_by_kind (Some kinds.Tour) inst sol one other first second = absurd first
+one_by_kind (Some kinds.Potentials) inst sol one other first second = absurd first
+one_by_kind (Some kinds.Branches) inst sol one other first second = absurd first
+one_by_kind None inst sol one other first second = absurd first
+
+one_alone : (inst sol : Fields) (one other : Verdict) → IsVerdictOn inst sol one → IsVerdictOn inst sol other → one ≡ other
+one_alone inst sol one other first second = one_by_kind inst.kind inst sol one other first second
+
+-- ---- bounds
+
+one_sum_bound : (scale sum a b : ℤ) → IsLeastBound scale sum a → IsLeastBound scale sum b → a ≡ b
+one_sum_bound scale sum a b one other =
+    let first = one.least b other.above in let second = other.least a one.above in omega (arith, ints, first, second)
+
+-- two least 1-trees weigh the same
+one_adjusted : (n : ℕ) (cost : ℕ → ℕ → ℤ) (scale : ℤ) (potentials : List ℤ) (taken avoided : List (ℕ × ℕ × ℤ)) (a b : ℤ)
+    → IsAdjustedBound n cost scale potentials taken avoided a → IsAdjustedBound n cost scale potentials taken avoided b → a ≡ b
+one_adjusted n cost scale potentials taken avoided a b one other =
+    let below = one.least.least other.tree other.least.tree in
+    let above = other.least.least one.tree one.least.tree in
+    let first = one.bound_is.least b (let own = other.bound_is.above in omega (arith, ints, own, below)) in
+    let second = other.bound_is.least a (let own = one.bound_is.above in omega (arith, ints, own, above)) in
+    omega (arith, ints, first, second)
+
+one_by_nodes : (inst pot : Fields) (a b : ℤ) → IsBoundByNodes inst pot a → IsBoundByNodes inst pot b → a ≡ b
+one_by_nodes inst pot a b one other =
+    let same = one_value pot.node_potentials other.potentials one.potentials other.potentials_are one.potentials_are in
+    one_adjusted (nodes_of inst) (cost inst) (scale_in pot) one.potentials (multipliers_in pot) [] a b one.of_tree
+    (subst (λ numbers. IsAdjustedBound (nodes_of inst) (cost inst) (scale_in pot) numbers (multipliers_in pot) [] b) same other.of_tree)
+
+one_by_duals : (inst pot : Fields) (a b : ℤ) → IsBoundByDuals inst pot a → IsBoundByDuals inst pot b → a ≡ b
+one_by_duals inst pot a b one other =
+    let rows = one_value pot.row_potentials other.rows one.rows other.rows_are one.rows_are in
+    let columns = one_value pot.column_potentials other.columns one.columns other.columns_are one.columns_are in
+    let of_rows = subst (λ numbers. IsDualBound (scale_in pot) numbers other.columns b) rows other.of_duals in
+    let of_both = subst (λ numbers. IsDualBound (scale_in pot) one.rows numbers b) columns of_rows in
+    one_sum_bound (scale_in pot) _ a b one.of_duals of_both
+
+one_by_tree : Laws → (inst tree : Fields) (a b : Option ℤ) → HasBoundByTree inst tree a → HasBoundByTree inst tree b → a ≡ b
+one_by_tree laws inst tree a b one other =
+    let Bounds : List Crossings → List listed.Step → Type 0 = λ crossed steps. IsCertificateBound (is_directed inst.kind) (nodes_of inst) (cost inst)
+    (scale_in tree) decided_number (told_families tree crossed) (given_in inst) (tree_in inst tree steps) b in
+    let steps = one_value tree.branches other.steps one.steps other.steps_are one.steps_are in
+    let crossed = one_crossed laws.numbers inst tree other.crossed one.crossed other.numbers one.numbers in
+    let of_steps : Bounds other.crossed one.steps = subst (λ steps. Bounds other.crossed steps) steps other.bound in
+    let moved : Bounds one.crossed one.steps = subst (λ crossed. Bounds crossed one.steps) crossed of_steps in
+    laws.leaves (is_directed inst.kind) (nodes_of inst) (cost inst) (scale_in tree) decided_number (told_families tree one.crossed)
+    (given_in inst) (tree_in inst tree one.steps) a b one.bound moved
+
+of_some : (a b : ℤ) → Some a ≡ Some b → a ≡ b
+of_some a b same = one_value (Some b) a b (sym same) refl
+
+one_bound_by : Laws → (by : Certificate) (kind : Option Kind) (inst cert : Fields) (a b : ℤ) → IsBoundBy by kind inst cert a
+    → IsBoundBy by kind inst cert b → a ≡ b
+one_bound_by laws Potentials (Some kinds.Tsp) inst cert a b one other = one_by_nodes inst cert a b one other
+one_bound_by laws Potentials (Some kinds.Atsp) inst cert a b one other = one_by_duals inst cert a b one other
+one_bound_by laws Potentials (Some kinds.Cvrp) inst cert a b one other = absurd one
+one_bound_by laws Potentials (Some kinds.Tour) inst cert a b one other = absurd one
+one_bound_by laws Potentials (Some kinds.Potentials) inst cert a b one other = absurd one
+one_bound_by laws Potentials (Some kinds.Branches) inst cert a b one other = absurd one
+one_bound_by laws Potentials None inst cert a b one other = absurd one
+one_bound_by laws Branches (Some kinds.Tsp) inst cert a b one other = of_some a b (one_by_tree laws inst cert (Some a) (Some b) one other)
+one_bound_by laws Branches (Some kinds.Atsp) inst cert a b one other = of_some a b (one_by_tree laws inst cert (Some a) (Some b) one other)
+one_bound_by laws Branches (Some kinds.Cvrp) inst cert a b one other = absurd one
+one_bound_by laws Branches (Some kinds.Tour) inst cert a b one other = absurd one
+one_bound_by laws Branches (Some kinds.Potentials) inst cert a b one other = absurd one
+one_bound_by laws Branches (Some kinds.Branches) inst cert a b one other = absurd one
+one_bound_by laws Branches None inst cert a b one other = absurd one
+
+-- a bound, and none
+some_or_none : (a : ℤ) → Some a ≡ None → ⊥
+some_or_none a both = grind (arith, both)
+
+bound_or_none : Laws → (kind : Option Kind) (inst cert : Fields) (a : ℤ) → IsBoundBy Branches kind inst cert a
+    → HasBoundByTree inst cert None → ⊥
+bound_or_none laws (Some kinds.Tsp) inst cert a one none = some_or_none a (one_by_tree laws inst cert (Some a) None one none)
+bound_or_none laws (Some kinds.Atsp) inst cert a one none = some_or_none a (one_by_tree laws inst cert (Some a) None one none)
+bound_or_none laws (Some kinds.Cvrp) inst cert a one none = one
+bound_or_none laws (Some kinds.Tour) inst cert a one none = one
+bound_or_none laws (Some kinds.Potentials) inst cert a one none = one
+bound_or_none laws (Some kinds.Branches) inst cert a one none = one
+bound_or_none laws None inst cert a one none = one
+
+never_none : Laws → (by : Certificate) (inst cert : Fields) (a : ℤ) → IsBoundVerdict by inst cert (bounds.Bound a)
+    → IsBoundVerdict by inst cert bounds.NoTour → ⊥
+never_none laws Potentials inst cert a one other = other.1
+never_none laws Branches inst cert a one other =
+    let certified : IsCertified Branches inst cert a = one.1 in bound_or_none laws inst.kind inst cert a certified.0 other.1
+
+pub one_bound : Laws → FilesHaveOneBound
+one_bound laws by inst cert (bounds.Bound a) (bounds.Bound b) one other =
+    let first : IsCertified by inst cert a = one.1 in
+    let second : IsCertified by inst cert b = other.1 in
+    ap bounds.Bound (one_bound_by laws by inst.kind inst cert a b first.0 second.0)
+one_bound laws by inst cert (bounds.Bound a) bounds.NoTour one other = absurd (never_none laws by inst cert a one other)
+one_bound laws by inst cert (bounds.Bound a) (bounds.No reason) one other = absurd (one.0 reason other.stands)
+one_bound laws by inst cert bounds.NoTour (bounds.Bound b) one other = absurd (never_none laws by inst cert b other one)
+one_bound laws by inst cert bounds.NoTour bounds.NoTour one other = refl
+one_bound laws by inst cert bounds.NoTour (bounds.No reason) one other = absurd (one.0 reason other.stands)
+one_bound laws by inst cert (bounds.No reason) (bounds.Bound b) one other = absurd (other.0 reason one.stands)
+one_bound laws by inst cert (bounds.No reason) bounds.NoTour one other = absurd (other.0 reason one.stands)
+one_bound laws by inst cert (bounds.No a) (bounds.No b) one other =
+    ap bounds.No (one_first (StandsAgainstBounded by inst cert) (bounded_by_rank laws.numbers by inst cert) a b one other)
+
+-- ---- with a certificate
+
+one_certified : Laws → (by : Certificate) (inst sol cert : Fields) (one other : Verdict) → IsCertifiedVerdict by inst sol cert one
+    → IsCertifiedVerdict by inst sol cert other → one ≡ other
+one_certified laws by inst sol cert (No a) (No b) one other =
+    ap No (one_first (StandsAgainstCertified by inst sol cert) (certified_by_rank laws.numbers by inst sol cert) a b one other)
+one_certified laws by inst sol cert (No a) (Tour length bound) one other = absurd (other.0 a one.stands)
+one_certified laws by inst sol cert (No a) (Routes length routes least) one other = absurd other
+one_certified laws by inst sol cert (Tour length bound) (No b) one other = absurd (one.0 b other.stands)
+one_certified laws by inst sol cert (Tour length bound) (Tour found least) one other =
+    let same = one_list (tours_of sol) one.1.tour other.1.tour one.1.only other.1.only in
+    let least = one_bound_by laws by inst.kind inst cert one.1.least other.1.least one.1.of_certificate other.1.of_certificate in
+    ap₂ (λ length bound. Tour length bound) (one.1.measured ∙ ap (length_of (cost inst)) same ∙ sym other.1.measured)
+    (one.1.bound_is ∙ ap Some least ∙ sym other.1.bound_is)
+one_certified laws by inst sol cert (Tour length bound) (Routes found routes least) one other = absurd other
+one_certified laws by inst sol cert (Routes length routes least) other is none = absurd is
+
+one_unclaimed : Laws → (given : Option (Certificate × Fields)) (inst sol : Fields) (one other : Verdict)
+    → IsUnclaimedVerdict given inst sol one → IsUnclaimedVerdict given inst sol other → one ≡ other
+one_unclaimed laws None inst sol one other first second = one_alone inst sol one other first second
+one_unclaimed laws (Some given) inst sol one other first second = one_certified laws given.0 inst sol given.1 one other first second
+
+-- ---- with a claimed length
+
+same_length : (verdict : Verdict) (a b : ℤ) → HasLength verdict a → HasLength verdict b → a ≡ b
+same_length (Tour length bound) a b one other = one ∙ sym other
+same_length (Routes length routes least) a b one other = one ∙ sym other
+same_length (No reason) a b one other = absurd one
+
+one_length : (inst sol : Fields) (a b : ℤ) → IsOfLength inst sol a → IsOfLength inst sol b → a ≡ b
+one_length inst sol a b one other =
+    let same = one_alone inst sol other.0 one.0 other.1 one.1 in
+    same_length one.0 a b one.2 (subst (λ verdict. HasLength verdict b) same other.2)
+
+-- a solution that has a length isn't rejected on its own
+never_refused : (inst sol : Fields) (length : ℤ) (reason : Reason) → IsOfLength inst sol length → IsVerdictOn inst sol (No reason) → ⊥
+never_refused inst sol length reason one refused =
+    subst (λ verdict. HasLength verdict length) (one_alone inst sol one.0 (No reason) one.1 refused) one.2
+
+-- an accepted solution with a certificate is accepted on its own
+tour_by_kind : (by : Certificate) (kind : Option Kind) (inst sol cert : Fields) (least length : ℤ) → IsBoundBy by kind inst cert least
+    → IsTourVerdict inst sol (Tour length None) → IsVerdictBy kind inst sol (Tour length None)
+tour_by_kind by (Some kinds.Tsp) inst sol cert least length bound tour = tour
+tour_by_kind by (Some kinds.Atsp) inst sol cert least length bound tour = tour
+tour_by_kind Potentials (Some kinds.Cvrp) inst sol cert least length bound tour = absurd bound
+tour_by_kind Potentials (Some kinds.Tour) inst sol cert least length bound tour = absurd bound
+tour_by_kind Potentials (Some kinds.Potentials) inst sol cert least length bound tour = absurd bound
+tour_by_kind Potentials (Some kinds.Branches) inst sol cert least length bound tour = absurd bound
+tour_by_kind Potentials None inst sol cert least length bound tour = absurd bound
+tour_by_kind Branches (Some kinds.Cvrp) inst sol cert least length bound tour = absurd bound
+tour_by_kind Branches (Some kinds.Tour) inst sol cert least length bound tour = absurd bound
+tour_by_kind Branches (Some kinds.Potentials) inst sol cert least length bound tour = absurd bound
+tour_by_kind Branches (Some kinds.Branches) inst sol cert least length bound tour = absurd bound
+tour_by_kind Branches None inst sol cert least length bound tour = absurd bound
+
+accepted_alone : (given : Option (Certificate × Fields)) (inst sol : Fields) (verdict : Verdict) (length : ℤ) → HasLength verdict length
+    → IsUnclaimedVerdict given inst sol verdict → IsOfLength inst sol length
+accepted_alone None inst sol verdict length has accepted = (verdict, accepted, has)
+accepted_alone (Some given) inst sol (Tour measured bound) length has accepted = (
+  Tour measured None,
+  tour_by_kind given.0 inst.kind inst sol given.1 accepted.1.least measured accepted.1.of_certificate (
+    λ reason stands. accepted.0 reason (inl stands),
+    (accepted.1.tour, accepted.1.only, accepted.1.tour_of, accepted.1.measured),
+    refl,
+  ),
+  has,
+)
+accepted_alone (Some given) inst sol (Routes measured routes least) length has accepted = absurd accepted
+accepted_alone (Some given) inst sol (No reason) length has accepted = absurd has
+
+-- no reason applies to the certificate of an accepted solution
+none_against : (given : Option (Certificate × Fields)) (inst sol : Fields) (verdict : Verdict) (length : ℤ) (reason : Reason)
+    → HasLength verdict length → IsUnclaimedVerdict given inst sol verdict → IsFirstAgainstGiven given inst reason → ⊥
+none_against None inst sol verdict length reason has accepted first = first
+none_against (Some given) inst sol (Tour measured bound) length reason has accepted first = accepted.0 reason (inr first.stands)
+none_against (Some given) inst sol (Routes measured routes least) length reason has accepted first = accepted
+none_against (Some given) inst sol (No other) length reason has accepted first = has
+
+never_both : (claim : ℤ) (given : Option (Certificate × Fields)) (inst sol : Fields) (reason : Reason) (verdict : Verdict) (length : ℤ)
+    → HasLength verdict length → IsClaimedVerdict claim given inst sol (No reason) → IsUnclaimedVerdict given inst sol verdict
+    → claim ≡ length → ⊥
+never_both claim given inst sol reason verdict length has (inl refused) accepted is =
+    never_refused inst sol length reason (accepted_alone given inst sol verdict length has accepted) refused
+never_both claim given inst sol reason verdict length has (inr (inl other)) accepted is =
+    other.2 (is ∙ one_length inst sol length other.0 (accepted_alone given inst sol verdict length has accepted) other.1)
+never_both claim given inst sol reason verdict length has (inr (inr against)) accepted is =
+    none_against given inst sol verdict length reason has accepted against.1
+
+one_against_given : Laws → (given : Option (Certificate × Fields)) (inst : Fields) (a b : Reason) → IsFirstAgainstGiven given inst a
+    → IsFirstAgainstGiven given inst b → a ≡ b
+one_against_given laws None inst a b one other = absurd one
+one_against_given laws (Some given) inst a b one other =
+    one_first (StandsAgainstCertificate given.0 inst given.1) (certificates_by_rank laws.numbers given.0 inst given.1) a b one other
+
+one_refused : Laws → (claim : ℤ) (given : Option (Certificate × Fields)) (inst sol : Fields) (a b : Reason)
+    → IsClaimedVerdict claim given inst sol (No a) → IsClaimedVerdict claim given inst sol (No b) → No a ≡ No b
+one_refused laws claim given inst sol a b (inl one) (inl other) = one_alone inst sol (No a) (No b) one other
+one_refused laws claim given inst sol a b (inl one) (inr (inl other)) = absurd (never_refused inst sol other.0 a other.1 one)
+one_refused laws claim given inst sol a b (inl one) (inr (inr other)) = absurd (never_refused inst sol claim a other.0 one)
+one_refused laws claim given inst sol a b (inr (inl one)) (inl other) = absurd (never_refused inst sol one.0 b one.1 other)
+one_refused laws claim given inst sol a b (inr (inl one)) (inr (inl other)) =
+    ap No (one.3 ∙ ap LengthClaimed (one_length inst sol one.0 other.0 one.1 other.1) ∙ sym other.3)
+one_refused laws claim given inst sol a b (inr (inl one)) (inr (inr other)) =
+    absurd (one.2 (one_length inst sol claim one.0 other.0 one.1))
+one_refused laws claim given inst sol a b (inr (inr one)) (inl other) = absurd (never_refused inst sol claim b one.0 other)
+one_refused laws claim given inst sol a b (inr (inr one)) (inr (inl other)) =
+    absurd (other.2 (one_length inst sol claim other.0 one.0 other.1))
+one_refused laws claim given inst sol a b (inr (inr one)) (inr (inr other)) =
+    ap No (one_against_given laws given inst a b one.1 other.1)
+
+one_claimed : Laws → (claim : ℤ) (given : Option (Certificate × Fields)) (inst sol : Fields) (one other : Verdict)
+    → IsClaimedVerdict claim given inst sol one → IsClaimedVerdict claim given inst sol other → one ≡ other
+one_claimed laws claim given inst sol (No a) (No b) one other = one_refused laws claim given inst sol a b one other
+one_claimed laws claim given inst sol (No a) (Tour length bound) one other =
+    absurd (never_both claim given inst sol a (Tour length bound) length refl one other.0 other.1)
+one_claimed laws claim given inst sol (No a) (Routes length routes least) one other =
+    absurd (never_both claim given inst sol a (Routes length routes least) length refl one other.0 other.1)
+one_claimed laws claim given inst sol (Tour length bound) (No b) one other =
+    absurd (never_both claim given inst sol b (Tour length bound) length refl other one.0 one.1)
+one_claimed laws claim given inst sol (Tour length bound) (Tour found least) one other =
+    one_unclaimed laws given inst sol (Tour length bound) (Tour found least) one.0 other.0
+one_claimed laws claim given inst sol (Tour length bound) (Routes found routes least) one other =
+    one_unclaimed laws given inst sol (Tour length bound) (Routes found routes least) one.0 other.0
+one_claimed laws claim given inst sol (Routes length routes least) (No b) one other =
+    absurd (never_both claim given inst sol b (Routes length routes least) length refl other one.0 one.1)
+one_claimed laws claim given inst sol (Routes length routes least) (Tour found bound) one other =
+    one_unclaimed laws given inst sol (Routes length routes least) (Tour found bound) one.0 other.0
+one_claimed laws claim given inst sol (Routes length routes least) (Routes found count fewest) one other =
+    one_unclaimed laws given inst sol (Routes length routes least) (Routes found count fewest) one.0 other.0
+
+pub one_verdict : Laws → FilesHaveOneVerdict
+one_verdict laws given None inst sol one other first second = one_unclaimed laws given inst sol one other first second
+one_verdict laws given (Some claim) inst sol one other first second = one_claimed laws claim given inst sol one other first second
+
+-- ---- what is known of all solutions
+
+one_of_tours : (inst : Fields) (one other : Basis) → IsBasisOfTours inst one → IsBasisOfTours inst other → one ≡ other
+one_of_tours inst (bases.Tours None) (bases.Tours None) one other = refl
+one_of_tours inst (bases.Tours None) (bases.Tours (Some bound)) one other = absurd other
+one_of_tours inst (bases.Tours None) bases.NoTour one other = absurd other
+one_of_tours inst (bases.Tours None) (bases.Routes least) one other = absurd other
+one_of_tours inst (bases.Tours None) (bases.No reason) one other = absurd (one reason other.stands)
+one_of_tours inst (bases.Tours (Some bound)) other one second = absurd one
+one_of_tours inst bases.NoTour other one second = absurd one
+one_of_tours inst (bases.Routes least) other one second = absurd one
+one_of_tours inst (bases.No reason) (bases.Tours None) one other = absurd (other reason one.stands)
+one_of_tours inst (bases.No reason) (bases.Tours (Some bound)) one other = absurd other
+one_of_tours inst (bases.No reason) bases.NoTour one other = absurd other
+one_of_tours inst (bases.No reason) (bases.Routes least) one other = absurd other
+one_of_tours inst (bases.No a) (bases.No b) one other =
+    ap bases.No (one_first (StandsAgainstInstance inst) (instances_by_rank inst) a b one other)
+
+one_of_routes : (inst : Fields) (one other : Basis) → IsBasisOfRoutes inst one → IsBasisOfRoutes inst other → one ≡ other
+one_of_routes inst (bases.Tours bound) other one second = absurd one
+one_of_routes inst bases.NoTour other one second = absurd one
+one_of_routes inst (bases.Routes least) (bases.Tours bound) one other = absurd other
+one_of_routes inst (bases.Routes least) bases.NoTour one other = absurd other
+one_of_routes inst (bases.Routes a) (bases.Routes b) one other =
+    ap bases.Routes (one_least (total_of inst) (capacity_of inst) a b one.1 other.1)
+one_of_routes inst (bases.Routes least) (bases.No reason) one other = absurd (one.0 reason other.stands)
+one_of_routes inst (bases.No reason) (bases.Tours bound) one other = absurd other
+one_of_routes inst (bases.No reason) bases.NoTour one other = absurd other
+one_of_routes inst (bases.No reason) (bases.Routes least) one other = absurd (other.0 reason one.stands)
+one_of_routes inst (bases.No a) (bases.No b) one other =
+    ap bases.No (one_first (StandsAgainstRouting inst) (routings_by_rank inst) a b one other)
+
+one_basis_alone : (kind : Option Kind) (inst : Fields) (one other : Basis) → IsBasisAlone kind inst one → IsBasisAlone kind inst other
+    → one ≡ other
+one_basis_alone (Some kinds.Tsp) inst one other first second = one_of_tours inst one other first second
+one_basis_alone (Some kinds.Atsp) inst one other first second = one_of_tours inst one other first second
+one_basis_alone (Some kinds.Cvrp) inst one other first second = one_of_routes inst one other first second
+one_basis_alone (Some kinds.Tour) inst one other first second = absurd first
+one_basis_alone (Some kinds.Potentials) inst one other first second = absurd first
+one_basis_alone (Some kinds.Branches) inst one other first second = absurd first
+one_basis_alone None inst one other first second = absurd first
+
+-- a basis with a certificate is what a bound without a solution says
+abbrev basis_of_bound : BoundVerdict → Basis
+basis_of_bound (bounds.Bound bound) = bases.Tours (Some bound)
+basis_of_bound bounds.NoTour = bases.NoTour
+basis_of_bound (bounds.No reason) = bases.No reason
+
+said_by : (by : Certificate) (inst cert : Fields) (basis : Basis) → IsBasisBy by inst cert basis
+    → (verdict : BoundVerdict) × IsBoundVerdict by inst cert verdict × (basis ≡ basis_of_bound verdict)
+said_by by inst cert (bases.Tours None) is = absurd is
+said_by by inst cert (bases.Tours (Some bound)) is = (bounds.Bound bound, is, refl)
+said_by by inst cert bases.NoTour is = (bounds.NoTour, is, refl)
+said_by by inst cert (bases.Routes least) is = absurd is
+said_by by inst cert (bases.No reason) is = (bounds.No reason, is, refl)
+
+one_basis_by : Laws → (by : Certificate) (inst cert : Fields) (one other : Basis) → IsBasisBy by inst cert one
+    → IsBasisBy by inst cert other → one ≡ other
+one_basis_by laws by inst cert one other first second =
+    let said = said_by by inst cert one first in
+    let again = said_by by inst cert other second in
+    said.2 ∙ ap basis_of_bound (one_bound laws by inst cert said.0 again.0 said.1 again.1) ∙ sym again.2
+
+one_basis_with : Laws → (given : Option (Certificate × Fields)) (inst : Fields) (one other : Basis) → IsBasisWith given inst one
+    → IsBasisWith given inst other → one ≡ other
+one_basis_with laws None inst one other first second = one_basis_alone inst.kind inst one other first second
+one_basis_with laws (Some given) inst one other first second = one_basis_by laws given.0 inst given.1 one other first second
+
+pub one_basis : Laws → FilesHaveOneBasis
+one_basis laws given inst one other first second = one_basis_with laws given inst one other first.1 second.1
+
+pub one_of_solution : Laws → SolutionsHaveOneVerdict
+one_of_solution laws given basis claimed inst sol one other is first second =
+    one_verdict laws given claimed inst sol one other (first.1 given is) (second.1 given is)

@@ -1,0 +1,16 @@
+-- The goals of `files_have_one_verdict` in src/one_verdict.rt: what it ensures.
+use Rattle.tsp_verdict.proofs.OneVerdict.{Laws, one_verdict, one_bound, one_basis, one_of_solution}
+use Rattle.tsp_verdict.proofs.one_verdict.files_have_one_verdict.Goals as goal
+
+pub returns : goal.returns
+returns c =
+    let laws : Laws = record {
+      numbers = c.numbers_are_unique.ensures;
+      leaves = c.certificate_bounds_are_unique.ensures;
+    } in
+    record {
+      verdict = one_verdict laws;
+      bound = one_bound laws;
+      basis = one_basis laws;
+      solution = one_of_solution laws;
+    }

@@ -1,0 +1,17 @@
+//! That files have one verdict, as contracts of functions that do nothing.
+
+ghost use Rattle.tsp_verdict.specs.OneVerdict.{FilesHaveOneVerdict, FilesHaveOneBound, FilesHaveOneBasis, SolutionsHaveOneVerdict};
+
+use tsp_branch::{certificate_bounds_are_unique, numbers_are_unique};
+
+/// Files have one verdict, whichever TYPE, certificate and claim; so has an instance with a
+/// certificate, and so has each solution of a comparison.
+pub fn files_have_one_verdict()
+    ensures verdict { FilesHaveOneVerdict }
+    ensures bound { FilesHaveOneBound }
+    ensures basis { FilesHaveOneBasis }
+    ensures solution { SolutionsHaveOneVerdict }
+{
+    certificate_bounds_are_unique();
+    numbers_are_unique();
+}
