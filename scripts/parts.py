@@ -1,8 +1,8 @@
 """The parts of a module for LLVM, which clang compiles side by side.
 
 Each function is in one part, and the parts that call it declare it. A function of few lines is also given to
-those parts, as one that is defined elsewhere, so that it is inlined there as in the whole module. Each part
-has the constants that it names.
+those parts, as one that is defined elsewhere, so that it is inlined there as in the whole module. An export isn't.
+Each part has the constants that it names.
 
 One part has the code that reads the command line: clap's, and what only that calls. It runs once, so it isn't
 optimized. The others have the crates in the order of crates.txt, in which a crate is near those that it uses.
@@ -39,6 +39,11 @@ class Function:
     body: bytes
     lines: int
     names: set[bytes]
+
+    @property
+    def is_exported(self) -> bool:
+        """Whether it has its name outside the module, too: that of the library's exports, and `main`."""
+        return b"internal " not in self.before
 
 
 @dataclass
@@ -131,7 +136,7 @@ class Part:
             self.names |= names
             for name in names:
                 function = module.functions.get(name)
-                if function and name not in self.own and function.lines <= FEW:
+                if function and name not in self.own and function.lines <= FEW and not function.is_exported:
                     self.given.add(name)
                     left.append(name)
         left = list(self.names & module.constants.keys())
