@@ -30,6 +30,7 @@ pub mod Teeth
 pub mod FirstBad
 pub mod BranchesOnce
 pub mod SmallVerdicts
+pub mod SmallCases
 pub mod SmallFamilies
 pub mod SmallRows
 pub mod KeptRows

@@ -16,6 +16,7 @@ pub mod Twice
 pub mod Listed
 pub mod BranchVerdicts
 pub mod VerdictExamples
+pub mod CaseExamples
 pub mod FamilyExamples
 pub mod Rows
 pub mod Families

@@ -6,6 +6,7 @@ ghost use Rattle.tsp_branch.specs.Decisions.{decided_number};
 ghost use Rattle.tsp_branch.specs.Families.{least_crossings_of};
 ghost use Rattle.tsp_branch.specs.Cases.{Branch, Leaf};
 ghost use Rattle.tsp_branch.specs.Examples.{small_comb, Crosses, CrossesInAll, large, no_numbers, one_at_two, WeighsAt, WeighsUnderComb, four_rows, six_rows, LengthIs, FourHave, SixHave, IsTreeOf, IsNoTree, with_pair, without_pair};
+ghost use Rattle.tsp_branch.specs.CaseExamples.{AreOnce, AreNotOnce, branched};
 ghost use Rattle.tsp_branch.specs.VerdictExamples.{IsNotGood, IsGood, three_teeth, TwiceAt, branches, branches_apart, on_both_sides};
 
 /// How often some nodes cross the parts of a comb, and how often two cycles do: the first one as
@@ -85,4 +86,12 @@ pub fn examples_of_verdicts()
     ensures other_arc { (branch : ℕ) → ¬ TwiceAt true [] (branches 1 2 2 1) branch }
     ensures without_it { (changes : List (ℕ × ℤ)) → TwiceAt false [] (branches_apart 1 2 1 2 changes) 2 }
     ensures sides { (changes : List (ℕ × ℤ)) → TwiceAt false [] (on_both_sides changes) 4 }
+{}
+
+/// Cases that decide each pair once, and some that don't.
+pub fn examples_of_cases()
+    ensures once { AreOnce false [] (branched 1 2 3 4) }
+    ensures turned { AreNotOnce false [] (branched 1 2 2 1) }
+    ensures arcs { AreOnce true [] (branched 1 2 2 1) }
+    ensures given { AreNotOnce false (with_pair 2 1 ∷ []) (branched 1 2 3 4) }
 {}

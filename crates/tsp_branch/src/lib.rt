@@ -52,8 +52,8 @@ pub use branch::branch_bound;
 pub use case_tree::CaseTree;
 pub use decision::Decision;
 pub use examples::{
-    examples_of_bounds, examples_of_crossings, examples_of_trees, examples_of_verdicts,
-    examples_of_weights,
+    examples_of_bounds, examples_of_cases, examples_of_crossings, examples_of_trees,
+    examples_of_verdicts, examples_of_weights,
 };
 pub use families::Families;
 pub use family_examples::examples_of_families;
