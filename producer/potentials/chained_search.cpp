@@ -11,6 +11,9 @@ constexpr int kBreadth = 8;        // neighbours that are tried for the first ad
 constexpr int kSecondBreadth = 8;  // and for the second one
 constexpr int kSpan = 50;          // nodes of a path in a kick
 constexpr int kStride = 10;        // nodes from one kick to the next one, in the mean
+constexpr int kWindow = 500;       // numbers of nodes to each side of a kick, where it looks for long edges
+constexpr int kLooks = 20;         // at nodes there, for one long edge
+constexpr double kLong = 4;        // a long edge has as many times the mean length of those that were seen
 }  // namespace
 
 std::vector<double> whole_numbers(std::vector<double> numbers) {
@@ -217,17 +220,53 @@ void ChainedSearch::improve(const std::function<bool()>& watch) {
   }
 }
 
-// p [a .. b] [c .. d] q becomes p [c .. d] [a .. b] q. Returns how much longer the tour is.
+// Of some edges to the next node, near a place, the longest one: its first node. It is -1 where the longest
+// one isn't long, by so many times the mean, or is one of the others.
+int ChainedSearch::longest_edge(int place, const std::vector<int>& others, double least) {
+  const int nodes = problem_.nodes();
+  const int window = std::min(kWindow, nodes / 2);
+  int longest = -1;
+  double most = 0;
+  double sum = 0;
+  for (int look = 0; look < kLooks; look++) {
+    const int at = (place + random_.below(2 * window + 1) - window + nodes) % nodes;
+    const double length = problem_.cost(at, tour_.next(at)) - problem_.base();
+    sum += length;
+    if (length <= most || std::find(others.begin(), others.end(), at) != others.end()) continue;
+    most = length;
+    longest = at;
+  }
+  return most * kLooks < least * sum ? -1 : longest;
+}
+
+// Three edges near a place, in the order of the tour, the first of which was a long one; else none.
+std::vector<int> ChainedSearch::long_edges(int place) {
+  std::vector<int> found;
+  for (const double least : {kLong, 0.0, 0.0}) {
+    const int node = longest_edge(place, found, least);
+    if (node < 0) return {};
+    found.push_back(node);
+  }
+  if (!tour_.between(found[0], found[1], found[2])) std::swap(found[1], found[2]);
+  return found;
+}
+
 double ChainedSearch::bridge(int p) {
+  const std::vector<int> ends = long_edges(p);
+  if (!ends.empty()) return swap_paths(ends[0], ends[1], ends[2]);
   const int span = std::min(kSpan, problem_.nodes() / 4);
   const auto walk = [&](int from) {
     for (int k = random_.below(span); k > 0; k--) from = tour_.next(from);
     return from;
   };
+  const int b = walk(tour_.next(p));
+  return swap_paths(p, b, walk(tour_.next(b)));
+}
+
+// p [a .. b] [c .. d] q becomes p [c .. d] [a .. b] q. Returns how much longer the tour is.
+double ChainedSearch::swap_paths(int p, int b, int d) {
   const int a = tour_.next(p);
-  const int b = walk(a);
   const int c = tour_.next(b);
-  const int d = walk(c);
   const int q = tour_.next(d);
   for (const auto& [from, to] : {std::pair(p, a), std::pair(b, c), std::pair(d, q)}) {
     if (problem_.is_fixed(from, to)) return 0;

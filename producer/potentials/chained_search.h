@@ -4,7 +4,8 @@
 // Sources: S. Lin, B. W. Kernighan, An effective heuristic algorithm for the TSP (1973); K. Helsgaun, An
 // effective implementation of the Lin-Kernighan TSP heuristic (2000), for exchanges of three as steps, which
 // are judged before the tour is changed, and for costs with potentials; D. Applegate, W. Cook, A. Rohe,
-// Chained Lin-Kernighan for large traveling salesman problems (2003), for kicks.
+// Chained Lin-Kernighan for large traveling salesman problems (2003), for kicks. Long edges between clusters
+// are few, and wrong ones are seldom met by chance, so that kicks look for them.
 #pragma once
 #include <functional>
 
@@ -22,7 +23,8 @@ class ChainedSearch {
 
   // Until no exchange shortens the tour. False ends it early.
   void improve(const std::function<bool()>& watch);
-  // Double bridges of short paths, each with exchanges near it, undone where the tour is longer.
+  // Two neighbouring paths change places, with exchanges near their ends. It is undone where the tour is
+  // longer. The paths are short ones, or end at edges that are long beside those around them.
   void kick(long count, const std::function<bool(long)>& watch);
   Tour order() const { return tour_.order(); }
   // How much shorter the tour is than at first.
@@ -57,6 +59,9 @@ class ChainedSearch {
   void apply(int t2, const Exchange& exchange);
   void settle(const std::function<bool()>& watch);
   double bridge(int p);
+  int longest_edge(int place, const std::vector<int>& others, double least);
+  std::vector<int> long_edges(int place);
+  double swap_paths(int p, int b, int d);
 
   const Problem& problem_;
   std::vector<double> numbers_;

@@ -14,8 +14,11 @@ constexpr double kLifted = 1e200;  // the number of a node with two links, so th
 // Paths that grow by links, until all are one.
 class Paths {
  public:
-  explicit Paths(const Problem& problem)
-      : problem_(problem), components_(problem.nodes()), beside_(problem.nodes(), {-1, -1}) {
+  Paths(const Problem& problem, const std::vector<double>& numbers)
+      : problem_(problem),
+        numbers_(numbers),
+        components_(problem.nodes()),
+        beside_(problem.nodes(), {-1, -1}) {
     for (const auto& [a, b] : problem.fixed()) join(a, b);
   }
 
@@ -56,10 +59,10 @@ class Paths {
   }
   // Each end of a path finds the nearest end of another one.
   void look_for_links() {
-    std::vector<double> numbers(problem_.nodes());
+    std::vector<double> numbers(numbers_);
     std::vector<int> labels(problem_.nodes());
     for (int i = 0; i < problem_.nodes(); i++) {
-      numbers[i] = is_inner(i) ? kLifted : 0;
+      if (is_inner(i)) numbers[i] = kLifted;
       labels[i] = components_.root(i);
     }
     problem_.searches().set_numbers(numbers);
@@ -67,7 +70,7 @@ class Paths {
     for (int i = 0; i < problem_.nodes(); i++) {
       if (is_inner(i)) continue;
       const Near near = problem_.searches().lightest_outside(i, kLifted / 2);
-      if (near.node >= 0) links_.push_back({near.weight, i, near.node});
+      if (near.node >= 0) links_.push_back({near.weight + numbers_[i], i, near.node});
     }
   }
   Tour walk() const {
@@ -83,6 +86,7 @@ class Paths {
   }
 
   const Problem& problem_;
+  const std::vector<double>& numbers_;
   Components components_;
   std::vector<std::array<int, 2>> beside_;
   std::vector<Link> links_;
@@ -118,7 +122,7 @@ Neighbours neighbours_of(const Problem& problem, const std::vector<double>& numb
   return result;
 }
 
-Tour greedy_tour(const Problem& problem, const Neighbours& neighbours) {
-  return Paths(problem).grow(neighbours);
+Tour greedy_tour(const Problem& problem, const std::vector<double>& numbers, const Neighbours& neighbours) {
+  return Paths(problem, numbers).grow(neighbours);
 }
 }  // namespace potentials

@@ -14,6 +14,6 @@ struct Neighbours {
 // The lightest ones of each node, and those of these edges.
 Neighbours neighbours_of(const Problem& problem, const std::vector<double>& numbers, int count,
                          const std::vector<Edge>& more);
-// A tour with all fixed edges.
-Tour greedy_tour(const Problem& problem, const Neighbours& neighbours);
+// A tour with all fixed edges, by the same costs.
+Tour greedy_tour(const Problem& problem, const std::vector<double>& numbers, const Neighbours& neighbours);
 }  // namespace potentials

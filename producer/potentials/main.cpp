@@ -3,7 +3,6 @@
 // Nothing here is proved, and nothing has to be trusted: `tsp bound` decides what the potentials are worth.
 #include <algorithm>
 #include <cmath>
-#include <exception>
 #include <filesystem>
 #include <iomanip>
 #include <iostream>
@@ -97,6 +96,7 @@ class Run {
   void shorten_tour(const std::vector<double>& numbers, const Ascent& ascent) {
     TourSearch search;
     search.seed = options_.seed;
+    search.named = options_.tour.has_value();
     search.kicks = options_.kicks;
     if (!options_.kicks && !options_.seconds) search.kicks = kKicksOfNode * problem_.nodes();
     search.seconds = options_.seconds.value_or(0) - Clock::processor();
@@ -218,17 +218,12 @@ int run(const Options& options) {
 }  // namespace potentials
 
 int main(int count, char** words) {
-  try {
+  return certify::ended("tsp-potentials", [&] {
     const auto asked = potentials::parse_options(count, words);
-    if (const auto* help = std::get_if<potentials::Help>(&asked)) {
+    if (const auto* help = std::get_if<certify::Help>(&asked)) {
       std::cout << help->text;
       return 0;
     }
     return potentials::run(std::get<potentials::Options>(asked));
-  } catch (const std::bad_alloc&) {
-    std::cerr << "tsp-potentials: out of memory\n";
-  } catch (const std::exception& fault) {
-    std::cerr << "tsp-potentials: " << fault.what() << "\n";
-  }
-  return 2;
+  });
 }

@@ -11,7 +11,7 @@ namespace {
 constexpr int kNodeBits = 17, kKeyBits = 30, kDigitBits = 10, kDigits = 3;
 constexpr std::uint64_t kNodeMask = (1U << kNodeBits) - 1;
 constexpr std::size_t kValues = 1U << kDigitBits;
-constexpr double kPartOfLight = 0.96;  // of the edges of a tree
+constexpr double kPartOfLight = 0.99;  // of the edges of a tree
 constexpr std::size_t kSampled = 16;   // one edge of so many
 constexpr double kInfinite = std::numeric_limits<double>::infinity();
 }  // namespace

@@ -25,11 +25,16 @@ Tour shortest_by_orders(const Problem& problem) {
   } while (std::next_permutation(order.begin() + 1, order.end()));
   return best;
 }
+
+Tour shorter_one(const Problem& problem, const Tour& one, Tour other) {
+  return problem.length(other) < problem.length(one) ? std::move(other) : one;
+}
 }  // namespace
 
 Tour first_tour(const Problem& problem) {
   if (problem.nodes() <= kFewNodes) return shortest_by_orders(problem);
-  return greedy_tour(problem, neighbours_of(problem, std::vector<double>(problem.nodes()), kNearest, {}));
+  const std::vector<double> none(problem.nodes());
+  return greedy_tour(problem, none, neighbours_of(problem, none, kNearest, {}));
 }
 
 // Kicks are timed once, before most of them. Where their number is named, the tour doesn't depend on the
@@ -40,11 +45,14 @@ Shortened shorten(const Problem& problem, const Tour& tour, std::vector<double> 
   numbers = whole_numbers(std::move(numbers));
   const double begin = certify::Clock::processor();
   const Neighbours near = neighbours_of(problem, numbers, kLightest, support);
-  ChainedSearch chained(problem, numbers, near, tour, search.seed);
-  chained.improve([&] { return search.watch(0, chained.gain()); });
+  const Tour start = search.named ? tour : shorter_one(problem, tour, greedy_tour(problem, numbers, near));
+  const double ahead = problem.length(tour) - problem.length(start);
+  ChainedSearch chained(problem, numbers, near, start, search.seed);
+  const auto watch = [&](long kicks) { return search.watch(kicks, ahead + chained.gain()); };
+  chained.improve([&] { return watch(0); });
   long done = 0;
   const auto kick = [&](long count) {
-    chained.kick(count, [&](long kicks) { return search.watch(done + kicks, chained.gain()); });
+    chained.kick(count, [&](long kicks) { return watch(done + kicks); });
     done += count;
   };
   if (search.kicks) {

@@ -10,6 +10,7 @@ Tour first_tour(const Problem& problem);
 
 struct TourSearch {
   std::uint64_t seed = 1;
+  bool named = false;         // the tour, so that the search has to begin with it
   std::optional<long> kicks;  // else they are chosen so that the search takes these seconds
   double seconds = 0;
   // Called now and then with the kicks that are done, and how much shorter the tour is; false ends the

@@ -6,7 +6,6 @@
 #include <oneapi/tbb/task_arena.h>
 
 #include <algorithm>
-#include <exception>
 #include <iomanip>
 #include <iostream>
 
@@ -155,17 +154,12 @@ int run(const Options& options) {
 }  // namespace certify
 
 int main(int count, char** words) {
-  try {
+  return certify::ended("tsp-certify", [&] {
     const auto asked = certify::parse_options(count, words);
     if (const auto* help = std::get_if<certify::Help>(&asked)) {
       std::cout << help->text;
       return 0;
     }
     return certify::run(std::get<certify::Options>(asked));
-  } catch (const std::bad_alloc&) {
-    std::cerr << "tsp-certify: out of memory\n";
-  } catch (const std::exception& fault) {
-    std::cerr << "tsp-certify: " << fault.what() << "\n";
-  }
-  return 2;
+  });
 }

@@ -39,25 +39,15 @@ void declare_trees(CLI::App& app, Options& options) {
 }
 
 void declare(CLI::App& app, Options& options) {
-  app.set_help_flag("-h,--help", "this text");
-  app.add_option("INSTANCE", options.instance, "a file of TYPE TSP or ATSP")->required();
-  app.add_option("TOUR", options.tour, "a tour to begin with");
+  declare_files(app, options, "a tour to begin with");
   app.add_option("-o", options.certificate, "where the certificate is written")
       ->required()
       ->type_name("CERTIFICATE");
-  app.add_option("--tour-out", options.tour_out, "where the shortest tour that was found is written")
-      ->type_name("TOUR");
   app.add_option("--seconds", options.seconds, "seconds, 0 for no limit")
       ->type_name("S")
       ->check(CLI::NonNegativeNumber)
       ->capture_default_str();
-  app.add_option("--seed", options.seed, "of the choices by chance")->type_name("N")->capture_default_str();
   app.add_option("--upper", options.upper, "a bound of L is enough")->type_name("L");
-  app.add_option(
-         "--tsp", options.tsp,
-         "the program tsp: a path, or a name that is looked for on PATH; else it is tsp on PATH, then in the "
-         "folders above")
-      ->type_name("PROGRAM");
   app.add_flag_callback(
       "--no-families", [&options] { options.families = false; },
       "cuts are sets and combs alone, as they are of an ATSP");
@@ -70,7 +60,7 @@ void declare(CLI::App& app, Options& options) {
       ->type_name("W")
       ->check(CLI::PositiveNumber)
       ->capture_default_str();
-  app.add_option("--log", options.log, "where each event is written as a line of JSON")->type_name("FILE");
+  declare_common(app, options);
   declare_trees(app, options);
   app.footer(kFooter);
 }
@@ -81,20 +71,12 @@ std::variant<Options, Help> parse_options(int count, const char* const* words) {
   CLI::App app("Makes a certificate of TYPE BRANCHES for a TSP or an ATSP, and a tour where none is named",
                "tsp-certify");
   declare(app, options);
-  try {
-    app.parse(count, words);
-  } catch (const CLI::CallForHelp&) {
-    return Help{app.help()};
-  } catch (const CLI::ParseError& fault) {
-    throw Refusal(std::string(fault.what()) + "; --help tells of all words");
-  }
+  if (const std::optional<Help> help = take_words(app, count, words)) return *help;
   if (!options.tour && !options.tour_out && !options.upper && options.parts.empty()) {
     throw Refusal("name a tour, or say by --tour-out where the one that is found goes");
   }
-  std::vector<std::string> read{options.instance};
-  for (const std::optional<std::string>& path : {options.tour, options.tree}) {
-    if (path) read.push_back(*path);
-  }
+  std::vector<std::string> read = files_read(options);
+  if (options.tree) read.push_back(*options.tree);
   read.insert(read.end(), options.parts.begin(), options.parts.end());
   refuse_overwriting(std::move(read), {options.certificate, options.tour_out, options.log});
   return options;

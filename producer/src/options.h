@@ -1,20 +1,18 @@
 // The words of the command line.
 #pragma once
-#include <cstdint>
 #include <optional>
 #include <string>
 #include <variant>
 #include <vector>
 
+#include "command_line.h"
 #include "parameters.h"
 #include "tour.h"
 
 namespace certify {
-struct Options {
-  std::string instance, certificate;
-  std::optional<std::string> tour, tour_out, tsp, log;
+struct Options : CommonOptions {
+  std::string certificate;
   double seconds = 300;
-  std::uint64_t seed = 1;
   std::optional<Weight> upper;
   bool families = true;
   int threads = 0;                    // 0 for one by processor
@@ -23,11 +21,6 @@ struct Options {
   std::optional<std::string> tree{};  // a certificate that is gone on with
   std::optional<int> leaf{};          // of it alone
   std::vector<std::string> parts{};   // that are joined with it
-};
-
-// What --help prints.
-struct Help {
-  std::string text;
 };
 
 // Throws Refusal where the words are wrong, or where a file that is written is one that is read.

@@ -123,6 +123,25 @@ def judged_after(words, tour):
     return judged("a.tsp", tour)
 
 
+def newcomer():
+    """The three commands of the guide's section Potentials, as they are written."""
+    text = (Path(__file__).resolve().parents[2] / "docs/guide.md").read_text()
+    lines = [line.strip() for line in text.splitlines() if line.startswith("    ")]
+    at = next(k for k, line in enumerate(lines) if line.startswith("producer/out/tsp-potentials a.tsp"))
+    write_points("a.tsp", "EUC_2D", 1000, random.Random(30), side=10**6)
+    os.makedirs("producer/out")
+    os.symlink(PROGRAM, "producer/out/tsp-potentials")
+    os.symlink(TSP, "tsp")
+    for line in lines[at : at + 3]:
+        done = subprocess.run(line, shell=True, capture_output=True, text=True, timeout=120, check=False)
+        need(done.returncode == 0, f"{line}: {done.stdout}{done.stderr}")
+    report = Path("a.report").read_text().splitlines()
+    gap, length = (int(line.split()[1]) for word in ("gap", "length") for line in report if line.startswith(word))
+    need("yes" in report and 0 < gap < 0.03 * length, f"the report: {report}")
+    sums = [line.split()[1] for line in report if re.match("[0-9a-f]{64} ", line)]
+    need(sums == ["a.tsp", "a.tour", "a.potentials"], f"the sums: {report}")
+
+
 def same_bytes():
     """The same words give the same files, and so do the numbers that a run by seconds prints."""
     write_points("a.tsp", "EUC_2D", 500, random.Random(9), side=10**6)
@@ -231,7 +250,9 @@ def installing():
     need(len(options) >= 8 and all(option in page for option in options), f"not all on the page: {options}")
 
 
-CASES = [weights, small, matrix, fixed, atsp, named_tour, same_bytes, interrupt, overwriting, log, bad_input, installing]
+CASES = [
+    weights, small, matrix, fixed, atsp, named_tour, newcomer, same_bytes, interrupt, overwriting, log, bad_input, installing,
+]  # fmt: skip
 
 if __name__ == "__main__":
     with tempfile.TemporaryDirectory() as folder:

@@ -1,4 +1,5 @@
 #include <algorithm>
+#include <cmath>
 #include <numeric>
 
 #include "block_tour.h"
@@ -83,6 +84,40 @@ TEST_CASE("a search shortens a tour, keeps each node and each fixed edge") {
     for (int v = 0; v < 300; v++) CHECK(sorted[v] == v);
     CHECK(shorten(problem, first, std::vector<double>(300), {}, search).tour == found.tour);
   }
+}
+
+// Twelve clusters on a circle, each far from the others. A shortest tour has one edge from each to the next
+// one.
+TEST_CASE("a tour that takes clusters in a wrong order is mended") {
+  constexpr int kClusters = 12;
+  constexpr int kEach = 60;
+  Random random(4);
+  Points points;
+  Tour order;
+  for (int v = 0; v < kClusters * kEach; v++) {
+    const double angle = 2 * 3.14159265358979 * (v / kEach) / kClusters;
+    points.x.push_back(std::round(100000 * std::cos(angle)) + random.below(3000));
+    points.y.push_back(std::round(100000 * std::sin(angle)) + random.below(3000));
+    points.z.push_back(0);
+    order.push_back(v / kEach * 5 % kClusters * kEach + v % kEach);  // each fifth cluster
+  }
+  const Problem problem(std::move(points), {});
+  TourSearch search;
+  search.named = true;
+  search.kicks = 3000;
+  search.watch = [](long, double) { return true; };
+  const Shortened found =
+      shorten(problem, problem.inward(order), std::vector<double>(order.size()), {}, search);
+  const Tour tour = problem.outward(found.tour);
+  std::vector<int> steps;  // from a cluster to another
+  for (std::size_t k = 0; k < tour.size(); k++) {
+    const int from = tour[k] / kEach;
+    const int to = tour[(k + 1) % tour.size()] / kEach;
+    if (from != to) steps.push_back((to - from + kClusters) % kClusters);
+  }
+  CHECK(steps.size() == kClusters);
+  CHECK(std::all_of(steps.begin(), steps.end(), [&](int step) { return step == steps[0]; }));
+  CHECK((steps[0] == 1 || steps[0] == kClusters - 1));
 }
 
 TEST_CASE("tours of nine nodes are shortest after kicks") {

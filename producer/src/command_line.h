@@ -1,0 +1,37 @@
+// What the command lines of both programs share.
+#pragma once
+#include <cstdint>
+#include <functional>
+#include <optional>
+#include <string>
+#include <string_view>
+#include <vector>
+
+namespace CLI {
+class App;
+}
+
+namespace certify {
+// The words that mean the same to both programs.
+struct CommonOptions {
+  std::string instance;
+  std::optional<std::string> tour, tour_out, tsp, log;
+  std::uint64_t seed = 1;
+};
+
+// What --help prints.
+struct Help {
+  std::string text;
+};
+
+// The files of the command line, before all others: the instance and the tour. `why` says what a tour is for.
+void declare_files(CLI::App& app, CommonOptions& options, const char* why);
+// --tour-out, --tsp, --seed and --log.
+void declare_common(CLI::App& app, CommonOptions& options);
+// Takes the words. Throws Refusal where they are wrong.
+std::optional<Help> take_words(CLI::App& app, int count, const char* const* words);
+// The files that a run reads, but for those of other options.
+std::vector<std::string> files_read(const CommonOptions& options);
+// The exit status of a program. A fault is one line on standard error, and status 2.
+int ended(std::string_view program, const std::function<int()>& run);
+}  // namespace certify
