@@ -112,6 +112,9 @@ fn cause_of_line(look: &Look, fault: LineFault) -> Option<&'static str> {
                 "The script geo.py converts GEO: see the guide \"Certificates from solvers\", which is published with tsp.",
             )
         }
+        LineFault::Surplus if look.excerpt.marked() == b"EOF".as_slice() => {
+            Some("EOF is on a line of its own. The recipe tidy.awk writes it so.")
+        }
         LineFault::Number(NumberFault::TooFine) if look.field == Some(Field::NodeCoordPart) => Some(
             "Write the coordinates with 9 decimals, or multiply all of them by a power of 10.\n\
              Both change the instance, so say so in a COMMENT. The script scale.py does it: --decimals 9, or --by 1000.",

@@ -221,7 +221,8 @@ fn looks_like(form: Form) -> &'static str {
 fn recipe(form: Form, given: Option<Role>) -> Option<&'static str> {
     match (given, form) {
         (Some(Role::Potentials) | None, Form::LkhPotentials) => Some("lkh-pi.awk"),
-        (Some(Role::Solution), Form::JsonList) => Some("json-tour.jq"),
+        (Some(Role::Solution), Form::JsonList | Form::Json) => Some("json-tour.jq"),
+        (Some(Role::Solution), Form::Csv) => Some("node-list.awk"),
         (Some(Role::Solution) | None, Form::Nodes) => Some("node-list.awk"),
         (Some(Role::Solution) | None, Form::ConcordeTour) => Some("concorde-sol.awk"),
         (Some(Role::Solution) | None, Form::ConcordeEdges) => Some("concorde-edges.awk"),

@@ -61,7 +61,10 @@ fn guess_of_line(look: &Look, fault: LineFault) -> Option<Guess> {
             if look.excerpt.marked() == b"0".as_slice() && is_by_node(look.field) => {
             Some(Guess::Zero(look.dimension?))
         }
-        LineFault::Surplus if is_by_node(look.field) => Some(Guess::Surplus(look.dimension?)),
+        LineFault::Surplus
+            if is_by_node(look.field) && !(look.excerpt.marked() == b"EOF".as_slice()) => {
+            Some(Guess::Surplus(look.dimension?))
+        }
         _ => None,
     }
 }
@@ -152,7 +155,12 @@ pub(crate) fn push_guess(
 ) -> Result<(), AllocError> {
     push_rule(text, guess, fault)?;
     match guess {
-        Guess::Letters(known) => push_with(text, IN_CAPITALS, known, "."),
+        Guess::Letters(known) => push_with(
+            text,
+            IN_CAPITALS,
+            known,
+            ". The recipe tidy.awk writes all of them so.",
+        ),
         Guess::Near(known) | Guess::ValueNear(_, known) => {
             push_with(text, "Did you mean ", known, "?")
         }

@@ -75,7 +75,8 @@ const DEMAND: &str =
     a whole number from 0 to 1,000,000,000.";
 
 const DEPOT: &str =
-    "DEPOT_SECTION lists nodes from 1 to DIMENSION, at most 100,000, and -1 at its end.";
+    "DEPOT_SECTION lists nodes from 1 to DIMENSION, at most 100,000, and -1 at its end.\n\
+    The recipe tidy.awk writes the depot's node in the place of its coordinates.";
 
 const FIXED_EDGES: &str =
     "FIXED_EDGES_SECTION lists pairs of different nodes from 1 to DIMENSION, at most 100,000, and -1 at its end.";
