@@ -6,8 +6,8 @@ use Rattle.std_alloc.proofs.BoxSteps.Form.{Bx}
 use Rattle.std_heap.specs.contracts.Global as Heap
 use Rattle.std_heap.specs.contracts.GlobalAllocator.TheImpl.{ghosts, dict}
 use Rattle.std_heap.proofs.Global.TheLaws as heap
-use Rattle.tsp_open.specs.contracts.opened.Opened as Opened
-use Rattle.tsp_open.proofs.opened.Opened.TheLaws as opened
+use Rattle.tsp_judge.specs.contracts.opened.Opened as Opened
+use Rattle.tsp_judge.proofs.opened.Opened.TheLaws as opened
 use Rattle.tsp_c.specs.contracts.parts.Parts as Parts
 use Rattle.tsp_c.specs.contracts.loose.Loose as Loose
 

@@ -14,7 +14,7 @@ use Rattle.tsp_judge.specs.declared.fault.RunFault.{RunFault}
 use Rattle.tsp_judge.specs.declared.fault.RunFault.TheVariants.{File, WrongKind, Write, OutOfMemory, Relayout}
 use Rattle.tsp_judge.specs.Status.{status_of, status_of_fault}
 use Rattle.tsp_judge.specs.Accepted.{IsAccepted}
-use Rattle.tsp_open.specs.Open.{Open, IsHeldVerdict, IsNotJudged}
+use Rattle.tsp_judge.specs.Open.{Open, IsHeldVerdict, IsNotJudged}
 use Rattle.tsp_c.specs.declared.told.Told.{Told}
 use Rattle.tsp_c.specs.Ended.{without_devices, EndsOnTexts, Reports}
 use Rattle.tsp_c.specs.Opened.{IsOpenOn, ChecksAsTexts, TellsJudged}

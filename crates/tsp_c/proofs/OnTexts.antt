@@ -29,7 +29,7 @@ use Rattle.tsp_judge.specs.Yes.{SaysYes, IsCheckOf}
 use Rattle.tsp_judge.specs.BoundRun.{BoundsFiles, EndsUnbounded, SaysBound, IsBoundRunOf}
 use Rattle.tsp_judge.specs.ShowRun.{IsShowRun}
 use Rattle.tsp_judge.specs.ConvertRun.{IsConverted, IsConvertRun}
-use Rattle.tsp_open.specs.Open.{IsTextFault}
+use Rattle.tsp_judge.specs.Open.{IsTextFault}
 use Rattle.tsp_c.specs.Ended.{without_devices, done, has_bound, EndsOnTexts}
 use Rattle.tsp_c.specs.Texts.{IsFileText, StopsShowing, ShowsText, BecomesFile, StopsConverting, ConvertsText, given_text, SpellsGiven}
 use Rattle.tsp_c.specs.Texts.{AreSpelled, IsAcceptedText, IsRejected, IsUnchecked, IsReached, StopsCheck, ChecksTexts, IsBoundText, IsUnbounded, StopsBound, BoundsTexts}

@@ -8,8 +8,8 @@ use Rattle.std_alloc.specs.Box.Ownership.{box_owns}
 use Rattle.std_heap.specs.declared.Global.{Global}
 use Rattle.std_heap.specs.contracts.GlobalAllocator.TheImpl.{ghosts}
 use Rattle.tsp_draft.specs.Fields.{blank_fields}
-use Rattle.tsp_open.specs.Open.{Open}
-use Rattle.tsp_open.specs.contracts.opened.Opened.{the_row}
+use Rattle.tsp_judge.specs.Open.{Open}
+use Rattle.tsp_judge.specs.contracts.opened.Opened.{the_row}
 
 abbrev pub held_owns : Global → Ptr → Option Open → Fml
 held_owns alloc p None = ftrue

@@ -14,7 +14,7 @@ use Rattle.tsp_text.specs.Text.{Spells}
 use Rattle.tsp_theory.specs.Length.{length_of}
 use Rattle.tsp_judge.specs.declared.fault.RunFault.{RunFault}
 use Rattle.tsp_judge.specs.Status.{status_of_fault}
-use Rattle.tsp_open.specs.Open.{IsTextFault, IsUnopened}
+use Rattle.tsp_judge.specs.Open.{IsTextFault, IsUnopened}
 use Rattle.tsp_c.specs.Ended.{nth}
 
 -- ---- a buffer of numbers

@@ -9,7 +9,7 @@ use Rattle.tsp_reason.specs.Verdicts.{is_yes, is_bound_yes}
 use Rattle.tsp_judge.specs.declared.fault.RunFault.{RunFault}
 use Rattle.tsp_judge.specs.declared.fault.RunFault.TheVariants.{OutOfMemory}
 use Rattle.tsp_judge.specs.Status.{status_of, status_of_fault}
-use Rattle.tsp_open.specs.Open.{Open, IsOpened, IsUnopened, IsBoundTo, IsUnbound, IsHeldVerdict, IsNotJudged}
+use Rattle.tsp_judge.specs.Open.{Open, IsOpened, IsUnopened, IsBoundTo, IsUnbound, IsHeldVerdict, IsNotJudged}
 use Rattle.tsp_c.specs.declared.told.Told.{Told}
 use Rattle.tsp_c.specs.Told.{blank_told, told_of_instance, told_of_verdict, told_of_bound, told_of_fault}
 use Rattle.tsp_c.specs.NumberCalls.{section_points, IsSection, EndsPoints}

@@ -24,7 +24,7 @@ use Rattle.tsp_judge.specs.Accepted.{IsAccepted, IsBoundAccepted}
 use Rattle.tsp_judge.specs.ConvertRun.{Becomes}
 use Rattle.tsp_judge.specs.declared.fault.RunFault.{RunFault}
 use Rattle.tsp_judge.specs.declared.fault.RunFault.TheVariants.{File, WrongKind, Write, OutOfMemory, Relayout}
-use Rattle.tsp_open.specs.Open.{IsTextFault}
+use Rattle.tsp_judge.specs.Open.{IsTextFault}
 use Rattle.tsp_c.specs.Ended.{EndsWithText, nth}
 
 -- ---- a number that is refused

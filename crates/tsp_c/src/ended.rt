@@ -5,10 +5,7 @@ ghost use Rattle.tsp_stream.specs.states.Watched.{watched};
 ghost use Rattle.tsp_c.specs.Ended.{EndsOnTexts, IsPrinted, without_devices};
 
 use crate::line::{NoLine, line_of};
-use tsp_judge::{ReadFault, RunFault, Watched, WriteFault, status_of};
-
-/// Out of memory.
-pub(crate) const OUT_OF_MEMORY: u8 = 3;
+use tsp_judge::{ReadFault, RunFault, Status, Watched, WriteFault, status_of};
 
 /// The status with which a run on texts ends, and the text that goes to the caller: what the run
 /// wrote, or the line of its fault. Where there is no memory for a line, the text is empty.
@@ -17,7 +14,7 @@ pub(crate) fn ended(answer: Result<bool, RunFault>, report: Watched<Vec<u8>>) ->
 {
     match printed(answer, report) {
         Ok(printed) => printed,
-        Err(no_line) => (OUT_OF_MEMORY, no_line.into_text()),
+        Err(no_line) => (Status::OutOfMemory as u8, no_line.into_text()),
     }
 }
 

@@ -3,19 +3,13 @@
 ghost use Rattle.std.specs.Prelude.{◌↔◌, IsSome};
 ghost use Rattle.tsp_c.specs.Texts.{ExplainsTexts, IsExplained};
 
-use crate::refused::{REFUSED, certificate_of, claim_of, layout_of};
+use crate::refused::{certificate_of, claim_of, layout_of};
 use std::alloc::{AllocError, Global};
 use std::str;
 use tsp_explain::Names;
-use tsp_judge::{ReadFault, RunFault, Watched};
+use tsp_judge::{ReadFault, RunFault, Status, Watched};
 use tsp_perform::{explain_fault, explain_outcome, perform};
 use tsp_task::Task;
-
-/// Done.
-const DONE: u8 = 0;
-
-/// Out of memory.
-const OUT_OF_MEMORY: u8 = 3;
 
 /// The calls that are explained, by their numbers.
 const SHOW: u32 = 0;
@@ -58,13 +52,13 @@ pub(crate) fn explained(alloc: Global, numbers: Numbers, texts: Texts<'_>) -> (u
 {
     let mut text = Vec::new(alloc);
     let Some(task) = task_of(numbers, texts) else {
-        return (REFUSED, text);
+        return (Status::Refused as u8, text);
     };
     match explain(alloc, &mut text, &task) {
-        Ok(()) => (DONE, text),
+        Ok(()) => (Status::Yes as u8, text),
         Err(AllocError) => {
             text.clear();
-            (OUT_OF_MEMORY, text)
+            (Status::OutOfMemory as u8, text)
         }
     }
 }

@@ -8,7 +8,7 @@ use crate::parts::Parts;
 use std::alloc::Global;
 use std::boxed::Box;
 use std::mem::replace;
-use tsp_open::Opened;
+use tsp_judge::Opened;
 
 /// An instance that is open, or none. All bytes 0 are a closed handle.
 #[repr(C)]

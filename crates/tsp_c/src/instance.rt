@@ -1,6 +1,6 @@
 //! The file and the instance of a text.
 
-ghost use Rattle.tsp_open.specs.Open.{ReadsText};
+ghost use Rattle.tsp_judge.specs.Open.{ReadsText};
 ghost use Rattle.tsp_c.specs.NumberCalls.{FillsCount, FindsInstance};
 
 use crate::status::{DONE, status_of_fault};

@@ -1,13 +1,13 @@
 //! A boxed instance as its pointer, or nothing.
 
 ghost use Rattle.std.specs.Prelude.{◌≡◌, Option, None, Some};
-ghost use Rattle.tsp_open.specs.Open.{Open};
+ghost use Rattle.tsp_judge.specs.Open.{Open};
 ghost use Rattle.tsp_c.specs.Held.{held_coded, open_of};
 
 use crate::parts::Parts;
 use std::alloc::Global;
 use std::marker::Model;
-use tsp_open::Opened;
+use tsp_judge::Opened;
 
 /// A box at the border to C, where its type may not be named: its pointer, and the ownership that
 /// goes with it. It is ended by hand, and has no drop.

@@ -8,13 +8,13 @@ ghost use Rattle.tsp_c.specs.Ended.{Reports, nth};
 ghost use Rattle.tsp_c.specs.NumberCalls.{EndsCount, EndsLengths, EndsMatrix, EndsWeights};
 ghost use Rattle.tsp_c.specs.Opened.{BindsOpen, BindsText, ChecksAsTexts, ChecksHeld, EndsSection, IsNotOpened, OfHeld, OpensText, TellsJudged};
 ghost use Rattle.tsp_c.specs.Texts.{certificates};
-ghost use Rattle.tsp_open.specs.Open.{IsOpened};
+ghost use Rattle.tsp_judge.specs.Open.{IsOpened};
 
 use crate::ended::ended;
 use crate::handle::Handle;
 use crate::lengths::lengths_of;
 use crate::points::points_of_file;
-use crate::refused::{REFUSED as REFUSED_NUMBER, certificate_of, claim_of};
+use crate::refused::{certificate_of, claim_of};
 use crate::status::{DONE, REFUSED};
 use crate::told::Told;
 use crate::weights::{rows_of, weights_of};
@@ -22,8 +22,9 @@ use std::alloc::Global;
 use std::boxed::Box;
 use std::io::Write;
 use tsp_cost::{Costs, Instance};
-use tsp_judge::{Certificate, RunFault, Verdict, Watched, status_of, verdicts_mean_reports};
-use tsp_open::Opened;
+use tsp_judge::{
+    Certificate, Opened, RunFault, Status, Verdict, Watched, status_of, verdicts_mean_reports,
+};
 use tsp_report::write_report;
 
 /// Opens a handle on the instance that a text is; the status. What it was open on before is freed
@@ -127,10 +128,10 @@ pub(crate) fn check_held(
     ensures checks { ChecksHeld handle.old.loose.value has_claim claimed solution.now result.0 result.1.items result.2 }
 {
     if has_claim > 1 {
-        return (REFUSED_NUMBER, Vec::new(alloc), Told::blank());
+        return (Status::Refused as u8, Vec::new(alloc), Told::blank());
     }
     match handle.take(alloc) {
-        None => (REFUSED_NUMBER, Vec::new(alloc), Told::blank()),
+        None => (Status::Refused as u8, Vec::new(alloc), Told::blank()),
         Some(opened) => {
             let answer = check_opened(alloc, &opened, solution, claim_of(has_claim, claimed));
             handle.put(opened);

@@ -2,8 +2,7 @@
 
 ghost use Rattle.tsp_c.specs.Ended.{IsPlaced};
 
-/// The text doesn't fit.
-const TOO_LONG: u32 = 6;
+use crate::status::TOO_SMALL;
 
 /// Puts a text at the start of a buffer where it fits, and writes its length. Returns the text's
 /// status, or that the text doesn't fit.
@@ -12,7 +11,7 @@ pub(crate) fn place(text: &[u8], status: u8, out: &mut [u8], written: &mut usize
 {
     *written = text.len();
     if text.len() > out.len() {
-        return TOO_LONG;
+        return TOO_SMALL;
     }
     out[..text.len()].copy_from_slice(text);
     u32::from(status)

@@ -9,10 +9,7 @@ ghost use Rattle.tsp_c.specs.Told.{TellsBoundBy, TellsBy};
 use crate::texts::{bounded, checked, converted};
 use crate::told::Told;
 use std::alloc::Global;
-use tsp_judge::{Certificate, Layout};
-
-/// No run has the number.
-pub(crate) const REFUSED: u8 = 4;
+use tsp_judge::{Certificate, Layout, Status};
 
 /// A claimed length by its numbers: it counts where `has_claim` is 1, and not where that is 0.
 #[derive(Clone, Copy)]
@@ -37,10 +34,10 @@ pub(crate) fn check_by(
         result.0 result.2 }
 {
     if by > 2 {
-        return (REFUSED, Vec::new(alloc), Told::blank());
+        return (Status::Refused as u8, Vec::new(alloc), Told::blank());
     }
     if claim.has_claim > 1 {
-        return (REFUSED, Vec::new(alloc), Told::blank());
+        return (Status::Refused as u8, Vec::new(alloc), Told::blank());
     }
     let by = certificate_of(by);
     let claim = claim_of(claim.has_claim, claim.claimed);
@@ -58,7 +55,7 @@ pub(crate) fn bound_by(
     ensures numbers { TellsBoundBy (nth by certificates) instance.now certificate.now result.0 result.2 }
 {
     match certificate_of(by) {
-        None => (REFUSED, Vec::new(alloc), Told::blank()),
+        None => (Status::Refused as u8, Vec::new(alloc), Told::blank()),
         Some(by) => bounded(alloc, by, instance, certificate),
     }
 }
@@ -89,7 +86,7 @@ pub(crate) fn convert_by(alloc: Global, file: &[u8], number: u32) -> (u8, Vec<u8
     ensures { ConvertsBy number file.now result.0 result.1.items }
 {
     if number > 9 {
-        return (REFUSED, Vec::new(alloc));
+        return (Status::Refused as u8, Vec::new(alloc));
     }
     converted(alloc, file, layout_of(number))
 }

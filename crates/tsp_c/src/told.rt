@@ -5,10 +5,9 @@ ghost use Rattle.tsp_report.specs.Report.{IsGapSized, IsSized};
 ghost use Rattle.tsp_verdict.specs.Reasons.{rank_of};
 ghost use Rattle.tsp_c.specs.Told.{IsSizedBound, blank_told, told_field, field_number, first_number, kind_number, line_fault_number, number_fault_number, told_number, read_fault_number, second_number, told_of_bound, told_of_bound_run, told_of_fault, told_of_instance, told_of_run, told_of_verdict, with_bound, with_reason};
 
-use crate::ended::OUT_OF_MEMORY;
 use tsp_cost::{Costs, Instance};
 use tsp_format::{Field, Kind};
-use tsp_judge::{Bounded, EndFault, Judged, LineFault, ReadFault, RunFault};
+use tsp_judge::{Bounded, EndFault, Judged, LineFault, ReadFault, RunFault, Status};
 use tsp_number::NumberFault;
 use tsp_reason::{BoundVerdict, Reason, Verdict};
 
@@ -223,7 +222,7 @@ impl Told {
         ensures kept { status ≢ 3 → result ≡ self }
         ensures none { status ≡ 3 → result ≡ blank_told }
     {
-        if status == OUT_OF_MEMORY {
+        if status == Status::OutOfMemory as u8 {
             return Told::blank();
         }
         self

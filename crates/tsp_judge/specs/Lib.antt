@@ -8,6 +8,7 @@ pub use Rattle.tsp_reason.specs.Verdicts
 pub mod Accepted
 pub mod BoundRun
 pub mod CompareRun
+pub mod Open
 pub mod Optimal
 pub mod ConvertRun
 pub mod RunFaultText

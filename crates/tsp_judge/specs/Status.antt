@@ -6,6 +6,18 @@ use Rattle.tsp_file.specs.declared.fault.RelayoutFault.TheVariants as relayout_f
 use Rattle.tsp_judge.specs.declared.fault.RunFault.{RunFault}
 use Rattle.tsp_judge.specs.declared.fault.RunFault.TheVariants.{File, Write, WrongKind, Relayout}
 use Rattle.tsp_judge.specs.declared.fault.RunFault.TheVariants as run_faults
+use Rattle.tsp_judge.specs.declared.status.Status.{Status}
+use Rattle.tsp_judge.specs.declared.status.Status.TheVariants as statuses
+
+-- the number of a status
+abbrev pub status_number : Status → ℕ
+status_number statuses.Yes = 0
+status_number statuses.No = 1
+status_number statuses.NotJudged = 2
+status_number statuses.OutOfMemory = 3
+status_number statuses.Refused = 4
+status_number statuses.Device = 5
+status_number statuses.TooSmall = 6
 
 -- 1 is a file whose weights can't go into the layout, 2 a file with a fault, or of the wrong kind, 3 out of memory, and 5 a
 -- device's failure

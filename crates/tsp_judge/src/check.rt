@@ -10,6 +10,7 @@ ghost use Rattle.tsp_judge.specs.Yes.{IsCheck, IsCheckBy};
 use crate::checked::run;
 use crate::fault::RunFault;
 use crate::judging::told;
+use crate::uncertified::run_uncertified;
 use std::alloc::Global;
 use std::io::{Read, Write};
 use tsp_stream::Watched;
@@ -38,8 +39,7 @@ pub fn run_check<I: Read, S: Read, W: Write>(
         TakesAtMost most_taken (turn_of S.remaining sol.old sol.new) (λ second.
         IsCheck first second (sink_of W.contents out.old out.new) result)) }
 {
-    let mut nothing: Watched<&[u8]> = Watched::new(&[]);
-    told(run(alloc, inst, sol, None, &mut nothing, None, out))
+    told(run_uncertified(alloc, inst, sol, None, out))
 }
 
 /// Judges a tour of an instance of TYPE TSP or ATSP with a certificate of a bound, and writes the

@@ -74,7 +74,7 @@ pub(crate) fn read_certificate<C: Read>(
 }
 
 /// The run on these files, whatever readers they came from.
-fn judge_read<W: Write>(
+pub(crate) fn judge_read<W: Write>(
     alloc: Global,
     instance: File,
     solution: File,

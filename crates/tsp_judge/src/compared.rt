@@ -17,6 +17,7 @@ use crate::common::{Common, Found, common_of, find, status_of_found};
 use crate::fault::RunFault;
 use crate::file::read_file;
 use crate::solutions::{Follow, Solutions};
+use crate::status::Status;
 use std::alloc::Global;
 use std::io::{Read, Write};
 use tsp_cost::Instance;
@@ -24,9 +25,6 @@ use tsp_file::File;
 use tsp_report::{write_head, write_line};
 use tsp_stream::{Gives, Watched};
 use tsp_verdict::Certificate;
-
-/// The exit status where a reason applies to the instance or the certificate.
-const NO: u8 = 1;
 
 /// What a comparison came to.
 #[derive(Drop)]
@@ -78,7 +76,7 @@ pub fn run_compare<I: Read, C: Read, R: Gives + Drop, E, S: Solutions<R> + Follo
 }
 
 /// The run on these files, whatever readers they came from.
-fn compare_read<R: Gives + Drop, E, S: Solutions<R> + Follow<E>, W: Write>(
+pub(crate) fn compare_read<R: Gives + Drop, E, S: Solutions<R> + Follow<E>, W: Write>(
     alloc: Global,
     instance: File,
     certificate: Option<(Certificate, File)>,
@@ -119,7 +117,7 @@ fn compare_with<R: Gives + Drop, E, S: Solutions<R> + Follow<E>, W: Write>(
         Err(fault) => return Err(RunFault::Write(fault)),
     }
     if !common.basis.is_clear() {
-        return Ok(NO);
+        return Ok(Status::No as u8);
     }
     compare_all(alloc, common, solutions, out, to)
 }

@@ -16,7 +16,9 @@ ghost use Rattle.tsp_stream.specs.Sink.{Sink, IsUnwritten};
 ghost use Rattle.tsp_stream.specs.declared.output.WriteFault.TheVariants as write_faults;
 ghost use Rattle.tsp_file.specs.declared.fault.RelayoutFault.TheVariants as relayout_faults;
 ghost use Rattle.tsp_judge.specs.declared.fault.RunFault.TheVariants as run_faults;
+ghost use Rattle.tsp_judge.specs.declared.status.Status.TheVariants as statuses;
 ghost use Rattle.tsp_judge.specs.RunFaultText.{run_fault_text};
+ghost use Rattle.tsp_judge.specs.Status.{status_number};
 ghost use Rattle.tsp_reason.specs.Verdicts.{is_yes};
 ghost use Rattle.tsp_judge.specs.CheckRun.{Given, IsUnreadIn, IsRun, IsSomeFile};
 ghost use Rattle.tsp_judge.specs.BoundRun.{IsBoundRun};
@@ -28,6 +30,17 @@ pub fn examples_of_answers()
     ensures bounded_tour { is_yes (verdicts.Tour (pos 18) (Some (pos 14))) ≡ true }
     ensures routes { is_yes (verdicts.Routes (pos 20) 3 2) ≡ true }
     ensures no { is_yes (verdicts.No reasons.TourCount) ≡ false }
+{}
+
+/// The number of each status.
+pub fn examples_of_numbers_of_statuses()
+    ensures yes { status_number statuses.Yes ≡ 0 }
+    ensures no { status_number statuses.No ≡ 1 }
+    ensures not_judged { status_number statuses.NotJudged ≡ 2 }
+    ensures out_of_memory { status_number statuses.OutOfMemory ≡ 3 }
+    ensures refused { status_number statuses.Refused ≡ 4 }
+    ensures device { status_number statuses.Device ≡ 5 }
+    ensures too_small { status_number statuses.TooSmall ≡ 6 }
 {}
 
 /// Which TYPE the file of a certificate has, and those of which instances have a bound by it.

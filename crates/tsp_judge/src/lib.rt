@@ -6,6 +6,7 @@
 //! ```text
 //! let accepted = run_bound_check(alloc, &mut instance, &mut tour, &mut potentials, &mut out)?;
 //! let judged = run(alloc, &mut instance, &mut tour, by, &mut certificate, claimed, &mut out)?;
+//! let opened = Opened::of(alloc, instance)?;
 //! ```
 #![tactic(auto)]
 
@@ -22,10 +23,12 @@ mod fault;
 mod file;
 mod judging;
 mod laws;
+mod opened;
 mod run_examples;
 mod show;
 mod solutions;
 mod status;
+mod uncertified;
 
 pub use bound::{Bounded, run_bound};
 pub use check::{run_bound_check, run_branch_check, run_check};
@@ -40,15 +43,16 @@ pub use compared::{Compared, run_compare};
 pub use convert::run_convert;
 pub use examples::{
     examples_of_answers, examples_of_certificates, examples_of_fault_texts,
-    examples_of_faulty_files, examples_of_faulty_files_of_bounds,
+    examples_of_faulty_files, examples_of_faulty_files_of_bounds, examples_of_numbers_of_statuses,
 };
 pub use fault::RunFault;
 pub use judging::Judged;
 pub use laws::verdicts_mean_reports;
+pub use opened::Opened;
 pub use run_examples::{examples_of_runs_over_one_file, examples_of_wrong_kinds};
 pub use show::run_show;
 pub use solutions::{Follow, Solutions};
-pub use status::status_of;
+pub use status::{Status, status_of};
 pub use tsp_draft::EndFault;
 pub use tsp_file::RelayoutFault;
 pub use tsp_format::Layout;
@@ -58,3 +62,4 @@ pub use tsp_verdict::{
     Basis, BoundVerdict, Certificate, Reason, Verdict, judge_routes, judge_tour, judge_tour_bound,
     judge_tour_branches,
 };
+pub use uncertified::{run_compare_uncertified, run_uncertified};

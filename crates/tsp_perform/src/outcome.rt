@@ -6,7 +6,9 @@ ghost use Rattle.tsp_perform.specs.Done.{IsDone, is_accepted, counts, judges, bo
 
 use std::alloc::Global;
 use std::io::{Read, Write};
-use tsp_judge::{Bounded, Judged, RunFault, Watched, run, run_bound, run_convert, run_show};
+use tsp_judge::{
+    Bounded, Judged, RunFault, Watched, run, run_bound, run_convert, run_show, run_uncertified,
+};
 use tsp_task::Task;
 
 /// What a task comes to.
@@ -48,8 +50,7 @@ pub fn perform<R: Read, W: Write>(
         Task::Show(file) => done(run_show(alloc, file, out)),
         Task::Convert(file, to) => done(run_convert(alloc, file, *to, out)),
         Task::Check(instance, solution, claimed) => {
-            let mut nothing: Watched<&[u8]> = Watched::new(&[]);
-            let ended = run(alloc, instance, solution, None, &mut nothing, *claimed, out);
+            let ended = run_uncertified(alloc, instance, solution, *claimed, out);
             judged(ended)
         }
         Task::CheckBy(by, instance, solution, certificate, claimed) => {

@@ -9,7 +9,7 @@ use crate::source::Open;
 use std::alloc::Global;
 use std::io::{Read, Write};
 use tsp_cli::Place;
-use tsp_judge::{Compared, RunFault, Watched, run_compare};
+use tsp_judge::{Compared, RunFault, Watched, run_compare, run_compare_uncertified};
 use tsp_stream::Gives;
 
 /// Compares solutions: the instance is opened in its place, and the certificate where one is named,
@@ -31,18 +31,7 @@ pub(crate) fn compare<F: Gives + Drop, O: Open<F>, W: Write, E: Write>(
     let comparison = followed.comparison;
     let mut instance = fresh(comparison.instance, followed.files);
     match comparison.certificate {
-        None => {
-            let mut nothing: Watched<&[u8]> = Watched::new(&[]);
-            run_compare(
-                alloc,
-                &mut instance,
-                None,
-                &mut nothing,
-                followed,
-                out,
-                errors,
-            )
-        }
+        None => run_compare_uncertified(alloc, &mut instance, followed, out, errors),
         Some((by, place)) => {
             let mut certificate = fresh(place, followed.files);
             let by = Some(by);

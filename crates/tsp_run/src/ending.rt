@@ -12,7 +12,7 @@ use std::fmt::{Display, Formatter, Write as _};
 use std::io::Write;
 use std::{fmt, io};
 use tsp_cli::{JobFault, TaskFault};
-use tsp_judge::{Compared, RunFault, WriteFault, status_of};
+use tsp_judge::{Compared, RunFault, Status, WriteFault, status_of};
 use tsp_perform::{Outcome, is_accepted};
 
 /// How many bytes of a fault's line are written at once.
@@ -74,23 +74,14 @@ impl Display for Line<'_> {
     }
 }
 
-/// The version or help was printed.
-const DONE: u8 = 0;
-
-/// Out of memory for the words of the command line.
-const OUT_OF_MEMORY: u8 = 3;
-
-/// The command line is refused.
-const REFUSED: u8 = 4;
-
 /// The exit status of a run of the program.
 pub fn status_of_ending(ending: &Ending) -> u8
     ensures { result ≡ status_of_ending ending.now }
 {
     match ending {
-        Ending::NoJob(JobFault::Refused(_)) | Ending::NoTask(_) => REFUSED,
-        Ending::NoJob(JobFault::OutOfMemory) => OUT_OF_MEMORY,
-        Ending::Printed(Ok(())) => DONE,
+        Ending::NoJob(JobFault::Refused(_)) | Ending::NoTask(_) => Status::Refused as u8,
+        Ending::NoJob(JobFault::OutOfMemory) => Status::OutOfMemory as u8,
+        Ending::Printed(Ok(())) => Status::Yes as u8,
         Ending::Printed(Err(fault)) => status_of(&Err(RunFault::Write(*fault))),
         Ending::Ended(Ok(outcome)) => status_of(&Ok(is_accepted(outcome))),
         Ending::Compared(Ok(compared)) => compared.status,

@@ -1,7 +1,7 @@
 use Rattle.std.proofs.Common.{◌≡◌, subst, rules}
 use Rattle.std.specs.Prelude.{Option, Some}
 use Rattle.tsp_reason.specs.declared.certificate.Certificate.{Certificate}
-use Rattle.tsp_open.specs.Open.{Open}
+use Rattle.tsp_judge.specs.Open.{Open}
 use Rattle.tsp_c.specs.Ended.{nth}
 use Rattle.tsp_c.specs.Opened.{Held, BindsOpen, BindsText}
 use Rattle.tsp_c.specs.Texts.{certificates}

@@ -1,7 +1,7 @@
 use Rattle.std.proofs.Common.{◌≡◌, ◌∙◌, ap, subst, arith, rules, FitsSigned, w64}
 use Rattle.std.specs.Prelude.{Option, Some, ℤ}
 use Rattle.std.proofs.lemmas.Int.{to_z-of_z}
-use Rattle.tsp_open.specs.Open.{Open}
+use Rattle.tsp_judge.specs.Open.{Open}
 use Rattle.tsp_c.specs.Opened.{Held, ChecksOpen, ChecksHeld}
 use Rattle.tsp_c.specs.Texts.{claim_of}
 use Rattle.tsp_c.proofs.opened.check_held.Goals as goal

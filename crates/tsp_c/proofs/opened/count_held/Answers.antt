@@ -2,7 +2,7 @@
 use Rattle.std.proofs.Common.{◌≡◌, ◌∙◌, ap, refl, subst, rules}
 use Rattle.std.specs.Prelude.{Some, unwrap_or}
 use Rattle.tsp_draft.specs.Fields.{Fields}
-use Rattle.tsp_open.specs.Open.{Open}
+use Rattle.tsp_judge.specs.Open.{Open}
 use Rattle.tsp_c.specs.NumberCalls.{EndsCount}
 use Rattle.tsp_c.specs.Opened.{Held, OfHeld}
 use Rattle.tsp_c.proofs.Counted.{some_count}

@@ -1,5 +1,5 @@
 use Rattle.std.proofs.Common.{ap, ◌∙◌, inl, refl}
-use Rattle.tsp_open.specs.Open.{Open}
+use Rattle.tsp_judge.specs.Open.{Open}
 use Rattle.tsp_c.specs.Told.{told_of_instance}
 use Rattle.tsp_c.proofs.opened.open_text.Goals as goal
 

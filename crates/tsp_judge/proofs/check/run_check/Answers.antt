@@ -4,5 +4,5 @@ use Rattle.tsp_judge.specs.Yes.{IsCheck}
 use Rattle.tsp_judge.proofs.check.run_check.Goals as goal
 
 pub returns : goal.returns
-returns g c = let one = c.run.ensures in let two = one.2 in let three = two.2 in
-    (one.0, one.1, (two.0, two.1, subst (IsCheck _ _ _) (sym c.told.ensures) three.2.1.1))
+returns g c = let one = c.run_uncertified.ensures in let two = one.2 in
+    (one.0, one.1, (two.0, two.1, subst (IsCheck _ _ _) (sym c.told.ensures) two.2.1))

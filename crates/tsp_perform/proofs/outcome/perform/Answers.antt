@@ -6,10 +6,10 @@ use Rattle.tsp_task.specs.declared.task.Task.TheVariants.{Check, CheckBy, Bound}
 use Rattle.tsp_perform.proofs.outcome.perform.Goals as goal
 
 pub returns-in-Check : goal.returns-in-Check
-returns-in-Check g c = let one = c.run-ended.ensures in let two = one.2 in let three = two.2 in
-    subst (λ task. IsDone g.R.Read.remaining task (Check c.run-ended.new.inst c.run-ended.new.sol c.in-Check.claimed)
-    (sink_of g.W.Write.contents c.args.out.now c.run-ended.new.out) c.judged.result) (sym c.in-Check.is)
-    (one.0, one.1, (two.0, two.1, (c.run-ended.result, c.judged.ensures, three.2.1)))
+returns-in-Check g c = let one = c.run_uncertified-ended.ensures in let two = one.2 in
+    subst (λ task. IsDone g.R.Read.remaining task (Check c.run_uncertified-ended.new.inst c.run_uncertified-ended.new.sol c.in-Check.claimed)
+    (sink_of g.W.Write.contents c.args.out.now c.run_uncertified-ended.new.out) c.judged.result) (sym c.in-Check.is)
+    (one.0, one.1, (two.0, two.1, (c.run_uncertified-ended.result, c.judged.ensures, two.2)))
 
 pub returns-in-CheckBy : goal.returns-in-CheckBy
 returns-in-CheckBy g c = let one = c.run.ensures in let two = one.2 in let three = two.2 in

@@ -25,7 +25,7 @@ use denote.Triple.Table.{entered}
 use denote.Triple.Walked.{says, Stays, stay_dropped, walk_of, ends_at, Goes-dropped, walk_Meets}
 use Rattle.std_alloc.proofs.BoxSteps.Form.{D, B, word, box_typed}
 use Rattle.std_alloc.proofs.BoxSteps.Steps.{box_out, box_in}
-use Rattle.tsp_open.specs.Open.{Open}
+use Rattle.tsp_judge.specs.Open.{Open}
 use Rattle.tsp_c.specs.Held.{open_of}
 use Rattle.tsp_c.specs.contracts.loose.Loose as Loose
 use Rattle.tsp_c.proofs.AsBox.{E, FromLoose as From}

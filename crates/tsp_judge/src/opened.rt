@@ -1,12 +1,12 @@
 //! An instance that is open, with the certificate that is bound to it, where one is.
 
-ghost use Rattle.tsp_open.specs.Open.{ReadsText};
+ghost use Rattle.tsp_judge.specs.Open.{ReadsText};
 
+use crate::fault::RunFault;
 use std::alloc::{AllocError, Global};
 use std::marker::Model;
 use tsp_cost::Instance;
 use tsp_file::File;
-use tsp_judge::RunFault;
 use tsp_read::read_bytes;
 use tsp_reason::{Basis, BoundVerdict, Certificate, Verdict};
 use tsp_verdict::{basis_alone, basis_of, is_bounded, judge_bound, judge_next};
@@ -24,7 +24,7 @@ pub struct Opened {
 impl Model for Opened {
     ghost use Rattle.tsp_cost.specs.ProblemLaws.{IsProblem};
     ghost use Rattle.tsp_verdict.specs.Basis.{IsBasis};
-    ghost use Rattle.tsp_open.specs.Open.{Open};
+    ghost use Rattle.tsp_judge.specs.Open.{Open};
 
     ghost Value = { Open };
 
@@ -35,7 +35,7 @@ impl Model for Opened {
 
 impl Opened {
     ghost use Rattle.std.specs.Prelude.{◌≡◌, MatchResult};
-    ghost use Rattle.tsp_open.specs.Open.{IsOpened, IsUnopened, IsBoundTo, IsUnbound, IsHeldVerdict, IsNotJudged};
+    ghost use Rattle.tsp_judge.specs.Open.{IsOpened, IsUnopened, IsBoundTo, IsUnbound, IsHeldVerdict, IsNotJudged};
 
     /// Opens the instance that a text is. No certificate is bound to it.
     ///

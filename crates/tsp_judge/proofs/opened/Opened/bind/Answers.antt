@@ -3,8 +3,8 @@ use Rattle.std.proofs.Common.{ap, refl, rules, subst}
 use Rattle.std.specs.Prelude.{IsTrue}
 use Rattle.tsp_verdict.specs.Bounded.{IsBoundVerdict}
 use Rattle.tsp_verdict.specs.Certified.{is_bounded}
-use Rattle.tsp_open.specs.Open.{Open}
-use Rattle.tsp_open.proofs.opened.Opened.bind.Goals as goal
+use Rattle.tsp_judge.specs.Open.{Open}
+use Rattle.tsp_judge.proofs.opened.Opened.bind.Goals as goal
 
 pub invariant_of-self : goal.invariant_of-self
 invariant_of-self c =

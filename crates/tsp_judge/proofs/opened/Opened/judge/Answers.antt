@@ -1,7 +1,7 @@
 -- The goals of `Opened::judge` in src/opened.rt: what its calls require and what it ensures.
 use Rattle.std.proofs.Common.{subst}
-use Rattle.tsp_open.specs.Open.{Open, IsHeldVerdict}
-use Rattle.tsp_open.proofs.opened.Opened.judge.Goals as goal
+use Rattle.tsp_judge.specs.Open.{Open, IsHeldVerdict}
+use Rattle.tsp_judge.proofs.opened.Opened.judge.Goals as goal
 
 pub judge_next-requires : goal.judge_next-requires
 judge_next-requires c = (c.self.inside.certificate, c.self.invariant.1)

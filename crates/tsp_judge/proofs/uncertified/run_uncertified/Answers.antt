@@ -1,0 +1,47 @@
+-- The goals of `run_uncertified` in src/uncertified.rt: what it ensures.
+use Rattle.std.proofs.Common.{◌≡◌, None, Err, [], refl}
+use Rattle.std.proofs.KnownBytes.{Keeps-refl}
+use Rattle.tsp_stream.specs.states.Watched.{turn_of}
+use Rattle.tsp_judge.proofs.HandedOn.{handed_on}
+use Rattle.tsp_judge.proofs.Runs.{none_taken, first_stops, second_stops}
+use Rattle.tsp_judge.proofs.Yeses.{fault_of_run}
+use Rattle.tsp_judge.proofs.uncertified.run_uncertified.Goals as goal
+
+pub returns-in_err-instance : goal.returns-in_err-instance
+returns-in_err-instance g c =
+    let same : c.from_residual.result ≡ Err c.in_err-instance.field-0.0 = handed_on _ _ c.from_residual.ensures.1 in
+    let one = c.in_err-instance.ensures in
+    rw same (
+      one.0,
+      one.1,
+      (
+        [],
+        none_taken,
+        fault_of_run None _ _ _ _ _
+            (first_stops None _ (turn_of g.I.Read.remaining c.args.inst.now c.read_file.new.reader one.0) _ _ _ one.2 (Keeps-refl _, refl)
+            tt (Keeps-refl _, refl)),
+      ),
+    )
+
+pub returns-in_err-solution : goal.returns-in_err-solution
+returns-in_err-solution g c =
+    let same : c.from_residual-in_err-solution.result ≡ Err c.in_err-solution.field-0.0 = handed_on _ _ c.from_residual-in_err-solution.ensures.1 in
+    let one = c.in_ok-instance.ensures in
+    let two = c.in_err-solution.ensures in
+    rw same (
+      one.0,
+      one.1,
+      (
+        two.0,
+        two.1,
+        fault_of_run None _ _ _ _ _
+            (second_stops None _ _ (turn_of g.S.Read.remaining c.args.sol.now c.read_file-2.new.reader two.0) c.in_ok-instance.instance _ _ one.2 two.2
+            tt (Keeps-refl _, refl)),
+      ),
+    )
+
+pub returns : goal.returns
+returns g c =
+    let one = c.in_ok-instance.ensures in
+    let two = c.in_ok-solution.ensures in
+    (one.0, one.1, (two.0, two.1, c.judge_read.ensures None _ _ one.2 two.2 tt))

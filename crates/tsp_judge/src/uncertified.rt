@@ -1,0 +1,63 @@
+//! A check and a comparison without a certificate, from the bytes read to the bytes written.
+
+ghost use Rattle.std.specs.Prelude.{None, length};
+ghost use Rattle.tsp_stream.specs.states.Watched.{sink_of, turn_of};
+ghost use Rattle.tsp_stream.specs.Turn.{TakesAtMost};
+ghost use Rattle.tsp_read.specs.Reads.{most_taken};
+ghost use Rattle.tsp_judge.specs.CompareRun.{IsCompareRun};
+ghost use Rattle.tsp_judge.specs.Following.{IsFollowed};
+ghost use Rattle.tsp_judge.specs.Yes.{IsRunOf};
+
+use crate::checked::judge_read;
+use crate::compared::{Compared, compare_read};
+use crate::fault::RunFault;
+use crate::file::read_file;
+use crate::judging::Judged;
+use crate::solutions::{Follow, Solutions};
+use std::alloc::Global;
+use std::io::{Read, Write};
+use tsp_stream::{Gives, Watched};
+
+/// Judges a solution of an instance, writes the report, and returns the verdict, with the files
+/// that were read: `run` without a certificate.
+///
+/// # Errors
+///
+/// Those of `run`.
+pub fn run_uncertified<I: Read, S: Read, W: Write>(
+    alloc: Global,
+    inst: &mut Watched<I>,
+    sol: &mut Watched<S>,
+    claimed: Option<i64>,
+    out: &mut Watched<W>,
+) -> Result<Judged, RunFault>
+    ensures { TakesAtMost most_taken (turn_of I.remaining inst.old inst.new) (λ first.
+        TakesAtMost most_taken (turn_of S.remaining sol.old sol.new) (λ second.
+        IsRunOf None claimed first second (sink_of W.contents out.old out.new) result)) }
+{
+    let instance = read_file(alloc, 1, inst)?;
+    let solution = read_file(alloc, 2, sol)?;
+    judge_read(alloc, instance, solution, None, claimed, out)
+}
+
+/// Judges solutions of an instance, writes a line for each, and returns the largest of their
+/// statuses: `run_compare` without a certificate.
+///
+/// # Errors
+///
+/// Those of `run_compare`.
+pub fn run_compare_uncertified<I: Read, R: Gives + Drop, E, S: Solutions<R> + Follow<E>, W: Write>(
+    alloc: Global,
+    inst: &mut Watched<I>,
+    solutions: &S,
+    out: &mut Watched<W>,
+    to: &mut E,
+) -> Result<Compared, RunFault>
+    ensures text { TakesAtMost most_taken (turn_of I.remaining inst.old inst.new) (λ first.
+        IsCompareRun R.remaining R.gives (S.opens solutions.now) (S.names solutions.now) None first
+        (sink_of W.contents out.old out.new) result) }
+    ensures told { IsFollowed (S.tells solutions.now) (length (S.names solutions.now)) to.old to.new result }
+{
+    let instance = read_file(alloc, 1, inst)?;
+    compare_read(alloc, instance, None, solutions, out, to)
+}
