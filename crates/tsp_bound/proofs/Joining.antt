@@ -56,6 +56,7 @@ not_left label new met c pair free within = one_side (label pair.0 == c) (label 
 ])
 
 -- one join more, of a component that isn't met
+-- plan: `joins_more` adds the pair; the part that it leaves is the component c, which no earlier pair leaves (`not_left`)
 pub joining_more : (n : ℕ) (w : ℕ → ℕ → ℤ) (label old new : ℕ → ℕ) (before met : ℕ → Bool) (added : List (ℕ × ℕ)) (c : ℕ) (link : Link)
     → IsJoining n w label old before added → IsLeastOf n w label c link → before c ≡ false
     → ((l : ℕ) → before l ≡ true → met l ≡ true) → met c ≡ true → met (label link.to) ≡ true

@@ -118,6 +118,7 @@ lowest_least n m w v lowerings order places outside from old best are lower less
           omega (arith, ints, below, own, one)
     ]
 
+-- plan: it is least by `lowest_least`; where it is the old one, nothing lowers it, since lowerings aren't negative
 pub lowest_end : (n m : ℕ) (w v : ℕ → ℕ → ℤ) (lowerings : List (ℕ × ℤ)) (order places : List ℕ) (outside : ℕ → Bool) (from count : ℕ) (old best : Best) → count ≡ length lowerings
     → ArePlaces n order places → AreLowerings m lowerings → AreLess w v lowerings from → IsBest w order outside from old
     → IsLowest n w v lowerings order places outside from count old best → IsBest v order outside from best

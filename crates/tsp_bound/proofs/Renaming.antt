@@ -9,6 +9,7 @@ use Rattle.tsp_theory.specs.Forest.{IsLeastJoin, AreLeastJoins}
 use Rattle.tsp_bound.specs.states.Components.{IsBelow}
 use Rattle.tsp_bound.specs.states.Numbering.{IsNumbering, on_both}
 
+-- plan: by induction over the pairs; the part of each join is taken over places, so that pairs cross it as before (`crossed`)
 joins_renamed : (n : ℕ) (Node : ℕ → Type 0) (node place : ℕ → ℕ) (w v : ℕ → ℕ → ℤ) (earlier pairs : List (ℕ × ℕ))
     → IsNumbering n Node node place → ((i j : ℕ) → i < n → j < n → v i j ≡ w (node i) (node j))
     → All (λ pair. (pair.0 < n) × (pair.1 < n)) earlier → AllByRecursion (λ pair. (pair.0 < n) × (pair.1 < n)) pairs

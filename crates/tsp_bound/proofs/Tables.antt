@@ -154,6 +154,7 @@ said_more : (node : ℕ) (triples : List (ℕ × ℕ × ℤ)) (t : ℕ × ℕ ×
 said_more node triples t = said_both node triples (t ∷ []) ∙ ap (λ zs. all_said_of node triples ++ zs) (append-nil (said_of node t))
 
 -- the two lists with their new entries
+-- plan: by cases of the node: either end of the triple, or neither; `said_more` takes the triple off what all say of it
 pub table_more : (n : ℕ) (triples : List (ℕ × ℕ × ℤ)) (t : ℕ × ℕ × ℤ) (lists : List (Vec (ℕ × ℤ))) (first second : Vec (ℕ × ℤ)) → IsTable n triples lists → t.0 ≤ n → t.1 ≤ n → t.0 ≢ t.1
     → first.items ≡ all_said_of t.0 triples ++ (t.1, t.2) ∷ [] → second.items ≡ all_said_of t.1 triples ++ (t.0, t.2) ∷ [] → IsTable n (triples ++ t ∷ []) (set (set lists t.0 first) t.1 second)
 table_more n triples t lists first second table a_in b_in differ first_is second_is = record {

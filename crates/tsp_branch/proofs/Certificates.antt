@@ -46,6 +46,7 @@ leaf_has_none : (directed : Bool) (n : ℕ) (cost : ℕ → ℕ → ℤ) (scale 
 leaf_has_none false n cost scale number families leaf laws costs_are none = absurd none
 leaf_has_none true n cost scale number families leaf laws costs_are none = laws.no_link n leaf.0 costs_are none
 
+-- plan: by induction over the leaves each bound is one of its case (`leaf_bounds_case`); then the premise on cases
 pub certificates_bound_cycles : LeafLaws → CasesBoundCycles → CasesHaveNoCycle → CertificatesBoundCycles
 certificates_bound_cycles laws bounds_cases no_cases directed n cost scale number families given steps (Some bound) costs_are scale_in certificate is =
     let leaves = leaves_of (given ∷ []) steps in

@@ -214,6 +214,7 @@ pub record IsAddedTo (index : ℕ) (multipliers : List ℤ) (families : List (Li
       → IsMoved (inside_both multipliers families (get_or by_node (k + 1) c).items x) (least_at (get_or old k b).items x) (least_at (get_or new k a).items x)
   pub rest : (k : ℕ) (a b : Vec ℤ) → index < k + 1 → k < length old → get_or new k a ≡ get_or old k b
 
+-- plan: by cases of the place: the row just added to (`row_at`, `slot_at`), or another one, which `set` leaves
 pub one_more_row : (index : ℕ) (multipliers : List ℤ) (families : List (List (List ℕ))) (by_node : List (Vec SetPlace)) (old rows : List (Vec ℤ)) (slot row : Vec ℤ) (numbers : List SetPlace) → index < length old
     → IsAddedTo index multipliers families by_node old rows → slot ≡ get_or rows index slot → ((c : Vec SetPlace) → (get_or by_node (index + 1) c).items ≡ numbers)
     → ((x : ℕ) → IsMoved (inside_both multipliers families numbers x) (least_at slot.items x) (least_at row.items x)) → length row.items ≡ length slot.items

@@ -147,6 +147,7 @@ parts_beside = record {
     second : (node : ℕ) → has three node ≡ false → has six node ≡ true → Any (AreAlike (sets_of beside_all_six) node) (1 ∷ 4 ∷ [])
     second node is inside = (1, 4, omega arith, refl, All-from_recursion (λ set. set node ≡ set 4) (sets_of beside_all_six) (is, (inside, tt)))
 
+-- plan: no pair crosses the set of all nodes, so the least crossings are those of the lone set (`alone`)
 pub set_beside_all : CyclesCrossFamilies → UnlikeNodesNeedParts → IsCrossed 2 1 beside_all_six
 set_beside_all cross unlike = inr (record {
   unknown = λ kind. elim kind [

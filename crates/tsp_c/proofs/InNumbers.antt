@@ -75,6 +75,7 @@ fault_is fault written status text (inr e) two = let three : status ≡ 3 = e.0 
 
 -- ---- the runs
 
+-- plan: by the end of the run: a verdict, over the files of the texts (`are_spelled`); or a fault, by its status (`unchecked`)
 pub tells_texts : (by : Option Certificate) (claimed : Option ℤ) (first second third : Turn) (sink : Sink) (ended : Result Judged RunFault)
     (one two three written : List ℕ) (status : ℕ) (text : List ℕ) (made numbers : Told) → Reads3 first second third one two three
     → IsRun (given_by by third) claimed first second sink ended → made ≡ told_of_run ended
@@ -103,6 +104,7 @@ tells_texts by claimed first second third sink (Err fault) one two three written
   refused = none;
 }
 
+-- plan: by the end of the run: a bound, over the files of the texts (`spelled`); or a fault, by its status (`unbounded`)
 pub tells_bound : (by : Certificate) (first second : Turn) (sink : Sink) (ended : Result Bounded RunFault)
     (one two written : List ℕ) (status : ℕ) (text : List ℕ) (made numbers : Told) → Reads2 first second one two
     → IsBoundRun by first second sink ended → made ≡ told_of_bound_run ended

@@ -240,6 +240,7 @@ reached by first second third one two three file found reads run = elim run [
     given_is None third three given is = absurd cc
     given_is (Some by) third three given is = ((by, three), refl)
 
+-- plan: by the fault: each case is the one of the run, with the texts for the readers (`reached`, `are_spelled`)
 stops_check : (by : Option Certificate) (claimed : Option ℤ) (first second third : Turn) (sink : Sink) (one two three : List ℕ)
     (fault : RunFault) → Reads3 first second third one two three → EndsWithout (given_by by third) claimed first second sink fault
     → StopsCheck (given_text by three) claimed one two (without_devices fault)
@@ -349,6 +350,7 @@ not_relaid by first second sink fault refused is run = none (subst (λ (f : RunF
     none : EndsUnbounded by first second sink (Relayout refused) → ⊥
     none ended = ended.4
 
+-- plan: by the fault: each case is the one of the run, with the texts for the readers (`some_file`, `spelled`)
 stops_bound : (by : Certificate) (first second : Turn) (sink : Sink) (one two : List ℕ) (fault : RunFault)
     → Reads2 first second one two → EndsUnbounded by first second sink fault → StopsBound by one two (without_devices fault)
 stops_bound by first second sink one two (File file (read_faults.Line line word found)) reads run =

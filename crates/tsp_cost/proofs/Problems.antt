@@ -123,6 +123,7 @@ listed f range has is =
       diagonal = λ i row out. same i i ∙ listed_diagonal layout n weights i out;
     }
 
+-- plan: by the weight type: the law of the costs gives the distance of the two points, which are the nodes' (`point_is`)
 distances : (f : Fields) → AreDefined → AreUnique → IsInRange f → HasInstance f → is_explicit f.weight_kind ≡ false → CostsAreDistances f (nodes_of f) (cost f)
 distances f defined unique range has not = by_kind f.weight_kind refl
   where
@@ -190,6 +191,7 @@ some_problem f defined unique range has routing = record {
 
 -- ---- there is no other
 
+-- plan: by the pair: listed (`at_cell`), on a diagonal that isn't listed (`on_diagonal`), or in the other half (`in_other_half`)
 same_listed : (f : Fields) (n : ℕ) (costs : ℕ → ℕ → ℤ) → f.dimension ≡ Some n → CostsAreListed f n costs → HaveSameCosts n costs (cost f)
 unfolding cost
 same_listed f n costs dimension are i j row column = either i j row column ∙ sym (

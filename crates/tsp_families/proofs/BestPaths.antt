@@ -139,6 +139,7 @@ IsFound n cost set node least =
     (least ≡ no_path) ⊎ ((rest : List ℕ) × IsOrderOf n set (node ∷ rest) × (least ≡ path_length cost node rest))
 
 -- a path from the least sum over the best paths of what is left of the set
+-- plan: a path is a step and a best path through the rest (`step`, `at`), so the least of these sums is the least path's
 pub best_from : (n set other start least : ℕ) (costs paths : List ℕ) → other < n - 1 → bit_at set other ≡ 1
     → set * (n - 1) ≤ length paths → AreBestPaths n (cost_by_rows n costs) paths
     → start ≤ no_path → StartsWith n costs set other start

@@ -60,6 +60,7 @@ in_parts n m sets part_of firsts (x ∷ xs) is h range =
       in_parts n m sets part_of firsts xs is h range.1,
     )
 
+-- plan: a cycle of the nodes gives one of the parts that is no longer, by the triangle inequality (`shorter_cycle`)
 pub divisions_bound_cycles : DivisionsBoundCycles
 divisions_bound_cycles n m sets part_of cost least nodes some is agree lengths cycle =
     go nodes cycle (recursion_from_All (IsNode n) nodes cycle.range)

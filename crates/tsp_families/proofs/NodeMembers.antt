@@ -65,6 +65,7 @@ membership_all sets count node value all h =
     let rest : value + 2 ^ count * 0 ≡ membership sets node = ap (λ z. value + 2 ^ count * z) (sym none) ∙ h.rest in
     omega (arith, rest)
 
+-- plan: by whether the set has the node: the membership has one bit more in front, 1 or 0 (`split`, `power`)
 pub membership_more : (sets : List (ℕ → Bool)) (count node value : ℕ) (set : ℕ → Bool) → count < length sets
     → get_or sets count set ≡ set → IsSoFar sets count node value
     → IsSoFar sets (count + 1) node (value + (if set node then 2 ^ count else 0))
@@ -278,6 +279,7 @@ module _ (n : ℕ) (sets : List (ℕ → Bool)) (memberships firsts costs : List
       (λ i j in_i in_j. cost_at (i - 1) (j - 1) (omega (arith, in_i.0, in_i.1)) (omega (arith, in_j.0, in_j.1))) is
 
   -- the largest of them is the most that two nodes cross
+  -- plan: two nodes cross as the first nodes of their parts do (`alike_crossings`), whose numbers the code lists (`cost_at`)
   pub most_between : (largest : ℕ) → 1 ≤ n → length costs ≡ length firsts * length firsts → ArePartsOf n sets firsts → IsLargest costs largest → IsMostCost n (sets_crossed sets) (pos largest)
   most_between largest some long parts is = found is.found.0 is.found.1 (cases_lt is.found.0 (length costs))
     where

@@ -163,6 +163,7 @@ pub record IsWide (n k : ℕ) (sets : List (ℕ → Bool)) (firsts : List ℕ) (
   pub has_firsts : (part : ℕ) → IsNode (length firsts) part → Within nodes (first_of firsts part)
   pub has : (x : ℕ) → IsNode k x → Within nodes x
 
+-- plan: the node is there already, or it goes behind the first node of its part, which crosses no set more (`after_length`)
 wider : (n k : ℕ) (sets : List (ℕ → Bool)) (firsts : List ℕ) (least : ℤ) (nodes : List ℕ) → ArePartsOf n sets firsts → suc k ≤ n
     → IsWide n k sets firsts least nodes
     → (more : List ℕ) × IsWide n (suc k) sets firsts least more

@@ -78,6 +78,7 @@ pub record HasKept (to : Layout) (n line kept : ℕ) (full items : List ℤ) : T
   pub rest : SameFrom full items kept
 
 -- one line more
+-- plan: entry by entry (`ext_get_or`): before the line as it was, in the line as it was copied (`line_more`)
 pub line_kept : (to : Layout) (n line kept start end : ℕ) (full items new : List ℤ) → IsNode n line
     → HoldsPairs to (listed_cost FullMatrix n full) → HasKept to n line kept full items
     → start ≡ line_start_of to n line → end ≡ start + line_len_of to n line → end ≤ line * n → line * n ≤ length full

@@ -142,6 +142,7 @@ mirrored to cost i j holds unlisted = ⊎_elim
     holds
 
 -- every cost is as before
+-- plan: by the pair: no nodes, listed (`placed`, `laid_at`), mirrored (`mirrored`), or on a diagonal that isn't listed
 pub costs_kept : (to : Layout) (n : ℕ) (cost : ℕ → ℕ → ℤ) → ((i j : ℕ) → ¬ (IsNode n i × IsNode n j) → cost i j ≡ pos 0)
     → HoldsPairs to cost → HoldsDiagonal to cost
     → (i j : ℕ) → listed_cost to n (costs_in to n cost) i j ≡ cost i j

@@ -86,6 +86,7 @@ kept_less from n line kept len node is_kept is_len =
       few_before from n (line - 1) (omega (arith, node.1)),
     )
 
+-- plan: entry by entry (`ext_get_or`): in the line as it was copied, and behind it as it was, which the copy left
 pub spread_more : (from : Layout) (n line kept len start : ℕ) (half items new : List ℤ) → IsNode n line → length items ≡ n * n
     → kept ≡ length (before from n line)
     → len ≡ line_len_of from n line → start ≡ line_start_of from n line → start + len ≤ line * n

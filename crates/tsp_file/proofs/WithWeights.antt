@@ -78,6 +78,7 @@ as_given P f layout weights format stand holds =
     subst (λ (o : Option (List ℤ)). P (record f { weight_format = Some (Listed layout); weights = o })) stand
     (subst (λ (o : Option WeightFormat). P (record f { weight_format = o })) format holds)
 
+-- plan: by the field: the weights and their format are new, all others are as in the valid file (`each_fits`)
 each_fits_with : (f : Fields) (to : Layout) (weights : List ℤ) → fault_of f ≡ None
     → with_dimension are_weights f.dimension weights ≡ true → (field : Field)
     → fits (with_weights f to weights) field ≡ true

@@ -145,6 +145,7 @@ served_by_none problem some plan = by_depot (eqb_tells problem.depot 1)
     by_depot (inl first) = none_served 2 ((omega arith, some), λ is. omega (arith, is, first.1))
     by_depot (inr other) = none_served 1 ((omega arith, omega (arith, some)), λ is. other.1 (sym is))
 
+-- plan: no reason applies, so there is one depot and a customer; a plan serves it, so the file lists routes (`served_by_none`)
 accepted_routes : (claimed : Option ℤ) (instance solution : Fields) (length_is : ℤ) (count least : ℕ) → IsProblem instance → instance.kind ≡ Some kinds.Cvrp
     → IsRoutesVerdict instance solution (verdicts.Routes length_is count least) → IsAsClaimed claimed length_is
     → AreAcceptedRoutes claimed instance solution (report_of instance (verdicts.Routes length_is count least))

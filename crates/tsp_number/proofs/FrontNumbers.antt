@@ -173,6 +173,7 @@ decimal_text bytes sign count parts within is_point =
 -- ---- their meaning
 
 -- a mantissa without an exponent, and its count of 10^-9
+-- plan: the parts of the word are the premises, with no exponent; the count is their number by arithmetic
 plain_stands : (word sign whole fraction_text fraction : List ℕ) (negative : Bool) (size : ℕ)
     → word ≡ sign ++ (whole ++ (fraction_text ++ []))
     → IsSign sign negative → AllDigits 10 whole → IsFraction fraction_text fraction → AllDigits 10 fraction
@@ -242,6 +243,7 @@ few_front bytes count value read some few within =
     let front : 0 + count ≡ count = omega arith in
     subst (λ n. BeginsWithNumber bytes n (pos (value * unit))) front (whole_front bytes 0 count value false has some (omega arith))
 
+-- plan: the bytes are cut at the point (`digits_value-append`), and `plain_stands` gives their count
 pub decimal_front : (bytes : List ℕ) (sign count whole parts part : ℕ) (negative : Bool)
     → HasWhole bytes sign count whole negative → count ≤ 9
     → sign + count < length bytes → get_or bytes (sign + count) 0 ≡ point

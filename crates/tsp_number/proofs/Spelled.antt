@@ -75,6 +75,7 @@ pub record FractionOf (rest : ℕ) : Type 0 where
   pub worth : digits_value 10 fraction * 10 ^ left ≡ rest
   pub short : length (fraction_spelling rest) ≤ 10
 
+-- plan: by cases: nothing is written of 0; else `decimals_of` for the digits
 fraction_of : (rest : ℕ) → rest < unit → FractionOf rest
 fraction_of rest part =
     elim (cases_eq rest 0) [
@@ -113,6 +114,7 @@ is_sign : (negative : Bool) → IsSign (sign_text negative) negative
 is_sign false = inl (refl, refl)
 is_sign true = inr (inr (refl, refl))
 
+-- plan: the size is a whole part and a rest (`div-add-mod'`); `fraction_of` for the rest, `digits_value-append` for both
 stands_spelled : (negative : Bool) (size : ℕ) → size ≤ most_count
     → StandsFor (sign_text negative ++ size_spelling size) (with_sign negative size)
 stands_spelled negative size most =

@@ -123,6 +123,7 @@ some_before rest place q same some =
     ]
 
 -- a group of three with something left after it
+-- plan: three times `decimals-suc`, each with something left (`some_before`)
 decimals-group : (places q rest : ℕ) → q ≡ 10 ^ places → 0 < rest % q
     → decimals (suc (suc (suc places))) rest ≡ three_digits (rest / q) ++ decimals places (rest % q)
 decimals-group places q rest is some =

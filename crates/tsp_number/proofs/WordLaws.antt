@@ -39,6 +39,7 @@ number_word : (word : List ℕ) (k : ℤ) → StandsFor word k → IsNumberWord 
 number_word word k stands = (stands.numeral, stands.spelled)
 
 -- one answer
+-- plan: by both results: two counts are equal by `stands_once`, and two different faults exclude each other
 pub decimal_once : (word : List ℕ) (r s : Result ℤ NumberFault) → ReadsDecimal word r → ReadsDecimal word s → r ≡ s
 decimal_once word (Ok j) (Ok k) a b = ap Ok (stands_once word j k a.1 b.1)
 decimal_once word (Ok j) (Err LongWord) a b = absurd (b a.0)
@@ -92,6 +93,7 @@ outside_not_within low high j k same from to (inl below) = absurd (omega (arith,
 outside_not_within low high j k same from to (inr above) = absurd (omega (arith, ints))
 
 -- one answer
+-- plan: by both results: two numbers are equal by `stands_once`, and two different faults exclude each other
 pub whole_once : (word : List ℕ) (low high : ℤ) (r s : Result ℤ NumberFault) → ReadsWhole word low high r
     → ReadsWhole word low high s → r ≡ s
 whole_once word low high (Ok j) (Ok k) a b = ap Ok (times_unit j k (stands_once word (j *ℤ pos unit) (k *ℤ pos unit) a.1 b.1))

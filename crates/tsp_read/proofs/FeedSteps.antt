@@ -154,6 +154,7 @@ some_more : (over : List ℕ) → (length over == 0) ≡ false → is_filled ove
 some_more [] e = absurd (true≢false e)
 some_more (b ∷ over) e = refl
 
+-- plan: by what was read and whether that was all: each case is the stage that `stage_after` names
 comes_by : (all : Bool) (read : Result Bool ReadFault) (new : Feed) (whole seen over : List ℕ) → Fits whole seen over
     → all ≡ (length over == 0) → new.count ≡ length seen
     → FeedsOn seen new.intake new.begun read → ComesTo (stage_after all read) new whole

@@ -12,6 +12,7 @@ shaped : (P : ValueShape → Type 0) (a b : ValueShape) → P a → Some a ≡ S
 shaped P a b p is = let same : a ≡ b = cc in subst P same p
 
 -- what holds of each keyword holds of every field whose value is read as something
+-- plan: by the field: a keyword has one shape (`shaped`), and a section has none
 pub by_keyword : (P : Field → ValueShape → Type 0) → P NameKey Kept → P TypeKey Word → P CommentKey KeptEach
     → P DimensionKey (Number (pos 1) (pos most_nodes)) → P CapacityKey (Number (pos 1) (pos most_capacity))
     → P ScaleKey (Number (pos 1) (pos most_scale)) → P EdgeWeightTypeKey Word → P EdgeWeightFormatKey Word
@@ -58,6 +59,7 @@ by_number P p0 p1 p2 f low high e = by_keyword (λ field shape. shape ≡ Number
     (λ is. absurd cc) (λ is. absurd cc) f (Number low high) e refl
 
 -- a field that is no section, no keyword with a number, and none with its own place
+-- plan: by the field: each but the last has a premise against it
 pub other_alone : (in_space : Bool) (f : Field) → shape_of in_space f ≡ None → f ≢ NameKey → f ≢ TypeKey → f ≢ CommentKey
     → f ≢ EdgeWeightTypeKey → f ≢ EdgeWeightFormatKey
     → f ≢ NodeCoordTypeKey → f ≢ DisplayDataTypeKey → ((low high : ℤ) → value_shape_of f ≢ Some (Number low high)) → f ≡ OtherKey

@@ -120,6 +120,7 @@ weight_kind_rows : (earlier : List Item) (line : WordLine) → nat_lt most_line_
     (is_left_out EdgeWeightTypeKey (first_word line.value)) (weight_kind_named (first_word line.value)) (is_late earlier (Line (Known EdgeWeightTypeKey) line))
 weight_kind_rows earlier line short = rw (short, cond_same (is_none (weight_kind_named (first_word line.value)))) refl
 
+-- plan: by the result: a word that was found sets one field and no other; a fault is a row of the table
 pub weight_kind_line : (old new : Reading) (line : WordLine) (slot : Option WeightKind) (r : Result (Unit {0}) StepFault)
     → SetsNamed weight_kind_word weight_kinds EdgeWeightTypeKey (first_word line.value) (is_late_in old EdgeWeightTypeKey line) old.draft.weight_kind slot r
     → fields_of new.draft ≡ (let fields = fields_of old.draft in record fields { weight_kind = slot }) → new.incomplete ≡ old.incomplete → new.opened ≡ old.opened
@@ -190,6 +191,7 @@ coord_kind_rows : (earlier : List Item) (line : WordLine) → nat_lt most_line_b
     (is_left_out NodeCoordTypeKey (first_word line.value)) (coord_kind_named (first_word line.value)) (is_late earlier (Line (Known NodeCoordTypeKey) line))
 coord_kind_rows earlier line short = rw (short, cond_same (is_none (coord_kind_named (first_word line.value)))) refl
 
+-- plan: by the result: a word that was found sets one field and no other; a fault is a row of the table
 pub coord_kind_line : (old new : Reading) (line : WordLine) (slot : Option CoordKind) (r : Result (Unit {0}) StepFault)
     → SetsNamed coord_kind_word coord_kinds NodeCoordTypeKey (first_word line.value) (is_late_in old NodeCoordTypeKey line) old.draft.coord_kind slot r
     → fields_of new.draft ≡ (let fields = fields_of old.draft in record fields { coord_kind = slot }) → new.incomplete ≡ old.incomplete → new.opened ≡ old.opened

@@ -84,6 +84,7 @@ few_nodes : (dimension : Option ℕ) → if_there (is_node most_nodes) dimension
 few_nodes None e = omega arith
 few_nodes (Some n) e = leb-true n most_nodes (and_parts (nat_le 1 n) (nat_le n most_nodes) e).1
 
+-- plan: the line adds no word, so the section is begun with none (`no_words`), and all other parts are as before it
 pub opens : (old new : Reading) (field : Field) (shape : Shape) (line : WordLine) (n : ℕ) (section : OpenSection)
     → shape_of (spatial (fields_of old.draft)) field ≡ Some shape
     → MayOpen shape (stands_in (fields_of old.draft) field) line.value old.draft.dimension (Ok n) → section.field ≡ field

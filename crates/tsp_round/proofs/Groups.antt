@@ -94,6 +94,7 @@ nodes_are low high n words few =
 pub one_node : (n i : ℕ) → i + 1 ≤ n → is_node n (i + 1) ≡ true
 one_node n i room = and_from (nat_le 1 (i + 1)) (nat_le (i + 1) n) (le-leb 1 (i + 1) (omega arith)) (le-leb (i + 1) n room)
 
+-- plan: by induction over the numbers: each node is a new one (`new_node`), and each word is read back as its number
 pub numbers_taken : NumberLaws → (low high : ℤ) → AreSmall low high → (n : ℕ) → n < 2 ^ 32
     → (earlier : List (List ℕ)) (i : ℕ) (xs : List ℤ) → begun_pair earlier ≡ []
     → map (λ pair. number (node n pair.0)) (pairs_in earlier) ≡ map pos (range_with_len 1 i) → length earlier ≡ 2 * i

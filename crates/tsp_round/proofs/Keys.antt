@@ -112,6 +112,7 @@ pub record CommentRun (comments : List (List ℕ)) (earlier : List Item) : Type 
 comment_keyword : IsKeyword (field_word CommentKey)
 comment_keyword = record { letter_first = refl; bytes = refl }
 
+-- plan: by induction over the comments: each line has no fault (`comment_row`) and adds its value (`value_written`)
 pub comments_run : (comments : List (List ℕ)) (earlier : List Item) → IsClean earlier
     → length (values_at CommentKey earlier) + length comments ≤ most_comments
     → list_all (is_kept (field_word CommentKey)) comments ≡ true → CommentRun comments earlier

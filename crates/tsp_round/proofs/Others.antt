@@ -46,6 +46,7 @@ pub record OtherRun (others : List (List ℕ × List ℕ)) (earlier : List Item)
   pub words : (g : Field) → words_of g (onto items earlier) ≡ words_of g earlier
   pub comments : values_at CommentKey (onto items earlier) ≡ values_at CommentKey earlier
 
+-- plan: by induction over the lines: each has no fault (`other_row`) and adds its value (`value_written`)
 pub others_run : (others : List (List ℕ × List ℕ)) (earlier : List Item) → IsClean earlier
     → length (others_in earlier) + length others ≤ most_others
     → list_all is_other others ≡ true → OtherRun others earlier

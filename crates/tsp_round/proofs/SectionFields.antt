@@ -172,6 +172,7 @@ section_adds_words f field words items start earlier numbers are opened same non
     by_case false e =
         other_words g items start numbers (ap (is_open g) opened ∙ e) ∙ same g ∙ sym (ap (λ b. cond b (words_written f field) (words_of g earlier)) e)
 
+-- plan: a missing section writes nothing (`missing`); else the line opens it, and `body` takes its words
 step_of : NumberLaws → (f : Fields) (field : Field) (shape : Shape) (entries : Option (Entries shape)) (earlier : List Item)
     → fits f DimensionKey ≡ true → IsSection f field shape entries
     → Ready f field earlier → Step f (text_of_field f) field earlier

@@ -197,6 +197,7 @@ weights_done n words = either (nat_le (n * n) (length words))
     either true = refl
     either false = refl
 
+-- plan: by the shape: each has lemmas that its words are written, taken and read back
 pub body : NumberLaws → (lens : List ℕ) (shape : Shape) → is_writable shape ≡ true → (n : ℕ)
     → (needs_nodes shape ≡ true → n ≤ most_nodes) → (xs : Entries shape) → are_valid shape n xs ≡ true
     → IsBody lens shape n xs

@@ -50,6 +50,7 @@ coordinate_taken laws n words first begun z room whole inside =
     ap (λ p. word_fault n p (spelling z)) (place_here n words room ∙ ap (place_in_group Coordinate (nodes_of_groups (space_point_groups n words))) whole)
     ∙ no_rows (result_err (decimal_of (spelling z))) false false false false (ap (λ (r : Result ℤ NumberFault). result_err r) (coordinate_back laws z inside)) refl refl refl refl
 
+-- plan: by induction over the points: each node is a new one (`new_node`), and the coordinates are taken (`coordinate_taken`)
 pub space_points_taken : NumberLaws → (n : ℕ) → n < 2 ^ 32 → (earlier : List (List ℕ)) (i : ℕ) (xs : List Point)
     → begun_four earlier ≡ []
     → map (λ group. number (node n group.0)) (fours_in earlier) ≡ map pos (range_with_len 1 i) → length earlier ≡ 4 * i

@@ -152,6 +152,7 @@ none_left field left placed section =
     let one = or_parts (is_left DimensionKey left) (is_left NodeCoordTypeKey left) two.0 in
     (one.0, one.1, two.1)
 
+-- plan: what is still to come isn't written yet, and what the field depends on has come (`came`, `points_late`)
 pub ready : (f : Fields) (field : Field) (left : List Field) (earlier : List Item) → is_in_place field (field ∷ left) ≡ true
     → Stage f (field ∷ left) earlier → Ready f field earlier
 ready f field left earlier placed stage = record {

@@ -201,6 +201,7 @@ leaf_runs laws n few steps leaf to_come branches changes still room all =
 not_zero : (count : ℕ) → (suc count == 0) ≡ false
 not_zero count = false_from_ne_true (suc count == 0) (λ e. let none = eqb-true (suc count) 0 e in absurd (omega arith))
 
+-- plan: by induction over the steps: a branch has one tree more to come (`branch_runs`), a leaf one less (`leaf_runs`)
 each_step_runs : NumberLaws → (n : ℕ) → n + most_combs < 2 ^ 32 → (before steps : List Step) (to_come branches changes : ℕ)
     → branches + branch_count steps ≤ most_branches
     → changes + change_count steps ≤ most_changes → list_all (is_step n) steps ≡ true → are_whole to_come steps ≡ true

@@ -48,6 +48,7 @@ triple_place : (n : ℕ) (words begun : List (List ℕ)) → list_any (is_end n)
     → place_of_triple n words ≡ place_in_triple n (length (threes_in words)) begun
 triple_place n words begun unended whole = rw (unended, whole) refl
 
+-- plan: by induction over the triples: two nodes and a number (`first_taken`, `second_taken`, `multiplier_taken`), then -1
 pub triples_taken : NumberLaws → (n : ℕ) → n < 2 ^ 32 → (earlier : List (List ℕ)) (triples : List (ℕ × ℕ × ℤ))
     → list_any (is_end n) (triple_firsts_in earlier) ≡ false → begun_triple earlier ≡ []
     → length (threes_in earlier) + length triples ≤ most_fixed → list_all (is_triple n) triples ≡ true

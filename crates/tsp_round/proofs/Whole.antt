@@ -63,6 +63,7 @@ points_read f items true read = read SpacePoints refl
 points_read f items false read = read Points refl
 
 -- the items of a whole text parse to its file
+-- plan: field by field: the words of keywords are read back (`named_is`), and the entries of sections (`section_is`)
 pub spelled_is : NumberLaws → (f : Fields) (items : List Item) → ((g : Field) → fits f g ≡ true) → Stage f [] items
     → spelled items ≡ f
 spelled_is laws f items valid stage =

@@ -158,6 +158,7 @@ node_faulty missing seen entries left begun n groups place word fault is new h =
 at_or_other : (i k : ℕ) → (i ≡ k) ⊎ (i ≢ k)
 at_or_other i k = search rules
 
+-- plan: by cases of the place: that of the node, which is filled (`entry_new`), or another one (`entry_other`)
 pub entry_fills : {X : Type 0} (missing x : X) (seen : List Bool) (entries : List X) (left n k : ℕ) (groups : List (ℤ × X))
     → 0 < left
     → NodesHold missing seen entries left (Some k) n groups

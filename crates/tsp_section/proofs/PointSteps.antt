@@ -170,6 +170,7 @@ point_middle seen entries left begun x n words word k z some is also read h =
     )
 
 -- the second coordinate
+-- plan: the word ends its group (`triples_end`), and `entry_fills` for the place of the node
 pub point_more : (seen : List Bool) (entries : List Point) (left : ℕ) (begun : Option ℕ) (x : Option ℤ) (n : ℕ) (words : List (List ℕ)) (word : List ℕ) (k : ℕ) (y z : ℤ)
     → 0 < left → begun ≡ Some k → x ≡ Some y → decimal_of word ≡ Ok z → PointsHold seen entries left begun x n words
     → (word_fault n (place_of_point n words) word ≡ None)

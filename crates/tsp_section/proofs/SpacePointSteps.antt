@@ -204,6 +204,7 @@ space_second seen entries left begun x y n words word k v z some is also none re
     )
 
 -- the third coordinate
+-- plan: the word ends its group (`fours_end`), and `entry_fills` for the place of the node
 pub space_third : (seen : List Bool) (entries : List Point) (left : ℕ) (begun : Option ℕ) (x y : Option ℤ) (n : ℕ) (words : List (List ℕ)) (word : List ℕ) (k : ℕ) (v w z : ℤ)
     → 0 < left → begun ≡ Some k → x ≡ Some v → y ≡ Some w → decimal_of word ≡ Ok z
     → SpacePointsHold seen entries left begun x y n words

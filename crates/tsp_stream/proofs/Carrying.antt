@@ -46,6 +46,7 @@ carried_waits a b bytes held failed piece start text h = record {
 }
 
 -- The piece, and the bytes added to it, are sent to the writer.
+-- plan: by whether the writer had failed and has (`by_failed`): all was written, or a prefix, or nothing more
 pub carried_sent : (a b : Way) (bytes added : List ℕ) → (b.failed ≡ true → HasStopped (between a b) bytes)
     → (b.failed ≡ false → HasWritten (between a b) bytes)
     → a.piece ++ added ≡ bytes → b.piece ≡ [] → Carried a b added

@@ -297,6 +297,7 @@ coords_once items true is clean stands ended =
     all_there 4 four_firsts begun_four four_shape n words nodes (space_point_nodes n (fours_in (take (4 * n) words))) full
     (grown_in true NodeCoordPart SpacePointsHold space_points_grow items clean (λ coords there. is))
 
+-- plan: by the field: points, points to display, and sections with a number for each node
 pub each_once : (items : List Item) (field : Field) → IsClean items → is_by_node_field field ≡ true → has_line field items ≡ true
     → is_incomplete items field ≡ false
     → HasEachNodeOnce (dimension_in items) (group_nodes (spatial_after items) field (dimension_in items) (words_of field items))

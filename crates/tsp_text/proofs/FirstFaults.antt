@@ -30,6 +30,7 @@ first_found items found h =
     ap fault_in h.parts
     ∙ fault_stays h.later (h.item ∷ h.earlier) found (found_here h.earlier h.item h.fault h.clean h.row ∙ ap (λ x. Some x) (sym h.here))
 
+-- plan: by whether an earlier item has a fault, which is the first then; else the row of this item decides
 first_step : (item : Item) (earlier : List Item) (found : ReadFault) (before : Option ReadFault) (row : Option LineFault)
     → fault_in earlier ≡ before → row_of earlier item ≡ row
     → ((other : ReadFault) → fault_in earlier ≡ Some other → IsFirstFault earlier other)

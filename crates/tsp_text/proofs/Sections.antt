@@ -19,6 +19,7 @@ use Rattle.tsp_text.specs.Opening.{opening_rows}
 use Rattle.tsp_text.specs.Spells.{fields_by}
 
 -- what holds of each section holds of every field that is one
+-- plan: by the field: each section is a premise, and a keyword is none
 pub by_section : (P : Field → Type 0) → P NodeCoordPart → P DisplayDataPart → P DemandPart → P DepotPart → P FixedEdgesPart
     → P EdgeWeightPart → P TourPart → P NodePotentialPart → P RowPotentialPart → P ColumnPotentialPart → P FixedEdgePotentialPart
     → P CombPart → P BranchPart

@@ -94,6 +94,7 @@ pub record AreTourWords (words : List (List ℕ)) : Type 0 where
   pub nodes : list_all (λ word. ends_tour word || is_tour_node word) words ≡ true
   pub few : nat_le (length (filter (λ word. not (ends_tour word)) words)) most_tour_nodes ≡ true
 
+-- plan: by whether the word ends a tour; else it is a node, and one more of them is within the limit (`read_listed`)
 taken : (words : List (List ℕ)) (word : List ℕ) (end : Bool) → ends_tour word ≡ end
     → word_fault 0 (TourNode (length (filter (λ word. not (ends_tour word)) words))) word ≡ None
     → AreTourWords words → AreTourWords (words ++ word ∷ [])

@@ -107,6 +107,7 @@ read_first n word = by_result (node_or_leaf n word) (λ z read. whole_in_range w
 
 -- ---- one word more, where the tree isn't whole
 
+-- plan: by whether the word begins a leaf; else it is the first node of a branch (`read_first`), within the limit
 first_holds : (n : ℕ) (s : TreeSoFar) (word : List ℕ) (leaf : Bool) → begins_leaf n word ≡ leaf
     → word_fault n (StepAfter s.branches) word ≡ None
     → StepsHold n s.steps None false s.leaf s.to_come s.branches s.changes → s.first ≡ None → s.in_leaf ≡ false
@@ -164,6 +165,7 @@ second_holds n s word first left some row h out =
     } in
     rw out held
 
+-- plan: by whether the word ends the leaf, which is a step more then (`all_push`); else it is an index (`read_listed`)
 index_holds : (n : ℕ) (s : TreeSoFar) (word : List ℕ) (left : ℕ) (end : Bool) → s.to_come ≡ suc left → ends_leaf n word ≡ end
     → word_fault n (IndexAfter s.changes) word ≡ None
     → StepsHold n s.steps None true s.leaf s.to_come s.branches s.changes → s.first ≡ None → s.in_leaf ≡ true

@@ -36,6 +36,7 @@ pub record IsTaken (weight : ℤ) (next node : ℕ) (near : List ℕ) (least : L
 
 -- ---- a node inside is passed by
 
+-- plan: a node inside is passed over, so those outside up to here are those before it (`earlier`, `found`)
 pub brought_inside : (n : ℕ) (w : ℕ → ℕ → ℤ) (inside : List Bool) (next node : ℕ) (old_near : List ℕ) (old_least : List ℤ) (near : List ℕ) (least : List ℤ) (best : ℤ) (nearest : Option ℕ)
     → IsBrought n w inside next node old_near old_least near least best nearest → is_inside inside node ≡ true
     → IsBrought n w inside next (node + 1) old_near old_least near least best nearest

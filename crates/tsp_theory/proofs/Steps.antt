@@ -102,6 +102,7 @@ before : (n : ℕ) (inside : List Bool) (v x : ℕ) → v < length inside → is
     → is_inside inside x ≡ false
 before n inside v x in_list free = (or_parts (x == v) (is_inside inside x) (sym (marked_more inside v x in_list) ∙ free)).1
 
+-- plan: the pair is a least one that leaves the part (`grows_more`); `below` by cases: the new node, or one that was inside
 pub state_more_by : (n : ℕ) (w : ℕ → ℕ → ℤ) (inside : List Bool) (near after : List ℕ) (least least_after : List ℤ) (added : List (ℕ × ℕ)) (u v : ℕ)
     → IsState n w inside near least added → IsInner n v → is_inside inside v ≡ false
     → IsLeastLeaving (IsInner n) w (grown_by (λ x. x == 2) added) (u, v)
@@ -210,6 +211,7 @@ one_start size start x some = elim (cases_eq x start) [
   | inr other ↦ get_or-set_other (replicate size false) start x true false other ∙ none_inside size x ∙ sym (ne_eqb x start other)
 ]
 
+-- plan: node 2 alone is inside (`insiders`), so it is the nearest of all others
 pub state_start : (n : ℕ) (w : ℕ → ℕ → ℤ) (inside : List Bool) (near after : List ℕ) (least least_after : List ℤ) (most : ℤ)
     → 3 ≤ n
     → inside ≡ set (replicate (n + 1) false) 2 true → length after ≡ n + 1 → length least_after ≡ n + 1

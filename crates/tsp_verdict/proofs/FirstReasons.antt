@@ -83,6 +83,7 @@ of_rank (first ∷ more) (suc (suc rank)) carried = of_rank more (suc rank) carr
 abbrev pub reason_of : ℕ → Carried → Reason
 reason_of rank carried = of_rank reasons rank carried
 
+-- plan: by the reason, each by computing
 is_of_rank : (reason : Reason) → reason ≡ reason_of (rank_of reason) (carried_of reason)
 is_of_rank NotASolution = refl
 is_of_rank TooFewNodes = refl

@@ -44,6 +44,7 @@ last_or_before k count h = by_cases (cases_lt k count)
     by_cases (inr le) = inl (omega arith)
 
 -- one link more, from a node that is nowhere before
+-- plan: by cases of the place: the link just set, or one before it, whose first node is another
 pub set_more : (firsts seconds next : List ℕ) (count : ℕ) → count < length firsts → get_or firsts count 0 < length next
     → AllPairs (λ a b. a ≢ b) firsts
     → SetUpTo firsts seconds next count

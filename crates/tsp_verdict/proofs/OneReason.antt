@@ -51,6 +51,7 @@ asymmetric_by_rank : (n : ℕ) (cost : ℕ → ℕ → ℤ) (i j : ℕ) (carried
 asymmetric_by_rank n cost i j carried one other =
     let same = one_asymmetric n cost i j carried.0 carried.1 one other in ap₂ (λ a b. NotSymmetric a b) same.0 same.1
 
+-- plan: by the reason: one without numbers is equal to itself, and of one with numbers the files have one first place or pair
 pub tours_by_rank : (inst sol : Fields) → IsOneByRank (StandsAgainstTour inst sol)
 tours_by_rank inst sol NotASolution carried one other = refl
 tours_by_rank inst sol TooFewNodes carried one other = refl
@@ -82,6 +83,7 @@ tours_by_rank inst sol (BadLeaf i) carried one other = absurd one
 
 -- ---- against an instance, whatever the solution
 
+-- plan: by the reason: one without numbers is equal to itself, and of one with numbers the files have one first place or pair
 pub instances_by_rank : (inst : Fields) → IsOneByRank (StandsAgainstInstance inst)
 instances_by_rank inst NotASolution carried one other = absurd one
 instances_by_rank inst TooFewNodes carried one other = refl
@@ -111,6 +113,7 @@ instances_by_rank inst (BadComb i) carried one other = absurd one
 instances_by_rank inst (BranchTwice i) carried one other = absurd one
 instances_by_rank inst (BadLeaf i) carried one other = absurd one
 
+-- plan: by the reason: one without numbers is equal to itself, and of one with numbers the files have one first place or pair
 pub routings_by_rank : (inst : Fields) → IsOneByRank (StandsAgainstRouting inst)
 routings_by_rank inst NotASolution carried one other = absurd one
 routings_by_rank inst TooFewNodes carried one other = refl
@@ -149,6 +152,7 @@ one_unserved n depot nodes a b one other = elim (cases_order a b) [
   | inr (inr more) ↦ absurd (other.unserved (one.first b other.customer more))
 ]
 
+-- plan: by the reason: one without numbers is equal to itself, and of one with numbers the files have one first place or pair
 pub routes_by_rank : (inst sol : Fields) → IsOneByRank (StandsAgainstRoutes inst sol)
 routes_by_rank inst sol NotASolution carried one other = refl
 routes_by_rank inst sol TooFewNodes carried one other = refl
@@ -201,6 +205,7 @@ broken_by_rank : (inst pot : Fields) (i j : ℕ) (carried : Carried) → BreaksD
 broken_by_rank inst pot i j carried one other =
     let same = one_breaking inst pot i j carried.0 carried.1 one other in ap₂ (λ a b. DualInfeasible a b) same.0 same.1
 
+-- plan: by the reason: one without numbers is equal to itself, and of one with numbers the files have one first place or pair
 pub potentials_by_rank : (inst pot : Fields) → IsOneByRank (StandsAgainstPotentials inst pot)
 potentials_by_rank inst pot NotASolution carried one other = absurd one
 potentials_by_rank inst pot TooFewNodes carried one other = absurd one
@@ -271,6 +276,7 @@ bad_leaf_by_rank unique inst tree a b one other =
     let moved = subst (λ crossed. IsFirstBadLeaf (nodes_of inst) crossed one.0 b) crossed of_steps in
     one_bad_leaf (nodes_of inst) one.2 one.0 a b one.4 moved
 
+-- plan: by the reason: one without numbers is equal to itself, and of one with numbers the files have one first place or pair
 pub trees_by_rank : NumbersAreUnique → (inst tree : Fields) → IsOneByRank (StandsAgainstTree inst tree)
 trees_by_rank unique inst tree NotASolution carried one other = absurd one
 trees_by_rank unique inst tree TooFewNodes carried one other = absurd one
@@ -317,6 +323,7 @@ either_by_rank One Other apart again one other reason carried (inl a) (inr b) = 
 either_by_rank One Other apart again one other reason carried (inr a) (inl b) = absurd (again reason carried a b)
 either_by_rank One Other apart again one other reason carried (inr a) (inr b) = other reason carried a b
 
+-- plan: by the certificate and the reason: none is one of tours and of certificates
 tour_apart : (by : Certificate) (inst sol cert : Fields) → AreApart (StandsAgainstTour inst sol) (StandsAgainstCertificate by inst cert)
 tour_apart Potentials inst sol cert NotASolution carried one other = absurd other
 tour_apart Potentials inst sol cert TooFewNodes carried one other = absurd other
@@ -373,6 +380,7 @@ tour_apart Branches inst sol cert (BadComb i) carried one other = absurd one
 tour_apart Branches inst sol cert (BranchTwice i) carried one other = absurd one
 tour_apart Branches inst sol cert (BadLeaf i) carried one other = absurd one
 
+-- plan: by the certificate and the reason: none is one of certificates and of tours
 certificate_apart : (by : Certificate) (inst sol cert : Fields) → AreApart (StandsAgainstCertificate by inst cert) (StandsAgainstTour inst sol)
 certificate_apart Potentials inst sol cert NotASolution carried one other = absurd one
 certificate_apart Potentials inst sol cert TooFewNodes carried one other = absurd one
@@ -430,6 +438,7 @@ certificate_apart Branches inst sol cert (BranchTwice i) carried one other = abs
 certificate_apart Branches inst sol cert (BadLeaf i) carried one other = absurd other
 
 -- reasons against an instance are reasons against its tours
+-- plan: by the reason: each that is judged of the instance is judged of its tours too
 against_tours : (inst sol : Fields) (reason : Reason) → StandsAgainstInstance inst reason → StandsAgainstTour inst sol reason
 against_tours inst sol NotASolution one = absurd one
 against_tours inst sol TooFewNodes one = one

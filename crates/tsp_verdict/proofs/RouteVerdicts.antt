@@ -125,6 +125,7 @@ overload_first inst sol routes demands capacity place are demands_are capacity_i
 }
 
 -- accepted
+-- plan: each test found nothing, so no reason applies; `after_loads` for the loads, `none_fewer` for the least number
 pub is_planned : (inst sol : Fields) (seen : List Bool) (size : ℕ) (routes : List (List ℕ)) (demands : List ℤ) (capacity : ℤ) (depot : ℕ) (measured : ℤ) (count least : ℕ)
     → routes ≡ tours_of sol → demands ≡ demands_of inst → length demands ≡ nodes_of inst → capacity ≡ capacity_of inst
     → depot ≡ depot_of inst

@@ -23,6 +23,7 @@ nearest-requires-clause-near g c =
     end_in n w label (label node) node c.end_of-near.result c.index-then-is_better.result.now node_in
     (subst (λ (o : Option Link). IfSome o (IsLeaving n w label (label node))) (sym read) (h.best.each (label node) label_in)) c.end_of-near.ensures
 
+-- plan: by the branches of the code: a node searched again offers its link (`reached_again`); others are passed (`reached_more`)
 pub nodes-preserved : goal.nodes-preserved
 nodes-preserved g c =
     let n = g.P.Components.count_of c.args.nodes.now in

@@ -16,6 +16,7 @@ least_bound-bound-requires-clause-size g c =
     c.in_ok-found.ensures.size c.total-potentials.ensures.size c.total_of-multipliers.ensures.size c.total-potentials.ensures.value c.total_of-multipliers.ensures.value in
     rw sum.0 sum.1
 
+-- plan: the tree found is least under the lessened weights; `bound_of_weight` rounds its sum, which fits 128 bits
 pub returns : goal.returns
 returns g c =
     let n = g.C.Costs.nodes c.args.c.now in

@@ -44,6 +44,7 @@ none_small n combs k default lt =
     rw (get_or-replicate (n + combs) k (pos 0) default (omega (arith, lt, length-replicate (n + combs) (pos 0))))
     (omega (arith, ints), omega (arith, ints))
 
+-- plan: the first case is open with no decision and no number (`at_start`), and a step of the whole tree is next (`whole_trees`)
 pub steps-init : goal.steps-init
 steps-init g c =
     let s = c.args.setting.now in
@@ -122,6 +123,7 @@ returns-in_default-clause-judged g c = λ are.
     bad_here found s.cases.now.directed n s.families.now.crossed.items given told st.room.numbers.items st.case.stack.items st.lowest st.leaf
     c.in-Leaf.changes.items _ _ c.in_ok-judged-in-Leaf.judged at judged c.in_default.is
 
+-- plan: `at_next` reads the step; a branch puts its pair on the stack (`at_branch`), a leaf takes its bound in (`after_found`)
 pub steps-preserved : goal.steps-preserved
 steps-preserved g c =
     let s = c.args.setting.now in

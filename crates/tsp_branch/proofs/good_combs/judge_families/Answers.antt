@@ -42,6 +42,7 @@ returns-in_default g c =
     first_found n c.families.number lists (omega (arith, c.families-test.true, long)) (good_so_far n c.families.number lists c.families.crossed.items h.many h.have)
     (λ good. none (subst (IsGoodFamily n) (sym same) good))
 
+-- plan: the good family is appended (`numbers_more`, `All-push`), and both tables of marks are what the call left (`written`)
 pub families-preserved : goal.families-preserved
 families-preserved g c =
     let h = c.families.invariant in

@@ -11,6 +11,7 @@ use Rattle.tsp_theory.specs.states.Nearest.{least_at}
 use Rattle.tsp_branch.specs.GoodNumbers.{most_crossed}
 use Rattle.tsp_branch.proofs.kept.write_differences.Goals as goal
 
+-- plan: by cases of the place: the one just written, whose difference fits 64 bits, or one before, which `set` leaves
 pub numbers-preserved : goal.numbers-preserved
 numbers-preserved c =
     let k : ℕ = c.numbers.index in

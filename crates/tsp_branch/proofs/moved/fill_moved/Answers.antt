@@ -10,6 +10,7 @@ use Rattle.tsp_theory.specs.Numbers.{entry}
 use Rattle.tsp_theory.specs.states.Nearest.{least_at}
 use Rattle.tsp_branch.proofs.moved.fill_moved.Goals as goal
 
+-- plan: by cases of the node: the one just written (`get_or-set_same`), or one before (`get_or-set_other`)
 pub nodes-preserved : goal.nodes-preserved
 nodes-preserved c =
     let index : ℕ = c.nodes.index in

@@ -9,6 +9,7 @@ use Rattle.std.proofs.Math.ListN.{set}
 use Rattle.tsp_theory.specs.states.Nearest.{least_at}
 use Rattle.tsp_branch.proofs.scaled.shift_row.Goals as goal
 
+-- plan: by cases of the place: the one just written (`get_or-set_same`), or another (`get_or-set_other`)
 pub places-preserved : goal.places-preserved
 places-preserved c =
     let place : ℕ = c.places.place in

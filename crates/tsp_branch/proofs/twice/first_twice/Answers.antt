@@ -34,6 +34,7 @@ returns-then-not-leave_case c =
     st.invariant.so_far in
     once_at_last c.args.directed given told (stack_of st.stack.items) st.count c.in-Leaf.field-0.items (steps_of (drop (st.step-index + 1) all)) at c.if-not-leave_case.ensures.next.0
 
+-- plan: by the step: a branch adds a pair that isn't decided (`once_pushed`); a leaf goes on with the next case (`once_at_leaf`)
 pub steps-preserved : goal.steps-preserved
 steps-preserved c =
     let given : List Decision = c.args.given.now in

@@ -9,6 +9,7 @@ use Rattle.tsp_tree.proofs.Outside.{passed_more, nearer_small, found_lower, foun
 use Rattle.tsp_tree.proofs.growth.bring.Goals as goal
 use Rattle.tsp_tree.proofs.growth.bring.Goals.{then-own-best, else-own-best}
 
+-- plan: by the branches of the code: the place's node has a nearer one or not (`passed_more`), and is the least so far or not
 pub places-preserved : goal.places-preserved
 places-preserved c =
     let place : ℕ = c.places.place in

@@ -14,6 +14,7 @@ use Rattle.tsp_tree.proofs.Outside.{removed_length}
 use Rattle.tsp_tree.proofs.GrowthStates.{IsState, state_start, state_more, inner_left}
 use Rattle.tsp_tree.proofs.growth.grow.Goals as goal
 
+-- plan: the lists are what the code fills in, and `state_start` is the state with node 2
 pub grow-init : goal.grow-init
 grow-init g c =
     let n = g.W.Weights.nodes c.args.w.now in
@@ -60,6 +61,7 @@ reach-nearest-requires-in-Some-clause-inner g c =
     subst (λ (xs : List ℕ). AreInner n xs) (sym c.deref-in-Some.ensures.value)
     (inner_left n outside c.swap_remove-next.new.self.items c.in-Some.place c.swap_remove-next.result (omega (arith, is_least.inside, s.same)) c.swap_remove-next.ensures.items s.inner)
 
+-- plan: the place found is that of a nearest node; `state_more` for the state after it, `sum_more` for the sum
 pub grow-preserved : goal.grow-preserved
 grow-preserved g c =
     let n = g.W.Weights.nodes c.args.w.now in

@@ -27,6 +27,7 @@ nodes-init c =
           (two_first n w two.result.node three.result.node two.result.weight three.result.weight some two.ensures.node three.ensures.node two.ensures.weight three.ensures.weight least)
     ]
 
+-- plan: by the branches of the code: it is the first, the second or neither (`nearer_first`, `nearer_second`, `nearer_none`)
 pub nodes-preserved : goal.nodes-preserved
 nodes-preserved c =
     let n : ℕ = length c.args.weights.now - 1 in

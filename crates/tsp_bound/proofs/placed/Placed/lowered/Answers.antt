@@ -21,6 +21,7 @@ overflow_sub-weight g c =
     let entry : ℕ × ℤ = slice_index_or c.at-lowering-items.result.now index (0, pos 0) in
     lower_fits c.weight.result entry.1 c.weight.ensures.size (c.at-lowering-items.ensures.are.each index (0, pos 0) c.lowerings-test.true).1
 
+-- plan: by the branches of the code: the lower weight is taken (`lowest_taken`), or the best is kept (`lowest_kept`)
 pub lowerings-preserved : goal.lowerings-preserved
 lowerings-preserved g c =
     let s = c.args.self.now in

@@ -53,6 +53,7 @@ leaf_bound-requires-clause-even g c =
     (c.of-combed.ensures.weights i j) in
     λ i j. agree i j ∙ leaf_even p.cases.now.scale ps (on_taken decided_number case) (on_avoided decided_number case) combs cost (p.even c.requires.undirected) i j ∙ sym (agree j i)
 
+-- plan: the weights are those of the case (`case_weight`), and `back_of` sums what its bound gives back
 pub returns-clause-bound : goal.returns-clause-bound
 returns-clause-bound g c =
     let leaf = c.args.self.now in

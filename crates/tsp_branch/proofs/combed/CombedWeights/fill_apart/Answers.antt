@@ -13,6 +13,7 @@ use Rattle.tsp_branch.specs.states.Combed.{multipliers_at}
 use Rattle.tsp_branch.proofs.SetAlgebra.{apart_is}
 use Rattle.tsp_branch.proofs.combed.CombedWeights.fill_apart.Goals as goal
 
+-- plan: `apart_is`: the sum in 64 bits is the weight apart; `between_size` for its size
 pub returns : goal.returns
 returns g c = record {
   values = λ x x_in.

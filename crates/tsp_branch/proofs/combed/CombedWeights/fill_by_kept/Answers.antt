@@ -15,6 +15,7 @@ use Rattle.tsp_branch.specs.states.Kept.{kept_weight, IsKeptRow}
 use Rattle.tsp_branch.proofs.KeptRows.{kept_at}
 use Rattle.tsp_branch.proofs.combed.CombedWeights.fill_by_kept.Goals as goal
 
+-- plan: the kept row is copied and shifted; `kept_at` gives each entry, `between_size` its size
 pub returns : goal.returns
 returns g c =
     let p = c.args.self.now in

@@ -16,6 +16,7 @@ use Rattle.tsp_branch.proofs.combed.CombedWeights.weight_apart.Goals as goal
 pub overflow_mul-self : goal.overflow_mul-self
 overflow_mul-self g c = product_fits c.args.self.now.scale c.cost.result c.args.self.now.scaled c.cost.ensures.low c.cost.ensures.high
 
+-- plan: `product_is` for the product, `apart_is` for the sum in 64 bits, `between_size` for its size
 pub returns : goal.returns
 returns g c =
     let p = c.args.self.now in

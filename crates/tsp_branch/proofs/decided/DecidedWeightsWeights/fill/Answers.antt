@@ -26,6 +26,7 @@ change_row-requires g c =
     both_inside n _ (bears_on p.case.now.by_node.directed c.args.from) (decisions_in p.case.now) c.at.result.now (c.fill_combed.auto.row ∙ c.requires.room)
     (c.at.ensures n p.is_case c.requires.from.1) p.is_case.pairs
 
+-- plan: the row changed by the node's decisions is the decided one (`changes_are`); by the sizes 64 bits are enough (`moved_to`)
 pub returns : goal.returns
 returns g c =
     let p = c.args.self.now in

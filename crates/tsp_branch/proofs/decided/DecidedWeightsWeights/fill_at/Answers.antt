@@ -25,6 +25,7 @@ change_row-requires g c =
     both_inside n _ (bears_on p.case.now.by_node.directed c.args.from) (decisions_in p.case.now) c.at.result.now (c.fill_combed_at.auto.row ∙ c.requires.room)
     (c.at.ensures n p.is_case c.requires.from.1) p.is_case.pairs
 
+-- plan: the entries changed by the node's decisions are the decided ones (`changes_are`); 64 bits are enough (`moved_to`)
 pub returns : goal.returns
 returns g c =
     let p = c.args.self.now in
