@@ -4,7 +4,7 @@ use Rattle.std.specs.Bool.{OnTrue}
 use Rattle.std.specs.Int.Signed.{lt_z}
 use Rattle.std.proofs.lemmas.Int.{ints, to_z-of_z}
 use Rattle.tsp_format.specs.Limits.{most_potential}
-use Rattle.tsp_theory.specs.Numbers.{IsFromTo, IsScale}
+use Rattle.tsp_theory.specs.CertificateNumbers.{IsFromTo, IsScale}
 use Rattle.tsp_theory.proofs.Division.{scaled_up}
 use Rattle.tsp_theory.proofs.Sizes.{same_scale}
 

@@ -4,7 +4,7 @@ use Rattle.std.proofs.Common.{ℤ, pos, negsuc, ◌+ℤ◌, ◌*ℤ◌, ◌≤�
 use Rattle.std.specs.Prelude.{nat_abs}
 use Rattle.std.proofs.lemmas.Int.{ints, to_z-of_z}
 use Rattle.std.proofs.lemmas.Nat.{div-add-mod', mod_below, mul-le, div_below}
-use Rattle.tsp_theory.specs.Numbers.{IsScale}
+use Rattle.tsp_theory.specs.CertificateNumbers.{IsScale}
 use Rattle.tsp_bound.specs.states.Potentials.{IsInverse}
 
 -- a quotient by the inverse, rounded up, is no less than the true one

@@ -6,14 +6,14 @@ use Rattle.std.proofs.lemmas.Bool.{cases_eq, false≢true, eq-eqb, ne_eqb}
 use Rattle.std.proofs.lemmas.Int.{ints}
 use Rattle.std.proofs.lemmas.List.{get_or-set_same, get_or-set_other}
 use Rattle.tsp_bound.specs.declared.link.Link.{Link}
-use Rattle.tsp_bound.specs.states.Components.{IsNearest, is_apart, IsKept, AreKept, IsLeaving, IsLeastOf, link_of, AreLeaving, AreLeast, IsOffered}
+use Rattle.tsp_bound.specs.states.Components.{IsNearest, is_in_other_component, IsKeptLink, AreKept, IsLeaving, IsLeastOf, link_of, AreLeaving, AreLeast, IsOffered}
 
 -- ---- the link of one node
 
 out_of : (a b : ℕ) → not (a == b) ≡ true → a ≢ b
 out_of a b h e = false≢true (ap not (sym (eq-eqb a b e)) ∙ h)
 
-pub kept_found : (n : ℕ) (w : ℕ → ℕ → ℤ) (label : ℕ → ℕ) (x : ℕ) (link : Link) → IsNearest n w (is_apart label (label x)) x link → IsKept n w label x link
+pub kept_found : (n : ℕ) (w : ℕ → ℕ → ℤ) (label : ℕ → ℕ) (x : ℕ) (link : Link) → IsNearest n w (is_in_other_component label (label x)) x link → IsKeptLink n w label x link
 kept_found n w label x link h = record {
   from_is = h.from_is;
   to_in = h.to_in;
@@ -21,7 +21,7 @@ kept_found n w label x link h = record {
   least = λ y y_in out. h.least y y_in (ap not (ne_eqb (label y) (label x) out));
 }
 
-pub leaving_found : (n : ℕ) (w : ℕ → ℕ → ℤ) (label : ℕ → ℕ) (x : ℕ) (link : Link) → x < n → IsNearest n w (is_apart label (label x)) x link
+pub leaving_found : (n : ℕ) (w : ℕ → ℕ → ℤ) (label : ℕ → ℕ) (x : ℕ) (link : Link) → x < n → IsNearest n w (is_in_other_component label (label x)) x link
     → IsLeaving n w label (label x) link
 leaving_found n w label x link x_in h = record {
   from_in = subst (λ (k : ℕ). k < n) (sym h.from_is) x_in;
@@ -31,7 +31,7 @@ leaving_found n w label x link x_in h = record {
   weight_is = subst (λ (k : ℕ). link.weight ≡ w k link.to) (sym h.from_is) h.weight_is;
 }
 
-pub leaving_kept : (n : ℕ) (w : ℕ → ℕ → ℤ) (label : ℕ → ℕ) (x : ℕ) (link : Link) → x < n → IsKept n w label x link → label link.to ≢ label x
+pub leaving_kept : (n : ℕ) (w : ℕ → ℕ → ℤ) (label : ℕ → ℕ) (x : ℕ) (link : Link) → x < n → IsKeptLink n w label x link → label link.to ≢ label x
     → IsLeaving n w label (label x) link
 leaving_kept n w label x link x_in h out = record {
   from_in = subst (λ (k : ℕ). k < n) (sym h.from_is) x_in;
@@ -61,14 +61,14 @@ pub kept_seen : (m n : ℕ) (v w : ℕ → ℕ → ℤ) (label new other : ℕ �
 kept_seen m n v w label new other known p q same h = subst (λ (k : ℕ). AreKept k w other known) p
     (subst (λ (u : ℕ → ℕ → ℤ). AreKept m u other known) q (kept_relabelled m v label new other known same h))
 
-pub kept_set : (n : ℕ) (w : ℕ → ℕ → ℤ) (label : ℕ → ℕ) (known : List Link) (x : ℕ) (link : Link) → x < n → AreKept n w label known → IsKept n w label x link
+pub kept_set : (n : ℕ) (w : ℕ → ℕ → ℤ) (label : ℕ → ℕ) (known : List Link) (x : ℕ) (link : Link) → x < n → AreKept n w label known → IsKeptLink n w label x link
     → AreKept n w label (set known x link)
 kept_set n w label known x link x_in h own = record {
   len = length-set known x link ∙ h.len;
   each = λ y d y_in. elim (cases_eq y x) [
-    | inl same ↦ subst (λ (k : ℕ). IsKept n w label k (get_or (set known x link) k d)) (sym same)
-        (subst (IsKept n w label x) (sym (get_or-set_same known x link d (subst (λ (k : ℕ). x < k) (sym h.len) x_in))) own)
-    | inr other ↦ subst (IsKept n w label y) (sym (get_or-set_other known x y link d other)) (h.each y d y_in)
+    | inl same ↦ subst (λ (k : ℕ). IsKeptLink n w label k (get_or (set known x link) k d)) (sym same)
+        (subst (IsKeptLink n w label x) (sym (get_or-set_same known x link d (subst (λ (k : ℕ). x < k) (sym h.len) x_in))) own)
+    | inr other ↦ subst (IsKeptLink n w label y) (sym (get_or-set_other known x y link d other)) (h.each y d y_in)
   ];
 }
 

@@ -8,10 +8,10 @@ use Rattle.std.proofs.lemmas.Int.{ints}
 use Rattle.std.proofs.lemmas.List.Elements.{recursion_from_All}
 use Rattle.tsp_format.specs.Limits.{most_multiplier}
 use Rattle.tsp_theory.specs.NodeBound.{most_between}
-use Rattle.tsp_theory.specs.Numbers.{IsFromTo}
+use Rattle.tsp_theory.specs.CertificateNumbers.{IsFromTo}
 use Rattle.tsp_theory.proofs.Nearest.{most_64}
-use Rattle.tsp_tree.specs.states.Moved.{IsMoved}
-use Rattle.tsp_tree.proofs.Moved.{moved_to}
+use Rattle.tsp_tree.specs.states.Additions.{IsMoved}
+use Rattle.tsp_tree.proofs.Additions.{moved_to}
 use Rattle.tsp_bound.specs.states.ByNode.{lowered_by, AreLowerings}
 
 -- ---- what a node's weight is lowered by

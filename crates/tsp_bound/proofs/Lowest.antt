@@ -10,7 +10,7 @@ use Rattle.tsp_format.specs.Limits.{most_multiplier}
 use Rattle.tsp_bound.specs.declared.nearest.Best.{Best}
 use Rattle.tsp_bound.specs.states.Boxes.{node_of, IsFound, IsBest, IsSearched, no_best}
 use Rattle.tsp_bound.specs.states.ByNode.{lowered_by, AreLowerings}
-use Rattle.tsp_theory.specs.Numbers.{IsFromTo}
+use Rattle.tsp_theory.specs.CertificateNumbers.{IsFromTo}
 use Rattle.tsp_theory.specs.Tree.{IsInner}
 use Rattle.tsp_bound.proofs.Lowered.{AreLess, none_lowered, one_lowered, lowered_positive}
 use Rattle.tsp_bound.proofs.Trees.{searched_all}

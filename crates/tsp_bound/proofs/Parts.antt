@@ -4,14 +4,14 @@ use Rattle.std.specs.Prelude.{pos, neg_ℤ, ◌-ℤ◌, slice_index_or}
 use Rattle.std.proofs.lemmas.Int.{ints}
 use Rattle.std.proofs.lemmas.List.{take_more, map-append, length-map}
 use Rattle.tsp_format.specs.Limits.{most_nodes}
-use Rattle.tsp_format.specs.Cells.{IsNode}
+use Rattle.tsp_format.specs.Nodes.{IsNode}
 use Rattle.tsp_bound.specs.declared.potentials.Potentials.{Potentials}
 use Rattle.tsp_bound.specs.declared.by_node.ByNode.{ByNode}
 use Rattle.tsp_theory.specs.Adjusted.{numbers_on, adjusted}
 use Rattle.tsp_bound.specs.states.Multipliers.{triples_in, weight_less}
 use Rattle.tsp_bound.specs.states.Boxes.{node_of}
 use Rattle.tsp_bound.specs.states.Numbering.{IsNumbering, on_both}
-use Rattle.tsp_theory.specs.Numbers.{IsFromTo, IsSumSized}
+use Rattle.tsp_theory.specs.CertificateNumbers.{IsFromTo, IsSumSized}
 use Rattle.tsp_theory.specs.Tree.{IsInner, weight_of}
 use Rattle.tsp_theory.specs.Forest.{IsWholeForest}
 use Rattle.tsp_bound.specs.states.Components.{IsSpanning, IsWeighedForest}

@@ -2,7 +2,7 @@
 use Rattle.std.proofs.Common.{◌≢◌, ℕ, ◌+◌, ◌<◌, ◌≤◌, below_more, arith}
 use Rattle.std.specs.Prelude.{ℤ, ◌≤ℤ◌, ◌<ℤ◌}
 use Rattle.std.proofs.lemmas.Int.{ints}
-use Rattle.tsp_format.specs.Cells.{IsNode}
+use Rattle.tsp_format.specs.Nodes.{IsNode}
 
 pub columns_passed : (P : ℕ → Type 0) (i j : ℕ) → ((b : ℕ) → 1 ≤ b → b < j → i ≢ b → P b) → (i ≢ j → P j)
     → (b : ℕ) → 1 ≤ b → b < j + 1 → i ≢ b → P b

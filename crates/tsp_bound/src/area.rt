@@ -2,7 +2,7 @@
 
 ghost use Rattle.std.specs.Prelude.{pos, neg_ℤ};
 ghost use Rattle.tsp_format.specs.Limits.{most_potential};
-ghost use Rattle.tsp_theory.specs.Numbers.{IsFromTo};
+ghost use Rattle.tsp_theory.specs.CertificateNumbers.{IsFromTo};
 
 use tsp_theory::Region;
 

@@ -2,7 +2,7 @@
 
 ghost use Rattle.std.specs.Prelude.{◌≡◌, ◌⊎◌, ◌≤◌, ◌<◌, ◌+◌, ◌*◌, ◌^◌, ◌≤ℤ◌, ℕ, ℤ, length, List, Bool, None, Some, IfOk, IfSome};
 ghost use Rattle.tsp_distance.specs.declared.decimal.Point.{Point};
-ghost use Rattle.tsp_format.specs.Cells.{IsNode};
+ghost use Rattle.tsp_format.specs.Nodes.{IsNode};
 ghost use Rattle.tsp_bound.specs.states.Potentials.{numbers_of};
 ghost use Rattle.tsp_bound.specs.states.Boxes.{HoldsNode, AreHeld, IsRefit, node_of, area_at};
 

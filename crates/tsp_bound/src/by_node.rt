@@ -3,7 +3,7 @@
 ghost use Rattle.std.specs.Prelude.{◌≡◌, ◌≢◌, ◌-◌, ◌<◌, ◌^◌, [], pos, IfOk};
 ghost use Rattle.std.specs.List.{All, AllPairs};
 ghost use Rattle.tsp_format.specs.Limits.{most_multiplier};
-ghost use Rattle.tsp_theory.specs.Numbers.{IsFromTo, IsMultiplier, AreMultipliers};
+ghost use Rattle.tsp_theory.specs.CertificateNumbers.{IsFromTo, IsMultiplier, AreMultipliers};
 ghost use Rattle.tsp_theory.specs.Adjusted.{AreOnPairs};
 ghost use Rattle.tsp_bound.specs.states.ByNode.{IsTable, lowered_by};
 
@@ -24,7 +24,7 @@ pub(crate) struct ByNode<'a> {
 
 impl<'a> ByNode<'a> {
     ghost use Rattle.std.specs.Prelude.{ℕ};
-    ghost use Rattle.tsp_format.specs.Cells.{IsNode};
+    ghost use Rattle.tsp_format.specs.Nodes.{IsNode};
     ghost use Rattle.tsp_theory.specs.Adjusted.{numbers_on};
     ghost use Rattle.tsp_bound.specs.states.ByNode.{AreLowerings};
     ghost use Rattle.tsp_bound.specs.states.Multipliers.{triples_of, triples_in, node_count};

@@ -1,7 +1,7 @@
 //! The components of a forest, and the search for the nearest place in another component.
 
 ghost use Rattle.std.specs.Prelude.{◌≡◌, ◌<◌, ℕ, ℤ, length, IfSome};
-ghost use Rattle.tsp_bound.specs.states.Components.{is_apart, label_at, IsNearest};
+ghost use Rattle.tsp_bound.specs.states.Components.{is_in_other_component, label_at, IsNearest};
 
 use crate::link::Link;
 
@@ -29,7 +29,7 @@ pub(crate) trait Components {
         requires from { from < count_of self.now }
         requires near { near < count_of self.now }
         ensures { IfSome result (λ link. IsNearest (count_of self.now) (weight_of self.now)
-            (is_apart (label_of self.now) (label_of self.now from)) from link) };
+            (is_in_other_component (label_of self.now) (label_of self.now from)) from link) };
 
     /// Gives each component a new label: the entry of its old one.
     fn relabel(&mut self, labels: &[u32])

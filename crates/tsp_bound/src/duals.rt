@@ -1,6 +1,6 @@
 //! Duals of an assignment: the certificate of a bound for costs that needn't be symmetric.
 
-ghost use Rattle.tsp_theory.specs.Numbers.{AreDuals};
+ghost use Rattle.tsp_theory.specs.CertificateNumbers.{AreDuals};
 
 use crate::numbers::{are_potentials, is_scale};
 

@@ -3,7 +3,7 @@
 ghost use Rattle.std.specs.Prelude.{◌≡◌, ◌<◌, ◌*◌, ℕ, true, length, IfOk};
 ghost use Rattle.tsp_bound.specs.states.Potentials.{numbers_of};
 ghost use Rattle.tsp_bound.specs.states.Boxes.{HoldsNode, AreHeld, AreHeld-prop, area_at, node_of};
-ghost use Rattle.tsp_bound.specs.states.Components.{AreTags, is_apart, label_at, seen_area};
+ghost use Rattle.tsp_bound.specs.states.Components.{AreTags, is_in_other_component, label_at, seen_area};
 
 use crate::area::Area;
 use crate::boxes::boxes_of;
@@ -108,7 +108,7 @@ struct Apart<'a> {
 impl Seen for Apart<'_> {
     ghost count_of = { λ s. length s.labels.now };
 
-    ghost outside_of = { λ s x. is_apart (label_at s.labels.now) s.own x };
+    ghost outside_of = { λ s x. is_in_other_component (label_at s.labels.now) s.own x };
 
     ghost area_of = { λ s v. seen_area s.tags.now (area_at s.areas.now) s.own v };
 

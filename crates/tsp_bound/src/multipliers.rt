@@ -2,7 +2,7 @@
 
 ghost use Rattle.std.specs.Prelude.{◌↔◌, IsTrue};
 ghost use Rattle.std.specs.List.{All};
-ghost use Rattle.tsp_theory.specs.Numbers.{IsMultiplier, AreMultipliers};
+ghost use Rattle.tsp_theory.specs.CertificateNumbers.{IsMultiplier, AreMultipliers};
 
 use tsp_format::{MOST_MULTIPLIER, MOST_MULTIPLIERS};
 

@@ -1,8 +1,8 @@
 //! The numbers of a certificate: their ranges, their sums, and the least bound of a sum.
 
 ghost use Rattle.std.specs.Prelude.{◌≡◌, ◌↔◌, ◌≤◌, ◌*◌, ◌^◌, IsTrue, length, pos, neg_ℤ};
-ghost use Rattle.tsp_format.specs.Limits.{most_nodes, most_potential, most_multipliers, most_multiplier};
-ghost use Rattle.tsp_theory.specs.Numbers.{IsFromTo, IsScale, ArePotentials, total, IsLeastBound, IsBoundSized, AreMultipliers};
+ghost use Rattle.tsp_format.specs.Limits.{most_nodes, most_potential, most_triples, most_multiplier};
+ghost use Rattle.tsp_theory.specs.CertificateNumbers.{IsFromTo, IsScale, ArePotentials, total, IsLeastBound, IsBoundSized, AreMultipliers};
 ghost use Rattle.tsp_theory.specs.Adjusted.{triples_total};
 
 use tsp_format::{MOST_POTENTIAL, MOST_SCALE};
@@ -40,7 +40,7 @@ pub(crate) fn total(numbers: &[i64]) -> i128
 pub(crate) fn total_of(triples: &[(u32, u32, i64)]) -> i128
     requires { AreMultipliers triples.now }
     ensures value { result ≡ triples_total triples.now }
-    ensures size { IsFromTo (pos 0) (pos (most_multipliers * most_multiplier)) result }
+    ensures size { IsFromTo (pos 0) (pos (most_triples * most_multiplier)) result }
 {
     let mut sum = 0;
     'triples: for triple in triples {

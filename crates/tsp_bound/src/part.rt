@@ -2,14 +2,14 @@
 
 ghost use Rattle.std.specs.Prelude.{◌≡◌, ◌≤◌, ◌<◌, ◌+◌, ◌*◌, ◌^◌, ℕ, length, map, pos, neg_ℤ, IfOk, IfSome};
 ghost use Rattle.std.specs.List.{All};
-ghost use Rattle.tsp_format.specs.Cells.{IsNode};
+ghost use Rattle.tsp_format.specs.Nodes.{IsNode};
 ghost use Rattle.tsp_format.specs.Limits.{most_nodes};
 ghost use Rattle.tsp_bound.specs.states.Boxes.{node_of};
 ghost use Rattle.tsp_bound.specs.states.Components.{IsWeighedForest};
 ghost use Rattle.tsp_theory.specs.Forest.{IsWholeForest};
 ghost use Rattle.tsp_bound.specs.states.Multipliers.{triples_in, weight_less};
 ghost use Rattle.tsp_bound.specs.states.Numbering.{on_both};
-ghost use Rattle.tsp_theory.specs.Numbers.{IsFromTo, IsSumSized};
+ghost use Rattle.tsp_theory.specs.CertificateNumbers.{IsFromTo, IsSumSized};
 ghost use Rattle.tsp_theory.specs.Tree.{weight_of};
 
 use crate::labelled::Labelled;

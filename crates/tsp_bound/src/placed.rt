@@ -1,7 +1,7 @@
 //! Nodes in an order, and the search for the nearest one outside.
 
 ghost use Rattle.std.specs.Prelude.{◌≡◌, ◌<◌, ◌+◌, ◌^◌, ℕ, length, slice_index_or};
-ghost use Rattle.tsp_format.specs.Cells.{IsNode};
+ghost use Rattle.tsp_format.specs.Nodes.{IsNode};
 ghost use Rattle.tsp_theory.specs.Tree.{IsInner};
 ghost use Rattle.tsp_bound.specs.states.Boxes.{node_of};
 ghost use Rattle.tsp_bound.specs.states.Multipliers.{node_count};

@@ -1,6 +1,6 @@
 //! Potentials of nodes: the certificate of a bound for symmetric costs.
 
-ghost use Rattle.tsp_theory.specs.Numbers.{AreNodePotentials};
+ghost use Rattle.tsp_theory.specs.CertificateNumbers.{AreNodePotentials};
 
 use crate::numbers::{are_potentials, is_scale};
 use crate::scaled::scaled_cost;
@@ -16,8 +16,8 @@ pub struct Potentials<'a> {
 
 impl<'a> Potentials<'a> {
     ghost use Rattle.std.specs.Prelude.{◌≡◌, length, pos, neg_ℤ, MatchOption};
-    ghost use Rattle.tsp_format.specs.Cells.{IsNode};
-    ghost use Rattle.tsp_theory.specs.Numbers.{IsFromTo, entry};
+    ghost use Rattle.tsp_format.specs.Nodes.{IsNode};
+    ghost use Rattle.tsp_theory.specs.CertificateNumbers.{IsFromTo, entry};
     ghost use Rattle.tsp_bound.specs.states.Potentials.{scale_of, numbers_of, weight_under};
     ghost use Rattle.tsp_theory.specs.NodeBound.{most_between};
 

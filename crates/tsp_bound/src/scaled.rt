@@ -1,9 +1,9 @@
 //! Costs at the scale of a certificate.
 
 ghost use Rattle.std.specs.Prelude.{◌≡◌, ◌*◌, pos, neg_ℤ, ◌*ℤ◌};
-ghost use Rattle.tsp_format.specs.Cells.{IsNode};
+ghost use Rattle.tsp_format.specs.Nodes.{IsNode};
 ghost use Rattle.tsp_format.specs.Limits.{most_scale, most_weight};
-ghost use Rattle.tsp_theory.specs.Numbers.{IsFromTo, IsScale};
+ghost use Rattle.tsp_theory.specs.CertificateNumbers.{IsFromTo, IsScale};
 
 use tsp_theory::Costs;
 

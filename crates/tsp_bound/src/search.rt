@@ -2,8 +2,8 @@
 
 ghost use Rattle.std.specs.Prelude.{◌≡◌, ◌≤◌, ◌<◌, ◌+◌, ◌*◌, ◌^◌, ◌≤ℤ◌, ◌*ℤ◌, ℕ, length};
 ghost use Rattle.std.specs.Bool.{OnTrue};
-ghost use Rattle.tsp_format.specs.Cells.{IsNode};
-ghost use Rattle.tsp_theory.specs.Numbers.{IsScale, entry};
+ghost use Rattle.tsp_format.specs.Nodes.{IsNode};
+ghost use Rattle.tsp_theory.specs.CertificateNumbers.{IsScale, entry};
 ghost use Rattle.tsp_bound.specs.states.Potentials.{scale_of, numbers_of, weight_under, IsInverse};
 ghost use Rattle.tsp_bound.specs.states.Boxes.{HoldsNode, AreHeld, AreHeld-prop, IsBelowAll, IsSearched, node_of};
 

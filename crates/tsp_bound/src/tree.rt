@@ -4,7 +4,7 @@ ghost use Rattle.std.specs.Prelude.{◌≡◌, ◌≤◌, ◌+◌, ◌*◌, ◌^
 ghost use Rattle.tsp_format.specs.Limits.{most_nodes};
 ghost use Rattle.tsp_theory.specs.Cycle.{IsCycle};
 ghost use Rattle.tsp_theory.specs.Length.{length_of};
-ghost use Rattle.tsp_theory.specs.Numbers.{IsFromTo, IsBoundSized};
+ghost use Rattle.tsp_theory.specs.CertificateNumbers.{IsFromTo, IsBoundSized};
 ghost use Rattle.tsp_theory.specs.Tree.{IsOneTree, IsLeastOneTree, weight_of};
 ghost use Rattle.tsp_theory.specs.Growth.{tree_of};
 ghost use Rattle.tsp_theory.specs.Adjusted.{AreOnPairs, UsesEach, IsAdjustedBoundOf, IsAdjustedBound};

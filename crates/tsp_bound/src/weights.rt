@@ -2,12 +2,12 @@
 
 ghost use Rattle.std.specs.Prelude.{◌≡◌, ◌≤◌, ◌<◌, ◌+◌, ℕ, length, slice_index, pos, neg_ℤ};
 ghost use Rattle.std.specs.List.{All};
-ghost use Rattle.tsp_format.specs.Cells.{IsNode};
+ghost use Rattle.tsp_format.specs.Nodes.{IsNode};
 ghost use Rattle.tsp_format.specs.Limits.{most_multiplier};
 ghost use Rattle.tsp_theory.specs.NodeBound.{most_between};
-ghost use Rattle.tsp_theory.specs.Numbers.{IsFromTo};
+ghost use Rattle.tsp_theory.specs.CertificateNumbers.{IsFromTo};
 ghost use Rattle.tsp_theory.specs.states.Nearest.{least_at};
-ghost use Rattle.tsp_tree.specs.states.Moved.{IsMoved};
+ghost use Rattle.tsp_tree.specs.states.Additions.{IsMoved};
 ghost use Rattle.tsp_bound.specs.states.ByNode.{lowered_by};
 ghost use Rattle.tsp_bound.specs.states.Multipliers.{node_count};
 ghost use Rattle.tsp_bound.specs.states.Potentials.{numbers_of, weight_under};

@@ -11,7 +11,7 @@ use Rattle.tsp_theory.specs.Length.{length_of}
 use Rattle.tsp_theory.proofs.Neighbours.{neighbours_or_not}
 use Rattle.tsp_branch.specs.declared.decision.Decision.{Decision}
 use Rattle.tsp_branch.specs.Decisions.{KeepsDecision}
-use Rattle.tsp_branch.specs.Cases.{CaseStep, Branch, Leaf, are_trees, decide, leaves_of, cases_of, KeepsOne, CyclesKeepLeaves, BoundsCase, HasNoCycle, BoundsButOpen, CasesBoundCycles, CasesHaveNoCycle, StacksHoldCases}
+use Rattle.tsp_branch.specs.Cases.{CaseStep, Branch, Leaf, are_case_trees, decide, leaves_of, cases_of, KeepsOne, CyclesKeepLeaves, BoundsCase, HasNoCycle, BoundsButOpen, CasesBoundCycles, CasesHaveNoCycle, StacksHoldCases}
 
 -- ---- whether a pair is used
 
@@ -49,7 +49,7 @@ branched directed nodes pair case cases (inl here) = elim (uses_or_not directed 
   | inr unused ↦ inr (inl (All-cons (KeepsDecision directed nodes) (record { pair = pair; taken = false }) case unused here))
 ]
 
-kept : (directed : Bool) (nodes : List ℕ) (cases : List (List Decision)) (steps : List CaseStep) → are_trees (length cases) steps ≡ true → KeepsOne directed nodes cases
+kept : (directed : Bool) (nodes : List ℕ) (cases : List (List Decision)) (steps : List CaseStep) → are_case_trees (length cases) steps ≡ true → KeepsOne directed nodes cases
     → KeepsOne directed nodes (cases_of (leaves_of cases steps))
 kept directed nodes [] steps whole keeps = absurd keeps
 kept directed nodes (case ∷ cases) [] whole keeps = absurd (both_ways false refl whole)

@@ -6,7 +6,7 @@ use Rattle.std.proofs.Math.Logic.{∥∥₁_elim}
 use Rattle.std.proofs.Props.{props}
 use Rattle.std.proofs.lemmas.Int.{ints}
 use Rattle.std.proofs.lemmas.List.Elements.{recursion_from_All, All-from_recursion}
-use Rattle.tsp_theory.specs.Numbers.{IsFromTo, total}
+use Rattle.tsp_theory.specs.CertificateNumbers.{IsFromTo, total}
 use Rattle.tsp_families.specs.declared.family.Crossings.{Crossings}
 use Rattle.tsp_branch.specs.Families.{Family, IsFamily}
 use Rattle.tsp_branch.specs.declared.decision.Decision.{Decision}
@@ -14,9 +14,9 @@ use Rattle.tsp_branch.specs.Decisions.{on_taken, on_avoided, decided_number}
 use Rattle.tsp_theory.specs.NodeBound.{weight_between}
 use Rattle.tsp_branch.specs.LeafBound.{combed, least_of, leaf_weight}
 use Rattle.tsp_branch.specs.Rows.{HasNoLink, IsRowBound}
-use Rattle.tsp_branch.specs.Certificate.{multiplied, IsFoundAt}
+use Rattle.tsp_branch.specs.CaseTrees.{multiplied, IsFoundAt}
 use Rattle.tsp_branch.specs.states.Combed.{AreSmallMultipliers, AreFewCrossings, set_weight}
-use Rattle.tsp_branch.specs.CombsOfSets.{families_with}
+use Rattle.tsp_branch.specs.FamiliesOfSets.{families_with}
 use Rattle.tsp_branch.specs.states.Decided.{decided}
 use Rattle.tsp_branch.specs.GoodNumbers.{AreGoodNumbers, as_leaf_numbers, most_crossed, most_with}
 use Rattle.tsp_branch.proofs.Changes.{changes_are}

@@ -4,7 +4,7 @@ use Rattle.std.specs.Prelude.{pos}
 use Rattle.std.specs.List.{All, AllByRecursion}
 use Rattle.std.proofs.lemmas.Int.{ints}
 use Rattle.std.proofs.lemmas.List.Elements.{recursion_from_All, All-from_recursion, All-contains}
-use Rattle.tsp_theory.specs.Numbers.{IsScale}
+use Rattle.tsp_theory.specs.CertificateNumbers.{IsScale}
 use Rattle.tsp_branch.specs.Families.{Family, IsFamily}
 use Rattle.tsp_branch.specs.declared.decision.Decision.{Decision}
 use Rattle.tsp_branch.specs.Decisions.{take_pairs, on_taken, on_avoided}
@@ -12,7 +12,7 @@ use Rattle.tsp_branch.specs.LeafBound.{AreMultiplied, IsLeafBound, LeafBoundsBou
 use Rattle.tsp_branch.specs.RowLeaves.{RowLeafBoundsBoundCycles}
 use Rattle.tsp_branch.specs.Rows.{NoLinkNoCycle}
 use Rattle.tsp_branch.specs.Cases.{LeafNumbers, CaseStep, leaves_of, cases_of, BoundsCase, HasNoCycle, CasesBoundCycles, CasesHaveNoCycle}
-use Rattle.tsp_branch.specs.Certificate.{multiplied, AreLeafNumbers, IsFoundAt, IsAbove, IsCertificateBound, AreCostsFor, CertificatesBoundCycles, CertificatesBoundTours, NoBoundNoTour, CertificateBoundsAreUnique}
+use Rattle.tsp_branch.specs.CaseTrees.{multiplied, AreLeafNumbers, IsFoundAt, IsAbove, IsCaseTreeBound, AreCostsFor, CaseTreesBoundCycles, CaseTreesBoundTours, NoBoundNoTour, CaseTreeBoundsAreUnique}
 use Rattle.tsp_branch.proofs.Decisions.{takes_each, takes_none, tours_keep_fixed}
 use Rattle.tsp_branch.proofs.RowLeaves.{one_bound, has_no_bound}
 
@@ -47,8 +47,8 @@ leaf_has_none false n cost scale number families leaf laws costs_are none = absu
 leaf_has_none true n cost scale number families leaf laws costs_are none = laws.no_link n leaf.0 costs_are none
 
 -- plan: by induction over the leaves each bound is one of its case (`leaf_bounds_case`); then the premise on cases
-pub certificates_bound_cycles : LeafLaws → CasesBoundCycles → CasesHaveNoCycle → CertificatesBoundCycles
-certificates_bound_cycles laws bounds_cases no_cases directed n cost scale number families given steps (Some bound) costs_are scale_in certificate is =
+pub case_trees_bound_cycles : LeafLaws → CasesBoundCycles → CasesHaveNoCycle → CaseTreesBoundCycles
+case_trees_bound_cycles laws bounds_cases no_cases directed n cost scale number families given steps (Some bound) costs_are scale_in certificate is =
     let leaves = leaves_of (given ∷ []) steps in
     let found : List Decision × LeafNumbers → Option ℤ → Type 0 = IsFoundAt directed n cost scale number families in
     bounds_cases directed n cost bound given steps certificate.whole
@@ -66,7 +66,7 @@ certificates_bound_cycles laws bounds_cases no_cases directed n cost scale numbe
           omega (arith, ints, own, has.2),
       each leaves numbers.1 bounds,
     )
-certificates_bound_cycles laws bounds_cases no_cases directed n cost scale number families given steps None costs_are scale_in certificate is =
+case_trees_bound_cycles laws bounds_cases no_cases directed n cost scale number families given steps None costs_are scale_in certificate is =
     let leaves = leaves_of (given ∷ []) steps in
     no_cases directed n given steps certificate.whole (All-from_recursion (HasNoCycle directed n) (cases_of leaves)
     (each leaves (recursion_from_All (λ leaf. IsFoundAt directed n cost scale number families leaf None) leaves is)))
@@ -75,12 +75,12 @@ certificates_bound_cycles laws bounds_cases no_cases directed n cost scale numbe
     each [] none = tt
     each (leaf ∷ leaves) none = (leaf_has_none directed n cost scale number families leaf laws costs_are none.0, each leaves none.1)
 
-pub certificates_bound_tours : CertificatesBoundCycles → CertificatesBoundTours
+pub certificates_bound_tours : CaseTreesBoundCycles → CaseTreesBoundTours
 certificates_bound_tours bounds problem scale number families steps bound costs_are scale_in certificate is nodes tour =
     bounds problem.directed problem.nodes problem.cost scale number families (take_pairs problem.fixed) steps (Some bound) costs_are scale_in certificate is nodes tour.cycle
     (tours_keep_fixed problem.directed nodes problem.fixed tour.fixed_used)
 
-pub no_bound_no_tour : CertificatesBoundCycles → NoBoundNoTour
+pub no_bound_no_tour : CaseTreesBoundCycles → NoBoundNoTour
 no_bound_no_tour bounds problem scale number families steps costs_are scale_in certificate is nodes tour =
     bounds problem.directed problem.nodes problem.cost scale number families (take_pairs problem.fixed) steps None costs_are scale_in certificate is nodes tour.cycle
     (tours_keep_fixed problem.directed nodes problem.fixed tour.fixed_used)
@@ -110,7 +110,7 @@ some_or_none true n cost scale number families leaf a one none = has_no_bound n 
 
 -- what is at most the bound of each leaf is at most that of one of them
 at_most : (directed : Bool) (n : ℕ) (cost : ℕ → ℕ → ℤ) (scale number : ℤ) (families : List Family) (given : List Decision) (steps : List CaseStep) (a b : ℤ)
-    → IsCertificateBound directed n cost scale number families given steps (Some a) → IsCertificateBound directed n cost scale number families given steps (Some b) → a ≤ℤ b
+    → IsCaseTreeBound directed n cost scale number families given steps (Some a) → IsCaseTreeBound directed n cost scale number families given steps (Some b) → a ≤ℤ b
 at_most directed n cost scale number families given steps a b one other =
     let leaves = leaves_of (given ∷ []) steps in
     let there = other.1 in
@@ -121,17 +121,17 @@ at_most directed n cost scale number families given steps a b one other =
     ]
 
 never_both : (directed : Bool) (n : ℕ) (cost : ℕ → ℕ → ℤ) (scale number : ℤ) (families : List Family) (given : List Decision) (steps : List CaseStep) (a : ℤ)
-    → IsCertificateBound directed n cost scale number families given steps (Some a) → IsCertificateBound directed n cost scale number families given steps None → ⊥
+    → IsCaseTreeBound directed n cost scale number families given steps (Some a) → IsCaseTreeBound directed n cost scale number families given steps None → ⊥
 never_both directed n cost scale number families given steps a one none =
     let there = one.1 in
     some_or_none directed n cost scale number families there.1 a there.4
     (All-contains (λ leaf. IsFoundAt directed n cost scale number families leaf None) (leaves_of (given ∷ []) steps) there.1 none (there.0, there.2, there.3))
 
-pub certificate_bounds_are_unique : CertificateBoundsAreUnique
-certificate_bounds_are_unique directed n cost scale number families given steps (Some a) (Some b) one other =
+pub case_tree_bounds_are_unique : CaseTreeBoundsAreUnique
+case_tree_bounds_are_unique directed n cost scale number families given steps (Some a) (Some b) one other =
     let below = at_most directed n cost scale number families given steps a b one other in
     let above = at_most directed n cost scale number families given steps b a other one in
     ap (λ (z : ℤ). Some z) (omega (arith, ints, below, above))
-certificate_bounds_are_unique directed n cost scale number families given steps (Some a) None one other = absurd (never_both directed n cost scale number families given steps a one other)
-certificate_bounds_are_unique directed n cost scale number families given steps None (Some b) one other = absurd (never_both directed n cost scale number families given steps b other one)
-certificate_bounds_are_unique directed n cost scale number families given steps None None one other = refl
+case_tree_bounds_are_unique directed n cost scale number families given steps (Some a) None one other = absurd (never_both directed n cost scale number families given steps a one other)
+case_tree_bounds_are_unique directed n cost scale number families given steps None (Some b) one other = absurd (never_both directed n cost scale number families given steps b other one)
+case_tree_bounds_are_unique directed n cost scale number families given steps None None one other = refl

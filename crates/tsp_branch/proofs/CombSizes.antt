@@ -8,18 +8,18 @@ use Rattle.std.proofs.Math.IntN.{*ℤ-zero}
 use Rattle.std.proofs.lemmas.Bool.{cases_Bool}
 use Rattle.std.proofs.lemmas.Int.{ints, fits_signed_from_abs}
 use Rattle.tsp_theory.specs.Length.{sum_int_by}
-use Rattle.tsp_theory.specs.Numbers.{IsFromTo, total}
+use Rattle.tsp_theory.specs.CertificateNumbers.{IsFromTo, total}
 use Rattle.tsp_theory.specs.Tree.{crossing}
 use Rattle.tsp_theory.specs.NodeBound.{most_between}
 use Rattle.tsp_theory.proofs.Crossings.{one_if, none_or_one}
 use Rattle.tsp_theory.proofs.Sizes.{size_of}
-use Rattle.tsp_format.specs.Cells.{IsNode}
+use Rattle.tsp_format.specs.Nodes.{IsNode}
 use Rattle.tsp_families.specs.declared.family.Crossings.{Crossings}
-use Rattle.tsp_branch.specs.Combs.{Comb, AreApart, crossings}
+use Rattle.tsp_branch.specs.Combs.{Comb, AreApart, family_crossings}
 use Rattle.tsp_branch.specs.Families.{Family, IsLoneOrComb, IsFamily}
 use Rattle.tsp_branch.specs.LeafBound.{crossings_of}
-use Rattle.tsp_branch.specs.Certificate.{multiplied}
-use Rattle.tsp_branch.specs.CombsOfSets.{family_with, families_with}
+use Rattle.tsp_branch.specs.CaseTrees.{multiplied}
+use Rattle.tsp_branch.specs.FamiliesOfSets.{family_with, families_with}
 use Rattle.tsp_branch.specs.GoodNumbers.{most_crossed, most_with}
 use Rattle.tsp_branch.specs.states.Combed.{most_combed}
 use Rattle.tsp_branch.proofs.Combs.{Apart, apart_from_pairs}
@@ -65,13 +65,13 @@ apart_teeth : (n : ℕ) (sets : Comb) → IsLoneOrComb n sets → Apart sets.tee
 apart_teeth n sets (inl lone) = subst Apart (sym lone.alone) tt
 apart_teeth n sets (inr comb) = apart_from_pairs sets.teeth comb.apart
 
-crossed_some : (sets : Comb) (i j : ℕ) → pos 0 ≤ℤ crossings sets i j
+crossed_some : (sets : Comb) (i j : ℕ) → pos 0 ≤ℤ family_crossings sets i j
 crossed_some sets i j =
     let teeth = teeth_crossed_few i j sets.teeth in
     let handle = none_or_one (cond (sets.handle i) (not (sets.handle j)) (sets.handle j)) in
     omega (arith, ints, teeth.0, handle.0)
 
-comb_crossed_few : (n : ℕ) (sets : Comb) (i j : ℕ) → IsLoneOrComb n sets → crossings sets i j ≤ℤ pos 3
+comb_crossed_few : (n : ℕ) (sets : Comb) (i j : ℕ) → IsLoneOrComb n sets → family_crossings sets i j ≤ℤ pos 3
 comb_crossed_few n sets i j is =
     let apart = apart_teeth n sets is in
     let teeth = teeth_crossed_few i j sets.teeth in
@@ -80,7 +80,7 @@ comb_crossed_few n sets i j is =
     let two = in_one j sets.teeth apart in
     omega (arith, ints, teeth.1, handle.1, one, two)
 
-family_crossed_few : (n : ℕ) (family : Family) (i j : ℕ) → IsNode n i → IsNode n j → IsFamily n family → crossings family.sets i j ≤ℤ pos family.numbers.most
+family_crossed_few : (n : ℕ) (family : Family) (i j : ℕ) → IsNode n i → IsNode n j → IsFamily n family → family_crossings family.sets i j ≤ℤ pos family.numbers.most
 family_crossed_few n family i j in_i in_j (inl known) = let few = comb_crossed_few n family.sets i j known.kind in omega (arith, ints, few, known.most_is)
 family_crossed_few n family i j in_i in_j (inr other) = other.most_is.above i j in_i in_j
 
@@ -103,7 +103,7 @@ families_crossed_few n (own ∷ crossed) (sets ∷ families) [] i j in_i in_j ma
 families_crossed_few n (own ∷ crossed) (sets ∷ families) (m ∷ ms) i j in_i in_j many are signs =
     let rest = families_crossed_few n crossed families ms i j in_i in_j (omega (arith, many)) are.1 signs.1 in
     let family : Family = family_with own sets in
-    let one = times_at_most m (crossings family.sets i j) own.most signs.0 (crossed_some family.sets i j) (family_crossed_few n family i j in_i in_j are.0) in
+    let one = times_at_most m (family_crossings family.sets i j) own.most signs.0 (crossed_some family.sets i j) (family_crossed_few n family i j in_i in_j are.0) in
     (omega (arith, ints, rest.0, one.0), omega (arith, ints, rest.1, one.1))
 
 -- some two nodes cross each family

@@ -6,9 +6,9 @@ use Rattle.std.proofs.lemmas.Int.{ints}
 use Rattle.tsp_theory.specs.Length.{sum_int_by}
 use Rattle.tsp_theory.specs.Tree.{crossing}
 use Rattle.tsp_families.specs.Crossed.{has}
-use Rattle.tsp_branch.specs.Combs.{crossings}
+use Rattle.tsp_branch.specs.Combs.{family_crossings}
 use Rattle.tsp_branch.specs.states.Combed.{summed_from, SetsTellCombs, SetsGiveLeaves}
-use Rattle.tsp_branch.specs.CombsOfSets.{comb_with}
+use Rattle.tsp_branch.specs.FamiliesOfSets.{comb_with}
 
 abbrev crossed_sets : List (List ℕ) → ℕ → ℕ → ℤ
 crossed_sets sets i j = sum_int_by (λ set. crossing (has set) i j) sets
@@ -17,7 +17,7 @@ teeth_crossed : (teeth : List (List ℕ)) (i j : ℕ) → sum_int_by (λ tooth. 
 teeth_crossed [] i j = refl
 teeth_crossed (tooth ∷ teeth) i j = ap (λ z. crossing (has tooth) i j +ℤ z) (teeth_crossed teeth i j)
 
-comb_crossed : (sets : List (List ℕ)) (i j : ℕ) → crossings (comb_with sets) i j ≡ crossed_sets sets i j
+comb_crossed : (sets : List (List ℕ)) (i j : ℕ) → family_crossings (comb_with sets) i j ≡ crossed_sets sets i j
 comb_crossed [] i j = refl
 comb_crossed (handle ∷ teeth) i j = ap (λ z. crossing (has handle) i j +ℤ z) (teeth_crossed teeth i j)
 

@@ -11,9 +11,9 @@ use Rattle.tsp_families.specs.FamilySets.{lists_of}
 use Rattle.std.specs.Global.{Vec}
 use Rattle.tsp_families.specs.declared.family.Crossings.{Crossings}
 use Rattle.tsp_branch.specs.Families.{least_crossings_of}
-use Rattle.tsp_branch.specs.CombsOfSets.{comb_with}
-use Rattle.tsp_branch.specs.GoodCombs.{HasEachOnce, IsGoodComb, IsGoodFamily}
-use Rattle.tsp_branch.specs.states.FamilyNumbers.{HasNumbers}
+use Rattle.tsp_branch.specs.FamiliesOfSets.{comb_with}
+use Rattle.tsp_branch.specs.GoodFamilies.{HasEachOnce, IsGoodComb, IsGoodFamily}
+use Rattle.tsp_branch.specs.states.FamilyNumbers.{AreFamilyNumbers}
 use Rattle.tsp_branch.specs.states.Marked.{is_marked, AreUnmarked, AreNew}
 
 -- ---- a lone set or a comb
@@ -22,7 +22,7 @@ teeth_of : (sets : List (List ℕ)) → length (comb_with sets).teeth ≡ length
 teeth_of [] = refl
 teeth_of (handle ∷ teeth) = length-map teeth has ∙ (let e : length teeth ≡ suc (length teeth) - 1 = omega arith in e)
 
-pub known_found : (n count : ℕ) (sets : List (List ℕ)) (own : Crossings) → length sets ≡ count → own.least ≡ least_crossings_of (count - 1) → own.most ≡ 3 → IsGoodComb n sets → HasNumbers n sets (Some own)
+pub known_found : (n count : ℕ) (sets : List (List ℕ)) (own : Crossings) → length sets ≡ count → own.least ≡ least_crossings_of (count - 1) → own.most ≡ 3 → IsGoodComb n sets → AreFamilyNumbers n sets (Some own)
 known_found n count sets own long least most good = (
   inl (record {
     kind = good.kind;
@@ -48,7 +48,7 @@ no_sets n good = elim good.family [
 ]
 
 pub other_found : (n : ℕ) (sets : List (List ℕ)) (own : Crossings) → (IsGoodComb n sets → ⊥) → All HasEachOnce sets → (AreTooMany n (sets_of sets) → ⊥) → 1 ≤ own.most
-    → IsLeastLength n (sets_crossed (sets_of sets)) (pos own.least) → IsMostCost n (sets_crossed (sets_of sets)) (pos own.most) → HasNumbers n sets (Some own)
+    → IsLeastLength n (sets_crossed (sets_of sets)) (pos own.least) → IsMostCost n (sets_crossed (sets_of sets)) (pos own.most) → AreFamilyNumbers n sets (Some own)
 other_found n [] own unknown once few some least most = absurd (let none : pos own.most ≡ pos 0 = most.most_is in omega (arith, ints, none, some))
 other_found n (handle ∷ teeth) own unknown once few some least most = (
   inr (record { unknown = λ kind. unknown (record { kind = kind; once = once }); few = few; parted = some; least_is = least; most_is = most }),

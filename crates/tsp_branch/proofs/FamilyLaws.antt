@@ -13,7 +13,7 @@ use Rattle.tsp_theory.proofs.Cycles.{has_node}
 use Rattle.tsp_theory.specs.Cycle.{IsCycle}
 use Rattle.tsp_families.specs.SetParts.{LeastLengthsAreUnique, MostCostsAreUnique}
 use Rattle.tsp_families.specs.declared.family.Crossings.{Crossings}
-use Rattle.tsp_branch.specs.Combs.{Comb, CyclesCrossCombs, crossings}
+use Rattle.tsp_branch.specs.Combs.{Comb, CyclesCrossCombs, family_crossings}
 use Rattle.tsp_branch.specs.Families.{IsLoneOrComb, IsFamily, least_crossings_of, CyclesCrossFamilies, NumbersAreUnique}
 
 lone_crossed : (handle : ℕ → Bool) (teeth : List (ℕ → Bool)) (nodes : List ℕ) → Laws → teeth ≡ [] → pos 2 ≤ℤ length_of (crossing handle) nodes
@@ -28,7 +28,7 @@ least_of_some zero m odd = absurd (omega arith)
 least_of_some (suc k) m odd = omega arith
 
 known_crossed : (n : ℕ) (sets : Comb) (nodes : List ℕ) → Laws → CyclesCrossCombs → IsLoneOrComb n sets → IsCycle n nodes
-    → pos (least_crossings_of (length sets.teeth)) ≤ℤ length_of (crossings sets) nodes
+    → pos (least_crossings_of (length sets.teeth)) ≤ℤ length_of (family_crossings sets) nodes
 known_crossed n sets nodes laws crossed (inl lone) cycle =
     lone_crossed sets.handle sets.teeth nodes laws lone.alone (twice sets.handle nodes lone.inside lone.outside
     (has_node n nodes lone.inside laws cycle lone.inside_node) (has_node n nodes lone.outside laws cycle lone.outside_node) lone.has_inside lone.lacks_outside)
@@ -51,8 +51,8 @@ one_kind least most n sets a b (inl p) (inl q) = (p.least_is ∙ sym q.least_is,
 one_kind least most n sets a b (inl p) (inr q) = absurd (q.unknown p.kind)
 one_kind least most n sets a b (inr p) (inl q) = absurd (p.unknown q.kind)
 one_kind least most n sets a b (inr p) (inr q) =
-    let same = least n (crossings sets) (pos a.least) (pos b.least) p.least_is q.least_is in
-    let equal = most n (crossings sets) (pos a.most) (pos b.most) p.most_is q.most_is in
+    let same = least n (family_crossings sets) (pos a.least) (pos b.least) p.least_is q.least_is in
+    let equal = most n (family_crossings sets) (pos a.most) (pos b.most) p.most_is q.most_is in
     (omega (arith, ints, same), omega (arith, ints, equal))
 
 pub numbers_are_unique : LeastLengthsAreUnique → MostCostsAreUnique → NumbersAreUnique

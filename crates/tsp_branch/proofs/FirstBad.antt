@@ -9,9 +9,9 @@ use Rattle.std.proofs.lemmas.List.Elements.{All-from_recursion}
 use Rattle.tsp_families.specs.FamilySets.{lists_of, families_in}
 use Rattle.tsp_families.specs.declared.family.Crossings.{Crossings}
 use Rattle.tsp_branch.specs.Families.{IsFamily}
-use Rattle.tsp_branch.specs.CombsOfSets.{family_with, families_with}
-use Rattle.tsp_branch.specs.GoodCombs.{HasEachOnce, IsGoodFamily, IsFirstBadComb, AreFamilies}
-use Rattle.tsp_branch.specs.states.FamilyNumbers.{HasNumbers}
+use Rattle.tsp_branch.specs.FamiliesOfSets.{family_with, families_with}
+use Rattle.tsp_branch.specs.GoodFamilies.{HasEachOnce, IsGoodFamily, IsFirstBadFamily, AreFamilies}
+use Rattle.tsp_branch.specs.states.FamilyNumbers.{AreFamilyNumbers}
 
 -- ---- the family that is next, as it is read
 
@@ -26,15 +26,15 @@ module _ (families : List (Vec (Vec ℕ))) (index : ℕ) (own : Vec (Vec ℕ)) (
 
 -- the families so far have their numbers
 abbrev pub HaveNumbers : ℕ → List (List (List ℕ)) → List Crossings → Type 0
-HaveNumbers n families crossed = (k : ℕ) (default : Crossings) → k < length crossed → HasNumbers n (get_or families k []) (Some (get_or crossed k default))
+HaveNumbers n families crossed = (k : ℕ) (default : Crossings) → k < length crossed → AreFamilyNumbers n (get_or families k []) (Some (get_or crossed k default))
 
-pub numbers_more : (n : ℕ) (families : List (List (List ℕ))) (crossed : List Crossings) (own : Crossings) → HaveNumbers n families crossed → HasNumbers n (get_or families (length crossed) []) (Some own)
+pub numbers_more : (n : ℕ) (families : List (List (List ℕ))) (crossed : List Crossings) (own : Crossings) → HaveNumbers n families crossed → AreFamilyNumbers n (get_or families (length crossed) []) (Some own)
     → HaveNumbers n families (crossed ++ own ∷ [])
 numbers_more n families crossed own before here k default lt = elim (cases_lt k (length crossed)) [
-  | inl old ↦ subst (λ (c : Crossings). HasNumbers n (get_or families k []) (Some c)) (sym (get_or_append_left crossed (own ∷ []) default k old)) (before k default old)
+  | inl old ↦ subst (λ (c : Crossings). AreFamilyNumbers n (get_or families k []) (Some c)) (sym (get_or_append_left crossed (own ∷ []) default k old)) (before k default old)
   | inr new ↦
       let last : length crossed ≡ k = omega (arith, new, lt, length-append crossed (own ∷ [])) in
-      subst (λ (c : Crossings). HasNumbers n (get_or families k []) (Some c)) (sym (get_or_push crossed own default k last)) (subst (λ (m : ℕ). HasNumbers n (get_or families m []) (Some own)) last here)
+      subst (λ (c : Crossings). AreFamilyNumbers n (get_or families k []) (Some c)) (sym (get_or_push crossed own default k last)) (subst (λ (m : ℕ). AreFamilyNumbers n (get_or families m []) (Some own)) last here)
 ]
 
 -- so each of them is good
@@ -61,7 +61,7 @@ all_good n families crossed many have =
     }
 
 pub first_found : (n place : ℕ) (families : List (List (List ℕ))) → place < length families → ((other : ℕ) → other < place → IsGoodFamily n (get_or families other [])) → (IsGoodFamily n (get_or families place []) → ⊥)
-    → IsFirstBadComb n families (place + 1)
+    → IsFirstBadFamily n families (place + 1)
 first_found n place families lt before bad = record {
   least = omega arith;
   most = omega (arith, lt);

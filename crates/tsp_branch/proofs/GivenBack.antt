@@ -9,16 +9,16 @@ use Rattle.std.proofs.lemmas.Int.{ints, to_z-of_z, fits_signed_from_abs}
 use Rattle.std.proofs.lemmas.List.{reverse-append, length-reverse}
 use Rattle.std.proofs.lemmas.List.Sums.{length-filter, count_by-le-length}
 use Rattle.std.proofs.lemmas.List.Elements.{recursion_from_All, All-drop}
-use Rattle.tsp_theory.specs.Numbers.{IsFromTo, total}
+use Rattle.tsp_theory.specs.CertificateNumbers.{IsFromTo, total}
 use Rattle.tsp_theory.specs.Adjusted.{triples_total}
 use Rattle.tsp_theory.proofs.Sizes.{size_of}
 use Rattle.tsp_families.specs.declared.family.Crossings.{Crossings}
 use Rattle.tsp_branch.specs.LeafBound.{least_of}
-use Rattle.tsp_branch.specs.Certificate.{multiplied}
+use Rattle.tsp_branch.specs.CaseTrees.{multiplied}
 use Rattle.tsp_branch.specs.declared.decision.Decision.{Decision}
 use Rattle.tsp_branch.specs.Decisions.{on_taken, decided_number}
 use Rattle.tsp_branch.specs.GoodNumbers.{most_crossed}
-use Rattle.tsp_branch.specs.CombsOfSets.{families_with, least_with}
+use Rattle.tsp_branch.specs.FamiliesOfSets.{families_with, least_with}
 use Rattle.tsp_branch.specs.states.Decided.{stack_of}
 use Rattle.tsp_branch.proofs.LeafBounds.{product_below}
 

@@ -7,27 +7,27 @@ use Rattle.std.proofs.Props.{props}
 use Rattle.std.proofs.lemmas.Int.{ints}
 use Rattle.std.proofs.lemmas.List.{get_or-map, length-map, length-reverse, take-append-drop, take-append-le, take_all, drop_all}
 use Rattle.std.proofs.lemmas.List.Elements.{All-append, All-weaker}
-use Rattle.tsp_format.specs.Cells.{IsNode}
+use Rattle.tsp_format.specs.Nodes.{IsNode}
 use Rattle.tsp_format.specs.Limits.{most_potential}
 use Rattle.tsp_format.specs.declared.steps.TreeStep.{TreeStep}
 use Rattle.tsp_format.specs.Steps as listed
 use Rattle.tsp_format.specs.states.TreeSteps.{step_of, steps_of}
 use Rattle.tsp_format.specs.Steps.{are_whole}
 use Rattle.tsp_theory.specs.Costs.{IsSymmetric}
-use Rattle.tsp_theory.specs.Numbers.{IsFromTo, IsScale, IsBoundSized}
+use Rattle.tsp_theory.specs.CertificateNumbers.{IsFromTo, IsScale, IsBoundSized}
 use Rattle.tsp_families.specs.declared.family.Crossings.{Crossings}
-use Rattle.tsp_branch.specs.declared.steps.Judged.{Judged}
-use Rattle.tsp_branch.specs.declared.steps.Judged.TheVariants as judged
+use Rattle.tsp_branch.specs.declared.steps.JudgedLeaves.{JudgedLeaves}
+use Rattle.tsp_branch.specs.declared.steps.JudgedLeaves.TheVariants as judged
 use Rattle.tsp_branch.specs.Families.{Family, IsFamily}
 use Rattle.tsp_branch.specs.declared.decision.Decision.{Decision}
 use Rattle.tsp_branch.specs.Decisions.{DecideOnce, decided_number}
 use Rattle.tsp_branch.specs.declared.steps.JudgedLeaf.{JudgedLeaf}
 use Rattle.tsp_branch.specs.declared.steps.JudgedLeaf.TheVariants as leaves
-use Rattle.tsp_branch.specs.Cases.{LeafNumbers, are_trees, leaves_of, next_stack}
-use Rattle.tsp_branch.specs.Certificate.{IsCertificate, IsLeastFound, AreCostsFor, BoundsIfAny, CertificatesBoundCycles}
+use Rattle.tsp_branch.specs.Cases.{LeafNumbers, are_case_trees, leaves_of, next_stack}
+use Rattle.tsp_branch.specs.CaseTrees.{IsCaseTree, IsLeastFound, AreCostsFor, BoundsIfAny, CaseTreesBoundCycles}
 use Rattle.tsp_branch.specs.states.Decided.{stack_of, IsLeftStack}
 use Rattle.tsp_branch.specs.GoodNumbers.{AreGoodNumbers, as_leaf_numbers, most_crossed}
-use Rattle.tsp_branch.specs.Listed.{all_grown, split_at, steps_from, listed_steps, IsStepOf, AreGoodLeaves, IsFirstBadLeaf, IsJudged, BoundsCycles, IsLowest}
+use Rattle.tsp_branch.specs.Listed.{all_grown, split_at, steps_from, listed_steps, IsStepOf, AreGoodLeaves, IsFirstBadLeaf, AreJudgedLeaves, BoundsCycles, IsLowest}
 use Rattle.tsp_branch.specs.JudgedTrees.{AreCasesOf}
 use Rattle.tsp_branch.specs.declared.tree_cases.Cases.{Cases}
 use Rattle.tsp_branch.specs.states.Rooms.{AreSmall, IsJudgedLeaf, IsSizedLeaf}
@@ -94,7 +94,7 @@ few_decided stack given few few_given =
 -- ---- the steps
 
 -- a whole tree, whatever its numbers
-pub whole_trees : (n : ℕ) (numbers : List ℤ) (count : ℕ) (steps : List listed.Step) → are_whole count steps ≡ are_trees count
+pub whole_trees : (n : ℕ) (numbers : List ℤ) (count : ℕ) (steps : List listed.Step) → are_whole count steps ≡ are_case_trees count
     (steps_from n numbers steps)
 whole_trees n numbers zero [] = refl
 whole_trees n numbers zero (listed.Branch a b ∷ steps) = refl
@@ -137,8 +137,8 @@ module _ (Found : List Decision × LeafNumbers → Option ℤ → Type 0) (direc
   pub all_passed : (families : List Family) (all : List TreeStep) (numbers : List ℤ) (stack : List Decision) (lowest : Option ℤ)
       (leaf index : ℕ) → length all ≤ index
       → IsPassing Found directed n crossed given (steps_of all) numbers stack lowest leaf (steps_of (drop index all))
-      → All (IsFamily n) families → are_trees 1 (listed_steps n (length crossed) (steps_of all)) ≡ true
-      → IsCertificate n families given (listed_steps n (length crossed) (steps_of all))
+      → All (IsFamily n) families → are_case_trees 1 (listed_steps n (length crossed) (steps_of all)) ≡ true
+      → IsCaseTree n families given (listed_steps n (length crossed) (steps_of all))
       × IsLeastFound Found (leaves_of (given ∷ []) (listed_steps n (length crossed) (steps_of all))) lowest
       × AreGoodLeaves n crossed (steps_of all)
   all_passed families all numbers stack lowest leaf index past at are whole =
@@ -211,10 +211,10 @@ low_sized lowest own lower found before here some is = sized lowest own before (
 
 -- ---- the whole
 
-pub cycles_of : CertificatesBoundCycles → (directed : Bool) (n : ℕ) (cost : ℕ → ℕ → ℤ) (scale : ℤ) (families : List Family)
-    (crossed : List Crossings) (given : List Decision) (steps : List listed.Step) (found : Judged)
+pub cycles_of : CaseTreesBoundCycles → (directed : Bool) (n : ℕ) (cost : ℕ → ℕ → ℤ) (scale : ℤ) (families : List Family)
+    (crossed : List Crossings) (given : List Decision) (steps : List listed.Step) (found : JudgedLeaves)
     → AreCostsFor directed n cost → IsScale scale → ∥ All (IsFamily n) families ∥₁
-    → (All (IsFamily n) families → IsJudged directed n cost scale families crossed given steps found)
+    → (All (IsFamily n) families → AreJudgedLeaves directed n cost scale families crossed given steps found)
     → BoundsCycles directed n cost given found
 cycles_of bounds directed n cost scale families crossed given steps (judged.Bound found) costs_are scale_in are is =
     each found (λ sure. let judged = is sure in
@@ -236,17 +236,17 @@ costs_for true n cost some even = omega (arith, some)
 -- ---- the cases of a tree, with its parts
 
 module _ (n : ℕ) (cost : ℕ → ℕ → ℤ) where
-  pub judged_of : (families : List Family) (crossed : List Crossings) (found : Judged) (cases : Cases) (directed : Bool) (scale : ℤ) (given : List Decision) (steps : List TreeStep)
+  pub judged_of : (families : List Family) (crossed : List Crossings) (found : JudgedLeaves) (cases : Cases) (directed : Bool) (scale : ℤ) (given : List Decision) (steps : List TreeStep)
       → AreCasesOf n directed scale given steps cases
-      → IsJudged cases.directed n cost cases.scale families crossed cases.given.now (steps_of cases.steps.now) found
-      → IsJudged directed n cost scale families crossed given (steps_of steps) found
+      → AreJudgedLeaves cases.directed n cost cases.scale families crossed cases.given.now (steps_of cases.steps.now) found
+      → AreJudgedLeaves directed n cost scale families crossed given (steps_of steps) found
   judged_of families crossed found cases directed scale given steps are is =
-      subst (λ (d : Bool). IsJudged d n cost scale families crossed given (steps_of steps) found) are.direction
-      (subst (λ (z : ℤ). IsJudged cases.directed n cost z families crossed given (steps_of steps) found) are.scale_is
-      (subst (λ (ds : List Decision). IsJudged cases.directed n cost cases.scale families crossed ds (steps_of steps) found) are.given_are
-      (subst (λ (ss : List TreeStep). IsJudged cases.directed n cost cases.scale families crossed cases.given.now (steps_of ss) found) are.steps_are is)))
+      subst (λ (d : Bool). AreJudgedLeaves d n cost scale families crossed given (steps_of steps) found) are.direction
+      (subst (λ (z : ℤ). AreJudgedLeaves cases.directed n cost z families crossed given (steps_of steps) found) are.scale_is
+      (subst (λ (ds : List Decision). AreJudgedLeaves cases.directed n cost cases.scale families crossed ds (steps_of steps) found) are.given_are
+      (subst (λ (ss : List TreeStep). AreJudgedLeaves cases.directed n cost cases.scale families crossed cases.given.now (steps_of ss) found) are.steps_are is)))
 
-  pub cycles_of_cases : (found : Judged) (cases : Cases) (directed : Bool) (scale : ℤ) (given : List Decision) (steps : List TreeStep)
+  pub cycles_of_cases : (found : JudgedLeaves) (cases : Cases) (directed : Bool) (scale : ℤ) (given : List Decision) (steps : List TreeStep)
       → AreCasesOf n directed scale given steps cases
       → BoundsCycles cases.directed n cost cases.given.now found → BoundsCycles directed n cost given found
   cycles_of_cases found cases directed scale given steps are is =

@@ -17,7 +17,7 @@ use Rattle.tsp_theory.proofs.Cycles.{least_tree_below}
 use Rattle.tsp_theory.proofs.Exchange.{crosses_turned}
 use Rattle.tsp_theory.proofs.Crossings.{one_if}
 use Rattle.tsp_theory.proofs.Adjustments.{adjusted_even, sum_zero, difference, adjusted_cycle}
-use Rattle.tsp_branch.specs.Combs.{Comb, crossings}
+use Rattle.tsp_branch.specs.Combs.{Comb, family_crossings}
 use Rattle.tsp_branch.specs.Families.{Family, IsFamily, CyclesCrossFamilies}
 use Rattle.tsp_branch.specs.LeafBound.{crossings_of, least_of, combed, leaf_weight, LeafBoundsBoundCycles, UncombedBoundsAreAdjustedBounds}
 
@@ -27,7 +27,7 @@ teeth_even : (i j : ℕ) (teeth : List (ℕ → Bool)) → sum_int_by (λ tooth.
 teeth_even i j [] = refl
 teeth_even i j (t ∷ ts) = ap₂ (λ a b. a +ℤ b) (ap one_if (crosses_turned t i j)) (teeth_even i j ts)
 
-comb_even : (comb : Comb) (i j : ℕ) → crossings comb i j ≡ crossings comb j i
+comb_even : (comb : Comb) (i j : ℕ) → family_crossings comb i j ≡ family_crossings comb j i
 comb_even comb i j = ap₂ (λ a b. a +ℤ b) (ap one_if (crosses_turned comb.handle i j)) (teeth_even i j comb.teeth)
 
 combs_even : (combs : List (Family × ℤ)) (i j : ℕ) → crossings_of combs i j ≡ crossings_of combs j i
@@ -46,10 +46,10 @@ product_below zero a b h = let first = zero-*ℤ a in let second = zero-*ℤ b i
 product_below (suc m) a b h = omega (arith, ints, h, product_below m a b h, suc_ℤ-*ℤ (pos m) a, suc_ℤ-*ℤ (pos m) b)
 
 comb_of_cycle : (n : ℕ) (nodes : List ℕ) (family : Family) (multiplier : ℤ) → Laws → CyclesCrossFamilies → IsCycle n nodes → IsFamily n family → pos 0 ≤ℤ multiplier
-    → (multiplier *ℤ pos family.numbers.least) ≤ℤ length_of (λ i j. multiplier *ℤ crossings family.sets i j) nodes
+    → (multiplier *ℤ pos family.numbers.least) ≤ℤ length_of (λ i j. multiplier *ℤ family_crossings family.sets i j) nodes
 comb_of_cycle n nodes family (pos m) laws crossed cycle is some =
-    let scaled = laws.scale m (crossings family.sets) nodes in
-    let below = product_below m (pos family.numbers.least) (length_of (crossings family.sets) nodes) (crossed n family nodes is cycle) in
+    let scaled = laws.scale m (family_crossings family.sets) nodes in
+    let below = product_below m (pos family.numbers.least) (length_of (family_crossings family.sets) nodes) (crossed n family nodes is cycle) in
     omega (arith, ints, scaled, below)
 comb_of_cycle n nodes family (negsuc m) laws crossed cycle is some = absurd (omega (arith, ints, some))
 
@@ -58,7 +58,7 @@ pub combs_of_cycle : (n : ℕ) (nodes : List ℕ) (combs : List (Family × ℤ))
 combs_of_cycle n nodes [] laws crossed cycle are = omega (arith, ints, sum_zero (links nodes))
 combs_of_cycle n nodes (c ∷ cs) laws crossed cycle are =
     let first = comb_of_cycle n nodes c.0 c.1 laws crossed cycle are.0.0 are.0.1 in
-    let split = laws.sum (λ i j. c.1 *ℤ crossings c.0.sets i j) (crossings_of cs) nodes in
+    let split = laws.sum (λ i j. c.1 *ℤ family_crossings c.0.sets i j) (crossings_of cs) nodes in
     omega (arith, ints, first, split, combs_of_cycle n nodes cs laws crossed cycle are.1)
 
 pub leaf_bounds_bound_cycles : Laws → CyclesCrossFamilies → LeafBoundsBoundCycles

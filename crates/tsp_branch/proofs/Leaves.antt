@@ -4,7 +4,7 @@ use Rattle.std.specs.Int.{w128}
 use Rattle.std.specs.Prelude.{ℤ, pos, neg_ℤ, ◌+ℤ◌, ◌-ℤ◌, ◌*ℤ◌}
 use Rattle.std.proofs.lemmas.Int.{ints}
 use Rattle.tsp_format.specs.Limits.{most_nodes}
-use Rattle.tsp_theory.specs.Numbers.{IsFromTo, total, IsLeastBound}
+use Rattle.tsp_theory.specs.CertificateNumbers.{IsFromTo, total, IsLeastBound}
 use Rattle.tsp_theory.specs.Tree.{weight_of, IsLeastOneTree}
 use Rattle.tsp_theory.specs.Adjusted.{triples_total}
 use Rattle.tsp_branch.specs.LeafBound.{least_of, leaf_weight}

@@ -7,7 +7,7 @@ use Rattle.std.proofs.lemmas.List.Elements.{All-more}
 use Rattle.std.proofs.lemmas.List.Folds.{Any-from_list_any, list_any_at, list_any_more}
 use Rattle.std.proofs.lemmas.List.Quantifiers.{all_pairs_push}
 use Rattle.tsp_families.specs.Crossed.{has}
-use Rattle.tsp_branch.specs.GoodCombs.{HasEachOnce}
+use Rattle.tsp_branch.specs.GoodFamilies.{HasEachOnce}
 use Rattle.tsp_branch.specs.states.Marked.{is_marked, AreNew, AddsNoOther}
 
 or_true : (b : Bool) → (b || true) ≡ true

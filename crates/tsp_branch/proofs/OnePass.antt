@@ -7,7 +7,7 @@ use Rattle.tsp_families.specs.declared.family.Crossings.{Crossings}
 use Rattle.tsp_branch.specs.declared.decision.Decision.{Decision}
 use Rattle.tsp_branch.specs.Cases.{decide}
 use Rattle.tsp_branch.specs.Listed.{all_grown, no_numbers_of, leaf_changes, after_leaves, IsGoodLeaf, AreGoodLeaves, IsFirstBadLeaf}
-use Rattle.tsp_branch.specs.Twice.{is_decided, Divided, divided, IsFirstTwice}
+use Rattle.tsp_branch.specs.Twice.{is_decided, Divided, branches_of_cases, IsFirstTwice}
 
 -- ---- leaves
 
@@ -144,7 +144,7 @@ record IsTwiceAfter (directed : Bool) (branches : List Divided) (k : ℕ) : Type
   before : (j : ℕ) → j < k → twice_after directed branches j ≡ false
 
 twice_by_place : (directed : Bool) (branch : ℕ) (cases : List (List Decision)) (steps : List listed.Step) (first : ℕ) → IsFirstTwiceFrom directed branch cases steps first
-    → (k : ℕ) × (first ≡ branch + suc k) × IsTwiceAfter directed (divided cases steps) k
+    → (k : ℕ) × (first ≡ branch + suc k) × IsTwiceAfter directed (branches_of_cases cases steps) k
 twice_by_place directed branch [] steps first h = absurd h
 twice_by_place directed branch (case ∷ cases) [] first h = absurd h
 twice_by_place directed branch (case ∷ cases) (listed.Branch a b ∷ steps) first (inl here) = (
@@ -160,7 +160,7 @@ twice_by_place directed branch (case ∷ cases) (listed.Branch a b ∷ steps) fi
       record {
         inside = omega (arith, rest.2.inside);
         twice = rest.2.twice;
-        before = one_more (λ j. twice_after directed (record { case = case; pair = (a, b) } ∷ divided after steps) j ≡ false) rest.0 later.0 rest.2.before;
+        before = one_more (λ j. twice_after directed (record { case = case; pair = (a, b) } ∷ branches_of_cases after steps) j ≡ false) rest.0 later.0 rest.2.before;
       },
     )
   where
@@ -169,7 +169,7 @@ twice_by_place directed branch (case ∷ cases) (listed.Branch a b ∷ steps) fi
     one_more P k none more (suc j) lt = more j (omega (arith, lt))
 twice_by_place directed branch (case ∷ cases) (listed.Leaf changes ∷ steps) first h = twice_by_place directed branch cases steps first h
 
-twice_in_pass : (directed : Bool) (branch : ℕ) (cases : List (List Decision)) (steps : List listed.Step) (k : ℕ) → IsTwiceAfter directed (divided cases steps) k
+twice_in_pass : (directed : Bool) (branch : ℕ) (cases : List (List Decision)) (steps : List listed.Step) (k : ℕ) → IsTwiceAfter directed (branches_of_cases cases steps) k
     → IsFirstTwiceFrom directed branch cases steps (branch + suc k)
 twice_in_pass directed branch [] steps k h = absurd (omega (arith, h.inside))
 twice_in_pass directed branch (case ∷ cases) [] k h = absurd (omega (arith, h.inside))
@@ -195,7 +195,7 @@ first_twice_by_place directed given steps first h =
     record {
       least = omega (arith, found.1);
       most = omega (arith, found.1, found.2.inside);
-      twice = subst (λ (k : ℕ). twice_after directed (divided (given ∷ []) steps) k ≡ true) place found.2.twice;
+      twice = subst (λ (k : ℕ). twice_after directed (branches_of_cases (given ∷ []) steps) k ≡ true) place found.2.twice;
       before = λ earlier from lt. found.2.before (earlier - 1) (omega (arith, from, lt, found.1));
     }
 
@@ -207,5 +207,5 @@ first_twice_in_pass directed given steps first h =
       twice = h.twice;
       before = λ j lt.
           let same : suc j - 1 ≡ j = omega arith in
-          subst (λ (k : ℕ). twice_after directed (divided (given ∷ []) steps) k ≡ false) same (h.before (suc j) (omega arith) (omega (arith, lt)));
+          subst (λ (k : ℕ). twice_after directed (branches_of_cases (given ∷ []) steps) k ≡ false) same (h.before (suc j) (omega arith) (omega (arith, lt)));
     }))

@@ -6,13 +6,13 @@ use Rattle.std.proofs.lemmas.Bool.{cases_Bool, cases_eq}
 use Rattle.std.proofs.lemmas.Int.{ints}
 use Rattle.std.proofs.lemmas.List.Elements.{All-contains, All-filter, All-from_recursion, Contains-get_or, recursion_from_All}
 use Rattle.std.proofs.lemmas.List.Sorted.{IsPermutation-reverse, IsPermutation-sym, Contains-permutation}
-use Rattle.tsp_format.specs.Cells.{IsNode}
+use Rattle.tsp_format.specs.Nodes.{IsNode}
 use Rattle.tsp_theory.specs.states.Nearest.{least_at}
 use Rattle.tsp_branch.specs.declared.decision.Decision.{Decision}
-use Rattle.tsp_branch.specs.states.Decided.{IsDecision, IsInside, stack_of}
+use Rattle.tsp_branch.specs.states.Decided.{IsDecision, IsOnPlaces, stack_of}
 use Rattle.tsp_branch.specs.states.OpenCases.{bears_on}
 use Rattle.tsp_branch.specs.Rows.{AllowsLink, Allows, IsAllowed, IsLeastFrom}
-use Rattle.tsp_branch.specs.states.Closed.{closed, IsShut, IsOpenRow}
+use Rattle.tsp_branch.specs.states.Closed.{no_link, IsShut, IsOpenRow}
 use Rattle.tsp_branch.proofs.OpenCases.{first_bears, second_only, filter_in, filter_out}
 
 -- ---- the decisions of a case
@@ -79,13 +79,13 @@ ends_inside n long test case own is own_is all = all_passed (λ decision. decisi
 
 -- the same of both nodes, which differ
 pub both_inside : (n long : ℕ) (test : Decision → Bool) (case own : List Decision) → long ≡ n + 1 → stack_of own ≡ filter test case → All (IsDecision n) case
-    → All (IsInside long) own
-both_inside n long test case own is own_is all = all_passed (IsInside long) test case own own_is
+    → All (IsOnPlaces long) own
+both_inside n long test case own is own_is all = all_passed (IsOnPlaces long) test case own own_is
     (λ k d lt. let node = all k d lt in (omega (arith, is, node.0.1), omega (arith, is, node.1.1), node.2))
 
 -- ---- one value
 
-stays_closed : (A : Type 0) (a b : ℤ) → IsShut A a b → a ≡ closed → b ≡ closed
+stays_closed : (A : Type 0) (a b : ℤ) → IsShut A a b → a ≡ no_link → b ≡ no_link
 stays_closed A a b (inl kept) is = kept.1 ∙ is
 stays_closed A a b (inr shut) is = shut.1
 
@@ -101,7 +101,7 @@ allowed_if A B a c (inr one) to from = inr (λ h. one.0 (from h), one.1)
 -- the node itself, the decisions that begin at it, and those that take their pair
 pub opened : (n : ℕ) (w : ℕ → ℕ → ℤ) (case own taken : List Decision) (from long : ℕ) (old shut mid new : List ℤ) → n < long → ((x : ℕ) → IsNode n x → least_at old x ≡ w from x)
     → stack_of own ≡ filter (bears_on true from) case → stack_of taken ≡ filter (λ decision. decision.taken) case
-    → least_at shut from ≡ closed → ((x : ℕ) → x ≢ from → least_at shut x ≡ least_at old x)
+    → least_at shut from ≡ no_link → ((x : ℕ) → x ≢ from → least_at shut x ≡ least_at old x)
     → ((x : ℕ) → x < long → IsShut (All (Allows from x) own) (least_at shut x) (least_at mid x))
     → ((x : ℕ) → x < long → IsShut (All (Allows from x) taken) (least_at mid x) (least_at new x)) → IsOpenRow n w case from new
 opened n w case own taken from long old shut mid new room read own_is taken_is here others first second = λ x node.
@@ -109,7 +109,7 @@ opened n w case own taken from long old shut mid new room read own_is taken_is h
     let both = two_turns (All (Allows from x) own) (All (Allows from x) taken) (least_at shut x) (least_at mid x) (least_at new x) (first x inside) (second x inside) in
     let parts = both_parts from x case own taken own_is taken_is in
     elim (cases_eq x from) [
-      | inl same ↦ inr (λ h. h.other (sym same), stays_closed _ (least_at shut x) (least_at new x) both (subst (λ (y : ℕ). least_at shut y ≡ closed) (sym same) here))
+      | inl same ↦ inr (λ h. h.other (sym same), stays_closed _ (least_at shut x) (least_at new x) both (subst (λ (y : ℕ). least_at shut y ≡ no_link) (sym same) here))
       | inr other ↦ allowed_if (All (Allows from x) own × All (Allows from x) taken) (IsAllowed n case from x) (w from x) (least_at new x)
           (subst (λ (z : ℤ). IsShut (All (Allows from x) own × All (Allows from x) taken) z (least_at new x)) (others x other ∙ read x node) both)
           (λ h. record { node = node; other = λ same. other (sym same); each = parts.0 h }) (λ h. parts.1 h.each)
@@ -117,9 +117,9 @@ opened n w case own taken from long old shut mid new room read own_is taken_is h
 
 -- ---- the least one
 
-module _ (n : ℕ) (w : ℕ → ℕ → ℤ) (decisions : List Decision) (from : ℕ) (row : List ℤ) (least : ℤ) (open_row : IsOpenRow n w decisions from row) (small : (x : ℕ) → IsNode n x → w from x <ℤ closed)
+module _ (n : ℕ) (w : ℕ → ℕ → ℤ) (decisions : List Decision) (from : ℕ) (row : List ℤ) (least : ℤ) (open_row : IsOpenRow n w decisions from row) (small : (x : ℕ) → IsNode n x → w from x <ℤ no_link)
     (below : (x : ℕ) → IsNode n x → least ≤ℤ least_at row x) where
-  pub none_allowed : least ≡ closed → (x : ℕ) → IsAllowed n decisions from x → ⊥
+  pub none_allowed : least ≡ no_link → (x : ℕ) → IsAllowed n decisions from x → ⊥
   none_allowed is x allowed = elim (open_row x allowed.node) [
     | inl kept ↦ let less = small x allowed.node in let most = below x allowed.node in let same = kept.1 in omega (arith, ints, is, less, most, same)
     | inr shut ↦ shut.0 allowed
@@ -131,7 +131,7 @@ module _ (n : ℕ) (w : ℕ → ℕ → ℤ) (decisions : List Decision) (from :
     | inr shut ↦ absurd (shut.0 allowed)
   ]
 
-  pub least_allowed : least ≢ closed → (x : ℕ) → IsNode n x → least ≡ least_at row x → IsLeastFrom n w decisions from least
+  pub least_allowed : least ≢ no_link → (x : ℕ) → IsNode n x → least ≡ least_at row x → IsLeastFrom n w decisions from least
   least_allowed other x node is = elim (open_row x node) [
     | inl kept ↦ record { to = x; allowed = kept.0; reached = is ∙ kept.1; below = least_below }
     | inr shut ↦ absurd (other (is ∙ shut.1))

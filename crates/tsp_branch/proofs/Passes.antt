@@ -11,8 +11,8 @@ use Rattle.tsp_families.specs.declared.family.Crossings.{Crossings}
 use Rattle.tsp_branch.specs.Families.{Family, IsFamily}
 use Rattle.tsp_branch.specs.declared.decision.Decision.{Decision}
 use Rattle.tsp_branch.specs.Decisions.{DecideOnce}
-use Rattle.tsp_branch.specs.Cases.{LeafNumbers, are_trees, decide, leaves_of, cases_of, later_cases, open_cases, next_stack}
-use Rattle.tsp_branch.specs.Certificate.{AreLeafNumbers, IsCertificate, IsAbove, IsLeastFound}
+use Rattle.tsp_branch.specs.Cases.{LeafNumbers, are_case_trees, decide, leaves_of, cases_of, later_cases, open_cases, next_stack}
+use Rattle.tsp_branch.specs.CaseTrees.{AreLeafNumbers, IsCaseTree, IsAbove, IsLeastFound}
 use Rattle.tsp_branch.specs.states.Decided.{stack_of}
 use Rattle.tsp_branch.specs.Listed.{all_grown, split_at, steps_from, no_numbers_of, listed_steps, IsGoodLeaf, AreGoodLeaves, IsLowest}
 use Rattle.tsp_branch.proofs.CaseLaws.{stacks_hold_cases}
@@ -139,7 +139,7 @@ pub record IsAtStep (Found : List Decision × LeafNumbers → Option ℤ → Typ
     (stack : Option (List Decision)) (lowest : Option ℤ) (leaf : ℕ) (steps : List listed.Step) : Type 0 where
   pub least : (final : Option ℤ) → ComesTo Found lowest (open_leaves n numbers given stack steps) final → ComesTo Found None
       (leaves_of (given ∷ []) (listed_steps n (length crossed) all)) final
-  pub whole : are_trees (length (open_cases given stack)) (steps_from n numbers steps) ≡ true
+  pub whole : are_case_trees (length (open_cases given stack)) (steps_from n numbers steps) ≡ true
   pub good : AreGoodFrom n crossed numbers steps → AreGoodFrom n crossed (no_numbers_of n (length crossed)) all
   pub bad : (first : ℕ) → IsFirstBadFrom n crossed numbers leaf steps first → IsFirstBadFrom n crossed
       (no_numbers_of n (length crossed)) 0 all first
@@ -147,7 +147,7 @@ pub record IsAtStep (Found : List Decision × LeafNumbers → Option ℤ → Typ
 
 module _ (Found : List Decision × LeafNumbers → Option ℤ → Type 0) (directed : Bool) (n : ℕ) (crossed : List Crossings)
     (given : List Decision) (all : List listed.Step) where
-  pub at_start : are_trees 1 (listed_steps n (length crossed) all) ≡ true → All (DecideOnce directed)
+  pub at_start : are_case_trees 1 (listed_steps n (length crossed) all) ≡ true → All (DecideOnce directed)
       (cases_of (leaves_of (given ∷ []) (listed_steps n (length crossed) all)))
       → IsAtStep Found directed n crossed given all (no_numbers_of n (length crossed)) (Some []) None 0 all
   at_start whole once = record {
@@ -168,7 +168,7 @@ module _ (Found : List Decision × LeafNumbers → Option ℤ → Type 0) (direc
         least = λ final. subst (λ (st : List Decision). ComesTo Found lowest
             (leaves_of (open_cases given (Some st)) (steps_from n numbers steps)) final
             → ComesTo Found None (leaves_of (given ∷ []) (listed_steps n (length crossed) all)) final) same (h.least final);
-        whole = subst (λ (st : List Decision). are_trees (length (open_cases given (Some st)))
+        whole = subst (λ (st : List Decision). are_case_trees (length (open_cases given (Some st)))
             (steps_from n numbers steps) ≡ true) same h.whole;
         good = h.good;
         bad = h.bad;
@@ -193,7 +193,7 @@ module _ (Found : List Decision × LeafNumbers → Option ℤ → Type 0) (direc
             (leaves_of (later_cases given (stack_of stack)) (steps_from n ns steps)) is low
             (subst (λ (cs : List (List Decision)). ComesTo Found lower (leaves_of cs (steps_from n ns steps)) final)
             (sym later_are) rest));
-        whole = subst (λ (cs : List (List Decision)). are_trees (length cs) (steps_from n ns steps) ≡ true) later_are h.whole;
+        whole = subst (λ (cs : List (List Decision)). are_case_trees (length cs) (steps_from n ns steps) ≡ true) later_are h.whole;
         good = λ rest. h.good (good, rest);
         bad = λ first rest. h.bad first (inr (good, rest));
         once = subst (λ (cs : List (List Decision)). AllByRecursion (DecideOnce directed)
@@ -208,8 +208,8 @@ module _ (Found : List Decision × LeafNumbers → Option ℤ → Type 0) (direc
 
   at_end : (families : List Family) (numbers : List ℤ) (stack : Option (List Decision)) (lowest : Option ℤ) (leaf : ℕ)
       → IsAtStep Found directed n crossed given all numbers stack lowest leaf []
-      → All (IsFamily n) families → are_trees 1 (listed_steps n (length crossed) all) ≡ true
-      → IsCertificate n families given (listed_steps n (length crossed) all) × IsLeastFound Found
+      → All (IsFamily n) families → are_case_trees 1 (listed_steps n (length crossed) all) ≡ true
+      → IsCaseTree n families given (listed_steps n (length crossed) all) × IsLeastFound Found
       (leaves_of (given ∷ []) (listed_steps n (length crossed) all)) lowest
       × AreGoodLeaves n crossed all
   at_end families numbers stack lowest leaf h are whole =
@@ -242,8 +242,8 @@ module _ (Found : List Decision × LeafNumbers → Option ℤ → Type 0) (direc
 
   pub passed : (families : List Family) (numbers : List ℤ) (stack : List Decision) (lowest : Option ℤ) (leaf : ℕ)
       → IsPassing numbers stack lowest leaf []
-      → All (IsFamily n) families → are_trees 1 (listed_steps n (length crossed) all) ≡ true
-      → IsCertificate n families given (listed_steps n (length crossed) all) × IsLeastFound Found
+      → All (IsFamily n) families → are_case_trees 1 (listed_steps n (length crossed) all) ≡ true
+      → IsCaseTree n families given (listed_steps n (length crossed) all) × IsLeastFound Found
       (leaves_of (given ∷ []) (listed_steps n (length crossed) all)) lowest
       × AreGoodLeaves n crossed all
   passed families numbers stack lowest leaf (inl h) are whole = at_end families numbers

@@ -6,10 +6,10 @@ use Rattle.std.proofs.Math.Path.{fun_ext}
 use Rattle.std.proofs.lemmas.Int.{ints}
 use Rattle.std.proofs.lemmas.List.Elements.{recursion_from_All}
 use Rattle.std.proofs.lemmas.List.FromFn.{length-range_with_len, get_or-range_with_len}
-use Rattle.tsp_format.specs.Cells.{IsNode, nodes_to}
+use Rattle.tsp_format.specs.Nodes.{IsNode, nodes_to}
 use Rattle.tsp_theory.specs.Cycle.{links}
 use Rattle.tsp_theory.specs.Length.{sum_int_by, length_of}
-use Rattle.tsp_theory.specs.Numbers.{entry}
+use Rattle.tsp_theory.specs.CertificateNumbers.{entry}
 use Rattle.tsp_theory.specs.NodeBound.{weight_between}
 use Rattle.tsp_theory.proofs.Sums.{sum_int_by-le}
 use Rattle.tsp_theory.proofs.CostLaws.{Laws, entries_of_links}

@@ -8,16 +8,16 @@ use Rattle.std.proofs.lemmas.Int.{ints, int_wrap-add_right, int_wrap-add_same}
 use Rattle.std.proofs.lemmas.List.Elements.{recursion_from_All, All-from_recursion}
 use Rattle.std.proofs.Math.ListN.{set}
 use Rattle.std.proofs.lemmas.List.{get_or-set_same, get_or-set_other}
-use Rattle.tsp_format.specs.Cells.{IsNode}
+use Rattle.tsp_format.specs.Nodes.{IsNode}
 use Rattle.tsp_theory.specs.Length.{sum_int_by}
 use Rattle.tsp_theory.specs.states.Nearest.{least_at}
 use Rattle.tsp_families.specs.Crossed.{has}
 use Rattle.tsp_theory.specs.Tree.{crossing}
-use Rattle.tsp_branch.specs.GoodCombs.{HasEachOnce}
+use Rattle.tsp_branch.specs.GoodFamilies.{HasEachOnce}
 use Rattle.tsp_branch.specs.declared.set_place.SetPlace.{SetPlace}
 use Rattle.tsp_branch.specs.states.Sets.{IsMoved, added, place_at, IsPlaceIn, times, places_in, places_with}
 use Rattle.tsp_branch.specs.states.Combed.{summed_from, set_crossings, multipliers_at, twice_in, inside_both}
-pub use Rattle.tsp_tree.proofs.Moved.{moved_to}
+pub use Rattle.tsp_tree.proofs.Additions.{moved_to}
 
 -- different nodes, by recursion
 abbrev Differ : List ℕ → Type 0

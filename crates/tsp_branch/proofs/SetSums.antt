@@ -5,7 +5,7 @@ use Rattle.std.specs.Global.{Vec}
 use Rattle.std.proofs.Math.ListN.{set}
 use Rattle.std.proofs.lemmas.Bool.{cases_eq, eq-eqb, ne_eqb}
 use Rattle.std.proofs.lemmas.List.{append_assoc, get_or-set_same, get_or-set_other}
-pub use Rattle.tsp_tree.proofs.Moved.{moved_on, node_moved}
+pub use Rattle.tsp_tree.proofs.Additions.{moved_on, node_moved}
 use Rattle.tsp_families.specs.FamilySets.{lists_of, families_in}
 use Rattle.tsp_branch.specs.declared.set_place.SetPlace.{SetPlace}
 use Rattle.tsp_branch.specs.states.Sets.{added, place_at, times, places_in, places_with}

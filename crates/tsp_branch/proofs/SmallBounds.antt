@@ -9,7 +9,7 @@ use Rattle.std.proofs.lemmas.Bool.{both_ways, or_cases, eqb-true}
 use Rattle.std.proofs.lemmas.List.Elements.{All-nil, All-from_recursion}
 use Rattle.std.proofs.lemmas.List.Kept.{AllPairs-cons}
 use Rattle.tsp_theory.specs.Costs.{IsSymmetric}
-use Rattle.tsp_format.specs.Cells.{IsNode}
+use Rattle.tsp_format.specs.Nodes.{IsNode}
 use Rattle.tsp_theory.specs.Tree.{weight_of}
 use Rattle.tsp_theory.specs.Growth.{tree_of}
 use Rattle.tsp_families.specs.Crossed.{has}
@@ -18,7 +18,7 @@ use Rattle.tsp_branch.specs.LeafBound.{leaf_weight, IsLeafBoundOf, IsLeafBound}
 use Rattle.tsp_branch.specs.declared.decision.Decision.{Decision}
 use Rattle.tsp_branch.specs.Cases.{LeafNumbers, Branch, Leaf}
 use Rattle.tsp_branch.specs.Families.{Family, IsFamily}
-use Rattle.tsp_branch.specs.Certificate.{multiplied, AreLeafNumbers, IsFoundAt, IsAbove}
+use Rattle.tsp_branch.specs.CaseTrees.{multiplied, AreLeafNumbers, IsFoundAt, IsAbove}
 use Rattle.tsp_branch.specs.Examples.{small_comb, small_family, cost_in, four_rows, six_rows, large, one_at_two, with_pair, without_pair, FourHave, SixHave}
 use Rattle.tsp_branch.proofs.LeafBounds.{leaf_even}
 use Rattle.tsp_branch.proofs.SmallTrees.{near_one, grows_well, least_tree}

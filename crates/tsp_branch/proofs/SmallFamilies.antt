@@ -6,7 +6,7 @@ use Rattle.std.proofs.lemmas.Bool.{both_ways}
 use Rattle.std.proofs.lemmas.Int.{ints}
 use Rattle.std.proofs.lemmas.List.Elements.{All-from_recursion}
 use Rattle.std.proofs.lemmas.List.Kept.{AllPairs-cons}
-use Rattle.tsp_format.specs.Cells.{IsNode}
+use Rattle.tsp_format.specs.Nodes.{IsNode}
 use Rattle.tsp_theory.specs.Cycle.{IsCycle}
 use Rattle.tsp_theory.specs.Length.{length_of}
 use Rattle.tsp_theory.specs.Tree.{crossing}
@@ -15,9 +15,9 @@ use Rattle.tsp_families.specs.Crossed.{has, sets_of, AreAlike, AreTooMany, IsLea
 use Rattle.tsp_families.specs.SetParts.{ArePartsOf, UnlikeNodesNeedParts}
 use Rattle.tsp_families.proofs.Lists.{cycle_from}
 use Rattle.tsp_families.proofs.NodeMembers.{same_least}
-use Rattle.tsp_branch.specs.Combs.{comb_of, crossings}
+use Rattle.tsp_branch.specs.Combs.{comb_of, family_crossings}
 use Rattle.tsp_branch.specs.Families.{CyclesCrossFamilies, NumbersAreUnique}
-use Rattle.tsp_branch.specs.CombsOfSets.{family_with}
+use Rattle.tsp_branch.specs.FamiliesOfSets.{family_with}
 use Rattle.tsp_branch.specs.FamilyExamples.{one_set_twice, beside_all_six, all_six, IsCrossed, IsNoFamily}
 use Rattle.tsp_branch.proofs.SmallVerdicts.{of_six}
 
@@ -74,17 +74,17 @@ around = cycle_from 6 (1 ∷ 2 ∷ 3 ∷ 4 ∷ 5 ∷ 6 ∷ [])
     less : (a b : ℕ) → suc a ≤ b → a ≢ b
     less a b lt same = omega (arith, lt, same)
 
-no_more_than_two : (i j : ℕ) → crossings (comb_of three (three ∷ [])) i j ≤ℤ pos 2
+no_more_than_two : (i j : ℕ) → family_crossings (comb_of three (three ∷ [])) i j ≤ℤ pos 2
 no_more_than_two i j = let one = none_or_one (cond (has three i) (not (has three j)) (has three j)) in omega (arith, ints, one.1)
 
 module _ (cross : CyclesCrossFamilies) (add : (first second : ℕ → ℕ → ℤ) (nodes : List ℕ) → length_of (λ i j. first i j +ℤ second i j) nodes ≡ length_of first nodes +ℤ length_of second nodes)
     (unlike : UnlikeNodesNeedParts) where
   -- each of the two sets is crossed as often as the lone one
-  four : (nodes : List ℕ) → IsCycle 6 nodes → pos 4 ≤ℤ length_of (crossings (comb_of three (three ∷ []))) nodes
+  four : (nodes : List ℕ) → IsCycle 6 nodes → pos 4 ≤ℤ length_of (family_crossings (comb_of three (three ∷ []))) nodes
   four nodes cycle =
       let one : pos 2 ≤ℤ length_of (λ i j. crossing (has three) i j +ℤ pos 0) nodes = cross 6 (family_with (record { least = 2; most = 3 }) (three ∷ [])) nodes lone_set cycle in
       let apart = add (crossing (has three)) (λ i j. pos 0) nodes in
-      let both : length_of (crossings (comb_of three (three ∷ []))) nodes ≡ length_of (crossing (has three)) nodes +ℤ length_of (λ i j. crossing (has three) i j +ℤ pos 0) nodes =
+      let both : length_of (family_crossings (comb_of three (three ∷ []))) nodes ≡ length_of (crossing (has three)) nodes +ℤ length_of (λ i j. crossing (has three) i j +ℤ pos 0) nodes =
       add (crossing (has three)) (λ i j. crossing (has three) i j +ℤ pos 0) nodes in
       let none : length_of (λ i j. pos 0) nodes ≡ pos 0 = nothing nodes in
       omega (arith, ints, one, apart, both, none)
@@ -129,7 +129,7 @@ in_six : (node : ℕ) → IsNode 6 node → has six node ≡ true
 in_six = of_six (λ x. has six x ≡ true) refl refl refl refl refl refl
 
 -- two nodes cross no other set than the first one
-by_the_first : (i j : ℕ) → IsNode 6 i → IsNode 6 j → crossing (has three) i j +ℤ pos 0 ≡ crossings (comb_of three all_six) i j
+by_the_first : (i j : ℕ) → IsNode 6 i → IsNode 6 j → crossing (has three) i j +ℤ pos 0 ≡ family_crossings (comb_of three all_six) i j
 by_the_first i j in_i in_j = rw (in_six i in_i, in_six j in_j) refl
 
 parts_beside : ArePartsOf 6 (sets_of beside_all_six) (1 ∷ 4 ∷ [])
@@ -156,7 +156,7 @@ set_beside_all cross unlike = inr (record {
   ];
   few = few;
   parted = omega arith;
-  least_is = same_least 6 (λ i j. crossing (has three) i j +ℤ pos 0) (crossings (comb_of three all_six)) (pos 2) by_the_first alone;
+  least_is = same_least 6 (λ i j. crossing (has three) i j +ℤ pos 0) (family_crossings (comb_of three all_six)) (pos 2) by_the_first alone;
   most_is = record {
     first = 1;
     second = 4;

@@ -3,10 +3,10 @@ use Rattle.std.proofs.Common.{◌≡◌, ◌≢◌, ℕ, true, false, [], ◌∷
 use Rattle.std.proofs.lemmas.Bool.{both_ways, cases_eq}
 use Rattle.std.proofs.lemmas.List.Elements.{All-from_recursion}
 use Rattle.std.proofs.lemmas.List.Kept.{AllPairs-cons}
-use Rattle.tsp_format.specs.Cells.{IsNode}
+use Rattle.tsp_format.specs.Nodes.{IsNode}
 use Rattle.tsp_families.specs.Crossed.{has}
 use Rattle.tsp_branch.specs.Combs.{IsTooth}
-use Rattle.tsp_branch.specs.GoodCombs.{HasEachOnce}
+use Rattle.tsp_branch.specs.GoodFamilies.{HasEachOnce}
 use Rattle.tsp_branch.specs.VerdictExamples.{IsNotGood, IsGood, three_teeth, TwiceAt, branches}
 use Rattle.tsp_branch.proofs.OnePass.{IsFirstTwiceFrom, first_twice_in_pass}
 use Rattle.tsp_branch.proofs.Teeth.{all_had, comb_of_family, lone_of_family}

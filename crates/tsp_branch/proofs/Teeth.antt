@@ -8,11 +8,11 @@ use Rattle.std.proofs.lemmas.List.{length-map, get_or_default}
 use Rattle.std.proofs.lemmas.List.Elements.{All-nil, All-cons, All-head, All-tail, All-from_recursion, recursion_from_All, All-weaker, All-contains}
 use Rattle.std.proofs.lemmas.List.Folds.{Any-from_list_any, list_any_at}
 use Rattle.std.proofs.lemmas.List.Kept.{AllPairs-cons}
-use Rattle.tsp_format.specs.Cells.{IsNode}
+use Rattle.tsp_format.specs.Nodes.{IsNode}
 use Rattle.tsp_families.specs.Crossed.{has}
 use Rattle.tsp_branch.specs.Combs.{IsTooth, AreApart, IsComb, comb_of}
 use Rattle.tsp_branch.specs.Families.{IsLoneSet, IsLoneOrComb}
-use Rattle.tsp_branch.specs.GoodCombs.{HasEachOnce, IsGoodComb, IsToothCount}
+use Rattle.tsp_branch.specs.GoodFamilies.{HasEachOnce, IsGoodComb, IsToothCount}
 use Rattle.tsp_families.specs.FamilySets.{lists_of}
 use Rattle.tsp_branch.specs.states.Marked.{AreNew, AreTeeth}
 use Rattle.std.specs.Global.{Vec}

@@ -1,26 +1,26 @@
 -- The verdict on a certificate by branching: its bound, or the first reason against it.
 use Rattle.std.specs.Prelude.{ℕ, Bool, None, Some, IfSome, List, ℤ}
 use Rattle.tsp_format.specs.Steps as listed
-use Rattle.tsp_theory.specs.Numbers.{IsBoundSized}
-use Rattle.tsp_branch.specs.declared.steps.Judged.{Judged}
-use Rattle.tsp_branch.specs.declared.steps.Judged.TheVariants as judged
+use Rattle.tsp_theory.specs.CertificateNumbers.{IsBoundSized}
+use Rattle.tsp_branch.specs.declared.steps.JudgedLeaves.{JudgedLeaves}
+use Rattle.tsp_branch.specs.declared.steps.JudgedLeaves.TheVariants as judged
 use Rattle.tsp_branch.specs.declared.steps.BranchVerdict.{BranchVerdict}
 use Rattle.tsp_branch.specs.declared.steps.BranchVerdict.TheVariants as verdict
 use Rattle.tsp_families.specs.declared.family.Crossings.{Crossings}
-use Rattle.tsp_branch.specs.Certificate.{BoundsIfAny}
-use Rattle.tsp_branch.specs.CombsOfSets.{families_with}
+use Rattle.tsp_branch.specs.CaseTrees.{BoundsIfAny}
+use Rattle.tsp_branch.specs.FamiliesOfSets.{families_with}
 use Rattle.tsp_branch.specs.declared.decision.Decision.{Decision}
-use Rattle.tsp_branch.specs.GoodCombs.{AreFamilies, IsFirstBadComb}
-use Rattle.tsp_branch.specs.Listed.{IsJudged}
+use Rattle.tsp_branch.specs.GoodFamilies.{AreFamilies, IsFirstBadFamily}
+use Rattle.tsp_branch.specs.Listed.{AreJudgedLeaves}
 use Rattle.tsp_branch.specs.Twice.{AreBranchesJudged}
 
 -- the judgement on the leaves, where all families are good and no branch comes twice
 pub record AreLeavesJudged (directed : Bool) (n : ℕ) (cost : ℕ → ℕ → ℤ) (scale : ℤ)
-    (families : List (List (List ℕ))) (given : List Decision) (steps : List listed.Step) (found : Judged) : Type 0 where
+    (families : List (List (List ℕ))) (given : List Decision) (steps : List listed.Step) (found : JudgedLeaves) : Type 0 where
   pub crossed : List Crossings
   pub are_families : AreFamilies n families crossed
   pub are_once : AreBranchesJudged directed given steps None
-  pub leaves : IsJudged directed n cost scale (families_with crossed families) crossed given steps found
+  pub leaves : AreJudgedLeaves directed n cost scale (families_with crossed families) crossed given steps found
 
 -- the first bad family; where all are good, the first branch that comes twice; where none does, the first bad leaf; and where all
 -- leaves are good, the bound
@@ -28,7 +28,7 @@ abbrev pub IsBranchVerdict : Bool → ℕ → (ℕ → ℕ → ℤ) → ℤ → 
     → Type 0
 IsBranchVerdict directed n cost scale families given steps (verdict.Bound found) =
     AreLeavesJudged directed n cost scale families given steps (judged.Bound found)
-IsBranchVerdict directed n cost scale families given steps (verdict.BadComb comb) = IsFirstBadComb n families comb
+IsBranchVerdict directed n cost scale families given steps (verdict.BadComb comb) = IsFirstBadFamily n families comb
 IsBranchVerdict directed n cost scale families given steps (verdict.BranchTwice branch) =
     (crossed : List Crossings) × AreFamilies n families crossed × AreBranchesJudged directed given steps (Some branch)
 IsBranchVerdict directed n cost scale families given steps (verdict.BadLeaf leaf) =

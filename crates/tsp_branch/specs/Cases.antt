@@ -17,12 +17,12 @@ pub data CaseStep : Type 0 where
   Leaf : LeafNumbers → CaseStep
 
 -- Whether steps are that many trees, one after the other. A leaf is a tree, and so is a branch with the two trees after it.
-abbrev pub are_trees : ℕ → List CaseStep → Bool
-are_trees zero [] = true
-are_trees zero (step ∷ steps) = false
-are_trees (suc count) [] = false
-are_trees (suc count) (Branch pair ∷ steps) = are_trees (suc (suc count)) steps
-are_trees (suc count) (Leaf numbers ∷ steps) = are_trees count steps
+abbrev pub are_case_trees : ℕ → List CaseStep → Bool
+are_case_trees zero [] = true
+are_case_trees zero (step ∷ steps) = false
+are_case_trees (suc count) [] = false
+are_case_trees (suc count) (Branch pair ∷ steps) = are_case_trees (suc (suc count)) steps
+are_case_trees (suc count) (Leaf numbers ∷ steps) = are_case_trees count steps
 
 -- a case is a list of decisions, the last one first: it means the cycles that keep them; a case with one decision more
 abbrev pub decide : ℕ × ℕ → Bool → List Decision → List Decision
@@ -49,7 +49,8 @@ KeepsOne directed nodes (case ∷ cases) = KeepsAll directed nodes case ⊎ Keep
 -- Each cycle that keeps the given decisions keeps those of a leaf of the tree that begins with them.
 abbrev pub CyclesKeepLeaves : Type 0
 CyclesKeepLeaves = (directed : Bool) (given : List Decision) (steps : List CaseStep) (nodes : List ℕ)
-    → are_trees 1 steps ≡ true → KeepsAll directed nodes given → KeepsOne directed nodes (cases_of (leaves_of (given ∷ []) steps))
+    → are_case_trees 1 steps ≡ true → KeepsAll directed nodes given
+    → KeepsOne directed nodes (cases_of (leaves_of (given ∷ []) steps))
 
 -- a bound is at most the length of every cycle of the case
 abbrev pub BoundsCase : Bool → ℕ → (ℕ → ℕ → ℤ) → ℤ → List Decision → Type 0
@@ -60,7 +61,7 @@ BoundsCase directed n cost bound case =
 -- given decisions.
 abbrev pub CasesBoundCycles : Type 0
 CasesBoundCycles = (directed : Bool) (n : ℕ) (cost : ℕ → ℕ → ℤ) (bound : ℤ) (given : List Decision) (steps : List CaseStep)
-    → are_trees 1 steps ≡ true → All (BoundsCase directed n cost bound) (cases_of (leaves_of (given ∷ []) steps))
+    → are_case_trees 1 steps ≡ true → All (BoundsCase directed n cost bound) (cases_of (leaves_of (given ∷ []) steps))
     → BoundsCase directed n cost bound given
 
 -- no cycle keeps the decisions of the case; and where that holds of each leaf's, none keeps the given ones
@@ -69,7 +70,7 @@ HasNoCycle directed n case = (nodes : List ℕ) → IsCycle n nodes → KeepsAll
 
 abbrev pub CasesHaveNoCycle : Type 0
 CasesHaveNoCycle = (directed : Bool) (n : ℕ) (given : List Decision) (steps : List CaseStep)
-    → are_trees 1 steps ≡ true → All (HasNoCycle directed n) (cases_of (leaves_of (given ∷ []) steps))
+    → are_case_trees 1 steps ≡ true → All (HasNoCycle directed n) (cases_of (leaves_of (given ∷ []) steps))
     → HasNoCycle directed n given
 
 -- ---- step by step

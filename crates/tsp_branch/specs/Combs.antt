@@ -2,7 +2,7 @@
 -- Source: M. Grötschel and M. W. Padberg, On the symmetric travelling salesman problem, 1979.
 use Rattle.std.specs.Prelude.{◌≡◌, ℕ, ◌+◌, ◌*◌, ◌≤◌, map, Bool, true, false, List, length, ℤ, pos, ◌+ℤ◌, ◌≤ℤ◌}
 use Rattle.std.specs.List.{All, AllPairs}
-use Rattle.tsp_format.specs.Cells.{IsNode}
+use Rattle.tsp_format.specs.Nodes.{IsNode}
 use Rattle.tsp_theory.specs.Cycle.{IsCycle}
 use Rattle.tsp_theory.specs.Length.{sum_int_by, length_of}
 use Rattle.tsp_theory.specs.Tree.{crossing}
@@ -37,8 +37,8 @@ pub record IsComb (n : ℕ) (comb : Comb) : Type 0 where
   pub apart : AllPairs AreApart comb.teeth
 
 -- how many of the comb's parts have one of the two nodes and not the other
-abbrev pub crossings : Comb → ℕ → ℕ → ℤ
-crossings comb i j = crossing comb.handle i j +ℤ sum_int_by (λ tooth. crossing tooth i j) comb.teeth
+abbrev pub family_crossings : Comb → ℕ → ℕ → ℤ
+family_crossings comb i j = crossing comb.handle i j +ℤ sum_int_by (λ tooth. crossing tooth i j) comb.teeth
 
 -- how often a cycle crosses them at the least
 abbrev pub least_crossings : Comb → ℤ
@@ -47,7 +47,7 @@ least_crossings comb = pos (3 * length comb.teeth + 1)
 -- Each cycle crosses the parts of a comb of k teeth at least 3k + 1 times.
 abbrev pub CyclesCrossCombs : Type 0
 CyclesCrossCombs = (n : ℕ) (comb : Comb) (nodes : List ℕ)
-    → IsComb n comb → IsCycle n nodes → least_crossings comb ≤ℤ length_of (crossings comb) nodes
+    → IsComb n comb → IsCycle n nodes → least_crossings comb ≤ℤ length_of (family_crossings comb) nodes
 
 -- ---- combs by lists of nodes
 

@@ -5,7 +5,7 @@ use Rattle.tsp_theory.specs.Costs.{IsSymmetric}
 use Rattle.tsp_theory.specs.Cycle.{IsCycle}
 use Rattle.tsp_theory.specs.Length.{length_of}
 use Rattle.tsp_theory.specs.Tour.{Problem, BoundsTours, Uses}
-use Rattle.tsp_theory.specs.Numbers.{IsScale}
+use Rattle.tsp_theory.specs.CertificateNumbers.{IsScale}
 use Rattle.tsp_theory.specs.Adjusted.{pair_of, is_same_pair, IsAdjustedBound}
 use Rattle.tsp_branch.specs.declared.decision.Decision.{Decision}
 

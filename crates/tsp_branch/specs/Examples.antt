@@ -1,13 +1,13 @@
 -- A small comb, small costs and small trees on which the definitions are evaluated.
 use Rattle.std.specs.Prelude.{◌≡◌, ℕ, ◌-◌, true, false, List, [], ◌∷◌, Some, replicate, min, max, slice_index, slice_index_or, ℤ, pos}
 use Rattle.tsp_theory.specs.Length.{length_of}
-use Rattle.tsp_branch.specs.Combs.{Comb, comb_of, crossings}
+use Rattle.tsp_branch.specs.Combs.{Comb, comb_of, family_crossings}
 use Rattle.tsp_branch.specs.Families.{Family}
 use Rattle.tsp_branch.specs.declared.decision.Decision.{Decision}
 use Rattle.tsp_branch.specs.Decisions.{on_taken, on_avoided}
 use Rattle.tsp_branch.specs.LeafBound.{leaf_weight}
-use Rattle.tsp_branch.specs.Cases.{LeafNumbers, CaseStep, Leaf, are_trees, leaves_of, cases_of}
-use Rattle.tsp_branch.specs.Certificate.{multiplied, IsCertificate, IsCertificateBound}
+use Rattle.tsp_branch.specs.Cases.{LeafNumbers, CaseStep, Leaf, are_case_trees, leaves_of, cases_of}
+use Rattle.tsp_branch.specs.CaseTrees.{multiplied, IsCaseTree, IsCaseTreeBound}
 
 -- the comb of the handle 1 2 3 and the teeth 1 4, 2 5 and 3 6
 abbrev pub small_comb : Comb
@@ -18,11 +18,11 @@ abbrev pub small_family : Family
 small_family = record { sets = small_comb; numbers = record { least = 10; most = 3 } }
 
 -- how many of its parts have one of the two nodes and not the other; how often a list of nodes crosses them
-abbrev pub Crosses : ℕ → ℕ → ℕ → Type 0
-Crosses i j times = crossings small_comb i j ≡ pos times
+abbrev pub PairCrosses : ℕ → ℕ → ℕ → Type 0
+PairCrosses i j times = family_crossings small_comb i j ≡ pos times
 
 abbrev pub CrossesInAll : List ℕ → ℕ → Type 0
-CrossesInAll nodes times = length_of (crossings small_comb) nodes ≡ pos times
+CrossesInAll nodes times = length_of (family_crossings small_comb) nodes ≡ pos times
 
 -- costs by rows, of each node those to the nodes after it
 abbrev pub cost_in : List (List ℕ) → ℕ → ℕ → ℤ
@@ -62,23 +62,23 @@ WeighsUnderComb i j weight =
 
 -- a certificate of four nodes has this bound; one of six, with the comb and these multipliers, and no branch
 abbrev pub FourHave : List CaseStep → ℤ → Type 0
-FourHave steps bound = IsCertificate 4 [] [] steps × IsCertificateBound false 4 (cost_in four_rows) (pos 1) large [] [] steps
+FourHave steps bound = IsCaseTree 4 [] [] steps × IsCaseTreeBound false 4 (cost_in four_rows) (pos 1) large [] [] steps
     (Some bound)
 
 abbrev pub six_leaf : List ℤ → List CaseStep
 six_leaf multipliers = Leaf (record { potentials = replicate 6 (pos 0); multipliers = multipliers }) ∷ []
 
 abbrev pub SixHave : List ℤ → ℤ → Type 0
-SixHave multipliers bound = IsCertificate 6 (small_family ∷ []) [] (six_leaf multipliers)
-    × IsCertificateBound false 6 (cost_in six_rows) (pos 2) large (small_family ∷ []) [] (six_leaf multipliers) (Some bound)
+SixHave multipliers bound = IsCaseTree 6 (small_family ∷ []) [] (six_leaf multipliers)
+    × IsCaseTreeBound false 6 (cost_in six_rows) (pos 2) large (small_family ∷ []) [] (six_leaf multipliers) (Some bound)
 
 -- the steps are one tree, and these are the cases of its leaves
 pub record IsTreeOf (steps : List CaseStep) (cases : List (List Decision)) : Type 0 where
-  pub whole : are_trees 1 steps ≡ true
+  pub whole : are_case_trees 1 steps ≡ true
   pub cases_are : cases_of (leaves_of ([] ∷ []) steps) ≡ cases
 
 abbrev pub IsNoTree : List CaseStep → Type 0
-IsNoTree steps = are_trees 1 steps ≡ false
+IsNoTree steps = are_case_trees 1 steps ≡ false
 
 -- decisions
 abbrev pub with_pair : ℕ → ℕ → Decision

@@ -1,11 +1,11 @@
 -- Families of sets of nodes: lone sets, combs and others, and how often cycles and two nodes cross them.
 use Rattle.std.specs.Prelude.{◌≡◌, ℕ, zero, suc, ◌+◌, ◌*◌, ◌≤◌, true, false, List, [], ◌∷◌, length, ◌⊎◌, pos, ◌≤ℤ◌}
-use Rattle.tsp_format.specs.Cells.{IsNode}
+use Rattle.tsp_format.specs.Nodes.{IsNode}
 use Rattle.tsp_theory.specs.Cycle.{IsCycle}
 use Rattle.tsp_theory.specs.Length.{length_of}
 use Rattle.tsp_families.specs.Crossed.{IsLeastLength, IsMostCost, AreTooMany}
 use Rattle.tsp_families.specs.declared.family.Crossings.{Crossings}
-use Rattle.tsp_branch.specs.Combs.{Comb, IsComb, crossings}
+use Rattle.tsp_branch.specs.Combs.{Comb, IsComb, family_crossings}
 
 -- sets, the first as a handle and the others as its teeth, whatever they are; and two numbers: how often a cycle crosses them at
 -- the least, and how many of them two nodes cross at the most
@@ -39,22 +39,22 @@ pub record HasFormula (n : ℕ) (family : Family) : Type 0 where
 
 -- other sets, which aren't too many and don't leave all nodes in one part: some two nodes cross one of them. The numbers are the
 -- least number of crossings of any cycle, and the most that two nodes cross.
-pub record IsOther (n : ℕ) (family : Family) : Type 0 where
+pub record IsOtherFamily (n : ℕ) (family : Family) : Type 0 where
   pub unknown : IsLoneOrComb n family.sets → ⊥
   pub few : AreTooMany n (family.sets.handle ∷ family.sets.teeth) → ⊥
   pub parted : 1 ≤ family.numbers.most
-  pub least_is : IsLeastLength n (crossings family.sets) (pos family.numbers.least)
-  pub most_is : IsMostCost n (crossings family.sets) (pos family.numbers.most)
+  pub least_is : IsLeastLength n (family_crossings family.sets) (pos family.numbers.least)
+  pub most_is : IsMostCost n (family_crossings family.sets) (pos family.numbers.most)
 
 abbrev pub IsFamily : ℕ → Family → Type 0
-IsFamily n family = HasFormula n family ⊎ IsOther n family
+IsFamily n family = HasFormula n family ⊎ IsOtherFamily n family
 
 -- ---- the theorems
 
 -- Each cycle crosses a family's sets so often at least.
 abbrev pub CyclesCrossFamilies : Type 0
 CyclesCrossFamilies = (n : ℕ) (family : Family) (nodes : List ℕ) → IsFamily n family → IsCycle n nodes
-    → pos family.numbers.least ≤ℤ length_of (crossings family.sets) nodes
+    → pos family.numbers.least ≤ℤ length_of (family_crossings family.sets) nodes
 
 -- A family has one pair of numbers.
 abbrev pub NumbersAreUnique : Type 0

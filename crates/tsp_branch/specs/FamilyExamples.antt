@@ -1,8 +1,8 @@
 -- Small families of sets of six nodes, on which the definitions are evaluated.
 use Rattle.std.specs.Prelude.{ℕ, List, [], ◌∷◌}
 use Rattle.tsp_branch.specs.Families.{IsFamily}
-use Rattle.tsp_branch.specs.CombsOfSets.{family_with}
-use Rattle.tsp_branch.specs.GoodCombs.{IsGoodFamily}
+use Rattle.tsp_branch.specs.FamiliesOfSets.{family_with}
+use Rattle.tsp_branch.specs.GoodFamilies.{IsGoodFamily}
 
 -- the set 1 2 3 twice, and all nodes
 abbrev pub one_set_twice : List (List ℕ)

@@ -1,7 +1,7 @@
 -- The numbers of a leaf that are judged to be good: so large at most that the weights fit.
 use Rattle.std.specs.Prelude.{◌≡◌, ℕ, List, [], ◌∷◌, length, ℤ, pos, ◌+ℤ◌, ◌*ℤ◌, ◌≤ℤ◌}
 use Rattle.std.specs.List.{All}
-use Rattle.tsp_theory.specs.Numbers.{ArePotentials}
+use Rattle.tsp_theory.specs.CertificateNumbers.{ArePotentials}
 use Rattle.tsp_families.specs.declared.family.Crossings.{Crossings}
 use Rattle.tsp_branch.specs.Cases.{LeafNumbers}
 

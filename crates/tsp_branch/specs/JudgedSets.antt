@@ -2,11 +2,11 @@
 use Rattle.std.specs.Prelude.{◌≡◌, ℕ, List}
 use Rattle.std.specs.Global.{Vec}
 use Rattle.tsp_families.specs.FamilySets.{families_in}
-use Rattle.tsp_branch.specs.GoodCombs.{AreFamilies, IsFirstBadComb}
+use Rattle.tsp_branch.specs.GoodFamilies.{AreFamilies, IsFirstBadFamily}
 use Rattle.tsp_branch.specs.declared.steps.JudgedFamilies.{JudgedFamilies}
 use Rattle.tsp_branch.specs.declared.steps.JudgedFamilies.TheVariants as judged
 
 abbrev pub AreFamiliesJudged : ℕ → List (Vec (Vec ℕ)) → JudgedFamilies → Type 0
 AreFamiliesJudged n families (judged.Good found) =
     (found.nodes ≡ n) × (found.lent.now ≡ families) × AreFamilies n (families_in families) found.crossed.items
-AreFamiliesJudged n families (judged.Bad first) = IsFirstBadComb n (families_in families) first
+AreFamiliesJudged n families (judged.Bad first) = IsFirstBadFamily n (families_in families) first

@@ -4,11 +4,11 @@ use Rattle.std.specs.List.{All}
 use Rattle.tsp_theory.specs.Costs.{IsSymmetric}
 use Rattle.tsp_theory.specs.Cycle.{IsCycle}
 use Rattle.tsp_theory.specs.Length.{sum_int_by, length_of}
-use Rattle.tsp_theory.specs.Numbers.{IsScale, total, IsLeastBound}
+use Rattle.tsp_theory.specs.CertificateNumbers.{IsScale, total, IsLeastBound}
 use Rattle.tsp_theory.specs.Tree.{weight_of, IsLeastOneTree}
 use Rattle.tsp_theory.specs.NodeBound.{weight_between}
 use Rattle.tsp_theory.specs.Adjusted.{adjusted, triples_total, UsesEach, UsesNone, IsAdjustedBound}
-use Rattle.tsp_branch.specs.Combs.{crossings}
+use Rattle.tsp_branch.specs.Combs.{family_crossings}
 use Rattle.tsp_branch.specs.Families.{Family, IsFamily}
 
 -- families with a multiplier each, which isn't negative
@@ -17,7 +17,7 @@ AreMultiplied n families = All (λ multiplied. IsFamily n multiplied.0 × (pos 0
 
 -- the crossings of two nodes, each times the multiplier of its family; the same of the least crossings of a cycle
 abbrev pub crossings_of : List (Family × ℤ) → ℕ → ℕ → ℤ
-crossings_of families i j = sum_int_by (λ multiplied. multiplied.1 *ℤ crossings multiplied.0.sets i j) families
+crossings_of families i j = sum_int_by (λ multiplied. multiplied.1 *ℤ family_crossings multiplied.0.sets i j) families
 
 abbrev pub least_of : List (Family × ℤ) → ℤ
 least_of families = sum_int_by (λ multiplied. multiplied.1 *ℤ pos multiplied.0.numbers.least) families

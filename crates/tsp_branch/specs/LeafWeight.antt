@@ -1,6 +1,6 @@
 -- The bound that the weight of a least 1-tree gives.
 use Rattle.std.specs.Prelude.{◌≡◌, ℕ, List, ℤ, pos, ◌+ℤ◌, ◌-ℤ◌, ◌*ℤ◌}
-use Rattle.tsp_theory.specs.Numbers.{total, IsLeastBound}
+use Rattle.tsp_theory.specs.CertificateNumbers.{total, IsLeastBound}
 use Rattle.tsp_theory.specs.Adjusted.{triples_total}
 use Rattle.tsp_tree.specs.Weighed.{IsLeastWeight}
 use Rattle.tsp_branch.specs.Families.{Family}

@@ -1,17 +1,17 @@
 -- A certificate as it is listed: each leaf by what changes since the leaf before it.
 use Rattle.std.specs.Prelude.{◌≡◌, ◌≢◌, ℕ, ◌+◌, ◌-◌, ◌^◌, ◌<◌, ◌≤◌, length, Bool, List, [], ◌∷◌, take, drop, replicate, slice_set, slice_index_or, Option, Some, None, IfSome, ◌⊎◌, ℤ, pos, ◌+ℤ◌, ◌≤ℤ◌}
 use Rattle.std.specs.List.{All}
-use Rattle.tsp_format.specs.Cells.{IsNode}
+use Rattle.tsp_format.specs.Nodes.{IsNode}
 use Rattle.tsp_format.specs.Steps as listed
-use Rattle.tsp_theory.specs.Numbers.{entry, IsBoundSized}
-use Rattle.tsp_branch.specs.declared.steps.Judged.{Judged}
-use Rattle.tsp_branch.specs.declared.steps.Judged.TheVariants as judged
+use Rattle.tsp_theory.specs.CertificateNumbers.{entry, IsBoundSized}
+use Rattle.tsp_branch.specs.declared.steps.JudgedLeaves.{JudgedLeaves}
+use Rattle.tsp_branch.specs.declared.steps.JudgedLeaves.TheVariants as judged
 use Rattle.tsp_families.specs.declared.family.Crossings.{Crossings}
 use Rattle.tsp_branch.specs.Families.{Family}
 use Rattle.tsp_branch.specs.declared.decision.Decision.{Decision}
 use Rattle.tsp_branch.specs.Decisions.{decided_number}
 use Rattle.tsp_branch.specs.Cases.{LeafNumbers, CaseStep, Branch, Leaf}
-use Rattle.tsp_branch.specs.Certificate.{IsCertificate, IsCertificateBound, BoundsIfAny}
+use Rattle.tsp_branch.specs.CaseTrees.{IsCaseTree, IsCaseTreeBound, BoundsIfAny}
 use Rattle.tsp_branch.specs.GoodNumbers.{AreGoodNumbers}
 
 -- ---- the numbers of a leaf
@@ -87,23 +87,24 @@ pub record IsFirstBadLeaf (n : ℕ) (crossed : List Crossings) (steps : List lis
 -- ---- the judgement
 
 -- Where all leaves are good, the bound, or none where no leaf has one; else the first leaf that isn't.
-abbrev pub IsJudged : Bool → ℕ → (ℕ → ℕ → ℤ) → ℤ → List Family → List Crossings → List Decision → List listed.Step → Judged
+abbrev pub AreJudgedLeaves : Bool → ℕ → (ℕ → ℕ → ℤ) → ℤ → List Family → List Crossings → List Decision → List listed.Step
+    → JudgedLeaves
     → Type 0
-IsJudged directed n cost scale families crossed given steps (judged.Bound found) =
-    IsCertificate n families given (listed_steps n (length crossed) steps)
-    × IsCertificateBound directed n cost scale decided_number families given (listed_steps n (length crossed) steps) found
+AreJudgedLeaves directed n cost scale families crossed given steps (judged.Bound found) =
+    IsCaseTree n families given (listed_steps n (length crossed) steps)
+    × IsCaseTreeBound directed n cost scale decided_number families given (listed_steps n (length crossed) steps) found
     × AreGoodLeaves n crossed steps
-IsJudged directed n cost scale families crossed given steps (judged.BadLeaf leaf) = IsFirstBadLeaf n crossed steps leaf
+AreJudgedLeaves directed n cost scale families crossed given steps (judged.BadLeaf leaf) = IsFirstBadLeaf n crossed steps leaf
 
 -- Then the bound is at most the length of every cycle that keeps the given decisions, and where there is none, no cycle does.
-abbrev pub BoundsCycles : Bool → ℕ → (ℕ → ℕ → ℤ) → List Decision → Judged → Type 0
+abbrev pub BoundsCycles : Bool → ℕ → (ℕ → ℕ → ℤ) → List Decision → JudgedLeaves → Type 0
 BoundsCycles directed n cost given (judged.Bound found) = BoundsIfAny directed n cost given found
 BoundsCycles directed n cost given (judged.BadLeaf leaf) = Unit {0}
 
 -- Sums with it fit 128 bits.
-abbrev pub IsJudgedSized : Judged → Type 0
-IsJudgedSized (judged.Bound found) = IfSome found IsBoundSized
-IsJudgedSized (judged.BadLeaf leaf) = Unit {0}
+abbrev pub AreSizedLeaves : JudgedLeaves → Type 0
+AreSizedLeaves (judged.Bound found) = IfSome found IsBoundSized
+AreSizedLeaves (judged.BadLeaf leaf) = Unit {0}
 
 -- the lower one of a bound and the lowest so far, where there are both; else the one that there is
 abbrev pub IsLowest : Option ℤ → Option ℤ → Option ℤ → Type 0

@@ -2,7 +2,7 @@
 use Rattle.std.specs.Prelude.{ℕ, ◌-◌, List, [], ◌∷◌, slice_index, slice_index_or, ℤ, pos}
 use Rattle.tsp_branch.specs.declared.decision.Decision.{Decision}
 use Rattle.tsp_branch.specs.Families.{Family}
-use Rattle.tsp_branch.specs.CombsOfSets.{family_with}
+use Rattle.tsp_branch.specs.FamiliesOfSets.{family_with}
 use Rattle.tsp_branch.specs.RowLeaves.{IsRowLeafBound}
 use Rattle.tsp_branch.specs.Rows.{IsRowBound}
 

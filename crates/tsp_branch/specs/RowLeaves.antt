@@ -1,7 +1,7 @@
 -- The bound of a leaf by the least links from each node: its weights are those of a leaf without numbers on pairs, with costs
 -- that may differ by the direction.
 use Rattle.std.specs.Prelude.{◌≡◌, ℕ, ◌≤◌, true, List, length, ℤ, pos, ◌-ℤ◌, ◌*ℤ◌}
-use Rattle.tsp_theory.specs.Numbers.{IsScale, total}
+use Rattle.tsp_theory.specs.CertificateNumbers.{IsScale, total}
 use Rattle.tsp_theory.specs.NodeBound.{weight_between}
 use Rattle.tsp_branch.specs.Families.{Family}
 use Rattle.tsp_branch.specs.declared.decision.Decision.{Decision}

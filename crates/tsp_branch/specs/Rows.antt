@@ -1,10 +1,10 @@
 -- Which links the decisions allow, and the least weight of the links from each node.
 use Rattle.std.specs.Prelude.{◌≡◌, ◌≢◌, ℕ, ◌≤◌, Bool, true, false, List, ◌↔◌, ℤ, ◌+ℤ◌, ◌≤ℤ◌}
 use Rattle.std.specs.List.{All}
-use Rattle.tsp_format.specs.Cells.{IsNode, nodes_to}
+use Rattle.tsp_format.specs.Nodes.{IsNode, nodes_to}
 use Rattle.tsp_theory.specs.Cycle.{IsCycle, Follows}
 use Rattle.tsp_theory.specs.Length.{sum_int_by, length_of}
-use Rattle.tsp_theory.specs.Numbers.{IsLeastBound}
+use Rattle.tsp_theory.specs.CertificateNumbers.{IsLeastBound}
 use Rattle.tsp_branch.specs.declared.decision.Decision.{Decision}
 use Rattle.tsp_branch.specs.Decisions.{KeepsAll}
 use Rattle.tsp_branch.specs.Cases.{HasNoCycle}

@@ -17,12 +17,12 @@ pub record Divided : Type 0 where
   pub pair : ℕ × ℕ
 
 -- Each branch of the steps, where these cases are open before them. It divides the first open one.
-abbrev pub divided : List (List Decision) → List listed.Step → List Divided
-divided [] steps = []
-divided (case ∷ cases) [] = []
-divided (case ∷ cases) (listed.Branch a b ∷ steps) =
-    record { case = case; pair = (a, b) } ∷ divided (decide (a, b) true case ∷ decide (a, b) false case ∷ cases) steps
-divided (case ∷ cases) (listed.Leaf changes ∷ steps) = divided cases steps
+abbrev pub branches_of_cases : List (List Decision) → List listed.Step → List Divided
+branches_of_cases [] steps = []
+branches_of_cases (case ∷ cases) [] = []
+branches_of_cases (case ∷ cases) (listed.Branch a b ∷ steps) =
+    record { case = case; pair = (a, b) } ∷ branches_of_cases (decide (a, b) true case ∷ decide (a, b) false case ∷ cases) steps
+branches_of_cases (case ∷ cases) (listed.Leaf changes ∷ steps) = branches_of_cases cases steps
 
 -- the branch at a place, from 1 on, is on a pair that its case decides
 abbrev pub is_twice_at : Bool → List Divided → ℕ → Bool
@@ -33,9 +33,10 @@ is_twice_at directed branches place =
 -- the first branch that comes twice, counted from 1
 pub record IsFirstTwice (directed : Bool) (given : List Decision) (steps : List listed.Step) (first : ℕ) : Type 0 where
   pub least : 1 ≤ first
-  pub most : first ≤ length (divided (given ∷ []) steps)
-  pub twice : is_twice_at directed (divided (given ∷ []) steps) first ≡ true
-  pub before : (earlier : ℕ) → 1 ≤ earlier → earlier < first → is_twice_at directed (divided (given ∷ []) steps) earlier ≡ false
+  pub most : first ≤ length (branches_of_cases (given ∷ []) steps)
+  pub twice : is_twice_at directed (branches_of_cases (given ∷ []) steps) first ≡ true
+  pub before : (earlier : ℕ) → 1 ≤ earlier → earlier < first
+      → is_twice_at directed (branches_of_cases (given ∷ []) steps) earlier ≡ false
 
 -- Where no branch comes twice, no case decides a pair twice, whatever the numbers of its leaves; else the first one is reported.
 abbrev pub AreBranchesJudged : Bool → List Decision → List listed.Step → Option ℕ → Type 0

@@ -2,7 +2,7 @@
 use Rattle.std.specs.Prelude.{ℕ, Bool, List, [], ◌∷◌, ℤ}
 use Rattle.tsp_format.specs.Steps as listed
 use Rattle.tsp_branch.specs.declared.decision.Decision.{Decision}
-use Rattle.tsp_branch.specs.GoodCombs.{IsGoodComb}
+use Rattle.tsp_branch.specs.GoodFamilies.{IsGoodComb}
 use Rattle.tsp_branch.specs.Twice.{IsFirstTwice}
 
 -- sets of six nodes are neither a lone set nor those of a comb, and that they are

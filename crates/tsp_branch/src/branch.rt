@@ -7,23 +7,23 @@ ghost use Rattle.tsp_theory.specs.Costs.{IsSymmetric};
 ghost use Rattle.tsp_branch.specs.Families.{IsFamily};
 ghost use Rattle.tsp_branch.specs.Decisions.{DecideOnce, decided_number};
 ghost use Rattle.tsp_branch.specs.states.Lent.{lent_in, good_in};
-ghost use Rattle.tsp_branch.specs.Certificate.{IsFoundAt};
+ghost use Rattle.tsp_branch.specs.CaseTrees.{IsFoundAt};
 ghost use Rattle.tsp_branch.specs.states.OpenCases.{IsOpenCase, decisions_in};
-ghost use Rattle.tsp_branch.specs.Listed.{IsJudged, BoundsCycles, IsJudgedSized, IsLowest};
+ghost use Rattle.tsp_branch.specs.Listed.{AreJudgedLeaves, BoundsCycles, AreSizedLeaves, IsLowest};
 ghost use Rattle.tsp_branch.specs.states.Kept.{HoldsRows};
 ghost use Rattle.tsp_branch.specs.states.Rooms.{IsRoom, AreSmall, IsJudgedLeaf, IsSizedLeaf};
 
 use crate::case_leaf::CaseLeaf;
 use crate::families::Families;
 use crate::judge::judge;
-use crate::laws::certificates_bound_cycles;
+use crate::laws::case_trees_bound_cycles;
 use crate::moved::fill_moved;
 use crate::numbers::add_differences;
 use crate::open_case::OpenCase;
 use crate::room::Room;
 use crate::sets::sets_by_node;
 use crate::setting::Setting;
-use crate::steps::{Judged, JudgedLeaf};
+use crate::steps::{JudgedLeaf, JudgedLeaves};
 use crate::tree_cases::Cases;
 use std::alloc::Global;
 use tsp_format::TreeStep;
@@ -54,19 +54,19 @@ pub fn branch_bound<C: Costs>(
     costs: &C,
     families: &Families,
     cases: &Cases,
-) -> Result<Judged, Refused>
+) -> Result<JudgedLeaves, Refused>
     requires some { 3 ≤ C.nodes costs.now }
     requires even { cases.now.directed ≡ false → IsSymmetric (C.at costs.now) }
     requires families { families.now.nodes ≡ C.nodes costs.now }
     requires cases { cases.now.nodes ≡ C.nodes costs.now }
     ensures judged { IfOk result (λ judged. All (IsFamily (C.nodes costs.now)) (good_in families.now)
-        → IsJudged cases.now.directed (C.nodes costs.now) (C.at costs.now) cases.now.scale (good_in families.now)
+        → AreJudgedLeaves cases.now.directed (C.nodes costs.now) (C.at costs.now) cases.now.scale (good_in families.now)
         families.now.crossed.items cases.now.given.now (steps_of cases.now.steps.now) judged) }
     ensures cycles { IfOk result
         (BoundsCycles cases.now.directed (C.nodes costs.now) (C.at costs.now) cases.now.given.now) }
-    ensures size { IfOk result IsJudgedSized }
+    ensures size { IfOk result AreSizedLeaves }
 {
-    certificates_bound_cycles();
+    case_trees_bound_cycles();
     let by_node = sets_by_node(alloc, families)?;
     let setting = Setting {
         costs,
@@ -82,12 +82,12 @@ pub fn branch_bound<C: Costs>(
 /// # Errors
 ///
 /// Out of memory.
-fn judge_leaves<C: Costs>(alloc: Global, setting: &Setting<C>) -> Result<Judged, Refused>
+fn judge_leaves<C: Costs>(alloc: Global, setting: &Setting<C>) -> Result<JudgedLeaves, Refused>
     ensures judged { IfOk result (λ judged. All (IsFamily (C.nodes setting.now.costs.now)) (good_in setting.now.families.now)
-        → IsJudged setting.now.cases.now.directed (C.nodes setting.now.costs.now) (C.at setting.now.costs.now)
+        → AreJudgedLeaves setting.now.cases.now.directed (C.nodes setting.now.costs.now) (C.at setting.now.costs.now)
         setting.now.cases.now.scale (good_in setting.now.families.now) setting.now.families.now.crossed.items
         setting.now.cases.now.given.now (steps_of setting.now.cases.now.steps.now) judged) }
-    ensures size { IfOk result IsJudgedSized }
+    ensures size { IfOk result AreSizedLeaves }
 {
     let cases = setting.cases;
     let mut room = Room::new(alloc, setting)?;
@@ -101,14 +101,14 @@ fn judge_leaves<C: Costs>(alloc: Global, setting: &Setting<C>) -> Result<Judged,
                 leaf += 1;
                 let judged = judge_leaf(alloc, setting, changes, &case, &mut room)?;
                 let JudgedLeaf::Found(own) = judged else {
-                    return Ok(Judged::BadLeaf(leaf));
+                    return Ok(JudgedLeaves::BadLeaf(leaf));
                 };
                 lowest = lower(lowest, own);
                 case.next()?;
             }
         }
     }
-    Ok(Judged::Bound(lowest))
+    Ok(JudgedLeaves::Bound(lowest))
 }
 
 /// The judgement on a leaf, whose numbers are kept where they are good.

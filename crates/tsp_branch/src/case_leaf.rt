@@ -46,9 +46,9 @@ pub(crate) struct CaseLeaf<'a, C: Costs> {
 
 impl<C: Costs> CaseLeaf<'_, C> {
     ghost use Rattle.std.specs.Prelude.{◌≡◌, ◌+◌, true, false, length, Some, IfOk, IfSome};
-    ghost use Rattle.tsp_theory.specs.Numbers.{IsBoundSized};
+    ghost use Rattle.tsp_theory.specs.CertificateNumbers.{IsBoundSized};
     ghost use Rattle.tsp_branch.specs.Decisions.{decided_number};
-    ghost use Rattle.tsp_branch.specs.Certificate.{IsFoundAt};
+    ghost use Rattle.tsp_branch.specs.CaseTrees.{IsFoundAt};
     ghost use Rattle.tsp_branch.specs.states.Lent.{good_in};
     ghost use Rattle.tsp_branch.specs.states.OpenCases.{decisions_in};
     ghost use Rattle.tsp_branch.specs.GoodNumbers.{as_leaf_numbers};

@@ -5,7 +5,7 @@ ghost use Rattle.std.specs.List.{All};
 ghost use Rattle.tsp_format.specs.states.TreeSteps.{steps_of};
 ghost use Rattle.tsp_format.specs.Steps.{are_whole};
 ghost use Rattle.tsp_theory.specs.Costs.{IsSymmetric};
-ghost use Rattle.tsp_theory.specs.Numbers.{IsScale};
+ghost use Rattle.tsp_theory.specs.CertificateNumbers.{IsScale};
 ghost use Rattle.tsp_families.specs.FamilySets.{AreFamiliesOf};
 ghost use Rattle.tsp_branch.specs.Decisions.{DecideOnce};
 ghost use Rattle.tsp_branch.specs.Listed.{IsStepOf};

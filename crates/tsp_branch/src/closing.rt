@@ -4,7 +4,7 @@ ghost use Rattle.std.specs.Prelude.{◌≡◌, ◌≢◌, ◌<◌, ℕ, length};
 ghost use Rattle.std.specs.List.{All};
 ghost use Rattle.tsp_theory.specs.states.Nearest.{least_at};
 ghost use Rattle.tsp_branch.specs.Rows.{Allows};
-ghost use Rattle.tsp_branch.specs.states.Closed.{closed, IsShut};
+ghost use Rattle.tsp_branch.specs.states.Closed.{no_link, IsShut};
 
 use crate::decision::Decision;
 
@@ -45,7 +45,7 @@ fn close(row: &mut [i64], decision: Decision, from: u32)
 /// Closes a link.
 pub(crate) fn shut(row: &mut [i64], node: u32)
     requires { node < length row.old }
-    ensures here { least_at row.new node ≡ closed }
+    ensures here { least_at row.new node ≡ no_link }
     ensures others { (x : ℕ) → x ≢ node → least_at row.new x ≡ least_at row.old x }
 {
     row[node as usize] = CLOSED;
@@ -55,7 +55,7 @@ pub(crate) fn shut(row: &mut [i64], node: u32)
 fn shut_others(row: &mut [i64], node: u32)
     requires { node < length row.old }
     ensures here { least_at row.new node ≡ least_at row.old node }
-    ensures others { (x : ℕ) → x < length row.old → x ≢ node → least_at row.new x ≡ closed }
+    ensures others { (x : ℕ) → x < length row.old → x ≢ node → least_at row.new x ≡ no_link }
 {
     let kept = row[node as usize];
     row.fill(CLOSED);

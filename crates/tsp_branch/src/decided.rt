@@ -4,7 +4,7 @@ ghost use Rattle.std.specs.Prelude.{◌≡◌, ℕ, false, length};
 ghost use Rattle.std.specs.List.{All};
 ghost use Rattle.tsp_theory.specs.states.Nearest.{least_at};
 ghost use Rattle.tsp_branch.specs.states.Sets.{IsMoved};
-ghost use Rattle.tsp_branch.specs.states.Decided.{IsInside, IsChanged, AreFewChanges, changes};
+ghost use Rattle.tsp_branch.specs.states.Decided.{IsOnPlaces, IsChanged, AreFewChanges, changes};
 ghost use Rattle.tsp_branch.specs.states.OpenCases.{IsOpenCase, decisions_in};
 
 use crate::combed::CombedWeights;
@@ -57,7 +57,7 @@ impl<C: Costs> Weights for DecidedWeights<'_, C> {
 
 /// Changes the row of a node by decisions.
 fn change_row(row: &mut [i64], decisions: &[Decision], from: u32)
-    requires { All (IsInside (length row.old)) decisions.now }
+    requires { All (IsOnPlaces (length row.old)) decisions.now }
     ensures { (x : ℕ) → IsMoved (changes decisions.now from x) (least_at row.old x) (least_at row.new x) }
 {
     'decisions: for decision in decisions {
@@ -70,7 +70,7 @@ fn change_row(row: &mut [i64], decisions: &[Decision], from: u32)
 /// What two decisions on one pair come to may go past 64 bits on the way, so sums are taken in
 /// their remainders.
 fn change(row: &mut [i64], decision: Decision, from: u32)
-    requires { IsInside (length row.old) decision }
+    requires { IsOnPlaces (length row.old) decision }
     ensures { (x : ℕ) → IsChanged decision from x (least_at row.old x) (least_at row.new x) }
 {
     let (first, second) = decision.pair;

@@ -5,7 +5,7 @@ ghost use Rattle.tsp_branch.specs.Combs.{least_crossings};
 ghost use Rattle.tsp_branch.specs.Decisions.{decided_number};
 ghost use Rattle.tsp_branch.specs.Families.{least_crossings_of};
 ghost use Rattle.tsp_branch.specs.Cases.{Branch, Leaf};
-ghost use Rattle.tsp_branch.specs.Examples.{small_comb, Crosses, CrossesInAll, large, no_numbers, one_at_two, WeighsAt, WeighsUnderComb, four_rows, six_rows, LengthIs, FourHave, SixHave, IsTreeOf, IsNoTree, with_pair, without_pair};
+ghost use Rattle.tsp_branch.specs.Examples.{small_comb, PairCrosses, CrossesInAll, large, no_numbers, one_at_two, WeighsAt, WeighsUnderComb, four_rows, six_rows, LengthIs, FourHave, SixHave, IsTreeOf, IsNoTree, with_pair, without_pair};
 ghost use Rattle.tsp_branch.specs.CaseExamples.{AreOnce, AreNotOnce, branched};
 ghost use Rattle.tsp_branch.specs.VerdictExamples.{IsNotGood, IsGood, three_teeth, TwiceAt, branches, branches_apart, on_both_sides};
 
@@ -15,15 +15,15 @@ pub fn examples_of_crossings()
     ensures least { least_crossings small_comb ≡ pos 10 }
     ensures least_of_three_teeth { least_crossings_of 3 ≡ 10 }
     ensures least_of_lone_set { least_crossings_of 0 ≡ 2 }
-    ensures itself { Crosses 1 1 0 }
-    ensures handle_alone { Crosses 1 4 1 }
-    ensures handle_alone_turned { Crosses 4 1 1 }
-    ensures two_teeth_inside { Crosses 1 2 2 }
-    ensures two_teeth_outside { Crosses 4 6 2 }
-    ensures all_three { Crosses 1 5 3 }
-    ensures outside_all { Crosses 7 8 0 }
-    ensures handle_and_tooth { Crosses 1 7 2 }
-    ensures tooth_alone { Crosses 4 7 1 }
+    ensures itself { PairCrosses 1 1 0 }
+    ensures handle_alone { PairCrosses 1 4 1 }
+    ensures handle_alone_turned { PairCrosses 4 1 1 }
+    ensures two_teeth_inside { PairCrosses 1 2 2 }
+    ensures two_teeth_outside { PairCrosses 4 6 2 }
+    ensures all_three { PairCrosses 1 5 3 }
+    ensures outside_all { PairCrosses 7 8 0 }
+    ensures handle_and_tooth { PairCrosses 1 7 2 }
+    ensures tooth_alone { PairCrosses 4 7 1 }
     ensures best_cycle { CrossesInAll (1 ∷ 2 ∷ 3 ∷ 6 ∷ 5 ∷ 4 ∷ []) 10 }
     ensures other_cycle { CrossesInAll (1 ∷ 2 ∷ 3 ∷ 4 ∷ 5 ∷ 6 ∷ []) 14 }
 {}

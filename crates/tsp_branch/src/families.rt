@@ -4,8 +4,8 @@ ghost use Rattle.std.specs.Prelude.{◌≡◌, ◌≤◌, ◌<◌, ◌-◌, ◌^
 ghost use Rattle.std.specs.List.{All};
 ghost use Rattle.tsp_families.specs.FamilySets.{families_in, AreFamiliesOf};
 ghost use Rattle.tsp_branch.specs.Families.{IsFamily};
-ghost use Rattle.tsp_branch.specs.CombsOfSets.{families_with};
-ghost use Rattle.tsp_branch.specs.GoodCombs.{HasEachOnce};
+ghost use Rattle.tsp_branch.specs.FamiliesOfSets.{families_with};
+ghost use Rattle.tsp_branch.specs.GoodFamilies.{HasEachOnce};
 ghost use Rattle.tsp_branch.specs.states.FamilyNumbers.{AreSmallCrossings};
 
 use crate::set_place::SetPlace;
@@ -35,7 +35,7 @@ pub struct Families<'a> {
 impl Families<'_> {
     ghost use Rattle.std.specs.Prelude.{◌≡◌, [], slice_index_or};
     ghost use Rattle.std.specs.List.{All};
-    ghost use Rattle.tsp_format.specs.Cells.{IsNode};
+    ghost use Rattle.tsp_format.specs.Nodes.{IsNode};
     ghost use Rattle.tsp_branch.specs.states.Sets.{IsPlaceIn};
     ghost use Rattle.tsp_branch.specs.states.Lent.{lent_in};
 

@@ -2,13 +2,13 @@
 
 ghost use Rattle.std.specs.Prelude.{◌≡◌, ◌≤◌, ◌<◌, ◌^◌, ◌-◌, length, pos, neg_ℤ, ◌-ℤ◌, ◌*ℤ◌, ◌≤ℤ◌};
 ghost use Rattle.std.specs.List.{All};
-ghost use Rattle.tsp_theory.specs.Numbers.{IsFromTo, total};
+ghost use Rattle.tsp_theory.specs.CertificateNumbers.{IsFromTo, total};
 ghost use Rattle.tsp_theory.specs.Adjusted.{triples_total};
 ghost use Rattle.tsp_branch.specs.Decisions.{on_taken, decided_number};
-ghost use Rattle.tsp_branch.specs.Certificate.{multiplied};
+ghost use Rattle.tsp_branch.specs.CaseTrees.{multiplied};
 ghost use Rattle.tsp_branch.specs.LeafBound.{least_of};
 ghost use Rattle.tsp_branch.specs.GoodNumbers.{most_crossed};
-ghost use Rattle.tsp_branch.specs.CombsOfSets.{least_with};
+ghost use Rattle.tsp_branch.specs.FamiliesOfSets.{least_with};
 ghost use Rattle.tsp_branch.specs.states.Lent.{good_in};
 ghost use Rattle.tsp_branch.specs.states.FamilyNumbers.{AreSmallCrossings};
 

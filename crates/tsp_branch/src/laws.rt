@@ -9,7 +9,7 @@ ghost use Rattle.tsp_branch.specs.Cases.{decide, BoundsCase, HasNoCycle, BoundsB
 ghost use Rattle.tsp_branch.specs.Rows.{LinksAreAllowed, NoLinkNoCycle, SumsAreBelowCycles};
 ghost use Rattle.tsp_branch.specs.Families.{CyclesCrossFamilies, NumbersAreUnique};
 ghost use Rattle.tsp_branch.specs.RowLeaves.{RowLeafBoundsBoundCycles};
-ghost use Rattle.tsp_branch.specs.Certificate.{CertificatesBoundCycles, CertificatesBoundTours, NoBoundNoTour, CertificateBoundsAreUnique};
+ghost use Rattle.tsp_branch.specs.CaseTrees.{CaseTreesBoundCycles, CaseTreesBoundTours, NoBoundNoTour, CaseTreeBoundsAreUnique};
 ghost use Rattle.tsp_branch.specs.states.Combed.{SetsTellCombs, SetsGiveLeaves};
 
 use tsp_families::{least_lengths_are_unique, most_costs_are_unique};
@@ -151,9 +151,9 @@ pub fn stacks_hold_cases()
 /// The bound of a certificate is at most the length of every cycle that keeps the given decisions,
 /// and of every tour where the fixed pairs are given. Where no leaf has a bound there is no such
 /// cycle or tour.
-pub fn certificates_bound_cycles()
-    ensures cycles { CertificatesBoundCycles }
-    ensures tours { CertificatesBoundTours }
+pub fn case_trees_bound_cycles()
+    ensures cycles { CaseTreesBoundCycles }
+    ensures tours { CaseTreesBoundTours }
     ensures none { NoBoundNoTour }
 {
     leaf_bounds_bound_cycles();
@@ -164,8 +164,8 @@ pub fn certificates_bound_cycles()
 }
 
 /// A certificate has one bound, or none, whichever least 1-trees are found.
-pub fn certificate_bounds_are_unique()
-    ensures { CertificateBoundsAreUnique }
+pub fn case_tree_bounds_are_unique()
+    ensures { CaseTreeBoundsAreUnique }
 {}
 
 /// A family has one pair of numbers.

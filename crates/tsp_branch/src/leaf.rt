@@ -1,7 +1,7 @@
 //! The bound of a leaf.
 
 ghost use Rattle.std.specs.Prelude.{◌≡◌, ◌≤◌, ◌+◌, ◌^◌, ℕ, length, pos, neg_ℤ, IfOk};
-ghost use Rattle.tsp_theory.specs.Numbers.{IsFromTo, IsScale, IsLeastBound, IsBoundSized};
+ghost use Rattle.tsp_theory.specs.CertificateNumbers.{IsFromTo, IsScale, IsLeastBound, IsBoundSized};
 ghost use Rattle.tsp_branch.specs.LeafWeight.{IsBoundOfWeights, BoundsEachLeaf};
 
 use std::alloc::Global;

@@ -21,7 +21,7 @@ mod examples;
 mod families;
 mod family_examples;
 mod given_back;
-mod good_combs;
+mod good_families;
 mod judge;
 mod kept;
 mod laws;
@@ -57,20 +57,20 @@ pub use examples::{
 };
 pub use families::Families;
 pub use family_examples::examples_of_families;
-pub use good_combs::judge_families;
+pub use good_families::judge_families;
 pub use laws::{
-    cases_bound_cycles, cases_have_no_cycle, certificate_bounds_are_unique,
-    certificates_bound_cycles, cycles_cross_combs, cycles_cross_families, cycles_keep_leaves,
-    decided_bounds_bound_cycles, fixed_bounds_bound_tours, leaf_bounds_bound_cycles,
-    links_are_allowed, numbers_are_unique, row_leaf_bounds_bound_cycles, sets_tell_combs,
-    stacks_hold_cases, steps_leave_cases, sums_are_below_cycles,
+    case_tree_bounds_are_unique, case_trees_bound_cycles, cases_bound_cycles, cases_have_no_cycle,
+    cycles_cross_combs, cycles_cross_families, cycles_keep_leaves, decided_bounds_bound_cycles,
+    fixed_bounds_bound_tours, leaf_bounds_bound_cycles, links_are_allowed, numbers_are_unique,
+    row_leaf_bounds_bound_cycles, sets_tell_combs, stacks_hold_cases, steps_leave_cases,
+    sums_are_below_cycles,
 };
 pub use leaf::leaf_bound;
 pub use number_examples::{examples_of_differences, examples_of_good_numbers};
 pub use pairs::key_of;
 pub use row_examples::{examples_of_arcs, examples_of_leaves, examples_of_links, examples_of_rows};
 pub use stack::next_case;
-pub use steps::{BranchVerdict, Judged, JudgedCases, JudgedFamilies};
+pub use steps::{BranchVerdict, JudgedCases, JudgedFamilies, JudgedLeaves};
 pub use tree_cases::Cases;
 pub use tsp_families::Crossings;
 pub use twice::judge_cases;

@@ -25,7 +25,7 @@ pub(crate) struct NodeDecisions {
 impl NodeDecisions {
     ghost use Rattle.std.specs.Prelude.{◌≡◌, ◌<◌, ◌-◌, ◌^◌, ℕ, List, [], ◌∷◌, IfOk, length};
     ghost use Rattle.tsp_branch.specs.declared.decision.Decision.{Decision};
-    ghost use Rattle.tsp_branch.specs.states.Decided.{IsInside};
+    ghost use Rattle.tsp_branch.specs.states.Decided.{IsOnPlaces};
     ghost use Rattle.tsp_branch.specs.states.OpenCases.{AreByNode};
 
     /// No decisions on pairs of the nodes of cases.
@@ -50,7 +50,7 @@ impl NodeDecisions {
     ///
     /// Out of memory.
     pub(crate) fn add(&mut self, decision: Decision) -> Result<(), Refused>
-        requires { IsInside (length self.old.lists.items) decision }
+        requires { IsOnPlaces (length self.old.lists.items) decision }
         ensures more { IfOk result (λ unit. (n : ℕ) (case : List Decision) → AreByNode n self.old case
             → AreByNode n self.new (decision ∷ case)) }
         ensures places { IfOk result (λ unit. length self.new.lists.items ≡ length self.old.lists.items) }
@@ -69,7 +69,7 @@ impl NodeDecisions {
 
     /// Drops the decision that was added last.
     pub(crate) fn drop_last(&mut self, decision: Decision)
-        requires { IsInside (length self.old.lists.items) decision }
+        requires { IsOnPlaces (length self.old.lists.items) decision }
         ensures less { (n : ℕ) (case : List Decision) → AreByNode n self.old (decision ∷ case)
             → AreByNode n self.new case }
         ensures places { length self.new.lists.items ≡ length self.old.lists.items }

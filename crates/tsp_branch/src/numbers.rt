@@ -2,8 +2,8 @@
 
 ghost use Rattle.std.specs.Prelude.{◌≡◌, ◌↔◌, ◌<◌, ◌^◌, IsTrue, length, true, pos, neg_ℤ};
 ghost use Rattle.std.specs.List.{All};
-ghost use Rattle.tsp_format.specs.Cells.{IsNode};
-ghost use Rattle.tsp_theory.specs.Numbers.{IsFromTo};
+ghost use Rattle.tsp_format.specs.Nodes.{IsNode};
+ghost use Rattle.tsp_theory.specs.CertificateNumbers.{IsFromTo};
 ghost use Rattle.tsp_branch.specs.Listed.{all_grown};
 
 /// Adds differences to the numbers at their indexes, from 1 on; `false` where an index is none of

@@ -3,8 +3,8 @@
 ghost use Rattle.std.specs.Prelude.{◌↔◌, IsTrue, IfOk, IfSome};
 ghost use Rattle.std.specs.List.{All};
 ghost use Rattle.tsp_families.specs.FamilySets.{lists_of};
-ghost use Rattle.tsp_branch.specs.GoodCombs.{HasEachOnce, IsGoodComb};
-ghost use Rattle.tsp_branch.specs.states.FamilyNumbers.{HasNumbers, IsSmall};
+ghost use Rattle.tsp_branch.specs.GoodFamilies.{HasEachOnce, IsGoodComb};
+ghost use Rattle.tsp_branch.specs.states.FamilyNumbers.{AreFamilyNumbers, IsSmall};
 
 use crate::marks::mark_nodes;
 use std::alloc::Global;
@@ -22,7 +22,7 @@ pub(crate) fn other_crossings(
     family: &NodeSets,
 ) -> Result<Option<Crossings>, Refused>
     ensures found { (IsGoodComb family.now.nodes (lists_of family.now.sets.now) → ⊥)
-        → IfOk result (HasNumbers family.now.nodes (lists_of family.now.sets.now)) }
+        → IfOk result (AreFamilyNumbers family.now.nodes (lists_of family.now.sets.now)) }
     ensures small { IfOk result (λ found. IfSome found IsSmall) }
 {
     let once = have_each_once(alloc, family)?;

@@ -2,12 +2,12 @@
 
 ghost use Rattle.std.specs.Prelude.{◌≡◌, ◌≤◌, ◌<◌, ℕ, List, true, length, ◌⊎◌, ℤ, ◌≤ℤ◌};
 ghost use Rattle.std.specs.List.{All, filter};
-ghost use Rattle.tsp_format.specs.Cells.{IsNode};
+ghost use Rattle.tsp_format.specs.Nodes.{IsNode};
 ghost use Rattle.tsp_theory.specs.states.Nearest.{least_at};
 ghost use Rattle.tsp_branch.specs.declared.decision.Decision.{Decision};
 ghost use Rattle.tsp_branch.specs.states.Decided.{stack_of};
 ghost use Rattle.tsp_branch.specs.states.OpenCases.{IsOpenCase, bears_on};
-ghost use Rattle.tsp_branch.specs.states.Closed.{closed, IsOpenRow};
+ghost use Rattle.tsp_branch.specs.states.Closed.{no_link, IsOpenRow};
 
 use crate::closing::{CLOSED, close_all, shut};
 use crate::decision::Decision;
@@ -27,9 +27,9 @@ pub(crate) struct AllowedRows<'a, W: Weights> {
 
 impl<W: Weights> AllowedRows<'_, W> {
     ghost use Rattle.std.specs.Prelude.{◌≡◌, ◌+◌, ◌^◌, ℕ, length, pos, neg_ℤ, MatchOption, IfSome};
-    ghost use Rattle.tsp_format.specs.Cells.{IsNode};
+    ghost use Rattle.tsp_format.specs.Nodes.{IsNode};
     ghost use Rattle.tsp_format.specs.Limits.{most_nodes};
-    ghost use Rattle.tsp_theory.specs.Numbers.{IsFromTo, IsScale, IsBoundSized, IsSumSized};
+    ghost use Rattle.tsp_theory.specs.CertificateNumbers.{IsFromTo, IsScale, IsBoundSized, IsSumSized};
     ghost use Rattle.tsp_branch.specs.states.OpenCases.{decisions_in};
     ghost use Rattle.tsp_branch.specs.Rows.{IsAllowed, HasNoLink, IsLeastFrom, IsSumOfLeast, IsRowBound};
 
@@ -111,7 +111,7 @@ fn close_row(row: &mut [i64], own: &[Decision], taken: &[Decision], from: u32)
 fn least_in(row: &[i64]) -> i64
     requires { 1 ≤ length row.now }
     ensures below { (x : ℕ) → 1 ≤ x → x < length row.now → result ≤ℤ least_at row.now x }
-    ensures reached { (result ≡ closed)
+    ensures reached { (result ≡ no_link)
         ⊎ ((x : ℕ) × (1 ≤ x) × (x < length row.now) × (result ≡ least_at row.now x)) }
 {
     let mut least = CLOSED;

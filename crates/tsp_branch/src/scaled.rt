@@ -3,7 +3,7 @@
 ghost use Rattle.std.specs.Prelude.{◌≡◌, ◌≤◌, ◌<◌, ℕ, length, pos, neg_ℤ, ◌+ℤ◌, ◌*ℤ◌};
 ghost use Rattle.std.specs.Int.{w64, int_wrap};
 ghost use Rattle.tsp_format.specs.Limits.{most_weight};
-ghost use Rattle.tsp_theory.specs.Numbers.{IsFromTo, IsScale};
+ghost use Rattle.tsp_theory.specs.CertificateNumbers.{IsFromTo, IsScale};
 ghost use Rattle.tsp_theory.specs.states.Nearest.{least_at};
 
 use crate::add_sets::sum_left;

@@ -5,7 +5,7 @@ use crate::tree_cases::Cases;
 
 /// The parts of a certificate that are judged.
 #[derive(Drop)]
-pub enum Judged {
+pub enum JudgedLeaves {
     /// The bound: no cycle that keeps the given decisions is shorter. `None` where no leaf has one:
     /// then no cycle keeps them.
     Bound(Option<i128>),

@@ -7,8 +7,8 @@ ghost use Rattle.tsp_branch.specs.BranchVerdicts.{IsBranchVerdict, VerdictBounds
 
 use crate::branch::branch_bound;
 use crate::case_tree::CaseTree;
-use crate::good_combs::judge_families;
-use crate::steps::{BranchVerdict, Judged, JudgedCases, JudgedFamilies};
+use crate::good_families::judge_families;
+use crate::steps::{BranchVerdict, JudgedCases, JudgedFamilies, JudgedLeaves};
 use crate::twice::judge_cases;
 use std::alloc::Global;
 use tsp_memory::Refused;
@@ -44,7 +44,7 @@ pub fn judge_branches<C: Costs>(alloc: Global, tree: &CaseTree<C>) -> Result<Bra
         JudgedCases::Twice(branch) => return Ok(BranchVerdict::BranchTwice(branch)),
     };
     match branch_bound(alloc, tree.costs, &families, &cases)? {
-        Judged::Bound(bound) => Ok(BranchVerdict::Bound(bound)),
-        Judged::BadLeaf(leaf) => Ok(BranchVerdict::BadLeaf(leaf)),
+        JudgedLeaves::Bound(bound) => Ok(BranchVerdict::Bound(bound)),
+        JudgedLeaves::BadLeaf(leaf) => Ok(BranchVerdict::BadLeaf(leaf)),
     }
 }

@@ -5,7 +5,7 @@ use Rattle.std.proofs.lemmas.Int.{ints}
 use Rattle.tsp_stream.specs.Turn.{Turn}
 use Rattle.tsp_stream.specs.Sink.{Sink}
 use Rattle.tsp_draft.specs.Fields.{Fields}
-use Rattle.tsp_theory.specs.Numbers.{IsBoundSized}
+use Rattle.tsp_theory.specs.CertificateNumbers.{IsBoundSized}
 use Rattle.tsp_reason.specs.declared.certificate.Certificate.{Certificate}
 use Rattle.tsp_reason.specs.declared.verdict.BoundVerdict.{BoundVerdict}
 use Rattle.tsp_reason.specs.declared.verdict.BoundVerdict.TheVariants as bounds
@@ -13,7 +13,7 @@ use Rattle.tsp_reason.specs.declared.verdict.Verdict.{Verdict}
 use Rattle.tsp_reason.specs.Verdicts.{is_yes, is_bound_yes}
 use Rattle.tsp_report.specs.Report.{IsSized}
 use Rattle.tsp_verdict.specs.Bounded.{IsBoundVerdict}
-use Rattle.tsp_verdict.specs.Judged.{IsVerdictWith}
+use Rattle.tsp_verdict.specs.SolutionVerdict.{IsVerdictWith}
 use Rattle.tsp_judge.specs.declared.bound.Bounded.{Bounded}
 use Rattle.tsp_judge.specs.declared.judging.Judged.{Judged}
 use Rattle.tsp_judge.specs.declared.fault.RunFault.{RunFault}
@@ -21,10 +21,10 @@ use Rattle.tsp_judge.specs.Status.{status_of_fault}
 use Rattle.tsp_judge.specs.CheckRun.{Given, given_by, EndsWithout, IsRun, told}
 use Rattle.tsp_judge.specs.BoundRun.{EndsUnbounded, IsBoundRun}
 use Rattle.tsp_c.specs.declared.told.Told.{Told}
-use Rattle.tsp_c.specs.Ended.{without_devices, has_bound, EndsOnTexts}
-use Rattle.tsp_c.specs.Texts.{given_text}
+use Rattle.tsp_c.specs.Ended.{without_devices, bound_answer, EndsOnTexts}
+use Rattle.tsp_c.specs.Texts.{with_certificate}
 use Rattle.tsp_c.specs.Told.{IsSizedBound, blank_told, told_of_run, told_of_bound_run, TellsTexts, TellsBound}
-use Rattle.tsp_c.proofs.Ends.{fault_status}
+use Rattle.tsp_c.proofs.StatusMeanings.{fault_status}
 use Rattle.tsp_c.proofs.OnHandles.{not_two}
 use Rattle.tsp_c.proofs.OnTexts.{Reads2, Reads3, are_spelled, unchecked, no_relayout, unbounded, not_relaid, spelled}
 
@@ -79,7 +79,7 @@ fault_is fault written status text (inr e) two = let three : status ≡ 3 = e.0 
 pub tells_texts : (by : Option Certificate) (claimed : Option ℤ) (first second third : Turn) (sink : Sink) (ended : Result Judged RunFault)
     (one two three written : List ℕ) (status : ℕ) (text : List ℕ) (made numbers : Told) → Reads3 first second third one two three
     → IsRun (given_by by third) claimed first second sink ended → made ≡ told_of_run ended
-    → (status ≢ 3 → numbers ≡ made) → (status ≡ 3 → numbers ≡ blank_told) → EndsOnTexts (told ended) written status text → TellsTexts (given_text by three) claimed one two status numbers
+    → (status ≢ 3 → numbers ≡ made) → (status ≡ 3 → numbers ≡ blank_told) → EndsOnTexts (told ended) written status text → TellsTexts (with_certificate by three) claimed one two status numbers
 tells_texts by claimed first second third sink (Ok judged) one two three written status text made numbers reads run is kept none e = record {
   judged = λ low. record {
     instance = judged.instance;
@@ -108,7 +108,7 @@ tells_texts by claimed first second third sink (Err fault) one two three written
 pub tells_bound : (by : Certificate) (first second : Turn) (sink : Sink) (ended : Result Bounded RunFault)
     (one two written : List ℕ) (status : ℕ) (text : List ℕ) (made numbers : Told) → Reads2 first second one two
     → IsBoundRun by first second sink ended → made ≡ told_of_bound_run ended
-    → (status ≢ 3 → numbers ≡ made) → (status ≡ 3 → numbers ≡ blank_told) → EndsOnTexts (has_bound ended) written status text → TellsBound by one two status numbers
+    → (status ≢ 3 → numbers ≡ made) → (status ≡ 3 → numbers ≡ blank_told) → EndsOnTexts (bound_answer ended) written status text → TellsBound by one two status numbers
 tells_bound by first second sink (Ok bounded) one two written status text made numbers reads run is kept none e = record {
   bounded = λ low. record {
     instance = bounded.instance;

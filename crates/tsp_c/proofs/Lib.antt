@@ -1,7 +1,7 @@
 pub mod AsBox
 mod Counted
 mod Distances
-mod Ends
+mod StatusMeanings
 mod Filled
 mod InNumbers
 pub mod Lists

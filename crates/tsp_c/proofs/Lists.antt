@@ -5,7 +5,7 @@ use Rattle.std.specs.List.{All, count_by, position, prefix_len}
 use Rattle.std.proofs.lemmas.Bool.{false≢true}
 use Rattle.std.proofs.lemmas.List.{get_or-take, length-take}
 use Rattle.std.proofs.lemmas.List.Sums.{prefix_len_passes, sum_by-cons}
-use Rattle.tsp_format.specs.Cells.{IsNode}
+use Rattle.tsp_format.specs.Nodes.{IsNode}
 use Rattle.tsp_c.specs.NumberCalls.{lists_in, onto_first_list}
 
 -- how many nodes the first list has

@@ -20,7 +20,7 @@ use Rattle.tsp_c.specs.Ended.{without_devices, EndsOnTexts, Reports}
 use Rattle.tsp_c.specs.Opened.{IsOpenOn, ChecksAsTexts, TellsJudged}
 use Rattle.tsp_c.specs.Texts.{GivenText, AreSpelled, IsAcceptedText, StopsCheck, ChecksTexts}
 use Rattle.tsp_c.specs.Told.{blank_told, told_of_verdict, told_of_fault}
-use Rattle.tsp_c.proofs.Ends.{yes_ends, no_ends, fault_ends, fault_status}
+use Rattle.tsp_c.proofs.StatusMeanings.{yes_ends, no_ends, fault_ends, fault_status}
 use Rattle.tsp_c.proofs.OnTexts.{Collects, printed_is}
 
 -- ---- a solution that isn't judged

@@ -24,16 +24,16 @@ use Rattle.tsp_judge.specs.declared.fault.RunFault.{RunFault}
 use Rattle.tsp_judge.specs.declared.fault.RunFault.TheVariants.{File, WrongKind, Write, OutOfMemory, Relayout}
 use Rattle.tsp_judge.specs.Status.{status_of_fault}
 use Rattle.tsp_judge.specs.CheckRun.{given_by, IsSomeFile, IsFileIn, AreRead, JudgesFiles, IsFaultOfRun, EndsWithout}
-use Rattle.tsp_judge.specs.Accepted.{IsAccepted, IsBoundAccepted}
+use Rattle.tsp_judge.specs.Accepted.{IsAccepted, IsAcceptedWithoutTour}
 use Rattle.tsp_judge.specs.Yes.{SaysYes, IsCheckOf}
 use Rattle.tsp_judge.specs.BoundRun.{BoundsFiles, EndsUnbounded, SaysBound, IsBoundRunOf}
 use Rattle.tsp_judge.specs.ShowRun.{IsShowRun}
 use Rattle.tsp_judge.specs.ConvertRun.{IsConverted, IsConvertRun}
 use Rattle.tsp_judge.specs.Open.{IsTextFault}
-use Rattle.tsp_c.specs.Ended.{without_devices, done, has_bound, EndsOnTexts}
-use Rattle.tsp_c.specs.Texts.{IsFileText, StopsShowing, ShowsText, BecomesFile, StopsConverting, ConvertsText, given_text, SpellsGiven}
+use Rattle.tsp_c.specs.Ended.{without_devices, done, bound_answer, EndsOnTexts}
+use Rattle.tsp_c.specs.Texts.{IsFileText, StopsShowing, ShowsText, BecomesFile, StopsConverting, ConvertsText, with_certificate, SpellsGiven}
 use Rattle.tsp_c.specs.Texts.{AreSpelled, IsAcceptedText, IsRejected, IsUnchecked, IsReached, StopsCheck, ChecksTexts, IsBoundText, IsUnbounded, StopsBound, BoundsTexts}
-use Rattle.tsp_c.proofs.Ends.{yes_ends, no_ends, fault_ends}
+use Rattle.tsp_c.proofs.StatusMeanings.{yes_ends, no_ends, fault_ends}
 
 -- ---- a text
 
@@ -124,7 +124,7 @@ pub record Reads3 (first second third : Turn) (one two three : List ℕ) : Type 
   pub third_is : third.known ≡ Some three
 
 spelled_given : (by : Option Certificate) (third : Turn) (three : List ℕ) (certificate : Option (Certificate × Fields))
-    → third.known ≡ Some three → IsFileIn (given_by by third) certificate → SpellsGiven (given_text by three) certificate
+    → third.known ≡ Some three → IsFileIn (given_by by third) certificate → SpellsGiven (with_certificate by three) certificate
 spelled_given None third three None known is = is
 spelled_given None third three (Some certificate) known is = absurd is
 spelled_given (Some by) third three None known is = absurd is
@@ -133,7 +133,7 @@ spelled_given (Some by) third three (Some certificate) known is = (is.0, spelled
 pub are_spelled : (by : Option Certificate) (first second third : Turn) (one two three : List ℕ) (instance solution : Fields)
     (certificate : Option (Certificate × Fields)) → Reads3 first second third one two three
     → AreRead (given_by by third) first second instance solution certificate
-    → AreSpelled (given_text by three) one two instance solution certificate
+    → AreSpelled (with_certificate by three) one two instance solution certificate
 are_spelled by first second third one two three instance solution certificate reads read = record {
   first_file = spelled first one instance reads.first_is read.first_file;
   second_file = spelled second two solution reads.second_is read.second_file;
@@ -142,7 +142,7 @@ are_spelled by first second third one two three instance solution certificate re
 
 accepted : (by : Option Certificate) (claimed : Option ℤ) (first second third : Turn) (sink : Sink) (one two three written : List ℕ)
     → Reads3 first second third one two three → Collects sink written → SaysYes (given_by by third) claimed first second sink
-    → IsAcceptedText (given_text by three) claimed one two written
+    → IsAcceptedText (with_certificate by three) claimed one two written
 accepted by claimed first second third sink one two three written reads collects says = record {
   instance = says.instance;
   solution = says.solution;
@@ -157,7 +157,7 @@ rejected : (by : Option Certificate) (claimed : Option ℤ) (first second third 
     → Reads3 first second third one two three → Collects sink written
     → AreRead (given_by by third) first second instance solution certificate
     → JudgesFiles certificate claimed instance solution sink (Ok verdict) → false ≡ is_yes verdict
-    → IsRejected (given_text by three) claimed one two written
+    → IsRejected (with_certificate by three) claimed one two written
 rejected by claimed first second third sink one two three written instance solution certificate (Tour length_is bound) reads collects read judged e =
     absurd (false≢true e)
 rejected by claimed first second third sink one two three written instance solution certificate (Routes length_is routes least) reads collects read judged e =
@@ -177,7 +177,7 @@ rejected by claimed first second third sink one two three written instance solut
 stopped_given : (by : Option Certificate) (third : Turn) (three : List ℕ) (given : Certificate × Turn) (file : ℕ) (found : ReadFault)
     → given_by by third ≡ Some given → third.known ≡ Some three → StopsAt found given.1
     → status_of_fault (without_devices (File file found)) ≡ 2
-    → (text : Certificate × List ℕ) × (given_text by three ≡ Some text) × (fault text.1 ≡ Some found)
+    → (text : Certificate × List ℕ) × (with_certificate by three ≡ Some text) × (fault text.1 ≡ Some found)
 stopped_given None third three given file found is known stops two = absurd cc
 stopped_given (Some by) third three given file found is known stops two =
     ((by, three), refl, stopped third three file found known (subst (λ (g : Certificate × Turn). StopsAt found g.1) (sym (some_is _ _ is)) stops) two)
@@ -188,7 +188,7 @@ stopped_given (Some by) third three given file found is known stops two =
 pub unchecked : (by : Option Certificate) (claimed : Option ℤ) (first second third : Turn) (sink : Sink) (one two three : List ℕ)
     (fault : RunFault) → Reads3 first second third one two three
     → EndsWithout (given_by by third) claimed first second sink fault
-    → status_of_fault (without_devices fault) ≡ 2 → IsUnchecked (given_text by three) one two fault
+    → status_of_fault (without_devices fault) ≡ 2 → IsUnchecked (with_certificate by three) one two fault
 unchecked by claimed first second third sink one two three (File file found) reads run s = elim run.1 [
   | inl a ↦ inl (a.0, stopped first one file found reads.first_is a.1 s)
   | inr rest ↦ elim rest [
@@ -220,7 +220,7 @@ no_relayout by claimed first second third sink fault refused is run =
 -- the texts before the one at which a run stops are files
 reached : (by : Option Certificate) (first second third : Turn) (one two three : List ℕ) (file : ℕ) (found : ReadFault)
     → Reads3 first second third one two three → IsFaultOfRun (given_by by third) first second file found
-    → IsReached (given_text by three) one two file
+    → IsReached (with_certificate by three) one two file
 reached by first second third one two three file found reads run = elim run [
   | inl a ↦ inl a.0
   | inr rest ↦ elim rest [
@@ -236,14 +236,14 @@ reached by first second third one two three file found reads run = elim run [
 ]
   where
     given_is : (by : Option Certificate) (third : Turn) (three : List ℕ) (given : Certificate × Turn) → given_by by third ≡ Some given
-        → (text : Certificate × List ℕ) × (given_text by three ≡ Some text)
+        → (text : Certificate × List ℕ) × (with_certificate by three ≡ Some text)
     given_is None third three given is = absurd cc
     given_is (Some by) third three given is = ((by, three), refl)
 
 -- plan: by the fault: each case is the one of the run, with the texts for the readers (`reached`, `are_spelled`)
 stops_check : (by : Option Certificate) (claimed : Option ℤ) (first second third : Turn) (sink : Sink) (one two three : List ℕ)
     (fault : RunFault) → Reads3 first second third one two three → EndsWithout (given_by by third) claimed first second sink fault
-    → StopsCheck (given_text by three) claimed one two (without_devices fault)
+    → StopsCheck (with_certificate by three) claimed one two (without_devices fault)
 stops_check by claimed first second third sink one two three (File file (read_faults.Line line word found)) reads run =
     unchecked by claimed first second third sink one two three (File file (read_faults.Line line word found)) reads run refl
 stops_check by claimed first second third sink one two three (File file (read_faults.End found)) reads run =
@@ -275,7 +275,7 @@ stops_check by claimed first second third sink one two three (Write write_faults
 pub checks : (by : Option Certificate) (claimed : Option ℤ) (first second third : Turn) (sink : Sink) (answer : Result Bool RunFault)
     (one two three written : List ℕ) (status : ℕ) (text : List ℕ) → Reads3 first second third one two three → Collects sink written
     → IsCheckOf (given_by by third) claimed first second sink answer → EndsOnTexts answer written status text
-    → ChecksTexts (given_text by three) claimed one two status text
+    → ChecksTexts (with_certificate by three) claimed one two status text
 checks by claimed first second third sink (Ok true) one two three written status text reads collects check e =
     yes_ends written status text (accepted by claimed first second third sink one two three written reads collects (check.1 refl)) e
 checks by claimed first second third sink (Ok false) one two three written status text reads collects check e =
@@ -299,7 +299,7 @@ bound_says by first second sink one two written found reads collects says = reco
   found = found;
   first_file = spelled first one says.instance reads.first_is says.first_file;
   second_file = spelled second two says.certificate reads.second_is says.second_file;
-  meaning = subst (IsBoundAccepted by says.instance says.certificate found)
+  meaning = subst (IsAcceptedWithoutTour by says.instance says.certificate found)
       (sym (printed_is sink written says.report collects says.written)) says.meaning;
 }
 
@@ -393,7 +393,7 @@ stops_bound by first second sink one two (Write write_faults.Device) reads run =
 
 pub bounds_texts : (by : Certificate) (first second : Turn) (sink : Sink) (ended : Result Bounded RunFault) (one two written : List ℕ)
     (status : ℕ) (text : List ℕ) → Reads2 first second one two → Collects sink written → IsBoundRunOf by first second sink ended
-    → EndsOnTexts (has_bound ended) written status text → BoundsTexts by one two status text
+    → EndsOnTexts (bound_answer ended) written status text → BoundsTexts by one two status text
 bounds_texts by first second sink (Ok bounded) one two written status text reads collects run e =
     let is = run.0 in bound_found by first second sink one two written status text bounded.instance bounded.certificate bounded.found
     reads collects is.0 is.1 is.2 (λ yes. run.1 bounded refl yes) e

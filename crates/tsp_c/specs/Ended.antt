@@ -40,9 +40,9 @@ done (Ok is) = Ok true
 done (Err fault) = Err fault
 
 -- whether there is no reason against the files, where they were read
-abbrev pub has_bound : Result Bounded RunFault → Result Bool RunFault
-has_bound (Ok bounded) = Ok (is_bound_yes bounded.found)
-has_bound (Err fault) = Err fault
+abbrev pub bound_answer : Result Bounded RunFault → Result Bool RunFault
+bound_answer (Ok bounded) = Ok (is_bound_yes bounded.found)
+bound_answer (Err fault) = Err fault
 
 -- Texts in memory have no device that fails: a read or a write of them that fails is out of memory.
 abbrev pub without_devices : RunFault → RunFault

@@ -17,10 +17,10 @@ use Rattle.tsp_reason.specs.declared.verdict.Verdict.{Verdict}
 use Rattle.tsp_reason.specs.declared.verdict.Verdict.TheVariants.{No}
 use Rattle.tsp_verdict.specs.Bounded.{NoneAgainstInstance, IsBoundVerdict}
 use Rattle.tsp_verdict.specs.Certified.{is_bounded, NoneWithoutMemory}
-use Rattle.tsp_verdict.specs.Judged.{is_judged, NoneBeforeRepeatsOn, IsVerdictWith}
+use Rattle.tsp_verdict.specs.SolutionVerdict.{is_judged, NoneBeforeRepeatsOn, IsVerdictWith}
 use Rattle.tsp_report.specs.Report.{report_of, bound_report_of}
 use Rattle.tsp_report.specs.Show.{shown}
-use Rattle.tsp_judge.specs.Accepted.{IsAccepted, IsBoundAccepted}
+use Rattle.tsp_judge.specs.Accepted.{IsAccepted, IsAcceptedWithoutTour}
 use Rattle.tsp_judge.specs.ConvertRun.{Becomes}
 use Rattle.tsp_judge.specs.declared.fault.RunFault.{RunFault}
 use Rattle.tsp_judge.specs.declared.fault.RunFault.TheVariants.{File, WrongKind, Write, OutOfMemory, Relayout}
@@ -89,9 +89,9 @@ certificates = Potentials ∷ Branches ∷ []
 abbrev pub GivenText : Type 0
 GivenText = Option (Certificate × List ℕ)
 
-abbrev pub given_text : Option Certificate → List ℕ → GivenText
-given_text None three = None
-given_text (Some by) three = Some (by, three)
+abbrev pub with_certificate : Option Certificate → List ℕ → GivenText
+with_certificate None three = None
+with_certificate (Some by) three = Some (by, three)
 
 -- its text parses to this file
 abbrev pub SpellsGiven : GivenText → Option (Certificate × Fields) → Type 0
@@ -179,7 +179,7 @@ ChecksTexts given claimed one two status text = EndsWithText
 abbrev pub ChecksBy : ℕ → ℕ → ℤ → List ℕ → List ℕ → List ℕ → ℕ → List ℕ → Type 0
 ChecksBy by has_claim claimed one two three status text =
     (by ≤ 2 → has_claim ≤ 1
-    → ChecksTexts (given_text (nth by certificates) three) (claim_of has_claim claimed) one two status text)
+    → ChecksTexts (with_certificate (nth by certificates) three) (claim_of has_claim claimed) one two status text)
     × (2 < by → IsRefusedNumber status text)
     × (1 < has_claim → IsRefusedNumber status text)
 
@@ -191,7 +191,7 @@ pub record IsBoundText (by : Certificate) (one two text : List ℕ) : Type 0 whe
   pub found : BoundVerdict
   pub first_file : Spells one instance
   pub second_file : Spells two certificate
-  pub meaning : IsBoundAccepted by instance certificate found text
+  pub meaning : IsAcceptedWithoutTour by instance certificate found text
 
 -- the first reason against the instance or the certificate is printed
 pub record IsBoundRejected (by : Certificate) (one two text : List ℕ) : Type 0 where

@@ -25,7 +25,7 @@ use Rattle.tsp_reason.specs.Verdicts.{is_yes, is_bound_yes}
 use Rattle.tsp_report.specs.Report.{IsGapSized}
 use Rattle.tsp_verdict.specs.Bounded.{IsBoundVerdict}
 use Rattle.tsp_verdict.specs.Certified.{is_bounded}
-use Rattle.tsp_verdict.specs.Judged.{is_judged, IsVerdictWith}
+use Rattle.tsp_verdict.specs.SolutionVerdict.{is_judged, IsVerdictWith}
 use Rattle.tsp_verdict.specs.Reasons.{rank_of}
 use Rattle.tsp_judge.specs.declared.bound.Bounded.{Bounded}
 use Rattle.tsp_judge.specs.declared.judging.Judged.{Judged}
@@ -34,7 +34,7 @@ use Rattle.tsp_judge.specs.declared.fault.RunFault.TheVariants.{File, WrongKind}
 use Rattle.tsp_judge.specs.Status.{status_of}
 use Rattle.tsp_c.specs.declared.told.Told.{Told}
 use Rattle.tsp_c.specs.Ended.{nth}
-use Rattle.tsp_c.specs.Texts.{GivenText, AreSpelled, IsUnchecked, IsUnbounded, given_text, certificates, claim_of}
+use Rattle.tsp_c.specs.Texts.{GivenText, AreSpelled, IsUnchecked, IsUnbounded, with_certificate, certificates, claim_of}
 
 abbrev pub blank_told : Told
 blank_told = record {
@@ -262,7 +262,7 @@ pub record TellsTexts (given : GivenText) (claimed : Option ℤ) (one two : List
 abbrev pub TellsBy : ℕ → ℕ → ℤ → List ℕ → List ℕ → List ℕ → ℕ → Told → Type 0
 TellsBy by has_claim claimed one two three status told =
     (by ≤ 2 → has_claim ≤ 1
-    → TellsTexts (given_text (nth by certificates) three) (claim_of has_claim claimed) one two status told)
+    → TellsTexts (with_certificate (nth by certificates) three) (claim_of has_claim claimed) one two status told)
     × (2 < by → told ≡ blank_told)
     × (1 < has_claim → told ≡ blank_told)
 

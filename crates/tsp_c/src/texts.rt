@@ -2,8 +2,8 @@
 
 ghost use Rattle.std.specs.Prelude.{◌≡◌};
 ghost use Rattle.tsp_judge.specs.CheckRun.{told};
-ghost use Rattle.tsp_c.specs.Ended.{done, has_bound};
-ghost use Rattle.tsp_c.specs.Texts.{BoundsTexts, ChecksTexts, ConvertsText, ShowsText, given_text};
+ghost use Rattle.tsp_c.specs.Ended.{done, bound_answer};
+ghost use Rattle.tsp_c.specs.Texts.{BoundsTexts, ChecksTexts, ConvertsText, ShowsText, with_certificate};
 ghost use Rattle.tsp_c.specs.Told.{TellsBound, TellsTexts};
 
 use crate::ended::ended;
@@ -44,8 +44,8 @@ pub(crate) fn checked(
     certificate: &[u8],
     claimed: Option<i64>,
 ) -> (u8, Vec<u8>, Told)
-    ensures texts { ChecksTexts (given_text by certificate.now) claimed instance.now solution.now result.0 result.1.items }
-    ensures numbers { TellsTexts (given_text by certificate.now) claimed instance.now solution.now result.0 result.2 }
+    ensures texts { ChecksTexts (with_certificate by certificate.now) claimed instance.now solution.now result.0 result.1.items }
+    ensures numbers { TellsTexts (with_certificate by certificate.now) claimed instance.now solution.now result.0 result.2 }
 {
     verdicts_mean_reports();
     let mut first = Watched::new(instance);
@@ -106,7 +106,7 @@ fn told(ended: Result<Judged, RunFault>) -> Result<bool, RunFault>
 
 /// Whether there is no reason against the files, where they were read.
 fn has_bound(ended: Result<Bounded, RunFault>) -> Result<bool, RunFault>
-    ensures { result ≡ has_bound ended }
+    ensures { result ≡ bound_answer ended }
 {
     let bounded = ended?;
     let answer = bounded.found.is_yes();

@@ -2,7 +2,7 @@
 
 ghost use Rattle.std.specs.Prelude.{◌+◌, ◌≤◌, ◌*◌, ◌↔◌, IsTrue, length};
 ghost use Rattle.std.specs.List.{All};
-ghost use Rattle.tsp_format.specs.Cells.{IsNode};
+ghost use Rattle.tsp_format.specs.Nodes.{IsNode};
 ghost use Rattle.tsp_c.specs.NumberCalls.{ArePairs, EndsWeights, EndsMatrix, FillsWeights, FillsMatrix, IsFilled, pair_count, pair_cost, row_cost};
 ghost use Rattle.tsp_draft.specs.Fields.{nodes_of};
 

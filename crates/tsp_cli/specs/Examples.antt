@@ -14,5 +14,5 @@ abbrev pub found_value : Text → List Text → Option Text
 found_value id words = option_map_or (λ found. first_of id found.1) (subcommand_of tsp words) None
 
 -- the values that the words give to an argument, in order
-abbrev pub found_values : Text → List Text → List Text
-found_values id words = option_map_or (λ found. values_of id found.1) (subcommand_of tsp words) []
+abbrev pub all_values : Text → List Text → List Text
+all_values id words = option_map_or (λ found. values_of id found.1) (subcommand_of tsp words) []

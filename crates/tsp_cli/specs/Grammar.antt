@@ -11,8 +11,8 @@ abbrev pub path : Text → Rule
 path id = record (new_rule id) { required = true }
 
 -- paths: one at least, and each word more is one more; help has a name of its own for them
-abbrev pub paths : Text → Rule
-paths id = record (path id) { action = Some Append; value_names = 1 }
+abbrev pub several_paths : Text → Rule
+several_paths id = record (path id) { action = Some Append; value_names = 1 }
 
 -- an option with a value: the two words `--long VALUE`, or the one `--long=VALUE`
 abbrev pub option : Text → Text → Rule
@@ -56,7 +56,7 @@ check = with_rule (with_rule check_certified (option (codes "N") (codes "length"
 
 -- compare F S..
 abbrev pub compare_files : App
-compare_files = with_rule (with_rule (new_app (codes "compare")) (path (codes "F"))) (paths (codes "S"))
+compare_files = with_rule (with_rule (new_app (codes "compare")) (path (codes "F"))) (several_paths (codes "S"))
 
 -- compare F S.. [--potentials P] [--branches B]
 abbrev pub compare_certified : App

@@ -2,7 +2,7 @@
 
 ghost use Rattle.std.specs.Prelude.{◌≡◌, IfOk, false};
 ghost use Rattle.clap.specs.Words.{app_of, new_app, rule_of, shape_of, with_rule, with_subcommand};
-ghost use Rattle.tsp_cli.specs.Grammar.{IsCommandOf, has_globals, path, paths, option, flag, explain, show, convert, check_files, check_certified, check, compare_files, compare_certified, compare, bound_files, bound, start, tsp};
+ghost use Rattle.tsp_cli.specs.Grammar.{IsCommandOf, has_globals, path, several_paths, option, flag, explain, show, convert, check_files, check_certified, check, compare_files, compare_certified, compare, bound_files, bound, start, tsp};
 
 use clap::{Arg, ArgAction, Command};
 use std::alloc::{AllocError, Global};
@@ -280,7 +280,7 @@ fn path<'a>(alloc: Global, id: &'a str, help: &'a str) -> Arg<'a>
 /// Paths, of which the words have to contain one at least. Help calls each `T`, as it does the path
 /// of a single one.
 fn paths<'a>(alloc: Global, id: &'a str, help: &'a str) -> Arg<'a>
-    ensures rule { rule_of result ≡ paths id.now }
+    ensures rule { rule_of result ≡ several_paths id.now }
     ensures local { result.global ≡ false }
 {
     path(alloc, id, help)

@@ -15,7 +15,7 @@ ghost use Rattle.tsp_cli.specs.declared.task.Comparison.{Comparison};
 ghost use Rattle.tsp_cli.specs.declared.task.Work.TheVariants as works;
 ghost use Rattle.tsp_reason.specs.declared.certificate.Certificate.TheVariants as certificates;
 ghost use Rattle.tsp_cli.specs.Task.{IsTask, IsWork};
-ghost use Rattle.tsp_cli.specs.Examples.{IsWholeLine, found_value, found_values};
+ghost use Rattle.tsp_cli.specs.Examples.{IsWholeLine, found_value, all_values};
 
 /// A whole line of each verb, with each of its options.
 #[tactic(auto, unfolding(clap::specs::Faults::flags_fault, clap::specs::Faults::walk_fault, clap::specs::Faults::defaults_fault, clap::specs::Walk::bundle_met, clap::specs::Walk::walked))]
@@ -35,7 +35,7 @@ pub fn examples_of_lines()
         (codes "check" ∷ codes "a" ∷ codes "b" ∷ []) ≡ Some (codes "a") }
     ensures solution { found_value (codes "T")
         (codes "check" ∷ codes "a" ∷ codes "b" ∷ []) ≡ Some (codes "b") }
-    ensures one_solution { found_values (codes "S")
+    ensures one_solution { all_values (codes "S")
         (codes "check" ∷ codes "a" ∷ codes "b" ∷ []) ≡ [] }
     ensures potentials { found_value (codes "P") (codes "check"
         ∷ codes "a" ∷ codes "b" ∷ codes "--potentials" ∷ codes "c" ∷ []) ≡ Some (codes "c") }
@@ -47,11 +47,11 @@ pub fn examples_of_lines()
         ∷ codes "a" ∷ codes "b" ∷ codes "--length" ∷ codes "9" ∷ []) ≡ Some (codes "9") }
     ensures compare { IsWholeLine (codes "compare")
         (codes "compare" ∷ codes "a" ∷ codes "b" ∷ codes "c" ∷ []) }
-    ensures solutions { found_values (codes "S")
+    ensures solutions { all_values (codes "S")
         (codes "compare" ∷ codes "a" ∷ codes "b" ∷ codes "c" ∷ []) ≡ codes "b" ∷ codes "c" ∷ [] }
     ensures none_alone { found_value (codes "T")
         (codes "compare" ∷ codes "a" ∷ codes "b" ∷ codes "c" ∷ []) ≡ None }
-    ensures around_an_option { found_values (codes "S") (codes "compare" ∷ codes "a" ∷ codes "b"
+    ensures around_an_option { all_values (codes "S") (codes "compare" ∷ codes "a" ∷ codes "b"
         ∷ codes "--branches" ∷ codes "d" ∷ codes "c" ∷ []) ≡ codes "b" ∷ codes "c" ∷ [] }
     ensures compared_by { found_value (codes "B") (codes "compare" ∷ codes "a"
         ∷ codes "b" ∷ codes "--branches" ∷ codes "d" ∷ codes "c" ∷ []) ≡ Some (codes "d") }

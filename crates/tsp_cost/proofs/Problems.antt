@@ -12,7 +12,8 @@ use Rattle.tsp_format.specs.declared.kinds.WeightKind.{WeightKind}
 use Rattle.tsp_format.specs.declared.kinds.WeightKind.TheVariants.{Explicit}
 use Rattle.tsp_format.specs.declared.layout.Layout.{Layout}
 use Rattle.tsp_format.specs.declared.layout.Layout.TheVariants.{FullMatrix, UpperRow, LowerRow, UpperDiagRow, LowerDiagRow, UpperCol, LowerCol, UpperDiagCol, LowerDiagCol}
-use Rattle.tsp_format.specs.Cells.{IsNode, is_listed, cells}
+use Rattle.tsp_format.specs.Nodes.{IsNode}
+use Rattle.tsp_format.specs.Cells.{is_listed, cells}
 use Rattle.tsp_format.specs.Place.{place_of, place_by_table}
 use Rattle.tsp_format.proofs.Pairs.{cell_is}
 use Rattle.tsp_format.proofs.Places.{placed, place_within, place_from, stands_at, no_place}

@@ -9,7 +9,8 @@ use Rattle.tsp_format.specs.declared.kinds.WeightKind.{WeightKind}
 use Rattle.tsp_format.specs.declared.kinds.WeightKind.TheVariants.{Explicit}
 use Rattle.tsp_format.specs.declared.layout.Layout.{Layout}
 use Rattle.tsp_format.specs.declared.layout.Layout.TheVariants.{FullMatrix}
-use Rattle.tsp_format.specs.Cells.{IsNode, is_listed, cells}
+use Rattle.tsp_format.specs.Nodes.{IsNode}
+use Rattle.tsp_format.specs.Cells.{is_listed, cells}
 use Rattle.tsp_draft.specs.Fields.{Fields}
 use Rattle.tsp_file.specs.ByInequalities.{IsDistanceBy}
 use Rattle.tsp_theory.specs.Routing.{RoutingProblem}
@@ -24,7 +25,8 @@ pub record CostsAreListed (instance : Fields) (nodes : ℕ) (cost : ℕ → ℕ 
   pub weights : List ℤ
   pub section : instance.weights ≡ Some weights
   pub count : length weights ≡ length (cells layout nodes)
-  pub cell : (place i j : ℕ) (weight : ℤ) → slice_get (cells layout nodes) place ≡ Some (i, j) → slice_get weights place ≡ Some weight
+  pub cell : (place i j : ℕ) (weight : ℤ) → slice_get (cells layout nodes) place ≡ Some (i, j)
+      → slice_get weights place ≡ Some weight
       → cost i j ≡ weight
   pub half : (i j : ℕ) → IsNode nodes i → IsNode nodes j → layout ≢ FullMatrix → i ≢ j → cost i j ≡ cost j i
   pub diagonal : (i : ℕ) → IsNode nodes i → is_listed layout (i, i) ≡ false → cost i i ≡ pos 0

@@ -52,11 +52,11 @@ impl Instance {
     ghost use Rattle.tsp_cost.specs.declared.fault.CostFault.TheVariants.{NotInstance};
     ghost use Rattle.tsp_cost.specs.declared.source.Source.TheVariants.{Distances, Weights};
     ghost use Rattle.tsp_draft.specs.Fields.{nodes_of};
-    ghost use Rattle.tsp_file.specs.Meant.{fixed_of};
+    ghost use Rattle.tsp_file.specs.Defaults.{fixed_of};
     ghost use Rattle.tsp_file.specs.Typed.{HoldsRouting};
     ghost use Rattle.tsp_cost.specs.ProblemLaws.{IsProblem};
     ghost use Rattle.tsp_cost.specs.states.Sources.{ComesFrom};
-    ghost use Rattle.tsp_cost.specs.states.Views.{Shows};
+    ghost use Rattle.tsp_cost.specs.states.Views.{IsViewOf};
 
     /// The instance that a file is, which is one problem, or why it is none, and the file itself,
     /// unchanged.
@@ -138,7 +138,7 @@ impl Instance {
     /// format; else a matrix for FULL_MATRIX and a triangle for every other layout.
     #[inline]
     pub fn view(&self) -> View<'_>
-        ensures { Shows self.now result }
+        ensures { IsViewOf self.now result }
     {
         match self.source {
             Source::Distances(metric) => self.distance_view(metric),
@@ -150,7 +150,7 @@ impl Instance {
     #[inline]
     fn distance_view(&self, metric: Metric) -> View<'_>
         requires { ComesFrom self.now (Distances metric) }
-        ensures { Shows self.now result }
+        ensures { IsViewOf self.now result }
     {
         match self.file.coords().unwrap() {
             Coords::Plane(points) => View::Plane(Points::of(metric, points)),
@@ -162,7 +162,7 @@ impl Instance {
     #[inline]
     fn listed_view(&self, layout: Layout) -> View<'_>
         requires { ComesFrom self.now (Weights layout) }
-        ensures { Shows self.now result }
+        ensures { IsViewOf self.now result }
     {
         let weights = self.file.weights().unwrap();
         match layout {

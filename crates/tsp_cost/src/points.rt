@@ -29,7 +29,7 @@ pub struct Points<'a, P> {
 
 impl<'a, P: InSpace> Points<'a, P> {
     ghost use Rattle.std.specs.List.{All};
-    ghost use Rattle.tsp_format.specs.Cells.{IsNode};
+    ghost use Rattle.tsp_format.specs.Nodes.{IsNode};
     ghost use Rattle.tsp_cost.specs.states.Views.{points_nodes, points_cost, points_place};
     ghost use Rattle.tsp_cost.specs.states.Ways.{ArePlaces, IsSumOfCosts, IsWayThrough};
 

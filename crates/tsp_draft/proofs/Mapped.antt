@@ -11,7 +11,7 @@ use Rattle.tsp_format.specs.Steps.{are_whole, branch_count, change_count}
 use Rattle.std.proofs.lemmas.List.Folds.{list_all-map}
 use Rattle.tsp_format.specs.Limits.{most_tour_nodes, most_combs, most_comb_nodes, most_branches, most_changes}
 use Rattle.tsp_draft.specs.states.Drafts.{combs_of}
-use Rattle.tsp_draft.specs.Validity.{is_tour, are_tours, is_set, is_comb, are_combs, is_step, are_steps}
+use Rattle.tsp_draft.specs.Validity.{is_node_list, are_tours, is_set_of, are_sets, are_combs, is_step, are_tree_steps}
 
 pub mapped_all : {X Y : Type 0} (h : Y → X) (p : X → Bool) (ys : List Y) (r : Bool) (most count : ℕ)
     → r ≡ list_all (λ y. p (h y)) ys → count ≤ most → count ≡ length ys
@@ -29,17 +29,17 @@ sum_by_mapped : {X Y : Type 0} (f : X → ℕ) (h : Y → X) (ys : List Y) → s
 sum_by_mapped f h ys = fold_mapped f h 0 ys
 
 pub mapped_tours : (tours : List (Vec ℕ)) (r : Bool)
-    → r ≡ (list_all (λ tour. is_tour tour.items) tours && nat_le (sum_by (λ tour. length tour.items) tours) most_tour_nodes)
+    → r ≡ (list_all (λ tour. is_node_list tour.items) tours && nat_le (sum_by (λ tour. length tour.items) tours) most_tour_nodes)
     → r ≡ are_tours (map (λ tour. tour.items) tours)
 mapped_tours tours r e =
-    e ∙ rw (list_all-map is_tour (λ (tour : Vec ℕ). tour.items) tours, sum_by_mapped (λ (t : List ℕ). length t) (λ (tour : Vec ℕ). tour.items) tours) refl
+    e ∙ rw (list_all-map is_node_list (λ (tour : Vec ℕ). tour.items) tours, sum_by_mapped (λ (t : List ℕ). length t) (λ (tour : Vec ℕ). tour.items) tours) refl
 
 -- ---- combs
 
 pub comb_seen : (n : ℕ) (sets : List (Vec ℕ))
-    → is_comb n (map (λ set. set.items) sets) ≡ (nat_le 1 (length sets) && list_all (λ set. is_set n set.items) sets)
+    → are_sets n (map (λ set. set.items) sets) ≡ (nat_le 1 (length sets) && list_all (λ set. is_set_of n set.items) sets)
 comb_seen n sets =
-    rw (length-map sets (λ (set : Vec ℕ). set.items), list_all-map (is_set n) (λ (set : Vec ℕ). set.items) sets) refl
+    rw (length-map sets (λ (set : Vec ℕ). set.items), list_all-map (is_set_of n) (λ (set : Vec ℕ). set.items) sets) refl
 
 -- how many nodes the sets of a comb have
 nodes_seen : (combs : List (Vec (Vec ℕ)))
@@ -54,12 +54,12 @@ nodes_seen combs = sum_by_mapped (sum_by length) (λ (comb : Vec (Vec ℕ)). map
         (each combs (total + sum_by (λ set. length set.items) comb.items))
 
 pub combs_seen : (n : ℕ) (combs : List (Vec (Vec ℕ))) → are_combs n (combs_of combs)
-    ≡ (nat_le (length combs) most_combs && list_all (λ comb. is_comb n (map (λ set. set.items) comb.items)) combs
+    ≡ (nat_le (length combs) most_combs && list_all (λ comb. are_sets n (map (λ set. set.items) comb.items)) combs
     && nat_le (sum_by (λ comb. sum_by (λ set. length set.items) comb.items) combs) most_comb_nodes)
 combs_seen n combs =
     rw (
       length-map combs (λ (comb : Vec (Vec ℕ)). map (λ set. set.items) comb.items),
-      list_all-map (is_comb n) (λ (comb : Vec (Vec ℕ)). map (λ set. set.items) comb.items) combs,
+      list_all-map (are_sets n) (λ (comb : Vec (Vec ℕ)). map (λ set. set.items) comb.items) combs,
       nodes_seen combs,
     ) refl
 
@@ -69,7 +69,7 @@ all_four : (a b c d : Bool) → (a && b && c && d) ≡ (a && (b && c) && d)
 all_four true b c d = refl
 all_four false b c d = refl
 
-pub steps_seen : (n : ℕ) (steps : List TreeStep) → are_steps n (steps_of steps)
+pub steps_seen : (n : ℕ) (steps : List TreeStep) → are_tree_steps n (steps_of steps)
     ≡ (list_all (λ step. is_step n (step_of step)) steps
     && (nat_le (branch_count (steps_of steps)) most_branches && nat_le (change_count (steps_of steps)) most_changes)
     && are_whole 1 (steps_of steps))
@@ -80,7 +80,7 @@ steps_seen n steps = rw (list_all-map (is_step n) step_of steps)
 pub judged_steps : (n : ℕ) (steps : List TreeStep) (each few whole r : Bool)
     → each ≡ list_all (λ step. is_step n (step_of step)) steps
     → few ≡ (nat_le (branch_count (steps_of steps)) most_branches && nat_le (change_count (steps_of steps)) most_changes)
-    → whole ≡ are_whole 1 (steps_of steps) → r ≡ (each && few && whole) → r ≡ are_steps n (steps_of steps)
+    → whole ≡ are_whole 1 (steps_of steps) → r ≡ (each && few && whole) → r ≡ are_tree_steps n (steps_of steps)
 judged_steps n steps each few whole r of_each of_few of_whole is =
     is ∙ ap (λ (b : Bool). b && few && whole) of_each
     ∙ ap (λ (b : Bool). list_all (λ step. is_step n (step_of step)) steps && b && whole) of_few

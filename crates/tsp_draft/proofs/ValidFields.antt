@@ -19,15 +19,16 @@ use Rattle.tsp_format.specs.declared.kinds.Kind.{Kind}
 use Rattle.tsp_format.specs.declared.kinds.Kind.TheVariants as kinds
 use Rattle.tsp_format.specs.declared.kinds.WeightFormat.{WeightFormat}
 use Rattle.tsp_format.specs.declared.kinds.WeightFormat.TheVariants.{ByFunction, Listed}
-use Rattle.tsp_format.specs.Cells.{IsNode, cells}
-use Rattle.tsp_format.specs.Limits.{most_nodes, most_matrix_nodes, most_coordinate, most_weight, most_demand, most_capacity, most_scale, most_potential, most_depots, most_fixed, most_multipliers, most_multiplier, most_tour_nodes, most_combs, most_comb_nodes, most_branches, most_changes, most_difference}
+use Rattle.tsp_format.specs.Nodes.{IsNode}
+use Rattle.tsp_format.specs.Cells.{cells}
+use Rattle.tsp_format.specs.Limits.{most_nodes, most_matrix_nodes, most_coordinate, most_weight, most_demand, most_capacity, most_scale, most_potential, most_depots, most_fixed, most_triples, most_multiplier, most_tour_nodes, most_combs, most_comb_nodes, most_branches, most_changes, most_difference}
 use Rattle.tsp_format.specs.Words.{field_word}
 use Rattle.tsp_format.specs.Words.{fields_in_order, field_found}
 use Rattle.tsp_format.specs.declared.field.Shape.TheVariants.{Points, SpacePoints}
 use Rattle.tsp_format.specs.Steps.{Step, Branch, Leaf, are_whole, branch_count, change_count}
 use Rattle.tsp_draft.specs.Fields.{Fields, spatial}
-use Rattle.tsp_draft.specs.Validity.{if_there, is_from_to, is_within, is_node, with_dimension, is_by_node, is_third, is_point, is_demand, section_fits, are_depots, is_node_pair, are_fixed, is_triple, are_triples, are_weights, is_tour, are_tours, is_set, is_comb, are_combs, is_change, is_step, are_steps, fits, first_failing, bad_field}
-use Rattle.tsp_draft.specs.Rules.{standing_of, count_of, is_instance, is_routing, is_tours, is_certificate, is_tree, is_explicit, is_function, lists_weights, is_there, asked_in_order, has_wrong_format, is_count, has_wrong_count, has_row_or_column, has_node_or_multiplier, end_fault, format_or_count, fault_of}
+use Rattle.tsp_draft.specs.Validity.{if_there, is_from_to, is_within, is_node, with_dimension, is_by_node, is_third, is_point, is_demand, section_fits, are_depots, is_pair_of, are_fixed, is_triple_of, are_triples, fit_matrix, is_node_list, are_tours, is_set_of, are_sets, are_combs, is_change, is_step, are_tree_steps, fits, first_failing, bad_field}
+use Rattle.tsp_draft.specs.Rules.{standing_of, count_of, is_instance, is_routing, is_tour_file, is_potentials_file, is_branches_file, is_explicit, is_function, has_explicit_weights, is_there, asked_in_order, has_wrong_format, is_count, has_wrong_count, has_row_or_column, has_node_or_multiplier, end_fault, format_or_count, fault_of}
 use Rattle.tsp_draft.specs.Valid.{IsFromTo, IsWithin, IsByNode, IsThird, IsPoint, IsDemand, IsPairOf, IsNodeList, AreDepots, AreFixed, IsTripleOf, AreTriples, AreWeights, AreTours, IsInRange, HasInstance, HasRouting, HasPotentials, IsSetOf, AreSets, AreCombs, IsChange, IsStep, AreTreeSteps, HasBranches}
 
 -- ---- tests that hold
@@ -142,16 +143,16 @@ all_so : {A : Type 0} (test : A → Bool) (P : A → Type 0) → ((x : A) → te
     → list_all test xs ≡ true → All P xs
 all_so test P so xs e = λ k d lt. so (get_or xs k d) (AllPass-from_list_all test xs e k d lt)
 
-is_pair_of : (n : ℕ) (pair : ℕ × ℕ) → is_node_pair n pair ≡ true → IsPairOf n pair
-is_pair_of n pair e =
+pair_of_nodes : (n : ℕ) (pair : ℕ × ℕ) → is_pair_of n pair ≡ true → IsPairOf n pair
+pair_of_nodes n pair e =
     let first = both (is_node n pair.0 && is_node n pair.1) (not (pair.0 == pair.1)) e in
     let nodes = both (is_node n pair.0) (is_node n pair.1) first.0 in
     (node n pair.0 nodes.0, node n pair.1 nodes.1, λ same. grind (arith, nat_tests, first.1, same))
 
-is_triple_of : (n : ℕ) (triple : ℕ × ℕ × ℤ) → is_triple n triple ≡ true → IsTripleOf n triple
-is_triple_of n triple e =
-    let two = both (is_node_pair n (triple.0, triple.1)) (is_from_to (pos 0) (pos most_multiplier) triple.2) e in
-    (is_pair_of n (triple.0, triple.1) two.0, from_to (pos 0) (pos most_multiplier) triple.2 two.1)
+triple_of_nodes : (n : ℕ) (triple : ℕ × ℕ × ℤ) → is_triple_of n triple ≡ true → IsTripleOf n triple
+triple_of_nodes n triple e =
+    let two = both (is_pair_of n (triple.0, triple.1)) (is_from_to (pos 0) (pos most_multiplier) triple.2) e in
+    (pair_of_nodes n (triple.0, triple.1) two.0, from_to (pos 0) (pos most_multiplier) triple.2 two.1)
 
 third : (in_space : Bool) (z : ℤ) → is_third in_space z ≡ true → IsThird in_space z
 third true z e = within most_coordinate z e
@@ -196,8 +197,8 @@ depots_in f depots e stands =
 fixed_in : (f : Fields) (pairs : List (ℕ × ℕ)) → fits f fields.FixedEdgesPart ≡ true → f.fixed ≡ Some pairs → AreFixed f pairs
 fixed_in f pairs e stands =
     let held = dimensioned are_fixed f.dimension pairs (given (with_dimension are_fixed f.dimension) f.fixed pairs e stands) in
-    let two = both (nat_le (length pairs) most_fixed) (list_all (is_node_pair held.0) pairs) held.2 in
-    record { n = held.0; dimension = held.1; few = leb-true (length pairs) most_fixed two.0; pairs_of_nodes = all_so (is_node_pair held.0) (IsPairOf held.0) (is_pair_of held.0) pairs two.1 }
+    let two = both (nat_le (length pairs) most_fixed) (list_all (is_pair_of held.0) pairs) held.2 in
+    record { n = held.0; dimension = held.1; few = leb-true (length pairs) most_fixed two.0; pairs_of_nodes = all_so (is_pair_of held.0) (IsPairOf held.0) (pair_of_nodes held.0) pairs two.1 }
 
 triples_in : (f : Fields) (triples : List (ℕ × ℕ × ℤ)) → fits f fields.FixedEdgePotentialPart ≡ true
     → f.fixed_potentials ≡ Some triples
@@ -205,46 +206,46 @@ triples_in : (f : Fields) (triples : List (ℕ × ℕ × ℤ)) → fits f fields
 triples_in f triples e stands =
     let given_so = given (with_dimension are_triples f.dimension) f.fixed_potentials triples e stands in
     let held = dimensioned are_triples f.dimension triples given_so in
-    let two = both (nat_le (length triples) most_multipliers) (list_all (is_triple held.0) triples) held.2 in
+    let two = both (nat_le (length triples) most_triples) (list_all (is_triple_of held.0) triples) held.2 in
     record {
       n = held.0;
       dimension = held.1;
-      few = leb-true (length triples) most_multipliers two.0;
-      triples_of_nodes = all_so (is_triple held.0) (IsTripleOf held.0) (is_triple_of held.0) triples two.1;
+      few = leb-true (length triples) most_triples two.0;
+      triples_of_nodes = all_so (is_triple_of held.0) (IsTripleOf held.0) (triple_of_nodes held.0) triples two.1;
     }
 
 tours_in : (tours : List (List ℕ)) → are_tours tours ≡ true → AreTours tours
 tours_in tours e =
-    let two = both (list_all is_tour tours) (nat_le (sum_by length tours) most_tour_nodes) e in
-    (all_so is_tour IsNodeList listed tours two.0, leb-true (sum_by length tours) most_tour_nodes two.1)
+    let two = both (list_all is_node_list tours) (nat_le (sum_by length tours) most_tour_nodes) e in
+    (all_so is_node_list IsNodeList listed tours two.0, leb-true (sum_by length tours) most_tour_nodes two.1)
   where
-    listed : (tour : List ℕ) → is_tour tour ≡ true → IsNodeList tour
+    listed : (tour : List ℕ) → is_node_list tour ≡ true → IsNodeList tour
     listed tour e =
         let two = both (nat_le 1 (length tour)) (list_all (is_node most_nodes) tour) e in
         (leb-true 1 (length tour) two.0, all_so (is_node most_nodes) (IsNode most_nodes) (node most_nodes) tour two.1)
 
-set_of : (n : ℕ) (set : List ℕ) → is_set n set ≡ true → IsSetOf n set
+set_of : (n : ℕ) (set : List ℕ) → is_set_of n set ≡ true → IsSetOf n set
 set_of n set e =
     let two = both (nat_le 1 (length set)) (list_all (is_node n) set) e in
     (leb-true 1 (length set) two.0, all_so (is_node n) (IsNode n) (node n) set two.1)
 
-sets_of : (n : ℕ) (comb : List (List ℕ)) → is_comb n comb ≡ true → AreSets n comb
+sets_of : (n : ℕ) (comb : List (List ℕ)) → are_sets n comb ≡ true → AreSets n comb
 sets_of n comb e =
-    let two = both (nat_le 1 (length comb)) (list_all (is_set n) comb) e in
-    (leb-true 1 (length comb) two.0, all_so (is_set n) (IsSetOf n) (set_of n) comb two.1)
+    let two = both (nat_le 1 (length comb)) (list_all (is_set_of n) comb) e in
+    (leb-true 1 (length comb) two.0, all_so (is_set_of n) (IsSetOf n) (set_of n) comb two.1)
 
 combs_in : (f : Fields) (combs : List (List (List ℕ))) → fits f fields.CombPart ≡ true → f.combs ≡ Some combs → AreCombs f combs
 combs_in f combs e stands =
     let held = dimensioned are_combs f.dimension combs (given (with_dimension are_combs f.dimension) f.combs combs e stands) in
     let few = nat_le (length combs) most_combs in
     let nodes = nat_le (sum_by (sum_by length) combs) most_comb_nodes in
-    let two = both (few && list_all (is_comb held.0) combs) nodes held.2 in
-    let first = both few (list_all (is_comb held.0) combs) two.0 in
+    let two = both (few && list_all (are_sets held.0) combs) nodes held.2 in
+    let first = both few (list_all (are_sets held.0) combs) two.0 in
     record {
       n = held.0;
       dimension = held.1;
       few = leb-true (length combs) most_combs first.0;
-      sets = all_so (is_comb held.0) (AreSets held.0) (sets_of held.0) combs first.1;
+      sets = all_so (are_sets held.0) (AreSets held.0) (sets_of held.0) combs first.1;
       few_nodes = leb-true (sum_by (sum_by length) combs) most_comb_nodes two.1;
     }
 
@@ -254,12 +255,12 @@ change n entry e =
     (node (n + most_combs) entry.0 two.0, within most_difference entry.1 two.1)
 
 step : (n : ℕ) (s : Step) → is_step n s ≡ true → IsStep n s
-step n (Branch first second) e = is_pair_of n (first, second) e
+step n (Branch first second) e = pair_of_nodes n (first, second) e
 step n (Leaf changes) e = all_so (is_change n) (IsChange n) (change n) changes e
 
 steps_in : (f : Fields) (steps : List Step) → fits f fields.BranchPart ≡ true → f.branches ≡ Some steps → AreTreeSteps f steps
 steps_in f steps e stands =
-    let held = dimensioned are_steps f.dimension steps (given (with_dimension are_steps f.dimension) f.branches steps e stands) in
+    let held = dimensioned are_tree_steps f.dimension steps (given (with_dimension are_tree_steps f.dimension) f.branches steps e stands) in
     let few = nat_le (branch_count steps) most_branches in
     let changes = nat_le (change_count steps) most_changes in
     let each = list_all (is_step held.0) steps in
@@ -286,23 +287,23 @@ listed_format (Some (Listed layout)) there no_function = (layout, refl)
 counted : (n : ℕ) (layout : Layout) (weights : List ℤ) (dimension : Option ℕ) (format : Option WeightFormat) (stand : Option (List ℤ))
     → is_count dimension format (count_of stand) ≡ true
     → dimension ≡ Some n → format ≡ Some (Listed layout) → stand ≡ Some weights → length weights ≡ length (cells layout n)
-counted n layout weights dimension format stand e is_n is_layout are_weights = eqb-true (length weights) (length (cells layout n))
-    (subst (λ o. is_count (Some n) (Some (Listed layout)) (count_of o) ≡ true) are_weights
+counted n layout weights dimension format stand e is_n is_layout fit_matrix = eqb-true (length weights) (length (cells layout n))
+    (subst (λ o. is_count (Some n) (Some (Listed layout)) (count_of o) ≡ true) fit_matrix
     (subst (λ o. is_count (Some n) o (count_of stand) ≡ true) is_layout
     (subst (λ o. is_count o format (count_of stand) ≡ true) is_n e)))
 
 weights_in : (f : Fields) (weights : List ℤ) → fault_of f ≡ None → f.weights ≡ Some weights → AreWeights f weights
 weights_in f weights valid stands =
     let s = standing_of f in
-    let held = dimensioned are_weights f.dimension weights (given (with_dimension are_weights f.dimension) f.weights weights (each_fits f valid fields.EdgeWeightPart) stands) in
+    let held = dimensioned fit_matrix f.dimension weights (given (with_dimension fit_matrix f.dimension) f.weights weights (each_fits f valid fields.EdgeWeightPart) stands) in
     let most = both (nat_le held.0 most_matrix_nodes && nat_le (length weights) (held.0 * held.0)) (list_all (is_within most_weight) weights) held.2 in
     let few = both (nat_le held.0 most_matrix_nodes) (nat_le (length weights) (held.0 * held.0)) most.0 in
     let there : is_some f.weights ≡ true = ap is_some stands in
-    let asked : (lists_weights s || is_some f.weights) ≡ true = or_true (lists_weights s) (is_some f.weights) there in
-    let has_format : is_some f.weight_format ≡ true = asked_there (lists_weights s || is_some f.weights) (is_some f.weight_format) (none_missing f valid).1.1.1.0 asked in
+    let asked : (has_explicit_weights s || is_some f.weights) ≡ true = or_true (has_explicit_weights s) (is_some f.weights) there in
+    let has_format : is_some f.weight_format ≡ true = asked_there (has_explicit_weights s || is_some f.weights) (is_some f.weight_format) (none_missing f valid).1.1.1.0 asked in
     let rules = format_and_count f valid in
-    let right_format = neither (is_function f.weight_format && (lists_weights s || is_some f.weights)) (is_certificate f.kind && has_node_or_multiplier s && has_row_or_column s) rules.0 in
-    let format = listed_format f.weight_format has_format (first_false (is_function f.weight_format) (lists_weights s || is_some f.weights) right_format.0 asked) in
+    let right_format = neither (is_function f.weight_format && (has_explicit_weights s || is_some f.weights)) (is_potentials_file f.kind && has_node_or_multiplier s && has_row_or_column s) rules.0 in
+    let format = listed_format f.weight_format has_format (first_false (is_function f.weight_format) (has_explicit_weights s || is_some f.weights) right_format.0 asked) in
     let right_count = not_false (is_count f.dimension f.weight_format (count_of f.weights))
     (second_false (is_some f.weights) (not (is_count f.dimension f.weight_format (count_of f.weights))) rules.1 there) in
     record {
@@ -339,7 +340,7 @@ in_range f valid = record {
 
 -- ---- presence
 
-instance_is_no_tours : (kind : Option Kind) → is_instance kind ≡ true → not (is_tours kind) ≡ true
+instance_is_no_tours : (kind : Option Kind) → is_instance kind ≡ true → not (is_tour_file kind) ≡ true
 instance_is_no_tours None e = absurd cc
 instance_is_no_tours (Some kinds.Tsp) e = refl
 instance_is_no_tours (Some kinds.Atsp) e = refl
@@ -348,7 +349,7 @@ instance_is_no_tours (Some kinds.Tour) e = absurd cc
 instance_is_no_tours (Some kinds.Potentials) e = absurd cc
 instance_is_no_tours (Some kinds.Branches) e = absurd cc
 
-certificate_is_no_tours : (kind : Option Kind) → is_certificate kind ≡ true → not (is_tours kind) ≡ true
+certificate_is_no_tours : (kind : Option Kind) → is_potentials_file kind ≡ true → not (is_tour_file kind) ≡ true
 certificate_is_no_tours None e = absurd cc
 certificate_is_no_tours (Some kinds.Tsp) e = absurd cc
 certificate_is_no_tours (Some kinds.Atsp) e = absurd cc
@@ -357,7 +358,7 @@ certificate_is_no_tours (Some kinds.Tour) e = absurd cc
 certificate_is_no_tours (Some kinds.Potentials) e = refl
 certificate_is_no_tours (Some kinds.Branches) e = absurd cc
 
-tree_is_no_tours : (kind : Option Kind) → is_tree kind ≡ true → not (is_tours kind) ≡ true
+tree_is_no_tours : (kind : Option Kind) → is_branches_file kind ≡ true → not (is_tour_file kind) ≡ true
 tree_is_no_tours None e = absurd cc
 tree_is_no_tours (Some kinds.Tsp) e = absurd cc
 tree_is_no_tours (Some kinds.Atsp) e = absurd cc
@@ -374,7 +375,7 @@ has_instance f valid is_one =
     let there = none_missing f valid in
     let kind_there = asked_there (is_instance f.kind) (is_some f.weight_kind) there.1.1.0 is_one in
     record {
-      dimension = asked_there (not (is_tours f.kind)) (is_some f.dimension) there.1.0 (instance_is_no_tours f.kind is_one);
+      dimension = asked_there (not (is_tour_file f.kind)) (is_some f.dimension) there.1.0 (instance_is_no_tours f.kind is_one);
       weight_kind = kind_there;
       weights = λ explicit. asked_there (is_instance f.kind && is_explicit f.weight_kind) (is_some f.weights) there.1.1.1.1.1.1.0
           (and_true (is_instance f.kind) (is_explicit f.weight_kind) is_one explicit);
@@ -391,8 +392,8 @@ has_routing f valid is_one =
       depots = asked_there (is_routing f.kind) (is_some f.depots) there.1.1.1.1.1.1.1.1.0 is_one;
     }
 
-pub has_tours : (f : Fields) → fault_of f ≡ None → IsTrue (is_tours f.kind) → IsSome f.tours
-has_tours f valid is_one = asked_there (is_tours f.kind) (is_some f.tours) (none_missing f valid).1.1.1.1.1.1.1.1.1.0 is_one
+pub has_tours : (f : Fields) → fault_of f ≡ None → IsTrue (is_tour_file f.kind) → IsSome f.tours
+has_tours f valid is_one = asked_there (is_tour_file f.kind) (is_some f.tours) (none_missing f valid).1.1.1.1.1.1.1.1.1.0 is_one
 
 -- potentials of one sort
 one_sort : (nodal : Option (List ℤ)) (multipliers : Option (List (ℕ × ℕ × ℤ))) (row column : Option (List ℤ))
@@ -407,28 +408,28 @@ one_sort None None (Some r) (Some c) nodes rows columns one = inr (refl, refl, r
 one_sort None (Some m) (Some r) (Some c) nodes rows columns one = absurd (false≢true (sym one))
 one_sort (Some p) multipliers (Some r) (Some c) nodes rows columns one = absurd (false≢true (sym one))
 
-pub has_potentials : (f : Fields) → fault_of f ≡ None → IsTrue (is_certificate f.kind) → HasPotentials f
+pub has_potentials : (f : Fields) → fault_of f ≡ None → IsTrue (is_potentials_file f.kind) → HasPotentials f
 has_potentials f valid is_one =
     let there = none_missing f valid in
     let s = standing_of f in
     let no_node = not (is_some f.row_potentials || is_some f.column_potentials) in
-    let right_format = neither (is_function f.weight_format && (lists_weights s || is_some f.weights))
-    (is_certificate f.kind && has_node_or_multiplier s && has_row_or_column s) (format_and_count f valid).0 in
+    let right_format = neither (is_function f.weight_format && (has_explicit_weights s || is_some f.weights))
+    (is_potentials_file f.kind && has_node_or_multiplier s && has_row_or_column s) (format_and_count f valid).0 in
     record {
-      dimension = asked_there (not (is_tours f.kind)) (is_some f.dimension) there.1.0 (certificate_is_no_tours f.kind is_one);
+      dimension = asked_there (not (is_tour_file f.kind)) (is_some f.dimension) there.1.0 (certificate_is_no_tours f.kind is_one);
       sort = one_sort f.node_potentials f.fixed_potentials f.row_potentials f.column_potentials
-          (λ none. asked_there (is_certificate f.kind && no_node) (is_some f.node_potentials) there.1.1.1.1.1.1.1.1.1.1.0 (and_true (is_certificate f.kind) no_node is_one none))
-          (λ column. asked_there (is_certificate f.kind && is_some f.column_potentials) (is_some f.row_potentials) there.1.1.1.1.1.1.1.1.1.1.1.0
-          (and_true (is_certificate f.kind) (is_some f.column_potentials) is_one column))
-          (λ row. asked_there (is_certificate f.kind && is_some f.row_potentials) (is_some f.column_potentials) there.1.1.1.1.1.1.1.1.1.1.1.1.0
-          (and_true (is_certificate f.kind) (is_some f.row_potentials) is_one row))
+          (λ none. asked_there (is_potentials_file f.kind && no_node) (is_some f.node_potentials) there.1.1.1.1.1.1.1.1.1.1.0 (and_true (is_potentials_file f.kind) no_node is_one none))
+          (λ column. asked_there (is_potentials_file f.kind && is_some f.column_potentials) (is_some f.row_potentials) there.1.1.1.1.1.1.1.1.1.1.1.0
+          (and_true (is_potentials_file f.kind) (is_some f.column_potentials) is_one column))
+          (λ row. asked_there (is_potentials_file f.kind && is_some f.row_potentials) (is_some f.column_potentials) there.1.1.1.1.1.1.1.1.1.1.1.1.0
+          (and_true (is_potentials_file f.kind) (is_some f.row_potentials) is_one row))
           (subst (λ (b : Bool). (b && has_node_or_multiplier s && has_row_or_column s) ≡ false) is_one right_format.1);
     }
 
-pub has_branches : (f : Fields) → fault_of f ≡ None → IsTrue (is_tree f.kind) → HasBranches f
+pub has_branches : (f : Fields) → fault_of f ≡ None → IsTrue (is_branches_file f.kind) → HasBranches f
 has_branches f valid is_one =
     let there = none_missing f valid in
     record {
-      dimension = asked_there (not (is_tours f.kind)) (is_some f.dimension) there.1.0 (tree_is_no_tours f.kind is_one);
-      branches = asked_there (is_tree f.kind) (is_some f.branches) there.1.1.1.1.1.1.1.1.1.1.1.1.1.0 is_one;
+      dimension = asked_there (not (is_tour_file f.kind)) (is_some f.dimension) there.1.0 (tree_is_no_tours f.kind is_one);
+      branches = asked_there (is_branches_file f.kind) (is_some f.branches) there.1.1.1.1.1.1.1.1.1.1.1.1.1.0 is_one;
     }

@@ -64,32 +64,32 @@ is_routing (Some kinds.Potentials) = false
 is_routing (Some kinds.Branches) = false
 is_routing None = false
 
-abbrev pub is_tours : Option Kind → Bool
-is_tours (Some kinds.Tour) = true
-is_tours (Some kinds.Tsp) = false
-is_tours (Some kinds.Atsp) = false
-is_tours (Some kinds.Cvrp) = false
-is_tours (Some kinds.Potentials) = false
-is_tours (Some kinds.Branches) = false
-is_tours None = false
+abbrev pub is_tour_file : Option Kind → Bool
+is_tour_file (Some kinds.Tour) = true
+is_tour_file (Some kinds.Tsp) = false
+is_tour_file (Some kinds.Atsp) = false
+is_tour_file (Some kinds.Cvrp) = false
+is_tour_file (Some kinds.Potentials) = false
+is_tour_file (Some kinds.Branches) = false
+is_tour_file None = false
 
-abbrev pub is_certificate : Option Kind → Bool
-is_certificate (Some kinds.Potentials) = true
-is_certificate (Some kinds.Tsp) = false
-is_certificate (Some kinds.Atsp) = false
-is_certificate (Some kinds.Cvrp) = false
-is_certificate (Some kinds.Tour) = false
-is_certificate (Some kinds.Branches) = false
-is_certificate None = false
+abbrev pub is_potentials_file : Option Kind → Bool
+is_potentials_file (Some kinds.Potentials) = true
+is_potentials_file (Some kinds.Tsp) = false
+is_potentials_file (Some kinds.Atsp) = false
+is_potentials_file (Some kinds.Cvrp) = false
+is_potentials_file (Some kinds.Tour) = false
+is_potentials_file (Some kinds.Branches) = false
+is_potentials_file None = false
 
-abbrev pub is_tree : Option Kind → Bool
-is_tree (Some kinds.Branches) = true
-is_tree (Some kinds.Tsp) = false
-is_tree (Some kinds.Atsp) = false
-is_tree (Some kinds.Cvrp) = false
-is_tree (Some kinds.Tour) = false
-is_tree (Some kinds.Potentials) = false
-is_tree None = false
+abbrev pub is_branches_file : Option Kind → Bool
+is_branches_file (Some kinds.Branches) = true
+is_branches_file (Some kinds.Tsp) = false
+is_branches_file (Some kinds.Atsp) = false
+is_branches_file (Some kinds.Cvrp) = false
+is_branches_file (Some kinds.Tour) = false
+is_branches_file (Some kinds.Potentials) = false
+is_branches_file None = false
 
 abbrev pub is_explicit : Option WeightKind → Bool
 is_explicit (Some weight_kinds.Explicit) = true
@@ -109,8 +109,8 @@ is_function (Some (formats.Listed layout)) = false
 is_function None = false
 
 -- its weights are listed
-abbrev pub lists_weights : Standing → Bool
-lists_weights s = is_instance s.kind && is_explicit s.weight_kind
+abbrev pub has_explicit_weights : Standing → Bool
+has_explicit_weights s = is_instance s.kind && is_explicit s.weight_kind
 
 -- its weights are distances
 abbrev pub has_distances : Standing → Bool
@@ -124,19 +124,19 @@ has_row_or_column s = s.stands RowPotentialPart || s.stands ColumnPotentialPart
 -- the field is asked for
 abbrev pub is_asked : Standing → Field → Bool
 is_asked s TypeKey = true
-is_asked s DimensionKey = not (is_tours s.kind)
+is_asked s DimensionKey = not (is_tour_file s.kind)
 is_asked s CapacityKey = is_routing s.kind
 is_asked s EdgeWeightTypeKey = is_instance s.kind
-is_asked s EdgeWeightFormatKey = lists_weights s || s.stands EdgeWeightPart
+is_asked s EdgeWeightFormatKey = has_explicit_weights s || s.stands EdgeWeightPart
 is_asked s NodeCoordPart = has_distances s
 is_asked s DemandPart = is_routing s.kind
 is_asked s DepotPart = is_routing s.kind
-is_asked s EdgeWeightPart = lists_weights s
-is_asked s TourPart = is_tours s.kind
-is_asked s NodePotentialPart = is_certificate s.kind && not (has_row_or_column s)
-is_asked s RowPotentialPart = is_certificate s.kind && s.stands ColumnPotentialPart
-is_asked s ColumnPotentialPart = is_certificate s.kind && s.stands RowPotentialPart
-is_asked s BranchPart = is_tree s.kind
+is_asked s EdgeWeightPart = has_explicit_weights s
+is_asked s TourPart = is_tour_file s.kind
+is_asked s NodePotentialPart = is_potentials_file s.kind && not (has_row_or_column s)
+is_asked s RowPotentialPart = is_potentials_file s.kind && s.stands ColumnPotentialPart
+is_asked s ColumnPotentialPart = is_potentials_file s.kind && s.stands RowPotentialPart
+is_asked s BranchPart = is_branches_file s.kind
 is_asked s field = false
 
 -- the field isn't missing
@@ -157,8 +157,8 @@ has_node_or_multiplier s = s.stands NodePotentialPart || s.stands FixedEdgePoten
 
 -- a function in the place of listed weights, or numbers of both sorts of certificates
 abbrev pub has_wrong_format : Standing → Bool
-has_wrong_format s = (is_function s.weight_format && (lists_weights s || s.stands EdgeWeightPart))
-    || (is_certificate s.kind && has_node_or_multiplier s && has_row_or_column s)
+has_wrong_format s = (is_function s.weight_format && (has_explicit_weights s || s.stands EdgeWeightPart))
+    || (is_potentials_file s.kind && has_node_or_multiplier s && has_row_or_column s)
 
 -- this many weights are as many as the cells of the layout
 abbrev pub is_count : Option ℕ → Option WeightFormat → ℕ → Bool

@@ -5,8 +5,9 @@ use Rattle.tsp_distance.specs.declared.decimal.Point.{Point}
 use Rattle.tsp_format.specs.declared.layout.Layout.{Layout}
 use Rattle.tsp_format.specs.declared.kinds.WeightFormat.TheVariants.{Listed}
 pub use Rattle.tsp_format.specs.Ranges.{IsFromTo}
-use Rattle.tsp_format.specs.Cells.{IsNode, cells}
-use Rattle.tsp_format.specs.Limits.{most_nodes, most_matrix_nodes, most_coordinate, most_weight, most_demand, most_capacity, most_scale, most_potential, most_depots, most_fixed, most_multipliers, most_multiplier, most_tour_nodes, most_combs, most_comb_nodes, most_branches, most_changes, most_difference}
+use Rattle.tsp_format.specs.Nodes.{IsNode}
+use Rattle.tsp_format.specs.Cells.{cells}
+use Rattle.tsp_format.specs.Limits.{most_nodes, most_matrix_nodes, most_coordinate, most_weight, most_demand, most_capacity, most_scale, most_potential, most_depots, most_fixed, most_triples, most_multiplier, most_tour_nodes, most_combs, most_comb_nodes, most_branches, most_changes, most_difference}
 use Rattle.tsp_format.specs.Steps.{Step, Branch, Leaf, are_whole, branch_count, change_count}
 use Rattle.tsp_draft.specs.Fields.{Fields, spatial}
 use Rattle.tsp_draft.specs.Rules.{is_explicit}
@@ -58,7 +59,7 @@ pub record AreFixed (f : Fields) (pairs : List (ℕ × ℕ)) : Type 0 where
 pub record AreTriples (f : Fields) (triples : List (ℕ × ℕ × ℤ)) : Type 0 where
   pub n : ℕ
   pub dimension : f.dimension ≡ Some n
-  pub few : length triples ≤ most_multipliers
+  pub few : length triples ≤ most_triples
   pub triples_of_nodes : All (IsTripleOf n) triples
 
 -- weights are listed in a layout, and as many as its cells

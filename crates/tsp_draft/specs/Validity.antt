@@ -10,7 +10,7 @@ use Rattle.tsp_format.specs.declared.field.Shape.{Shape}
 use Rattle.tsp_format.specs.declared.field.Shape.TheVariants.{Numbers, Points, SpacePoints, Depots, Pairs, Weights, Tours, Triples, Combs, Steps}
 use Rattle.tsp_format.specs.declared.field.ValueShape.{ValueShape}
 use Rattle.tsp_format.specs.declared.field.ValueShape.TheVariants.{Kept, KeptEach, Number, Word}
-use Rattle.tsp_format.specs.Limits.{most_nodes, most_matrix_nodes, most_coordinate, most_weight, most_demand, most_kept_bytes, most_comments, most_others, most_depots, most_fixed, most_multipliers, most_multiplier, most_tour_nodes, most_combs, most_comb_nodes, most_branches, most_changes, most_difference}
+use Rattle.tsp_format.specs.Limits.{most_nodes, most_matrix_nodes, most_coordinate, most_weight, most_demand, most_kept_bytes, most_comments, most_others, most_depots, most_fixed, most_triples, most_multiplier, most_tour_nodes, most_combs, most_comb_nodes, most_branches, most_changes, most_difference}
 use Rattle.tsp_format.specs.Bytes.{is_blank, is_letter, is_keyword_byte}
 use Rattle.tsp_format.specs.Words.{field_word}
 use Rattle.tsp_format.specs.Keywords.{keyword_of, is_unknown}
@@ -84,39 +84,39 @@ abbrev pub are_depots : ℕ → List ℕ → Bool
 are_depots n depots = nat_le (length depots) most_depots && list_all (is_node n) depots
 
 -- two different nodes
-abbrev pub is_node_pair : ℕ → ℕ × ℕ → Bool
-is_node_pair n pair = is_node n pair.0 && is_node n pair.1 && not (pair.0 == pair.1)
+abbrev pub is_pair_of : ℕ → ℕ × ℕ → Bool
+is_pair_of n pair = is_node n pair.0 && is_node n pair.1 && not (pair.0 == pair.1)
 
 abbrev pub are_fixed : ℕ → List (ℕ × ℕ) → Bool
-are_fixed n pairs = nat_le (length pairs) most_fixed && list_all (is_node_pair n) pairs
+are_fixed n pairs = nat_le (length pairs) most_fixed && list_all (is_pair_of n) pairs
 
 -- two different nodes, and a number that a multiplier may have
-abbrev pub is_triple : ℕ → ℕ × ℕ × ℤ → Bool
-is_triple n triple = is_node_pair n (triple.0, triple.1) && is_from_to (pos 0) (pos most_multiplier) triple.2
+abbrev pub is_triple_of : ℕ → ℕ × ℕ × ℤ → Bool
+is_triple_of n triple = is_pair_of n (triple.0, triple.1) && is_from_to (pos 0) (pos most_multiplier) triple.2
 
 abbrev pub are_triples : ℕ → List (ℕ × ℕ × ℤ) → Bool
-are_triples n triples = nat_le (length triples) most_multipliers && list_all (is_triple n) triples
+are_triples n triples = nat_le (length triples) most_triples && list_all (is_triple_of n) triples
 
-abbrev pub are_weights : ℕ → List ℤ → Bool
-are_weights n weights = nat_le n most_matrix_nodes && nat_le (length weights) (n * n) && list_all (is_within most_weight) weights
+abbrev pub fit_matrix : ℕ → List ℤ → Bool
+fit_matrix n weights = nat_le n most_matrix_nodes && nat_le (length weights) (n * n) && list_all (is_within most_weight) weights
 
 -- not empty, and of nodes that some file can have
-abbrev pub is_tour : List ℕ → Bool
-is_tour tour = nat_le 1 (length tour) && list_all (is_node most_nodes) tour
+abbrev pub is_node_list : List ℕ → Bool
+is_node_list tour = nat_le 1 (length tour) && list_all (is_node most_nodes) tour
 
 abbrev pub are_tours : List (List ℕ) → Bool
-are_tours tours = list_all is_tour tours && nat_le (sum_by length tours) most_tour_nodes
+are_tours tours = list_all is_node_list tours && nat_le (sum_by length tours) most_tour_nodes
 
 -- a set of nodes, not empty
-abbrev pub is_set : ℕ → List ℕ → Bool
-is_set n set = nat_le 1 (length set) && list_all (is_node n) set
+abbrev pub is_set_of : ℕ → List ℕ → Bool
+is_set_of n set = nat_le 1 (length set) && list_all (is_node n) set
 
 -- some sets, the handle first; whether they are those of a comb is judged later
-abbrev pub is_comb : ℕ → List (List ℕ) → Bool
-is_comb n comb = nat_le 1 (length comb) && list_all (is_set n) comb
+abbrev pub are_sets : ℕ → List (List ℕ) → Bool
+are_sets n comb = nat_le 1 (length comb) && list_all (is_set_of n) comb
 
 abbrev pub are_combs : ℕ → List (List (List ℕ)) → Bool
-are_combs n combs = nat_le (length combs) most_combs && list_all (is_comb n) combs
+are_combs n combs = nat_le (length combs) most_combs && list_all (are_sets n) combs
     && nat_le (sum_by (sum_by length) combs) most_comb_nodes
 
 -- the index of a node or of some comb, and a difference
@@ -125,12 +125,12 @@ is_change n change = is_node (n + most_combs) change.0 && is_within most_differe
 
 -- a branch is on two different nodes
 abbrev pub is_step : ℕ → Step → Bool
-is_step n (Branch first second) = is_node_pair n (first, second)
+is_step n (Branch first second) = is_pair_of n (first, second)
 is_step n (Leaf changes) = list_all (is_change n) changes
 
 -- the steps of one whole tree
-abbrev pub are_steps : ℕ → List Step → Bool
-are_steps n steps = list_all (is_step n) steps && nat_le (branch_count steps) most_branches
+abbrev pub are_tree_steps : ℕ → List Step → Bool
+are_tree_steps n steps = list_all (is_step n) steps && nat_le (branch_count steps) most_branches
     && nat_le (change_count steps) most_changes && are_whole 1 steps
 
 -- ---- all fields
@@ -151,11 +151,11 @@ section_fits f field Points = if_there (with_dimension (is_by_node (is_point fal
 section_fits f field SpacePoints = if_there (with_dimension (is_by_node (is_point true)) f.dimension) (points_in f field)
 section_fits f field Depots = if_there (with_dimension are_depots f.dimension) f.depots
 section_fits f field Pairs = if_there (with_dimension are_fixed f.dimension) f.fixed
-section_fits f field Weights = if_there (with_dimension are_weights f.dimension) f.weights
+section_fits f field Weights = if_there (with_dimension fit_matrix f.dimension) f.weights
 section_fits f field Tours = if_there are_tours f.tours
 section_fits f field Triples = if_there (with_dimension are_triples f.dimension) f.fixed_potentials
 section_fits f field Combs = if_there (with_dimension are_combs f.dimension) f.combs
-section_fits f field Steps = if_there (with_dimension are_steps f.dimension) f.branches
+section_fits f field Steps = if_there (with_dimension are_tree_steps f.dimension) f.branches
 
 -- the field is valid on its own
 abbrev pub fits : Fields → Field → Bool

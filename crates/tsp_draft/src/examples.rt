@@ -7,7 +7,7 @@ ghost use Rattle.tsp_format.specs.Limits.{most_coordinate};
 ghost use Rattle.tsp_draft.specs.declared.fault.EndFault.TheVariants as ends;
 ghost use Rattle.tsp_draft.specs.declared.fault.DraftFault.TheVariants as drafts;
 ghost use Rattle.tsp_draft.specs.Fields.{blank_fields};
-ghost use Rattle.tsp_draft.specs.Validity.{is_kept, are_comments, are_others, is_within, is_third, is_demand, is_node, is_node_pair, are_weights, are_depots, are_fixed, is_triple, are_triples, is_tour, is_set, is_comb, is_change};
+ghost use Rattle.tsp_draft.specs.Validity.{is_kept, are_comments, are_others, is_within, is_third, is_demand, is_node, is_pair_of, fit_matrix, are_depots, are_fixed, is_triple_of, are_triples, is_node_list, is_set_of, are_sets, is_change};
 ghost use Rattle.tsp_draft.specs.DraftFaultText.{end_fault_text, draft_fault_text};
 ghost use Rattle.tsp_draft.specs.Rules.{fault_of, end_fault, standing_of};
 ghost use Rattle.tsp_draft.specs.Examples.{directed_matrix, plane, no_nodes, one_weight, bare_routes, routing_nodes, routing_listed, routing_full, routing_capacity, routing_weights, routing_demands, routing_depots, routing_plane, bare_tours, touring_weights, touring_whole, touring_function, touring_surplus, bare_potentials, with_node_numbers, with_column_numbers, with_row_numbers, with_both_numbers, with_all_numbers, with_both_and_pairs, with_all_and_weights, bare_tree};
@@ -36,36 +36,36 @@ pub fn examples_of_validity()
     ensures largest_demand { is_demand (pos (10 ^ 9)) ≡ true }
     ensures larger_demand { is_demand (pos (10 ^ 9 + 1)) ≡ false }
     ensures demand_below_zero { is_demand (negsuc 0) ≡ false }
-    ensures most_nodes_of_a_matrix { are_weights 5000 [] ≡ true }
-    ensures more_nodes_of_a_matrix { are_weights 5001 [] ≡ false }
-    ensures largest_weights { are_weights 3 (pos (10 ^ 12) ∷ negsuc (10 ^ 12 - 1) ∷ []) ≡ true }
-    ensures larger_weight { are_weights 3 (pos (10 ^ 12 + 1) ∷ []) ≡ false }
-    ensures smaller_weight { are_weights 3 (negsuc (10 ^ 12) ∷ []) ≡ false }
+    ensures most_nodes_of_a_matrix { fit_matrix 5000 [] ≡ true }
+    ensures more_nodes_of_a_matrix { fit_matrix 5001 [] ≡ false }
+    ensures largest_weights { fit_matrix 3 (pos (10 ^ 12) ∷ negsuc (10 ^ 12 - 1) ∷ []) ≡ true }
+    ensures larger_weight { fit_matrix 3 (pos (10 ^ 12 + 1) ∷ []) ≡ false }
+    ensures smaller_weight { fit_matrix 3 (negsuc (10 ^ 12) ∷ []) ≡ false }
     ensures most_depots { are_depots 3 (replicate 100000 2) ≡ true }
     ensures more_depots { are_depots 3 (replicate 100001 2) ≡ false }
     ensures most_pairs { are_fixed 3 (replicate 100000 (1, 2)) ≡ true }
     ensures more_pairs { are_fixed 3 (replicate 100001 (1, 2)) ≡ false }
     ensures most_triples { are_triples 3 (replicate 100000 (1, 2, pos 5)) ≡ true }
     ensures more_triples { are_triples 3 (replicate 100001 (1, 2, pos 5)) ≡ false }
-    ensures largest_multiplier { is_triple 3 (1, 2, pos (10 ^ 15)) ≡ true }
-    ensures larger_multiplier { is_triple 3 (1, 2, pos (10 ^ 15 + 1)) ≡ false }
+    ensures largest_multiplier { is_triple_of 3 (1, 2, pos (10 ^ 15)) ≡ true }
+    ensures larger_multiplier { is_triple_of 3 (1, 2, pos (10 ^ 15 + 1)) ≡ false }
     ensures largest_difference { is_change 3 (10003, pos (2 * 10 ^ 15)) ≡ true }
     ensures larger_difference { is_change 3 (10003, pos (2 * 10 ^ 15 + 1)) ≡ false }
     ensures past_the_indices { is_change 3 (10004, pos 1) ≡ false }
     ensures last_node { is_node 3 3 ≡ true }
     ensures past_the_nodes { is_node 3 4 ≡ false }
     ensures node_zero { is_node 3 0 ≡ false }
-    ensures node_with_itself { is_node_pair 3 (2, 2) ≡ false }
-    ensures tour_of_one { is_tour (1 ∷ []) ≡ true }
-    ensures empty_tour { is_tour [] ≡ false }
-    ensures set_of_one { is_set 3 (3 ∷ []) ≡ true }
-    ensures empty_set { is_set 3 [] ≡ false }
-    ensures comb_of_a_set { is_comb 3 ((3 ∷ []) ∷ []) ≡ true }
-    ensures empty_comb { is_comb 3 [] ≡ false }
+    ensures node_with_itself { is_pair_of 3 (2, 2) ≡ false }
+    ensures tour_of_one { is_node_list (1 ∷ []) ≡ true }
+    ensures empty_tour { is_node_list [] ≡ false }
+    ensures set_of_one { is_set_of 3 (3 ∷ []) ≡ true }
+    ensures empty_set { is_set_of 3 [] ≡ false }
+    ensures comb_of_a_set { are_sets 3 ((3 ∷ []) ∷ []) ≡ true }
+    ensures empty_comb { are_sets 3 [] ≡ false }
 {}
 
 /// The first faults of small files.
-#[tactic(auto, unfolding(tsp_format::specs::Cells::cells, tsp_format::specs::Cells::nodes_to))]
+#[tactic(auto, unfolding(tsp_format::specs::Cells::cells, tsp_format::specs::Nodes::nodes_to))]
 pub fn examples_of_faults()
     ensures valid { fault_of directed_matrix ≡ None }
     ensures nothing { fault_of blank_fields ≡ Some (drafts.Rule (ends.Missing fields.TypeKey)) }
@@ -75,7 +75,7 @@ pub fn examples_of_faults()
 {}
 
 /// The end table, each row beside the next one that applies too.
-#[tactic(auto, unfolding(tsp_format::specs::Cells::cells, tsp_format::specs::Cells::nodes_to))]
+#[tactic(auto, unfolding(tsp_format::specs::Cells::cells, tsp_format::specs::Nodes::nodes_to))]
 pub fn examples_of_the_end_table()
     ensures dimension { end_fault (standing_of bare_routes) None
         ≡ Some (ends.Missing fields.DimensionKey) }

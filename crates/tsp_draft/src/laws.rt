@@ -2,7 +2,7 @@
 
 ghost use Rattle.std.specs.Prelude.{◌≡◌, None, IsTrue, IsSome};
 ghost use Rattle.tsp_draft.specs.Fields.{Fields};
-ghost use Rattle.tsp_draft.specs.Rules.{fault_of, is_instance, is_routing, is_tours, is_certificate, is_tree};
+ghost use Rattle.tsp_draft.specs.Rules.{fault_of, is_instance, is_routing, is_tour_file, is_potentials_file, is_branches_file};
 ghost use Rattle.tsp_draft.specs.Valid.{IsInRange, HasInstance, HasRouting, HasPotentials, HasBranches};
 
 /// The fields of a valid file are in their ranges: the number of nodes, the lists by node, the
@@ -17,8 +17,8 @@ pub fn valid_files_are_complete()
     ensures instance { (f : Fields)
         → fault_of f ≡ None → IsTrue (is_instance f.kind) → HasInstance f }
     ensures routing { (f : Fields) → fault_of f ≡ None → IsTrue (is_routing f.kind) → HasRouting f }
-    ensures tours { (f : Fields) → fault_of f ≡ None → IsTrue (is_tours f.kind) → IsSome f.tours }
-    ensures potentials { (f : Fields) → fault_of f ≡ None → IsTrue (is_certificate f.kind)
+    ensures tours { (f : Fields) → fault_of f ≡ None → IsTrue (is_tour_file f.kind) → IsSome f.tours }
+    ensures potentials { (f : Fields) → fault_of f ≡ None → IsTrue (is_potentials_file f.kind)
         → HasPotentials f }
-    ensures branches { (f : Fields) → fault_of f ≡ None → IsTrue (is_tree f.kind) → HasBranches f }
+    ensures branches { (f : Fields) → fault_of f ≡ None → IsTrue (is_branches_file f.kind) → HasBranches f }
 {}

@@ -3,7 +3,7 @@
 ghost use Rattle.std.specs.Prelude.{◌≡◌, None};
 ghost use Rattle.tsp_draft.specs.states.Drafts.{fields_of};
 ghost use Rattle.tsp_draft.specs.Validity.{first_failing};
-ghost use Rattle.tsp_draft.specs.Rules.{standing_of, is_instance, is_routing, is_tours, is_certificate, lists_weights, has_distances, has_row_or_column, has_node_or_multiplier, is_tree, is_asked, is_there, has_wrong_format, has_wrong_count, end_fault};
+ghost use Rattle.tsp_draft.specs.Rules.{standing_of, is_instance, is_routing, is_tour_file, is_potentials_file, has_explicit_weights, has_distances, has_row_or_column, has_node_or_multiplier, is_branches_file, is_asked, is_there, has_wrong_format, has_wrong_count, end_fault};
 
 use crate::draft::Draft;
 use crate::fault::EndFault;
@@ -76,17 +76,17 @@ fn is_asked(draft: &Draft, field: Field) -> bool
 {
     match field {
         Field::TypeKey => true,
-        Field::DimensionKey => !is_tours(draft),
+        Field::DimensionKey => !is_tour_file(draft),
         Field::EdgeWeightTypeKey => is_instance(draft),
-        Field::EdgeWeightFormatKey => lists_weights(draft) || draft.weights.is_some(),
+        Field::EdgeWeightFormatKey => has_explicit_weights(draft) || draft.weights.is_some(),
         Field::NodeCoordPart => has_distances(draft),
-        Field::EdgeWeightPart => lists_weights(draft),
+        Field::EdgeWeightPart => has_explicit_weights(draft),
         Field::CapacityKey | Field::DemandPart | Field::DepotPart => is_routing(draft),
-        Field::TourPart => is_tours(draft),
-        Field::NodePotentialPart => is_certificate(draft) && !has_row_or_column(draft),
-        Field::RowPotentialPart => is_certificate(draft) && draft.column_potentials.is_some(),
-        Field::ColumnPotentialPart => is_certificate(draft) && draft.row_potentials.is_some(),
-        Field::BranchPart => is_tree(draft),
+        Field::TourPart => is_tour_file(draft),
+        Field::NodePotentialPart => is_potentials_file(draft) && !has_row_or_column(draft),
+        Field::RowPotentialPart => is_potentials_file(draft) && draft.column_potentials.is_some(),
+        Field::ColumnPotentialPart => is_potentials_file(draft) && draft.row_potentials.is_some(),
+        Field::BranchPart => is_branches_file(draft),
         _ => false,
     }
 }
@@ -109,29 +109,29 @@ fn is_routing(draft: &Draft) -> bool
 }
 
 /// Whether the file holds tours.
-fn is_tours(draft: &Draft) -> bool
-    ensures { result ≡ is_tours (fields_of draft.now).kind }
+fn is_tour_file(draft: &Draft) -> bool
+    ensures { result ≡ is_tour_file (fields_of draft.now).kind }
 {
     matches!(draft.kind, Some(Kind::Tour))
 }
 
 /// Whether the file holds potentials.
-fn is_certificate(draft: &Draft) -> bool
-    ensures { result ≡ is_certificate (fields_of draft.now).kind }
+fn is_potentials_file(draft: &Draft) -> bool
+    ensures { result ≡ is_potentials_file (fields_of draft.now).kind }
 {
     matches!(draft.kind, Some(Kind::Potentials))
 }
 
 /// Whether the file holds a tree of cases.
-fn is_tree(draft: &Draft) -> bool
-    ensures { result ≡ is_tree (fields_of draft.now).kind }
+fn is_branches_file(draft: &Draft) -> bool
+    ensures { result ≡ is_branches_file (fields_of draft.now).kind }
 {
     matches!(draft.kind, Some(Kind::Branches))
 }
 
 /// Whether an instance's weights are listed.
-fn lists_weights(draft: &Draft) -> bool
-    ensures { result ≡ lists_weights (standing_of (fields_of draft.now)) }
+fn has_explicit_weights(draft: &Draft) -> bool
+    ensures { result ≡ has_explicit_weights (standing_of (fields_of draft.now)) }
 {
     is_instance(draft) && matches!(draft.weight_kind, Some(WeightKind::Explicit))
 }
@@ -165,8 +165,8 @@ fn has_wrong_format(draft: &Draft) -> bool
     ensures { result ≡ has_wrong_format (standing_of (fields_of draft.now)) }
 {
     let by_function = matches!(draft.weight_format, Some(WeightFormat::ByFunction));
-    (by_function && (lists_weights(draft) || draft.weights.is_some()))
-        || (is_certificate(draft) && has_node_or_multiplier(draft) && has_row_or_column(draft))
+    (by_function && (has_explicit_weights(draft) || draft.weights.is_some()))
+        || (is_potentials_file(draft) && has_node_or_multiplier(draft) && has_row_or_column(draft))
 }
 
 /// Whether the weights are not as many as the cells of their layout.

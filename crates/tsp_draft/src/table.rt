@@ -6,7 +6,7 @@ ghost use Rattle.tsp_format.specs.Limits.{most_nodes};
 ghost use Rattle.tsp_format.specs.Words.{field_word};
 ghost use Rattle.tsp_draft.specs.states.Drafts.{points_of, fields_of, combs_of};
 ghost use Rattle.tsp_format.specs.states.TreeSteps.{steps_of};
-ghost use Rattle.tsp_draft.specs.Validity.{if_there, with_dimension, is_by_node, is_kept, is_node, is_from_to, is_point, are_comments, are_others, are_depots, are_fixed, are_triples, are_weights, are_tours, are_combs, are_steps, section_fits, value_fits, fits, first_failing, bad_field};
+ghost use Rattle.tsp_draft.specs.Validity.{if_there, with_dimension, is_by_node, is_kept, is_node, is_from_to, is_point, are_comments, are_others, are_depots, are_fixed, are_triples, fit_matrix, are_tours, are_combs, are_tree_steps, section_fits, value_fits, fits, first_failing, bad_field};
 
 use crate::coords::Coords;
 use crate::draft::Draft;
@@ -54,11 +54,11 @@ fn section_fits(draft: &Draft, field: Field, shape: Shape) -> bool
         Shape::SpacePoints => are_points(true, draft.dimension, draft.points(field)),
         Shape::Depots => are_depots(draft.dimension, &draft.depots),
         Shape::Pairs => are_fixed(draft.dimension, &draft.fixed),
-        Shape::Weights => are_weights(draft.dimension, &draft.weights),
+        Shape::Weights => fit_matrix(draft.dimension, &draft.weights),
         Shape::Tours => are_tours(&draft.tours),
         Shape::Triples => are_triples(draft.dimension, &draft.fixed_potentials),
         Shape::Combs => are_combs(draft.dimension, &draft.combs),
-        Shape::Steps => are_steps(draft.dimension, &draft.branches),
+        Shape::Steps => are_tree_steps(draft.dimension, &draft.branches),
     }
 }
 
@@ -205,12 +205,12 @@ fn are_triples(dimension: Option<u32>, triples: &Option<Vec<(u32, u32, i64)>>) -
 }
 
 /// The weights are in range, and not more than a matrix has.
-fn are_weights(dimension: Option<u32>, weights: &Option<Vec<i64>>) -> bool
+fn fit_matrix(dimension: Option<u32>, weights: &Option<Vec<i64>>) -> bool
     ensures { result
-        ≡ if_there (with_dimension are_weights dimension) (option_map (λ v. v.items) weights.now) }
+        ≡ if_there (with_dimension fit_matrix dimension) (option_map (λ v. v.items) weights.now) }
 {
     match section(dimension, weights) {
-        Ok((nodes, weights)) => validity::are_weights(nodes, weights),
+        Ok((nodes, weights)) => validity::fit_matrix(nodes, weights),
         Err(valid) => valid,
     }
 }
@@ -238,13 +238,13 @@ fn are_combs(dimension: Option<u32>, combs: &Option<Vec<Vec<Vec<u32>>>>) -> bool
 }
 
 /// The steps are those of one tree, and not too many.
-fn are_steps(dimension: Option<u32>, steps: &Option<Vec<TreeStep>>) -> bool
-    ensures { result ≡ if_there (with_dimension are_steps dimension)
+fn are_tree_steps(dimension: Option<u32>, steps: &Option<Vec<TreeStep>>) -> bool
+    ensures { result ≡ if_there (with_dimension are_tree_steps dimension)
         (option_map (λ v. steps_of v.items) steps.now) }
 {
     match (steps, dimension) {
         (None, _) => true,
         (Some(_), None) => false,
-        (Some(steps), Some(nodes)) => validity::are_steps(nodes, steps),
+        (Some(steps), Some(nodes)) => validity::are_tree_steps(nodes, steps),
     }
 }

@@ -9,7 +9,7 @@ ghost use Rattle.tsp_distance.specs.Distances.{on_plane};
 ghost use Rattle.tsp_format.specs.states.TreeSteps.{step_of, steps_of};
 ghost use Rattle.tsp_format.specs.Steps.{are_whole, branch_count, change_count};
 ghost use Rattle.tsp_draft.specs.states.Drafts.{points_of, combs_of};
-ghost use Rattle.tsp_draft.specs.Validity.{is_kept, is_unknown_keyword, is_other, is_within, is_node, is_third, is_point, are_depots, is_node_pair, are_fixed, is_triple, are_triples, are_weights, is_tour, is_set, is_comb, are_combs, is_change, is_step, are_steps};
+ghost use Rattle.tsp_draft.specs.Validity.{is_kept, is_unknown_keyword, is_other, is_within, is_node, is_third, is_point, are_depots, is_pair_of, are_fixed, is_triple_of, are_triples, fit_matrix, is_node_list, is_set_of, are_sets, are_combs, is_change, is_step, are_tree_steps};
 
 use crate::coords::Coords;
 use crate::range::{are_from_to, is_from_to};
@@ -157,17 +157,17 @@ pub(crate) fn are_depots(n: u32, depots: &[u32]) -> bool
 }
 
 /// Whether a pair is of two different nodes of 1..n.
-fn is_pair(n: u32, pair: (u32, u32)) -> bool
-    ensures { result ≡ is_node_pair n pair }
+fn is_pair_of(n: u32, pair: (u32, u32)) -> bool
+    ensures { result ≡ is_pair_of n pair }
 {
     is_node(n, pair.0) && is_node(n, pair.1) && pair.0 != pair.1
 }
 
 /// Whether every pair is of two different nodes of 1..n.
 fn are_pairs(n: u32, pairs: &[(u32, u32)]) -> bool
-    ensures { result ≡ list_all (is_node_pair n) pairs.now }
+    ensures { result ≡ list_all (is_pair_of n) pairs.now }
 {
-    pairs.iter().all(|pair| is_pair(n, *pair))
+    pairs.iter().all(|pair| is_pair_of(n, *pair))
 }
 
 /// Whether every fixed pair is of two different nodes of 1..n, and there are at most `MOST_FIXED`.
@@ -178,17 +178,17 @@ pub(crate) fn are_fixed(n: u32, pairs: &[(u32, u32)]) -> bool
 }
 
 /// Whether a triple is of two different nodes of 1..n and a number from 0 to `MOST_MULTIPLIER`.
-fn is_triple(n: u32, triple: (u32, u32, i64)) -> bool
-    ensures { result ≡ is_triple n triple }
+fn is_triple_of(n: u32, triple: (u32, u32, i64)) -> bool
+    ensures { result ≡ is_triple_of n triple }
 {
-    is_pair(n, (triple.0, triple.1)) && is_from_to(triple.2, 0, MOST_MULTIPLIER)
+    is_pair_of(n, (triple.0, triple.1)) && is_from_to(triple.2, 0, MOST_MULTIPLIER)
 }
 
 /// Whether every triple is of two different nodes of 1..n and a multiplier.
 fn are_multipliers(n: u32, triples: &[(u32, u32, i64)]) -> bool
-    ensures { result ≡ list_all (is_triple n) triples.now }
+    ensures { result ≡ list_all (is_triple_of n) triples.now }
 {
-    triples.iter().all(|triple| is_triple(n, *triple))
+    triples.iter().all(|triple| is_triple_of(n, *triple))
 }
 
 /// Whether every triple is of two different nodes of 1..n and a multiplier, and there are at most
@@ -201,8 +201,8 @@ pub(crate) fn are_triples(n: u32, triples: &[(u32, u32, i64)]) -> bool
 
 /// Whether every weight is of a size of at most `MOST_WEIGHT`, there are at most `n * n` of them,
 /// and `n` is at most `MOST_MATRIX_NODES`.
-pub(crate) fn are_weights(n: u32, weights: &[i64]) -> bool
-    ensures { result ≡ are_weights n weights.now }
+pub(crate) fn fit_matrix(n: u32, weights: &[i64]) -> bool
+    ensures { result ≡ fit_matrix n weights.now }
 {
     n <= MOST_MATRIX_NODES
         && weights.len() <= n as usize * n as usize
@@ -210,8 +210,8 @@ pub(crate) fn are_weights(n: u32, weights: &[i64]) -> bool
 }
 
 /// Whether a tour isn't empty and has nodes that some file can have.
-fn is_tour(tour: &[u32]) -> bool
-    ensures { result ≡ is_tour tour.now }
+fn is_node_list(tour: &[u32]) -> bool
+    ensures { result ≡ is_node_list tour.now }
 {
     !tour.is_empty() && are_nodes(MOST_NODES, tour)
 }
@@ -232,46 +232,46 @@ fn have_few_nodes(tours: &[Vec<u32>]) -> bool
 
 /// Whether every tour is one.
 fn is_each_tour(tours: &[Vec<u32>]) -> bool
-    ensures { result ≡ list_all (λ tour. is_tour tour.items) tours.now }
+    ensures { result ≡ list_all (λ tour. is_node_list tour.items) tours.now }
 {
-    tours.iter().all(|tour| is_tour(tour))
+    tours.iter().all(|tour| is_node_list(tour))
 }
 
 /// Whether every tour is one, and they have together at most `MOST_TOUR_NODES` nodes.
 pub(crate) fn are_tours(tours: &[Vec<u32>]) -> bool
-    ensures { result ≡ (list_all (λ tour. is_tour tour.items) tours.now
+    ensures { result ≡ (list_all (λ tour. is_node_list tour.items) tours.now
         && nat_le (sum_by (λ tour. length tour.items) tours.now) most_tour_nodes) }
 {
     is_each_tour(tours) && have_few_nodes(tours)
 }
 
 /// Whether a set of nodes isn't empty and has nodes of 1..n.
-fn is_set(n: u32, set: &[u32]) -> bool
-    ensures { result ≡ is_set n set.now }
+fn is_set_of(n: u32, set: &[u32]) -> bool
+    ensures { result ≡ is_set_of n set.now }
 {
     !set.is_empty() && are_nodes(n, set)
 }
 
 /// Whether there are sets, none of them empty, of nodes of 1..n.
 #[tactic(auto, using(crate::proofs::Mapped::comb_seen))]
-fn is_comb(n: u32, comb: &[Vec<u32>]) -> bool
-    ensures { result ≡ is_comb n (map (λ set. set.items) comb.now) }
+fn are_sets(n: u32, comb: &[Vec<u32>]) -> bool
+    ensures { result ≡ are_sets n (map (λ set. set.items) comb.now) }
 {
     !comb.is_empty() && is_each_set(n, comb)
 }
 
 /// Whether every set is one of nodes of 1..n.
 fn is_each_set(n: u32, sets: &[Vec<u32>]) -> bool
-    ensures { result ≡ list_all (λ set. is_set n set.items) sets.now }
+    ensures { result ≡ list_all (λ set. is_set_of n set.items) sets.now }
 {
-    sets.iter().all(|set| is_set(n, set))
+    sets.iter().all(|set| is_set_of(n, set))
 }
 
 /// Whether every comb has sets.
 fn is_each_comb(n: u32, combs: &[Vec<Vec<u32>>]) -> bool
-    ensures { result ≡ list_all (λ comb. is_comb n (map (λ set. set.items) comb.items)) combs.now }
+    ensures { result ≡ list_all (λ comb. are_sets n (map (λ set. set.items) comb.items)) combs.now }
 {
-    combs.iter().all(|comb| is_comb(n, comb))
+    combs.iter().all(|comb| are_sets(n, comb))
 }
 
 /// How many nodes the sets have together, where that is at most this number.
@@ -335,7 +335,7 @@ fn is_step(n: u32, step: &TreeStep) -> bool
     ensures { result ≡ is_step n (step_of step.now) }
 {
     match step {
-        TreeStep::Branch(first, second) => is_pair(n, (*first, *second)),
+        TreeStep::Branch(first, second) => is_pair_of(n, (*first, *second)),
         TreeStep::Leaf(changes) => are_changes(n, changes),
     }
 }
@@ -403,8 +403,8 @@ fn is_whole_tree(steps: &[TreeStep]) -> bool
 
 /// Whether the steps are those of one whole tree of branches on two different nodes of 1..n, and of
 /// leaves, with at most `MOST_BRANCHES` branches and `MOST_CHANGES` differences.
-pub(crate) fn are_steps(n: u32, steps: &[TreeStep]) -> bool
-    ensures { result ≡ are_steps n (steps_of steps.now) }
+pub(crate) fn are_tree_steps(n: u32, steps: &[TreeStep]) -> bool
+    ensures { result ≡ are_tree_steps n (steps_of steps.now) }
 {
     is_each_step(n, steps) && are_few(steps) && is_whole_tree(steps)
 }

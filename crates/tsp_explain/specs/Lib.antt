@@ -1,3 +1,3 @@
 pub mod Indented
 pub mod Roles
-pub mod Shown
+pub mod ShownBytes

@@ -2,7 +2,7 @@
 //! together with its code is refused by its examples.
 
 ghost use Rattle.std.specs.Prelude.{◌≡◌, [], ◌∷◌, codes};
-ghost use Rattle.tsp_explain.specs.Shown.{shown_byte, all_shown};
+ghost use Rattle.tsp_explain.specs.ShownBytes.{shown_byte, all_shown};
 
 /// How bytes of each sort are shown.
 pub fn examples_of_shown_bytes()

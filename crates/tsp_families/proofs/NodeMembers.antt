@@ -13,7 +13,7 @@ use Rattle.std.proofs.lemmas.List.Elements.{recursion_from_All, All-from_recursi
 use Rattle.std.proofs.lemmas.List.Folds.{list_any_more}
 use Rattle.std.proofs.lemmas.List.Quantifiers.{all_pairs_push}
 use Rattle.std.proofs.lemmas.Nat.{div-add-mod', xor_block, ones_cat}
-use Rattle.tsp_format.specs.Cells.{IsNode}
+use Rattle.tsp_format.specs.Nodes.{IsNode}
 use Rattle.tsp_theory.specs.Length.{length_of}
 use Rattle.tsp_theory.proofs.Crossings.{one_if}
 use Rattle.tsp_families.specs.Crossed.{IsLeastLength, IsMostCost, has, sets_of, sets_crossed, AreAlike, HasUnlike, AreTooMany}

@@ -5,7 +5,7 @@ use Rattle.std.proofs.lemmas.Bool.{both_ways, eq-eqb, ne_eqb, cases_eq}
 use Rattle.std.proofs.lemmas.List.Elements.{All-from_recursion}
 use Rattle.std.proofs.lemmas.List.Kept.{AllPairs-cons}
 use Rattle.std.proofs.lemmas.List.FromFn.{length-range_with_len, get_or-range_with_len, length-map-range_with_len, get_or-map-range_with_len}
-use Rattle.tsp_format.specs.Cells.{IsNode}
+use Rattle.tsp_format.specs.Nodes.{IsNode}
 use Rattle.tsp_families.specs.Crossed.{has, AreAlike, AreUnlike, AreTooMany}
 use Rattle.tsp_families.specs.SetParts.{ArePartsOf, UnlikeNodesNeedParts}
 use Rattle.tsp_families.specs.SetExamples.{one_set_times, single_sets}

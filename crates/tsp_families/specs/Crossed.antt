@@ -1,7 +1,7 @@
 -- Families of sets of nodes, and how often they are crossed: by a cycle at the least, by two nodes at the most.
 use Rattle.std.specs.Prelude.{◌≡◌, ◌<◌, ◌⊎◌, ◌==◌, ℕ, Bool, List, length, map, ℤ, ◌≤ℤ◌}
 use Rattle.std.specs.List.{All, AllPairs, list_any}
-use Rattle.tsp_format.specs.Cells.{IsNode}
+use Rattle.tsp_format.specs.Nodes.{IsNode}
 use Rattle.tsp_theory.specs.Cycle.{IsCycle}
 use Rattle.tsp_theory.specs.Length.{sum_int_by, length_of}
 use Rattle.tsp_theory.specs.Tree.{crossing}

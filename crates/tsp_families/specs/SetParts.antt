@@ -1,7 +1,7 @@
 -- The parts into which sets divide the nodes, and what their cyclic orders say of cycles.
 use Rattle.std.specs.Prelude.{◌≡◌, ◌-◌, ◌≤◌, ℕ, Bool, List, length, slice_index, ℤ, ◌≤ℤ◌}
 use Rattle.std.specs.List.{All, Any}
-use Rattle.tsp_format.specs.Cells.{IsNode}
+use Rattle.tsp_format.specs.Nodes.{IsNode}
 use Rattle.tsp_theory.specs.Cycle.{IsCycle}
 use Rattle.tsp_theory.specs.Length.{length_of}
 use Rattle.tsp_families.specs.Crossed.{IsLeastLength, IsMostCost, sets_crossed, AreAlike, AreUnlike}

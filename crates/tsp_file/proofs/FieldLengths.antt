@@ -18,12 +18,12 @@ use Rattle.tsp_format.specs.declared.field.Shape.{Shape}
 use Rattle.tsp_format.specs.declared.field.Shape.TheVariants.{Numbers, Points, SpacePoints, Depots, Pairs, Weights, Tours, Triples, Combs, Steps}
 use Rattle.tsp_format.specs.Shapes.{shape_of}
 use Rattle.tsp_format.specs.declared.field.Field.TheVariants.{NameKey, TypeKey, CommentKey, OtherKey, DimensionKey, CapacityKey, ScaleKey, EdgeWeightTypeKey, EdgeWeightFormatKey, NodeCoordTypeKey, DisplayDataTypeKey, NodeCoordPart, DisplayDataPart, DemandPart, DepotPart, FixedEdgesPart, EdgeWeightPart, TourPart, NodePotentialPart, RowPotentialPart, ColumnPotentialPart, FixedEdgePotentialPart, CombPart, BranchPart}
-use Rattle.tsp_format.specs.Limits.{most_nodes, most_matrix_nodes, most_coordinate, most_weight, most_demand, most_capacity, most_scale, most_potential, most_comments, most_others, most_depots, most_fixed, most_multipliers, most_multiplier, most_tour_nodes}
+use Rattle.tsp_format.specs.Limits.{most_nodes, most_matrix_nodes, most_coordinate, most_weight, most_demand, most_capacity, most_scale, most_potential, most_comments, most_others, most_depots, most_fixed, most_triples, most_multiplier, most_tour_nodes}
 use Rattle.tsp_format.specs.Words.{field_word, kind_word, weight_kind_word, weight_format_word, coord_kind_word, display_kind_word, fields_in_order}
 use Rattle.tsp_draft.specs.Fields.{Fields, spatial, numbers_in, points_in}
-use Rattle.tsp_draft.specs.Validity.{if_there, with_dimension, is_kept, is_other, is_node, is_node_pair, is_triple, is_from_to, is_within, is_point, is_by_node, are_comments, are_others, are_depots, are_fixed, are_triples, are_weights, is_tour, are_tours, are_combs, are_steps, section_fits, fits}
+use Rattle.tsp_draft.specs.Validity.{if_there, with_dimension, is_kept, is_other, is_node, is_pair_of, is_triple_of, is_from_to, is_within, is_point, is_by_node, are_comments, are_others, are_depots, are_fixed, are_triples, fit_matrix, is_node_list, are_tours, are_combs, are_tree_steps, section_fits, fits}
 use Rattle.tsp_draft.specs.Rules.{fault_of}
-use Rattle.tsp_file.specs.CanonicalText.{line_end, keyword_line, other_line, number_line, section_text, lines_by_node, node_list, pair_list, triple_list, comb_list, step_lines, point_numbers, whole_number, line_lens, matrix_lines, optional, text_of_section, text_of_field, text_of}
+use Rattle.tsp_file.specs.CanonicalText.{line_end, keyword_line, other_line, number_line, section_text, lines_by_node, node_list, pair_list, triple_list, comb_list, case_tree_lines, coordinate_words, whole_number, line_lens, matrix_lines, optional, text_of_section, text_of_field, text_of}
 use Rattle.tsp_file.proofs.TextLengths.{within_abs, three_parts, positive_short, between_short, decimal_short, node_short, flat_short_of, by_node_short, pair_list_short, triple_list_short, node_list_short, tours_short, matrix_lines_short}
 use Rattle.tsp_file.proofs.TreeLengths.{combs_short, steps_short}
 use Rattle.tsp_file.proofs.KeywordLengths.{kept_short, other_short, keyword_short, keyword_line_short, kind_short, weight_kind_short, weight_format_short, coord_kind_short, display_kind_short}
@@ -105,7 +105,7 @@ three_numbers_short a b c k first second third =
     )
 
 point_short : (in_space : Bool) (point : Point) → is_point in_space point ≡ true
-    → length (number_line [] (point_numbers in_space point)) ≤ 75
+    → length (number_line [] (coordinate_words in_space point)) ≤ 75
 point_short true point fits =
     let flat = and_parts (is_within most_coordinate point.x && is_within most_coordinate point.y) (is_within most_coordinate point.z) fits in
     let parts = and_parts (is_within most_coordinate point.x) (is_within most_coordinate point.y) flat.0 in
@@ -138,7 +138,7 @@ depots_short n depots most fits =
     let few = leb-true (length depots) most_depots parts.0 in
     omega (arith, few, node_list_short (is_node n) (λ node fit. node_short n node most fit) depots parts.1)
 
-is_pair_short : (n : ℕ) (pair : ℕ × ℕ) → n ≤ most_nodes → is_node_pair n pair ≡ true
+is_pair_short : (n : ℕ) (pair : ℕ × ℕ) → n ≤ most_nodes → is_pair_of n pair ≡ true
     → (length (decimal pair.0) ≤ 6) × (length (decimal pair.1) ≤ 6)
 is_pair_short n pair most fits =
     let parts = three_parts (is_node n pair.0) (is_node n pair.1) (not (pair.0 == pair.1)) fits in
@@ -146,26 +146,26 @@ is_pair_short n pair most fits =
 
 fixed_short : (n : ℕ) (pairs : List (ℕ × ℕ)) → n ≤ most_nodes → are_fixed n pairs ≡ true → length (pair_list pairs) ≤ 1900000
 fixed_short n pairs most fits =
-    let parts = and_parts (nat_le (length pairs) most_fixed) (list_all (is_node_pair n) pairs) fits in
+    let parts = and_parts (nat_le (length pairs) most_fixed) (list_all (is_pair_of n) pairs) fits in
     let few = leb-true (length pairs) most_fixed parts.0 in
-    omega (arith, few, pair_list_short (is_node_pair n) (λ pair fit. is_pair_short n pair most fit) pairs parts.1)
+    omega (arith, few, pair_list_short (is_pair_of n) (λ pair fit. is_pair_short n pair most fit) pairs parts.1)
 
-is_triple_short : (n : ℕ) (triple : ℕ × ℕ × ℤ) → n ≤ most_nodes → is_triple n triple ≡ true
+is_triple_short : (n : ℕ) (triple : ℕ × ℕ × ℤ) → n ≤ most_nodes → is_triple_of n triple ≡ true
     → (length (decimal triple.0) ≤ 6) × (length (decimal triple.1) ≤ 6) × (length (signed_decimal triple.2) ≤ 17)
 is_triple_short n triple most fits =
-    let parts = and_parts (is_node_pair n (triple.0, triple.1)) (is_from_to (pos 0) (pos most_multiplier) triple.2) fits in
+    let parts = and_parts (is_pair_of n (triple.0, triple.1)) (is_from_to (pos 0) (pos most_multiplier) triple.2) fits in
     let nodes = is_pair_short n (triple.0, triple.1) most parts.0 in
     (nodes.0, nodes.1, positive_short 16 0 most_multiplier triple.2 (omega arith) (omega arith) parts.1)
 
 triples_short : (n : ℕ) (triples : List (ℕ × ℕ × ℤ)) → n ≤ most_nodes → are_triples n triples ≡ true
     → length (triple_list triples) ≤ 3300000
 triples_short n triples most fits =
-    let parts = and_parts (nat_le (length triples) most_multipliers) (list_all (is_triple n) triples) fits in
-    let few = leb-true (length triples) most_multipliers parts.0 in
-    omega (arith, few, triple_list_short (is_triple n) (λ triple fit. is_triple_short n triple most fit) triples parts.1)
+    let parts = and_parts (nat_le (length triples) most_triples) (list_all (is_triple_of n) triples) fits in
+    let few = leb-true (length triples) most_triples parts.0 in
+    omega (arith, few, triple_list_short (is_triple_of n) (λ triple fit. is_triple_short n triple most fit) triples parts.1)
 
 -- at most 5,000 * 5,000 weights
-weights_short : (lens : List ℕ) (n : ℕ) (weights : List ℤ) → are_weights n weights ≡ true
+weights_short : (lens : List ℕ) (n : ℕ) (weights : List ℤ) → fit_matrix n weights ≡ true
     → length (matrix_lines lens weights) ≤ 375000000
 weights_short lens n weights fits =
     let parts = three_parts (nat_le n most_matrix_nodes) (nat_le (length weights) (n * n)) (list_all (is_within most_weight) weights) fits in
@@ -175,7 +175,7 @@ weights_short lens n weights fits =
 
 all_tours_short : (tours : List (List ℕ)) → are_tours tours ≡ true → length (flat_map node_list tours) ≤ 10000000
 all_tours_short tours fits =
-    let parts = and_parts (list_all is_tour tours) (nat_le (sum_by length tours) most_tour_nodes) fits in
+    let parts = and_parts (list_all is_node_list tours) (nat_le (sum_by length tours) most_tour_nodes) fits in
     let few = leb-true (sum_by length tours) most_tour_nodes parts.1 in
     omega (arith, few, tours_short tours parts.0)
 
@@ -207,16 +207,16 @@ shape_short : (f : Fields) (field : Field) (shape : Shape) → is_short shape �
 shape_short f field (Numbers low high) short one fit =
     by_node_section_short field (is_from_to low high) whole_number 20 (λ number fits. whole_short low high number short fits) f.dimension (numbers_in f field) one fit
 shape_short f field Points short one fit =
-    by_node_section_short field (is_point false) (point_numbers false) 75 (point_short false) f.dimension (points_in f field) one fit
+    by_node_section_short field (is_point false) (coordinate_words false) 75 (point_short false) f.dimension (points_in f field) one fit
 shape_short f field SpacePoints short one fit =
-    by_node_section_short field (is_point true) (point_numbers true) 75 (point_short true) f.dimension (points_in f field) one fit
+    by_node_section_short field (is_point true) (coordinate_words true) 75 (point_short true) f.dimension (points_in f field) one fit
 shape_short f field Depots short one fit =
     section_of_short field are_depots node_list 900000 depots_short f.dimension f.depots one fit
 shape_short f field Pairs short one fit =
     section_of_short field are_fixed pair_list 1900000 fixed_short f.dimension f.fixed one fit
 shape_short f field Weights short one fit =
     let lens = line_lens f.weight_format f.dimension in
-    section_of_short field are_weights (matrix_lines lens) 375000000 (λ n weights most fits. weights_short lens n weights fits) f.dimension f.weights one fit
+    section_of_short field fit_matrix (matrix_lines lens) 375000000 (λ n weights most fits. weights_short lens n weights fits) f.dimension f.weights one fit
 shape_short f field Tours short one fit =
     optional_short are_tours (λ tours. section_text field (flat_map node_list tours)) 10000029
     (λ tours fits. section_short field (flat_map node_list tours) 10000000 (all_tours_short tours fits)) f.tours fit
@@ -225,7 +225,7 @@ shape_short f field Triples short one fit =
 shape_short f field Combs short one fit =
     section_of_short field are_combs comb_list 10030003 combs_short f.dimension f.combs one fit
 shape_short f field Steps short one fit =
-    section_of_short field are_steps step_lines 269000005 steps_short f.dimension f.branches one fit
+    section_of_short field are_tree_steps case_tree_lines 269000005 steps_short f.dimension f.branches one fit
 
 dimension_line_short : (n : ℕ) → is_node most_nodes n ≡ true → length (keyword_line DimensionKey (decimal n)) ≤ 60
 dimension_line_short n fits =
@@ -318,7 +318,7 @@ field_short_without_trees : (f : Fields) → ((field : Field) → fits f field �
 field_short_without_trees f fit combs branches CombPart =
     absent_short (λ combs. section_text CombPart (comb_list combs)) f.combs combs
 field_short_without_trees f fit combs branches BranchPart =
-    absent_short (λ steps. section_text BranchPart (step_lines steps)) f.branches branches
+    absent_short (λ steps. section_text BranchPart (case_tree_lines steps)) f.branches branches
 field_short_without_trees f fit combs branches NameKey = field_short f fit NameKey
 field_short_without_trees f fit combs branches TypeKey = field_short f fit TypeKey
 field_short_without_trees f fit combs branches CommentKey = field_short f fit CommentKey

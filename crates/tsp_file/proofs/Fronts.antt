@@ -7,7 +7,8 @@ use Rattle.std.proofs.lemmas.Nat.{mul-le}
 use Rattle.std.proofs.lemmas.List.{length-map, get_or-map, length-append, get_or_append_left, get_or-append_right, ext_get_or, length-take-le, get_or-take}
 use Rattle.tsp_format.specs.declared.layout.Layout.{Layout}
 use Rattle.tsp_format.specs.declared.layout.Layout.TheVariants.{FullMatrix, UpperRow, LowerRow, UpperDiagRow, LowerDiagRow, UpperCol, LowerCol, UpperDiagCol, LowerDiagCol}
-use Rattle.tsp_format.specs.Cells.{IsNode, nodes_to, cells, cells_of_line, line_len_of}
+use Rattle.tsp_format.specs.Nodes.{IsNode, nodes_to}
+use Rattle.tsp_format.specs.Cells.{cells, cells_of_line, line_len_of}
 use Rattle.tsp_format.specs.Symmetry.{IsSymmetric}
 use Rattle.tsp_format.proofs.Counts.{line_counted, cells_counted}
 use Rattle.tsp_format.proofs.Places.{placed, line_at}

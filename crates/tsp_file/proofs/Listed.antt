@@ -11,7 +11,8 @@ use Rattle.tsp_format.specs.declared.layout.Layout.TheVariants.{FullMatrix, Uppe
 use Rattle.tsp_format.specs.declared.kinds.WeightKind.TheVariants.{Explicit}
 use Rattle.tsp_format.specs.declared.kinds.WeightFormat.{WeightFormat}
 use Rattle.tsp_format.specs.declared.kinds.WeightFormat.TheVariants.{ByFunction, Listed}
-use Rattle.tsp_format.specs.Cells.{IsNode, is_listed, cells}
+use Rattle.tsp_format.specs.Nodes.{IsNode}
+use Rattle.tsp_format.specs.Cells.{is_listed, cells}
 use Rattle.tsp_format.specs.Place.{place_of}
 use Rattle.tsp_format.specs.Limits.{most_weight}
 use Rattle.tsp_draft.specs.Fields.{Fields}

@@ -6,7 +6,7 @@ use Rattle.std.specs.Fmt.{signed_decimal}
 use Rattle.std.proofs.lemmas.Bool.Decides.{nat_tests}
 use Rattle.std.proofs.lemmas.List.{take_min, drop_min, take-append-drop}
 use Rattle.std.proofs.lemmas.Grind.{flat_map-append}
-use Rattle.tsp_format.specs.Cells.{nodes_to}
+use Rattle.tsp_format.specs.Nodes.{nodes_to}
 use Rattle.tsp_file.specs.CanonicalText.{weight_line, matrix_lines}
 use Rattle.tsp_stream.specs.states.WriteProgress.{Way, Carried}
 use Rattle.tsp_stream.proofs.Carrying.{carried_then, carried_none, carried_failed}

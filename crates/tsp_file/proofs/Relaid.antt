@@ -11,7 +11,8 @@ use Rattle.std.proofs.lemmas.List.Elements.{All-map}
 use Rattle.std.proofs.lemmas.List.FromFn.{length-range_with_len, get_or-range_with_len}
 use Rattle.tsp_format.specs.declared.layout.Layout.{Layout}
 use Rattle.tsp_format.specs.declared.layout.Layout.TheVariants.{FullMatrix, UpperRow, LowerRow, UpperDiagRow, LowerDiagRow, UpperCol, LowerCol, UpperDiagCol, LowerDiagCol}
-use Rattle.tsp_format.specs.Cells.{IsNode, nodes_to, is_listed, cells, cells_of_line}
+use Rattle.tsp_format.specs.Nodes.{IsNode, nodes_to}
+use Rattle.tsp_format.specs.Cells.{is_listed, cells, cells_of_line}
 use Rattle.tsp_format.specs.Place.{place_of, place_by_table}
 use Rattle.tsp_format.specs.Limits.{most_weight}
 use Rattle.tsp_format.specs.Symmetry.{IsSymmetric}

@@ -8,7 +8,8 @@ use Rattle.std.proofs.lemmas.List.{length-map, get_or-map, get_or_default, lengt
 use Rattle.std.proofs.lemmas.Option.{none-some}
 use Rattle.tsp_format.specs.declared.layout.Layout.{Layout}
 use Rattle.tsp_format.specs.declared.layout.Layout.TheVariants.{FullMatrix, UpperRow, LowerRow, UpperDiagRow, LowerDiagRow, UpperCol, LowerCol, UpperDiagCol, LowerDiagCol}
-use Rattle.tsp_format.specs.Cells.{IsNode, nodes_to, is_listed, cells, cells_of_line, line_len_of}
+use Rattle.tsp_format.specs.Nodes.{IsNode, nodes_to}
+use Rattle.tsp_format.specs.Cells.{is_listed, cells, cells_of_line, line_len_of}
 use Rattle.tsp_format.specs.Place.{place_of}
 use Rattle.tsp_format.specs.Symmetry.{IsSymmetric}
 use Rattle.tsp_format.proofs.Counts.{line_counted, cells_counted}
@@ -17,7 +18,7 @@ use Rattle.tsp_file.specs.Cost.{listed_cost}
 use Rattle.tsp_file.specs.Relayout.{costs_in}
 use Rattle.tsp_file.specs.states.Side.{first_own, past_own}
 use Rattle.tsp_file.specs.states.Halves.{places_before, line_start_of}
-use Rattle.tsp_file.specs.states.Whole.{goes_above, is_on_side, HasCost, HasSide, KeepsCosts, HasLines, Fills}
+use Rattle.tsp_file.specs.states.Whole.{goes_above, is_on_side, IsCostOfCell, HasSide, KeepsCosts, HasLaterLines, Fills}
 use Rattle.tsp_file.proofs.Listed.{turned, nodes_or_not, diagonal_unlisted, cost_unlisted}
 use Rattle.tsp_file.proofs.Relaid.{line_more, lines_all, own_costs, no_cell, outside}
 
@@ -67,7 +68,7 @@ few_before from n (suc k) low =
 
 pub record SpreadTo (from : Layout) (n line kept : ℕ) (half items : List ℤ) : Type 0 where
   pub front : take kept items ≡ map (λ cell. listed_cost from n half cell.0 cell.1) (before from n line)
-  pub lines : HasLines from n line half items
+  pub lines : HasLaterLines from n line half items
 
 -- how many are left at the front
 pub kept_less : (from : Layout) (n line kept len : ℕ) → IsNode n line → kept ≡ length (before from n line)
@@ -179,9 +180,9 @@ cell_cost cost UpperDiagCol n i k even node lt =
 cell_cost cost LowerDiagCol n i k even node lt =
     ap (λ (cell : ℕ × ℕ). cost cell.0 cell.1) (line_at LowerDiagCol n i k (0, 0) node.0 node.1 lt) ∙ turned cost even i (i + k)
 
-own_cost : (from : Layout) (n : ℕ) (half full : List ℤ) → IsSymmetric (listed_cost from n half) → HasLines from n 0 half full
+own_cost : (from : Layout) (n : ℕ) (half full : List ℤ) → IsSymmetric (listed_cost from n half) → HasLaterLines from n 0 half full
     → (i j : ℕ) → IsNode n i → first_own from i ≤ j → j < past_own from n i
-    → HasCost (listed_cost from n half) n full i j
+    → IsCostOfCell (listed_cost from n half) n full i j
 own_cost from n half full even lines i j node low high =
     let first = first_is from n i node in
     let count = count_is from n i node in
@@ -217,14 +218,14 @@ on_side LowerDiagCol n i j half row column side = let low = leb-true i j side in
 
 -- all cells on the side, once the diagonal is cleared
 pub side_filled : (from : Layout) (n : ℕ) (half full : List ℤ) → from ≢ FullMatrix → IsSymmetric (listed_cost from n half)
-    → HasLines from n 0 half full
+    → HasLaterLines from n 0 half full
     → (new : List ℤ) → KeepsCosts (listed_cost from n half) n full new
-    → (is_listed from (1, 1) ≡ false → (i : ℕ) → IsNode n i → HasCost (listed_cost from n half) n new i i)
+    → (is_listed from (1, 1) ≡ false → (i : ℕ) → IsNode n i → IsCostOfCell (listed_cost from n half) n new i i)
     → HasSide (goes_above from) (listed_cost from n half) n new
 side_filled from n half full partly even lines new keeps diagonal i j row column side =
     ⊎_elim
     (λ own. keeps i j row column (own_cost from n half full even lines i j row own.0 own.1))
-    (λ same. subst (λ k. HasCost (listed_cost from n half) n new i k) same.0 (diagonal same.1 i row))
+    (λ same. subst (λ k. IsCostOfCell (listed_cost from n half) n new i k) same.0 (diagonal same.1 i row))
     (on_side from n i j partly row column side)
 
 -- the costs of a diagonal that isn't listed
@@ -244,12 +245,12 @@ one_place n a b i j la lb li lj same =
 
 pub cell_written : (cost : ℕ → ℕ → ℤ) (n : ℕ) (items : List ℤ) (i j place : ℕ) (value : ℤ) → IsNode n i → IsNode n j
     → place ≡ (i - 1) * n + (j - 1) → place < length items → cost i j ≡ value
-    → KeepsCosts cost n items (slice_set items place value) × HasCost cost n (slice_set items place value) i j
+    → KeepsCosts cost n items (slice_set items place value) × IsCostOfCell cost n (slice_set items place value) i j
 cell_written cost n items i j place value row column is inside same =
     let new = slice_set items place value in
-    let here : HasCost cost n new i j = ap (λ p. get_or new p (pos 0)) (sym is) ∙ get_or-set_same items place value (pos 0) inside ∙ sym same in (
+    let here : IsCostOfCell cost n new i j = ap (λ p. get_or new p (pos 0)) (sym is) ∙ get_or-set_same items place value (pos 0) inside ∙ sym same in (
       λ a b la lb had. ⊎_elim
-          (λ one. subst (λ (cell : ℕ × ℕ). HasCost cost n new cell.0 cell.1) (sym (one_place n a b i j la lb row column (one ∙ is))) here)
+          (λ one. subst (λ (cell : ℕ × ℕ). IsCostOfCell cost n new cell.0 cell.1) (sym (one_place n a b i j la lb row column (one ∙ is))) here)
           (λ other. get_or-set_other items place ((a - 1) * n + (b - 1)) value (pos 0) other ∙ had)
           (cases_eq ((a - 1) * n + (b - 1)) place),
       here,
@@ -258,7 +259,7 @@ cell_written cost n items i j place value row column is inside same =
 -- ---- the whole matrix
 
 pub whole_is : (cost : ℕ → ℕ → ℤ) (n : ℕ) (full : List ℤ) → length full ≡ n * n
-    → ((i j : ℕ) → IsNode n i → IsNode n j → HasCost cost n full i j) → full ≡ costs_in FullMatrix n cost
+    → ((i j : ℕ) → IsNode n i → IsNode n j → IsCostOfCell cost n full i j) → full ≡ costs_in FullMatrix n cost
 whole_is cost n full size has =
     let f = λ (cell : ℕ × ℕ). cost cell.0 cell.1 in
     let all : List (ℕ × ℕ) = cells FullMatrix n in
@@ -310,7 +311,7 @@ diagonal_more cost n node place old items nothing here is inside so_far =
           (λ earlier. written.0 i j row column (so_far.1 i j row column (kind.0, earlier)))
           (λ last.
           let same : node ≡ i = omega (arith, last, kind.1) in
-          subst (λ (cell : ℕ × ℕ). HasCost cost n (slice_set items place (pos 0)) cell.0 cell.1) {x = (node, node)} {y = (i, j)} (pair_path node node i j same (same ∙ kind.0)) written.1)
+          subst (λ (cell : ℕ × ℕ). IsCostOfCell cost n (slice_set items place (pos 0)) cell.0 cell.1) {x = (node, node)} {y = (i, j)} (pair_path node node i j same (same ∙ kind.0)) written.1)
           (cases_lt i node),
     )
 
@@ -322,7 +323,7 @@ pub column_more : (above : Bool) (cost : ℕ → ℕ → ℤ) (n row first j pla
     → Fills cost n old items (λ i k. (i ≡ row) × (first ≤ k) × (k < j))
     → Fills cost n old (slice_set items place value) (λ i k. (i ≡ row) × (first ≤ k) × (k < j + 1))
 column_more above cost n row first j place value old items even side here there on read is inside so_far =
-    let source : HasCost cost n items j row = so_far.0 j row there here (side j row there here on) in
+    let source : IsCostOfCell cost n items j row = so_far.0 j row there here (side j row there here on) in
     let same : cost row j ≡ value = sym (read ∙ source ∙ turned cost even row j) in
     let written = cell_written cost n items row j place value here there is inside same in (
       λ a b la lb had. written.0 a b la lb (so_far.0 a b la lb had),
@@ -330,6 +331,6 @@ column_more above cost n row first j place value old items even side here there 
           (λ earlier. written.0 i k li lk (so_far.1 i k li lk (kind.0, kind.1, earlier)))
           (λ last.
           let column : j ≡ k = omega (arith, last, kind.2) in
-          subst (λ (cell : ℕ × ℕ). HasCost cost n (slice_set items place value) cell.0 cell.1) {x = (row, j)} {y = (i, k)} (pair_path row j i k (sym kind.0) column) written.1)
+          subst (λ (cell : ℕ × ℕ). IsCostOfCell cost n (slice_set items place value) cell.0 cell.1) {x = (row, j)} {y = (i, k)} (pair_path row j i k (sym kind.0) column) written.1)
           (cases_lt k j),
     )

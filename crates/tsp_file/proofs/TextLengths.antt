@@ -11,7 +11,7 @@ use Rattle.std.proofs.lemmas.List.{take-append-drop}
 use Rattle.std.proofs.lemmas.List.Folds.{list_all-append, flat_map-map}
 use Rattle.std.proofs.lemmas.List.Sums.{sum_by-cons}
 use Rattle.tsp_format.specs.Limits.{most_nodes, most_weight}
-use Rattle.tsp_draft.specs.Validity.{is_from_to, is_within, is_node, is_tour}
+use Rattle.tsp_draft.specs.Validity.{is_from_to, is_within, is_node, is_node_list}
 use Rattle.tsp_file.specs.CanonicalText.{line_end, number_line, lines_by_node, ended_by_mark, node_list, pair_list, triple_list, weight_line, matrix_lines}
 
 -- what three tests that pass together say
@@ -146,17 +146,17 @@ triple_list_short fits short triples all =
     ended_short fits line 32 (λ triple fit. line_of_three_short (decimal triple.0) (decimal triple.1) (signed_decimal triple.2) (short triple fit)) triples all
 
 -- a tour has a node, so that the line after it is paid for by a node
-tour_short : (tour : List ℕ) → is_tour tour ≡ true → length (node_list tour) ≤ 10 * length tour
+tour_short : (tour : List ℕ) → is_node_list tour ≡ true → length (node_list tour) ≤ 10 * length tour
 tour_short tour fits =
     let parts = and_parts (nat_le 1 (length tour)) (list_all (is_node most_nodes) tour) fits in
     let some = leb-true 1 (length tour) parts.0 in
     omega (arith, some, node_list_short (is_node most_nodes) (λ node fit. node_short most_nodes node (omega arith) fit) tour parts.1)
 
-pub tours_short : (tours : List (List ℕ)) → list_all is_tour tours ≡ true
+pub tours_short : (tours : List (List ℕ)) → list_all is_node_list tours ≡ true
     → length (flat_map node_list tours) ≤ 10 * sum_by length tours
 tours_short [] all = omega arith
 tours_short (tour ∷ tours) all =
-    let parts = and_parts (is_tour tour) (list_all is_tour tours) all in
+    let parts = and_parts (is_node_list tour) (list_all is_node_list tours) all in
     let sum : sum_by length (tour ∷ tours) ≡ length tour + sum_by length tours = sum_by-cons length tour tours in
     omega (arith, length-append (node_list tour) (flat_map node_list tours), tour_short tour parts.0, tours_short tours parts.1, sum)
 

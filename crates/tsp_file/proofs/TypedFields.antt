@@ -3,7 +3,7 @@ use Rattle.std.proofs.Common.{◌≡◌, ℕ, List, Option, None, refl, sym, ap,
 use Rattle.std.specs.Prelude.{unwrap_or, IsTrue, ℤ}
 use Rattle.std.specs.List.{All}
 use Rattle.tsp_draft.specs.Fields.{Fields, nodes_of}
-use Rattle.tsp_draft.specs.Rules.{fault_of, is_routing, is_tours, is_certificate, is_tree}
+use Rattle.tsp_draft.specs.Rules.{fault_of, is_routing, is_tour_file, is_potentials_file, is_branches_file}
 use Rattle.tsp_draft.specs.Valid.{IsTripleOf, AreTriples, AreSets, AreCombs}
 use Rattle.tsp_draft.proofs.ValidFields.{in_range, has_kind, has_instance, has_routing, has_tours, has_potentials, has_branches}
 use Rattle.tsp_file.specs.Typed.{HoldsItsType, AreMultipliersIn, AreSomeSets}
@@ -24,7 +24,7 @@ holds_its_type f valid = record {
   kind = has_kind f valid;
   instance = has_instance f valid;
   routing = λ kind. has_routing f valid (subst (λ k. IsTrue (is_routing k)) (sym kind) refl);
-  tours = λ kind. has_tours f valid (subst (λ k. IsTrue (is_tours k)) (sym kind) refl);
-  potentials = λ kind. has_potentials f valid (subst (λ k. IsTrue (is_certificate k)) (sym kind) refl);
-  branches = λ kind. has_branches f valid (subst (λ k. IsTrue (is_tree k)) (sym kind) refl);
+  tours = λ kind. has_tours f valid (subst (λ k. IsTrue (is_tour_file k)) (sym kind) refl);
+  potentials = λ kind. has_potentials f valid (subst (λ k. IsTrue (is_potentials_file k)) (sym kind) refl);
+  branches = λ kind. has_branches f valid (subst (λ k. IsTrue (is_branches_file k)) (sym kind) refl);
 }

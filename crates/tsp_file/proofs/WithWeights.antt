@@ -20,7 +20,7 @@ use Rattle.tsp_draft.specs.declared.fault.EndFault.{EndFault}
 use Rattle.tsp_draft.specs.declared.fault.EndFault.TheVariants.{Missing, WrongFormat, WrongCount}
 use Rattle.tsp_draft.specs.declared.fault.DraftFault.TheVariants.{BadField, Rule}
 use Rattle.tsp_draft.specs.Fields.{Fields, spatial, nodes_of}
-use Rattle.tsp_draft.specs.Validity.{is_within, with_dimension, are_weights, fits, first_failing, bad_field}
+use Rattle.tsp_draft.specs.Validity.{is_within, with_dimension, fit_matrix, fits, first_failing, bad_field}
 use Rattle.tsp_draft.specs.Rules.{standing_of, is_there, asked_in_order, is_count, has_wrong_format, has_wrong_count, end_fault, format_or_count, fault_of}
 use Rattle.tsp_draft.specs.Valid.{IsWithin, AreWeights}
 use Rattle.tsp_file.specs.Relayout.{with_weights}
@@ -56,7 +56,7 @@ is_small z within =
     and_true (int_le (neg_ℤ (pos most_weight)) z) (int_le z (pos most_weight)) (grind (arith, ints, within.0)) (grind (arith, ints, within.1))
 
 weights_fit : (layout : Layout) (n : ℕ) (weights : List ℤ) → n ≤ most_matrix_nodes → length weights ≡ length (cells layout n)
-    → All (IsWithin most_weight) weights → are_weights n weights ≡ true
+    → All (IsWithin most_weight) weights → fit_matrix n weights ≡ true
 weights_fit layout n weights few filled sizes =
     and_true (nat_le n most_matrix_nodes && nat_le (length weights) (n * n)) (list_all (is_within most_weight) weights)
     (and_true (nat_le n most_matrix_nodes) (nat_le (length weights) (n * n)) (le-leb n most_matrix_nodes few)
@@ -80,7 +80,7 @@ as_given P f layout weights format stand holds =
 
 -- plan: by the field: the weights and their format are new, all others are as in the valid file (`each_fits`)
 each_fits_with : (f : Fields) (to : Layout) (weights : List ℤ) → fault_of f ≡ None
-    → with_dimension are_weights f.dimension weights ≡ true → (field : Field)
+    → with_dimension fit_matrix f.dimension weights ≡ true → (field : Field)
     → fits (with_weights f to weights) field ≡ true
 each_fits_with f to weights valid fit NameKey = each_fits f valid NameKey
 each_fits_with f to weights valid fit TypeKey = each_fits f valid TypeKey
@@ -120,7 +120,7 @@ still_valid : (f : Fields) (to : Layout) (old weights : List ℤ) → fault_of f
     → fault_of (with_weights f to weights) ≡ None
 still_valid f to old weights valid stand held filled sizes =
     let new = with_weights f to weights in
-    let fit : with_dimension are_weights f.dimension weights ≡ true = ap (λ o. with_dimension are_weights o weights) held.dimension ∙ weights_fit to held.n weights held.few_nodes filled sizes in
+    let fit : with_dimension fit_matrix f.dimension weights ≡ true = ap (λ o. with_dimension fit_matrix o weights) held.dimension ∙ weights_fit to held.n weights held.few_nodes filled sizes in
     let fields : bad_field new ≡ None = none_fails (fits new) fields_in_order (each_fits_with f to weights valid fit) in
     let there : first_failing (is_there (standing_of new)) asked_in_order ≡ None =
     as_given (λ g. first_failing (is_there (standing_of g)) asked_in_order ≡ None) f held.layout old held.format stand (no_field_missing f valid) in

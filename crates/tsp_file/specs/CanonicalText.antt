@@ -17,7 +17,8 @@ use Rattle.tsp_format.specs.declared.field.ValueShape.TheVariants.{Kept, KeptEac
 use Rattle.tsp_format.specs.Shapes.{shape_of, value_shape_of}
 use Rattle.tsp_format.specs.Words.{field_word, kind_word, weight_kind_word, weight_format_word, coord_kind_word, display_kind_word}
 use Rattle.tsp_format.specs.Words.{fields_in_order}
-use Rattle.tsp_format.specs.Cells.{nodes_to, cells_of_line}
+use Rattle.tsp_format.specs.Nodes.{nodes_to}
+use Rattle.tsp_format.specs.Cells.{cells_of_line}
 use Rattle.tsp_format.specs.Steps.{Step, Branch, Leaf}
 use Rattle.tsp_draft.specs.Fields.{Fields, spatial, one_number_in, numbers_in, points_in}
 
@@ -104,12 +105,12 @@ step_line (Branch first second) = number_line (decimal first) (decimal second �
 step_line (Leaf changes) = ended_line (codes "0" ∷ flat_map change_words changes)
 
 -- a line for each step; the tree is whole where they end, so that no -1 ends it
-abbrev pub step_lines : List Step → List ℕ
-step_lines steps = flat_map step_line steps
+abbrev pub case_tree_lines : List Step → List ℕ
+case_tree_lines steps = flat_map step_line steps
 
 -- the coordinates of a point, three in space and two in the plane
-abbrev pub point_numbers : Bool → Point → List (List ℕ)
-point_numbers in_space point = spelling point.x ∷ spelling point.y ∷ cond in_space (spelling point.z ∷ []) []
+abbrev pub coordinate_words : Bool → Point → List (List ℕ)
+coordinate_words in_space point = spelling point.x ∷ spelling point.y ∷ cond in_space (spelling point.z ∷ []) []
 
 abbrev pub whole_number : ℤ → List (List ℕ)
 whole_number number = signed_decimal number ∷ []
@@ -143,9 +144,9 @@ abbrev pub text_of_section : Fields → Field → Shape → List ℕ
 text_of_section f field (Numbers low high) =
     optional (λ numbers. section_text field (lines_by_node whole_number numbers)) (numbers_in f field)
 text_of_section f field Points =
-    optional (λ points. section_text field (lines_by_node (point_numbers false) points)) (points_in f field)
+    optional (λ points. section_text field (lines_by_node (coordinate_words false) points)) (points_in f field)
 text_of_section f field SpacePoints =
-    optional (λ points. section_text field (lines_by_node (point_numbers true) points)) (points_in f field)
+    optional (λ points. section_text field (lines_by_node (coordinate_words true) points)) (points_in f field)
 text_of_section f field Depots = optional (λ depots. section_text field (node_list depots)) f.depots
 text_of_section f field Pairs = optional (λ pairs. section_text field (pair_list pairs)) f.fixed
 text_of_section f field Weights =
@@ -153,7 +154,7 @@ text_of_section f field Weights =
 text_of_section f field Tours = optional (λ tours. section_text field (flat_map node_list tours)) f.tours
 text_of_section f field Triples = optional (λ triples. section_text field (triple_list triples)) f.fixed_potentials
 text_of_section f field Combs = optional (λ combs. section_text field (comb_list combs)) f.combs
-text_of_section f field Steps = optional (λ steps. section_text field (step_lines steps)) f.branches
+text_of_section f field Steps = optional (λ steps. section_text field (case_tree_lines steps)) f.branches
 
 -- the text of a keyword whose value is read as a number
 abbrev pub text_of_value : Fields → Field → Option ValueShape → List ℕ

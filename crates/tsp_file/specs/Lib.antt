@@ -1,5 +1,5 @@
 pub mod states
-pub mod Meant
+pub mod Defaults
 pub mod Cost
 pub mod ByInequalities
 pub mod RelayoutFaultText

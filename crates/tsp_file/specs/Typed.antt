@@ -2,12 +2,12 @@
 use Rattle.std.specs.Prelude.{◌≡◌, ℕ, ◌≤◌, List, length, Some, IsSome, IsTrue, ℤ, pos}
 use Rattle.std.specs.List.{All, sum_by}
 use Rattle.tsp_format.specs.declared.kinds.Kind.TheVariants as kinds
-use Rattle.tsp_format.specs.Limits.{most_capacity, most_scale, most_potential, most_multipliers, most_combs, most_comb_nodes}
+use Rattle.tsp_format.specs.Limits.{most_capacity, most_scale, most_potential, most_triples, most_combs, most_comb_nodes}
 use Rattle.tsp_format.specs.Steps.{Step}
 use Rattle.tsp_draft.specs.Fields.{Fields, nodes_of}
 use Rattle.tsp_draft.specs.Rules.{is_instance}
 use Rattle.tsp_draft.specs.Valid.{IsInRange, HasInstance, HasRouting, HasPotentials, HasBranches, IsFromTo, IsWithin, IsByNode, IsDemand, IsTripleOf, AreDepots, AreSets, AreTreeSteps}
-use Rattle.tsp_file.specs.Meant.{scale_in, multipliers_in, combs_in}
+use Rattle.tsp_file.specs.Defaults.{scale_in, multipliers_in, families_listed}
 
 -- what every valid file holds: the fields that its TYPE asks for, and each in its range
 pub record HoldsItsType (f : Fields) : Type 0 where
@@ -31,7 +31,7 @@ pub record HoldsRouting (f : Fields) (capacity : ℤ) (demands : List ℤ) (depo
 
 -- multipliers, each of two different nodes of the file
 pub record AreMultipliersIn (f : Fields) (multipliers : List (ℕ × ℕ × ℤ)) : Type 0 where
-  pub few : length multipliers ≤ most_multipliers
+  pub few : length multipliers ≤ most_triples
   pub each : All (IsTripleOf (nodes_of f)) multipliers
 
 -- potentials of nodes, with multipliers, which are none where no section lists them; 1 is meant where SCALE is missing
@@ -64,7 +64,7 @@ pub record AreSomeSets (n : ℕ) (combs : List (List (List ℕ))) : Type 0 where
 pub record HoldsCases (f : Fields) (scale : ℤ) (combs : List (List (List ℕ))) (steps : List Step) : Type 0 where
   pub kind : f.kind ≡ Some kinds.Branches
   pub scale_is : scale ≡ scale_in f
-  pub combs_are : combs ≡ combs_in f
+  pub combs_are : combs ≡ families_listed f
   pub steps_are : f.branches ≡ Some steps
   pub scaled : IsFromTo (pos 1) (pos most_scale) scale
   pub each_comb : AreSomeSets (nodes_of f) combs

@@ -13,7 +13,7 @@ ghost use Rattle.tsp_file.specs.Cost.{cost, distance};
 ghost use Rattle.tsp_file.specs.Examples.{CostIs, LaysOutAs, six};
 
 /// The costs of two nodes under the layouts, and which layouts list the diagonal.
-#[tactic(auto, unfolding(crate::specs::Cost::listed_cost, tsp_format::specs::Place::place_of, tsp_format::specs::Cells::cells, tsp_format::specs::Cells::nodes_to))]
+#[tactic(auto, unfolding(crate::specs::Cost::listed_cost, tsp_format::specs::Place::place_of, tsp_format::specs::Cells::cells, tsp_format::specs::Nodes::nodes_to))]
 pub fn examples_of_costs()
     ensures upper_row { CostIs layouts.UpperRow 1 4 (pos 3) }
     ensures lower_row { CostIs layouts.LowerRow 1 4 (pos 4) }
@@ -29,7 +29,7 @@ pub fn examples_of_costs()
 {}
 
 /// The weights in another layout.
-#[tactic(auto, unfolding(crate::specs::Cost::listed_cost, tsp_format::specs::Place::place_of, tsp_format::specs::Cells::cells, tsp_format::specs::Cells::nodes_to))]
+#[tactic(auto, unfolding(crate::specs::Cost::listed_cost, tsp_format::specs::Place::place_of, tsp_format::specs::Cells::cells, tsp_format::specs::Nodes::nodes_to))]
 pub fn examples_of_relayouts()
     ensures the_same { LaysOutAs layouts.UpperDiagRow layouts.UpperDiagRow
         (six (pos 1) (pos 2) (pos 3) (pos 4) (pos 5) (pos 6)) }
@@ -44,7 +44,7 @@ pub fn examples_of_relayouts()
 {}
 
 /// Why weights aren't put into another layout.
-#[tactic(auto, unfolding(crate::specs::Cost::cost, crate::specs::Cost::listed_cost, tsp_format::specs::Place::place_of, tsp_format::specs::Cells::cells, tsp_format::specs::Cells::nodes_to))]
+#[tactic(auto, unfolding(crate::specs::Cost::cost, crate::specs::Cost::listed_cost, tsp_format::specs::Place::place_of, tsp_format::specs::Cells::cells, tsp_format::specs::Nodes::nodes_to))]
 pub fn examples_of_lost_costs()
     ensures uneven { IsRefused directed_matrix layouts.UpperRow (faults.NotSymmetric 1 2) }
     ensures not_listed { IsRefused plane layouts.UpperRow faults.NotExplicit }

@@ -52,7 +52,8 @@ pub struct ListedWeights<'a> {
 
 impl<'a> ListedWeights<'a> {
     ghost use Rattle.std.specs.Prelude.{ℕ, ◌<◌, ◌+◌, ◌*◌, ◌≢◌, ◌++◌, false, map, pos, ◌↔◌, IsTrue, MatchOption, IfOk, OnOk, ◌-◌};
-    ghost use Rattle.tsp_format.specs.Cells.{IsNode, cells_of_line};
+    ghost use Rattle.tsp_format.specs.Nodes.{IsNode};
+    ghost use Rattle.tsp_format.specs.Cells.{cells_of_line};
     ghost use Rattle.tsp_format.specs.Symmetry.{IsFirstAsymmetric};
     ghost use Rattle.tsp_draft.specs.Fields.{Fields};
     ghost use Rattle.tsp_file.specs.ListedWeights.{ListsWeights};

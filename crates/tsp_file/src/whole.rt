@@ -2,12 +2,13 @@
 
 ghost use Rattle.std.specs.Prelude.{◌≡◌, ◌≢◌, ◌≤◌, ◌<◌, ◌+◌, ◌*◌, ℕ, ℤ, List, length, take, true, ◌⊎◌, OnErr, OnOk};
 ghost use Rattle.tsp_format.specs.declared.layout.Layout.TheVariants.{FullMatrix};
-ghost use Rattle.tsp_format.specs.Cells.{IsNode, cells};
+ghost use Rattle.tsp_format.specs.Nodes.{IsNode};
+ghost use Rattle.tsp_format.specs.Cells.{cells};
 ghost use Rattle.tsp_format.specs.Symmetry.{IsSymmetric};
 ghost use Rattle.tsp_format.specs.Limits.{most_matrix_nodes};
 ghost use Rattle.tsp_file.specs.Cost.{listed_cost};
 ghost use Rattle.tsp_file.specs.Relayout.{costs_in};
-ghost use Rattle.tsp_file.specs.states.Whole.{goes_above, is_on_side, HasCost, HasLines, HasSide, Fills};
+ghost use Rattle.tsp_file.specs.states.Whole.{goes_above, is_on_side, IsCostOfCell, HasLaterLines, HasSide, Fills};
 
 use crate::halves::line_start;
 use std::alloc::AllocError;
@@ -61,7 +62,7 @@ fn spread_lines(from: Layout, nodes: u32, weights: &mut Vec<i64>, count: usize)
     requires count { count ≡ length (cells from nodes) }
     ensures size { length weights.new.items ≡ nodes * nodes }
     ensures lines { (half : List ℤ) → length half ≡ count → take count weights.old.items ≡ half
-        → HasLines from nodes 0 half weights.new.items }
+        → HasLaterLines from nodes 0 half weights.new.items }
 {
     let mut line = nodes;
     let mut kept = count;
@@ -79,7 +80,7 @@ fn clear_diagonal(from: Layout, nodes: u32, weights: &mut Vec<i64>)
     requires size { length weights.old.items ≡ nodes * nodes }
     ensures size { length weights.new.items ≡ nodes * nodes }
     ensures side { (half : List ℤ) → length half ≡ length (cells from nodes) → from ≢ FullMatrix
-        → HasLines from nodes 0 half weights.old.items
+        → HasLaterLines from nodes 0 half weights.old.items
         → HasSide (goes_above from) (listed_cost from nodes half) nodes weights.new.items }
 {
     if from.lists(1, 1) {
@@ -97,7 +98,7 @@ fn fill_across(above: bool, nodes: u32, weights: &mut Vec<i64>)
     ensures size { length weights.new.items ≡ nodes * nodes }
     ensures costs { (cost : ℕ → ℕ → ℤ)
         → IsSymmetric cost → HasSide above cost nodes weights.old.items
-        → (i j : ℕ) → IsNode nodes i → IsNode nodes j → HasCost cost nodes weights.new.items i j }
+        → (i j : ℕ) → IsNode nodes i → IsNode nodes j → IsCostOfCell cost nodes weights.new.items i j }
 {
     'bands: for band in 0..nodes / BAND + 1 {
         fill_band(above, nodes, weights, band * BAND + 1);

@@ -8,7 +8,8 @@ use Rattle.std.proofs.lemmas.List.Concat.{length-flat_map}
 use Rattle.std.proofs.lemmas.List.FromFn.{length-range_with_len}
 use Rattle.tsp_format.specs.declared.layout.Layout.{Layout}
 use Rattle.tsp_format.specs.declared.layout.Layout.TheVariants.{FullMatrix, UpperRow, LowerRow, UpperDiagRow, LowerDiagRow, UpperCol, LowerCol, UpperDiagCol, LowerDiagCol}
-use Rattle.tsp_format.specs.Cells.{nodes_to, is_listed, cells, cells_of_line, cell_count_of, line_len_of}
+use Rattle.tsp_format.specs.Nodes.{nodes_to}
+use Rattle.tsp_format.specs.Cells.{is_listed, cells, cells_of_line, cell_count_of, line_len_of}
 use Rattle.tsp_format.proofs.Lines.{cells-lines}
 
 -- ---- how many of a run of numbers pass a test

@@ -4,7 +4,8 @@ use Rattle.std.specs.Prelude.{if◌then◌else◌}
 use Rattle.std.specs.List.{filter, flat_map}
 use Rattle.std.proofs.lemmas.List.Elements.{filter-append}
 use Rattle.tsp_format.specs.declared.layout.Layout.{Layout}
-use Rattle.tsp_format.specs.Cells.{nodes_to, row, column, is_listed, goes_by_columns, cells, cells_of_line}
+use Rattle.tsp_format.specs.Nodes.{nodes_to}
+use Rattle.tsp_format.specs.Cells.{row, column, is_listed, goes_by_columns, cells, cells_of_line}
 
 filter-flat_map : {X Y : Type 0} (p : Y → Bool) (f : X → List Y) (xs : List X)
     → filter p (flat_map f xs) ≡ flat_map (λ x. filter p (f x)) xs

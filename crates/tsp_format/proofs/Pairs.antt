@@ -7,7 +7,8 @@ use Rattle.std.proofs.lemmas.List.FromFn.{length-range_with_len, get_or-range_wi
 use Rattle.std.proofs.lemmas.List.Elements.{All-nil, All-head, All-tail, All-append, All-map, All-filter, All-contains, filter_passes, Contains-append_left, Contains-append_right}
 use Rattle.std.proofs.lemmas.List.Kept.{AllPairs-cons, AllPairs-filter}
 use Rattle.tsp_format.specs.declared.layout.Layout.{Layout}
-use Rattle.tsp_format.specs.Cells.{nodes_to, IsNode, row, column, pairs_by_rows, pairs_by_columns, is_listed, goes_by_columns, cells}
+use Rattle.tsp_format.specs.Nodes.{nodes_to, IsNode}
+use Rattle.tsp_format.specs.Cells.{row, column, pairs_by_rows, pairs_by_columns, is_listed, goes_by_columns, cells}
 
 -- ---- what a list contains
 

@@ -10,8 +10,9 @@ use Rattle.std.proofs.lemmas.List.Quantifiers.{position-Some}
 use Rattle.std.proofs.lemmas.List.Sums.{position_or_len_is, passes_at_first}
 use Rattle.tsp_format.specs.declared.layout.Layout.{Layout}
 use Rattle.tsp_format.specs.declared.layout.Layout.TheVariants.{FullMatrix, UpperRow, LowerRow, UpperDiagRow, LowerDiagRow, UpperCol, LowerCol, UpperDiagCol, LowerDiagCol}
-use Rattle.tsp_format.specs.Cells.{nodes_to, IsNode, is_listed, cells, cells_of_line, line_len_of}
-use Rattle.tsp_format.specs.Place.{is_pair, place_of, place_by_table}
+use Rattle.tsp_format.specs.Nodes.{nodes_to, IsNode}
+use Rattle.tsp_format.specs.Cells.{is_listed, cells, cells_of_line, line_len_of}
+use Rattle.tsp_format.specs.Place.{is_same_cell, place_of, place_by_table}
 use Rattle.tsp_format.proofs.Lines.{cells-lines}
 use Rattle.tsp_format.proofs.Counts.{line_counted}
 use Rattle.tsp_format.proofs.Pairs.{cells_differ}
@@ -329,14 +330,14 @@ cell_at layout n k at d low high lt =
 
 -- ---- the first place of a pair
 
-same_pair : (pair cell : ℕ × ℕ) → Decides (is_pair pair cell) ((cell.0 ≡ pair.0) × (cell.1 ≡ pair.1))
+same_pair : (pair cell : ℕ × ℕ) → Decides (is_same_cell pair cell) ((cell.0 ≡ pair.0) × (cell.1 ≡ pair.1))
 same_pair pair cell = Decides-and (cell.0 == pair.0) (cell.1 == pair.1) (Decides-eqb cell.0 pair.0) (Decides-eqb cell.1 pair.1)
 
 pair_is : (a b : ℕ × ℕ) → (a.0 ≡ b.0) × (a.1 ≡ b.1) → a ≡ b
 pair_is a b same = ap (λ m. (m, a.1)) same.0 ∙ ap (λ m. (b.0, m)) same.1
 
-other_pair : (pair cell : ℕ × ℕ) → cell ≢ pair → is_pair pair cell ≡ false
-other_pair pair cell other = is_false (is_pair pair cell) (λ e. other (pair_is cell pair ((same_pair pair cell).0 e)))
+other_pair : (pair cell : ℕ × ℕ) → cell ≢ pair → is_same_cell pair cell ≡ false
+other_pair pair cell other = is_false (is_same_cell pair cell) (λ e. other (pair_is cell pair ((same_pair pair cell).0 e)))
   where
     is_false : (b : Bool) → b ≢ true → b ≡ false
     is_false true not_true = absurd (not_true refl)
@@ -348,7 +349,7 @@ pub place_from : (layout : Layout) (n at : ℕ) (pair : ℕ × ℕ) → at < len
 unfolding place_of
 place_from layout n at pair lt here =
     let xs = cells layout n in
-    let found : position_or_len (is_pair pair) xs ≡ at = position_or_len_is (is_pair pair) xs at pair (omega (arith, lt))
+    let found : position_or_len (is_same_cell pair) xs ≡ at = position_or_len_is (is_same_cell pair) xs at pair (omega (arith, lt))
     (λ k below. other_pair pair (get_or xs k pair) (λ same. cells_differ layout n k at pair below lt (same ∙ sym (here pair))))
     (λ inside. (same_pair pair (get_or xs at pair)).1 (ap (λ cell. cell.0) (here pair), ap (λ cell. cell.1) (here pair))) in
     ap (λ k. cond (nat_lt k (length xs)) (Some k) None) found ∙ ap (λ b. cond b (Some at) None) (le-leb (suc at) (length xs) lt)
@@ -359,17 +360,17 @@ pub stands_at : (layout : Layout) (n at : ℕ) (pair : ℕ × ℕ) → place_of 
 unfolding place_of
 stands_at layout n at pair here d =
     let cell = get_or (cells layout n) at d in
-    pair_is cell pair ((same_pair pair cell).0 (position-Some (is_pair pair) (cells layout n) at d here).1)
+    pair_is cell pair ((same_pair pair cell).0 (position-Some (is_same_cell pair) (cells layout n) at d here).1)
 
 -- a pair that is no cell has no place
 pub no_place : (layout : Layout) (n : ℕ) (pair : ℕ × ℕ) → ¬ Contains (cells layout n) pair → place_of layout n pair ≡ None
 unfolding place_of
 no_place layout n pair out =
     let xs = cells layout n in
-    let at = position_or_len (is_pair pair) xs in
+    let at = position_or_len (is_same_cell pair) xs in
     ⊎_elim
     (λ inside.
-    let same = (same_pair pair (get_or xs at pair)).0 (passes_at_first (is_pair pair) xs pair inside) in
+    let same = (same_pair pair (get_or xs at pair)).0 (passes_at_first (is_same_cell pair) xs pair inside) in
     absurd (out (at, inside, pair_is (get_or xs at pair) pair same)))
     (λ past. ap (λ b. cond b (Some at) None) (lt-leb (suc at) (length xs) (omega arith)))
     (cases_lt at (length xs))

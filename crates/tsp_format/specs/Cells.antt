@@ -1,16 +1,10 @@
 -- The cells of a layout: all pairs (i, j) of 1..n, row i and column j, in the order of rows or of columns, as far as they
 -- pass the layout's test. Source: TSPLIB 95 (G. Reinelt), the values of EDGE_WEIGHT_FORMAT.
-use Rattle.std.specs.Prelude.{ℕ, ◌+◌, ◌-◌, ◌*◌, ◌/◌, ◌≤◌, Bool, true, false, List, map, nat_lt, nat_le, if◌then◌else◌}
-use Rattle.std.specs.List.{filter, flat_map, range_with_len}
+use Rattle.std.specs.Prelude.{ℕ, ◌+◌, ◌-◌, ◌*◌, ◌/◌, Bool, true, false, List, map, nat_lt, nat_le, if◌then◌else◌}
+use Rattle.std.specs.List.{filter, flat_map}
+use Rattle.tsp_format.specs.Nodes.{nodes_to}
 use Rattle.tsp_format.specs.declared.layout.Layout.{Layout}
 use Rattle.tsp_format.specs.declared.layout.Layout.TheVariants.{FullMatrix, UpperRow, LowerRow, UpperDiagRow, LowerDiagRow, UpperCol, LowerCol, UpperDiagCol, LowerDiagCol}
-
--- the nodes 1, 2, .., n
-unfoldable pub nodes_to : ℕ → List ℕ
-nodes_to n = range_with_len 1 n
-
-abbrev pub IsNode : ℕ → ℕ → Type 0
-IsNode n i = (1 ≤ i) × (i ≤ n)
 
 -- the pairs of row i, and those of column j
 abbrev pub row : ℕ → ℕ → List (ℕ × ℕ)

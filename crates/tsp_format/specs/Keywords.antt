@@ -11,15 +11,15 @@ use Rattle.tsp_format.specs.Words.{field_word}
 use Rattle.tsp_format.specs.Words.{fields_in_order}
 
 -- the unknown keywords are the only field without its own word
-abbrev pub is_others : Field → Bool
-is_others field = bytes_eq (field_word field) (field_word OtherKey)
+abbrev pub is_other_key : Field → Bool
+is_other_key field = bytes_eq (field_word field) (field_word OtherKey)
 
 -- the field with this word
 abbrev pub field_of : List ℕ → Option Field
 field_of word = find (λ field. bytes_eq word (field_word field)) fields_in_order
 
 abbrev pub known_or_not : Option Field → Keyword
-known_or_not (Some field) = cond (is_others field) Unknown (Known field)
+known_or_not (Some field) = cond (is_other_key field) Unknown (Known field)
 known_or_not None = Unknown
 
 -- A field's word is that field's. Fixed edges have another word too. Two words are refused, and one ends the file.

@@ -1,5 +1,6 @@
 pub mod states
 pub mod Bytes
+pub mod Nodes
 pub mod Cells
 pub mod Symmetry
 pub mod Keywords

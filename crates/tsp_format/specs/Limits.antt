@@ -55,8 +55,8 @@ abbrev pub most_fixed : ℕ
 most_fixed = 100000
 
 -- multipliers of fixed edges
-abbrev pub most_multipliers : ℕ
-most_multipliers = 100000
+abbrev pub most_triples : ℕ
+most_triples = 100000
 
 -- the largest multiplier
 abbrev pub most_multiplier : ℕ

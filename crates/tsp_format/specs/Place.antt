@@ -6,12 +6,12 @@ use Rattle.tsp_format.specs.declared.layout.Layout.TheVariants.{FullMatrix, Uppe
 use Rattle.tsp_format.specs.Cells.{cells}
 
 -- whether a cell is this pair
-abbrev pub is_pair : ℕ × ℕ → ℕ × ℕ → Bool
-is_pair pair cell = (cell.0 == pair.0) && (cell.1 == pair.1)
+abbrev pub is_same_cell : ℕ × ℕ → ℕ × ℕ → Bool
+is_same_cell pair cell = (cell.0 == pair.0) && (cell.1 == pair.1)
 
 -- the place of a pair among the cells, counted from 0, if it is one of them
 unfoldable pub place_of : Layout → ℕ → ℕ × ℕ → Option ℕ
-place_of layout n pair = position (is_pair pair) (cells layout n)
+place_of layout n pair = position (is_same_cell pair) (cells layout n)
 
 -- The table of places, for the cells (i, j) of a matrix over n nodes: above the diagonal by rows, below it by rows, and both
 -- with the diagonal. A layout by columns has (i, j) where the mirrored layout by rows has (j, i). It is no part of the meaning.

@@ -1,6 +1,6 @@
 -- Symmetric costs between nodes.
 use Rattle.std.specs.Prelude.{◌≡◌, ◌≢◌, ℕ, ◌<◌, ◌⊎◌, Option, None, Some, ℤ}
-use Rattle.tsp_format.specs.Cells.{IsNode}
+use Rattle.tsp_format.specs.Nodes.{IsNode}
 
 -- symmetric between different nodes
 abbrev pub IsSymmetric : (ℕ → ℕ → ℤ) → Type 0

@@ -121,7 +121,7 @@ pub fn examples_of_words()
 {}
 
 /// Which pairs the layouts list, in which order, and the first pair whose costs differ.
-#[tactic(auto, unfolding(crate::specs::Cells::cells, crate::specs::Cells::nodes_to))]
+#[tactic(auto, unfolding(crate::specs::Cells::cells, crate::specs::Nodes::nodes_to))]
 pub fn examples_of_cells()
     ensures full { CellsAre layouts.FullMatrix 2 (11 ∷ 12 ∷ 21 ∷ 22 ∷ []) }
     ensures upper_row { CellsAre layouts.UpperRow 4 (12 ∷ 13 ∷ 14 ∷ 23 ∷ 24 ∷ 34 ∷ []) }
@@ -151,7 +151,7 @@ pub fn examples_of_limits()
     ensures others { limits.most_others ≡ 10 ^ 3 }
     ensures depots { limits.most_depots ≡ 10 ^ 5 }
     ensures fixed { limits.most_fixed ≡ 10 ^ 5 }
-    ensures multipliers { limits.most_multipliers ≡ 10 ^ 5 }
+    ensures multipliers { limits.most_triples ≡ 10 ^ 5 }
     ensures multiplier { limits.most_multiplier ≡ 10 ^ 15 }
     ensures tour_nodes { limits.most_tour_nodes ≡ 10 ^ 6 }
     ensures combs { limits.most_combs ≡ 10 ^ 4 }

@@ -5,7 +5,8 @@ ghost use Rattle.std.specs.List.{Contains, AllPairs, flat_map};
 ghost use Rattle.tsp_format.specs.declared.layout.Layout.{Layout};
 ghost use Rattle.tsp_format.specs.Layout.{layout_word};
 ghost use Rattle.tsp_format.specs.Words.{layouts, layout_found};
-ghost use Rattle.tsp_format.specs.Cells.{nodes_to, IsNode, is_listed, goes_by_columns, cells};
+ghost use Rattle.tsp_format.specs.Nodes.{nodes_to, IsNode};
+ghost use Rattle.tsp_format.specs.Cells.{is_listed, goes_by_columns, cells};
 ghost use Rattle.tsp_format.specs.Cells.{cells_of_line, cell_count_of, line_len_of};
 
 use crate::word::{Word, value_of};

@@ -2,7 +2,7 @@
 
 ghost use Rattle.std.specs.Prelude.{◌≡◌, pos};
 ghost use Rattle.tsp_format.specs.declared.limits.TheConstants.{MOST_NODES, MOST_MATRIX_NODES, MOST_COORDINATE, MOST_WEIGHT, MOST_DEMAND, MOST_CAPACITY, MOST_SCALE, MOST_POTENTIAL, MOST_WORD_BYTES, MOST_LINE_BYTES, MOST_KEPT_BYTES, MOST_COMMENTS, MOST_OTHERS, MOST_DEPOTS, MOST_FIXED, MOST_MULTIPLIERS, MOST_MULTIPLIER, MOST_TOUR_NODES, MOST_COMBS, MOST_COMB_NODES, MOST_BRANCHES, MOST_CHANGES, MOST_DIFFERENCE, MOST_FILE_BYTES};
-ghost use Rattle.tsp_format.specs.Limits.{most_nodes, most_matrix_nodes, most_coordinate, most_weight, most_demand, most_capacity, most_scale, most_potential, most_word_bytes, most_line_bytes, most_kept_bytes, most_comments, most_others, most_depots, most_fixed, most_multipliers, most_multiplier, most_tour_nodes, most_combs, most_comb_nodes, most_branches, most_changes, most_difference, most_file_bytes};
+ghost use Rattle.tsp_format.specs.Limits.{most_nodes, most_matrix_nodes, most_coordinate, most_weight, most_demand, most_capacity, most_scale, most_potential, most_word_bytes, most_line_bytes, most_kept_bytes, most_comments, most_others, most_depots, most_fixed, most_triples, most_multiplier, most_tour_nodes, most_combs, most_comb_nodes, most_branches, most_changes, most_difference, most_file_bytes};
 
 /// The most nodes of a file: DIMENSION is from 1 to this.
 pub const MOST_NODES: u32 = 100_000;
@@ -93,7 +93,7 @@ pub fn limits_are_those_of_the_profile()
     ensures others { MOST_OTHERS ≡ most_others }
     ensures depots { MOST_DEPOTS ≡ most_depots }
     ensures fixed { MOST_FIXED ≡ most_fixed }
-    ensures multipliers { MOST_MULTIPLIERS ≡ most_multipliers }
+    ensures multipliers { MOST_MULTIPLIERS ≡ most_triples }
     ensures multiplier { MOST_MULTIPLIER ≡ pos most_multiplier }
     ensures tour_nodes { MOST_TOUR_NODES ≡ most_tour_nodes }
     ensures combs { MOST_COMBS ≡ most_combs }

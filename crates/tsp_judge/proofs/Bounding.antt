@@ -19,7 +19,7 @@ use Rattle.tsp_judge.specs.declared.fault.RunFault.TheVariants.{File, WrongKind,
 use Rattle.tsp_judge.specs.BoundRun.{BoundsFiles, EndsUnbounded, IsBoundRun, SaysBound, IsBoundRunOf}
 use Rattle.tsp_cost.specs.ProblemLaws.{IsProblem}
 use Rattle.tsp_cost.specs.ComputedProblems.{problem_of}
-use Rattle.tsp_judge.specs.Accepted.{IsBoundAccepted}
+use Rattle.tsp_judge.specs.Accepted.{IsAcceptedWithoutTour}
 use Rattle.tsp_judge.specs.CheckRun.{ReadsFile}
 use Rattle.tsp_judge.proofs.HandedOn.{one_value}
 use Rattle.tsp_judge.proofs.Yeses.{IsTspOrAtsp, of_type, tours_bounded}
@@ -51,7 +51,7 @@ ends_unbounded by first second instance certificate sink (Relayout fault) one tw
 
 -- what an accepted bound says
 bound_accepted : (by : Certificate) (instance certificate : Fields) (found : BoundVerdict) → IsProblem instance → IsTrue (is_bounded by instance.kind)
-    → IsBoundVerdict by instance certificate found → is_bound_yes found ≡ true → IsBoundAccepted by instance certificate found (bound_report_of instance found)
+    → IsBoundVerdict by instance certificate found → is_bound_yes found ≡ true → IsAcceptedWithoutTour by instance certificate found (bound_report_of instance found)
 bound_accepted by instance certificate (bounds.Bound bound) problem type v is =
     let tours : IsTspOrAtsp instance.kind = tours_bounded by instance.kind type in
     record {

@@ -20,13 +20,13 @@ use Rattle.tsp_reason.specs.Verdicts.{is_yes}
 use Rattle.tsp_verdict.specs.Basis.{IsBasisAlone, IsBasis, StandsAgainstRouting}
 use Rattle.tsp_verdict.specs.Bounded.{StandsAgainstInstance, StandsAgainstBounded}
 use Rattle.tsp_verdict.specs.Certified.{StandsAgainstCertified, IsCertifiedVerdict}
-use Rattle.tsp_verdict.specs.Judged.{IsVerdictBy, IsVerdictWith}
+use Rattle.tsp_verdict.specs.SolutionVerdict.{IsVerdictBy, IsVerdictWith}
 use Rattle.tsp_verdict.specs.Reasons.{IsFirstReason}
 use Rattle.tsp_verdict.specs.Routes.{StandsAgainstRoutes}
 use Rattle.tsp_verdict.specs.Tours.{StandsAgainstTour}
 use Rattle.tsp_judge.specs.declared.common.Common.{Common}
 use Rattle.tsp_judge.specs.CompareRun.{IsFoundIn}
-use Rattle.tsp_judge.specs.Accepted.{IsAccepted, IsOptimalOrBounded}
+use Rattle.tsp_judge.specs.Accepted.{IsAccepted, IsTourWithBound}
 use Rattle.tsp_judge.specs.Optimal.{IsBoundedTour}
 use Rattle.tsp_judge.proofs.Yeses.{type_of_tours, one_tour}
 use Rattle.tsp_report.specs.Report.{report_of}
@@ -35,7 +35,7 @@ use Rattle.tsp_report.specs.Report.{report_of}
 
 bounded_in : (by : Certificate) (instance solution certificate : Fields) (length bound : ℤ) → IsProblem instance
     → IsCertifiedVerdict by instance solution certificate (verdicts.Tour length (Some bound))
-    → IsOptimalOrBounded by None instance solution certificate (report_of instance (verdicts.Tour length (Some bound)))
+    → IsTourWithBound by None instance solution certificate (report_of instance (verdicts.Tour length (Some bound)))
     → IsBoundedTour instance solution length bound
 bounded_in by instance solution certificate length bound problem v accepted =
     let b = v.1 in

@@ -24,7 +24,7 @@ use Rattle.tsp_judge.specs.declared.common.Found.{Found}
 use Rattle.tsp_judge.specs.declared.fault.RunFault.{RunFault}
 use Rattle.tsp_judge.specs.declared.fault.RunFault.TheVariants.{File, WrongKind, Write, OutOfMemory, Relayout}
 use Rattle.tsp_judge.specs.CheckRun.{Given, IsUnreadIn, IsFileIn, ReadsFile, ReadsGiven}
-use Rattle.tsp_judge.specs.CompareRun.{IsTurnAt, IsFoundIn, Finds, result_of, status_of_found, ComparesOne, AreFound, solution_lines, largest_status, ComparesAll, ComparesBy, ComparesOn, LacksBasis, AreReadOnce, EndsCompare}
+use Rattle.tsp_judge.specs.CompareRun.{IsTurnAt, IsFoundIn, Finds, result_of, status_of_found, ComparesOne, AreFound, all_solution_lines, largest_status, ComparesAll, ComparesBy, ComparesOn, LacksBasis, AreReadOnce, EndsCompare}
 use Rattle.tsp_judge.proofs.Runs.{sized}
 use Rattle.tsp_judge.proofs.Yeses.{accepted}
 use Rattle.tsp_report.specs.ComparisonText.{solution_line, head_of}
@@ -115,12 +115,12 @@ found_next IsTurn common place (first ∷ rest) next h k =
     (h.0, found_next IsTurn common (suc place) rest next h.1 (subst (λ p. IsOneOf IsTurn common p next) (omega arith) k))
 
 pub lines_next : (found : List (Result Verdict ReadFault)) (paths : List (List ℕ)) (next : Result Verdict ReadFault) → length found < length paths
-    → solution_lines found paths ++ solution_line next (slice_index_or paths (length found) []) ≡ solution_lines (found ++ next ∷ []) paths
+    → all_solution_lines found paths ++ solution_line next (slice_index_or paths (length found) []) ≡ all_solution_lines (found ++ next ∷ []) paths
 lines_next [] [] next more = absurd (omega (arith, more))
 lines_next [] (path ∷ paths) next more = sym (append-nil (solution_line next path))
 lines_next (first ∷ rest) [] next more = absurd (omega (arith, more))
 lines_next (first ∷ rest) (path ∷ paths) next more =
-    append_assoc (solution_line first path) (solution_lines rest paths) (solution_line next (slice_index_or paths (length rest) []))
+    append_assoc (solution_line first path) (all_solution_lines rest paths) (solution_line next (slice_index_or paths (length rest) []))
     ∙ ap (λ t. solution_line first path ++ t) (lines_next rest paths next (omega (arith, more)))
 
 pub status_next : (found : List (Result Verdict ReadFault)) (next : Result Verdict ReadFault)
@@ -139,7 +139,7 @@ pub record HasCompared (IsTurn : ℕ → Turn → Type 0) (paths : List (List �
   pub found : List (Result Verdict ReadFault)
   pub are : AreFound IsTurn common 0 found
   pub counted : length found ≡ count
-  pub written : HasWritten sink (solution_lines found paths)
+  pub written : HasWritten sink (all_solution_lines found paths)
   pub largest : status ≡ largest_status found
 
 pub compared_none : {W : Type 0} (contents : W → Option (List ℕ)) (a : Watched W) (IsTurn : ℕ → Turn → Type 0) (paths : List (List ℕ)) (common : Common) → has_failed a ≡ false
@@ -163,7 +163,7 @@ compared_next contents a b c IsTurn paths common count status found h more k =
       are = found_next IsTurn common 0 h.found next h.are (k.0, subst (λ n. IsTurn n k.0) (sym h.counted ∙ omega arith) k.1, k.2);
       counted = length_next h.found next ∙ ap (λ n. n + 1) h.counted;
       written = subst (HasWritten (sink_of contents a c)) (lines_next h.found paths next (omega (arith, h.counted, more)))
-          (written_then contents a b c (solution_lines h.found paths) _ h.written line);
+          (written_then contents a b c (all_solution_lines h.found paths) _ h.written line);
       largest = ap (λ s. max (status_of_found next) s) h.largest ∙ status_next h.found next;
     }
 
@@ -176,7 +176,7 @@ compared_ends contents a b c IsTurn paths common count status OutOfMemory h more
   h.are,
   omega (arith, h.counted, more),
   (k.0.0, subst (λ n. IsTurn n k.0.0) (sym h.counted) k.0.1, k.0.2),
-  unwritten_then contents a b c (solution_lines h.found paths) h.written k.1,
+  unwritten_then contents a b c (all_solution_lines h.found paths) h.written k.1,
 )
 compared_ends contents a b c IsTurn paths common count status (Write write_faults.Device) h more k =
     let next = k.2.0 in
@@ -185,7 +185,7 @@ compared_ends contents a b c IsTurn paths common count status (Write write_fault
       found_next IsTurn common 0 h.found next h.are (k.0, subst (λ n. IsTurn n k.0) (sym h.counted ∙ omega arith) k.1, k.2.1),
       omega (arith, length_next h.found next, h.counted, more),
       subst (HasStopped (sink_of contents a c)) (lines_next h.found paths next (omega (arith, h.counted, more)))
-          (stopped_then contents a b c (solution_lines h.found paths) _ h.written line),
+          (stopped_then contents a b c (all_solution_lines h.found paths) _ h.written line),
     )
 compared_ends contents a b c IsTurn paths common count status (Write write_faults.OutOfMemory) h more k = absurd k
 compared_ends contents a b c IsTurn paths common count status WrongKind h more k = absurd k
@@ -200,9 +200,9 @@ compared_all contents a b IsTurn paths common count status h all = (h.found, h.a
 
 pub after_head : {W : Type 0} (contents : W → Option (List ℕ)) (a b c : Watched W) (IsTurn : ℕ → Turn → Type 0) (paths : List (List ℕ)) (common : Common) (head : List ℕ) (ended : Result ℕ RunFault)
     → HasWritten (sink_of contents a b) head → ComparesAll IsTurn paths common [] (sink_of contents b c) ended → ComparesAll IsTurn paths common head (sink_of contents a c) ended
-after_head contents a b c IsTurn paths common head (Ok status) h k = (k.0, k.1, k.2, written_then contents a b c head (solution_lines k.0 paths) h k.3, k.4)
-after_head contents a b c IsTurn paths common head (Err OutOfMemory) h k = (k.0, k.1, k.2, k.3, written_then contents a b c head (solution_lines k.0 paths) h k.4)
-after_head contents a b c IsTurn paths common head (Err (Write write_faults.Device)) h k = (k.0, k.1, k.2, stopped_then contents a b c head (solution_lines k.0 paths) h k.3)
+after_head contents a b c IsTurn paths common head (Ok status) h k = (k.0, k.1, k.2, written_then contents a b c head (all_solution_lines k.0 paths) h k.3, k.4)
+after_head contents a b c IsTurn paths common head (Err OutOfMemory) h k = (k.0, k.1, k.2, k.3, written_then contents a b c head (all_solution_lines k.0 paths) h k.4)
+after_head contents a b c IsTurn paths common head (Err (Write write_faults.Device)) h k = (k.0, k.1, k.2, stopped_then contents a b c head (all_solution_lines k.0 paths) h k.3)
 after_head contents a b c IsTurn paths common head (Err (Write write_faults.OutOfMemory)) h k = absurd k
 after_head contents a b c IsTurn paths common head (Err WrongKind) h k = absurd k
 after_head contents a b c IsTurn paths common head (Err (File file fault)) h k = absurd k

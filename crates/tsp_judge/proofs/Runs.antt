@@ -10,12 +10,12 @@ use Rattle.tsp_stream.specs.Sink.{Sink, IsUnwritten}
 use Rattle.tsp_draft.specs.Fields.{Fields}
 use Rattle.tsp_draft.specs.Rules.{is_instance}
 use Rattle.tsp_read.specs.Reads.{IsFile, most_taken}
-use Rattle.tsp_theory.specs.Numbers.{IsBoundSized as IsSmall}
+use Rattle.tsp_theory.specs.CertificateNumbers.{IsBoundSized as IsSmall}
 use Rattle.tsp_reason.specs.declared.certificate.Certificate.{Certificate}
 use Rattle.tsp_reason.specs.declared.verdict.Verdict.{Verdict}
 use Rattle.tsp_reason.specs.declared.verdict.Verdict.TheVariants as verdicts
 use Rattle.tsp_verdict.specs.Certified.{is_bounded, IsCertifiedVerdict}
-use Rattle.tsp_verdict.specs.Judged.{is_judged, IsVerdictBy, IsUnclaimedVerdict, IsVerdictWith}
+use Rattle.tsp_verdict.specs.SolutionVerdict.{is_judged, IsVerdictBy, IsUnclaimedVerdict, IsVerdictWith}
 use Rattle.tsp_judge.specs.declared.fault.RunFault.{RunFault}
 use Rattle.tsp_judge.specs.declared.fault.RunFault.TheVariants.{File, WrongKind, Write, OutOfMemory, Relayout}
 use Rattle.tsp_report.specs.Report.{IsGapSized, IsSized}

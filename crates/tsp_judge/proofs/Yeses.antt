@@ -8,7 +8,7 @@ use Rattle.tsp_format.specs.declared.kinds.Kind.TheVariants as kinds
 use Rattle.tsp_stream.specs.Turn.{Turn}
 use Rattle.tsp_stream.specs.Sink.{Sink}
 use Rattle.tsp_draft.specs.Fields.{Fields, nodes_of}
-use Rattle.tsp_draft.specs.Rules.{is_tours, is_certificate, is_tree}
+use Rattle.tsp_draft.specs.Rules.{is_tour_file, is_potentials_file, is_branches_file}
 use Rattle.tsp_file.specs.Cost.{cost}
 use Rattle.tsp_verdict.specs.Solution.{tours_of}
 use Rattle.tsp_theory.specs.Length.{length_of}
@@ -22,7 +22,7 @@ use Rattle.tsp_reason.specs.declared.verdict.Reason.TheVariants.{NotASolution, T
 use Rattle.tsp_reason.specs.declared.verdict.Verdict.{Verdict}
 use Rattle.tsp_reason.specs.declared.verdict.Verdict.TheVariants as verdicts
 use Rattle.tsp_verdict.specs.Certified.{kind_of, is_bounded, StandsAgainstCertificate, IsCertifiedVerdict}
-use Rattle.tsp_verdict.specs.Judged.{is_judged, IsVerdictBy, IsUnclaimedVerdict, IsAsClaimed, IsVerdictWith}
+use Rattle.tsp_verdict.specs.SolutionVerdict.{is_judged, IsVerdictBy, IsUnclaimedVerdict, IsAsClaimed, IsVerdictWith}
 use Rattle.tsp_verdict.specs.Routes.{IsRoutesVerdict}
 use Rattle.tsp_verdict.specs.Tours.{IsTourVerdict}
 use Rattle.tsp_verdict.specs.Plan.{plan_length, depot_of}
@@ -32,12 +32,12 @@ use Rattle.tsp_judge.specs.declared.judging.Judged.{Judged}
 use Rattle.tsp_reason.specs.Verdicts.{is_yes}
 use Rattle.tsp_judge.specs.CheckRun.{Given, EndsWithout, IsRun, told}
 use Rattle.tsp_judge.proofs.HandedOn.{one_value}
-use Rattle.tsp_judge.specs.Accepted.{IsAcceptedTour, AreAcceptedRoutes, IsOptimalOrBounded, IsAccepted}
+use Rattle.tsp_judge.specs.Accepted.{IsAcceptedTour, AreAcceptedRoutes, IsTourWithBound, IsAccepted}
 use Rattle.tsp_judge.specs.Yes.{SaysYes, IsRunOf}
 
 -- ---- the TYPE of a file
 
-a_file_of_tours : (kind : Option Kind) → (is_tours kind ≡ false → ⊥) → kind ≡ Some kinds.Tour
+a_file_of_tours : (kind : Option Kind) → (is_tour_file kind ≡ false → ⊥) → kind ≡ Some kinds.Tour
 a_file_of_tours (Some kinds.Tsp) not = absurd (not refl)
 a_file_of_tours (Some kinds.Atsp) not = absurd (not refl)
 a_file_of_tours (Some kinds.Cvrp) not = absurd (not refl)
@@ -46,7 +46,7 @@ a_file_of_tours (Some kinds.Potentials) not = absurd (not refl)
 a_file_of_tours (Some kinds.Branches) not = absurd (not refl)
 a_file_of_tours None not = absurd (not refl)
 
-potentials : (kind : Option Kind) → (is_certificate kind ≡ false → ⊥) → kind ≡ Some kinds.Potentials
+potentials : (kind : Option Kind) → (is_potentials_file kind ≡ false → ⊥) → kind ≡ Some kinds.Potentials
 potentials (Some kinds.Tsp) not = absurd (not refl)
 potentials (Some kinds.Atsp) not = absurd (not refl)
 potentials (Some kinds.Cvrp) not = absurd (not refl)
@@ -55,7 +55,7 @@ potentials (Some kinds.Potentials) not = refl
 potentials (Some kinds.Branches) not = absurd (not refl)
 potentials None not = absurd (not refl)
 
-tree : (kind : Option Kind) → (is_tree kind ≡ false → ⊥) → kind ≡ Some kinds.Branches
+tree : (kind : Option Kind) → (is_branches_file kind ≡ false → ⊥) → kind ≡ Some kinds.Branches
 tree (Some kinds.Tsp) not = absurd (not refl)
 tree (Some kinds.Atsp) not = absurd (not refl)
 tree (Some kinds.Cvrp) not = absurd (not refl)
@@ -211,7 +211,7 @@ routes_by_type None claimed instance solution length count least problem same v 
 
 bounded_tour : (by : Certificate) (claimed : Option ℤ) (instance solution certificate : Fields) (length : ℤ) (bound : Option ℤ) → IsProblem instance
     → IsTrue (is_bounded by instance.kind) → IsCertifiedVerdict by instance solution certificate (verdicts.Tour length bound) → IsAsClaimed claimed length
-    → IsOptimalOrBounded by claimed instance solution certificate (report_of instance (verdicts.Tour length bound))
+    → IsTourWithBound by claimed instance solution certificate (report_of instance (verdicts.Tour length bound))
 bounded_tour by claimed instance solution certificate length bound problem type v claims =
     let b = v.1 in
     let tours : IsTspOrAtsp instance.kind = tours_bounded by instance.kind type in

@@ -2,10 +2,10 @@
 use Rattle.std.specs.Prelude.{◌≡◌, ◌⊎◌, ℕ, ◌≤◌, List, [], ◌∷◌, length, Option, None, Some, ℤ, ◌≤ℤ◌}
 use Rattle.tsp_format.specs.declared.kinds.Kind.{Kind}
 use Rattle.tsp_format.specs.declared.kinds.Kind.TheVariants as kinds
-use Rattle.tsp_format.specs.Cells.{nodes_to}
+use Rattle.tsp_format.specs.Nodes.{nodes_to}
 use Rattle.tsp_draft.specs.Fields.{Fields}
 use Rattle.tsp_theory.specs.Length.{length_of}
-use Rattle.tsp_theory.specs.Routing.{RoutingProblem, IsPlan, plan_length, load_of, IsLeast}
+use Rattle.tsp_theory.specs.Routing.{RoutingProblem, IsPlan, plan_length, load_of, IsLeastRoutes}
 use Rattle.tsp_theory.specs.Tour.{Problem, IsTour, BoundsTours, HasNoTour}
 use Rattle.tsp_cost.specs.Problems.{IsProblemOf, IsRoutingOf}
 use Rattle.tsp_reason.specs.declared.certificate.Certificate.{Certificate}
@@ -42,14 +42,14 @@ pub record AreAcceptedRoutes (claimed : Option ℤ) (instance solution : Fields)
   pub all : solution.tours ≡ Some routes
   pub is_plan : IsPlan problem routes
   pub least : ℕ
-  pub least_is : IsLeast (load_of problem.demands (nodes_to problem.nodes)) problem.capacity least
+  pub least_is : IsLeastRoutes (load_of problem.demands (nodes_to problem.nodes)) problem.capacity least
   pub none_fewer : (other : List (List ℕ)) → IsPlan problem other → least ≤ length other
   pub as_claimed : (claim : ℤ) → claimed ≡ Some claim → claim ≡ plan_length problem.cost problem.depot routes
   pub printed : report ≡ report_of instance (Routes (plan_length problem.cost problem.depot routes) (length routes) least)
 
 -- A tour with a certificate: it is the solution's only one; its length and the certificate's bound are printed. No tour of the
 -- instance is shorter than the bound, so that where the length equals it no tour is shorter than this one.
-pub record IsOptimalOrBounded (by : Certificate) (claimed : Option ℤ) (instance solution certificate : Fields) (report : List ℕ)
+pub record IsTourWithBound (by : Certificate) (claimed : Option ℤ) (instance solution certificate : Fields) (report : List ℕ)
     : Type 0 where
   pub problem : Problem
   pub tour : List ℕ
@@ -63,7 +63,7 @@ pub record IsOptimalOrBounded (by : Certificate) (claimed : Option ℤ) (instanc
       → length_of problem.cost tour ≤ℤ length_of problem.cost other
 
 -- A bound without a tour: the certificate's bound is printed, and no tour of the instance is shorter.
-pub record IsBounded (by : Certificate) (instance certificate : Fields) (bound : ℤ) (report : List ℕ) : Type 0 where
+pub record IsAcceptedBound (by : Certificate) (instance certificate : Fields) (bound : ℤ) (report : List ℕ) : Type 0 where
   pub problem : Problem
   pub of_instance : IsProblemOf instance problem
   pub certificate_type : certificate.kind ≡ Some (kind_of by)
@@ -72,7 +72,7 @@ pub record IsBounded (by : Certificate) (instance certificate : Fields) (bound :
   pub below_tours : BoundsTours problem bound
 
 -- With the line `bound none`: the instance has no tour.
-pub record HasNoTours (by : Certificate) (instance certificate : Fields) (report : List ℕ) : Type 0 where
+pub record IsShownTourless (by : Certificate) (instance certificate : Fields) (report : List ℕ) : Type 0 where
   pub problem : Problem
   pub of_instance : IsProblemOf instance problem
   pub certificate_type : certificate.kind ≡ Some (kind_of by)
@@ -83,9 +83,9 @@ pub record HasNoTours (by : Certificate) (instance certificate : Fields) (report
 abbrev pub IsAccepted : Option (Certificate × Fields) → Option ℤ → Fields → Fields → List ℕ → Type 0
 IsAccepted None claimed instance solution report =
     IsAcceptedTour claimed instance solution report ⊎ AreAcceptedRoutes claimed instance solution report
-IsAccepted (Some given) claimed instance solution report = IsOptimalOrBounded given.0 claimed instance solution given.1 report
+IsAccepted (Some given) claimed instance solution report = IsTourWithBound given.0 claimed instance solution given.1 report
 
-abbrev pub IsBoundAccepted : Certificate → Fields → Fields → BoundVerdict → List ℕ → Type 0
-IsBoundAccepted by instance certificate (Bound bound) report = IsBounded by instance certificate bound report
-IsBoundAccepted by instance certificate NoTour report = HasNoTours by instance certificate report
-IsBoundAccepted by instance certificate (No reason) report = ⊥
+abbrev pub IsAcceptedWithoutTour : Certificate → Fields → Fields → BoundVerdict → List ℕ → Type 0
+IsAcceptedWithoutTour by instance certificate (Bound bound) report = IsAcceptedBound by instance certificate bound report
+IsAcceptedWithoutTour by instance certificate NoTour report = IsShownTourless by instance certificate report
+IsAcceptedWithoutTour by instance certificate (No reason) report = ⊥

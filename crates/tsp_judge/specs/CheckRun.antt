@@ -10,7 +10,7 @@ use Rattle.tsp_read.specs.Reads.{IsFile, StopsAt}
 use Rattle.tsp_reason.specs.declared.certificate.Certificate.{Certificate}
 use Rattle.tsp_reason.specs.declared.verdict.Verdict.{Verdict}
 use Rattle.tsp_reason.specs.Verdicts.{is_yes}
-use Rattle.tsp_verdict.specs.Judged.{is_judged, NoneBeforeRepeatsOn, IsVerdictWith}
+use Rattle.tsp_verdict.specs.SolutionVerdict.{is_judged, NoneBeforeRepeatsOn, IsVerdictWith}
 use Rattle.tsp_judge.specs.declared.judging.Judged.{Judged}
 use Rattle.tsp_judge.specs.declared.fault.RunFault.{RunFault}
 use Rattle.tsp_judge.specs.declared.fault.RunFault.TheVariants.{File, WrongKind, Write, OutOfMemory}

@@ -15,7 +15,7 @@ use Rattle.tsp_reason.specs.declared.certificate.Certificate.{Certificate}
 use Rattle.tsp_reason.specs.declared.verdict.Verdict.{Verdict}
 use Rattle.tsp_reason.specs.Verdicts.{is_yes, is_clear}
 use Rattle.tsp_verdict.specs.Basis.{IsBasis, NoneOfBasisWithoutMemory, HasBasis}
-use Rattle.tsp_verdict.specs.Judged.{is_judged, NoneBeforeRepeatsOn, IsVerdictWith}
+use Rattle.tsp_verdict.specs.SolutionVerdict.{is_judged, NoneBeforeRepeatsOn, IsVerdictWith}
 use Rattle.tsp_judge.specs.declared.common.Common.{Common}
 use Rattle.tsp_judge.specs.declared.common.Found.{Found}
 use Rattle.tsp_judge.specs.declared.common.Found.TheVariants as founds
@@ -98,10 +98,10 @@ AreFound IsTurn common place (found ∷ rest) = ((turn : Turn) × IsTurn place t
     × AreFound IsTurn common (suc place) rest
 
 -- the lines of what was found, each with its solution's path
-abbrev pub solution_lines : List (Result Verdict ReadFault) → List (List ℕ) → List ℕ
-solution_lines [] paths = []
-solution_lines (found ∷ rest) [] = []
-solution_lines (found ∷ rest) (path ∷ paths) = solution_line found path ++ solution_lines rest paths
+abbrev pub all_solution_lines : List (Result Verdict ReadFault) → List (List ℕ) → List ℕ
+all_solution_lines [] paths = []
+all_solution_lines (found ∷ rest) [] = []
+all_solution_lines (found ∷ rest) (path ∷ paths) = solution_line found path ++ all_solution_lines rest paths
 
 -- the largest status
 abbrev pub largest_status : List (Result Verdict ReadFault) → ℕ
@@ -113,14 +113,14 @@ largest_status (found ∷ rest) = max (status_of_found found) (largest_status re
 -- writer fails, a prefix of such a text was written.
 abbrev pub ComparesAll : (ℕ → Turn → Type 0) → List (List ℕ) → Common → List ℕ → Sink → Result ℕ RunFault → Type 0
 ComparesAll IsTurn paths common before sink (Ok status) = (found : List (Result Verdict ReadFault))
-    × AreFound IsTurn common 0 found × (length found ≡ length paths) × HasWritten sink (before ++ solution_lines found paths)
+    × AreFound IsTurn common 0 found × (length found ≡ length paths) × HasWritten sink (before ++ all_solution_lines found paths)
     × (status ≡ largest_status found)
 ComparesAll IsTurn paths common before sink (Err OutOfMemory) = (found : List (Result Verdict ReadFault))
     × AreFound IsTurn common 0 found × (length found < length paths)
     × ((turn : Turn) × IsTurn (length found) turn × IsRefusedIn common turn)
-    × HasWritten sink (before ++ solution_lines found paths)
+    × HasWritten sink (before ++ all_solution_lines found paths)
 ComparesAll IsTurn paths common before sink (Err (Write write_faults.Device)) = (found : List (Result Verdict ReadFault))
-    × AreFound IsTurn common 0 found × (length found ≤ length paths) × HasStopped sink (before ++ solution_lines found paths)
+    × AreFound IsTurn common 0 found × (length found ≤ length paths) × HasStopped sink (before ++ all_solution_lines found paths)
 ComparesAll IsTurn paths common before sink (Err other) = ⊥
 
 -- Where a reason applies whatever the solution, the head is the whole text.

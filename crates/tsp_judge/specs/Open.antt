@@ -10,7 +10,7 @@ use Rattle.tsp_reason.specs.declared.verdict.BoundVerdict.{BoundVerdict}
 use Rattle.tsp_reason.specs.declared.verdict.Verdict.{Verdict}
 use Rattle.tsp_verdict.specs.Bounded.{IsBoundVerdict, NoneAgainstInstance}
 use Rattle.tsp_verdict.specs.Certified.{is_bounded, NoneWithoutMemory}
-use Rattle.tsp_verdict.specs.Judged.{is_judged, NoneBeforeRepeatsOn, IsVerdictWith}
+use Rattle.tsp_verdict.specs.SolutionVerdict.{is_judged, NoneBeforeRepeatsOn, IsVerdictWith}
 use Rattle.tsp_judge.specs.declared.fault.RunFault.{RunFault}
 use Rattle.tsp_judge.specs.declared.fault.RunFault.TheVariants.{File, WrongKind, OutOfMemory}
 

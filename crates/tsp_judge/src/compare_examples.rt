@@ -14,7 +14,7 @@ ghost use Rattle.tsp_read.specs.Reads.{StopsAt};
 ghost use Rattle.tsp_stream.specs.Sink.{Sink, HasWritten};
 ghost use Rattle.tsp_stream.specs.Turn.{Turn};
 ghost use Rattle.tsp_judge.specs.CheckRun.{Given, IsUnreadIn, IsSomeFile};
-ghost use Rattle.tsp_judge.specs.CompareRun.{ComparesNone, IsFaultOfCompare, largest_status, solution_lines};
+ghost use Rattle.tsp_judge.specs.CompareRun.{ComparesNone, IsFaultOfCompare, largest_status, all_solution_lines};
 
 /// The largest status of the solutions, whichever comes first.
 pub fn examples_of_largest_statuses()
@@ -46,10 +46,10 @@ pub fn examples_of_bases()
 /// Lines in the order of the solutions, each with its own path, and whole lines of the first ones
 /// alone.
 pub fn examples_of_lines_of_solutions()
-    ensures none { solution_lines [] (codes "a" ∷ []) ≡ [] }
-    ensures first { solution_lines (Ok (verdicts.No reasons.TourCount) ∷ []) (codes "a" ∷ codes "b" ∷ [])
+    ensures none { all_solution_lines [] (codes "a" ∷ []) ≡ [] }
+    ensures first { all_solution_lines (Ok (verdicts.No reasons.TourCount) ∷ []) (codes "a" ∷ codes "b" ∷ [])
         ≡ codes "no TourCount a\n" }
-    ensures both { solution_lines (Ok (verdicts.No reasons.TourCount) ∷ Err read_faults.Device ∷ [])
+    ensures both { all_solution_lines (Ok (verdicts.No reasons.TourCount) ∷ Err read_faults.Device ∷ [])
         (codes "a" ∷ codes "b" ∷ []) ≡ codes "no TourCount a\ndevice b\n" }
 {}
 

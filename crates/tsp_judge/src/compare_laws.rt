@@ -14,7 +14,7 @@ ghost use Rattle.tsp_reason.specs.declared.verdict.Verdict.{Verdict};
 ghost use Rattle.tsp_reason.specs.declared.verdict.Verdict.TheVariants as verdicts;
 ghost use Rattle.tsp_reason.specs.Verdicts.{is_yes};
 ghost use Rattle.tsp_verdict.specs.Basis.{IsBasis};
-ghost use Rattle.tsp_verdict.specs.Judged.{IsVerdictWith};
+ghost use Rattle.tsp_verdict.specs.SolutionVerdict.{IsVerdictWith};
 ghost use Rattle.tsp_judge.specs.declared.common.Common.{Common};
 ghost use Rattle.tsp_judge.specs.CompareRun.{IsFoundIn};
 ghost use Rattle.tsp_judge.specs.Optimal.{IsBoundedTour};

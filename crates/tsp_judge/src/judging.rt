@@ -2,7 +2,7 @@
 
 ghost use Rattle.std.specs.Prelude.{◌≡◌, option_map};
 ghost use Rattle.tsp_stream.specs.states.Watched.{sink_of};
-ghost use Rattle.tsp_verdict.specs.Judged.{is_judged};
+ghost use Rattle.tsp_verdict.specs.SolutionVerdict.{is_judged};
 ghost use Rattle.tsp_judge.specs.CheckRun.{told, JudgesFiles};
 
 use crate::fault::RunFault;

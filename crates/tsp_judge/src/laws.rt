@@ -7,7 +7,7 @@ ghost use Rattle.tsp_reason.specs.declared.certificate.Certificate.{Certificate}
 ghost use Rattle.tsp_reason.specs.declared.verdict.Verdict.{Verdict};
 ghost use Rattle.tsp_reason.specs.Verdicts.{is_yes};
 ghost use Rattle.tsp_report.specs.Report.{report_of, IsSized};
-ghost use Rattle.tsp_verdict.specs.Judged.{is_judged, IsVerdictWith};
+ghost use Rattle.tsp_verdict.specs.SolutionVerdict.{is_judged, IsVerdictWith};
 ghost use Rattle.tsp_judge.specs.Accepted.{IsAccepted};
 
 /// A verdict that accepts a solution means what the line `yes` of its report does. Each verdict has

@@ -19,7 +19,7 @@ ghost use Rattle.tsp_judge.specs.CheckRun.{JudgesFiles};
 ghost use Rattle.tsp_judge.specs.BoundRun.{BoundsFiles};
 ghost use Rattle.tsp_judge.specs.ShowRun.{IsShowRun};
 ghost use Rattle.tsp_judge.specs.ConvertRun.{IsConvertRun};
-ghost use Rattle.tsp_verdict.specs.Examples.{nodes};
+ghost use Rattle.tsp_verdict.specs.Examples.{instance_with};
 
 /// A fault of the one file of `show` and of `convert` is of file 1, and no kind is wrong there.
 pub fn examples_of_runs_over_one_file()
@@ -40,18 +40,18 @@ pub fn examples_of_runs_over_one_file()
 /// that can be judged isn't.
 pub fn examples_of_wrong_kinds()
     ensures tours { (claimed : Option ℤ) (solution : Fields) (sink : Sink) → IsUnwritten sink
-        → JudgesFiles None claimed (nodes kinds.Tour 4 []) solution sink (Err run_faults.WrongKind) }
+        → JudgesFiles None claimed (instance_with kinds.Tour 4 []) solution sink (Err run_faults.WrongKind) }
     ensures tours_are_no_no { (claimed : Option ℤ) (solution : Fields) (sink : Sink) (reason : Reason)
-        → ¬ JudgesFiles None claimed (nodes kinds.Tour 4 []) solution sink (Ok (verdicts.No reason)) }
+        → ¬ JudgesFiles None claimed (instance_with kinds.Tour 4 []) solution sink (Ok (verdicts.No reason)) }
     ensures routes { (by : Certificate) (claimed : Option ℤ) (solution certificate : Fields) (sink : Sink) → IsUnwritten sink
-        → JudgesFiles (Some (by, certificate)) claimed (nodes kinds.Cvrp 4 []) solution sink (Err run_faults.WrongKind) }
+        → JudgesFiles (Some (by, certificate)) claimed (instance_with kinds.Cvrp 4 []) solution sink (Err run_faults.WrongKind) }
     ensures routes_are_no_no { (by : Certificate) (claimed : Option ℤ) (solution certificate : Fields) (sink : Sink)
         (reason : Reason)
-        → ¬ JudgesFiles (Some (by, certificate)) claimed (nodes kinds.Cvrp 4 []) solution sink (Ok (verdicts.No reason)) }
+        → ¬ JudgesFiles (Some (by, certificate)) claimed (instance_with kinds.Cvrp 4 []) solution sink (Ok (verdicts.No reason)) }
     ensures instance { (claimed : Option ℤ) (solution : Fields) (sink : Sink)
-        → ¬ JudgesFiles None claimed (nodes kinds.Cvrp 4 []) solution sink (Err run_faults.WrongKind) }
+        → ¬ JudgesFiles None claimed (instance_with kinds.Cvrp 4 []) solution sink (Err run_faults.WrongKind) }
     ensures bound_of_routes { (by : Certificate) (certificate : Fields) (sink : Sink) → IsUnwritten sink
-        → BoundsFiles by (nodes kinds.Cvrp 4 []) certificate sink (Err run_faults.WrongKind) }
+        → BoundsFiles by (instance_with kinds.Cvrp 4 []) certificate sink (Err run_faults.WrongKind) }
     ensures bound_is_no_no { (by : Certificate) (certificate : Fields) (sink : Sink) (reason : Reason)
-        → ¬ BoundsFiles by (nodes kinds.Cvrp 4 []) certificate sink (Ok (bounds.No reason)) }
+        → ¬ BoundsFiles by (instance_with kinds.Cvrp 4 []) certificate sink (Ok (bounds.No reason)) }
 {}

@@ -13,7 +13,7 @@ use Rattle.std.specs.Char.{is_ascii_digit}
 use Rattle.std.specs.List.{prefix_len}
 use Rattle.std.specs.Str.Parse.{AllDigits, digits_value}
 use Rattle.tsp_distance.specs.Decimal.{unit, most_count}
-use Rattle.tsp_number.specs.NumberWord.{IsShort, ReadsDecimal, ReadsWhole, point, IsSign, IsFraction, Numeral, StandsFor, IsShifted, with_sign, mantissa, digits_of, places}
+use Rattle.tsp_number.specs.NumberWord.{IsShort, ReadsDecimal, ReadsWhole, point, IsSign, IsFraction, Numeral, StandsFor, IsShifted, with_sign, mantissa, digits_of, shift_of}
 use Rattle.tsp_number.specs.declared.fault.NumberFault.TheVariants.{OutOfRange}
 use Rattle.tsp_number.specs.states.NumberFront.{BeginsWithNumber, digit_count, few_end}
 use Rattle.tsp_number.proofs.Prefixes.{prefix_of_front, prefix_goes_on}
@@ -182,7 +182,7 @@ plain_stands : (word sign whole fraction_text fraction : List ℕ) (negative : B
     → StandsFor word (with_sign negative size)
 plain_stands word sign whole fraction_text fraction negative size text is_sign whole_digits is_fraction fraction_digits some few is =
     let n : Numeral = record { negative = negative; whole = whole; fraction = fraction; exponent = pos 0 } in
-    let place : places 9 n ≡ pos (9 - length fraction) = omega (arith, ints) in
+    let place : shift_of 9 n ≡ pos (9 - length fraction) = omega (arith, ints) in
     let P : ℤ → Type 0 = λ z. IsShifted (mantissa n) z (with_sign negative size) in
     record {
       numeral = n;

@@ -4,7 +4,7 @@ use Rattle.std.proofs.Math.Nat.{mul-le-mul, eq_of_mul-eq-mul_right}
 use Rattle.std.proofs.lemmas.Int.{ints}
 use Rattle.tsp_number.specs.declared.scan.Written.{Written}
 use Rattle.tsp_distance.specs.Decimal.{unit, most_count}
-use Rattle.tsp_number.specs.NumberWord.{Numeral, IsNumberWord, StandsFor, IsShifted, with_sign, mantissa, digits_of, places}
+use Rattle.tsp_number.specs.NumberWord.{Numeral, IsNumberWord, StandsFor, IsShifted, with_sign, mantissa, digits_of, shift_of}
 use Rattle.tsp_number.specs.Scan.{numeral_in}
 use Rattle.tsp_number.specs.states.Written.{saturated, KeepsNumeral, HoldsWord, IsShiftedSize, ShiftsTo}
 use Rattle.tsp_number.proofs.Grammar.{spells_in, found}
@@ -59,23 +59,23 @@ bad_number word none spelled =
     let some = found word spelled.0 spelled.1 in
     cc
 
-pub stands_by : (word : List ℕ) (n : Numeral) (k : ℕ) → numeral_in word ≡ Some n → IsShiftedSize (digits_of n) (places 9 n) k
+pub stands_by : (word : List ℕ) (n : Numeral) (k : ℕ) → numeral_in word ≡ Some n → IsShiftedSize (digits_of n) (shift_of 9 n) k
     → StandsFor word (with_sign n.negative k)
 stands_by word n k is_in shifted = record {
   numeral = n;
   spelled = spells_in word n is_in;
-  shifted = to_signed n.negative (digits_of n) k (places 9 n) shifted;
+  shifted = to_signed n.negative (digits_of n) k (shift_of 9 n) shifted;
 }
 
 pub size_by : (word : List ℕ) (n : Numeral) (j : ℤ) → numeral_in word ≡ Some n → StandsFor word j
-    → (k : ℕ) × IsShiftedSize (digits_of n) (places 9 n) k × (j ≡ with_sign n.negative k)
+    → (k : ℕ) × IsShiftedSize (digits_of n) (shift_of 9 n) k × (j ≡ with_sign n.negative k)
 size_by word n j is_in stands =
     let same : stands.numeral ≡ n = same_some (numeral_in word) stands.numeral n (found word stands.numeral stands.spelled) is_in in
-    let P : Numeral → Type 0 = λ m. IsShifted (mantissa m) (places 9 m) j in
-    from_signed n.negative (digits_of n) (places 9 n) j (subst P same stands.shifted)
+    let P : Numeral → Type 0 = λ m. IsShifted (mantissa m) (shift_of 9 m) j in
+    from_signed n.negative (digits_of n) (shift_of 9 n) j (subst P same stands.shifted)
 
 pub too_fine : (word : List ℕ) (w : Written) → HoldsWord word w
-    → ((n : Numeral) → KeepsNumeral w n → ShiftsTo (digits_of n) (places 9 n) None)
+    → ((n : Numeral) → KeepsNumeral w n → ShiftsTo (digits_of n) (shift_of 9 n) None)
     → IsNumberWord word × ((j : ℤ) → ¬ StandsFor word j)
 too_fine word w holds none = (
   (holds.numeral, spells_in word holds.numeral holds.is_in),
@@ -83,7 +83,7 @@ too_fine word w holds none = (
 )
 
 pub stands : (word : List ℕ) (w : Written) (size : ℕ) → HoldsWord word w
-    → ((n : Numeral) → KeepsNumeral w n → ShiftsTo (digits_of n) (places 9 n) (Some size))
+    → ((n : Numeral) → KeepsNumeral w n → ShiftsTo (digits_of n) (shift_of 9 n) (Some size))
     → (k : ℕ) × StandsFor word (with_sign w.negative k) × (size ≡ saturated k)
 stands word w size holds some =
     let k = some holds.numeral holds.keeps in
@@ -92,7 +92,7 @@ stands word w size holds some =
 
 -- ---- whole numbers
 
-pub unit_places : (n : Numeral) → places 9 n ≡ places 0 n +ℤ pos 9
+pub unit_places : (n : Numeral) → shift_of 9 n ≡ shift_of 0 n +ℤ pos 9
 unit_places n = omega (arith, ints)
 
 unit_parts : (up down : ℕ) → down + up ≡ 9 → unit ≡ 10 ^ down * 10 ^ up
@@ -134,12 +134,12 @@ unit_down m k (negsuc down) (negsuc down') same shifted =
     rw power (omega (arith, shifted))
 
 pub whole_stands : (word : List ℕ) (w : Written) (size : ℕ) → HoldsWord word w
-    → ((n : Numeral) → KeepsNumeral w n → ShiftsTo (digits_of n) (places 0 n) (Some size))
+    → ((n : Numeral) → KeepsNumeral w n → ShiftsTo (digits_of n) (shift_of 0 n) (Some size))
     → (k : ℕ) × StandsFor word (with_sign w.negative k *ℤ pos unit) × (size ≡ saturated k)
 whole_stands word w size holds some =
     let n = holds.numeral in
     let k = some n holds.keeps in
-    let counted = unit_up (digits_of n) k.0 (places 0 n) (places 9 n) (unit_places n) k.1 in
+    let counted = unit_up (digits_of n) k.0 (shift_of 0 n) (shift_of 9 n) (unit_places n) k.1 in
     let P : ℤ → Type 0 = λ j. StandsFor word j in
     let here = stands_by word n (k.0 * unit) holds.is_in counted in
     let sign : with_sign n.negative (k.0 * unit) ≡ with_sign w.negative k.0 *ℤ pos unit =
@@ -147,8 +147,8 @@ whole_stands word w size holds some =
     (k.0, subst P sign here, k.2)
 
 pub not_whole : (word : List ℕ) (w : Written) (size : ℕ) → HoldsWord word w
-    → ((n : Numeral) → KeepsNumeral w n → ShiftsTo (digits_of n) (places 9 n) (Some size))
-    → ((n : Numeral) → KeepsNumeral w n → ShiftsTo (digits_of n) (places 0 n) None)
+    → ((n : Numeral) → KeepsNumeral w n → ShiftsTo (digits_of n) (shift_of 9 n) (Some size))
+    → ((n : Numeral) → KeepsNumeral w n → ShiftsTo (digits_of n) (shift_of 0 n) None)
     → (j : ℤ) × StandsFor word j × ((i : ℤ) → j ≢ i *ℤ pos unit)
 not_whole word w size holds some none =
     let n = holds.numeral in
@@ -157,8 +157,8 @@ not_whole word w size holds some none =
       stands_by word n k.0 holds.is_in k.1,
       λ i same.
           let part = divided n.negative k.0 unit i (omega arith) (sym same) in
-          let counted : IsShiftedSize (digits_of n) (places 9 n) (part.0 * unit) = rw part.1 k.1 in
-          none n holds.keeps part.0 (unit_down (digits_of n) part.0 (places 0 n) (places 9 n) (unit_places n) counted),
+          let counted : IsShiftedSize (digits_of n) (shift_of 9 n) (part.0 * unit) = rw part.1 k.1 in
+          none n holds.keeps part.0 (unit_down (digits_of n) part.0 (shift_of 0 n) (shift_of 9 n) (unit_places n) counted),
     )
 
 -- ---- sizes against the limits

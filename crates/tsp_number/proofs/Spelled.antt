@@ -12,7 +12,7 @@ use Rattle.std.specs.Fmt.{decimal}
 use Rattle.std.specs.Str.Parse.{AllDigits, digits_value}
 use Rattle.tsp_number.specs.declared.fault.NumberFault.{NumberFault}
 use Rattle.tsp_distance.specs.Decimal.{unit, most_count}
-use Rattle.tsp_number.specs.NumberWord.{minus, point, IsSign, IsFraction, Numeral, StandsFor, IsShifted, with_sign, mantissa, digits_of, places, ReadsDecimal}
+use Rattle.tsp_number.specs.NumberWord.{minus, point, IsSign, IsFraction, Numeral, StandsFor, IsShifted, with_sign, mantissa, digits_of, shift_of, ReadsDecimal}
 use Rattle.tsp_number.specs.Spelling.{decimals, fraction_spelling, size_spelling, spelling}
 use Rattle.tsp_number.proofs.Reading.{to_signed}
 use Rattle.tsp_number.proofs.Scaling.{digits_value_after-is, digits_value-append, pow_above_zero}
@@ -122,7 +122,7 @@ stands_spelled negative size most =
     let whole = decimal_is_IsNumeral (size / unit) (omega arith) in
     let n : Numeral = record { negative = negative; whole = decimal (size / unit); fraction = f.fraction; exponent = pos 0 } in
     let length_is = f.length_is in
-    let place : places 9 n ≡ pos f.left = omega (arith, ints) in
+    let place : shift_of 9 n ≡ pos f.left = omega (arith, ints) in
     let value : digits_of n ≡ size / unit * 10 ^ length f.fraction + digits_value 10 f.fraction =
     digits_value-append (decimal (size / unit)) f.fraction ∙ ap (λ m. m * 10 ^ length f.fraction + digits_value 10 f.fraction) whole.1 in
     let power : unit ≡ 10 ^ length f.fraction * 10 ^ f.left = sym (ap (λ k. 10 ^ k) length_is) ∙ pow-add 10 (length f.fraction) f.left in

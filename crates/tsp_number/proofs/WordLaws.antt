@@ -9,7 +9,7 @@ use Rattle.std.specs.Option.{option_map}
 use Rattle.tsp_number.specs.declared.fault.NumberFault.{NumberFault}
 use Rattle.tsp_number.specs.declared.fault.NumberFault.TheVariants.{LongWord, BadNumber, TooFine, OutOfRange, NotWhole}
 use Rattle.tsp_distance.specs.Decimal.{unit, most_count}
-use Rattle.tsp_number.specs.NumberWord.{Numeral, IsNumberWord, StandsFor, IsShort, with_sign, digits_of, places, ReadsDecimal, ReadsWhole}
+use Rattle.tsp_number.specs.NumberWord.{Numeral, IsNumberWord, StandsFor, IsShort, with_sign, digits_of, shift_of, ReadsDecimal, ReadsWhole}
 use Rattle.tsp_number.specs.Reading.{shifted_size, number_in, decimal_within, decimal_from, decimal_of, whole_within, whole_from, whole_of}
 use Rattle.tsp_number.specs.Scan.{numeral_in}
 use Rattle.tsp_number.specs.states.Written.{IsShiftedSize}
@@ -30,7 +30,7 @@ stands_once word j k first second =
     let is_in = found word first.numeral first.spelled in
     let j' = size_by word first.numeral j is_in first in
     let k' = size_by word first.numeral k is_in second in
-    j'.2 ∙ ap (with_sign first.numeral.negative) (same_size (digits_of first.numeral) j'.0 k'.0 (places 9 first.numeral) j'.1 k'.1) ∙ sym k'.2
+    j'.2 ∙ ap (with_sign first.numeral.negative) (same_size (digits_of first.numeral) j'.0 k'.0 (shift_of 9 first.numeral) j'.1 k'.1) ∙ sym k'.2
 
 times_unit : (j k : ℤ) → j *ℤ pos unit ≡ k *ℤ pos unit → j ≡ k
 times_unit j k same = omega (arith, ints)
@@ -164,7 +164,7 @@ abbrev pub Counted : List ℕ → Option ℤ → Type 0
 Counted word None = (j : ℤ) → ¬ StandsFor word j
 Counted word (Some k) = StandsFor word k
 
-counted : (word : List ℕ) (n : Numeral) (o : Option ℕ) → numeral_in word ≡ Some n → Shifts (digits_of n) (places 9 n) o
+counted : (word : List ℕ) (n : Numeral) (o : Option ℕ) → numeral_in word ≡ Some n → Shifts (digits_of n) (shift_of 9 n) o
     → Counted word (option_map (with_sign n.negative) o)
 counted word n None is_in none = λ j stands.
     let k = size_by word n j is_in stands in
@@ -176,17 +176,17 @@ abbrev pub WholeCounted : List ℕ → Option ℤ → Type 0
 WholeCounted word None = (j : ℤ) → StandsFor word j → (i : ℤ) → j ≢ i *ℤ pos unit
 WholeCounted word (Some n) = StandsFor word (n *ℤ pos unit)
 
-whole_counted : (word : List ℕ) (n : Numeral) (o : Option ℕ) → numeral_in word ≡ Some n → Shifts (digits_of n) (places 0 n) o
+whole_counted : (word : List ℕ) (n : Numeral) (o : Option ℕ) → numeral_in word ≡ Some n → Shifts (digits_of n) (shift_of 0 n) o
     → WholeCounted word (option_map (with_sign n.negative) o)
 whole_counted word n None is_in none = λ j stands i same.
     let k = size_by word n j is_in stands in
     let part = divided n.negative k.0 unit i (omega arith) (sym same ∙ k.2) in
-    let counted' : IsShiftedSize (digits_of n) (places 9 n) (part.0 * unit) = rw part.1 k.1 in
-    none part.0 (unit_down (digits_of n) part.0 (places 0 n) (places 9 n) (unit_places n) counted')
+    let counted' : IsShiftedSize (digits_of n) (shift_of 9 n) (part.0 * unit) = rw part.1 k.1 in
+    none part.0 (unit_down (digits_of n) part.0 (shift_of 0 n) (shift_of 9 n) (unit_places n) counted')
 whole_counted word n (Some k) is_in some =
     let P : ℤ → Type 0 = λ j. StandsFor word j in
     subst P (sym (signed-mul n.negative k unit))
-    (stands_by word n (k * unit) is_in (unit_up (digits_of n) k (places 0 n) (places 9 n) (unit_places n) some))
+    (stands_by word n (k * unit) is_in (unit_up (digits_of n) k (shift_of 0 n) (shift_of 9 n) (unit_places n) some))
 
 decimal_by : (word : List ℕ) (k : ℤ) (within : Bool) → IsShort word → StandsFor word k
     → nat_le (unsigned_abs k) most_count ≡ within
@@ -204,7 +204,7 @@ decimal_from-reads : (word : List ℕ) (o : Option Numeral) → IsShort word →
 decimal_from-reads word None short is_in = (short, bad_number word is_in)
 decimal_from-reads word (Some n) short is_in =
     decimal_within-reads word (number_in 9 n) short (n, spells_in word n is_in)
-    (counted word n (shifted_size (digits_of n) (places 9 n)) is_in (shifts (digits_of n) (places 9 n)))
+    (counted word n (shifted_size (digits_of n) (shift_of 9 n)) is_in (shifts (digits_of n) (shift_of 9 n)))
 
 decimal_short : (word : List ℕ) (short : Bool) → nat_le (length word) 64 ≡ short
     → ReadsDecimal word (if short then decimal_from (numeral_in word) else Err LongWord)
@@ -254,8 +254,8 @@ whole_from-reads : (word : List ℕ) (low high : ℤ) (o : Option Numeral) → I
 whole_from-reads word low high None short is_in = (short, bad_number word is_in)
 whole_from-reads word low high (Some n) short is_in =
     whole_within-reads word low high (number_in 9 n) (number_in 0 n) short (n, spells_in word n is_in)
-    (counted word n (shifted_size (digits_of n) (places 9 n)) is_in (shifts (digits_of n) (places 9 n)))
-    (whole_counted word n (shifted_size (digits_of n) (places 0 n)) is_in (shifts (digits_of n) (places 0 n)))
+    (counted word n (shifted_size (digits_of n) (shift_of 9 n)) is_in (shifts (digits_of n) (shift_of 9 n)))
+    (whole_counted word n (shifted_size (digits_of n) (shift_of 0 n)) is_in (shifts (digits_of n) (shift_of 0 n)))
 
 whole_short : (word : List ℕ) (low high : ℤ) (short : Bool) → nat_le (length word) 64 ≡ short
     → ReadsWhole word low high (if short then whole_from low high (numeral_in word) else Err LongWord)

@@ -5,8 +5,8 @@ use Rattle.tsp_number.specs.Reading.{decimal_of, whole_of}
 use Rattle.tsp_number.specs.Spelling.{spelling}
 
 -- where a decimal is wanted, the word has this count of 10^-9, or this fault
-abbrev pub Counts : List ℕ → ℤ → Type 0
-Counts word count = decimal_of word ≡ Ok count
+abbrev pub IsDecimalCount : List ℕ → ℤ → Type 0
+IsDecimalCount word count = decimal_of word ≡ Ok count
 
 abbrev pub IsNoDecimal : List ℕ → NumberFault → Type 0
 IsNoDecimal word found = decimal_of word ≡ Err found

@@ -82,8 +82,8 @@ abbrev pub mantissa : Numeral → ℤ
 mantissa n = with_sign n.negative (digits_of n)
 
 -- by how many places the mantissa is to be shifted to the left, to count in the unit 10^-scale
-abbrev pub places : ℕ → Numeral → ℤ
-places scale n = pos scale +ℤ n.exponent -ℤ pos (length n.fraction)
+abbrev pub shift_of : ℕ → Numeral → ℤ
+shift_of scale n = pos scale +ℤ n.exponent -ℤ pos (length n.fraction)
 
 -- k is m shifted by this many places: m * 10^places, or to the right the number whose own shift to the left is m
 abbrev pub IsShifted : ℤ → ℤ → ℤ → Type 0
@@ -94,7 +94,7 @@ IsShifted m (negsuc down) k = k *ℤ pos (10 ^ (down + 1)) ≡ m
 pub record StandsFor (word : List ℕ) (k : ℤ) : Type 0 where
   pub numeral : Numeral
   pub spelled : SpellsNumeral word numeral
-  pub shifted : IsShifted (mantissa numeral) (places 9 numeral) k
+  pub shifted : IsShifted (mantissa numeral) (shift_of 9 numeral) k
 
 -- no more bytes than a number word may have
 abbrev pub IsShort : List ℕ → Type 0

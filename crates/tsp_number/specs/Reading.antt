@@ -4,7 +4,7 @@ use Rattle.std.specs.Option.{option_map}
 use Rattle.tsp_number.specs.declared.fault.NumberFault.{NumberFault}
 use Rattle.tsp_number.specs.declared.fault.NumberFault.TheVariants.{LongWord, BadNumber, TooFine, OutOfRange, NotWhole}
 use Rattle.tsp_distance.specs.Decimal.{most_count}
-use Rattle.tsp_number.specs.NumberWord.{Numeral, with_sign, digits_of, places}
+use Rattle.tsp_number.specs.NumberWord.{Numeral, with_sign, digits_of, shift_of}
 use Rattle.tsp_number.specs.Scan.{numeral_in}
 
 -- m shifted by this many places, where that is a whole number
@@ -14,7 +14,7 @@ shifted_size m (negsuc down) = if m % 10 ^ (down + 1) == 0 then Some (m / 10 ^ (
 
 -- the number in the unit 10^-scale, where it is whole there
 abbrev pub number_in : ℕ → Numeral → Option ℤ
-number_in scale n = option_map (with_sign n.negative) (shifted_size (digits_of n) (places scale n))
+number_in scale n = option_map (with_sign n.negative) (shifted_size (digits_of n) (shift_of scale n))
 
 abbrev pub decimal_within : Option ℤ → Result ℤ NumberFault
 decimal_within None = Err TooFine

@@ -5,26 +5,26 @@ ghost use Rattle.std.specs.Prelude.{◌≡◌, Some, None, codes, ◌++◌, pos,
 ghost use Rattle.tsp_number.specs.declared.fault.NumberFault.TheVariants.{LongWord, BadNumber, TooFine, OutOfRange, NotWhole};
 ghost use Rattle.tsp_number.specs.NumberFaultText.{number_fault_text};
 ghost use Rattle.tsp_number.specs.states.NumberFront.{whole_end, decimal_end, few_end};
-ghost use Rattle.tsp_number.specs.Examples.{Counts, IsNoDecimal, WholeIs, WholeIsRefused, IsSpelled};
+ghost use Rattle.tsp_number.specs.Examples.{IsDecimalCount, IsNoDecimal, WholeIs, WholeIsRefused, IsSpelled};
 
 /// What some words are read as where a decimal is wanted, in counts of 10^-9.
 #[tactic(auto, unfolding(crate::specs::Reading::decimal_of))]
 pub fn examples_of_decimals()
-    ensures one { Counts (codes "1") (pos 1000000000) }
-    ensures plus { Counts (codes "+7") (pos 7000000000) }
-    ensures minus { Counts (codes "-07.50") (negsuc 7499999999) }
-    ensures minus_zero { Counts (codes "-0.0") (pos 0) }
-    ensures no_digit_before_the_point { Counts (codes ".5") (pos 500000000) }
-    ensures no_digit_after_the_point { Counts (codes "5.") (pos 5000000000) }
-    ensures small_e { Counts (codes "1.50e+01") (pos 15000000000) }
-    ensures large_e { Counts (codes "1E3") (pos 1000000000000) }
-    ensures below { Counts (codes "25E-1") (pos 2500000000) }
-    ensures zero_far_up { Counts (codes "0e999") (pos 0) }
-    ensures finest { Counts (codes "1e-9") (pos 1) }
-    ensures finest_of_ten { Counts (codes "10e-10") (pos 1) }
+    ensures one { IsDecimalCount (codes "1") (pos 1000000000) }
+    ensures plus { IsDecimalCount (codes "+7") (pos 7000000000) }
+    ensures minus { IsDecimalCount (codes "-07.50") (negsuc 7499999999) }
+    ensures minus_zero { IsDecimalCount (codes "-0.0") (pos 0) }
+    ensures no_digit_before_the_point { IsDecimalCount (codes ".5") (pos 500000000) }
+    ensures no_digit_after_the_point { IsDecimalCount (codes "5.") (pos 5000000000) }
+    ensures small_e { IsDecimalCount (codes "1.50e+01") (pos 15000000000) }
+    ensures large_e { IsDecimalCount (codes "1E3") (pos 1000000000000) }
+    ensures below { IsDecimalCount (codes "25E-1") (pos 2500000000) }
+    ensures zero_far_up { IsDecimalCount (codes "0e999") (pos 0) }
+    ensures finest { IsDecimalCount (codes "1e-9") (pos 1) }
+    ensures finest_of_ten { IsDecimalCount (codes "10e-10") (pos 1) }
     ensures too_fine { IsNoDecimal (codes "1e-10") TooFine }
-    ensures largest { Counts (codes "1000000000") (pos 1000000000000000000) }
-    ensures least { Counts (codes "-1e9") (negsuc 999999999999999999) }
+    ensures largest { IsDecimalCount (codes "1000000000") (pos 1000000000000000000) }
+    ensures least { IsDecimalCount (codes "-1e9") (negsuc 999999999999999999) }
     ensures past_the_largest { IsNoDecimal (codes "1000000000.000000001") OutOfRange }
     ensures past_the_least { IsNoDecimal (codes "-1000000000.000000001") OutOfRange }
     ensures other_mark { IsNoDecimal (codes "1D3") BadNumber }
@@ -34,7 +34,7 @@ pub fn examples_of_decimals()
     ensures empty { IsNoDecimal (codes "") BadNumber }
     ensures no_exponent { IsNoDecimal (codes "1e") BadNumber }
     ensures point_in_the_exponent { IsNoDecimal (codes "1e1.") BadNumber }
-    ensures longest { Counts (replicate 62 48 ++ codes "12") (pos 12000000000) }
+    ensures longest { IsDecimalCount (replicate 62 48 ++ codes "12") (pos 12000000000) }
     ensures too_long { IsNoDecimal (replicate 63 48 ++ codes "12") LongWord }
 {}
 

@@ -8,7 +8,7 @@ ghost use Rattle.tsp_number.specs.NumberWord.{IsSign, with_sign as signed_of};
 ghost use Rattle.tsp_number.specs.states.NumberFront.{BeginsWithNumber, sign_count, digit_count, whole_end, few_end, decimal_end};
 
 use crate::eight::{EIGHT, front_of_eight};
-use crate::scale::power_of_ten;
+use crate::shift::power_of_ten;
 use tsp_distance::{Decimal, UNIT};
 
 /// The most digits that are read before or after the point of a decimal: nine places are all.

@@ -15,8 +15,8 @@ mod examples;
 mod fault;
 mod front;
 mod laws;
-mod scale;
 mod scan;
+mod shift;
 mod spelling;
 mod word;
 

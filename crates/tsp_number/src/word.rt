@@ -6,8 +6,8 @@ ghost use Rattle.tsp_number.specs.NumberWord.{ReadsDecimal, ReadsWhole, with_sig
 
 use crate::fault::NumberFault;
 use crate::front::{front_decimal, front_whole};
-use crate::scale::shifted;
 use crate::scan::split_word;
+use crate::shift::shifted;
 use tsp_distance::Decimal;
 
 /// The most bytes that a number word has.

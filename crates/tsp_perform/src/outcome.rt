@@ -2,7 +2,7 @@
 
 ghost use Rattle.std.specs.Prelude.{◌≡◌};
 ghost use Rattle.tsp_judge.specs.Watched.{sink_of};
-ghost use Rattle.tsp_perform.specs.Done.{IsDone, is_accepted, counts, judges, bounds};
+ghost use Rattle.tsp_perform.specs.Outcomes.{IsDone, is_yes_outcome, outcome_of_writing, outcome_of_check, outcome_of_bound};
 
 use std::alloc::Global;
 use std::io::{Read, Write};
@@ -24,7 +24,7 @@ pub enum Outcome {
 
 /// Whether the outcome is no refusal.
 pub fn is_accepted(outcome: &Outcome) -> bool
-    ensures { result ≡ is_accepted outcome.now }
+    ensures { result ≡ is_yes_outcome outcome.now }
 {
     match outcome {
         Outcome::Done => true,
@@ -65,7 +65,7 @@ pub fn perform<R: Read, W: Write>(
 
 /// A file was shown or converted.
 fn done(ended: Result<(), RunFault>) -> Result<Outcome, RunFault>
-    ensures { result ≡ counts ended }
+    ensures { result ≡ outcome_of_writing ended }
 {
     ended?;
     Ok(Outcome::Done)
@@ -73,14 +73,14 @@ fn done(ended: Result<(), RunFault>) -> Result<Outcome, RunFault>
 
 /// A solution was judged.
 fn judged(ended: Result<Judged, RunFault>) -> Result<Outcome, RunFault>
-    ensures { result ≡ judges ended }
+    ensures { result ≡ outcome_of_check ended }
 {
     Ok(Outcome::Judged(ended?))
 }
 
 /// Tours were bounded.
 fn bounded(ended: Result<Bounded, RunFault>) -> Result<Outcome, RunFault>
-    ensures { result ≡ bounds ended }
+    ensures { result ≡ outcome_of_bound ended }
 {
     Ok(Outcome::Bounded(ended?))
 }

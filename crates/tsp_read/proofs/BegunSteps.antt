@@ -10,12 +10,12 @@ use Rattle.tsp_read.specs.declared.intake.Intake.{Intake}
 use Rattle.tsp_read.specs.declared.token.Token.{Token}
 use Rattle.tsp_read.specs.declared.token.Token.TheVariants.{Line, Word}
 use Rattle.tsp_read.specs.declared.begun.Begun.{Begun}
-use Rattle.tsp_text.specs.Lines.{ends_line, is_filled, without_start}
+use Rattle.tsp_text.specs.Lines.{ends_line, is_not_empty, without_start}
 use Rattle.tsp_text.specs.Items.{Item, LineEnd}
 use Rattle.tsp_read.specs.states.Left.{items_left, ends_word, up_to_first, from, is_settled}
-use Rattle.tsp_read.specs.states.Token.{token_at, ends, most_bytes, token_item}
+use Rattle.tsp_read.specs.states.Token.{token_at, ends_token, most_bytes, token_item}
 use Rattle.tsp_read.specs.states.Onward.{GivesNext}
-use Rattle.tsp_read.specs.states.Intake.{Stands, TakesNext, IsReadTo, HasEnded, IsStoppedBy}
+use Rattle.tsp_read.specs.states.Intake.{HasTakenItems, TakesNext, IsReadTo, HasEnded, IsStoppedBy}
 use Rattle.tsp_read.specs.states.Begun.{HasBegunToken, HasBegun, kept, IsFedTo, IsJoinedTo}
 use Rattle.tsp_read.proofs.IntakeSteps.{read_further, read_to_end, read_to_fault}
 use Rattle.tsp_text.proofs.NoBlanks.{start_filled}
@@ -54,7 +54,7 @@ first_fails p x xs none = by_case (p x) refl
 pub empty_rest : (xs : List ℕ) → (length xs == 0) ≡ true → xs ≡ []
 empty_rest xs e = nil_from_length xs (eqb-true (length xs) 0 e)
 
-pub filled_rest : (xs : List ℕ) → (length xs == 0) ≡ false → is_filled xs ≡ true
+pub filled_rest : (xs : List ℕ) → (length xs == 0) ≡ false → is_not_empty xs ≡ true
 filled_rest [] e = absurd (true≢false e)
 filled_rest (x ∷ xs) e = refl
 
@@ -68,26 +68,26 @@ and_second : (a b : Bool) → (a && b) ≡ true → b ≡ true
 and_second true b e = e
 and_second false b e = absurd cc
 
-not_ten : (token : Token) (b : ℕ) → ends token b ≡ false → b ≡ 10 → ⊥
+not_ten : (token : Token) (b : ℕ) → ends_token token b ≡ false → b ≡ 10 → ⊥
 not_ten Line b e ten = true≢false (sym (ap ends_line ten) ∙ e)
 not_ten Word b e ten = true≢false (sym (ap ends_word ten) ∙ e)
 
-not_blank : (inside : Bool) (token : Token) (b : ℕ) → token ≡ token_at inside b → ends token b ≡ false → is_blank b ≡ false
+not_blank : (inside : Bool) (token : Token) (b : ℕ) → token ≡ token_at inside b → ends_token token b ≡ false → is_blank b ≡ false
 not_blank inside Line b is e =
     letter_filled b (and_second (not inside) (is_letter b) (line_begins (not inside && is_letter b) is))
 not_blank inside Word b is e = (or_false (is_blank b) (ends_line b) e).0
 
-open_still : (token : Token) (xs : List ℕ) → from (ends token) xs ≡ [] → length xs ≤ most_bytes token
-    → is_settled (most_bytes token) true (up_to_first (ends token) xs) (from (ends token) xs) ≡ false
+open_still : (token : Token) (xs : List ℕ) → from (ends_token token) xs ≡ [] → length xs ≤ most_bytes token
+    → is_settled (most_bytes token) true (up_to_first (ends_token token) xs) (from (ends_token token) xs) ≡ false
 open_still token xs none short =
-    ap (λ (ys : List ℕ). is_settled (most_bytes token) true (up_to_first (ends token) xs) ys) none
-    ∙ ap (λ (ys : List ℕ). nat_lt (most_bytes token) (length ys)) (whole (ends token) xs none) ∙ le-ltb (most_bytes token) (length xs) short
+    ap (λ (ys : List ℕ). is_settled (most_bytes token) true (up_to_first (ends_token token) xs) ys) none
+    ∙ ap (λ (ys : List ℕ). nat_lt (most_bytes token) (length ys)) (whole (ends_token token) xs none) ∙ le-ltb (most_bytes token) (length xs) short
 
 -- ---- what has begun is the next item, once its end has come, or it is too long
 
 -- the first byte of what has begun ends nothing
-first_open : (inside : Bool) (token : Token) (bytes : List ℕ) (h : HasBegunToken inside token bytes) → ends token h.first ≡ false
-first_open inside token bytes h = first_fails (ends token) h.first h.others (ap (from (ends token)) (sym h.parts) ∙ h.no_end)
+first_open : (inside : Bool) (token : Token) (bytes : List ℕ) (h : HasBegunToken inside token bytes) → ends_token token h.first ≡ false
+first_open inside token bytes h = first_fails (ends_token token) h.first h.others (ap (from (ends_token token)) (sym h.parts) ∙ h.no_end)
 
 -- and no blank goes before it
 starts_at : (inside : Bool) (token : Token) (bytes more : List ℕ) (h : HasBegunToken inside token bytes)
@@ -100,19 +100,19 @@ starts_at inside token bytes more h =
 -- before any piece
 abbrev pub Joins : Token → Bool → List ℕ → Type 0
 Joins token inside begun = (goes_on : Bool) (piece : List ℕ)
-    → is_settled (most_bytes token) goes_on (begun ++ up_to_first (ends token) piece) (from (ends token) piece) ≡ true
+    → is_settled (most_bytes token) goes_on (begun ++ up_to_first (ends_token token) piece) (from (ends_token token) piece) ≡ true
     → items_left goes_on inside (begun ++ piece)
-    ≡ token_item token (begun ++ up_to_first (ends token) piece) ∷ items_left goes_on true (from (ends token) piece)
+    ≡ token_item token (begun ++ up_to_first (ends_token token) piece) ∷ items_left goes_on true (from (ends_token token) piece)
 
 pub token_joins : (inside : Bool) (token : Token) (begun : List ℕ) → HasBegunToken inside token begun → Joins token inside begun
 token_joins inside token begun h goes_on piece settled =
-    let cut = goes_into (ends token) begun piece h.no_end in
+    let cut = goes_into (ends_token token) begun piece h.no_end in
     token_next goes_on inside (begun ++ piece) (begun ++ piece) h.first (h.others ++ piece) token
-    (begun ++ up_to_first (ends token) piece) (from (ends token) piece) (starts_at inside token begun piece h)
+    (begun ++ up_to_first (ends_token token) piece) (from (ends_token token) piece) (starts_at inside token begun piece h)
     (ap (λ (xs : List ℕ). xs ++ piece) h.parts) (not_ten token h.first (first_open inside token begun h)) h.token_is
     (sym cut.0) (sym cut.1) settled
 
-pub settled_filled : (most : ℕ) (goes_on : Bool) (piece rest : List ℕ) → is_filled rest ≡ true
+pub settled_filled : (most : ℕ) (goes_on : Bool) (piece rest : List ℕ) → is_not_empty rest ≡ true
     → is_settled most goes_on piece rest ≡ true
 settled_filled most goes_on piece [] e = absurd cc
 settled_filled most goes_on piece (x ∷ rest) e = refl
@@ -120,7 +120,7 @@ settled_filled most goes_on piece (x ∷ rest) e = refl
 pub settled_long : (most : ℕ) (goes_on : Bool) (piece rest : List ℕ) → most < length piece
     → is_settled most goes_on piece rest ≡ true
 settled_long most goes_on piece rest long =
-    by_two (is_filled rest) (not goes_on) (nat_lt most (length piece)) (lt-ltb most (length piece) long)
+    by_two (is_not_empty rest) (not goes_on) (nat_lt most (length piece)) (lt-ltb most (length piece) long)
   where
     by_two : (a b c : Bool) → c ≡ true → (a || b || c) ≡ true
     by_two true b c e = refl
@@ -129,18 +129,18 @@ settled_long most goes_on piece rest long =
 
 -- whatever follows the end
 pub joined_gives : (token : Token) (inside : Bool) (begun piece : List ℕ) → Joins token inside begun
-    → is_filled (from (ends token) piece) ≡ true
-    → GivesNext inside (begun ++ piece) (token_item token (begun ++ up_to_first (ends token) piece)) true (from (ends token) piece)
+    → is_not_empty (from (ends_token token) piece) ≡ true
+    → GivesNext inside (begun ++ piece) (token_item token (begun ++ up_to_first (ends_token token) piece)) true (from (ends_token token) piece)
 joined_gives token inside begun piece joins ended goes_on more =
-    let cut = cuts_alike (ends token) piece more ended in
-    let tail : is_filled (from (ends token) (piece ++ more)) ≡ true = ap is_filled cut.1 ∙ filled_more (from (ends token) piece) ended in
+    let cut = cuts_alike (ends_token token) piece more ended in
+    let tail : is_not_empty (from (ends_token token) (piece ++ more)) ≡ true = ap is_not_empty cut.1 ∙ filled_more (from (ends_token token) piece) ended in
     ap (items_left goes_on inside) (append_assoc begun piece more)
-    ∙ joins goes_on (piece ++ more) (settled_filled (most_bytes token) goes_on (begun ++ up_to_first (ends token) (piece ++ more))
-    (from (ends token) (piece ++ more)) tail)
-    ∙ ap (λ (xs : List ℕ). token_item token (begun ++ xs) ∷ items_left goes_on true (from (ends token) (piece ++ more))) cut.0
-    ∙ ap (λ (xs : List ℕ). token_item token (begun ++ up_to_first (ends token) piece) ∷ items_left goes_on true xs) cut.1
+    ∙ joins goes_on (piece ++ more) (settled_filled (most_bytes token) goes_on (begun ++ up_to_first (ends_token token) (piece ++ more))
+    (from (ends_token token) (piece ++ more)) tail)
+    ∙ ap (λ (xs : List ℕ). token_item token (begun ++ xs) ∷ items_left goes_on true (from (ends_token token) (piece ++ more))) cut.0
+    ∙ ap (λ (xs : List ℕ). token_item token (begun ++ up_to_first (ends_token token) piece) ∷ items_left goes_on true xs) cut.1
   where
-    filled_more : (xs : List ℕ) → is_filled xs ≡ true → is_filled (xs ++ more) ≡ true
+    filled_more : (xs : List ℕ) → is_not_empty xs ≡ true → is_not_empty (xs ++ more) ≡ true
     filled_more [] e = absurd cc
     filled_more (x ∷ xs) e = refl
 
@@ -161,43 +161,43 @@ unsettled : (most : ℕ) (a b : Bool) → (a || false || b) ≡ false → (a ≡
 unsettled most true b e = absurd cc
 unsettled most false b e = (refl, e)
 
-not_filled : (xs : List ℕ) → is_filled xs ≡ false → xs ≡ []
+not_filled : (xs : List ℕ) → is_not_empty xs ≡ false → xs ≡ []
 not_filled [] e = refl
 not_filled (x ∷ xs) e = absurd cc
 
 pub record IsOpen (token : Token) (filled : List ℕ) : Type 0 where
-  pub no_end : from (ends token) filled ≡ []
+  pub no_end : from (ends_token token) filled ≡ []
   pub short : length filled ≤ most_bytes token
 
 open_by : (token : Token) (filled : List ℕ)
-    → is_settled (most_bytes token) true (up_to_first (ends token) filled) (from (ends token) filled) ≡ false
+    → is_settled (most_bytes token) true (up_to_first (ends_token token) filled) (from (ends_token token) filled) ≡ false
     → IsOpen token filled
 open_by token filled e =
-    let piece = up_to_first (ends token) filled in
-    let both = unsettled (most_bytes token) (is_filled (from (ends token) filled)) (nat_lt (most_bytes token) (length piece)) e in
-    let none = not_filled (from (ends token) filled) both.0 in
+    let piece = up_to_first (ends_token token) filled in
+    let both = unsettled (most_bytes token) (is_not_empty (from (ends_token token) filled)) (nat_lt (most_bytes token) (length piece)) e in
+    let none = not_filled (from (ends_token token) filled) both.0 in
     record {
       no_end = none;
-      short = subst (λ (xs : List ℕ). length xs ≤ most_bytes token) (whole (ends token) filled none)
+      short = subst (λ (xs : List ℕ). length xs ≤ most_bytes token) (whole (ends_token token) filled none)
           (ltb-false (most_bytes token) (length piece) both.1);
     }
 
 pub open_token : (inside : Bool) (text filled : List ℕ) (first : ℕ) (after : List ℕ) (token : Token) → filled ≡ without_start text
     → filled ≡ first ∷ after → token ≡ token_at inside first → items_left true inside text ≡ [] → IsOpen token filled
 open_token inside text filled first after token e parts is none =
-    open_by token filled (by_case (is_settled (most_bytes token) true (up_to_first (ends token) filled) (from (ends token) filled)) refl)
+    open_by token filled (by_case (is_settled (most_bytes token) true (up_to_first (ends_token token) filled) (from (ends_token token) filled)) refl)
   where
     no_ten : first ≡ 10 → ⊥
     no_ten ten =
         let next = end_next true inside text filled first after e parts ten in
         let f : LineEnd ∷ items_left true false after ≡ [] = sym next ∙ none in absurd cc
 
-    by_case : (b : Bool) → is_settled (most_bytes token) true (up_to_first (ends token) filled) (from (ends token) filled) ≡ b
-        → is_settled (most_bytes token) true (up_to_first (ends token) filled) (from (ends token) filled) ≡ false
+    by_case : (b : Bool) → is_settled (most_bytes token) true (up_to_first (ends_token token) filled) (from (ends_token token) filled) ≡ b
+        → is_settled (most_bytes token) true (up_to_first (ends_token token) filled) (from (ends_token token) filled) ≡ false
     by_case true s =
-        let next = token_next true inside text filled first after token (up_to_first (ends token) filled) (from (ends token) filled)
+        let next = token_next true inside text filled first after token (up_to_first (ends_token token) filled) (from (ends_token token) filled)
         e parts no_ten is refl refl s in
-        let f : token_item token (up_to_first (ends token) filled) ∷ items_left true true (from (ends token) filled) ≡ [] =
+        let f : token_item token (up_to_first (ends_token token) filled) ∷ items_left true true (from (ends_token token) filled) ≡ [] =
         sym next ∙ none in
         absurd cc
     by_case false s = s
@@ -224,40 +224,40 @@ token_here inside token (b ∷ bytes) some h = h
 
 -- it has a fault, or wants memory
 pub joined_fault : (token : Token) (old new : Intake) (begun piece bytes text : List ℕ) (found : ReadFault)
-    → text ≡ begun ++ up_to_first (ends token) piece
-    → is_settled (most_bytes token) true (begun ++ up_to_first (ends token) piece) (from (ends token) piece) ≡ true
+    → text ≡ begun ++ up_to_first (ends_token token) piece
+    → is_settled (most_bytes token) true (begun ++ up_to_first (ends_token token) piece) (from (ends_token token) piece) ≡ true
     → Joins token old.inside begun → IsReadTo old bytes (begun ++ piece)
-    → ((earlier : List Item) → Stands old earlier → TakesNext earlier (token_item token text) new (Err found))
+    → ((earlier : List Item) → HasTakenItems old earlier → TakesNext earlier (token_item token text) new (Err found))
     → IsStoppedBy bytes found
 joined_fault token old new begun piece bytes text found same settled joins read taken =
-    read_to_fault old new bytes (begun ++ piece) (token_item token (begun ++ up_to_first (ends token) piece))
-    (items_left true true (from (ends token) piece)) found read (joins true piece settled)
-    (subst (λ (t : List ℕ). (earlier : List Item) → Stands old earlier → TakesNext earlier (token_item token t) new (Err found))
+    read_to_fault old new bytes (begun ++ piece) (token_item token (begun ++ up_to_first (ends_token token) piece))
+    (items_left true true (from (ends_token token) piece)) found read (joins true piece settled)
+    (subst (λ (t : List ℕ). (earlier : List Item) → HasTakenItems old earlier → TakesNext earlier (token_item token t) new (Err found))
     same taken)
 
 -- it is an end line
 pub joined_end : (token : Token) (old new : Intake) (begun piece bytes text : List ℕ) (ended : Bool) → ended ≡ true
-    → text ≡ begun ++ up_to_first (ends token) piece → is_filled (from (ends token) piece) ≡ true
+    → text ≡ begun ++ up_to_first (ends_token token) piece → is_not_empty (from (ends_token token) piece) ≡ true
     → Joins token old.inside begun → IsReadTo old bytes (begun ++ piece)
-    → ((earlier : List Item) → Stands old earlier → TakesNext earlier (token_item token text) new (Ok ended))
+    → ((earlier : List Item) → HasTakenItems old earlier → TakesNext earlier (token_item token text) new (Ok ended))
     → HasEnded new.reading bytes
 joined_end token old new begun piece bytes text ended is_end same tail joins read taken =
-    read_to_end old new bytes (begun ++ piece) (token_item token (begun ++ up_to_first (ends token) piece))
-    (items_left true true (from (ends token) piece)) ended is_end read
-    (joins true piece (settled_filled (most_bytes token) true (begun ++ up_to_first (ends token) piece) (from (ends token) piece) tail))
-    (subst (λ (t : List ℕ). (earlier : List Item) → Stands old earlier → TakesNext earlier (token_item token t) new (Ok ended))
+    read_to_end old new bytes (begun ++ piece) (token_item token (begun ++ up_to_first (ends_token token) piece))
+    (items_left true true (from (ends_token token) piece)) ended is_end read
+    (joins true piece (settled_filled (most_bytes token) true (begun ++ up_to_first (ends_token token) piece) (from (ends_token token) piece) tail))
+    (subst (λ (t : List ℕ). (earlier : List Item) → HasTakenItems old earlier → TakesNext earlier (token_item token t) new (Ok ended))
     same taken)
 
 -- it is taken, and what follows it is left
 pub joined_more : (token : Token) (old new : Intake) (begun piece bytes text : List ℕ) (ended : Bool) → ended ≡ false
-    → text ≡ begun ++ up_to_first (ends token) piece → is_filled (from (ends token) piece) ≡ true
+    → text ≡ begun ++ up_to_first (ends_token token) piece → is_not_empty (from (ends_token token) piece) ≡ true
     → Joins token old.inside begun → IsReadTo old bytes (begun ++ piece) → new.inside ≡ true
-    → ((earlier : List Item) → Stands old earlier → TakesNext earlier (token_item token text) new (Ok ended))
-    → IsReadTo new bytes (from (ends token) piece)
+    → ((earlier : List Item) → HasTakenItems old earlier → TakesNext earlier (token_item token text) new (Ok ended))
+    → IsReadTo new bytes (from (ends_token token) piece)
 joined_more token old new begun piece bytes text ended goes same tail joins read inside taken =
-    read_further old new bytes (begun ++ piece) (from (ends token) piece) (token_item token (begun ++ up_to_first (ends token) piece))
+    read_further old new bytes (begun ++ piece) (from (ends_token token) piece) (token_item token (begun ++ up_to_first (ends_token token) piece))
     true ended goes read
-    (subst (λ (t : List ℕ). (earlier : List Item) → Stands old earlier → TakesNext earlier (token_item token t) new (Ok ended))
+    (subst (λ (t : List ℕ). (earlier : List Item) → HasTakenItems old earlier → TakesNext earlier (token_item token t) new (Ok ended))
     same taken)
     inside (λ short. joined_gives token old.inside begun piece joins tail)
 
@@ -288,29 +288,29 @@ joined_none intake begun bytes piece h none =
     let empty = empty_rest begun.bytes.items none in
     fed_none intake begun bytes piece empty (subst (λ (xs : List ℕ). IsReadTo intake bytes (xs ++ piece)) empty h.read)
 
-no_rest : (rest : List ℕ) (P : Type 0) → rest ≡ [] → is_filled rest ≡ true → P
-no_rest rest P none some = absurd (false≢true (sym (ap is_filled none) ∙ some))
+no_rest : (rest : List ℕ) (P : Type 0) → rest ≡ [] → is_not_empty rest ≡ true → P
+no_rest rest P none some = absurd (false≢true (sym (ap is_not_empty none) ∙ some))
 
 -- the whole piece is kept too
-longer : (inside : Bool) (token : Token) (begun piece : List ℕ) → HasBegunToken inside token begun → from (ends token) piece ≡ []
+longer : (inside : Bool) (token : Token) (begun piece : List ℕ) → HasBegunToken inside token begun → from (ends_token token) piece ≡ []
     → HasBegunToken inside token (begun ++ piece)
 longer inside token begun piece h none = record {
   first = h.first;
   others = h.others ++ piece;
   parts = ap (λ (xs : List ℕ). xs ++ piece) h.parts;
   token_is = h.token_is;
-  no_end = (goes_into (ends token) begun piece h.no_end).1 ∙ none;
+  no_end = (goes_into (ends_token token) begun piece h.no_end).1 ∙ none;
 }
 
 pub fed_longer : (intake : Intake) (old new : Begun) (bytes piece rest : List ℕ) → IsFedTo intake old bytes piece
     → (length old.bytes.items == 0) ≡ false → new.token ≡ old.token
-    → new.bytes.items ≡ old.bytes.items ++ up_to_first (ends old.token) piece → rest ≡ from (ends old.token) piece → rest ≡ []
-    → length old.bytes.items + length (up_to_first (ends old.token) piece) ≤ most_bytes old.token
+    → new.bytes.items ≡ old.bytes.items ++ up_to_first (ends_token old.token) piece → rest ≡ from (ends_token old.token) piece → rest ≡ []
+    → length old.bytes.items + length (up_to_first (ends_token old.token) piece) ≤ most_bytes old.token
     → IsJoinedTo intake new bytes rest
 fed_longer intake old new bytes piece rest h some same_token added r none short =
     let begun : List ℕ = old.bytes.items in
     let here = token_here intake.inside old.token begun some h.begins in
-    let all = whole (ends old.token) piece (sym r ∙ none) in
+    let all = whole (ends_token old.token) piece (sym r ∙ none) in
     let same : new.bytes.items ≡ begun ++ piece = added ∙ ap (λ (xs : List ℕ). begun ++ xs) all in
     let more = longer intake.inside old.token begun piece here (sym r ∙ none) in
     let few_enough : length (begun ++ piece) ≤ most_bytes old.token =

@@ -16,7 +16,7 @@ use Rattle.tsp_read.specs.declared.begun.Begun.{Begun}
 use Rattle.tsp_read.specs.declared.stage.Stage.{Stage}
 use Rattle.tsp_read.specs.declared.stage.Stage.TheVariants.{Going, Ended, Refused}
 use Rattle.tsp_read.specs.declared.feed.Feed.{Feed}
-use Rattle.tsp_text.specs.Lines.{is_filled}
+use Rattle.tsp_text.specs.Lines.{is_not_empty}
 use Rattle.tsp_text.specs.Items.{Item, settled_items, has_end_line}
 use Rattle.tsp_text.specs.FaultRows.{when, first_row}
 use Rattle.tsp_text.specs.FirstFault.{fault_in, IsClean}
@@ -114,9 +114,9 @@ going_on feed bytes h = ap has_end_line (part_of_short bytes h.short) ∙ (pause
 record Fits (whole seen over : List ℕ) : Type 0 where
   parts : whole ≡ seen ++ over
   short : length seen ≤ most_file_bytes
-  full : is_filled over ≡ true → length seen ≡ most_file_bytes
+  full : is_not_empty over ≡ true → length seen ≡ most_file_bytes
 
-front_of : (seen over : List ℕ) → length seen ≤ most_file_bytes → (is_filled over ≡ true → length seen ≡ most_file_bytes)
+front_of : (seen over : List ℕ) → length seen ≤ most_file_bytes → (is_not_empty over ≡ true → length seen ≡ most_file_bytes)
     → take most_file_bytes (seen ++ over) ≡ seen
 front_of seen [] short full = ap (take most_file_bytes) (append-nil seen) ∙ take_all most_file_bytes seen short
 front_of seen (b ∷ over) short full =
@@ -130,7 +130,7 @@ seen_part whole seen over h = ap settled_so_far (ap (take most_file_bytes) h.par
 
 fits : (bytes piece front over : List ℕ) (count : ℕ) → count ≡ length bytes → length bytes ≤ most_file_bytes
     → piece ≡ front ++ over → length front ≤ most_file_bytes - count
-    → (is_filled over ≡ true → length front ≡ most_file_bytes - count) → Fits (bytes ++ piece) (bytes ++ front) over
+    → (is_not_empty over ≡ true → length front ≡ most_file_bytes - count) → Fits (bytes ++ piece) (bytes ++ front) over
 fits bytes piece front over count e room parts few full = record {
   parts = ap (λ (xs : List ℕ). bytes ++ xs) parts ∙ sym (append_assoc bytes front over);
   short = omega (arith, length-append bytes front, e, room, few);
@@ -140,7 +140,7 @@ fits bytes piece front over count e room parts few full = record {
 bare_front : (whole seen over : List ℕ) → whole ≡ seen ++ over → is_bare seen ≡ false → is_bare whole ≡ false
 bare_front whole seen over parts e = ap is_bare parts ∙ list_all-append ends_word seen over ∙ ap (λ b. b && is_bare over) e
 
-is_long : (whole seen over : List ℕ) → Fits whole seen over → is_filled over ≡ true → is_too_long whole ≡ true
+is_long : (whole seen over : List ℕ) → Fits whole seen over → is_not_empty over ≡ true → is_too_long whole ≡ true
 is_long whole seen [] h some = absurd (false≢true some)
 is_long whole seen (b ∷ over) h some =
     lt-ltb most_file_bytes (length whole) (subst (λ (xs : List ℕ). most_file_bytes < length xs) (sym h.parts) (omega (arith, length-append seen (b ∷ over), h.full refl)))
@@ -150,7 +150,7 @@ is_long whole seen (b ∷ over) h some =
 no_more : (over : List ℕ) → (length over == 0) ≡ true → over ≡ []
 no_more over e = nil_from_length over (eqb-true (length over) 0 e)
 
-some_more : (over : List ℕ) → (length over == 0) ≡ false → is_filled over ≡ true
+some_more : (over : List ℕ) → (length over == 0) ≡ false → is_not_empty over ≡ true
 some_more [] e = absurd (true≢false e)
 some_more (b ∷ over) e = refl
 
@@ -195,7 +195,7 @@ comes_by false (Err faults.TooLong) new whole seen over h e count f = absurd f
 pub comes_to : (all : Bool) (read : Result Bool ReadFault) (old new : Feed) (bytes piece front over : List ℕ) (stage : Stage)
     → stage ≡ stage_after all read → IsGoing old bytes
     → piece ≡ front ++ over → length front ≤ most_file_bytes - old.count
-    → (is_filled over ≡ true → length front ≡ most_file_bytes - old.count) → all ≡ (length over == 0)
+    → (is_not_empty over ≡ true → length front ≡ most_file_bytes - old.count) → all ≡ (length over == 0)
     → new.count ≡ old.count + length front → FeedsOn (bytes ++ front) new.intake new.begun read
     → ComesTo stage new (bytes ++ piece)
 comes_to all read old new bytes piece front over stage is h parts few full e count f =

@@ -13,7 +13,7 @@ use Rattle.tsp_number.proofs.WordLaws.{whole_once, whole_of-reads, decimal_once,
 use Rattle.tsp_format.specs.Bytes.{is_blank, is_letter}
 use Rattle.tsp_format.specs.Limits.{most_word_bytes}
 use Rattle.tsp_text.specs.SectionNumbers.{IsWhole}
-use Rattle.tsp_text.specs.Lines.{ends_line, is_filled, without_start}
+use Rattle.tsp_text.specs.Lines.{ends_line, is_not_empty, without_start}
 use Rattle.tsp_text.specs.Items.{Item, NumberWord, LineEnd}
 use Rattle.tsp_read.specs.states.Left.{items_left, ends_word, up_to_first, from}
 use Rattle.tsp_read.specs.states.Onward.{is_over_long, GivesNext}
@@ -206,7 +206,7 @@ front_gives text filled count k rest left h inside goes_on more =
     let short : is_over_long (NumberWord word) ≡ false = le-ltb most_word_bytes (length word) h.number.short in
     word_follows inside true text filled start.first (start.others ++ rest) (front_word text) rest h.filled_is parts not_ten (no_line inside (is_letter start.first) start.no_letter)
     (ap (up_to_first ends_word) (sym h.filled_is)) (sym (cut_at_end text filled count k rest left h).1)
-    (settled_filled most_word_bytes true (front_word text) rest (ap is_filled by.parts)) refl
+    (settled_filled most_word_bytes true (front_word text) rest (ap is_not_empty by.parts)) refl
     (ap (λ (xs : List ℕ). is_over_long (NumberWord xs)) (front_is text filled count k rest left h) ∙ short) goes_on more
     ∙ ap (λ (items : List Item). NumberWord (front_word text) ∷ items) (by.left_is goes_on more)
 

@@ -15,7 +15,7 @@ use Rattle.tsp_text.specs.Text.{part, fault, settled_fault, Spells}
 use Rattle.tsp_read.specs.Reads.{Reads, ReadsFrom, most_taken, StopsAt}
 use Rattle.tsp_read.specs.states.Onward.{is_bare}
 use Rattle.tsp_read.specs.Feed.{IsEnded, HasTaken, Feeds}
-use Rattle.tsp_read.specs.Timely.{is_going, IsFedFrom, ReadsInTime}
+use Rattle.tsp_read.specs.Timely.{may_go_on, IsFedFrom, ReadsInTime}
 use Rattle.tsp_text.proofs.SettledFaults.{part_kept, ended_kept}
 use Rattle.tsp_read.proofs.FeedSteps.{taken_at, not_refused}
 use Rattle.tsp_read.proofs.LastSteps.{settled_reads}
@@ -32,14 +32,14 @@ ended_alike feed given more h = record {
   same_part = part_kept given more h.holds.clean h.ended ∙ sym (ap part (sym (append-nil given)) ∙ part_kept given [] h.holds.clean h.ended);
 }
 
-over_alike : (feed : Feed) (given more : List ℕ) (stage : Stage) → feed.stage ≡ stage → is_going stage ≡ false
+over_alike : (feed : Feed) (given more : List ℕ) (stage : Stage) → feed.stage ≡ stage → may_go_on stage ≡ false
     → HasTaken feed given → settled_fault given ≡ None → AreAlike (given ++ more) given
 over_alike feed given more Going e over h none = absurd (true≢false over)
 over_alike feed given more Ended e over h none = ended_alike feed given more (taken_at feed given Ended e h)
 over_alike feed given more (Refused found) e over h none = absurd (not_refused feed given found e h none)
 
 alike_by : (feed : Feed) (given more : List ℕ) → HasTaken feed given → settled_fault given ≡ None
-    → (more ≡ []) ⊎ (is_going feed.stage ≡ false) → AreAlike (given ++ more) given
+    → (more ≡ []) ⊎ (may_go_on feed.stage ≡ false) → AreAlike (given ++ more) given
 alike_by feed given more h none (inl ended) =
     let same : given ++ more ≡ given = ap (λ (xs : List ℕ). given ++ xs) ended ∙ append-nil given in
     record { same_fault = ap fault same; same_part = ap part same }
@@ -47,7 +47,7 @@ alike_by feed given more h none (inr over) = over_alike feed given more feed.sta
 
 whole_alike : (P : List ℕ → Type 0) → ((rest given : List ℕ) → AreAlike rest given → P given → P rest)
     → (known left : Option (List ℕ)) (given : List ℕ) (feed : Feed) → Consumes known left given
-    → HasTaken feed given → settled_fault given ≡ None → IsAtEnd left ⊎ (is_going feed.stage ≡ false) → P given → IfSome known P
+    → HasTaken feed given → settled_fault given ≡ None → IsAtEnd left ⊎ (may_go_on feed.stage ≡ false) → P given → IfSome known P
 whole_alike P back None left given feed gave h none over p = tt
 whole_alike P back (Some rest) None given feed gave h none over p = absurd gave
 whole_alike P back (Some rest) (Some more) given feed gave h none over p =

@@ -23,7 +23,7 @@ use Rattle.tsp_read.specs.states.Holds.{Holds}
 use Rattle.tsp_read.specs.states.Left.{items_left, ends_word}
 use Rattle.tsp_read.specs.states.Walk.{Walked}
 use Rattle.tsp_read.specs.states.Onward.{is_bare, is_line_end, is_over_long, GivesNext, GoesOn}
-use Rattle.tsp_read.specs.states.Intake.{Stands, TakesNext, IsReadTo, settled_so_far, HasEnded, IsStoppedBy}
+use Rattle.tsp_read.specs.states.Intake.{HasTakenItems, TakesNext, IsReadTo, settled_so_far, HasEnded, IsStoppedBy}
 use Rattle.tsp_read.proofs.LeftSteps.{all_settled, left_blank, left_end, left_none}
 use Rattle.tsp_text.proofs.ItemRows.{word_rows, long_line}
 use Rattle.tsp_text.proofs.ValidRows.{clean_parts}
@@ -130,7 +130,7 @@ or_from a b x y = ap (λ c. c || b) x ∙ y
 -- an item that isn't an end line was taken
 pub read_further : (old new : Intake) (bytes rest after : List ℕ) (item : Item) (next ended : Bool) → ended ≡ false
     → IsReadTo old bytes rest
-    → ((earlier : List Item) → Stands old earlier → TakesNext earlier item new (Ok ended)) → new.inside ≡ next
+    → ((earlier : List Item) → HasTakenItems old earlier → TakesNext earlier item new (Ok ended)) → new.inside ≡ next
     → (is_over_long item ≡ false → GivesNext old.inside rest item next after) → IsReadTo new bytes after
 read_further old new bytes rest after item next ended goes h taken inside gives =
     let got = taken h.earlier h.stands in
@@ -146,7 +146,7 @@ read_further old new bytes rest after item next ended goes h taken inside gives 
 pub read_to_end : (old new : Intake) (bytes rest : List ℕ) (item : Item) (later : List Item) (ended : Bool) → ended ≡ true
     → IsReadTo old bytes rest
     → items_left true old.inside rest ≡ item ∷ later
-    → ((earlier : List Item) → Stands old earlier → TakesNext earlier item new (Ok ended)) → HasEnded new.reading bytes
+    → ((earlier : List Item) → HasTakenItems old earlier → TakesNext earlier item new (Ok ended)) → HasEnded new.reading bytes
 read_to_end old new bytes rest item later ended ends h next taken =
     let got = taken h.earlier h.stands in
     let walked = subst (λ (xs : List Item). Walked (settled_items bytes) h.earlier xs) next (walked_so_far old bytes rest h) in
@@ -160,7 +160,7 @@ read_to_end old new bytes rest item later ended ends h next taken =
 pub read_to_fault : (old new : Intake) (bytes rest : List ℕ) (item : Item) (later : List Item) (found : ReadFault)
     → IsReadTo old bytes rest
     → items_left true old.inside rest ≡ item ∷ later
-    → ((earlier : List Item) → Stands old earlier → TakesNext earlier item new (Err found)) → IsStoppedBy bytes found
+    → ((earlier : List Item) → HasTakenItems old earlier → TakesNext earlier item new (Err found)) → IsStoppedBy bytes found
 read_to_fault old new bytes rest item later (faults.Line line word fault) h next taken =
     let walked = subst (λ (xs : List Item). Walked (settled_items bytes) h.earlier xs) next (walked_so_far old bytes rest h) in
     walked_found (settled_items bytes) h.earlier later item (faults.Line line word fault) walked (taken h.earlier h.stands)

@@ -24,7 +24,7 @@ use Rattle.tsp_section.specs.declared.fault.StepFault.{StepFault}
 use Rattle.tsp_section.specs.declared.fault.StepFault.TheVariants as steps
 use Rattle.tsp_read.specs.declared.state.reading.OpenSection.{OpenSection}
 use Rattle.tsp_read.specs.declared.state.reading.Reading.{Reading}
-use Rattle.tsp_text.specs.Lines.{is_filled, first_word}
+use Rattle.tsp_text.specs.Lines.{is_not_empty, first_word}
 use Rattle.tsp_text.specs.Items.{WordLine, Item, Line}
 use Rattle.tsp_text.specs.Earlier.{same_field, has_line, open_section, words_of}
 use Rattle.tsp_text.specs.Values.{kind_named, weight_kind_named, weight_format_named, coord_kind_named, display_kind_named, is_left_out, says_space, spatial_after}
@@ -63,7 +63,7 @@ named_none stands out None late s t f l = cc
 named_none stands out (Some v) late s t f l = rw (s, t, l) refl
 
 numbered_none : (stands : Bool) (value : List ℕ) (reading : Result ℤ NumberFault) (z : ℤ) → stands ≡ false
-    → is_filled value ≡ true → reading ≡ Ok z → numbered_rows stands value reading ≡ None
+    → is_not_empty value ≡ true → reading ≡ Ok z → numbered_rows stands value reading ≡ None
 numbered_none stands value reading z s f r = rw (s, f, r) refl
 
 -- ---- lines that may come too late

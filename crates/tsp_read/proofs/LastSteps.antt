@@ -27,12 +27,12 @@ use Rattle.std.proofs.lemmas.List.Folds.{list_all-append}
 use Rattle.std.proofs.lemmas.Option.{none-some}
 use Rattle.tsp_text.specs.Items.{Item, Line, NumberWord, LineEnd, items_of, is_end_line, has_end_line, to_end_line}
 use Rattle.tsp_read.specs.states.Left.{items_left, ends_word, up_to_first, from, is_settled}
-use Rattle.tsp_read.specs.states.Token.{ends, most_bytes, token_item}
+use Rattle.tsp_read.specs.states.Token.{ends_token, most_bytes, token_item}
 use Rattle.tsp_read.specs.states.Holds.{OpenHolds, Holds, IsReadFrom}
 use Rattle.tsp_read.specs.states.Walk.{Walked}
 use Rattle.tsp_read.specs.states.Onward.{is_bare, is_line_end}
 use Rattle.tsp_read.specs.Reads.{Reads, Completes}
-use Rattle.tsp_read.specs.states.Intake.{Stands, TakesNext, IsReadTo}
+use Rattle.tsp_read.specs.states.Intake.{HasTakenItems, TakesNext, IsReadTo}
 use Rattle.tsp_read.specs.states.Begun.{kept}
 use Rattle.tsp_read.specs.states.Paused.{IsPaused, TakesAll}
 use Rattle.tsp_read.proofs.LeftSteps.{all_items, all_settled, left_none}
@@ -62,7 +62,7 @@ or_none false b e = e
 -- what is left is one item
 takes_last : (old new : Intake) (bytes rest : List ℕ) (item : Item) (result : Result Bool ReadFault) → IsReadTo old bytes rest
     → items_left false old.inside rest ≡ item ∷ []
-    → ((earlier : List Item) → Stands old earlier → TakesNext earlier item new result) → TakesAll bytes new.reading result
+    → ((earlier : List Item) → HasTakenItems old earlier → TakesNext earlier item new result) → TakesAll bytes new.reading result
 takes_last old new bytes rest item (Ok ended) h next taken =
     let got = taken h.earlier h.stands in
     let walked = subst (λ (xs : List Item). Walked (items_of bytes) h.earlier xs) next (walked_whole old bytes rest h) in
@@ -87,21 +87,21 @@ settled_at_end most piece (b ∷ rest) = refl
 pub last_token : (old new : Intake) (begun : Begun) (bytes text : List ℕ) (result : Result Bool ReadFault)
     → IsPaused old begun bytes
     → (length begun.bytes.items == 0) ≡ false → text ≡ begun.bytes.items
-    → ((earlier : List Item) → Stands old earlier → TakesNext earlier (token_item begun.token text) new result)
+    → ((earlier : List Item) → HasTakenItems old earlier → TakesNext earlier (token_item begun.token text) new result)
     → TakesAll bytes new.reading result
 last_token old new begun bytes text result h some same taken =
     let token = begun.token in
     let bare : List ℕ = begun.bytes.items in
     let joins = token_joins old.inside token bare (token_here old.inside token bare some h.fed.begins) in
-    let front : up_to_first (ends token) [] ≡ [] = none_before (ends token) in
-    let tail : from (ends token) [] ≡ [] = none_from (ends token) in
+    let front : up_to_first (ends_token token) [] ≡ [] = none_before (ends_token token) in
+    let tail : from (ends_token token) [] ≡ [] = none_from (ends_token token) in
     takes_last old new bytes (bare ++ []) (token_item token bare) result h.fed.read
-    (joins false [] (settled_at_end (most_bytes token) (bare ++ up_to_first (ends token) []) (from (ends token) []))
-    ∙ ap (λ (xs : List ℕ). token_item token (bare ++ xs) ∷ items_left false true (from (ends token) [])) front
-    ∙ ap (λ (xs : List ℕ). token_item token xs ∷ items_left false true (from (ends token) [])) (append-nil bare)
+    (joins false [] (settled_at_end (most_bytes token) (bare ++ up_to_first (ends_token token) []) (from (ends_token token) []))
+    ∙ ap (λ (xs : List ℕ). token_item token (bare ++ xs) ∷ items_left false true (from (ends_token token) [])) front
+    ∙ ap (λ (xs : List ℕ). token_item token xs ∷ items_left false true (from (ends_token token) [])) (append-nil bare)
     ∙ ap (λ (xs : List ℕ). token_item token bare ∷ items_left false true xs) tail
     ∙ ap (λ (xs : List Item). token_item token bare ∷ xs) (left_none false true))
-    (subst (λ (t : List ℕ). (earlier : List Item) → Stands old earlier → TakesNext earlier (token_item token t) new result) same taken)
+    (subst (λ (t : List ℕ). (earlier : List Item) → HasTakenItems old earlier → TakesNext earlier (token_item token t) new result) same taken)
   where
     none_before : (p : ℕ → Bool) → up_to_first p [] ≡ []
     none_before p = refl

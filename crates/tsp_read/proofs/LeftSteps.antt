@@ -6,10 +6,10 @@ use Rattle.std.proofs.lemmas.Bool.{eqb-true, ne_eqb}
 use Rattle.std.proofs.lemmas.Bool.Decides.{nat_tests}
 use Rattle.tsp_format.specs.Bytes.{is_blank, is_letter}
 use Rattle.tsp_format.specs.Limits.{most_word_bytes, most_line_bytes}
-use Rattle.tsp_text.specs.Lines.{lines_of, words_in, ends_line, is_filled, without_start, begins}
+use Rattle.tsp_text.specs.Lines.{lines_of, words_in, ends_line, is_not_empty, without_start, begins}
 use Rattle.tsp_text.specs.Items.{Item, NumberWord, LineEnd, line_item, items_in, items_by, items_of, settled_pieces, settled_words, settled_line, settled_in, settled_items}
 use Rattle.tsp_text.proofs.NoBlanks.{start_blank, start_filled}
-use Rattle.tsp_read.specs.states.Left.{line_items, last_items, items_left_by, items_left, ends_word, up_to_first, from, is_settled}
+use Rattle.tsp_read.specs.states.Left.{items_of_rest, last_items, items_left_by, items_left, ends_word, up_to_first, from, is_settled}
 
 -- ---- pieces
 
@@ -132,22 +132,22 @@ start_is_filled (b ∷ bytes) = start_at b bytes (is_blank b) refl (start_is_fil
 -- ---- the words of what is left of a line
 
 words_blank : (b : ℕ) (line : List ℕ) → is_blank b ≡ true → words_in (b ∷ line) ≡ words_in line
-words_blank b line e = ap (filter is_filled) (split_yes is_blank b line e)
+words_blank b line e = ap (filter is_not_empty) (split_yes is_blank b line e)
 
 settled_more : (pieces : List (List ℕ))
-    → filter is_filled (settled_pieces ([] ∷ pieces)) ≡ filter is_filled (settled_pieces pieces)
+    → filter is_not_empty (settled_pieces ([] ∷ pieces)) ≡ filter is_not_empty (settled_pieces pieces)
 settled_more [] = refl
 settled_more (piece ∷ pieces) = refl
 
 settled_blank : (b : ℕ) (line : List ℕ) → is_blank b ≡ true → settled_words (b ∷ line) ≡ settled_words line
 settled_blank b line e =
-    ap (λ pieces. filter is_filled (settled_pieces pieces)) (split_yes is_blank b line e) ∙ settled_more (slice_split is_blank line)
+    ap (λ pieces. filter is_not_empty (settled_pieces pieces)) (split_yes is_blank b line e) ∙ settled_more (slice_split is_blank line)
 
 -- a line's items by its start and its words
 abbrev by_start : (List ℕ → List Item) → List ℕ → List (List ℕ) → List Item
 by_start whole text words = cond (begins is_letter text) (whole text) (map (λ word. NumberWord word) words)
 
-line_blank : (inside : Bool) (b : ℕ) (line : List ℕ) → is_blank b ≡ true → line_items inside (b ∷ line) ≡ line_items inside line
+line_blank : (inside : Bool) (b : ℕ) (line : List ℕ) → is_blank b ≡ true → items_of_rest inside (b ∷ line) ≡ items_of_rest inside line
 line_blank true b line e = ap (map (λ word. NumberWord word)) (words_blank b line e)
 line_blank false b line e =
     ap (λ text. by_start (λ text. line_item text ∷ []) text (words_in (b ∷ line))) (start_blank b line e)
@@ -200,7 +200,7 @@ left_none true false = refl
 left_none false true = refl
 left_none false false = refl
 
-line_none : (inside : Bool) → line_items inside [] ≡ []
+line_none : (inside : Bool) → items_of_rest inside [] ≡ []
 line_none true = refl
 line_none false = refl
 
@@ -212,11 +212,11 @@ from_start goes_on (line ∷ next ∷ lines) = refl
 
 -- the line that is left ends here
 pub left_cut : (goes_on inside : Bool) (w r : List ℕ) → FreeOf ends_line w
-    → items_left goes_on inside (w ++ 10 ∷ r) ≡ line_items inside w ++ LineEnd ∷ items_left goes_on false r
+    → items_left goes_on inside (w ++ 10 ∷ r) ≡ items_of_rest inside w ++ LineEnd ∷ items_left goes_on false r
 left_cut goes_on inside w r no_end =
     let f = front ends_line r in
     ap (items_left_by goes_on inside) (split_cut ends_line w 10 r no_end refl ∙ ap (λ lines. w ∷ lines) f.pieces)
-    ∙ ap (λ xs. line_items inside w ++ LineEnd ∷ xs) (from_start goes_on (f.head ∷ f.others) ∙ ap (items_left_by goes_on false) (sym f.pieces))
+    ∙ ap (λ xs. items_of_rest inside w ++ LineEnd ∷ xs) (from_start goes_on (f.head ∷ f.others) ∙ ap (items_left_by goes_on false) (sym f.pieces))
 
 pub left_end : (goes_on inside : Bool) (r : List ℕ) → items_left goes_on inside (10 ∷ r) ≡ LineEnd ∷ items_left goes_on false r
 left_end goes_on inside r =
@@ -261,22 +261,22 @@ line_missing goes_on b w (c ∷ r) e free settled = absurd cc
 -- ---- a word
 
 words_one : (b : ℕ) (w : List ℕ) → FreeOf is_blank (b ∷ w) → words_in (b ∷ w) ≡ (b ∷ w) ∷ []
-words_one b w free = ap (filter is_filled) (split_whole is_blank (b ∷ w) free)
+words_one b w free = ap (filter is_not_empty) (split_whole is_blank (b ∷ w) free)
 
 settled_one : (b : ℕ) (w : List ℕ) → FreeOf is_blank (b ∷ w)
-    → settled_words (b ∷ w) ≡ filter is_filled (cond (nat_lt most_word_bytes (length (b ∷ w))) ((b ∷ w) ∷ []) [])
-settled_one b w free = ap (λ pieces. filter is_filled (settled_pieces pieces)) (split_whole is_blank (b ∷ w) free)
+    → settled_words (b ∷ w) ≡ filter is_not_empty (cond (nat_lt most_word_bytes (length (b ∷ w))) ((b ∷ w) ∷ []) [])
+settled_one b w free = ap (λ pieces. filter is_not_empty (settled_pieces pieces)) (split_whole is_blank (b ∷ w) free)
 
 words_first : (b : ℕ) (w : List ℕ) (c : ℕ) (line : List ℕ) → FreeOf is_blank (b ∷ w) → is_blank c ≡ true
     → words_in ((b ∷ w) ++ c ∷ line) ≡ (b ∷ w) ∷ words_in line
-words_first b w c line free e = ap (filter is_filled) (split_cut is_blank (b ∷ w) c line free e)
+words_first b w c line free e = ap (filter is_not_empty) (split_cut is_blank (b ∷ w) c line free e)
 
 settled_first : (b : ℕ) (w : List ℕ) (c : ℕ) (line : List ℕ) → FreeOf is_blank (b ∷ w) → is_blank c ≡ true
     → settled_words ((b ∷ w) ++ c ∷ line) ≡ (b ∷ w) ∷ settled_words line
 settled_first b w c line free e =
     let f = front is_blank line in
-    ap (λ pieces. filter is_filled (settled_pieces pieces)) (split_cut is_blank (b ∷ w) c line free e ∙ ap (λ pieces. (b ∷ w) ∷ pieces) f.pieces)
-    ∙ ap (λ pieces. (b ∷ w) ∷ filter is_filled (settled_pieces pieces)) (sym f.pieces)
+    ap (λ pieces. filter is_not_empty (settled_pieces pieces)) (split_cut is_blank (b ∷ w) c line free e ∙ ap (λ pieces. (b ∷ w) ∷ pieces) f.pieces)
+    ∙ ap (λ pieces. (b ∷ w) ∷ filter is_not_empty (settled_pieces pieces)) (sym f.pieces)
 
 by_word : (goes_on : Bool) (b : ℕ) (w : List ℕ) (c : ℕ) (head : List ℕ) (others : List (List ℕ)) → FreeOf is_blank (b ∷ w)
     → is_blank c ≡ true
@@ -320,7 +320,7 @@ word_found false b w [] free no_end stop settled =
     left_whole false true (b ∷ w) no_end ∙ ap (map (λ word. NumberWord word)) (words_one b w free)
 word_found true b w [] free no_end stop settled =
     left_whole true true (b ∷ w) no_end
-    ∙ ap (map (λ word. NumberWord word)) (settled_one b w free ∙ ap (λ c. filter is_filled (cond c ((b ∷ w) ∷ []) [])) settled)
+    ∙ ap (map (λ word. NumberWord word)) (settled_one b w free ∙ ap (λ c. filter is_not_empty (cond c ((b ∷ w) ∷ []) [])) settled)
 word_found goes_on b w (c ∷ r) free no_end stop settled = word_by goes_on b w c r (is_blank c) refl free no_end stop
 
 word_missing : (goes_on : Bool) (b : ℕ) (w r : List ℕ) → FreeOf is_blank (b ∷ w) → FreeOf ends_line (b ∷ w)
@@ -328,7 +328,7 @@ word_missing : (goes_on : Bool) (b : ℕ) (w r : List ℕ) → FreeOf is_blank (
 word_missing false b w [] free no_end settled = absurd cc
 word_missing true b w [] free no_end settled =
     left_whole true true (b ∷ w) no_end
-    ∙ ap (map (λ word. NumberWord word)) (settled_one b w free ∙ ap (λ c. filter is_filled (cond c ((b ∷ w) ∷ []) [])) settled)
+    ∙ ap (map (λ word. NumberWord word)) (settled_one b w free ∙ ap (λ c. filter is_not_empty (cond c ((b ∷ w) ∷ []) [])) settled)
 word_missing goes_on b w (c ∷ r) free no_end settled = absurd cc
 
 -- ---- words of a line that begins with no letter

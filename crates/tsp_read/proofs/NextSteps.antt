@@ -10,7 +10,7 @@ use Rattle.tsp_text.specs.Items.{NumberWord, LineEnd, line_item}
 use Rattle.tsp_read.specs.declared.token.Token.{Token}
 use Rattle.tsp_read.specs.declared.token.Token.TheVariants.{Line, Word}
 use Rattle.tsp_read.specs.states.Left.{items_left, ends_word, up_to_first, from, is_settled}
-use Rattle.tsp_read.specs.states.Token.{token_at, ends, most_bytes, token_item}
+use Rattle.tsp_read.specs.states.Token.{token_at, ends_token, most_bytes, token_item}
 use Rattle.tsp_read.proofs.LeftSteps.{Filled, start_is_filled, left_start, left_none, left_end, line_taken, line_not_taken, word_taken, word_not_taken}
 
 -- ---- the next item, by the text's first byte that isn't blank
@@ -103,7 +103,7 @@ word_begins false is = refl
 
 pub token_next : (goes_on inside : Bool) (text filled : List ℕ) (first : ℕ) (after : List ℕ) (token : Token) (piece rest : List ℕ)
     → filled ≡ without_start text → filled ≡ first ∷ after → (first ≡ 10 → ⊥) → token ≡ token_at inside first
-    → piece ≡ up_to_first (ends token) filled → rest ≡ from (ends token) filled
+    → piece ≡ up_to_first (ends_token token) filled → rest ≡ from (ends_token token) filled
     → is_settled (most_bytes token) goes_on piece rest ≡ true
     → items_left goes_on inside text ≡ token_item token piece ∷ items_left goes_on true rest
 token_next goes_on inside text filled first after Line piece rest e parts more is p r settled =
@@ -115,7 +115,7 @@ token_next goes_on inside text filled first after Word piece rest e parts more i
 
 pub token_missing_next : (goes_on inside : Bool) (text filled : List ℕ) (first : ℕ) (after : List ℕ) (token : Token)
     → filled ≡ without_start text → filled ≡ first ∷ after → (first ≡ 10 → ⊥) → token ≡ token_at inside first
-    → is_settled (most_bytes token) goes_on (up_to_first (ends token) filled) (from (ends token) filled) ≡ false
+    → is_settled (most_bytes token) goes_on (up_to_first (ends_token token) filled) (from (ends_token token) filled) ≡ false
     → items_left goes_on inside text ≡ []
 token_missing_next goes_on inside text filled first after Line e parts more is settled =
     line_missing_next goes_on inside text filled first after e parts more

@@ -5,12 +5,12 @@ use Rattle.std.specs.List.{position_or_len}
 use Rattle.std.proofs.lemmas.Bool.{lt-ltb}
 use Rattle.tsp_format.specs.Bytes.{is_blank, is_letter}
 use Rattle.tsp_format.specs.Limits.{most_word_bytes, most_line_bytes}
-use Rattle.tsp_text.specs.Lines.{is_filled, without_start}
+use Rattle.tsp_text.specs.Lines.{is_not_empty, without_start}
 use Rattle.tsp_text.specs.Items.{NumberWord, LineEnd}
 use Rattle.tsp_read.specs.declared.token.Token.{Token}
 use Rattle.tsp_read.specs.declared.token.Token.TheVariants.{Line, Word}
 use Rattle.tsp_read.specs.states.Left.{ends_word, up_to_first, from, is_settled}
-use Rattle.tsp_read.specs.states.Token.{token_at, ends, most_bytes, token_item}
+use Rattle.tsp_read.specs.states.Token.{token_at, ends_token, most_bytes, token_item}
 use Rattle.tsp_read.specs.states.Onward.{is_over_long, GivesNext}
 use Rattle.tsp_text.proofs.NoBlanks.{start_blank, start_filled}
 use Rattle.tsp_read.proofs.NextSteps.{end_next, token_next}
@@ -37,18 +37,18 @@ at_before p x xs e = ap (λ b. take (cond (not b) (1 + position_or_len p xs) 0) 
 pub at_from : (p : ℕ → Bool) (x : ℕ) (xs : List ℕ) → p x ≡ true → from p (x ∷ xs) ≡ x ∷ xs
 at_from p x xs e = ap (λ b. drop (cond (not b) (1 + position_or_len p xs) 0) (x ∷ xs)) e
 
-cuts_by : (p : ℕ → Bool) (x : ℕ) (xs more : List ℕ) (b : Bool) → p x ≡ b → (is_filled (from p xs) ≡ true → CutsAlike p xs more)
-    → is_filled (from p (x ∷ xs)) ≡ true → CutsAlike p (x ∷ xs) more
+cuts_by : (p : ℕ → Bool) (x : ℕ) (xs more : List ℕ) (b : Bool) → p x ≡ b → (is_not_empty (from p xs) ≡ true → CutsAlike p xs more)
+    → is_not_empty (from p (x ∷ xs)) ≡ true → CutsAlike p (x ∷ xs) more
 cuts_by p x xs more true e rest filled =
     (at_before p x (xs ++ more) e ∙ sym (at_before p x xs e), at_from p x (xs ++ more) e ∙ ap (λ (ys : List ℕ). ys ++ more) (sym (at_from p x xs e)))
 cuts_by p x xs more false e rest filled =
-    let h = rest (ap is_filled (sym (on_from p x xs e)) ∙ filled) in (
+    let h = rest (ap is_not_empty (sym (on_from p x xs e)) ∙ filled) in (
       on_before p x (xs ++ more) e ∙ ap (λ (ys : List ℕ). x ∷ ys) h.0 ∙ sym (on_before p x xs e),
       on_from p x (xs ++ more) e ∙ h.1 ∙ ap (λ (ys : List ℕ). ys ++ more) (sym (on_from p x xs e)),
     )
 
 -- more at the end doesn't move the first place
-pub cuts_alike : (p : ℕ → Bool) (xs more : List ℕ) → is_filled (from p xs) ≡ true → CutsAlike p xs more
+pub cuts_alike : (p : ℕ → Bool) (xs more : List ℕ) → is_not_empty (from p xs) ≡ true → CutsAlike p xs more
 cuts_alike p [] more filled = absurd cc
 cuts_alike p (x ∷ xs) more filled = cuts_by p x xs more (p x) refl (cuts_alike p xs more) filled
 
@@ -69,14 +69,14 @@ starts_alike (b ∷ bytes) more first after h =
 
 -- ---- the next item
 
-filled_settled : (most : ℕ) (goes_on : Bool) (piece rest more : List ℕ) → is_filled rest ≡ true
+filled_settled : (most : ℕ) (goes_on : Bool) (piece rest more : List ℕ) → is_not_empty rest ≡ true
     → is_settled most goes_on piece (rest ++ more) ≡ true
 filled_settled most goes_on piece [] more e = absurd cc
 filled_settled most goes_on piece (x ∷ rest) more e = refl
 
 -- a piece that is settled, and isn't too long, is followed by something
-not_long : (most : ℕ) (piece rest : List ℕ) (long : Bool) → (is_filled rest || false || long) ≡ true → long ≡ false
-    → is_filled rest ≡ true
+not_long : (most : ℕ) (piece rest : List ℕ) (long : Bool) → (is_not_empty rest || false || long) ≡ true → long ≡ false
+    → is_not_empty rest ≡ true
 not_long most piece (x ∷ rest) long e short = refl
 not_long most piece [] true e short = absurd cc
 not_long most piece [] false e short = absurd cc
@@ -90,12 +90,12 @@ end_follows inside text filled first after e parts ten goes_on more =
 -- a line or a word that isn't too long, whatever follows it
 pub token_follows : (inside goes : Bool) (text filled : List ℕ) (first : ℕ) (after : List ℕ) (token : Token) (piece rest : List ℕ)
     → filled ≡ without_start text → filled ≡ first ∷ after → (first ≡ 10 → ⊥) → token ≡ token_at inside first
-    → piece ≡ up_to_first (ends token) filled → rest ≡ from (ends token) filled
+    → piece ≡ up_to_first (ends_token token) filled → rest ≡ from (ends_token token) filled
     → is_settled (most_bytes token) goes piece rest ≡ true
     → goes ≡ true → nat_lt (most_bytes token) (length piece) ≡ false → GivesNext inside text (token_item token piece) true rest
 token_follows inside true text filled first after token piece rest e parts more_ is p r settled goes_is short goes_on more =
-    let tail : is_filled rest ≡ true = not_long (most_bytes token) piece rest _ settled short in
-    let cut = cuts_alike (ends token) filled more (ap is_filled (sym r) ∙ tail) in
+    let tail : is_not_empty rest ≡ true = not_long (most_bytes token) piece rest _ settled short in
+    let cut = cuts_alike (ends_token token) filled more (ap is_not_empty (sym r) ∙ tail) in
     let longer = ap (λ (ys : List ℕ). ys ++ more) parts in
     token_next goes_on inside (text ++ more) (filled ++ more) first (after ++ more) token piece (rest ++ more)
     (longer ∙ sym (starts_alike text more first after (sym e ∙ parts))) longer more_ is

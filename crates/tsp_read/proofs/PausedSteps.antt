@@ -4,7 +4,7 @@ use Rattle.std.specs.Prelude.{reverse, IfSome}
 use Rattle.tsp_format.specs.Bytes.{is_blank}
 use Rattle.tsp_read.specs.declared.intake.Intake.{Intake}
 use Rattle.tsp_read.specs.declared.begun.Begun.{Begun}
-use Rattle.tsp_text.specs.Lines.{is_filled, without_start}
+use Rattle.tsp_text.specs.Lines.{is_not_empty, without_start}
 use Rattle.tsp_text.specs.Items.{Item}
 use Rattle.tsp_read.specs.states.Left.{items_left}
 use Rattle.tsp_read.specs.declared.state.reading.Reading.{Reading}
@@ -56,12 +56,12 @@ pub paused_joined : (intake : Intake) (begun : Begun) (bytes rest : List ℕ) �
     → IsPaused intake begun bytes
 paused_joined intake begun bytes rest h none = record {
   fed = subst (λ (xs : List ℕ). IsFedTo intake begun bytes xs) none h.fed;
-  unsettled = h.unsettled (ap is_filled none);
+  unsettled = h.unsettled (ap is_not_empty none);
 }
 
 -- what has begun was taken
 pub joined_read : (intake : Intake) (begun : Begun) (bytes rest : List ℕ) → IsJoinedTo intake begun bytes rest
-    → is_filled rest ≡ true → IsReadTo intake bytes rest
+    → is_not_empty rest ≡ true → IsReadTo intake bytes rest
 joined_read intake begun bytes rest h some =
     subst (λ (xs : List ℕ). IsReadTo intake bytes (xs ++ rest)) (h.none_kept some) h.fed.read
 

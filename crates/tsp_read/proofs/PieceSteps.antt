@@ -20,7 +20,7 @@ use Rattle.tsp_text.specs.Text.{is_too_long, settled_part, settled_fault, fault}
 use Rattle.tsp_read.specs.Reads.{most_taken, StopsAt}
 use Rattle.tsp_read.specs.states.Onward.{is_bare}
 use Rattle.tsp_read.specs.Feed.{IsGoing, HasTaken, Feeds}
-use Rattle.tsp_read.specs.Timely.{IsTimely, HasCause, is_going, IsFedFrom}
+use Rattle.tsp_read.specs.Timely.{IsTimely, HasCause, may_go_on, IsFedFrom}
 use Rattle.tsp_text.proofs.SettledFaults.{fault_kept, settled_kept, ended_stays}
 use Rattle.tsp_read.proofs.FeedSteps.{taken_at, going_on}
 
@@ -88,20 +88,20 @@ gathered_start known feed held =
 
 -- ---- a piece more
 
-going_bytes : (feed : Feed) (bytes : List ℕ) (stage : Stage) → feed.stage ≡ stage → is_going stage ≡ true → HasTaken feed bytes
+going_bytes : (feed : Feed) (bytes : List ℕ) (stage : Stage) → feed.stage ≡ stage → may_go_on stage ≡ true → HasTaken feed bytes
     → IsGoing feed bytes
 going_bytes feed bytes Going e going h = taken_at feed bytes Going e h
 going_bytes feed bytes Ended e going h = absurd (false≢true going)
 going_bytes feed bytes (Refused found) e going h = absurd (false≢true going)
 
 pub timely_next : (known left : Option (List ℕ)) (feed : Feed) (taken : ℕ) (piece : List ℕ) (g : Gathered known left feed taken)
-    → is_going feed.stage ≡ true → length piece ≤ 4096
+    → may_go_on feed.stage ≡ true → length piece ≤ 4096
     → IsTimely (g.given ++ piece)
 timely_next known left feed taken piece g going few =
     timely_more g.given piece g.no_fault (going_on feed g.given (going_bytes feed g.given feed.stage refl going g.held)) few
 
 pub gathered_more : (known left next : Option (List ℕ)) (old new : Feed) (taken count : ℕ) (piece : List ℕ)
-    → Gathered known left old taken → is_going old.stage ≡ true → length piece ≤ 4096
+    → Gathered known left old taken → may_go_on old.stage ≡ true → length piece ≤ 4096
     → Consumes left next piece → length piece ≡ count
     → ((bytes : List ℕ) → HasTaken old bytes → Feeds (bytes ++ piece) new (Ok tt)) → Gathered known next new (taken + count)
 gathered_more known left next old new taken count piece g going few gave size feeds =
@@ -144,7 +144,7 @@ memory_caused bytes feed found wants h = subst (λ (f : ReadFault). Feeds bytes 
 pub piece_stops : (turn : List ℕ → Turn) (known left next : Option (List ℕ)) (old new : Feed) (taken : ℕ) (piece : List ℕ) (found : ReadFault)
     → ((given : List ℕ) → (turn given).given ≡ given)
     → ((given : List ℕ) → Consumes known next given → Gave (turn given)) → ((given : List ℕ) → IsSound (turn given))
-    → taken ≤ most_file_bytes → Gathered known left old taken → is_going old.stage ≡ true → length piece ≤ 4096
+    → taken ≤ most_file_bytes → Gathered known left old taken → may_go_on old.stage ≡ true → length piece ≤ 4096
     → Consumes left next piece → ((bytes : List ℕ) → HasTaken old bytes → Feeds (bytes ++ piece) new (Err found))
     → TakesAtMost most_taken turn (λ whole. StopsAt found whole × IsTimely whole.given × HasCause found whole.given)
 piece_stops turn known left next old new taken piece found same gives sound room g going few gave feeds =
@@ -162,13 +162,13 @@ piece_stops turn known left next old new taken piece found same gives sound room
 -- ---- the end
 
 past_limit : (feed : Feed) (bytes : List ℕ) (stage : Stage) → feed.stage ≡ stage → HasTaken feed bytes
-    → most_file_bytes < length bytes → is_going stage ≡ false
+    → most_file_bytes < length bytes → may_go_on stage ≡ false
 past_limit feed bytes Going e h long = let g : IsGoing feed bytes = taken_at feed bytes Going e h in absurd (omega (arith, g.short, long))
 past_limit feed bytes Ended e h long = refl
 past_limit feed bytes (Refused found) e h long = refl
 
 pub not_going : (known left : Option (List ℕ)) (feed : Feed) (taken : ℕ) → Gathered known left feed taken
-    → most_file_bytes < taken → is_going feed.stage ≡ false
+    → most_file_bytes < taken → may_go_on feed.stage ≡ false
 not_going known left feed taken g long =
     past_limit feed g.given feed.stage refl g.held (subst (λ (n : ℕ). most_file_bytes < n) (sym g.counted) long)
 
@@ -176,7 +176,7 @@ pub fed_from : (turn : List ℕ → Turn) (known left : Option (List ℕ)) (feed
     → ((given : List ℕ) → (turn given).given ≡ given)
     → ((given : List ℕ) → Consumes known left given → Gave (turn given)) → ((given : List ℕ) → IsSound (turn given))
     → taken ≤ most_taken → Gathered known left feed taken
-    → ((given : List ℕ) → IsAtEnd (turn given).left ⊎ (is_going feed.stage ≡ false))
+    → ((given : List ℕ) → IsAtEnd (turn given).left ⊎ (may_go_on feed.stage ≡ false))
     → TakesAtMost most_taken turn (λ whole. IsFedFrom whole feed)
 fed_from turn known left feed taken same gives sound room g over =
     let e = same g.given in (

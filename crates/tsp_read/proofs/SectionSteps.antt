@@ -31,7 +31,7 @@ use Rattle.tsp_text.specs.Lists.{fixed_in, place_of_fixed, fixed_triples_in, pla
 use Rattle.tsp_text.specs.CombSection.{whole_combs, place_of_comb}
 use Rattle.tsp_text.specs.BranchSection.{whole_steps, place_of_step}
 use Rattle.tsp_text.specs.WordPlaces.{PastEnd}
-use Rattle.tsp_text.specs.Lines.{is_filled}
+use Rattle.tsp_text.specs.Lines.{is_not_empty}
 use Rattle.tsp_text.specs.Items.{WordLine, Item, Line}
 use Rattle.tsp_format.specs.Shapes.{shape_of, is_section_field}
 use Rattle.tsp_text.specs.Earlier.{is_open, has_line, open_section, words_of}
@@ -98,7 +98,7 @@ opens old new field shape line n section is may of begins same_draft same_first 
     let space : spatial (fields_of old.draft) ≡ spatial_after (Line (Known field) line ∷ earlier) = ap spatial h.spelled ∙ sym stays.1 in
     let rows = ap (λ (m : ℕ). opening_rows shape (stands_in (fields_of old.draft) field) line.value (is_some old.draft.dimension) m) (sym may.0) ∙ may.1 in
     let absent : stands_in (fields_of old.draft) field ≡ false = first_none (stands_in (fields_of old.draft) field) row.Repeated
-    (when (is_filled line.value) row.SectionValue ∷ when (needs_nodes shape && not (is_some old.draft.dimension)) row.SectionEarly
+    (when (is_not_empty line.value) row.SectionValue ∷ when (needs_nodes shape && not (is_some old.draft.dimension)) row.SectionEarly
     ∷ when (is_matrix shape && nat_lt most_matrix_nodes (unwrap_or old.draft.dimension 0)) row.TooManyNodes ∷ []) rows in
     let none : has_line field earlier ≡ false = sym (standing earlier field kind) ∙ sym (ap (λ (fields : Fields). stands_in fields field) h.spelled) ∙ absent in
     let nodes : dimension_in earlier ≡ n = sym (ap (λ (fields : Fields). unwrap_or fields.dimension 0) h.spelled) ∙ sym may.0 in

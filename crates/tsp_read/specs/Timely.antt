@@ -27,10 +27,10 @@ pub record IsTimely (bytes : List ℕ) : Type 0 where
 abbrev pub HasCause : ReadFault → List ℕ → Type 0
 HasCause found bytes = found ≡ faults.OutOfMemory → is_bare bytes ≡ false
 
-abbrev pub is_going : Stage → Bool
-is_going Going = true
-is_going Ended = false
-is_going (Refused found) = false
+abbrev pub may_go_on : Stage → Bool
+may_go_on Going = true
+may_go_on Ended = false
+may_go_on (Refused found) = false
 
 -- a feed has all that the reader has, or has no need of more
 pub record IsFedFrom (turn : Turn) (feed : Feed) : Type 0 where
@@ -39,7 +39,7 @@ pub record IsFedFrom (turn : Turn) (feed : Feed) : Type 0 where
   pub held : HasTaken feed turn.given
   pub no_fault : settled_fault turn.given ≡ None
   pub timely : IsTimely turn.given
-  pub over : IsAtEnd turn.left ⊎ (is_going feed.stage ≡ false)
+  pub over : IsAtEnd turn.left ⊎ (may_go_on feed.stage ≡ false)
 
 abbrev pub FeedsAll : (List ℕ → Turn) → Feed → Result (Unit {0}) ReadFault → Type 0
 FeedsAll turn feed (Ok done) = TakesAtMost most_taken turn (λ whole. IsFedFrom whole feed)

@@ -3,7 +3,7 @@
 ghost use Rattle.std.specs.Prelude.{◌≡◌, ◌+◌, ◌≤◌, ◌++◌, [], List, ℕ, length, Ok, true, false};
 ghost use Rattle.tsp_format.specs.Limits.{most_file_bytes};
 ghost use Rattle.tsp_read.specs.states.Begun.{IsFedTo, most_lines, most_words, KeepRoom};
-ghost use Rattle.tsp_text.specs.Lines.{is_filled};
+ghost use Rattle.tsp_text.specs.Lines.{is_not_empty};
 ghost use Rattle.tsp_read.specs.states.Paused.{FeedsOn, HasRoom, HasBytes, stage_after, outcome_of};
 
 use crate::begun::Begun;
@@ -51,7 +51,7 @@ fn read_on(
 fn split_at_most(text: &[u8], most: usize) -> (&[u8], &[u8])
     ensures parts { text.now ≡ result.0.now ++ result.1.now }
     ensures front { length result.0.now ≤ most }
-    ensures over { is_filled result.1.now ≡ true → length result.0.now ≡ most }
+    ensures over { is_not_empty result.1.now ≡ true → length result.0.now ≡ most }
 {
     if text.len() > most {
         text.split_at(most)
@@ -128,7 +128,7 @@ impl Feed {
     ghost use Rattle.tsp_read.specs.states.Holds.{IsReadFrom};
     ghost use Rattle.tsp_read.specs.states.Onward.{is_bare};
     ghost use Rattle.tsp_read.specs.Reads.{Reads};
-    ghost use Rattle.tsp_read.specs.Timely.{is_going};
+    ghost use Rattle.tsp_read.specs.Timely.{may_go_on};
     ghost use Rattle.tsp_read.specs.Feed.{IsGoing, HasTaken, refusal, Feeds, ComesTo, EndsReading, EndsClosed};
 
     /// The start of a file. It takes no memory.
@@ -157,8 +157,8 @@ impl Feed {
     }
 
     /// Whether what follows is looked at.
-    pub(crate) fn is_going(&self) -> bool
-        ensures { result ≡ is_going self.now.stage }
+    pub(crate) fn may_go_on(&self) -> bool
+        ensures { result ≡ may_go_on self.now.stage }
     {
         matches!(self.stage, Stage::Going)
     }

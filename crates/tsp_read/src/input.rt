@@ -26,7 +26,7 @@ pub(crate) fn feed_all<R: Gives>(feed: &mut Feed, reader: &mut Watched<R>) -> Re
     let mut taken = 0usize;
     let mut piece = [0u8; MOST_AT_ONCE];
     'pieces: while taken <= MOST_FILE_BYTES {
-        if !feed.is_going() {
+        if !feed.may_go_on() {
             return Ok(());
         }
         let Ok(count) = reader.read(&mut piece) else {

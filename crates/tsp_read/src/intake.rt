@@ -33,11 +33,11 @@ pub(crate) struct Intake {
 }
 
 impl Intake {
-    ghost use Rattle.tsp_read.specs.states.Intake.{Stands, TakesNext, IsReadTo, ReadsOn};
+    ghost use Rattle.tsp_read.specs.states.Intake.{HasTakenItems, TakesNext, IsReadTo, ReadsOn};
 
     /// The start of a text.
     pub(crate) fn new(alloc: Global) -> Intake
-        ensures start { Stands result [] }
+        ensures start { HasTakenItems result [] }
         ensures read { IsReadTo result [] [] }
         ensures line { result.line ≡ 1 }
         ensures words { result.words ≡ 0 }
@@ -67,7 +67,7 @@ impl Intake {
     pub(crate) fn take_next(&mut self, alloc: Global, next: &Next<'_>) -> Result<bool, ReadFault>
         requires line { self.old.line ≤ most_file_bytes }
         requires words { self.old.words < most_file_bytes }
-        ensures item { (earlier : List Item) → Stands self.old earlier
+        ensures item { (earlier : List Item) → HasTakenItems self.old earlier
             → TakesNext earlier (item_next next.now) self.new result }
         ensures inside { IfOk result (λ _. self.new.inside ≡ is_in_line next.now) }
         ensures line { self.new.line ≤ self.old.line + 1 }
@@ -91,7 +91,7 @@ impl Intake {
 
     /// The fault of a word line that is too long.
     fn long_line(&self) -> ReadFault
-        ensures { (earlier : List Item) → Stands self.now earlier → (text : List ℕ)
+        ensures { (earlier : List Item) → HasTakenItems self.now earlier → (text : List ℕ)
             → is_over_long (line_item text) ≡ true
             → TakesNext earlier (line_item text) self.now (Err result) }
     {
@@ -106,7 +106,7 @@ impl Intake {
     fn long_word(&mut self, alloc: Global) -> ReadFault
         requires line { self.old.line ≤ most_file_bytes }
         requires words { self.old.words < most_file_bytes }
-        ensures { (earlier : List Item) → Stands self.old earlier → (word : List ℕ)
+        ensures { (earlier : List Item) → HasTakenItems self.old earlier → (word : List ℕ)
             → is_over_long (NumberWord word) ≡ true
             → TakesNext earlier (NumberWord word) self.new (Err result) }
     {
@@ -125,7 +125,7 @@ impl Intake {
     pub(crate) fn too_long(&mut self, alloc: Global, token: Token) -> ReadFault
         requires line { self.old.line ≤ most_file_bytes }
         requires words { self.old.words < most_file_bytes }
-        ensures { (earlier : List Item) → Stands self.old earlier → (text : List ℕ)
+        ensures { (earlier : List Item) → HasTakenItems self.old earlier → (text : List ℕ)
             → is_over_long (token_item token text) ≡ true
             → TakesNext earlier (token_item token text) self.new (Err result) }
     {

@@ -3,7 +3,7 @@
 ghost use Rattle.std.specs.Prelude.{◌≡◌, MatchOption, false, true};
 ghost use Rattle.std.specs.List.{position};
 ghost use Rattle.tsp_read.specs.states.Left.{up_to_first, from, is_settled};
-ghost use Rattle.tsp_read.specs.states.Token.{token_at, ends, most_bytes};
+ghost use Rattle.tsp_read.specs.states.Token.{token_at, ends_token, most_bytes};
 
 use tsp_format::{MOST_LINE_BYTES, MOST_WORD_BYTES, is_blank, is_letter};
 
@@ -45,7 +45,7 @@ impl Token {
     /// too.
     #[inline(always)]
     fn end(self, text: &[u8]) -> Option<usize>
-        ensures { result ≡ position (ends self) text.now }
+        ensures { result ≡ position (ends_token self) text.now }
     {
         match self {
             Token::Line => text.iter().position(|byte| *byte == b'\n'),
@@ -58,8 +58,8 @@ impl Token {
     /// A text up to its end, and from there on.
     #[inline(always)]
     pub(crate) fn cut(self, text: &[u8]) -> (&[u8], &[u8])
-        ensures before { result.0.now ≡ up_to_first (ends self) text.now }
-        ensures from { result.1.now ≡ from (ends self) text.now }
+        ensures before { result.0.now ≡ up_to_first (ends_token self) text.now }
+        ensures from { result.1.now ≡ from (ends_token self) text.now }
     {
         match self.end(text) {
             Some(end) => text.split_at(end),
@@ -72,8 +72,8 @@ impl Token {
     #[inline(always)]
     pub(crate) fn take(self, text: &[u8], goes_on: bool) -> Option<(&[u8], &[u8])>
         ensures { MatchOption result (is_settled (most_bytes self) goes_on
-            (up_to_first (ends self) text.now) (from (ends self) text.now) ≡ false) (λ cut.
-            (cut.0.now ≡ up_to_first (ends self) text.now) × (cut.1.now ≡ from (ends self) text.now)
+            (up_to_first (ends_token self) text.now) (from (ends_token self) text.now) ≡ false) (λ cut.
+            (cut.0.now ≡ up_to_first (ends_token self) text.now) × (cut.1.now ≡ from (ends_token self) text.now)
             × (is_settled (most_bytes self) goes_on cut.0.now cut.1.now ≡ true)) }
     {
         let (front, rest) = self.cut(text);

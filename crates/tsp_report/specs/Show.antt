@@ -8,11 +8,11 @@ use Rattle.tsp_format.specs.declared.kinds.Kind.TheVariants.{Tsp, Atsp, Cvrp, To
 use Rattle.tsp_format.specs.declared.kinds.WeightKind.{WeightKind}
 use Rattle.tsp_format.specs.declared.kinds.WeightFormat.{WeightFormat}
 use Rattle.tsp_format.specs.Words.{weight_kind_word, weight_format_word}
-use Rattle.tsp_format.specs.Cells.{nodes_to}
+use Rattle.tsp_format.specs.Nodes.{nodes_to}
 use Rattle.tsp_format.specs.Steps.{Step, leaf_count}
 use Rattle.tsp_draft.specs.Fields.{Fields, nodes_of}
 use Rattle.tsp_draft.specs.Rules.{is_explicit}
-use Rattle.tsp_file.specs.Meant.{meant_scale}
+use Rattle.tsp_file.specs.Defaults.{meant_scale}
 use Rattle.tsp_file.specs.Cost.{cost}
 use Rattle.tsp_theory.specs.Length.{length_of}
 use Rattle.tsp_report.specs.Report.{type_line, nodes_line, not_judged}
@@ -60,8 +60,8 @@ abbrev pub tour_line : ℕ × List ℕ → List ℕ
 tour_line tour = codes "tour " ++ decimal tour.0 ++ codes " nodes " ++ decimal (length tour.1) ++ codes "\n"
 
 -- how many tours there are, and a line for each, numbered from 1
-abbrev pub tour_lines : List (List ℕ) → List ℕ
-tour_lines tours = codes "tours " ++ decimal (length tours) ++ codes "\n" ++ flat_map tour_line (enumerate_from 1 tours)
+abbrev pub all_tour_lines : List (List ℕ) → List ℕ
+all_tour_lines tours = codes "tours " ++ decimal (length tours) ++ codes "\n" ++ flat_map tour_line (enumerate_from 1 tours)
 
 -- the scale, which is 1 where SCALE is missing
 abbrev pub scale_line : Option ℤ → List ℕ
@@ -85,7 +85,7 @@ abbrev pub lines_by_type : Option Kind → Fields → List ℕ
 lines_by_type (Some Tsp) f = cost_lines f
 lines_by_type (Some Atsp) f = cost_lines f
 lines_by_type (Some Cvrp) f = cost_lines f
-lines_by_type (Some Tour) f = tour_lines (unwrap_or f.tours [])
+lines_by_type (Some Tour) f = all_tour_lines (unwrap_or f.tours [])
 lines_by_type (Some Potentials) f = scale_line f.scale
 lines_by_type (Some Branches) f = tree_lines f
 lines_by_type None f = []

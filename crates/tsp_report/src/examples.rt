@@ -12,7 +12,7 @@ ghost use Rattle.tsp_reason.specs.declared.verdict.BoundVerdict.TheVariants as b
 ghost use Rattle.tsp_reason.specs.declared.verdict.Reason.TheVariants as reasons;
 ghost use Rattle.tsp_reason.specs.declared.verdict.Verdict.TheVariants as verdicts;
 ghost use Rattle.tsp_report.specs.Report.{not_judged, type_line, nodes_line, gap_lines, bound_lines, reason_text, verdict_lines, bound_found_lines};
-ghost use Rattle.tsp_report.specs.Show.{name_line, weights_line, canonical_line, fixed_line, tour_lines, scale_line, combs_line, leaves_line};
+ghost use Rattle.tsp_report.specs.Show.{name_line, weights_line, canonical_line, fixed_line, all_tour_lines, scale_line, combs_line, leaves_line};
 
 /// The lines of a report.
 pub fn examples_of_reports()
@@ -99,7 +99,7 @@ pub fn examples_of_shown_lines()
     ensures none_fixed { fixed_line (Some []) ≡ codes "fixed " ++ decimal 0 ++ codes "\n" }
     ensures twice_fixed { fixed_line (Some ((1, 2) ∷ (1, 2) ∷ []))
         ≡ codes "fixed " ++ decimal 2 ++ codes "\n" }
-    ensures tours { tour_lines ((3 ∷ 4 ∷ []) ∷ []) ≡ codes "tours "
+    ensures tours { all_tour_lines ((3 ∷ 4 ∷ []) ∷ []) ≡ codes "tours "
         ++ decimal 1 ++ codes "\ntour " ++ decimal 1 ++ codes " nodes " ++ decimal 2 ++ codes "\n" }
     ensures no_scale { scale_line None ≡ codes "scale " ++ signed_decimal (pos 1) ++ codes "\n" }
     ensures scale { scale_line (Some (pos 2))

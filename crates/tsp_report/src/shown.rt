@@ -10,7 +10,7 @@ ghost use Rattle.tsp_stream.specs.states.Watched.{sink_of};
 ghost use Rattle.tsp_stream.specs.Sink.{Writes};
 ghost use Rattle.tsp_stream.specs.states.WriteProgress.{Puts};
 ghost use Rattle.tsp_report.specs.Report.{nodes_line, not_judged};
-ghost use Rattle.tsp_report.specs.Show.{shown, head_lines, name_line, lines_by_type, cost_lines, weights_line, layout_part, canonical_line, fixed_line, tour_lines, tour_line, scale_line, combs_line, leaves_line, tree_lines};
+ghost use Rattle.tsp_report.specs.Show.{shown, head_lines, name_line, lines_by_type, cost_lines, weights_line, layout_part, canonical_line, fixed_line, all_tour_lines, tour_line, scale_line, combs_line, leaves_line, tree_lines};
 
 use crate::leaves::leaves_of;
 use crate::report::{put_named, put_nodes, put_others, put_type};
@@ -184,7 +184,7 @@ fn put_solution<W: Write>(piece: &mut Piece, out: &mut Watched<W>, file: &File)
 /// Adds the number of tours, and a line for each.
 fn put_tours<W: Write>(piece: &mut Piece, out: &mut Watched<W>, tours: &[Vec<u32>])
     ensures { Puts W.contents out.old piece.old out.new piece.new
-        (tour_lines (map (λ tour. tour.items) tours.now)) }
+        (all_tour_lines (map (λ tour. tour.items) tours.now)) }
 {
     put_named(piece, out, b"tours ", tours.len());
     put(piece, out, b"\n");

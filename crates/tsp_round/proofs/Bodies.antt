@@ -8,10 +8,10 @@ use Rattle.std.proofs.lemmas.Bool.{and_from, and_parts, leb-true}
 use Rattle.tsp_distance.specs.declared.decimal.Point.{Point}
 use Rattle.tsp_number.specs.Spelling.{spelling}
 use Rattle.tsp_format.specs.Limits.{most_nodes, most_weight, most_multiplier, most_coordinate}
-use Rattle.tsp_draft.specs.Validity.{is_from_to, is_within, is_node, is_node_pair, is_triple, is_point, is_tour}
+use Rattle.tsp_draft.specs.Validity.{is_from_to, is_within, is_node, is_pair_of, is_triple_of, is_point, is_node_list}
 use Rattle.tsp_file.specs.CanonicalText.{number_line, ended_by_mark, node_list, pair_list, triple_list}
 use Rattle.tsp_round.proofs.Text.{is_plain_word, WritesWords, no_words_written, both_words, number_line_written}
-use Rattle.tsp_round.proofs.Numbers.{decimal_plain, signed_plain, spelling_plain, size_in, size_from}
+use Rattle.tsp_round.proofs.NumbersReadBack.{decimal_plain, signed_plain, spelling_plain, size_in, size_from}
 use Rattle.tsp_round.proofs.Groups.{AreSmall, number_entry}
 use Rattle.tsp_round.proofs.Points.{point_entry}
 use Rattle.tsp_round.proofs.SpacePoints.{space_point_entry}
@@ -115,26 +115,26 @@ pub list_written : {A : Type 0} (fits : A → Bool) (line : A → List ℕ) (wor
 list_written fits line words each xs all =
     both_words (flat_map line xs) (codes "-1" ++ 10 ∷ []) (flat_map words xs) (codes "-1" ∷ []) (lines_written fits line words each xs all) end_written
 
-tour_written : (tour : List ℕ) → is_tour tour ≡ true → WritesWords (node_list tour) (tour_words tour)
+tour_written : (tour : List ℕ) → is_node_list tour ≡ true → WritesWords (node_list tour) (tour_words tour)
 tour_written tour fits =
     node_lines_written most_nodes (omega arith) tour (and_parts (nat_le 1 (length tour)) (list_all (is_node most_nodes) tour) fits).1
 
-pub tour_lines_written : (tours : List (List ℕ)) → list_all is_tour tours ≡ true
+pub tour_lines_written : (tours : List (List ℕ)) → list_all is_node_list tours ≡ true
     → WritesWords (flat_map node_list tours) (flat_map tour_words tours)
-tour_lines_written tours all = lines_written is_tour node_list tour_words tour_written tours all
+tour_lines_written tours all = lines_written is_node_list node_list tour_words tour_written tours all
 
-pub pair_written : (n : ℕ) → n < 2 ^ 32 → (pair : ℕ × ℕ) → is_node_pair n pair ≡ true
+pub pair_written : (n : ℕ) → n < 2 ^ 32 → (pair : ℕ × ℕ) → is_pair_of n pair ≡ true
     → WritesWords (number_line (decimal pair.0) (decimal pair.1 ∷ [])) (pair_words pair)
 pair_written n few pair fits =
     let are = are_pair n pair fits in
     number_line_written (decimal pair.0) (decimal pair.1 ∷ []) (node_plain n pair.0 few are.first) (one_plain (decimal pair.1) (node_plain n pair.1 few are.second))
 
-pub pair_lines_written : (n : ℕ) → n < 2 ^ 32 → (pairs : List (ℕ × ℕ)) → list_all (is_node_pair n) pairs ≡ true
+pub pair_lines_written : (n : ℕ) → n < 2 ^ 32 → (pairs : List (ℕ × ℕ)) → list_all (is_pair_of n) pairs ≡ true
     → WritesWords (pair_list pairs) (flat_map pair_words pairs ++ codes "-1" ∷ [])
 pair_lines_written n few pairs all =
-    list_written (is_node_pair n) (λ (pair : ℕ × ℕ). number_line (decimal pair.0) (decimal pair.1 ∷ [])) pair_words (pair_written n few) pairs all
+    list_written (is_pair_of n) (λ (pair : ℕ × ℕ). number_line (decimal pair.0) (decimal pair.1 ∷ [])) pair_words (pair_written n few) pairs all
 
-triple_written : (n : ℕ) → n < 2 ^ 32 → (triple : ℕ × ℕ × ℤ) → is_triple n triple ≡ true
+triple_written : (n : ℕ) → n < 2 ^ 32 → (triple : ℕ × ℕ × ℤ) → is_triple_of n triple ≡ true
     → WritesWords (number_line (decimal triple.0) (decimal triple.1 ∷ signed_decimal triple.2 ∷ [])) (triple_words triple)
 triple_written n few triple fits =
     let are = are_triple n triple fits in
@@ -145,10 +145,10 @@ triple_written n few triple fits =
     number_line_written (decimal triple.0) (b ∷ c ∷ []) (node_plain n triple.0 few are.0.first)
     (and_from (is_plain_word b) (list_all is_plain_word (c ∷ [])) second (one_plain c (signed_plain triple.2 (omega (arith, small)))))
 
-pub triple_lines_written : (n : ℕ) → n < 2 ^ 32 → (triples : List (ℕ × ℕ × ℤ)) → list_all (is_triple n) triples ≡ true
+pub triple_lines_written : (n : ℕ) → n < 2 ^ 32 → (triples : List (ℕ × ℕ × ℤ)) → list_all (is_triple_of n) triples ≡ true
     → WritesWords (triple_list triples) (flat_map triple_words triples ++ codes "-1" ∷ [])
 triple_lines_written n few triples all =
-    list_written (is_triple n) (λ (triple : ℕ × ℕ × ℤ). number_line (decimal triple.0) (decimal triple.1 ∷ signed_decimal triple.2 ∷ [])) triple_words (triple_written n few) triples all
+    list_written (is_triple_of n) (λ (triple : ℕ × ℕ × ℤ). number_line (decimal triple.0) (decimal triple.1 ∷ signed_decimal triple.2 ∷ [])) triple_words (triple_written n few) triples all
 
 -- ---- weights
 

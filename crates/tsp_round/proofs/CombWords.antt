@@ -9,14 +9,14 @@ use Rattle.std.proofs.lemmas.List.{length-append}
 use Rattle.std.proofs.lemmas.List.Sums.{sum_by-cons}
 use Rattle.tsp_number.specs.declared.fault.NumberFault.{NumberFault}
 use Rattle.tsp_format.specs.Limits.{most_combs, most_comb_nodes}
-use Rattle.tsp_draft.specs.Validity.{is_node, is_set, is_comb, are_combs}
-use Rattle.tsp_text.specs.Lines.{is_filled}
+use Rattle.tsp_draft.specs.Validity.{is_node, is_set_of, are_sets, are_combs}
+use Rattle.tsp_text.specs.Lines.{is_not_empty}
 use Rattle.tsp_text.specs.SectionNumbers.{number, node_or_end, is_end}
 use Rattle.tsp_text.specs.WordPlaces.{SetNode}
 use Rattle.tsp_text.specs.FaultRows.{word_fault, is_past_combs}
 use Rattle.tsp_text.specs.Spells.{wants_more}
 use Rattle.tsp_text.specs.CombSection.{CombsSoFar, no_combs, with_node, with_end, with_comb_word, whole_combs, place_in_combs, place_of_comb}
-use Rattle.tsp_round.proofs.Numbers.{NumberLaws, listed_back, node_goes_on, end_read, end_ends}
+use Rattle.tsp_round.proofs.NumbersReadBack.{NumberLaws, listed_back, node_goes_on, end_read, end_ends}
 use Rattle.tsp_round.proofs.Taken.{AllTaken, Runs, runs_none, runs_one, runs_then, all_taken}
 use Rattle.tsp_round.proofs.Lists.{no_rows, has_room}
 
@@ -71,7 +71,7 @@ node_runs : NumberLaws → (n : ℕ) → n < 2 ^ 32
 node_runs laws n few combs sets nodes count k room begins is =
     let start = so_far combs sets nodes count in
     runs_one n (with_comb_word n) place_in_combs start (decimal k) (so_far combs sets (nodes ++ k ∷ []) (count + 1))
-    (node_taken laws n few (is_filled nodes || is_filled sets) (length combs) count k room begins is)
+    (node_taken laws n few (is_not_empty nodes || is_not_empty sets) (length combs) count k room begins is)
     (ap (λ b. cond b (with_end start) (with_node start (nat_abs (number (node_or_end n (decimal k)))))) (node_goes_on laws n k few is)
     ∙ ap (λ (r : Result ℤ NumberFault). with_node start (nat_abs (number r))) (listed_back laws n k few is))
 
@@ -80,7 +80,7 @@ end_runs : NumberLaws → (n : ℕ) (combs : List (List (List ℕ))) (sets : Lis
     → CombRuns n (so_far combs sets nodes count) (codes "-1" ∷ []) (with_end (so_far combs sets nodes count))
 end_runs laws n combs sets nodes count =
     let start = so_far combs sets nodes count in
-    runs_one n (with_comb_word n) place_in_combs start (codes "-1") (with_end start) (end_taken laws n (is_filled nodes || is_filled sets) (length combs) count)
+    runs_one n (with_comb_word n) place_in_combs start (codes "-1") (with_end start) (end_taken laws n (is_not_empty nodes || is_not_empty sets) (length combs) count)
     (ap (λ b. cond b (with_end start) (with_node start (nat_abs (number (node_or_end n (codes "-1")))))) (end_ends laws n))
 
 -- ---- a set
@@ -107,13 +107,13 @@ nodes_run laws n few combs sets nodes (k ∷ set) count room begins all =
     (onward n start middle last (decimal k ∷ []) (map decimal set) (node_runs laws n few combs sets nodes count k (has_room most_comb_nodes count (length set) room) begins both.0)
     (nodes_run laws n few combs sets (nodes ++ k ∷ []) set (count + 1) (omega arith) begins both.1))
 
-filled : {A : Type 0} (xs : List A) → nat_le 1 (length xs) ≡ true → is_filled xs ≡ true
+filled : {A : Type 0} (xs : List A) → nat_le 1 (length xs) ≡ true → is_not_empty xs ≡ true
 filled [] some = absurd (false≢true some)
 filled (x ∷ xs) some = refl
 
 set_runs : NumberLaws → (n : ℕ) → n < 2 ^ 32 → (combs : List (List (List ℕ))) (sets : List (List ℕ)) (set : List ℕ) (count : ℕ)
     → count + length set ≤ most_comb_nodes
-    → nat_le most_combs (length combs) ≡ false → is_set n set ≡ true
+    → nat_le most_combs (length combs) ≡ false → is_set_of n set ≡ true
     → CombRuns n (so_far combs sets [] count) (set_words set) (so_far combs (sets ++ set ∷ []) [] (count + length set))
 set_runs laws n few combs sets set count room begins fits =
     let both = and_parts (nat_le 1 (length set)) (list_all (is_node n) set) fits in
@@ -127,7 +127,7 @@ set_runs laws n few combs sets set count room begins fits =
 
 sets_run : NumberLaws → (n : ℕ) → n < 2 ^ 32 → (combs : List (List (List ℕ))) (before sets : List (List ℕ)) (count : ℕ)
     → count + sum_by length sets ≤ most_comb_nodes
-    → nat_le most_combs (length combs) ≡ false → list_all (is_set n) sets ≡ true
+    → nat_le most_combs (length combs) ≡ false → list_all (is_set_of n) sets ≡ true
     → CombRuns n (so_far combs before [] count) (flat_map set_words sets) (so_far combs (before ++ sets) [] (count + sum_by length sets))
 sets_run laws n few combs before [] count room begins all =
     let start = so_far combs before [] count in
@@ -135,7 +135,7 @@ sets_run laws n few combs before [] count room begins all =
     ap (λ (ss : List (List ℕ)). so_far combs ss [] count) (sym (append-nil before)) ∙ ap (λ c. so_far combs (before ++ []) [] c) (let e : count ≡ count + 0 = omega arith in e) in
     subst (λ (s : CombsSoFar). CombRuns n start [] s) whole (runs_none n (with_comb_word n) place_in_combs start)
 sets_run laws n few combs before (set ∷ sets) count room begins all =
-    let both = and_parts (is_set n set) (list_all (is_set n) sets) all in
+    let both = and_parts (is_set_of n set) (list_all (is_set_of n) sets) all in
     let sum : sum_by length (set ∷ sets) ≡ length set + sum_by length sets = sum_by-cons (λ (s : List ℕ). length s) set sets in
     let start = so_far combs before [] count in
     let middle = so_far combs (before ++ set ∷ []) [] (count + length set) in
@@ -149,10 +149,10 @@ sets_run laws n few combs before (set ∷ sets) count room begins all =
 
 comb_runs : NumberLaws → (n : ℕ) → n < 2 ^ 32 → (combs : List (List (List ℕ))) (comb : List (List ℕ)) (count : ℕ)
     → count + sum_by length comb ≤ most_comb_nodes
-    → nat_le most_combs (length combs) ≡ false → is_comb n comb ≡ true
+    → nat_le most_combs (length combs) ≡ false → are_sets n comb ≡ true
     → CombRuns n (so_far combs [] [] count) (comb_words comb) (so_far (combs ++ comb ∷ []) [] [] (count + sum_by length comb))
 comb_runs laws n few combs comb count room begins fits =
-    let both = and_parts (nat_le 1 (length comb)) (list_all (is_set n) comb) fits in
+    let both = and_parts (nat_le 1 (length comb)) (list_all (is_set_of n) comb) fits in
     let middle = so_far combs comb [] (count + sum_by length comb) in
     let ended : with_end middle ≡ so_far (combs ++ comb ∷ []) [] [] (count + sum_by length comb) = rw (filled comb both.0) refl in
     subst (λ (s : CombsSoFar). CombRuns n (so_far combs [] [] count) (comb_words comb) s) ended
@@ -163,7 +163,7 @@ comb_runs laws n few combs comb count room begins fits =
 
 each_comb_runs : NumberLaws → (n : ℕ) → n < 2 ^ 32 → (before combs : List (List (List ℕ))) (count : ℕ)
     → count + sum_by (sum_by length) combs ≤ most_comb_nodes
-    → length before + length combs ≤ most_combs → list_all (is_comb n) combs ≡ true
+    → length before + length combs ≤ most_combs → list_all (are_sets n) combs ≡ true
     → CombRuns n (so_far before [] [] count) (flat_map comb_words combs) (so_far (before ++ combs) [] [] (count + sum_by (sum_by length) combs))
 each_comb_runs laws n few before [] count room begins all =
     let start = so_far before [] [] count in
@@ -171,7 +171,7 @@ each_comb_runs laws n few before [] count room begins all =
     ap (λ (cs : List (List (List ℕ))). so_far cs [] [] count) (sym (append-nil before)) ∙ ap (λ c. so_far (before ++ []) [] [] c) (let e : count ≡ count + 0 = omega arith in e) in
     subst (λ (s : CombsSoFar). CombRuns n start [] s) whole (runs_none n (with_comb_word n) place_in_combs start)
 each_comb_runs laws n few before (comb ∷ combs) count room begins all =
-    let both = and_parts (is_comb n comb) (list_all (is_comb n) combs) all in
+    let both = and_parts (are_sets n comb) (list_all (are_sets n) combs) all in
     let sum : sum_by (sum_by length) (comb ∷ combs) ≡ sum_by length comb + sum_by (sum_by length) combs = sum_by-cons (λ (c : List (List ℕ)). sum_by length c) comb combs in
     let start = so_far before [] [] count in
     let middle = so_far (before ++ comb ∷ []) [] [] (count + sum_by length comb) in
@@ -192,8 +192,8 @@ all_of combs = with_end (so_far combs [] [] (0 + sum_by (sum_by length) combs))
 all_run : NumberLaws → (n : ℕ) → n < 2 ^ 32 → (combs : List (List (List ℕ))) → are_combs n combs ≡ true
     → CombRuns n no_combs (combs_words combs) (all_of combs)
 all_run laws n few combs fits =
-    let two = and_parts (nat_le (length combs) most_combs && list_all (is_comb n) combs) (nat_le (sum_by (sum_by length) combs) most_comb_nodes) fits in
-    let one = and_parts (nat_le (length combs) most_combs) (list_all (is_comb n) combs) two.0 in
+    let two = and_parts (nat_le (length combs) most_combs && list_all (are_sets n) combs) (nat_le (sum_by (sum_by length) combs) most_comb_nodes) fits in
+    let one = and_parts (nat_le (length combs) most_combs) (list_all (are_sets n) combs) two.0 in
     let middle = so_far combs [] [] (0 + sum_by (sum_by length) combs) in
     onward n no_combs middle (with_end middle) (flat_map comb_words combs) (codes "-1" ∷ [])
     (each_comb_runs laws n few [] combs 0 (omega (arith, leb-true (sum_by (sum_by length) combs) most_comb_nodes two.1)) (omega (arith, leb-true (length combs) most_combs one.0)) one.1)

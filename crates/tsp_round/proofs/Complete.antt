@@ -17,7 +17,7 @@ use Rattle.tsp_text.specs.WordPlaces.{PastEnd}
 use Rattle.tsp_text.specs.Values.{spatial_after}
 use Rattle.tsp_text.specs.Sections.{place_by, place_in, dimension_in}
 use Rattle.tsp_text.specs.Spells.{wants_more, is_incomplete, first_incomplete}
-use Rattle.tsp_round.proofs.Numbers.{NumberLaws}
+use Rattle.tsp_round.proofs.NumbersReadBack.{NumberLaws}
 use Rattle.tsp_round.proofs.Onto.{has_value}
 use Rattle.tsp_round.proofs.Shapes.{Entries, entries_in, words_for, body}
 use Rattle.tsp_text.proofs.Sections.{by_section}

@@ -7,7 +7,7 @@ use Rattle.tsp_draft.specs.Fields.{Fields, spatial}
 use Rattle.tsp_draft.specs.Validity.{fits}
 use Rattle.tsp_file.specs.CanonicalText.{text_of_field}
 use Rattle.tsp_text.specs.Items.{Item}
-use Rattle.tsp_round.proofs.Numbers.{NumberLaws}
+use Rattle.tsp_round.proofs.NumbersReadBack.{NumberLaws}
 use Rattle.tsp_round.proofs.KeyFields.{name_step, kind_step, comment_step, other_step, dimension_step, capacity_step, scale_step, weight_kind_step, weight_format_step, coord_kind_step, display_kind_step}
 use Rattle.tsp_round.proofs.SectionFields.{section_step}
 use Rattle.tsp_round.proofs.Stages.{Ready, Step}

@@ -12,14 +12,14 @@ use Rattle.std.proofs.lemmas.List.{length_push, take_all, map-append}
 use Rattle.std.proofs.lemmas.List.FromFn.{map-range_with_len_more}
 use Rattle.tsp_number.specs.declared.fault.NumberFault.{NumberFault}
 use Rattle.tsp_number.specs.Reading.{whole_of}
-use Rattle.tsp_format.specs.Cells.{nodes_to}
+use Rattle.tsp_format.specs.Nodes.{nodes_to}
 use Rattle.tsp_draft.specs.Validity.{is_from_to, is_node}
 use Rattle.tsp_text.specs.SectionNumbers.{number, node, reads_as}
 use Rattle.tsp_text.specs.WordPlaces.{NodeAfter, Amount, PastGroups}
 use Rattle.tsp_text.specs.Groups.{pairs_in, begun_pair, number_groups, entry_of, by_node, numbers_by_node, place_in_group, nodes_of_groups, place_of_number}
 use Rattle.tsp_text.specs.FaultRows.{word_fault}
 use Rattle.tsp_text.proofs.PairWords.{pairs_begin, begun_begin, pairs_end, begun_end}
-use Rattle.tsp_round.proofs.Numbers.{NumberLaws, node_back}
+use Rattle.tsp_round.proofs.NumbersReadBack.{NumberLaws, node_back}
 use Rattle.tsp_round.proofs.Taken.{AllTaken}
 use Rattle.tsp_round.proofs.Lists.{no_rows}
 

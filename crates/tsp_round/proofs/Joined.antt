@@ -18,13 +18,13 @@ use Rattle.tsp_file.specs.CanonicalText.{text_of_field, text_of}
 use Rattle.tsp_file.proofs.AllFit.{all_fit}
 use Rattle.tsp_text.specs.declared.fault.ReadFault.{ReadFault}
 use Rattle.tsp_text.specs.declared.fault.ReadFault.TheVariants as faults
-use Rattle.tsp_text.specs.Items.{Item, Line, LineEnd, word_line, items_of, settled_items, to_end_line, has_end_line}
+use Rattle.tsp_text.specs.Items.{Item, Line, LineEnd, word_line_of, items_of, settled_items, to_end_line, has_end_line}
 use Rattle.tsp_text.specs.FaultRows.{when, first_row}
 use Rattle.tsp_text.specs.FirstFault.{fault_in, IsClean}
 use Rattle.tsp_text.specs.Spells.{spelled, first_incomplete, fault_at_end}
 use Rattle.tsp_text.specs.Text.{is_too_long, part, fault, Spells}
 use Rattle.tsp_text.proofs.Clean.{clean_more}
-use Rattle.tsp_round.proofs.Numbers.{NumberLaws}
+use Rattle.tsp_round.proofs.NumbersReadBack.{NumberLaws}
 use Rattle.tsp_round.proofs.Onto.{onto, onto_reversed, ended_at}
 use Rattle.tsp_round.proofs.Stages.{Stage, all_fields, fields_ordered, first_stage}
 use Rattle.tsp_round.proofs.FieldSteps.{field_step}
@@ -35,7 +35,7 @@ use Rattle.tsp_round.proofs.Complete.{none_incomplete}
 
 -- the line EOF, as it is written
 abbrev end_line : Item
-end_line = Line Eof (word_line (codes "EOF"))
+end_line = Line Eof (word_line_of (codes "EOF"))
 
 end_written : items_of (codes "EOF" ++ 10 ∷ []) ≡ end_line ∷ LineEnd ∷ []
 end_written = refl

@@ -19,14 +19,14 @@ use Rattle.tsp_format.specs.Limits.{most_nodes, most_capacity, most_scale, most_
 use Rattle.tsp_draft.specs.Fields.{Fields}
 use Rattle.tsp_draft.specs.Validity.{if_there, is_kept, is_from_to, is_node, is_other, fits}
 use Rattle.tsp_file.specs.CanonicalText.{keyword_line, optional, text_of_field}
-use Rattle.tsp_text.specs.Lines.{is_filled, first_word}
+use Rattle.tsp_text.specs.Lines.{is_not_empty, first_word}
 use Rattle.tsp_text.specs.Items.{Item, Line}
 use Rattle.tsp_text.specs.Earlier.{same_field, value_at, values_at, others_in, words_of}
 use Rattle.tsp_text.specs.FaultRows.{may_repeat, row_of}
 use Rattle.tsp_text.proofs.ValidSections.{same_field_is}
 use Rattle.tsp_round.proofs.Text.{is_plain, is_plain_word, no_blank, one_line_word}
 use Rattle.tsp_round.proofs.Lines.{IsWhole, IsKeyword, written_line, value_text}
-use Rattle.tsp_round.proofs.Numbers.{NumberLaws, signed_plain, short_signed, size_from}
+use Rattle.tsp_round.proofs.NumbersReadBack.{NumberLaws, signed_plain, short_signed, size_from}
 use Rattle.tsp_round.proofs.Words.{kind_row, kind_whole, weight_kind_row, weight_kind_whole, weight_format_row, weight_format_whole, coord_kind_row, coord_kind_whole, display_kind_row, display_kind_whole}
 use Rattle.tsp_round.proofs.Keys.{text_length, kept, name_row, dimension_row, capacity_row, scale_row, no_comment, comments_run}
 use Rattle.tsp_round.proofs.Others.{others_run}
@@ -58,7 +58,7 @@ plain_whole (b ∷ bytes) plain =
 record NumberLine (keyword : List ℕ) (low high z : ℤ) : Type 0 where
   whole : IsWhole (signed_decimal z)
   short : nat_lt most_line_bytes (length (value_text keyword (signed_decimal z))) ≡ false
-  filled : is_filled (signed_decimal z) ≡ true
+  filled : is_not_empty (signed_decimal z) ≡ true
   read : result_err (whole_of (first_word (signed_decimal z)) low high) ≡ None
 
 line_of_number : NumberLaws → (keyword : List ℕ) → length keyword ≤ 100 → (low high z : ℤ) → unsigned_abs z < 2 ^ 63
@@ -68,7 +68,7 @@ line_of_number laws keyword few low high z small inside =
     record {
       whole = plain_whole (signed_decimal z) plain;
       short = text_length keyword (signed_decimal z) most_kept_bytes (omega (arith, short_signed z small, few)) (omega arith);
-      filled = (and_parts (is_filled (signed_decimal z)) (list_all is_plain (signed_decimal z)) plain).0;
+      filled = (and_parts (is_not_empty (signed_decimal z)) (list_all is_plain (signed_decimal z)) plain).0;
       read = ap (λ (word : List ℕ). result_err (whole_of word low high)) (only_word (signed_decimal z) plain)
           ∙ ap (λ (r : Result ℤ NumberFault). result_err r) (laws.whole_back z low high small inside);
     }

@@ -13,7 +13,7 @@ use Rattle.tsp_format.specs.Words.{field_word}
 use Rattle.tsp_format.specs.Limits.{most_line_bytes, most_kept_bytes, most_comments}
 use Rattle.tsp_draft.specs.Validity.{is_kept}
 use Rattle.tsp_file.specs.CanonicalText.{blank_before, keyword_line}
-use Rattle.tsp_text.specs.Lines.{is_filled}
+use Rattle.tsp_text.specs.Lines.{is_not_empty}
 use Rattle.tsp_text.specs.Items.{WordLine, Item, Line, LineEnd, has_end_line}
 use Rattle.tsp_text.specs.Earlier.{same_field, has_line, value_at, values_at, others_in, words_of}
 use Rattle.tsp_text.specs.Values.{read_as}
@@ -72,17 +72,17 @@ name_row earlier value unseen k =
     name_line_row earlier line unseen short room = rw (short, unseen, room) refl
 
 pub dimension_row : (earlier : List Item) (line : WordLine) → has_line DimensionKey earlier ≡ false
-    → nat_lt most_line_bytes line.size ≡ false → is_filled line.value ≡ true
+    → nat_lt most_line_bytes line.size ≡ false → is_not_empty line.value ≡ true
     → option_and_then result_err (read_as DimensionKey line.value) ≡ None → row_of earlier (Line (Known DimensionKey) line) ≡ None
 dimension_row earlier line unseen short filled read = rw (short, unseen, filled, read) refl
 
 pub capacity_row : (earlier : List Item) (line : WordLine) → has_line CapacityKey earlier ≡ false
-    → nat_lt most_line_bytes line.size ≡ false → is_filled line.value ≡ true
+    → nat_lt most_line_bytes line.size ≡ false → is_not_empty line.value ≡ true
     → option_and_then result_err (read_as CapacityKey line.value) ≡ None → row_of earlier (Line (Known CapacityKey) line) ≡ None
 capacity_row earlier line unseen short filled read = rw (short, unseen, filled, read) refl
 
 pub scale_row : (earlier : List Item) (line : WordLine) → has_line ScaleKey earlier ≡ false
-    → nat_lt most_line_bytes line.size ≡ false → is_filled line.value ≡ true
+    → nat_lt most_line_bytes line.size ≡ false → is_not_empty line.value ≡ true
     → option_and_then result_err (read_as ScaleKey line.value) ≡ None → row_of earlier (Line (Known ScaleKey) line) ≡ None
 scale_row earlier line unseen short filled read = rw (short, unseen, filled, read) refl
 

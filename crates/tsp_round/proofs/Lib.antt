@@ -2,7 +2,7 @@ pub mod Text
 pub mod Taken
 pub mod Onto
 pub mod Lines
-pub mod Numbers
+pub mod NumbersReadBack
 pub mod Lists
 pub mod Triples
 pub mod Groups

@@ -11,7 +11,7 @@ use Rattle.tsp_format.specs.Bytes.{is_blank, is_letter, is_keyword_byte}
 use Rattle.tsp_format.specs.Keywords.{keyword_of}
 use Rattle.tsp_file.specs.CanonicalText.{blank_before, value_line}
 use Rattle.tsp_text.specs.Lines.{ends_line, without_start, without_end, begins, is_word_line, keyword_in, after_keyword, is_colon, has_colon, value_in, words_in}
-use Rattle.tsp_text.specs.Items.{WordLine, Item, Line, NumberWord, LineEnd, word_line, line_item, items_in, items_of}
+use Rattle.tsp_text.specs.Items.{WordLine, Item, Line, NumberWord, LineEnd, word_line_of, line_item, items_in, items_of}
 use Rattle.tsp_text.specs.Cuts.{has_no_line_end}
 use Rattle.tsp_round.proofs.Text.{Writes, line_written, all_such}
 
@@ -89,9 +89,9 @@ line_found keyword value key whole =
     let found : keyword_in text ≡ keyword = keyword_is keyword value key.bytes in
     let after : after_keyword text ≡ 58 ∷ blank_before value = after_is keyword value key.bytes in
     let colon : has_colon text ≡ true = ap (begins is_colon) after in
-    let line : word_line text ≡ written_line keyword value =
+    let line : word_line_of text ≡ written_line keyword value =
     same_line (length text) (keyword_in text) keyword (has_colon text) (value_in text) value found colon (value_found text value after whole) in
-    ap (λ (word : List ℕ). Line (keyword_of word) (word_line text)) found ∙ ap (λ (l : WordLine). Line (keyword_of keyword) l) line
+    ap (λ (word : List ℕ). Line (keyword_of word) (word_line_of text)) found ∙ ap (λ (l : WordLine). Line (keyword_of keyword) l) line
 
 letter_filled : (b : ℕ) → is_letter b ≡ true → is_blank b ≡ false
 letter_filled b e = grind (arith, nat_tests)

@@ -11,7 +11,7 @@ use Rattle.std.proofs.lemmas.Bool.Decides.{Decides-int_eq}
 use Rattle.std.proofs.lemmas.List.{length_push}
 use Rattle.tsp_number.specs.declared.fault.NumberFault.{NumberFault}
 use Rattle.tsp_format.specs.Limits.{most_weight, most_depots, most_fixed}
-use Rattle.tsp_draft.specs.Validity.{is_within, is_node, is_node_pair}
+use Rattle.tsp_draft.specs.Validity.{is_within, is_node, is_pair_of}
 use Rattle.tsp_text.specs.declared.fault.LineFault.TheVariants as row
 use Rattle.tsp_text.specs.SectionNumbers.{number, node, node_or_end, is_end, whole_of_size, reads_as}
 use Rattle.tsp_text.specs.WordPlaces.{DepotAfter, FirstAfter, SecondOf, PastEnd, Weight, PastWeights}
@@ -21,7 +21,7 @@ use Rattle.tsp_text.specs.WeightSection.{weights_in, place_of_weight}
 use Rattle.tsp_text.specs.FaultRows.{when, first_row, word_fault}
 use Rattle.tsp_text.proofs.Ended.{any_push}
 use Rattle.tsp_text.proofs.PairWords.{pairs_begin, begun_begin, firsts_begin, pairs_end, begun_end, firsts_end}
-use Rattle.tsp_round.proofs.Numbers.{NumberLaws, node_back, listed_back, node_goes_on, end_read, end_ends, size_in}
+use Rattle.tsp_round.proofs.NumbersReadBack.{NumberLaws, node_back, listed_back, node_goes_on, end_read, end_ends, size_in}
 use Rattle.tsp_round.proofs.Taken.{AllTaken}
 
 -- ---- rows of a word
@@ -109,7 +109,7 @@ pub record ArePair (n a b : ℕ) : Type 0 where
   pub second : is_node n b ≡ true
   pub differ : (a == b) ≡ false
 
-pub are_pair : (n : ℕ) (pair : ℕ × ℕ) → is_node_pair n pair ≡ true → ArePair n pair.0 pair.1
+pub are_pair : (n : ℕ) (pair : ℕ × ℕ) → is_pair_of n pair ≡ true → ArePair n pair.0 pair.1
 are_pair n pair fits =
     let parts = and_parts (is_node n pair.0 && is_node n pair.1) (not (pair.0 == pair.1)) fits in
     let each = and_parts (is_node n pair.0) (is_node n pair.1) parts.0 in
@@ -127,12 +127,12 @@ pair_place n words begun unended whole = rw (unended, whole) refl
 
 pub fixed_taken : NumberLaws → (n : ℕ) → n < 2 ^ 32 → (earlier : List (List ℕ)) (pairs : List (ℕ × ℕ))
     → list_any (is_end n) (firsts_in earlier) ≡ false → begun_pair earlier ≡ []
-    → length (pairs_in earlier) + length pairs ≤ most_fixed → list_all (is_node_pair n) pairs ≡ true
+    → length (pairs_in earlier) + length pairs ≤ most_fixed → list_all (is_pair_of n) pairs ≡ true
     → AllTaken n (place_of_fixed n) earlier (flat_map pair_words pairs ++ codes "-1" ∷ [])
 fixed_taken laws n few earlier [] unended whole room all =
     (ap (λ p. word_fault n p (codes "-1")) (pair_place n earlier [] unended whole) ∙ end_taken laws n (length (pairs_in earlier)), tt)
 fixed_taken laws n few earlier (pair ∷ pairs) unended whole room all =
-    let both = and_parts (is_node_pair n pair) (list_all (is_node_pair n) pairs) all in
+    let both = and_parts (is_pair_of n pair) (list_all (is_pair_of n) pairs) all in
     let are = are_pair n pair both.0 in
     let a = decimal pair.0 in
     let b = decimal pair.1 in
@@ -150,11 +150,11 @@ fixed_taken laws n few earlier (pair ∷ pairs) unended whole room all =
       ),
     )
 
-pub fixed_back : NumberLaws → (n : ℕ) → n < 2 ^ 32 → (pairs : List (ℕ × ℕ)) → list_all (is_node_pair n) pairs ≡ true
+pub fixed_back : NumberLaws → (n : ℕ) → n < 2 ^ 32 → (pairs : List (ℕ × ℕ)) → list_all (is_pair_of n) pairs ≡ true
     → fixed_in n (flat_map pair_words pairs ++ codes "-1" ∷ []) ≡ pairs
 fixed_back laws n few [] all = refl
 fixed_back laws n few (pair ∷ pairs) all =
-    let both = and_parts (is_node_pair n pair) (list_all (is_node_pair n) pairs) all in
+    let both = and_parts (is_pair_of n pair) (list_all (is_pair_of n) pairs) all in
     let are = are_pair n pair both.0 in
     let more = flat_map pair_words pairs ++ codes "-1" ∷ [] in
     let read : List ℕ × List ℕ → ℕ × ℕ = λ p. (nat_abs (number (node_or_end n p.0)), nat_abs (number (node n p.1))) in

@@ -24,7 +24,7 @@ use Rattle.tsp_text.specs.Groups.{threes_in, begun_triple, point_in_words, point
 use Rattle.tsp_text.specs.FaultRows.{word_fault}
 use Rattle.tsp_text.proofs.TripleWords.{triples_begin, begun_begin, triples_middle, begun_middle, triples_end, begun_end}
 use Rattle.tsp_round.proofs.Groups.{tagged, fused, one_node, new_node, by_node_back}
-use Rattle.tsp_round.proofs.Numbers.{NumberLaws, node_back, size_in}
+use Rattle.tsp_round.proofs.NumbersReadBack.{NumberLaws, node_back, size_in}
 use Rattle.tsp_round.proofs.Taken.{AllTaken}
 use Rattle.tsp_round.proofs.Lists.{no_rows}
 

@@ -28,7 +28,7 @@ use Rattle.tsp_text.proofs.Sections.{by_section, section_of, opening, nodes_stay
 use Rattle.tsp_text.proofs.ValidSections.{same_field_is}
 use Rattle.tsp_text.specs.Cuts.{has_no_line_end}
 use Rattle.tsp_round.proofs.Text.{Writes, line_written, both_written, number_words, are_numbers}
-use Rattle.tsp_round.proofs.Numbers.{NumberLaws}
+use Rattle.tsp_round.proofs.NumbersReadBack.{NumberLaws}
 use Rattle.tsp_round.proofs.Onto.{onto, value_kept, values_kept, others_kept, no_end_line, other_words, section_words, words_clean}
 use Rattle.tsp_round.proofs.Taken.{AllTaken}
 use Rattle.tsp_round.proofs.Shapes.{Entries, entries_in, are_valid, lines_for, words_for, text_for, text_by, fit_for, fits_by, is_writable, body}

@@ -22,7 +22,7 @@ use Rattle.tsp_text.specs.Values.{read_as}
 use Rattle.tsp_text.specs.Sections.{dimension_in}
 use Rattle.tsp_text.specs.FaultRows.{may_repeat}
 use Rattle.tsp_round.proofs.Text.{is_plain_word, unblank}
-use Rattle.tsp_round.proofs.Numbers.{NumberLaws, decimal_plain}
+use Rattle.tsp_round.proofs.NumbersReadBack.{NumberLaws, decimal_plain}
 use Rattle.tsp_round.proofs.Onto.{has_value}
 use Rattle.tsp_round.proofs.Stages.{Ready}
 

@@ -10,11 +10,11 @@ use Rattle.tsp_distance.specs.declared.decimal.Point.{Point}
 use Rattle.tsp_format.specs.declared.field.Field.{Field}
 use Rattle.tsp_format.specs.declared.field.Shape.{Shape}
 use Rattle.tsp_format.specs.declared.field.Shape.TheVariants.{Numbers, Points, SpacePoints, Depots, Pairs, Weights, Tours, Triples, Combs, Steps}
-use Rattle.tsp_format.specs.Limits.{most_nodes, most_matrix_nodes, most_weight, most_depots, most_fixed, most_multipliers, most_tour_nodes, most_combs}
+use Rattle.tsp_format.specs.Limits.{most_nodes, most_matrix_nodes, most_weight, most_depots, most_fixed, most_triples, most_tour_nodes, most_combs}
 use Rattle.tsp_format.specs.Steps.{Step}
 use Rattle.tsp_draft.specs.Fields.{Fields, numbers_in, points_in}
-use Rattle.tsp_draft.specs.Validity.{if_there, is_by_node, is_point, is_within, is_from_to, is_node, is_node_pair, is_triple, are_depots, are_fixed, are_triples, are_weights, is_tour, are_tours, are_combs, are_steps, with_dimension, section_fits}
-use Rattle.tsp_file.specs.CanonicalText.{section_text, lines_by_node, node_list, pair_list, triple_list, comb_list, step_lines, point_numbers, whole_number, line_lens, matrix_lines, optional, text_of_section}
+use Rattle.tsp_draft.specs.Validity.{if_there, is_by_node, is_point, is_within, is_from_to, is_node, is_pair_of, is_triple_of, are_depots, are_fixed, are_triples, fit_matrix, is_node_list, are_tours, are_combs, are_tree_steps, with_dimension, section_fits}
+use Rattle.tsp_file.specs.CanonicalText.{section_text, lines_by_node, node_list, pair_list, triple_list, comb_list, case_tree_lines, coordinate_words, whole_number, line_lens, matrix_lines, optional, text_of_section}
 use Rattle.tsp_text.specs.SectionNumbers.{is_end}
 use Rattle.tsp_text.specs.WordPlaces.{PastGroups, PastEnd, Weight, PastWeights, Coordinate, Amount, DepotAfter}
 use Rattle.tsp_text.specs.Groups.{numbers_by_node, points_by_node, space_points_by_node, begun_pair, begun_triple, begun_four, number_groups, point_groups, space_point_groups, nodes_of_groups, place_in_group, pairs_in, threes_in}
@@ -27,7 +27,7 @@ use Rattle.tsp_text.specs.Sections.{place_by}
 use Rattle.tsp_text.specs.Spells.{wants_more}
 use Rattle.tsp_text.specs.Opening.{needs_nodes, is_matrix}
 use Rattle.tsp_round.proofs.Text.{WritesWords}
-use Rattle.tsp_round.proofs.Numbers.{NumberLaws, end_ends}
+use Rattle.tsp_round.proofs.NumbersReadBack.{NumberLaws, end_ends}
 use Rattle.tsp_round.proofs.Taken.{AllTaken}
 use Rattle.tsp_round.proofs.Lists.{pair_words, depots_taken, depots_back, fixed_taken, fixed_back, fixed_ended, weights_taken, weights_back}
 use Rattle.tsp_round.proofs.Triples.{triple_words, triples_taken, triples_back, triples_ended}
@@ -75,24 +75,24 @@ are_valid Points n xs = is_by_node (is_point false) n xs
 are_valid SpacePoints n xs = is_by_node (is_point true) n xs
 are_valid Depots n xs = are_depots n xs
 are_valid Pairs n xs = are_fixed n xs
-are_valid Weights n xs = are_weights n xs
+are_valid Weights n xs = fit_matrix n xs
 are_valid Tours n xs = are_tours xs
 are_valid Triples n xs = are_triples n xs
 are_valid Combs n xs = are_combs n xs
-are_valid Steps n xs = are_steps n xs
+are_valid Steps n xs = are_tree_steps n xs
 
 -- their lines; those of weights have these lengths
 abbrev pub lines_for : List ℕ → (shape : Shape) → Entries shape → List ℕ
 lines_for lens (Numbers low high) xs = lines_by_node whole_number xs
-lines_for lens Points xs = lines_by_node (point_numbers false) xs
-lines_for lens SpacePoints xs = lines_by_node (point_numbers true) xs
+lines_for lens Points xs = lines_by_node (coordinate_words false) xs
+lines_for lens SpacePoints xs = lines_by_node (coordinate_words true) xs
 lines_for lens Depots xs = node_list xs
 lines_for lens Pairs xs = pair_list xs
 lines_for lens Weights xs = matrix_lines lens xs
 lines_for lens Tours xs = flat_map node_list xs
 lines_for lens Triples xs = triple_list xs
 lines_for lens Combs xs = comb_list xs
-lines_for lens Steps xs = step_lines xs
+lines_for lens Steps xs = case_tree_lines xs
 
 -- the words of the lines
 abbrev pub words_for : (shape : Shape) → Entries shape → List (List ℕ)
@@ -252,7 +252,7 @@ body laws lens Depots writable n few xs fit =
       few = λ e. absurd (false≢true e);
     }
 body laws lens Pairs writable n few xs fit =
-    let both = and_parts (nat_le (length xs) most_fixed) (list_all (is_node_pair n) xs) fit in
+    let both = and_parts (nat_le (length xs) most_fixed) (list_all (is_pair_of n) xs) fit in
     let most = few_nodes n (few refl) in
     let words = flat_map pair_words xs ++ codes "-1" ∷ [] in
     record {
@@ -273,7 +273,7 @@ body laws lens Weights writable n few xs fit =
       few = λ e. le-ltb most_matrix_nodes n (leb-true n most_matrix_nodes sizes.0);
     }
 body laws lens Tours writable n few xs fit =
-    let both = and_parts (list_all is_tour xs) (nat_le (sum_by length xs) most_tour_nodes) fit in
+    let both = and_parts (list_all is_node_list xs) (nat_le (sum_by length xs) most_tour_nodes) fit in
     record {
       written = tour_lines_written xs both.0;
       taken = tours_taken laws n [] xs (omega (arith, leb-true (sum_by length xs) most_tour_nodes both.1)) both.0;
@@ -282,12 +282,12 @@ body laws lens Tours writable n few xs fit =
       few = λ e. absurd (false≢true e);
     }
 body laws lens Triples writable n few xs fit =
-    let both = and_parts (nat_le (length xs) most_multipliers) (list_all (is_triple n) xs) fit in
+    let both = and_parts (nat_le (length xs) most_triples) (list_all (is_triple_of n) xs) fit in
     let most = few_nodes n (few refl) in
     let words = flat_map triple_words xs ++ codes "-1" ∷ [] in
     record {
       written = triple_lines_written n most xs both.1;
-      taken = triples_taken laws n most [] xs refl refl (omega (arith, leb-true (length xs) most_multipliers both.0)) both.1;
+      taken = triples_taken laws n most [] xs refl refl (omega (arith, leb-true (length xs) most_triples both.0)) both.1;
       back = triples_back laws n most xs both.1;
       done = ap (λ b. wants_more (cond b PastEnd (place_in_triple n (length (threes_in words)) (begun_triple words)))) (triples_ended laws n xs);
       few = λ e. absurd (false≢true e);

@@ -21,7 +21,7 @@ use Rattle.tsp_text.specs.Groups.{fours_in, begun_four, space_point_of, space_po
 use Rattle.tsp_text.specs.FaultRows.{word_fault}
 use Rattle.tsp_text.proofs.FourWords.{fours_begin, begun_begin, fours_second, begun_second, fours_third, begun_third, fours_end, begun_end}
 use Rattle.tsp_round.proofs.Groups.{tagged, fused, one_node, new_node, by_node_back}
-use Rattle.tsp_round.proofs.Numbers.{NumberLaws, node_back}
+use Rattle.tsp_round.proofs.NumbersReadBack.{NumberLaws, node_back}
 use Rattle.tsp_round.proofs.Taken.{AllTaken}
 use Rattle.tsp_round.proofs.Lists.{no_rows}
 use Rattle.tsp_round.proofs.Points.{coordinate_back}

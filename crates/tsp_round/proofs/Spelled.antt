@@ -11,7 +11,7 @@ use Rattle.tsp_format.specs.Limits.{most_nodes, most_capacity, most_scale}
 use Rattle.tsp_draft.specs.Validity.{if_there, is_from_to, is_node}
 use Rattle.tsp_text.specs.Lines.{first_word}
 use Rattle.tsp_text.specs.Values.{read_as}
-use Rattle.tsp_round.proofs.Numbers.{NumberLaws, signed_plain, size_from}
+use Rattle.tsp_round.proofs.NumbersReadBack.{NumberLaws, signed_plain, size_from}
 use Rattle.tsp_round.proofs.Sections.{only_word, dimension_back}
 
 -- ---- one value from the line of its field

@@ -7,7 +7,7 @@ use Rattle.tsp_format.specs.Words.{field_word}
 use Rattle.tsp_format.specs.Keywords.{keyword_of}
 use Rattle.tsp_draft.specs.Fields.{Fields}
 use Rattle.tsp_file.specs.CanonicalText.{keyword_line}
-use Rattle.tsp_text.specs.Items.{WordLine, Item, Line, LineEnd, word_line, items_of}
+use Rattle.tsp_text.specs.Items.{WordLine, Item, Line, LineEnd, word_line_of, items_of}
 use Rattle.tsp_text.specs.Earlier.{same_field, value_at, values_at, others_in, words_of}
 use Rattle.tsp_text.specs.FaultRows.{may_repeat, row_of}
 use Rattle.tsp_text.proofs.Clean.{clean_more}
@@ -69,4 +69,4 @@ key_line f text field value earlier known text_is key_is key whole value_is no_w
 -- ---- a section
 
 abbrev pub section_line : Field → WordLine
-section_line field = word_line (field_word field)
+section_line field = word_line_of (field_word field)

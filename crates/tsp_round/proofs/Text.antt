@@ -7,17 +7,17 @@ use Rattle.std.proofs.lemmas.Bool.Decides.{nat_tests}
 use Rattle.std.proofs.lemmas.List.Folds.{list_all-append}
 use Rattle.tsp_format.specs.Bytes.{is_blank, is_letter}
 use Rattle.tsp_file.specs.CanonicalText.{number_line}
-use Rattle.tsp_text.specs.Lines.{ends_line, lines_of, is_filled, words_in, without_start, is_word_line}
+use Rattle.tsp_text.specs.Lines.{ends_line, lines_of, is_not_empty, words_in, without_start, is_word_line}
 use Rattle.tsp_text.specs.Items.{Item, Line, NumberWord, LineEnd, line_item, items_in, items_by, items_of}
 use Rattle.tsp_text.specs.Cuts.{has_no_line_end}
 
 -- ---- pieces
 
-split_filled : {A : Type 0} (p : A → Bool) (xs : List A) → is_filled (slice_split p xs) ≡ true
+split_filled : {A : Type 0} (p : A → Bool) (xs : List A) → is_not_empty (slice_split p xs) ≡ true
 split_filled p [] = refl
 split_filled {A} p (x ∷ xs) = by_case (p x) (slice_split p xs)
   where
-    by_case : (b : Bool) (parts : List (List A)) → is_filled (cond b ([] ∷ parts) (onto_first x parts)) ≡ true
+    by_case : (b : Bool) (parts : List (List A)) → is_not_empty (cond b ([] ∷ parts) (onto_first x parts)) ≡ true
     by_case true parts = refl
     by_case false [] = refl
     by_case false (part ∷ parts) = refl
@@ -46,7 +46,7 @@ split_none p (x ∷ front) none =
 abbrev pub Writes : List ℕ → List Item → Type 0
 Writes text items = (rest : List ℕ) → items_of (text ++ rest) ≡ items ++ items_of rest
 
-line_then : (line : List ℕ) (lines : List (List ℕ)) → is_filled lines ≡ true
+line_then : (line : List ℕ) (lines : List (List ℕ)) → is_not_empty lines ≡ true
     → items_by items_in (line ∷ lines) ≡ items_in line ++ LineEnd ∷ items_by items_in lines
 line_then line [] there = absurd (false≢true there)
 line_then line (next ∷ lines) there = refl
@@ -126,7 +126,7 @@ is_plain b = nat_le 45 b && nat_le b 57
 
 -- a word of such bytes
 abbrev pub is_plain_word : List ℕ → Bool
-is_plain_word word = is_filled word && list_all is_plain word
+is_plain_word word = is_not_empty word && list_all is_plain word
 
 pub no_blank : (b : ℕ) → is_plain b ≡ true → not (is_blank b) ≡ true
 no_blank b e = grind (arith, nat_tests)
@@ -146,7 +146,7 @@ all_such p q such (x ∷ xs) all =
 
 pub unblank : (word : List ℕ) → is_plain_word word ≡ true → list_all (λ b. not (is_blank b)) word ≡ true
 unblank word plain =
-    all_such is_plain (λ b. not (is_blank b)) no_blank word (and_parts (is_filled word) (list_all is_plain word) plain).1
+    all_such is_plain (λ b. not (is_blank b)) no_blank word (and_parts (is_not_empty word) (list_all is_plain word) plain).1
 
 abbrev line_text : List ℕ → List (List ℕ) → List ℕ
 line_text first more = first ++ flat_map (λ word. 32 ∷ word) more
@@ -164,14 +164,14 @@ all_kept {A} p (x ∷ xs) all =
     let both = and_parts (p x) (list_all p xs) all in
     ap (λ b. cond b (x ∷ filter p xs) (filter p xs)) both.0 ∙ ap (λ (ys : List A). x ∷ ys) (all_kept p xs both.1)
 
-first_filled : (word : List ℕ) → is_plain_word word ≡ true → is_filled word ≡ true
-first_filled word plain = (and_parts (is_filled word) (list_all is_plain word) plain).0
+first_filled : (word : List ℕ) → is_plain_word word ≡ true → is_not_empty word ≡ true
+first_filled word plain = (and_parts (is_not_empty word) (list_all is_plain word) plain).0
 
 line_words : (first : List ℕ) (more : List (List ℕ)) → is_plain_word first ≡ true → list_all is_plain_word more ≡ true
     → words_in (line_text first more) ≡ first ∷ more
 line_words first more plain all =
-    ap (filter is_filled) (split_words first more plain all)
-    ∙ all_kept is_filled (first ∷ more) (and_from (is_filled first) (list_all is_filled more) (first_filled first plain) (all_such is_plain_word is_filled first_filled more all))
+    ap (filter is_not_empty) (split_words first more plain all)
+    ∙ all_kept is_not_empty (first ∷ more) (and_from (is_not_empty first) (list_all is_not_empty more) (first_filled first plain) (all_such is_plain_word is_not_empty first_filled more all))
 
 -- the line begins with a byte of a number
 no_word_line : (first rest : List ℕ) → is_plain_word first ≡ true → is_word_line (first ++ rest) ≡ false
@@ -183,7 +183,7 @@ no_word_line (b ∷ first) rest plain =
 
 pub one_line_word : (word : List ℕ) → is_plain_word word ≡ true → has_no_line_end word ≡ true
 one_line_word word plain =
-    all_such is_plain (λ b. not (ends_line b)) no_end word (and_parts (is_filled word) (list_all is_plain word) plain).1
+    all_such is_plain (λ b. not (ends_line b)) no_end word (and_parts (is_not_empty word) (list_all is_plain word) plain).1
 
 one_line_more : (more : List (List ℕ)) → list_all is_plain_word more ≡ true
     → has_no_line_end (flat_map (λ word. 32 ∷ word) more) ≡ true

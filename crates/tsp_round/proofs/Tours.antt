@@ -10,12 +10,12 @@ use Rattle.std.proofs.lemmas.List.Elements.{filter-append}
 use Rattle.std.proofs.lemmas.List.Sums.{sum_by-cons}
 use Rattle.tsp_number.specs.declared.fault.NumberFault.{NumberFault}
 use Rattle.tsp_format.specs.Limits.{most_nodes, most_tour_nodes}
-use Rattle.tsp_draft.specs.Validity.{is_node, is_tour}
-use Rattle.tsp_text.specs.Lines.{is_filled}
+use Rattle.tsp_draft.specs.Validity.{is_node, is_node_list}
+use Rattle.tsp_text.specs.Lines.{is_not_empty}
 use Rattle.tsp_text.specs.SectionNumbers.{number, node_or_end, is_end}
 use Rattle.tsp_text.specs.TourSection.{ends_tour, tour_node, tours_in, place_of_tour}
 use Rattle.tsp_round.proofs.Text.{split_at}
-use Rattle.tsp_round.proofs.Numbers.{NumberLaws, listed_back, node_goes_on, end_read, end_ends}
+use Rattle.tsp_round.proofs.NumbersReadBack.{NumberLaws, listed_back, node_goes_on, end_read, end_ends}
 use Rattle.tsp_round.proofs.Taken.{AllTaken, taken-append}
 use Rattle.tsp_round.proofs.Lists.{no_rows, has_room}
 
@@ -69,11 +69,11 @@ tour_count laws earlier (k ∷ tour) all =
     ∙ tour_count laws (earlier ++ decimal k ∷ []) tour both.1 ∙ omega (arith, node_count laws earlier k both.0)
 
 pub tours_taken : NumberLaws → (n : ℕ) (earlier : List (List ℕ)) (tours : List (List ℕ))
-    → length (nodes_among earlier) + sum_by length tours ≤ most_tour_nodes → list_all is_tour tours ≡ true
+    → length (nodes_among earlier) + sum_by length tours ≤ most_tour_nodes → list_all is_node_list tours ≡ true
     → AllTaken n place_of_tour earlier (flat_map tour_words tours)
 tours_taken laws n earlier [] room all = tt
 tours_taken laws n earlier (tour ∷ tours) room all =
-    let both = and_parts (is_tour tour) (list_all is_tour tours) all in
+    let both = and_parts (is_node_list tour) (list_all is_node_list tours) all in
     let nodes = (and_parts (nat_le 1 (length tour)) (list_all (is_node most_nodes) tour) both.0).1 in
     let total = sum_by-cons (λ (t : List ℕ). length t) tour tours in
     taken-append n place_of_tour earlier (tour_words tour) (flat_map tour_words tours) (tour_taken laws n earlier tour (omega (arith, total)) nodes)
@@ -92,19 +92,19 @@ nodes_back laws (k ∷ tour) all =
     let both = and_parts (is_node most_nodes k) (list_all (is_node most_nodes) tour) all in
     ap (λ r. nat_abs (number r) ∷ map tour_node (map decimal tour)) (listed_back laws most_nodes k (omega arith) both.0) ∙ ap (λ (ks : List ℕ). k ∷ ks) (nodes_back laws tour both.1)
 
-filled_tour : (tour : List ℕ) → nat_le 1 (length tour) ≡ true → is_filled (map decimal tour) ≡ true
+filled_tour : (tour : List ℕ) → nat_le 1 (length tour) ≡ true → is_not_empty (map decimal tour) ≡ true
 filled_tour [] e = absurd (false≢true e)
 filled_tour (k ∷ tour) e = refl
 
-pub tours_back : NumberLaws → (tours : List (List ℕ)) → list_all is_tour tours ≡ true
+pub tours_back : NumberLaws → (tours : List (List ℕ)) → list_all is_node_list tours ≡ true
     → tours_in (flat_map tour_words tours) ≡ tours
 tours_back laws [] all = refl
 tours_back laws (tour ∷ tours) all =
-    let both = and_parts (is_tour tour) (list_all is_tour tours) all in
+    let both = and_parts (is_node_list tour) (list_all is_node_list tours) all in
     let parts = and_parts (nat_le 1 (length tour)) (list_all (is_node most_nodes) tour) both.0 in
     let rest = flat_map tour_words tours in
-    ap (λ (ws : List (List ℕ)). map (map tour_node) (filter is_filled (slice_split ends_tour ws))) (append_assoc (map decimal tour) (codes "-1" ∷ []) rest)
-    ∙ ap (λ (pieces : List (List (List ℕ))). map (map tour_node) (filter is_filled pieces))
+    ap (λ (ws : List (List ℕ)). map (map tour_node) (filter is_not_empty (slice_split ends_tour ws))) (append_assoc (map decimal tour) (codes "-1" ∷ []) rest)
+    ∙ ap (λ (pieces : List (List (List ℕ))). map (map tour_node) (filter is_not_empty pieces))
     (split_at ends_tour (map decimal tour) (codes "-1") rest (none_ends laws tour parts.1) (end_ends laws most_nodes))
-    ∙ ap (λ b. map (map tour_node) (cond b (map decimal tour ∷ filter is_filled (slice_split ends_tour rest)) (filter is_filled (slice_split ends_tour rest)))) (filled_tour tour parts.0)
+    ∙ ap (λ b. map (map tour_node) (cond b (map decimal tour ∷ filter is_not_empty (slice_split ends_tour rest)) (filter is_not_empty (slice_split ends_tour rest)))) (filled_tour tour parts.0)
     ∙ ap (λ (t : List ℕ). t ∷ tours_in rest) (nodes_back laws tour parts.1) ∙ ap (λ (ts : List (List ℕ)). tour ∷ ts) (tours_back laws tours both.1)

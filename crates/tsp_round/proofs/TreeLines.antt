@@ -7,10 +7,10 @@ use Rattle.std.proofs.lemmas.Bool.{and_from, and_parts}
 use Rattle.std.proofs.lemmas.List.Folds.{list_all-append}
 use Rattle.tsp_format.specs.Limits.{most_combs, most_comb_nodes, most_branches, most_changes, most_difference}
 use Rattle.tsp_format.specs.Steps.{Step, Branch, Leaf, are_whole, branch_count, change_count}
-use Rattle.tsp_draft.specs.Validity.{is_within, is_node, is_set, is_comb, are_combs, is_change, is_step, are_steps}
-use Rattle.tsp_file.specs.CanonicalText.{line_end, number_line, before_blank, ended_line, set_line, comb_lines, comb_list, change_words, step_line, step_lines}
+use Rattle.tsp_draft.specs.Validity.{is_within, is_node, is_set_of, are_sets, are_combs, is_change, is_step, are_tree_steps}
+use Rattle.tsp_file.specs.CanonicalText.{line_end, number_line, before_blank, ended_line, set_line, comb_lines, comb_list, change_words, step_line, case_tree_lines}
 use Rattle.tsp_round.proofs.Text.{is_plain_word, WritesWords, number_line_written}
-use Rattle.tsp_round.proofs.Numbers.{signed_plain, size_in}
+use Rattle.tsp_round.proofs.NumbersReadBack.{signed_plain, size_in}
 use Rattle.tsp_round.proofs.Bodies.{node_plain, end_written, lines_written, list_written, pair_written}
 use Rattle.tsp_round.proofs.CombWords.{set_words, comb_words, combs_words}
 use Rattle.tsp_round.proofs.TreeWords.{step_words}
@@ -56,21 +56,21 @@ nodes_plain n few (k ∷ nodes) all =
     let both = and_parts (is_node n k) (list_all (is_node n) nodes) all in
     and_from (is_plain_word (decimal k)) (list_all is_plain_word (map decimal nodes)) (node_plain n k few both.0) (nodes_plain n few nodes both.1)
 
-set_written : (n : ℕ) → n < 2 ^ 32 → (set : List ℕ) → is_set n set ≡ true → WritesWords (set_line set) (set_words set)
+set_written : (n : ℕ) → n < 2 ^ 32 → (set : List ℕ) → is_set_of n set ≡ true → WritesWords (set_line set) (set_words set)
 set_written n few set fits =
     ended_written (map decimal set) (nodes_plain n few set (and_parts (nat_le 1 (length set)) (list_all (is_node n) set) fits).1)
 
-comb_written : (n : ℕ) → n < 2 ^ 32 → (comb : List (List ℕ)) → is_comb n comb ≡ true
+comb_written : (n : ℕ) → n < 2 ^ 32 → (comb : List (List ℕ)) → are_sets n comb ≡ true
     → WritesWords (comb_lines comb) (comb_words comb)
 comb_written n few comb fits =
-    list_written (is_set n) set_line set_words (set_written n few) comb (and_parts (nat_le 1 (length comb)) (list_all (is_set n) comb) fits).1
+    list_written (is_set_of n) set_line set_words (set_written n few) comb (and_parts (nat_le 1 (length comb)) (list_all (is_set_of n) comb) fits).1
 
 pub combs_written : (n : ℕ) → n < 2 ^ 32 → (combs : List (List (List ℕ))) → are_combs n combs ≡ true
     → WritesWords (comb_list combs) (combs_words combs)
 combs_written n few combs fits =
-    let two = and_parts (nat_le (length combs) most_combs && list_all (is_comb n) combs) (nat_le (sum_by (sum_by length) combs) most_comb_nodes) fits in
-    let one = and_parts (nat_le (length combs) most_combs) (list_all (is_comb n) combs) two.0 in
-    list_written (is_comb n) comb_lines comb_words (comb_written n few) combs one.1
+    let two = and_parts (nat_le (length combs) most_combs && list_all (are_sets n) combs) (nat_le (sum_by (sum_by length) combs) most_comb_nodes) fits in
+    let one = and_parts (nat_le (length combs) most_combs) (list_all (are_sets n) combs) two.0 in
+    list_written (are_sets n) comb_lines comb_words (comb_written n few) combs one.1
 
 -- ---- steps
 
@@ -94,8 +94,8 @@ step_written n few (Leaf changes) fits =
     let words = flat_map change_words changes in
     ended_written (codes "0" ∷ words) (and_from (is_plain_word (codes "0")) (list_all is_plain_word words) refl (changes_plain n few changes fits))
 
-pub steps_written : (n : ℕ) → n + most_combs < 2 ^ 32 → (steps : List Step) → are_steps n steps ≡ true
-    → WritesWords (step_lines steps) (flat_map step_words steps)
+pub steps_written : (n : ℕ) → n + most_combs < 2 ^ 32 → (steps : List Step) → are_tree_steps n steps ≡ true
+    → WritesWords (case_tree_lines steps) (flat_map step_words steps)
 steps_written n few steps fits =
     let each = list_all (is_step n) steps in
     let branches = nat_le (branch_count steps) most_branches in

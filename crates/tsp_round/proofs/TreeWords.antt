@@ -10,14 +10,14 @@ use Rattle.tsp_number.specs.declared.fault.NumberFault.{NumberFault}
 use Rattle.tsp_number.specs.Reading.{whole_of}
 use Rattle.tsp_format.specs.Limits.{most_combs, most_branches, most_changes, most_difference}
 use Rattle.tsp_format.specs.Steps.{Step, Branch, Leaf, are_whole, branch_count, change_count}
-use Rattle.tsp_draft.specs.Validity.{is_within, is_node, is_node_pair, is_change, is_step, are_steps}
+use Rattle.tsp_draft.specs.Validity.{is_within, is_node, is_pair_of, is_change, is_step, are_tree_steps}
 use Rattle.tsp_file.specs.CanonicalText.{change_words}
 use Rattle.tsp_text.specs.SectionNumbers.{number, reads_as, whole_of_size}
 use Rattle.tsp_text.specs.WordPlaces.{StepAfter, IndexAfter, Amount, PastGroups}
 use Rattle.tsp_text.specs.FaultRows.{word_fault}
 use Rattle.tsp_text.specs.Spells.{wants_more}
 use Rattle.tsp_text.specs.BranchSection.{TreeSoFar, no_steps, node_or_leaf, begins_leaf, index_or_end, ends_leaf, with_leaf, with_word_of, with_tree_word, whole_steps, place_in_step, place_in_tree, place_of_step}
-use Rattle.tsp_round.proofs.Numbers.{NumberLaws, node_back, listed_back, node_goes_on, end_read, end_ends, no_zero, size_in}
+use Rattle.tsp_round.proofs.NumbersReadBack.{NumberLaws, node_back, listed_back, node_goes_on, end_read, end_ends, no_zero, size_in}
 use Rattle.tsp_round.proofs.Taken.{AllTaken, Runs, runs_none, runs_one, runs_then, all_taken}
 use Rattle.tsp_round.proofs.Lists.{no_rows, has_room, second_taken, are_pair}
 
@@ -83,7 +83,7 @@ first_taken laws n branches k few room is =
     (and_left (nat_le most_branches branches) (not (begins_leaf n (decimal k))) room) refl
 
 branch_runs : NumberLaws → (n : ℕ) → n < 2 ^ 32 → (steps : List Step) (a b to_come branches changes : ℕ) → (to_come == 0) ≡ false
-    → nat_le most_branches branches ≡ false → is_node_pair n (a, b) ≡ true
+    → nat_le most_branches branches ≡ false → is_pair_of n (a, b) ≡ true
     → TreeRuns n (between steps to_come branches changes) (step_words (Branch a b)) (between (steps ++ Branch a b ∷ []) (to_come + 1) (branches + 1) changes)
 branch_runs laws n few steps a b to_come branches changes still room fits =
     let are = are_pair n (a, b) fits in
@@ -251,7 +251,7 @@ each_step_runs laws n few before (Leaf leaf ∷ steps) (suc to_come) branches ch
 abbrev all_of : List Step → TreeSoFar
 all_of steps = between steps 0 (0 + branch_count steps) (0 + change_count steps)
 
-all_run : NumberLaws → (n : ℕ) → n + most_combs < 2 ^ 32 → (steps : List Step) → are_steps n steps ≡ true
+all_run : NumberLaws → (n : ℕ) → n + most_combs < 2 ^ 32 → (steps : List Step) → are_tree_steps n steps ≡ true
     → TreeRuns n no_steps (flat_map step_words steps) (all_of steps)
 all_run laws n few steps fits =
     let each = list_all (is_step n) steps in
@@ -262,15 +262,15 @@ all_run laws n few steps fits =
     let one = and_parts each branches two.0 in
     each_step_runs laws n few [] steps 1 0 0 (omega (arith, leb-true (branch_count steps) most_branches one.1)) (omega (arith, leb-true (change_count steps) most_changes two.1)) one.0 three.1
 
-pub steps_taken : NumberLaws → (n : ℕ) → n + most_combs < 2 ^ 32 → (steps : List Step) → are_steps n steps ≡ true
+pub steps_taken : NumberLaws → (n : ℕ) → n + most_combs < 2 ^ 32 → (steps : List Step) → are_tree_steps n steps ≡ true
     → AllTaken n (place_of_step n) [] (flat_map step_words steps)
 steps_taken laws n few steps fits =
     all_taken n (with_tree_word n) place_in_tree no_steps [] (flat_map step_words steps) (all_run laws n few steps fits).taken
 
-pub steps_back : NumberLaws → (n : ℕ) → n + most_combs < 2 ^ 32 → (steps : List Step) → are_steps n steps ≡ true
+pub steps_back : NumberLaws → (n : ℕ) → n + most_combs < 2 ^ 32 → (steps : List Step) → are_tree_steps n steps ≡ true
     → whole_steps n (flat_map step_words steps) ≡ steps
 steps_back laws n few steps fits = ap (λ (s : TreeSoFar). s.steps) (all_run laws n few steps fits).gives
 
-pub steps_done : NumberLaws → (n : ℕ) → n + most_combs < 2 ^ 32 → (steps : List Step) → are_steps n steps ≡ true
+pub steps_done : NumberLaws → (n : ℕ) → n + most_combs < 2 ^ 32 → (steps : List Step) → are_tree_steps n steps ≡ true
     → wants_more (place_of_step n (flat_map step_words steps)) ≡ false
 steps_done laws n few steps fits = ap (λ (s : TreeSoFar). wants_more (place_in_tree s)) (all_run laws n few steps fits).gives

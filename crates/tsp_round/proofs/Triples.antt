@@ -9,14 +9,14 @@ use Rattle.std.proofs.lemmas.List.{length_push}
 use Rattle.tsp_number.specs.declared.fault.NumberFault.{NumberFault}
 use Rattle.tsp_number.specs.Reading.{whole_of}
 use Rattle.tsp_format.specs.Limits.{most_fixed, most_multiplier}
-use Rattle.tsp_draft.specs.Validity.{is_from_to, is_node_pair, is_triple}
+use Rattle.tsp_draft.specs.Validity.{is_from_to, is_pair_of, is_triple_of}
 use Rattle.tsp_text.specs.SectionNumbers.{number, node, is_end}
 use Rattle.tsp_text.specs.WordPlaces.{Amount, SecondOf}
 use Rattle.tsp_text.specs.Groups.{threes_in, begun_triple}
 use Rattle.tsp_text.specs.Lists.{before, fixed_triple, fixed_triples_in, triple_firsts_in, place_in_triple, place_of_triple}
 use Rattle.tsp_text.specs.FaultRows.{word_fault}
 use Rattle.tsp_text.proofs.TripleWords.{triples_begin, begun_begin, firsts_begin, triples_middle, begun_middle, firsts_middle, triples_end, begun_end, firsts_end}
-use Rattle.tsp_round.proofs.Numbers.{NumberLaws, node_back, listed_back, node_goes_on, end_ends, size_from}
+use Rattle.tsp_round.proofs.NumbersReadBack.{NumberLaws, node_back, listed_back, node_goes_on, end_ends, size_from}
 use Rattle.tsp_round.proofs.Taken.{AllTaken}
 use Rattle.tsp_round.proofs.Lists.{no_rows, ArePair, are_pair, still_open, end_taken, first_taken, second_taken}
 
@@ -24,10 +24,10 @@ abbrev pub triple_words : ℕ × ℕ × ℤ → List (List ℕ)
 triple_words triple = decimal triple.0 ∷ decimal triple.1 ∷ signed_decimal triple.2 ∷ []
 
 -- two different nodes, and a multiplier
-pub are_triple : (n : ℕ) (triple : ℕ × ℕ × ℤ) → is_triple n triple ≡ true
+pub are_triple : (n : ℕ) (triple : ℕ × ℕ × ℤ) → is_triple_of n triple ≡ true
     → ArePair n triple.0 triple.1 × (is_from_to (pos 0) (pos most_multiplier) triple.2 ≡ true)
 are_triple n triple fits =
-    let parts = and_parts (is_node_pair n (triple.0, triple.1)) (is_from_to (pos 0) (pos most_multiplier) triple.2) fits in
+    let parts = and_parts (is_pair_of n (triple.0, triple.1)) (is_from_to (pos 0) (pos most_multiplier) triple.2) fits in
     (are_pair n (triple.0, triple.1) parts.0, parts.1)
 
 multiplier_back : NumberLaws → (z : ℤ) → is_from_to (pos 0) (pos most_multiplier) z ≡ true
@@ -51,12 +51,12 @@ triple_place n words begun unended whole = rw (unended, whole) refl
 -- plan: by induction over the triples: two nodes and a number (`first_taken`, `second_taken`, `multiplier_taken`), then -1
 pub triples_taken : NumberLaws → (n : ℕ) → n < 2 ^ 32 → (earlier : List (List ℕ)) (triples : List (ℕ × ℕ × ℤ))
     → list_any (is_end n) (triple_firsts_in earlier) ≡ false → begun_triple earlier ≡ []
-    → length (threes_in earlier) + length triples ≤ most_fixed → list_all (is_triple n) triples ≡ true
+    → length (threes_in earlier) + length triples ≤ most_fixed → list_all (is_triple_of n) triples ≡ true
     → AllTaken n (place_of_triple n) earlier (flat_map triple_words triples ++ codes "-1" ∷ [])
 triples_taken laws n few earlier [] unended whole room all =
     (ap (λ p. word_fault n p (codes "-1")) (triple_place n earlier [] unended whole) ∙ end_taken laws n (length (threes_in earlier)), tt)
 triples_taken laws n few earlier (triple ∷ triples) unended whole room all =
-    let both = and_parts (is_triple n triple) (list_all (is_triple n) triples) all in
+    let both = and_parts (is_triple_of n triple) (list_all (is_triple_of n) triples) all in
     let are = are_triple n triple both.0 in
     let a = decimal triple.0 in
     let b = decimal triple.1 in
@@ -83,11 +83,11 @@ triples_taken laws n few earlier (triple ∷ triples) unended whole room all =
       ),
     )
 
-pub triples_back : NumberLaws → (n : ℕ) → n < 2 ^ 32 → (triples : List (ℕ × ℕ × ℤ)) → list_all (is_triple n) triples ≡ true
+pub triples_back : NumberLaws → (n : ℕ) → n < 2 ^ 32 → (triples : List (ℕ × ℕ × ℤ)) → list_all (is_triple_of n) triples ≡ true
     → fixed_triples_in n (flat_map triple_words triples ++ codes "-1" ∷ []) ≡ triples
 triples_back laws n few [] all = refl
 triples_back laws n few (triple ∷ triples) all =
-    let both = and_parts (is_triple n triple) (list_all (is_triple n) triples) all in
+    let both = and_parts (is_triple_of n triple) (list_all (is_triple_of n) triples) all in
     let are = are_triple n triple both.0 in
     let words : List ℕ × List ℕ × List ℕ = (decimal triple.0, decimal triple.1, signed_decimal triple.2) in
     let more = flat_map triple_words triples ++ codes "-1" ∷ [] in

@@ -19,7 +19,7 @@ use Rattle.tsp_text.specs.Groups.{coords_by_node}
 use Rattle.tsp_text.specs.Sections.{dimension_in}
 use Rattle.tsp_text.specs.FaultRows.{may_repeat}
 use Rattle.tsp_text.specs.Spells.{spelled}
-use Rattle.tsp_round.proofs.Numbers.{NumberLaws}
+use Rattle.tsp_round.proofs.NumbersReadBack.{NumberLaws}
 use Rattle.tsp_round.proofs.Onto.{has_value}
 use Rattle.tsp_round.proofs.Shapes.{Entries, entries_in, read_for, body}
 use Rattle.tsp_round.proofs.Space.{space_written}

@@ -7,7 +7,7 @@ use Rattle.tsp_judge.specs.declared.fault.RunFault.TheVariants.{Write}
 use Rattle.tsp_judge.specs.Status.{status_of}
 use Rattle.tsp_cli.specs.declared.words.JobFault.TheVariants as job_faults
 use Rattle.tsp_cli.specs.declared.task.TaskFault.TheVariants.{UnknownLayout, MissingPath, TwoCertificates, NoCertificate, NotALength, InputTwice, LineEndInPath}
-use Rattle.tsp_perform.specs.Done.{is_accepted}
+use Rattle.tsp_perform.specs.Outcomes.{is_yes_outcome}
 use Rattle.tsp_run.specs.Telling.{MayTell}
 use Rattle.tsp_run.specs.declared.ending.Ending.{Ending}
 use Rattle.tsp_run.specs.declared.ending.Ending.TheVariants.{NoJob, Printed, NoTask, Ended, Compared}
@@ -22,7 +22,7 @@ status_of_ending (NoJob job_faults.OutOfMemory) = 3
 status_of_ending (Printed (Ok done)) = 0
 status_of_ending (Printed (Err fault)) = status_of (Err (Write fault))
 status_of_ending (NoTask fault) = 4
-status_of_ending (Ended (Ok outcome)) = status_of (Ok (is_accepted outcome))
+status_of_ending (Ended (Ok outcome)) = status_of (Ok (is_yes_outcome outcome))
 status_of_ending (Ended (Err fault)) = status_of (Err fault)
 status_of_ending (Compared (Ok compared)) = compared.status
 status_of_ending (Compared (Err fault)) = status_of (Err fault)
@@ -62,8 +62,8 @@ abbrev pub is_one_line : List ℕ → Bool
 is_one_line text = list_all (λ b. not (b == 10)) text
 
 -- one line is written, some text with its end
-abbrev pub EndsLine : Option (List ℕ) → Option (List ℕ) → Type 0
-EndsLine old new = (text : List ℕ) × (is_one_line text ≡ true) × Appends old new (text ++ 10 ∷ [])
+abbrev pub WritesLine : Option (List ℕ) → Option (List ℕ) → Type 0
+WritesLine old new = (text : List ℕ) × (is_one_line text ≡ true) × Appends old new (text ++ 10 ∷ [])
 
 -- the ending's line is written, where it has one
 abbrev pub IsWritten : Option Line → Option (List ℕ) → Option (List ℕ) → Type 0

@@ -26,7 +26,7 @@ use Rattle.tsp_cli.specs.declared.task.Comparison.{Comparison}
 use Rattle.tsp_cli.specs.declared.task.Work.TheVariants as works
 use Rattle.tsp_cli.specs.Task.{GivesWork}
 use Rattle.tsp_run.specs.ComparisonRun.{IsComparedAs, IsFresh}
-use Rattle.tsp_perform.specs.Done.{IsDone}
+use Rattle.tsp_perform.specs.Outcomes.{IsDone}
 use Rattle.tsp_stream.specs.declared.output.WriteFault.{WriteFault}
 use Rattle.tsp_run.specs.Ending.{status_of_ending, TellsAll}
 use Rattle.tsp_run.specs.Printing.{Prints, PrintsSome, version_text}
@@ -90,18 +90,21 @@ EndsRefused build words sink refusal other = ⊥
 -- How a run ends with these words, of which the first is the program's own name. They ask for no job: they are refused, and then
 -- nothing is written; or they ask for the version, or for help by the verb `help`, and that is printed. Or the run ends with the
 -- job that they ask for. That is explained where the job says so, and on a terminal; nothing else is.
-abbrev pub Ends : {F : Type 0} → (F → Option (List ℕ)) → (F → List ℕ → Result ℕ Error → List ℕ → F → Type 0)
+abbrev pub EndsProgram : {F : Type 0} → (F → Option (List ℕ)) → (F → List ℕ → Result ℕ Error → List ℕ → F → Type 0)
     → (Place → F → Type 0) → Bool → Text → List Text → Sink → Bool → Ending → Type 0
-Ends remaining gives opens on_terminal build words sink explained (NoJob fault) = GivesJob (drop 1 words) (Err fault)
+EndsProgram remaining gives opens on_terminal build words sink explained (NoJob fault) = GivesJob (drop 1 words) (Err fault)
     × (AsksVersion fault → ⊥) × (AsksHelp (drop 1 words) fault → ⊥) × IsUnwritten sink × (explained ≡ false)
-Ends remaining gives opens on_terminal build words sink explained (Printed printed) = (fault : JobFault)
+EndsProgram remaining gives opens on_terminal build words sink explained (Printed printed) = (fault : JobFault)
     × GivesJob (drop 1 words) (Err fault)
     × PrintsAsked build (drop 1 words) fault sink printed × (explained ≡ false)
-Ends remaining gives opens on_terminal build words sink explained (NoTask fault) = (job : Job) × GivesJob (drop 1 words) (Ok job)
+EndsProgram remaining gives opens on_terminal build words sink explained (NoTask fault) = (job : Job)
+    × GivesJob (drop 1 words) (Ok job)
     × EndsWith remaining gives opens job sink (NoTask fault) × (explained ≡ (job.explain || on_terminal))
-Ends remaining gives opens on_terminal build words sink explained (Ended answer) = (job : Job) × GivesJob (drop 1 words) (Ok job)
+EndsProgram remaining gives opens on_terminal build words sink explained (Ended answer) = (job : Job)
+    × GivesJob (drop 1 words) (Ok job)
     × EndsWith remaining gives opens job sink (Ended answer) × (explained ≡ (job.explain || on_terminal))
-Ends remaining gives opens on_terminal build words sink explained (endings.Compared answer) = (job : Job) × GivesJob (drop 1 words)
+EndsProgram remaining gives opens on_terminal build words sink explained (endings.Compared answer) = (job : Job)
+    × GivesJob (drop 1 words)
     (Ok job)
     × EndsWith remaining gives opens job sink (endings.Compared answer) × (explained ≡ (job.explain || on_terminal))
 

@@ -15,7 +15,7 @@ ghost use Rattle.tsp_run.specs.declared.ending.Ending.TheVariants as endings;
 ghost use Rattle.tsp_run.specs.declared.ending.Line.TheVariants as lines;
 ghost use Rattle.tsp_perform.specs.declared.outcome.Outcome.{Outcome};
 ghost use Rattle.tsp_perform.specs.declared.outcome.Outcome.TheVariants as outcomes;
-ghost use Rattle.tsp_perform.specs.Done.{is_accepted};
+ghost use Rattle.tsp_perform.specs.Outcomes.{is_yes_outcome};
 ghost use Rattle.tsp_judge.specs.Status.{status_of, status_of_fault};
 ghost use Rattle.tsp_judge.specs.declared.compared.Compared.{Compared};
 ghost use Rattle.tsp_run.specs.Telling.{MayTell};
@@ -34,7 +34,7 @@ pub fn examples_of_statuses()
     ensures yes { status_of (Ok true) ≡ 0 }
     ensures no { status_of (Ok false) ≡ 1 }
     ensures of_outcome { (outcome : Outcome) → status_of_ending (endings.Ended (Ok outcome)) ≡ status_of
-        (Ok (is_accepted outcome)) }
+        (Ok (is_yes_outcome outcome)) }
     ensures not_explicit { status_of_fault (run_faults.Relayout relayout_faults.NotExplicit) ≡ 1 }
     ensures not_symmetric { status_of_fault (run_faults.Relayout (relayout_faults.NotSymmetric 1 2)) ≡ 1 }
     ensures diagonal_lost { status_of_fault (run_faults.Relayout (relayout_faults.DiagonalLost 1)) ≡ 1 }

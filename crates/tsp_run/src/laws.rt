@@ -14,8 +14,8 @@ ghost use Rattle.tsp_cli.specs.declared.words.JobFault.{JobFault};
 ghost use Rattle.tsp_cli.specs.CommandWords.{GivesJob};
 ghost use Rattle.tsp_run.specs.declared.ending.Ending.TheVariants as endings;
 ghost use Rattle.tsp_perform.specs.declared.outcome.Outcome.{Outcome};
-ghost use Rattle.tsp_run.specs.Ending.{is_one_line, IsWritten, EndsLine};
-ghost use Rattle.tsp_run.specs.ProgramRun.{Ends};
+ghost use Rattle.tsp_run.specs.Ending.{is_one_line, IsWritten, WritesLine};
+ghost use Rattle.tsp_run.specs.ProgramRun.{EndsProgram};
 
 use crate::source::Open;
 use tsp_stream::Gives;
@@ -24,21 +24,21 @@ use tsp_stream::Gives;
 pub fn faults_are_told_on_one_line()
     ensures one { (fault : RunFault) → is_one_line (run_fault_text fault) ≡ true }
     ensures ended { (fault : RunFault) (old new : Option (List ℕ)) → IsWritten (Some (lines.Fault fault)) old new
-        → EndsLine old new }
+        → WritesLine old new }
 {}
 
 /// On a terminal every answer is explained, and every task that can't be begun; elsewhere where the
 /// job says so. No words are explained that ask for no job.
 pub fn explained_on_a_terminal<F: Gives + Drop, O: Open<F>>(files: &O)
     ensures answer { (build : Text) (words : List Text) (sink : Sink) (explained : Bool) (answer : Result Outcome RunFault)
-        → Ends F.remaining F.gives (O.opens files.now) true build words sink explained (endings.Ended answer) → explained ≡ true }
+        → EndsProgram F.remaining F.gives (O.opens files.now) true build words sink explained (endings.Ended answer) → explained ≡ true }
     ensures comparison { (build : Text) (words : List Text) (sink : Sink) (explained : Bool) (answer : Result Compared RunFault)
-        → Ends F.remaining F.gives (O.opens files.now) true build words sink explained (endings.Compared answer) → explained ≡ true }
+        → EndsProgram F.remaining F.gives (O.opens files.now) true build words sink explained (endings.Compared answer) → explained ≡ true }
     ensures task { (build : Text) (words : List Text) (sink : Sink) (explained : Bool) (fault : TaskFault)
-        → Ends F.remaining F.gives (O.opens files.now) true build words sink explained (endings.NoTask fault) → explained ≡ true }
+        → EndsProgram F.remaining F.gives (O.opens files.now) true build words sink explained (endings.NoTask fault) → explained ≡ true }
     ensures no_job { (build : Text) (words : List Text) (sink : Sink) (explained : Bool) (fault : JobFault)
-        → Ends F.remaining F.gives (O.opens files.now) true build words sink explained (endings.NoJob fault) → explained ≡ false }
+        → EndsProgram F.remaining F.gives (O.opens files.now) true build words sink explained (endings.NoJob fault) → explained ≡ false }
     ensures elsewhere { (build : Text) (words : List Text) (sink : Sink) (explained : Bool) (answer : Result Outcome RunFault)
-        → Ends F.remaining F.gives (O.opens files.now) false build words sink explained (endings.Ended answer)
+        → EndsProgram F.remaining F.gives (O.opens files.now) false build words sink explained (endings.Ended answer)
         → (job : Job) × GivesJob (drop 1 words) (Ok job) × (explained ≡ job.explain) }
 {}

@@ -7,7 +7,7 @@ ghost use Rattle.std.specs.Io.KnownBytes.{Appends};
 ghost use Rattle.tsp_judge.specs.Watched.{sink_of};
 ghost use Rattle.tsp_run.specs.ComparisonRun.{IsComparedAs};
 ghost use Rattle.tsp_run.specs.Ending.{status_of_ending, Tells, TellsAfter, TellsAll};
-ghost use Rattle.tsp_run.specs.ProgramRun.{AreFresh, Ends, EndsRefused, EndsWith, HasNoWords, IsDoneAs, Runs, RunsComparison, RunsJob, RunsTask, begins_with_help};
+ghost use Rattle.tsp_run.specs.ProgramRun.{AreFresh, EndsProgram, EndsRefused, EndsWith, HasNoWords, IsDoneAs, Runs, RunsComparison, RunsJob, RunsTask, begins_with_help};
 
 use crate::compare_explained::comparison_explanation;
 use crate::compared::{compare, fresh};
@@ -56,7 +56,7 @@ pub fn run<F: Gives + Drop, O: Open<F>, W: Write, E: Write>(
     errors: &mut E,
     setting: Setting,
 ) -> (u8, io::Result<()>)
-    ensures { Runs (Ends F.remaining F.gives (O.opens files.now) setting.on_terminal setting.build.now (map string_bytes line.now)
+    ensures { Runs (EndsProgram F.remaining F.gives (O.opens files.now) setting.on_terminal setting.build.now (map string_bytes line.now)
         (sink_of W.contents out.old out.new)) (E.contents errors.old) (E.contents errors.new) result }
 {
     let Ok(words) = words_after_first(alloc, line) else {

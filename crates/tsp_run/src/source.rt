@@ -4,7 +4,7 @@ ghost use Rattle.std.specs.Prelude.{◌≡◌, IsTrue, IsErr, MatchResult};
 ghost use Rattle.std.specs.Io.{ReadsAtMost};
 ghost use Rattle.std.specs.Io.KnownBytes.{ReadConsumes};
 ghost use Rattle.tsp_cli.specs.declared.task.Place.{Place};
-ghost use Rattle.tsp_run.specs.states.Source.{remaining_of, is_missing, IsAsked, GivesOnce, IsSameError};
+ghost use Rattle.tsp_run.specs.states.Source.{remaining_of, is_missing, IsAskedOnce, GivesOnce, IsSameError};
 
 use std::io;
 use std::io::Read;
@@ -59,7 +59,7 @@ impl<I, F> Source<I, F> {
         OfFile: FnOnce(&mut F, &mut [u8]) -> io::Result<A> + Drop,
         requires input { OfInput.IsAlwaysCallable of_input }
         requires file { OfFile.IsAlwaysCallable of_file }
-        ensures asked { IsAsked OfInput.FnOnce of_input OfFile.FnOnce of_file self.old room.old result self.new room.new }
+        ensures asked { IsAskedOnce OfInput.FnOnce of_input OfFile.FnOnce of_file self.old room.old result self.new room.new }
     {
         match self {
             Source::Input(input) => of_input(input, room),

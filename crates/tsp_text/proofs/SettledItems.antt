@@ -5,7 +5,7 @@ use Rattle.std.specs.List.{filter, slice_split, onto_first}
 use Rattle.std.proofs.lemmas.Bool.{false≢true, ltb-true, lt-ltb}
 use Rattle.tsp_format.specs.Bytes.{is_blank, is_letter}
 use Rattle.tsp_format.specs.Limits.{most_word_bytes, most_line_bytes}
-use Rattle.tsp_text.specs.Lines.{ends_line, lines_of, words_in, is_filled, without_start, begins}
+use Rattle.tsp_text.specs.Lines.{ends_line, lines_of, words_in, is_not_empty, without_start, begins}
 use Rattle.tsp_text.proofs.NoBlanks.{start_blank, start_filled}
 use Rattle.tsp_text.specs.Items.{Item, Line, NumberWord, LineEnd, line_item, items_in, items_by, items_of, settled_pieces, settled_words, settled_line, settled_in, settled_items}
 
@@ -96,56 +96,56 @@ front_stays true x xs ys h = inl (refl, h)
 front_stays false x xs ys h = h
 
 last_stays : (x more : List ℕ) (ys : List (List ℕ)) (b : Bool) → nat_lt most_word_bytes (length x) ≡ b
-    → Stay (word_items (filter is_filled (cond b (x ∷ []) []))) (word_items (filter is_filled ((x ++ more) ∷ ys)))
+    → Stay (word_items (filter is_not_empty (cond b (x ∷ []) []))) (word_items (filter is_not_empty ((x ++ more) ∷ ys)))
 last_stays x more ys false e = tt
 last_stays [] more ys true e = absurd (false≢true e)
 last_stays (a ∷ x) more ys true e = inr ((e, longer most_word_bytes (a ∷ x) more e), refl)
 
 pieces_stay : (xs ys : List (List ℕ)) → Grown xs ys
-    → Stay (word_items (filter is_filled (settled_pieces xs))) (word_items (filter is_filled ys))
+    → Stay (word_items (filter is_not_empty (settled_pieces xs))) (word_items (filter is_not_empty ys))
 pieces_stay [] ys h = absurd h
 pieces_stay (x ∷ []) [] h = absurd h
 pieces_stay (x ∷ []) (y ∷ ys) h =
-    subst (λ (z : List ℕ). Stay (word_items (filter is_filled (settled_pieces (x ∷ [])))) (word_items (filter is_filled (z ∷ ys)))) (sym h.1)
+    subst (λ (z : List ℕ). Stay (word_items (filter is_not_empty (settled_pieces (x ∷ [])))) (word_items (filter is_not_empty (z ∷ ys)))) (sym h.1)
     (last_stays x h.0 ys (nat_lt most_word_bytes (length x)) refl)
 pieces_stay (x ∷ next ∷ xs) [] h = absurd h
 pieces_stay (x ∷ next ∷ xs) (y ∷ ys) h =
-    subst (λ (z : List ℕ). Stay (word_items (filter is_filled (settled_pieces (x ∷ next ∷ xs)))) (word_items (filter is_filled (z ∷ ys)))) h.0
-    (front_stays (is_filled x) x (filter is_filled (settled_pieces (next ∷ xs))) (filter is_filled ys) (pieces_stay (next ∷ xs) ys h.1))
+    subst (λ (z : List ℕ). Stay (word_items (filter is_not_empty (settled_pieces (x ∷ next ∷ xs)))) (word_items (filter is_not_empty (z ∷ ys)))) h.0
+    (front_stays (is_not_empty x) x (filter is_not_empty (settled_pieces (next ∷ xs))) (filter is_not_empty ys) (pieces_stay (next ∷ xs) ys h.1))
 
 last_settled : (x more : List ℕ) (b : Bool) → nat_lt most_word_bytes (length x) ≡ b
-    → Stay (word_items (filter is_filled (cond b (x ∷ []) []))) (word_items (filter is_filled (settled_pieces ((x ++ more) ∷ []))))
+    → Stay (word_items (filter is_not_empty (cond b (x ∷ []) []))) (word_items (filter is_not_empty (settled_pieces ((x ++ more) ∷ []))))
 last_settled x more false e = tt
 last_settled x more true e =
-    subst (λ (c : Bool). Stay (word_items (filter is_filled (x ∷ []))) (word_items (filter is_filled (cond c ((x ++ more) ∷ []) [])))) (sym (longer most_word_bytes x more e))
+    subst (λ (c : Bool). Stay (word_items (filter is_not_empty (x ∷ []))) (word_items (filter is_not_empty (cond c ((x ++ more) ∷ []) [])))) (sym (longer most_word_bytes x more e))
     (last_stays x more [] true e)
 
 pieces_settled : (xs ys : List (List ℕ)) → Grown xs ys
-    → Stay (word_items (filter is_filled (settled_pieces xs))) (word_items (filter is_filled (settled_pieces ys)))
+    → Stay (word_items (filter is_not_empty (settled_pieces xs))) (word_items (filter is_not_empty (settled_pieces ys)))
 pieces_settled [] ys h = absurd h
 pieces_settled (x ∷ []) [] h = absurd h
 pieces_settled (x ∷ []) (y ∷ []) h =
-    subst (λ (z : List ℕ). Stay (word_items (filter is_filled (settled_pieces (x ∷ [])))) (word_items (filter is_filled (settled_pieces (z ∷ []))))) (sym h.1)
+    subst (λ (z : List ℕ). Stay (word_items (filter is_not_empty (settled_pieces (x ∷ [])))) (word_items (filter is_not_empty (settled_pieces (z ∷ []))))) (sym h.1)
     (last_settled x h.0 (nat_lt most_word_bytes (length x)) refl)
 pieces_settled (x ∷ []) (y ∷ after ∷ ys) h =
-    subst (λ (z : List ℕ). Stay (word_items (filter is_filled (settled_pieces (x ∷ [])))) (word_items (filter is_filled (settled_pieces (z ∷ after ∷ ys))))) (sym h.1)
+    subst (λ (z : List ℕ). Stay (word_items (filter is_not_empty (settled_pieces (x ∷ [])))) (word_items (filter is_not_empty (settled_pieces (z ∷ after ∷ ys))))) (sym h.1)
     (last_stays x h.0 (settled_pieces (after ∷ ys)) (nat_lt most_word_bytes (length x)) refl)
 pieces_settled (x ∷ next ∷ xs) [] h = absurd h
 pieces_settled (x ∷ next ∷ xs) (y ∷ []) h = absurd (none_grown (next ∷ xs) h.1)
 pieces_settled (x ∷ next ∷ xs) (y ∷ after ∷ ys) h =
-    subst (λ (z : List ℕ). Stay (word_items (filter is_filled (settled_pieces (x ∷ next ∷ xs)))) (word_items (filter is_filled (settled_pieces (z ∷ after ∷ ys))))) h.0
-    (front_stays (is_filled x) x (filter is_filled (settled_pieces (next ∷ xs))) (filter is_filled (settled_pieces (after ∷ ys))) (pieces_settled (next ∷ xs) (after ∷ ys) h.1))
+    subst (λ (z : List ℕ). Stay (word_items (filter is_not_empty (settled_pieces (x ∷ next ∷ xs)))) (word_items (filter is_not_empty (settled_pieces (z ∷ after ∷ ys))))) h.0
+    (front_stays (is_not_empty x) x (filter is_not_empty (settled_pieces (next ∷ xs))) (filter is_not_empty (settled_pieces (after ∷ ys))) (pieces_settled (next ∷ xs) (after ∷ ys) h.1))
 
 -- ---- where a line begins
 
 empty_first : (pieces : List (List ℕ))
-    → filter is_filled (settled_pieces ([] ∷ pieces)) ≡ filter is_filled (settled_pieces pieces)
+    → filter is_not_empty (settled_pieces ([] ∷ pieces)) ≡ filter is_not_empty (settled_pieces pieces)
 empty_first [] = refl
 empty_first (piece ∷ pieces) = refl
 
 words_blank : (b : ℕ) (bytes : List ℕ) → is_blank b ≡ true → settled_words (b ∷ bytes) ≡ settled_words bytes
 words_blank b bytes e =
-    ap (λ (k : Bool). filter is_filled (settled_pieces (cond k ([] ∷ slice_split is_blank bytes) (onto_first b (slice_split is_blank bytes))))) e
+    ap (λ (k : Bool). filter is_not_empty (settled_pieces (cond k ([] ∷ slice_split is_blank bytes) (onto_first b (slice_split is_blank bytes))))) e
     ∙ empty_first (slice_split is_blank bytes)
 
 -- a line of blanks has no words yet; any other begins with the byte that it has when it goes on

@@ -14,7 +14,7 @@ use Rattle.tsp_format.specs.Space.{weighs_three, has_three}
 use Rattle.tsp_text.specs.Values.{named_at, coord_kind_named, weight_kind_named, says_space, spatial_after}
 use Rattle.tsp_text.specs.Groups.{coords_by_node}
 use Rattle.tsp_text.specs.Sections.{place_in}
-use Rattle.tsp_text.specs.FaultRows.{row_of, is_repeated, is_late}
+use Rattle.tsp_text.specs.FaultRows.{row_of, repeats_keyword, is_late}
 use Rattle.tsp_text.specs.Spells.{wants_more, sections_in_order}
 use Rattle.tsp_text.proofs.ValidRows.{no_row}
 use Rattle.tsp_text.proofs.ValidSections.{same_field_is}
@@ -78,14 +78,14 @@ weights_said line earlier known first late =
 key_said : (f : Field) (line : WordLine) (earlier : List Item) (by_coords by_weights : Bool)
     → same_field NodeCoordTypeKey f ≡ by_coords
     → same_field EdgeWeightTypeKey f ≡ by_weights → has_line NodeCoordPart earlier ≡ true
-    → is_repeated earlier (Line (Known f) line) ≡ false
+    → repeats_keyword earlier (Line (Known f) line) ≡ false
     → is_late earlier (Line (Known f) line) ≡ false → spatial_after (Line (Known f) line ∷ earlier) ≡ spatial_after earlier
 key_said f line earlier true by_weights is also known first late =
-    let P : Field → Type 0 = λ g. is_repeated earlier (Line (Known g) line) ≡ false → is_late earlier (Line (Known g) line) ≡ false
+    let P : Field → Type 0 = λ g. repeats_keyword earlier (Line (Known g) line) ≡ false → is_late earlier (Line (Known g) line) ≡ false
     → spatial_after (Line (Known g) line ∷ earlier) ≡ spatial_after earlier in
     subst P (same_field_is NodeCoordTypeKey f is) (coords_said line earlier known) first late
 key_said f line earlier false true is also known first late =
-    let P : Field → Type 0 = λ g. is_repeated earlier (Line (Known g) line) ≡ false → is_late earlier (Line (Known g) line) ≡ false
+    let P : Field → Type 0 = λ g. repeats_keyword earlier (Line (Known g) line) ≡ false → is_late earlier (Line (Known g) line) ≡ false
     → spatial_after (Line (Known g) line ∷ earlier) ≡ spatial_after earlier in
     subst P (same_field_is EdgeWeightTypeKey f also) (weights_said line earlier known) first late
 key_said f line earlier false false is also known first late = rw (is, also) refl

@@ -8,8 +8,8 @@ use Rattle.std.proofs.lemmas.List.Folds.{list_all-append}
 use Rattle.std.proofs.lemmas.List.Sums.{fold-append, sum_by_push}
 use Rattle.tsp_format.specs.declared.field.Field.TheVariants.{CombPart}
 use Rattle.tsp_format.specs.Limits.{most_combs, most_comb_nodes}
-use Rattle.tsp_draft.specs.Validity.{is_node, is_set, is_comb, are_combs}
-use Rattle.tsp_text.specs.Lines.{is_filled}
+use Rattle.tsp_draft.specs.Validity.{is_node, is_set_of, are_sets, are_combs}
+use Rattle.tsp_text.specs.Lines.{is_not_empty}
 use Rattle.tsp_text.specs.Items.{Item}
 use Rattle.tsp_text.specs.Earlier.{words_of}
 use Rattle.tsp_text.specs.SectionNumbers.{number, is_end}
@@ -25,11 +25,11 @@ use Rattle.tsp_text.proofs.ValidLists.{first_of_both}
 
 -- whole combs, and the sets and nodes of one that has begun, are valid, with the comb within the limit
 pub record CombsHold (n : ℕ) (combs : List (List (List ℕ))) (sets : List (List ℕ)) (nodes : List ℕ) (count : ℕ) : Type 0 where
-  pub all_combs : list_all (is_comb n) combs ≡ true
-  pub all_sets : list_all (is_set n) sets ≡ true
+  pub all_combs : list_all (are_sets n) combs ≡ true
+  pub all_sets : list_all (is_set_of n) sets ≡ true
   pub all_nodes : list_all (is_node n) nodes ≡ true
   pub few : length combs ≤ most_combs
-  pub room : (is_filled nodes || is_filled sets) ≡ true → length combs < most_combs
+  pub room : (is_not_empty nodes || is_not_empty sets) ≡ true → length combs < most_combs
   pub total : sum_by (sum_by length) combs + sum_by length sets + length nodes ≡ count
   pub few_nodes : count ≤ most_comb_nodes
 
@@ -48,7 +48,7 @@ end_holds : (n : ℕ) (combs : List (List (List ℕ))) (sets : List (List ℕ)) 
     → AreSoFar n (with_end (record { combs = combs; sets = sets; nodes = nodes; count = count; ended = false }))
 end_holds n combs sets (k ∷ nodes) count h = record {
   all_combs = h.all_combs;
-  all_sets = all_push (is_set n) sets (k ∷ nodes) h.all_sets
+  all_sets = all_push (is_set_of n) sets (k ∷ nodes) h.all_sets
       (and_from (nat_le 1 (length (k ∷ nodes))) (list_all (is_node n) (k ∷ nodes)) (le-leb 1 (length (k ∷ nodes)) (omega arith)) h.all_nodes);
   all_nodes = refl;
   few = h.few;
@@ -57,8 +57,8 @@ end_holds n combs sets (k ∷ nodes) count h = record {
   few_nodes = h.few_nodes;
 }
 end_holds n combs (set ∷ sets) [] count h = record {
-  all_combs = all_push (is_comb n) combs (set ∷ sets) h.all_combs
-      (and_from (nat_le 1 (length (set ∷ sets))) (list_all (is_set n) (set ∷ sets)) (le-leb 1 (length (set ∷ sets)) (omega arith)) h.all_sets);
+  all_combs = all_push (are_sets n) combs (set ∷ sets) h.all_combs
+      (and_from (nat_le 1 (length (set ∷ sets))) (list_all (is_set_of n) (set ∷ sets)) (le-leb 1 (length (set ∷ sets)) (omega arith)) h.all_sets);
   all_sets = refl;
   all_nodes = refl;
   few = omega (arith, h.room refl, length_push combs (set ∷ sets));
@@ -139,6 +139,6 @@ combs_fit items clean =
     let n = dimension_in items in
     let combs = whole_combs n (words_of CombPart items) in
     let h : AreSoFar n (combs_after n (words_of CombPart items)) = grown CombPart (λ n words. AreSoFar n (combs_after n words)) refl all_taken items clean in
-    and_from (nat_le (length combs) most_combs && list_all (is_comb n) combs) (nat_le (sum_by (sum_by length) combs) most_comb_nodes)
-    (and_from (nat_le (length combs) most_combs) (list_all (is_comb n) combs) (le-leb (length combs) most_combs h.few) h.all_combs)
+    and_from (nat_le (length combs) most_combs && list_all (are_sets n) combs) (nat_le (sum_by (sum_by length) combs) most_comb_nodes)
+    (and_from (nat_le (length combs) most_combs) (list_all (are_sets n) combs) (le-leb (length combs) most_combs h.few) h.all_combs)
     (le-leb (sum_by (sum_by length) combs) most_comb_nodes (omega (arith, h.total, h.few_nodes)))

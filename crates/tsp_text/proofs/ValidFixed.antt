@@ -7,7 +7,7 @@ use Rattle.std.proofs.lemmas.Bool.{true≢false, false≢true, and_from, not_fro
 use Rattle.std.proofs.lemmas.List.{length-map, map_push}
 use Rattle.tsp_format.specs.declared.field.Field.TheVariants.{FixedEdgesPart}
 use Rattle.tsp_format.specs.Limits.{most_fixed}
-use Rattle.tsp_draft.specs.Validity.{is_node, is_node_pair, are_fixed}
+use Rattle.tsp_draft.specs.Validity.{is_node, is_pair_of, are_fixed}
 use Rattle.tsp_text.specs.Items.{Item}
 use Rattle.tsp_text.specs.Earlier.{words_of}
 use Rattle.tsp_text.specs.SectionNumbers.{number, reads_as, node, node_or_end, is_end}
@@ -74,7 +74,7 @@ begins n words word open_ended is row held =
 -- two different nodes
 pub valid_pair : (n : ℕ) (first word : List ℕ) → result_err (node_or_end n first) ≡ None → is_end n first ≡ false
     → result_err (node n word) ≡ None
-    → reads_as (number (node_or_end n first)) (node n word) ≡ false → is_node_pair n (pair_of n (first, word)) ≡ true
+    → reads_as (number (node_or_end n first)) (node n word) ≡ false → is_pair_of n (pair_of n (first, word)) ≡ true
 valid_pair n first word read no_end read_second other =
     let a = read_listed n first read no_end in
     let b = read_node n word read_second in
@@ -102,7 +102,7 @@ ends n words first word open_ended is row held =
     ap (λ (ps : List (List ℕ × List ℕ)). are_fixed n (map f ps)) (sym (pairs_none (is_end n) words open_ended)) ∙ held.pairs in
     record {
       pairs = ap (λ (ps : List (List ℕ × List ℕ)). are_fixed n (map f ps)) more ∙ ap (are_fixed n) (map_push f pairs one)
-          ∙ few_more most_fixed (is_node_pair n) (map f pairs) (f one) so_far (ap (λ k. nat_le most_fixed k) (length-map pairs f) ∙ begun.2)
+          ∙ few_more most_fixed (is_pair_of n) (map f pairs) (f one) so_far (ap (λ k. nat_le most_fixed k) (length-map pairs f) ∙ begun.2)
           (valid_pair n first word begun.0 begun.1 t.is_read t.other_node);
       begun = λ none other e. absurd (none_begun (begun_pair (words ++ word ∷ [])) other (begun_end words first word is) e);
     }

@@ -13,7 +13,7 @@ use Rattle.tsp_draft.specs.declared.fault.EndFault.TheVariants.{Missing, Incompl
 use Rattle.tsp_draft.specs.declared.fault.DraftFault.TheVariants.{BadField, Rule}
 use Rattle.tsp_draft.specs.Fields.{Fields}
 use Rattle.tsp_draft.specs.Rules.{standing_of, is_there, asked_in_order, format_or_count, end_fault, fault_of}
-use Rattle.tsp_draft.specs.Validity.{if_there, is_by_node, is_point, is_demand, is_within, are_depots, are_fixed, are_triples, are_weights, are_tours, are_combs, are_steps, fits, first_failing, bad_field}
+use Rattle.tsp_draft.specs.Validity.{if_there, is_by_node, is_point, is_demand, is_within, are_depots, are_fixed, are_triples, fit_matrix, are_tours, are_combs, are_tree_steps, fits, first_failing, bad_field}
 use Rattle.tsp_text.specs.Items.{Item, has_end_line}
 use Rattle.tsp_text.specs.Earlier.{same_field, has_line, words_of}
 use Rattle.tsp_text.specs.Cuts.{AreCut}
@@ -88,7 +88,7 @@ each_fits items cut clean whole DepotPart =
 each_fits items cut clean whole FixedEdgesPart =
     section_fits are_fixed (fixed_in (dimension_in items)) FixedEdgesPart refl refl items clean (λ there. fixed_fit items clean)
 each_fits items cut clean whole EdgeWeightPart =
-    section_fits are_weights weights_in EdgeWeightPart refl refl items clean (λ there. weights_fit items clean there)
+    section_fits fit_matrix weights_in EdgeWeightPart refl refl items clean (λ there. weights_fit items clean there)
 each_fits items cut clean whole TourPart = tours_there items (has_line TourPart items) clean
 each_fits items cut clean whole NodePotentialPart =
     section_fits (is_by_node (is_within most_potential)) (potentials_by_node (dimension_in items)) NodePotentialPart refl refl
@@ -104,7 +104,7 @@ each_fits items cut clean whole FixedEdgePotentialPart =
 each_fits items cut clean whole CombPart =
     section_fits are_combs (whole_combs (dimension_in items)) CombPart refl refl items clean (λ there. combs_fit items clean)
 each_fits items cut clean whole BranchPart =
-    section_fits are_steps (whole_steps (dimension_in items)) BranchPart refl refl items clean
+    section_fits are_tree_steps (whole_steps (dimension_in items)) BranchPart refl refl items clean
     (λ there. steps_fit items clean (wants_none (has_line BranchPart items) (wants_more (place_of_step (dimension_in items) (words_of BranchPart items))) there whole))
 
 none_fails : (test : Field → Bool) (fields : List Field) → ((field : Field) → test field ≡ true)

@@ -16,7 +16,7 @@ use Rattle.tsp_format.specs.declared.keyword.Keyword.{Keyword}
 use Rattle.tsp_format.specs.declared.keyword.Keyword.TheVariants.{Known, EdgeDataFormat, EdgeDataSection, Eof, Unknown}
 use Rattle.tsp_format.specs.Bytes.{is_blank, is_letter, is_keyword_byte}
 use Rattle.tsp_format.specs.Words.{field_word, fields_in_order}
-use Rattle.tsp_format.specs.Keywords.{is_others, field_of, known_or_not, keyword_of, is_unknown}
+use Rattle.tsp_format.specs.Keywords.{is_other_key, field_of, known_or_not, keyword_of, is_unknown}
 use Rattle.tsp_format.specs.Limits.{most_nodes, most_capacity, most_scale, most_kept_bytes, most_comments, most_others}
 use Rattle.tsp_draft.specs.Validity.{if_there, is_kept, is_unknown_keyword, is_other, are_comments, are_others, is_from_to, is_node}
 use Rattle.tsp_text.specs.Lines.{first_word}
@@ -43,7 +43,7 @@ found_passes {V} test (first ∷ values) value e = by_case (test first) refl e (
 
 known_field : (o : Option Field) (f : Field) → known_or_not o ≡ Known f → o ≡ Some f
 known_field None f e = absurd cc
-known_field (Some g) f e = by_case (is_others g) e
+known_field (Some g) f e = by_case (is_other_key g) e
   where
     by_case : (b : Bool) → cond b Unknown (Known g) ≡ Known f → (let o : Option Field = Some g in o ≡ Some f)
     by_case true e = absurd cc

@@ -17,7 +17,7 @@ use Rattle.tsp_distance.specs.Decimal.{most_count}
 use Rattle.tsp_number.specs.NumberWord.{Numeral}
 use Rattle.tsp_number.specs.Scan.{numeral_in}
 use Rattle.tsp_number.specs.Reading.{number_in, decimal_within, decimal_from, decimal_of, whole_within, whole_from, whole_of}
-use Rattle.tsp_format.specs.Cells.{nodes_to}
+use Rattle.tsp_format.specs.Nodes.{nodes_to}
 use Rattle.tsp_format.specs.Limits.{most_coordinate}
 use Rattle.tsp_draft.specs.Coords.{origin}
 use Rattle.tsp_draft.specs.Validity.{is_from_to, is_within, is_node, is_by_node, is_point}

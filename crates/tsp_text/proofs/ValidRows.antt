@@ -5,7 +5,7 @@ use Rattle.std.specs.List.{AllByRecursion}
 use Rattle.tsp_text.specs.declared.fault.LineFault.TheVariants as row
 use Rattle.tsp_text.specs.Items.{Item}
 use Rattle.tsp_text.specs.WordPlaces.{Place}
-use Rattle.tsp_text.specs.FaultRows.{when, first_row, table, row_of, is_repeated, has_bad_value, is_early, has_too_many_nodes, number_fault, is_surplus, is_late, number_fault_at, is_repeated_node_at, is_self_edge_at, is_surplus_at, is_after_end_at, word_fault}
+use Rattle.tsp_text.specs.FaultRows.{when, first_row, table, row_of, repeats_keyword, has_bad_value, is_early, has_too_many_nodes, number_fault, is_surplus, is_late, number_fault_at, is_repeated_node_at, is_self_edge_at, is_surplus_at, is_after_end_at, word_fault}
 use Rattle.tsp_text.specs.FirstFault.{fault_here, fault_in, IsClean}
 
 pub when_none : {F : Type 0} (test : Bool) (fault : F) → when test fault ≡ None → test ≡ false
@@ -32,7 +32,7 @@ clean_parts earlier item clean =
     (both.0, map_none (fault_here earlier item) (row_of earlier item) both.1)
 
 pub record HasNoRow (earlier : List Item) (item : Item) : Type 0 where
-  pub first_time : is_repeated earlier item ≡ false
+  pub first_time : repeats_keyword earlier item ≡ false
   pub good_value : has_bad_value earlier item ≡ false
   pub in_time : is_early earlier item ≡ false
   pub few_nodes : has_too_many_nodes earlier item ≡ false
@@ -44,7 +44,7 @@ pub no_row : (earlier : List Item) (item : Item) → row_of earlier item ≡ Non
 no_row earlier item e =
     let rows = none_applies (table earlier item) e in
     record {
-      first_time = when_none (is_repeated earlier item) row.Repeated rows.1.1.0;
+      first_time = when_none (repeats_keyword earlier item) row.Repeated rows.1.1.0;
       good_value = when_none (has_bad_value earlier item) row.BadValue rows.1.1.1.1.0;
       in_time = when_none (is_early earlier item) row.SectionEarly rows.1.1.1.1.1.1.0;
       few_nodes = when_none (has_too_many_nodes earlier item) row.TooManyNodes rows.1.1.1.1.1.1.1.0;

@@ -19,7 +19,7 @@ use Rattle.tsp_format.specs.Shapes.{is_section_field}
 use Rattle.tsp_text.specs.Earlier.{same_field, has_line, open_section, words_of}
 use Rattle.tsp_text.specs.Values.{read_as, dimension_of}
 use Rattle.tsp_text.specs.Sections.{dimension_in}
-use Rattle.tsp_text.specs.FaultRows.{row_of, may_repeat, is_repeated}
+use Rattle.tsp_text.specs.FaultRows.{row_of, may_repeat, repeats_keyword}
 use Rattle.tsp_text.specs.FirstFault.{IsClean}
 use Rattle.tsp_text.proofs.ValidRows.{clean_parts, no_row}
 
@@ -63,7 +63,7 @@ opened_late (Line Unknown line ∷ earlier) clean g opened other = absurd (none-
 -- once DIMENSION has come, the number of nodes stays
 known_nodes : (f : Field) (line : WordLine) (earlier : List Item) (b : Bool) → same_field DimensionKey f ≡ b
     → has_line DimensionKey earlier ≡ true
-    → is_repeated earlier (Line (Known f) line) ≡ false → dimension_in (Line (Known f) line ∷ earlier) ≡ dimension_in earlier
+    → repeats_keyword earlier (Line (Known f) line) ≡ false → dimension_in (Line (Known f) line ∷ earlier) ≡ dimension_in earlier
 known_nodes f line earlier false e known first = rw e refl
 known_nodes f line earlier true e known first =
     let again : has_line DimensionKey earlier ≡ false = subst (λ (g : Field). (not (may_repeat g) && has_line g earlier) ≡ false) (sym (same_field_is DimensionKey f e)) first in

@@ -10,8 +10,8 @@ use Rattle.std.proofs.lemmas.List.Sums.{sum_by-cons}
 use Rattle.std.proofs.lemmas.List.Elements.{filter-append}
 use Rattle.tsp_format.specs.declared.field.Field.TheVariants.{TourPart}
 use Rattle.tsp_format.specs.Limits.{most_nodes, most_tour_nodes}
-use Rattle.tsp_draft.specs.Validity.{is_node, is_tour, are_tours}
-use Rattle.tsp_text.specs.Lines.{is_filled}
+use Rattle.tsp_draft.specs.Validity.{is_node, is_node_list, are_tours}
+use Rattle.tsp_text.specs.Lines.{is_not_empty}
 use Rattle.tsp_text.specs.Items.{Item}
 use Rattle.tsp_text.specs.Earlier.{words_of}
 use Rattle.tsp_text.specs.SectionNumbers.{number}
@@ -69,22 +69,22 @@ abbrev is_tour_node : List ℕ → Bool
 is_tour_node word = is_node most_nodes (tour_node word)
 
 filled_runs : (pieces : List (List (List ℕ))) → list_all (list_all is_tour_node) pieces ≡ true
-    → list_all is_tour (map (map tour_node) (filter is_filled pieces)) ≡ true
+    → list_all is_node_list (map (map tour_node) (filter is_not_empty pieces)) ≡ true
 filled_runs [] all = refl
 filled_runs ([] ∷ pieces) all = filled_runs pieces all
 filled_runs ((word ∷ words) ∷ pieces) all =
     let both = and_parts (is_tour_node word && list_all is_tour_node words) (list_all (list_all is_tour_node) pieces) all in
-    let here : is_tour (map tour_node (word ∷ words)) ≡ true =
+    let here : is_node_list (map tour_node (word ∷ words)) ≡ true =
     and_from (nat_le 1 (suc (length (map tour_node words)))) (list_all (is_node most_nodes) (map tour_node (word ∷ words))) (le-leb 1 (suc (length (map tour_node words))) (omega arith))
     (list_all-map (is_node most_nodes) tour_node (word ∷ words) ∙ both.0) in
-    and_from (is_tour (map tour_node (word ∷ words))) (list_all is_tour (map (map tour_node) (filter is_filled pieces))) here (filled_runs pieces both.1)
+    and_from (is_node_list (map tour_node (word ∷ words))) (list_all is_node_list (map (map tour_node) (filter is_not_empty pieces))) here (filled_runs pieces both.1)
 
-runs_long : (pieces : List (List (List ℕ))) → sum_by length (map (map tour_node) (filter is_filled pieces)) ≡ sum_by length pieces
+runs_long : (pieces : List (List (List ℕ))) → sum_by length (map (map tour_node) (filter is_not_empty pieces)) ≡ sum_by length pieces
 runs_long [] = refl
 runs_long ([] ∷ pieces) = omega (arith, runs_long pieces, sum_by-cons (λ (p : List (List ℕ)). length p) [] pieces)
 runs_long ((word ∷ words) ∷ pieces) =
-    sum_by-cons (λ (p : List ℕ). length p) (map tour_node (word ∷ words)) (map (map tour_node) (filter is_filled pieces))
-    ∙ ap (λ k. k + sum_by length (map (map tour_node) (filter is_filled pieces))) (length-map (word ∷ words) tour_node)
+    sum_by-cons (λ (p : List ℕ). length p) (map tour_node (word ∷ words)) (map (map tour_node) (filter is_not_empty pieces))
+    ∙ ap (λ k. k + sum_by length (map (map tour_node) (filter is_not_empty pieces))) (length-map (word ∷ words) tour_node)
     ∙ ap (λ k. length (word ∷ words) + k) (runs_long pieces)
     ∙ sym (sum_by-cons (λ (p : List (List ℕ)). length p) (word ∷ words) pieces)
 
@@ -136,6 +136,6 @@ tours_fit items clean =
     let words = words_of TourPart items in
     let held : AreTourWords words = grown TourPart (λ n words. AreTourWords words) refl all_taken items clean in
     let pieces = slice_split ends_tour words in
-    and_from (list_all is_tour (tours_in words)) (nat_le (sum_by length (tours_in words)) most_tour_nodes)
+    and_from (list_all is_node_list (tours_in words)) (nat_le (sum_by length (tours_in words)) most_tour_nodes)
     (filled_runs pieces (pieces_pass ends_tour is_tour_node words held.nodes))
     (ap (λ k. nat_le k most_tour_nodes) (runs_long pieces ∙ pieces_long ends_tour words) ∙ held.few)

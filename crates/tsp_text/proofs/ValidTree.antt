@@ -14,7 +14,7 @@ use Rattle.tsp_number.specs.declared.fault.NumberFault.{NumberFault}
 use Rattle.tsp_format.specs.declared.field.Field.TheVariants.{BranchPart}
 use Rattle.tsp_format.specs.Limits.{most_combs, most_branches, most_changes, most_difference}
 use Rattle.tsp_format.specs.Steps.{Step, Branch, Leaf, are_whole, branch_count, change_count}
-use Rattle.tsp_draft.specs.Validity.{is_from_to, is_within, is_node, is_node_pair, is_change, is_step, are_steps}
+use Rattle.tsp_draft.specs.Validity.{is_from_to, is_within, is_node, is_pair_of, is_change, is_step, are_tree_steps}
 use Rattle.tsp_text.specs.Items.{Item}
 use Rattle.tsp_text.specs.Earlier.{words_of}
 use Rattle.tsp_text.specs.SectionNumbers.{number, reads_as, node, whole_of_size}
@@ -149,7 +149,7 @@ second_holds n s word first left some row h out =
     let apart = differ first found.0 (rw found.1 at t.other_node) in
     let second = nat_abs (number (node n word)) in
     let is : second ≡ found.0 = ap (λ r. nat_abs (number r)) found.1 in
-    let pair : is_node_pair n (first, second) ≡ true = rw is (and_from (is_node n first && is_node n found.0) (not (first == found.0))
+    let pair : is_pair_of n (first, second) ≡ true = rw is (and_from (is_node n first && is_node n found.0) (not (first == found.0))
     (and_from (is_node n first) (is_node n found.0) h.begun found.2) (not_from_false (first == found.0) apart)) in
     let one_more : s.to_come + 1 ≡ suc (suc left) = omega (arith, some) in
     let held : StepsHold n (s.steps ++ Branch first second ∷ []) None false s.leaf (s.to_come + 1) s.branches s.changes = record {
@@ -280,7 +280,7 @@ none_to_come (suc count) e = grind (arith, nat_tests)
 
 pub steps_fit : (items : List Item) → IsClean items
     → wants_more (place_of_step (dimension_in items) (words_of BranchPart items)) ≡ false
-    → are_steps (dimension_in items) (whole_steps (dimension_in items) (words_of BranchPart items)) ≡ true
+    → are_tree_steps (dimension_in items) (whole_steps (dimension_in items) (words_of BranchPart items)) ≡ true
 steps_fit items clean ended =
     let n = dimension_in items in
     let s = tree_after n (words_of BranchPart items) in

@@ -7,8 +7,8 @@ use Rattle.std.proofs.lemmas.Bool.{true≢false, false≢true, and_from}
 use Rattle.std.proofs.lemmas.List.{length-map, map_push}
 use Rattle.tsp_number.specs.Reading.{whole_of}
 use Rattle.tsp_format.specs.declared.field.Field.TheVariants.{FixedEdgePotentialPart}
-use Rattle.tsp_format.specs.Limits.{most_fixed, most_multipliers, most_multiplier}
-use Rattle.tsp_draft.specs.Validity.{is_from_to, is_node_pair, is_triple, are_triples}
+use Rattle.tsp_format.specs.Limits.{most_fixed, most_triples, most_multiplier}
+use Rattle.tsp_draft.specs.Validity.{is_from_to, is_pair_of, is_triple_of, are_triples}
 use Rattle.tsp_text.specs.Items.{Item}
 use Rattle.tsp_text.specs.Earlier.{words_of}
 use Rattle.tsp_text.specs.SectionNumbers.{number, node_or_end, is_end}
@@ -33,7 +33,7 @@ ends_triples n triple = is_end n triple.0
 -- the words of a triple that has begun: a node, or two different ones
 abbrev IsBegun : ℕ → List ℕ → List (List ℕ) → Type 0
 IsBegun n first [] = (result_err (node_or_end n first) ≡ None) × (is_end n first ≡ false)
-IsBegun n first (second ∷ rest) = is_node_pair n (pair_of n (first, second)) ≡ true
+IsBegun n first (second ∷ rest) = is_pair_of n (pair_of n (first, second)) ≡ true
 
 -- the whole triples are valid, and so are the words of one that has begun, with the triple within the limit
 pub record AreTripled (n : ℕ) (words : List (List ℕ)) : Type 0 where
@@ -114,13 +114,13 @@ ends n words first second word open_ended is held =
     let still : list_any (is_end n) (triple_firsts_in (words ++ word ∷ [])) ≡ false = ap (list_any (is_end n)) (firsts_end words first second word is) ∙ open_ended in
     let more : before (ends_triples n) (threes_in (words ++ word ∷ [])) ≡ triples ++ one ∷ [] =
     triples_none (is_end n) (words ++ word ∷ []) still ∙ triples_end words first second word is in
-    let triple : is_triple n (f one) ≡ true = and_from (is_node_pair n (pair_of n (first, second))) (is_from_to (pos 0) (pos most_multiplier) (number (whole_of word (pos 0) (pos most_multiplier))))
+    let triple : is_triple_of n (f one) ≡ true = and_from (is_pair_of n (pair_of n (first, second))) (is_from_to (pos 0) (pos most_multiplier) (number (whole_of word (pos 0) (pos most_multiplier))))
     begun.0 (whole_passes (pos 0) (pos most_multiplier) word refl) in
     let so_far : are_triples n (map f triples) ≡ true =
     ap (λ (ts : List (List ℕ × List ℕ × List ℕ)). are_triples n (map f ts)) (sym (triples_none (is_end n) words open_ended)) ∙ held.triples in
     record {
       triples = ap (λ (ts : List (List ℕ × List ℕ × List ℕ)). are_triples n (map f ts)) more ∙ ap (are_triples n) (map_push f triples one)
-          ∙ few_more most_multipliers (is_triple n) (map f triples) (f one) so_far (ap (λ k. nat_le most_multipliers k) (length-map triples f) ∙ begun.1) triple;
+          ∙ few_more most_triples (is_triple_of n) (map f triples) (f one) so_far (ap (λ k. nat_le most_triples k) (length-map triples f) ∙ begun.1) triple;
       begun = λ none other rest e. absurd (none_begun (begun_triple (words ++ word ∷ [])) rest other (begun_end words first second word is) e);
     }
 

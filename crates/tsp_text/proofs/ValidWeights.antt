@@ -9,7 +9,7 @@ use Rattle.tsp_format.specs.declared.field.Field.{Field}
 use Rattle.tsp_format.specs.declared.field.Field.TheVariants.{EdgeWeightPart}
 use Rattle.tsp_format.specs.declared.keyword.Keyword.TheVariants.{Known, EdgeDataFormat, EdgeDataSection, Eof, Unknown}
 use Rattle.tsp_format.specs.Limits.{most_matrix_nodes, most_weight}
-use Rattle.tsp_draft.specs.Validity.{is_within, are_weights}
+use Rattle.tsp_draft.specs.Validity.{is_within, fit_matrix}
 use Rattle.tsp_text.specs.Items.{WordLine, Item, Line, NumberWord, LineEnd}
 use Rattle.tsp_text.specs.Earlier.{same_field, has_line, words_of}
 use Rattle.tsp_text.specs.SectionNumbers.{number, whole_of_size}
@@ -79,7 +79,7 @@ weights_sized words = list_all-map (is_within most_weight) (λ word. number (who
     ∙ all_pass (λ word. is_within most_weight (number (whole_of_size most_weight word))) words (λ word. whole_passes (neg_ℤ (pos most_weight)) (pos most_weight) word refl)
 
 pub weights_fit : (items : List Item) → IsClean items → has_line EdgeWeightPart items ≡ true
-    → are_weights (dimension_in items) (weights_in (words_of EdgeWeightPart items)) ≡ true
+    → fit_matrix (dimension_in items) (weights_in (words_of EdgeWeightPart items)) ≡ true
 weights_fit items clean stands =
     let n = dimension_in items in
     let words = words_of EdgeWeightPart items in

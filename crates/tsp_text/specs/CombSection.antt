@@ -2,7 +2,7 @@
 -- set, one more the comb, and one where a comb would begin the section.
 use Rattle.std.specs.Prelude.{ℕ, ◌+◌, Bool, true, false, cond, ◌||◌, List, [], ◌∷◌, ◌++◌, length, nat_abs}
 use Rattle.std.specs.List.{fold}
-use Rattle.tsp_text.specs.Lines.{is_filled}
+use Rattle.tsp_text.specs.Lines.{is_not_empty}
 use Rattle.tsp_text.specs.SectionNumbers.{number, node_or_end, is_end}
 use Rattle.tsp_text.specs.WordPlaces.{Place, SetNode, PastEnd}
 
@@ -40,8 +40,8 @@ with_comb so_far = record so_far { combs = so_far.combs ++ so_far.sets ∷ []; s
 
 -- a -1 ends the set that has begun; where none has, the comb; where none has, the section
 abbrev pub with_end : CombsSoFar → CombsSoFar
-with_end so_far = cond (is_filled so_far.nodes) (with_set so_far)
-    (cond (is_filled so_far.sets) (with_comb so_far) (record so_far { ended = true }))
+with_end so_far = cond (is_not_empty so_far.nodes) (with_set so_far)
+    (cond (is_not_empty so_far.sets) (with_comb so_far) (record so_far { ended = true }))
 
 -- past the end of the section nothing changes
 abbrev pub with_comb_word : ℕ → CombsSoFar → List ℕ → CombsSoFar
@@ -60,7 +60,7 @@ whole_combs n words = (combs_after n words).combs
 -- ---- the place of the next word
 
 abbrev pub has_begun_comb : CombsSoFar → Bool
-has_begun_comb so_far = is_filled so_far.nodes || is_filled so_far.sets
+has_begun_comb so_far = is_not_empty so_far.nodes || is_not_empty so_far.sets
 
 abbrev pub place_in_combs : CombsSoFar → Place
 place_in_combs so_far = cond so_far.ended PastEnd (SetNode (has_begun_comb so_far) (length so_far.combs) so_far.count)

@@ -25,15 +25,15 @@ text bytes = map newline bytes
 abbrev pub FaultAt : List ℕ → ℕ → ℕ → LineFault → Type 0
 FaultAt bytes line word found = fault (text bytes) ≡ Some (faults.Line line word found)
 
-abbrev pub NumberAt : List ℕ → ℕ → ℕ → NumberFault → Type 0
-NumberAt bytes line word found = FaultAt bytes line word (Number found)
+abbrev pub IsNumberFault : List ℕ → ℕ → ℕ → NumberFault → Type 0
+IsNumberFault bytes line word found = FaultAt bytes line word (Number found)
 
 -- no line has a fault, and this one is found at the end
-abbrev pub FaultAtEnd : List ℕ → EndFault → Type 0
-FaultAtEnd bytes found = fault (text bytes) ≡ Some (faults.End found)
+abbrev pub EndsWithFault : List ℕ → EndFault → Type 0
+EndsWithFault bytes found = fault (text bytes) ≡ Some (faults.End found)
 
 abbrev pub MissingAtEnd : List ℕ → Field → Type 0
-MissingAtEnd bytes field = FaultAtEnd bytes (Missing field)
+MissingAtEnd bytes field = EndsWithFault bytes (Missing field)
 
 -- the text has this one line of an unknown keyword
 abbrev pub OthersAre : List ℕ → List ℕ → List ℕ → Type 0
@@ -66,12 +66,12 @@ abbrev pub DemandsAre : List ℕ → Type 0
 DemandsAre bytes = (spelled (part (text bytes))).demands ≡ Some (pos 5 ∷ pos 7 ∷ pos 9 ∷ [])
 
 -- the one node has the point (1.5, 0, -2), in space; the point (1.5, -2), in the plane
-abbrev pub InSpace : List ℕ → Type 0
-InSpace bytes = (spelled (part (text bytes))).coords
+abbrev pub HasSpacePoint : List ℕ → Type 0
+HasSpacePoint bytes = (spelled (part (text bytes))).coords
     ≡ Some (record { x = pos 1500000000; y = pos 0; z = negsuc 1999999999 } ∷ [])
 
-abbrev pub OnPlane : List ℕ → Type 0
-OnPlane bytes = (spelled (part (text bytes))).coords ≡ Some (on_plane (pos 1500000000) (negsuc 1999999999) ∷ [])
+abbrev pub HasPlanePoint : List ℕ → Type 0
+HasPlanePoint bytes = (spelled (part (text bytes))).coords ≡ Some (on_plane (pos 1500000000) (negsuc 1999999999) ∷ [])
 
 -- four nodes with weights
 abbrev pub quad : List ℕ → List ℕ → List ℕ

@@ -13,11 +13,11 @@ use Rattle.tsp_format.specs.declared.keyword.Keyword.TheVariants.{Known, EdgeDat
 use Rattle.tsp_format.specs.Limits.{most_nodes, most_matrix_nodes, most_weight, most_line_bytes, most_kept_bytes, most_comments, most_others, most_depots, most_fixed, most_tour_nodes, most_combs, most_comb_nodes, most_branches, most_changes}
 use Rattle.tsp_text.specs.declared.fault.LineFault.{LineFault}
 use Rattle.tsp_text.specs.declared.fault.LineFault.TheVariants as row
-use Rattle.tsp_text.specs.Lines.{is_filled, first_word}
+use Rattle.tsp_text.specs.Lines.{is_not_empty, first_word}
 use Rattle.tsp_text.specs.Items.{WordLine, Item, Line, NumberWord, LineEnd}
 use Rattle.tsp_format.specs.Shapes.{is_section_field}
 use Rattle.tsp_text.specs.Earlier.{same_field, has_line, values_at, others_in, open_section}
-use Rattle.tsp_text.specs.Values.{is_refused, is_left_out, has_number, read_as, is_kept_as_is, says_space, spatial_after}
+use Rattle.tsp_text.specs.Values.{is_unknown_word, is_left_out, has_number, read_as, is_kept_as_is, says_space, spatial_after}
 use Rattle.tsp_text.specs.SectionNumbers.{reads_as, node, whole_of_size, node_or_end, is_end, is_minus_one}
 use Rattle.tsp_text.specs.WordPlaces.{Place, NodeAfter, Coordinate, Amount, PastGroups, DepotAfter, FirstAfter, SecondOf, PastEnd, Weight, PastWeights, TourNode, SetNode, StepAfter, IndexAfter}
 use Rattle.tsp_text.specs.BranchSection.{node_or_leaf, begins_leaf, index_or_end, ends_leaf}
@@ -53,14 +53,14 @@ may_repeat CommentKey = true
 may_repeat OtherKey = true
 may_repeat field = false
 
-abbrev pub is_repeated : List Item → Item → Bool
-is_repeated earlier (Line (Known field) line) = not (may_repeat field) && has_line field earlier
-is_repeated earlier (Line EdgeDataFormat line) = false
-is_repeated earlier (Line EdgeDataSection line) = false
-is_repeated earlier (Line Eof line) = false
-is_repeated earlier (Line Unknown line) = false
-is_repeated earlier (NumberWord word) = false
-is_repeated earlier LineEnd = false
+abbrev pub repeats_keyword : List Item → Item → Bool
+repeats_keyword earlier (Line (Known field) line) = not (may_repeat field) && has_line field earlier
+repeats_keyword earlier (Line EdgeDataFormat line) = false
+repeats_keyword earlier (Line EdgeDataSection line) = false
+repeats_keyword earlier (Line Eof line) = false
+repeats_keyword earlier (Line Unknown line) = false
+repeats_keyword earlier (NumberWord word) = false
+repeats_keyword earlier LineEnd = false
 
 -- ---- Outside: EDGE_DATA_FORMAT, EDGE_DATA_SECTION, or a first word that is left out
 
@@ -80,8 +80,8 @@ abbrev pub is_too_long_to_keep : WordLine → Bool
 is_too_long_to_keep line = nat_lt most_kept_bytes (length line.keyword + length line.value)
 
 abbrev pub has_bad_value : List Item → Item → Bool
-has_bad_value earlier (Line (Known field) line) = cond (is_refused field (first_word line.value)) true
-    (cond (has_number field) (not (is_filled line.value)) (is_kept_as_is field && is_too_long_to_keep line))
+has_bad_value earlier (Line (Known field) line) = cond (is_unknown_word field (first_word line.value)) true
+    (cond (has_number field) (not (is_not_empty line.value)) (is_kept_as_is field && is_too_long_to_keep line))
 has_bad_value earlier (Line EdgeDataFormat line) = false
 has_bad_value earlier (Line EdgeDataSection line) = false
 has_bad_value earlier (Line Eof line) = false
@@ -92,9 +92,9 @@ has_bad_value earlier LineEnd = false
 -- ---- SectionValue: a section line with a value
 
 abbrev pub has_section_value : List Item → Item → Bool
-has_section_value earlier (Line (Known field) line) = is_section_field field && is_filled line.value
+has_section_value earlier (Line (Known field) line) = is_section_field field && is_not_empty line.value
 has_section_value earlier (Line EdgeDataFormat line) = false
-has_section_value earlier (Line EdgeDataSection line) = is_filled line.value
+has_section_value earlier (Line EdgeDataSection line) = is_not_empty line.value
 has_section_value earlier (Line Eof line) = false
 has_section_value earlier (Line Unknown line) = false
 has_section_value earlier (NumberWord word) = false
@@ -248,7 +248,7 @@ when test fault = cond test (Some fault) None
 abbrev pub table : List Item → Item → List (Option LineFault)
 table earlier item = when (is_long earlier item) row.LongLine
     ∷ when (is_unknown_line earlier item) row.UnknownLine
-    ∷ when (is_repeated earlier item) row.Repeated
+    ∷ when (repeats_keyword earlier item) row.Repeated
     ∷ when (says_left_out earlier item) row.Outside
     ∷ when (has_bad_value earlier item) row.BadValue
     ∷ when (has_section_value earlier item) row.SectionValue

@@ -5,7 +5,7 @@ use Rattle.tsp_format.specs.declared.field.Field.{Field}
 use Rattle.tsp_format.specs.declared.field.Shape.{Shape}
 use Rattle.tsp_format.specs.declared.field.Shape.TheVariants.{Numbers, Points, SpacePoints}
 use Rattle.tsp_format.specs.Shapes.{shape_of}
-use Rattle.tsp_format.specs.Cells.{nodes_to}
+use Rattle.tsp_format.specs.Nodes.{nodes_to}
 use Rattle.tsp_text.specs.Groups.{number_groups, point_groups, space_point_groups, nodes_of_groups}
 
 -- a section of this shape has a group for each node

@@ -6,7 +6,7 @@ use Rattle.tsp_distance.specs.declared.decimal.Point.{Point}
 use Rattle.tsp_distance.specs.Distances.{on_plane}
 use Rattle.tsp_draft.specs.Coords.{origin}
 use Rattle.tsp_number.specs.Reading.{decimal_of, whole_of}
-use Rattle.tsp_format.specs.Cells.{nodes_to}
+use Rattle.tsp_format.specs.Nodes.{nodes_to}
 use Rattle.tsp_text.specs.SectionNumbers.{number, node}
 use Rattle.tsp_text.specs.WordPlaces.{Place, NodeAfter, Coordinate, Amount, PastGroups}
 

@@ -7,7 +7,7 @@ use Rattle.tsp_format.specs.declared.keyword.Keyword.TheVariants.{Known, EdgeDat
 use Rattle.tsp_format.specs.Bytes.{is_blank}
 use Rattle.tsp_format.specs.Keywords.{keyword_of}
 use Rattle.tsp_format.specs.Limits.{most_word_bytes, most_line_bytes}
-use Rattle.tsp_text.specs.Lines.{lines_of, words_in, is_filled, without_start, is_word_line, keyword_in, has_colon, value_in}
+use Rattle.tsp_text.specs.Lines.{lines_of, words_in, is_not_empty, without_start, is_word_line, keyword_in, has_colon, value_in}
 
 -- a word line: how many bytes it has from the first that isn't blank, its keyword, whether a colon follows, and its value
 pub record WordLine : Type 0 where
@@ -24,11 +24,11 @@ pub data Item : Type 0 where
 -- ---- the items of a whole text
 
 -- the word line with these bytes from the first that isn't blank on
-abbrev pub word_line : List ℕ → WordLine
-word_line text = record { size = length text; keyword = keyword_in text; has_colon = has_colon text; value = value_in text }
+abbrev pub word_line_of : List ℕ → WordLine
+word_line_of text = record { size = length text; keyword = keyword_in text; has_colon = has_colon text; value = value_in text }
 
 abbrev pub line_item : List ℕ → Item
-line_item text = Line (keyword_of (keyword_in text)) (word_line text)
+line_item text = Line (keyword_of (keyword_in text)) (word_line_of text)
 
 abbrev pub items_in : List ℕ → List Item
 items_in line = cond (is_word_line line) (line_item (without_start line) ∷ []) (map (λ word. NumberWord word) (words_in line))
@@ -51,7 +51,7 @@ settled_pieces (piece ∷ []) = cond (nat_lt most_word_bytes (length piece)) (pi
 settled_pieces (piece ∷ next ∷ pieces) = piece ∷ settled_pieces (next ∷ pieces)
 
 abbrev pub settled_words : List ℕ → List (List ℕ)
-settled_words line = filter is_filled (settled_pieces (slice_split is_blank line))
+settled_words line = filter is_not_empty (settled_pieces (slice_split is_blank line))
 
 -- a word line that goes on is settled where it is longer than any word line
 abbrev pub settled_line : List ℕ → List Item

@@ -12,13 +12,13 @@ ends_line b = b == 10
 abbrev pub lines_of : List ℕ → List (List ℕ)
 lines_of bytes = slice_split ends_line bytes
 
-abbrev pub is_filled : {A : Type 0} → List A → Bool
-is_filled [] = false
-is_filled (x ∷ xs) = true
+abbrev pub is_not_empty : {A : Type 0} → List A → Bool
+is_not_empty [] = false
+is_not_empty (x ∷ xs) = true
 
 -- the words of a line are its longest runs of bytes that aren't blank
 abbrev pub words_in : List ℕ → List (List ℕ)
-words_in line = filter is_filled (slice_split is_blank line)
+words_in line = filter is_not_empty (slice_split is_blank line)
 
 -- without the blanks at the start, and without those at the end
 abbrev pub without_start : List ℕ → List ℕ

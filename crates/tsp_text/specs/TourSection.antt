@@ -3,7 +3,7 @@
 use Rattle.std.specs.Prelude.{ℕ, Bool, not, List, length, map, nat_abs}
 use Rattle.std.specs.List.{slice_split, filter}
 use Rattle.tsp_format.specs.Limits.{most_nodes}
-use Rattle.tsp_text.specs.Lines.{is_filled}
+use Rattle.tsp_text.specs.Lines.{is_not_empty}
 use Rattle.tsp_text.specs.SectionNumbers.{number, node_or_end, is_end}
 use Rattle.tsp_text.specs.WordPlaces.{Place, TourNode}
 
@@ -15,7 +15,7 @@ tour_node word = nat_abs (number (node_or_end most_nodes word))
 
 -- the runs, not empty, of words between those that mean -1
 abbrev pub tours_in : List (List ℕ) → List (List ℕ)
-tours_in words = map (map tour_node) (filter is_filled (slice_split ends_tour words))
+tours_in words = map (map tour_node) (filter is_not_empty (slice_split ends_tour words))
 
 abbrev pub place_of_tour : List (List ℕ) → Place
 place_of_tour words = TourNode (length (filter (λ word. not (ends_tour word)) words))

@@ -46,13 +46,13 @@ abbrev pub display_kind_named : List ℕ → Option DisplayKind
 display_kind_named word = named display_kind_word display_kinds word
 
 -- the keyword has a list of accepted words, and this isn't one of them
-abbrev pub is_refused : Field → List ℕ → Bool
-is_refused TypeKey word = is_none (kind_named word)
-is_refused EdgeWeightTypeKey word = is_none (weight_kind_named word)
-is_refused EdgeWeightFormatKey word = is_none (weight_format_named word)
-is_refused NodeCoordTypeKey word = is_none (coord_kind_named word)
-is_refused DisplayDataTypeKey word = is_none (display_kind_named word)
-is_refused field word = false
+abbrev pub is_unknown_word : Field → List ℕ → Bool
+is_unknown_word TypeKey word = is_none (kind_named word)
+is_unknown_word EdgeWeightTypeKey word = is_none (weight_kind_named word)
+is_unknown_word EdgeWeightFormatKey word = is_none (weight_format_named word)
+is_unknown_word NodeCoordTypeKey word = is_none (coord_kind_named word)
+is_unknown_word DisplayDataTypeKey word = is_none (display_kind_named word)
+is_unknown_word field word = false
 
 -- words of TSPLIB 95 that the keyword doesn't take here
 abbrev pub left_out : Field → List (List ℕ)

@@ -10,7 +10,7 @@ ghost use Rattle.tsp_draft.specs.declared.fault.EndFault.TheVariants as ends;
 ghost use Rattle.tsp_text.specs.declared.fault.LineFault.TheVariants as faults;
 ghost use Rattle.tsp_text.specs.declared.fault.ReadFault.TheVariants as reads;
 ghost use Rattle.tsp_text.specs.ReadFaultText.{line_fault_text, read_fault_text};
-ghost use Rattle.tsp_text.specs.Examples.{FaultAt, NumberAt, MissingAtEnd, FaultAtEnd, OthersAre, ToursAre, PairsAre, TriplesAre, CombIs, TreeIs, DemandsAre, InSpace, OnPlane, quad, longest_line, long_line, long_word, filled_line, IsLimit, IsLimitOfLines};
+ghost use Rattle.tsp_text.specs.Examples.{FaultAt, IsNumberFault, MissingAtEnd, EndsWithFault, OthersAre, ToursAre, PairsAre, TriplesAre, CombIs, TreeIs, DemandsAre, HasSpacePoint, HasPlanePoint, quad, longest_line, long_line, long_word, filled_line, IsLimit, IsLimitOfLines};
 ghost use Rattle.tsp_text.specs.FaultRows.{is_surplus_at};
 ghost use Rattle.tsp_text.specs.WordPlaces.{DepotAfter, FirstAfter, TourNode, SetNode, StepAfter, IndexAfter};
 
@@ -30,7 +30,7 @@ pub fn faults_of_word_lines()
     ensures not_accepted { FaultAt (codes "TYPE : FOO") 1 0 faults.BadValue }
     ensures no_value { FaultAt (codes "TYPE") 1 0 faults.BadValue }
     ensures twice { FaultAt (codes "TYPE : TOUR/TYPE : HCP") 2 0 faults.Repeated }
-    ensures no_number { NumberAt (codes "DIMENSION : x") 1 0 numbers.BadNumber }
+    ensures no_number { IsNumberFault (codes "DIMENSION : x") 1 0 numbers.BadNumber }
     ensures empty_number { FaultAt (codes "DIMENSION :") 1 0 faults.BadValue }
     ensures valued_section { FaultAt (codes "NODE_COORD_SECTION x") 1 0 faults.SectionValue }
     ensures early_section { FaultAt (codes "NODE_COORD_SECTION") 1 0 faults.SectionEarly }
@@ -55,8 +55,8 @@ pub fn faults_of_words()
         4 1 faults.StrayNumber }
     ensures self_edge { FaultAt (codes "DIMENSION : 3/FIXED_EDGES/1 1") 3 2 faults.SelfEdge }
     ensures after_end { FaultAt (codes "DIMENSION : 3/FIXED_EDGES/1 2 -1 5") 3 4 faults.AfterEnd }
-    ensures zero { NumberAt (codes "DIMENSION : 3/FIXED_EDGES/0 1") 3 1 numbers.OutOfRange }
-    ensures end_in_second_place { NumberAt (codes "DIMENSION : 3/FIXED_EDGES/1 -1")
+    ensures zero { IsNumberFault (codes "DIMENSION : 3/FIXED_EDGES/0 1") 3 1 numbers.OutOfRange }
+    ensures end_in_second_place { IsNumberFault (codes "DIMENSION : 3/FIXED_EDGES/1 -1")
         3 2 numbers.OutOfRange }
     ensures other_spelling_after_end { FaultAt
         (codes "DIMENSION : 3/FIXED_EDGES/1 2 -1 -1.0") 3 4 faults.AfterEnd }
@@ -64,12 +64,12 @@ pub fn faults_of_words()
         (codes "DIMENSION : 3/FIXED_EDGE_POTENTIAL_SECTION/2 2") 3 2 faults.SelfEdge }
     ensures triple_past_the_end { FaultAt
         (codes "DIMENSION : 3/FIXED_EDGE_POTENTIAL_SECTION/1 2 5 -1 -1 3") 3 6 faults.AfterEnd }
-    ensures multiplier_too_large { NumberAt (codes
+    ensures multiplier_too_large { IsNumberFault (codes
         "DIMENSION : 3/FIXED_EDGE_POTENTIAL_SECTION/1 2 1000000000000000 1 3 1000000000000001")
         3 6 numbers.OutOfRange }
-    ensures multiplier_below_zero { NumberAt
+    ensures multiplier_below_zero { IsNumberFault
         (codes "DIMENSION : 3/FIXED_EDGE_POTENTIAL_SECTION/1 2 -1") 3 3 numbers.OutOfRange }
-    ensures zero_in_a_set { NumberAt (codes "DIMENSION : 3/COMB_SECTION/1 0")
+    ensures zero_in_a_set { IsNumberFault (codes "DIMENSION : 3/COMB_SECTION/1 0")
         3 2 numbers.OutOfRange }
     ensures past_the_combs { FaultAt
         (codes "DIMENSION : 3/COMB_SECTION/1 2 -1 -1 -1 -1 3") 3 7 faults.AfterEnd }
@@ -77,15 +77,15 @@ pub fn faults_of_words()
         (codes "DIMENSION : 3/COMB_SECTION/-1 -1.0") 3 2 faults.AfterEnd }
     ensures branch_of_a_node_with_itself { FaultAt
         (codes "DIMENSION : 4/BRANCH_SECTION/2 2") 3 2 faults.SelfEdge }
-    ensures end_in_the_second_place { NumberAt (codes "DIMENSION : 4/BRANCH_SECTION/2 -1")
+    ensures end_in_the_second_place { IsNumberFault (codes "DIMENSION : 4/BRANCH_SECTION/2 -1")
         3 2 numbers.OutOfRange }
-    ensures end_before_the_tree { NumberAt (codes "DIMENSION : 4/BRANCH_SECTION/1 2 0 -1 -1")
+    ensures end_before_the_tree { IsNumberFault (codes "DIMENSION : 4/BRANCH_SECTION/1 2 0 -1 -1")
         3 5 numbers.OutOfRange }
-    ensures index_zero { NumberAt (codes "DIMENSION : 4/BRANCH_SECTION/0 0")
+    ensures index_zero { IsNumberFault (codes "DIMENSION : 4/BRANCH_SECTION/0 0")
         3 2 numbers.OutOfRange }
-    ensures index_past_all_combs { NumberAt (codes "DIMENSION : 4/BRANCH_SECTION/0 10004 1 10005")
+    ensures index_past_all_combs { IsNumberFault (codes "DIMENSION : 4/BRANCH_SECTION/0 10004 1 10005")
         3 4 numbers.OutOfRange }
-    ensures difference_too_large { NumberAt
+    ensures difference_too_large { IsNumberFault
         (codes "DIMENSION : 4/BRANCH_SECTION/0 1 2000000000000000 1 2000000000000001")
         3 5 numbers.OutOfRange }
     ensures past_the_tree { FaultAt
@@ -94,7 +94,7 @@ pub fn faults_of_words()
         3 3 faults.RepeatedNode }
     ensures past_the_groups { FaultAt
         (codes "DIMENSION : 2/DEMAND_SECTION/1 0 2 5 7") 3 5 faults.Surplus }
-    ensures zero_in_a_tour { NumberAt (codes "TOUR_SECTION/1 0 2") 2 2 numbers.OutOfRange }
+    ensures zero_in_a_tour { IsNumberFault (codes "TOUR_SECTION/1 0 2") 2 2 numbers.OutOfRange }
     ensures third_in_the_plane { FaultAt
         (codes "DIMENSION : 1/NODE_COORD_SECTION/1 0 0 5") 3 4 faults.Surplus }
     ensures fourth_in_space { FaultAt
@@ -102,13 +102,13 @@ pub fn faults_of_words()
         4 5 faults.Surplus }
     ensures third_of_display { FaultAt (codes
         "DIMENSION : 1/EDGE_WEIGHT_TYPE : MAN_3D/DISPLAY_DATA_SECTION/1 0 0 5") 4 4 faults.Surplus }
-    ensures long_word { NumberAt (codes "TOUR_SECTION/1 " ++ long_word) 2 2 numbers.LongWord }
+    ensures long_word { IsNumberFault (codes "TOUR_SECTION/1 " ++ long_word) 2 2 numbers.LongWord }
     ensures past_the_weights { FaultAt (quad (codes "UPPER_ROW")
         (codes "1 2 3 4 5 6 7 8 9 10 11 12 13 14 15 16 17")) 6 17 faults.Surplus }
 {}
 
 /// The faults at the end of some texts.
-#[tactic(auto, unfolding(tsp_number::specs::Reading::decimal_of, tsp_number::specs::Reading::whole_of, tsp_format::specs::Cells::cells, tsp_format::specs::Cells::nodes_to))]
+#[tactic(auto, unfolding(tsp_number::specs::Reading::decimal_of, tsp_number::specs::Reading::whole_of, tsp_format::specs::Cells::cells, tsp_format::specs::Nodes::nodes_to))]
 pub fn faults_at_the_end()
     ensures no_type { MissingAtEnd (codes "DIMENSION 3") fields.TypeKey }
     ensures small_letters { MissingAtEnd (codes "dimension : 3") fields.TypeKey }
@@ -118,26 +118,26 @@ pub fn faults_at_the_end()
         (codes "DIMENSION : 2/DEMAND_SECTION/1 0 2 5 -1") fields.TypeKey }
     ensures after_the_end_line { MissingAtEnd (codes "TYPE : TSP/EOF/FOO") fields.DimensionKey }
     ensures end_line_with_a_value { MissingAtEnd (codes " EOF : x/FOO") fields.TypeKey }
-    ensures cut_pair { FaultAtEnd
+    ensures cut_pair { EndsWithFault
         (codes "TYPE : TOUR/DIMENSION : 3/FIXED_EDGES_SECTION/1 2 3/TOUR_SECTION")
         (ends.Incomplete fields.FixedEdgesPart) }
-    ensures cut_triple { FaultAtEnd
+    ensures cut_triple { EndsWithFault
         (codes "TYPE : TOUR/DIMENSION : 3/FIXED_EDGE_POTENTIAL_SECTION/1 2 5 3 1/TOUR_SECTION")
         (ends.Incomplete fields.FixedEdgePotentialPart) }
-    ensures triple_of_one_word { FaultAtEnd
+    ensures triple_of_one_word { EndsWithFault
         (codes "TYPE : TOUR/DIMENSION : 3/FIXED_EDGE_POTENTIAL_SECTION/1/TOUR_SECTION")
         (ends.Incomplete fields.FixedEdgePotentialPart) }
-    ensures cut_set { FaultAtEnd (codes "TYPE : TOUR/DIMENSION : 3/COMB_SECTION/1 2/TOUR_SECTION")
+    ensures cut_set { EndsWithFault (codes "TYPE : TOUR/DIMENSION : 3/COMB_SECTION/1 2/TOUR_SECTION")
         (ends.Incomplete fields.CombPart) }
-    ensures cut_comb { FaultAtEnd
+    ensures cut_comb { EndsWithFault
         (codes "TYPE : TOUR/DIMENSION : 3/COMB_SECTION/1 2 -1/TOUR_SECTION")
         (ends.Incomplete fields.CombPart) }
     ensures combs_alone { MissingAtEnd
         (codes "TYPE : BRANCHES/DIMENSION : 3/COMB_SECTION/1 2 -1 -1") fields.BranchPart }
-    ensures cut_tree { FaultAtEnd
+    ensures cut_tree { EndsWithFault
         (codes "TYPE : BRANCHES/DIMENSION : 4/BRANCH_SECTION/1 2 0 2 1 -1")
         (ends.Incomplete fields.BranchPart) }
-    ensures no_steps { FaultAtEnd (codes "TYPE : BRANCHES/DIMENSION : 4/BRANCH_SECTION")
+    ensures no_steps { EndsWithFault (codes "TYPE : BRANCHES/DIMENSION : 4/BRANCH_SECTION")
         (ends.Incomplete fields.BranchPart) }
     ensures triples_alone { MissingAtEnd
         (codes "TYPE : POTENTIALS/DIMENSION : 3/FIXED_EDGE_POTENTIAL_SECTION/1 3 2 -1")
@@ -145,7 +145,7 @@ pub fn faults_at_the_end()
     ensures triples_with_rows { MissingAtEnd (codes
         "TYPE : POTENTIALS/DIMENSION : 1/ROW_POTENTIAL_SECTION/1 0/FIXED_EDGE_POTENTIAL_SECTION")
         fields.ColumnPotentialPart }
-    ensures triples_with_duals { FaultAtEnd (codes
+    ensures triples_with_duals { EndsWithFault (codes
         "TYPE : POTENTIALS/DIMENSION : 1/ROW_POTENTIAL_SECTION/1 0/COLUMN_POTENTIAL_SECTION/1 0/FIXED_EDGE_POTENTIAL_SECTION")
         ends.WrongFormat }
     ensures rows_alone { MissingAtEnd (codes
@@ -153,43 +153,43 @@ pub fn faults_at_the_end()
     ensures space_said_again { MissingAtEnd (codes
         "DIMENSION : 1/EDGE_WEIGHT_TYPE : MAX_3D/NODE_COORD_SECTION/1 0 0 5/NODE_COORD_TYPE : THREED_COORDS")
         fields.TypeKey }
-    ensures two_of_three { FaultAtEnd
+    ensures two_of_three { EndsWithFault
         (codes "TYPE : TSP/DIMENSION : 1/EDGE_WEIGHT_TYPE : EUC_3D/NODE_COORD_SECTION/1 0 0")
         (ends.Incomplete fields.NodeCoordPart) }
-    ensures too_few { FaultAtEnd (quad (codes "UPPER_ROW") (codes "1 2 3 4 5")) ends.WrongCount }
-    ensures too_many { FaultAtEnd (quad (codes "UPPER_ROW")
+    ensures too_few { EndsWithFault (quad (codes "UPPER_ROW") (codes "1 2 3 4 5")) ends.WrongCount }
+    ensures too_many { EndsWithFault (quad (codes "UPPER_ROW")
         (codes "1 2 3 4 5 6 7")) ends.WrongCount }
-    ensures by_function { FaultAtEnd (quad (codes "FUNCTION")
+    ensures by_function { EndsWithFault (quad (codes "FUNCTION")
         (codes "1 2 3 4 5")) ends.WrongFormat }
 {}
 
 /// Numbers and lines at their limits, and past them by one.
-#[tactic(auto, unfolding(tsp_number::specs::Reading::decimal_of, tsp_number::specs::Reading::whole_of, tsp_format::specs::Cells::cells, tsp_format::specs::Cells::nodes_to))]
+#[tactic(auto, unfolding(tsp_number::specs::Reading::decimal_of, tsp_number::specs::Reading::whole_of, tsp_format::specs::Cells::cells, tsp_format::specs::Nodes::nodes_to))]
 pub fn limits_of_lines()
     ensures most_nodes { MissingAtEnd (codes "DIMENSION : 100000") fields.TypeKey }
-    ensures more_nodes { NumberAt (codes "DIMENSION : 100001") 1 0 numbers.OutOfRange }
-    ensures no_nodes { NumberAt (codes "DIMENSION : 0") 1 0 numbers.OutOfRange }
+    ensures more_nodes { IsNumberFault (codes "DIMENSION : 100001") 1 0 numbers.OutOfRange }
+    ensures no_nodes { IsNumberFault (codes "DIMENSION : 0") 1 0 numbers.OutOfRange }
     ensures most_nodes_of_a_matrix { MissingAtEnd
         (codes "DIMENSION : 5000/EDGE_WEIGHT_SECTION") fields.TypeKey }
     ensures more_nodes_of_a_matrix { FaultAt (codes "DIMENSION : 5001/EDGE_WEIGHT_SECTION")
         2 0 faults.TooManyNodes }
     ensures largest_capacity { MissingAtEnd (codes "CAPACITY : 1000000000000") fields.TypeKey }
-    ensures larger_capacity { NumberAt (codes "CAPACITY : 1000000000001") 1 0 numbers.OutOfRange }
+    ensures larger_capacity { IsNumberFault (codes "CAPACITY : 1000000000001") 1 0 numbers.OutOfRange }
     ensures largest_scale { MissingAtEnd (codes "SCALE : 1000000") fields.TypeKey }
-    ensures larger_scale { NumberAt (codes "SCALE : 1000001") 1 0 numbers.OutOfRange }
+    ensures larger_scale { IsNumberFault (codes "SCALE : 1000001") 1 0 numbers.OutOfRange }
     ensures largest_coordinates { MissingAtEnd
         (codes "DIMENSION : 1/NODE_COORD_SECTION/1 1000000000 -1000000000") fields.TypeKey }
-    ensures larger_coordinate { NumberAt
+    ensures larger_coordinate { IsNumberFault
         (codes "DIMENSION : 1/NODE_COORD_SECTION/1 0 1000000000.000000001") 3 3 numbers.OutOfRange }
     ensures largest_demand { MissingAtEnd
         (codes "DIMENSION : 1/DEMAND_SECTION/1 1000000000") fields.TypeKey }
-    ensures larger_demand { NumberAt (codes "DIMENSION : 1/DEMAND_SECTION/1 1000000001")
+    ensures larger_demand { IsNumberFault (codes "DIMENSION : 1/DEMAND_SECTION/1 1000000001")
         3 2 numbers.OutOfRange }
-    ensures largest_weights { FaultAtEnd (quad (codes "UPPER_ROW")
+    ensures largest_weights { EndsWithFault (quad (codes "UPPER_ROW")
         (codes "1000000000000 -1000000000000")) ends.WrongCount }
-    ensures larger_weight { NumberAt (quad (codes "UPPER_ROW") (codes "1 1000000000001"))
+    ensures larger_weight { IsNumberFault (quad (codes "UPPER_ROW") (codes "1 1000000000001"))
         6 2 numbers.OutOfRange }
-    ensures smaller_weight { NumberAt (quad (codes "UPPER_ROW") (codes "1 2 -1000000000001"))
+    ensures smaller_weight { IsNumberFault (quad (codes "UPPER_ROW") (codes "1 2 -1000000000001"))
         6 3 numbers.OutOfRange }
     ensures longest { MissingAtEnd longest_line fields.TypeKey }
     ensures longest_kept { MissingAtEnd (filled_line 3997) fields.TypeKey }
@@ -218,7 +218,7 @@ pub fn limits_of_sections()
 {}
 
 /// The files of some texts.
-#[tactic(auto, unfolding(tsp_number::specs::Reading::decimal_of, tsp_number::specs::Reading::whole_of, tsp_format::specs::Cells::nodes_to))]
+#[tactic(auto, unfolding(tsp_number::specs::Reading::decimal_of, tsp_number::specs::Reading::whole_of, tsp_format::specs::Nodes::nodes_to))]
 pub fn fields_of_texts()
     ensures value { OthersAre (codes "FOO : BAR") (codes "FOO") (codes "BAR") }
     ensures no_value { OthersAre (codes "FOO: ") (codes "FOO") (codes "") }
@@ -235,11 +235,11 @@ pub fn fields_of_texts()
     ensures tree { TreeIs
         (codes "TYPE:BRANCHES/DIMENSION 4/BRANCH_SECTION/1 2/0 +2 1 -1.0/0 -1 -1") }
     ensures demands { DemandsAre (codes "DIMENSION : 3/DEMAND_SECTION/2 7/3 9 1/5") }
-    ensures by_its_type { InSpace
+    ensures by_its_type { HasSpacePoint
         (codes "DIMENSION : 1/EDGE_WEIGHT_TYPE : MAN_3D/NODE_COORD_SECTION/1 1.5 0 -2") }
-    ensures by_its_coordinates { InSpace
+    ensures by_its_coordinates { HasSpacePoint
         (codes "NODE_COORD_TYPE:THREED_COORDS/DIMENSION 1/NODE_COORD_SECTION/1 1.5 0/-2") }
-    ensures on_plane { OnPlane
+    ensures on_plane { HasPlanePoint
         (codes "DIMENSION : 1/EDGE_WEIGHT_TYPE : MAN_2D/NODE_COORD_SECTION/1 1.5 -2") }
 {}
 

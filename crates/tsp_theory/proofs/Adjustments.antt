@@ -6,7 +6,7 @@ use Rattle.std.proofs.lemmas.Int.{ints}
 use Rattle.std.proofs.lemmas.List.Elements.{recursion_from_All}
 use Rattle.tsp_theory.specs.Cycle.{IsCycle, links, AreNeighbours}
 use Rattle.tsp_theory.specs.Length.{sum_int_by, length_of}
-use Rattle.tsp_theory.specs.Numbers.{IsScale, entry, total}
+use Rattle.tsp_theory.specs.CertificateNumbers.{IsScale, entry, total}
 use Rattle.tsp_theory.specs.Tree.{weight_of}
 use Rattle.tsp_theory.specs.NodeBound.{weight_between}
 use Rattle.tsp_theory.specs.Adjusted.{pair_of, is_same_pair, number_on, numbers_on, triples_total, adjusted, UsesEach, UsesNone, AdjustedBoundsBoundCycles, UnadjustedBoundsAreNodeBounds}

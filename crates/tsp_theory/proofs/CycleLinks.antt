@@ -7,7 +7,7 @@ use Rattle.std.proofs.lemmas.Int.{ints}
 use Rattle.std.proofs.lemmas.List.Elements.{recursion_from_All, All-weaker}
 use Rattle.std.proofs.lemmas.List.FromFn.{length-range_with_len, get_or-range_with_len}
 use Rattle.std.proofs.lemmas.List.Sorted.{IsPermutation-refl, IsPermutation-remove, IsPermutation-cons, IsPermutation-sym, IsPermutation-trans, Contains-permutation, length_permutation}
-use Rattle.tsp_format.specs.Cells.{IsNode, nodes_to}
+use Rattle.tsp_format.specs.Nodes.{IsNode, nodes_to}
 use Rattle.tsp_theory.specs.Cycle.{IsCycle, links_to, links}
 use Rattle.tsp_theory.specs.Length.{sum_int_by, length_of}
 use Rattle.tsp_theory.proofs.Sums.{sum_int_by-IsPermutation, sum_int_by-add, sum_int_by-scaled, sum_int_by-le}

@@ -9,13 +9,13 @@ use Rattle.std.proofs.lemmas.List.Elements.{recursion_from_All}
 use Rattle.std.proofs.lemmas.List.Sorted.{IsPermutation-sym, IsPermutation-append_comm, Contains-permutation}
 use Rattle.std.proofs.lemmas.List.FromFn.{length-range_with_len, get_or-range_with_len}
 use Rattle.std.proofs.lemmas.Map.Keys.{IsDistinct-head, IsDistinct-tail, IsDistinct-cons, IsDistinct-IsPermutation}
-use Rattle.tsp_format.specs.Cells.{IsNode, nodes_to}
+use Rattle.tsp_format.specs.Nodes.{IsNode, nodes_to}
 use Rattle.tsp_theory.specs.Cycle.{IsCycle, links_to}
 use Rattle.tsp_theory.specs.Length.{sum_int_by, length_of}
-use Rattle.tsp_theory.specs.Numbers.{entry}
+use Rattle.tsp_theory.specs.CertificateNumbers.{entry}
 use Rattle.tsp_theory.specs.Tree.{weight_of, IsInner, IsLeastOneTree}
 use Rattle.tsp_theory.specs.NodeBound.{weight_between, NodeBoundsBoundCycles}
-use Rattle.tsp_theory.specs.Adjusted.{LeastTreesAreBelowCycles}
+use Rattle.tsp_theory.specs.Adjusted.{LeastOneTreesAreBelowCycles}
 use Rattle.tsp_theory.proofs.CostLaws.{Laws, entries_of_links}
 use Rattle.tsp_theory.proofs.Duality.{scaled_length}
 use Rattle.tsp_theory.proofs.Weights.{weight_even}
@@ -109,7 +109,7 @@ tree_below_cycle n w pairs before after some symmetric least cycle =
     let tour = tour_length w 1 1 (after ++ before) in
     omega (arith, ints, below, same, tour)
 
-pub least_tree_below : Laws → LeastTreesAreBelowCycles
+pub least_tree_below : Laws → LeastOneTreesAreBelowCycles
 least_tree_below laws n w pairs nodes some symmetric least cycle =
     let one = has_node n nodes 1 laws cycle (omega arith, omega (arith, some)) in
     let here : get_or nodes one.0 1 ≡ 1 = one.2 in

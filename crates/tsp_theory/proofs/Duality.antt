@@ -3,7 +3,7 @@ use Rattle.std.proofs.Common.{◌≡◌, ℕ, List, subst, arith}
 use Rattle.std.specs.Prelude.{ℤ, pos, negsuc, ◌+ℤ◌, ◌-ℤ◌, ◌*ℤ◌}
 use Rattle.std.proofs.lemmas.Int.{ints}
 use Rattle.tsp_theory.specs.Length.{length_of}
-use Rattle.tsp_theory.specs.Numbers.{IsScale, entry, total, IsLeastBound}
+use Rattle.tsp_theory.specs.CertificateNumbers.{IsScale, entry, total, IsLeastBound}
 use Rattle.tsp_theory.specs.Assignment.{DualsBoundCycles}
 use Rattle.tsp_theory.specs.Tree.{weight_of}
 use Rattle.tsp_theory.specs.NodeBound.{weight_between, IsNodeBound}

@@ -6,7 +6,7 @@ use Rattle.tsp_theory.specs.Tree.{weight_of, IsInner, IsLeastOneTree}
 use Rattle.tsp_theory.specs.NodeBound.{weight_between, IsBoundOfPotentials, IsNodeBound}
 use Rattle.tsp_theory.specs.Growth.{and_node, IsLeastLeaving, grown_by, AreNearest, IsWholeGrowth, tree_of}
 use Rattle.tsp_theory.specs.Forest.{IsUncrossed, IsLeastJoin}
-use Rattle.tsp_theory.specs.Examples.{even_costs}
+use Rattle.tsp_theory.specs.Examples.{symmetric_costs}
 use Rattle.tsp_theory.proofs.OneTrees.{least_from_growth}
 use Rattle.tsp_theory.proofs.Weights.{weight_even}
 
@@ -95,16 +95,16 @@ join_so w earlier v c in_v in_c differ free least = record {
   };
 }
 
-pub costs_even : (costs : List ℤ) (i j : ℕ) → even_costs costs i j ≡ even_costs costs j i
+pub costs_even : (costs : List ℤ) (i j : ℕ) → symmetric_costs costs i j ≡ symmetric_costs costs j i
 costs_even costs i j = search rules
 
 pub bound_so : (costs : List ℤ) (scale : ℤ) (potentials : List ℤ) (second p : ℕ) (bound : ℤ)
-    → GrowsSo (weight_between scale potentials (even_costs costs)) second p
-    → IsBoundOfPotentials scale potentials (weight_of (weight_between scale potentials (even_costs costs)) (tree_of 2 second ((2, 3) ∷ (p, 4) ∷ []))) bound
-    → IsNodeBound 4 (even_costs costs) scale potentials bound
+    → GrowsSo (weight_between scale potentials (symmetric_costs costs)) second p
+    → IsBoundOfPotentials scale potentials (weight_of (weight_between scale potentials (symmetric_costs costs)) (tree_of 2 second ((2, 3) ∷ (p, 4) ∷ []))) bound
+    → IsNodeBound 4 (symmetric_costs costs) scale potentials bound
 bound_so costs scale potentials second p bound so is = record {
   tree = tree_of 2 second ((2, 3) ∷ (p, 4) ∷ []);
-  least = tree_so (weight_between scale potentials (even_costs costs)) second p
-      (weight_even scale potentials (even_costs costs) (λ i j other. costs_even costs i j)) so;
+  least = tree_so (weight_between scale potentials (symmetric_costs costs)) second p
+      (weight_even scale potentials (symmetric_costs costs) (λ i j other. costs_even costs i j)) so;
   bound_is = is;
 }

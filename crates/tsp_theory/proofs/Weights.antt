@@ -5,9 +5,9 @@ use Rattle.std.specs.Prelude.{ℤ, pos, neg_ℤ, ◌+ℤ◌, ◌-ℤ◌, ◌*ℤ
 use Rattle.std.proofs.lemmas.Bool.{cases_eq}
 use Rattle.std.proofs.lemmas.Int.{ints, to_z-of_z, fits_signed_from_abs}
 use Rattle.std.proofs.lemmas.List.{get_or_default}
-use Rattle.tsp_format.specs.Limits.{most_nodes, most_scale, most_weight, most_potential, most_multipliers, most_multiplier}
+use Rattle.tsp_format.specs.Limits.{most_nodes, most_scale, most_weight, most_potential, most_triples, most_multiplier}
 use Rattle.tsp_theory.specs.Costs.{IsSymmetric}
-use Rattle.tsp_theory.specs.Numbers.{IsFromTo, IsScale, IsLeastBound, entry}
+use Rattle.tsp_theory.specs.CertificateNumbers.{IsFromTo, IsScale, IsLeastBound, entry}
 use Rattle.tsp_theory.specs.Tree.{weight_of}
 use Rattle.tsp_theory.specs.NodeBound.{weight_between, most_between}
 use Rattle.tsp_theory.specs.states.Nearest.{IsNearestOutside}
@@ -180,7 +180,7 @@ weight_of_tree w even first second added = let same = ordered_weight w even adde
 
 computed_parts : (a b c : ℤ) → IsFromTo (neg_ℤ (pos most_tree)) (pos most_tree) a
     → IsFromTo (neg_ℤ (pos (2 * (most_nodes * most_potential)))) (pos (2 * (most_nodes * most_potential))) b
-    → IsFromTo (pos 0) (pos (most_multipliers * most_multiplier)) c
+    → IsFromTo (pos 0) (pos (most_triples * most_multiplier)) c
     → (to_z w128 (of_z w128 (to_z w128 (of_z w128 (to_z w128 (of_z w128 a) -ℤ b)) +ℤ c)) ≡ (a -ℤ b) +ℤ c) × (to_z w128 (of_z w128 a) ≡ a)
 computed_parts a b c p q r =
     let same : to_z w128 (of_z w128 a) ≡ a = omega (arith, ints, p.0, p.1) in
@@ -191,7 +191,7 @@ computed_parts a b c p q r =
 -- the sum that is rounded, and how large it is
 pub sum_of_bound : (weight potentials given all more : ℤ) → IsFromTo (neg_ℤ (pos most_tree)) (pos most_tree) weight
     → IsFromTo (neg_ℤ (pos (most_nodes * most_potential))) (pos (most_nodes * most_potential)) potentials
-    → IsFromTo (pos 0) (pos (most_multipliers * most_multiplier)) given → potentials ≡ all → given ≡ more
+    → IsFromTo (pos 0) (pos (most_triples * most_multiplier)) given → potentials ≡ all → given ≡ more
     → (to_z w128 (of_z w128 (to_z w128 (of_z w128 (to_z w128 (of_z w128 weight) -ℤ to_z w128 (of_z w128 (pos 2 *ℤ to_z w128 (of_z w128 potentials)))))
     +ℤ to_z w128 (of_z w128 given))) ≡ (weight -ℤ (pos 2 *ℤ all)) +ℤ more)
     × IsFromTo (neg_ℤ (pos (2 ^ 100))) (pos (2 ^ 100)) ((weight -ℤ (pos 2 *ℤ all)) +ℤ more)
@@ -199,14 +199,14 @@ sum_of_bound weight potentials given all more p q r is also =
     let twice : to_z w128 (of_z w128 (pos 2 *ℤ to_z w128 (of_z w128 potentials))) ≡ pos 2 *ℤ all = omega (arith, ints, q.0, q.1, is) in
     let size : IsFromTo (neg_ℤ (pos (2 * (most_nodes * most_potential)))) (pos (2 * (most_nodes * most_potential))) (pos 2 *ℤ all) = (omega (arith, ints, q.0, is), omega (arith, ints, q.1, is)) in
     let own : to_z w128 (of_z w128 given) ≡ more = omega (arith, ints, r.0, r.1, also) in
-    let over : IsFromTo (pos 0) (pos (most_multipliers * most_multiplier)) more = (omega (arith, ints, r.0, also), omega (arith, ints, r.1, also)) in
+    let over : IsFromTo (pos 0) (pos (most_triples * most_multiplier)) more = (omega (arith, ints, r.0, also), omega (arith, ints, r.1, also)) in
     let parts = computed_parts weight (pos 2 *ℤ all) more p size over in
     (rw (twice, own) parts.0, (omega (arith, ints, p.0, size.1, over.0), omega (arith, ints, p.1, size.0, over.1)))
 
 pub bound_of_weight : (scale weight potentials given all more bound : ℤ) → IsScale scale → FitsSigned w128 bound
     → IsFromTo (neg_ℤ (pos most_tree)) (pos most_tree) weight
     → IsFromTo (neg_ℤ (pos (most_nodes * most_potential))) (pos (most_nodes * most_potential)) potentials
-    → IsFromTo (pos 0) (pos (most_multipliers * most_multiplier)) given → potentials ≡ all → given ≡ more
+    → IsFromTo (pos 0) (pos (most_triples * most_multiplier)) given → potentials ≡ all → given ≡ more
     → IsLeastBound (to_z w64 (of_z w64 scale)) (to_z w128 (of_z w128
     (to_z w128 (of_z w128 (to_z w128 (of_z w128 weight) -ℤ to_z w128 (of_z w128 (pos 2 *ℤ to_z w128 (of_z w128 potentials))))) +ℤ to_z w128 (of_z w128 given))))
     bound → IsLeastBound scale ((weight -ℤ (pos 2 *ℤ all)) +ℤ more) (to_z w128 (of_z w128 bound))

@@ -3,11 +3,11 @@
 -- pair besides those of the nodes.
 use Rattle.std.specs.Prelude.{◌≡◌, ℕ, ◌≤◌, ◌==◌, ◌&&◌, ◌||◌, Bool, false, if◌then◌else◌, List, [], length, ℤ, pos, ◌+ℤ◌, ◌-ℤ◌, ◌*ℤ◌, ◌≤ℤ◌}
 use Rattle.std.specs.List.{All, AllPairs}
-use Rattle.tsp_format.specs.Cells.{IsNode}
+use Rattle.tsp_format.specs.Nodes.{IsNode}
 use Rattle.tsp_theory.specs.Costs.{IsSymmetric}
 use Rattle.tsp_theory.specs.Cycle.{IsCycle, AreNeighbours}
 use Rattle.tsp_theory.specs.Length.{sum_int_by, length_of}
-use Rattle.tsp_theory.specs.Numbers.{IsScale, total, IsLeastBound}
+use Rattle.tsp_theory.specs.CertificateNumbers.{IsScale, total, IsLeastBound}
 use Rattle.tsp_theory.specs.Tree.{weight_of, IsLeastOneTree}
 use Rattle.tsp_theory.specs.NodeBound.{weight_between, IsNodeBound}
 
@@ -66,8 +66,8 @@ pub record IsAdjustedBound (n : ℕ) (cost : ℕ → ℕ → ℤ) (scale : ℤ) 
 -- ---- the theorems
 
 -- Under symmetric weights a least 1-tree weighs no more than a cycle: the cycle's links are a 1-tree.
-abbrev pub LeastTreesAreBelowCycles : Type 0
-LeastTreesAreBelowCycles = (n : ℕ) (w : ℕ → ℕ → ℤ) (tree : List (ℕ × ℕ)) (nodes : List ℕ)
+abbrev pub LeastOneTreesAreBelowCycles : Type 0
+LeastOneTreesAreBelowCycles = (n : ℕ) (w : ℕ → ℕ → ℤ) (tree : List (ℕ × ℕ)) (nodes : List ℕ)
     → 3 ≤ n → ((i j : ℕ) → w i j ≡ w j i) → IsLeastOneTree n w tree → IsCycle n nodes → weight_of w tree ≤ℤ length_of w nodes
 
 -- The bound of potentials and numbers is at most the length of every cycle that uses the taken pairs and none of the avoided.

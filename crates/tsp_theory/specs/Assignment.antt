@@ -1,11 +1,11 @@
 -- Duals: numbers of rows and of columns which at a scale are below the costs. Source: the dual of the assignment problem,
 -- H. W. Kuhn, The Hungarian method for the assignment problem, 1955; a cycle assigns to each node the next one.
 use Rattle.std.specs.Prelude.{◌≡◌, ◌≢◌, ℕ, ◌≤◌, List, length, ℤ, ◌+ℤ◌, ◌*ℤ◌, ◌≤ℤ◌, ◌<ℤ◌}
-use Rattle.tsp_format.specs.Cells.{IsNode}
+use Rattle.tsp_format.specs.Nodes.{IsNode}
 use Rattle.tsp_theory.specs.Costs.{IsBefore}
 use Rattle.tsp_theory.specs.Cycle.{IsCycle}
 use Rattle.tsp_theory.specs.Length.{length_of}
-use Rattle.tsp_theory.specs.Numbers.{IsScale, entry, total, IsLeastBound}
+use Rattle.tsp_theory.specs.CertificateNumbers.{IsScale, entry, total, IsLeastBound}
 
 -- good duals: for different nodes i and j of 1..n the sum of row i and column j is at most the cost from i to j at the scale
 abbrev pub AreGood : ℕ → (ℕ → ℕ → ℤ) → ℤ → List ℤ → List ℤ → Type 0

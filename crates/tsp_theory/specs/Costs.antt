@@ -1,6 +1,6 @@
 -- Symmetric costs: the words of `tsp_format`, re-exported; and rows of costs.
 use Rattle.std.specs.Prelude.{◌≡◌, ℕ, ℤ, List, slice_index_or, pos, neg_ℤ, ◌≤ℤ◌}
-use Rattle.tsp_format.specs.Cells.{IsNode}
+use Rattle.tsp_format.specs.Nodes.{IsNode}
 use Rattle.tsp_format.specs.Limits.{most_weight}
 pub use Rattle.tsp_format.specs.Symmetry.{IsSymmetric, IsBefore, IsFirstAsymmetric, FindsAsymmetric}
 

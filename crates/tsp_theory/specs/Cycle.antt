@@ -1,7 +1,7 @@
 -- Cycles, and what comes next on them.
 use Rattle.std.specs.Prelude.{◌≡◌, ◌≢◌, ℕ, List, [], ◌∷◌, length, ◌⊎◌}
 use Rattle.std.specs.List.{All, AllPairs, Contains}
-use Rattle.tsp_format.specs.Cells.{IsNode}
+use Rattle.tsp_format.specs.Nodes.{IsNode}
 
 -- A cycle of n nodes is a list of n nodes, all in 1..n, none twice.
 pub record IsCycle (n : ℕ) (nodes : List ℕ) : Type 0 where

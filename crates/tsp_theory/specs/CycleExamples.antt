@@ -14,5 +14,5 @@ abbrev pub four : ℕ → ℕ → ℕ → ℕ → List ℕ
 four a b c d = a ∷ three b c d
 
 -- so long are these nodes under costs that depend on the direction
-abbrev pub IsLong : List ℕ → ℤ → Type 0
-IsLong nodes length = length_of directed nodes ≡ length
+abbrev pub HasDirectedLength : List ℕ → ℤ → Type 0
+HasDirectedLength nodes length = length_of directed nodes ≡ length

@@ -2,28 +2,28 @@
 use Rattle.std.specs.Prelude.{ℕ, ◌+◌, ◌-◌, ◌*◌, ◌/◌, ◌==◌, if◌then◌else◌, min, max, List, [], ◌∷◌, slice_index_or, ℤ, pos, negsuc}
 
 -- symmetric costs, from those between 2 and 1, 3 and 1, 3 and 2, 4 and 1, 4 and 2, 4 and 3
-abbrev pub even_costs : List ℤ → ℕ → ℕ → ℤ
-even_costs costs i j = slice_index_or costs ((max i j - 1) * (max i j - 2) / 2 + (min i j - 1)) (pos 0)
+abbrev pub symmetric_costs : List ℤ → ℕ → ℕ → ℤ
+symmetric_costs costs i j = slice_index_or costs ((max i j - 1) * (max i j - 2) / 2 + (min i j - 1)) (pos 0)
 
 -- the points (0,0), (3,0), (3,4) and (0,4), by their straight distances
 abbrev pub rectangle_costs : List ℤ
 rectangle_costs = pos 3 ∷ pos 5 ∷ pos 4 ∷ pos 4 ∷ pos 5 ∷ pos 3 ∷ []
 
 abbrev pub rectangle : ℕ → ℕ → ℤ
-rectangle = even_costs rectangle_costs
+rectangle = symmetric_costs rectangle_costs
 
 -- node 2 is at 1 from each other node, and the others are at 2 from each other; and the same with 10 taken off each cost
 abbrev pub star_costs : List ℤ
 star_costs = pos 1 ∷ pos 2 ∷ pos 1 ∷ pos 2 ∷ pos 1 ∷ pos 2 ∷ []
 
 abbrev pub star : ℕ → ℕ → ℤ
-star = even_costs star_costs
+star = symmetric_costs star_costs
 
 abbrev pub costs_below_zero : List ℤ
 costs_below_zero = negsuc 8 ∷ negsuc 7 ∷ negsuc 8 ∷ negsuc 7 ∷ negsuc 8 ∷ negsuc 7 ∷ []
 
 abbrev pub star_below_zero : ℕ → ℕ → ℤ
-star_below_zero = even_costs costs_below_zero
+star_below_zero = symmetric_costs costs_below_zero
 
 -- three_numbers nodes, by rows: 9999 1 10, 10 9999 2, 3 10 9999
 abbrev pub directed_costs : List ℤ

@@ -9,7 +9,7 @@ pub mod Forest
 pub mod Growth
 pub mod Length
 pub mod NodeBound
-pub mod Numbers
+pub mod CertificateNumbers
 pub mod Regions
 pub mod Routing
 pub mod Tour

@@ -5,7 +5,7 @@ use Rattle.tsp_format.specs.Limits.{most_scale, most_weight, most_potential}
 use Rattle.tsp_theory.specs.Costs.{IsSymmetric}
 use Rattle.tsp_theory.specs.Cycle.{IsCycle}
 use Rattle.tsp_theory.specs.Length.{length_of}
-use Rattle.tsp_theory.specs.Numbers.{IsScale, entry, total, IsLeastBound}
+use Rattle.tsp_theory.specs.CertificateNumbers.{IsScale, entry, total, IsLeastBound}
 use Rattle.tsp_theory.specs.Tree.{weight_of, IsLeastOneTree}
 
 -- the weight between two nodes: the cost at the scale, and the potentials of both

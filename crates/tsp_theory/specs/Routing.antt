@@ -2,7 +2,7 @@
 -- DEPOT_SECTION.
 use Rattle.std.specs.Prelude.{◌≢◌, ℕ, ◌-◌, ◌≤◌, List, ◌∷◌, slice_index_or, ℤ, pos, ◌*ℤ◌, ◌≤ℤ◌}
 use Rattle.std.specs.List.{All, AllPairs, Contains, concat}
-use Rattle.tsp_format.specs.Cells.{IsNode}
+use Rattle.tsp_format.specs.Nodes.{IsNode}
 use Rattle.tsp_theory.specs.Length.{sum_int_by, length_of}
 
 -- The nodes are 1 to `nodes`, one of them the depot, `cost i j` is the cost from i to j. Each node has a demand, each route
@@ -38,6 +38,6 @@ abbrev pub plan_length : (ℕ → ℕ → ℤ) → ℕ → List (List ℕ) → �
 plan_length cost depot routes = sum_int_by (λ route. length_of cost (depot ∷ route)) routes
 
 -- the least number of routes that carry this much
-pub record IsLeast (total capacity : ℤ) (least : ℕ) : Type 0 where
+pub record IsLeastRoutes (total capacity : ℤ) (least : ℕ) : Type 0 where
   pub enough : total ≤ℤ (pos least *ℤ capacity)
   pub none_less : (count : ℕ) → total ≤ℤ (pos count *ℤ capacity) → least ≤ count

@@ -2,7 +2,7 @@
 
 ghost use Rattle.std.specs.Prelude.{◌≡◌, ◌≢◌, ◌≤◌, ℕ, ℤ, List, pos, ◌+ℤ◌, ◌*ℤ◌, ◌≤ℤ◌};
 ghost use Rattle.std.specs.List.Sorted.{IsPermutation};
-ghost use Rattle.tsp_format.specs.Cells.{IsNode, nodes_to};
+ghost use Rattle.tsp_format.specs.Nodes.{IsNode, nodes_to};
 ghost use Rattle.tsp_theory.specs.Cycle.{IsCycle};
 ghost use Rattle.tsp_theory.specs.Length.{sum_int_by, length_of};
 

@@ -2,7 +2,7 @@
 //! a definition that is changed together with its code is refused by its examples.
 
 ghost use Rattle.std.specs.Prelude.{◌≡◌, ℤ, [], ◌∷◌, pos, negsuc};
-ghost use Rattle.tsp_theory.specs.Numbers.{entry, total, IsLeastBound};
+ghost use Rattle.tsp_theory.specs.CertificateNumbers.{entry, total, IsLeastBound};
 ghost use Rattle.tsp_theory.specs.Tree.{IsOneTree, weight_of, IsLeastOneTree};
 ghost use Rattle.tsp_theory.specs.Growth.{tree_of};
 ghost use Rattle.tsp_theory.specs.Forest.{IsWholeForest};

@@ -3,7 +3,7 @@
 ghost use Rattle.std.specs.Prelude.{ℕ, ◌≤ℤ◌, IfSome};
 ghost use Rattle.std.specs.Bool.{OnTrue};
 ghost use Rattle.tsp_distance.specs.declared.decimal.Point.{Point};
-ghost use Rattle.tsp_format.specs.Cells.{IsNode};
+ghost use Rattle.tsp_format.specs.Nodes.{IsNode};
 ghost use Rattle.tsp_theory.specs.Regions.{IsIn};
 
 use crate::costs::Symmetric;

@@ -1,10 +1,10 @@
 //! What always holds of bounds, as contracts of functions that do nothing.
 
 ghost use Rattle.std.specs.Prelude.{◌≡◌, ℕ, ℤ, List};
-ghost use Rattle.tsp_theory.specs.Numbers.{IsLeastBound};
+ghost use Rattle.tsp_theory.specs.CertificateNumbers.{IsLeastBound};
 ghost use Rattle.tsp_theory.specs.Assignment.{DualsBoundCycles};
 ghost use Rattle.tsp_theory.specs.NodeBound.{IsNodeBound, NodeBoundsBoundCycles};
-ghost use Rattle.tsp_theory.specs.Adjusted.{LeastTreesAreBelowCycles, AdjustedBoundsBoundCycles, UnadjustedBoundsAreNodeBounds};
+ghost use Rattle.tsp_theory.specs.Adjusted.{LeastOneTreesAreBelowCycles, AdjustedBoundsBoundCycles, UnadjustedBoundsAreNodeBounds};
 
 use crate::cycle_laws::{cycles_are_permutations, cycles_have_no_loops, lengths_add_up};
 
@@ -29,7 +29,7 @@ pub fn node_bounds_bound_cycles()
 /// The cut argument: under symmetric weights a least 1-tree weighs no more than a cycle of three or
 /// more nodes.
 pub fn least_trees_are_below_cycles()
-    ensures { LeastTreesAreBelowCycles }
+    ensures { LeastOneTreesAreBelowCycles }
 {
     cycles_are_permutations();
     lengths_add_up();

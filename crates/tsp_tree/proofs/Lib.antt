@@ -1,3 +1,3 @@
 pub mod Outside
 pub mod GrowthStates
-pub mod Moved
+pub mod Additions

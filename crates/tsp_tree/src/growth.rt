@@ -1,9 +1,9 @@
 //! The growth of a tree over the nodes 2..n.
 
 ghost use Rattle.std.specs.Prelude.{◌≡◌, ◌≤◌, ◌<◌, ◌+◌, ◌*◌, ◌^◌, ℕ, length, slice_index, IfOk, MatchOption, ◌<ℤ◌, pos, neg_ℤ};
-ghost use Rattle.tsp_format.specs.Cells.{IsNode};
+ghost use Rattle.tsp_format.specs.Nodes.{IsNode};
 ghost use Rattle.tsp_format.specs.Limits.{most_nodes};
-ghost use Rattle.tsp_theory.specs.Numbers.{IsFromTo};
+ghost use Rattle.tsp_theory.specs.CertificateNumbers.{IsFromTo};
 ghost use Rattle.tsp_theory.specs.Tree.{weight_of};
 ghost use Rattle.tsp_theory.specs.Growth.{IsWholeGrowth};
 ghost use Rattle.tsp_theory.specs.states.Nearest.{least_at, IsNearer};

@@ -2,7 +2,7 @@
 
 ghost use Rattle.std.specs.Prelude.{◌≡◌, ◌≤◌, ◌+◌, ◌*◌, ◌^◌, ℕ, length, pos, neg_ℤ, IfOk};
 ghost use Rattle.tsp_format.specs.Limits.{most_nodes};
-ghost use Rattle.tsp_theory.specs.Numbers.{IsFromTo};
+ghost use Rattle.tsp_theory.specs.CertificateNumbers.{IsFromTo};
 ghost use Rattle.tsp_tree.specs.Weighed.{IsLeastWeight};
 
 use crate::growth::grow;

@@ -5,7 +5,7 @@ use Rattle.std.proofs.lemmas.Bool.{false≢true}
 use Rattle.tsp_format.specs.declared.kinds.Kind.{Kind}
 use Rattle.tsp_format.specs.declared.kinds.Kind.TheVariants as kinds
 use Rattle.tsp_draft.specs.Fields.{Fields}
-use Rattle.tsp_draft.specs.Rules.{is_tours}
+use Rattle.tsp_draft.specs.Rules.{is_tour_file}
 use Rattle.tsp_reason.specs.declared.basis.Basis.{Basis}
 use Rattle.tsp_reason.specs.declared.basis.Basis.TheVariants as bases
 use Rattle.tsp_reason.specs.declared.certificate.Certificate.{Certificate}
@@ -17,8 +17,8 @@ use Rattle.tsp_reason.specs.declared.verdict.Verdict.TheVariants as verdicts
 use Rattle.tsp_verdict.specs.Basis.{StandsAgainstRouting, IsBasisOfTours, IsBasisOfRoutes, IsBasisAlone, IsBasisBy, IsBasis, HasBasis, IsVerdictFrom}
 use Rattle.tsp_verdict.specs.Bounded.{StandsAgainstInstance, NoneAgainstInstance, StandsAgainstBounded}
 use Rattle.tsp_verdict.specs.Certified.{is_bounded, StandsAgainstCertificate}
-use Rattle.tsp_verdict.specs.Judged.{is_judged, IsVerdictBy, IsVerdictOn, IsAsClaimed, IsOtherClaimed, IsVerdictWith}
-use Rattle.tsp_verdict.specs.Plan.{total_of, IsLeast}
+use Rattle.tsp_verdict.specs.SolutionVerdict.{is_judged, IsVerdictBy, IsVerdictOn, IsAsClaimed, IsOtherClaimed, IsVerdictWith}
+use Rattle.tsp_verdict.specs.Plan.{total_of, IsLeastRoutes}
 use Rattle.tsp_verdict.specs.Reasons.{rank_of, NoneBefore, IsFirstReason}
 use Rattle.tsp_cost.specs.ComputedProblems.{capacity_of}
 use Rattle.tsp_verdict.specs.Routes.{StandsAgainstRoutes, IsRoutesVerdict}
@@ -118,14 +118,14 @@ first_known inst basis found reason is some knows =
 
 -- ---- the reasons before those against the tours
 
-up_to_instance : (inst sol : Fields) (rank : ℕ) → rank ≤ 3 → is_tours sol.kind ≡ true
+up_to_instance : (inst sol : Fields) (rank : ℕ) → rank ≤ 3 → is_tour_file sol.kind ≡ true
     → NoneBefore (StandsAgainstInstance inst) rank → NoneOfTourUpTo inst sol rank
 up_to_instance inst sol rank few is none NotASolution low stands = false≢true (sym stands ∙ is)
 up_to_instance inst sol rank few is none TooFewNodes low stands = none TooFewNodes low stands
 up_to_instance inst sol rank few is none reason low stands = absurd (omega (arith, few, low))
 
 -- the first reason against the instance is the first against a solution that has tours
-pub instance_first : (inst sol : Fields) (reason : Reason) → is_tours sol.kind ≡ true
+pub instance_first : (inst sol : Fields) (reason : Reason) → is_tour_file sol.kind ≡ true
     → IsFirstReason (StandsAgainstInstance inst) reason → IsFirstAgainstTour inst sol reason
 instance_first inst sol TooFewNodes is first =
     record { stands = first.stands; none_before = up_to_instance inst sol 2 (omega arith) is first.none_before }
@@ -134,7 +134,7 @@ instance_first inst sol (NotSymmetric i j) is first =
 instance_first inst sol reason is first = absurd first.stands
 
 -- where none applies to the instance
-pub up_to_dimension : (inst sol : Fields) → is_tours sol.kind ≡ true → NoneAgainstInstance inst → NoneOfTourUpTo inst sol 4
+pub up_to_dimension : (inst sol : Fields) → is_tour_file sol.kind ≡ true → NoneAgainstInstance inst → NoneOfTourUpTo inst sol 4
 up_to_dimension inst sol is none NotASolution low stands = false≢true (sym stands ∙ is)
 up_to_dimension inst sol is none TooFewNodes low stands = none TooFewNodes stands
 up_to_dimension inst sol is none (NotSymmetric i j) low stands = none (NotSymmetric i j) stands
@@ -263,7 +263,7 @@ alone_of_routes None inst basis cvrp b = subst (λ kind. IsBasisAlone kind inst 
 alone_of_routes (Some given) inst basis cvrp b = absurd (cvrp_apart inst.kind cvrp (kinds_bounded given.0 inst.kind b.0))
 
 -- the least number is one
-same_least : (total capacity : ℤ) (a b : ℕ) → IsLeast total capacity a → IsLeast total capacity b → a ≡ b
+same_least : (total capacity : ℤ) (a b : ℕ) → IsLeastRoutes total capacity a → IsLeastRoutes total capacity b → a ≡ b
 same_least total capacity a b first second = omega (arith, first.none_less b second.enough, second.none_less a first.enough)
 
 -- a reason against the instance is one against all routes

@@ -5,23 +5,23 @@ use Rattle.std.specs.List.{All, AllPairs}
 use Rattle.std.proofs.lemmas.Bool.{false≢true}
 use Rattle.std.proofs.lemmas.Int.{ints}
 use Rattle.std.proofs.Math.Nat.{lt_of_not-le}
-use Rattle.tsp_format.specs.Cells.{IsNode}
+use Rattle.tsp_format.specs.Nodes.{IsNode}
 use Rattle.tsp_format.specs.declared.kinds.Kind.TheVariants as kinds
 use Rattle.tsp_draft.specs.Fields.{Fields, nodes_of}
-use Rattle.tsp_draft.specs.Rules.{is_certificate}
+use Rattle.tsp_draft.specs.Rules.{is_potentials_file}
 use Rattle.tsp_theory.specs.Adjusted.{pair_of, is_same_pair, AreOnPairs}
 use Rattle.tsp_reason.specs.declared.verdict.Reason.{Reason}
 use Rattle.tsp_reason.specs.declared.verdict.Reason.TheVariants.{TooFewNodes, NotPotentials, PotentialsDimension, PotentialsKind, MultiplierNotFixed, MultiplierRepeated, DualInfeasible, DepotCount, DepotDemand, FixedEdgesInRoutes, DepotInRoute, Unserved, Overload, NotBranches, BranchesDimension, BadComb, BranchTwice, BadLeaf, LengthClaimed}
 use Rattle.tsp_verdict.specs.Multiplied.{AreListed, IsUnlisted, IsPairRepeated, pair_at}
 use Rattle.tsp_verdict.specs.Places.{IsFirstPlace}
 use Rattle.tsp_verdict.specs.Reasons.{rank_of, NoneBefore, IsFirstReason}
-use Rattle.tsp_file.specs.Meant.{fixed_of, scale_in, multipliers_in}
+use Rattle.tsp_file.specs.Defaults.{fixed_of, scale_in, multipliers_in}
 use Rattle.tsp_verdict.specs.Tours.{IsFirstAgainstTour, StandsAgainstTour}
 use Rattle.tsp_file.specs.Cost.{cost}
 use Rattle.tsp_theory.specs.Assignment.{AreGood}
 use Rattle.tsp_verdict.specs.PotentialsCertificate.{has_wanted, BreaksDuals, StandsAgainstPotentials, IsBoundByDuals}
 use Rattle.tsp_verdict.specs.Certified.{is_bounded, IsBoundBy, IsCertified, StandsAgainstCertificate, NoneWithoutMemory, StandsAgainstCertified, IsFirstAgainstCertified}
-use Rattle.tsp_verdict.specs.BranchesCertificate.{IsBoundByTree}
+use Rattle.tsp_verdict.specs.BranchesCertificate.{IsBoundByBranches}
 use Rattle.tsp_verdict.specs.declared.tour.TourCosts.{TourCosts}
 use Rattle.tsp_verdict.specs.declared.tour.TourCosts.TheVariants.{Undirected, Directed}
 use Rattle.tsp_verdict.specs.states.TourCosts.{AreTourCosts, IsSymmetricTsp}
@@ -32,7 +32,7 @@ use Rattle.tsp_format.specs.declared.kinds.Kind.{Kind}
 -- ---- against the certificate alone
 
 -- the facts before a rank rule out the reasons before it
-pub none_before : (inst pot : Fields) (rank : ℕ) → (17 < rank → is_certificate pot.kind ≡ true)
+pub none_before : (inst pot : Fields) (rank : ℕ) → (17 < rank → is_potentials_file pot.kind ≡ true)
     → (18 < rank → nodes_of pot ≡ nodes_of inst)
     → (19 < rank → has_wanted inst.kind pot ≡ true)
     → (20 < rank → (index : ℕ) → StandsAgainstPotentials inst pot (MultiplierNotFixed index) → ⊥)
@@ -48,14 +48,14 @@ none_before inst pot rank sort size wanted fixed once good (DualInfeasible i j) 
 none_before inst pot rank sort size wanted fixed once good reason low stands = stands
 
 -- out of memory, those are ruled out that need none
-pub none_of_potentials : (inst pot : Fields) → is_certificate pot.kind ≡ true → nodes_of pot ≡ nodes_of inst
+pub none_of_potentials : (inst pot : Fields) → is_potentials_file pot.kind ≡ true → nodes_of pot ≡ nodes_of inst
     → has_wanted inst.kind pot ≡ true
     → NoneWithoutMemory Potentials inst pot
 none_of_potentials inst pot sort size wanted =
     none_before inst pot 20 (λ low. sort) (λ low. size) (λ low. wanted) (λ low. absurd (omega (arith, low))) (λ low. absurd (omega (arith, low))) (λ low. absurd (omega (arith, low)))
 
 -- all six are ruled out
-pub none_stands : (inst pot : Fields) → is_certificate pot.kind ≡ true → nodes_of pot ≡ nodes_of inst
+pub none_stands : (inst pot : Fields) → is_potentials_file pot.kind ≡ true → nodes_of pot ≡ nodes_of inst
     → has_wanted inst.kind pot ≡ true
     → ((index : ℕ) → StandsAgainstPotentials inst pot (MultiplierNotFixed index) → ⊥)
     → ((index : ℕ) → StandsAgainstPotentials inst pot (MultiplierRepeated index) → ⊥)
@@ -87,7 +87,7 @@ none_repeated n inst pot are index stands =
 -- the first multiplier that isn't on a fixed pair is the first reason
 pub not_fixed : (inst pot : Fields) (fixed : List (ℕ × ℕ)) (triples : List (ℕ × ℕ × ℤ)) (index : ℕ) → fixed ≡ fixed_of inst
     → triples ≡ multipliers_in pot
-    → inst.kind ≡ Some kinds.Tsp → is_certificate pot.kind ≡ true
+    → inst.kind ≡ Some kinds.Tsp → is_potentials_file pot.kind ≡ true
     → nodes_of pot ≡ nodes_of inst → has_wanted (Some kinds.Tsp) pot ≡ true
     → IsFirstPlace (IsUnlisted fixed triples) triples index
     → IsFirstReason (StandsAgainstPotentials inst pot) (MultiplierNotFixed index)
@@ -100,7 +100,7 @@ not_fixed inst pot fixed triples index fixed_are triples_are kind sort size want
 -- where all are on fixed pairs, so is the first one on the pair of an earlier one
 pub repeats : (inst pot : Fields) (fixed : List (ℕ × ℕ)) (triples : List (ℕ × ℕ × ℤ)) (index : ℕ) → fixed ≡ fixed_of inst
     → triples ≡ multipliers_in pot
-    → inst.kind ≡ Some kinds.Tsp → is_certificate pot.kind ≡ true
+    → inst.kind ≡ Some kinds.Tsp → is_potentials_file pot.kind ≡ true
     → nodes_of pot ≡ nodes_of inst → has_wanted (Some kinds.Tsp) pot ≡ true → AreListed fixed triples
     → IsFirstPlace (IsPairRepeated triples) triples index
     → IsFirstReason (StandsAgainstPotentials inst pot) (MultiplierRepeated index)
@@ -122,7 +122,7 @@ multiplied inst pot fixed triples fixed_are triples_are size nodes listed apart 
     (subst₂ (λ n ts. AreOnPairs n ts) size triples_are on_pairs, subst₂ (λ fs ts. AreListed fs ts) fixed_are triples_are listed)
 
 -- no reason applies to a certificate of a TSP whose multipliers are on different fixed pairs
-pub none_of_tsp : (inst pot : Fields) → inst.kind ≡ Some kinds.Tsp → is_certificate pot.kind ≡ true → nodes_of pot ≡ nodes_of inst
+pub none_of_tsp : (inst pot : Fields) → inst.kind ≡ Some kinds.Tsp → is_potentials_file pot.kind ≡ true → nodes_of pot ≡ nodes_of inst
     → has_wanted inst.kind pot ≡ true
     → AreOnPairs (nodes_of inst) (multipliers_in pot) → AreListed (fixed_of inst) (multipliers_in pot) → (reason : Reason)
     → StandsAgainstPotentials inst pot reason → ⊥
@@ -133,7 +133,7 @@ none_of_tsp inst pot kind sort size wanted on_pairs listed =
     other e = cc
 
 -- potentials of another sort than the TYPE of the instance wants
-pub kind_first : (inst pot : Fields) → is_certificate pot.kind ≡ true → nodes_of pot ≡ nodes_of inst
+pub kind_first : (inst pot : Fields) → is_potentials_file pot.kind ≡ true → nodes_of pot ≡ nodes_of inst
     → has_wanted inst.kind pot ≡ false
     → IsFirstReason (StandsAgainstPotentials inst pot) PotentialsKind
 kind_first inst pot sort size other = record {
@@ -146,7 +146,7 @@ not_undirected : (kind : Option Kind) → kind ≡ Some kinds.Atsp → kind ≡ 
 not_undirected kind atsp tsp = cc
 
 -- the first pair that breaks the duals of an ATSP is the first reason
-pub broken_first : (inst pot : Fields) (i j : ℕ) → inst.kind ≡ Some kinds.Atsp → is_certificate pot.kind ≡ true
+pub broken_first : (inst pot : Fields) (i j : ℕ) → inst.kind ≡ Some kinds.Atsp → is_potentials_file pot.kind ≡ true
     → nodes_of pot ≡ nodes_of inst
     → has_wanted (Some kinds.Atsp) pot ≡ true → BreaksDuals inst pot i j
     → IsFirstReason (StandsAgainstPotentials inst pot) (DualInfeasible i j)
@@ -169,7 +169,7 @@ none_broken inst pot bound i j good bad =
     omega (arith, ints, pair.broken, fits i j pair.row pair.column pair.other)
 
 -- no reason applies to duals that give a bound
-pub none_of_atsp : (inst pot : Fields) (bound : ℤ) → inst.kind ≡ Some kinds.Atsp → is_certificate pot.kind ≡ true
+pub none_of_atsp : (inst pot : Fields) (bound : ℤ) → inst.kind ≡ Some kinds.Atsp → is_potentials_file pot.kind ≡ true
     → nodes_of pot ≡ nodes_of inst
     → has_wanted (Some kinds.Atsp) pot ≡ true → IsCertified Potentials inst pot bound → (reason : Reason)
     → StandsAgainstPotentials inst pot reason → ⊥
@@ -285,7 +285,7 @@ symmetric_tsp inst (Directed view) are tsp = absurd (false≢true (sym (tsp_is_n
 
 -- a bound by branches is that of a tree of cases
 pub of_tree : (kind : Option Kind) (inst tree : Fields) (bound : ℤ) → IsBoundBy Branches kind inst tree bound
-    → IsBoundByTree inst tree bound
+    → IsBoundByBranches inst tree bound
 of_tree (Some kinds.Tsp) inst tree bound is = is
 of_tree (Some kinds.Atsp) inst tree bound is = is
 of_tree (Some kinds.Cvrp) inst tree bound is = absurd is

@@ -10,7 +10,7 @@ use Rattle.tsp_reason.specs.declared.verdict.Verdict.{Verdict}
 use Rattle.tsp_reason.specs.declared.verdict.Verdict.TheVariants as verdicts
 use Rattle.tsp_reason.specs.declared.verdict.BoundVerdict.TheVariants as bounds
 use Rattle.tsp_verdict.specs.Certified.{is_bounded, FindsBound, IsCertifiedVerdict}
-use Rattle.tsp_verdict.specs.Judged.{IsVerdictBy, IsVerdictOn, NoneBeforeRepeatsOn, NoneBeforeRepeatsBy, IsAsClaimed, IsOtherClaimed, HasLength, HasNoLength, IsVerdictWith}
+use Rattle.tsp_verdict.specs.SolutionVerdict.{IsVerdictBy, IsVerdictOn, NoneBeforeRepeatsOn, NoneBeforeRepeatsBy, IsAsClaimed, IsOtherClaimed, HasLength, HasNoLength, IsVerdictWith}
 use Rattle.tsp_verdict.specs.Tours.{IsFirstAgainstTour, IsTourVerdict, NoneOfTourBeforeRepeats}
 use Rattle.tsp_verdict.proofs.Certificates.{tour_first, certificate_first, none_at_all, kinds_bounded}
 

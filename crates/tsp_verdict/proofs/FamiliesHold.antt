@@ -6,14 +6,14 @@ use Rattle.std.specs.List.{All, AllByRecursion, sum_by}
 use Rattle.std.proofs.lemmas.List.{length-map}
 use Rattle.std.proofs.lemmas.List.Elements.{All-weaker, All-from_recursion, recursion_from_All}
 use Rattle.std.proofs.lemmas.List.Sums.{sum_by-cons}
-use Rattle.tsp_format.specs.Cells.{IsNode}
+use Rattle.tsp_format.specs.Nodes.{IsNode}
 use Rattle.tsp_format.specs.Limits.{most_comb_nodes}
 use Rattle.tsp_draft.specs.Valid.{IsSetOf, AreSets}
 use Rattle.tsp_file.specs.Typed.{AreSomeSets}
 use Rattle.tsp_families.specs.FamilySets.{AreSetsOf, AreFamiliesOf, lists_of, families_in}
 use Rattle.tsp_families.specs.declared.family.Crossings.{Crossings}
 use Rattle.tsp_branch.specs.Families.{IsFamily, NumbersAreUnique}
-use Rattle.tsp_branch.specs.CombsOfSets.{family_with, families_with}
+use Rattle.tsp_branch.specs.FamiliesOfSets.{family_with, families_with}
 
 -- ---- sets of nodes
 

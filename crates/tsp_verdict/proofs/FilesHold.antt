@@ -7,7 +7,7 @@ use Rattle.std.proofs.lemmas.Bool.{false≢true}
 use Rattle.std.proofs.lemmas.List.{length-map}
 use Rattle.std.proofs.lemmas.List.Elements.{All-from_recursion, recursion_from_All}
 use Rattle.std.proofs.lemmas.List.Sums.{sum_by-cons}
-use Rattle.tsp_format.specs.Cells.{IsNode}
+use Rattle.tsp_format.specs.Nodes.{IsNode}
 use Rattle.tsp_format.specs.Limits.{most_nodes, most_tour_nodes, most_changes}
 use Rattle.tsp_format.specs.declared.steps.TreeStep.{TreeStep}
 use Rattle.tsp_format.specs.Steps.{Step, Branch, Leaf, are_whole, branch_count, leaf_count, change_count}
@@ -15,7 +15,7 @@ use Rattle.tsp_format.specs.states.TreeSteps.{step_of, steps_of}
 use Rattle.tsp_format.specs.declared.kinds.Kind.{Kind}
 use Rattle.tsp_format.specs.declared.kinds.Kind.TheVariants as kinds
 use Rattle.tsp_draft.specs.Fields.{Fields, nodes_of}
-use Rattle.tsp_draft.specs.Rules.{is_tours}
+use Rattle.tsp_draft.specs.Rules.{is_tour_file}
 use Rattle.tsp_draft.specs.Valid.{AreTours, AreDepots, IsNodeList, IsStep, AreTreeSteps}
 use Rattle.tsp_branch.specs.Listed.{IsStepOf}
 use Rattle.tsp_verdict.specs.Solution.{visited, tours_of}
@@ -66,7 +66,7 @@ tours_are f tours stand = sym (ap (λ (o : Option (List (List ℕ))). unwrap_or 
 pub tours_held : (f : Fields) (tours : List (Vec ℕ)) → f.kind ≡ Some kinds.Tour
     → f.tours ≡ Some (map (λ (t : Vec ℕ). t.items) tours) → AreTours (map (λ (t : Vec ℕ). t.items) tours) → AreToursOf f tours
 tours_held f tours sort stand held = record {
-  sort = ap is_tours sort;
+  sort = ap is_tour_file sort;
   value = tours_are f (map (λ (t : Vec ℕ). t.items) tours) stand;
   nodes = nodes_are f tours (tours_are f (map (λ (t : Vec ℕ). t.items) tours) stand);
   range = counted_from_one tours held;
@@ -74,10 +74,10 @@ tours_held f tours sort stand held = record {
   size = few_nodes tours held;
 }
 
-pub no_tours : (f : Fields) → f.kind ≢ Some kinds.Tour → is_tours f.kind ≡ false
+pub no_tours : (f : Fields) → f.kind ≢ Some kinds.Tour → is_tour_file f.kind ≡ false
 no_tours f other = by_kind f.kind other
   where
-    by_kind : (kind : Option Kind) → kind ≢ Some kinds.Tour → is_tours kind ≡ false
+    by_kind : (kind : Option Kind) → kind ≢ Some kinds.Tour → is_tour_file kind ≡ false
     by_kind None other = refl
     by_kind (Some kinds.Tsp) other = refl
     by_kind (Some kinds.Atsp) other = refl

@@ -2,10 +2,10 @@
 use Rattle.std.proofs.Common.{◌≡◌, ℕ, false, List, [], length, Option, None, Some, refl, sym, ap, ◌∙◌}
 use Rattle.std.specs.Prelude.{ℤ, pos, is_some, IsSome, unwrap_or}
 use Rattle.std.specs.List.{All}
-use Rattle.tsp_format.specs.Cells.{IsNode}
+use Rattle.tsp_format.specs.Nodes.{IsNode}
 use Rattle.tsp_draft.specs.Fields.{Fields, nodes_of}
 use Rattle.tsp_file.specs.Typed.{AreMultipliersIn, HoldsRouting, HoldsNodeNumbers, HoldsDuals}
-use Rattle.tsp_theory.specs.Numbers.{AreDuals, AreNodePotentials, AreMultipliers}
+use Rattle.tsp_theory.specs.CertificateNumbers.{AreDuals, AreNodePotentials, AreMultipliers}
 use Rattle.tsp_cost.specs.ComputedProblems.{depots_of, demands_of, capacity_of}
 use Rattle.tsp_verdict.proofs.CarriedBounds.{AreOf}
 

@@ -5,7 +5,7 @@ use Rattle.std.specs.List.{AllPairs, Contains}
 use Rattle.std.proofs.lemmas.Bool.{cases_lt, false≢true}
 use Rattle.std.proofs.lemmas.List.{get_or_default}
 use Rattle.tsp_verdict.specs.states.Marks.{Marked, StandsAfter}
-use Rattle.tsp_verdict.specs.Places.{node_at, HoldsAtNone, IsRepeated, IsFirstPlace}
+use Rattle.tsp_verdict.specs.Places.{node_at, HoldsAtNone, IsAtEarlierPlace, IsFirstPlace}
 
 set_keeps : (seen : List Bool) (k m : ℕ) → get_or seen m false ≡ true → get_or (set seen k true) m false ≡ true
 set_keeps [] k m h = h
@@ -59,7 +59,7 @@ mark_more nodes seen count fits free m = record {
     only_at node (inl e) = (count + 1, omega arith, omega arith, here nodes (count + 1) count refl ∙ sym e)
     only_at node (inr h) = let found = m.only node h in (found.0, found.1, omega (arith, found.2), found.3)
 
-    once_at : (place : ℕ) → 1 ≤ place → (place ≡ count + 1) ⊎ (place ≤ count) → IsRepeated nodes place → ⊥
+    once_at : (place : ℕ) → 1 ≤ place → (place ≡ count + 1) ⊎ (place ≤ count) → IsAtEarlierPlace nodes place → ⊥
     once_at place low (inl e) r =
         let taken : get_or seen (node_at nodes r.0) false ≡ true = m.marked r.0 r.1 (omega (arith, r.2)) in
         let same : node_at nodes r.0 ≡ get_or nodes count 0 = r.3 ∙ here nodes place count e in
@@ -69,7 +69,7 @@ mark_more nodes seen count fits free m = record {
 -- the next node is marked: it is the first that is repeated
 pub repeated_here : (nodes : List ℕ) (seen : List Bool) (count : ℕ) → count < length nodes
     → get_or seen (get_or nodes count 0) false ≡ true
-    → Marked nodes seen count → IsFirstPlace (IsRepeated nodes) nodes (count + 1)
+    → Marked nodes seen count → IsFirstPlace (IsAtEarlierPlace nodes) nodes (count + 1)
 repeated_here nodes seen count lt taken m =
     let found = m.only (get_or nodes count 0) taken in
     record {
@@ -112,13 +112,13 @@ mark_next nodes piece seen before index stands lt fits free m =
 -- the next node of a piece is marked
 pub repeated_next : (nodes piece : List ℕ) (seen : List Bool) (before index : ℕ) → StandsAfter before nodes piece
     → index < length piece → get_or seen (get_or piece index 0) false ≡ true
-    → Marked nodes seen (before + index) → IsFirstPlace (IsRepeated nodes) nodes (before + (index + 1))
+    → Marked nodes seen (before + index) → IsFirstPlace (IsAtEarlierPlace nodes) nodes (before + (index + 1))
 repeated_next nodes piece seen before index stands lt taken m =
     let same : get_or nodes (before + index) 0 ≡ get_or piece index 0 = stands.same index lt in
     let inside : before + index < length nodes = omega (arith, stands.inside, lt) in
-    let first : IsFirstPlace (IsRepeated nodes) nodes (before + index + 1) = repeated_here nodes seen (before + index) inside (ap (λ k. get_or seen k false) same ∙ taken) m in
+    let first : IsFirstPlace (IsAtEarlierPlace nodes) nodes (before + index + 1) = repeated_here nodes seen (before + index) inside (ap (λ k. get_or seen k false) same ∙ taken) m in
     let count : before + index + 1 ≡ before + (index + 1) = omega arith in
-    subst (λ k. IsFirstPlace (IsRepeated nodes) nodes k) count first
+    subst (λ k. IsFirstPlace (IsAtEarlierPlace nodes) nodes k) count first
 
 -- a list is part of itself
 pub stands_whole : (nodes : List ℕ) → StandsAfter 0 nodes nodes
@@ -129,13 +129,13 @@ stands_whole nodes = record {
 
 -- what was found from the first place on
 pub found_whole : (nodes : List ℕ) (seen : List Bool) (found : Option ℕ)
-    → MatchOption found (Marked nodes seen (0 + length nodes)) (λ place. IsFirstPlace (IsRepeated nodes) nodes (0 + place))
-    → MatchOption found (HoldsAtNone (IsRepeated nodes) (length nodes)) (λ place. IsFirstPlace (IsRepeated nodes) nodes place)
+    → MatchOption found (Marked nodes seen (0 + length nodes)) (λ place. IsFirstPlace (IsAtEarlierPlace nodes) nodes (0 + place))
+    → MatchOption found (HoldsAtNone (IsAtEarlierPlace nodes) (length nodes)) (λ place. IsFirstPlace (IsAtEarlierPlace nodes) nodes place)
 found_whole nodes seen None m = λ place low high. m.once place low (omega (arith, high))
-found_whole nodes seen (Some place) first = subst (λ k. IsFirstPlace (IsRepeated nodes) nodes k) (omega arith) first
+found_whole nodes seen (Some place) first = subst (λ k. IsFirstPlace (IsAtEarlierPlace nodes) nodes k) (omega arith) first
 
 -- no node repeated: all are apart
-pub all_apart : (xs : List ℕ) → HoldsAtNone (IsRepeated xs) (length xs) → AllPairs (λ a b. a ≢ b) xs
+pub all_apart : (xs : List ℕ) → HoldsAtNone (IsAtEarlierPlace xs) (length xs) → AllPairs (λ a b. a ≢ b) xs
 all_apart xs once i j d before inside same =
     let first : node_at xs (suc i) ≡ get_or xs i 0 = ap (λ k. get_or xs k 0) (omega arith) in
     let second : node_at xs (suc j) ≡ get_or xs j 0 = ap (λ k. get_or xs k 0) (omega arith) in

@@ -15,14 +15,14 @@ use Rattle.tsp_branch.specs.declared.decision.Decision.{Decision}
 use Rattle.tsp_branch.specs.Listed.{IsFirstBadLeaf}
 use Rattle.tsp_branch.specs.Twice.{IsFirstTwice}
 use Rattle.tsp_cost.specs.ComputedProblems.{is_directed}
-use Rattle.tsp_file.specs.Meant.{scale_in, combs_in}
+use Rattle.tsp_file.specs.Defaults.{scale_in, families_listed}
 use Rattle.tsp_reason.specs.declared.certificate.Certificate.{Certificate}
 use Rattle.tsp_reason.specs.declared.certificate.Certificate.TheVariants.{Potentials, Branches}
 use Rattle.tsp_reason.specs.declared.verdict.Reason.{Reason}
 use Rattle.tsp_reason.specs.declared.verdict.Reason.TheVariants.{NotASolution, TooFewNodes, NotSymmetric, Dimension, TourCount, TourLength, DepotCount, DepotDemand, FixedEdgesInRoutes, DepotInRoute, NodeOutOfRange, RepeatedNode, FixedEdgeUnused, Unserved, Overload, LengthClaimed, NotPotentials, PotentialsDimension, PotentialsKind, MultiplierNotFixed, MultiplierRepeated, DualInfeasible, NotBranches, BranchesDimension, BadComb, BranchTwice, BadLeaf}
 use Rattle.tsp_verdict.specs.Basis.{StandsAgainstRouting}
 use Rattle.tsp_verdict.specs.Bounded.{StandsAgainstInstance, StandsAgainstBounded}
-use Rattle.tsp_verdict.specs.BranchesCertificate.{given_in, AreNumbersOf, StandsAgainstTree, told_families}
+use Rattle.tsp_verdict.specs.BranchesCertificate.{given_in, AreNumbersOf, StandsAgainstBranches, families_with_numbers}
 use Rattle.tsp_verdict.specs.Certified.{StandsAgainstCertificate, StandsAgainstCertified}
 use Rattle.tsp_verdict.specs.PotentialsCertificate.{BreaksDuals, StandsAgainstPotentials}
 use Rattle.tsp_verdict.specs.Reasons.{rank_of}
@@ -256,19 +256,19 @@ one_bad_leaf n crossed steps a b one other = elim (cases_order a b) [
 -- the numbers of its families are the same
 pub one_crossed : NumbersAreUnique → (inst tree : Fields) (a b : List Crossings) → AreNumbersOf inst tree a
     → AreNumbersOf inst tree b → a ≡ b
-one_crossed unique inst tree a b one other = one_numbers unique (nodes_of inst) a b (combs_in tree) one.many other.many
-    (recursion_from_All (IsFamily (nodes_of inst)) (told_families tree a) one.are)
-    (recursion_from_All (IsFamily (nodes_of inst)) (told_families tree b) other.are)
+one_crossed unique inst tree a b one other = one_numbers unique (nodes_of inst) a b (families_listed tree) one.many other.many
+    (recursion_from_All (IsFamily (nodes_of inst)) (families_with_numbers tree a) one.are)
+    (recursion_from_All (IsFamily (nodes_of inst)) (families_with_numbers tree b) other.are)
 
-twice_by_rank : (inst tree : Fields) (a b : ℕ) → StandsAgainstTree inst tree (BranchTwice a)
-    → StandsAgainstTree inst tree (BranchTwice b) → a ≡ b
+twice_by_rank : (inst tree : Fields) (a b : ℕ) → StandsAgainstBranches inst tree (BranchTwice a)
+    → StandsAgainstBranches inst tree (BranchTwice b) → a ≡ b
 twice_by_rank inst tree a b one other =
     let steps = one_value tree.branches other.0 one.0 other.1 one.1 in
     let moved = subst (λ steps. IsFirstTwice (is_directed inst.kind) (given_in inst) steps b) steps other.2 in
     one_twice (is_directed inst.kind) (given_in inst) one.0 a b one.2 moved
 
-bad_leaf_by_rank : NumbersAreUnique → (inst tree : Fields) (a b : ℕ) → StandsAgainstTree inst tree (BadLeaf a)
-    → StandsAgainstTree inst tree (BadLeaf b) → a ≡ b
+bad_leaf_by_rank : NumbersAreUnique → (inst tree : Fields) (a b : ℕ) → StandsAgainstBranches inst tree (BadLeaf a)
+    → StandsAgainstBranches inst tree (BadLeaf b) → a ≡ b
 bad_leaf_by_rank unique inst tree a b one other =
     let steps = one_value tree.branches other.0 one.0 other.1 one.1 in
     let crossed = one_crossed unique inst tree other.2 one.2 other.3 one.3 in
@@ -277,7 +277,7 @@ bad_leaf_by_rank unique inst tree a b one other =
     one_bad_leaf (nodes_of inst) one.2 one.0 a b one.4 moved
 
 -- plan: by the reason: one without numbers is equal to itself, and of one with numbers the files have one first place or pair
-pub trees_by_rank : NumbersAreUnique → (inst tree : Fields) → IsOneByRank (StandsAgainstTree inst tree)
+pub trees_by_rank : NumbersAreUnique → (inst tree : Fields) → IsOneByRank (StandsAgainstBranches inst tree)
 trees_by_rank unique inst tree NotASolution carried one other = absurd one
 trees_by_rank unique inst tree TooFewNodes carried one other = absurd one
 trees_by_rank unique inst tree (NotSymmetric i j) carried one other = absurd one

@@ -8,16 +8,16 @@ use Rattle.tsp_format.specs.declared.kinds.Kind.TheVariants as kinds
 use Rattle.tsp_format.specs.Steps as listed
 use Rattle.tsp_draft.specs.Fields.{Fields, nodes_of}
 use Rattle.tsp_file.specs.Cost.{cost}
-use Rattle.tsp_file.specs.Meant.{scale_in, multipliers_in}
+use Rattle.tsp_file.specs.Defaults.{scale_in, multipliers_in}
 use Rattle.tsp_theory.specs.Length.{length_of}
-use Rattle.tsp_theory.specs.Numbers.{total, IsLeastBound}
-use Rattle.tsp_theory.specs.Routing.{IsLeast}
+use Rattle.tsp_theory.specs.CertificateNumbers.{total, IsLeastBound}
+use Rattle.tsp_theory.specs.Routing.{IsLeastRoutes}
 use Rattle.tsp_theory.specs.Adjusted.{IsAdjustedBound}
 use Rattle.tsp_theory.specs.Assignment.{IsDualBound}
 use Rattle.tsp_cost.specs.ComputedProblems.{is_directed}
 use Rattle.tsp_families.specs.declared.family.Crossings.{Crossings}
 use Rattle.tsp_branch.specs.Families.{NumbersAreUnique}
-use Rattle.tsp_branch.specs.Certificate.{IsCertificateBound, CertificateBoundsAreUnique}
+use Rattle.tsp_branch.specs.CaseTrees.{IsCaseTreeBound, CaseTreeBoundsAreUnique}
 use Rattle.tsp_branch.specs.Decisions.{decided_number}
 use Rattle.tsp_reason.specs.declared.basis.Basis.{Basis}
 use Rattle.tsp_reason.specs.declared.basis.Basis.TheVariants as bases
@@ -31,9 +31,9 @@ use Rattle.tsp_reason.specs.declared.verdict.Verdict.{Verdict}
 use Rattle.tsp_reason.specs.declared.verdict.Verdict.TheVariants.{Tour, Routes, No}
 use Rattle.tsp_verdict.specs.Basis.{StandsAgainstRouting, IsBasisOfTours, IsBasisOfRoutes, IsBasisAlone, IsBasisBy, IsBasisWith}
 use Rattle.tsp_verdict.specs.Bounded.{StandsAgainstInstance, StandsAgainstBounded, IsBoundVerdict}
-use Rattle.tsp_verdict.specs.BranchesCertificate.{given_in, tree_in, told_families, HasBoundByTree}
+use Rattle.tsp_verdict.specs.BranchesCertificate.{given_in, case_steps_in, families_with_numbers, HasBoundByBranches}
 use Rattle.tsp_verdict.specs.Certified.{IsBoundBy, StandsAgainstCertificate, IsCertified, StandsAgainstCertified, IsCertifiedVerdict}
-use Rattle.tsp_verdict.specs.Judged.{IsVerdictBy, IsVerdictOn, IsUnclaimedVerdict, IsFirstAgainstGiven, HasLength, IsOfLength, IsClaimedVerdict}
+use Rattle.tsp_verdict.specs.SolutionVerdict.{IsVerdictBy, IsVerdictOn, IsUnclaimedVerdict, IsFirstAgainstGiven, HasLength, IsOfLength, IsClaimedVerdict}
 use Rattle.tsp_verdict.specs.OneVerdict.{FilesHaveOneVerdict, FilesHaveOneBound, FilesHaveOneBasis, SolutionsHaveOneVerdict}
 use Rattle.tsp_verdict.specs.Plan.{total_of}
 use Rattle.tsp_cost.specs.ComputedProblems.{capacity_of}
@@ -47,7 +47,7 @@ use Rattle.tsp_verdict.proofs.OneReason.{one_value, tours_by_rank, instances_by_
 -- the laws of the crates below
 pub record Laws : Type 0 where
   pub numbers : NumbersAreUnique
-  pub leaves : CertificateBoundsAreUnique
+  pub leaves : CaseTreeBoundsAreUnique
 
 -- ---- on its own
 
@@ -66,7 +66,7 @@ one_tour inst sol (Tour length bound) (Tour found least) one other =
 one_tour inst sol (Tour length bound) (Routes found routes least) one other = absurd other
 one_tour inst sol (Routes length routes least) other is none = absurd is
 
-one_least : (total capacity : ℤ) (a b : ℕ) → IsLeast total capacity a → IsLeast total capacity b → a ≡ b
+one_least : (total capacity : ℤ) (a b : ℕ) → IsLeastRoutes total capacity a → IsLeastRoutes total capacity b → a ≡ b
 one_least total capacity a b one other =
     let first = one.none_less b other.enough in let second = other.none_less a one.enough in omega (arith, first, second)
 
@@ -129,16 +129,16 @@ one_by_duals inst pot a b one other =
     let of_both = subst (λ numbers. IsDualBound (scale_in pot) one.rows numbers b) columns of_rows in
     one_sum_bound (scale_in pot) _ a b one.of_duals of_both
 
-one_by_tree : Laws → (inst tree : Fields) (a b : Option ℤ) → HasBoundByTree inst tree a → HasBoundByTree inst tree b → a ≡ b
+one_by_tree : Laws → (inst tree : Fields) (a b : Option ℤ) → HasBoundByBranches inst tree a → HasBoundByBranches inst tree b → a ≡ b
 one_by_tree laws inst tree a b one other =
-    let Bounds : List Crossings → List listed.Step → Type 0 = λ crossed steps. IsCertificateBound (is_directed inst.kind) (nodes_of inst) (cost inst)
-    (scale_in tree) decided_number (told_families tree crossed) (given_in inst) (tree_in inst tree steps) b in
+    let Bounds : List Crossings → List listed.Step → Type 0 = λ crossed steps. IsCaseTreeBound (is_directed inst.kind) (nodes_of inst) (cost inst)
+    (scale_in tree) decided_number (families_with_numbers tree crossed) (given_in inst) (case_steps_in inst tree steps) b in
     let steps = one_value tree.branches other.steps one.steps other.steps_are one.steps_are in
     let crossed = one_crossed laws.numbers inst tree other.crossed one.crossed other.numbers one.numbers in
     let of_steps : Bounds other.crossed one.steps = subst (λ steps. Bounds other.crossed steps) steps other.bound in
     let moved : Bounds one.crossed one.steps = subst (λ crossed. Bounds crossed one.steps) crossed of_steps in
-    laws.leaves (is_directed inst.kind) (nodes_of inst) (cost inst) (scale_in tree) decided_number (told_families tree one.crossed)
-    (given_in inst) (tree_in inst tree one.steps) a b one.bound moved
+    laws.leaves (is_directed inst.kind) (nodes_of inst) (cost inst) (scale_in tree) decided_number (families_with_numbers tree one.crossed)
+    (given_in inst) (case_steps_in inst tree one.steps) a b one.bound moved
 
 of_some : (a b : ℤ) → Some a ≡ Some b → a ≡ b
 of_some a b same = one_value (Some b) a b (sym same) refl
@@ -165,7 +165,7 @@ some_or_none : (a : ℤ) → Some a ≡ None → ⊥
 some_or_none a both = grind (arith, both)
 
 bound_or_none : Laws → (kind : Option Kind) (inst cert : Fields) (a : ℤ) → IsBoundBy Branches kind inst cert a
-    → HasBoundByTree inst cert None → ⊥
+    → HasBoundByBranches inst cert None → ⊥
 bound_or_none laws (Some kinds.Tsp) inst cert a one none = some_or_none a (one_by_tree laws inst cert (Some a) None one none)
 bound_or_none laws (Some kinds.Atsp) inst cert a one none = some_or_none a (one_by_tree laws inst cert (Some a) None one none)
 bound_or_none laws (Some kinds.Cvrp) inst cert a one none = one

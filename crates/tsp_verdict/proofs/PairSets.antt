@@ -11,7 +11,7 @@ use Rattle.std.proofs.lemmas.List.Folds.{Any-from_list_any, list_any_at, list_an
 use Rattle.tsp_theory.specs.Adjusted.{pair_of, is_same_pair}
 use Rattle.tsp_branch.specs.Decisions.{is_same}
 use Rattle.tsp_branch.proofs.PairKeys.{straight, crossed, same_keys, key_at, cond_or, same_turn}
-use Rattle.tsp_verdict.specs.Multiplied.{IsListed, pair_at, IsUnlisted, IsPairRepeated}
+use Rattle.tsp_verdict.specs.Multiplied.{IsListedEitherWay, pair_at, IsUnlisted, IsPairRepeated}
 use Rattle.tsp_branch.specs.states.PairSets.{undirected, pair_cmp, HasPairs, key_of, HasKeys}
 use Rattle.tsp_verdict.specs.Places.{IsFirstPlace}
 
@@ -32,7 +32,7 @@ has_more pair_in s n xs i d lt updates has = λ pair.
 
 -- ---- what it says of a list of pairs
 
-listed : (pairs : List (ℕ × ℕ)) (pair : ℕ × ℕ) → list_any (λ x. is_same_pair pair x) pairs ≡ true → IsListed pairs pair
+listed : (pairs : List (ℕ × ℕ)) (pair : ℕ × ℕ) → list_any (λ x. is_same_pair pair x) pairs ≡ true → IsListedEitherWay pairs pair
 listed pairs pair h =
     let found = Any-from_list_any (λ x. is_same_pair pair x) pairs h in
     elim (or_cases _ _ found.4) [
@@ -46,18 +46,18 @@ listed pairs pair h =
           inr (found.0, found.2, get_or_default pairs found.0 (pair.1, pair.0) found.1 found.2 ∙ found.3 ∙ s)
     ]
 
-found_listed : (pairs : List (ℕ × ℕ)) (pair : ℕ × ℕ) → IsListed pairs pair → list_any (λ x. is_same_pair pair x) pairs ≡ true
+found_listed : (pairs : List (ℕ × ℕ)) (pair : ℕ × ℕ) → IsListedEitherWay pairs pair → list_any (λ x. is_same_pair pair x) pairs ≡ true
 found_listed pairs pair (inl at) =
     list_any_at (λ x. is_same_pair pair x) pairs at.0 pair at.1 (rw at.2 (straight pair pair refl refl))
 found_listed pairs pair (inr at) =
     list_any_at (λ x. is_same_pair pair x) pairs at.0 (pair.1, pair.0) at.1 (rw at.2 (crossed pair (pair.1, pair.0) refl refl))
 
 pub has_listed : (pairs : List (ℕ × ℕ)) (s : BTreeSet (ℕ × ℕ)) (pair : ℕ × ℕ) → HasPairs (λ p. p) s pairs
-    → contains pair_cmp s (undirected pair) ≡ true → IsListed pairs pair
+    → contains pair_cmp s (undirected pair) ≡ true → IsListedEitherWay pairs pair
 has_listed pairs s pair has is = listed pairs pair (sym (has pair) ∙ is)
 
 pub lacks_unlisted : (pairs : List (ℕ × ℕ)) (s : BTreeSet (ℕ × ℕ)) (pair : ℕ × ℕ) → HasPairs (λ p. p) s pairs
-    → contains pair_cmp s (undirected pair) ≡ false → IsListed pairs pair → ⊥
+    → contains pair_cmp s (undirected pair) ≡ false → IsListedEitherWay pairs pair → ⊥
 lacks_unlisted pairs s pair has isnt is = false≢true (sym isnt ∙ has pair ∙ found_listed pairs pair is)
 
 -- ---- the same of pairs that may have a direction
@@ -144,7 +144,7 @@ pub outside_here : (pairs : List (ℕ × ℕ)) (s : BTreeSet (ℕ × ℕ)) (trip
     → IsFirstPlace (IsUnlisted pairs triples) triples (i + 1)
 outside_here pairs s triples i has lt inside lacks = record {
   here = (omega arith, omega (arith, lt));
-  holds = λ is. lacks_unlisted pairs s (pair_of (get_or triples i none)) has lacks (subst (IsListed pairs) (at_place triples i) is);
+  holds = λ is. lacks_unlisted pairs s (pair_of (get_or triples i none)) has lacks (subst (IsListedEitherWay pairs) (at_place triples i) is);
   first = λ earlier from before isnt. isnt (has_listed pairs s (pair_at triples earlier) has (inside (earlier - 1) none (omega (arith, from, before))));
 }
 

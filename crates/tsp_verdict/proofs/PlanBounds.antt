@@ -10,9 +10,9 @@ use Rattle.std.proofs.lemmas.List.{get_or_past}
 use Rattle.std.proofs.lemmas.List.Elements.{recursion_from_All}
 use Rattle.std.proofs.lemmas.List.Sorted.{IsPermutation-remove, Contains-permutation}
 use Rattle.std.proofs.Math.IntN.{suc_ℤ-*ℤ, zero-*ℤ}
-use Rattle.tsp_format.specs.Cells.{nodes_to}
+use Rattle.tsp_format.specs.Nodes.{nodes_to}
 use Rattle.tsp_theory.specs.Length.{sum_int_by}
-use Rattle.tsp_theory.specs.Routing.{RoutingProblem, demand_of, load_of, IsPlan, IsLeast}
+use Rattle.tsp_theory.specs.Routing.{RoutingProblem, demand_of, load_of, IsPlan, IsLeastRoutes}
 
 -- ---- sums
 
@@ -98,6 +98,6 @@ plan_carries problem routes low none plan =
 
 pub none_fewer : (problem : RoutingProblem) (least : ℕ) → ((node : ℕ) → pos 0 ≤ℤ demand_of problem.demands node)
     → demand_of problem.demands problem.depot ≡ pos 0
-    → IsLeast (load_of problem.demands (nodes_to problem.nodes)) problem.capacity least → (routes : List (List ℕ))
+    → IsLeastRoutes (load_of problem.demands (nodes_to problem.nodes)) problem.capacity least → (routes : List (List ℕ))
     → IsPlan problem routes → least ≤ length routes
 none_fewer problem least low none is routes plan = is.none_less (length routes) (plan_carries problem routes low none plan)

@@ -11,7 +11,7 @@ use Rattle.std.proofs.Math.Nat.{div-mul-le_self, lt-div-mul-add, mul-le-mul_righ
 use Rattle.tsp_format.specs.Limits.{most_demand}
 use Rattle.tsp_draft.specs.Valid.{IsDemand}
 use Rattle.tsp_theory.specs.Length.{sum_int_by}
-use Rattle.tsp_verdict.specs.Plan.{load_of, demand_of, IsLeast}
+use Rattle.tsp_verdict.specs.Plan.{load_of, demand_of, IsLeastRoutes}
 
 -- of the size of this many demands
 pub record IsLoadOf (count : ℕ) (sum : ℤ) : Type 0 where
@@ -41,7 +41,7 @@ pub sum_end : {X : Type 0} (f : X → ℤ) (so_far total : ℤ) (others : List X
 sum_end {X} f so_far total others none e = sym (+ℤ_idr so_far) ∙ subst (λ (xs : List X). so_far +ℤ sum_int_by f xs ≡ total) none e
 
 -- the least number of routes
-pub least_is : (total capacity : ℕ) → 1 ≤ capacity → IsLeast (pos total) (pos capacity) ((total + (capacity - 1)) / capacity)
+pub least_is : (total capacity : ℕ) → 1 ≤ capacity → IsLeastRoutes (pos total) (pos capacity) ((total + (capacity - 1)) / capacity)
 least_is total capacity some = record {
   enough =
       let above = lt-div-mul-add {a = total + (capacity - 1)} {b = capacity} some in
@@ -60,7 +60,7 @@ least_is total capacity some = record {
         absurd (omega (arith, more, below, nat, some))
 
 pub least_of : (total capacity : ℤ) → pos 0 ≤ℤ total → pos 1 ≤ℤ capacity
-    → IsLeast total capacity ((nat_abs total + (nat_abs capacity - 1)) / nat_abs capacity)
+    → IsLeastRoutes total capacity ((nat_abs total + (nat_abs capacity - 1)) / nat_abs capacity)
 least_of (pos total) (pos capacity) low some = least_is total capacity (omega (arith, ints, some))
 least_of (pos total) (negsuc capacity) low some = absurd (omega (arith, ints, some))
 least_of (negsuc total) capacity low some = absurd (omega (arith, ints, low))

@@ -3,7 +3,7 @@ use Rattle.std.proofs.Common.{ℕ, ◌≤◌, arith}
 use Rattle.tsp_draft.specs.Fields.{Fields, nodes_of}
 use Rattle.tsp_reason.specs.declared.verdict.Reason.{Reason}
 use Rattle.tsp_reason.specs.declared.verdict.Reason.TheVariants.{TooFewNodes, DepotCount, DepotDemand, FixedEdgesInRoutes, NotPotentials, PotentialsDimension, PotentialsKind, MultiplierNotFixed, MultiplierRepeated, DualInfeasible, NotSymmetric, TourCount, TourLength, NodeOutOfRange, RepeatedNode, FixedEdgeUnused, DepotInRoute, Unserved, Overload, NotBranches, BranchesDimension, BadComb, BranchTwice, BadLeaf, LengthClaimed}
-use Rattle.tsp_verdict.specs.Places.{IsFirstPlace, IsLarger, IsAt, IsRepeated}
+use Rattle.tsp_verdict.specs.Places.{IsFirstPlace, IsLarger, IsAt, IsAtEarlierPlace}
 use Rattle.tsp_verdict.specs.Plan.{depot_of}
 use Rattle.tsp_cost.specs.ComputedProblems.{demands_of, capacity_of}
 use Rattle.tsp_verdict.specs.Solution.{visited, tours_of}
@@ -50,7 +50,7 @@ after_range inst sol before inside (NodeOutOfRange place) low stands = inside pl
 after_range inst sol before inside reason low stands = before reason (omega (arith, low)) stands
 
 pub after_repeats : (inst sol : Fields) → NoneOfRoutesUpTo inst sol 12
-    → ((place : ℕ) → IsFirstPlace (IsRepeated (visited sol)) (visited sol) place → ⊥) → NoneOfRoutesUpTo inst sol 14
+    → ((place : ℕ) → IsFirstPlace (IsAtEarlierPlace (visited sol)) (visited sol) place → ⊥) → NoneOfRoutesUpTo inst sol 14
 after_repeats inst sol before once (RepeatedNode place) low stands = once place stands
 after_repeats inst sol before once (FixedEdgeUnused index) low stands = stands
 after_repeats inst sol before once reason low stands = before reason (omega (arith, low)) stands

@@ -4,16 +4,16 @@ use Rattle.std.specs.Prelude.{slice_index_or, ℤ, pos, ◌≤ℤ◌}
 use Rattle.std.specs.List.{All, Contains}
 use Rattle.std.proofs.lemmas.Int.{ints}
 use Rattle.std.proofs.lemmas.Bool.{false≢true}
-use Rattle.tsp_format.specs.Cells.{IsNode, nodes_to}
+use Rattle.tsp_format.specs.Nodes.{IsNode, nodes_to}
 use Rattle.tsp_draft.specs.Fields.{Fields, nodes_of}
 use Rattle.tsp_draft.specs.Valid.{IsDemand}
 use Rattle.tsp_file.specs.Cost.{cost}
 use Rattle.tsp_reason.specs.declared.verdict.Reason.{Reason}
 use Rattle.tsp_reason.specs.declared.verdict.Reason.TheVariants.{DepotInRoute, NodeOutOfRange, RepeatedNode, Unserved, Overload}
 use Rattle.tsp_verdict.specs.states.Marks.{Marked}
-use Rattle.tsp_verdict.specs.Places.{IsFirstPlace, IsLarger, IsAt, IsRepeated}
+use Rattle.tsp_verdict.specs.Places.{IsFirstPlace, IsLarger, IsAt, IsAtEarlierPlace}
 use Rattle.tsp_cost.specs.ComputedProblems.{routing_of, demands_of, capacity_of}
-use Rattle.tsp_verdict.specs.Plan.{demand_of, load_of, IsCustomer, plan_length, IsLeast, depot_of, total_of, AreCustomers}
+use Rattle.tsp_verdict.specs.Plan.{demand_of, load_of, IsCustomer, plan_length, IsLeastRoutes, depot_of, total_of, AreCustomers}
 use Rattle.tsp_verdict.specs.Routes.{IsOverloaded, StandsAgainstRoutes, NoneOfRoutesUpTo, IsFirstAgainstRoutes, IsPlanned}
 use Rattle.tsp_verdict.specs.Solution.{visited, tours_of}
 use Rattle.tsp_verdict.proofs.MarkedNodes.{all_apart, marked_there, there_marked}
@@ -65,10 +65,10 @@ customers_in inst sol nodes n are is all =
     subst (λ m. All (IsNode m) nodes) (sym is) (subst (λ (xs : List ℕ). All (IsNode (nodes_of inst)) xs) (sym are) (λ k d lt. (all k d lt).0))
 
 pub repeated_first : (inst sol : Fields) (nodes : List ℕ) (place : ℕ) → nodes ≡ visited sol → NoneOfRoutesUpTo inst sol 12
-    → IsFirstPlace (IsRepeated nodes) nodes place
+    → IsFirstPlace (IsAtEarlierPlace nodes) nodes place
     → IsFirstAgainstRoutes inst sol (RepeatedNode place)
 repeated_first inst sol nodes place are none first = record {
-  stands = subst (λ (xs : List ℕ). IsFirstPlace (IsRepeated xs) xs place) are first;
+  stands = subst (λ (xs : List ℕ). IsFirstPlace (IsAtEarlierPlace xs) xs place) are first;
   none_before = none;
 }
 
@@ -134,17 +134,17 @@ pub is_planned : (inst sol : Fields) (seen : List Bool) (size : ℕ) (routes : L
     → All IsDemand demands → demand_of (demands_of inst) depot ≡ pos 0
     → All (λ route. load_of demands route ≤ℤ capacity) routes → measured ≡ plan_length (cost inst) depot routes
     → count ≡ length routes
-    → IsLeast (load_of demands (nodes_to (length demands))) capacity least
+    → IsLeastRoutes (load_of demands (nodes_to (length demands))) capacity least
     → ((reason : Reason) → StandsAgainstRoutes inst sol reason → ⊥) × IsPlanned inst (tours_of sol) measured count least
 is_planned inst sol seen size routes demands capacity depot measured count least are demands_are each capacity_is depot_is all m served range empty within long counted is_least =
     let carried : All (λ route. load_of (demands_of inst) route ≤ℤ capacity_of inst) (tours_of sol) =
     subst (λ (z : ℤ). All (λ route. load_of (demands_of inst) route ≤ℤ z) (tours_of sol)) capacity_is
     (subst (λ (ds : List ℤ). All (λ route. load_of ds route ≤ℤ capacity) (tours_of sol)) demands_are
     (subst (λ (xs : List (List ℕ)). All (λ route. load_of demands route ≤ℤ capacity) xs) are within)) in
-    let least_here : IsLeast (total_of inst) (capacity_of inst) least =
-    subst (λ (z : ℤ). IsLeast (total_of inst) z least) capacity_is
-    (subst (λ (ds : List ℤ). IsLeast (load_of ds (nodes_to (nodes_of inst))) capacity least) demands_are
-    (subst (λ n. IsLeast (load_of demands (nodes_to n)) capacity least) each is_least)) in
+    let least_here : IsLeastRoutes (total_of inst) (capacity_of inst) least =
+    subst (λ (z : ℤ). IsLeastRoutes (total_of inst) z least) capacity_is
+    (subst (λ (ds : List ℤ). IsLeastRoutes (load_of ds (nodes_to (nodes_of inst))) capacity least) demands_are
+    (subst (λ n. IsLeastRoutes (load_of demands (nodes_to n)) capacity least) each is_least)) in
     let low : (node : ℕ) → pos 0 ≤ℤ demand_of (demands_of inst) node = subst (λ (ds : List ℤ). (node : ℕ) → pos 0 ≤ℤ demand_of ds node) demands_are (demand_low demands (λ k d lt. (range k d lt).0)) in
     let none_here : demand_of (demands_of inst) (depot_of inst) ≡ pos 0 = subst (λ d. demand_of (demands_of inst) d ≡ pos 0) depot_is empty in (
       after_loads inst sol (none_unserved inst sol m.none served) (λ place first. over place first carried),

@@ -3,18 +3,18 @@ use Rattle.std.proofs.Common.{◌≡◌, ℕ, ◌≤◌, true, length, Some, sym
 use Rattle.std.proofs.lemmas.Bool.{false≢true}
 use Rattle.tsp_format.specs.declared.kinds.Kind.TheVariants as kinds
 use Rattle.tsp_draft.specs.Fields.{Fields, nodes_of}
-use Rattle.tsp_draft.specs.Rules.{is_tours}
+use Rattle.tsp_draft.specs.Rules.{is_tour_file}
 use Rattle.tsp_file.specs.Cost.{cost}
 use Rattle.tsp_theory.specs.Costs.{IsFirstAsymmetric}
 use Rattle.tsp_cost.specs.ComputedProblems.{is_directed}
 use Rattle.tsp_reason.specs.declared.verdict.Reason.{Reason}
 use Rattle.tsp_reason.specs.declared.verdict.Reason.TheVariants.{NotASolution, TooFewNodes, NotSymmetric, Dimension, TourCount, TourLength, NodeOutOfRange, RepeatedNode, FixedEdgeUnused, NotPotentials, PotentialsDimension, PotentialsKind, MultiplierNotFixed, MultiplierRepeated, DualInfeasible, DepotCount, DepotDemand, FixedEdgesInRoutes, DepotInRoute, Unserved, Overload, NotBranches, BranchesDimension, BadComb, BranchTwice, BadLeaf, LengthClaimed}
-use Rattle.tsp_verdict.specs.Places.{IsFirstPlace, IsLarger, IsRepeated, IsUnused}
-use Rattle.tsp_file.specs.Meant.{fixed_of}
+use Rattle.tsp_verdict.specs.Places.{IsFirstPlace, IsLarger, IsAtEarlierPlace, IsUnused}
+use Rattle.tsp_file.specs.Defaults.{fixed_of}
 use Rattle.tsp_verdict.specs.Solution.{visited, tours_of}
 use Rattle.tsp_verdict.specs.Tours.{StandsAgainstTour, NoneOfTourUpTo}
 
-pub after_solution : (inst sol : Fields) → is_tours sol.kind ≡ true → NoneOfTourUpTo inst sol 2
+pub after_solution : (inst sol : Fields) → is_tour_file sol.kind ≡ true → NoneOfTourUpTo inst sol 2
 after_solution inst sol is NotASolution low stands = false≢true (sym stands ∙ is)
 after_solution inst sol is reason low stands = absurd (omega (arith, low))
 
@@ -52,7 +52,7 @@ after_range inst sol before inside (NodeOutOfRange place) low stands = inside pl
 after_range inst sol before inside reason low stands = before reason (omega (arith, low)) stands
 
 pub after_repeats : (inst sol : Fields) → NoneOfTourUpTo inst sol 12
-    → ((place : ℕ) → IsFirstPlace (IsRepeated (visited sol)) (visited sol) place → ⊥) → NoneOfTourUpTo inst sol 13
+    → ((place : ℕ) → IsFirstPlace (IsAtEarlierPlace (visited sol)) (visited sol) place → ⊥) → NoneOfTourUpTo inst sol 13
 after_repeats inst sol before once (RepeatedNode place) low stands = once place stands
 after_repeats inst sol before once reason low stands = before reason (omega (arith, low)) stands
 

@@ -12,8 +12,8 @@ use Rattle.tsp_cost.specs.ComputedProblems.{is_directed, IsTourOf}
 use Rattle.tsp_theory.specs.Cycle.{IsCycle}
 use Rattle.tsp_reason.specs.declared.verdict.Reason.{Reason}
 use Rattle.tsp_reason.specs.declared.verdict.Reason.TheVariants.{NodeOutOfRange, RepeatedNode, FixedEdgeUnused}
-use Rattle.tsp_verdict.specs.Places.{IsFirstPlace, HoldsAtNone, IsLarger, IsRepeated, IsUnused}
-use Rattle.tsp_file.specs.Meant.{fixed_of}
+use Rattle.tsp_verdict.specs.Places.{IsFirstPlace, HoldsAtNone, IsLarger, IsAtEarlierPlace, IsUnused}
+use Rattle.tsp_file.specs.Defaults.{fixed_of}
 use Rattle.tsp_verdict.specs.Solution.{visited, tours_of}
 use Rattle.tsp_verdict.specs.Tours.{StandsAgainstTour, NoneOfTourUpTo, IsFirstAgainstTour}
 use Rattle.tsp_verdict.proofs.MarkedNodes.{all_apart}
@@ -39,7 +39,7 @@ tour_found inst sol tour only full low none =
 
 -- nodes of 1..n, as many as n and none repeated, are a cycle
 pub is_cycle : (n : ℕ) (tour : List ℕ) → length tour ≡ n → All (λ node. 1 ≤ node) tour → All (λ node. node ≤ n) tour
-    → HoldsAtNone (IsRepeated tour) (length tour) → IsCycle n tour
+    → HoldsAtNone (IsAtEarlierPlace tour) (length tour) → IsCycle n tour
 is_cycle n tour full low high once = record {
   count = full;
   range = λ k d lt. (low k d lt, high k d lt);
@@ -66,19 +66,19 @@ none_up_to_repeats inst sol tour only none high =
 
 -- the first node that an earlier place has
 pub repeated_first : (inst sol : Fields) (tour : List ℕ) (place : ℕ) → tours_of sol ≡ tour ∷ [] → NoneOfTourUpTo inst sol 12
-    → IsFirstPlace (IsRepeated tour) tour place → IsFirstAgainstTour inst sol (RepeatedNode place)
+    → IsFirstPlace (IsAtEarlierPlace tour) tour place → IsFirstAgainstTour inst sol (RepeatedNode place)
 repeated_first inst sol tour place only none first = record {
-  stands = subst (λ (xs : List ℕ). IsFirstPlace (IsRepeated xs) xs place) (sym (visited_is sol tour only)) first;
+  stands = subst (λ (xs : List ℕ). IsFirstPlace (IsAtEarlierPlace xs) xs place) (sym (visited_is sol tour only)) first;
   none_before = none;
 }
 
 -- reasons 1 to 8 are ruled out
 pub none_up_to_fixed : (inst sol : Fields) (tour : List ℕ) → tours_of sol ≡ tour ∷ [] → NoneOfTourUpTo inst sol 11
     → All (λ node. node ≤ nodes_of inst) tour
-    → HoldsAtNone (IsRepeated tour) (length tour) → NoneOfTourUpTo inst sol 13
+    → HoldsAtNone (IsAtEarlierPlace tour) (length tour) → NoneOfTourUpTo inst sol 13
 none_up_to_fixed inst sol tour only none high once =
     let is : tour ≡ visited sol = sym (visited_is sol tour only) in
-    let once_all : HoldsAtNone (IsRepeated (visited sol)) (length (visited sol)) = subst (λ (xs : List ℕ). HoldsAtNone (IsRepeated xs) (length xs)) is once in
+    let once_all : HoldsAtNone (IsAtEarlierPlace (visited sol)) (length (visited sol)) = subst (λ (xs : List ℕ). HoldsAtNone (IsAtEarlierPlace xs) (length xs)) is once in
     after_repeats inst sol (none_up_to_repeats inst sol tour only none high) (λ place first. once_all place first.here.0 first.here.1 first.holds)
 
 -- the first fixed pair that isn't used

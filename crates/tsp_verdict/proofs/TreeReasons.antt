@@ -12,31 +12,31 @@ use Rattle.tsp_format.specs.declared.kinds.Kind.TheVariants as kinds
 use Rattle.tsp_format.specs.Steps as listed
 use Rattle.tsp_draft.specs.Fields.{Fields, nodes_of}
 use Rattle.tsp_draft.specs.states.Drafts.{combs_of as lists_of_combs}
-use Rattle.tsp_draft.specs.Rules.{is_tree}
+use Rattle.tsp_draft.specs.Rules.{is_branches_file}
 use Rattle.tsp_file.specs.Cost.{cost}
 use Rattle.tsp_theory.specs.Costs.{IsSymmetric}
 use Rattle.tsp_theory.specs.Tour.{HasNoTour}
 use Rattle.tsp_cost.specs.ComputedProblems.{is_directed, problem_of, IsTourOf}
-use Rattle.tsp_theory.specs.Numbers.{IsScale, IsBoundSized}
+use Rattle.tsp_theory.specs.CertificateNumbers.{IsScale, IsBoundSized}
 use Rattle.tsp_branch.specs.declared.steps.BranchVerdict.{BranchVerdict}
 use Rattle.tsp_branch.specs.declared.steps.BranchVerdict.TheVariants as found
 use Rattle.tsp_branch.specs.BranchVerdicts.{IsBranchVerdict}
 use Rattle.tsp_branch.specs.Cases.{decide}
-use Rattle.tsp_branch.specs.Certificate.{IsCertificate, IsCertificateBound, AreCostsFor, BoundsIfAny, CertificatesBoundCycles}
+use Rattle.tsp_branch.specs.CaseTrees.{IsCaseTree, IsCaseTreeBound, AreCostsFor, BoundsIfAny, CaseTreesBoundCycles}
 use Rattle.tsp_families.specs.declared.family.Crossings.{Crossings}
 use Rattle.tsp_branch.specs.Families.{Family, IsFamily, NumbersAreUnique}
 use Rattle.tsp_branch.specs.declared.decision.Decision.{Decision}
 use Rattle.tsp_branch.specs.Decisions.{KeepsAll, take_pairs, decided_number}
-use Rattle.tsp_branch.specs.GoodCombs.{IsGoodFamily, IsFirstBadComb, AreFamilies}
+use Rattle.tsp_branch.specs.GoodFamilies.{IsGoodFamily, IsFirstBadFamily, AreFamilies}
 use Rattle.tsp_branch.specs.Listed.{leaf_changes, listed_steps, AreGoodLeaves, IsFirstBadLeaf}
-use Rattle.tsp_branch.specs.Twice.{divided, IsFirstTwice}
+use Rattle.tsp_branch.specs.Twice.{branches_of_cases, IsFirstTwice}
 use Rattle.tsp_reason.specs.declared.verdict.Reason.{Reason}
 use Rattle.tsp_reason.specs.declared.verdict.Reason.TheVariants.{NotBranches, BranchesDimension, BadComb, BranchTwice, BadLeaf}
-use Rattle.tsp_file.specs.Meant.{scale_in, fixed_of, combs_in}
+use Rattle.tsp_file.specs.Defaults.{scale_in, fixed_of, families_listed}
 use Rattle.tsp_verdict.specs.Places.{IsFirstPlace}
 use Rattle.tsp_verdict.specs.Reasons.{NoneBefore, IsFirstReason}
 use Rattle.tsp_verdict.specs.states.TourCosts.{IsSymmetricTsp}
-use Rattle.tsp_verdict.specs.BranchesCertificate.{each_once, given_in, tree_in, told_families, AreNumbersOf, IsBadComb, StandsAgainstTree, HasBoundByTree, IsBoundByTree, HasNoBoundByTree}
+use Rattle.tsp_verdict.specs.BranchesCertificate.{each_once, given_in, case_steps_in, families_with_numbers, AreNumbersOf, IsBadFamily, StandsAgainstBranches, HasBoundByBranches, IsBoundByBranches, HasNoBoundByBranches}
 use Rattle.tsp_verdict.specs.Certified.{IsBoundBy, IsCertified, NoneWithoutMemory}
 use Rattle.tsp_reason.specs.declared.certificate.Certificate.TheVariants.{Branches}
 use Rattle.tsp_verdict.proofs.CarriedBounds.{Same}
@@ -46,7 +46,7 @@ use Rattle.tsp_verdict.proofs.FamiliesHold.{one_numbers}
 -- ---- where indexes end
 
 -- a branch, and a leaf, in the list is one of the steps
-branches_within : (cases : List (List Decision)) (steps : List listed.Step) → length (divided cases steps) ≤ length steps
+branches_within : (cases : List (List Decision)) (steps : List listed.Step) → length (branches_of_cases cases steps) ≤ length steps
 branches_within [] steps = omega arith
 branches_within (case ∷ cases) [] = omega arith
 branches_within (case ∷ cases) (listed.Branch a b ∷ steps) =
@@ -77,7 +77,7 @@ bad_within n crossed steps bad h =
 pub record IsTold (inst tree : Fields) (costs : ℕ → ℕ → ℤ) (verdict : BranchVerdict) : Type 0 where
   pub steps : List listed.Step
   pub steps_are : tree.branches ≡ Some steps
-  pub by_steps : IsBranchVerdict (is_directed inst.kind) (nodes_of inst) costs (scale_in tree) (combs_in tree) (given_in inst) steps verdict
+  pub by_steps : IsBranchVerdict (is_directed inst.kind) (nodes_of inst) costs (scale_in tree) (families_listed tree) (given_in inst) steps verdict
 
 -- a file has one list of steps
 one_list : {A : Type 0} (o : Option (List A)) (xs ys : List A) → o ≡ Some xs → o ≡ Some ys → xs ≡ ys
@@ -88,12 +88,12 @@ pub record AreOf (inst tree : Fields) (directed : Bool) (n : ℕ) (scale : ℤ) 
   pub directed_is : directed ≡ is_directed inst.kind
   pub nodes_are : n ≡ nodes_of inst
   pub scale_is : scale ≡ scale_in tree
-  pub families_are : families ≡ combs_in tree
+  pub families_are : families ≡ families_listed tree
   pub given_is : given ≡ given_in inst
   pub steps_are : tree.branches ≡ Some steps
 
 pub are_of : (inst tree : Fields) (directed : Bool) (n : ℕ) (scale : ℤ) (combs : List (Vec (Vec ℕ))) (fixed : List (ℕ × ℕ)) (given : List Decision) (steps : List listed.Step)
-    → directed ≡ is_directed inst.kind → inst.dimension ≡ Some n → scale ≡ scale_in tree → lists_of_combs combs ≡ combs_in tree
+    → directed ≡ is_directed inst.kind → inst.dimension ≡ Some n → scale ≡ scale_in tree → lists_of_combs combs ≡ families_listed tree
     → fixed ≡ fixed_of inst
     → given ≡ take_pairs (each_once directed fixed) → tree.branches ≡ Some steps
     → AreOf inst tree directed n scale (lists_of_combs combs) given steps
@@ -112,8 +112,8 @@ pub told : (inst tree : Fields) (directed : Bool) (n : ℕ) (costs : ℕ → ℕ
 told inst tree directed n costs scale families given steps verdict are h =
     let to : Bool = is_directed inst.kind in
     let by_steps =
-    subst (λ (m : ℕ). IsBranchVerdict to m costs (scale_in tree) (combs_in tree) (given_in inst) steps verdict) are.nodes_are
-    (subst (λ (z : ℤ). IsBranchVerdict to n costs z (combs_in tree) (given_in inst) steps verdict) are.scale_is
+    subst (λ (m : ℕ). IsBranchVerdict to m costs (scale_in tree) (families_listed tree) (given_in inst) steps verdict) are.nodes_are
+    (subst (λ (z : ℤ). IsBranchVerdict to n costs z (families_listed tree) (given_in inst) steps verdict) are.scale_is
     (subst (λ (fs : List (List (List ℕ))). IsBranchVerdict to n costs scale fs (given_in inst) steps verdict) are.families_are
     (subst (λ (ds : List Decision). IsBranchVerdict to n costs scale families ds steps verdict) are.given_is
     (subst (λ (d : Bool). IsBranchVerdict d n costs scale families given steps verdict) are.directed_is h)))) in
@@ -122,8 +122,8 @@ told inst tree directed n costs scale families given steps verdict are h =
 -- ---- which reasons apply
 
 bad_comb : (inst tree : Fields) (index : ℕ)
-    → IsFirstBadComb (nodes_of inst) (combs_in tree) index
-    → IsFirstPlace (IsBadComb (nodes_of inst) (combs_in tree)) (combs_in tree) index
+    → IsFirstBadFamily (nodes_of inst) (families_listed tree) index
+    → IsFirstPlace (IsBadFamily (nodes_of inst) (families_listed tree)) (families_listed tree) index
 bad_comb inst tree index bad = record {
   here = (bad.least, bad.most);
   holds = λ good. bad.bad (index - 1) (let some = bad.least in omega (arith, some)) good;
@@ -132,14 +132,14 @@ bad_comb inst tree index bad = record {
 
 -- where all combs are good, none is bad
 no_bad_comb : (inst tree : Fields)
-    → ((comb : ℕ) → comb < length (combs_in tree) → IsGoodFamily (nodes_of inst) (get_or (combs_in tree) comb []))
-    → (index : ℕ) → StandsAgainstTree inst tree (BadComb index) → ⊥
+    → ((comb : ℕ) → comb < length (families_listed tree) → IsGoodFamily (nodes_of inst) (get_or (families_listed tree) comb []))
+    → (index : ℕ) → StandsAgainstBranches inst tree (BadComb index) → ⊥
 no_bad_comb inst tree good index stands =
     stands.holds (good (index - 1) (omega (arith, stands.here.0, stands.here.1)))
 
 -- the numbers of the families are those of the file's
 numbers_told : (inst tree : Fields) (crossed : List Crossings)
-    → AreFamilies (nodes_of inst) (combs_in tree) crossed
+    → AreFamilies (nodes_of inst) (families_listed tree) crossed
     → AreNumbersOf inst tree crossed
 numbers_told inst tree crossed are = record {
   many = are.many;
@@ -149,28 +149,28 @@ numbers_told inst tree crossed are = record {
 -- where all leaves are good, none is bad, by whichever numbers
 no_bad_leaf : NumbersAreUnique → (inst tree : Fields) (steps : List listed.Step) (crossed : List Crossings)
     → tree.branches ≡ Some steps → AreNumbersOf inst tree crossed
-    → AreGoodLeaves (nodes_of inst) crossed steps → (index : ℕ) → StandsAgainstTree inst tree (BadLeaf index) → ⊥
+    → AreGoodLeaves (nodes_of inst) crossed steps → (index : ℕ) → StandsAgainstBranches inst tree (BadLeaf index) → ⊥
 no_bad_leaf unique inst tree steps crossed steps_are are good index stands =
     let n : ℕ = nodes_of inst in
     let others = stands.2 in
-    let same : others ≡ crossed = one_numbers unique n others crossed (combs_in tree) stands.3.many are.many
-    (recursion_from_All (IsFamily n) (told_families tree others) stands.3.are) (recursion_from_All (IsFamily n) (told_families tree crossed) are.are) in
+    let same : others ≡ crossed = one_numbers unique n others crossed (families_listed tree) stands.3.many are.many
+    (recursion_from_All (IsFamily n) (families_with_numbers tree others) stands.3.are) (recursion_from_All (IsFamily n) (families_with_numbers tree crossed) are.are) in
     let bad = subst₂ (λ (cs : List Crossings) (ss : List listed.Step). IsFirstBadLeaf n cs ss index) same (one_list tree.branches stands.0 steps stands.1 steps_are) stands.4 in
     bad.bad (good index bad.least bad.most)
 
 -- where no case is divided twice, none is, as the file lists its steps
 no_twice : (inst tree : Fields) (steps : List listed.Step) → tree.branches ≡ Some steps
     → ((index : ℕ) → IsFirstTwice (is_directed inst.kind) (given_in inst) steps index → ⊥) → (index : ℕ)
-    → StandsAgainstTree inst tree (BranchTwice index) → ⊥
+    → StandsAgainstBranches inst tree (BranchTwice index) → ⊥
 no_twice inst tree steps steps_are none index stands =
     none index (subst (λ (ss : List listed.Step). IsFirstTwice (is_directed inst.kind) (given_in inst) ss index) (one_list tree.branches stands.0 steps stands.1 steps_are) stands.2)
 
 -- the facts before a rank rule out the reasons before it
-none_before : (inst tree : Fields) (rank : ℕ) → (23 < rank → is_tree tree.kind ≡ true)
+none_before : (inst tree : Fields) (rank : ℕ) → (23 < rank → is_branches_file tree.kind ≡ true)
     → (24 < rank → nodes_of tree ≡ nodes_of inst)
-    → (25 < rank → (index : ℕ) → StandsAgainstTree inst tree (BadComb index) → ⊥)
-    → (26 < rank → (index : ℕ) → StandsAgainstTree inst tree (BranchTwice index) → ⊥)
-    → (27 < rank → (index : ℕ) → StandsAgainstTree inst tree (BadLeaf index) → ⊥) → NoneBefore (StandsAgainstTree inst tree) rank
+    → (25 < rank → (index : ℕ) → StandsAgainstBranches inst tree (BadComb index) → ⊥)
+    → (26 < rank → (index : ℕ) → StandsAgainstBranches inst tree (BranchTwice index) → ⊥)
+    → (27 < rank → (index : ℕ) → StandsAgainstBranches inst tree (BadLeaf index) → ⊥) → NoneBefore (StandsAgainstBranches inst tree) rank
 none_before inst tree rank sort size combs once leaves NotBranches low stands = false≢true (sym stands ∙ sort low)
 none_before inst tree rank sort size combs once leaves BranchesDimension low stands = stands (size low)
 none_before inst tree rank sort size combs once leaves (BadComb index) low stands = combs low index stands
@@ -179,38 +179,38 @@ none_before inst tree rank sort size combs once leaves (BadLeaf index) low stand
 none_before inst tree rank sort size combs once leaves reason low stands = stands
 
 -- out of memory, those are ruled out that need none
-pub none_of_tree : (inst tree : Fields) → is_tree tree.kind ≡ true → nodes_of tree ≡ nodes_of inst
+pub none_of_tree : (inst tree : Fields) → is_branches_file tree.kind ≡ true → nodes_of tree ≡ nodes_of inst
     → NoneWithoutMemory Branches inst tree
 none_of_tree inst tree sort size =
     none_before inst tree 25 (λ low. sort) (λ low. size) (λ low. absurd (omega (arith, low))) (λ low. absurd (omega (arith, low))) (λ low. absurd (omega (arith, low)))
 
-pub comb_first : (inst tree : Fields) (costs : ℕ → ℕ → ℤ) (index : ℕ) → is_tree tree.kind ≡ true → nodes_of tree ≡ nodes_of inst
+pub comb_first : (inst tree : Fields) (costs : ℕ → ℕ → ℤ) (index : ℕ) → is_branches_file tree.kind ≡ true → nodes_of tree ≡ nodes_of inst
     → IsTold inst tree costs (found.BadComb index)
-    → IsFirstReason (StandsAgainstTree inst tree) (BadComb index)
+    → IsFirstReason (StandsAgainstBranches inst tree) (BadComb index)
 comb_first inst tree costs index sort size is = record {
   stands = bad_comb inst tree index is.by_steps;
   none_before = none_before inst tree 25 (λ low. sort) (λ low. size) (λ low. absurd (omega (arith, low))) (λ low. absurd (omega (arith, low))) (λ low. absurd (omega (arith, low)));
 }
 
-pub twice_first : (inst tree : Fields) (costs : ℕ → ℕ → ℤ) (index : ℕ) → is_tree tree.kind ≡ true → nodes_of tree ≡ nodes_of inst
+pub twice_first : (inst tree : Fields) (costs : ℕ → ℕ → ℤ) (index : ℕ) → is_branches_file tree.kind ≡ true → nodes_of tree ≡ nodes_of inst
     → IsTold inst tree costs (found.BranchTwice index)
-    → IsFirstReason (StandsAgainstTree inst tree) (BranchTwice index)
+    → IsFirstReason (StandsAgainstBranches inst tree) (BranchTwice index)
 twice_first inst tree costs index sort size is = record {
   stands = (is.steps, is.steps_are, is.by_steps.2);
   none_before = none_before inst tree 26 (λ low. sort) (λ low. size) (λ low. no_bad_comb inst tree is.by_steps.1.good) (λ low. absurd (omega (arith, low))) (λ low. absurd (omega (arith, low)));
 }
 
-pub leaf_first : (inst tree : Fields) (costs : ℕ → ℕ → ℤ) (index : ℕ) → is_tree tree.kind ≡ true → nodes_of tree ≡ nodes_of inst
+pub leaf_first : (inst tree : Fields) (costs : ℕ → ℕ → ℤ) (index : ℕ) → is_branches_file tree.kind ≡ true → nodes_of tree ≡ nodes_of inst
     → IsTold inst tree costs (found.BadLeaf index)
-    → IsFirstReason (StandsAgainstTree inst tree) (BadLeaf index)
+    → IsFirstReason (StandsAgainstBranches inst tree) (BadLeaf index)
 leaf_first inst tree costs index sort size is = record {
   stands = (is.steps, is.steps_are, is.by_steps.crossed, numbers_told inst tree is.by_steps.crossed is.by_steps.are_families, is.by_steps.leaves);
   none_before = none_before inst tree 27 (λ low. sort) (λ low. size) (λ low. no_bad_comb inst tree is.by_steps.are_families.good) (λ low. no_twice inst tree is.steps is.steps_are is.by_steps.are_once.0) (λ low. absurd (omega (arith, low)));
 }
 
-pub none_stands : NumbersAreUnique → (inst tree : Fields) (costs : ℕ → ℕ → ℤ) (bound : Option ℤ) → is_tree tree.kind ≡ true
+pub none_stands : NumbersAreUnique → (inst tree : Fields) (costs : ℕ → ℕ → ℤ) (bound : Option ℤ) → is_branches_file tree.kind ≡ true
     → nodes_of tree ≡ nodes_of inst → IsTold inst tree costs (found.Bound bound)
-    → (reason : Reason) → StandsAgainstTree inst tree reason → ⊥
+    → (reason : Reason) → StandsAgainstBranches inst tree reason → ⊥
 none_stands unique inst tree costs bound sort size is NotBranches stands = false≢true (sym stands ∙ sort)
 none_stands unique inst tree costs bound sort size is BranchesDimension stands = stands size
 none_stands unique inst tree costs bound sort size is (BadComb index) stands =
@@ -253,35 +253,35 @@ module _ (inst tree : Fields) (costs : ℕ → ℕ → ℤ) (bound : Option ℤ)
   numbers_are : AreNumbersOf inst tree is.by_steps.crossed
   numbers_are = numbers_told inst tree is.by_steps.crossed is.by_steps.are_families
 
-  certificate_is : IsCertificate (nodes_of inst) (told_families tree is.by_steps.crossed) (given_in inst) (tree_in inst tree is.steps)
+  certificate_is : IsCaseTree (nodes_of inst) (families_with_numbers tree is.by_steps.crossed) (given_in inst) (case_steps_in inst tree is.steps)
   certificate_is =
-      subst (λ (k : ℕ). IsCertificate (nodes_of inst) (told_families tree is.by_steps.crossed) (given_in inst) (listed_steps (nodes_of inst) k is.steps)) numbers_are.many is.by_steps.leaves.0
+      subst (λ (k : ℕ). IsCaseTree (nodes_of inst) (families_with_numbers tree is.by_steps.crossed) (given_in inst) (listed_steps (nodes_of inst) k is.steps)) numbers_are.many is.by_steps.leaves.0
 
-  bound_is : IsCertificateBound (is_directed inst.kind) (nodes_of inst) (cost inst) (scale_in tree) decided_number (told_families tree is.by_steps.crossed) (given_in inst) (tree_in inst tree is.steps) bound
+  bound_is : IsCaseTreeBound (is_directed inst.kind) (nodes_of inst) (cost inst) (scale_in tree) decided_number (families_with_numbers tree is.by_steps.crossed) (given_in inst) (case_steps_in inst tree is.steps) bound
   bound_is =
-      subst (λ (f : ℕ → ℕ → ℤ). IsCertificateBound (is_directed inst.kind) (nodes_of inst) f (scale_in tree) decided_number (told_families tree is.by_steps.crossed) (given_in inst) (tree_in inst tree is.steps) bound)
+      subst (λ (f : ℕ → ℕ → ℤ). IsCaseTreeBound (is_directed inst.kind) (nodes_of inst) f (scale_in tree) decided_number (families_with_numbers tree is.by_steps.crossed) (given_in inst) (case_steps_in inst tree is.steps) bound)
       (fun_ext (λ i. fun_ext (same i)))
-      (subst (λ (k : ℕ). IsCertificateBound (is_directed inst.kind) (nodes_of inst) costs (scale_in tree) decided_number (told_families tree is.by_steps.crossed) (given_in inst)
+      (subst (λ (k : ℕ). IsCaseTreeBound (is_directed inst.kind) (nodes_of inst) costs (scale_in tree) decided_number (families_with_numbers tree is.by_steps.crossed) (given_in inst)
       (listed_steps (nodes_of inst) k is.steps) bound) numbers_are.many is.by_steps.leaves.1)
 
-  has_bound : HasBoundByTree inst tree bound
+  has_bound : HasBoundByBranches inst tree bound
   has_bound = record { steps = is.steps; steps_are = is.steps_are; crossed = is.by_steps.crossed; numbers = numbers_are; certificate = certificate_is; bound = bound_is }
 
-  cycles_bounded : CertificatesBoundCycles → HasArcsOrEdges inst → 3 ≤ nodes_of inst → IsSymmetricTsp inst → IsScale (scale_in tree) → BoundsIfAny (is_directed inst.kind) (nodes_of inst) (cost inst) (given_in inst) bound
+  cycles_bounded : CaseTreesBoundCycles → HasArcsOrEdges inst → 3 ≤ nodes_of inst → IsSymmetricTsp inst → IsScale (scale_in tree) → BoundsIfAny (is_directed inst.kind) (nodes_of inst) (cost inst) (given_in inst) bound
   cycles_bounded law kind some even scaled =
-      law (is_directed inst.kind) (nodes_of inst) (cost inst) (scale_in tree) decided_number (told_families tree is.by_steps.crossed) (given_in inst) (tree_in inst tree is.steps) bound
+      law (is_directed inst.kind) (nodes_of inst) (cost inst) (scale_in tree) decided_number (families_with_numbers tree is.by_steps.crossed) (given_in inst) (case_steps_in inst tree is.steps) bound
       (costs_for (is_directed inst.kind) (nodes_of inst) (cost inst) some (λ undirected. even (tsp_of_undirected inst kind undirected))) scaled certificate_is bound_is
 
 tour_keeps : (inst : Fields) (nodes : List ℕ) → IsTourOf inst nodes → KeepsAll (is_directed inst.kind) nodes (given_in inst)
 tour_keeps inst nodes tour = keeps_given (is_directed inst.kind) nodes (fixed_of inst) tour.fixed_used
 
-bound_by : (inst tree : Fields) (bound : ℤ) → HasArcsOrEdges inst → IsBoundByTree inst tree bound
+bound_by : (inst tree : Fields) (bound : ℤ) → HasArcsOrEdges inst → IsBoundByBranches inst tree bound
     → IsBoundBy Branches inst.kind inst tree bound
 bound_by inst tree bound (inl tsp) is = subst (λ k. IsBoundBy Branches k inst tree bound) (sym tsp) is
 bound_by inst tree bound (inr atsp) is = subst (λ k. IsBoundBy Branches k inst tree bound) (sym atsp) is
 
 -- the bound that a view's costs give is that of the certificate
-pub certified : (inst tree : Fields) (costs : ℕ → ℕ → ℤ) (bound : ℤ) → CertificatesBoundCycles → HasArcsOrEdges inst
+pub certified : (inst tree : Fields) (costs : ℕ → ℕ → ℤ) (bound : ℤ) → CaseTreesBoundCycles → HasArcsOrEdges inst
     → 3 ≤ nodes_of inst → IsSymmetricTsp inst → IsScale (scale_in tree)
     → Same costs (cost inst) → IsBoundSized bound → IsTold inst tree costs (found.Bound (Some bound))
     → IsCertified Branches inst tree bound
@@ -292,10 +292,10 @@ certified inst tree costs bound law kind some even scaled same sized is = (
 )
 
 -- where no leaf has a bound, the certificate gives none, and the instance has no tour
-pub no_tour : (inst tree : Fields) (costs : ℕ → ℕ → ℤ) → CertificatesBoundCycles → HasArcsOrEdges inst → 3 ≤ nodes_of inst
+pub no_tour : (inst tree : Fields) (costs : ℕ → ℕ → ℤ) → CaseTreesBoundCycles → HasArcsOrEdges inst → 3 ≤ nodes_of inst
     → IsSymmetricTsp inst → IsScale (scale_in tree)
     → Same costs (cost inst) → IsTold inst tree costs (found.Bound None)
-    → HasNoBoundByTree inst tree × HasNoTour (problem_of inst)
+    → HasNoBoundByBranches inst tree × HasNoTour (problem_of inst)
 no_tour inst tree costs law kind some even scaled same is = (
   has_bound inst tree costs None same is,
   λ nodes tour. cycles_bounded inst tree costs None same is law kind some even scaled nodes tour.cycle (tour_keeps inst nodes tour),

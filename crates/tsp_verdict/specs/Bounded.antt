@@ -17,23 +17,25 @@ use Rattle.tsp_verdict.specs.Reasons.{IsFirstReason}
 
 -- When a reason applies to an instance, whatever the tour: the two that are judged of a tour too. No other reason does.
 abbrev pub StandsAgainstInstance : Fields → Reason → Type 0
-StandsAgainstInstance inst TooFewNodes = nodes_of inst < 3
-StandsAgainstInstance inst (NotSymmetric i j) = (inst.kind ≡ Some kinds.Tsp)
-    × IsFirstAsymmetric (nodes_of inst) (cost inst) (i, j)
-StandsAgainstInstance inst reason = ⊥
+StandsAgainstInstance instance TooFewNodes = nodes_of instance < 3
+StandsAgainstInstance instance (NotSymmetric i j) = (instance.kind ≡ Some kinds.Tsp)
+    × IsFirstAsymmetric (nodes_of instance) (cost instance) (i, j)
+StandsAgainstInstance instance reason = ⊥
 
 abbrev pub NoneAgainstInstance : Fields → Type 0
-NoneAgainstInstance inst = (reason : Reason) → StandsAgainstInstance inst reason → ⊥
+NoneAgainstInstance instance = (reason : Reason) → StandsAgainstInstance instance reason → ⊥
 
 -- against the instance, or against the certificate
 abbrev pub StandsAgainstBounded : Certificate → Fields → Fields → Reason → Type 0
-StandsAgainstBounded by inst cert reason = StandsAgainstInstance inst reason ⊎ StandsAgainstCertificate by inst cert reason
+StandsAgainstBounded by instance certificate reason = StandsAgainstInstance instance reason
+    ⊎ StandsAgainstCertificate by instance certificate reason
 
 -- Where no reason applies, what the certificate gives: a bound, which no tour of the instance is below, or that the instance has
 -- no tour. Or the first reason that applies.
 abbrev pub IsBoundVerdict : Certificate → Fields → Fields → BoundVerdict → Type 0
-IsBoundVerdict by inst cert (bounds.Bound bound) =
-    ((reason : Reason) → StandsAgainstBounded by inst cert reason → ⊥) × IsCertified by inst cert bound
-IsBoundVerdict by inst cert bounds.NoTour =
-    ((reason : Reason) → StandsAgainstBounded by inst cert reason → ⊥) × HasNoBound by inst cert × HasNoTour (problem_of inst)
-IsBoundVerdict by inst cert (bounds.No reason) = IsFirstReason (StandsAgainstBounded by inst cert) reason
+IsBoundVerdict by instance certificate (bounds.Bound bound) =
+    ((reason : Reason) → StandsAgainstBounded by instance certificate reason → ⊥) × IsCertified by instance certificate bound
+IsBoundVerdict by instance certificate bounds.NoTour =
+    ((reason : Reason) → StandsAgainstBounded by instance certificate reason → ⊥) × HasNoBound by instance certificate
+    × HasNoTour (problem_of instance)
+IsBoundVerdict by instance certificate (bounds.No reason) = IsFirstReason (StandsAgainstBounded by instance certificate) reason

@@ -9,8 +9,8 @@ use Rattle.tsp_reason.specs.declared.verdict.Reason.{Reason}
 use Rattle.tsp_verdict.specs.Reasons.{rank_of}
 
 -- an instance with this many nodes and these fixed pairs
-abbrev pub nodes : Kind → ℕ → List (ℕ × ℕ) → Fields
-nodes kind n fixed = record blank_fields { kind = Some kind; dimension = Some n; fixed = Some fixed }
+abbrev pub instance_with : Kind → ℕ → List (ℕ × ℕ) → Fields
+instance_with kind n fixed = record blank_fields { kind = Some kind; dimension = Some n; fixed = Some fixed }
 
 -- one of routes, with these depots, this demand of node 1 and of each of the nodes 2, 3 and 4, and a capacity
 abbrev pub vehicles : List ℕ → ℤ → ℤ → ℤ → Fields
@@ -34,8 +34,8 @@ abbrev pub sized : ℕ → List (List ℕ) → Fields
 sized n tours = record (solution tours) { dimension = Some n }
 
 -- a certificate for this many nodes, with these numbers of nodes, of rows and of columns
-abbrev pub certificate : ℕ → Option (List ℤ) → Option (List ℤ) → Option (List ℤ) → Fields
-certificate n numbers rows columns = record blank_fields {
+abbrev pub potentials_file : ℕ → Option (List ℤ) → Option (List ℤ) → Option (List ℤ) → Fields
+potentials_file n numbers rows columns = record blank_fields {
   kind = Some kinds.Potentials;
   dimension = Some n;
   node_potentials = numbers;
@@ -44,13 +44,13 @@ certificate n numbers rows columns = record blank_fields {
 }
 
 abbrev pub of_nodes : ℕ → Fields
-of_nodes n = certificate n (Some []) None None
+of_nodes n = potentials_file n (Some []) None None
 
 abbrev pub of_rows : ℕ → Fields
-of_rows n = certificate n None (Some []) None
+of_rows n = potentials_file n None (Some []) None
 
 abbrev pub of_both : ℕ → Fields
-of_both n = certificate n None (Some []) (Some [])
+of_both n = potentials_file n None (Some []) (Some [])
 
 -- one of four nodes, with these multipliers of fixed pairs
 abbrev pub multiplying : List (ℕ × ℕ × ℤ) → Fields
@@ -78,14 +78,15 @@ bad_leaves = Branch 1 2 ∷ Leaf ((5, pos 1) ∷ []) ∷ Leaf ((5, pos 1) ∷ []
 
 -- certificates at a scale of 2: by nodes and a multiplier, by rows and columns, and by a single leaf
 abbrev pub halves_of_nodes : Fields
-halves_of_nodes = record (certificate 3 (Some (pos 1 ∷ pos 0 ∷ pos 3 ∷ [])) None None) {
+halves_of_nodes = record (potentials_file 3 (Some (pos 1 ∷ pos 0 ∷ pos 3 ∷ [])) None None) {
   scale = Some (pos 2);
   fixed_potentials = Some ((1, 2, pos 5) ∷ []);
 }
 
 abbrev pub halves_of_rows : Fields
 halves_of_rows =
-    record (certificate 3 None (Some (pos 1 ∷ pos 2 ∷ pos 4 ∷ [])) (Some (pos 0 ∷ pos 1 ∷ pos 1 ∷ []))) { scale = Some (pos 2) }
+    record (potentials_file 3 None (Some (pos 1 ∷ pos 2 ∷ pos 4 ∷ [])) (Some (pos 0 ∷ pos 1 ∷ pos 1 ∷ [])))
+    { scale = Some (pos 2) }
 
 abbrev pub halves_of_leaf : Fields
 halves_of_leaf = record (branching 3 [] (Leaf [] ∷ [])) { scale = Some (pos 2) }
@@ -102,5 +103,5 @@ abbrev pub both : List ℕ → List ℕ → Fields
 both first second = solution (first ∷ second ∷ [])
 
 -- the first reason is judged before the second one
-abbrev pub Before : Reason → Reason → Type 0
-Before first second = rank_of first < rank_of second
+abbrev pub IsJudgedBefore : Reason → Reason → Type 0
+IsJudgedBefore first second = rank_of first < rank_of second

@@ -9,7 +9,7 @@ pub mod Tours
 pub mod PotentialsCertificate
 pub mod BranchesCertificate
 pub mod Certified
-pub mod Judged
+pub mod SolutionVerdict
 pub mod Bounded
 pub mod Examples
 pub mod Basis

@@ -4,12 +4,12 @@ use Rattle.std.specs.List.{All, Contains}
 use Rattle.tsp_theory.specs.Adjusted.{pair_of, is_same_pair}
 
 -- a pair is listed, in either direction
-abbrev pub IsListed : List (ℕ × ℕ) → ℕ × ℕ → Type 0
-IsListed pairs pair = Contains pairs pair ⊎ Contains pairs (pair.1, pair.0)
+abbrev pub IsListedEitherWay : List (ℕ × ℕ) → ℕ × ℕ → Type 0
+IsListedEitherWay pairs pair = Contains pairs pair ⊎ Contains pairs (pair.1, pair.0)
 
 -- so is that of each triple
 abbrev pub AreListed : List (ℕ × ℕ) → List (ℕ × ℕ × ℤ) → Type 0
-AreListed pairs triples = All (λ triple. IsListed pairs (pair_of triple)) triples
+AreListed pairs triples = All (λ triple. IsListedEitherWay pairs (pair_of triple)) triples
 
 -- the pair of the triple at a place; places count from 1
 abbrev pub pair_at : List (ℕ × ℕ × ℤ) → ℕ → ℕ × ℕ
@@ -17,7 +17,7 @@ pair_at triples place = pair_of (slice_index_or triples (place - 1) (0, 0, pos 0
 
 -- the pair at the place isn't listed
 abbrev pub IsUnlisted : List (ℕ × ℕ) → List (ℕ × ℕ × ℤ) → ℕ → Type 0
-IsUnlisted pairs triples place = IsListed pairs (pair_at triples place) → ⊥
+IsUnlisted pairs triples place = IsListedEitherWay pairs (pair_at triples place) → ⊥
 
 -- the pair at the place is at an earlier place too, in either direction
 abbrev pub IsPairRepeated : List (ℕ × ℕ × ℤ) → ℕ → Type 0

@@ -7,7 +7,7 @@ use Rattle.tsp_reason.specs.declared.verdict.BoundVerdict.{BoundVerdict}
 use Rattle.tsp_reason.specs.declared.verdict.Verdict.{Verdict}
 use Rattle.tsp_verdict.specs.Basis.{IsBasis, IsVerdictFrom}
 use Rattle.tsp_verdict.specs.Bounded.{IsBoundVerdict}
-use Rattle.tsp_verdict.specs.Judged.{IsVerdictWith}
+use Rattle.tsp_verdict.specs.SolutionVerdict.{IsVerdictWith}
 
 -- An instance and a solution, with a certificate or without, and with a claimed length or without, have one verdict.
 abbrev pub FilesHaveOneVerdict : Type 0

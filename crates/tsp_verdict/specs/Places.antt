@@ -28,8 +28,8 @@ abbrev pub IsAt : ℕ → List ℕ → ℕ → Type 0
 IsAt node nodes place = node_at nodes place ≡ node
 
 -- the node at the place is at an earlier place too
-abbrev pub IsRepeated : List ℕ → ℕ → Type 0
-IsRepeated nodes place = (earlier : ℕ) × (1 ≤ earlier) × (earlier < place) × (node_at nodes earlier ≡ node_at nodes place)
+abbrev pub IsAtEarlierPlace : List ℕ → ℕ → Type 0
+IsAtEarlierPlace nodes place = (earlier : ℕ) × (1 ≤ earlier) × (earlier < place) × (node_at nodes earlier ≡ node_at nodes place)
 
 -- the pair at the place isn't used by the nodes
 abbrev pub IsUnused : Bool → List ℕ → List (ℕ × ℕ) → ℕ → Type 0

@@ -1,11 +1,11 @@
 -- Plans of routes of an instance: the words of `tsp_theory` and `tsp_cost`, re-exported, and what verdicts say besides.
 use Rattle.std.specs.Prelude.{ℤ}
 use Rattle.std.specs.List.{All}
-use Rattle.tsp_format.specs.Cells.{nodes_to}
+use Rattle.tsp_format.specs.Nodes.{nodes_to}
 use Rattle.tsp_draft.specs.Fields.{Fields, nodes_of}
 use Rattle.tsp_cost.specs.ComputedProblems.{demands_of}
 use Rattle.tsp_verdict.specs.Solution.{visited}
-pub use Rattle.tsp_theory.specs.Routing.{demand_of, load_of, IsCustomer, IsPlan, plan_length, IsLeast}
+pub use Rattle.tsp_theory.specs.Routing.{demand_of, load_of, IsCustomer, IsPlan, plan_length, IsLeastRoutes}
 pub use Rattle.tsp_cost.specs.ComputedProblems.{depot_of, IsPlanOf}
 
 -- the sum of all demands
@@ -14,4 +14,4 @@ total_of f = load_of (demands_of f) (nodes_to (nodes_of f))
 
 -- all nodes of the solution are customers of the instance
 abbrev pub AreCustomers : Fields → Fields → Type 0
-AreCustomers inst sol = All (IsCustomer (nodes_of inst) (depot_of inst)) (visited sol)
+AreCustomers instance solution = All (IsCustomer (nodes_of instance) (depot_of instance)) (visited solution)

@@ -3,8 +3,8 @@ use Rattle.std.specs.Prelude.{◌≡◌, ◌≢◌, ℕ, Bool, false, ◌&&◌, 
 use Rattle.tsp_format.specs.declared.kinds.Kind.{Kind}
 use Rattle.tsp_format.specs.declared.kinds.Kind.TheVariants as kinds
 use Rattle.tsp_draft.specs.Fields.{Fields, nodes_of}
-use Rattle.tsp_draft.specs.Rules.{is_certificate}
-use Rattle.tsp_file.specs.Meant.{fixed_of, scale_in, multipliers_in}
+use Rattle.tsp_draft.specs.Rules.{is_potentials_file}
+use Rattle.tsp_file.specs.Defaults.{fixed_of, scale_in, multipliers_in}
 use Rattle.tsp_file.specs.Cost.{cost}
 use Rattle.tsp_theory.specs.Assignment.{AreGood, IsFirstBroken, IsDualBound}
 use Rattle.tsp_theory.specs.Adjusted.{IsAdjustedBound}
@@ -22,39 +22,41 @@ has_wanted (Some kinds.Atsp) f = is_some f.row_potentials && is_some f.column_po
 has_wanted other f = false
 
 -- the first pair whose cost breaks the duals of the file
-pub record BreaksDuals (inst pot : Fields) (i j : ℕ) : Type 0 where
+pub record BreaksDuals (instance certificate : Fields) (i j : ℕ) : Type 0 where
   pub rows : List ℤ
-  pub rows_are : pot.row_potentials ≡ Some rows
+  pub rows_are : certificate.row_potentials ≡ Some rows
   pub columns : List ℤ
-  pub columns_are : pot.column_potentials ≡ Some columns
-  pub first : IsFirstBroken (nodes_of inst) (cost inst) (scale_in pot) rows columns i j
+  pub columns_are : certificate.column_potentials ≡ Some columns
+  pub first : IsFirstBroken (nodes_of instance) (cost instance) (scale_in certificate) rows columns i j
 
 -- ---- when a reason applies to it; reasons of tours and of routes never do
 
 abbrev pub StandsAgainstPotentials : Fields → Fields → Reason → Type 0
-StandsAgainstPotentials inst pot NotPotentials = is_certificate pot.kind ≡ false
-StandsAgainstPotentials inst pot PotentialsDimension = nodes_of pot ≢ nodes_of inst
-StandsAgainstPotentials inst pot PotentialsKind = has_wanted inst.kind pot ≡ false
-StandsAgainstPotentials inst pot (MultiplierNotFixed index) = (inst.kind ≡ Some kinds.Tsp)
-    × IsFirstPlace (IsUnlisted (fixed_of inst) (multipliers_in pot)) (multipliers_in pot) index
-StandsAgainstPotentials inst pot (MultiplierRepeated index) = (inst.kind ≡ Some kinds.Tsp)
-    × IsFirstPlace (IsPairRepeated (multipliers_in pot)) (multipliers_in pot) index
-StandsAgainstPotentials inst pot (DualInfeasible i j) = (inst.kind ≡ Some kinds.Atsp) × BreaksDuals inst pot i j
-StandsAgainstPotentials inst pot reason = ⊥
+StandsAgainstPotentials instance certificate NotPotentials = is_potentials_file certificate.kind ≡ false
+StandsAgainstPotentials instance certificate PotentialsDimension = nodes_of certificate ≢ nodes_of instance
+StandsAgainstPotentials instance certificate PotentialsKind = has_wanted instance.kind certificate ≡ false
+StandsAgainstPotentials instance certificate (MultiplierNotFixed index) = (instance.kind ≡ Some kinds.Tsp)
+    × IsFirstPlace (IsUnlisted (fixed_of instance) (multipliers_in certificate)) (multipliers_in certificate) index
+StandsAgainstPotentials instance certificate (MultiplierRepeated index) = (instance.kind ≡ Some kinds.Tsp)
+    × IsFirstPlace (IsPairRepeated (multipliers_in certificate)) (multipliers_in certificate) index
+StandsAgainstPotentials instance certificate (DualInfeasible i j) = (instance.kind ≡ Some kinds.Atsp)
+    × BreaksDuals instance certificate i j
+StandsAgainstPotentials instance certificate reason = ⊥
 
 -- ---- its bound
 
 -- that of a least 1-tree under the potentials of nodes, for a TSP
-pub record IsBoundByNodes (inst pot : Fields) (bound : ℤ) : Type 0 where
+pub record IsBoundByNodes (instance certificate : Fields) (bound : ℤ) : Type 0 where
   pub potentials : List ℤ
-  pub potentials_are : pot.node_potentials ≡ Some potentials
-  pub of_tree : IsAdjustedBound (nodes_of inst) (cost inst) (scale_in pot) potentials (multipliers_in pot) [] bound
+  pub potentials_are : certificate.node_potentials ≡ Some potentials
+  pub of_tree : IsAdjustedBound (nodes_of instance) (cost instance) (scale_in certificate) potentials
+      (multipliers_in certificate) [] bound
 
 -- that of duals of the assignment problem, for an ATSP
-pub record IsBoundByDuals (inst pot : Fields) (bound : ℤ) : Type 0 where
+pub record IsBoundByDuals (instance certificate : Fields) (bound : ℤ) : Type 0 where
   pub rows : List ℤ
-  pub rows_are : pot.row_potentials ≡ Some rows
+  pub rows_are : certificate.row_potentials ≡ Some rows
   pub columns : List ℤ
-  pub columns_are : pot.column_potentials ≡ Some columns
-  pub good : AreGood (nodes_of inst) (cost inst) (scale_in pot) rows columns
-  pub of_duals : IsDualBound (scale_in pot) rows columns bound
+  pub columns_are : certificate.column_potentials ≡ Some columns
+  pub good : AreGood (nodes_of instance) (cost instance) (scale_in certificate) rows columns
+  pub of_duals : IsDualBound (scale_in certificate) rows columns bound

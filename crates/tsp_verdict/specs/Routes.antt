@@ -3,15 +3,15 @@
 use Rattle.std.specs.Prelude.{◌≡◌, ◌≢◌, ℕ, ◌-◌, ◌<◌, ◌≤◌, false, List, [], length, Some, slice_index_or, ℤ, pos, ◌<ℤ◌}
 use Rattle.std.specs.List.{Contains}
 use Rattle.tsp_draft.specs.Fields.{Fields, nodes_of}
-use Rattle.tsp_draft.specs.Rules.{is_tours}
+use Rattle.tsp_draft.specs.Rules.{is_tour_file}
 use Rattle.tsp_file.specs.Cost.{cost}
 use Rattle.tsp_reason.specs.declared.verdict.Reason.{Reason}
 use Rattle.tsp_reason.specs.declared.verdict.Reason.TheVariants.{NotASolution, TooFewNodes, Dimension, NodeOutOfRange, RepeatedNode, DepotCount, DepotDemand, FixedEdgesInRoutes, DepotInRoute, Unserved, Overload}
 use Rattle.tsp_reason.specs.declared.verdict.Verdict.{Verdict}
 use Rattle.tsp_reason.specs.declared.verdict.Verdict.TheVariants as verdicts
-use Rattle.tsp_verdict.specs.Places.{IsFirstPlace, IsLarger, IsAt, IsRepeated}
-use Rattle.tsp_verdict.specs.Plan.{demand_of, load_of, IsCustomer, plan_length, IsLeast, depot_of, total_of, IsPlanOf}
-use Rattle.tsp_file.specs.Meant.{fixed_of}
+use Rattle.tsp_verdict.specs.Places.{IsFirstPlace, IsLarger, IsAt, IsAtEarlierPlace}
+use Rattle.tsp_verdict.specs.Plan.{demand_of, load_of, IsCustomer, plan_length, IsLeastRoutes, depot_of, total_of, IsPlanOf}
+use Rattle.tsp_file.specs.Defaults.{fixed_of}
 use Rattle.tsp_cost.specs.ComputedProblems.{depots_of, demands_of, capacity_of}
 use Rattle.tsp_verdict.specs.Reasons.{rank_of, NoneBefore, IsFirstReason}
 use Rattle.tsp_verdict.specs.Solution.{visited, tours_of}
@@ -28,48 +28,53 @@ IsOverloaded demands capacity routes place = capacity <ℤ load_of demands (slic
 
 -- When a reason applies to routes: those of the files, of the depot, of the nodes and of the loads. No other reason does.
 abbrev pub StandsAgainstRoutes : Fields → Fields → Reason → Type 0
-StandsAgainstRoutes inst sol NotASolution = is_tours sol.kind ≡ false
-StandsAgainstRoutes inst sol TooFewNodes = nodes_of inst < 2
-StandsAgainstRoutes inst sol Dimension = (n : ℕ) × (sol.dimension ≡ Some n) × (n ≢ nodes_of inst)
-StandsAgainstRoutes inst sol (NodeOutOfRange place) = IsFirstPlace (IsLarger (nodes_of inst) (visited sol)) (visited sol) place
-StandsAgainstRoutes inst sol (RepeatedNode place) = IsFirstPlace (IsRepeated (visited sol)) (visited sol) place
-StandsAgainstRoutes inst sol DepotCount = length (depots_of inst) ≢ 1
-StandsAgainstRoutes inst sol DepotDemand = demand_of (demands_of inst) (depot_of inst) ≢ pos 0
-StandsAgainstRoutes inst sol FixedEdgesInRoutes = 1 ≤ length (fixed_of inst)
-StandsAgainstRoutes inst sol (DepotInRoute place) = IsFirstPlace (IsAt (depot_of inst) (visited sol)) (visited sol) place
-StandsAgainstRoutes inst sol (Unserved node) = IsFirstUnserved (nodes_of inst) (depot_of inst) (visited sol) node
-StandsAgainstRoutes inst sol (Overload route) =
-    IsFirstPlace (IsOverloaded (demands_of inst) (capacity_of inst) (tours_of sol)) (tours_of sol) route
-StandsAgainstRoutes inst sol reason = ⊥
+StandsAgainstRoutes instance solution NotASolution = is_tour_file solution.kind ≡ false
+StandsAgainstRoutes instance solution TooFewNodes = nodes_of instance < 2
+StandsAgainstRoutes instance solution Dimension = (n : ℕ) × (solution.dimension ≡ Some n) × (n ≢ nodes_of instance)
+StandsAgainstRoutes instance solution (NodeOutOfRange place) = IsFirstPlace (IsLarger (nodes_of instance) (visited solution))
+    (visited solution) place
+StandsAgainstRoutes instance solution (RepeatedNode place) = IsFirstPlace (IsAtEarlierPlace (visited solution))
+    (visited solution) place
+StandsAgainstRoutes instance solution DepotCount = length (depots_of instance) ≢ 1
+StandsAgainstRoutes instance solution DepotDemand = demand_of (demands_of instance) (depot_of instance) ≢ pos 0
+StandsAgainstRoutes instance solution FixedEdgesInRoutes = 1 ≤ length (fixed_of instance)
+StandsAgainstRoutes instance solution (DepotInRoute place) = IsFirstPlace (IsAt (depot_of instance) (visited solution))
+    (visited solution) place
+StandsAgainstRoutes instance solution (Unserved node) = IsFirstUnserved (nodes_of instance) (depot_of instance)
+    (visited solution) node
+StandsAgainstRoutes instance solution (Overload route) =
+    IsFirstPlace (IsOverloaded (demands_of instance) (capacity_of instance) (tours_of solution)) (tours_of solution) route
+StandsAgainstRoutes instance solution reason = ⊥
 
 -- none of the reasons applies that are judged before this rank
 abbrev pub NoneOfRoutesUpTo : Fields → Fields → ℕ → Type 0
-NoneOfRoutesUpTo inst sol rank = NoneBefore (StandsAgainstRoutes inst sol) rank
+NoneOfRoutesUpTo instance solution rank = NoneBefore (StandsAgainstRoutes instance solution) rank
 
 -- the reason is the first one that applies
 abbrev pub IsFirstAgainstRoutes : Fields → Fields → Reason → Type 0
-IsFirstAgainstRoutes inst sol reason = IsFirstReason (StandsAgainstRoutes inst sol) reason
+IsFirstAgainstRoutes instance solution reason = IsFirstReason (StandsAgainstRoutes instance solution) reason
 
 -- Accepted routes: they are a plan of the instance, of this length and number, and no plan at all has fewer routes than the least
 -- number that carries all demands.
-pub record IsPlanned (inst : Fields) (plan : List (List ℕ)) (length_is : ℤ) (routes least : ℕ) : Type 0 where
-  pub plan_of : IsPlanOf inst plan
-  pub measured : length_is ≡ plan_length (cost inst) (depot_of inst) plan
+pub record IsPlanned (instance : Fields) (plan : List (List ℕ)) (length_is : ℤ) (routes least : ℕ) : Type 0 where
+  pub plan_of : IsPlanOf instance plan
+  pub measured : length_is ≡ plan_length (cost instance) (depot_of instance) plan
   pub counted : routes ≡ length plan
-  pub least_is : IsLeast (total_of inst) (capacity_of inst) least
-  pub none_fewer : (other : List (List ℕ)) → IsPlanOf inst other → least ≤ length other
+  pub least_is : IsLeastRoutes (total_of instance) (capacity_of instance) least
+  pub none_fewer : (other : List (List ℕ)) → IsPlanOf instance other → least ≤ length other
 
 -- Rejected: the reason is the first one that applies. Accepted: none applies, and the tours of the solution are planned so.
 abbrev pub IsRoutesVerdict : Fields → Fields → Verdict → Type 0
-IsRoutesVerdict inst sol (verdicts.No reason) = IsFirstAgainstRoutes inst sol reason
-IsRoutesVerdict inst sol (verdicts.Routes length_is routes least) = ((reason : Reason) → StandsAgainstRoutes inst sol reason → ⊥)
-    × IsPlanned inst (tours_of sol) length_is routes least
-IsRoutesVerdict inst sol (verdicts.Tour length_is bound) = ⊥
+IsRoutesVerdict instance solution (verdicts.No reason) = IsFirstAgainstRoutes instance solution reason
+IsRoutesVerdict instance solution (verdicts.Routes length_is routes least) =
+    ((reason : Reason) → StandsAgainstRoutes instance solution reason → ⊥)
+    × IsPlanned instance (tours_of solution) length_is routes least
+IsRoutesVerdict instance solution (verdicts.Tour length_is bound) = ⊥
 
 -- No reason applies that needs no look at the nodes of the routes.
 abbrev pub NoneOfRoutesBeforePlaces : Fields → Fields → Type 0
-NoneOfRoutesBeforePlaces inst sol = (place : ℕ) → NoneOfRoutesUpTo inst sol (rank_of (DepotInRoute place))
+NoneOfRoutesBeforePlaces instance solution = (place : ℕ) → NoneOfRoutesUpTo instance solution (rank_of (DepotInRoute place))
 
 -- No reason up to `NodeOutOfRange` applies: they are found without memory.
 abbrev pub NoneOfRoutesBeforeRepeats : Fields → Fields → Type 0
-NoneOfRoutesBeforeRepeats inst sol = (place : ℕ) → NoneOfRoutesUpTo inst sol (rank_of (RepeatedNode place))
+NoneOfRoutesBeforeRepeats instance solution = (place : ℕ) → NoneOfRoutesUpTo instance solution (rank_of (RepeatedNode place))

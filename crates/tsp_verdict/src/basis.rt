@@ -6,7 +6,7 @@ ghost use Rattle.tsp_draft.specs.Fields.{Fields};
 ghost use Rattle.tsp_reason.specs.declared.certificate.Certificate.{Certificate};
 ghost use Rattle.tsp_verdict.specs.Basis.{IsBasis, IsBasisBy, IsBasisOfRoutes, NoneOfBasisWithoutMemory};
 ghost use Rattle.tsp_verdict.specs.Bounded.{IsBoundVerdict};
-ghost use Rattle.tsp_verdict.specs.Judged.{is_judged};
+ghost use Rattle.tsp_verdict.specs.SolutionVerdict.{is_judged};
 ghost use Rattle.tsp_verdict.specs.states.Known.{against_instance};
 
 use crate::bounded::{costs_of_tours, judge_bound};

@@ -2,21 +2,21 @@
 
 ghost use Rattle.std.specs.Prelude.{◌≡◌, ◌≤◌, false, true, length, Some, IfOk, IsErr, MatchOption, MatchResult};
 ghost use Rattle.std.specs.List.{All};
-ghost use Rattle.tsp_format.specs.Cells.{IsNode};
-ghost use Rattle.tsp_format.specs.Limits.{most_multipliers};
+ghost use Rattle.tsp_format.specs.Nodes.{IsNode};
+ghost use Rattle.tsp_format.specs.Limits.{most_triples};
 ghost use Rattle.tsp_format.specs.declared.kinds.Kind.TheVariants as kinds;
-ghost use Rattle.tsp_draft.specs.Rules.{is_certificate};
+ghost use Rattle.tsp_draft.specs.Rules.{is_potentials_file};
 ghost use Rattle.tsp_file.specs.Cost.{cost};
 ghost use Rattle.tsp_file.specs.Typed.{HoldsNodeNumbers, HoldsDuals};
 ghost use Rattle.tsp_theory.specs.Costs.{IsSymmetric};
-ghost use Rattle.tsp_cost.specs.states.Views.{HasCosts, Shows, ShowsEven};
+ghost use Rattle.tsp_cost.specs.states.Views.{HasCosts, IsViewOf, ShowsEven};
 ghost use Rattle.tsp_theory.specs.Adjusted.{AreOnPairs};
 ghost use Rattle.tsp_bound.specs.states.Duals.{dual_scale as scale_of_duals, rows_of, columns_of};
 ghost use Rattle.tsp_bound.specs.states.Multipliers.{triples_of};
 ghost use Rattle.tsp_bound.specs.states.Potentials.{scale_of, numbers_of};
 ghost use Rattle.tsp_verdict.specs.Reasons.{IsFirstReason};
 ghost use Rattle.tsp_draft.specs.Fields.{nodes_of};
-ghost use Rattle.tsp_file.specs.Meant.{fixed_of, multipliers_in};
+ghost use Rattle.tsp_file.specs.Defaults.{fixed_of, multipliers_in};
 ghost use Rattle.tsp_verdict.specs.PotentialsCertificate.{has_wanted, BreaksDuals, StandsAgainstPotentials};
 ghost use Rattle.tsp_reason.specs.declared.certificate.Certificate.TheVariants as certificates;
 ghost use Rattle.tsp_verdict.specs.Certified.{IsCertified, FindsBound, NoneWithoutMemory};
@@ -81,7 +81,7 @@ pub(crate) fn bound_by_nodes(
 pub(crate) fn bound_by_duals(inst: &Instance, view: View<'_>, pot: &File) -> BoundVerdict
     requires kind { inst.now.kind ≡ Some kinds.Atsp }
     requires some { 3 ≤ nodes_of inst.now }
-    requires shows { Shows inst.now view }
+    requires shows { IsViewOf inst.now view }
     ensures { FindsBound certificates.Potentials inst.now pot.now result }
 {
     if let Some(reason) = first_against_file(inst, pot) {
@@ -102,7 +102,7 @@ pub(crate) fn bound_by_duals(inst: &Instance, view: View<'_>, pot: &File) -> Bou
 /// The first reason against a certificate that needs no look at its potentials.
 fn first_against_file(inst: &Instance, pot: &File) -> Option<Reason>
     ensures { MatchOption result
-        ((is_certificate pot.now.kind ≡ true) × (pot.now.kind ≡ Some kinds.Potentials)
+        ((is_potentials_file pot.now.kind ≡ true) × (pot.now.kind ≡ Some kinds.Potentials)
         × (nodes_of pot.now ≡ nodes_of inst.now))
         (λ reason. IsFirstReason (StandsAgainstPotentials inst.now pot.now) reason) }
 {
@@ -158,11 +158,11 @@ fn first_against_multipliers(
     triples: &[(u32, u32, i64)],
 ) -> Result<Option<Reason>, Refused>
     requires kind { inst.now.kind ≡ Some kinds.Tsp }
-    requires sort { is_certificate pot.now.kind ≡ true }
+    requires sort { is_potentials_file pot.now.kind ≡ true }
     requires count { nodes_of pot.now ≡ nodes_of inst.now }
     requires wanted { has_wanted (Some kinds.Tsp) pot.now ≡ true }
     requires value { triples.now ≡ multipliers_in pot.now }
-    requires few { length triples.now ≤ most_multipliers }
+    requires few { length triples.now ≤ most_triples }
     requires nodes { All (λ triple. IsNode (nodes_of pot.now) triple.0
         × IsNode (nodes_of pot.now) triple.1) triples.now }
     ensures { IfOk result (λ found. MatchOption found
@@ -192,7 +192,7 @@ fn bound_of_duals(
 ) -> Result<i128, Infeasible>
     requires kind { inst.now.kind ≡ Some kinds.Atsp }
     requires some { 3 ≤ nodes_of inst.now }
-    requires shows { Shows inst.now view }
+    requires shows { IsViewOf inst.now view }
     requires count { nodes_of pot.now ≡ nodes_of inst.now }
     requires held { HoldsDuals pot.now
         (scale_of_duals duals.now) (rows_of duals.now) (columns_of duals.now) }

@@ -7,8 +7,8 @@ ghost use Rattle.tsp_format.specs.declared.kinds.Kind.TheVariants as kinds;
 ghost use Rattle.tsp_branch.specs.Examples.{with_pair};
 ghost use Rattle.tsp_reason.specs.declared.verdict.Reason.TheVariants as reasons;
 ghost use Rattle.tsp_reason.specs.declared.verdict.Verdict.TheVariants as verdicts;
-ghost use Rattle.tsp_verdict.specs.Examples.{nodes};
-ghost use Rattle.tsp_verdict.specs.Judged.{IsAsClaimed, IsOtherClaimed, IsOfLength, IsVerdictOn, IsVerdictWith};
+ghost use Rattle.tsp_verdict.specs.Examples.{instance_with};
+ghost use Rattle.tsp_verdict.specs.SolutionVerdict.{IsAsClaimed, IsOtherClaimed, IsOfLength, IsVerdictOn, IsVerdictWith};
 ghost use Rattle.tsp_verdict.specs.BranchesCertificate.{given_in};
 
 /// A claim above the length, and one below it, are both other claims.
@@ -42,10 +42,10 @@ pub fn examples_of_claimed_verdicts()
 
 /// Two fixed arcs in opposite directions are two decisions, and two fixed edges are one.
 pub fn examples_of_fixed_arcs()
-    ensures arcs { given_in (nodes kinds.Atsp 4 ((1, 2) ∷ (2, 1) ∷ []))
+    ensures arcs { given_in (instance_with kinds.Atsp 4 ((1, 2) ∷ (2, 1) ∷ []))
         ≡ with_pair 1 2 ∷ with_pair 2 1 ∷ [] }
-    ensures same_arc { given_in (nodes kinds.Atsp 4 ((1, 2) ∷ (1, 2) ∷ [])) ≡ with_pair 1 2 ∷ [] }
-    ensures one_head { given_in (nodes kinds.Atsp 4 ((1, 2) ∷ (3, 2) ∷ []))
+    ensures same_arc { given_in (instance_with kinds.Atsp 4 ((1, 2) ∷ (1, 2) ∷ [])) ≡ with_pair 1 2 ∷ [] }
+    ensures one_head { given_in (instance_with kinds.Atsp 4 ((1, 2) ∷ (3, 2) ∷ []))
         ≡ with_pair 1 2 ∷ with_pair 3 2 ∷ [] }
-    ensures edges { given_in (nodes kinds.Tsp 4 ((1, 2) ∷ (2, 1) ∷ [])) ≡ with_pair 1 2 ∷ [] }
+    ensures edges { given_in (instance_with kinds.Tsp 4 ((1, 2) ∷ (2, 1) ∷ [])) ≡ with_pair 1 2 ∷ [] }
 {}

@@ -1,7 +1,7 @@
 //! A length that is claimed of a solution.
 
 ghost use Rattle.std.specs.Prelude.{◌≡◌, None, true, false, MatchOption};
-ghost use Rattle.tsp_verdict.specs.Judged.{IsVerdictOn, HasLength, HasNoLength, IsAsClaimed, IsOtherClaimed, IsVerdictWith};
+ghost use Rattle.tsp_verdict.specs.SolutionVerdict.{IsVerdictOn, HasLength, HasNoLength, IsAsClaimed, IsOtherClaimed, IsVerdictWith};
 ghost use Rattle.tsp_draft.specs.Fields.{Fields};
 
 use tsp_reason::{Reason, Verdict};

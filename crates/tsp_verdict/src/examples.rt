@@ -11,62 +11,62 @@ ghost use Rattle.tsp_reason.specs.declared.verdict.Verdict.TheVariants as verdic
 ghost use Rattle.tsp_reason.specs.declared.certificate.Certificate.TheVariants as certificates;
 ghost use Rattle.tsp_verdict.specs.Bounded.{StandsAgainstInstance};
 ghost use Rattle.tsp_verdict.specs.Certified.{NoneWithoutMemory};
-ghost use Rattle.tsp_verdict.specs.Judged.{IsAsClaimed, IsOtherClaimed, HasLength, HasNoLength};
-ghost use Rattle.tsp_verdict.specs.Plan.{IsPlanOf, IsLeast, plan_length, total_of};
+ghost use Rattle.tsp_verdict.specs.SolutionVerdict.{IsAsClaimed, IsOtherClaimed, HasLength, HasNoLength};
+ghost use Rattle.tsp_verdict.specs.Plan.{IsPlanOf, IsLeastRoutes, plan_length, total_of};
 ghost use Rattle.tsp_verdict.specs.Tours.{StandsAgainstTour, NoneOfTourBeforeRepeats};
 ghost use Rattle.tsp_verdict.specs.Routes.{StandsAgainstRoutes, NoneOfRoutesBeforeRepeats};
 ghost use Rattle.tsp_verdict.specs.PotentialsCertificate.{StandsAgainstPotentials};
-ghost use Rattle.tsp_file.specs.Meant.{scale_in};
-ghost use Rattle.tsp_verdict.specs.BranchesCertificate.{StandsAgainstTree, given_in};
-ghost use Rattle.tsp_verdict.specs.Examples.{of_nodes, of_rows, of_both, multiplying, nodes, vehicles, carrying, solution, sized, lone, both, two, three, four, branching, two_leaves, three_leaves, node_twice, Before};
+ghost use Rattle.tsp_file.specs.Defaults.{scale_in};
+ghost use Rattle.tsp_verdict.specs.BranchesCertificate.{StandsAgainstBranches, given_in};
+ghost use Rattle.tsp_verdict.specs.Examples.{of_nodes, of_rows, of_both, multiplying, instance_with, vehicles, carrying, solution, sized, lone, both, two, three, four, branching, two_leaves, three_leaves, node_twice, IsJudgedBefore};
 
 /// The order in which reasons against a tour, and then against its certificate, are judged: each
 /// pair of neighbours.
 pub fn examples_of_order()
-    ensures nodes { Before reasons.NotASolution reasons.TooFewNodes }
-    ensures even { Before reasons.TooFewNodes (reasons.NotSymmetric 1 2) }
-    ensures dimension { Before (reasons.NotSymmetric 1 2) reasons.Dimension }
-    ensures count { Before reasons.Dimension reasons.TourCount }
-    ensures length { Before reasons.TourCount reasons.TourLength }
-    ensures range { Before reasons.TourLength (reasons.NodeOutOfRange 1) }
-    ensures repeated { Before (reasons.NodeOutOfRange 9) (reasons.RepeatedNode 1) }
-    ensures fixed { Before (reasons.RepeatedNode 9) (reasons.FixedEdgeUnused 1) }
-    ensures claimed { Before (reasons.FixedEdgeUnused 9) (reasons.LengthClaimed (pos 1)) }
-    ensures potentials { Before (reasons.LengthClaimed (pos 9)) reasons.NotPotentials }
-    ensures their_dimension { Before reasons.NotPotentials reasons.PotentialsDimension }
-    ensures their_kind { Before reasons.PotentialsDimension reasons.PotentialsKind }
-    ensures not_fixed { Before reasons.PotentialsKind (reasons.MultiplierNotFixed 1) }
-    ensures multiplied_twice { Before (reasons.MultiplierNotFixed 9)
+    ensures nodes { IsJudgedBefore reasons.NotASolution reasons.TooFewNodes }
+    ensures even { IsJudgedBefore reasons.TooFewNodes (reasons.NotSymmetric 1 2) }
+    ensures dimension { IsJudgedBefore (reasons.NotSymmetric 1 2) reasons.Dimension }
+    ensures count { IsJudgedBefore reasons.Dimension reasons.TourCount }
+    ensures length { IsJudgedBefore reasons.TourCount reasons.TourLength }
+    ensures range { IsJudgedBefore reasons.TourLength (reasons.NodeOutOfRange 1) }
+    ensures repeated { IsJudgedBefore (reasons.NodeOutOfRange 9) (reasons.RepeatedNode 1) }
+    ensures fixed { IsJudgedBefore (reasons.RepeatedNode 9) (reasons.FixedEdgeUnused 1) }
+    ensures claimed { IsJudgedBefore (reasons.FixedEdgeUnused 9) (reasons.LengthClaimed (pos 1)) }
+    ensures potentials { IsJudgedBefore (reasons.LengthClaimed (pos 9)) reasons.NotPotentials }
+    ensures their_dimension { IsJudgedBefore reasons.NotPotentials reasons.PotentialsDimension }
+    ensures their_kind { IsJudgedBefore reasons.PotentialsDimension reasons.PotentialsKind }
+    ensures not_fixed { IsJudgedBefore reasons.PotentialsKind (reasons.MultiplierNotFixed 1) }
+    ensures multiplied_twice { IsJudgedBefore (reasons.MultiplierNotFixed 9)
         (reasons.MultiplierRepeated 1) }
-    ensures duals { Before (reasons.MultiplierRepeated 9) (reasons.DualInfeasible 1 2) }
-    ensures branches { Before (reasons.LengthClaimed (pos 9)) reasons.NotBranches }
-    ensures number_of_nodes { Before reasons.NotBranches reasons.BranchesDimension }
-    ensures combs { Before reasons.BranchesDimension (reasons.BadComb 1) }
-    ensures decided_twice { Before (reasons.BadComb 9) (reasons.BranchTwice 1) }
-    ensures leaves { Before (reasons.BranchTwice 9) (reasons.BadLeaf 1) }
+    ensures duals { IsJudgedBefore (reasons.MultiplierRepeated 9) (reasons.DualInfeasible 1 2) }
+    ensures branches { IsJudgedBefore (reasons.LengthClaimed (pos 9)) reasons.NotBranches }
+    ensures number_of_nodes { IsJudgedBefore reasons.NotBranches reasons.BranchesDimension }
+    ensures combs { IsJudgedBefore reasons.BranchesDimension (reasons.BadComb 1) }
+    ensures decided_twice { IsJudgedBefore (reasons.BadComb 9) (reasons.BranchTwice 1) }
+    ensures leaves { IsJudgedBefore (reasons.BranchTwice 9) (reasons.BadLeaf 1) }
 {}
 
 /// The order in which reasons against routes are judged: each pair of neighbours.
 pub fn examples_of_order_of_routes()
-    ensures nodes { Before reasons.NotASolution reasons.TooFewNodes }
-    ensures dimension { Before reasons.TooFewNodes reasons.Dimension }
-    ensures depots { Before reasons.Dimension reasons.DepotCount }
-    ensures demand { Before reasons.DepotCount reasons.DepotDemand }
-    ensures fixed { Before reasons.DepotDemand reasons.FixedEdgesInRoutes }
-    ensures depot { Before reasons.FixedEdgesInRoutes (reasons.DepotInRoute 1) }
-    ensures range { Before (reasons.DepotInRoute 9) (reasons.NodeOutOfRange 1) }
-    ensures repeated { Before (reasons.NodeOutOfRange 9) (reasons.RepeatedNode 1) }
-    ensures unserved { Before (reasons.RepeatedNode 9) (reasons.Unserved 2) }
-    ensures overload { Before (reasons.Unserved 9) (reasons.Overload 1) }
-    ensures claimed { Before (reasons.Overload 9) (reasons.LengthClaimed (pos 1)) }
+    ensures nodes { IsJudgedBefore reasons.NotASolution reasons.TooFewNodes }
+    ensures dimension { IsJudgedBefore reasons.TooFewNodes reasons.Dimension }
+    ensures depots { IsJudgedBefore reasons.Dimension reasons.DepotCount }
+    ensures demand { IsJudgedBefore reasons.DepotCount reasons.DepotDemand }
+    ensures fixed { IsJudgedBefore reasons.DepotDemand reasons.FixedEdgesInRoutes }
+    ensures depot { IsJudgedBefore reasons.FixedEdgesInRoutes (reasons.DepotInRoute 1) }
+    ensures range { IsJudgedBefore (reasons.DepotInRoute 9) (reasons.NodeOutOfRange 1) }
+    ensures repeated { IsJudgedBefore (reasons.NodeOutOfRange 9) (reasons.RepeatedNode 1) }
+    ensures unserved { IsJudgedBefore (reasons.RepeatedNode 9) (reasons.Unserved 2) }
+    ensures overload { IsJudgedBefore (reasons.Unserved 9) (reasons.Overload 1) }
+    ensures claimed { IsJudgedBefore (reasons.Overload 9) (reasons.LengthClaimed (pos 1)) }
 {}
 
 /// When the two reasons against an instance apply, whatever the tour.
 pub fn examples_against_instances()
-    ensures two_nodes { StandsAgainstInstance (nodes kinds.Atsp 2 []) reasons.TooFewNodes }
-    ensures three_nodes { ¬ StandsAgainstInstance (nodes kinds.Atsp 3 []) reasons.TooFewNodes }
-    ensures no_solution { ¬ StandsAgainstInstance (nodes kinds.Tsp 4 []) reasons.NotASolution }
-    ensures directed { ¬ StandsAgainstInstance (nodes kinds.Atsp 4 []) (reasons.NotSymmetric 1 2) }
+    ensures two_nodes { StandsAgainstInstance (instance_with kinds.Atsp 2 []) reasons.TooFewNodes }
+    ensures three_nodes { ¬ StandsAgainstInstance (instance_with kinds.Atsp 3 []) reasons.TooFewNodes }
+    ensures no_solution { ¬ StandsAgainstInstance (instance_with kinds.Tsp 4 []) reasons.NotASolution }
+    ensures directed { ¬ StandsAgainstInstance (instance_with kinds.Atsp 4 []) (reasons.NotSymmetric 1 2) }
 {}
 
 /// Which length is claimed, and of which verdict.
@@ -87,95 +87,95 @@ pub fn examples_of_claims()
 
 /// When the reasons against a tour apply.
 pub fn examples_against_tours()
-    ensures no_solution { StandsAgainstTour (nodes kinds.Tsp 4 [])
-        (nodes kinds.Potentials 4 []) reasons.NotASolution }
-    ensures two_nodes { StandsAgainstTour (nodes kinds.Tsp 2 [])
+    ensures no_solution { StandsAgainstTour (instance_with kinds.Tsp 4 [])
+        (instance_with kinds.Potentials 4 []) reasons.NotASolution }
+    ensures two_nodes { StandsAgainstTour (instance_with kinds.Tsp 2 [])
         (lone (two 1 2)) reasons.TooFewNodes }
     ensures three_nodes { ¬ StandsAgainstTour
-        (nodes kinds.Tsp 3 []) (lone (two 1 2)) reasons.TooFewNodes }
-    ensures dimension { StandsAgainstTour (nodes kinds.Tsp 4 []) (sized 5 []) reasons.Dimension }
+        (instance_with kinds.Tsp 3 []) (lone (two 1 2)) reasons.TooFewNodes }
+    ensures dimension { StandsAgainstTour (instance_with kinds.Tsp 4 []) (sized 5 []) reasons.Dimension }
     ensures same_dimension { ¬ StandsAgainstTour
-        (nodes kinds.Tsp 4 []) (sized 4 []) reasons.Dimension }
+        (instance_with kinds.Tsp 4 []) (sized 4 []) reasons.Dimension }
     ensures no_dimension { ¬ StandsAgainstTour
-        (nodes kinds.Tsp 4 []) (solution []) reasons.Dimension }
-    ensures no_tour { StandsAgainstTour (nodes kinds.Tsp 4 []) (solution []) reasons.TourCount }
-    ensures two_tours { StandsAgainstTour (nodes kinds.Tsp 4 [])
+        (instance_with kinds.Tsp 4 []) (solution []) reasons.Dimension }
+    ensures no_tour { StandsAgainstTour (instance_with kinds.Tsp 4 []) (solution []) reasons.TourCount }
+    ensures two_tours { StandsAgainstTour (instance_with kinds.Tsp 4 [])
         (both (two 1 2) (two 3 4)) reasons.TourCount }
     ensures one_tour { ¬ StandsAgainstTour
-        (nodes kinds.Tsp 4 []) (lone (two 1 2)) reasons.TourCount }
-    ensures short { StandsAgainstTour (nodes kinds.Tsp 4 [])
+        (instance_with kinds.Tsp 4 []) (lone (two 1 2)) reasons.TourCount }
+    ensures short { StandsAgainstTour (instance_with kinds.Tsp 4 [])
         (lone (three 1 2 3)) reasons.TourLength }
-    ensures past_the_last { StandsAgainstTour (nodes kinds.Tsp 4 [])
+    ensures past_the_last { StandsAgainstTour (instance_with kinds.Tsp 4 [])
         (lone (four 1 2 3 5)) (reasons.NodeOutOfRange 4) }
     ensures the_last { ¬ StandsAgainstTour
-        (nodes kinds.Tsp 4 []) (lone (four 1 2 3 4)) (reasons.NodeOutOfRange 4) }
+        (instance_with kinds.Tsp 4 []) (lone (four 1 2 3 4)) (reasons.NodeOutOfRange 4) }
     ensures first_past { ¬ StandsAgainstTour
-        (nodes kinds.Tsp 4 []) (lone (four 1 2 5 6)) (reasons.NodeOutOfRange 4) }
-    ensures repeated { StandsAgainstTour (nodes kinds.Tsp 4 [])
+        (instance_with kinds.Tsp 4 []) (lone (four 1 2 5 6)) (reasons.NodeOutOfRange 4) }
+    ensures repeated { StandsAgainstTour (instance_with kinds.Tsp 4 [])
         (lone (four 1 2 2 3)) (reasons.RepeatedNode 3) }
-    ensures first_repeated { StandsAgainstTour (nodes kinds.Tsp 4 [])
+    ensures first_repeated { StandsAgainstTour (instance_with kinds.Tsp 4 [])
         (lone (four 1 1 4 4)) (reasons.RepeatedNode 2) }
     ensures not_the_second { ¬ StandsAgainstTour
-        (nodes kinds.Tsp 4 []) (lone (four 1 1 4 4)) (reasons.RepeatedNode 4) }
-    ensures unused { StandsAgainstTour (nodes kinds.Tsp 4 ((1, 3) ∷ [])) (lone (four 1 2 3 4))
+        (instance_with kinds.Tsp 4 []) (lone (four 1 1 4 4)) (reasons.RepeatedNode 4) }
+    ensures unused { StandsAgainstTour (instance_with kinds.Tsp 4 ((1, 3) ∷ [])) (lone (four 1 2 3 4))
         (reasons.FixedEdgeUnused 1) }
-    ensures arc { StandsAgainstTour (nodes kinds.Atsp 3 ((2, 1) ∷ [])) (lone (three 1 2 3))
+    ensures arc { StandsAgainstTour (instance_with kinds.Atsp 3 ((2, 1) ∷ [])) (lone (three 1 2 3))
         (reasons.FixedEdgeUnused 1) }
     ensures no_arc { ¬ StandsAgainstTour
-        (nodes kinds.Tsp 3 ((2, 1) ∷ [])) (lone (three 1 2 3)) (reasons.FixedEdgeUnused 1) }
+        (instance_with kinds.Tsp 3 ((2, 1) ∷ [])) (lone (three 1 2 3)) (reasons.FixedEdgeUnused 1) }
 {}
 
 /// When the reasons against a certificate apply. None is broken here by its numbers.
 pub fn examples_against_certificates()
     ensures scale { scale_in (of_nodes 4) ≡ pos 1 }
-    ensures no_potentials { StandsAgainstPotentials (nodes kinds.Tsp 4 [])
+    ensures no_potentials { StandsAgainstPotentials (instance_with kinds.Tsp 4 [])
         (solution []) reasons.NotPotentials }
     ensures potentials { ¬ StandsAgainstPotentials
-        (nodes kinds.Tsp 4 []) (of_nodes 4) reasons.NotPotentials }
-    ensures dimension { StandsAgainstPotentials (nodes kinds.Tsp 4 [])
+        (instance_with kinds.Tsp 4 []) (of_nodes 4) reasons.NotPotentials }
+    ensures dimension { StandsAgainstPotentials (instance_with kinds.Tsp 4 [])
         (of_nodes 3) reasons.PotentialsDimension }
     ensures same_dimension { ¬ StandsAgainstPotentials
-        (nodes kinds.Tsp 4 []) (of_nodes 4) reasons.PotentialsDimension }
+        (instance_with kinds.Tsp 4 []) (of_nodes 4) reasons.PotentialsDimension }
     ensures tsp { ¬ StandsAgainstPotentials
-        (nodes kinds.Tsp 4 []) (of_nodes 4) reasons.PotentialsKind }
-    ensures tsp_by_rows { StandsAgainstPotentials (nodes kinds.Tsp 4 [])
+        (instance_with kinds.Tsp 4 []) (of_nodes 4) reasons.PotentialsKind }
+    ensures tsp_by_rows { StandsAgainstPotentials (instance_with kinds.Tsp 4 [])
         (of_both 4) reasons.PotentialsKind }
     ensures atsp { ¬ StandsAgainstPotentials
-        (nodes kinds.Atsp 4 []) (of_both 4) reasons.PotentialsKind }
-    ensures atsp_by_nodes { StandsAgainstPotentials (nodes kinds.Atsp 4 [])
+        (instance_with kinds.Atsp 4 []) (of_both 4) reasons.PotentialsKind }
+    ensures atsp_by_nodes { StandsAgainstPotentials (instance_with kinds.Atsp 4 [])
         (of_nodes 4) reasons.PotentialsKind }
-    ensures atsp_by_rows { StandsAgainstPotentials (nodes kinds.Atsp 4 [])
+    ensures atsp_by_rows { StandsAgainstPotentials (instance_with kinds.Atsp 4 [])
         (of_rows 4) reasons.PotentialsKind }
 {}
 
 /// When the reasons against a certificate by branching apply, and which pairs are decided in all of
 /// its cases.
 pub fn examples_against_trees()
-    ensures no_tree { StandsAgainstTree (nodes kinds.Tsp 4 []) (of_nodes 4) reasons.NotBranches }
-    ensures tree { ¬ StandsAgainstTree
-        (nodes kinds.Tsp 4 []) (branching 4 [] (Leaf [] ∷ [])) reasons.NotBranches }
-    ensures dimension { StandsAgainstTree (nodes kinds.Tsp 4 [])
+    ensures no_tree { StandsAgainstBranches (instance_with kinds.Tsp 4 []) (of_nodes 4) reasons.NotBranches }
+    ensures tree { ¬ StandsAgainstBranches
+        (instance_with kinds.Tsp 4 []) (branching 4 [] (Leaf [] ∷ [])) reasons.NotBranches }
+    ensures dimension { StandsAgainstBranches (instance_with kinds.Tsp 4 [])
         (branching 3 [] (Leaf [] ∷ [])) reasons.BranchesDimension }
-    ensures same_dimension { ¬ StandsAgainstTree (nodes kinds.Tsp 4 [])
+    ensures same_dimension { ¬ StandsAgainstBranches (instance_with kinds.Tsp 4 [])
         (branching 4 [] (Leaf [] ∷ [])) reasons.BranchesDimension }
-    ensures node_twice { StandsAgainstTree (nodes kinds.Tsp 4 [])
+    ensures node_twice { StandsAgainstBranches (instance_with kinds.Tsp 4 [])
         (branching 4 (node_twice ∷ []) (Leaf [] ∷ [])) (reasons.BadComb 1) }
-    ensures again { StandsAgainstTree (nodes kinds.Tsp 4 [])
+    ensures again { StandsAgainstBranches (instance_with kinds.Tsp 4 [])
         (branching 4 [] (Branch 1 2 ∷ Branch 1 2 ∷ three_leaves)) (reasons.BranchTwice 2) }
-    ensures fixed { StandsAgainstTree (nodes kinds.Tsp 4 ((2, 1) ∷ []))
+    ensures fixed { StandsAgainstBranches (instance_with kinds.Tsp 4 ((2, 1) ∷ []))
         (branching 4 [] (Branch 1 2 ∷ two_leaves)) (reasons.BranchTwice 1) }
-    ensures past_the_nodes { StandsAgainstTree (nodes kinds.Tsp 4 [])
+    ensures past_the_nodes { StandsAgainstBranches (instance_with kinds.Tsp 4 [])
         (branching 4 [] (Leaf ((5, pos 1) ∷ []) ∷ [])) (reasons.BadLeaf 1) }
-    ensures given_once { given_in (nodes kinds.Tsp 4 ((1, 2) ∷ (3, 4) ∷ (2, 1) ∷ []))
+    ensures given_once { given_in (instance_with kinds.Tsp 4 ((1, 2) ∷ (3, 4) ∷ (2, 1) ∷ []))
         ≡ with_pair 1 2 ∷ with_pair 3 4 ∷ [] }
 {}
 
 /// When the reasons against routes apply. Node 1 is the depot.
 pub fn examples_against_routes()
-    ensures one_node { StandsAgainstRoutes (nodes kinds.Cvrp 1 [])
+    ensures one_node { StandsAgainstRoutes (instance_with kinds.Cvrp 1 [])
         (solution []) reasons.TooFewNodes }
     ensures two_nodes { ¬ StandsAgainstRoutes
-        (nodes kinds.Cvrp 2 []) (solution []) reasons.TooFewNodes }
+        (instance_with kinds.Cvrp 2 []) (solution []) reasons.TooFewNodes }
     ensures no_depot { StandsAgainstRoutes (vehicles [] (pos 0) (pos 4) (pos 8))
         (solution []) reasons.DepotCount }
     ensures two_depots { StandsAgainstRoutes (vehicles (two 1 1) (pos 0) (pos 4) (pos 8))
@@ -184,7 +184,7 @@ pub fn examples_against_routes()
     ensures demand { StandsAgainstRoutes (vehicles (1 ∷ []) (pos 1) (pos 4) (pos 8))
         (solution []) reasons.DepotDemand }
     ensures no_demand { ¬ StandsAgainstRoutes (carrying (pos 8)) (solution []) reasons.DepotDemand }
-    ensures fixed { StandsAgainstRoutes (nodes kinds.Cvrp 4 ((2, 3) ∷ [])) (solution [])
+    ensures fixed { StandsAgainstRoutes (instance_with kinds.Cvrp 4 ((2, 3) ∷ [])) (solution [])
         reasons.FixedEdgesInRoutes }
     ensures depot { StandsAgainstRoutes (carrying (pos 8))
         (lone (three 2 1 3)) (reasons.DepotInRoute 2) }
@@ -199,7 +199,7 @@ pub fn examples_against_routes()
 {}
 
 /// What plans are, how long they are, how many routes are the least.
-#[tactic(auto, unfolding(tsp_format::specs::Cells::nodes_to))]
+#[tactic(auto, unfolding(tsp_format::specs::Nodes::nodes_to))]
 pub fn examples_of_plans()
     ensures at_capacity { IsPlanOf (carrying (pos 8)) (two 2 3 ∷ (4 ∷ []) ∷ []) }
     ensures past_capacity { ¬ IsPlanOf (carrying (pos 7)) (two 2 3 ∷ (4 ∷ []) ∷ []) }
@@ -210,10 +210,10 @@ pub fn examples_of_plans()
         ≡ pos (12 + 23 + 31 + 14 + 41) }
     ensures direction { plan_length (λ i j. pos (i * i + j)) 1 (two 3 2 ∷ []) ≡ pos (4 + 11 + 5) }
     ensures total { total_of (carrying (pos 8)) ≡ pos 12 }
-    ensures least { IsLeast (pos 12) (pos 8) 2 }
-    ensures full { IsLeast (pos 16) (pos 8) 2 }
-    ensures one_more { IsLeast (pos 17) (pos 8) 3 }
-    ensures nothing { IsLeast (pos 0) (pos 8) 0 }
+    ensures least { IsLeastRoutes (pos 12) (pos 8) 2 }
+    ensures full { IsLeastRoutes (pos 16) (pos 8) 2 }
+    ensures one_more { IsLeastRoutes (pos 17) (pos 8) 3 }
+    ensures nothing { IsLeastRoutes (pos 0) (pos 8) 0 }
 {}
 
 /// What is known out of memory: no reason applies that is found without it. The last of those
@@ -231,9 +231,9 @@ pub fn examples_of_reasons_before_memory()
         cert reasons.PotentialsKind → ¬ NoneWithoutMemory certificates.Potentials inst cert }
     ensures no_potentials { (inst cert : Fields) → StandsAgainstPotentials inst
         cert reasons.NotPotentials → ¬ NoneWithoutMemory certificates.Potentials inst cert }
-    ensures nodes_of_branches { (inst cert : Fields) → StandsAgainstTree inst
+    ensures nodes_of_branches { (inst cert : Fields) → StandsAgainstBranches inst
         cert reasons.BranchesDimension → ¬ NoneWithoutMemory certificates.Branches inst cert }
-    ensures no_branches { (inst cert : Fields) → StandsAgainstTree inst cert reasons.NotBranches
+    ensures no_branches { (inst cert : Fields) → StandsAgainstBranches inst cert reasons.NotBranches
         → ¬ NoneWithoutMemory certificates.Branches inst cert }
 {}
 
@@ -243,21 +243,21 @@ pub fn examples_of_dimensions_of_routes()
     ensures above { StandsAgainstRoutes (carrying (pos 8)) (sized 5 []) reasons.Dimension }
     ensures same { ¬ StandsAgainstRoutes (carrying (pos 8)) (sized 4 []) reasons.Dimension }
     ensures none { ¬ StandsAgainstRoutes (carrying (pos 8)) (solution []) reasons.Dimension }
-    ensures of_tours { StandsAgainstTour (nodes kinds.Tsp 4 []) (sized 3 []) reasons.Dimension }
+    ensures of_tours { StandsAgainstTour (instance_with kinds.Tsp 4 []) (sized 3 []) reasons.Dimension }
 {}
 
 /// Which multipliers aren't on a fixed pair, or on that of an earlier one.
 pub fn examples_of_multipliers()
-    ensures fixed { ¬ StandsAgainstPotentials (nodes kinds.Tsp 4
+    ensures fixed { ¬ StandsAgainstPotentials (instance_with kinds.Tsp 4
         ((1, 2) ∷ [])) (multiplying ((1, 2, pos 5) ∷ [])) (reasons.MultiplierNotFixed 1) }
-    ensures turned_round { ¬ StandsAgainstPotentials (nodes kinds.Tsp 4
+    ensures turned_round { ¬ StandsAgainstPotentials (instance_with kinds.Tsp 4
         ((1, 2) ∷ [])) (multiplying ((2, 1, pos 5) ∷ [])) (reasons.MultiplierNotFixed 1) }
-    ensures not_fixed { StandsAgainstPotentials (nodes kinds.Tsp 4
+    ensures not_fixed { StandsAgainstPotentials (instance_with kinds.Tsp 4
         ((1, 2) ∷ [])) (multiplying ((1, 3, pos 5) ∷ [])) (reasons.MultiplierNotFixed 1) }
-    ensures twice { StandsAgainstPotentials (nodes kinds.Tsp 4 ((1, 2)
+    ensures twice { StandsAgainstPotentials (instance_with kinds.Tsp 4 ((1, 2)
         ∷ [])) (multiplying ((1, 2, pos 5) ∷ (1, 2, pos 5) ∷ [])) (reasons.MultiplierRepeated 2) }
-    ensures twice_turned_round { StandsAgainstPotentials (nodes kinds.Tsp 4 ((1, 2) ∷ []))
+    ensures twice_turned_round { StandsAgainstPotentials (instance_with kinds.Tsp 4 ((1, 2) ∷ []))
         (multiplying ((1, 2, pos 5) ∷ (2, 1, pos 7) ∷ [])) (reasons.MultiplierRepeated 2) }
-    ensures of_an_atsp { ¬ StandsAgainstPotentials (nodes kinds.Atsp 4
+    ensures of_an_atsp { ¬ StandsAgainstPotentials (instance_with kinds.Atsp 4
         ((1, 2) ∷ [])) (multiplying ((1, 3, pos 5) ∷ [])) (reasons.MultiplierNotFixed 1) }
 {}

@@ -3,9 +3,9 @@
 ghost use Rattle.std.specs.Prelude.{◌≡◌, ◌≤◌, false, length, pos, MatchOption, Some};
 ghost use Rattle.std.specs.List.{All};
 ghost use Rattle.tsp_format.specs.declared.kinds.Kind.TheVariants as kinds;
-ghost use Rattle.tsp_format.specs.Cells.{IsNode};
+ghost use Rattle.tsp_format.specs.Nodes.{IsNode};
 ghost use Rattle.tsp_format.specs.Limits.{most_capacity};
-ghost use Rattle.tsp_draft.specs.Rules.{is_tours};
+ghost use Rattle.tsp_draft.specs.Rules.{is_tour_file};
 ghost use Rattle.tsp_draft.specs.Valid.{IsDemand, IsFromTo};
 ghost use Rattle.tsp_draft.specs.Fields.{nodes_of};
 ghost use Rattle.tsp_cost.specs.ComputedProblems.{depots_of, demands_of, capacity_of};
@@ -17,7 +17,7 @@ use tsp_file::{File, RoutingData};
 /// The tours of a solution; none of a file of another TYPE.
 pub(crate) fn solution_tours(sol: &File) -> Option<&[Vec<u32>]>
     ensures { MatchOption result
-        (is_tours sol.now.kind ≡ false)
+        (is_tour_file sol.now.kind ≡ false)
         (λ tours. AreToursOf sol.now tours.now) }
 {
     sol.as_tours()

@@ -2,11 +2,11 @@
 
 ghost use Rattle.std.specs.Prelude.{◌≡◌, ◌^◌, ◌<◌, ◌≤◌, map, length, pos, ◌≤ℤ◌, MatchOption};
 ghost use Rattle.std.specs.List.{All};
-ghost use Rattle.tsp_format.specs.Cells.{IsNode, nodes_to};
+ghost use Rattle.tsp_format.specs.Nodes.{IsNode, nodes_to};
 ghost use Rattle.tsp_format.specs.Limits.{most_nodes, most_tour_nodes, most_capacity};
 ghost use Rattle.tsp_draft.specs.Valid.{IsDemand, IsFromTo};
 ghost use Rattle.tsp_verdict.specs.Places.{IsFirstPlace};
-ghost use Rattle.tsp_verdict.specs.Plan.{load_of, IsLeast};
+ghost use Rattle.tsp_verdict.specs.Plan.{load_of, IsLeastRoutes};
 ghost use Rattle.tsp_verdict.specs.Routes.{IsOverloaded};
 ghost use Rattle.tsp_verdict.specs.states.RouteLists.{nodes_in};
 
@@ -52,7 +52,7 @@ pub(crate) fn least_routes(demands: &[i64], capacity: i64) -> u64
     requires demands { All IsDemand demands.now }
     requires size { length demands.now ≤ most_nodes }
     requires capacity { IsFromTo (pos 1) (pos most_capacity) capacity }
-    ensures { IsLeast (load_of demands.now (nodes_to (length demands.now))) capacity result }
+    ensures { IsLeastRoutes (load_of demands.now (nodes_to (length demands.now))) capacity result }
 {
     let total = total(demands) as u64;
     let capacity = capacity as u64;

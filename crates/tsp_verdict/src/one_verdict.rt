@@ -2,7 +2,7 @@
 
 ghost use Rattle.tsp_verdict.specs.OneVerdict.{FilesHaveOneVerdict, FilesHaveOneBound, FilesHaveOneBasis, SolutionsHaveOneVerdict};
 
-use tsp_branch::{certificate_bounds_are_unique, numbers_are_unique};
+use tsp_branch::{case_tree_bounds_are_unique, numbers_are_unique};
 
 /// Files have one verdict, whichever TYPE, certificate and claim; so has an instance with a
 /// certificate, and so has each solution of a comparison.
@@ -12,6 +12,6 @@ pub fn files_have_one_verdict()
     ensures basis { FilesHaveOneBasis }
     ensures solution { SolutionsHaveOneVerdict }
 {
-    certificate_bounds_are_unique();
+    case_tree_bounds_are_unique();
     numbers_are_unique();
 }

@@ -3,7 +3,7 @@
 ghost use Rattle.std.specs.Prelude.{◌≡◌, ◌≢◌, ◌+◌, ◌^◌, ◌<◌, ◌≤◌, ℕ, List, length, vec_len, IfOk, MatchOption};
 ghost use Rattle.std.specs.List.{All};
 ghost use Rattle.tsp_verdict.specs.states.Marks.{Marked, StandsAfter};
-ghost use Rattle.tsp_verdict.specs.Places.{IsFirstPlace, IsLarger, IsAt, IsRepeated, HoldsAtNone};
+ghost use Rattle.tsp_verdict.specs.Places.{IsFirstPlace, IsLarger, IsAt, IsAtEarlierPlace, HoldsAtNone};
 
 use std::alloc::Global;
 use tsp_memory::{Refused, filled};
@@ -51,8 +51,8 @@ pub(crate) fn first_repeated(alloc: Global, nodes: &[u32], n: u32) -> Result<Opt
     requires size { length nodes.now < 2 ^ 32 }
     requires range { All (λ node. node ≤ n) nodes.now }
     ensures { IfOk result (λ found. MatchOption found
-        (HoldsAtNone (IsRepeated nodes.now) (length nodes.now))
-        (λ place. IsFirstPlace (IsRepeated nodes.now) nodes.now place)) }
+        (HoldsAtNone (IsAtEarlierPlace nodes.now) (length nodes.now))
+        (λ place. IsFirstPlace (IsAtEarlierPlace nodes.now) nodes.now place)) }
 {
     let mut seen = filled(alloc, false, n as usize + 1)?;
     Ok(mark(&mut seen, nodes))
@@ -66,7 +66,7 @@ pub(crate) fn mark(seen: &mut Vec<bool>, nodes: &[u32]) -> Option<u32>
     ensures marks { (all : List ℕ) (before : ℕ) → StandsAfter before all nodes.now
         → Marked all seen.old.items before → MatchOption result
         (Marked all seen.new.items (before + length nodes.now))
-        (λ place. IsFirstPlace (IsRepeated all) all (before + place)) }
+        (λ place. IsFirstPlace (IsAtEarlierPlace all) all (before + place)) }
 {
     let mut place = 0;
     'nodes: for node in nodes {

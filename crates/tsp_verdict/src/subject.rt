@@ -30,7 +30,7 @@ impl<'a> Subject<'a> {
     ghost use Rattle.std.specs.Prelude.{◌≡◌, ◌⊎◌, Some, IfOk, MatchResult};
     ghost use Rattle.tsp_format.specs.declared.kinds.Kind.TheVariants as kinds;
     ghost use Rattle.tsp_verdict.specs.Bounded.{StandsAgainstInstance, NoneAgainstInstance};
-    ghost use Rattle.tsp_verdict.specs.Judged.{NoneBeforeRepeatsOn};
+    ghost use Rattle.tsp_verdict.specs.SolutionVerdict.{NoneBeforeRepeatsOn};
     ghost use Rattle.tsp_verdict.specs.Reasons.{IsFirstReason};
     ghost use Rattle.tsp_verdict.specs.Tours.{NoneOfTourBeforeRepeats};
     ghost use Rattle.tsp_verdict.specs.states.Sources.{IsSubject, IsVerdictGiven, IsBasisGiven, IsSource, FindsLength};

@@ -4,13 +4,13 @@ ghost use Rattle.std.specs.Prelude.{◌≡◌, ◌⊎◌, ◌≤◌, true, Some,
 ghost use Rattle.tsp_format.specs.declared.kinds.Kind.TheVariants as kinds;
 ghost use Rattle.tsp_format.specs.states.TreeSteps.{steps_of};
 ghost use Rattle.tsp_draft.specs.states.Drafts.{combs_of};
-ghost use Rattle.tsp_draft.specs.Rules.{is_tree};
+ghost use Rattle.tsp_draft.specs.Rules.{is_branches_file};
 ghost use Rattle.tsp_file.specs.Typed.{HoldsCases};
 ghost use Rattle.tsp_cost.specs.states.Views.{HasCosts};
 ghost use Rattle.tsp_verdict.specs.Reasons.{IsFirstReason};
 ghost use Rattle.tsp_draft.specs.Fields.{nodes_of};
 ghost use Rattle.tsp_verdict.specs.states.TourCosts.{IsSymmetricTsp};
-ghost use Rattle.tsp_verdict.specs.BranchesCertificate.{StandsAgainstTree};
+ghost use Rattle.tsp_verdict.specs.BranchesCertificate.{StandsAgainstBranches};
 ghost use Rattle.tsp_reason.specs.declared.certificate.Certificate.TheVariants as certificates;
 ghost use Rattle.tsp_verdict.specs.Certified.{FindsBound, NoneWithoutMemory};
 
@@ -18,7 +18,7 @@ use crate::decided::taken_once;
 use crate::tour::is_directed;
 use std::alloc::Global;
 use tsp_branch::{
-    BranchVerdict, CaseTree, certificates_bound_cycles, judge_branches, numbers_are_unique,
+    BranchVerdict, CaseTree, case_trees_bound_cycles, judge_branches, numbers_are_unique,
 };
 use tsp_cost::{Costs, Instance, View};
 use tsp_file::{File, TreeData};
@@ -60,10 +60,10 @@ pub(crate) fn bound_of_tree(
 
 /// The tree that a certificate holds, or the first reason that needs no look at it.
 fn tree_of<'a>(instance: &Instance, branches: &'a File) -> Result<TreeData<'a>, Reason>
-    ensures { MatchResult result (λ tree. (is_tree branches.now.kind ≡ true)
+    ensures { MatchResult result (λ tree. (is_branches_file branches.now.kind ≡ true)
         × (nodes_of branches.now ≡ nodes_of instance.now)
         × HoldsCases branches.now tree.scale (combs_of tree.combs.now) (steps_of tree.steps.now))
-        (λ reason. IsFirstReason (StandsAgainstTree instance.now branches.now) reason) }
+        (λ reason. IsFirstReason (StandsAgainstBranches instance.now branches.now) reason) }
 {
     let Some(tree) = branches.as_tree() else {
         return Err(Reason::NotBranches);
@@ -91,14 +91,14 @@ fn judge_tree<C: Costs>(
     requires kind { (instance.now.kind ≡ Some kinds.Tsp) ⊎ (instance.now.kind ≡ Some kinds.Atsp) }
     requires some { 3 ≤ nodes_of instance.now }
     requires even { IsSymmetricTsp instance.now }
-    requires sort { is_tree branches.now.kind ≡ true }
+    requires sort { is_branches_file branches.now.kind ≡ true }
     requires count { nodes_of branches.now ≡ nodes_of instance.now }
     requires held { HoldsCases branches.now tree.now.scale
         (combs_of tree.now.combs.now) (steps_of tree.now.steps.now) }
     ensures { IfOk result
         (λ found. FindsBound certificates.Branches instance.now branches.now found) }
 {
-    certificates_bound_cycles();
+    case_trees_bound_cycles();
     numbers_are_unique();
     let directed = is_directed(instance.kind());
     let given = taken_once(alloc, directed, instance.fixed())?;

@@ -8,9 +8,9 @@ ghost use Rattle.tsp_format.specs.declared.kinds.Kind.TheVariants as kinds;
 ghost use Rattle.tsp_draft.specs.Fields.{Fields, nodes_of};
 ghost use Rattle.tsp_file.specs.Cost.{cost};
 ghost use Rattle.tsp_theory.specs.Adjusted.{IsAdjustedBound};
-ghost use Rattle.tsp_theory.specs.Numbers.{entry};
+ghost use Rattle.tsp_theory.specs.CertificateNumbers.{entry};
 ghost use Rattle.tsp_cost.specs.ComputedProblems.{is_directed, depot_of, capacity_of};
-ghost use Rattle.tsp_branch.specs.Certificate.{IsCertificateBound};
+ghost use Rattle.tsp_branch.specs.CaseTrees.{IsCaseTreeBound};
 ghost use Rattle.tsp_branch.specs.Decisions.{decided_number};
 ghost use Rattle.tsp_reason.specs.declared.certificate.Certificate.{Certificate};
 ghost use Rattle.tsp_reason.specs.declared.verdict.Reason.TheVariants as reasons;
@@ -22,9 +22,9 @@ ghost use Rattle.tsp_verdict.specs.Bounded.{StandsAgainstInstance};
 ghost use Rattle.tsp_verdict.specs.Certified.{IsCertifiedVerdict};
 ghost use Rattle.tsp_verdict.specs.Tours.{StandsAgainstTour, IsTourVerdict};
 ghost use Rattle.tsp_verdict.specs.PotentialsCertificate.{StandsAgainstPotentials, IsBoundByNodes, IsBoundByDuals};
-ghost use Rattle.tsp_verdict.specs.BranchesCertificate.{StandsAgainstTree, HasBoundByTree, given_in, tree_in};
+ghost use Rattle.tsp_verdict.specs.BranchesCertificate.{StandsAgainstBranches, HasBoundByBranches, given_in, case_steps_in};
 ghost use Rattle.tsp_verdict.specs.Routes.{StandsAgainstRoutes, IsRoutesVerdict};
-ghost use Rattle.tsp_verdict.specs.Examples.{nodes, vehicles, carrying, solution, lone, both, two, three, branching, halves_of_nodes, halves_of_rows, halves_of_leaf, bad_leaves};
+ghost use Rattle.tsp_verdict.specs.Examples.{instance_with, vehicles, carrying, solution, lone, both, two, three, branching, halves_of_nodes, halves_of_rows, halves_of_leaf, bad_leaves};
 
 /// The length of an accepted tour of three nodes, with a certificate and without one, and that of
 /// two routes from node 2, with their number.
@@ -63,8 +63,8 @@ pub fn examples_of_depots()
 
 /// When the reasons against an instance of routes apply, whatever the routes.
 pub fn examples_against_routing()
-    ensures one_node { StandsAgainstRouting (nodes kinds.Cvrp 1 []) reasons.TooFewNodes }
-    ensures two_nodes { ¬ StandsAgainstRouting (nodes kinds.Cvrp 2 []) reasons.TooFewNodes }
+    ensures one_node { StandsAgainstRouting (instance_with kinds.Cvrp 1 []) reasons.TooFewNodes }
+    ensures two_nodes { ¬ StandsAgainstRouting (instance_with kinds.Cvrp 2 []) reasons.TooFewNodes }
     ensures no_depot { StandsAgainstRouting (vehicles [] (pos 0) (pos 4) (pos 8)) reasons.DepotCount }
     ensures two_depots { StandsAgainstRouting (vehicles (two 1 1) (pos 0) (pos 4) (pos 8))
         reasons.DepotCount }
@@ -73,9 +73,9 @@ pub fn examples_against_routing()
         reasons.DepotDemand }
     ensures demand_of_node_1 { ¬ StandsAgainstRouting (vehicles (2 ∷ []) (pos 4) (pos 0) (pos 8))
         reasons.DepotDemand }
-    ensures fixed { StandsAgainstRouting (nodes kinds.Cvrp 4 ((2, 3) ∷ [])) reasons.FixedEdgesInRoutes }
-    ensures not_fixed { ¬ StandsAgainstRouting (nodes kinds.Cvrp 4 []) reasons.FixedEdgesInRoutes }
-    ensures no_solution { ¬ StandsAgainstRouting (nodes kinds.Cvrp 4 []) reasons.NotASolution }
+    ensures fixed { StandsAgainstRouting (instance_with kinds.Cvrp 4 ((2, 3) ∷ [])) reasons.FixedEdgesInRoutes }
+    ensures not_fixed { ¬ StandsAgainstRouting (instance_with kinds.Cvrp 4 []) reasons.FixedEdgesInRoutes }
+    ensures no_solution { ¬ StandsAgainstRouting (instance_with kinds.Cvrp 4 []) reasons.NotASolution }
     ensures least { (inst : Fields) (least : ℕ) → total_of inst ≡ pos 12 → capacity_of inst ≡ pos 8
         → IsBasisOfRoutes inst (bases.Routes least) → least ≡ 2 }
 {}
@@ -101,9 +101,9 @@ pub fn examples_of_bounds()
         ((1, 2, pos 5) ∷ []) [] bound }
     ensures duals { (inst : Fields) (bound : ℤ) → IsBoundByDuals inst halves_of_rows bound
         → bound ≡ pos 5 }
-    ensures branches { (inst : Fields) (found : Option ℤ) → HasBoundByTree inst halves_of_leaf found
-        → IsCertificateBound (is_directed inst.kind) (nodes_of inst) (cost inst) (pos 2)
-        decided_number [] (given_in inst) (tree_in inst halves_of_leaf (Leaf [] ∷ [])) found }
+    ensures branches { (inst : Fields) (found : Option ℤ) → HasBoundByBranches inst halves_of_leaf found
+        → IsCaseTreeBound (is_directed inst.kind) (nodes_of inst) (cost inst) (pos 2)
+        decided_number [] (given_in inst) (case_steps_in inst halves_of_leaf (Leaf [] ∷ [])) found }
 {}
 
 /// The first of two customers that no route serves, and the first of two bad leaves.
@@ -111,7 +111,7 @@ pub fn examples_of_first_reasons()
     ensures unserved { StandsAgainstRoutes (carrying (pos 8)) (lone (2 ∷ [])) (reasons.Unserved 3) }
     ensures unserved_later { ¬ StandsAgainstRoutes
         (carrying (pos 8)) (lone (2 ∷ [])) (reasons.Unserved 4) }
-    ensures leaf { StandsAgainstTree (nodes kinds.Tsp 4 []) (branching 4 [] bad_leaves) (reasons.BadLeaf 1) }
-    ensures leaf_later { ¬ StandsAgainstTree
-        (nodes kinds.Tsp 4 []) (branching 4 [] bad_leaves) (reasons.BadLeaf 2) }
+    ensures leaf { StandsAgainstBranches (instance_with kinds.Tsp 4 []) (branching 4 [] bad_leaves) (reasons.BadLeaf 1) }
+    ensures leaf_later { ¬ StandsAgainstBranches
+        (instance_with kinds.Tsp 4 []) (branching 4 [] bad_leaves) (reasons.BadLeaf 2) }
 {}

@@ -3,7 +3,7 @@
 ghost use Rattle.std.specs.Prelude.{◌≡◌, ◌≢◌, ◌+◌, ◌^◌, ◌<◌, ◌≤◌, ℕ, true, false, length, vec_len, slice_index_or, MatchOption};
 ghost use Rattle.std.specs.List.{All};
 ghost use Rattle.tsp_verdict.specs.states.Marks.{Marked};
-ghost use Rattle.tsp_verdict.specs.Places.{IsFirstPlace, IsLarger, IsAt, IsRepeated};
+ghost use Rattle.tsp_verdict.specs.Places.{IsFirstPlace, IsLarger, IsAt, IsAtEarlierPlace};
 ghost use Rattle.tsp_verdict.specs.states.RouteLists.{nodes_in};
 
 use crate::places::{first_larger, first_of, mark};
@@ -52,7 +52,7 @@ pub(crate) fn mark_all(seen: &mut Vec<bool>, routes: &[Vec<u32>]) -> Option<u32>
     ensures len { vec_len seen.new ≡ vec_len seen.old }
     ensures marks { MatchOption result
         (Marked (nodes_in routes.now) seen.new.items (length (nodes_in routes.now)))
-        (λ place. IsFirstPlace (IsRepeated (nodes_in routes.now)) (nodes_in routes.now) place) }
+        (λ place. IsFirstPlace (IsAtEarlierPlace (nodes_in routes.now)) (nodes_in routes.now) place) }
 {
     let mut before = 0;
     'routes: for route in routes {

@@ -4,7 +4,7 @@ use denote.Struct.Props as logic
 use mathlib.Core.HLevel.{Π_prop, ⊥_prop}
 use Rattle.tsp_distance.specs.declared.decimal.Point.{Point}
 use Rattle.tsp_theory.specs.Regions.{IsIn}
-use Rattle.tsp_theory.specs.Numbers.{entry}
+use Rattle.tsp_theory.specs.CertificateNumbers.{entry}
 use Rattle.tsp_bound.specs.declared.area.Area.{Area}
 use Rattle.tsp_bound.specs.declared.nearest.Best.{Best}
 
@@ -13,10 +13,10 @@ abbrev pub HoldsNode : (ℕ → Point) → List ℤ → Option Area → ℕ → 
 HoldsNode place numbers None node = ⊥
 HoldsNode place numbers (Some area) node = IsIn area.region (place node) × (area.least ≤ℤ entry numbers node)
 
--- the box h levels above the box v: 2 * v and 2 * v + 1 are the halves of v
+-- the box height levels above the box v: 2 * v and 2 * v + 1 are the halves of v
 abbrev pub up : ℕ → ℕ → ℕ
 up zero v = v
-up (suc h) v = up h v / 2
+up (suc height) v = up height v / 2
 
 -- the node at a place of the order
 abbrev pub node_of : List ℕ → ℕ → ℕ
@@ -31,9 +31,9 @@ area_at areas v = slice_index_or areas v None
 
 -- each node outside is in each box from `low` on that is above its leaf, which is the box length order + j
 abbrev pub AreHeldFrom : {A : Type 0} → (A → ℕ → Type 0) → ℕ → List ℕ → (ℕ → Bool) → (ℕ → A) → Type 0
-AreHeldFrom In low order outside box = (j h : ℕ) → j < length order → outside j ≡ true
-    → low ≤ up h (length order + j)
-    → In (box (up h (length order + j))) (node_of order j)
+AreHeldFrom In low order outside box = (j height : ℕ) → j < length order → outside j ≡ true
+    → low ≤ up height (length order + j)
+    → In (box (up height (length order + j))) (node_of order j)
 
 -- in each box but 0, which is none
 abbrev pub AreHeld : {A : Type 0} → (A → ℕ → Type 0) → List ℕ → (ℕ → Bool) → (ℕ → A) → Type 0
@@ -69,7 +69,7 @@ pub record IsBest (w : ℕ → ℕ → ℤ) (order : List ℕ) (outside : ℕ �
 pub record IsSearched (w : ℕ → ℕ → ℤ) (order : List ℕ) (outside : ℕ → Bool) (from : ℕ) (v : ℕ) (old new : Best)
     : Type 0 where
   pub kept : new.weight ≤ℤ old.weight
-  pub below : (j h : ℕ) → j < length order → outside j ≡ true → up h (length order + j) ≡ v
+  pub below : (j height : ℕ) → j < length order → outside j ≡ true → up height (length order + j) ≡ v
       → new.weight ≤ℤ w from (node_of order j)
   pub found : (new ≡ old) ⊎ IsFound w order outside from new
 
@@ -83,5 +83,5 @@ HoldsNode-prop place numbers (Some area) node = Prim.hlevel logic.props
 pub AreHeld-prop : (place : ℕ → Point) (numbers : List ℤ) (order : List ℕ) (outside : ℕ → Bool) (area : ℕ → Option Area)
     → IsProp (AreHeld (HoldsNode place numbers) order outside area)
 AreHeld-prop place numbers order outside area =
-    Π_prop λ j. Π_prop λ h. Π_prop λ _. Π_prop λ _. Π_prop λ _.
-    HoldsNode-prop place numbers (area (up h (length order + j))) (node_of order j)
+    Π_prop λ j. Π_prop λ height. Π_prop λ _. Π_prop λ _. Π_prop λ _.
+    HoldsNode-prop place numbers (area (up height (length order + j))) (node_of order j)

@@ -2,10 +2,10 @@
 use Rattle.std.specs.Prelude.{◌≡◌, ◌≢◌, ℕ, ◌+◌, ◌≤◌, ◌==◌, if◌then◌else◌, List, [], ◌∷◌, ◌++◌, length, slice_index_or, ℤ, pos}
 use Rattle.std.specs.Global.{Vec}
 use Rattle.std.specs.List.{All, AllPairs}
-use Rattle.tsp_format.specs.Cells.{IsNode}
+use Rattle.tsp_format.specs.Nodes.{IsNode}
 use Rattle.tsp_theory.specs.Length.{sum_int_by}
 use Rattle.tsp_format.specs.Limits.{most_multiplier}
-use Rattle.tsp_theory.specs.Numbers.{IsFromTo}
+use Rattle.tsp_theory.specs.CertificateNumbers.{IsFromTo}
 
 -- what a triple says of a node of its pair: the other node, and the number
 abbrev pub said_of : ℕ → ℕ × ℕ × ℤ → List (ℕ × ℤ)
@@ -20,7 +20,7 @@ all_said_of node (triple ∷ triples) = said_of node triple ++ all_said_of node 
 -- a list for each node from 0 to n
 pub record IsTable (n : ℕ) (triples : List (ℕ × ℕ × ℤ)) (lists : List (Vec (ℕ × ℤ))) : Type 0 where
   pub count : length lists ≡ n + 1
-  pub said : (node : ℕ) (d : Vec (ℕ × ℤ)) → node ≤ n → (slice_index_or lists node d).items ≡ all_said_of node triples
+  pub said : (node : ℕ) (default : Vec (ℕ × ℤ)) → node ≤ n → (slice_index_or lists node default).items ≡ all_said_of node triples
 
 -- ---- the numbers on the pairs of one node
 

@@ -6,7 +6,7 @@ use Rattle.tsp_bound.specs.declared.link.Link.{Link}
 use Rattle.tsp_bound.specs.states.Boxes.{AreHeld, box_at}
 use Rattle.tsp_theory.specs.Forest.{AreLeastJoins, IsWholeForest}
 use Rattle.tsp_format.specs.Limits.{most_nodes}
-use Rattle.tsp_theory.specs.Numbers.{IsFromTo}
+use Rattle.tsp_theory.specs.CertificateNumbers.{IsFromTo}
 use Rattle.tsp_theory.specs.Tree.{weight_of}
 
 abbrev pub IsBelow : ℕ → ℕ → Type 0
@@ -16,8 +16,8 @@ abbrev pub label_at : List ℕ → ℕ → ℕ
 label_at labels x = slice_index_or labels x 0
 
 -- in another component than the nodes of label `own`
-abbrev pub is_apart : (ℕ → ℕ) → ℕ → ℕ → Bool
-is_apart label own x = not (label x == own)
+abbrev pub is_in_other_component : (ℕ → ℕ) → ℕ → ℕ → Bool
+is_in_other_component label own x = not (label x == own)
 
 -- ---- tags of boxes
 
@@ -47,7 +47,7 @@ pub record IsNearest (n : ℕ) (w : ℕ → ℕ → ℤ) (outside : ℕ → Bool
   pub least : (x : ℕ) → x < n → outside x ≡ true → link.weight ≤ℤ w from x
 
 -- a link from the node x, with its own weight, and no pair of x that leaves its component weighs less
-pub record IsKept (n : ℕ) (w : ℕ → ℕ → ℤ) (label : ℕ → ℕ) (x : ℕ) (link : Link) : Type 0 where
+pub record IsKeptLink (n : ℕ) (w : ℕ → ℕ → ℤ) (label : ℕ → ℕ) (x : ℕ) (link : Link) : Type 0 where
   pub from_is : link.from ≡ x
   pub to_in : link.to < n
   pub weight_is : link.weight ≡ w x link.to
@@ -56,7 +56,7 @@ pub record IsKept (n : ℕ) (w : ℕ → ℕ → ℤ) (label : ℕ → ℕ) (x :
 -- one of each node
 pub record AreKept (n : ℕ) (w : ℕ → ℕ → ℤ) (label : ℕ → ℕ) (known : List Link) : Type 0 where
   pub len : length known ≡ n
-  pub each : (x : ℕ) (d : Link) → x < n → IsKept n w label x (slice_index_or known x d)
+  pub each : (x : ℕ) (default : Link) → x < n → IsKeptLink n w label x (slice_index_or known x default)
 
 -- a link that leaves the component of label c
 pub record IsLeaving (n : ℕ) (w : ℕ → ℕ → ℤ) (label : ℕ → ℕ) (c : ℕ) (link : Link) : Type 0 where

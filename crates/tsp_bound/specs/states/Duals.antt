@@ -1,7 +1,7 @@
 -- What duals hold.
 use Rattle.std.specs.Prelude.{ℕ, List, ℤ, ◌+ℤ◌, ◌*ℤ◌}
 use Rattle.tsp_bound.specs.declared.duals.Duals.{Duals}
-use Rattle.tsp_theory.specs.Numbers.{entry}
+use Rattle.tsp_theory.specs.CertificateNumbers.{entry}
 
 abbrev pub dual_scale : Duals → ℤ
 dual_scale d = d.scale

@@ -1,17 +1,17 @@
 -- Rows in which the links that decisions don't allow are closed.
 use Rattle.std.specs.Prelude.{◌≡◌, ℕ, List, ◌⊎◌, ℤ, pos}
-use Rattle.tsp_format.specs.Cells.{IsNode}
+use Rattle.tsp_format.specs.Nodes.{IsNode}
 use Rattle.tsp_theory.specs.states.Nearest.{least_at}
 use Rattle.tsp_branch.specs.declared.decision.Decision.{Decision}
 use Rattle.tsp_branch.specs.Rows.{IsAllowed}
 
 -- the weight that means no link: the largest number of 64 bits, below which all weights are
-abbrev pub closed : ℤ
-closed = pos 9223372036854775807
+abbrev pub no_link : ℤ
+no_link = pos 9223372036854775807
 
 -- a value as it was, where the link is allowed; else closed
 abbrev pub IsShut : Type 0 → ℤ → ℤ → Type 0
-IsShut Allowed old new = (Allowed × (new ≡ old)) ⊎ ((Allowed → ⊥) × (new ≡ closed))
+IsShut Allowed old new = (Allowed × (new ≡ old)) ⊎ ((Allowed → ⊥) × (new ≡ no_link))
 
 -- a row of weights from a node in which the links that aren't allowed are closed
 abbrev pub IsOpenRow : ℕ → (ℕ → ℕ → ℤ) → List Decision → ℕ → List ℤ → Type 0

@@ -2,17 +2,17 @@
 use Rattle.std.specs.Prelude.{◌≡◌, ℕ, suc, List, [], ◌∷◌, length, slice_index_or, ℤ, pos, neg_ℤ, ◌+ℤ◌, ◌-ℤ◌, ◌*ℤ◌}
 use Rattle.std.specs.List.{All}
 use Rattle.tsp_theory.specs.Length.{sum_int_by}
-use Rattle.tsp_theory.specs.Numbers.{IsFromTo}
+use Rattle.tsp_theory.specs.CertificateNumbers.{IsFromTo}
 use Rattle.tsp_theory.specs.NodeBound.{weight_between, most_between}
 use Rattle.tsp_theory.specs.Tree.{crossing}
 use Rattle.tsp_theory.specs.Adjusted.{adjusted}
-use Rattle.tsp_format.specs.Cells.{IsNode}
+use Rattle.tsp_format.specs.Nodes.{IsNode}
 use Rattle.tsp_families.specs.Crossed.{has}
 use Rattle.tsp_families.specs.declared.family.Crossings.{Crossings}
 use Rattle.tsp_branch.specs.LeafBound.{crossings_of, leaf_weight}
-use Rattle.tsp_branch.specs.Certificate.{multiplied}
-use Rattle.tsp_branch.specs.CombsOfSets.{families_with}
-use Rattle.tsp_branch.specs.GoodCombs.{HasEachOnce}
+use Rattle.tsp_branch.specs.CaseTrees.{multiplied}
+use Rattle.tsp_branch.specs.FamiliesOfSets.{families_with}
+use Rattle.tsp_branch.specs.GoodFamilies.{HasEachOnce}
 use Rattle.tsp_branch.specs.GoodNumbers.{most_crossed}
 use Rattle.tsp_branch.specs.declared.set_place.SetPlace.{SetPlace}
 use Rattle.tsp_branch.specs.states.Sets.{IsMoved, added}
@@ -37,7 +37,8 @@ summed_from first number multipliers (sets ∷ families) =
 
 -- the sets that have one of two nodes and not the other, each as often as its multiplier says
 abbrev pub set_crossings : List ℤ → List (List (List ℕ)) → ℕ → ℕ → ℤ
-set_crossings multipliers families i j = summed_from 0 (λ multiplier set. multiplier *ℤ crossing (has set) i j) multipliers families
+set_crossings multipliers families i j = summed_from 0
+    (λ multiplier set. multiplier *ℤ crossing (has set) i j) multipliers families
 
 -- the multipliers of the sets that have a node
 abbrev pub multipliers_at : List ℤ → List (List (List ℕ)) → ℕ → ℤ

@@ -1,9 +1,9 @@
 -- What decisions change: each the weight of its pair, by the same number. And the stack of decisions of code.
 use Rattle.std.specs.Prelude.{◌≡◌, ◌≢◌, ◌<◌, ℕ, Bool, true, false, if◌then◌else◌, List, [], reverse, Some, None, ℤ, pos, neg_ℤ, ◌+ℤ◌, ◌⊎◌}
 use Rattle.std.specs.Int.{w64, int_wrap}
-use Rattle.tsp_format.specs.Cells.{IsNode}
+use Rattle.tsp_format.specs.Nodes.{IsNode}
 use Rattle.tsp_theory.specs.Length.{sum_int_by}
-use Rattle.tsp_theory.specs.Numbers.{IsFromTo}
+use Rattle.tsp_theory.specs.CertificateNumbers.{IsFromTo}
 use Rattle.tsp_theory.specs.Adjusted.{is_same_pair, adjusted}
 use Rattle.tsp_branch.specs.declared.decision.Decision.{Decision}
 use Rattle.tsp_branch.specs.Decisions.{on_taken, on_avoided, decided_number}
@@ -14,8 +14,8 @@ abbrev pub IsDecision : ℕ → Decision → Type 0
 IsDecision n decision = IsNode n decision.pair.0 × IsNode n decision.pair.1 × (decision.pair.0 ≢ decision.pair.1)
 
 -- on two different numbers below this one
-abbrev pub IsInside : ℕ → Decision → Type 0
-IsInside places decision = (decision.pair.0 < places) × (decision.pair.1 < places) × (decision.pair.0 ≢ decision.pair.1)
+abbrev pub IsOnPlaces : ℕ → Decision → Type 0
+IsOnPlaces places decision = (decision.pair.0 < places) × (decision.pair.1 < places) × (decision.pair.0 ≢ decision.pair.1)
 
 -- weights less the number of each taken pair, and more by that of each avoided one
 abbrev pub decided : List Decision → (ℕ → ℕ → ℤ) → ℕ → ℕ → ℤ

@@ -3,13 +3,13 @@ use Rattle.std.specs.Prelude.{◌<◌, ◌^◌, ℕ, List, Option, Some, None}
 use Rattle.std.specs.List.{All}
 use Rattle.tsp_families.specs.declared.family.Crossings.{Crossings}
 use Rattle.tsp_branch.specs.Families.{IsFamily}
-use Rattle.tsp_branch.specs.CombsOfSets.{family_with}
-use Rattle.tsp_branch.specs.GoodCombs.{HasEachOnce, IsGoodFamily}
+use Rattle.tsp_branch.specs.FamiliesOfSets.{family_with}
+use Rattle.tsp_branch.specs.GoodFamilies.{HasEachOnce, IsGoodFamily}
 
 -- the numbers of the family that sets are, each with its nodes once; none where they aren't
-abbrev pub HasNumbers : ℕ → List (List ℕ) → Option Crossings → Type 0
-HasNumbers n sets None = IsGoodFamily n sets → ⊥
-HasNumbers n sets (Some own) = IsFamily n (family_with own sets) × All HasEachOnce sets
+abbrev pub AreFamilyNumbers : ℕ → List (List ℕ) → Option Crossings → Type 0
+AreFamilyNumbers n sets None = IsGoodFamily n sets → ⊥
+AreFamilyNumbers n sets (Some own) = IsFamily n (family_with own sets) × All HasEachOnce sets
 
 -- so small that sums with them fit
 abbrev pub IsSmall : Crossings → Type 0

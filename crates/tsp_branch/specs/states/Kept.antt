@@ -2,9 +2,9 @@
 use Rattle.std.specs.Prelude.{◌≡◌, ℕ, ◌+◌, ◌<◌, ◌≤◌, List, length, slice_index_or, ℤ, pos, neg_ℤ, ◌+ℤ◌, ◌*ℤ◌}
 use Rattle.std.specs.Int.{w64, int_wrap}
 use Rattle.std.specs.Global.{Vec}
-use Rattle.tsp_format.specs.Cells.{IsNode}
+use Rattle.tsp_format.specs.Nodes.{IsNode}
 use Rattle.tsp_format.specs.Limits.{most_weight}
-use Rattle.tsp_theory.specs.Numbers.{IsFromTo, entry}
+use Rattle.tsp_theory.specs.CertificateNumbers.{IsFromTo, entry}
 use Rattle.tsp_theory.specs.states.Nearest.{least_at}
 use Rattle.tsp_branch.specs.declared.set_place.SetPlace.{SetPlace}
 use Rattle.tsp_branch.specs.states.Sets.{IsMoved, places_with}
@@ -33,7 +33,8 @@ abbrev pub AreRowsIfAny : ℕ → (ℕ → ℕ → ℤ) → (ℕ → ℕ → ℤ
 AreRowsIfAny n cost weight rows = 1 ≤ length rows → AreRows n cost weight n rows
 
 -- rows to which the sets of each node, whose numbers are listed, have added
-pub record AreAdded (multipliers : List ℤ) (families : List (List (List ℕ))) (by_node : List (Vec SetPlace)) (old new : List (Vec ℤ)) : Type 0 where
+pub record AreAdded (multipliers : List ℤ) (families : List (List (List ℕ))) (by_node : List (Vec SetPlace))
+    (old new : List (Vec ℤ)) : Type 0 where
   pub many : length new ≡ length old
   pub long : (k : ℕ) (a b : Vec ℤ) → k < length old
       → length (slice_index_or new k a).items ≡ length (slice_index_or old k b).items
@@ -52,7 +53,8 @@ pub record AreEnds (n : ℕ) (multipliers : List ℤ) (families : List (List (Li
       → int_wrap w64 (least_at ends x) ≡ int_wrap w64 (neg_ℤ (multipliers_at multipliers families x))
 
 -- rows and ends, and the multipliers that they have been brought to
-pub record HoldsRows (n combs : ℕ) (scale : ℤ) (families : List (List (List ℕ))) (cost : ℕ → ℕ → ℤ) (kept : KeptRows) : Type 0 where
+pub record HoldsRows (n combs : ℕ) (scale : ℤ) (families : List (List (List ℕ))) (cost : ℕ → ℕ → ℤ)
+    (kept : KeptRows) : Type 0 where
   pub multipliers : length kept.multipliers.items ≡ combs
   pub differences : length kept.differences.items ≡ combs
   pub small : AreSmallMultipliers kept.multipliers.items

@@ -3,7 +3,7 @@ use Rattle.std.specs.Prelude.{ℕ, List}
 use Rattle.tsp_families.specs.FamilySets.{families_in}
 use Rattle.tsp_branch.specs.declared.families.Families.{Families}
 use Rattle.tsp_branch.specs.Families as kinds
-use Rattle.tsp_branch.specs.CombsOfSets.{families_with}
+use Rattle.tsp_branch.specs.FamiliesOfSets.{families_with}
 
 abbrev pub lent_in : Families → List (List (List ℕ))
 lent_in families = families_in families.lent.now

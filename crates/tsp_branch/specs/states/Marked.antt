@@ -3,7 +3,7 @@ use Rattle.std.specs.Prelude.{◌≡◌, ◌≢◌, ℕ, ◌==◌, ◌||◌, ◌
 use Rattle.std.specs.List.{All}
 use Rattle.tsp_families.specs.Crossed.{has}
 use Rattle.tsp_branch.specs.Combs.{IsTooth}
-use Rattle.tsp_branch.specs.GoodCombs.{HasEachOnce}
+use Rattle.tsp_branch.specs.GoodFamilies.{HasEachOnce}
 use Rattle.std.specs.Global.{Vec}
 
 -- whether a node has a mark

@@ -1,7 +1,7 @@
 -- What a pass over the steps writes over, and what it finds of a leaf.
 use Rattle.std.specs.Prelude.{◌≡◌, ℕ, ◌+◌, ◌^◌, List, length, Option, IfSome, ℤ, pos, neg_ℤ}
 use Rattle.std.specs.List.{All}
-use Rattle.tsp_theory.specs.Numbers.{IsFromTo, IsBoundSized}
+use Rattle.tsp_theory.specs.CertificateNumbers.{IsFromTo, IsBoundSized}
 use Rattle.tsp_families.specs.declared.family.Crossings.{Crossings}
 use Rattle.tsp_branch.specs.declared.room.Room.{Room}
 use Rattle.tsp_branch.specs.declared.steps.JudgedLeaf.{JudgedLeaf}

@@ -2,7 +2,7 @@
 use Rattle.std.specs.Prelude.{◌≡◌, ℕ, suc, ◌==◌, ◌+◌, ◌++◌, ◌<◌, ◌≤◌, if◌then◌else◌, List, [], ◌∷◌, length, slice_index_or, ℤ, pos}
 use Rattle.std.specs.Global.{Vec}
 use Rattle.tsp_theory.specs.Length.{sum_int_by}
-pub use Rattle.tsp_tree.specs.states.Moved.{IsMoved}
+pub use Rattle.tsp_tree.specs.states.Additions.{IsMoved}
 use Rattle.tsp_branch.specs.declared.set_place.SetPlace.{SetPlace}
 
 -- the number of a node where a number is added for each place with the node

@@ -53,13 +53,13 @@ pub record HasCosts (f : Fields) (nodes : ℕ) (costs : ℕ → ℕ → ℤ) : T
   pub every : (i j : ℕ) → costs i j ≡ cost f i j
 
 -- points where the weights are distances, a matrix where all are listed, a triangle where half of them are
-abbrev pub Shows : Fields → View → Type 0
-Shows f (views.Plane p) = (is_explicit f.weight_kind ≡ false)
+abbrev pub IsViewOf : Fields → View → Type 0
+IsViewOf f (views.Plane p) = (is_explicit f.weight_kind ≡ false)
     × HasCosts f (points_nodes p) (points_cost (λ point. on_plane point.x point.y) p)
-Shows f (views.Space p) = (is_explicit f.weight_kind ≡ false) × HasCosts f (points_nodes p) (points_cost (λ point. point) p)
-Shows f (views.Matrix m) = (is_explicit f.weight_kind ≡ true) × (f.weight_format ≡ Some (Listed FullMatrix))
+IsViewOf f (views.Space p) = (is_explicit f.weight_kind ≡ false) × HasCosts f (points_nodes p) (points_cost (λ point. point) p)
+IsViewOf f (views.Matrix m) = (is_explicit f.weight_kind ≡ true) × (f.weight_format ≡ Some (Listed FullMatrix))
     × HasCosts f (matrix_nodes m) (matrix_cost m)
-Shows f (views.Triangle t) = (is_explicit f.weight_kind ≡ true) × (f.weight_format ≢ Some (Listed FullMatrix))
+IsViewOf f (views.Triangle t) = (is_explicit f.weight_kind ≡ true) × (f.weight_format ≢ Some (Listed FullMatrix))
     × HasCosts f (triangle_nodes t) (triangle_cost t)
 
 -- the same of a view whose costs are the same in both directions

@@ -4,7 +4,8 @@ ghost use Rattle.std.specs.Prelude.{◌≡◌, ◌∷◌, length, map};
 ghost use Rattle.std.specs.List.{flat_map};
 ghost use Rattle.std.specs.Fmt.{signed_decimal};
 ghost use Rattle.std.specs.Option.{option_map};
-ghost use Rattle.tsp_format.specs.Cells.{nodes_to, cells_of_line};
+ghost use Rattle.tsp_format.specs.Nodes.{nodes_to};
+ghost use Rattle.tsp_format.specs.Cells.{cells_of_line};
 ghost use Rattle.tsp_file.specs.CanonicalText.{weight_line, matrix_lines, line_lens, section_text, optional};
 ghost use Rattle.tsp_stream.specs.states.WriteProgress.{Puts};
 

@@ -7,7 +7,7 @@ ghost use Rattle.std.specs.Option.{option_map};
 ghost use Rattle.tsp_number.specs.Spelling.{spelling};
 ghost use Rattle.tsp_format.specs.Words.{field_word};
 ghost use Rattle.tsp_draft.specs.states.Drafts.{points_of};
-ghost use Rattle.tsp_file.specs.CanonicalText.{line_end, number_line, section_text, lines_by_node, node_list, pair_list, triple_list, point_numbers, whole_number, optional};
+ghost use Rattle.tsp_file.specs.CanonicalText.{line_end, number_line, section_text, lines_by_node, node_list, pair_list, triple_list, coordinate_words, whole_number, optional};
 ghost use Rattle.tsp_stream.specs.states.WriteProgress.{Puts};
 
 use std::io::Write;
@@ -56,7 +56,7 @@ fn put_point_line<W: Write>(
     spatial: bool,
 )
     ensures { Puts W.contents out.old piece.old out.new piece.new
-        (number_line (decimal node) (point_numbers spatial point)) }
+        (number_line (decimal node) (coordinate_words spatial point)) }
 {
     put_number(piece, out, node);
     put_coordinate(piece, out, point.x);
@@ -126,7 +126,7 @@ fn put_points<W: Write, P: InSpace>(
     spatial: bool,
 )
     ensures { Puts W.contents out.old piece.old out.new piece.new
-        (lines_by_node (point_numbers spatial) (map P.place points.now)) }
+        (lines_by_node (coordinate_words spatial) (map P.place points.now)) }
 {
     'nodes: for (index, point) in points.iter().enumerate() {
         put_point_line(piece, out, index + 1, point.in_space(), spatial);
@@ -200,7 +200,7 @@ pub(crate) fn put_point_section<W: Write>(
     spatial: bool,
 )
     ensures { Puts W.contents out.old piece.old out.new piece.new
-        (optional (λ points. section_text field (lines_by_node (point_numbers spatial) points))
+        (optional (λ points. section_text field (lines_by_node (coordinate_words spatial) points))
         (option_map (λ points. points_of points.now) points.entry)) }
 {
     if let Some(points) = points {

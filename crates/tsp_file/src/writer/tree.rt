@@ -7,7 +7,7 @@ ghost use Rattle.tsp_format.specs.Steps.{Leaf};
 ghost use Rattle.tsp_format.specs.states.TreeSteps.{step_of, steps_of};
 ghost use Rattle.tsp_draft.specs.states.Drafts.{combs_of};
 ghost use Rattle.tsp_stream.specs.states.WriteProgress.{Puts};
-ghost use Rattle.tsp_file.specs.CanonicalText.{before_blank, set_line, comb_lines, comb_list, change_words, step_line, step_lines, section_text, optional};
+ghost use Rattle.tsp_file.specs.CanonicalText.{before_blank, set_line, comb_lines, comb_list, change_words, step_line, case_tree_lines, section_text, optional};
 
 use crate::writer::sections::{put_opening, put_pair_line};
 use itoa::Integer;
@@ -95,7 +95,7 @@ fn put_step<W: Write>(piece: &mut Piece, out: &mut Watched<W>, step: &TreeStep)
 /// Adds a line for each step.
 fn put_steps<W: Write>(piece: &mut Piece, out: &mut Watched<W>, steps: &[TreeStep])
     ensures { Puts W.contents out.old piece.old out.new piece.new
-        (step_lines (steps_of steps.now)) }
+        (case_tree_lines (steps_of steps.now)) }
 {
     'steps: for step in steps {
         put_step(piece, out, step);
@@ -126,7 +126,7 @@ pub(crate) fn put_step_section<W: Write>(
     steps: &Option<Vec<TreeStep>>,
 )
     ensures { Puts W.contents out.old piece.old out.new piece.new (optional (λ steps. section_text
-        field (step_lines steps)) (option_map (λ v. steps_of v.items) steps.now)) }
+        field (case_tree_lines steps)) (option_map (λ v. steps_of v.items) steps.now)) }
 {
     if let Some(steps) = steps {
         put_opening(piece, out, field);

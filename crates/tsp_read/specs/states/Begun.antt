@@ -3,9 +3,9 @@ use Rattle.std.specs.Prelude.{◌≡◌, ℕ, ◌+◌, ◌≤◌, Bool, true, fa
 use Rattle.tsp_read.specs.declared.intake.Intake.{Intake}
 use Rattle.tsp_read.specs.declared.token.Token.{Token}
 use Rattle.tsp_read.specs.declared.begun.Begun.{Begun}
-use Rattle.tsp_text.specs.Lines.{is_filled}
+use Rattle.tsp_text.specs.Lines.{is_not_empty}
 use Rattle.tsp_read.specs.states.Left.{from, items_left}
-use Rattle.tsp_read.specs.states.Token.{token_at, ends}
+use Rattle.tsp_read.specs.states.Token.{token_at, ends_token}
 use Rattle.tsp_read.specs.states.Intake.{IsReadTo}
 
 -- a line or a word, from its first byte that isn't blank on, whose end has not come
@@ -14,7 +14,7 @@ pub record HasBegunToken (inside : Bool) (token : Token) (bytes : List ℕ) : Ty
   pub others : List ℕ
   pub parts : bytes ≡ first ∷ others
   pub token_is : token ≡ token_at inside first
-  pub no_end : from (ends token) bytes ≡ []
+  pub no_end : from (ends_token token) bytes ≡ []
 
 -- nothing has begun, or this
 abbrev pub HasBegun : Bool → Token → List ℕ → Type 0
@@ -33,8 +33,8 @@ pub record IsFedTo (intake : Intake) (begun : Begun) (bytes rest : List ℕ) : T
 -- The same; and while something is kept nothing is left, and the end of the kept part hasn't come.
 pub record IsJoinedTo (intake : Intake) (begun : Begun) (bytes rest : List ℕ) : Type 0 where
   pub fed : IsFedTo intake begun bytes rest
-  pub none_kept : is_filled rest ≡ true → kept begun ≡ []
-  pub unsettled : is_filled rest ≡ false → items_left true intake.inside (kept begun) ≡ []
+  pub none_kept : is_not_empty rest ≡ true → kept begun ≡ []
+  pub unsettled : is_not_empty rest ≡ false → items_left true intake.inside (kept begun) ≡ []
 
 -- how large the numbers of lines and of words can become, with the bytes that are kept and this many more
 abbrev pub most_lines : Intake → Begun → ℕ → ℕ

@@ -10,14 +10,14 @@ use Rattle.tsp_read.specs.states.Holds.{Holds}
 use Rattle.tsp_read.specs.states.Onward.{is_bare, is_line_end, GoesOn}
 
 -- these items were taken (nearest first), and the next one is counted on from them
-pub record Stands (intake : Intake) (earlier : List Item) : Type 0 where
+pub record HasTakenItems (intake : Intake) (earlier : List Item) : Type 0 where
   pub holds : Holds intake.reading earlier
   pub line_is : intake.line ≡ line_number earlier
   pub words_are : intake.words ≡ words_before earlier
 
 -- an item is taken, and whether it is an end line; or it has the first fault; or it wants memory, which no line's end does
 abbrev pub TakesNext : List Item → Item → Intake → Result Bool ReadFault → Type 0
-TakesNext earlier item new (Ok ended) = Stands new (item ∷ earlier) × (ended ≡ is_end_line item)
+TakesNext earlier item new (Ok ended) = HasTakenItems new (item ∷ earlier) × (ended ≡ is_end_line item)
 TakesNext earlier item new (Err (faults.Line line word found)) = fault_in (item ∷ earlier) ≡ Some (faults.Line line word found)
 TakesNext earlier item new (Err (faults.End found)) = ⊥
 TakesNext earlier item new (Err faults.OutOfMemory) = is_line_end item ≡ false
@@ -27,7 +27,7 @@ TakesNext earlier item new (Err faults.TooLong) = ⊥
 -- Of the bytes so far the items up to a place were taken, none of them an end line. This is left, whatever follows.
 pub record IsReadTo (intake : Intake) (bytes rest : List ℕ) : Type 0 where
   pub earlier : List Item
-  pub stands : Stands intake earlier
+  pub stands : HasTakenItems intake earlier
   pub going : has_end_line earlier ≡ false
   pub parts : GoesOn bytes earlier intake.inside rest
 

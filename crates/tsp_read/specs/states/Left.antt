@@ -4,19 +4,19 @@ use Rattle.std.specs.List.{position_or_len}
 use Rattle.tsp_format.specs.Bytes.{is_blank}
 use Rattle.tsp_read.specs.declared.cut.Next.{Next}
 use Rattle.tsp_read.specs.declared.cut.Next.TheVariants as next
-use Rattle.tsp_text.specs.Lines.{lines_of, words_in, ends_line, is_filled}
+use Rattle.tsp_text.specs.Lines.{lines_of, words_in, ends_line, is_not_empty}
 use Rattle.tsp_text.specs.Items.{Item, NumberWord, LineEnd, line_item, items_in, items_by, settled_words, settled_in}
 
 -- ---- what is left
 
 -- the items of what is left of a line that another follows; once it has given a word it has words alone
-abbrev pub line_items : Bool → List ℕ → List Item
-line_items true line = map (λ word. NumberWord word) (words_in line)
-line_items false line = items_in line
+abbrev pub items_of_rest : Bool → List ℕ → List Item
+items_of_rest true line = map (λ word. NumberWord word) (words_in line)
+items_of_rest false line = items_in line
 
 -- the same of the last line, by whether the text goes on after it
 abbrev pub last_items : Bool → Bool → List ℕ → List Item
-last_items false inside line = line_items inside line
+last_items false inside line = items_of_rest inside line
 last_items true true line = map (λ word. NumberWord word) (settled_words line)
 last_items true false line = settled_in line
 
@@ -24,7 +24,7 @@ last_items true false line = settled_in line
 abbrev pub items_left_by : Bool → Bool → List (List ℕ) → List Item
 items_left_by goes_on inside [] = []
 items_left_by goes_on inside (line ∷ []) = last_items goes_on inside line
-items_left_by goes_on inside (line ∷ next ∷ lines) = line_items inside line ++ LineEnd
+items_left_by goes_on inside (line ∷ next ∷ lines) = items_of_rest inside line ++ LineEnd
     ∷ items_by (λ last. last_items goes_on false last) (next ∷ lines)
 
 -- The items of what is left of a text: all of them, or the settled ones of a text that goes on. Inside of a line that has
@@ -60,4 +60,4 @@ from test text = drop (position_or_len test text) text
 -- A piece at the beginning of a text is whole, or longer than any of its sort may be. One that nothing follows is whole only
 -- where the text ends.
 abbrev pub is_settled : ℕ → Bool → List ℕ → List ℕ → Bool
-is_settled most goes_on piece rest = is_filled rest || not goes_on || nat_lt most (length piece)
+is_settled most goes_on piece rest = is_not_empty rest || not goes_on || nat_lt most (length piece)

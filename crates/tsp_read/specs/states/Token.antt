@@ -13,9 +13,9 @@ abbrev pub token_at : Bool → ℕ → Token
 token_at inside first = cond (not inside && is_letter first) Line Word
 
 -- the bytes that end it
-abbrev pub ends : Token → (ℕ → Bool)
-ends Line = ends_line
-ends Word = ends_word
+abbrev pub ends_token : Token → (ℕ → Bool)
+ends_token Line = ends_line
+ends_token Word = ends_word
 
 abbrev pub most_bytes : Token → ℕ
 most_bytes Line = most_line_bytes

@@ -33,12 +33,12 @@ IsSourceOf (places.Path path) (Missing error) = Unit {0}
 -- ---- what a read does
 
 -- of the error's number of the system, which a second error has too; where it has none, they are of the same kind
-abbrev pub HasNumber : Option ℤ → Error → Error → Type 0
-HasNumber (Some code) error other = raw_os_error other ≡ Some code
-HasNumber None error other = error_kind other ≡ error_kind error
+abbrev pub HasSystemCode : Option ℤ → Error → Error → Type 0
+HasSystemCode (Some code) error other = raw_os_error other ≡ Some code
+HasSystemCode None error other = error_kind other ≡ error_kind error
 
 abbrev pub IsSameError : Error → Error → Type 0
-IsSameError error other = HasNumber (raw_os_error error) error other
+IsSameError error other = HasSystemCode (raw_os_error error) error other
 
 -- a call of a reader at a `&mut` to it, and one to the buffer for its bytes, which returns an R
 abbrev pub Asking : Type 0 → Type 0 → Type 0 → Type 0 → Type 1
@@ -46,15 +46,15 @@ Asking Call T B R = Once Call (MutBor T × (MutBor B × Unit {0})) (R × (MutBor
 
 -- Standard input or the file is asked by its call, once, and this is its result, as it is. A missing file returns an error
 -- that is the same as its own.
-abbrev pub IsAsked : {I F B A OfInput OfFile : Type 0} → Asking OfInput I B (Result A Error) → OfInput
+abbrev pub IsAskedOnce : {I F B A OfInput OfFile : Type 0} → Asking OfInput I B (Result A Error) → OfInput
     → Asking OfFile F B (Result A Error) → OfFile → Source I F → B → Result A Error → Source I F → B → Type 0
-IsAsked asks_input of_input asks_file of_file (Input old) room answer (Input new) filled =
+IsAskedOnce asks_input of_input asks_file of_file (Input old) room answer (Input new) filled =
     Calls asks_input of_input old room answer new filled
-IsAsked asks_input of_input asks_file of_file (Opened old) room answer (Opened new) filled =
+IsAskedOnce asks_input of_input asks_file of_file (Opened old) room answer (Opened new) filled =
     Calls asks_file of_file old room answer new filled
-IsAsked asks_input of_input asks_file of_file (Missing error) room (Err found) (Missing left) filled = IsSameError error found
+IsAskedOnce asks_input of_input asks_file of_file (Missing error) room (Err found) (Missing left) filled = IsSameError error found
     × (left ≡ error) × (filled ≡ room)
-IsAsked asks_input of_input asks_file of_file old room answer new filled = ⊥
+IsAskedOnce asks_input of_input asks_file of_file old room answer new filled = ⊥
 
 -- how a read of standard input or of a file may end, into a buffer, and what it leaves
 abbrev pub Giving : Type 0 → Type 1

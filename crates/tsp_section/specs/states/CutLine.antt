@@ -12,7 +12,7 @@ use Rattle.tsp_section.specs.declared.fault.StepFault.{StepFault}
 use Rattle.tsp_section.specs.declared.fault.StepFault.TheVariants as steps
 use Rattle.tsp_section.specs.declared.line.CutLine.{CutLine}
 use Rattle.tsp_format.specs.declared.field.Shape.{Shape}
-use Rattle.tsp_text.specs.Lines.{is_filled, first_word}
+use Rattle.tsp_text.specs.Lines.{is_not_empty, first_word}
 use Rattle.tsp_text.specs.Items.{WordLine, Item, Line}
 use Rattle.tsp_text.specs.Values.{named, is_left_out}
 use Rattle.tsp_text.specs.FaultRows.{when, first_row, is_too_long_to_keep}
@@ -59,12 +59,12 @@ SetsNamed text values field word late old new (Err (steps.Fault fault)) = (new �
 
 -- the rows of a keyword with a number
 abbrev pub numbered_rows : Bool → List ℕ → Result ℤ NumberFault → Option LineFault
-numbered_rows stands value reading = first_row (when stands row.Repeated ∷ when (not (is_filled value)) row.BadValue
+numbered_rows stands value reading = first_row (when stands row.Repeated ∷ when (not (is_not_empty value)) row.BadValue
     ∷ option_map (λ fault. row.Number fault) (result_err reading) ∷ [])
 
 -- the number of a keyword that hasn't come yet, or the fault of its line
 abbrev pub GivesNumber : Bool → ℤ → ℤ → List ℕ → Result ℤ LineFault → Type 0
-GivesNumber stands low high value (Ok z) = (stands ≡ false) × (is_filled value ≡ true)
+GivesNumber stands low high value (Ok z) = (stands ≡ false) × (is_not_empty value ≡ true)
     × (whole_of (first_word value) low high ≡ Ok z) × (low ≤ℤ z) × (z ≤ℤ high)
 GivesNumber stands low high value (Err fault) =
     numbered_rows stands value (whole_of (first_word value) low high) ≡ Some fault

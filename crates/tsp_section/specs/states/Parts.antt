@@ -11,7 +11,7 @@ use Rattle.tsp_text.specs.declared.fault.LineFault.{LineFault}
 use Rattle.tsp_text.specs.declared.fault.LineFault.TheVariants as row
 use Rattle.tsp_section.specs.declared.fault.StepFault.{StepFault}
 use Rattle.tsp_section.specs.declared.fault.StepFault.TheVariants as steps
-use Rattle.tsp_text.specs.Lines.{is_filled}
+use Rattle.tsp_text.specs.Lines.{is_not_empty}
 use Rattle.tsp_text.specs.SectionNumbers.{node, node_or_end, is_end}
 use Rattle.tsp_text.specs.WordPlaces.{Place}
 use Rattle.tsp_text.specs.Groups.{pairs_in, threes_in, begun_pair, begun_triple, begun_four, number_groups, point_groups, space_point_groups, entry_of}
@@ -168,7 +168,7 @@ pub record ToursHold (done : List (List ℕ)) (run : List ℕ) (count : ℕ) (wo
   pub pieces : List (List (List ℕ))
   pub last : List (List ℕ)
   pub split : slice_split ends_tour words ≡ pieces ++ last ∷ []
-  pub tours : done ≡ map (map tour_node) (filter is_filled pieces)
+  pub tours : done ≡ map (map tour_node) (filter is_not_empty pieces)
   pub rest : run ≡ map tour_node last
   pub nodes : count ≡ length (filter (λ word. not (ends_tour word)) words)
 

@@ -16,5 +16,5 @@ against_instance basis = None
 
 -- it is the first one against the instance, or none applies to that
 abbrev pub KnowsInstance : Fields → Basis → Type 0
-KnowsInstance inst basis = MatchOption (against_instance basis) (NoneAgainstInstance inst)
-    (λ reason. IsFirstReason (StandsAgainstInstance inst) reason)
+KnowsInstance instance basis = MatchOption (against_instance basis) (NoneAgainstInstance instance)
+    (λ reason. IsFirstReason (StandsAgainstInstance instance) reason)

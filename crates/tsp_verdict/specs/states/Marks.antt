@@ -1,13 +1,13 @@
 -- Marks of the nodes at the first places of a list.
 use Rattle.std.specs.Prelude.{◌≡◌, ℕ, ◌+◌, ◌<◌, ◌≤◌, Bool, true, false, List, length, slice_index, slice_index_or}
-use Rattle.tsp_verdict.specs.Places.{node_at, IsRepeated}
+use Rattle.tsp_verdict.specs.Places.{node_at, IsAtEarlierPlace}
 
 -- a node is marked exactly where it is at one of the first places, of which none repeats an earlier one
 pub record Marked (nodes : List ℕ) (seen : List Bool) (count : ℕ) : Type 0 where
   pub marked : (place : ℕ) → 1 ≤ place → place ≤ count → slice_index_or seen (node_at nodes place) false ≡ true
   pub only : (node : ℕ) → slice_index_or seen node false ≡ true → (place : ℕ) × (1 ≤ place) × (place ≤ count)
       × (node_at nodes place ≡ node)
-  pub once : (place : ℕ) → 1 ≤ place → place ≤ count → IsRepeated nodes place → ⊥
+  pub once : (place : ℕ) → 1 ≤ place → place ≤ count → IsAtEarlierPlace nodes place → ⊥
 
 -- the piece is in the list after this many nodes
 pub record StandsAfter (before : ℕ) (nodes piece : List ℕ) : Type 0 where

@@ -4,7 +4,7 @@ use Rattle.std.specs.Global.{Vec}
 use Rattle.std.specs.List.{All, flat_map}
 use Rattle.tsp_format.specs.Limits.{most_tour_nodes}
 use Rattle.tsp_draft.specs.Fields.{Fields}
-use Rattle.tsp_draft.specs.Rules.{is_tours}
+use Rattle.tsp_draft.specs.Rules.{is_tour_file}
 use Rattle.tsp_verdict.specs.Solution.{visited, tours_of}
 
 -- the nodes of several vectors, one after the other
@@ -12,10 +12,10 @@ abbrev pub nodes_in : List (Vec ℕ) → List ℕ
 nodes_in routes = flat_map (λ route. route.items) routes
 
 -- the tours of a solution
-pub record AreToursOf (sol : Fields) (tours : List (Vec ℕ)) : Type 0 where
-  pub sort : is_tours sol.kind ≡ true
-  pub value : map (λ (tour : Vec ℕ). tour.items) tours ≡ tours_of sol
-  pub nodes : nodes_in tours ≡ visited sol
+pub record AreToursOf (solution : Fields) (tours : List (Vec ℕ)) : Type 0 where
+  pub sort : is_tour_file solution.kind ≡ true
+  pub value : map (λ (tour : Vec ℕ). tour.items) tours ≡ tours_of solution
+  pub nodes : nodes_in tours ≡ visited solution
   pub range : All (λ node. 1 ≤ node) (nodes_in tours)
   pub few : length tours ≤ most_tour_nodes
   pub size : length (nodes_in tours) ≤ most_tour_nodes

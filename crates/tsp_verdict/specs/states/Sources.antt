@@ -10,7 +10,7 @@ use Rattle.tsp_reason.specs.declared.verdict.Verdict.{Verdict}
 use Rattle.tsp_reason.specs.declared.verdict.Verdict.TheVariants as verdicts
 use Rattle.tsp_verdict.specs.Basis.{IsBasis, IsVerdictFrom}
 use Rattle.tsp_verdict.specs.Bounded.{NoneAgainstInstance}
-use Rattle.tsp_verdict.specs.Judged.{is_judged, IsVerdictWith}
+use Rattle.tsp_verdict.specs.SolutionVerdict.{is_judged, IsVerdictWith}
 use Rattle.tsp_verdict.specs.Tours.{IsTourVerdict, IsFirstAgainstTour}
 use Rattle.tsp_verdict.specs.declared.source.Given.{Given}
 use Rattle.tsp_verdict.specs.declared.source.Given.TheVariants as givens
@@ -22,35 +22,36 @@ use Rattle.tsp_verdict.specs.states.TourCosts.{AreTourCosts}
 
 -- solutions of the instance are judged so; what is known is right, with some certificate or without one
 abbrev pub IsSubject : Fields → Given → Type 0
-IsSubject inst (givens.Certificate certificate) =
-    IsTrue (is_judged (option_map (λ given. (given.0, given.1.now)) certificate) inst.kind)
-IsSubject inst (givens.Basis basis) = (given : Option (Certificate × Fields)) × IsBasis given inst basis
+IsSubject instance (givens.Certificate certificate) =
+    IsTrue (is_judged (option_map (λ given. (given.0, given.1.now)) certificate) instance.kind)
+IsSubject instance (givens.Basis basis) = (given : Option (Certificate × Fields)) × IsBasis given instance basis
 
 -- the verdict with the certificate, or that by what is known
 abbrev pub IsVerdictGiven : Given → Option ℤ → Fields → Fields → Verdict → Type 0
-IsVerdictGiven (givens.Certificate certificate) claimed inst sol verdict =
-    IsVerdictWith (option_map (λ given. (given.0, given.1.now)) certificate) claimed inst sol verdict
-IsVerdictGiven (givens.Basis basis) claimed inst sol verdict = IsVerdictFrom basis claimed inst sol verdict
+IsVerdictGiven (givens.Certificate certificate) claimed instance solution verdict =
+    IsVerdictWith (option_map (λ given. (given.0, given.1.now)) certificate) claimed instance solution verdict
+IsVerdictGiven (givens.Basis basis) claimed instance solution verdict = IsVerdictFrom basis claimed instance solution verdict
 
 -- what is known of all solutions with the certificate, or what was known
 abbrev pub IsBasisGiven : Given → Fields → Basis → Type 0
-IsBasisGiven (givens.Certificate certificate) inst basis =
-    IsBasis (option_map (λ given. (given.0, given.1.now)) certificate) inst basis
-IsBasisGiven (givens.Basis known) inst basis = basis ≡ known
+IsBasisGiven (givens.Certificate certificate) instance basis =
+    IsBasis (option_map (λ given. (given.0, given.1.now)) certificate) instance basis
+IsBasisGiven (givens.Basis known) instance basis = basis ≡ known
 
 -- ---- an instance to which no reason applies
 
 -- the costs and the certificate, or what was known
 abbrev pub IsSource : Fields → Given → Source → Type 0
-IsSource inst given (sources.Costs costs certificate) = (given ≡ givens.Certificate certificate) × (3 ≤ nodes_of inst)
-    × AreTourCosts inst costs
-IsSource inst given (sources.Basis basis) = given ≡ givens.Basis basis
+IsSource instance given (sources.Costs costs certificate) = (given ≡ givens.Certificate certificate) × (3 ≤ nodes_of instance)
+    × AreTourCosts instance costs
+IsSource instance given (sources.Basis basis) = given ≡ givens.Basis basis
 
 -- the length of the one tour, where no reason applies to the instance or to it; or the first reason
 abbrev pub FindsLength : Fields → Fields → Given → Result (ℤ × Source) Reason → Type 0
-FindsLength inst sol given (Ok found) = IsTourVerdict inst sol (verdicts.Tour found.0 None) × NoneAgainstInstance inst
-    × IsSource inst given found.1
-FindsLength inst sol given (Err reason) = IsFirstAgainstTour inst sol reason
+FindsLength instance solution given (Ok found) = IsTourVerdict instance solution (verdicts.Tour found.0 None)
+    × NoneAgainstInstance instance
+    × IsSource instance given found.1
+FindsLength instance solution given (Err reason) = IsFirstAgainstTour instance solution reason
 
 -- ---- a tour
 

@@ -4,7 +4,7 @@ use Rattle.tsp_format.specs.declared.kinds.Kind.TheVariants as kinds
 use Rattle.tsp_draft.specs.Fields.{Fields}
 use Rattle.tsp_file.specs.Cost.{cost}
 use Rattle.tsp_theory.specs.Costs.{IsSymmetric}
-use Rattle.tsp_cost.specs.states.Views.{Shows, ShowsEven}
+use Rattle.tsp_cost.specs.states.Views.{IsViewOf, ShowsEven}
 use Rattle.tsp_reason.specs.declared.verdict.Reason.{Reason}
 use Rattle.tsp_reason.specs.declared.verdict.Verdict.TheVariants as verdicts
 use Rattle.tsp_verdict.specs.declared.tour.TourCosts.{TourCosts}
@@ -13,14 +13,14 @@ use Rattle.tsp_verdict.specs.Tours.{IsTourVerdict, IsFirstAgainstTour}
 
 -- those of the instance, by its TYPE; under TYPE TSP they are the same in both directions
 abbrev pub AreTourCosts : Fields → TourCosts → Type 0
-AreTourCosts inst (Undirected view) = (inst.kind ≡ Some kinds.Tsp) × ShowsEven inst view × IsSymmetric (cost inst)
-AreTourCosts inst (Directed view) = (inst.kind ≡ Some kinds.Atsp) × Shows inst view
+AreTourCosts instance (Undirected view) = (instance.kind ≡ Some kinds.Tsp) × ShowsEven instance view × IsSymmetric (cost instance)
+AreTourCosts instance (Directed view) = (instance.kind ≡ Some kinds.Atsp) × IsViewOf instance view
 
 -- under TYPE TSP the costs are the same in both directions
 abbrev pub IsSymmetricTsp : Fields → Type 0
-IsSymmetricTsp inst = inst.kind ≡ Some kinds.Tsp → IsSymmetric (cost inst)
+IsSymmetricTsp instance = instance.kind ≡ Some kinds.Tsp → IsSymmetric (cost instance)
 
 -- the length of the one tour, where no reason applies; or the first reason
 abbrev pub IsLengthOf : Fields → Fields → Result ℤ Reason → Type 0
-IsLengthOf inst sol (Ok length) = IsTourVerdict inst sol (verdicts.Tour length None)
-IsLengthOf inst sol (Err reason) = IsFirstAgainstTour inst sol reason
+IsLengthOf instance solution (Ok length) = IsTourVerdict instance solution (verdicts.Tour length None)
+IsLengthOf instance solution (Err reason) = IsFirstAgainstTour instance solution reason

@@ -3,7 +3,7 @@ use Rattle.std.proofs.Common.{◌≡◌, ℕ, refl, arith, to_z, of_z}
 use Rattle.std.specs.Prelude.{ℤ, pos, slice_index_or}
 use Rattle.std.specs.Int.{w64}
 use Rattle.std.proofs.lemmas.Int.{ints}
-use Rattle.tsp_theory.specs.Numbers.{IsMultiplier}
+use Rattle.tsp_theory.specs.CertificateNumbers.{IsMultiplier}
 use Rattle.tsp_bound.proofs.Tables.{table_pushed}
 use Rattle.tsp_bound.proofs.by_node.lists_of.Goals as goal
 

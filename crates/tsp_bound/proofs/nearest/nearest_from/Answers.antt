@@ -1,6 +1,6 @@
 -- The goals of `nearest_from` in src/nearest.rt: its loop.
 use Rattle.std.proofs.Common.{ℕ, ◌≡◌, ◌≢◌, ◌/◌, Option, arith, rules, w64, SFits}
-use Rattle.tsp_format.specs.Cells.{IsNode}
+use Rattle.tsp_format.specs.Nodes.{IsNode}
 use Rattle.tsp_bound.specs.states.Potentials.{numbers_of, weight_under}
 use Rattle.tsp_bound.specs.declared.area.Area.{Area}
 use Rattle.tsp_bound.specs.states.Boxes.{HoldsNode, IsSearched, no_best}

@@ -3,7 +3,7 @@ use Rattle.std.proofs.Common.{◌≡◌, ◌+◌, ◌≤◌, ℕ, List, drop, ap
 use Rattle.std.specs.Prelude.{ℤ, pos, ◌+ℤ◌, slice_index_or}
 use Rattle.std.specs.Int.{w128}
 use Rattle.std.proofs.Math.IntN.{+ℤ_assoc}
-use Rattle.tsp_theory.specs.Numbers.{total}
+use Rattle.tsp_theory.specs.CertificateNumbers.{total}
 use Rattle.tsp_theory.proofs.Sizes.{sum_more, sum_computed}
 use Rattle.tsp_bound.proofs.numbers.total.Goals as goal
 

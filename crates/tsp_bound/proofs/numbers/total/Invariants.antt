@@ -2,7 +2,7 @@
 use Rattle.std.proofs.Common.{◌≡◌, ◌*◌, drop}
 use Rattle.std.specs.Prelude.{pos, neg_ℤ, ◌+ℤ◌}
 use Rattle.tsp_format.specs.Limits.{most_potential}
-use Rattle.tsp_theory.specs.Numbers.{IsFromTo, total}
+use Rattle.tsp_theory.specs.CertificateNumbers.{IsFromTo, total}
 use Rattle.tsp_bound.proofs.numbers.total.Given as goal
 
 abbrev pub invariant-numbers : goal.invariant-numbers

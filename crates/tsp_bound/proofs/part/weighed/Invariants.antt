@@ -2,7 +2,7 @@
 use Rattle.std.proofs.Common.{◌≡◌, length, map, take}
 use Rattle.tsp_bound.specs.states.Boxes.{node_of}
 use Rattle.tsp_bound.specs.states.Numbering.{on_both}
-use Rattle.tsp_theory.specs.Numbers.{IsSumSized}
+use Rattle.tsp_theory.specs.CertificateNumbers.{IsSumSized}
 use Rattle.tsp_bound.specs.states.Multipliers.{triples_in, weight_less}
 use Rattle.tsp_theory.specs.Tree.{weight_of}
 use Rattle.tsp_bound.proofs.part.weighed.Given as goal

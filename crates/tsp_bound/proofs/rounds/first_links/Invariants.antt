@@ -2,7 +2,7 @@
 use Rattle.std.proofs.Common.{◌≡◌, ◌<◌, ℕ, length}
 use Rattle.std.specs.Prelude.{slice_index_or}
 use Rattle.tsp_bound.specs.declared.link.Link.{Link}
-use Rattle.tsp_bound.specs.states.Components.{IsKept}
+use Rattle.tsp_bound.specs.states.Components.{IsKeptLink}
 use Rattle.tsp_bound.proofs.rounds.first_links.Given as goal
 
 abbrev pub invariant-nodes : goal.invariant-nodes
@@ -13,5 +13,5 @@ invariant-nodes g l =
     record {
       near_in : l.node < n → l.near < n;
       len : length l.known.items ≡ l.node;
-      each : (x : ℕ) (d : Link) → x < l.node → IsKept n w label x (slice_index_or l.known.items x d);
+      each : (x : ℕ) (d : Link) → x < l.node → IsKeptLink n w label x (slice_index_or l.known.items x d);
     }

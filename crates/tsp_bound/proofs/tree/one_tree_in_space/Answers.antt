@@ -3,7 +3,7 @@ use Rattle.std.proofs.Common.{◌≡◌, ℕ, List, [], subst, ◌∙◌, arith,
 use Rattle.std.specs.Prelude.{ℤ}
 use Rattle.std.specs.Int.{w128}
 use Rattle.std.proofs.lemmas.Int.{to_z-of_z}
-use Rattle.tsp_theory.specs.Numbers.{total}
+use Rattle.tsp_theory.specs.CertificateNumbers.{total}
 use Rattle.tsp_theory.specs.Tree.{weight_of, IsLeastOneTree}
 use Rattle.tsp_theory.specs.Adjusted.{triples_total, IsAdjustedBoundOf, IsAdjustedBound}
 use Rattle.tsp_bound.specs.states.Multipliers.{weight_less}

@@ -3,15 +3,15 @@ use Rattle.std.proofs.Common.{◌≡◌, ◌∙◌, ℕ, ℤ, List, length, take
 use Rattle.std.specs.Prelude.{neg_ℤ, ◌+ℤ◌}
 use Rattle.std.specs.Int.{w64, int_wrap}
 use Rattle.std.specs.List.{All}
-use Rattle.tsp_format.specs.Cells.{IsNode}
-use Rattle.tsp_theory.specs.Numbers.{entry}
+use Rattle.tsp_format.specs.Nodes.{IsNode}
+use Rattle.tsp_theory.specs.CertificateNumbers.{entry}
 use Rattle.tsp_theory.specs.states.Nearest.{least_at}
 use Rattle.tsp_branch.specs.Families.{IsFamily}
 use Rattle.tsp_branch.specs.states.Lent.{lent_in, good_in}
 use Rattle.tsp_branch.specs.states.Combed.{AreSmallMultipliers, multipliers_at}
 use Rattle.tsp_branch.specs.states.Kept.{kept_weight, AreRowsIfAny, AreEnds, HoldsRows}
 use Rattle.tsp_branch.specs.Cases.{LeafNumbers}
-use Rattle.tsp_branch.specs.Certificate.{IsFoundAt}
+use Rattle.tsp_branch.specs.CaseTrees.{IsFoundAt}
 use Rattle.tsp_branch.specs.declared.decision.Decision.{Decision}
 use Rattle.tsp_branch.specs.Decisions.{decided_number}
 use Rattle.tsp_branch.specs.states.OpenCases.{decisions_in}

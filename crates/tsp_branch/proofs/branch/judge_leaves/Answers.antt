@@ -11,7 +11,7 @@ use Rattle.tsp_format.specs.Steps as listed
 use Rattle.tsp_format.specs.states.TreeSteps.{steps_of}
 use Rattle.tsp_branch.specs.states.Lent.{good_in}
 use Rattle.tsp_branch.specs.Cases.{LeafNumbers}
-use Rattle.tsp_branch.specs.Certificate.{IsFoundAt}
+use Rattle.tsp_branch.specs.CaseTrees.{IsFoundAt}
 use Rattle.tsp_branch.specs.Listed.{no_numbers_of}
 use Rattle.tsp_branch.specs.declared.decision.Decision.{Decision}
 use Rattle.tsp_branch.specs.Decisions.{DecideOnce, decided_number}

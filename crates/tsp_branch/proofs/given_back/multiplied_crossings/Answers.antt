@@ -4,9 +4,9 @@ use Rattle.std.specs.Prelude.{pos, ◌+ℤ◌, ◌*ℤ◌}
 use Rattle.std.specs.Int.{w64, w128}
 use Rattle.std.proofs.Math.IntN.{+ℤ_assoc}
 use Rattle.std.proofs.lemmas.Int.{ints, to_z-of_z}
-use Rattle.tsp_theory.specs.Numbers.{total}
+use Rattle.tsp_theory.specs.CertificateNumbers.{total}
 use Rattle.tsp_families.specs.declared.family.Crossings.{Crossings}
-use Rattle.tsp_branch.specs.CombsOfSets.{least_with}
+use Rattle.tsp_branch.specs.FamiliesOfSets.{least_with}
 use Rattle.tsp_branch.proofs.GivenBack.{total_left, left_some, least_left, AddsFamily, adds_family}
 use Rattle.tsp_branch.proofs.given_back.multiplied_crossings.Goals as goal
 

@@ -1,9 +1,9 @@
 -- The loop of `multiplied_crossings` in src/given_back.rt.
 use Rattle.std.proofs.Common.{◌≡◌, ◌*◌, ◌^◌, drop}
 use Rattle.std.specs.Prelude.{pos, ◌+ℤ◌, ◌*ℤ◌, ◌≤ℤ◌}
-use Rattle.tsp_theory.specs.Numbers.{total}
+use Rattle.tsp_theory.specs.CertificateNumbers.{total}
 use Rattle.tsp_branch.specs.GoodNumbers.{most_crossed}
-use Rattle.tsp_branch.specs.CombsOfSets.{least_with}
+use Rattle.tsp_branch.specs.FamiliesOfSets.{least_with}
 use Rattle.tsp_branch.proofs.given_back.multiplied_crossings.Given as goal
 
 abbrev pub invariant-families : goal.invariant-families

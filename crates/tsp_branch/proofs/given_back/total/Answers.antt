@@ -4,7 +4,7 @@ use Rattle.std.specs.Prelude.{pos, ◌+ℤ◌}
 use Rattle.std.specs.Int.{w64, w128}
 use Rattle.std.proofs.Math.IntN.{+ℤ_assoc}
 use Rattle.std.proofs.lemmas.Int.{to_z-of_z}
-use Rattle.tsp_theory.specs.Numbers.{total}
+use Rattle.tsp_theory.specs.CertificateNumbers.{total}
 use Rattle.tsp_branch.proofs.GivenBack.{more_of_64, computed_of_64, total_left}
 use Rattle.tsp_branch.proofs.given_back.total.Goals as goal
 

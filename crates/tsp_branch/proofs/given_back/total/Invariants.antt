@@ -1,7 +1,7 @@
 -- The loop of `total` in src/given_back.rt.
 use Rattle.std.proofs.Common.{◌≡◌, ◌*◌, ◌^◌, drop}
 use Rattle.std.specs.Prelude.{pos, neg_ℤ, ◌+ℤ◌}
-use Rattle.tsp_theory.specs.Numbers.{IsFromTo, total}
+use Rattle.tsp_theory.specs.CertificateNumbers.{IsFromTo, total}
 use Rattle.tsp_branch.proofs.given_back.total.Given as goal
 
 abbrev pub invariant-numbers : goal.invariant-numbers

@@ -1,7 +1,7 @@
 -- The loop of `most_crossings` in src/judge.rt.
 use Rattle.std.proofs.Common.{◌≡◌, ◌*◌, ◌^◌, drop}
 use Rattle.std.specs.Prelude.{pos, ◌+ℤ◌}
-use Rattle.tsp_theory.specs.Numbers.{IsFromTo}
+use Rattle.tsp_theory.specs.CertificateNumbers.{IsFromTo}
 use Rattle.tsp_branch.specs.GoodNumbers.{most_with}
 use Rattle.tsp_branch.proofs.judge.most_crossings.Given as goal
 

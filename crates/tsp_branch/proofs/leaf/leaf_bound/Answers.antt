@@ -3,7 +3,7 @@ use Rattle.std.proofs.Common.{◌≡◌, sym, subst, rules, ℤ, FitsSigned, to_
 use Rattle.std.specs.Prelude.{◌+ℤ◌}
 use Rattle.std.specs.Int.{w128}
 use Rattle.std.proofs.lemmas.Int.{to_z-of_z}
-use Rattle.tsp_theory.specs.Numbers.{IsLeastBound}
+use Rattle.tsp_theory.specs.CertificateNumbers.{IsLeastBound}
 use Rattle.tsp_theory.proofs.Sizes.{same_scale}
 use Rattle.tsp_branch.specs.LeafWeight.{IsBoundOfWeights}
 use Rattle.tsp_branch.proofs.Leaves.{bounds_each_leaf, sum_is}

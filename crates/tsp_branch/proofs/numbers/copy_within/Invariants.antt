@@ -1,6 +1,6 @@
 -- The loop of `copy_within` in src/numbers.rt.
 use Rattle.std.proofs.Common.{◌≡◌, ◌<◌, ℕ, ℤ, take, length, get_or}
-use Rattle.tsp_theory.specs.Numbers.{IsFromTo}
+use Rattle.tsp_theory.specs.CertificateNumbers.{IsFromTo}
 use Rattle.tsp_branch.proofs.numbers.copy_within.Given as goal
 
 abbrev pub invariant-numbers : goal.invariant-numbers

@@ -1,7 +1,7 @@
 -- The loop of `have_each_once` in src/other_families.rt.
 use Rattle.std.proofs.Common.{◌≡◌, ◌<◌, ◌+◌, ℕ, List, length, get_or}
 use Rattle.tsp_families.specs.FamilySets.{lists_of}
-use Rattle.tsp_branch.specs.GoodCombs.{HasEachOnce}
+use Rattle.tsp_branch.specs.GoodFamilies.{HasEachOnce}
 use Rattle.tsp_branch.specs.states.Marked.{AreUnmarked}
 use Rattle.tsp_branch.proofs.other_families.have_each_once.Given as goal
 

@@ -2,11 +2,11 @@
 use Rattle.std.proofs.Common.{◌≡◌, ◌≤◌, ◌<◌, ℕ}
 use Rattle.std.specs.Prelude.{◌⊎◌, ◌≤ℤ◌}
 use Rattle.tsp_theory.specs.states.Nearest.{least_at}
-use Rattle.tsp_branch.specs.states.Closed.{closed}
+use Rattle.tsp_branch.specs.states.Closed.{no_link}
 use Rattle.tsp_branch.proofs.rows.least_in.Given as goal
 
 abbrev pub invariant-places : goal.invariant-places
 invariant-places l = record {
   below : (x : ℕ) → 1 ≤ x → x < l.place → l.least ≤ℤ least_at l.row x;
-  reached : (l.least ≡ closed) ⊎ ((x : ℕ) × (1 ≤ x) × (x < l.place) × (l.least ≡ least_at l.row x));
+  reached : (l.least ≡ no_link) ⊎ ((x : ℕ) × (1 ≤ x) × (x < l.place) × (l.least ≡ least_at l.row x));
 }

@@ -1,7 +1,7 @@
 -- The goals of `ended` in src/ended.rt: what it ensures.
 use Rattle.std.proofs.Common.{refl}
 use Rattle.tsp_stream.specs.states.Watched.{watched}
-use Rattle.tsp_c.proofs.Ends.{printed_ends, unprinted_ends}
+use Rattle.tsp_c.proofs.StatusMeanings.{printed_ends, unprinted_ends}
 use Rattle.tsp_c.proofs.ended.ended.Goals as goal
 
 pub returns-in-Ok : goal.returns-in-Ok

@@ -4,7 +4,7 @@ use Rattle.std.specs.List.{All}
 use Rattle.std.proofs.lemmas.Int.{to_z-of_z}
 use Rattle.std.proofs.lemmas.List.{drop-drop}
 use Rattle.std.proofs.lemmas.List.Elements.{All-drop}
-use Rattle.tsp_format.specs.Cells.{IsNode}
+use Rattle.tsp_format.specs.Nodes.{IsNode}
 use Rattle.tsp_theory.specs.Length.{length_of}
 use Rattle.tsp_file.specs.Cost.{cost}
 use Rattle.tsp_c.specs.NumberCalls.{IsFilled, list_length, lists_in}

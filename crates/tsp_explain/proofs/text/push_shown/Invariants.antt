@@ -1,6 +1,6 @@
 -- The loop of `push_shown` in src/text.rt.
 use Rattle.std.proofs.Common.{◌≡◌, ◌++◌, drop}
-use Rattle.tsp_explain.specs.Shown.{all_shown}
+use Rattle.tsp_explain.specs.ShownBytes.{all_shown}
 use Rattle.tsp_explain.proofs.text.push_shown.Given as goal
 
 -- the text so far, and the text of the other bytes

@@ -2,7 +2,8 @@
 use Rattle.std.proofs.Common.{rules, refl}
 use Rattle.std.specs.Fmt.{digits}
 use Rattle.tsp_number.specs.Spelling.{decimals}
-use Rattle.tsp_format.specs.Cells.{nodes_to, cells_of_line}
+use Rattle.tsp_format.specs.Nodes.{nodes_to}
+use Rattle.tsp_format.specs.Cells.{cells_of_line}
 use Rattle.tsp_file.proofs.text_examples.examples_of_sections.Goals as goal
 
 pub returns-clause-coords : goal.returns-clause-coords

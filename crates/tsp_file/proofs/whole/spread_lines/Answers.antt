@@ -1,7 +1,7 @@
 -- The goals of `spread_lines` in src/whole.rt: that no sum overflows, its loop and what its calls require.
 use Rattle.std.proofs.Common.{◌≡◌, ◌+◌, ◌-◌, sym, ◌∙◌, arith}
 use Rattle.std.proofs.lemmas.Nat.{mul-le}
-use Rattle.tsp_format.specs.Cells.{IsNode}
+use Rattle.tsp_format.specs.Nodes.{IsNode}
 use Rattle.tsp_file.proofs.Spread.{all_before, kept_less, spread_begins, spread_more}
 use Rattle.tsp_file.proofs.whole.spread_lines.Goals as goal
 

@@ -1,7 +1,7 @@
 -- The goals of `perform` in src/outcome.rt: what it ensures.
 use Rattle.std.proofs.Common.{sym, subst}
 use Rattle.tsp_judge.specs.Watched.{sink_of}
-use Rattle.tsp_perform.specs.Done.{IsDone}
+use Rattle.tsp_perform.specs.Outcomes.{IsDone}
 use Rattle.tsp_task.specs.declared.task.Task.TheVariants.{Check, CheckBy, Bound}
 use Rattle.tsp_perform.proofs.outcome.perform.Goals as goal
 

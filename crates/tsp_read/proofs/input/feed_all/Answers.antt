@@ -30,7 +30,7 @@ returns-in_err-feed-clause-fed g c =
     rw same (
     piece_stops (turn_of g.R.Read.remaining c.args.reader.now c.read.new.self) _ _ _ c.pieces.feed c.feed.new.self c.pieces.taken (take c.in-Ok.count c.read.new.buf) c.in_err-feed.field-0.0
     (λ given. refl) (λ given gave. gave) (λ given. (c.requires.sound, c.in-Ok.ensures.failed ∙ ap (λ b. b || false) c.pieces.invariant.sound))
-    (omega (arith, c.pieces-test.true)) c.pieces.invariant.gathered (sym c.is_going.ensures ∙ c.if-not-is_going.false)
+    (omega (arith, c.pieces-test.true)) c.pieces.invariant.gathered (sym c.may_go_on.ensures ∙ c.if-not-may_go_on.false)
     (omega (arith, c.in-Ok.ensures.bound.0, c.in-Ok.ensures.bound.1, c.read.auto.buf)) c.in-Ok.ensures.bytes.0 c.in_err-feed.ensures.taken)
 
 pub pieces-init : goal.pieces-init
@@ -45,7 +45,7 @@ pub pieces-preserved : goal.pieces-preserved
 pieces-preserved g c = record {
   gathered =
       gathered_more _ _ _ c.pieces.feed c.feed.new.self c.pieces.taken c.in-Ok.count (take c.in-Ok.count c.read.new.buf) c.pieces.invariant.gathered
-      (sym c.is_going.ensures ∙ c.if-not-is_going.false) (omega (arith, c.in-Ok.ensures.bound.0, c.in-Ok.ensures.bound.1, c.read.auto.buf)) c.in-Ok.ensures.bytes.0
+      (sym c.may_go_on.ensures ∙ c.if-not-may_go_on.false) (omega (arith, c.in-Ok.ensures.bound.0, c.in-Ok.ensures.bound.1, c.read.auto.buf)) c.in-Ok.ensures.bytes.0
       (sym c.in-Ok.ensures.bound.1) c.in_ok-feed.ensures.taken;
   asked = read_more g.R.Gives.gives c.args.reader.now c.pieces.reader c.read.new.self _ _ _ c.pieces.invariant.asked c.pieces.invariant.sound
       c.in-Ok.ensures.once c.in-Ok.ensures.failed;

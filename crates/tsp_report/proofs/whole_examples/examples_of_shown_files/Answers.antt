@@ -3,7 +3,8 @@ use Rattle.std.proofs.Common.{refl}
 use Rattle.std.specs.Fmt.{digits}
 use Rattle.tsp_file.specs.Cost.{cost, listed_cost}
 use Rattle.tsp_format.specs.Place.{place_of}
-use Rattle.tsp_format.specs.Cells.{cells, nodes_to}
+use Rattle.tsp_format.specs.Nodes.{nodes_to}
+use Rattle.tsp_format.specs.Cells.{cells}
 use Rattle.tsp_report.proofs.whole_examples.examples_of_shown_files.Goals as goal
 
 pub returns-clause-matrix : goal.returns-clause-matrix

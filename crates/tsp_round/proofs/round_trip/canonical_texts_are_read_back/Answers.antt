@@ -8,7 +8,7 @@ use Rattle.tsp_text.specs.declared.fault.ReadFault.TheVariants as faults
 use Rattle.tsp_read.specs.Reads.{Reads}
 use Rattle.tsp_text.specs.Text.{Spells}
 use Rattle.tsp_round.specs.Answers.{IsThisFile}
-use Rattle.tsp_round.proofs.Numbers.{NumberLaws}
+use Rattle.tsp_round.proofs.NumbersReadBack.{NumberLaws}
 use Rattle.tsp_round.proofs.Joined.{text_spelled}
 use Rattle.tsp_round.proofs.round_trip.canonical_texts_are_read_back.Goals as goal
 

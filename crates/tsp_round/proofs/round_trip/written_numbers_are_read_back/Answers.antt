@@ -1,5 +1,5 @@
 -- Numbers that are written are read back, by the laws of number words and of their texts.
-use Rattle.tsp_round.proofs.Numbers.{WordLaws, number_laws}
+use Rattle.tsp_round.proofs.NumbersReadBack.{WordLaws, number_laws}
 use Rattle.tsp_round.proofs.round_trip.written_numbers_are_read_back.Goals as goal
 
 pub returns-clause-whole : goal.returns-clause-whole

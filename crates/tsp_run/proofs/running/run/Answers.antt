@@ -14,7 +14,7 @@ use Rattle.tsp_run.specs.declared.ending.Ending.TheVariants.{NoJob, Printed, NoT
 use Rattle.std.specs.String.{string_bytes}
 use Rattle.tsp_judge.specs.Watched.{sink_of}
 use Rattle.tsp_run.specs.Ending.{Tells, TellsAll}
-use Rattle.tsp_run.specs.ProgramRun.{Ends, EndsRefused, EndsWith}
+use Rattle.tsp_run.specs.ProgramRun.{EndsProgram, EndsRefused, EndsWith}
 use Rattle.tsp_run.proofs.running.run.Goals as goal
 
 pub returns-in_default : goal.returns-in_default
@@ -32,7 +32,7 @@ returns-in-Err-OutOfMemory g c = (
 -- a run ends as refused words do
 ends_refused : {F : Type 0} (remaining : F → Option (List ℕ)) (reads : F → List ℕ → Result ℕ Error → List ℕ → F → Type 0) (opens : Place → F → Type 0) (on_terminal : Bool) (build : Text)
     (words : List Text) (sink : Sink) (refusal : Refusal) → GivesJob (drop 1 words) (Err (Refused refusal)) → (ending : Ending)
-    → EndsRefused build (drop 1 words) sink refusal ending → Ends remaining reads opens on_terminal build words sink false ending
+    → EndsRefused build (drop 1 words) sink refusal ending → EndsProgram remaining reads opens on_terminal build words sink false ending
 ends_refused remaining reads opens on_terminal build words sink refusal gives (NoJob fault) ends = rw ends.0 (gives, ends.1, ends.2, ends.3, refl)
 ends_refused remaining reads opens on_terminal build words sink refusal gives (Printed printed) ends = (Refused refusal, gives, ends, refl)
 ends_refused remaining reads opens on_terminal build words sink refusal gives (NoTask fault) ends = absurd ends
@@ -76,7 +76,7 @@ returns-in-Err-Refused g c =
 -- a run ends as its job does
 ends_as_its_job : {F : Type 0} (remaining : F → Option (List ℕ)) (reads : F → List ℕ → Result ℕ Error → List ℕ → F → Type 0) (opens : Place → F → Type 0) (on_terminal : Bool) (build : Text)
     (words : List Text) (sink : Sink) (job : Job) → GivesJob (drop 1 words) (Ok job) → (ending : Ending)
-    → EndsWith remaining reads opens job sink ending → Ends remaining reads opens on_terminal build words sink (job.explain || on_terminal) ending
+    → EndsWith remaining reads opens job sink ending → EndsProgram remaining reads opens on_terminal build words sink (job.explain || on_terminal) ending
 ends_as_its_job remaining reads opens on_terminal build words sink job gives (NoJob fault) ends = absurd ends
 ends_as_its_job remaining reads opens on_terminal build words sink job gives (Printed printed) ends = absurd ends
 ends_as_its_job remaining reads opens on_terminal build words sink job gives (NoTask fault) ends = (job, gives, ends, refl)

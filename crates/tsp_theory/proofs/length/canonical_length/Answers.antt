@@ -3,7 +3,7 @@ use Rattle.std.proofs.Common.{◌≡◌, ◌≤◌, ◌+◌, ◌-◌, ◌<◌, �
 use Rattle.std.specs.Prelude.{ℤ, ◌+ℤ◌}
 use Rattle.std.specs.Int.{w64}
 use Rattle.std.specs.List.{range_with_len}
-use Rattle.tsp_format.specs.Cells.{nodes_to}
+use Rattle.tsp_format.specs.Nodes.{nodes_to}
 use Rattle.tsp_theory.specs.Length.{length_of}
 use Rattle.tsp_theory.proofs.Lengths.{sum_fits, sum_more, length_more, length_last, run_parts, canonical}
 use Rattle.tsp_theory.proofs.length.canonical_length.Goals as goal

@@ -1,7 +1,7 @@
 -- The loop of `grow` in src/growth.rt.
 use Rattle.std.proofs.Common.{◌≡◌, ◌-◌, ◌*◌, ◌^◌, length, MatchOption}
 use Rattle.std.specs.Prelude.{pos, neg_ℤ}
-use Rattle.tsp_theory.specs.Numbers.{IsFromTo}
+use Rattle.tsp_theory.specs.CertificateNumbers.{IsFromTo}
 use Rattle.tsp_tree.specs.states.Outside.{IsLeastPlace}
 use Rattle.tsp_tree.proofs.GrowthStates.{IsState}
 use Rattle.tsp_tree.proofs.growth.grow.Given as goal

@@ -7,7 +7,7 @@ use Rattle.tsp_format.specs.declared.kinds.Kind.TheVariants as kinds
 use Rattle.tsp_theory.specs.Adjusted.{AreOnPairs}
 use Rattle.tsp_verdict.specs.PotentialsCertificate.{has_wanted, StandsAgainstPotentials}
 use Rattle.tsp_draft.specs.Fields.{nodes_of}
-use Rattle.tsp_file.specs.Meant.{multipliers_in, fixed_of}
+use Rattle.tsp_file.specs.Defaults.{multipliers_in, fixed_of}
 use Rattle.tsp_verdict.specs.Multiplied.{AreListed}
 use Rattle.tsp_verdict.specs.Reasons.{IsFirstReason}
 use Rattle.tsp_verdict.proofs.Certificates.{none_of_tsp, none_of_potentials}

@@ -1,7 +1,7 @@
 -- The loop of `route_length` in src/lengths.rt.
 use Rattle.std.proofs.Common.{◌≡◌, drop}
 use Rattle.std.specs.Prelude.{◌+ℤ◌}
-use Rattle.tsp_format.specs.Cells.{IsNode}
+use Rattle.tsp_format.specs.Nodes.{IsNode}
 use Rattle.tsp_file.specs.Cost.{cost}
 use Rattle.tsp_draft.specs.Fields.{nodes_of}
 use Rattle.tsp_verdict.specs.states.Sums.{IsSumOf}

@@ -3,7 +3,7 @@ use Rattle.std.proofs.Common.{◌≡◌, ℕ, List, length, take, refl, sym, ap,
 use Rattle.std.specs.Prelude.{FitsSigned, ◌≤ℤ◌}
 use Rattle.std.specs.Int.{w64}
 use Rattle.std.proofs.lemmas.Int.{to_z-of_z}
-use Rattle.tsp_format.specs.Cells.{IsNode}
+use Rattle.tsp_format.specs.Nodes.{IsNode}
 use Rattle.tsp_verdict.specs.states.Marks.{StandsAfter}
 use Rattle.tsp_verdict.specs.Plan.{load_of}
 use Rattle.tsp_verdict.specs.states.RouteLists.{nodes_in}

@@ -3,7 +3,7 @@ use Rattle.std.proofs.Common.{◌+◌, ◌-◌, ◌/◌, rules, subst}
 use Rattle.std.specs.Prelude.{FitsSigned, nat_abs, ℤ}
 use Rattle.std.specs.Int.{w64}
 use Rattle.std.proofs.lemmas.Int.{to_z-of_z}
-use Rattle.tsp_verdict.specs.Plan.{IsLeast}
+use Rattle.tsp_verdict.specs.Plan.{IsLeastRoutes}
 use Rattle.tsp_verdict.proofs.RouteLoads.{least_of}
 use Rattle.tsp_verdict.proofs.loads.least_routes.Goals as goal
 
@@ -12,5 +12,5 @@ returns c =
     let total : ℤ = c.total-total.result in
     let total_fits : FitsSigned w64 c.total-total.result = search rules in
     let capacity_fits : FitsSigned w64 c.args.capacity = search rules in
-    simp to_z-of_z (subst (λ (z : ℤ). IsLeast z c.args.capacity ((nat_abs c.total-total.result + (nat_abs c.args.capacity - 1)) / nat_abs c.args.capacity)) c.total-total.ensures.value
+    simp to_z-of_z (subst (λ (z : ℤ). IsLeastRoutes z c.args.capacity ((nat_abs c.total-total.result + (nat_abs c.args.capacity - 1)) / nat_abs c.args.capacity)) c.total-total.ensures.value
     (least_of c.total-total.result c.args.capacity c.total-total.ensures.low c.requires.capacity.0))

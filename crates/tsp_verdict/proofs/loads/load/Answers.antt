@@ -3,7 +3,7 @@ use Rattle.std.proofs.Common.{◌≡◌, ◌∷◌, ◌∙◌, ◌+◌, ◌-◌,
 use Rattle.std.specs.Prelude.{ℤ, pos}
 use Rattle.std.specs.Int.{w64}
 use Rattle.std.proofs.lemmas.Int.{ints}
-use Rattle.tsp_format.specs.Cells.{IsNode}
+use Rattle.tsp_format.specs.Nodes.{IsNode}
 use Rattle.tsp_draft.specs.Valid.{IsDemand}
 use Rattle.tsp_verdict.specs.Plan.{load_of, demand_of}
 use Rattle.tsp_verdict.proofs.RouteLoads.{load_fits, load_more, sum_step}

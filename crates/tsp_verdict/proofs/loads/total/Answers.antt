@@ -2,7 +2,7 @@
 use Rattle.std.proofs.Common.{◌≤◌, ℕ, arith, to_z}
 use Rattle.std.specs.Prelude.{ℤ, pos, slice_index_or}
 use Rattle.std.specs.Int.{w64}
-use Rattle.tsp_format.specs.Cells.{nodes_to}
+use Rattle.tsp_format.specs.Nodes.{nodes_to}
 use Rattle.tsp_draft.specs.Valid.{IsDemand}
 use Rattle.tsp_verdict.proofs.RouteLoads.{load_fits, load_more, total_more, total_end}
 use Rattle.tsp_verdict.proofs.loads.total.Goals as goal

@@ -6,7 +6,7 @@ pub returns : goal.returns
 returns c =
     let laws : Laws = record {
       numbers = c.numbers_are_unique.ensures;
-      leaves = c.certificate_bounds_are_unique.ensures;
+      leaves = c.case_tree_bounds_are_unique.ensures;
     } in
     record {
       verdict = one_verdict laws;

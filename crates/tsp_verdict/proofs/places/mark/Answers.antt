@@ -1,6 +1,6 @@
 -- The goals of `mark` in src/places.rt: that indices are in range, its loop and what it ensures.
 use Rattle.std.proofs.Common.{◌≡◌, ◌<◌, ◌+◌, ℕ, true, false, length, get_or, sym, subst, arith}
-use Rattle.tsp_verdict.specs.Places.{IsFirstPlace, IsRepeated}
+use Rattle.tsp_verdict.specs.Places.{IsFirstPlace, IsAtEarlierPlace}
 use Rattle.tsp_verdict.proofs.MarkedNodes.{mark_next, repeated_next, mark_is}
 use Rattle.tsp_verdict.proofs.places.mark.Goals as goal
 
@@ -19,10 +19,10 @@ returns-then-index c =
     record {
       len = c.nodes.invariant.wide;
       marks = λ all before stands marked.
-          let first : IsFirstPlace (IsRepeated all) all (before + (index + 1)) =
+          let first : IsFirstPlace (IsAtEarlierPlace all) all (before + (index + 1)) =
           repeated_next all c.args.nodes.now c.nodes.seen.items before index stands c.nodes-test.true taken
           (c.nodes.invariant.marks all before stands marked) in
-          subst (λ (k : ℕ). IsFirstPlace (IsRepeated all) all (before + (k + 1))) (sym c.nodes.invariant.counted) first;
+          subst (λ (k : ℕ). IsFirstPlace (IsAtEarlierPlace all) all (before + (k + 1))) (sym c.nodes.invariant.counted) first;
     }
 
 pub nodes-preserved : goal.nodes-preserved

@@ -10,7 +10,7 @@ use Rattle.tsp_format.specs.Limits.{most_fixed}
 use Rattle.tsp_format.specs.states.TreeSteps.{step_of, steps_of}
 use Rattle.tsp_draft.specs.states.Drafts.{combs_of}
 use Rattle.tsp_draft.specs.Valid.{IsPairOf}
-use Rattle.tsp_theory.specs.Numbers.{IsScale}
+use Rattle.tsp_theory.specs.CertificateNumbers.{IsScale}
 use Rattle.tsp_branch.specs.declared.steps.BranchVerdict.TheVariants as found
 use Rattle.tsp_branch.specs.BranchVerdicts.{IsBranchVerdict, IsSizedVerdict}
 use Rattle.tsp_branch.specs.Listed.{IsStepOf}
@@ -68,7 +68,7 @@ returns-in-Bound-Some g c =
     let all_told = told inst tree c.is_directed-directed.result n costs _ families given steps (found.Bound (Some bound)) are is in
     rw (to_z-of_z w128 bound fits) (
       none_stands c.numbers_are_unique.ensures inst tree costs (Some bound) c.requires.sort c.requires.count all_told,
-      certified inst tree costs bound c.certificates_bound_cycles.ensures.cycles c.requires.kind c.requires.some c.requires.even
+      certified inst tree costs bound c.case_trees_bound_cycles.ensures.cycles c.requires.kind c.requires.some c.requires.even
           (subst IsScale c.requires.held.scale_is c.requires.held.scaled) c.requires.keeps.every
           (subst IsSizedVerdict whole c.in_ok-bound.ensures.size) all_told,
     )
@@ -89,7 +89,7 @@ returns-in-Bound-None g c =
     (to_z-of_z w64 c.args.tree.now.scale scaled ∙ c.requires.held.scale_is) c.requires.held.combs_are c.fixed.ensures.value (c.deref.ensures.value ∙ c.in_ok-given.ensures) c.requires.held.steps_are in
     let is = subst (IsBranchVerdict c.is_directed-directed.result n costs (to_z w64 (of_z w64 c.args.tree.now.scale)) families given steps) whole c.in_ok-bound.ensures.verdict in
     let all_told = told inst tree c.is_directed-directed.result n costs _ families given steps (found.Bound None) are is in
-    let gone = no_tour inst tree costs c.certificates_bound_cycles.ensures.cycles c.requires.kind c.requires.some c.requires.even
+    let gone = no_tour inst tree costs c.case_trees_bound_cycles.ensures.cycles c.requires.kind c.requires.some c.requires.even
     (subst IsScale c.requires.held.scale_is c.requires.held.scaled) c.requires.keeps.every all_told in
     (none_stands c.numbers_are_unique.ensures inst tree costs None c.requires.sort c.requires.count all_told, gone.0, gone.1)
 

@@ -4,7 +4,7 @@ use Rattle.std.proofs.lemmas.Int.{ints}
 use Rattle.std.specs.Prelude.{pos}
 use Rattle.tsp_file.specs.Cost.{cost}
 use Rattle.tsp_theory.specs.Length.{length_of}
-use Rattle.tsp_theory.specs.Routing.{plan_length, IsLeast}
+use Rattle.tsp_theory.specs.Routing.{plan_length, IsLeastRoutes}
 use Rattle.tsp_verdict.specs.Examples.{two, three}
 use Rattle.tsp_verdict.proofs.verdict_examples.examples_of_accepted.Goals as goal
 
@@ -35,5 +35,5 @@ returns-clause-number c = λ inst found routes least is. is.1.counted
 
 pub returns-clause-least : goal.returns-clause-least
 returns-clause-least c = λ inst found routes least total capacity is.
-    let least_is : IsLeast (pos 12) (pos 8) least = subst₂ (λ t c. IsLeast t c least) total capacity is.1.least_is in
+    let least_is : IsLeastRoutes (pos 12) (pos 8) least = subst₂ (λ t c. IsLeastRoutes t c least) total capacity is.1.least_is in
     omega (arith, ints, least_is.enough, least_is.none_less 2 (omega (arith, ints)))

@@ -9,11 +9,11 @@ use Rattle.tsp_theory.specs.Adjusted.{IsAdjustedBound}
 use Rattle.tsp_theory.specs.Assignment.{IsDualBound}
 use Rattle.tsp_cost.specs.ComputedProblems.{is_directed}
 use Rattle.tsp_families.specs.declared.family.Crossings.{Crossings}
-use Rattle.tsp_branch.specs.Certificate.{IsCertificateBound}
+use Rattle.tsp_branch.specs.CaseTrees.{IsCaseTreeBound}
 use Rattle.tsp_branch.specs.Decisions.{decided_number}
 use Rattle.tsp_branch.specs.Families.{Family}
-use Rattle.tsp_branch.specs.CombsOfSets.{families_with}
-use Rattle.tsp_verdict.specs.BranchesCertificate.{given_in, tree_in}
+use Rattle.tsp_branch.specs.FamiliesOfSets.{families_with}
+use Rattle.tsp_verdict.specs.BranchesCertificate.{given_in, case_steps_in}
 use Rattle.tsp_verdict.specs.Examples.{halves_of_leaf}
 use Rattle.tsp_verdict.proofs.verdict_examples.examples_of_bounds.Goals as goal
 
@@ -39,6 +39,6 @@ returns-clause-duals c = λ inst bound is.
 
 pub returns-clause-branches : goal.returns-clause-branches
 returns-clause-branches c = λ inst found is.
-    subst₂ (λ (families : List Family) (steps : List listed.Step). IsCertificateBound (is_directed inst.kind) (nodes_of inst) (cost inst) (pos 2)
-    decided_number families (given_in inst) (tree_in inst halves_of_leaf steps) found)
+    subst₂ (λ (families : List Family) (steps : List listed.Step). IsCaseTreeBound (is_directed inst.kind) (nodes_of inst) (cost inst) (pos 2)
+    decided_number families (given_in inst) (case_steps_in inst halves_of_leaf steps) found)
     (no_families is.crossed) (the_list (listed.Leaf [] ∷ []) is.steps is.steps_are) is.bound

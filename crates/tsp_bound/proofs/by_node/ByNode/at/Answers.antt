@@ -1,7 +1,7 @@
 -- The goals of `ByNode::at` in src/by_node.rt: what it ensures.
 use Rattle.std.proofs.Common.{ℕ, ap, ◌∙◌}
 use Rattle.std.proofs.lemmas.List.Elements.{recursion_from_All}
-use Rattle.tsp_theory.specs.Numbers.{IsMultiplier}
+use Rattle.tsp_theory.specs.CertificateNumbers.{IsMultiplier}
 use Rattle.tsp_bound.proofs.Tables.{are_lowerings, lowered_said}
 use Rattle.tsp_bound.proofs.by_node.ByNode.at.Goals as goal
 

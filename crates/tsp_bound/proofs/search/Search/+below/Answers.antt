@@ -1,6 +1,6 @@
 -- The goals of `Search::+below` in src/search.rt: what it ensures.
 use Rattle.std.proofs.Common.{ℕ, ◌+◌, ◌*◌, Option, arith, rules, w64, SFits}
-use Rattle.tsp_format.specs.Cells.{IsNode}
+use Rattle.tsp_format.specs.Nodes.{IsNode}
 use Rattle.tsp_bound.specs.states.Potentials.{numbers_of, weight_under}
 use Rattle.tsp_bound.specs.declared.area.Area.{Area}
 use Rattle.tsp_bound.specs.states.Boxes.{HoldsNode, IsSearched}

@@ -2,7 +2,7 @@
 use Rattle.std.proofs.Common.{ℤ, length, Option, Some, ◌≡◌, ◌≤ℤ◌, ◌-◌, ◌<◌, pos, neg_ℤ, rules, sym, arith, w64, SFits, subst}
 use Rattle.std.proofs.lemmas.Int.{to_z-of_z}
 use Rattle.tsp_format.specs.Limits.{most_potential}
-use Rattle.tsp_theory.specs.Numbers.{IsFromTo, entry}
+use Rattle.tsp_theory.specs.CertificateNumbers.{IsFromTo, entry}
 use Rattle.tsp_bound.specs.states.Potentials.{numbers_of}
 use Rattle.tsp_bound.specs.declared.area.Area.{Area}
 use Rattle.tsp_bound.specs.states.Boxes.{HoldsNode}

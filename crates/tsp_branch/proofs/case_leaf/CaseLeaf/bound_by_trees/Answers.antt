@@ -8,7 +8,7 @@ use Rattle.tsp_branch.specs.Families.{Family}
 use Rattle.tsp_branch.specs.declared.decision.Decision.{Decision}
 use Rattle.tsp_branch.specs.Decisions.{DecideOnce, on_taken, on_avoided, decided_number}
 use Rattle.tsp_branch.specs.LeafBound.{IsLeafBound}
-use Rattle.tsp_branch.specs.Certificate.{multiplied}
+use Rattle.tsp_branch.specs.CaseTrees.{multiplied}
 use Rattle.tsp_branch.specs.LeafWeight.{BoundsEachLeaf, given_back_of}
 use Rattle.tsp_branch.specs.states.Lent.{lent_in, good_in}
 use Rattle.tsp_branch.specs.states.Combed.{set_weight}

@@ -3,7 +3,7 @@ use Rattle.std.proofs.Common.{◌≡◌, ◌<◌, ℕ, ℤ, List, length, slice_
 use Rattle.std.specs.Prelude.{pos, neg_ℤ}
 use Rattle.std.specs.List.{All}
 use Rattle.std.proofs.lemmas.Int.{ints}
-use Rattle.tsp_theory.specs.Numbers.{IsFromTo}
+use Rattle.tsp_theory.specs.CertificateNumbers.{IsFromTo}
 use Rattle.tsp_theory.specs.states.Nearest.{least_at}
 use Rattle.tsp_branch.specs.declared.set_place.SetPlace.{SetPlace}
 use Rattle.tsp_branch.specs.states.Sets.{IsMoved, IsPlaceIn, places_with}

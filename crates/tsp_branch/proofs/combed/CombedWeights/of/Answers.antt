@@ -1,6 +1,6 @@
 -- The goals of `CombedWeights::of` in src/combed.rt: what holds of its result.
 use Rattle.std.proofs.Common.{◌∙◌, ℤ, sym, subst}
-use Rattle.tsp_theory.specs.Numbers.{IsScale}
+use Rattle.tsp_theory.specs.CertificateNumbers.{IsScale}
 use Rattle.tsp_theory.proofs.Sizes.{same_scale}
 use Rattle.tsp_branch.specs.states.Lent.{lent_in}
 use Rattle.tsp_branch.specs.states.Kept.{kept_weight, AreRowsIfAny}

@@ -3,7 +3,7 @@ use Rattle.std.proofs.Common.{ℤ, rules, FitsSigned, to_z, of_z, subst, sym}
 use Rattle.std.specs.Prelude.{◌+ℤ◌}
 use Rattle.std.specs.Int.{w128}
 use Rattle.std.proofs.lemmas.Int.{to_z-of_z}
-use Rattle.tsp_theory.specs.Numbers.{IsLeastBound}
+use Rattle.tsp_theory.specs.CertificateNumbers.{IsLeastBound}
 use Rattle.tsp_theory.proofs.Sizes.{same_scale}
 use Rattle.tsp_branch.proofs.Sums.{with_back}
 use Rattle.tsp_branch.proofs.rows.AllowedRows.bound.Goals as goal

@@ -4,7 +4,7 @@ use Rattle.std.specs.List.{filter}
 use Rattle.std.specs.Int.{w64}
 use Rattle.std.proofs.lemmas.Int.{ints, to_z-of_z}
 use Rattle.tsp_branch.specs.Rows.{IsLeastFrom}
-use Rattle.tsp_branch.specs.states.Closed.{closed, IsOpenRow}
+use Rattle.tsp_branch.specs.states.Closed.{no_link, IsOpenRow}
 use Rattle.tsp_branch.specs.states.Decided.{stack_of}
 use Rattle.tsp_branch.specs.states.OpenCases.{bears_on, decisions_in}
 use Rattle.tsp_branch.proofs.OpenRows.{ends_inside, none_allowed, least_allowed}
@@ -30,7 +30,7 @@ returns-then-least-eq-CLOSED g c =
     let open_row : IsOpenRow n w (decisions_in c.args.self.now.case.now) c.args.from c.close_row.new.row =
     c.close_row.ensures n w (decisions_in c.args.self.now.case.now) (omega (arith, long, c.close_row.auto.row)) c.fill.ensures.values own_is taken_is in
     let fits : FitsSigned w64 c.least_in-least.result = search rules in
-    let is : c.least_in-least.result ≡ closed = sym (to_z-of_z w64 c.least_in-least.result fits) ∙ ap (to_z w64) c.if-least-eq-CLOSED.true in
+    let is : c.least_in-least.result ≡ no_link = sym (to_z-of_z w64 c.least_in-least.result fits) ∙ ap (to_z w64) c.if-least-eq-CLOSED.true in
     none_allowed n w (decisions_in c.args.self.now.case.now) c.args.from c.close_row.new.row c.least_in-least.result open_row (λ x node. omega (arith, ints, c.fill.ensures.small x node, c.fill.ensures.values x node))
     (λ x node. c.least_in-least.ensures.below x node.0 (omega (arith, node.1, long))) is
 

@@ -1,5 +1,5 @@
 -- The loop of `AllowedRows::sum_of_least` in src/rows.rt.
-use Rattle.tsp_theory.specs.Numbers.{IsSumSized}
+use Rattle.tsp_theory.specs.CertificateNumbers.{IsSumSized}
 use Rattle.tsp_branch.specs.Rows.{IsSumOfLeast}
 use Rattle.tsp_branch.specs.states.OpenCases.{decisions_in}
 use Rattle.tsp_branch.proofs.rows.AllowedRows.sum_of_least.Given as goal

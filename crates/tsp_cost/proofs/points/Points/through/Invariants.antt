@@ -1,7 +1,7 @@
 -- The loop of `Points::through` in src/points.rt.
 use Rattle.std.proofs.Common.{◌≡◌, ℕ, List, ◌∷◌, ◌++◌, drop}
 use Rattle.std.specs.Prelude.{◌+ℤ◌, slice_index_or}
-use Rattle.tsp_format.specs.Cells.{IsNode}
+use Rattle.tsp_format.specs.Nodes.{IsNode}
 use Rattle.tsp_cost.specs.states.Views.{points_nodes, points_cost}
 use Rattle.tsp_cost.specs.states.Ways.{length_to, IsSumOfCosts}
 use Rattle.tsp_cost.proofs.points.Points.through.Given as goal

@@ -1,7 +1,7 @@
 -- The loop of `ListedWeights::first_on_diagonal` in src/weights.rt.
 use Rattle.std.proofs.Common.{◌≡◌, ℕ, ◌<◌}
 use Rattle.std.specs.Prelude.{pos}
-use Rattle.tsp_format.specs.Cells.{IsNode}
+use Rattle.tsp_format.specs.Nodes.{IsNode}
 use Rattle.tsp_file.specs.states.Weights.{costs_of}
 use Rattle.tsp_file.proofs.weights.ListedWeights.first_on_diagonal.Given as goal
 

@@ -1,6 +1,6 @@
 -- The loop of `ListedWeights::is_symmetric` in src/weights.rt.
 use Rattle.std.proofs.Common.{◌≡◌, ℕ, ◌<◌, ◌≤◌, ◌*◌}
-use Rattle.tsp_format.specs.Cells.{IsNode}
+use Rattle.tsp_format.specs.Nodes.{IsNode}
 use Rattle.tsp_file.specs.states.Weights.{costs_of}
 use Rattle.tsp_file.proofs.weights.ListedWeights.is_symmetric.Given as goal
 

@@ -1,7 +1,8 @@
 -- The loop of `ListedWeights::laid_out` in src/weights.rt.
 use Rattle.std.proofs.Common.{◌≡◌, ◌-◌, map, take}
 use Rattle.std.specs.List.{flat_map}
-use Rattle.tsp_format.specs.Cells.{nodes_to, cells_of_line}
+use Rattle.tsp_format.specs.Nodes.{nodes_to}
+use Rattle.tsp_format.specs.Cells.{cells_of_line}
 use Rattle.tsp_file.specs.states.Weights.{costs_of}
 use Rattle.tsp_file.proofs.weights.ListedWeights.laid_out.Given as goal
 

@@ -3,14 +3,14 @@ use Rattle.std.proofs.Common.{◌≡◌, ◌∙◌, ℕ, ◌+◌, List, map, get
 use Rattle.std.proofs.lemmas.List.{length-map, get_or-map}
 use Rattle.tsp_distance.specs.declared.decimal.Point.{Point}
 use Rattle.std.specs.Fmt.{decimal}
-use Rattle.tsp_file.specs.CanonicalText.{number_line, point_numbers}
+use Rattle.tsp_file.specs.CanonicalText.{number_line, coordinate_words}
 use Rattle.tsp_stream.specs.states.WriteProgress.{Way, Carried, way_of}
 use Rattle.tsp_stream.proofs.Carrying.{carried_node, carried_nodes}
 use Rattle.tsp_file.proofs.writer.sections.put_points.Goals as goal
 
 pub nodes-preserved : goal.nodes-preserved
 nodes-preserved g c =
-    let line : ℕ × Point → List ℕ = λ entry. number_line (decimal entry.0) (point_numbers c.args.spatial entry.1) in
+    let line : ℕ × Point → List ℕ = λ entry. number_line (decimal entry.0) (coordinate_words c.args.spatial entry.1) in
     let place = g.P.InSpace.place in
     let point = c.index-points-index.result in
     let before : Way = way_of g.W.Write.contents c.nodes.out c.nodes.piece.items in
@@ -24,6 +24,6 @@ nodes-preserved g c =
 
 pub returns : goal.returns
 returns g c =
-    carried_nodes (λ (entry : ℕ × Point). number_line (decimal entry.0) (point_numbers c.args.spatial entry.1)) (map g.P.InSpace.place c.args.points.now) c.nodes.index
+    carried_nodes (λ (entry : ℕ × Point). number_line (decimal entry.0) (coordinate_words c.args.spatial entry.1)) (map g.P.InSpace.place c.args.points.now) c.nodes.index
     (way_of g.W.Write.contents c.args.out.now c.args.piece.now.items) (way_of g.W.Write.contents c.nodes.out c.nodes.piece.items)
     (omega (arith, c.nodes-test.false, length-map c.args.points.now g.P.InSpace.place)) c.nodes.invariant

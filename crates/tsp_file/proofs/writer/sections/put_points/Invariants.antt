@@ -2,11 +2,11 @@
 use Rattle.std.proofs.Common.{take, map}
 use Rattle.std.specs.List.{flat_map, enumerate_from}
 use Rattle.std.specs.Fmt.{decimal}
-use Rattle.tsp_file.specs.CanonicalText.{number_line, point_numbers}
+use Rattle.tsp_file.specs.CanonicalText.{number_line, coordinate_words}
 use Rattle.tsp_stream.specs.states.WriteProgress.{way_of, Carried}
 use Rattle.tsp_file.proofs.writer.sections.put_points.Given as goal
 
 abbrev pub invariant-nodes : goal.invariant-nodes
 invariant-nodes g l =
     Carried (way_of g.W.Write.contents l.initial.out l.initial.piece.items) (way_of g.W.Write.contents l.out l.piece.items)
-    (flat_map (λ entry. number_line (decimal entry.0) (point_numbers l.spatial entry.1)) (take l.index (enumerate_from 1 (map g.P.InSpace.place l.points))))
+    (flat_map (λ entry. number_line (decimal entry.0) (coordinate_words l.spatial entry.1)) (take l.index (enumerate_from 1 (map g.P.InSpace.place l.points))))

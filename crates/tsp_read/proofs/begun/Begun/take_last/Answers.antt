@@ -1,7 +1,7 @@
 -- The goals of `Begun::take_last` in src/begun.rt: what it ensures.
 use Rattle.std.proofs.Common.{sym, ◌∙◌, subst, List}
 use Rattle.tsp_text.specs.Items.{Item}
-use Rattle.tsp_read.specs.states.Intake.{Stands, TakesNext}
+use Rattle.tsp_read.specs.states.Intake.{HasTakenItems, TakesNext}
 use Rattle.tsp_read.proofs.LastSteps.{last_token, last_none}
 use Rattle.tsp_read.proofs.begun.Begun.take_last.Goals as goal
 
@@ -13,5 +13,5 @@ pub returns : goal.returns
 returns c = λ bytes h.
     last_token c.args.intake.now c.take_next.new.self c.args.self.now bytes c.as_slice.result.now c.take_next.result h
     (sym c.is_empty.ensures ∙ c.if-is_empty.false) c.as_slice.ensures.value
-    (subst (λ (item : Item). (earlier : List Item) → Stands c.args.intake.now earlier → TakesNext earlier item c.take_next.new.self c.take_next.result)
+    (subst (λ (item : Item). (earlier : List Item) → HasTakenItems c.args.intake.now earlier → TakesNext earlier item c.take_next.new.self c.take_next.result)
     c.of.ensures.item c.take_next.ensures.item)

@@ -2,12 +2,12 @@
 use Rattle.std.proofs.Common.{refl, sym, subst}
 use Rattle.tsp_run.specs.declared.source.Source.{Source}
 use Rattle.tsp_run.specs.declared.source.Source.TheVariants.{Input, Opened}
-use Rattle.tsp_run.specs.states.Source.{IsAsked}
+use Rattle.tsp_run.specs.states.Source.{IsAskedOnce}
 use Rattle.tsp_run.proofs.source.Source.ask.Goals as goal
 
 pub returns-in-Input : goal.returns-in-Input
 returns-in-Input g c = record {
-  asked = subst (λ (old : Source _ _). IsAsked g.OfInput.FnOnce c.args.of_input g.OfFile.FnOnce c.args.of_file
+  asked = subst (λ (old : Source _ _). IsAskedOnce g.OfInput.FnOnce c.args.of_input g.OfFile.FnOnce c.args.of_file
       old c.args.room.now c.of_input.result (Input c.of_input.new.arg2) c.of_input.new.arg3) (sym c.in-Input.is)
       (record {
         first = _;
@@ -22,7 +22,7 @@ returns-in-Input g c = record {
 
 pub returns-in-Opened : goal.returns-in-Opened
 returns-in-Opened g c = record {
-  asked = subst (λ (old : Source _ _). IsAsked g.OfInput.FnOnce c.args.of_input g.OfFile.FnOnce c.args.of_file
+  asked = subst (λ (old : Source _ _). IsAskedOnce g.OfInput.FnOnce c.args.of_input g.OfFile.FnOnce c.args.of_file
       old c.args.room.now c.of_file.result (Opened c.of_file.new.arg2) c.of_file.new.arg3) (sym c.in-Opened.is)
       (record {
         first = _;

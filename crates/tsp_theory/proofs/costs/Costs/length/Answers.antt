@@ -4,7 +4,7 @@ use Rattle.std.specs.Prelude.{ℤ, slice_index_or}
 use Rattle.std.specs.Int.{w64}
 use Rattle.std.specs.List.{All}
 use Rattle.std.proofs.lemmas.List.Elements.{All-tail}
-use Rattle.tsp_format.specs.Cells.{IsNode}
+use Rattle.tsp_format.specs.Nodes.{IsNode}
 use Rattle.tsp_theory.proofs.Lengths.{sum_fits, sum_more, length_more}
 use Rattle.tsp_theory.proofs.costs.Costs.length.Goals as goal
 

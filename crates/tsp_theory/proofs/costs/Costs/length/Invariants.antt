@@ -1,7 +1,7 @@
 -- The loop of `Costs::length` in src/costs.rt.
 use Rattle.std.proofs.Common.{◌≡◌, drop}
 use Rattle.std.specs.Prelude.{◌+ℤ◌}
-use Rattle.tsp_format.specs.Cells.{IsNode}
+use Rattle.tsp_format.specs.Nodes.{IsNode}
 use Rattle.tsp_theory.proofs.Lengths.{length_to, IsSumOf}
 use Rattle.tsp_theory.proofs.costs.Costs.length.Given as goal
 

@@ -4,7 +4,7 @@ use Rattle.std.specs.Int.{w64}
 use Rattle.std.specs.Prelude.{FitsSigned}
 use Rattle.std.proofs.lemmas.Int.{to_z-of_z}
 use Rattle.tsp_reason.specs.declared.verdict.Verdict.{Verdict}
-use Rattle.tsp_verdict.specs.Judged.{IsAsClaimed, IsOtherClaimed}
+use Rattle.tsp_verdict.specs.SolutionVerdict.{IsAsClaimed, IsOtherClaimed}
 use Rattle.tsp_verdict.specs.states.Sources.{FindsLength, IsVerdictGiven, verdict_by}
 use Rattle.tsp_verdict.proofs.Bases.{subject_rejected, subject_disclaimed, subject_judged}
 use Rattle.tsp_verdict.proofs.subject.Subject.verdict_on_tour.Goals as goal

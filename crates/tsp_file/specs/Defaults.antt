@@ -1,0 +1,22 @@
+-- What a file means where it lacks a field.
+use Rattle.std.specs.Prelude.{ℕ, List, [], Option, unwrap_or, ℤ, pos}
+use Rattle.tsp_draft.specs.Fields.{Fields}
+
+-- SCALE: 1 is meant where it is missing
+abbrev pub meant_scale : Option ℤ → ℤ
+meant_scale scale = unwrap_or scale (pos 1)
+
+abbrev pub scale_in : Fields → ℤ
+scale_in f = meant_scale f.scale
+
+-- the fixed pairs; there are none where no section lists them
+abbrev pub fixed_of : Fields → List (ℕ × ℕ)
+fixed_of f = unwrap_or f.fixed []
+
+-- the multipliers of fixed pairs; none without their section
+abbrev pub multipliers_in : Fields → List (ℕ × ℕ × ℤ)
+multipliers_in f = unwrap_or f.fixed_potentials []
+
+-- the families of a tree of cases, each as its sets, the handle first; none without their section
+abbrev pub families_listed : Fields → List (List (List ℕ))
+families_listed f = unwrap_or f.combs []

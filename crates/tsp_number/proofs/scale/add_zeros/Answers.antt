@@ -1,7 +1,0 @@
--- The goals of `add_zeros` in src/scale.rt: what it ensures.
-use Rattle.std.proofs.Common.{arith}
-use Rattle.tsp_number.proofs.Scaling.{saturated-past}
-use Rattle.tsp_number.proofs.scale.add_zeros.Goals as goal
-
-pub returns-then-count-ge20 : goal.returns-then-count-ge20
-returns-then-count-ge20 c = saturated-past c.args.size c.args.count (omega arith) c.if-count-ge20.true

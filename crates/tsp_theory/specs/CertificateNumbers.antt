@@ -1,0 +1,55 @@
+-- The numbers of a certificate, one for each node, and the bounds that their sums give.
+use Rattle.std.specs.Prelude.{◌≡◌, ◌≢◌, ℕ, ◌-◌, ◌^◌, ◌*◌, ◌≤◌, List, length, slice_index_or, ℤ, pos, neg_ℤ, ◌*ℤ◌, ◌≤ℤ◌}
+use Rattle.std.specs.List.{All}
+pub use Rattle.tsp_format.specs.Ranges.{IsFromTo}
+use Rattle.tsp_format.specs.Limits.{most_scale, most_potential, most_triples, most_multiplier}
+use Rattle.tsp_theory.specs.Length.{sum_int_by}
+
+-- the scale of a certificate: its numbers are multiples of 1 / scale
+abbrev pub IsScale : ℤ → Type 0
+IsScale scale = IsFromTo (pos 1) (pos most_scale) scale
+
+-- numbers that a certificate may have
+abbrev pub ArePotentials : List ℤ → Type 0
+ArePotentials numbers = All (IsFromTo (neg_ℤ (pos most_potential)) (pos most_potential)) numbers
+
+-- the number of a node
+abbrev pub entry : List ℤ → ℕ → ℤ
+entry numbers node = slice_index_or numbers (node - 1) (pos 0)
+
+-- the sum of all numbers
+abbrev pub total : List ℤ → ℤ
+total numbers = sum_int_by (λ number. number) numbers
+
+-- the least whole number that at this scale is no less than a sum
+pub record IsLeastBound (scale sum bound : ℤ) : Type 0 where
+  pub above : sum ≤ℤ (scale *ℤ bound)
+  pub least : (other : ℤ) → sum ≤ℤ (scale *ℤ other) → bound ≤ℤ other
+
+-- how large a bound is at most: sums with it fit 128 bits
+abbrev pub IsBoundSized : ℤ → Type 0
+IsBoundSized bound = IsFromTo (neg_ℤ (pos (2 ^ 100))) (pos (2 ^ 100)) bound
+
+-- a scale and as many numbers of rows as of columns
+pub record AreDuals (scale : ℤ) (rows columns : List ℤ) : Type 0 where
+  pub scale_is : IsScale scale
+  pub rows_are : ArePotentials rows
+  pub columns_are : ArePotentials columns
+  pub as_many : length rows ≡ length columns
+
+-- a scale and numbers of nodes
+pub record AreNodePotentials (scale : ℤ) (numbers : List ℤ) : Type 0 where
+  pub scale_is : IsScale scale
+  pub numbers_are : ArePotentials numbers
+
+-- two different nodes with a number that isn't negative
+abbrev pub IsMultiplier : ℕ × ℕ × ℤ → Type 0
+IsMultiplier triple = (triple.0 ≢ triple.1) × IsFromTo (pos 0) (pos most_multiplier) triple.2
+
+pub record AreMultipliers (triples : List (ℕ × ℕ × ℤ)) : Type 0 where
+  pub few : length triples ≤ most_triples
+  pub each : All IsMultiplier triples
+
+-- how large a sum of this many numbers of 64 bits is at most
+abbrev pub IsSumSized : ℕ → ℤ → Type 0
+IsSumSized count sum = IsFromTo (neg_ℤ (pos (count * 2 ^ 63))) (pos (count * 2 ^ 63)) sum
