@@ -16,12 +16,14 @@ ghost use Rattle.tsp_c.specs.Opened.{BindsText, ChecksHeld, EndsSection, OfHeld,
 ghost use Rattle.tsp_c.specs.NumberCalls.{EndsCount, EndsLengths, EndsMatrix, EndsWeights, FillsCount, FillsLengths, FillsMatrix, FillsPoints, FillsWeights, GivesDistance};
 ghost use Rattle.tsp_c.specs.Texts.{BoundsBy, ChecksBy, ConvertsBy, ExplainsTexts, ShowsText, certificates};
 
+mod call_examples;
 mod distance;
 mod ended;
 mod examples;
 mod explain;
 mod fill;
 mod handle;
+mod in_box;
 mod instance;
 mod lengths;
 mod line;

@@ -6,12 +6,15 @@ ghost use Rattle.tsp_reason.specs.Verdicts.{is_yes};
 ghost use Rattle.tsp_report.specs.Report.{report_of, IsSized};
 ghost use Rattle.tsp_c.specs.Ended.{Reports, nth};
 ghost use Rattle.tsp_c.specs.NumberCalls.{EndsCount, EndsLengths, EndsMatrix, EndsWeights};
-ghost use Rattle.tsp_c.specs.Opened.{BindsOpen, BindsText, ChecksAsTexts, ChecksHeld, EndsSection, IsNotOpened, OfHeld, OpensText, TellsJudged};
+ghost use Rattle.tsp_c.specs.Opened.{BindsOpen, BindsText, ChecksAsTexts, ChecksHeld, EndsSection, OfHeld, OpensText, TellsJudged};
 ghost use Rattle.tsp_c.specs.Texts.{certificates};
-ghost use Rattle.tsp_judge.specs.Open.{IsOpened};
+ghost use Rattle.tsp_c.specs.Told.{told_of_fault};
+ghost use Rattle.tsp_judge.specs.Status.{status_of_fault};
+ghost use Rattle.tsp_judge.specs.Open.{Open, IsOpened, IsUnopened};
 
 use crate::ended::ended;
 use crate::handle::Handle;
+use crate::in_box::{NoBox, in_box};
 use crate::lengths::lengths_of;
 use crate::points::points_of_file;
 use crate::refused::{certificate_of, claim_of};
@@ -34,11 +37,12 @@ pub(crate) fn open_text(alloc: Global, text: &[u8], handle: &mut Handle, told: &
 {
     drop(handle.take(alloc));
     match boxed(alloc, text) {
-        Err(fault) => {
-            *told = Told::of_fault(fault);
-            u32::from(status_of(&Err(fault)))
+        Err(fault) => tell_fault(fault, told),
+        Ok(Err(no_box)) => {
+            drop(no_box);
+            tell_fault(RunFault::OutOfMemory, told)
         }
-        Ok(opened) => {
+        Ok(Ok(opened)) => {
             *told = Told::of_instance(opened.instance());
             handle.put(opened);
             DONE
@@ -46,17 +50,29 @@ pub(crate) fn open_text(alloc: Global, text: &[u8], handle: &mut Handle, told: &
     }
 }
 
-/// The instance that a text is, in a box.
-fn boxed(alloc: Global, text: &[u8]) -> Result<Box<Opened, Global>, RunFault>
-    ensures { MatchResult result (λ opened. IsOpened text.now opened.value) (λ fault. IsNotOpened text.now fault) }
+/// Tells the numbers of a fault; its status.
+fn tell_fault(fault: RunFault, told: &mut Told) -> u32
+    ensures told { told.new ≡ told_of_fault fault }
+    ensures status { result ≡ status_of_fault fault }
+{
+    *told = Told::of_fault(fault);
+    u32::from(status_of(&Err(fault)))
+}
+
+/// The instance that a text is, in a box, where there was memory for it.
+///
+/// # Errors
+///
+/// Why the text is no instance; out of memory for the box is no such fault.
+fn boxed(alloc: Global, text: &[u8]) -> Result<Result<Box<Opened, Global>, NoBox>, RunFault>
+    ensures { MatchResult result
+        (λ held. MatchResult held (λ opened. IsOpened text.now opened.value) (λ no_box. (opened : Open) × IsOpened text.now opened))
+        (λ fault. IsUnopened text.now fault) }
 {
     let opened = Opened::of(alloc, text)?;
-    match Box::new(alloc, opened) {
-        Ok(opened) => Ok(opened),
-        Err(refused) => {
-            drop(refused);
-            Err(RunFault::OutOfMemory)
-        }
+    match in_box(alloc, opened) {
+        Ok(opened) => Ok(Ok(opened)),
+        Err(no_box) => Ok(Err(no_box)),
     }
 }
 
@@ -103,10 +119,7 @@ fn bind_opened(
     ensures { BindsOpen by text.now opened.old (Some opened.new) told.new result }
 {
     match opened.bind(alloc, by, text) {
-        Err(fault) => {
-            *told = Told::of_fault(fault);
-            u32::from(status_of(&Err(fault)))
-        }
+        Err(fault) => tell_fault(fault, told),
         Ok(found) => {
             *told = Told::of_bound(opened.instance(), found);
             u32::from(status_of(&Ok(found.is_yes())))

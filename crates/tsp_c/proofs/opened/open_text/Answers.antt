@@ -1,13 +1,24 @@
-use Rattle.std.proofs.Common.{ap, ◌∙◌, inl, refl}
+use Rattle.std.proofs.Common.{ap, ◌∙◌, inl, inr, refl}
+use Rattle.std.proofs.lemmas.Result.{MatchResult-at_ok, MatchResult-at_err}
+use Rattle.tsp_judge.specs.declared.fault.RunFault.TheVariants.{OutOfMemory}
 use Rattle.tsp_judge.specs.Open.{Open}
 use Rattle.tsp_c.specs.Told.{told_of_instance}
 use Rattle.tsp_c.proofs.opened.open_text.Goals as goal
 
-pub returns-in-Ok : goal.returns-in-Ok
-returns-in-Ok c = inl (
-  c.in-Ok.opened.value,
+pub returns-in-Ok-Err : goal.returns-in-Ok-Err
+returns-in-Ok-Err c = inr (
+  OutOfMemory,
+  c.take.ensures.closed,
+  MatchResult-at_err _ _ c.in-Ok-Err.no_box c.in-Ok-Err.field-0-is c.in-Ok-Err.ensures,
+  c.tell_fault-in-Ok-Err.ensures.told,
+  c.tell_fault-in-Ok-Err.ensures.status,
+)
+
+pub returns-in-Ok-Ok : goal.returns-in-Ok-Ok
+returns-in-Ok-Ok c = inl (
+  c.in-Ok-Ok.opened.value,
   c.put.ensures,
-  c.in-Ok.ensures,
+  MatchResult-at_ok _ _ c.in-Ok-Ok.opened c.in-Ok-Ok.field-0-is c.in-Ok-Ok.ensures,
   c.of_instance.ensures ∙ ap told_of_instance (c.instance.ensures ∙ ap (λ (o : Open). o.instance) c.deref.ensures),
   refl,
 )

@@ -1,0 +1,28 @@
+//! A value in a box, and the token of a refusal that only this call makes.
+
+ghost use Rattle.std.specs.Prelude.{◌≡◌, IfOk};
+
+use std::alloc::{AllocError, Global};
+use std::boxed::Box;
+
+/// Memory was refused for a box. Only [`in_box`] makes one, where std refused it.
+#[derive(Drop)]
+pub(crate) struct NoBox {
+    error: AllocError,
+}
+
+/// The value in a box. Whatever the value is, it isn't looked at.
+///
+/// # Errors
+///
+/// Out of memory; the value is dropped.
+pub(crate) fn in_box<T: Drop>(alloc: Global, value: T) -> Result<Box<T, Global>, NoBox>
+    ensures { IfOk result (λ boxed. boxed.value ≡ value) }
+{
+    match Box::new(alloc, value) {
+        Ok(boxed) => Ok(boxed),
+        Err(failed) => Err(NoBox {
+            error: AllocError::from(failed),
+        }),
+    }
+}
