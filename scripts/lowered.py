@@ -73,7 +73,7 @@ fn main(rt: HostRuntime) -> std::process::ExitCode {{
     std::process::ExitCode::from(0)
 }}
 """
-# (A handle can't be let go of.)
+# (A handle has to be taken apart: it isn't dropped.)
 END = """
 impl Handle {
     pub(crate) fn end(self) {
