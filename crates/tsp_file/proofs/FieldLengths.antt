@@ -254,7 +254,7 @@ others_short others fits =
     let parts = and_parts (nat_le (length others) most_others) (list_all is_other others) fits in
     flat_short_of is_other other_line 4004 most_others other_short others parts.1 (leb-true (length others) most_others parts.0)
 
--- plan: by the field: each keyword has a bound of its own, and each section that of its shape (`shape_short`)
+-- plan: by the field: each keyword has its bound, and each section that of its shape (`shape_short`)
 field_short : (f : Fields) → ((field : Field) → fits f field ≡ true) → (field : Field)
     → length (text_of_field f field) ≤ most_bytes field
 field_short f fit NameKey =

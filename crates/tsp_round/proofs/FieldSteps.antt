@@ -12,7 +12,7 @@ use Rattle.tsp_round.proofs.KeyFields.{name_step, kind_step, comment_step, other
 use Rattle.tsp_round.proofs.SectionFields.{section_step}
 use Rattle.tsp_round.proofs.Stages.{Ready, Step}
 
--- plan: by the field: each keyword has a step of its own, and each section `section_step`
+-- plan: by the field: each keyword has its step, and each section `section_step`
 pub field_step : NumberLaws → (f : Fields) → ((g : Field) → fits f g ≡ true) → (field : Field) (earlier : List Item)
     → Ready f field earlier → Step f (text_of_field f) field earlier
 field_step laws f valid NameKey earlier ready = name_step f earlier (valid NameKey) ready

@@ -59,7 +59,7 @@ wants_none true wants e whole = whole
 wants_none false wants e whole = absurd (false≢true e)
 
 -- each field by itself, if the tree, where there is one, is whole
--- plan: by the field: each has a lemma of its own, `name_fits` to `steps_fit`
+-- plan: by the field: each has its lemma, `name_fits` to `steps_fit`
 pub each_fits : (items : List Item) → AreCut items → IsClean items → is_incomplete items BranchPart ≡ false → (field : Field)
     → fits (spelled items) field ≡ true
 each_fits items cut clean whole NameKey = name_fits items cut clean
