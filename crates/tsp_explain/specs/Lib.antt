@@ -1,3 +1,2 @@
 pub mod Indented
-pub mod Roles
 pub mod ShownBytes

@@ -4,14 +4,12 @@ ghost use Rattle.std.specs.Io.{StartsWith};
 
 use crate::claims::push_claim;
 use crate::refusal::{explain_reason, push_details};
-use crate::role::blamed;
 use crate::rounding::push_rounding;
 use crate::text::{append, end, push, push_lines};
 use std::alloc::{AllocError, Global};
 use tsp_cost::Instance;
 use tsp_file::File;
-use tsp_reason::{BoundVerdict, Reason, Verdict};
-use tsp_task::Role;
+use tsp_reason::{BoundVerdict, Reason, Role, Verdict, blamed};
 
 /// What a user calls the files of a check, or of a bound.
 #[derive(Clone, Copy)]

@@ -20,7 +20,6 @@ mod judged;
 mod look;
 mod near;
 mod refusal;
-mod role;
 mod rounding;
 mod sentences;
 mod solution;

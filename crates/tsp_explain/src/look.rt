@@ -9,9 +9,9 @@ use std::io;
 use std::io::Read;
 use tsp_format::{
     Field, Keyword, MOST_FILE_BYTES, MOST_NODES, Word, is_blank, is_keyword_byte, is_letter,
+    is_spatial, value_of,
 };
 use tsp_number::parse_whole;
-use tsp_section::says_space;
 
 /// The most bytes that the reader is asked for at once.
 const MOST_AT_ONCE: usize = 4_096;
@@ -197,7 +197,8 @@ impl Look {
         }
     }
 
-    /// Takes the line's keyword, and its value where it is that of DIMENSION.
+    /// Takes the line's keyword, and its value where that says how many nodes there are, or how
+    /// many coordinates each has.
     fn take_keyword(&mut self) {
         let (keyword, rest) = first_run(self.line.front.as_slice());
         self.open = self.field;
@@ -291,6 +292,15 @@ fn sought_word(sought: Sought) -> &'static [u8] {
         Sought::Field(field) => field.word().as_bytes(),
         Sought::Place { line: _, word: _ } => b"DIMENSION",
         Sought::Nothing => &[],
+    }
+}
+
+/// Whether a keyword's value says that the nodes have three coordinates each.
+fn says_space(field: Field, value: &[u8]) -> bool {
+    match field {
+        Field::EdgeWeightTypeKey => is_spatial(None, value_of(value)),
+        Field::NodeCoordTypeKey => is_spatial(value_of(value), None),
+        _ => false,
     }
 }
 

@@ -10,7 +10,8 @@ use tsp_explain::{
     relayout_sentence, write_sentence,
 };
 use tsp_judge::{Bounded, Judged, RunFault};
-use tsp_task::{Role, Task};
+use tsp_reason::Role;
+use tsp_task::Task;
 
 /// Appends what explains the line `no`, from the files that were judged, and after `yes` whether a
 /// comment of the solution claims another length.

@@ -1,4 +1,5 @@
-//! The verdict on a solution, the reasons to reject one, and the kinds of certificates.
+//! The verdict on a solution, the reasons to reject one and whom each is about, and the kinds of
+//! certificates.
 //!
 //! No verdict is found here, so that crates which print or explain a verdict don't depend on
 //! the one that finds it, tsp_verdict.
@@ -10,8 +11,10 @@
 
 mod basis;
 mod certificate;
+mod role;
 mod verdict;
 
 pub use basis::Basis;
 pub use certificate::Certificate;
+pub use role::{Role, blamed, role_by};
 pub use verdict::{BoundVerdict, Reason, Verdict};

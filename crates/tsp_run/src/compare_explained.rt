@@ -10,7 +10,7 @@ use std::io::Read;
 use tsp_cli::{Comparison, Place};
 use tsp_explain::{Files, explain_bound, explain_file, explain_lines, explain_wrong_kind};
 use tsp_judge::{Basis, BoundVerdict, Common, RunFault};
-use tsp_task::{Role, role_by};
+use tsp_reason::{Role, role_by};
 
 /// What explains how a comparison ended, line by line. Its solutions were explained each at its
 /// line. `write_error` is what the system said of a write that failed. It is cut short where there

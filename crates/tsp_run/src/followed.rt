@@ -14,7 +14,7 @@ use std::marker::PhantomData;
 use tsp_cli::{Comparison, Place, place_at};
 use tsp_explain::{Files, Names, explain_file, explain_verdict};
 use tsp_judge::{Common, Follow, Found, Solutions};
-use tsp_task::Role;
+use tsp_reason::Role;
 
 /// The solutions of a comparison, and how standard error tells of them.
 #[derive(Drop)]

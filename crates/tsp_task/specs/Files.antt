@@ -1,16 +1,10 @@
 -- The files of a task.
 use Rattle.std.specs.Prelude.{ℕ, List, [], ◌∷◌, ◌-◌, ◌==◌, Option, None, Some, cond, slice_get}
-use Rattle.tsp_reason.specs.declared.certificate.Certificate.{Certificate}
-use Rattle.tsp_reason.specs.declared.certificate.Certificate.TheVariants as certificates
-use Rattle.tsp_task.specs.declared.role.Role.{Role}
-use Rattle.tsp_task.specs.declared.role.Role.TheVariants.{Instance, Solution, Potentials, Branches}
+use Rattle.tsp_reason.specs.Roles.{role_by}
+use Rattle.tsp_reason.specs.declared.role.Role.{Role}
+use Rattle.tsp_reason.specs.declared.role.Role.TheVariants.{Instance, Solution}
 use Rattle.tsp_task.specs.declared.task.Task.{Task}
 use Rattle.tsp_task.specs.declared.task.Task.TheVariants.{Show, Convert, Check, CheckBy, Bound}
-
--- what the file of a certificate is given for
-abbrev pub role_by : Certificate → Role
-role_by certificates.Potentials = Potentials
-role_by certificates.Branches = Branches
 
 -- the files in the order in which they are read, each with what it is given for; one that is shown or converted may be any
 abbrev pub files_of : {F : Type 0} → Task F → List (Option Role × F)

@@ -6,8 +6,6 @@
 //! ```
 #![tactic(auto)]
 
-mod role;
 mod task;
 
-pub use role::{Role, role_by};
 pub use task::Task;

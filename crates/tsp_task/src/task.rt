@@ -3,9 +3,8 @@
 ghost use Rattle.std.specs.Prelude.{◌≡◌, option_map};
 ghost use Rattle.tsp_task.specs.Files.{files_of, numbered};
 
-use crate::role::{Role, role_by};
 use tsp_format::Layout;
-use tsp_reason::Certificate;
+use tsp_reason::{Certificate, Role, role_by};
 
 /// The action on files, in the order in which they are read. `F` is the knowledge of a file: its
 /// place, a reader, or its text.

@@ -1,10 +1,33 @@
-//! Which file a reason is about.
+//! What a file is given for, and which file a reason is about.
 
 ghost use Rattle.std.specs.Prelude.{◌≡◌};
-ghost use Rattle.tsp_explain.specs.Roles.{role_of};
+ghost use Rattle.tsp_reason.specs.Roles.{role_by, role_of};
 
-use tsp_reason::Reason;
-use tsp_task::Role;
+use crate::certificate::Certificate;
+use crate::verdict::Reason;
+
+/// What a file of a task is given for.
+#[derive(Clone, Copy, Debug, PartialEq, Eq)]
+pub enum Role {
+    /// The instance.
+    Instance,
+    /// The solution.
+    Solution,
+    /// The potentials, which certify a bound.
+    Potentials,
+    /// The tree of cases, which certifies a bound.
+    Branches,
+}
+
+/// What the file of a certificate is given for.
+pub fn role_by(by: Certificate) -> Role
+    ensures { result ≡ role_by by }
+{
+    match by {
+        Certificate::Potentials => Role::Potentials,
+        Certificate::Branches => Role::Branches,
+    }
+}
 
 /// The file that a reason is about.
 pub fn blamed(reason: Reason) -> Role

@@ -1,9 +1,17 @@
--- Which file a reason is about.
+-- What a file is given for, and which file a reason is about.
+use Rattle.tsp_reason.specs.declared.certificate.Certificate.{Certificate}
+use Rattle.tsp_reason.specs.declared.certificate.Certificate.TheVariants as certificates
+use Rattle.tsp_reason.specs.declared.role.Role.{Role}
+use Rattle.tsp_reason.specs.declared.role.Role.TheVariants.{Instance, Solution, Potentials, Branches}
 use Rattle.tsp_reason.specs.declared.verdict.Reason.{Reason}
 use Rattle.tsp_reason.specs.declared.verdict.Reason.TheVariants.{NotASolution, TooFewNodes, NotSymmetric, Dimension, TourCount, TourLength, NodeOutOfRange, RepeatedNode, FixedEdgeUnused, NotPotentials, PotentialsDimension, PotentialsKind, MultiplierNotFixed, MultiplierRepeated, DualInfeasible, DepotCount, DepotDemand, FixedEdgesInRoutes, DepotInRoute, Unserved, Overload, NotBranches, BranchesDimension, BadComb, BranchTwice, BadLeaf, LengthClaimed}
-use Rattle.tsp_task.specs.declared.role.Role.{Role}
-use Rattle.tsp_task.specs.declared.role.Role.TheVariants.{Instance, Solution, Potentials, Branches}
 
+-- what the file of a certificate is given for
+abbrev pub role_by : Certificate → Role
+role_by certificates.Potentials = Potentials
+role_by certificates.Branches = Branches
+
+-- the file that a reason is about
 abbrev pub role_of : Reason → Role
 role_of TooFewNodes = Instance
 role_of (NotSymmetric i j) = Instance
