@@ -1,10 +1,10 @@
 -- Orders on numbers of 64 bits as code shows them, and the weights that a box bounds.
-use Rattle.std.proofs.Common.{◌≡◌, Bool, true, false, ℤ, pos, negsuc, neg_ℤ, ◌+ℤ◌, ◌-ℤ◌, ◌*ℤ◌, ◌≤ℤ◌, w64, to_z, of_z, SFits, subst, arith}
+use Rattle.std.proofs.Common.{◌≡◌, Bool, true, false, ℤ, pos, negsuc, neg_ℤ, ◌+ℤ◌, ◌-ℤ◌, ◌*ℤ◌, ◌≤ℤ◌, ◌<ℤ◌, w64, to_z, of_z, SFits, subst, arith}
 use Rattle.std.specs.Bool.{OnTrue}
 use Rattle.std.specs.Int.Signed.{lt_z}
 use Rattle.std.proofs.lemmas.Int.{ints, to_z-of_z}
-use Rattle.tsp_format.specs.Limits.{most_potential}
 use Rattle.tsp_theory.specs.CertificateNumbers.{IsFromTo, IsScale}
+use Rattle.tsp_bound.specs.states.NodeNumbers.{most_number}
 use Rattle.tsp_theory.proofs.Division.{scaled_up}
 use Rattle.tsp_theory.proofs.Sizes.{same_scale}
 
@@ -16,6 +16,11 @@ less_seen a b f h =
 pub not_less_seen : (a b : ℤ) → SFits w64 a → SFits w64 b → lt_z (to_z w64 (of_z w64 a)) (to_z w64 (of_z w64 b)) ≡ false → b ≤ℤ a
 not_less_seen a b f g h =
     let k : lt_z a b ≡ false = simp to_z-of_z at h in
+    grind (arith, ints)
+
+pub below_seen : (a b : ℤ) → SFits w64 a → SFits w64 b → lt_z (to_z w64 (of_z w64 a)) (to_z w64 (of_z w64 b)) ≡ true → a <ℤ b
+below_seen a b f g h =
+    let k : lt_z a b ≡ true = simp to_z-of_z at h in
     grind (arith, ints)
 
 sum_above : (a b q r s : ℤ) → a ≤ℤ b → r ≤ℤ s → (a +ℤ (q +ℤ r)) ≤ℤ (b +ℤ (q +ℤ s))
@@ -31,8 +36,8 @@ pub on_true_still : (test : Bool) (P Q : Type 0) → (P → Q) → OnTrue test P
 on_true_still true P Q still known = still known
 on_true_still false P Q still known = tt
 
--- what is left of the best weight without two potentials, as the code computes it
-pub left_is : (best own least left : ℤ) → SFits w64 best → IsFromTo (neg_ℤ (pos most_potential)) (pos most_potential) own → IsFromTo (neg_ℤ (pos most_potential)) (pos most_potential) least
+-- what is left of the best weight without two numbers, as the code computes it
+pub left_is : (best own least left : ℤ) → SFits w64 best → IsFromTo (neg_ℤ (pos most_number)) (pos most_number) own → IsFromTo (neg_ℤ (pos most_number)) (pos most_number) least
     → left ≡ to_z w64 (of_z w64 best) -ℤ to_z w64 (of_z w64 (to_z w64 (of_z w64 own) +ℤ to_z w64 (of_z w64 least)))
     → left ≡ best -ℤ (own +ℤ least)
 left_is best own least left fits p q is =
@@ -44,9 +49,9 @@ pub enough_is : (left scale cost : ℤ) → SFits w64 left → IsScale scale →
 enough_is left scale cost fits is_scale h =
     subst (λ (z : ℤ). z ≤ℤ (scale *ℤ cost)) (to_z-of_z w64 left fits) (subst (λ (z : ℤ). to_z w64 (of_z w64 left) ≤ℤ (z *ℤ cost)) (same_scale scale is_scale) h)
 
--- where that is at most a cost at the scale, a node with no lower cost and potential weighs no less than the best
-pub best_below : (best left scale cost other own least potential : ℤ) → IsScale scale → left ≡ best -ℤ (own +ℤ least) → left ≤ℤ (scale *ℤ cost)
-    → cost ≤ℤ other → least ≤ℤ potential → best ≤ℤ ((scale *ℤ other) +ℤ (own +ℤ potential))
-best_below best left scale cost other own least potential is_scale is enough further no_less =
-    let above = weight_above scale cost other own least potential is_scale further no_less in
-    omega (arith, ints, above, is, enough)
+-- where that is at most a cost at the scale, a node with no lower cost and number weighs no less than the best
+pub best_below : (best left scale cost other own least number weight : ℤ) → IsScale scale → left ≡ best -ℤ (own +ℤ least) → left ≤ℤ (scale *ℤ cost)
+    → cost ≤ℤ other → least ≤ℤ number → ((scale *ℤ other) +ℤ (own +ℤ number)) ≤ℤ weight → best ≤ℤ weight
+best_below best left scale cost other own least number weight is_scale is enough further no_less high =
+    let above = weight_above scale cost other own least number is_scale further no_less in
+    omega (arith, ints, above, is, enough, high)

@@ -1,5 +1,5 @@
 -- What multipliers take off the weights of a node's pairs.
-use Rattle.std.proofs.Common.{◌≡◌, ◌≢◌, ℕ, zero, suc, ◌+◌, ◌<◌, ◌==◌, List, [], ◌∷◌, drop, length, get_or, ℤ, ◌≤ℤ◌, FitsSigned, inl, inr, refl, arith, ap, sym, ◌∙◌, drop-cons, add-one}
+use Rattle.std.proofs.Common.{◌≡◌, ◌≢◌, ℕ, zero, suc, ◌+◌, ◌<◌, ◌==◌, List, [], ◌∷◌, drop, length, map, get_or, ℤ, FitsSigned, inl, inr, refl, arith, ap, sym, ◌∙◌, drop-cons, add-one}
 use Rattle.std.specs.Int.{w64}
 use Rattle.std.specs.Prelude.{pos, neg_ℤ, ◌+ℤ◌, ◌-ℤ◌, ◌<ℤ◌, if◌then◌else◌}
 use Rattle.std.specs.List.{AllPairs, AllByRecursion}
@@ -12,6 +12,7 @@ use Rattle.tsp_theory.specs.CertificateNumbers.{IsFromTo}
 use Rattle.tsp_theory.proofs.Nearest.{most_64}
 use Rattle.tsp_tree.specs.states.Additions.{IsMoved}
 use Rattle.tsp_tree.proofs.Additions.{moved_to}
+use Rattle.tsp_bound.specs.states.NodeNumbers.{node_in}
 use Rattle.tsp_bound.specs.states.ByNode.{lowered_by, AreLowerings}
 
 -- ---- what a node's weight is lowered by
@@ -35,18 +36,12 @@ one_lowered (l ∷ ls) x (suc k) number once lt is =
     let rest = one_lowered ls x k number (λ i j d below lt. once (suc i) (suc j) d (omega arith) (omega arith)) (omega arith) is in
     rw other (omega (arith, ints, rest))
 
+pub none_listed : (lowerings : List (ℕ × ℤ)) (x : ℕ) → ((k : ℕ) → k < length (map (λ lowering. lowering.0) lowerings) → node_in (map (λ lowering. lowering.0) lowerings) k ≢ x)
+    → AllByRecursion (λ l. l.0 ≢ x) lowerings
+none_listed [] x none = tt
+none_listed (l ∷ ls) x none = (none zero (omega arith), none_listed ls x (λ k low. none (suc k) (omega (arith, low))))
+
 -- ---- how much
-
-pub lowered_positive : (n : ℕ) (lowerings : List (ℕ × ℤ)) (x : ℕ) → AllByRecursion (λ l. IsFromTo (pos 0) (pos most_multiplier) l.1) lowerings → pos 0 ≤ℤ lowered_by lowerings x
-lowered_positive n [] x h = omega (arith, ints)
-lowered_positive n (l ∷ ls) x h = let rest = lowered_positive n ls x h.1 in elim (cases_eq l.0 x) [
-  | inl same ↦ let here = eq-eqb l.0 x same in rw here (omega (arith, ints, rest, h.0.0))
-  | inr other ↦ let none = ne_eqb l.0 x other in rw none (omega (arith, ints, rest))
-]
-
--- the weights v are w, lowered at the node `next`
-pub record AreLess (w v : ℕ → ℕ → ℤ) (lowerings : List (ℕ × ℤ)) (next : ℕ) : Type 0 where
-  pub less : (x : ℕ) → v next x ≡ w next x -ℤ lowered_by lowerings x
 
 pub lowered_size : (n : ℕ) (lowerings : List (ℕ × ℤ)) (x : ℕ) → AreLowerings n lowerings → IsFromTo (pos 0) (pos most_multiplier) (lowered_by lowerings x)
 lowered_size n lowerings x are = sized lowerings are.once (recursion_from_All (λ l. IsFromTo (pos 0) (pos most_multiplier) l.1) lowerings (λ k d lt. (are.each k d lt).1))

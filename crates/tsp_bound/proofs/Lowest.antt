@@ -1,18 +1,13 @@
 -- The best of the nodes outside, where the weights to some of them are lowered.
-use Rattle.std.proofs.Common.{◌≡◌, ◌≢◌, ℕ, zero, suc, ◌+◌, ◌<◌, Bool, true, List, [], ◌∷◌, length, get_or, ℤ, ◌≤ℤ◌, ◌⊎◌, inl, inr, refl, arith, ap, sym, subst, ◌∙◌}
+use Rattle.std.proofs.Common.{◌≡◌, ◌≢◌, ℕ, zero, suc, ◌+◌, ◌<◌, Bool, true, List, [], ◌∷◌, length, ℤ, ◌≤ℤ◌, ◌⊎◌, inl, inr, refl, arith, ap, sym, subst, ◌∙◌}
 use Rattle.std.specs.Int.{w64}
-use Rattle.std.specs.Prelude.{pos, ◌-ℤ◌, slice_index_or, FitsSigned}
-use Rattle.std.specs.List.{AllByRecursion}
+use Rattle.std.specs.Prelude.{slice_index_or, FitsSigned}
 use Rattle.std.proofs.lemmas.Bool.{cases_eq}
 use Rattle.std.proofs.lemmas.Int.{ints}
-use Rattle.std.proofs.lemmas.List.Elements.{recursion_from_All}
-use Rattle.tsp_format.specs.Limits.{most_multiplier}
 use Rattle.tsp_bound.specs.declared.nearest.Best.{Best}
 use Rattle.tsp_bound.specs.states.Boxes.{node_of, IsFound, IsBest, IsSearched, no_best}
-use Rattle.tsp_bound.specs.states.ByNode.{lowered_by, AreLowerings}
-use Rattle.tsp_theory.specs.CertificateNumbers.{IsFromTo}
+use Rattle.tsp_bound.specs.states.NodeNumbers.{node_in}
 use Rattle.tsp_theory.specs.Tree.{IsInner}
-use Rattle.tsp_bound.proofs.Lowered.{AreLess, none_lowered, one_lowered, lowered_positive}
 use Rattle.tsp_bound.proofs.Trees.{searched_all}
 
 -- what the search of all boxes says
@@ -29,102 +24,103 @@ pub record ArePlaces (n : ℕ) (order places : List ℕ) : Type 0 where
   pub back : (j : ℕ) → j < length order → slice_index_or places (node_of order j) 0 ≡ j
   pub there : (x : ℕ) → IsInner n x → node_of order (slice_index_or places x 0) ≡ x
 
--- after this many of the lowerings
-pub record IsLowest (n : ℕ) (w v : ℕ → ℕ → ℤ) (lowerings : List (ℕ × ℤ)) (order places : List ℕ) (outside : ℕ → Bool) (from count : ℕ) (old best : Best) : Type 0 where
+-- the weights v are w, but lower perhaps to the nodes that are listed
+pub record AreLowered (n : ℕ) (w v : ℕ → ℕ → ℤ) (listed : List ℕ) (from : ℕ) : Type 0 where
+  pub no_more : (x : ℕ) → IsInner n x → v from x ≤ℤ w from x
+  pub others : (x : ℕ) → IsInner n x → ((k : ℕ) → k < length listed → node_in listed k ≢ x) → v from x ≡ w from x
+
+-- after this many of the nodes listed
+pub record IsLowest (n : ℕ) (v : ℕ → ℕ → ℤ) (listed order places : List ℕ) (outside : ℕ → Bool) (from count : ℕ) (old best : Best) : Type 0 where
   pub fits : FitsSigned w64 best.weight
   pub kept : best.weight ≤ℤ old.weight
-  pub seen : (k x : ℕ) (number : ℤ) → k < count → get_or lowerings k (x, number) ≡ (x, number) → IsInner n x → outside (slice_index_or places x 0) ≡ true
-      → best.weight ≤ℤ (w from x -ℤ number)
+  pub seen : (k : ℕ) → k < count → IsInner n (node_in listed k) → outside (slice_index_or places (node_in listed k) 0) ≡ true
+      → best.weight ≤ℤ v from (node_in listed k)
   pub found : (best ≡ old) ⊎ IsFound v order outside from best
 
-pub lowest_start : (n : ℕ) (w v : ℕ → ℕ → ℤ) (lowerings : List (ℕ × ℤ)) (order places : List ℕ) (outside : ℕ → Bool) (from : ℕ) (old : Best)
-    → FitsSigned w64 old.weight → IsLowest n w v lowerings order places outside from 0 old old
-lowest_start n w v lowerings order places outside from old fits = record {
+pub lowest_start : (n : ℕ) (v : ℕ → ℕ → ℤ) (listed order places : List ℕ) (outside : ℕ → Bool) (from : ℕ) (old : Best)
+    → FitsSigned w64 old.weight → IsLowest n v listed order places outside from 0 old old
+lowest_start n v listed order places outside from old fits = record {
   fits = fits;
   kept = omega (arith, ints);
-  seen = λ k x number low is inner out. absurd (omega (arith, low));
+  seen = λ k low inner out. absurd (omega (arith, low));
   found = inl refl;
 }
 
 -- one more, of a node that isn't better
-pub lowest_kept : (n : ℕ) (w v : ℕ → ℕ → ℤ) (lowerings : List (ℕ × ℤ)) (order places : List ℕ) (outside : ℕ → Bool) (from count : ℕ) (old best : Best) (node : ℕ) (number : ℤ)
-    → ((d : ℕ × ℤ) → get_or lowerings count d ≡ (node, number)) → (IsInner n node → outside (slice_index_or places node 0) ≡ true → best.weight ≤ℤ (w from node -ℤ number))
-    → IsLowest n w v lowerings order places outside from count old best → IsLowest n w v lowerings order places outside from (count + 1) old best
-lowest_kept n w v lowerings order places outside from count old best node number entry own h = record {
+pub lowest_kept : (n : ℕ) (v : ℕ → ℕ → ℤ) (listed order places : List ℕ) (outside : ℕ → Bool) (from count : ℕ) (old best : Best) (node : ℕ) → node_in listed count ≡ node
+    → (IsInner n node → outside (slice_index_or places node 0) ≡ true → best.weight ≤ℤ v from node)
+    → IsLowest n v listed order places outside from count old best → IsLowest n v listed order places outside from (count + 1) old best
+lowest_kept n v listed order places outside from count old best node is own h = record {
   fits = h.fits;
   kept = h.kept;
-  seen = λ k x other low is inner out. elim (cases_eq k count) [
+  seen = λ k low inner out. elim (cases_eq k count) [
     | inl here ↦
-        let same : (node, number) ≡ (x, other) = sym (entry (x, other)) ∙ (ap (λ (i : ℕ). get_or lowerings i (x, other)) (sym here) ∙ is) in
-        let at_node : node ≡ x = ap (λ (e : ℕ × ℤ). e.0) same in
-        let at_number : number ≡ other = ap (λ (e : ℕ × ℤ). e.1) same in
-        let below : best.weight ≤ℤ (w from node -ℤ number) = own (subst (IsInner n) (sym at_node) inner) (ap (λ (y : ℕ). outside (slice_index_or places y 0)) at_node ∙ out) in
-        subst (λ (z : ℤ). best.weight ≤ℤ (w from x -ℤ z)) at_number (subst (λ (y : ℕ). best.weight ≤ℤ (w from y -ℤ number)) at_node below)
-    | inr apart ↦ h.seen k x other (omega (arith, low, apart)) is inner out
+        let same : node_in listed k ≡ node = ap (node_in listed) here ∙ is in
+        subst (λ (x : ℕ). best.weight ≤ℤ v from x) (sym same)
+        (own (subst (IsInner n) same inner) (ap (λ (x : ℕ). outside (slice_index_or places x 0)) (sym same) ∙ out))
+    | inr apart ↦ h.seen k (omega (arith, low, apart)) inner out
   ];
   found = h.found;
 }
 
 -- one more, of a node that is
-pub lowest_taken : (n m : ℕ) (w v : ℕ → ℕ → ℤ) (lowerings : List (ℕ × ℤ)) (order places : List ℕ) (outside : ℕ → Bool) (from count : ℕ) (old best new : Best) (node : ℕ) (number : ℤ)
-    → ArePlaces n order places → AreLowerings m lowerings → AreLess w v lowerings from → count < length lowerings → ((d : ℕ × ℤ) → get_or lowerings count d ≡ (node, number))
-    → IsInner n node → new.place ≡ slice_index_or places node 0 → outside new.place ≡ true → new.weight ≡ w from node -ℤ number → FitsSigned w64 new.weight → new.weight ≤ℤ best.weight
-    → IsLowest n w v lowerings order places outside from count old best → IsLowest n w v lowerings order places outside from (count + 1) old new
-lowest_taken n m w v lowerings order places outside from count old best new node number are lower less long entry inner place out weight fits better h =
-    let before : IsLowest n w v lowerings order places outside from count old new = record {
+pub lowest_taken : (n : ℕ) (v : ℕ → ℕ → ℤ) (listed order places : List ℕ) (outside : ℕ → Bool) (from count : ℕ) (old best new : Best) (node : ℕ)
+    → ArePlaces n order places → node_in listed count ≡ node
+    → IsInner n node → new.place ≡ slice_index_or places node 0 → outside new.place ≡ true → new.weight ≡ v from node → FitsSigned w64 new.weight → new.weight ≤ℤ best.weight
+    → IsLowest n v listed order places outside from count old best → IsLowest n v listed order places outside from (count + 1) old new
+lowest_taken n v listed order places outside from count old best new node are is inner place out weight fits better h =
+    let before : IsLowest n v listed order places outside from count old new = record {
       fits = fits;
       kept = let k = h.kept in omega (arith, ints, k, better);
-      seen = λ k x other low is in_x out_x. let s = h.seen k x other low is in_x out_x in omega (arith, ints, s, better);
+      seen = λ k low in_x out_x. let s = h.seen k low in_x out_x in omega (arith, ints, s, better);
       found =
           let there : node_of order new.place ≡ node = ap (node_of order) place ∙ are.there node inner in
-          let one = one_lowered lowerings node count number lower.once long (entry (node, number)) in
-          let own : v from node ≡ w from node -ℤ lowered_by lowerings node = less.less node in
-          let value : new.weight ≡ v from node = omega (arith, ints, weight, own, one) in
           inr (record {
             node_in = subst (λ (k : ℕ). k < length order) (sym place) (are.placed node inner);
             out = out;
-            weight_is = value ∙ ap (v from) (sym there);
+            weight_is = weight ∙ ap (v from) (sym there);
           });
     } in
-    lowest_kept n w v lowerings order places outside from count old new node number entry (λ in_node out_node. omega (arith, ints, weight)) before
+    lowest_kept n v listed order places outside from count old new node is (λ in_node out_node. omega (arith, ints, weight)) before
 
 -- ---- all of them
 
-lowering_of : (lowerings : List (ℕ × ℤ)) (x : ℕ) → AllByRecursion (λ l. l.0 ≢ x) lowerings ⊎ ((k : ℕ) × (number : ℤ) × (k < length lowerings) × (get_or lowerings k (x, number) ≡ (x, number)))
-lowering_of [] x = inl tt
-lowering_of (l ∷ ls) x = elim (cases_eq l.0 x) [
-  | inl same ↦ inr (zero, l.1, omega arith, ap (λ (y : ℕ). (y, l.1)) same)
-  | inr other ↦ elim (lowering_of ls x) [
-    | inl none ↦ inl (other, none)
-    | inr found ↦ inr (suc found.0, found.1, omega (arith, found.2), found.3)
+is_listed : (listed : List ℕ) (x : ℕ) → ((k : ℕ) → k < length listed → node_in listed k ≢ x) ⊎ ((k : ℕ) × (k < length listed) × (node_in listed k ≡ x))
+is_listed [] x = inl (λ k low. absurd (omega (arith, low)))
+is_listed (y ∷ ys) x = elim (cases_eq y x) [
+  | inl same ↦ inr (zero, omega arith, same)
+  | inr other ↦ elim (is_listed ys x) [
+    | inl none ↦ inl (apart other none)
+    | inr found ↦ inr (suc found.0, omega (arith, found.1), found.2)
   ]
 ]
+  where
+    apart : y ≢ x → ((k : ℕ) → k < length ys → node_in ys k ≢ x) → (k : ℕ) → k < length (y ∷ ys) → node_in (y ∷ ys) k ≢ x
+    apart other none zero low = other
+    apart other none (suc k) low = none k (omega (arith, low))
 
-lowest_least : (n m : ℕ) (w v : ℕ → ℕ → ℤ) (lowerings : List (ℕ × ℤ)) (order places : List ℕ) (outside : ℕ → Bool) (from : ℕ) (old best : Best)
-    → ArePlaces n order places → AreLowerings m lowerings → AreLess w v lowerings from → IsBest w order outside from old
-    → IsLowest n w v lowerings order places outside from (length lowerings) old best → (j : ℕ) → j < length order → outside j ≡ true → best.weight ≤ℤ v from (node_of order j)
-lowest_least n m w v lowerings order places outside from old best are lower less first h j j_in out =
+lowest_least : (n : ℕ) (w v : ℕ → ℕ → ℤ) (listed order places : List ℕ) (outside : ℕ → Bool) (from : ℕ) (old best : Best)
+    → ArePlaces n order places → AreLowered n w v listed from → IsBest w order outside from old
+    → IsLowest n v listed order places outside from (length listed) old best → (j : ℕ) → j < length order → outside j ≡ true → best.weight ≤ℤ v from (node_of order j)
+lowest_least n w v listed order places outside from old best are lower first h j j_in out =
     let x : ℕ = node_of order j in
-    let own : v from x ≡ w from x -ℤ lowered_by lowerings x = less.less x in
-    elim (lowering_of lowerings x) [
+    elim (is_listed listed x) [
       | inl none ↦
-          let nothing = none_lowered lowerings x none in
+          let own : v from x ≡ w from x = lower.others x (are.inner j j_in) none in
           let below : old.weight ≤ℤ w from x = first.least j j_in out in
           let kept = h.kept in
-          omega (arith, ints, nothing, below, own, kept)
-      | inr found ↦
-          let below : best.weight ≤ℤ (w from x -ℤ found.1) = h.seen found.0 x found.1 found.2 found.3 (are.inner j j_in) (ap outside (are.back j j_in) ∙ out) in
-          let one = one_lowered lowerings x found.0 found.1 lower.once found.2 found.3 in
-          omega (arith, ints, below, own, one)
+          omega (arith, ints, below, own, kept)
+      | inr found ↦ subst (λ (y : ℕ). best.weight ≤ℤ v from y) found.2 (h.seen found.0 found.1 (subst (IsInner n) (sym found.2) (are.inner j j_in))
+          (ap (λ (y : ℕ). outside (slice_index_or places y 0)) found.2 ∙ (ap outside (are.back j j_in) ∙ out)))
     ]
 
--- plan: it is least by `lowest_least`; where it is the old one, nothing lowers it, since lowerings aren't negative
-pub lowest_end : (n m : ℕ) (w v : ℕ → ℕ → ℤ) (lowerings : List (ℕ × ℤ)) (order places : List ℕ) (outside : ℕ → Bool) (from count : ℕ) (old best : Best) → count ≡ length lowerings
-    → ArePlaces n order places → AreLowerings m lowerings → AreLess w v lowerings from → IsBest w order outside from old
-    → IsLowest n w v lowerings order places outside from count old best → IsBest v order outside from best
-lowest_end n m w v lowerings order places outside from count old best all are lower less first h =
-    let whole : IsLowest n w v lowerings order places outside from (length lowerings) old best = subst (λ (k : ℕ). IsLowest n w v lowerings order places outside from k old best) all h in
-    let least = lowest_least n m w v lowerings order places outside from old best are lower less first whole in
+-- plan: it is least by `lowest_least`; where it is the old one, no weight lowers it, since those lowered aren't greater
+pub lowest_end : (n : ℕ) (w v : ℕ → ℕ → ℤ) (listed order places : List ℕ) (outside : ℕ → Bool) (from count : ℕ) (old best : Best) → count ≡ length listed
+    → ArePlaces n order places → AreLowered n w v listed from → IsBest w order outside from old
+    → IsLowest n v listed order places outside from count old best → IsBest v order outside from best
+lowest_end n w v listed order places outside from count old best all are lower first h =
+    let whole : IsLowest n v listed order places outside from (length listed) old best = subst (λ (k : ℕ). IsLowest n v listed order places outside from k old best) all h in
+    let least = lowest_least n w v listed order places outside from old best are lower first whole in
     record {
       least = least;
       found = elim h.found [
@@ -133,14 +129,13 @@ lowest_end n m w v lowerings order places outside from count old best all are lo
           | inr found ↦
               let kept : IsFound w order outside from best = subst (λ (b : Best). IsFound w order outside from b) (sym same) found in
               let x : ℕ = node_of order best.place in
-              let own : v from x ≡ w from x -ℤ lowered_by lowerings x = less.less x in
-              let low = lowered_positive m lowerings x (recursion_from_All (λ l. IsFromTo (pos 0) (pos most_multiplier) l.1) lowerings (λ k d lt. (lower.each k d lt).1)) in
+              let low : v from x ≤ℤ w from x = lower.no_more x (are.inner best.place kept.node_in) in
               let below : best.weight ≤ℤ v from x = least best.place kept.node_in kept.out in
               let is : best.weight ≡ w from x = kept.weight_is in
               inr (record {
                 node_in = kept.node_in;
                 out = kept.out;
-                weight_is = omega (arith, ints, own, low, below, is);
+                weight_is = omega (arith, ints, low, below, is);
               })
         ]
         | inr found ↦ inr found

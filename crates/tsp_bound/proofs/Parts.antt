@@ -5,10 +5,7 @@ use Rattle.std.proofs.lemmas.Int.{ints}
 use Rattle.std.proofs.lemmas.List.{take_more, map-append, length-map}
 use Rattle.tsp_format.specs.Limits.{most_nodes}
 use Rattle.tsp_format.specs.Nodes.{IsNode}
-use Rattle.tsp_bound.specs.declared.potentials.Potentials.{Potentials}
-use Rattle.tsp_bound.specs.declared.by_node.ByNode.{ByNode}
 use Rattle.tsp_theory.specs.Adjusted.{numbers_on, adjusted}
-use Rattle.tsp_bound.specs.states.Multipliers.{triples_in, weight_less}
 use Rattle.tsp_bound.specs.states.Boxes.{node_of}
 use Rattle.tsp_bound.specs.states.Numbering.{IsNumbering, on_both}
 use Rattle.tsp_theory.specs.CertificateNumbers.{IsFromTo, IsSumSized}
@@ -57,10 +54,6 @@ spanning_seen order seen w shown pairs same_order same_weights g =
 
 pub is_node : (order : List ℕ) (place : ℕ → ℕ) (last : ℕ) → IsNumbering (length order) (IsInner last) (node_of order) place → (j : ℕ) → j < length order → IsNode last (node_of order j)
 is_node order place last num j h = let inner = num.node_in j h in (omega (arith, inner.0), inner.1)
-
-pub weights_seen : (p q : Potentials) (m k : ByNode) (cost shown : ℕ → ℕ → ℤ) → q ≡ p → k ≡ m → shown ≡ cost → weight_less q (triples_in k) shown ≡ weight_less p (triples_in m) cost
-weights_seen p q m k cost shown same_p same_m same_cost =
-    ap (λ (r : Potentials). weight_less r (triples_in k) shown) same_p ∙ (ap (λ (r : ByNode). weight_less p (triples_in r) shown) same_m ∙ ap (weight_less p (triples_in m)) same_cost)
 
 pub if_ok_more : {X Y : Type 0} (r : Result X Y) (P Q : X → Type 0) → ((x : X) → P x → Q x) → IfOk r P → IfOk r Q
 if_ok_more (Ok x) P Q more p = more x p

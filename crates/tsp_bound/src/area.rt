@@ -1,15 +1,15 @@
-//! Regions with nodes in them, and the least potential there.
+//! Regions with nodes in them, and the least number there.
 
 ghost use Rattle.std.specs.Prelude.{pos, neg_ℤ};
-ghost use Rattle.tsp_format.specs.Limits.{most_potential};
 ghost use Rattle.tsp_theory.specs.CertificateNumbers.{IsFromTo};
+ghost use Rattle.tsp_bound.specs.states.NodeNumbers.{most_number};
 
 use tsp_theory::Region;
 
-/// A region, and a number that is at most the potential of each node in it.
+/// A region, and a number that is at most the number of each node in it.
 #[derive(Clone, Copy)]
 pub(crate) struct Area {
     pub(crate) region: Region,
     pub(crate) least: i64,
-    ghost size: { IsFromTo (neg_ℤ (pos most_potential)) (pos most_potential) least },
+    ghost size: { IsFromTo (neg_ℤ (pos most_number)) (pos most_number) least },
 }

@@ -3,14 +3,12 @@
 ghost use Rattle.std.specs.Prelude.{◌≡◌, ◌⊎◌, ◌≤◌, ◌<◌, ◌+◌, ◌*◌, ◌^◌, ◌≤ℤ◌, ℕ, ℤ, length, List, Bool, None, Some, IfOk, IfSome};
 ghost use Rattle.tsp_distance.specs.declared.decimal.Point.{Point};
 ghost use Rattle.tsp_format.specs.Nodes.{IsNode};
-ghost use Rattle.tsp_bound.specs.states.Potentials.{numbers_of};
 ghost use Rattle.tsp_bound.specs.states.Boxes.{HoldsNode, AreHeld, IsRefit, node_of, area_at};
 
 use crate::area::Area;
-use crate::potentials::Potentials;
+use crate::boxed_weights::BoxedWeights;
 use std::alloc::Global;
 use tsp_memory::{Refused, filled};
-use tsp_theory::Grouped;
 
 /// The smaller number.
 #[inline]
@@ -25,10 +23,10 @@ fn lesser(a: i64, b: i64) -> i64
 /// A box that holds what either box holds.
 #[inline]
 fn joined(first: &Option<Area>, second: &Option<Area>) -> Option<Area>
-    ensures left { (place : ℕ → Point) (numbers : List ℤ) (node : ℕ) → HoldsNode place numbers first.now node
-        → HoldsNode place numbers result node }
-    ensures right { (place : ℕ → Point) (numbers : List ℤ) (node : ℕ) → HoldsNode place numbers second.now node
-        → HoldsNode place numbers result node }
+    ensures left { (place : ℕ → Point) (number : ℕ → ℤ) (node : ℕ) → HoldsNode place number first.now node
+        → HoldsNode place number result node }
+    ensures right { (place : ℕ → Point) (number : ℕ → ℤ) (node : ℕ) → HoldsNode place number second.now node
+        → HoldsNode place number result node }
 {
     match first {
         None => *second,
@@ -48,24 +46,23 @@ fn refit(areas: &mut Vec<Option<Area>>, count: usize, v: usize)
     requires high { v < count }
     requires len { length areas.old.items ≡ 2 * count }
     ensures len { length areas.new.items ≡ 2 * count }
-    ensures refit { (place : ℕ → Point) (numbers : List ℤ)
-        → IsRefit None (HoldsNode place numbers) areas.old.items areas.new.items v }
+    ensures refit { (place : ℕ → Point) (number : ℕ → ℤ)
+        → IsRefit None (HoldsNode place number) areas.old.items areas.new.items v }
 {
     let area = joined(&areas[2 * v], &areas[2 * v + 1]);
     areas[v] = area;
 }
 
 /// The box of a node alone, where it has a place.
-fn area_of<C: Grouped>(c: &C, p: &Potentials, node: u32) -> Option<Area>
-    requires count { length (numbers_of p.now) ≡ C.nodes c.now }
-    requires node { IsNode (C.nodes c.now) node }
-    ensures { IfSome result (λ area. HoldsNode (C.place c.now) (numbers_of p.now) (Some area) node) }
+fn area_of<W: BoxedWeights>(w: &W, node: u32) -> Option<Area>
+    requires { IsNode (W.nodes w.now) node }
+    ensures { IfSome result (λ area. HoldsNode (W.place_of w.now) (W.number_of w.now) (Some area) node) }
 {
-    match c.region(node) {
+    match w.region(node) {
         None => None,
         Some(region) => Some(Area {
             region,
-            least: p.number(node),
+            least: w.number(node),
         }),
     }
 }
@@ -75,23 +72,21 @@ fn area_of<C: Grouped>(c: &C, p: &Potentials, node: u32) -> Option<Area>
 /// # Errors
 ///
 /// Out of memory.
-pub(crate) fn boxes_of<C: Grouped>(
+pub(crate) fn boxes_of<W: BoxedWeights>(
     alloc: Global,
-    c: &C,
-    p: &Potentials,
+    w: &W,
     order: &[u32],
 ) -> Result<Option<Vec<Option<Area>>>, Refused>
-    requires count { length (numbers_of p.now) ≡ C.nodes c.now }
-    requires nodes { (j : ℕ) → j < length order.now → IsNode (C.nodes c.now) (node_of order.now j) }
+    requires nodes { (j : ℕ) → j < length order.now → IsNode (W.nodes w.now) (node_of order.now j) }
     requires few { length order.now < 2 ^ 31 }
     ensures len { IfOk result (λ made. IfSome made (λ areas. length areas.items ≡ 2 * length order.now)) }
     ensures held { IfOk result (λ made. IfSome made (λ areas. (outside : ℕ → Bool)
-        → AreHeld (HoldsNode (C.place c.now) (numbers_of p.now)) order.now outside (area_at areas.items))) }
+        → AreHeld (HoldsNode (W.place_of w.now) (W.number_of w.now)) order.now outside (area_at areas.items))) }
 {
     let count = order.len();
     let mut areas: Vec<Option<Area>> = filled(alloc, None, 2 * count)?;
     'leaves: for place in 0..count {
-        let Some(area) = area_of(c, p, order[place]) else {
+        let Some(area) = area_of(w, order[place]) else {
             return Ok(None);
         };
         areas[count + place] = Some(area);

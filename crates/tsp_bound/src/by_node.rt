@@ -26,7 +26,7 @@ impl<'a> ByNode<'a> {
     ghost use Rattle.std.specs.Prelude.{ℕ};
     ghost use Rattle.tsp_format.specs.Nodes.{IsNode};
     ghost use Rattle.tsp_theory.specs.Adjusted.{numbers_on};
-    ghost use Rattle.tsp_bound.specs.states.ByNode.{AreLowerings};
+    ghost use Rattle.tsp_bound.specs.states.ByNode.{AreLowerings, all_said_of};
     ghost use Rattle.tsp_bound.specs.states.Multipliers.{triples_of, triples_in, node_count};
 
     /// The multipliers of different pairs of the nodes 1 to `nodes`, by node.
@@ -52,6 +52,7 @@ impl<'a> ByNode<'a> {
     pub(crate) fn at(&self, node: u32) -> &[(u32, i64)]
         requires { IsNode (node_count self.now) node }
         ensures are { AreLowerings (node_count self.now) result.now }
+        ensures said { result.now ≡ all_said_of node (triples_in self.now) }
         ensures sums { (x : ℕ) → lowered_by result.now x ≡ numbers_on (triples_in self.now) node x }
     {
         self.lists[node as usize].as_slice()

@@ -1,11 +1,11 @@
 //! Nodes in an order, each with the label of its component.
 
 ghost use Rattle.std.specs.Prelude.{◌≡◌, ◌<◌, ◌*◌, ℕ, true, length, IfOk};
-ghost use Rattle.tsp_bound.specs.states.Potentials.{numbers_of};
 ghost use Rattle.tsp_bound.specs.states.Boxes.{HoldsNode, AreHeld, AreHeld-prop, area_at, node_of};
 ghost use Rattle.tsp_bound.specs.states.Components.{AreTags, is_in_other_component, label_at, seen_area};
 
 use crate::area::Area;
+use crate::boxed_weights::BoxedWeights;
 use crate::boxes::boxes_of;
 use crate::components::Components;
 use crate::link::Link;
@@ -14,12 +14,11 @@ use crate::seen::Seen;
 use crate::tags::tag_boxes;
 use std::alloc::Global;
 use tsp_memory::{Refused, filled, push, with_capacity};
-use tsp_theory::Grouped;
 
 /// Nodes in an order with labels, and the tree of boxes over all of them with its tags.
 #[derive(Drop)]
-pub(crate) struct Labelled<'a, C: Grouped> {
-    placed: Placed<'a, C>,
+pub(crate) struct Labelled<'a, W: BoxedWeights> {
+    placed: Placed<'a, W>,
     labels: Vec<u32>,
     tags: Vec<u32>,
     areas: Vec<Option<Area>>,
@@ -28,8 +27,8 @@ pub(crate) struct Labelled<'a, C: Grouped> {
     ghost as_many_tags: { length tags.items ≡ 2 * length placed.order.now },
     ghost tagged: { AreTags labels.items tags.items },
     ghost boxes: { length areas.items ≡ 2 * length placed.order.now },
-    ghost held: { AreHeld (HoldsNode (C.place placed.c.now) (numbers_of placed.p))
-        placed.order.now (λ _. true) (area_at areas.items) } by { AreHeld-prop (C.place placed.c.now) (numbers_of placed.p) placed.order.now (λ _. true) (area_at areas.items) },
+    ghost held: { AreHeld (HoldsNode (W.place_of placed.w.now) (W.number_of placed.w.now))
+        placed.order.now (λ _. true) (area_at areas.items) } by { AreHeld-prop (W.place_of placed.w.now) (W.number_of placed.w.now) placed.order.now (λ _. true) (area_at areas.items) },
 }
 
 /// The labels 0..count.
@@ -59,7 +58,7 @@ fn rename(labels: &mut [u32], list: &[u32])
     }
 }
 
-impl<'a, C: Grouped> Labelled<'a, C> {
+impl<'a, W: BoxedWeights> Labelled<'a, W> {
     ghost use Rattle.std.specs.Prelude.{IfSome};
 
     /// Nodes that are a component each; none where the costs have no place for one.
@@ -69,16 +68,14 @@ impl<'a, C: Grouped> Labelled<'a, C> {
     /// Out of memory.
     pub(crate) fn new(
         alloc: Global,
-        placed: Placed<'a, C>,
-    ) -> Result<Option<Labelled<'a, C>>, Refused>
+        placed: Placed<'a, W>,
+    ) -> Result<Option<Labelled<'a, W>>, Refused>
         ensures order { IfOk result (λ made. IfSome made (λ labelled. labelled.placed.order.now ≡ placed.entry.order.now)) }
-        ensures costs { IfOk result (λ made. IfSome made (λ labelled. labelled.placed.c.now ≡ placed.entry.c.now)) }
-        ensures potentials { IfOk result (λ made. IfSome made (λ labelled. labelled.placed.p ≡ placed.entry.p)) }
-        ensures multipliers { IfOk result (λ made. IfSome made (λ labelled. labelled.placed.m.now ≡ placed.entry.m.now)) }
+        ensures weights { IfOk result (λ made. IfSome made (λ labelled. labelled.placed.w.now ≡ placed.entry.w.now)) }
         ensures own { IfOk result (λ made. IfSome made (λ labelled. (x : ℕ) → x < length placed.entry.order.now
             → label_at labelled.labels.items x ≡ x)) }
     {
-        let Some(areas) = boxes_of(alloc, placed.c, &placed.p, placed.order)? else {
+        let Some(areas) = boxes_of(alloc, placed.w, placed.order)? else {
             return Ok(None);
         };
         let count = placed.order.len();
@@ -129,13 +126,10 @@ impl Seen for Apart<'_> {
     }
 }
 
-impl<C: Grouped> Components for Labelled<'_, C> {
-    ghost use Rattle.tsp_bound.specs.states.Multipliers.{triples_in, weight_less};
-
+impl<W: BoxedWeights> Components for Labelled<'_, W> {
     ghost count_of = { λ s. length s.placed.order.now };
 
-    ghost weight_of = { λ s i j. weight_less s.placed.p (triples_in s.placed.m.now)
-        (C.at s.placed.c.now) (node_of s.placed.order.now i) (node_of s.placed.order.now j) };
+    ghost weight_of = { λ s i j. W.at s.placed.w.now (node_of s.placed.order.now i) (node_of s.placed.order.now j) };
 
     ghost label_of = { λ s x. label_at s.labels.items x };
 

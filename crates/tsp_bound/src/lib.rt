@@ -12,12 +12,14 @@
 
 mod area;
 mod assignment;
+mod boxed_weights;
 mod boxes;
 mod by_node;
 mod components;
 mod duals;
 mod joins;
 mod labelled;
+mod least;
 mod link;
 mod multipliers;
 mod nearest;
@@ -36,7 +38,9 @@ mod unplaced;
 mod weights;
 
 pub use assignment::{Infeasible, dual_bound};
+pub use boxed_weights::BoxedWeights;
 pub use duals::Duals;
+pub use least::least_weight_in_space;
 pub use multipliers::Multipliers;
 pub use potentials::Potentials;
 pub use tree::{OneTree, one_tree, one_tree_in_space};

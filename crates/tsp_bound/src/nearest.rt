@@ -1,12 +1,11 @@
 //! The search for the nearest node outside, by a tree of boxes.
 
 ghost use Rattle.std.specs.Prelude.{◌<◌, length};
-ghost use Rattle.tsp_bound.specs.states.Potentials.{weight_under};
 ghost use Rattle.tsp_bound.specs.states.Boxes.{IsSearched, no_best};
 
+use crate::boxed_weights::BoxedWeights;
 use crate::search::Search;
 use crate::seen::Seen;
-use tsp_theory::Grouped;
 
 /// The nearest place so far, and the weight to its node.
 #[derive(Clone, Copy)]
@@ -20,15 +19,15 @@ pub(crate) struct Best {
 ///
 /// The node at the place `near` is looked at first, where it is outside: a good one leaves more
 /// boxes alone. `steps` counts the boxes.
-pub(crate) fn nearest_from<C: Grouped, S: Seen>(
-    search: &Search<C, S>,
+pub(crate) fn nearest_from<W: BoxedWeights, S: Seen>(
+    search: &Search<W, S>,
     place: usize,
     near: usize,
     steps: &mut u64,
 ) -> Best
     requires place { place < length search.now.order.now }
     requires near { near < length search.now.order.now }
-    ensures { IsSearched (weight_under search.now.p.now (C.at search.now.c.now))
+    ensures { IsSearched (W.unlowered search.now.w.now)
         search.now.order.now (S.outside_of search.now.seen.now) search.now.from 1 no_best result }
 {
     let none = Best {

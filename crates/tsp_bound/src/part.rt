@@ -7,19 +7,17 @@ ghost use Rattle.tsp_format.specs.Limits.{most_nodes};
 ghost use Rattle.tsp_bound.specs.states.Boxes.{node_of};
 ghost use Rattle.tsp_bound.specs.states.Components.{IsWeighedForest};
 ghost use Rattle.tsp_theory.specs.Forest.{IsWholeForest};
-ghost use Rattle.tsp_bound.specs.states.Multipliers.{triples_in, weight_less};
 ghost use Rattle.tsp_bound.specs.states.Numbering.{on_both};
 ghost use Rattle.tsp_theory.specs.CertificateNumbers.{IsFromTo, IsSumSized};
 ghost use Rattle.tsp_theory.specs.Tree.{weight_of};
 
+use crate::boxed_weights::BoxedWeights;
 use crate::labelled::Labelled;
 use crate::numbering::places_in;
 use crate::placed::Placed;
 use crate::rounds::grow_by_rounds;
-use crate::weights::Weights;
 use std::alloc::Global;
 use tsp_memory::{Refused, push, with_capacity};
-use tsp_theory::{Costs, Grouped};
 use tsp_tree::Grown;
 
 /// A least tree over the nodes 2..n: each pair leads from a part that no earlier pair leaves to a
@@ -31,16 +29,13 @@ use tsp_tree::Grown;
 /// # Errors
 ///
 /// Out of memory.
-pub(crate) fn grow<C: Grouped>(
-    alloc: Global,
-    w: &Weights<C>,
-    row: &mut [i64],
-) -> Result<Grown, Refused>
-    requires { length row.old ≡ C.nodes w.now.c.now + 1 }
-    ensures whole { IfOk result (λ grown. IsWholeForest (C.nodes w.now.c.now)
-        (weight_less w.now.p.now (triples_in w.now.m.now) (C.at w.now.c.now)) grown.pairs.items) }
+pub(crate) fn grow<W: BoxedWeights>(alloc: Global, w: &W, row: &mut [i64]) -> Result<Grown, Refused>
+    requires some { 3 ≤ W.nodes w.now }
+    requires room { length row.old ≡ W.nodes w.now + 1 }
+    ensures whole { IfOk result (λ grown. IsWholeForest (W.nodes w.now)
+        (W.at w.now) grown.pairs.items) }
     ensures weight { IfOk result (λ grown. grown.weight
-        ≡ weight_of (weight_less w.now.p.now (triples_in w.now.m.now) (C.at w.now.c.now)) grown.pairs.items) }
+        ≡ weight_of (W.at w.now) grown.pairs.items) }
     ensures size { IfOk result (λ grown. IsFromTo (neg_ℤ (pos (most_nodes * 2 ^ 63)))
         (pos (most_nodes * 2 ^ 63)) grown.weight) }
 {
@@ -56,11 +51,11 @@ pub(crate) fn grow<C: Grouped>(
 /// # Errors
 ///
 /// Out of memory.
-fn inner_order<C: Grouped>(alloc: Global, c: &C) -> Result<Option<Vec<u32>>, Refused>
-    ensures { IfOk result (λ found. IfSome found (λ order. length order.items + 1 ≡ C.nodes c.now)) }
+fn inner_order<W: BoxedWeights>(alloc: Global, w: &W) -> Result<Option<Vec<u32>>, Refused>
+    ensures { IfOk result (λ found. IfSome found (λ order. length order.items + 1 ≡ W.nodes w.now)) }
 {
-    let order = c.order(alloc)?;
-    if order.len() + 1 == c.count() as usize {
+    let order = w.order(alloc)?;
+    if order.len() + 1 == w.count() as usize {
         Ok(Some(order))
     } else {
         Ok(None)
@@ -73,34 +68,34 @@ fn inner_order<C: Grouped>(alloc: Global, c: &C) -> Result<Option<Vec<u32>>, Ref
 /// # Errors
 ///
 /// Out of memory.
-fn joined<C: Grouped>(alloc: Global, w: &Weights<C>) -> Result<Option<Grown>, Refused>
-    ensures { IfOk result (λ found. IfSome found (λ grown. IsWeighedForest (C.nodes w.now.c.now)
-        (weight_less w.now.p.now (triples_in w.now.m.now) (C.at w.now.c.now)) grown.pairs.items grown.weight)) }
+fn joined<W: BoxedWeights>(alloc: Global, w: &W) -> Result<Option<Grown>, Refused>
+    ensures { IfOk result (λ found. IfSome found (λ grown. IsWeighedForest (W.nodes w.now)
+        (W.at w.now) grown.pairs.items grown.weight)) }
 {
-    let Some(order) = inner_order(alloc, w.c)? else {
+    let Some(order) = inner_order(alloc, w)? else {
         return Ok(None);
     };
     joined_over(alloc, w, &order)
 }
 
 /// The same over an order of nodes.
-fn joined_over<C: Grouped>(
+fn joined_over<W: BoxedWeights>(
     alloc: Global,
-    w: &Weights<C>,
+    w: &W,
     order: &[u32],
 ) -> Result<Option<Grown>, Refused>
-    requires count { length order.now + 1 ≡ C.nodes w.now.c.now }
-    ensures { IfOk result (λ found. IfSome found (λ grown. IsWeighedForest (C.nodes w.now.c.now)
-        (weight_less w.now.p.now (triples_in w.now.m.now) (C.at w.now.c.now)) grown.pairs.items grown.weight)) }
+    requires count { length order.now + 1 ≡ W.nodes w.now }
+    ensures { IfOk result (λ found. IfSome found (λ grown. IsWeighedForest (W.nodes w.now)
+        (W.at w.now) grown.pairs.items grown.weight)) }
 {
-    let Some(places) = places_in(alloc, order, w.c.count())? else {
+    let Some(places) = places_in(alloc, order, w.count())? else {
         return Ok(None);
     };
-    let placed = Placed::new(w.c, *w.p, w.m, order, &places);
+    let placed = Placed::new(w, order, &places);
     let Some(mut nodes) = Labelled::new(alloc, placed)? else {
         return Ok(None);
     };
-    let Some(pairs) = grow_by_rounds(alloc, &mut nodes, most_steps(w.c.count()))? else {
+    let Some(pairs) = grow_by_rounds(alloc, &mut nodes, most_steps(w.count()))? else {
         return Ok(None);
     };
     let grown = weighed(alloc, w, order, &pairs)?;
@@ -119,28 +114,27 @@ fn most_steps(count: u32) -> u64 {
 /// # Errors
 ///
 /// Out of memory.
-fn weighed<C: Costs>(
+fn weighed<W: BoxedWeights>(
     alloc: Global,
-    w: &Weights<C>,
+    w: &W,
     order: &[u32],
     pairs: &[(u32, u32)],
 ) -> Result<Grown, Refused>
-    requires nodes { (j : ℕ) → j < length order.now → IsNode (C.nodes w.now.c.now) (node_of order.now j) }
+    requires nodes { (j : ℕ) → j < length order.now → IsNode (W.nodes w.now) (node_of order.now j) }
     requires places { All (λ pair. (pair.0 < length order.now) × (pair.1 < length order.now)) pairs.now }
     requires few { length pairs.now ≤ most_nodes }
     ensures pairs { IfOk result (λ grown. grown.pairs.items ≡ map (on_both (node_of order.now)) pairs.now) }
     ensures weight { IfOk result (λ grown. grown.weight
-        ≡ weight_of (weight_less w.now.p.now (triples_in w.now.m.now) (C.at w.now.c.now)) grown.pairs.items) }
+        ≡ weight_of (W.at w.now) grown.pairs.items) }
     ensures size { IfOk result (λ grown. IsSumSized (length grown.pairs.items) grown.weight) }
 {
-    let mut named = with_capacity(alloc, w.c.count() as usize + 1)?;
+    let mut named = with_capacity(alloc, w.count() as usize + 1)?;
     let mut weight: i128 = 0;
     'pairs: for pair in pairs {
         let from = order[pair.0 as usize];
         let to = order[pair.1 as usize];
         push(&mut named, (from, to))?;
-        let number = w.m.between(from, to);
-        weight += i128::from(w.p.weight(w.c, from, to) - number);
+        weight += i128::from(w.weight(from, to));
     }
     Ok(Grown {
         pairs: named,

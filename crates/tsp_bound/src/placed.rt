@@ -4,70 +4,44 @@ ghost use Rattle.std.specs.Prelude.{◌≡◌, ◌<◌, ◌+◌, ◌^◌, ℕ, l
 ghost use Rattle.tsp_format.specs.Nodes.{IsNode};
 ghost use Rattle.tsp_theory.specs.Tree.{IsInner};
 ghost use Rattle.tsp_bound.specs.states.Boxes.{node_of};
-ghost use Rattle.tsp_bound.specs.states.Multipliers.{node_count};
 ghost use Rattle.tsp_bound.specs.states.Numbering.{IsNumbering};
-ghost use Rattle.tsp_bound.specs.states.Potentials.{numbers_of};
 
-use crate::by_node::ByNode;
+use crate::boxed_weights::BoxedWeights;
 use crate::link::Link;
 use crate::nearest::{Best, nearest_from};
-use crate::potentials::Potentials;
 use crate::search::{Search, inverse_of};
 use crate::seen::Seen;
-use tsp_theory::Grouped;
 
 /// An order of the nodes 2..n, the place of each in it, and what gives the weights between them.
 #[derive(Drop)]
-pub(crate) struct Placed<'a, C: Grouped> {
-    pub(crate) c: &'a C,
-    pub(crate) p: Potentials<'a>,
-    m: &'a ByNode<'a>,
+pub(crate) struct Placed<'a, W: BoxedWeights> {
+    pub(crate) w: &'a W,
     pub(crate) order: &'a [u32],
     places: &'a [u32],
-    ghost count: { length (numbers_of p) ≡ C.nodes c.now },
-    ghost over: { node_count m.now ≡ C.nodes c.now },
-    ghost long: { length places.now ≡ C.nodes c.now + 1 },
-    ghost inner: { (j : ℕ) → j < length order.now → IsInner (C.nodes c.now) (node_of order.now j) },
-    ghost placed: { (x : ℕ) → IsInner (C.nodes c.now) x → slice_index_or places.now x 0 < length order.now },
+    ghost long: { length places.now ≡ W.nodes w.now + 1 },
+    ghost inner: { (j : ℕ) → j < length order.now → IsInner (W.nodes w.now) (node_of order.now j) },
+    ghost placed: { (x : ℕ) → IsInner (W.nodes w.now) x → slice_index_or places.now x 0 < length order.now },
     ghost back: { (j : ℕ) → j < length order.now → slice_index_or places.now (node_of order.now j) 0 ≡ j },
-    ghost there: { (x : ℕ) → IsInner (C.nodes c.now) x → node_of order.now (slice_index_or places.now x 0) ≡ x },
-    ghost nodes: { (j : ℕ) → j < length order.now → IsNode (C.nodes c.now) (node_of order.now j) },
+    ghost there: { (x : ℕ) → IsInner (W.nodes w.now) x → node_of order.now (slice_index_or places.now x 0) ≡ x },
+    ghost nodes: { (j : ℕ) → j < length order.now → IsNode (W.nodes w.now) (node_of order.now j) },
     ghost few: { length order.now < 2 ^ 31 },
 }
 
-impl<'a, C: Grouped> Placed<'a, C> {
+impl<'a, W: BoxedWeights> Placed<'a, W> {
     ghost use Rattle.std.specs.Prelude.{true, false, IfSome, MatchOption};
     ghost use Rattle.tsp_bound.specs.states.Boxes.{HoldsNode, AreHeld, IsBest};
     ghost use Rattle.tsp_bound.specs.states.Components.{IsNearest};
-    ghost use Rattle.tsp_bound.specs.states.Multipliers.{triples_in, weight_less};
-    ghost use Rattle.tsp_bound.specs.states.Potentials.{weight_under};
 
     /// The nodes of an order, with the place of each.
-    pub(crate) fn new(
-        c: &'a C,
-        p: Potentials<'a>,
-        m: &'a ByNode<'a>,
-        order: &'a [u32],
-        places: &'a [u32],
-    ) -> Placed<'a, C>
-        requires count { length (numbers_of p) ≡ C.nodes c.now }
-        requires over { node_count m.now ≡ C.nodes c.now }
-        requires long { length places.now ≡ C.nodes c.now + 1 }
-        requires numbering { IsNumbering (length order.now) (IsInner (C.nodes c.now)) (node_of order.now)
+    pub(crate) fn new(w: &'a W, order: &'a [u32], places: &'a [u32]) -> Placed<'a, W>
+        requires long { length places.now ≡ W.nodes w.now + 1 }
+        requires numbering { IsNumbering (length order.now) (IsInner (W.nodes w.now)) (node_of order.now)
             (λ x. slice_index_or places.now x 0) }
         requires few { length order.now < 2 ^ 31 }
-        ensures costs { result.c.now ≡ c.now }
-        ensures potentials { result.p ≡ p.entry }
-        ensures multipliers { result.m.now ≡ m.now }
+        ensures weights { result.w.now ≡ w.now }
         ensures order { result.order.now ≡ order.now }
     {
-        Placed {
-            c,
-            p,
-            m,
-            order,
-            places,
-        }
+        Placed { w, order, places }
     }
 
     /// The least link from a node to one outside, by places, or none. It adds to `steps` what the
@@ -82,22 +56,21 @@ impl<'a, C: Grouped> Placed<'a, C> {
         requires from { from < length self.now.order.now }
         requires near { near < length self.now.order.now }
         requires as_many { S.count_of seen.now ≡ length self.now.order.now }
-        requires held { AreHeld (HoldsNode (C.place self.now.c.now) (numbers_of self.now.p))
+        requires held { AreHeld (HoldsNode (W.place_of self.now.w.now) (W.number_of self.now.w.now))
             self.now.order.now (S.outside_of seen.now) (S.area_of seen.now) }
         ensures { IfSome result (λ link. IsNearest (length self.now.order.now)
-            (λ i j. weight_less self.now.p (triples_in self.now.m.now) (C.at self.now.c.now)
+            (λ i j. W.at self.now.w.now
             (node_of self.now.order.now i) (node_of self.now.order.now j))
             (S.outside_of seen.now) from link) }
     {
         let node = self.order[from as usize];
         let search = Search {
-            c: self.c,
-            p: &self.p,
+            w: self.w,
             order: self.order,
             seen,
             from: node,
-            own: self.p.number(node),
-            inverse: inverse_of(self.p.scale),
+            own: self.w.number(node),
+            inverse: inverse_of(self.w.scale()),
         };
         let unlowered = nearest_from(&search, from as usize, near as usize, steps);
         let best = self.lowered(seen, from, unlowered, steps);
@@ -113,11 +86,11 @@ impl<'a, C: Grouped> Placed<'a, C> {
 
     /// The place of a node that is outside, else none.
     fn place_outside<S: Seen>(&self, seen: &S, node: u32) -> Option<usize>
-        requires node { IsNode (node_count self.now.m.now) node }
+        requires node { IsNode (W.nodes self.now.w.now) node }
         requires as_many { S.count_of seen.now ≡ length self.now.order.now }
-        ensures { MatchOption result (IsInner (node_count self.now.m.now) node
+        ensures { MatchOption result (IsInner (W.nodes self.now.w.now) node
             → S.outside_of seen.now (slice_index_or self.now.places.now node 0) ≡ false)
-            (λ place. IsInner (node_count self.now.m.now) node
+            (λ place. IsInner (W.nodes self.now.w.now) node
             × (place ≡ slice_index_or self.now.places.now node 0)
             × (S.outside_of seen.now place ≡ true)) }
     {
@@ -133,25 +106,24 @@ impl<'a, C: Grouped> Placed<'a, C> {
         }
     }
 
-    /// The best node, where it is known without multipliers: the nodes whose weights they lower may
+    /// The best node, where it is known before weights are lowered: the nodes to which they are may
     /// be better.
     ///
     /// It adds to `steps` how many these are.
     fn lowered<S: Seen>(&self, seen: &S, from: u32, unlowered: Best, steps: &mut u64) -> Best
         requires from { from < length self.now.order.now }
         requires as_many { S.count_of seen.now ≡ length self.now.order.now }
-        requires best { IsBest (weight_under self.now.p (C.at self.now.c.now)) self.now.order.now
+        requires best { IsBest (W.unlowered self.now.w.now) self.now.order.now
             (S.outside_of seen.now) (node_of self.now.order.now from) unlowered }
-        ensures { IsBest (weight_less self.now.p (triples_in self.now.m.now) (C.at self.now.c.now))
+        ensures { IsBest (W.at self.now.w.now)
             self.now.order.now (S.outside_of seen.now) (node_of self.now.order.now from) result }
     {
         let node = self.order[from as usize];
         let mut best = unlowered;
-        'lowerings: for lowering in self.m.at(node) {
-            let (other, number) = *lowering;
+        'lowered: for index in 0..self.w.count_lowered(node) {
+            let (other, weight) = self.w.lowered(node, index);
             *steps = steps.wrapping_add(1);
             if let Some(place) = self.place_outside(seen, other) {
-                let weight = self.p.weight(self.c, node, other) - number;
                 if weight < best.weight {
                     best = Best { weight, place };
                 }

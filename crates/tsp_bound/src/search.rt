@@ -1,16 +1,16 @@
 //! A search from one node, over a tree of boxes.
 
-ghost use Rattle.std.specs.Prelude.{◌≡◌, ◌≤◌, ◌<◌, ◌+◌, ◌*◌, ◌^◌, ◌≤ℤ◌, ◌*ℤ◌, ℕ, length};
+ghost use Rattle.std.specs.Prelude.{◌≡◌, ◌≤◌, ◌<◌, ◌+◌, ◌*◌, ◌^◌, ◌≤ℤ◌, ◌*ℤ◌, ℕ, length, pos, neg_ℤ};
 ghost use Rattle.std.specs.Bool.{OnTrue};
 ghost use Rattle.tsp_format.specs.Nodes.{IsNode};
-ghost use Rattle.tsp_theory.specs.CertificateNumbers.{IsScale, entry};
-ghost use Rattle.tsp_bound.specs.states.Potentials.{scale_of, numbers_of, weight_under, IsInverse};
+ghost use Rattle.tsp_theory.specs.CertificateNumbers.{IsFromTo, IsScale};
+ghost use Rattle.tsp_bound.specs.states.NodeNumbers.{most_number};
+ghost use Rattle.tsp_bound.specs.states.Potentials.{IsInverse};
 ghost use Rattle.tsp_bound.specs.states.Boxes.{HoldsNode, AreHeld, AreHeld-prop, IsBelowAll, IsSearched, node_of};
 
+use crate::boxed_weights::BoxedWeights;
 use crate::nearest::Best;
-use crate::potentials::Potentials;
 use crate::seen::Seen;
-use tsp_theory::Grouped;
 
 const TWO_TO_64: u128 = 18_446_744_073_709_551_616;
 
@@ -43,38 +43,38 @@ fn cost_of(scale: i64, inverse: u64, weight: i64) -> i64
     (product / TWO_TO_64) as i64 + 1
 }
 
-/// The node that a search is from with its potential, and the nodes and boxes that it looks at.
+/// The node that a search is from with its number, and the nodes and boxes that it looks at.
 #[derive(Drop)]
-pub(crate) struct Search<'a, C: Grouped, S: Seen> {
-    pub(crate) c: &'a C,
-    pub(crate) p: &'a Potentials<'a>,
+pub(crate) struct Search<'a, W: BoxedWeights, S: Seen> {
+    pub(crate) w: &'a W,
     pub(crate) order: &'a [u32],
     pub(crate) seen: &'a S,
     pub(crate) from: u32,
     pub(crate) own: i64,
     pub(crate) inverse: u64,
-    ghost count: { length (numbers_of p.now) ≡ C.nodes c.now },
-    ghost nodes: { (j : ℕ) → j < length order.now → IsNode (C.nodes c.now) (node_of order.now j) },
+    ghost nodes: { (j : ℕ) → j < length order.now → IsNode (W.nodes w.now) (node_of order.now j) },
     ghost few: { length order.now < 2 ^ 31 },
     ghost as_many: { S.count_of seen.now ≡ length order.now },
-    ghost held: { AreHeld (HoldsNode (C.place c.now) (numbers_of p.now)) order.now (S.outside_of seen.now)
-        (S.area_of seen.now) } by { AreHeld-prop (C.place c.now) (numbers_of p.now) order.now (S.outside_of seen.now) (S.area_of seen.now) },
-    ghost from_in: { IsNode (C.nodes c.now) from },
-    ghost own_is: { own ≡ entry (numbers_of p.now) from },
-    ghost inverse_is: { IsInverse (scale_of p.now) inverse },
+    ghost held: { AreHeld (HoldsNode (W.place_of w.now) (W.number_of w.now)) order.now (S.outside_of seen.now)
+        (S.area_of seen.now) } by { AreHeld-prop (W.place_of w.now) (W.number_of w.now) order.now (S.outside_of seen.now) (S.area_of seen.now) },
+    ghost from_in: { IsNode (W.nodes w.now) from },
+    ghost scaled: { IsScale (W.scale_of w.now) },
+    ghost own_size: { IsFromTo (neg_ℤ (pos most_number)) (pos most_number) own },
+    ghost own_is: { own ≡ W.number_of w.now from },
+    ghost inverse_is: { IsInverse (W.scale_of w.now) inverse },
 }
 
-impl<C: Grouped, S: Seen> Search<'_, C, S> {
+impl<W: BoxedWeights, S: Seen> Search<'_, W, S> {
     /// Whether it is known that no node in the box `v` weighs less than `best`.
     ///
     /// A node can weigh less only where its cost is less than what is left of `best` without the
-    /// potentials: a comparison of squares, where a cost takes a root.
+    /// numbers of both nodes: a comparison of squares, where a cost takes a root.
     #[inline(always)]
     pub(crate) fn is_left_alone(&self, v: usize, best: i64) -> bool
         requires { v < 2 * length self.now.order.now }
-        ensures { OnTrue result (IsBelowAll (IsNode (C.nodes self.now.c.now))
-            (HoldsNode (C.place self.now.c.now) (numbers_of self.now.p.now) (S.area_of self.now.seen.now v))
-            (weight_under self.now.p.now (C.at self.now.c.now) self.now.from) best) }
+        ensures { OnTrue result (IsBelowAll (IsNode (W.nodes self.now.w.now))
+            (HoldsNode (W.place_of self.now.w.now) (W.number_of self.now.w.now) (S.area_of self.now.seen.now v))
+            (W.unlowered self.now.w.now self.now.from) best) }
     {
         let Some(area) = self.seen.area(v) else {
             return true;
@@ -82,8 +82,8 @@ impl<C: Grouped, S: Seen> Search<'_, C, S> {
         match best.checked_sub(self.own + area.least) {
             None => false,
             Some(left) => {
-                let least = cost_of(self.p.scale, self.inverse, left);
-                self.c.is_beyond(self.from, &area.region, least)
+                let least = cost_of(self.w.scale(), self.inverse, left);
+                self.w.is_beyond(self.from, &area.region, least)
             }
         }
     }
@@ -92,13 +92,15 @@ impl<C: Grouped, S: Seen> Search<'_, C, S> {
     #[inline]
     pub(crate) fn better_of(&self, place: usize, best: Best) -> Best
         requires { place < length self.now.order.now }
-        ensures { IsSearched (weight_under self.now.p.now (C.at self.now.c.now)) self.now.order.now
+        ensures { IsSearched (W.unlowered self.now.w.now) self.now.order.now
             (S.outside_of self.now.seen.now) self.now.from (length self.now.order.now + place) best result }
     {
         if !self.seen.is_outside(place) {
             return best;
         }
-        let weight = self.p.weight(self.c, self.from, self.order[place]);
+        let weight = self
+            .w
+            .weight_within(self.from, self.order[place], best.weight);
         if weight < best.weight {
             Best { weight, place }
         } else {
@@ -114,7 +116,7 @@ impl<C: Grouped, S: Seen> Search<'_, C, S> {
     pub(crate) fn below(&self, v: usize, best: Best, steps: &mut u64) -> Best
         requires low { 1 ≤ v }
         requires high { v < 2 * length self.now.order.now }
-        ensures { IsSearched (weight_under self.now.p.now (C.at self.now.c.now)) self.now.order.now
+        ensures { IsSearched (W.unlowered self.now.w.now) self.now.order.now
             (S.outside_of self.now.seen.now) self.now.from v best result }
     {
         if v >= self.order.len() {

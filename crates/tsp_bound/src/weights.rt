@@ -12,9 +12,12 @@ ghost use Rattle.tsp_bound.specs.states.ByNode.{lowered_by};
 ghost use Rattle.tsp_bound.specs.states.Multipliers.{node_count};
 ghost use Rattle.tsp_bound.specs.states.Potentials.{numbers_of, weight_under};
 
+use crate::boxed_weights::BoxedWeights;
 use crate::by_node::ByNode;
 use crate::potentials::Potentials;
-use tsp_theory::Costs;
+use std::alloc::Global;
+use tsp_memory::Refused;
+use tsp_theory::{Costs, Grouped, Region};
 use tsp_tree::add_at;
 
 /// Costs of three or more nodes, and the potentials and the multipliers of these.
@@ -99,5 +102,70 @@ fn lower(row: &mut [i64], lowerings: &[(u32, i64)])
     'lowerings: for lowering in lowerings {
         let (node, number) = *lowering;
         add_at(row, node, -number);
+    }
+}
+
+impl<C: Grouped> BoxedWeights for Weights<'_, C> {
+    ghost use Rattle.std.specs.Prelude.{map};
+    ghost use Rattle.tsp_theory.specs.CertificateNumbers.{entry};
+    ghost use Rattle.tsp_bound.specs.states.ByNode.{all_said_of};
+    ghost use Rattle.tsp_bound.specs.states.Potentials.{scale_of};
+    ghost use Rattle.tsp_bound.specs.states.Multipliers.{triples_in};
+
+    ghost place_of = { λ w. C.place w.c.now };
+
+    ghost scale_of = { λ w. scale_of w.p.now };
+
+    ghost cost_of = { λ w. C.at w.c.now };
+
+    ghost number_of = { λ w. entry (numbers_of w.p.now) };
+
+    ghost unlowered = { λ w. weight_under w.p.now (C.at w.c.now) };
+
+    ghost lowered_of = { λ w from. map (λ lowering. lowering.0) (all_said_of from (triples_in w.m.now)) };
+
+    #[inline]
+    fn scale(&self) -> i64 {
+        self.p.scale
+    }
+
+    #[inline]
+    fn number(&self, node: u32) -> i64 {
+        self.p.number(node)
+    }
+
+    fn order(&self, alloc: Global) -> Result<Vec<u32>, Refused> {
+        self.c.order(alloc)
+    }
+
+    #[inline]
+    fn region(&self, node: u32) -> Option<Region> {
+        self.c.region(node)
+    }
+
+    #[inline(always)]
+    fn is_beyond(&self, from: u32, region: &Region, least: i64) -> bool {
+        self.c.is_beyond(from, region, least)
+    }
+
+    #[inline]
+    fn weight_within(&self, from: u32, to: u32, most: i64) -> i64 {
+        self.p.weight(self.c, from, to)
+    }
+
+    #[inline]
+    fn count_lowered(&self, from: u32) -> usize {
+        self.m.at(from).len()
+    }
+
+    #[inline]
+    fn lowered(&self, from: u32, index: usize) -> (u32, i64) {
+        let (to, number) = self.m.at(from)[index];
+        (to, self.p.weight(self.c, from, to) - number)
+    }
+
+    fn weight(&self, from: u32, to: u32) -> i64 {
+        let number = self.m.between(from, to);
+        self.p.weight(self.c, from, to) - number
     }
 }

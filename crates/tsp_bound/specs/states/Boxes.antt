@@ -4,14 +4,13 @@ use denote.Struct.Props as logic
 use mathlib.Core.HLevel.{Π_prop, ⊥_prop}
 use Rattle.tsp_distance.specs.declared.decimal.Point.{Point}
 use Rattle.tsp_theory.specs.Regions.{IsIn}
-use Rattle.tsp_theory.specs.CertificateNumbers.{entry}
 use Rattle.tsp_bound.specs.declared.area.Area.{Area}
 use Rattle.tsp_bound.specs.declared.nearest.Best.{Best}
 
--- the node's place lies in the box, and its potential is no less than the box's least
-abbrev pub HoldsNode : (ℕ → Point) → List ℤ → Option Area → ℕ → Type 0
-HoldsNode place numbers None node = ⊥
-HoldsNode place numbers (Some area) node = IsIn area.region (place node) × (area.least ≤ℤ entry numbers node)
+-- the node's place lies in the box, and its number is no less than the box's least
+abbrev pub HoldsNode : (ℕ → Point) → (ℕ → ℤ) → Option Area → ℕ → Type 0
+HoldsNode place number None node = ⊥
+HoldsNode place number (Some area) node = IsIn area.region (place node) × (area.least ≤ℤ number node)
 
 -- the box height levels above the box v: 2 * v and 2 * v + 1 are the halves of v
 abbrev pub up : ℕ → ℕ → ℕ
@@ -75,13 +74,13 @@ pub record IsSearched (w : ℕ → ℕ → ℤ) (order : List ℕ) (outside : �
 
 -- ---- each has one proof at most
 
-pub HoldsNode-prop : (place : ℕ → Point) (numbers : List ℤ) (area : Option Area) (node : ℕ)
-    → IsProp (HoldsNode place numbers area node)
-HoldsNode-prop place numbers None node = ⊥_prop
-HoldsNode-prop place numbers (Some area) node = Prim.hlevel logic.props
+pub HoldsNode-prop : (place : ℕ → Point) (number : ℕ → ℤ) (area : Option Area) (node : ℕ)
+    → IsProp (HoldsNode place number area node)
+HoldsNode-prop place number None node = ⊥_prop
+HoldsNode-prop place number (Some area) node = Prim.hlevel logic.props
 
-pub AreHeld-prop : (place : ℕ → Point) (numbers : List ℤ) (order : List ℕ) (outside : ℕ → Bool) (area : ℕ → Option Area)
-    → IsProp (AreHeld (HoldsNode place numbers) order outside area)
-AreHeld-prop place numbers order outside area =
+pub AreHeld-prop : (place : ℕ → Point) (number : ℕ → ℤ) (order : List ℕ) (outside : ℕ → Bool) (area : ℕ → Option Area)
+    → IsProp (AreHeld (HoldsNode place number) order outside area)
+AreHeld-prop place number order outside area =
     Π_prop λ j. Π_prop λ height. Π_prop λ _. Π_prop λ _. Π_prop λ _.
-    HoldsNode-prop place numbers (area (up height (length order + j))) (node_of order j)
+    HoldsNode-prop place number (area (up height (length order + j))) (node_of order j)

@@ -1,7 +1,6 @@
 -- The goals of `boxes_of` in src/boxes.rt: its loop and what it ensures.
 use Rattle.std.proofs.Common.{◌≡◌, ◌-◌, ◌+◌, ℕ, Option, None, Some, length, arith, subst, ◌∙◌}
 use Rattle.std.proofs.Math.ListN.{length-set}
-use Rattle.tsp_bound.specs.states.Potentials.{numbers_of}
 use Rattle.tsp_bound.specs.declared.area.Area.{Area}
 use Rattle.tsp_bound.specs.states.Boxes.{HoldsNode, AreHeldFrom, area_at}
 use Rattle.tsp_bound.proofs.Trees.{leaf_more, held_leaves, refit_more}
@@ -9,7 +8,7 @@ use Rattle.tsp_bound.proofs.boxes.boxes_of.Goals as goal
 
 pub leaves-preserved : goal.leaves-preserved
 leaves-preserved g c =
-    let In : Option Area → ℕ → Type 0 = HoldsNode (g.C.Grouped.place c.args.c.now) (numbers_of c.args.p.now) in
+    let In : Option Area → ℕ → Type 0 = HoldsNode (g.W.BoxedWeights.place_of c.args.w.now) (g.W.BoxedWeights.number_of c.args.w.now) in
     record {
       len = length-set c.leaves.areas.items (length c.args.order.now + c.leaves.place) (Some c.in-Some.area) ∙ c.leaves.invariant.len;
       done = leaf_more None In c.args.order.now c.leaves.areas.items c.leaves.place (Some c.in-Some.area) c.leaves.invariant.len c.leaves-test.true c.in-Some.ensures c.leaves.invariant.done;
@@ -17,7 +16,7 @@ leaves-preserved g c =
 
 pub halves-init : goal.halves-init
 halves-init g c =
-    let In : Option Area → ℕ → Type 0 = HoldsNode (g.C.Grouped.place c.args.c.now) (numbers_of c.args.p.now) in
+    let In : Option Area → ℕ → Type 0 = HoldsNode (g.W.BoxedWeights.place_of c.args.w.now) (g.W.BoxedWeights.number_of c.args.w.now) in
     let all : c.leaves.place ≡ length c.args.order.now = omega arith in
     record {
       len = c.leaves.invariant.len;
@@ -27,14 +26,14 @@ halves-init g c =
 
 pub halves-preserved : goal.halves-preserved
 halves-preserved g c =
-    let In : Option Area → ℕ → Type 0 = HoldsNode (g.C.Grouped.place c.args.c.now) (numbers_of c.args.p.now) in
+    let In : Option Area → ℕ → Type 0 = HoldsNode (g.W.BoxedWeights.place_of c.args.w.now) (g.W.BoxedWeights.number_of c.args.w.now) in
     let v = c.halves.v - 1 in
     let next : c.halves.v ≡ v + 1 = omega arith in
     record {
       len = c.refit.ensures.len;
       high = omega arith;
       held = λ outside. refit_more None In c.args.order.now outside c.halves.areas.items c.refit.new.areas.items v c.halves.invariant.len (omega arith) (omega arith)
-          (c.refit.ensures.refit (g.C.Grouped.place c.args.c.now) (numbers_of c.args.p.now))
+          (c.refit.ensures.refit (g.W.BoxedWeights.place_of c.args.w.now) (g.W.BoxedWeights.number_of c.args.w.now))
           (subst (λ (k : ℕ). AreHeldFrom In k c.args.order.now outside (area_at c.halves.areas.items)) next (c.halves.invariant.held outside));
     }
 

@@ -1,20 +1,19 @@
 -- The loop of `boxes_of` in src/boxes.rt.
 use Rattle.std.proofs.Common.{◌≡◌, ◌≤◌, ◌<◌, ◌+◌, ◌*◌, ℕ, Bool, length}
-use Rattle.tsp_bound.specs.states.Potentials.{numbers_of}
 use Rattle.tsp_bound.specs.states.Boxes.{HoldsNode, AreHeldFrom, area_at, node_of}
 use Rattle.tsp_bound.proofs.boxes.boxes_of.Given as goal
 
 abbrev pub invariant-leaves : goal.invariant-leaves
 invariant-leaves g l = record {
   len : length l.areas.items ≡ 2 * length l.order;
-  done : (j : ℕ) → j < l.place → HoldsNode (g.C.Grouped.place l.c) (numbers_of l.p) (area_at l.areas.items (length l.order + j)) (node_of l.order j);
+  done : (j : ℕ) → j < l.place → HoldsNode (g.W.BoxedWeights.place_of l.w) (g.W.BoxedWeights.number_of l.w) (area_at l.areas.items (length l.order + j)) (node_of l.order j);
 }
 
 abbrev pub invariant-halves : goal.invariant-halves
 invariant-halves g l = record {
   len : length l.areas.items ≡ 2 * length l.order;
   high : l.v ≤ length l.order;
-  held : (outside : ℕ → Bool) → AreHeldFrom (HoldsNode (g.C.Grouped.place l.c) (numbers_of l.p)) l.v l.order outside (area_at l.areas.items);
+  held : (outside : ℕ → Bool) → AreHeldFrom (HoldsNode (g.W.BoxedWeights.place_of l.w) (g.W.BoxedWeights.number_of l.w)) l.v l.order outside (area_at l.areas.items);
 }
 
 abbrev pub decreases-halves : goal.decreases-halves

@@ -6,8 +6,8 @@ use Rattle.tsp_bound.specs.states.Boxes.{HoldsNode}
 use Rattle.tsp_bound.proofs.boxes.joined.Goals as goal
 
 pub returns-in-Some-second-clause-left : goal.returns-in-Some-second-clause-left
-returns-in-Some-second-clause-left c = λ place numbers node h.
-    let own : HoldsNode place numbers (Some c.in-Some.left) node = subst (λ (o : Option Area). HoldsNode place numbers o node) c.in-Some.is h in
+returns-in-Some-second-clause-left c = λ place number node h.
+    let own : HoldsNode place number (Some c.in-Some.left) node = subst (λ (o : Option Area). HoldsNode place number o node) c.in-Some.is h in
     let fits : FitsSigned w64 c.lesser.result = search rules in
     let its : FitsSigned w64 c.in-Some.left.least = search rules in
     let back = to_z-of_z w64 c.lesser.result fits in
@@ -15,8 +15,8 @@ returns-in-Some-second-clause-left c = λ place numbers node h.
     (c.joined.ensures.left (place node) own.0, omega (arith, ints, back, back', c.lesser.ensures.first, own.1))
 
 pub returns-in-Some-second-clause-right : goal.returns-in-Some-second-clause-right
-returns-in-Some-second-clause-right c = λ place numbers node h.
-    let own : HoldsNode place numbers (Some c.in-Some-second.right) node = subst (λ (o : Option Area). HoldsNode place numbers o node) c.in-Some-second.is h in
+returns-in-Some-second-clause-right c = λ place number node h.
+    let own : HoldsNode place number (Some c.in-Some-second.right) node = subst (λ (o : Option Area). HoldsNode place number o node) c.in-Some-second.is h in
     let fits : FitsSigned w64 c.lesser.result = search rules in
     let its : FitsSigned w64 c.in-Some-second.right.least = search rules in
     let back = to_z-of_z w64 c.lesser.result fits in

@@ -1,7 +1,6 @@
 -- The goals of `nearest_from` in src/nearest.rt: its loop.
 use Rattle.std.proofs.Common.{ℕ, ◌≡◌, ◌≢◌, ◌/◌, Option, arith, rules, w64, SFits}
 use Rattle.tsp_format.specs.Nodes.{IsNode}
-use Rattle.tsp_bound.specs.states.Potentials.{numbers_of, weight_under}
 use Rattle.tsp_bound.specs.declared.area.Area.{Area}
 use Rattle.tsp_bound.specs.states.Boxes.{HoldsNode, IsSearched, no_best}
 use Rattle.tsp_bound.proofs.Trees.{searched_alone, searched_both}
@@ -11,8 +10,8 @@ use Rattle.tsp_bound.proofs.nearest.nearest_from.Goals.{then-v-eq0, else-v-eq0, 
 pub climb-preserved : goal.climb-preserved
 climb-preserved g c =
     let s = c.args.search.now in
-    let w = weight_under s.p.now (g.C.Costs.at s.c.now) in
-    let In : Option Area → ℕ → Type 0 = HoldsNode (g.C.Grouped.place s.c.now) (numbers_of s.p.now) in
+    let w = g.W.BoxedWeights.unlowered s.w.now in
+    let In : Option Area → ℕ → Type 0 = HoldsNode (g.W.BoxedWeights.place_of s.w.now) (g.W.BoxedWeights.number_of s.w.now) in
     let outside = g.S.Seen.outside_of s.seen.now in
     let v = c.climb.v in
     let other = c.if-v-eq0.other in
@@ -24,7 +23,7 @@ climb-preserved g c =
     let searched : IsSearched w s.order.now outside s.from other c.climb.best c.if-not-is_left_alone.best = elim c.if-not-is_left_alone.branch [
       | then-not-is_left_alone u ↦ rw u.best-is u.below-best.ensures
       | else-not-is_left_alone u ↦
-          rw u.best-is (searched_alone In (IsNode (g.C.Costs.nodes s.c.now)) w s.order.now outside (g.S.Seen.area_of s.seen.now)
+          rw u.best-is (searched_alone In (IsNode (g.W.Weights.nodes s.w.now)) w s.order.now outside (g.S.Seen.area_of s.seen.now)
           s.from other c.climb.best fits (omega (arith, halves.0, c.climb-test.true)) s.held s.nodes u.if-not-is_left_alone.ensures)
     ] in
     record {

@@ -1,6 +1,5 @@
 -- The loop of `nearest_from` in src/nearest.rt.
 use Rattle.std.proofs.Common.{◌≤◌, ◌<◌, ◌*◌, length}
-use Rattle.tsp_bound.specs.states.Potentials.{weight_under}
 use Rattle.tsp_bound.specs.states.Boxes.{IsSearched, no_best}
 use Rattle.tsp_bound.proofs.nearest.nearest_from.Given as goal
 
@@ -8,7 +7,7 @@ abbrev pub invariant-climb : goal.invariant-climb
 invariant-climb g l = record {
   low : 1 ≤ l.v;
   high : l.v < 2 * length l.search.order.now;
-  searched : IsSearched (weight_under l.search.p.now (g.C.Costs.at l.search.c.now)) l.search.order.now
+  searched : IsSearched (g.W.BoxedWeights.unlowered l.search.w.now) l.search.order.now
       (g.S.Seen.outside_of l.search.seen.now) l.search.from l.v no_best l.best;
 }
 

@@ -3,15 +3,13 @@ use Rattle.std.proofs.Common.{arith}
 use Rattle.tsp_theory.proofs.Forests.{growth_is_forest}
 use Rattle.tsp_theory.specs.Forest.{IsWholeForest}
 use Rattle.tsp_theory.specs.Growth.{IsWholeGrowth}
-use Rattle.tsp_bound.specs.states.Multipliers.{triples_in, weight_less}
 use Rattle.tsp_tree.specs.declared.growth.Grown.{Grown}
 use Rattle.tsp_bound.proofs.Parts.{if_ok_more}
 use Rattle.tsp_bound.proofs.part.grow.Goals as goal
 
 pub returns-clause-whole : goal.returns-clause-whole
 returns-clause-whole g c =
-    let n = g.C.Costs.nodes c.args.w.now.c.now in
-    let w = weight_less c.args.w.now.p.now (triples_in c.args.w.now.m.now) (g.C.Costs.at c.args.w.now.c.now) in
-    let some = c.args.w.now.some in
+    let n = g.W.Weights.nodes c.args.w.now in
+    let w = g.W.Weights.at c.args.w.now in
     if_ok_more c.grow.result (λ (grown : Grown). IsWholeGrowth n w grown.pairs.items) (λ (grown : Grown). IsWholeForest n w grown.pairs.items)
-    (λ (grown : Grown) growth. growth_is_forest n w grown.pairs.items (omega (arith, some)) growth) c.grow.ensures.whole
+    (λ (grown : Grown) growth. growth_is_forest n w grown.pairs.items (omega (arith, c.requires.some)) growth) c.grow.ensures.whole

@@ -2,9 +2,8 @@
 use Rattle.std.proofs.Common.{◌≡◌, ◌∙◌, ℕ, List, length, map, arith, ap, subst}
 use Rattle.tsp_bound.specs.states.Boxes.{node_of}
 use Rattle.tsp_bound.specs.states.Components.{IsSpanning, IsWeighedForest}
-use Rattle.tsp_bound.specs.states.Multipliers.{triples_in, weight_less}
 use Rattle.tsp_bound.specs.states.Numbering.{on_both}
-use Rattle.tsp_bound.proofs.Parts.{weights_seen, spanning_seen, forest_of}
+use Rattle.tsp_bound.proofs.Parts.{spanning_seen, forest_of}
 use Rattle.tsp_bound.proofs.part.joined_over.Goals as goal
 
 pub returns : goal.returns
@@ -13,15 +12,12 @@ returns g c =
     let places : List ℕ = c.in-Some.places.items in
     let nodes = c.in-Some-2.nodes.placed in
     let num = rw c.in-Some.is at c.in_ok-places.ensures.numbering in
-    let w = weight_less c.args.w.now.p.now (triples_in c.args.w.now.m.now) (g.C.Costs.at c.args.w.now.c.now) in
+    let w = g.W.Weights.at c.args.w.now in
     let same_order : nodes.order.now ≡ order = (rw c.in-Some-2.is at c.in_ok-nodes.ensures.order) ∙ c.new-placed.ensures.order in
     let pairs = c.in-Some-3.pairs.items in
     let spanning : IsSpanning (length order) (λ i j. w (node_of order i) (node_of order j)) pairs =
-    spanning_seen order nodes.order.now w (weight_less nodes.p (triples_in nodes.m.now) (g.C.Costs.at nodes.c.now)) pairs same_order
-    (weights_seen c.args.w.now.p.now nodes.p c.args.w.now.m.now nodes.m.now (g.C.Costs.at c.args.w.now.c.now) (g.C.Costs.at nodes.c.now)
-    ((rw c.in-Some-2.is at c.in_ok-nodes.ensures.potentials) ∙ c.new-placed.ensures.potentials)
-    ((rw c.in-Some-2.is at c.in_ok-nodes.ensures.multipliers) ∙ c.new-placed.ensures.multipliers)
-    (ap (g.C.Costs.at) ((rw c.in-Some-2.is at c.in_ok-nodes.ensures.costs) ∙ c.new-placed.ensures.costs)))
+    spanning_seen order nodes.order.now w (g.W.Weights.at nodes.w.now) pairs same_order
+    (ap (g.W.Weights.at) ((rw c.in-Some-2.is at c.in_ok-nodes.ensures.weights) ∙ c.new-placed.ensures.weights))
     (rw c.in-Some-3.is at c.in_ok-pairs.ensures) in
     let last : ℕ = c.count.result in
     let grown = c.in_ok-grown.grown in

@@ -3,7 +3,6 @@ use Rattle.std.proofs.Common.{◌≡◌, length, map, take}
 use Rattle.tsp_bound.specs.states.Boxes.{node_of}
 use Rattle.tsp_bound.specs.states.Numbering.{on_both}
 use Rattle.tsp_theory.specs.CertificateNumbers.{IsSumSized}
-use Rattle.tsp_bound.specs.states.Multipliers.{triples_in, weight_less}
 use Rattle.tsp_theory.specs.Tree.{weight_of}
 use Rattle.tsp_bound.proofs.part.weighed.Given as goal
 
@@ -11,6 +10,6 @@ abbrev pub invariant-pairs : goal.invariant-pairs
 invariant-pairs g l = record {
   pairs : l.named.items ≡ map (on_both (node_of l.order)) (take l.pair-index l.pairs);
   count : length l.named.items ≡ l.pair-index;
-  sum : l.weight ≡ weight_of (weight_less l.w.p.now (triples_in l.w.m.now) (g.C.Costs.at l.w.c.now)) l.named.items;
+  sum : l.weight ≡ weight_of (g.W.Weights.at l.w) l.named.items;
   size : IsSumSized (length l.named.items) l.weight;
 }

@@ -1,5 +1,5 @@
 -- The goals of `cost_of` in src/search.rt: what it ensures.
-use Rattle.std.proofs.Common.{◌≡◌, ◌<◌, ◌^◌, ◌≤ℤ◌, pos, ap, arith, rules, w64, of_z, SFits}
+use Rattle.std.proofs.Common.{◌<◌, ◌^◌, ◌≤ℤ◌, pos, ap, arith, rules, w64, of_z, SFits}
 use Rattle.std.proofs.lemmas.Int.{ints}
 use Rattle.tsp_bound.proofs.Inverses.{cost_enough}
 use Rattle.tsp_bound.proofs.search.cost_of.Goals as goal

@@ -16,3 +16,8 @@ returns-clause-sums c =
     let t = c.args.self.now in
     let is = c.as_slice.ensures.value ∙ ap (λ v. v.items) c.index.ensures ∙ t.table.said c.args.node c.index.result.now c.requires.1 in
     rw is (λ (x : ℕ). lowered_said c.args.node t.triples.now x (recursion_from_All IsMultiplier t.triples.now t.are.each))
+
+pub returns-clause-said : goal.returns-clause-said
+returns-clause-said c =
+    let t = c.args.self.now in
+    c.as_slice.ensures.value ∙ ap (λ v. v.items) c.index.ensures ∙ t.table.said c.args.node c.index.result.now c.requires.1

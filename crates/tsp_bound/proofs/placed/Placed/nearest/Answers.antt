@@ -1,8 +1,6 @@
 -- The goals of `Placed::nearest` in src/placed.rt: what its calls require and what it ensures.
 use Rattle.std.proofs.Common.{◌≢◌, pos, rules, ap, w64, to_z, of_z, SFits}
 use Rattle.std.proofs.lemmas.Int.{to_z-of_z}
-use Rattle.tsp_bound.specs.states.Multipliers.{triples_in, weight_less}
-use Rattle.tsp_bound.specs.states.Potentials.{weight_under}
 use Rattle.tsp_bound.specs.states.Boxes.{node_of}
 use Rattle.tsp_bound.proofs.Lowest.{searched_best}
 use Rattle.tsp_bound.proofs.Trees.{found_some, nearest_is}
@@ -11,14 +9,14 @@ use Rattle.tsp_bound.proofs.placed.Placed.nearest.Goals as goal
 pub lowered-best-requires-clause-best : goal.lowered-best-requires-clause-best
 lowered-best-requires-clause-best g c =
     let s = c.args.self.now in
-    let w = weight_under s.p (g.C.Costs.at s.c.now) in
+    let w = g.W.BoxedWeights.unlowered s.w.now in
     searched_best w s.order.now (g.S.Seen.outside_of c.args.seen.now) (node_of s.order.now c.args.from) c.nearest_from-unlowered.result c.nearest_from-unlowered.ensures
 
 pub returns : goal.returns
 returns g c =
     let s = c.args.self.now in
     let outside = g.S.Seen.outside_of c.args.seen.now in
-    let w = weight_less s.p (triples_in s.m.now) (g.C.Costs.at s.c.now) in
+    let w = g.W.Weights.at s.w.now in
     let best = c.lowered-best.result in
     let fits : SFits w64 c.lowered-best.result.weight = search rules in
     let other : c.lowered-best.result.weight ≢ pos 9223372036854775807 = λ e. c.if-best-eq9223372036854775807.false (ap (of_z w64) e) in

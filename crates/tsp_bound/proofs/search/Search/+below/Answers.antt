@@ -1,7 +1,6 @@
 -- The goals of `Search::+below` in src/search.rt: what it ensures.
 use Rattle.std.proofs.Common.{ℕ, ◌+◌, ◌*◌, Option, arith, rules, w64, SFits}
 use Rattle.tsp_format.specs.Nodes.{IsNode}
-use Rattle.tsp_bound.specs.states.Potentials.{numbers_of, weight_under}
 use Rattle.tsp_bound.specs.declared.area.Area.{Area}
 use Rattle.tsp_bound.specs.states.Boxes.{HoldsNode, IsSearched}
 use Rattle.tsp_bound.proofs.Trees.{searched_alone, searched_both}
@@ -11,13 +10,13 @@ use Rattle.tsp_bound.proofs.search.Search.+below.Goals.{then-is_left_alone, else
 pub returns : goal.returns
 returns g t c =
     let s = c.args.self.now in
-    let w = weight_under s.p.now (g.C.Costs.at s.c.now) in
-    let In : Option Area → ℕ → Type 0 = HoldsNode (g.C.Grouped.place s.c.now) (numbers_of s.p.now) in
+    let w = g.W.BoxedWeights.unlowered s.w.now in
+    let In : Option Area → ℕ → Type 0 = HoldsNode (g.W.BoxedWeights.place_of s.w.now) (g.W.BoxedWeights.number_of s.w.now) in
     let outside = g.S.Seen.outside_of s.seen.now in
     let half = c.if-is_left_alone.half in
     let fits : SFits w64 c.args.best.weight = search rules in
     let first : IsSearched w s.order.now outside s.from (2 * c.args.v) c.args.best half = elim c.if-is_left_alone.branch [
-      | then-is_left_alone u ↦ rw u.half-is (searched_alone In (IsNode (g.C.Costs.nodes s.c.now)) w s.order.now outside (g.S.Seen.area_of s.seen.now) s.from (2 * c.args.v) c.args.best
+      | then-is_left_alone u ↦ rw u.half-is (searched_alone In (IsNode (g.W.Weights.nodes s.w.now)) w s.order.now outside (g.S.Seen.area_of s.seen.now) s.from (2 * c.args.v) c.args.best
           fits (omega (arith, c.requires.low)) s.held s.nodes u.if-is_left_alone.ensures)
       | else-is_left_alone u ↦ rw u.half-is u.below-half.ensures
     ] in
@@ -27,18 +26,18 @@ returns g t c =
 pub returns-then-is_left_alone-2 : goal.returns-then-is_left_alone-2
 returns-then-is_left_alone-2 g t c =
     let s = c.args.self.now in
-    let w = weight_under s.p.now (g.C.Costs.at s.c.now) in
-    let In : Option Area → ℕ → Type 0 = HoldsNode (g.C.Grouped.place s.c.now) (numbers_of s.p.now) in
+    let w = g.W.BoxedWeights.unlowered s.w.now in
+    let In : Option Area → ℕ → Type 0 = HoldsNode (g.W.BoxedWeights.place_of s.w.now) (g.W.BoxedWeights.number_of s.w.now) in
     let outside = g.S.Seen.outside_of s.seen.now in
     let half = c.if-is_left_alone.half in
     let fits : SFits w64 c.args.best.weight = search rules in
     let half_fits : SFits w64 half.weight = search rules in
     let first : IsSearched w s.order.now outside s.from (2 * c.args.v) c.args.best half = elim c.if-is_left_alone.branch [
-      | then-is_left_alone u ↦ rw u.half-is (searched_alone In (IsNode (g.C.Costs.nodes s.c.now)) w s.order.now outside (g.S.Seen.area_of s.seen.now) s.from (2 * c.args.v) c.args.best
+      | then-is_left_alone u ↦ rw u.half-is (searched_alone In (IsNode (g.W.Weights.nodes s.w.now)) w s.order.now outside (g.S.Seen.area_of s.seen.now) s.from (2 * c.args.v) c.args.best
           fits (omega (arith, c.requires.low)) s.held s.nodes u.if-is_left_alone.ensures)
       | else-is_left_alone u ↦ rw u.half-is u.below-half.ensures
     ] in
     searched_both w s.order.now outside s.from c.args.v (2 * c.args.v) (2 * c.args.v + 1) c.args.best half half
     c.if-v-self.false (omega arith) (omega arith) (λ same. omega (arith, same)) first
-    (searched_alone In (IsNode (g.C.Costs.nodes s.c.now)) w s.order.now outside (g.S.Seen.area_of s.seen.now) s.from (2 * c.args.v + 1) half
+    (searched_alone In (IsNode (g.W.Weights.nodes s.w.now)) w s.order.now outside (g.S.Seen.area_of s.seen.now) s.from (2 * c.args.v + 1) half
     half_fits (omega arith) s.held s.nodes c.if-is_left_alone-2.ensures)

@@ -1,40 +1,47 @@
 -- The goals of `Search::better_of` in src/search.rt: what it ensures.
-use Rattle.std.proofs.Common.{◌≡◌, ◌≤ℤ◌, ◌+◌, ℤ, length, arith, rules, sym, ◌∙◌, subst, inr, w64, to_z, of_z, SFits}
+use Rattle.std.proofs.Common.{◌≡◌, ◌≤ℤ◌, ◌<ℤ◌, ◌+◌, ℤ, length, arith, rules, sym, ◌∙◌, subst, inr, w64, to_z, of_z, SFits}
 use Rattle.std.proofs.lemmas.Int.{ints, to_z-of_z}
 use Rattle.std.proofs.lemmas.Bool.{false≢true}
-use Rattle.tsp_bound.specs.states.Potentials.{weight_under}
 use Rattle.tsp_bound.specs.states.Boxes.{node_of}
-use Rattle.tsp_bound.proofs.Boxed.{less_seen, not_less_seen}
+use Rattle.tsp_bound.proofs.Boxed.{less_seen, below_seen, not_less_seen}
 use Rattle.tsp_bound.proofs.Trees.{searched_none, leaf_below}
 use Rattle.tsp_bound.proofs.search.Search.better_of.Goals as goal
 
 pub returns-then-not-is_outside : goal.returns-then-not-is_outside
 returns-then-not-is_outside g c =
-    let w = weight_under c.args.self.now.p.now (g.C.Costs.at c.args.self.now.c.now) in
-    searched_none w c.args.self.now.order.now (g.S.Seen.outside_of c.args.self.now.seen.now) c.args.self.now.from (length c.args.self.now.order.now + c.args.place) c.args.best
-    (leaf_below w c.args.self.now.order.now (g.S.Seen.outside_of c.args.self.now.seen.now) c.args.self.now.from c.args.place c.args.best.weight (λ mine. absurd (false≢true (sym c.if-not-is_outside.true ∙ (c.is_outside.ensures ∙ mine)))))
+    let s = c.args.self.now in
+    let w = g.W.BoxedWeights.unlowered s.w.now in
+    searched_none w s.order.now (g.S.Seen.outside_of s.seen.now) s.from (length s.order.now + c.args.place) c.args.best
+    (leaf_below w s.order.now (g.S.Seen.outside_of s.seen.now) s.from c.args.place c.args.best.weight (λ mine. absurd (false≢true (sym c.if-not-is_outside.true ∙ (c.is_outside.ensures ∙ mine)))))
 
 pub returns-else-weight-best : goal.returns-else-weight-best
 returns-else-weight-best g c =
-    let w = weight_under c.args.self.now.p.now (g.C.Costs.at c.args.self.now.c.now) in
-    let fits : SFits w64 c.weight-weight.result = search rules in
+    let s = c.args.self.now in
+    let w = g.W.BoxedWeights.unlowered s.w.now in
+    let own = c.weight_within-weight in
+    let fits : SFits w64 c.weight_within-weight.result = search rules in
     let best_fits : SFits w64 c.args.best.weight = search rules in
-    let value : c.weight-weight.result ≡ w c.args.self.now.from (node_of c.args.self.now.order.now c.args.place) = c.weight-weight.ensures.value in
-    let below : c.args.best.weight ≤ℤ w c.args.self.now.from (node_of c.args.self.now.order.now c.args.place) =
-    subst (λ (z : ℤ). c.args.best.weight ≤ℤ z) value (not_less_seen c.weight-weight.result c.args.best.weight fits best_fits c.if-weight-best.false) in
-    searched_none w c.args.self.now.order.now (g.S.Seen.outside_of c.args.self.now.seen.now) c.args.self.now.from (length c.args.self.now.order.now + c.args.place) c.args.best
-    (leaf_below w c.args.self.now.order.now (g.S.Seen.outside_of c.args.self.now.seen.now) c.args.self.now.from c.args.place c.args.best.weight (λ mine. below))
+    let same = to_z-of_z w64 c.args.best.weight best_fits in
+    let below : c.args.best.weight ≤ℤ w s.from (node_of s.order.now c.args.place) =
+    subst (λ (z : ℤ). z ≤ℤ w s.from (node_of s.order.now c.args.place)) same
+    (own.ensures.no_less (subst (λ (z : ℤ). z ≤ℤ own.result) (sym same) (not_less_seen own.result c.args.best.weight fits best_fits c.if-weight-best.false))) in
+    searched_none w s.order.now (g.S.Seen.outside_of s.seen.now) s.from (length s.order.now + c.args.place) c.args.best
+    (leaf_below w s.order.now (g.S.Seen.outside_of s.seen.now) s.from c.args.place c.args.best.weight (λ mine. below))
 
 pub returns-then-weight-best : goal.returns-then-weight-best
 returns-then-weight-best g c =
-    let w = weight_under c.args.self.now.p.now (g.C.Costs.at c.args.self.now.c.now) in
-    let fits : SFits w64 c.weight-weight.result = search rules in
+    let s = c.args.self.now in
+    let w = g.W.BoxedWeights.unlowered s.w.now in
+    let own = c.weight_within-weight in
+    let fits : SFits w64 c.weight_within-weight.result = search rules in
     let best_fits : SFits w64 c.args.best.weight = search rules in
-    let value : c.weight-weight.result ≡ w c.args.self.now.from (node_of c.args.self.now.order.now c.args.place) = c.weight-weight.ensures.value in
-    let is : to_z w64 (of_z w64 c.weight-weight.result) ≡ w c.args.self.now.from (node_of c.args.self.now.order.now c.args.place) = to_z-of_z w64 c.weight-weight.result fits ∙ value in
+    let back = to_z-of_z w64 c.weight_within-weight.result fits in
+    let same = to_z-of_z w64 c.args.best.weight best_fits in
+    let value : own.result ≡ w s.from (node_of s.order.now c.args.place) = own.ensures.less (subst (λ (z : ℤ). own.result <ℤ z) (sym same) (below_seen own.result c.args.best.weight fits best_fits c.if-weight-best.true)) in
+    let is : to_z w64 (of_z w64 own.result) ≡ w s.from (node_of s.order.now c.args.place) = back ∙ value in
     record {
-      kept = less_seen (to_z w64 (of_z w64 c.weight-weight.result)) c.args.best.weight best_fits c.if-weight-best.true;
-      below = leaf_below w c.args.self.now.order.now (g.S.Seen.outside_of c.args.self.now.seen.now) c.args.self.now.from c.args.place (to_z w64 (of_z w64 c.weight-weight.result))
-          (λ mine. subst (λ (z : ℤ). z ≤ℤ w c.args.self.now.from (node_of c.args.self.now.order.now c.args.place)) (sym is) (omega (arith, ints)));
+      kept = less_seen (to_z w64 (of_z w64 own.result)) c.args.best.weight best_fits c.if-weight-best.true;
+      below = leaf_below w s.order.now (g.S.Seen.outside_of s.seen.now) s.from c.args.place (to_z w64 (of_z w64 own.result))
+          (λ mine. subst (λ (z : ℤ). z ≤ℤ w s.from (node_of s.order.now c.args.place)) (sym is) (omega (arith, ints)));
       found = inr (record { node_in = c.requires; out = sym c.is_outside.ensures ∙ c.if-not-is_outside.false; weight_is = is });
     }

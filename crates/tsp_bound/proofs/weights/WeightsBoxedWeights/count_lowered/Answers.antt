@@ -1,0 +1,19 @@
+-- The goals of `WeightsBoxedWeights::count_lowered` in src/weights.rt: what it ensures.
+use Rattle.std.proofs.Common.{◌≢◌, ◌<◌, ℕ, List, ℤ, length, map, arith, sym, subst}
+use Rattle.std.proofs.lemmas.Int.{ints}
+use Rattle.tsp_bound.specs.states.NodeNumbers.{node_in}
+use Rattle.tsp_bound.proofs.Lowered.{none_lowered, none_listed, lowered_size}
+use Rattle.tsp_bound.proofs.weights.WeightsBoxedWeights.count_lowered.Goals as goal
+
+pub returns-clause-no_more : goal.returns-clause-no_more
+returns-clause-no_more g c = λ to node.
+    let size = lowered_size c.args.self.now.m.now.nodes c.at.result.now to c.at.ensures.are in
+    let sum = c.at.ensures.sums to in
+    omega (arith, ints, size.0, sum)
+
+pub returns-clause-others : goal.returns-clause-others
+returns-clause-others g c = λ to node none.
+    let named : List (ℕ × ℤ) → Type 0 = λ ls. (k : ℕ) → k < length (map (λ lowering. lowering.0) ls) → node_in (map (λ lowering. lowering.0) ls) k ≢ to in
+    let nothing = none_lowered c.at.result.now to (none_listed c.at.result.now to (subst named (sym c.at.ensures.said) none)) in
+    let sum = c.at.ensures.sums to in
+    omega (arith, ints, nothing, sum)
