@@ -1,20 +1,73 @@
 //! How a run on texts ends.
 
-ghost use Rattle.std.specs.Prelude.{◌≡◌, IsErr, MatchResult};
+ghost use Rattle.std.specs.Prelude.{◌≡◌, ◌≢◌, IsErr, MatchResult};
 ghost use Rattle.tsp_stream.specs.states.Watched.{watched};
-ghost use Rattle.tsp_c.specs.Ended.{EndsOnTexts, IsPrinted, without_devices};
+ghost use Rattle.tsp_c.specs.Ended.{EndsOnTexts, IsPlaced, IsPrinted, without_devices};
+ghost use Rattle.tsp_c.specs.Texts.{IsRefusedNumber};
+ghost use Rattle.tsp_c.specs.Told.{blank_told};
 
 use crate::line::{NoLine, line_of};
-use tsp_judge::{ReadFault, RunFault, Status, Watched, WriteFault, status_of};
+use crate::place::place;
+use crate::told::Told;
+use std::alloc::Global;
+use std::marker::Model;
+use tsp_judge::{Early, ReadFault, RunFault, Status, Watched, WriteFault, status_of};
+
+/// The status of a call on texts, and its text. Contracts see a pair.
+///
+/// Only the calls of this file make one: out of memory comes from an [`Early`] or a [`NoLine`].
+#[derive(Drop)]
+pub(crate) struct Answer {
+    status: u8,
+    text: Vec<u8>,
+}
+
+impl Model for Answer {
+    ghost use Rattle.std.specs.Prelude.{ℕ, List};
+
+    ghost Value = { ℕ × List ℕ };
+
+    ghost view = { λ answer. (answer.status, answer.text.items) };
+}
+
+impl Answer {
+    /// A number is refused.
+    pub(crate) fn refused(alloc: Global) -> Answer
+        ensures { IsRefusedNumber result.0 result.1 }
+    {
+        Answer {
+            status: Status::Refused as u8,
+            text: Vec::new(alloc),
+        }
+    }
+
+    /// The numbers of the call, of which it has none out of memory.
+    pub(crate) fn numbers(&self, told: Told) -> Told
+        ensures kept { self.now.0 ≢ 3 → result ≡ told }
+        ensures none { self.now.0 ≡ 3 → result ≡ blank_told }
+    {
+        told.for_status(self.status)
+    }
+
+    /// Puts the text into a caller's buffer where it fits. The status of the call.
+    pub(crate) fn place(&self, out: &mut [u8], written: &mut usize) -> u32
+        ensures { IsPlaced self.now.1 self.now.0 out.old out.new written.new result }
+    {
+        place(&self.text, self.status, out, written)
+    }
+}
 
 /// The status with which a run on texts ends, and the text that goes to the caller: what the run
 /// wrote, or the line of its fault. Where there is no memory for a line, the text is empty.
-pub(crate) fn ended(answer: Result<bool, RunFault>, report: Watched<Vec<u8>>) -> (u8, Vec<u8>)
-    ensures { EndsOnTexts answer (watched report).items result.0 result.1.items }
+pub(crate) fn ended(answer: Result<bool, Early>, report: Watched<Vec<u8>>) -> Answer
+    ensures { EndsOnTexts answer (watched report).items result.0 result.1 }
 {
     match printed(answer, report) {
         Ok(printed) => printed,
-        Err(no_line) => (Status::OutOfMemory as u8, no_line.into_text()),
+        Err(no_line) => Answer {
+            status: Status::OutOfMemory as u8,
+            text: no_line.into_text(),
+        },
     }
 }
 
@@ -23,21 +76,24 @@ pub(crate) fn ended(answer: Result<bool, RunFault>, report: Watched<Vec<u8>>) ->
 /// # Errors
 ///
 /// Out of memory for the line of a fault.
-fn printed(
-    answer: Result<bool, RunFault>,
-    report: Watched<Vec<u8>>,
-) -> Result<(u8, Vec<u8>), NoLine>
+fn printed(answer: Result<bool, Early>, report: Watched<Vec<u8>>) -> Result<Answer, NoLine>
     ensures { MatchResult result
-        (λ printed. IsPrinted answer (watched report).items printed.0 printed.1.items)
+        (λ printed. IsPrinted answer (watched report).items printed.0 printed.1)
         (λ no_line. IsErr answer) }
 {
     let text = report.into_inner();
     match answer {
-        Ok(_) => Ok((status_of(&answer), text)),
-        Err(fault) => {
-            let fault = without_devices(fault);
+        Ok(accepts) => Ok(Answer {
+            status: status_of(&Ok(accepts)),
+            text,
+        }),
+        Err(early) => {
+            let fault = without_devices(early.fault());
             let line = line_of(text, fault)?;
-            Ok((status_of(&Err(fault)), line))
+            Ok(Answer {
+                status: status_of(&Err(fault)),
+                text: line,
+            })
         }
     }
 }

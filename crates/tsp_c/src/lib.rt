@@ -77,10 +77,10 @@ pub extern "C" fn tsp_check(
         out.old out.new written.new result }
 {
     let claim = Claim { claimed, has_claim };
-    let (status, text, _) = check_by(alloc, instance, solution, certificate, by, claim);
-    let answer = place(&text, status, out, written);
-    drop(text);
-    answer
+    let (answer, _) = check_by(alloc, instance, solution, certificate, by, claim);
+    let status = answer.place(out, written);
+    drop(answer);
+    status
 }
 
 /// The same as `tsp_check`, in numbers too.
@@ -102,11 +102,11 @@ pub extern "C" fn tsp_check_result(
         out.old out.new written.new result }
 {
     let claim = Claim { claimed, has_claim };
-    let (status, text, numbers) = check_by(alloc, instance, solution, certificate, by, claim);
+    let (answer, numbers) = check_by(alloc, instance, solution, certificate, by, claim);
     *told = numbers;
-    let answer = place(&text, status, out, written);
-    drop(text);
-    answer
+    let status = answer.place(out, written);
+    drop(answer);
+    status
 }
 
 /// Bounds the tours of an instance: by 1 with potentials, by 2 with branches.
@@ -121,10 +121,10 @@ pub extern "C" fn tsp_bound(
 ) -> u32
     ensures { PlacesText (BoundsBy (nth by certificates) instance.now certificate.now) out.old out.new written.new result }
 {
-    let (status, text, _) = bound_by(alloc, instance, certificate, by);
-    let answer = place(&text, status, out, written);
-    drop(text);
-    answer
+    let (answer, _) = bound_by(alloc, instance, certificate, by);
+    let status = answer.place(out, written);
+    drop(answer);
+    status
 }
 
 /// The same as `tsp_bound`, in numbers too.
@@ -142,11 +142,11 @@ pub extern "C" fn tsp_bound_result(
         × TellsBoundBy (nth by certificates) instance.now certificate.now status told.new)
         out.old out.new written.new result }
 {
-    let (status, text, numbers) = bound_by(alloc, instance, certificate, by);
+    let (answer, numbers) = bound_by(alloc, instance, certificate, by);
     *told = numbers;
-    let answer = place(&text, status, out, written);
-    drop(text);
-    answer
+    let status = answer.place(out, written);
+    drop(answer);
+    status
 }
 
 /// Shows what a file is.
@@ -154,10 +154,10 @@ pub extern "C" fn tsp_bound_result(
 pub extern "C" fn tsp_show(alloc: Global, file: &[u8], out: &mut [u8], written: &mut usize) -> u32
     ensures { PlacesText (ShowsText file.now) out.old out.new written.new result }
 {
-    let (status, text) = shown(alloc, file);
-    let answer = place(&text, status, out, written);
-    drop(text);
-    answer
+    let answer = shown(alloc, file);
+    let status = answer.place(out, written);
+    drop(answer);
+    status
 }
 
 /// Writes a file anew: by 0 in its own layout, by 1 to 9 in that of `Layout::ALL`.
@@ -171,10 +171,10 @@ pub extern "C" fn tsp_convert(
 ) -> u32
     ensures { PlacesText (ConvertsBy layout file.now) out.old out.new written.new result }
 {
-    let (status, text) = convert_by(alloc, file, layout);
-    let answer = place(&text, status, out, written);
-    drop(text);
-    answer
+    let answer = convert_by(alloc, file, layout);
+    let status = answer.place(out, written);
+    drop(answer);
+    status
 }
 
 /// Explains the result of a call on texts: 0 `tsp_show`, 1 `tsp_convert`, 2 `tsp_check`, 3
@@ -310,11 +310,11 @@ pub extern "C" fn tsp_instance_check(
     ensures places { PlacesText (λ status text. ChecksHeld handle.old.loose.value has_claim claimed solution.now
         status text told.new) out.old out.new written.new result }
 {
-    let (status, text, numbers) = check_held(alloc, handle, solution, claimed, has_claim);
+    let (answer, numbers) = check_held(alloc, handle, solution, claimed, has_claim);
     *told = numbers;
-    let answer = place(&text, status, out, written);
-    drop(text);
-    answer
+    let status = answer.place(out, written);
+    drop(answer);
+    status
 }
 
 /// How many nodes the instance of a handle has.

@@ -10,24 +10,23 @@ ghost use Rattle.tsp_c.specs.Opened.{BindsOpen, BindsText, ChecksAsTexts, Checks
 ghost use Rattle.tsp_c.specs.Texts.{certificates};
 ghost use Rattle.tsp_c.specs.Told.{told_of_fault};
 ghost use Rattle.tsp_judge.specs.Status.{status_of_fault};
+ghost use Rattle.tsp_judge.specs.declared.fault.RunFault.TheVariants.{OutOfMemory};
 ghost use Rattle.tsp_judge.specs.Open.{Open, IsOpened, IsUnopened};
 
-use crate::ended::ended;
+use crate::ended::{Answer, ended};
 use crate::handle::Handle;
 use crate::in_box::{NoBox, in_box};
 use crate::lengths::lengths_of;
 use crate::points::points_of_file;
 use crate::refused::{certificate_of, claim_of};
-use crate::status::{DONE, REFUSED};
+use crate::status::{DONE, OUT_OF_MEMORY, REFUSED, status_of_fault};
 use crate::told::Told;
 use crate::weights::{rows_of, weights_of};
 use std::alloc::Global;
 use std::boxed::Box;
 use std::io::Write;
 use tsp_cost::{Costs, Instance};
-use tsp_judge::{
-    Certificate, Opened, RunFault, Status, Verdict, Watched, status_of, verdicts_mean_reports,
-};
+use tsp_judge::{Certificate, Early, Opened, Verdict, Watched, status_of, verdicts_mean_reports};
 use tsp_report::write_report;
 
 /// Opens a handle on the instance that a text is; the status. What it was open on before is freed
@@ -37,11 +36,8 @@ pub(crate) fn open_text(alloc: Global, text: &[u8], handle: &mut Handle, told: &
 {
     drop(handle.take(alloc));
     match boxed(alloc, text) {
-        Err(fault) => tell_fault(fault, told),
-        Ok(Err(no_box)) => {
-            drop(no_box);
-            tell_fault(RunFault::OutOfMemory, told)
-        }
+        Err(early) => tell_fault(early, told),
+        Ok(Err(no_box)) => tell_no_box(no_box, told),
         Ok(Ok(opened)) => {
             *told = Told::of_instance(opened.instance());
             handle.put(opened);
@@ -51,12 +47,22 @@ pub(crate) fn open_text(alloc: Global, text: &[u8], handle: &mut Handle, told: &
 }
 
 /// Tells the numbers of a fault; its status.
-fn tell_fault(fault: RunFault, told: &mut Told) -> u32
-    ensures told { told.new ≡ told_of_fault fault }
-    ensures status { result ≡ status_of_fault fault }
+fn tell_fault(early: Early, told: &mut Told) -> u32
+    ensures told { told.new ≡ told_of_fault early }
+    ensures status { result ≡ status_of_fault early }
 {
-    *told = Told::of_fault(fault);
-    u32::from(status_of(&Err(fault)))
+    *told = Told::of_early(early);
+    status_of_fault(early)
+}
+
+/// Tells that there was no memory for a box; the status.
+fn tell_no_box(no_box: NoBox, told: &mut Told) -> u32
+    ensures told { told.new ≡ told_of_fault OutOfMemory }
+    ensures status { result ≡ status_of_fault OutOfMemory }
+{
+    drop(no_box);
+    *told = Told::blank();
+    OUT_OF_MEMORY
 }
 
 /// The instance that a text is, in a box, where there was memory for it.
@@ -64,7 +70,7 @@ fn tell_fault(fault: RunFault, told: &mut Told) -> u32
 /// # Errors
 ///
 /// Why the text is no instance; out of memory for the box is no such fault.
-fn boxed(alloc: Global, text: &[u8]) -> Result<Result<Box<Opened, Global>, NoBox>, RunFault>
+fn boxed(alloc: Global, text: &[u8]) -> Result<Result<Box<Opened, Global>, NoBox>, Early>
     ensures { MatchResult result
         (λ held. MatchResult held (λ opened. IsOpened text.now opened.value) (λ no_box. (opened : Open) × IsOpened text.now opened))
         (λ fault. IsUnopened text.now fault) }
@@ -119,7 +125,7 @@ fn bind_opened(
     ensures { BindsOpen by text.now opened.old (Some opened.new) told.new result }
 {
     match opened.bind(alloc, by, text) {
-        Err(fault) => tell_fault(fault, told),
+        Err(early) => tell_fault(early, told),
         Ok(found) => {
             *told = Told::of_bound(opened.instance(), found);
             u32::from(status_of(&Ok(found.is_yes())))
@@ -136,15 +142,15 @@ pub(crate) fn check_held(
     solution: &[u8],
     claimed: i64,
     has_claim: u32,
-) -> (u8, Vec<u8>, Told)
+) -> (Answer, Told)
     ensures same { handle.new.loose.value ≡ handle.old.loose.value }
-    ensures checks { ChecksHeld handle.old.loose.value has_claim claimed solution.now result.0 result.1.items result.2 }
+    ensures checks { ChecksHeld handle.old.loose.value has_claim claimed solution.now result.0.0 result.0.1 result.1 }
 {
     if has_claim > 1 {
-        return (Status::Refused as u8, Vec::new(alloc), Told::blank());
+        return (Answer::refused(alloc), Told::blank());
     }
     match handle.take(alloc) {
-        None => (Status::Refused as u8, Vec::new(alloc), Told::blank()),
+        None => (Answer::refused(alloc), Told::blank()),
         Some(opened) => {
             let answer = check_opened(alloc, &opened, solution, claim_of(has_claim, claimed));
             handle.put(opened);
@@ -159,22 +165,24 @@ fn check_opened(
     opened: &Opened,
     solution: &[u8],
     claimed: Option<i64>,
-) -> (u8, Vec<u8>, Told)
-    ensures texts { ChecksAsTexts opened.now claimed solution.now result.0 result.1.items }
-    ensures numbers { TellsJudged opened.now claimed solution.now result.0 result.2 }
+) -> (Answer, Told)
+    ensures texts { ChecksAsTexts opened.now claimed solution.now result.0.0 result.0.1 }
+    ensures numbers { TellsJudged opened.now claimed solution.now result.0.0 result.1 }
 {
     verdicts_mean_reports();
     let mut report = Watched::new(Vec::new(alloc));
     match opened.judge(alloc, solution, claimed) {
-        Err(fault) => {
-            let (status, text) = ended(Err(fault), report);
-            (status, text, Told::of_fault(fault).for_status(status))
+        Err(early) => {
+            let answer = ended(Err(early), report);
+            let told = answer.numbers(Told::of_early(early));
+            (answer, told)
         }
         Ok(verdict) => {
             let told = Told::of_verdict(opened.instance(), verdict);
-            let answer = reported(opened.instance(), verdict, &mut report);
-            let (status, text) = ended(answer, report);
-            (status, text, told.for_status(status))
+            let written = reported(opened.instance(), verdict, &mut report);
+            let answer = ended(written, report);
+            let told = answer.numbers(told);
+            (answer, told)
         }
     }
 }
@@ -184,13 +192,13 @@ fn reported<W: Write>(
     instance: &Instance,
     verdict: Verdict,
     out: &mut Watched<W>,
-) -> Result<bool, RunFault>
+) -> Result<bool, Early>
     requires { IsSized verdict }
     ensures { Reports (sink_of W.contents out.old out.new) (report_of instance.now verdict) (is_yes verdict) result }
 {
     match write_report(instance.file(), verdict, out) {
         Ok(()) => Ok(verdict.is_yes()),
-        Err(fault) => Err(RunFault::Write(fault)),
+        Err(fault) => Err(Early::unwritten(fault)),
     }
 }
 

@@ -6,12 +6,12 @@ ghost use Rattle.tsp_draft.specs.states.Drafts.{points_of};
 ghost use Rattle.tsp_c.specs.NumberCalls.{EndsPoints, FillsPoints, IsFilled, IsSection, coordinate, point_number, section_points};
 
 use crate::fill::put;
-use crate::instance::file_of;
 use crate::status::{DONE, NO, REFUSED, TOO_SMALL, status_of_fault};
 use std::alloc::Global;
 use tsp_distance::{InSpace, Point};
 use tsp_draft::Coords;
 use tsp_file::File;
+use tsp_judge::read_text;
 
 /// Fills in the coordinates of the points of a section of a text; the status.
 pub(crate) fn fill_points(alloc: Global, text: &[u8], section: u32, out: &mut [i64]) -> u32
@@ -20,8 +20,8 @@ pub(crate) fn fill_points(alloc: Global, text: &[u8], section: u32, out: &mut [i
     if section < 1 || section > 2 {
         return REFUSED;
     }
-    match file_of(alloc, text) {
-        Err(fault) => status_of_fault(fault),
+    match read_text(alloc, 1, text) {
+        Err(early) => status_of_fault(early),
         Ok(file) => {
             let status = points_of_file(&file, section, out);
             drop(file);

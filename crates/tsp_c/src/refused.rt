@@ -6,10 +6,11 @@ ghost use Rattle.tsp_c.specs.Ended.{nth};
 ghost use Rattle.tsp_c.specs.Texts.{BoundsBy, ChecksBy, ConvertsBy, certificates, claim_of};
 ghost use Rattle.tsp_c.specs.Told.{TellsBoundBy, TellsBy};
 
+use crate::ended::Answer;
 use crate::texts::{bounded, checked, converted};
 use crate::told::Told;
 use std::alloc::Global;
-use tsp_judge::{Certificate, Layout, Status};
+use tsp_judge::{Certificate, Layout};
 
 /// A claimed length by its numbers: it counts where `has_claim` is 1, and not where that is 0.
 #[derive(Clone, Copy)]
@@ -27,17 +28,17 @@ pub(crate) fn check_by(
     certificate: &[u8],
     by: u32,
     claim: Claim,
-) -> (u8, Vec<u8>, Told)
+) -> (Answer, Told)
     ensures texts { ChecksBy by claim.has_claim claim.claimed instance.now solution.now certificate.now
-        result.0 result.1.items }
+        result.0.0 result.0.1 }
     ensures numbers { TellsBy by claim.has_claim claim.claimed instance.now solution.now certificate.now
-        result.0 result.2 }
+        result.0.0 result.1 }
 {
     if by > 2 {
-        return (Status::Refused as u8, Vec::new(alloc), Told::blank());
+        return (Answer::refused(alloc), Told::blank());
     }
     if claim.has_claim > 1 {
-        return (Status::Refused as u8, Vec::new(alloc), Told::blank());
+        return (Answer::refused(alloc), Told::blank());
     }
     let by = certificate_of(by);
     let claim = claim_of(claim.has_claim, claim.claimed);
@@ -50,12 +51,12 @@ pub(crate) fn bound_by(
     instance: &[u8],
     certificate: &[u8],
     by: u32,
-) -> (u8, Vec<u8>, Told)
-    ensures texts { BoundsBy (nth by certificates) instance.now certificate.now result.0 result.1.items }
-    ensures numbers { TellsBoundBy (nth by certificates) instance.now certificate.now result.0 result.2 }
+) -> (Answer, Told)
+    ensures texts { BoundsBy (nth by certificates) instance.now certificate.now result.0.0 result.0.1 }
+    ensures numbers { TellsBoundBy (nth by certificates) instance.now certificate.now result.0.0 result.1 }
 {
     match certificate_of(by) {
-        None => (Status::Refused as u8, Vec::new(alloc), Told::blank()),
+        None => (Answer::refused(alloc), Told::blank()),
         Some(by) => bounded(alloc, by, instance, certificate),
     }
 }
@@ -82,11 +83,11 @@ pub(crate) fn claim_of(has_claim: u32, claimed: i64) -> Option<i64>
 }
 
 /// A text written anew in the layout with this number, with its status.
-pub(crate) fn convert_by(alloc: Global, file: &[u8], number: u32) -> (u8, Vec<u8>)
-    ensures { ConvertsBy number file.now result.0 result.1.items }
+pub(crate) fn convert_by(alloc: Global, file: &[u8], number: u32) -> Answer
+    ensures { ConvertsBy number file.now result.0 result.1 }
 {
     if number > 9 {
-        return (Status::Refused as u8, Vec::new(alloc));
+        return Answer::refused(alloc);
     }
     converted(alloc, file, layout_of(number))
 }

@@ -6,31 +6,31 @@ ghost use Rattle.tsp_c.specs.Ended.{done, bound_answer};
 ghost use Rattle.tsp_c.specs.Texts.{BoundsTexts, ChecksTexts, ConvertsText, ShowsText, with_certificate};
 ghost use Rattle.tsp_c.specs.Told.{TellsBound, TellsTexts};
 
-use crate::ended::ended;
+use crate::ended::{Answer, ended};
 use crate::told::Told;
 use std::alloc::Global;
 use tsp_judge::{
-    Bounded, Certificate, Judged, Layout, RunFault, Watched, run, run_bound, run_convert, run_show,
-    verdicts_mean_reports,
+    Bounded, Certificate, Early, Judged, Layout, Watched, run_bound_with_cause,
+    run_convert_with_cause, run_show_with_cause, run_with_cause, verdicts_mean_reports,
 };
 
 /// The text of `show` for a text, with its status.
-pub(crate) fn shown(alloc: Global, file: &[u8]) -> (u8, Vec<u8>)
-    ensures { ShowsText file.now result.0 result.1.items }
+pub(crate) fn shown(alloc: Global, file: &[u8]) -> Answer
+    ensures { ShowsText file.now result.0 result.1 }
 {
     let mut reader = Watched::new(file);
     let mut report = Watched::new(Vec::new(alloc));
-    let answer = done(run_show(alloc, &mut reader, &mut report));
+    let answer = done(run_show_with_cause(alloc, &mut reader, &mut report));
     ended(answer, report)
 }
 
 /// A text written anew, with its status.
-pub(crate) fn converted(alloc: Global, file: &[u8], to: Option<Layout>) -> (u8, Vec<u8>)
-    ensures { ConvertsText to file.now result.0 result.1.items }
+pub(crate) fn converted(alloc: Global, file: &[u8], to: Option<Layout>) -> Answer
+    ensures { ConvertsText to file.now result.0 result.1 }
 {
     let mut reader = Watched::new(file);
     let mut report = Watched::new(Vec::new(alloc));
-    let answer = done(run_convert(alloc, &mut reader, to, &mut report));
+    let answer = done(run_convert_with_cause(alloc, &mut reader, to, &mut report));
     ended(answer, report)
 }
 
@@ -43,16 +43,16 @@ pub(crate) fn checked(
     by: Option<Certificate>,
     certificate: &[u8],
     claimed: Option<i64>,
-) -> (u8, Vec<u8>, Told)
-    ensures texts { ChecksTexts (with_certificate by certificate.now) claimed instance.now solution.now result.0 result.1.items }
-    ensures numbers { TellsTexts (with_certificate by certificate.now) claimed instance.now solution.now result.0 result.2 }
+) -> (Answer, Told)
+    ensures texts { ChecksTexts (with_certificate by certificate.now) claimed instance.now solution.now result.0.0 result.0.1 }
+    ensures numbers { TellsTexts (with_certificate by certificate.now) claimed instance.now solution.now result.0.0 result.1 }
 {
     verdicts_mean_reports();
     let mut first = Watched::new(instance);
     let mut second = Watched::new(solution);
     let mut third = Watched::new(certificate);
     let mut report = Watched::new(Vec::new(alloc));
-    let judged = run(
+    let judged = run_with_cause(
         alloc,
         &mut first,
         &mut second,
@@ -62,8 +62,9 @@ pub(crate) fn checked(
         &mut report,
     );
     let numbers = Told::of_run(&judged);
-    let (status, text) = ended(told(judged), report);
-    (status, text, numbers.for_status(status))
+    let answer = ended(told(judged), report);
+    let told = answer.numbers(numbers);
+    (answer, told)
 }
 
 /// The bound of the tours of the instance that a text is, by the certificate that another one is;
@@ -73,21 +74,22 @@ pub(crate) fn bounded(
     by: Certificate,
     instance: &[u8],
     certificate: &[u8],
-) -> (u8, Vec<u8>, Told)
-    ensures texts { BoundsTexts by instance.now certificate.now result.0 result.1.items }
-    ensures numbers { TellsBound by instance.now certificate.now result.0 result.2 }
+) -> (Answer, Told)
+    ensures texts { BoundsTexts by instance.now certificate.now result.0.0 result.0.1 }
+    ensures numbers { TellsBound by instance.now certificate.now result.0.0 result.1 }
 {
     let mut first = Watched::new(instance);
     let mut second = Watched::new(certificate);
     let mut report = Watched::new(Vec::new(alloc));
-    let found = run_bound(alloc, &mut first, by, &mut second, &mut report);
+    let found = run_bound_with_cause(alloc, &mut first, by, &mut second, &mut report);
     let numbers = Told::of_bound_run(&found);
-    let (status, text) = ended(has_bound(found), report);
-    (status, text, numbers.for_status(status))
+    let answer = ended(has_bound(found), report);
+    let told = answer.numbers(numbers);
+    (answer, told)
 }
 
 /// What is done is no no.
-fn done(ended: Result<(), RunFault>) -> Result<bool, RunFault>
+fn done(ended: Result<(), Early>) -> Result<bool, Early>
     ensures { result ≡ done ended }
 {
     ended?;
@@ -95,7 +97,7 @@ fn done(ended: Result<(), RunFault>) -> Result<bool, RunFault>
 }
 
 /// Whether the solution is accepted, where there is a verdict.
-fn told(ended: Result<Judged, RunFault>) -> Result<bool, RunFault>
+fn told(ended: Result<Judged, Early>) -> Result<bool, Early>
     ensures { result ≡ told ended }
 {
     let judged = ended?;
@@ -105,7 +107,7 @@ fn told(ended: Result<Judged, RunFault>) -> Result<bool, RunFault>
 }
 
 /// Whether there is no reason against the files, where they were read.
-fn has_bound(ended: Result<Bounded, RunFault>) -> Result<bool, RunFault>
+fn has_bound(ended: Result<Bounded, Early>) -> Result<bool, Early>
     ensures { result ≡ bound_answer ended }
 {
     let bounded = ended?;

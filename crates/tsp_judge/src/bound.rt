@@ -6,15 +6,17 @@ ghost use Rattle.tsp_stream.specs.Turn.{Turn, TakesAtMost};
 ghost use Rattle.tsp_read.specs.Reads.{IsFile, most_taken};
 ghost use Rattle.tsp_judge.specs.BoundRun.{BoundsFiles, IsBoundRunOf};
 
+use crate::early::{Early, promised};
 use crate::fault::RunFault;
 use crate::file::read_file;
-use std::alloc::{AllocError, Global};
+use crate::undecided::bound_of;
+use std::alloc::Global;
 use std::io::{Read, Write};
 use tsp_cost::Instance;
 use tsp_file::File;
 use tsp_report::write_bound;
 use tsp_stream::Watched;
-use tsp_verdict::{BoundVerdict, Certificate, is_bounded, judge_bound};
+use tsp_verdict::{BoundVerdict, Certificate, is_bounded};
 
 /// The files that a run has read, and the bound that it found.
 #[derive(Drop)]
@@ -56,6 +58,25 @@ pub fn run_bound<I: Read, C: Read, W: Write>(
         TakesAtMost most_taken (turn_of C.remaining cert.old cert.new) (λ second.
         IsBoundRunOf by first second (sink_of W.contents out.old out.new) result)) }
 {
+    promised(run_bound_with_cause(alloc, inst, by, cert, out))
+}
+
+/// [`run_bound`] with a cause where memory is refused.
+///
+/// # Errors
+///
+/// Those of [`run_bound`].
+pub fn run_bound_with_cause<I: Read, C: Read, W: Write>(
+    alloc: Global,
+    inst: &mut Watched<I>,
+    by: Certificate,
+    cert: &mut Watched<C>,
+    out: &mut Watched<W>,
+) -> Result<Bounded, Early>
+    ensures { TakesAtMost most_taken (turn_of I.remaining inst.old inst.new) (λ first.
+        TakesAtMost most_taken (turn_of C.remaining cert.old cert.new) (λ second.
+        IsBoundRunOf by first second (sink_of W.contents out.old out.new) result)) }
+{
     let instance = read_file(alloc, 1, inst)?;
     let certificate = read_file(alloc, 2, cert)?;
     bound_read(alloc, by, instance, certificate, out)
@@ -68,12 +89,12 @@ fn bound_read<W: Write>(
     instance: File,
     certificate: File,
     out: &mut Watched<W>,
-) -> Result<Bounded, RunFault>
+) -> Result<Bounded, Early>
     ensures { (first second : Turn) → IsFile first instance → IsFile second certificate
         → IsBoundRunOf by first second (sink_of W.contents out.old out.new) result }
 {
     let Ok(instance) = Instance::of(instance) else {
-        return Err(RunFault::WrongKind);
+        return Err(Early::wrong_kind());
     };
     let found = bound_files(alloc, by, &instance, &certificate, out)?;
     Ok(Bounded {
@@ -90,18 +111,18 @@ fn bound_files<W: Write>(
     instance: &Instance,
     certificate: &File,
     out: &mut Watched<W>,
-) -> Result<BoundVerdict, RunFault>
+) -> Result<BoundVerdict, Early>
     ensures { BoundsFiles by instance.now certificate.now (sink_of W.contents out.old out.new) result }
 {
     if !is_bounded(by, instance.kind()) {
-        return Err(RunFault::WrongKind);
+        return Err(Early::wrong_kind());
     }
-    let found = match judge_bound(alloc, by, instance, certificate) {
+    let found = match bound_of(alloc, by, instance, certificate) {
         Ok(found) => found,
-        Err(AllocError) => return Err(RunFault::OutOfMemory),
+        Err(undecided) => return Err(Early::undecided(undecided)),
     };
     match write_bound(instance.file(), found, out) {
         Ok(()) => Ok(found),
-        Err(fault) => Err(RunFault::Write(fault)),
+        Err(fault) => Err(Early::unwritten(fault)),
     }
 }

@@ -7,6 +7,7 @@ ghost use Rattle.tsp_read.specs.Reads.{IsFile, most_taken};
 ghost use Rattle.tsp_judge.specs.CheckRun.{Given, given_by, IsFileIn, ReadsGiven};
 ghost use Rattle.tsp_judge.specs.Yes.{IsRunOf};
 
+use crate::early::{Early, promised};
 use crate::fault::RunFault;
 use crate::file::read_file;
 use crate::judging::{Judged, judge_files};
@@ -50,6 +51,29 @@ pub fn run<I: Read, S: Read, C: Read, W: Write>(
         (by ≡ None → IsUnread third)
         × IsRunOf (given_by by third) claimed first second (sink_of W.contents out.old out.new) result))) }
 {
+    promised(run_with_cause(alloc, inst, sol, by, cert, claimed, out))
+}
+
+/// [`run`] with a cause where memory is refused.
+///
+/// # Errors
+///
+/// Those of [`run`].
+pub fn run_with_cause<I: Read, S: Read, C: Read, W: Write>(
+    alloc: Global,
+    inst: &mut Watched<I>,
+    sol: &mut Watched<S>,
+    by: Option<Certificate>,
+    cert: &mut Watched<C>,
+    claimed: Option<i64>,
+    out: &mut Watched<W>,
+) -> Result<Judged, Early>
+    ensures { TakesAtMost most_taken (turn_of I.remaining inst.old inst.new) (λ first.
+        TakesAtMost most_taken (turn_of S.remaining sol.old sol.new) (λ second.
+        TakesAtMost most_taken (turn_of C.remaining cert.old cert.new) (λ third.
+        (by ≡ None → IsUnread third)
+        × IsRunOf (given_by by third) claimed first second (sink_of W.contents out.old out.new) result))) }
+{
     let instance = read_file(alloc, 1, inst)?;
     let solution = read_file(alloc, 2, sol)?;
     let certificate = read_certificate(alloc, 3, by, cert)?;
@@ -62,7 +86,7 @@ pub(crate) fn read_certificate<C: Read>(
     number: u32,
     by: Option<Certificate>,
     cert: &mut Watched<C>,
-) -> Result<Option<(Certificate, File)>, RunFault>
+) -> Result<Option<(Certificate, File)>, Early>
     ensures { TakesAtMost most_taken (turn_of C.remaining cert.old cert.new) (λ third.
         (by ≡ None → IsUnread third) × ReadsGiven number (given_by by third) result) }
 {
@@ -81,13 +105,13 @@ pub(crate) fn judge_read<W: Write>(
     certificate: Option<(Certificate, File)>,
     claimed: Option<i64>,
     out: &mut Watched<W>,
-) -> Result<Judged, RunFault>
+) -> Result<Judged, Early>
     ensures { (given : Given) (first second : Turn) → IsFile first instance → IsFile second solution
         → IsFileIn given certificate
         → IsRunOf given claimed first second (sink_of W.contents out.old out.new) result }
 {
     let Ok(instance) = Instance::of(instance) else {
-        return Err(RunFault::WrongKind);
+        return Err(Early::wrong_kind());
     };
     let verdict = judge_files(alloc, &instance, &solution, &certificate, claimed, out)?;
     Ok(Judged {

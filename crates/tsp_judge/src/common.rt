@@ -9,15 +9,17 @@ ghost use Rattle.tsp_cost.specs.ProblemLaws.{IsProblem};
 ghost use Rattle.tsp_verdict.specs.Basis.{IsBasis};
 ghost use Rattle.tsp_judge.specs.CompareRun.{LacksBasis, Finds, result_of, status_of_found};
 
+use crate::early::Early;
 use crate::fault::RunFault;
 use crate::judging::{is_judged, lent};
 use crate::status::status_of;
-use std::alloc::{AllocError, Global};
+use crate::undecided::{basis_by, next_verdict};
+use std::alloc::Global;
 use tsp_cost::Instance;
 use tsp_file::File;
-use tsp_read::{ReadFault, read_from};
+use tsp_read::{ReadFault, file_of_reader};
 use tsp_stream::{Gives, Watched};
-use tsp_verdict::{Basis, Certificate, Verdict, judge_basis, judge_next};
+use tsp_verdict::{Basis, Certificate, Verdict};
 
 /// What all solutions of a comparison are judged by.
 #[derive(Drop)]
@@ -71,22 +73,22 @@ pub(crate) fn common_of(
     alloc: Global,
     instance: Instance,
     certificate: Option<(Certificate, File)>,
-) -> Result<Common, RunFault>
+) -> Result<Common, Early>
     ensures { MatchResult result
         (λ common. (common.instance ≡ instance) × (common.certificate ≡ certificate)
         × IsBasis common.certificate common.instance common.basis)
         (λ fault. LacksBasis certificate instance fault) }
 {
     if !is_judged(&certificate, &instance) {
-        return Err(RunFault::WrongKind);
+        return Err(Early::wrong_kind());
     }
-    match judge_basis(alloc, &instance, lent(&certificate)) {
+    match basis_by(alloc, &instance, lent(&certificate)) {
         Ok(basis) => Ok(Common {
             basis,
             instance,
             certificate,
         }),
-        Err(AllocError) => Err(RunFault::OutOfMemory),
+        Err(undecided) => Err(Early::undecided(undecided)),
     }
 }
 
@@ -99,19 +101,23 @@ pub(crate) fn find<R: Gives>(
     alloc: Global,
     common: &Common,
     reader: &mut Watched<R>,
-) -> Result<Found, RunFault>
+) -> Result<Found, Early>
     requires basis { IsBasis common.now.certificate common.now.instance common.now.basis }
     requires problem { IsProblem common.now.instance }
     ensures found { TakesAtMost most_taken (turn_of R.remaining reader.old reader.new) (λ turn. Finds common.now turn result) }
     ensures asked { IsReadOn R.gives reader.old reader.new }
 {
-    let solution = match read_from(alloc, reader) {
+    let solution = match file_of_reader(alloc, reader) {
         Ok(solution) => solution,
-        Err(ReadFault::OutOfMemory) => return Err(RunFault::OutOfMemory),
-        Err(fault) => return Ok(Found::Fault(fault)),
+        Err(unread) => {
+            return match unread.fault() {
+                ReadFault::OutOfMemory => Err(Early::unread_solution(unread)),
+                fault => Ok(Found::Fault(fault)),
+            };
+        }
     };
-    match judge_next(alloc, &common.instance, common.basis, &solution, None) {
+    match next_verdict(alloc, &common.instance, common.basis, &solution, None) {
         Ok(verdict) => Ok(Found::Judged { verdict, solution }),
-        Err(AllocError) => Err(RunFault::OutOfMemory),
+        Err(undecided) => Err(Early::undecided(undecided)),
     }
 }

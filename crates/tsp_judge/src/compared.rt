@@ -14,6 +14,7 @@ ghost use Rattle.tsp_judge.specs.Following.{IsFollowedBy, IsFollowed};
 
 use crate::checked::read_certificate;
 use crate::common::{Common, Found, common_of, find, status_of_found};
+use crate::early::{Early, promised};
 use crate::fault::RunFault;
 use crate::file::read_file;
 use crate::solutions::{Follow, Solutions};
@@ -70,6 +71,33 @@ pub fn run_compare<I: Read, C: Read, R: Gives + Drop, E, S: Solutions<R> + Follo
         (sink_of W.contents out.old out.new) result)) }
     ensures told { IsFollowed (S.tells solutions.now) (length (S.names solutions.now)) to.old to.new result }
 {
+    promised(run_compare_with_cause(alloc, inst, by, cert, solutions, out, to))
+}
+
+/// [`run_compare`] with a cause where memory is refused.
+fn run_compare_with_cause<
+    I: Read,
+    C: Read,
+    R: Gives + Drop,
+    E,
+    S: Solutions<R> + Follow<E>,
+    W: Write,
+>(
+    alloc: Global,
+    inst: &mut Watched<I>,
+    by: Option<Certificate>,
+    cert: &mut Watched<C>,
+    solutions: &S,
+    out: &mut Watched<W>,
+    to: &mut E,
+) -> Result<Compared, Early>
+    ensures text { TakesAtMost most_taken (turn_of I.remaining inst.old inst.new) (λ first.
+        TakesAtMost most_taken (turn_of C.remaining cert.old cert.new) (λ second.
+        (by ≡ None → IsUnread second)
+        × IsCompareRun R.remaining R.gives (S.opens solutions.now) (S.names solutions.now) (given_by by second) first
+        (sink_of W.contents out.old out.new) result)) }
+    ensures told { IsFollowed (S.tells solutions.now) (length (S.names solutions.now)) to.old to.new result }
+{
     let instance = read_file(alloc, 1, inst)?;
     let certificate = read_certificate(alloc, 2, by, cert)?;
     compare_read(alloc, instance, certificate, solutions, out, to)
@@ -83,14 +111,14 @@ pub(crate) fn compare_read<R: Gives + Drop, E, S: Solutions<R> + Follow<E>, W: W
     solutions: &S,
     out: &mut Watched<W>,
     to: &mut E,
-) -> Result<Compared, RunFault>
+) -> Result<Compared, Early>
     ensures text { (given : Given) (first : Turn) → IsFile first instance → IsFileIn given certificate
         → IsCompareRun R.remaining R.gives (S.opens solutions.now) (S.names solutions.now) given first
         (sink_of W.contents out.old out.new) result }
     ensures told { IsFollowed (S.tells solutions.now) (length (S.names solutions.now)) to.old to.new result }
 {
     let Ok(instance) = Instance::of(instance) else {
-        return Err(RunFault::WrongKind);
+        return Err(Early::wrong_kind());
     };
     let common = common_of(alloc, instance, certificate)?;
     let status = compare_with(alloc, &common, solutions, out, to)?;
@@ -104,7 +132,7 @@ fn compare_with<R: Gives + Drop, E, S: Solutions<R> + Follow<E>, W: Write>(
     solutions: &S,
     out: &mut Watched<W>,
     to: &mut E,
-) -> Result<u8, RunFault>
+) -> Result<u8, Early>
     requires basis { IsBasis common.now.certificate common.now.instance common.now.basis }
     requires problem { IsProblem common.now.instance }
     ensures text { ComparesBy (is_clear common.now.basis) (IsTurnAt R.remaining R.gives (S.opens solutions.now))
@@ -114,7 +142,7 @@ fn compare_with<R: Gives + Drop, E, S: Solutions<R> + Follow<E>, W: Write>(
 {
     match write_head(common.instance.file(), common.basis, out) {
         Ok(()) => {}
-        Err(fault) => return Err(RunFault::Write(fault)),
+        Err(fault) => return Err(Early::unwritten(fault)),
     }
     if !common.basis.is_clear() {
         return Ok(Status::No as u8);
@@ -129,7 +157,7 @@ fn compare_all<R: Gives + Drop, E, S: Solutions<R> + Follow<E>, W: Write>(
     solutions: &S,
     out: &mut Watched<W>,
     to: &mut E,
-) -> Result<u8, RunFault>
+) -> Result<u8, Early>
     requires basis { IsBasis common.now.certificate common.now.instance common.now.basis }
     requires problem { IsProblem common.now.instance }
     requires sound { has_failed out.old ≡ false }
@@ -160,7 +188,7 @@ fn compare_one<R: Gives + Drop, S: Solutions<R>, W: Write>(
     solutions: &S,
     index: usize,
     out: &mut Watched<W>,
-) -> Result<Found, RunFault>
+) -> Result<Found, Early>
     requires basis { IsBasis common.now.certificate common.now.instance common.now.basis }
     requires problem { IsProblem common.now.instance }
     requires index { index < length (S.names solutions.now) }
@@ -171,6 +199,6 @@ fn compare_one<R: Gives + Drop, S: Solutions<R>, W: Write>(
     let found = find(alloc, common, &mut reader)?;
     match write_line(found.result(), solutions.name(index), out) {
         Ok(()) => Ok(found),
-        Err(fault) => Err(RunFault::Write(fault)),
+        Err(fault) => Err(Early::unwritten(fault)),
     }
 }

@@ -5,6 +5,7 @@ ghost use Rattle.tsp_stream.specs.Turn.{TakesAtMost};
 ghost use Rattle.tsp_read.specs.Reads.{most_taken};
 ghost use Rattle.tsp_judge.specs.ConvertRun.{Becomes, IsConvertRun};
 
+use crate::early::{Early, promised};
 use crate::fault::RunFault;
 use crate::file::read_file;
 use std::alloc::Global;
@@ -33,15 +34,32 @@ pub fn run_convert<R: Read, W: Write>(
     ensures { TakesAtMost most_taken (turn_of R.remaining r.old r.new) (λ turn.
         IsConvertRun to turn (sink_of W.contents out.old out.new) result) }
 {
+    promised(run_convert_with_cause(alloc, r, to, out))
+}
+
+/// [`run_convert`] with a cause where memory is refused.
+///
+/// # Errors
+///
+/// Those of [`run_convert`].
+pub fn run_convert_with_cause<R: Read, W: Write>(
+    alloc: Global,
+    r: &mut Watched<R>,
+    to: Option<Layout>,
+    out: &mut Watched<W>,
+) -> Result<(), Early>
+    ensures { TakesAtMost most_taken (turn_of R.remaining r.old r.new) (λ turn.
+        IsConvertRun to turn (sink_of W.contents out.old out.new) result) }
+{
     let file = read_file(alloc, 1, r)?;
     let converted = match in_layout(alloc, file, to) {
-        Err(fault) => return Err(RunFault::Relayout(fault)),
+        Err(fault) => return Err(Early::not_relaid(fault)),
         Ok(converted) => converted,
     };
     let written = write_file(alloc, &converted, out);
     drop(converted);
     match written {
-        Err(fault) => Err(RunFault::Write(fault)),
+        Err(fault) => Err(Early::unwritten(fault)),
         Ok(()) => Ok(()),
     }
 }

@@ -5,11 +5,11 @@ ghost use Rattle.tsp_stream.specs.Turn.{TakesAtMost};
 ghost use Rattle.tsp_read.specs.Reads.{most_taken};
 ghost use Rattle.tsp_judge.specs.CheckRun.{ReadsFile};
 
-use crate::fault::RunFault;
+use crate::early::Early;
 use std::alloc::Global;
 use std::io::Read;
 use tsp_file::File;
-use tsp_read::read_from;
+use tsp_read::file_of_reader;
 use tsp_stream::Watched;
 
 /// Reads the file with this number, counted from 1, of those that a run is given.
@@ -21,15 +21,12 @@ pub(crate) fn read_file<R: Read>(
     alloc: Global,
     number: u32,
     reader: &mut Watched<R>,
-) -> Result<File, RunFault>
+) -> Result<File, Early>
     ensures { TakesAtMost most_taken (turn_of R.remaining reader.old reader.new) (λ turn.
         ReadsFile number turn result) }
 {
-    match read_from(alloc, reader) {
+    match file_of_reader(alloc, reader) {
         Ok(file) => Ok(file),
-        Err(fault) => Err(RunFault::File {
-            file: number,
-            fault,
-        }),
+        Err(unread) => Err(Early::unread(number, unread)),
     }
 }

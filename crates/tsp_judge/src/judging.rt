@@ -5,14 +5,16 @@ ghost use Rattle.tsp_stream.specs.states.Watched.{sink_of};
 ghost use Rattle.tsp_verdict.specs.SolutionVerdict.{is_judged};
 ghost use Rattle.tsp_judge.specs.CheckRun.{told, JudgesFiles};
 
+use crate::early::Early;
 use crate::fault::RunFault;
-use std::alloc::{AllocError, Global};
+use crate::undecided::verdict_on;
+use std::alloc::Global;
 use std::io::Write;
 use tsp_cost::Instance;
 use tsp_file::File;
 use tsp_report::write_report;
 use tsp_stream::Watched;
-use tsp_verdict::{Certificate, Verdict, is_bounded, judge};
+use tsp_verdict::{Certificate, Verdict, is_bounded};
 
 /// The files that a run has read, and the verdict on them.
 #[derive(Drop)]
@@ -35,19 +37,19 @@ pub(crate) fn judge_files<W: Write>(
     certificate: &Option<(Certificate, File)>,
     claimed: Option<i64>,
     out: &mut Watched<W>,
-) -> Result<Verdict, RunFault>
+) -> Result<Verdict, Early>
     ensures { JudgesFiles certificate.now claimed instance.now solution.now (sink_of W.contents out.old out.new) result }
 {
     if !is_judged(certificate, instance) {
-        return Err(RunFault::WrongKind);
+        return Err(Early::wrong_kind());
     }
-    let verdict = match judge(alloc, instance, solution, lent(certificate), claimed) {
+    let verdict = match verdict_on(alloc, instance, solution, lent(certificate), claimed) {
         Ok(verdict) => verdict,
-        Err(AllocError) => return Err(RunFault::OutOfMemory),
+        Err(undecided) => return Err(Early::undecided(undecided)),
     };
     match write_report(instance.file(), verdict, out) {
         Ok(()) => Ok(verdict),
-        Err(fault) => Err(RunFault::Write(fault)),
+        Err(fault) => Err(Early::unwritten(fault)),
     }
 }
 

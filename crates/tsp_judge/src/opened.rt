@@ -2,14 +2,15 @@
 
 ghost use Rattle.tsp_judge.specs.Open.{ReadsText};
 
-use crate::fault::RunFault;
-use std::alloc::{AllocError, Global};
+use crate::early::Early;
+use crate::undecided::{bound_of, next_verdict};
+use std::alloc::Global;
 use std::marker::Model;
 use tsp_cost::Instance;
 use tsp_file::File;
-use tsp_read::read_bytes;
+use tsp_read::file_of_bytes;
 use tsp_reason::{Basis, BoundVerdict, Certificate, Verdict};
-use tsp_verdict::{basis_alone, basis_of, is_bounded, judge_bound, judge_next};
+use tsp_verdict::{basis_alone, basis_of, is_bounded};
 
 /// An instance, the certificate that is bound to it, where one is, and what is known of all
 /// solutions by the two: that is found once, when the certificate is bound or the instance is
@@ -43,7 +44,7 @@ impl Opened {
     ///
     /// `File` with the number 1 where the text is no file; `WrongKind` where the file is no
     /// instance.
-    pub fn of(alloc: Global, text: &[u8]) -> Result<Opened, RunFault>
+    pub fn of(alloc: Global, text: &[u8]) -> Result<Opened, Early>
         ensures { MatchResult result
             (λ opened. IsOpened text.now opened) (λ fault. IsUnopened text.now fault) }
     {
@@ -56,7 +57,7 @@ impl Opened {
             }),
             Err((_, other)) => {
                 drop(other);
-                Err(RunFault::WrongKind)
+                Err(Early::wrong_kind())
             }
         }
     }
@@ -81,18 +82,18 @@ impl Opened {
         alloc: Global,
         by: Certificate,
         text: &[u8],
-    ) -> Result<BoundVerdict, RunFault>
+    ) -> Result<BoundVerdict, Early>
         ensures { MatchResult result
             (λ found. IsBoundTo by text.now self.old self.new found)
             (λ fault. (self.new ≡ self.old) × IsUnbound by text.now self.old fault) }
     {
         let file = read_text(alloc, 2, text)?;
         if !is_bounded(by, self.instance.kind()) {
-            return Err(RunFault::WrongKind);
+            return Err(Early::wrong_kind());
         }
-        let found = match judge_bound(alloc, by, &self.instance, &file) {
+        let found = match bound_of(alloc, by, &self.instance, &file) {
             Ok(found) => found,
-            Err(AllocError) => return Err(RunFault::OutOfMemory),
+            Err(undecided) => return Err(Early::undecided(undecided)),
         };
         self.basis = basis_of(found);
         self.certificate = Some((by, file));
@@ -105,33 +106,29 @@ impl Opened {
     /// # Errors
     ///
     /// `File` with the number 2 where the text is no file; `OutOfMemory`.
-    pub fn judge(
-        &self,
-        alloc: Global,
-        text: &[u8],
-        claimed: Option<i64>,
-    ) -> Result<Verdict, RunFault>
+    pub fn judge(&self, alloc: Global, text: &[u8], claimed: Option<i64>) -> Result<Verdict, Early>
         ensures { MatchResult result
             (λ verdict. IsHeldVerdict text.now claimed self.now verdict)
             (λ fault. IsNotJudged text.now self.now fault) }
     {
         let solution = read_text(alloc, 2, text)?;
-        match judge_next(alloc, &self.instance, self.basis, &solution, claimed) {
+        match next_verdict(alloc, &self.instance, self.basis, &solution, claimed) {
             Ok(verdict) => Ok(verdict),
-            Err(AllocError) => Err(RunFault::OutOfMemory),
+            Err(undecided) => Err(Early::undecided(undecided)),
         }
     }
 }
 
 /// Reads the file that a text is, which has this number among those of a call.
-fn read_text(alloc: Global, number: u32, text: &[u8]) -> Result<File, RunFault>
+///
+/// # Errors
+///
+/// `File` with the number where the text is none.
+pub fn read_text(alloc: Global, number: u32, text: &[u8]) -> Result<File, Early>
     ensures { ReadsText number text.now result }
 {
-    match read_bytes(alloc, text) {
+    match file_of_bytes(alloc, text) {
         Ok(file) => Ok(file),
-        Err(fault) => Err(RunFault::File {
-            file: number,
-            fault,
-        }),
+        Err(unread) => Err(Early::unread(number, unread)),
     }
 }

@@ -5,6 +5,7 @@ ghost use Rattle.tsp_stream.specs.Turn.{TakesAtMost};
 ghost use Rattle.tsp_read.specs.Reads.{most_taken};
 ghost use Rattle.tsp_judge.specs.ShowRun.{IsShowRun};
 
+use crate::early::{Early, promised};
 use crate::fault::RunFault;
 use crate::file::read_file;
 use std::alloc::Global;
@@ -31,9 +32,25 @@ pub fn run_show<R: Read, W: Write>(
     ensures { TakesAtMost most_taken (turn_of R.remaining r.old r.new) (λ turn.
         IsShowRun turn (sink_of W.contents out.old out.new) result) }
 {
+    promised(run_show_with_cause(alloc, r, out))
+}
+
+/// [`run_show`] with a cause where memory is refused.
+///
+/// # Errors
+///
+/// Those of [`run_show`].
+pub fn run_show_with_cause<R: Read, W: Write>(
+    alloc: Global,
+    r: &mut Watched<R>,
+    out: &mut Watched<W>,
+) -> Result<(), Early>
+    ensures { TakesAtMost most_taken (turn_of R.remaining r.old r.new) (λ turn.
+        IsShowRun turn (sink_of W.contents out.old out.new) result) }
+{
     let file = read_file(alloc, 1, r)?;
     match write_shown(file, out) {
-        Err(fault) => Err(RunFault::Write(fault)),
+        Err(fault) => Err(Early::unwritten(fault)),
         Ok(()) => Ok(()),
     }
 }

@@ -10,6 +10,7 @@ ghost use Rattle.tsp_judge.specs.Yes.{IsRunOf};
 
 use crate::checked::judge_read;
 use crate::compared::{Compared, compare_read};
+use crate::early::{Early, promised};
 use crate::fault::RunFault;
 use crate::file::read_file;
 use crate::judging::Judged;
@@ -35,6 +36,21 @@ pub fn run_uncertified<I: Read, S: Read, W: Write>(
         TakesAtMost most_taken (turn_of S.remaining sol.old sol.new) (λ second.
         IsRunOf None claimed first second (sink_of W.contents out.old out.new) result)) }
 {
+    promised(run_uncertified_with_cause(alloc, inst, sol, claimed, out))
+}
+
+/// [`run_uncertified`] with a cause where memory is refused.
+fn run_uncertified_with_cause<I: Read, S: Read, W: Write>(
+    alloc: Global,
+    inst: &mut Watched<I>,
+    sol: &mut Watched<S>,
+    claimed: Option<i64>,
+    out: &mut Watched<W>,
+) -> Result<Judged, Early>
+    ensures { TakesAtMost most_taken (turn_of I.remaining inst.old inst.new) (λ first.
+        TakesAtMost most_taken (turn_of S.remaining sol.old sol.new) (λ second.
+        IsRunOf None claimed first second (sink_of W.contents out.old out.new) result)) }
+{
     let instance = read_file(alloc, 1, inst)?;
     let solution = read_file(alloc, 2, sol)?;
     judge_read(alloc, instance, solution, None, claimed, out)
@@ -53,6 +69,28 @@ pub fn run_compare_uncertified<I: Read, R: Gives + Drop, E, S: Solutions<R> + Fo
     out: &mut Watched<W>,
     to: &mut E,
 ) -> Result<Compared, RunFault>
+    ensures text { TakesAtMost most_taken (turn_of I.remaining inst.old inst.new) (λ first.
+        IsCompareRun R.remaining R.gives (S.opens solutions.now) (S.names solutions.now) None first
+        (sink_of W.contents out.old out.new) result) }
+    ensures told { IsFollowed (S.tells solutions.now) (length (S.names solutions.now)) to.old to.new result }
+{
+    promised(run_compare_uncertified_with_cause(alloc, inst, solutions, out, to))
+}
+
+/// [`run_compare_uncertified`] with a cause where memory is refused.
+fn run_compare_uncertified_with_cause<
+    I: Read,
+    R: Gives + Drop,
+    E,
+    S: Solutions<R> + Follow<E>,
+    W: Write,
+>(
+    alloc: Global,
+    inst: &mut Watched<I>,
+    solutions: &S,
+    out: &mut Watched<W>,
+    to: &mut E,
+) -> Result<Compared, Early>
     ensures text { TakesAtMost most_taken (turn_of I.remaining inst.old inst.new) (λ first.
         IsCompareRun R.remaining R.gives (S.opens solutions.now) (S.names solutions.now) None first
         (sink_of W.contents out.old out.new) result) }

@@ -21,9 +21,11 @@ mod run;
 mod stage;
 mod state;
 mod token;
+mod unread;
 
 pub use examples::examples_of_reading;
 pub use feed::Feed;
 pub use read::{read_bytes, read_from};
 pub use tsp_draft::EndFault;
 pub use tsp_text::{LineFault, ReadFault};
+pub use unread::{Unread, file_of_bytes, file_of_reader};

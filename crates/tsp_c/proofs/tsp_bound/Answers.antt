@@ -3,5 +3,5 @@ use Rattle.tsp_c.proofs.tsp_bound.Goals as goal
 
 pub returns : goal.returns
 returns c =
-    let made = c.bound_by-status.result in
-    (made.0, made.1.items, c.bound_by-status.ensures.texts, rw c.deref.ensures.value at c.place-answer.ensures)
+    let made = c.bound_by-answer.result in
+    (made.0.0, made.0.1, c.bound_by-answer.ensures.texts, c.place-status.ensures)

@@ -7,11 +7,11 @@ use Rattle.tsp_c.proofs.tsp_check.Goals as goal
 
 pub returns : goal.returns
 returns c =
-    let made = c.check_by-status.result in
+    let made = c.check_by-answer.result in
     let fits : FitsSigned w64 c.args.claimed = c.ranges.claimed in (
-      made.0,
-      made.1.items,
-      subst (λ (z : ℤ). ChecksBy c.args.by c.args.has_claim z c.args.instance.now c.args.solution.now c.args.certificate.now made.0 made.1.items)
-          (to_z-of_z w64 c.args.claimed fits) c.check_by-status.ensures.texts,
-      rw c.deref.ensures.value at c.place-answer.ensures,
+      made.0.0,
+      made.0.1,
+      subst (λ (z : ℤ). ChecksBy c.args.by c.args.has_claim z c.args.instance.now c.args.solution.now c.args.certificate.now made.0.0 made.0.1)
+          (to_z-of_z w64 c.args.claimed fits) c.check_by-answer.ensures.texts,
+      c.place-status.ensures,
     )

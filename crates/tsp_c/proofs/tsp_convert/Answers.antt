@@ -3,5 +3,5 @@ use Rattle.tsp_c.proofs.tsp_convert.Goals as goal
 
 pub returns : goal.returns
 returns c =
-    let made = c.convert_by-status.result in
-    (made.0, made.1.items, c.convert_by-status.ensures, rw c.deref.ensures.value at c.place-answer.ensures)
+    let made = c.convert_by-answer.result in
+    (made.0, made.1, c.convert_by-answer.ensures, c.place-status.ensures)

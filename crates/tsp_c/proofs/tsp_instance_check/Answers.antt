@@ -7,11 +7,11 @@ use Rattle.tsp_c.proofs.tsp_instance_check.Goals as goal
 
 pub returns-clause-places : goal.returns-clause-places
 returns-clause-places c =
-    let made = c.check_held-status.result in
+    let made = c.check_held-answer.result in
     let fits : FitsSigned w64 c.args.claimed = c.ranges.claimed in (
-      made.0,
-      made.1.items,
-      subst (λ (z : ℤ). ChecksHeld c.args.handle.now.loose.value c.args.has_claim z c.args.solution.now made.0 made.1.items made.2)
-          (to_z-of_z w64 c.args.claimed fits) c.check_held-status.ensures.checks,
-      rw c.deref.ensures.value at c.place-answer.ensures,
+      made.0.0,
+      made.0.1,
+      subst (λ (z : ℤ). ChecksHeld c.args.handle.now.loose.value c.args.has_claim z c.args.solution.now made.0.0 made.0.1 made.1)
+          (to_z-of_z w64 c.args.claimed fits) c.check_held-answer.ensures.checks,
+      c.place-status.ensures,
     )

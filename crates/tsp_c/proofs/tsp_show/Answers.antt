@@ -3,5 +3,5 @@ use Rattle.tsp_c.proofs.tsp_show.Goals as goal
 
 pub returns : goal.returns
 returns c =
-    let made = c.shown-status.result in
-    (made.0, made.1.items, c.shown-status.ensures, rw c.deref.ensures.value at c.place-answer.ensures)
+    let made = c.shown-answer.result in
+    (made.0, made.1, c.shown-answer.ensures, c.place-status.ensures)

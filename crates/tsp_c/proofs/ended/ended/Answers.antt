@@ -5,7 +5,7 @@ use Rattle.tsp_c.proofs.StatusMeanings.{printed_ends, unprinted_ends}
 use Rattle.tsp_c.proofs.ended.ended.Goals as goal
 
 pub returns-in-Ok : goal.returns-in-Ok
-returns-in-Ok c = printed_ends c.args.answer (watched c.args.report).items c.in-Ok.printed.0 c.in-Ok.printed.1.items c.in-Ok.ensures
+returns-in-Ok c = printed_ends c.args.answer (watched c.args.report).items c.in-Ok.printed.0 c.in-Ok.printed.1 c.in-Ok.ensures
 
 pub returns-in-Err : goal.returns-in-Err
 returns-in-Err c = unprinted_ends c.args.answer (watched c.args.report).items 3 c.into_text.result.items c.in-Err.ensures refl c.into_text.ensures

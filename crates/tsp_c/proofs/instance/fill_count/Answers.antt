@@ -4,7 +4,7 @@ use Rattle.tsp_c.proofs.Counted.{some_count}
 use Rattle.tsp_c.proofs.instance.fill_count.Goals as goal
 
 pub returns-in-Err : goal.returns-in-Err
-returns-in-Err c = inr (c.in-Err.fault, c.in-Err.ensures, (c.status_of_fault.ensures, refl))
+returns-in-Err c = inr (c.in-Err.early, c.in-Err.ensures, (c.status_of_fault.ensures, refl))
 
 pub returns-in-Ok : goal.returns-in-Ok
 returns-in-Ok c = inl (

@@ -16,11 +16,11 @@ returns-in-Some-clause-checks c =
     let fits : FitsSigned w64 c.args.claimed = c.ranges.claimed in
     let claim_is : c.claim_of.result ≡ claim =
     c.claim_of.ensures ∙ ap (λ (z : ℤ). claim_of c.args.has_claim z) (to_z-of_z w64 c.args.claimed fits) in
-    let checked : ChecksOpen c.deref.result.now c.claim_of.result two made.0 made.1.items made.2 =
+    let checked : ChecksOpen c.deref.result.now c.claim_of.result two made.0.0 made.0.1 made.1 =
     (c.check_opened-answer.ensures.texts, c.check_opened-answer.ensures.numbers) in
     let old : Some held ≡ c.args.handle.now.loose.value = search rules in
-    subst (λ (h : Held). ChecksHeld h c.args.has_claim c.args.claimed two made.0 made.1.items made.2) old (
-      λ low. subst (λ (k : Option ℤ). ChecksOpen held k two made.0 made.1.items made.2) claim_is
-          (subst (λ (o : Open). ChecksOpen o c.claim_of.result two made.0 made.1.items made.2) c.deref.ensures checked),
+    subst (λ (h : Held). ChecksHeld h c.args.has_claim c.args.claimed two made.0.0 made.0.1 made.1) old (
+      λ low. subst (λ (k : Option ℤ). ChecksOpen held k two made.0.0 made.0.1 made.1) claim_is
+          (subst (λ (o : Open). ChecksOpen o c.claim_of.result two made.0.0 made.0.1 made.1) c.deref.ensures checked),
       λ many. absurd (omega (arith, few, many)),
     )

@@ -11,38 +11,38 @@ use Rattle.tsp_c.proofs.OnHandles.{fault_as_texts, fault_told, reported_as_texts
 use Rattle.tsp_c.proofs.opened.check_opened.Goals as goal
 
 pub returns-in-Err-clause-texts : goal.returns-in-Err-clause-texts
-returns-in-Err-clause-texts c = fault_as_texts c.args.opened.now c.args.claimed c.args.solution.now c.in-Err.fault []
-    c.ended-status.result.0 c.ended-status.result.1.items c.in-Err.ensures c.ended-status.ensures
+returns-in-Err-clause-texts c = fault_as_texts c.args.opened.now c.args.claimed c.args.solution.now c.in-Err.early []
+    c.ended-answer.result.0 c.ended-answer.result.1 c.in-Err.ensures c.ended-answer.ensures
 
 pub returns-in-Err-clause-numbers : goal.returns-in-Err-clause-numbers
-returns-in-Err-clause-numbers c = fault_told c.args.opened.now c.args.claimed c.args.solution.now c.in-Err.fault []
-    c.ended-status.result.0 c.ended-status.result.1.items c.of_fault.result c.for_status.result c.in-Err.ensures c.of_fault.ensures
-    c.for_status.ensures.kept c.for_status.ensures.none c.ended-status.ensures
+returns-in-Err-clause-numbers c = fault_told c.args.opened.now c.args.claimed c.args.solution.now c.in-Err.early []
+    c.ended-answer.result.0 c.ended-answer.result.1 c.of_early.result c.numbers-told.result c.in-Err.ensures c.of_early.ensures
+    c.numbers-told.ensures.kept c.numbers-told.ensures.none c.ended-answer.ensures
 
 pub returns-in-Ok-clause-texts : goal.returns-in-Ok-clause-texts
 returns-in-Ok-clause-texts c =
     let opened = c.args.opened.now in
     let is = c.in-Ok.ensures in
-    let answer = c.reported-answer in
+    let answer = c.reported-written in
     let sink : Sink = sink_of (λ v. Some v.items) c.new-report.result answer.new.out in
     let same : c.instance-in-Ok.result.now ≡ opened.instance = c.instance-in-Ok.ensures in
     reported_as_texts opened c.args.claimed c.args.solution.now c.in-Ok.verdict sink answer.result answer.new.out.inner.items
-    c.ended-status-in-Ok.result.0 c.ended-status-in-Ok.result.1.items is
+    c.ended-answer-in-Ok.result.0 c.ended-answer-in-Ok.result.1 is
     (λ agrees. c.verdicts_mean_reports.ensures.accepted opened.certificate c.args.claimed opened.instance is.solution c.in-Ok.verdict
     is.problem is.of_type is.judged agrees)
     (record { held = ap (λ v. Some v.items) c.new-report.ensures.inner ∙ ap Some c.new.ensures.items; holds = refl })
     (subst (λ (f : Fields). Reports sink (report_of f c.in-Ok.verdict) (is_yes c.in-Ok.verdict) answer.result) same answer.ensures)
-    c.ended-status-in-Ok.ensures
+    c.ended-answer-in-Ok.ensures
 
 pub returns-in-Ok-clause-numbers : goal.returns-in-Ok-clause-numbers
 returns-in-Ok-clause-numbers c =
     let opened = c.args.opened.now in
-    let answer = c.reported-answer in
+    let answer = c.reported-written in
     let sink : Sink = sink_of (λ v. Some v.items) c.new-report.result answer.new.out in
     let same : c.instance-in-Ok.result.now ≡ opened.instance = c.instance-in-Ok.ensures in
     reported_told opened c.args.claimed c.args.solution.now c.in-Ok.verdict sink answer.result answer.new.out.inner.items
-    c.ended-status-in-Ok.result.0 c.ended-status-in-Ok.result.1.items c.of_verdict-told.result c.for_status-in-Ok.result c.in-Ok.ensures
+    c.ended-answer-in-Ok.result.0 c.ended-answer-in-Ok.result.1 c.of_verdict-told.result c.numbers-told-in-Ok.result c.in-Ok.ensures
     (c.of_verdict-told.ensures ∙ ap (λ (f : Fields). told_of_verdict f c.in-Ok.verdict) c.instance.ensures)
-    c.for_status-in-Ok.ensures.kept c.for_status-in-Ok.ensures.none
+    c.numbers-told-in-Ok.ensures.kept c.numbers-told-in-Ok.ensures.none
     (subst (λ (f : Fields). Reports sink (report_of f c.in-Ok.verdict) (is_yes c.in-Ok.verdict) answer.result) same answer.ensures)
-    c.ended-status-in-Ok.ensures
+    c.ended-answer-in-Ok.ensures

@@ -10,8 +10,8 @@ returns-in-Ok-Err c = inr (
   OutOfMemory,
   c.take.ensures.closed,
   MatchResult-at_err _ _ c.in-Ok-Err.no_box c.in-Ok-Err.field-0-is c.in-Ok-Err.ensures,
-  c.tell_fault-in-Ok-Err.ensures.told,
-  c.tell_fault-in-Ok-Err.ensures.status,
+  c.tell_no_box.ensures.told,
+  c.tell_no_box.ensures.status,
 )
 
 pub returns-in-Ok-Ok : goal.returns-in-Ok-Ok

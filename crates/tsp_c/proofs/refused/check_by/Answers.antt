@@ -20,9 +20,9 @@ returns-clause-texts c =
     let fits : FitsSigned w64 c.args.claim.claimed = search rules in
     let claim_is : claim.result ≡ claim_of c.args.claim.has_claim c.args.claim.claimed =
     claim.ensures ∙ ap (λ (z : ℤ). claim_of c.args.claim.has_claim z) (to_z-of_z w64 c.args.claim.claimed fits) in (
-      λ known claims. subst (λ (b : Option Certificate). ChecksTexts (with_certificate b three) (claim_of c.args.claim.has_claim c.args.claim.claimed) one two made.0 made.1.items)
+      λ known claims. subst (λ (b : Option Certificate). ChecksTexts (with_certificate b three) (claim_of c.args.claim.has_claim c.args.claim.claimed) one two made.0.0 made.0.1)
           by.ensures
-          (subst (λ (k : Option ℤ). ChecksTexts (with_certificate by.result three) k one two made.0 made.1.items) claim_is c.checked.ensures.texts),
+          (subst (λ (k : Option ℤ). ChecksTexts (with_certificate by.result three) k one two made.0.0 made.0.1) claim_is c.checked.ensures.texts),
       λ many. absurd (omega (arith, low, many)),
       λ many. absurd (omega (arith, few, many)),
     )
@@ -40,9 +40,9 @@ returns-clause-numbers c =
     let fits : FitsSigned w64 c.args.claim.claimed = search rules in
     let claim_is : claim.result ≡ claim_of c.args.claim.has_claim c.args.claim.claimed =
     claim.ensures ∙ ap (λ (z : ℤ). claim_of c.args.claim.has_claim z) (to_z-of_z w64 c.args.claim.claimed fits) in (
-      λ known claims. subst (λ (b : Option Certificate). TellsTexts (with_certificate b three) (claim_of c.args.claim.has_claim c.args.claim.claimed) one two made.0 made.2)
+      λ known claims. subst (λ (b : Option Certificate). TellsTexts (with_certificate b three) (claim_of c.args.claim.has_claim c.args.claim.claimed) one two made.0.0 made.1)
           by.ensures
-          (subst (λ (k : Option ℤ). TellsTexts (with_certificate by.result three) k one two made.0 made.2) claim_is c.checked.ensures.numbers),
+          (subst (λ (k : Option ℤ). TellsTexts (with_certificate by.result three) k one two made.0.0 made.1) claim_is c.checked.ensures.numbers),
       λ many. absurd (omega (arith, low, many)),
       λ many. absurd (omega (arith, few, many)),
     )

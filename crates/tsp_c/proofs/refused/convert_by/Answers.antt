@@ -9,6 +9,6 @@ pub returns : goal.returns
 returns c =
     let made = c.converted.result in
     let low = c.if-number-gt9.false in (
-      λ few. subst (λ (to : Option Layout). ConvertsText to c.args.file.now made.0 made.1.items) c.layout_of.ensures c.converted.ensures,
+      λ few. subst (λ (to : Option Layout). ConvertsText to c.args.file.now made.0 made.1) c.layout_of.ensures c.converted.ensures,
       λ many. absurd (omega (arith, low, many)),
     )

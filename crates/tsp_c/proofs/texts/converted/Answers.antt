@@ -5,7 +5,7 @@ use Rattle.tsp_c.proofs.OnTexts.{converts}
 use Rattle.tsp_c.proofs.texts.converted.Goals as goal
 
 pub returns : goal.returns
-returns c = let run = c.run_convert.ensures in
-    converts _ _ _ c.run_convert.result _ _ _ _ (ap (λ s. Some s.now) c.new-reader.ensures.inner)
+returns c = let run = c.run_convert_with_cause.ensures in
+    converts _ _ _ c.run_convert_with_cause.result _ _ _ _ (ap (λ s. Some s.now) c.new-reader.ensures.inner)
     (record { held = ap (λ v. Some v.items) c.new-report.ensures.inner ∙ ap Some c.new.ensures.items; holds = refl }) run.2
     (rw c.done-answer.ensures at c.ended.ensures)

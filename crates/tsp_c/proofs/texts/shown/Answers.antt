@@ -9,9 +9,9 @@ use Rattle.tsp_c.proofs.texts.shown.Goals as goal
 
 pub returns : goal.returns
 returns c =
-    let run = c.run_show.ensures in
-    let turn : Turn = turn_of (λ s. Some s.now) c.new-reader.result c.run_show.new.r run.0 in
-    let sink : Sink = sink_of (λ v. Some v.items) c.new-report.result c.run_show.new.out in
-    shows turn sink c.run_show.result _ _ _ _ run.2 (ap (λ s. Some s.now) c.new-reader.ensures.inner)
+    let run = c.run_show_with_cause.ensures in
+    let turn : Turn = turn_of (λ s. Some s.now) c.new-reader.result c.run_show_with_cause.new.r run.0 in
+    let sink : Sink = sink_of (λ v. Some v.items) c.new-report.result c.run_show_with_cause.new.out in
+    shows turn sink c.run_show_with_cause.result _ _ _ _ run.2 (ap (λ s. Some s.now) c.new-reader.ensures.inner)
     (record { held = ap (λ v. Some v.items) c.new-report.ensures.inner ∙ ap Some c.new.ensures.items; holds = refl })
     (rw c.done-answer.ensures at c.ended.ensures)

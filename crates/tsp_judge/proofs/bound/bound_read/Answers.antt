@@ -10,7 +10,8 @@ use Rattle.tsp_judge.proofs.bound.bound_read.Goals as goal
 
 pub returns-in_default : goal.returns-in_default
 returns-in_default g c = λ first second one two.
-    bound_fault_of _ _ _ _ _ (c.args.instance, c.args.certificate, one, two, (none_bounded c.args.by _ c.in_default.ensures.2, (Keeps-refl _, refl)))
+    rw c.wrong_kind.ensures
+    (bound_fault_of _ _ _ _ _ (c.args.instance, c.args.certificate, one, two, (none_bounded c.args.by _ c.in_default.ensures.2, (Keeps-refl _, refl))))
 
 pub returns-in_err-found : goal.returns-in_err-found
 returns-in_err-found g c = λ first second one two.

@@ -9,13 +9,13 @@ use Rattle.tsp_judge.proofs.Yeses.{run_of, fault_of_run}
 use Rattle.tsp_judge.proofs.checked.judge_read.Goals as goal
 
 pub returns-in_default : goal.returns-in_default
-returns-in_default g c = λ given first second one two three. fault_of_run given _ first second _ _ (
+returns-in_default g c = λ given first second one two three. rw c.wrong_kind.ensures (fault_of_run given _ first second _ _ (
   c.args.instance,
   c.args.solution,
   c.args.certificate,
   are_read given first second c.args.instance c.args.solution c.args.certificate one two three,
   (none_judged c.args.certificate _ c.in_default.ensures.2, (Keeps-refl _, refl)),
-)
+))
 
 pub returns-in_err-verdict : goal.returns-in_err-verdict
 returns-in_err-verdict g c = λ given first second one two three.

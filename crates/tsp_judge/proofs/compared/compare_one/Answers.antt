@@ -34,10 +34,11 @@ returns g c =
     let turn = turn_of g.R.Read.remaining c.new-reader.result c.find.new.reader found.0 in
     let opened = turn_at g.R.Read.remaining g.R.Gives.gives (g.S.Solutions.opens c.args.solutions.now) c.args.index c.open.result c.new-reader.result c.find.new.reader found.0
     c.open.ensures c.new-reader.ensures.inner c.new-reader.ensures.sound c.in_ok-found.ensures.asked found.1 in
-    one_stopped (IsTurnAt g.R.Read.remaining g.R.Gives.gives (g.S.Solutions.opens c.args.solutions.now)) (g.S.Solutions.names c.args.solutions.now) c.args.common.now c.args.index
+    rw c.unwritten.ensures
+    (one_stopped (IsTurnAt g.R.Read.remaining g.R.Gives.gives (g.S.Solutions.opens c.args.solutions.now)) (g.S.Solutions.names c.args.solutions.now) c.args.common.now c.args.index
     (sink_of g.W.Write.contents c.args.out.now c.write_line.new.out) turn _ c.in-Err.fault opened found.2
     (subst₂ (λ r (path : List _). Writes (sink_of g.W.Write.contents c.args.out.now c.write_line.new.out) (solution_line r path) (Err c.in-Err.fault)) c.result.ensures c.name.ensures
-    c.in-Err.ensures)
+    c.in-Err.ensures))
 
 pub returns-in_err-found : goal.returns-in_err-found
 returns-in_err-found g c =

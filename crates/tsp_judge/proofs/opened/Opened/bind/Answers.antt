@@ -3,13 +3,23 @@ use Rattle.std.proofs.Common.{ap, refl, rules, subst}
 use Rattle.std.specs.Prelude.{IsTrue}
 use Rattle.tsp_verdict.specs.Bounded.{IsBoundVerdict}
 use Rattle.tsp_verdict.specs.Certified.{is_bounded}
-use Rattle.tsp_judge.specs.Open.{Open}
+use Rattle.tsp_judge.specs.declared.fault.RunFault.TheVariants.{OutOfMemory}
+use Rattle.tsp_judge.specs.Open.{Open, IsUnbound}
 use Rattle.tsp_judge.proofs.opened.Opened.bind.Goals as goal
 
 pub invariant_of-self : goal.invariant_of-self
 invariant_of-self c =
     let bounded : IsTrue (is_bounded c.args.by c.self.inside.instance.kind) = search rules in
     (c.self.invariant.0, (bounded, c.basis_of-self-inside.ensures c.args.by c.self.inside.instance c.in_ok-file.file c.in-Ok.ensures))
+
+pub returns-in-Err : goal.returns-in-Err
+returns-in-Err c =
+    let bounded : IsTrue (is_bounded c.args.by c.self.inside.instance.kind) = search rules in
+    rw c.undecided.ensures (
+      refl,
+      subst (λ (o : Open). IsUnbound c.args.by c.args.text.now o OutOfMemory) c.self.view_is
+          (c.in_ok-file.file, c.in_ok-file.ensures, bounded, c.in-Err.ensures.0, c.in-Err.ensures.1),
+    )
 
 pub returns : goal.returns
 returns c =

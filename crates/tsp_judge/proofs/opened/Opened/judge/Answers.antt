@@ -3,8 +3,8 @@ use Rattle.std.proofs.Common.{subst}
 use Rattle.tsp_judge.specs.Open.{Open, IsHeldVerdict}
 use Rattle.tsp_judge.proofs.opened.Opened.judge.Goals as goal
 
-pub judge_next-requires : goal.judge_next-requires
-judge_next-requires c = (c.self.inside.certificate, c.self.invariant.1)
+pub next_verdict-requires : goal.next_verdict-requires
+next_verdict-requires c = (c.self.inside.certificate, c.self.invariant.1)
 
 pub returns-in-Ok : goal.returns-in-Ok
 returns-in-Ok c =

@@ -1,10 +1,10 @@
--- The goals of `run_compare_uncertified` in src/uncertified.rt: what it ensures.
+-- The goals of `run_compare_uncertified_with_cause` in src/uncertified.rt: what it ensures.
 use Rattle.std.proofs.Common.{◌≡◌, None, Err, arith, refl}
 use Rattle.std.proofs.KnownBytes.{Keeps-refl}
 use Rattle.tsp_stream.specs.states.Watched.{turn_of}
 use Rattle.tsp_judge.proofs.HandedOn.{handed_on}
 use Rattle.tsp_judge.proofs.Comparing.{compare_first_stops}
-use Rattle.tsp_judge.proofs.uncertified.run_compare_uncertified.Goals as goal
+use Rattle.tsp_judge.proofs.uncertified.run_compare_uncertified_with_cause.Goals as goal
 
 pub returns-in_err-instance-clause-text : goal.returns-in_err-instance-clause-text
 returns-in_err-instance-clause-text g c =

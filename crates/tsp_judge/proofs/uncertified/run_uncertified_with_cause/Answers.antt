@@ -1,11 +1,11 @@
--- The goals of `run_uncertified` in src/uncertified.rt: what it ensures.
+-- The goals of `run_uncertified_with_cause` in src/uncertified.rt: what it ensures.
 use Rattle.std.proofs.Common.{◌≡◌, None, Err, [], refl}
 use Rattle.std.proofs.KnownBytes.{Keeps-refl}
 use Rattle.tsp_stream.specs.states.Watched.{turn_of}
 use Rattle.tsp_judge.proofs.HandedOn.{handed_on}
 use Rattle.tsp_judge.proofs.Runs.{none_taken, first_stops, second_stops}
 use Rattle.tsp_judge.proofs.Yeses.{fault_of_run}
-use Rattle.tsp_judge.proofs.uncertified.run_uncertified.Goals as goal
+use Rattle.tsp_judge.proofs.uncertified.run_uncertified_with_cause.Goals as goal
 
 pub returns-in_err-instance : goal.returns-in_err-instance
 returns-in_err-instance g c =

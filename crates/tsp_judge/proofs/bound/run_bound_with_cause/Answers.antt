@@ -1,11 +1,11 @@
--- The goals of `run_bound` in src/bound.rt: what it ensures.
+-- The goals of `run_bound_with_cause` in src/bound.rt: what it ensures.
 use Rattle.std.proofs.Common.{◌≡◌, Err, [], refl}
 use Rattle.std.proofs.KnownBytes.{Keeps-refl}
 use Rattle.tsp_stream.specs.states.Watched.{turn_of}
 use Rattle.tsp_judge.proofs.HandedOn.{handed_on}
 use Rattle.tsp_judge.proofs.Runs.{none_taken}
 use Rattle.tsp_judge.proofs.Bounding.{bound_first_stops, bound_second_stops, bound_fault_of}
-use Rattle.tsp_judge.proofs.bound.run_bound.Goals as goal
+use Rattle.tsp_judge.proofs.bound.run_bound_with_cause.Goals as goal
 
 pub returns-in_err-instance : goal.returns-in_err-instance
 returns-in_err-instance g c =

@@ -1,10 +1,10 @@
--- The goals of `run_convert` in src/convert.rt: what it ensures.
+-- The goals of `run_convert_with_cause` in src/convert.rt: what it ensures.
 use Rattle.std.proofs.Common.{◌≡◌, Err, refl}
 use Rattle.std.proofs.KnownBytes.{Keeps-refl}
 use Rattle.tsp_stream.specs.states.Watched.{turn_of, sink_of}
 use Rattle.tsp_judge.proofs.HandedOn.{handed_on}
 use Rattle.tsp_judge.proofs.Converts.{converted, convert_stopped, convert_stops}
-use Rattle.tsp_judge.proofs.convert.run_convert.Goals as goal
+use Rattle.tsp_judge.proofs.convert.run_convert_with_cause.Goals as goal
 
 pub returns-in_err-file : goal.returns-in_err-file
 returns-in_err-file g c =
@@ -13,11 +13,11 @@ returns-in_err-file g c =
 
 pub returns-in-Err : goal.returns-in-Err
 returns-in-Err g c = let read = c.in_ok-file.ensures in
-    (read.0, read.1, (c.in_ok-file.file, read.2, c.in-Err.ensures, (Keeps-refl _, refl)))
+    rw c.not_relaid.ensures (read.0, read.1, (c.in_ok-file.file, read.2, c.in-Err.ensures, (Keeps-refl _, refl)))
 
 pub returns-in-Err-written : goal.returns-in-Err-written
 returns-in-Err-written g c = let read = c.in_ok-file.ensures in
-    let turn = turn_of g.R.Read.remaining c.args.r.now c.read_file.new.reader read.0 in (
+    let turn = turn_of g.R.Read.remaining c.args.r.now c.read_file.new.reader read.0 in rw c.unwritten.ensures (
       read.0,
       read.1,
       convert_stopped c.args.to turn (sink_of g.W.Write.contents c.args.out.now c.write_file-written.new.out) c.in-Ok.converted c.in-Err-written.fault

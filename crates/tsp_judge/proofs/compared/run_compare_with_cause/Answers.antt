@@ -1,11 +1,11 @@
--- The goals of `run_compare` in src/compared.rt: what it ensures.
+-- The goals of `run_compare_with_cause` in src/compared.rt: what it ensures.
 use Rattle.std.proofs.Common.{◌≡◌, Err, [], arith, refl}
 use Rattle.std.proofs.KnownBytes.{Keeps-refl}
 use Rattle.tsp_stream.specs.states.Watched.{turn_of}
 use Rattle.tsp_judge.proofs.HandedOn.{handed_on}
 use Rattle.tsp_judge.proofs.Runs.{none_taken, unread_in}
 use Rattle.tsp_judge.proofs.Comparing.{compare_first_stops, compare_second_stops}
-use Rattle.tsp_judge.proofs.compared.run_compare.Goals as goal
+use Rattle.tsp_judge.proofs.compared.run_compare_with_cause.Goals as goal
 
 pub returns-in_err-instance-clause-text : goal.returns-in_err-instance-clause-text
 returns-in_err-instance-clause-text g c =

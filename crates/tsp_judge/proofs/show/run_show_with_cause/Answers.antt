@@ -1,10 +1,10 @@
--- The goals of `run_show` in src/show.rt: what it ensures.
+-- The goals of `run_show_with_cause` in src/show.rt: what it ensures.
 use Rattle.std.proofs.Common.{◌≡◌, Err, refl}
 use Rattle.std.proofs.KnownBytes.{Keeps-refl}
 use Rattle.tsp_stream.specs.states.Watched.{turn_of, sink_of}
 use Rattle.tsp_judge.proofs.HandedOn.{handed_on}
 use Rattle.tsp_judge.proofs.Shows.{show_stopped, show_stops}
-use Rattle.tsp_judge.proofs.show.run_show.Goals as goal
+use Rattle.tsp_judge.proofs.show.run_show_with_cause.Goals as goal
 
 pub returns-in_err-file : goal.returns-in_err-file
 returns-in_err-file g c =
@@ -12,7 +12,7 @@ returns-in_err-file g c =
     let read = c.in_err-file.ensures in rw same (read.0, read.1, show_stops (turn_of g.R.Read.remaining c.args.r.now c.read_file.new.reader read.0) _ _ read.2 (Keeps-refl _, refl))
 
 pub returns-in-Err : goal.returns-in-Err
-returns-in-Err g c = let read = c.in_ok-file.ensures in (
+returns-in-Err g c = let read = c.in_ok-file.ensures in rw c.unwritten.ensures (
   read.0,
   read.1,
   show_stopped (turn_of g.R.Read.remaining c.args.r.now c.read_file.new.reader read.0) (sink_of g.W.Write.contents c.args.out.now c.write_shown.new.out)

@@ -1,11 +1,11 @@
--- The goals of `run` in src/checked.rt: what it ensures.
+-- The goals of `run_with_cause` in src/checked.rt: what it ensures.
 use Rattle.std.proofs.Common.{◌≡◌, Err, [], refl}
 use Rattle.std.proofs.KnownBytes.{Keeps-refl}
 use Rattle.tsp_stream.specs.states.Watched.{turn_of}
 use Rattle.tsp_judge.proofs.HandedOn.{handed_on}
 use Rattle.tsp_judge.proofs.Runs.{none_taken, unread_in, first_stops, second_stops, third_stops}
 use Rattle.tsp_judge.proofs.Yeses.{fault_of_run}
-use Rattle.tsp_judge.proofs.checked.run.Goals as goal
+use Rattle.tsp_judge.proofs.checked.run_with_cause.Goals as goal
 
 pub returns-in_err-instance : goal.returns-in_err-instance
 returns-in_err-instance g c =

@@ -1,0 +1,8 @@
+-- The goals of `run_compare_uncertified` in src/uncertified.rt: what it ensures.
+use Rattle.tsp_judge.proofs.uncertified.run_compare_uncertified.Goals as goal
+
+pub returns-clause-text : goal.returns-clause-text
+returns-clause-text g c = rw c.promised.ensures c.run_compare_uncertified_with_cause.ensures.text
+
+pub returns-clause-told : goal.returns-clause-told
+returns-clause-told g c = rw c.promised.ensures c.run_compare_uncertified_with_cause.ensures.told
