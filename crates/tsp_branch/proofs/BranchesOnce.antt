@@ -14,6 +14,8 @@ use Rattle.tsp_branch.specs.declared.decision.Decision.{Decision}
 use Rattle.tsp_branch.specs.Decisions.{is_same, DecideOnce}
 use Rattle.tsp_branch.specs.Cases.{decide, leaves_of, cases_of, later_cases, open_cases, next_stack}
 use Rattle.tsp_branch.specs.states.Decided.{stack_of}
+use Rattle.tsp_branch.specs.declared.open_case.OpenCase.{OpenCase}
+use Rattle.tsp_branch.specs.states.OpenCases.{decisions_in}
 use Rattle.tsp_branch.specs.Listed.{all_grown, steps_from, no_numbers_of}
 use Rattle.tsp_branch.specs.Twice.{is_decided, IsFirstTwice, AreBranchesJudged}
 use Rattle.tsp_branch.proofs.CaseLaws.{stacks_hold_cases}
@@ -121,3 +123,9 @@ once_at_end directed given all stack branch index h past =
     let none : IsOnceSoFar directed given (steps_of all) stack branch [] =
     subst (λ (steps : List TreeStep). IsOnceSoFar directed given (steps_of all) stack branch (steps_of steps)) (drop_all index all past) h in
     no_branch_twice directed given (steps_of all) none.left (none.once tt)
+
+-- what the open case of the code says of a pair
+pub decided_here : (directed : Bool) (given : List Decision) (case : OpenCase) (pair : ℕ × ℕ) (result : Bool) → case.given.now ≡ given
+    → result ≡ is_decided directed (decisions_in case) pair → is_decided directed (stack_of case.stack.items ++ given) pair ≡ result
+decided_here directed given case pair result given_is is =
+    ap (λ (ds : List Decision). is_decided directed (stack_of case.stack.items ++ ds) pair) (sym given_is) ∙ sym is

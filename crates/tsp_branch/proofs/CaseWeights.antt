@@ -16,9 +16,9 @@ use Rattle.tsp_branch.specs.LeafBound.{combed, least_of, leaf_weight}
 use Rattle.tsp_branch.specs.Rows.{HasNoLink, IsRowBound}
 use Rattle.tsp_branch.specs.CaseTrees.{multiplied, IsFoundAt}
 use Rattle.tsp_branch.specs.states.Combed.{AreSmallMultipliers, AreFewCrossings, set_weight}
-use Rattle.tsp_branch.specs.FamiliesOfSets.{families_with}
+use Rattle.tsp_branch.specs.FamiliesOfSets.{families_with, sum_with}
 use Rattle.tsp_branch.specs.states.Decided.{decided}
-use Rattle.tsp_branch.specs.GoodNumbers.{AreGoodNumbers, as_leaf_numbers, most_crossed, most_with}
+use Rattle.tsp_branch.specs.GoodNumbers.{AreGoodNumbers, as_leaf_numbers, most_crossed}
 use Rattle.tsp_branch.proofs.Changes.{changes_are}
 use Rattle.tsp_branch.proofs.CombSizes.{families_crossed_few, families_some, multipliers_below}
 use Rattle.tsp_branch.proofs.CombsBySets.{sets_tell_combs, sets_give_leaves}
@@ -51,7 +51,7 @@ each_below (m ∷ ms) signs =
 
 -- multipliers of families that some two nodes cross
 pub few_multipliers : (crossed : List Crossings) (multipliers : List ℤ) → length multipliers ≡ length crossed → All (λ own. 1 ≤ own.most) crossed → All (λ m. pos 0 ≤ℤ m) multipliers
-    → most_with crossed multipliers ≤ℤ pos most_crossed → total multipliers ≤ℤ pos most_crossed
+    → sum_with true crossed multipliers ≤ℤ pos most_crossed → total multipliers ≤ℤ pos most_crossed
 few_multipliers crossed ms long some signs sum =
     let below = multipliers_below crossed ms long (recursion_from_All (λ own. 1 ≤ own.most) crossed some) (recursion_from_All (λ m. pos 0 ≤ℤ m) ms signs) in
     omega (arith, ints, below, sum)

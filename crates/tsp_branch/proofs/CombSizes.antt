@@ -19,8 +19,8 @@ use Rattle.tsp_branch.specs.Combs.{Comb, AreApart, family_crossings}
 use Rattle.tsp_branch.specs.Families.{Family, IsLoneOrComb, IsFamily}
 use Rattle.tsp_branch.specs.LeafBound.{crossings_of}
 use Rattle.tsp_branch.specs.CaseTrees.{multiplied}
-use Rattle.tsp_branch.specs.FamiliesOfSets.{family_with, families_with}
-use Rattle.tsp_branch.specs.GoodNumbers.{most_crossed, most_with}
+use Rattle.tsp_branch.specs.FamiliesOfSets.{family_with, families_with, sum_with}
+use Rattle.tsp_branch.specs.GoodNumbers.{most_crossed}
 use Rattle.tsp_branch.specs.states.Combed.{most_combed}
 use Rattle.tsp_branch.proofs.Combs.{Apart, apart_from_pairs}
 use Rattle.tsp_branch.proofs.LeafBounds.{product_below}
@@ -86,7 +86,7 @@ family_crossed_few n family i j in_i in_j (inr other) = other.most_is.above i j 
 
 -- ---- all families
 
-times_at_most : (multiplier crossed : ℤ) (most : ℕ) → pos 0 ≤ℤ multiplier → pos 0 ≤ℤ crossed → crossed ≤ℤ pos most → (pos 0 ≤ℤ (multiplier *ℤ crossed)) × ((multiplier *ℤ crossed) ≤ℤ (multiplier *ℤ pos most))
+pub times_at_most : (multiplier crossed : ℤ) (most : ℕ) → pos 0 ≤ℤ multiplier → pos 0 ≤ℤ crossed → crossed ≤ℤ pos most → (pos 0 ≤ℤ (multiplier *ℤ crossed)) × ((multiplier *ℤ crossed) ≤ℤ (multiplier *ℤ pos most))
 times_at_most (negsuc m) crossed most some low high = absurd (omega (arith, ints, some))
 times_at_most (pos m) crossed most some low high =
     let none = *ℤ-zero (pos m) in
@@ -96,7 +96,7 @@ times_at_most (pos m) crossed most some low high =
 pub families_crossed_few : (n : ℕ) (crossed : List Crossings) (families : List (List (List ℕ))) (multipliers : List ℤ) (i j : ℕ) → IsNode n i → IsNode n j → length crossed ≡ length families
     → AllByRecursion (IsFamily n) (families_with crossed families) → AllByRecursion (λ multiplier. pos 0 ≤ℤ multiplier) multipliers
     → (pos 0 ≤ℤ crossings_of (multiplied (families_with crossed families) multipliers) i j)
-    × (crossings_of (multiplied (families_with crossed families) multipliers) i j ≤ℤ most_with crossed multipliers)
+    × (crossings_of (multiplied (families_with crossed families) multipliers) i j ≤ℤ sum_with true crossed multipliers)
 families_crossed_few n [] families ms i j in_i in_j many are signs = (omega (arith, ints), omega (arith, ints))
 families_crossed_few n (own ∷ crossed) [] ms i j in_i in_j many are signs = absurd (omega (arith, many))
 families_crossed_few n (own ∷ crossed) (sets ∷ families) [] i j in_i in_j many are signs = (omega (arith, ints), omega (arith, ints))
@@ -119,7 +119,7 @@ families_some n (own ∷ crossed) (sets ∷ families) many are = (some are.0, fa
 
 -- so that multipliers sum to no more than the crossings
 pub multipliers_below : (crossed : List Crossings) (multipliers : List ℤ) → length multipliers ≡ length crossed → AllByRecursion (λ own. 1 ≤ own.most) crossed
-    → AllByRecursion (λ multiplier. pos 0 ≤ℤ multiplier) multipliers → total multipliers ≤ℤ most_with crossed multipliers
+    → AllByRecursion (λ multiplier. pos 0 ≤ℤ multiplier) multipliers → total multipliers ≤ℤ sum_with true crossed multipliers
 multipliers_below [] [] long some signs = omega (arith, ints)
 multipliers_below [] (m ∷ ms) long some signs = absurd (omega (arith, long))
 multipliers_below (own ∷ crossed) [] long some signs = absurd (omega (arith, long))

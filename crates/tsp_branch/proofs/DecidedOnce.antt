@@ -13,10 +13,10 @@ use Rattle.tsp_branch.specs.Decisions.{DecideOnce, decided_number}
 use Rattle.tsp_branch.specs.states.Decided.{signed, changes, AreFewChanges}
 
 -- two pairs that are both on two nodes
-abbrev Same : ℕ × ℕ → ℕ → ℕ → Type 0
+abbrev pub Same : ℕ × ℕ → ℕ → ℕ → Type 0
 Same p i j = ((p.0 ≡ i) × (p.1 ≡ j)) ⊎ ((p.1 ≡ i) × (p.0 ≡ j))
 
-told : (p : ℕ × ℕ) (i j : ℕ) → is_same_pair p (i, j) ≡ true → Same p i j
+pub told : (p : ℕ × ℕ) (i j : ℕ) → is_same_pair p (i, j) ≡ true → Same p i j
 told p i j h = elim (or_cases ((p.0 == i) && (p.1 == j)) ((p.1 == i) && (p.0 == j)) h) [
   | inl one ↦ let two = and_parts (p.0 == i) (p.1 == j) one in inl (eqb-true p.0 i two.0, eqb-true p.1 j two.1)
   | inr one ↦ let two = and_parts (p.1 == i) (p.0 == j) one in inr (eqb-true p.1 i two.0, eqb-true p.0 j two.1)

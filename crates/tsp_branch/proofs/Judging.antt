@@ -16,16 +16,16 @@ use Rattle.tsp_format.specs.Steps.{are_whole}
 use Rattle.tsp_theory.specs.Costs.{IsSymmetric}
 use Rattle.tsp_theory.specs.CertificateNumbers.{IsFromTo, IsScale, IsBoundSized}
 use Rattle.tsp_families.specs.declared.family.Crossings.{Crossings}
-use Rattle.tsp_branch.specs.declared.steps.JudgedLeaves.{JudgedLeaves}
-use Rattle.tsp_branch.specs.declared.steps.JudgedLeaves.TheVariants as judged
+use Rattle.tsp_branch.specs.declared.judged.JudgedLeaves.{JudgedLeaves}
+use Rattle.tsp_branch.specs.declared.judged.JudgedLeaves.TheVariants as judged
 use Rattle.tsp_branch.specs.Families.{Family, IsFamily}
 use Rattle.tsp_branch.specs.declared.decision.Decision.{Decision}
 use Rattle.tsp_branch.specs.Decisions.{DecideOnce, decided_number}
-use Rattle.tsp_branch.specs.declared.steps.JudgedLeaf.{JudgedLeaf}
-use Rattle.tsp_branch.specs.declared.steps.JudgedLeaf.TheVariants as leaves
+use Rattle.tsp_branch.specs.declared.judged.JudgedLeaf.{JudgedLeaf}
+use Rattle.tsp_branch.specs.declared.judged.JudgedLeaf.TheVariants as leaves
 use Rattle.tsp_branch.specs.Cases.{LeafNumbers, are_case_trees, leaves_of, next_stack}
 use Rattle.tsp_branch.specs.CaseTrees.{IsCaseTree, IsLeastFound, AreCostsFor, BoundsIfAny, CaseTreesBoundCycles}
-use Rattle.tsp_branch.specs.states.Decided.{stack_of, IsLeftStack}
+use Rattle.tsp_branch.specs.states.Decided.{stack_of, IsNextStack}
 use Rattle.tsp_branch.specs.GoodNumbers.{AreGoodNumbers, as_leaf_numbers, most_crossed}
 use Rattle.tsp_branch.specs.Listed.{all_grown, split_at, steps_from, listed_steps, IsStepOf, AreGoodLeaves, IsFirstBadLeaf, AreJudgedLeaves, BoundsCycles, IsLowest}
 use Rattle.tsp_branch.specs.JudgedTrees.{AreCasesOf}
@@ -177,13 +177,13 @@ module _ (Found : List Decision × LeafNumbers → Option ℤ → Type 0) (direc
       (at_leaf Found directed n crossed given all numbers stack lowest leaf changes rest next own lower at is.0 is.3 low turned))
 
   pub after_found : (numbers : List ℤ) (stack : List Decision) (lowest : Option ℤ) (leaf : ℕ) (changes : List (ℕ × ℤ))
-      (rest : List listed.Step) (new : List ℤ) (next : List Decision)
+      (rest : List listed.Step) (new : List ℤ) (is_open : Bool) (next : List Decision)
       (found : JudgedLeaf) (own lower : Option ℤ) → AtNext numbers stack lowest leaf (listed.Leaf changes ∷ rest)
-      → JudgedAs numbers stack changes new found → found ≡ leaves.Found own → IsLowest lowest own lower → IsLeftStack stack next
+      → JudgedAs numbers stack changes new found → found ≡ leaves.Found own → IsLowest lowest own lower → IsNextStack stack is_open next
       → IsPassing Found directed n crossed given all new next lower (leaf + 1) rest
-  after_found numbers stack lowest leaf changes rest new next found own lower at judged some low (inl turned) =
+  after_found numbers stack lowest leaf changes rest new true next found own lower at judged some low turned =
       inl (after_leaf numbers stack lowest leaf changes rest new (Some (stack_of next)) found own lower at judged some low turned)
-  after_found numbers stack lowest leaf changes rest new next found own lower at judged some low (inr turned) =
+  after_found numbers stack lowest leaf changes rest new false next found own lower at judged some low turned =
       inr (after_leaf numbers stack lowest leaf changes rest new None found own lower at judged some low turned.0)
 
   pub small_found : (numbers : List ℤ) (stack : List Decision) (changes : List (ℕ × ℤ)) (new : List ℤ) (found : JudgedLeaf)

@@ -5,9 +5,9 @@ use Rattle.std.specs.Int.{w64, int_wrap}
 use Rattle.std.specs.Global.{Vec}
 use Rattle.std.specs.List.{All}
 use Rattle.std.proofs.Math.ListN.{set}
-use Rattle.std.proofs.lemmas.Bool.{cases_Bool, cases_eq, cases_lt}
+use Rattle.std.proofs.lemmas.Bool.{cases_Bool, cases_lt}
 use Rattle.std.proofs.lemmas.Int.{ints, int_wrap-add_left, int_wrap-add_same, int_wrap_fits, SFits-int_wrap}
-use Rattle.std.proofs.lemmas.List.{length-append, length-set, get_or_append_left, get_or-set_same, get_or-set_other, get_or-replicate, get_or_past, length-replicate}
+use Rattle.std.proofs.lemmas.List.{length-append, get_or_append_left, get_or-replicate, get_or_past, length-replicate}
 use Rattle.std.proofs.Math.Seq.{get_or-append_seam}
 use Rattle.tsp_theory.specs.NodeBound.{weight_between, most_between}
 use Rattle.tsp_theory.specs.CertificateNumbers.{IsFromTo, entry}
@@ -213,36 +213,6 @@ pub record IsAddedTo (index : ℕ) (multipliers : List ℤ) (families : List (Li
   pub moved : (k x : ℕ) (a b : Vec ℤ) (c : Vec SetPlace) → k < index → k < length old
       → IsMoved (inside_both multipliers families (get_or by_node (k + 1) c).items x) (least_at (get_or old k b).items x) (least_at (get_or new k a).items x)
   pub rest : (k : ℕ) (a b : Vec ℤ) → index < k + 1 → k < length old → get_or new k a ≡ get_or old k b
-
--- plan: by cases of the place: the row just added to (`row_at`, `slot_at`), or another one, which `set` leaves
-pub one_more_row : (index : ℕ) (multipliers : List ℤ) (families : List (List (List ℕ))) (by_node : List (Vec SetPlace)) (old rows : List (Vec ℤ)) (slot row : Vec ℤ) (numbers : List SetPlace) → index < length old
-    → IsAddedTo index multipliers families by_node old rows → slot ≡ get_or rows index slot → ((c : Vec SetPlace) → (get_or by_node (index + 1) c).items ≡ numbers)
-    → ((x : ℕ) → IsMoved (inside_both multipliers families numbers x) (least_at slot.items x) (least_at row.items x)) → length row.items ≡ length slot.items
-    → IsAddedTo (index + 1) multipliers families by_node old (set rows index row)
-one_more_row index multipliers families by_node old rows slot row numbers less before slot_is listed moved same = record {
-  many = length-set rows index row ∙ before.many;
-  long = λ k a b inside. elim (cases_eq k index) [
-    | inl here ↦ ap (λ (v : Vec ℤ). length v.items) (row_at k a here) ∙ same ∙ ap (λ (v : Vec ℤ). length v.items) (slot_at k b here inside)
-    | inr other ↦ ap (λ (v : Vec ℤ). length v.items) (get_or-set_other rows index k row a other) ∙ before.long k a b inside
-  ];
-  moved = λ k x a b c below inside. elim (cases_eq k index) [
-    | inl here ↦
-        subst (λ (ns : List SetPlace). IsMoved (inside_both multipliers families ns x) (least_at (get_or old k b).items x) (least_at (get_or (set rows index row) k a).items x))
-        (sym (ap (λ (i : ℕ). (get_or by_node (i + 1) c).items) here ∙ listed c))
-        (subst (λ (v : Vec ℤ). IsMoved (inside_both multipliers families numbers x) (least_at (get_or old k b).items x) (least_at v.items x)) (sym (row_at k a here))
-        (subst (λ (v : Vec ℤ). IsMoved (inside_both multipliers families numbers x) (least_at v.items x) (least_at row.items x)) (slot_at k b here inside) (moved x)))
-    | inr other ↦
-        subst (λ (v : Vec ℤ). IsMoved (inside_both multipliers families (get_or by_node (k + 1) c).items x) (least_at (get_or old k b).items x) (least_at v.items x))
-        (sym (get_or-set_other rows index k row a other)) (before.moved k x a b c (omega (arith, below, other)) inside)
-  ];
-  rest = λ k a b past inside. get_or-set_other rows index k row a (λ e. omega (arith, past, e)) ∙ before.rest k a b (omega (arith, past)) inside;
-}
-  where
-    row_at : (k : ℕ) (a : Vec ℤ) → k ≡ index → get_or (set rows index row) k a ≡ row
-    row_at k a here = ap (λ (i : ℕ). get_or (set rows index row) i a) here ∙ get_or-set_same rows index row a (omega (arith, less, before.many))
-
-    slot_at : (k : ℕ) (b : Vec ℤ) → k ≡ index → k < length old → slot ≡ get_or old k b
-    slot_at k b here inside = slot_is ∙ ap (λ (i : ℕ). get_or rows i slot) (sym here) ∙ before.rest k slot b (omega (arith, here)) inside
 
 -- ---- the weights
 

@@ -47,7 +47,3 @@ most_weight_of_tree = (most_nodes + 2) * 2 ^ 63
 pub sum_is : (weight given_back : ℤ) → IsFromTo (neg_ℤ (pos most_weight_of_tree)) (pos most_weight_of_tree) weight → IsFromTo (neg_ℤ (pos (2 ^ 99))) (pos (2 ^ 99)) given_back
     → to_z w128 (of_z w128 (to_z w128 (of_z w128 weight) +ℤ to_z w128 (of_z w128 given_back))) ≡ weight +ℤ given_back
 sum_is weight given_back p q = omega (arith, ints, p.0, p.1, q.0, q.1)
-
-pub sum_sized : (weight given_back : ℤ) → IsFromTo (neg_ℤ (pos most_weight_of_tree)) (pos most_weight_of_tree) weight → IsFromTo (neg_ℤ (pos (2 ^ 99))) (pos (2 ^ 99)) given_back
-    → IsFromTo (neg_ℤ (pos (2 ^ 100))) (pos (2 ^ 100)) (weight +ℤ given_back)
-sum_sized weight given_back p q = (omega (arith, ints, p.0, q.0), omega (arith, ints, p.1, q.1))

@@ -17,14 +17,11 @@ pub mod CombSizes
 pub mod DecidedOnce
 pub mod MovedSums
 pub mod OnePass
-pub mod PairKeys
-pub mod DecidedSets
 pub mod Passes
 pub mod Judging
 pub mod Grown
 pub mod CaseWeights
 pub mod GivenBack
-pub mod MostCrossed
 pub mod NodeMarks
 pub mod Teeth
 pub mod FirstBad
@@ -37,6 +34,7 @@ pub mod KeptRows
 pub mod Links
 pub mod LeastLinks
 pub mod FamilyLaws
+pub mod FamilySums
 pub mod FamilyKinds
 pub mod RowLeaves
 pub mod Closed

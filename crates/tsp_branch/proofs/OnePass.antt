@@ -60,35 +60,11 @@ bad_by_place n crossed numbers leaf (listed.Leaf changes ∷ steps) bad (inr lat
     one_more P k first more zero lt = first
     one_more P k first more (suc j) lt = more j (omega (arith, lt))
 
-bad_in_pass : (n : ℕ) (crossed : List Crossings) (numbers : List ℤ) (leaf : ℕ) (steps : List listed.Step) (k : ℕ) → IsBadAfter n crossed numbers (leaf_changes steps) k
-    → IsFirstBadFrom n crossed numbers leaf steps (leaf + suc k)
-bad_in_pass n crossed numbers leaf [] k h = absurd (omega (arith, h.inside))
-bad_in_pass n crossed numbers leaf (listed.Branch a b ∷ steps) k h = bad_in_pass n crossed numbers leaf steps k h
-bad_in_pass n crossed numbers leaf (listed.Leaf changes ∷ steps) zero h = inl (omega arith, h.bad)
-bad_in_pass n crossed numbers leaf (listed.Leaf changes ∷ steps) (suc k) h =
-    let same : suc leaf + suc k ≡ leaf + suc (suc k) = omega arith in
-    inr (
-      h.before 0 (omega arith),
-      subst (IsFirstBadFrom n crossed (all_grown changes numbers) (suc leaf) steps) same (bad_in_pass n crossed (all_grown changes numbers) (suc leaf) steps k (record {
-        inside = omega (arith, h.inside);
-        bad = h.bad;
-        before = λ j lt. h.before (suc j) (omega (arith, lt));
-      })),
-    )
-
 good_by_place : (n : ℕ) (crossed : List Crossings) (numbers : List ℤ) (steps : List listed.Step) → AreGoodFrom n crossed numbers steps → (k : ℕ) → k < length (leaf_changes steps) → GoodAfter n crossed numbers (leaf_changes steps) k
 good_by_place n crossed numbers [] h k lt = absurd (omega (arith, lt))
 good_by_place n crossed numbers (listed.Branch a b ∷ steps) h k lt = good_by_place n crossed numbers steps h k lt
 good_by_place n crossed numbers (listed.Leaf changes ∷ steps) h zero lt = h.0
 good_by_place n crossed numbers (listed.Leaf changes ∷ steps) h (suc k) lt = good_by_place n crossed (all_grown changes numbers) steps h.1 k (omega (arith, lt))
-
-good_in_pass : (n : ℕ) (crossed : List Crossings) (numbers : List ℤ) (steps : List listed.Step) → ((k : ℕ) → k < length (leaf_changes steps) → GoodAfter n crossed numbers (leaf_changes steps) k) → AreGoodFrom n crossed numbers steps
-good_in_pass n crossed numbers [] h = tt
-good_in_pass n crossed numbers (listed.Branch a b ∷ steps) h = good_in_pass n crossed numbers steps h
-good_in_pass n crossed numbers (listed.Leaf changes ∷ steps) h = (
-  h 0 (omega arith),
-  good_in_pass n crossed (all_grown changes numbers) steps (λ k lt. h (suc k) (omega (arith, lt))),
-)
 
 -- of a whole tree, before whose first leaf all numbers are 0
 pub first_bad_by_place : (n : ℕ) (crossed : List Crossings) (steps : List listed.Step) (bad : ℕ) → IsFirstBadFrom n crossed (no_numbers_of n (length crossed)) 0 steps bad → IsFirstBadLeaf n crossed steps bad
@@ -102,24 +78,8 @@ first_bad_by_place n crossed steps bad h =
       before = λ earlier from lt. found.2.before (earlier - 1) (omega (arith, from, lt, found.1));
     }
 
-pub first_bad_in_pass : (n : ℕ) (crossed : List Crossings) (steps : List listed.Step) (bad : ℕ) → IsFirstBadLeaf n crossed steps bad → IsFirstBadFrom n crossed (no_numbers_of n (length crossed)) 0 steps bad
-first_bad_in_pass n crossed steps bad h =
-    let place : 0 + suc (bad - 1) ≡ bad = omega (arith, h.least) in
-    subst (IsFirstBadFrom n crossed (no_numbers_of n (length crossed)) 0 steps) place (bad_in_pass n crossed (no_numbers_of n (length crossed)) 0 steps (bad - 1) (record {
-      inside = omega (arith, h.least, h.most);
-      bad = h.bad;
-      before = λ j lt.
-          let same : suc j - 1 ≡ j = omega arith in
-          subst (GoodAfter n crossed (no_numbers_of n (length crossed)) (leaf_changes steps)) same (h.before (suc j) (omega arith) (omega (arith, lt)));
-    }))
-
 pub all_good_by_place : (n : ℕ) (crossed : List Crossings) (steps : List listed.Step) → AreGoodFrom n crossed (no_numbers_of n (length crossed)) steps → AreGoodLeaves n crossed steps
 all_good_by_place n crossed steps h place from within = good_by_place n crossed (no_numbers_of n (length crossed)) steps h (place - 1) (omega (arith, from, within))
-
-pub all_good_in_pass : (n : ℕ) (crossed : List Crossings) (steps : List listed.Step) → AreGoodLeaves n crossed steps → AreGoodFrom n crossed (no_numbers_of n (length crossed)) steps
-all_good_in_pass n crossed steps h = good_in_pass n crossed (no_numbers_of n (length crossed)) steps (λ k lt.
-    let same : suc k - 1 ≡ k = omega arith in
-    subst (GoodAfter n crossed (no_numbers_of n (length crossed)) (leaf_changes steps)) same (h (suc k) (omega arith) (omega (arith, lt))))
 
 -- ---- branches
 

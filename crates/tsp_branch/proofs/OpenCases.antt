@@ -1,39 +1,25 @@
 -- The decisions of a case by node, as decisions come and go.
 use Rattle.std.proofs.Common.{◌≡◌, ◌≢◌, ℕ, suc, ◌+◌, ◌-◌, ◌<◌, ◌≤◌, ◌==◌, Bool, true, false, List, [], ◌∷◌, ◌++◌, get_or, length, take, drop, inl, inr, refl, ap, sym, subst, ap₂, ◌∙◌, arith}
-use Rattle.std.specs.Prelude.{pos, ◌⊎◌}
+use Rattle.std.specs.Prelude.{pos}
 use Rattle.std.specs.Global.{Vec}
-use Rattle.std.specs.List.{All, filter}
-use Rattle.std.proofs.Math.ListN.{set, length-set}
-use Rattle.std.proofs.lemmas.Bool.{cases_eq, eq-eqb, ne_eqb}
+use Rattle.std.specs.List.{All, filter, list_any}
+use Rattle.std.proofs.lemmas.Bool.{cases_eq, eq-eqb, ne_eqb, eqb-true, and_parts}
 use Rattle.std.proofs.lemmas.Int.{ints}
-use Rattle.std.proofs.lemmas.List.{get_or_default, get_or-set_same, get_or-set_other, length-reverse, take_all, take_more}
+use Rattle.std.proofs.lemmas.List.{length-reverse, take_all, take_more}
 use Rattle.std.proofs.lemmas.List.Elements.{All-from_recursion, recursion_from_All}
+use Rattle.std.proofs.lemmas.List.Sorted.{IsPermutation-reverse, list_any-IsPermutation}
+use Rattle.std.proofs.lemmas.Map.Views.{any-filter_same}
 use Rattle.tsp_branch.specs.declared.decision.Decision.{Decision}
+use Rattle.tsp_branch.specs.Decisions.{is_same}
+use Rattle.tsp_branch.specs.Twice.{is_decided}
 use Rattle.tsp_branch.specs.declared.node_decisions.NodeDecisions.{NodeDecisions}
 use Rattle.tsp_branch.specs.declared.open_case.OpenCase.{OpenCase}
 use Rattle.tsp_branch.specs.states.Decided.{IsDecision, stack_of, change_of, changes}
 use Rattle.tsp_branch.specs.states.OpenCases.{bears_on, listed_at, AreByNode, HaveOneMore, HaveOneLess, decisions_in, IsOpenCase}
-use Rattle.tsp_branch.proofs.DecidedOnce.{or_true, changes_turned}
+use Rattle.tsp_branch.proofs.DecidedOnce.{told, or_true, changes_turned}
 use Rattle.tsp_branch.proofs.NextCases.{stack_more}
 
 -- ---- lists of which one changes
-
-items_at : (lists : List (Vec Decision)) (x : ℕ) (slot new b : Vec Decision) → x < length lists → slot ≡ get_or lists x slot → stack_of slot.items ≡ listed_at lists x b
-items_at lists x slot new b inside is = ap (λ (v : Vec Decision). stack_of v.items) (is ∙ get_or_default lists x slot b inside)
-
-new_at : (lists : List (Vec Decision)) (node : ℕ) (new a : Vec Decision) → node < length lists → listed_at (set lists node new) node a ≡ stack_of new.items
-new_at lists node new a inside = ap (λ (v : Vec Decision). stack_of v.items) (get_or-set_same lists node new a inside)
-
-others_at : (lists : List (Vec Decision)) (node x : ℕ) (new a b : Vec Decision) → x < length lists → x ≢ node → listed_at (set lists node new) x a ≡ listed_at lists x b
-others_at lists node x new a b lt other = ap (λ (v : Vec Decision). stack_of v.items) (get_or-set_other lists node x new a other ∙ get_or_default lists x a b lt)
-
-pub one_more : (node : ℕ) (decision : Decision) (lists : List (Vec Decision)) (slot new : Vec Decision) → node < length lists → slot ≡ get_or lists node slot
-    → new.items ≡ slot.items ++ decision ∷ [] → HaveOneMore node decision lists (set lists node new)
-one_more node decision lists slot new inside slot_is new_is = record {
-  places = length-set lists node new;
-  others = λ x a b lt other. others_at lists node x new a b lt other;
-  here = λ a b. new_at lists node new a inside ∙ ap stack_of new_is ∙ stack_more slot.items decision ∙ ap (λ (ds : List Decision). decision ∷ ds) (items_at lists node slot new b inside slot_is);
-}
 
 -- a stack without its last one
 pub stack_less : (stack : List Decision) (last : Decision) (rest : List Decision) → stack_of stack ≡ last ∷ rest → stack_of (take (length stack - 1) stack) ≡ rest
@@ -46,26 +32,15 @@ stack_less stack last rest is =
     ap stack_of (sym whole ∙ take_more stack k last lt) ∙ stack_more (take k stack) (get_or stack k last) in
     ap (λ (ds : List Decision). drop 1 ds) (sym parts ∙ is)
 
-pub one_less : (node : ℕ) (lists : List (Vec Decision)) (slot new : Vec Decision) → node < length lists → slot ≡ get_or lists node slot
-    → new.items ≡ take (length slot.items - 1) slot.items → HaveOneLess node lists (set lists node new)
-one_less node lists slot new inside slot_is new_is = record {
-  places = length-set lists node new;
-  others = λ x a b lt other. others_at lists node x new a b lt other;
-  here = λ a b last rest is. new_at lists node new a inside ∙ ap stack_of new_is ∙ stack_less slot.items last rest (items_at lists node slot new b inside slot_is ∙ is);
-}
+-- ---- on which nodes a decision is
 
--- ---- on which rows a decision bears
+pub first_bears : (x : ℕ) (d : Decision) → d.pair.0 ≡ x → bears_on x d ≡ true
+first_bears x d same = rw (eq-eqb d.pair.0 x same) refl
 
-pub first_bears : (directed : Bool) (x : ℕ) (d : Decision) → d.pair.0 ≡ x → bears_on directed x d ≡ true
-first_bears directed x d same = rw (eq-eqb d.pair.0 x same) refl
-
-second_bears : (x : ℕ) (d : Decision) → d.pair.1 ≡ x → bears_on false x d ≡ true
+second_bears : (x : ℕ) (d : Decision) → d.pair.1 ≡ x → bears_on x d ≡ true
 second_bears x d same = rw (eq-eqb d.pair.1 x same) (or_true (d.pair.0 == x))
 
-pub second_only : (x : ℕ) (d : Decision) → d.pair.0 ≢ x → bears_on true x d ≡ false
-second_only x d first = rw (ne_eqb d.pair.0 x first) refl
-
-neither_bears : (x : ℕ) (d : Decision) → d.pair.0 ≢ x → d.pair.1 ≢ x → bears_on false x d ≡ false
+neither_bears : (x : ℕ) (d : Decision) → d.pair.0 ≢ x → d.pair.1 ≢ x → bears_on x d ≡ false
 neither_bears x d first second = rw (ne_eqb d.pair.0 x first, ne_eqb d.pair.1 x second) refl
 
 pub filter_in : (test : Decision → Bool) (d : Decision) (case : List Decision) → test d ≡ true → filter test (d ∷ case) ≡ d ∷ filter test case
@@ -74,77 +49,67 @@ filter_in test d case passes = rw passes refl
 pub filter_out : (test : Decision → Bool) (d : Decision) (case : List Decision) → test d ≡ false → filter test (d ∷ case) ≡ filter test case
 filter_out test d case fails = rw fails refl
 
--- ---- a decision more
-
-abbrev pub AreListed : Bool → ℕ → List (Vec Decision) → List Decision → Type 0
-AreListed directed n lists case = (x : ℕ) (default : Vec Decision) → x ≤ n → listed_at lists x default ≡ filter (bears_on directed x) case
-
-pub more_directed : (n : ℕ) (old new : List (Vec Decision)) (case : List Decision) (d : Decision) → length old ≡ n + 1 → HaveOneMore d.pair.0 d old new
-    → AreListed true n old case → AreListed true n new (d ∷ case)
-more_directed n old new case d long more was x default most = elim (cases_eq d.pair.0 x) [
-  | inl same ↦
-      subst (λ (y : ℕ). listed_at new y default ≡ d ∷ listed_at old y default) same (more.here default default)
-      ∙ ap (λ (ds : List Decision). d ∷ ds) (was x default most) ∙ sym (filter_in (bears_on true x) d case (first_bears true x d same))
-  | inr other ↦
-      more.others x default default (omega (arith, long, most)) (λ e. other (sym e))
-      ∙ was x default most ∙ sym (filter_out (bears_on true x) d case (second_only x d other))
+-- a decision on a pair is on the pair's first node
+same_bears : (directed : Bool) (pair : ℕ × ℕ) (d : Decision) → is_same directed pair d.pair ≡ true → bears_on pair.0 d ≡ true
+same_bears true pair d h = first_bears pair.0 d (sym (eqb-true pair.0 d.pair.0 (and_parts (pair.0 == d.pair.0) (pair.1 == d.pair.1) h).0))
+same_bears false pair d h = elim (told pair d.pair.0 d.pair.1 h) [
+  | inl straight ↦ first_bears pair.0 d (sym straight.0)
+  | inr turned ↦ second_bears pair.0 d (sym turned.1)
 ]
 
-pub more_both : (n : ℕ) (old mid new : List (Vec Decision)) (case : List Decision) (d : Decision) → length old ≡ n + 1 → d.pair.0 ≢ d.pair.1
-    → d.pair.0 < length old → d.pair.1 < length old
-    → HaveOneMore d.pair.0 d old mid → HaveOneMore d.pair.1 d mid new → AreListed false n old case → AreListed false n new (d ∷ case)
-more_both n old mid new case d long differ first_in second_in first second was x default most = elim (cases_eq d.pair.0 x) [
+-- so the decisions on that node tell whether the pair is decided
+pub decided_at : (directed : Bool) (pair : ℕ × ℕ) (own case : List Decision) → stack_of own ≡ filter (bears_on pair.0) case
+    → list_any (λ d. is_same directed pair d.pair) own ≡ is_decided directed case pair
+decided_at directed pair own case is =
+    let test : Decision → Bool = λ d. is_same directed pair d.pair in
+    list_any-IsPermutation test own (stack_of own) (IsPermutation-reverse own)
+    ∙ ap (list_any test) is ∙ any-filter_same test (bears_on pair.0) true (same_bears directed pair) case
+
+-- ---- a decision more, and a decision less
+
+abbrev AreListed : ℕ → List (Vec Decision) → List Decision → Type 0
+AreListed n lists case = (x : ℕ) (default : Vec Decision) → x ≤ n → listed_at lists x default ≡ filter (bears_on x) case
+
+more : (n : ℕ) (old mid new : List (Vec Decision)) (case : List Decision) (d : Decision) → length old ≡ n + 1 → d.pair.0 ≢ d.pair.1
+    → HaveOneMore d.pair.0 d old mid → HaveOneMore d.pair.1 d mid new → AreListed n old case → AreListed n new (d ∷ case)
+more n old mid new case d long differ first second was x default most = elim (cases_eq d.pair.0 x) [
   | inl same ↦
       let apart : x ≢ d.pair.1 = λ e. differ (same ∙ e) in
       second.others x default default (omega (arith, long, most, first.places)) apart
       ∙ subst (λ (y : ℕ). listed_at mid y default ≡ d ∷ listed_at old y default) same (first.here default default)
-      ∙ ap (λ (ds : List Decision). d ∷ ds) (was x default most) ∙ sym (filter_in (bears_on false x) d case (first_bears false x d same))
+      ∙ ap (λ (ds : List Decision). d ∷ ds) (was x default most) ∙ sym (filter_in (bears_on x) d case (first_bears x d same))
   | inr other ↦ elim (cases_eq d.pair.1 x) [
     | inl same ↦
         subst (λ (y : ℕ). listed_at new y default ≡ d ∷ listed_at mid y default) same (second.here default default)
         ∙ ap (λ (ds : List Decision). d ∷ ds) (first.others x default default (omega (arith, long, most)) (λ e. other (sym e)) ∙ was x default most)
-        ∙ sym (filter_in (bears_on false x) d case (second_bears x d same))
+        ∙ sym (filter_in (bears_on x) d case (second_bears x d same))
     | inr neither ↦
         second.others x default default (omega (arith, long, most, first.places)) (λ e. neither (sym e))
         ∙ first.others x default default (omega (arith, long, most)) (λ e. other (sym e))
-        ∙ was x default most ∙ sym (filter_out (bears_on false x) d case (neither_bears x d other neither))
+        ∙ was x default most ∙ sym (filter_out (bears_on x) d case (neither_bears x d other neither))
   ]
 ]
 
--- ---- a decision less
-
-pub less_directed : (n : ℕ) (old new : List (Vec Decision)) (case : List Decision) (d : Decision) → length old ≡ n + 1 → HaveOneLess d.pair.0 old new
-    → AreListed true n old (d ∷ case) → AreListed true n new case
-less_directed n old new case d long less was x default most = elim (cases_eq d.pair.0 x) [
-  | inl same ↦
-      subst (λ (y : ℕ). listed_at old y default ≡ d ∷ filter (bears_on true x) case → listed_at new y default ≡ filter (bears_on true x) case) same
-      (less.here default default d (filter (bears_on true x) case))
-      (was x default most ∙ filter_in (bears_on true x) d case (first_bears true x d same))
-  | inr other ↦
-      less.others x default default (omega (arith, long, most)) (λ e. other (sym e))
-      ∙ was x default most ∙ filter_out (bears_on true x) d case (second_only x d other)
-]
-
-pub less_both : (n : ℕ) (old mid new : List (Vec Decision)) (case : List Decision) (d : Decision) → length old ≡ n + 1 → d.pair.0 ≢ d.pair.1
-    → HaveOneLess d.pair.0 old mid → HaveOneLess d.pair.1 mid new → AreListed false n old (d ∷ case) → AreListed false n new case
-less_both n old mid new case d long differ first second was x default most = elim (cases_eq d.pair.0 x) [
+less : (n : ℕ) (old mid new : List (Vec Decision)) (case : List Decision) (d : Decision) → length old ≡ n + 1 → d.pair.0 ≢ d.pair.1
+    → HaveOneLess d.pair.0 old mid → HaveOneLess d.pair.1 mid new → AreListed n old (d ∷ case) → AreListed n new case
+less n old mid new case d long differ first second was x default most = elim (cases_eq d.pair.0 x) [
   | inl same ↦
       let apart : x ≢ d.pair.1 = λ e. differ (same ∙ e) in
       second.others x default default (omega (arith, long, most, first.places)) apart
-      ∙ subst (λ (y : ℕ). listed_at old y default ≡ d ∷ filter (bears_on false x) case → listed_at mid y default ≡ filter (bears_on false x) case) same
-      (first.here default default d (filter (bears_on false x) case))
-      (was x default most ∙ filter_in (bears_on false x) d case (first_bears false x d same))
+      ∙ subst (λ (y : ℕ). listed_at old y default ≡ d ∷ filter (bears_on x) case → listed_at mid y default ≡ filter (bears_on x) case) same
+      (first.here default default d (filter (bears_on x) case))
+      (was x default most ∙ filter_in (bears_on x) d case (first_bears x d same))
   | inr other ↦
-      let between : listed_at mid x default ≡ filter (bears_on false x) (d ∷ case) =
+      let between : listed_at mid x default ≡ filter (bears_on x) (d ∷ case) =
       first.others x default default (omega (arith, long, most)) (λ e. other (sym e)) ∙ was x default most in
       elim (cases_eq d.pair.1 x) [
         | inl same ↦
-            subst (λ (y : ℕ). listed_at mid y default ≡ d ∷ filter (bears_on false x) case → listed_at new y default ≡ filter (bears_on false x) case) same
-            (second.here default default d (filter (bears_on false x) case))
-            (between ∙ filter_in (bears_on false x) d case (second_bears x d same))
+            subst (λ (y : ℕ). listed_at mid y default ≡ d ∷ filter (bears_on x) case → listed_at new y default ≡ filter (bears_on x) case) same
+            (second.here default default d (filter (bears_on x) case))
+            (between ∙ filter_in (bears_on x) d case (second_bears x d same))
         | inr neither ↦
             second.others x default default (omega (arith, long, most, first.places)) (λ e. neither (sym e))
-            ∙ between ∙ filter_out (bears_on false x) d case (neither_bears x d other neither)
+            ∙ between ∙ filter_out (bears_on x) d case (neither_bears x d other neither)
       ]
 ]
 
@@ -153,51 +118,20 @@ less_both n old mid new case d long differ first second was x default most = eli
 abbrev pub is_taken : Decision → Bool
 is_taken decision = decision.taken
 
--- a decision has come to the lists, or has gone, and not yet to those that take their pair
-pub record ListsNow (n : ℕ) (case : List Decision) (old new : NodeDecisions) : Type 0 where
-  pub directed : new.directed ≡ old.directed
-  pub taken : new.taken ≡ old.taken
-  pub places : length new.lists.items ≡ n + 1
-  pub each : AreListed old.directed n new.lists.items case
-
-pub now_more : (n : ℕ) (d : Decision) (case : List Decision) (old : NodeDecisions) (mid : List (Vec Decision)) (new : NodeDecisions) → AreByNode n old case → new.directed ≡ old.directed → new.taken ≡ old.taken → d.pair.0 ≢ d.pair.1
-    → d.pair.0 < length old.lists.items → d.pair.1 < length old.lists.items → HaveOneMore d.pair.0 d old.lists.items mid
-    → ((old.directed ≡ true) × (new.lists.items ≡ mid)) ⊎ ((old.directed ≡ false) × HaveOneMore d.pair.1 d mid new.lists.items)
-    → ListsNow n (d ∷ case) old new
-now_more n d case old mid new was directed taken differ first_in second_in first (inl one) = record {
-  directed = directed;
+pub by_node_more : (n : ℕ) (d : Decision) (case : List Decision) (old : NodeDecisions) (mid : List (Vec Decision)) (new : NodeDecisions) → AreByNode n old case → d.pair.0 ≢ d.pair.1
+    → HaveOneMore d.pair.0 d old.lists.items mid → HaveOneMore d.pair.1 d mid new.lists.items → stack_of new.taken.items ≡ filter is_taken (d ∷ case) → AreByNode n new (d ∷ case)
+by_node_more n d case old mid new was differ first second taken = record {
+  places = second.places ∙ first.places ∙ was.places;
+  each = more n old.lists.items mid new.lists.items case d was.places differ first second was.each;
   taken = taken;
-  places = ap length one.1 ∙ first.places ∙ was.places;
-  each = subst (λ (b : Bool). AreListed b n new.lists.items (d ∷ case)) (sym one.0)
-      (subst (λ (ls : List (Vec Decision)). AreListed true n ls (d ∷ case)) (sym one.1)
-      (more_directed n old.lists.items mid case d was.places first (subst (λ (b : Bool). AreListed b n old.lists.items case) one.0 was.each)));
-}
-now_more n d case old mid new was directed taken differ first_in second_in first (inr two) = record {
-  directed = directed;
-  taken = taken;
-  places = two.1.places ∙ first.places ∙ was.places;
-  each = subst (λ (b : Bool). AreListed b n new.lists.items (d ∷ case)) (sym two.0)
-      (more_both n old.lists.items mid new.lists.items case d was.places differ first_in second_in first two.1 (subst (λ (b : Bool). AreListed b n old.lists.items case) two.0 was.each));
 }
 
-pub now_less : (n : ℕ) (d : Decision) (case : List Decision) (old : NodeDecisions) (mid : List (Vec Decision)) (new : NodeDecisions) → AreByNode n old (d ∷ case) → new.directed ≡ old.directed → new.taken ≡ old.taken → d.pair.0 ≢ d.pair.1
-    → HaveOneLess d.pair.0 old.lists.items mid
-    → ((old.directed ≡ true) × (new.lists.items ≡ mid)) ⊎ ((old.directed ≡ false) × HaveOneLess d.pair.1 mid new.lists.items)
-    → ListsNow n case old new
-now_less n d case old mid new was directed taken differ first (inl one) = record {
-  directed = directed;
+pub by_node_less : (n : ℕ) (d : Decision) (case : List Decision) (old : NodeDecisions) (mid : List (Vec Decision)) (new : NodeDecisions) → AreByNode n old (d ∷ case) → d.pair.0 ≢ d.pair.1
+    → HaveOneLess d.pair.0 old.lists.items mid → HaveOneLess d.pair.1 mid new.lists.items → stack_of new.taken.items ≡ filter is_taken case → AreByNode n new case
+by_node_less n d case old mid new was differ first second taken = record {
+  places = second.places ∙ first.places ∙ was.places;
+  each = less n old.lists.items mid new.lists.items case d was.places differ first second was.each;
   taken = taken;
-  places = ap length one.1 ∙ first.places ∙ was.places;
-  each = subst (λ (b : Bool). AreListed b n new.lists.items case) (sym one.0)
-      (subst (λ (ls : List (Vec Decision)). AreListed true n ls case) (sym one.1)
-      (less_directed n old.lists.items mid case d was.places first (subst (λ (b : Bool). AreListed b n old.lists.items (d ∷ case)) one.0 was.each)));
-}
-now_less n d case old mid new was directed taken differ first (inr two) = record {
-  directed = directed;
-  taken = taken;
-  places = two.1.places ∙ first.places ∙ was.places;
-  each = subst (λ (b : Bool). AreListed b n new.lists.items case) (sym two.0)
-      (less_both n old.lists.items mid new.lists.items case d was.places differ first two.1 (subst (λ (b : Bool). AreListed b n old.lists.items (d ∷ case)) two.0 was.each));
 }
 
 pub taken_more : (d : Decision) (case old new : List Decision) → d.taken ≡ true → stack_of old ≡ filter is_taken case → new ≡ old ++ d ∷ [] → stack_of new ≡ filter is_taken (d ∷ case)
@@ -206,15 +140,6 @@ taken_more d case old new taken was is =
 
 pub taken_less : (d : Decision) (case old new : List Decision) → d.taken ≡ true → stack_of old ≡ filter is_taken (d ∷ case) → new ≡ take (length old - 1) old → stack_of new ≡ filter is_taken case
 taken_less d case old new taken was is = ap stack_of is ∙ stack_less old d (filter is_taken case) (was ∙ filter_in is_taken d case taken)
-
-pub by_node_now : (n : ℕ) (case : List Decision) (old mid new : NodeDecisions) → ListsNow n case old mid → new.directed ≡ mid.directed → new.lists ≡ mid.lists
-    → stack_of new.taken.items ≡ filter is_taken case → AreByNode n new case
-by_node_now n case old mid new now directed lists taken = record {
-  places = ap (λ (v : Vec (Vec Decision)). length v.items) lists ∙ now.places;
-  each = subst (λ (b : Bool). AreListed b n new.lists.items case) (sym (directed ∙ now.directed))
-      (subst (λ (v : Vec (Vec Decision)). AreListed old.directed n v.items case) (sym lists) now.each);
-  taken = taken;
-}
 
 -- ---- the open case
 
@@ -251,20 +176,20 @@ case_same n old new is stack_is given_is by_node =
 
 -- ---- what decisions change in a row
 
-pub changes_borne : (case : List Decision) (from x : ℕ) → changes (filter (bears_on false from) case) from x ≡ changes case from x
+pub changes_borne : (case : List Decision) (from x : ℕ) → changes (filter (bears_on from) case) from x ≡ changes case from x
 changes_borne [] from x = refl
 changes_borne (d ∷ case) from x =
     let rest = changes_borne case from x in
     elim (cases_eq d.pair.0 from) [
-      | inl same ↦ ap (λ (ds : List Decision). changes ds from x) (filter_in (bears_on false from) d case (first_bears false from d same)) ∙ omega (arith, ints, rest)
+      | inl same ↦ ap (λ (ds : List Decision). changes ds from x) (filter_in (bears_on from) d case (first_bears from d same)) ∙ omega (arith, ints, rest)
       | inr other ↦ elim (cases_eq d.pair.1 from) [
-        | inl same ↦ ap (λ (ds : List Decision). changes ds from x) (filter_in (bears_on false from) d case (second_bears from d same)) ∙ omega (arith, ints, rest)
+        | inl same ↦ ap (λ (ds : List Decision). changes ds from x) (filter_in (bears_on from) d case (second_bears from d same)) ∙ omega (arith, ints, rest)
         | inr neither ↦
             let none : change_of d from x ≡ pos 0 = rw (ne_eqb d.pair.0 from other, ne_eqb d.pair.1 from neither) refl in
-            ap (λ (ds : List Decision). changes ds from x) (filter_out (bears_on false from) d case (neither_bears from d other neither)) ∙ omega (arith, ints, rest, none)
+            ap (λ (ds : List Decision). changes ds from x) (filter_out (bears_on from) d case (neither_bears from d other neither)) ∙ omega (arith, ints, rest, none)
       ]
     ]
 
 -- by the list of a node, in either order
-pub changes_listed : (case own : List Decision) (from x : ℕ) → stack_of own ≡ filter (bears_on false from) case → changes own from x ≡ changes case from x
+pub changes_listed : (case own : List Decision) (from x : ℕ) → stack_of own ≡ filter (bears_on from) case → changes own from x ≡ changes case from x
 changes_listed case own from x is = sym (changes_turned own from x) ∙ ap (λ (ds : List Decision). changes ds from x) is ∙ changes_borne case from x

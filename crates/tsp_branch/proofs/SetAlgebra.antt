@@ -7,15 +7,12 @@ use Rattle.std.specs.Int.{w64, int_wrap}
 use Rattle.std.proofs.lemmas.Int.{ints, int_wrap-add_right, int_wrap-add_same}
 use Rattle.std.proofs.lemmas.List.Elements.{recursion_from_All, All-from_recursion}
 use Rattle.std.proofs.Math.ListN.{set}
-use Rattle.std.proofs.lemmas.List.{get_or-set_same, get_or-set_other}
-use Rattle.tsp_format.specs.Nodes.{IsNode}
 use Rattle.tsp_theory.specs.Length.{sum_int_by}
-use Rattle.tsp_theory.specs.states.Nearest.{least_at}
 use Rattle.tsp_families.specs.Crossed.{has}
 use Rattle.tsp_theory.specs.Tree.{crossing}
 use Rattle.tsp_branch.specs.GoodFamilies.{HasEachOnce}
 use Rattle.tsp_branch.specs.declared.set_place.SetPlace.{SetPlace}
-use Rattle.tsp_branch.specs.states.Sets.{IsMoved, added, place_at, IsPlaceIn, times, places_in, places_with}
+use Rattle.tsp_branch.specs.states.Sets.{added, place_at, IsPlaceIn, times, places_in, places_with}
 use Rattle.tsp_branch.specs.states.Combed.{summed_from, set_crossings, multipliers_at, twice_in, inside_both}
 pub use Rattle.tsp_tree.proofs.Additions.{moved_to}
 
@@ -178,12 +175,3 @@ apart_is scaled p q a b m k both result m_is k_is both_is result_is =
     ∙ ap (int_wrap w64) second
     ∙ int_wrap-add_same w64 k (q +ℤ neg_ℤ b) (scaled +ℤ (p +ℤ neg_ℤ a)) k_is
     ∙ ap (int_wrap w64) third
-
--- a row that is filled from node 1 on
-pub row_more : (n node x : ℕ) (change base : ℕ → ℤ) (row : List ℤ) (value : ℤ) → node < length row → IsMoved (change node) (base node) value
-    → ((y : ℕ) → IsNode n y → y < node → IsMoved (change y) (base y) (least_at row y)) → IsNode n x → x < node + 1 → IsMoved (change x) (base x) (least_at (set row node value) x)
-row_more n node x change base row value inside here before x_in below = elim (cases_eq x node) [
-  | inl same ↦ subst (λ (y : ℕ). IsMoved (change y) (base y) (least_at (set row node value) y)) (sym same)
-      (subst (λ (z : ℤ). IsMoved (change node) (base node) z) (sym (get_or-set_same row node value (pos 0) inside)) here)
-  | inr other ↦ subst (λ (z : ℤ). IsMoved (change x) (base x) z) (sym (get_or-set_other row node x value (pos 0) other)) (before x x_in (omega (arith, below, other)))
-]

@@ -68,12 +68,6 @@ size_more sum z count size fits = (omega (arith, ints, size.0, fits), omega (ari
 pub sum_computed : (sum z from : ℤ) (count : ℕ) → count ≤ most_nodes → IsSumSized count sum → FitsSigned w64 z → from ≡ z → to_z w128 (of_z w128 (sum +ℤ to_z w128 (of_z w128 from))) ≡ sum +ℤ z
 sum_computed sum z from count few size fits is = omega (arith, ints, size.0, size.1, fits, is)
 
-pub size_of_all : (sum : ℤ) (count : ℕ) → count ≤ most_nodes → IsSumSized count sum → IsSumSized most_nodes sum
-size_of_all sum count few size = (omega (arith, ints, size.0, few), omega (arith, ints, size.1, few))
-
 pub with_back : (sum back : ℤ) → IsSumSized most_nodes sum → IsFromTo (neg_ℤ (pos (2 ^ 99))) (pos (2 ^ 99)) back
     → to_z w128 (of_z w128 (to_z w128 (of_z w128 sum) +ℤ to_z w128 (of_z w128 back))) ≡ sum +ℤ back
 with_back sum back size is = omega (arith, ints, size.0, size.1, is.0, is.1)
-
-pub with_back_sized : (sum back : ℤ) → IsSumSized most_nodes sum → IsFromTo (neg_ℤ (pos (2 ^ 99))) (pos (2 ^ 99)) back → IsFromTo (neg_ℤ (pos (2 ^ 100))) (pos (2 ^ 100)) (sum +ℤ back)
-with_back_sized sum back size is = (omega (arith, ints, size.0, is.0), omega (arith, ints, size.1, is.1))

@@ -2,10 +2,10 @@
 use Rattle.std.specs.Prelude.{ℕ, Bool, None, Some, IfSome, List, ℤ}
 use Rattle.tsp_format.specs.Steps as listed
 use Rattle.tsp_theory.specs.CertificateNumbers.{IsBoundSized}
-use Rattle.tsp_branch.specs.declared.steps.JudgedLeaves.{JudgedLeaves}
-use Rattle.tsp_branch.specs.declared.steps.JudgedLeaves.TheVariants as judged
-use Rattle.tsp_branch.specs.declared.steps.BranchVerdict.{BranchVerdict}
-use Rattle.tsp_branch.specs.declared.steps.BranchVerdict.TheVariants as verdict
+use Rattle.tsp_branch.specs.declared.judged.JudgedLeaves.{JudgedLeaves}
+use Rattle.tsp_branch.specs.declared.judged.JudgedLeaves.TheVariants as judged
+use Rattle.tsp_branch.specs.declared.judged.BranchVerdict.{BranchVerdict}
+use Rattle.tsp_branch.specs.declared.judged.BranchVerdict.TheVariants as verdict
 use Rattle.tsp_families.specs.declared.family.Crossings.{Crossings}
 use Rattle.tsp_branch.specs.CaseTrees.{BoundsIfAny}
 use Rattle.tsp_branch.specs.FamiliesOfSets.{families_with}

@@ -1,5 +1,5 @@
 -- Families by lists of their sets, of which the first one of a comb is the handle.
-use Rattle.std.specs.Prelude.{ℕ, false, List, [], ◌∷◌, ℤ, pos, ◌+ℤ◌, ◌*ℤ◌}
+use Rattle.std.specs.Prelude.{ℕ, Bool, false, if◌then◌else◌, List, [], ◌∷◌, ℤ, pos, ◌+ℤ◌, ◌*ℤ◌}
 use Rattle.tsp_families.specs.declared.family.Crossings.{Crossings}
 use Rattle.tsp_branch.specs.Combs.{Comb, comb_of}
 use Rattle.tsp_branch.specs.Families.{Family}
@@ -18,8 +18,12 @@ families_with [] families = []
 families_with (own ∷ crossed) [] = []
 families_with (own ∷ crossed) (sets ∷ families) = family_with own sets ∷ families_with crossed families
 
--- the least crossings of families, each times its multiplier
-abbrev pub least_with : List Crossings → List ℤ → ℤ
-least_with [] multipliers = pos 0
-least_with (own ∷ crossed) [] = pos 0
-least_with (own ∷ crossed) (multiplier ∷ multipliers) = (multiplier *ℤ pos own.least) +ℤ least_with crossed multipliers
+-- the most that two nodes cross of a family, or the least that a cycle does
+abbrev pub most_or_least : Bool → Crossings → ℕ
+most_or_least is_most own = if is_most then own.most else own.least
+
+-- these numbers of families, each times its multiplier
+abbrev pub sum_with : Bool → List Crossings → List ℤ → ℤ
+sum_with is_most [] multipliers = pos 0
+sum_with is_most (own ∷ crossed) [] = pos 0
+sum_with is_most (own ∷ crossed) (multiplier ∷ multipliers) = (multiplier *ℤ pos (most_or_least is_most own)) +ℤ sum_with is_most crossed multipliers

@@ -1,18 +1,14 @@
 -- The numbers of a leaf that are judged to be good: so large at most that the weights fit.
-use Rattle.std.specs.Prelude.{◌≡◌, ℕ, List, [], ◌∷◌, length, ℤ, pos, ◌+ℤ◌, ◌*ℤ◌, ◌≤ℤ◌}
+use Rattle.std.specs.Prelude.{◌≡◌, ℕ, true, List, length, ℤ, pos, ◌≤ℤ◌}
 use Rattle.std.specs.List.{All}
 use Rattle.tsp_theory.specs.CertificateNumbers.{ArePotentials}
 use Rattle.tsp_families.specs.declared.family.Crossings.{Crossings}
 use Rattle.tsp_branch.specs.Cases.{LeafNumbers}
+use Rattle.tsp_branch.specs.FamiliesOfSets.{sum_with}
 
 -- how often two nodes cross the sets of all families at most, each as often as its multiplier says
 abbrev pub most_crossed : ℕ
 most_crossed = 900000000000000000
-
-abbrev pub most_with : List Crossings → List ℤ → ℤ
-most_with [] multipliers = pos 0
-most_with (own ∷ crossed) [] = pos 0
-most_with (own ∷ crossed) (multiplier ∷ multipliers) = (multiplier *ℤ pos own.most) +ℤ most_with crossed multipliers
 
 -- as many potentials as nodes, none too large; as many multipliers as families, none negative, with which two nodes don't cross
 -- too much
@@ -21,7 +17,7 @@ pub record AreGoodNumbers (n : ℕ) (crossed : List Crossings) (numbers : LeafNu
   pub each_comb : length numbers.multipliers ≡ length crossed
   pub potentials_are : ArePotentials numbers.potentials
   pub signs : All (λ multiplier. pos 0 ≤ℤ multiplier) numbers.multipliers
-  pub sum : most_with crossed numbers.multipliers ≤ℤ pos most_crossed
+  pub sum : sum_with true crossed numbers.multipliers ≤ℤ pos most_crossed
 
 abbrev pub as_leaf_numbers : List ℤ → List ℤ → LeafNumbers
 as_leaf_numbers potentials multipliers = record { potentials = potentials; multipliers = multipliers }

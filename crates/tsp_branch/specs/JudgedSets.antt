@@ -3,8 +3,8 @@ use Rattle.std.specs.Prelude.{◌≡◌, ℕ, List}
 use Rattle.std.specs.Global.{Vec}
 use Rattle.tsp_families.specs.FamilySets.{families_in}
 use Rattle.tsp_branch.specs.GoodFamilies.{AreFamilies, IsFirstBadFamily}
-use Rattle.tsp_branch.specs.declared.steps.JudgedFamilies.{JudgedFamilies}
-use Rattle.tsp_branch.specs.declared.steps.JudgedFamilies.TheVariants as judged
+use Rattle.tsp_branch.specs.declared.judged.JudgedFamilies.{JudgedFamilies}
+use Rattle.tsp_branch.specs.declared.judged.JudgedFamilies.TheVariants as judged
 
 abbrev pub AreFamiliesJudged : ℕ → List (Vec (Vec ℕ)) → JudgedFamilies → Type 0
 AreFamiliesJudged n families (judged.Good found) =

@@ -5,8 +5,8 @@ use Rattle.tsp_format.specs.states.TreeSteps.{steps_of}
 use Rattle.tsp_branch.specs.declared.decision.Decision.{Decision}
 use Rattle.tsp_branch.specs.Twice.{AreBranchesJudged}
 use Rattle.tsp_branch.specs.declared.tree_cases.Cases.{Cases}
-use Rattle.tsp_branch.specs.declared.steps.JudgedCases.{JudgedCases}
-use Rattle.tsp_branch.specs.declared.steps.JudgedCases.TheVariants as judged
+use Rattle.tsp_branch.specs.declared.judged.JudgedCases.{JudgedCases}
+use Rattle.tsp_branch.specs.declared.judged.JudgedCases.TheVariants as judged
 
 -- cases of these nodes with these parts
 pub record AreCasesOf (n : ℕ) (directed : Bool) (scale : ℤ) (given : List Decision) (steps : List TreeStep) (cases : Cases) : Type 0 where

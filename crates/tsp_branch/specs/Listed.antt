@@ -4,8 +4,8 @@ use Rattle.std.specs.List.{All}
 use Rattle.tsp_format.specs.Nodes.{IsNode}
 use Rattle.tsp_format.specs.Steps as listed
 use Rattle.tsp_theory.specs.CertificateNumbers.{entry, IsBoundSized}
-use Rattle.tsp_branch.specs.declared.steps.JudgedLeaves.{JudgedLeaves}
-use Rattle.tsp_branch.specs.declared.steps.JudgedLeaves.TheVariants as judged
+use Rattle.tsp_branch.specs.declared.judged.JudgedLeaves.{JudgedLeaves}
+use Rattle.tsp_branch.specs.declared.judged.JudgedLeaves.TheVariants as judged
 use Rattle.tsp_families.specs.declared.family.Crossings.{Crossings}
 use Rattle.tsp_branch.specs.Families.{Family}
 use Rattle.tsp_branch.specs.declared.decision.Decision.{Decision}

@@ -1,6 +1,5 @@
 pub mod Rooms
 pub mod FamilyNumbers
-pub mod PairSets
 pub mod Marked
 pub mod Kept
 pub mod Sets

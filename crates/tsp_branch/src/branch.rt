@@ -16,6 +16,7 @@ ghost use Rattle.tsp_branch.specs.states.Rooms.{IsRoom, AreSmall, IsJudgedLeaf, 
 use crate::case_leaf::CaseLeaf;
 use crate::families::Families;
 use crate::judge::judge;
+use crate::judged::{JudgedLeaf, JudgedLeaves};
 use crate::laws::case_trees_bound_cycles;
 use crate::moved::fill_moved;
 use crate::numbers::add_differences;
@@ -23,7 +24,6 @@ use crate::open_case::OpenCase;
 use crate::room::Room;
 use crate::sets::sets_by_node;
 use crate::setting::Setting;
-use crate::steps::{JudgedLeaf, JudgedLeaves};
 use crate::tree_cases::Cases;
 use std::alloc::Global;
 use tsp_format::TreeStep;
@@ -91,7 +91,7 @@ fn judge_leaves<C: Costs>(alloc: Global, setting: &Setting<C>) -> Result<JudgedL
 {
     let cases = setting.cases;
     let mut room = Room::new(alloc, setting)?;
-    let mut case = OpenCase::new(alloc, cases)?;
+    let mut case = OpenCase::new(alloc, cases.nodes, cases.given)?;
     let mut lowest = None;
     let mut leaf = 0;
     'steps: for step in cases.steps {
@@ -126,7 +126,6 @@ fn judge_leaf<C: Costs>(
     requires few_changes { length changes.now < 2 ^ 32 }
     requires few { length (decisions_in case.now) < 2 ^ 33 }
     requires case { IsOpenCase (C.nodes setting.now.costs.now) case.now }
-    requires direction { case.now.by_node.directed ≡ setting.now.cases.now.directed }
     requires once { DecideOnce setting.now.cases.now.directed (decisions_in case.now) }
     requires room { IsRoom (C.nodes setting.now.costs.now) (length setting.now.families.now.crossed.items) room.old }
     requires kept { HoldsRows (C.nodes setting.now.costs.now) (length setting.now.families.now.crossed.items) setting.now.cases.now.scale

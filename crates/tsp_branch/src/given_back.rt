@@ -1,21 +1,17 @@
 //! What a leaf gives back.
 
-ghost use Rattle.std.specs.Prelude.{◌≡◌, ◌≤◌, ◌<◌, ◌^◌, ◌-◌, length, pos, neg_ℤ, ◌-ℤ◌, ◌*ℤ◌, ◌≤ℤ◌};
-ghost use Rattle.std.specs.List.{All};
+ghost use Rattle.std.specs.Prelude.{◌≡◌, ◌<◌, ◌^◌, length, pos, neg_ℤ, ◌-ℤ◌, ◌*ℤ◌};
 ghost use Rattle.tsp_theory.specs.CertificateNumbers.{IsFromTo, total};
 ghost use Rattle.tsp_theory.specs.Adjusted.{triples_total};
 ghost use Rattle.tsp_branch.specs.Decisions.{on_taken, decided_number};
 ghost use Rattle.tsp_branch.specs.CaseTrees.{multiplied};
 ghost use Rattle.tsp_branch.specs.LeafBound.{least_of};
-ghost use Rattle.tsp_branch.specs.GoodNumbers.{most_crossed};
-ghost use Rattle.tsp_branch.specs.FamiliesOfSets.{least_with};
 ghost use Rattle.tsp_branch.specs.states.Lent.{good_in};
-ghost use Rattle.tsp_branch.specs.states.FamilyNumbers.{AreSmallCrossings};
 
 use crate::case_leaf::CaseLeaf;
 use crate::decided::DECIDED;
 use crate::decision::Decision;
-use tsp_families::Crossings;
+use crate::judge::sum_with;
 use tsp_theory::Costs;
 
 /// The least crossings of a leaf's families, each times its multiplier, less each potential twice:
@@ -26,23 +22,7 @@ pub(crate) fn given_back<C: Costs>(leaf: &CaseLeaf<C>) -> i128
     ensures size { IsFromTo (neg_ℤ (pos (2 ^ 98))) (pos (2 ^ 98)) result }
 {
     let crossed = &leaf.setting.families.crossed;
-    multiplied_crossings(crossed, leaf.multipliers) - 2 * total(leaf.potentials)
-}
-
-/// The least crossings of families, each times its multiplier.
-fn multiplied_crossings(crossed: &[Crossings], multipliers: &[i64]) -> i128
-    requires as_many { length crossed.now ≡ length multipliers.now }
-    requires small { AreSmallCrossings crossed.now }
-    requires signs { All (λ multiplier. pos 0 ≤ℤ multiplier) multipliers.now }
-    requires sum { total multipliers.now ≤ℤ pos most_crossed }
-    ensures value { result ≡ least_with crossed.now multipliers.now }
-    ensures size { IsFromTo (pos 0) (pos (2 ^ 95)) result }
-{
-    let mut sum = 0;
-    'families: for index in 0..multipliers.len() {
-        sum += i128::from(multipliers[index]) * i128::from(crossed[index].least);
-    }
-    sum
+    sum_with(false, crossed, leaf.multipliers) - 2 * total(leaf.potentials)
 }
 
 /// The sum of numbers.

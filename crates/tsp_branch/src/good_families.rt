@@ -14,9 +14,9 @@ ghost use Rattle.tsp_branch.specs.states.Marked.{is_marked, AreUnmarked, HavePla
 
 use crate::case_tree::CaseTree;
 use crate::families::Families;
+use crate::judged::JudgedFamilies;
 use crate::marks::{has_node, leaves_one_out, mark_nodes};
 use crate::other_families::other_crossings;
-use crate::steps::JudgedFamilies;
 use std::alloc::Global;
 use tsp_families::{Crossings, NodeSets};
 use tsp_memory::{Refused, filled, push};

@@ -1,7 +1,8 @@
 //! Whether the numbers of a leaf are good.
 
 ghost use Rattle.std.specs.Prelude.{◌≡◌, ◌<◌, ◌+◌, ◌^◌, ◌↔◌, IsTrue, length, take, drop, true};
-ghost use Rattle.tsp_branch.specs.GoodNumbers.{AreGoodNumbers, as_leaf_numbers, most_with};
+ghost use Rattle.tsp_branch.specs.GoodNumbers.{AreGoodNumbers, as_leaf_numbers};
+ghost use Rattle.tsp_branch.specs.FamiliesOfSets.{most_or_least, sum_with};
 ghost use Rattle.tsp_branch.specs.states.Combed.{AreSmallMultipliers};
 ghost use Rattle.tsp_branch.specs.states.FamilyNumbers.{AreSmallCrossings};
 
@@ -39,20 +40,29 @@ pub(crate) fn judge(
     if !copy_within(of_combs, 0, MOST_CROSSED, multipliers) {
         return false;
     }
-    most_crossings(&families.crossed, multipliers) <= i128::from(MOST_CROSSED)
+    sum_with(true, &families.crossed, multipliers) <= i128::from(MOST_CROSSED)
 }
 
-/// How often two nodes cross the sets of families at most, each as often as its multiplier says.
-fn most_crossings(crossed: &[Crossings], multipliers: &[i64]) -> i128
+/// The most that two nodes cross of families, or the least that a cycle does, each times its
+/// multiplier.
+pub(crate) fn sum_with(is_most: bool, crossed: &[Crossings], multipliers: &[i64]) -> i128
     requires as_many { length multipliers.now ≡ length crossed.now }
     requires few { length multipliers.now < 2 ^ 32 }
     requires small { AreSmallMultipliers multipliers.now }
     requires numbers { AreSmallCrossings crossed.now }
-    ensures { result ≡ most_with crossed.now multipliers.now }
+    ensures { result ≡ sum_with is_most crossed.now multipliers.now }
 {
     let mut sum = 0;
     'families: for index in 0..multipliers.len() {
-        sum += i128::from(multipliers[index]) * i128::from(crossed[index].most);
+        let number = most_or_least(is_most, crossed[index]);
+        sum += i128::from(multipliers[index]) * i128::from(number);
     }
     sum
+}
+
+/// The most that two nodes cross of a family, or the least that a cycle does.
+fn most_or_least(is_most: bool, own: Crossings) -> u64
+    ensures { result ≡ most_or_least is_most own }
+{
+    if is_most { own.most } else { own.least }
 }

@@ -23,6 +23,7 @@ mod family_examples;
 mod given_back;
 mod good_families;
 mod judge;
+mod judged;
 mod kept;
 mod laws;
 mod leaf;
@@ -34,7 +35,6 @@ mod number_examples;
 mod numbers;
 mod open_case;
 mod other_families;
-mod pairs;
 mod room;
 mod row_examples;
 mod rows;
@@ -42,8 +42,6 @@ mod scaled;
 mod set_place;
 mod sets;
 mod setting;
-mod stack;
-mod steps;
 mod tree_cases;
 mod twice;
 mod verdict;
@@ -58,6 +56,7 @@ pub use examples::{
 pub use families::Families;
 pub use family_examples::examples_of_families;
 pub use good_families::judge_families;
+pub use judged::{BranchVerdict, JudgedCases, JudgedFamilies, JudgedLeaves};
 pub use laws::{
     case_tree_bounds_are_unique, case_trees_bound_cycles, cases_bound_cycles, cases_have_no_cycle,
     cycles_cross_combs, cycles_cross_families, cycles_keep_leaves, decided_bounds_bound_cycles,
@@ -67,10 +66,7 @@ pub use laws::{
 };
 pub use leaf::leaf_bound;
 pub use number_examples::{examples_of_differences, examples_of_good_numbers};
-pub use pairs::key_of;
 pub use row_examples::{examples_of_arcs, examples_of_leaves, examples_of_links, examples_of_rows};
-pub use stack::next_case;
-pub use steps::{BranchVerdict, JudgedCases, JudgedFamilies, JudgedLeaves};
 pub use tree_cases::Cases;
 pub use tsp_families::Crossings;
 pub use twice::judge_cases;

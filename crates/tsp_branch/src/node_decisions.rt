@@ -6,18 +6,13 @@ ghost use Rattle.tsp_branch.specs.declared.decision.Decision.{Decision};
 ghost use Rattle.tsp_branch.specs.states.OpenCases.{HaveOneMore, HaveOneLess};
 
 use crate::decision::Decision;
-use crate::tree_cases::Cases;
 use std::alloc::Global;
 use tsp_memory::{Refused, push, with_capacity};
 
-/// For each node the decisions that bear on its row, and all that take their pair, the last one
+/// For each node the decisions on pairs that have it, and all that take their pair, the last one
 /// last.
-///
-/// A decision bears on the row of its first node, and where pairs have no direction on that of its
-/// second one too.
 #[derive(Drop)]
 pub(crate) struct NodeDecisions {
-    pub(crate) directed: bool,
     pub(crate) lists: Vec<Vec<Decision>>,
     pub(crate) taken: Vec<Decision>,
 }
@@ -28,18 +23,16 @@ impl NodeDecisions {
     ghost use Rattle.tsp_branch.specs.states.Decided.{IsOnPlaces};
     ghost use Rattle.tsp_branch.specs.states.OpenCases.{AreByNode};
 
-    /// No decisions on pairs of the nodes of cases.
+    /// No decisions on pairs of these nodes.
     ///
     /// # Errors
     ///
     /// Out of memory, of which it takes some for each node.
-    pub(crate) fn new(alloc: Global, cases: &Cases) -> Result<NodeDecisions, Refused>
-        ensures none { IfOk result (λ made. AreByNode cases.now.nodes made []) }
-        ensures directed { IfOk result (λ made. made.directed ≡ cases.now.directed) }
+    pub(crate) fn new(alloc: Global, nodes: u32) -> Result<NodeDecisions, Refused>
+        ensures { IfOk result (λ made. AreByNode nodes made []) }
     {
         Ok(NodeDecisions {
-            directed: cases.directed,
-            lists: empty_lists(alloc, cases)?,
+            lists: empty_lists(alloc, nodes)?,
             taken: Vec::new(alloc),
         })
     }
@@ -54,13 +47,10 @@ impl NodeDecisions {
         ensures more { IfOk result (λ unit. (n : ℕ) (case : List Decision) → AreByNode n self.old case
             → AreByNode n self.new (decision ∷ case)) }
         ensures places { IfOk result (λ unit. length self.new.lists.items ≡ length self.old.lists.items) }
-        ensures directed { IfOk result (λ unit. self.new.directed ≡ self.old.directed) }
     {
         let (first, second) = decision.pair;
         list_at(&mut self.lists, first, decision)?;
-        if !self.directed {
-            list_at(&mut self.lists, second, decision)?;
-        }
+        list_at(&mut self.lists, second, decision)?;
         if decision.taken {
             push(&mut self.taken, decision)?;
         }
@@ -73,13 +63,10 @@ impl NodeDecisions {
         ensures less { (n : ℕ) (case : List Decision) → AreByNode n self.old (decision ∷ case)
             → AreByNode n self.new case }
         ensures places { length self.new.lists.items ≡ length self.old.lists.items }
-        ensures directed { self.new.directed ≡ self.old.directed }
     {
         let (first, second) = decision.pair;
         unlist_at(&mut self.lists, first);
-        if !self.directed {
-            unlist_at(&mut self.lists, second);
-        }
+        unlist_at(&mut self.lists, second);
         if decision.taken {
             self.taken.pop();
         }
@@ -104,13 +91,14 @@ fn unlist_at(lists: &mut Vec<Vec<Decision>>, node: u32)
 }
 
 /// An empty list for each node, and one for 0.
-fn empty_lists(alloc: Global, cases: &Cases) -> Result<Vec<Vec<Decision>>, Refused>
-    ensures many { IfOk result (λ lists. length lists.items ≡ cases.now.nodes + 1) }
-    ensures empty { IfOk result (λ lists. (x : ℕ) (default : Vec Decision) → x ≤ cases.now.nodes
+fn empty_lists(alloc: Global, nodes: u32) -> Result<Vec<Vec<Decision>>, Refused>
+    ensures many { IfOk result (λ lists. length lists.items ≡ nodes + 1) }
+    ensures empty { IfOk result (λ lists. (x : ℕ) (default : Vec Decision) → x ≤ nodes
         → (slice_index_or lists.items x default).items ≡ []) }
 {
-    let mut lists = with_capacity(alloc, cases.nodes as usize + 1)?;
-    'lists: for _ in 0..cases.nodes + 1 {
+    let places = nodes as usize + 1;
+    let mut lists = with_capacity(alloc, places)?;
+    'lists: for _ in 0..places {
         push(&mut lists, Vec::new(alloc))?;
     }
     Ok(lists)

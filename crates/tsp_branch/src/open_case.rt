@@ -1,12 +1,10 @@
 //! The case that is open in a pass over the steps.
 
-ghost use Rattle.std.specs.Prelude.{◌≡◌, ◌<◌, ◌+◌, ◌^◌, length};
-ghost use Rattle.std.specs.List.{All};
-ghost use Rattle.tsp_branch.specs.states.Decided.{IsDecision, IsLeftStack};
+ghost use Rattle.std.specs.Prelude.{◌≡◌};
+ghost use Rattle.tsp_branch.specs.Decisions.{is_same};
 
 use crate::decision::Decision;
 use crate::node_decisions::NodeDecisions;
-use crate::tree_cases::Cases;
 use std::alloc::Global;
 use tsp_memory::{Refused, push};
 
@@ -23,28 +21,33 @@ impl<'a> OpenCase<'a> {
     ghost use Rattle.std.specs.Prelude.{◌≡◌, ◌≤◌, ◌<◌, ◌+◌, ◌-◌, ◌^◌, ◌++◌, ℕ, [], ◌∷◌, true, length, IfOk};
     ghost use Rattle.std.specs.List.{All, filter};
     ghost use Rattle.tsp_branch.specs.declared.decision.Decision.{Decision};
-    ghost use Rattle.tsp_branch.specs.states.Decided.{IsDecision, IsLeftStack, stack_of};
+    ghost use Rattle.tsp_branch.specs.states.Decided.{IsDecision, IsNextStack, stack_of};
     ghost use Rattle.tsp_branch.specs.states.OpenCases.{IsOpenCase, bears_on, decisions_in};
+    ghost use Rattle.tsp_branch.specs.Twice.{is_decided};
 
     /// The case of the given decisions alone.
     ///
     /// # Errors
     ///
     /// Out of memory, of which it takes some for each node and each given decision.
-    pub(crate) fn new(alloc: Global, cases: &Cases<'a>) -> Result<OpenCase<'a>, Refused>
-        ensures case { IfOk result (λ case. IsOpenCase cases.now.nodes case) }
-        ensures given { IfOk result (λ case. case.given.now ≡ cases.now.given.now) }
+    pub(crate) fn new(
+        alloc: Global,
+        nodes: u32,
+        given: &'a [Decision],
+    ) -> Result<OpenCase<'a>, Refused>
+        requires { All (IsDecision nodes) given.now }
+        ensures case { IfOk result (λ case. IsOpenCase nodes case) }
+        ensures given { IfOk result (λ case. case.given.now ≡ given.now) }
         ensures stack { IfOk result (λ case. case.stack.items ≡ []) }
-        ensures directed { IfOk result (λ case. case.by_node.directed ≡ cases.now.directed) }
     {
-        let mut by_node = NodeDecisions::new(alloc, cases)?;
-        let mut left = cases.given.len();
+        let mut by_node = NodeDecisions::new(alloc, nodes)?;
+        let mut left = given.len();
         'given: while left > 0 {
             left -= 1;
-            by_node.add(cases.given[left])?;
+            by_node.add(given[left])?;
         }
         Ok(OpenCase {
-            given: cases.given,
+            given,
             stack: Vec::new(alloc),
             by_node,
         })
@@ -62,7 +65,6 @@ impl<'a> OpenCase<'a> {
         ensures stack { IfOk result (λ unit. self.new.stack.items
             ≡ self.old.stack.items ++ record { pair = pair; taken = true } ∷ []) }
         ensures given { IfOk result (λ unit. self.new.given.now ≡ self.old.given.now) }
-        ensures directed { IfOk result (λ unit. self.new.by_node.directed ≡ self.old.by_node.directed) }
     {
         let decision = Decision { pair, taken: true };
         self.by_node.add(decision)?;
@@ -70,28 +72,42 @@ impl<'a> OpenCase<'a> {
         Ok(())
     }
 
-    /// The decisions that bear on the row of a node, the last one last.
+    /// The decisions on pairs that have a node, the last one last.
     pub(crate) fn at(&self, node: u32) -> &[Decision]
         requires { node < length self.now.by_node.lists.items }
         ensures { (n : ℕ) → IsOpenCase n self.now → node ≤ n
-            → stack_of result.now ≡ filter (bears_on self.now.by_node.directed node) (decisions_in self.now) }
+            → stack_of result.now ≡ filter (bears_on node) (decisions_in self.now) }
     {
         self.by_node.lists[node as usize].as_slice()
     }
 
+    /// Whether the pair is decided, of two nodes that the case has.
+    pub(crate) fn decides(&self, directed: bool, pair: (u32, u32)) -> bool
+        requires { (n : ℕ) × IsOpenCase n self.now × (pair.0 ≤ n) }
+        ensures { result ≡ is_decided directed (decisions_in self.now) pair }
+    {
+        let own = self.at(pair.0);
+        'decisions: for decision in own {
+            if is_same(directed, pair, decision.pair) {
+                return true;
+            }
+        }
+        false
+    }
+
     /// Leaves a leaf for the next open case: the decisions after the last taken pair are dropped,
-    /// and that pair is avoided. Where no pair is taken no case is open, and the stack is emptied.
+    /// and that pair is avoided. Where no pair is taken no case is open: the stack is emptied, and
+    /// the result is `false`.
     ///
     /// # Errors
     ///
     /// Out of memory.
-    pub(crate) fn next(&mut self) -> Result<(), Refused>
+    pub(crate) fn next(&mut self) -> Result<bool, Refused>
         requires { (n : ℕ) × IsOpenCase n self.old }
-        ensures case { IfOk result (λ unit. (n : ℕ) → IsOpenCase n self.old → IsOpenCase n self.new) }
-        ensures next { IfOk result (λ unit. IsLeftStack self.old.stack.items self.new.stack.items) }
-        ensures few { IfOk result (λ unit. length self.new.stack.items ≤ length self.old.stack.items) }
-        ensures given { IfOk result (λ unit. self.new.given.now ≡ self.old.given.now) }
-        ensures directed { IfOk result (λ unit. self.new.by_node.directed ≡ self.old.by_node.directed) }
+        ensures case { IfOk result (λ is_open. (n : ℕ) → IsOpenCase n self.old → IsOpenCase n self.new) }
+        ensures next { IfOk result (λ is_open. IsNextStack self.old.stack.items is_open self.new.stack.items) }
+        ensures few { IfOk result (λ is_open. length self.new.stack.items ≤ length self.old.stack.items) }
+        ensures given { IfOk result (λ is_open. self.new.given.now ≡ self.old.given.now) }
     {
         'leave: while let Some(last) = self.stack.pop() {
             self.by_node.drop_last(last);
@@ -102,9 +118,21 @@ impl<'a> OpenCase<'a> {
                 };
                 self.by_node.add(turned)?;
                 push(&mut self.stack, turned)?;
-                return Ok(());
+                return Ok(true);
             }
         }
-        Ok(())
+        Ok(false)
     }
+}
+
+/// Whether two pairs are the same. Directed pairs are so in the same order of their nodes alone,
+/// others in either.
+fn is_same(directed: bool, pair: (u32, u32), other: (u32, u32)) -> bool
+    ensures { result ≡ is_same directed pair other }
+{
+    let straight = pair.0 == other.0 && pair.1 == other.1;
+    if directed {
+        return straight;
+    }
+    straight || (pair.1 == other.0 && pair.0 == other.1)
 }

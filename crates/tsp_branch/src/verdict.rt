@@ -8,7 +8,7 @@ ghost use Rattle.tsp_branch.specs.BranchVerdicts.{IsBranchVerdict, VerdictBounds
 use crate::branch::branch_bound;
 use crate::case_tree::CaseTree;
 use crate::good_families::judge_families;
-use crate::steps::{BranchVerdict, JudgedCases, JudgedFamilies, JudgedLeaves};
+use crate::judged::{BranchVerdict, JudgedCases, JudgedFamilies, JudgedLeaves};
 use crate::twice::judge_cases;
 use std::alloc::Global;
 use tsp_memory::Refused;

@@ -1,6 +1,6 @@
 -- Lists of different numbers, and which numbers they have.
-use Rattle.std.proofs.Common.{◌≡◌, ◌≢◌, ℕ, zero, suc, ◌+◌, ◌<◌, ◌≤◌, ◌==◌, ◌⊎◌, cond, List, [], ◌∷◌, length, get_or, inl, inr, refl, arith, ap, sym, ◌∙◌, subst}
-use Rattle.std.specs.List.{AllPairs, AllByRecursion, Contains, range_with_len}
+use Rattle.std.proofs.Common.{◌≡◌, ◌≢◌, ℕ, zero, suc, ◌+◌, ◌<◌, ◌≤◌, ◌==◌, ◌⊎◌, cond, List, [], ◌∷◌, length, inl, inr, refl, arith, ap, sym, ◌∙◌, subst}
+use Rattle.std.specs.List.{AllPairs, AllByRecursion, range_with_len}
 use Rattle.std.proofs.lemmas.Bool.{cases_eq, eq-eqb, ne_eqb}
 use Rattle.std.proofs.lemmas.List.Elements.{recursion_from_All, All-from_recursion}
 use Rattle.std.proofs.lemmas.List.Kept.{AllPairs-cons}
@@ -14,14 +14,6 @@ use Rattle.tsp_families.specs.Paths.{AllApart}
 abbrev pub Within : List ℕ → ℕ → Type 0
 Within [] x = ⊥
 Within (y ∷ ys) x = (y ≡ x) ⊎ Within ys x
-
-pub within_from : (xs : List ℕ) (x : ℕ) → Contains xs x → Within xs x
-within_from [] x h = absurd (omega (arith, h.1))
-within_from (y ∷ ys) x h = found h.0 h.1 h.2 (within_from ys x)
-  where
-    found : (k : ℕ) → k < length (y ∷ ys) → get_or (y ∷ ys) k x ≡ x → (Contains ys x → Within ys x) → Within (y ∷ ys) x
-    found zero lt is later = inl is
-    found (suc k) lt is later = inr (later (k, omega arith, is))
 
 -- what holds of each holds of one within
 pub at_within : (P : ℕ → Type 0) (xs : List ℕ) (x : ℕ) → AllByRecursion P xs → Within xs x → P x

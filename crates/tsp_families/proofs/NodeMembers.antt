@@ -1,16 +1,15 @@
 -- The memberships of nodes, and the parts that they tell.
-use Rattle.std.proofs.Common.{◌≡◌, ◌≢◌, ℕ, ◌+◌, ◌-◌, ◌*◌, ◌/◌, ◌%◌, ◌^◌, ◌<◌, ◌≤◌, ◌⊎◌, ◌==◌, ◌||◌, Bool, true, false, zero, not, cond, List, [], ◌∷◌, ◌++◌, length, get_or, drop, take, ℤ, ◌+ℤ◌, ◌≤ℤ◌, inl, inr, refl, arith, ap, ap₂, sym, ◌∙◌, subst, pow-suc, bit_xor, length-append}
+use Rattle.std.proofs.Common.{◌≡◌, ◌≢◌, ℕ, ◌+◌, ◌-◌, ◌*◌, ◌/◌, ◌%◌, ◌^◌, ◌<◌, ◌≤◌, ◌⊎◌, Bool, true, false, zero, not, cond, List, [], ◌∷◌, ◌++◌, length, get_or, drop, ℤ, ◌+ℤ◌, ◌≤ℤ◌, inl, inr, refl, arith, ap, ap₂, sym, ◌∙◌, subst, pow-suc, bit_xor, length-append}
 use Rattle.std.specs.Int.RustNames.{count_ones}
 use lib.Count.{ones, ones_in}
 use Rattle.std.specs.Prelude.{pos, slice_index, if◌then◌else◌}
 use Rattle.std.specs.Global.{Vec}
 use Rattle.std.specs.List.{All, Any, AllByRecursion}
 use Rattle.std.proofs.Math.Nat.{div-lt_iff_lt-mul, mod-lt}
-use Rattle.std.proofs.lemmas.Bool.{both_ways, cases_lt, eq-eqb, ne_eqb}
+use Rattle.std.proofs.lemmas.Bool.{cases_lt}
 use Rattle.std.proofs.lemmas.Int.{ints}
-use Rattle.std.proofs.lemmas.List.{drop_more, drop_all, get_or_append_left, get_or_default, get_or_past, get_or-map, length-map}
+use Rattle.std.proofs.lemmas.List.{drop_more, get_or_append_left, get_or_default, get_or_past, get_or-map, length-map}
 use Rattle.std.proofs.lemmas.List.Elements.{recursion_from_All, All-from_recursion, All-weaker}
-use Rattle.std.proofs.lemmas.List.Folds.{list_any_more}
 use Rattle.std.proofs.lemmas.List.Quantifiers.{all_pairs_push}
 use Rattle.std.proofs.lemmas.Nat.{div-add-mod', xor_block, ones_cat}
 use Rattle.tsp_format.specs.Nodes.{IsNode}
@@ -55,16 +54,6 @@ pub record IsSoFar (sets : List (ℕ → Bool)) (count node value : ℕ) : Type 
   pub small : value < 2 ^ count
   pub rest : value + 2 ^ count * membership (drop count sets) node ≡ membership sets node
 
-pub membership_none : (sets : List (ℕ → Bool)) (node : ℕ) → IsSoFar sets 0 node 0
-membership_none sets node = record { small = omega arith; rest = omega arith }
-
-pub membership_all : (sets : List (ℕ → Bool)) (count node value : ℕ) → length sets ≤ count → IsSoFar sets count node value
-    → value ≡ membership sets node
-membership_all sets count node value all h =
-    let none : membership (drop count sets) node ≡ 0 = ap (λ (ss : List (ℕ → Bool)). membership ss node) (drop_all count sets all) in
-    let rest : value + 2 ^ count * 0 ≡ membership sets node = ap (λ z. value + 2 ^ count * z) (sym none) ∙ h.rest in
-    omega (arith, rest)
-
 -- plan: by whether the set has the node: the membership has one bit more in front, 1 or 0 (`split`, `power`)
 pub membership_more : (sets : List (ℕ → Bool)) (count node value : ℕ) (set : ℕ → Bool) → count < length sets
     → get_or sets count set ≡ set → IsSoFar sets count node value
@@ -98,33 +87,6 @@ membership_more sets count node value set lt is h = step (set node) refl
 -- the number of a node with the bit where it is among the first nodes
 abbrev pub with_bit : ℕ → List ℕ → ℕ → ℕ → ℕ
 with_bit bit nodes node old = old + (if has nodes node then bit else 0)
-
-with_more : (bit old value : ℕ) (b e : Bool) → old < bit → value ≡ old + (if b then bit else 0)
-    → (e ≡ false → value ≡ old + (if (b || e) then bit else 0))
-    × (e ≡ true → bit ≤ value → value ≡ old + (if (b || e) then bit else 0))
-    × (e ≡ true → value < bit → value + bit ≡ old + (if (b || e) then bit else 0))
-with_more bit old value true true small is =
-    (λ h. absurd (both_ways true h refl), λ h le. is, λ h lt. absurd (omega (arith, lt, is)))
-with_more bit old value true false small is = (λ h. is, λ h le. is, λ h lt. absurd (omega (arith, lt, is)))
-with_more bit old value false true small is =
-    (λ h. absurd (both_ways true h refl), λ h le. absurd (omega (arith, small, is, le)), λ h lt. omega (arith, is))
-with_more bit old value false false small is =
-    (λ h. is, λ h le. absurd (both_ways false refl h), λ h lt. absurd (both_ways false refl h))
-
--- one node more
-pub with_next : (bit : ℕ) (nodes : List ℕ) (k x old value : ℕ) → k < length nodes → old < bit
-    → value ≡ with_bit bit (take k nodes) x old
-    → (get_or nodes k 0 ≢ x → value ≡ with_bit bit (take (k + 1) nodes) x old)
-    × (get_or nodes k 0 ≡ x → bit ≤ value → value ≡ with_bit bit (take (k + 1) nodes) x old)
-    × (get_or nodes k 0 ≡ x → value < bit → value + bit ≡ with_bit bit (take (k + 1) nodes) x old)
-with_next bit nodes k x old value lt small is =
-    let more = list_any_more (λ other. other == x) nodes k 0 lt in
-    let cases = with_more bit old value (has (take k nodes) x) (get_or nodes k 0 == x) small is in
-    let end = ap (λ b. old + (if b then bit else 0)) (sym more) in (
-      λ other. cases.0 (ne_eqb (get_or nodes k 0) x other) ∙ end,
-      λ same le. cases.1 (eq-eqb (get_or nodes k 0) x same) le ∙ end,
-      λ same less. cases.2 (eq-eqb (get_or nodes k 0) x same) less ∙ end,
-    )
 
 -- the set at a place, from the sets of the code
 pub set_at : (lists : List (Vec ℕ)) (i : ℕ) (default : Vec ℕ) (nodes : List ℕ) → i < length lists

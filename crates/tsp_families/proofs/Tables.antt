@@ -1,17 +1,13 @@
 -- Tables that are listed row by row, and least sums.
-use Rattle.std.proofs.Common.{◌≡◌, ℕ, ◌+◌, ◌*◌, ◌<◌, ◌≤◌, ◌⊎◌, List, [], ◌∷◌, ◌++◌, length, inl, inr, refl, arith, sym, ◌∙◌, subst, below_more, length-append}
+use Rattle.std.proofs.Common.{◌≡◌, ℕ, ◌+◌, ◌*◌, ◌<◌, List, [], ◌∷◌, ◌++◌, length, inl, inr, arith, sym, ◌∙◌, subst, length-append}
 use Rattle.std.specs.Prelude.{slice_index}
 use Rattle.std.proofs.lemmas.Bool.{cases_lt}
 use Rattle.std.proofs.lemmas.List.{get_or_append_left, get_or_push}
 use Rattle.std.proofs.lemmas.Nat.{same_from_place}
-use Rattle.tsp_families.specs.Paths.{IsLeastSum}
 
 -- what holds of each row, column and value, as far as the list goes
 abbrev pub HoldsByRows : ℕ → (ℕ → ℕ → ℕ → Type 0) → List ℕ → Type 0
 HoldsByRows w P table = (a b : ℕ) → b < w → a * w + b < length table → P a b (slice_index table (a * w + b))
-
-pub by_rows_none : (w : ℕ) (P : ℕ → ℕ → ℕ → Type 0) → HoldsByRows w P []
-by_rows_none w P a b lt in_list = absurd (omega (arith, in_list))
 
 pub by_rows_push : (w : ℕ) (P : ℕ → ℕ → ℕ → Type 0) (table : List ℕ) (a b value : ℕ) → b < w → length table ≡ a * w + b
     → HoldsByRows w P table → P a b value → HoldsByRows w P (table ++ value ∷ [])
@@ -25,30 +21,3 @@ by_rows_push w P table a b value lt long before here c d d_lt in_list = elim (ca
 ]
 
 -- ---- least sums
-
-pub sum_none : (start : ℕ) (costs paths : List ℕ) (c w : ℕ) → IsLeastSum start costs paths c w 0 start
-sum_none start costs paths c w =
-    record { below_start = omega arith; below = λ k lt. absurd (omega (arith, lt)); found = inl refl }
-
-pub sum_kept : (start : ℕ) (costs paths : List ℕ) (c w k least : ℕ) → IsLeastSum start costs paths c w k least
-    → least ≤ slice_index costs (c + k) + slice_index paths (w + k)
-    → IsLeastSum start costs paths c w (k + 1) least
-sum_kept start costs paths c w k least is le = record {
-  below_start = is.below_start;
-  below = below_more (λ i. least ≤ slice_index costs (c + i) + slice_index paths (w + i)) k is.below le;
-  found = found is.found;
-}
-  where
-    found : (least ≡ start) ⊎ ((i : ℕ) × (i < k) × (least ≡ slice_index costs (c + i) + slice_index paths (w + i)))
-        → (least ≡ start) ⊎ ((i : ℕ) × (i < k + 1) × (least ≡ slice_index costs (c + i) + slice_index paths (w + i)))
-    found (inl e) = inl e
-    found (inr at) = inr (at.0, omega (arith, at.1), at.2)
-
-pub sum_new : (start : ℕ) (costs paths : List ℕ) (c w k least sum : ℕ) → IsLeastSum start costs paths c w k least
-    → sum ≡ slice_index costs (c + k) + slice_index paths (w + k) → sum < least
-    → IsLeastSum start costs paths c w (k + 1) sum
-sum_new start costs paths c w k least sum is e lt = record {
-  below_start = omega (arith, lt, is.below_start);
-  below = below_more (λ i. sum ≤ slice_index costs (c + i) + slice_index paths (w + i)) k (λ i i_lt. omega (arith, lt, is.below i i_lt)) (omega (arith, e));
-  found = inr (k, omega arith, e);
-}

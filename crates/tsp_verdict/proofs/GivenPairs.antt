@@ -13,9 +13,9 @@ use Rattle.tsp_theory.specs.Tour.{Uses}
 use Rattle.tsp_branch.specs.states.Decided.{IsDecision}
 use Rattle.tsp_branch.specs.declared.decision.Decision.{Decision}
 use Rattle.tsp_branch.specs.Decisions.{KeepsAll, KeepsDecision, DecideOnce, take_pairs, is_same}
-use Rattle.tsp_branch.specs.states.PairSets.{key_of, pair_cmp, HasKeys}
+use Rattle.tsp_verdict.specs.states.PairSets.{key_of, pair_cmp, HasKeys}
 use Rattle.tsp_verdict.specs.BranchesCertificate.{each_once}
-use Rattle.tsp_branch.proofs.PairKeys.{turned_same}
+use Rattle.tsp_verdict.proofs.PairKeys.{turned_same}
 
 -- ---- as one pass over the pairs has them
 

@@ -6,6 +6,7 @@ pub mod FixedPairs
 mod FoundBounds
 pub mod Links
 pub mod MarkedNodes
+mod PairKeys
 pub mod PairSets
 pub mod Pieces
 pub mod PlanBounds

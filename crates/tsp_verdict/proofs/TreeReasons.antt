@@ -18,8 +18,8 @@ use Rattle.tsp_theory.specs.Costs.{IsSymmetric}
 use Rattle.tsp_theory.specs.Tour.{HasNoTour}
 use Rattle.tsp_cost.specs.ComputedProblems.{is_directed, problem_of, IsTourOf}
 use Rattle.tsp_theory.specs.CertificateNumbers.{IsScale, IsBoundSized}
-use Rattle.tsp_branch.specs.declared.steps.BranchVerdict.{BranchVerdict}
-use Rattle.tsp_branch.specs.declared.steps.BranchVerdict.TheVariants as found
+use Rattle.tsp_branch.specs.declared.judged.BranchVerdict.{BranchVerdict}
+use Rattle.tsp_branch.specs.declared.judged.BranchVerdict.TheVariants as found
 use Rattle.tsp_branch.specs.BranchVerdicts.{IsBranchVerdict}
 use Rattle.tsp_branch.specs.Cases.{decide}
 use Rattle.tsp_branch.specs.CaseTrees.{IsCaseTree, IsCaseTreeBound, AreCostsFor, BoundsIfAny, CaseTreesBoundCycles}

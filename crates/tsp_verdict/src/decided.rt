@@ -4,9 +4,10 @@ ghost use Rattle.std.specs.Prelude.{◌≡◌, ◌≤◌, IfOk};
 ghost use Rattle.tsp_branch.specs.Decisions.{take_pairs};
 ghost use Rattle.tsp_verdict.specs.BranchesCertificate.{each_once};
 
+use crate::pairs::key_of;
 use std::alloc::Global;
 use std::collections::BTreeSet;
-use tsp_branch::{Decision, key_of};
+use tsp_branch::Decision;
 use tsp_memory::{Refused, insert, push};
 
 /// Pairs as decisions that take them, each once: without those that are an earlier one; where pairs

@@ -25,6 +25,7 @@ mod lengths;
 mod loads;
 mod multiplied;
 mod one_verdict;
+mod pairs;
 mod places;
 mod promised;
 mod routes;

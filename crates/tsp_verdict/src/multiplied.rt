@@ -4,12 +4,12 @@ ghost use Rattle.std.specs.Prelude.{◌≡◌, ◌^◌, ◌<◌, ℕ, List, fals
 ghost use Rattle.std.specs.List.{AllPairs};
 ghost use Rattle.tsp_theory.specs.Adjusted.{pair_of, is_same_pair};
 ghost use Rattle.tsp_verdict.specs.Multiplied.{AreListed, IsUnlisted, IsPairRepeated};
-ghost use Rattle.tsp_branch.specs.states.PairSets.{HasPairs};
+ghost use Rattle.tsp_verdict.specs.states.PairSets.{HasPairs};
 ghost use Rattle.tsp_verdict.specs.Places.{IsFirstPlace};
 
+use crate::pairs::key_of;
 use std::alloc::Global;
 use std::collections::BTreeSet;
-use tsp_branch::key_of;
 use tsp_memory::{Refused, insert};
 
 /// The first triple, counted from 1, whose pair isn't among the fixed ones, in either direction.

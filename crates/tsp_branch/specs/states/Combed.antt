@@ -12,7 +12,6 @@ use Rattle.tsp_families.specs.declared.family.Crossings.{Crossings}
 use Rattle.tsp_branch.specs.LeafBound.{crossings_of, leaf_weight}
 use Rattle.tsp_branch.specs.CaseTrees.{multiplied}
 use Rattle.tsp_branch.specs.FamiliesOfSets.{families_with}
-use Rattle.tsp_branch.specs.GoodFamilies.{HasEachOnce}
 use Rattle.tsp_branch.specs.GoodNumbers.{most_crossed}
 use Rattle.tsp_branch.specs.declared.set_place.SetPlace.{SetPlace}
 use Rattle.tsp_branch.specs.states.Sets.{IsMoved, added}
@@ -23,11 +22,6 @@ AreSmallMultipliers multipliers = All (IsFromTo (pos 0) (pos most_crossed)) mult
 -- and by how much one multiplier differs from another
 abbrev pub AreSmallDifferences : List ℤ → Type 0
 AreSmallDifferences differences = All (IsFromTo (neg_ℤ (pos most_crossed)) (pos most_crossed)) differences
-
--- each family has a multiplier, and each set its nodes once
-pub record AreMultipliedSets (multipliers : List ℤ) (families : List (List (List ℕ))) : Type 0 where
-  pub many : length multipliers ≡ length families
-  pub once : All (All HasEachOnce) families
 
 -- the sum over the sets of families, from a first family on, of numbers that depend on the multiplier of the family
 abbrev pub summed_from : ℕ → (ℤ → List ℕ → ℤ) → List ℤ → List (List (List ℕ)) → ℤ

@@ -48,7 +48,3 @@ stack_of decisions = reverse decisions
 abbrev pub IsNextStack : List Decision → Bool → List Decision → Type 0
 IsNextStack old true new = next_stack (stack_of old) ≡ Some (stack_of new)
 IsNextStack old false new = (next_stack (stack_of old) ≡ None) × (new ≡ [])
-
--- the same, whether a case is open or not
-abbrev pub IsLeftStack : List Decision → List Decision → Type 0
-IsLeftStack old new = IsNextStack old true new ⊎ IsNextStack old false new

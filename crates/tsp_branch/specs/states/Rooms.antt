@@ -4,8 +4,8 @@ use Rattle.std.specs.List.{All}
 use Rattle.tsp_theory.specs.CertificateNumbers.{IsFromTo, IsBoundSized}
 use Rattle.tsp_families.specs.declared.family.Crossings.{Crossings}
 use Rattle.tsp_branch.specs.declared.room.Room.{Room}
-use Rattle.tsp_branch.specs.declared.steps.JudgedLeaf.{JudgedLeaf}
-use Rattle.tsp_branch.specs.declared.steps.JudgedLeaf.TheVariants as leaves
+use Rattle.tsp_branch.specs.declared.judged.JudgedLeaf.{JudgedLeaf}
+use Rattle.tsp_branch.specs.declared.judged.JudgedLeaf.TheVariants as leaves
 use Rattle.tsp_branch.specs.declared.decision.Decision.{Decision}
 use Rattle.tsp_branch.specs.Cases.{LeafNumbers}
 use Rattle.tsp_branch.specs.Listed.{all_grown, split_at, IsGoodLeaf}

@@ -66,7 +66,6 @@ steps-init g c =
       small = subst AreSmall (sym c.in_ok-room.ensures.start) (none_small n (length s.families.now.crossed.items));
       case = subst (λ (k : ℕ). IsOpenCase k case) s.own c.in_ok-case.ensures.case;
       given = c.in_ok-case.ensures.given;
-      direction = c.in_ok-case.ensures.directed;
       few = omega (arith, ap length c.in_ok-case.ensures.stack);
       leaves = omega arith;
       sized = tt;
@@ -156,7 +155,6 @@ steps-preserved g c =
             small = st.invariant.small;
             case = w.in_ok-take-in-Branch.ensures.case n st.invariant.case own;
             given = w.in_ok-take-in-Branch.ensures.given ∙ st.invariant.given;
-            direction = w.in_ok-take-in-Branch.ensures.directed ∙ st.invariant.direction;
             few = omega (arith, ap length items, longer, st.invariant.few);
             leaves = omega (arith, st.invariant.leaves);
             sized = st.invariant.sized;
@@ -174,7 +172,7 @@ steps-preserved g c =
           w.in_ok-judged-in-Leaf.ensures.judged) in
           rw (w.room-is, w.case-is, w.lowest-is, w.leaf-is) (record {
             at = after_found found s.cases.now.directed n s.families.now.crossed.items given told st.room.numbers.items st.case.stack.items st.lowest
-                st.leaf w.in-Leaf.changes.items _ _ w.next.new.self.stack.items
+                st.leaf w.in-Leaf.changes.items _ _ w.in_ok-next-in-Leaf.field-0 w.next.new.self.stack.items
                 w.in_ok-judged-in-Leaf.judged w.in-Found.own w.lower-lowest.result at judged w.in-Found.is w.lower-lowest.ensures
                 w.in_ok-next-in-Leaf.ensures.next;
             room = w.in_ok-judged-in-Leaf.ensures.room;
@@ -183,7 +181,6 @@ steps-preserved g c =
                 w.in-Leaf.changes.items _ w.in_ok-judged-in-Leaf.judged w.in-Found.own judged w.in-Found.is;
             case = w.in_ok-next-in-Leaf.ensures.case n st.invariant.case;
             given = w.in_ok-next-in-Leaf.ensures.given ∙ st.invariant.given;
-            direction = w.in_ok-next-in-Leaf.ensures.directed ∙ st.invariant.direction;
             few = omega (arith, w.in_ok-next-in-Leaf.ensures.few, st.invariant.few);
             leaves = omega (arith, st.invariant.leaves);
             sized = low_sized st.lowest w.in-Found.own w.lower-lowest.result w.in_ok-judged-in-Leaf.judged st.invariant.sized

@@ -1,20 +1,27 @@
--- The goals of `given_back` in src/given_back.rt: that no sum overflows and what it ensures.
-use Rattle.std.proofs.Common.{◌∙◌, ℤ, List, ap, sym, arith}
+-- The goals of `given_back` in src/given_back.rt: what its calls require, that no sum overflows and what it ensures.
+use Rattle.std.proofs.Common.{◌∙◌, ℤ, List, ap, sym, arith, false}
 use Rattle.std.specs.Prelude.{pos, ◌-ℤ◌, ◌*ℤ◌}
 use Rattle.tsp_families.specs.declared.family.Crossings.{Crossings}
 use Rattle.tsp_branch.specs.LeafBound.{least_of}
-use Rattle.tsp_branch.specs.FamiliesOfSets.{least_with}
+use Rattle.tsp_branch.specs.FamiliesOfSets.{sum_with}
 use Rattle.tsp_branch.specs.CaseTrees.{multiplied}
 use Rattle.tsp_branch.specs.states.Lent.{lent_in, good_in}
-use Rattle.tsp_branch.proofs.CaseWeights.{few_multipliers}
+use Rattle.tsp_branch.proofs.CaseWeights.{few_multipliers, small_multipliers}
+use Rattle.tsp_branch.proofs.FamilySums.{least_fits}
 use Rattle.tsp_branch.proofs.GivenBack.{least_told, less_fits, less_held, less_sized}
 use Rattle.tsp_branch.proofs.given_back.given_back.Goals as goal
 
-pub multiplied_crossings-requires-clause-sum : goal.multiplied_crossings-requires-clause-sum
-multiplied_crossings-requires-clause-sum g c =
+pub sum_with-requires-clause-few : goal.sum_with-requires-clause-few
+sum_with-requires-clause-few g c =
     let leaf = c.args.leaf.now in
     let families = leaf.setting.now.families.now in
-    few_multipliers families.crossed.items leaf.multipliers.now leaf.numbers.each_comb families.some leaf.numbers.signs leaf.numbers.sum
+    omega (arith, leaf.numbers.each_comb, families.as_many, families.few)
+
+pub sum_with-requires-clause-small : goal.sum_with-requires-clause-small
+sum_with-requires-clause-small g c =
+    let leaf = c.args.leaf.now in
+    let setting = leaf.setting.now in
+    small_multipliers (g.C.Costs.nodes setting.costs.now) setting.families.now.crossed.items leaf.potentials.now leaf.multipliers.now setting.families.now.some leaf.numbers
 
 pub total-requires : goal.total-requires
 total-requires g c =
@@ -22,17 +29,27 @@ total-requires g c =
     omega (arith, leaf.numbers.each_node, leaf.setting.now.same, leaf.setting.now.families.now.few_nodes)
 
 pub overflow_sub-result : goal.overflow_sub-result
-overflow_sub-result g c = less_fits c.multiplied_crossings.result c.total.result c.multiplied_crossings.ensures.size c.total.ensures.size
+overflow_sub-result g c =
+    let leaf = c.args.leaf.now in
+    let families = leaf.setting.now.families.now in
+    let ms : List ℤ = leaf.multipliers.now in
+    let sum = few_multipliers families.crossed.items ms leaf.numbers.each_comb families.some leaf.numbers.signs leaf.numbers.sum in
+    let size = least_fits families.crossed.items ms c.sum_with.result families.small leaf.numbers.signs sum (c.sum_with.ensures ∙ ap (λ (cs : List Crossings). sum_with false cs ms) c.deref.ensures.value) in
+    less_fits c.sum_with.result c.total.result size c.total.ensures.size
 
 pub returns : goal.returns
 returns g c =
-    let families = c.args.leaf.now.setting.now.families.now in
-    let crossed : ℤ = c.multiplied_crossings.result in
+    let leaf = c.args.leaf.now in
+    let families = leaf.setting.now.families.now in
+    let crossed : ℤ = c.sum_with.result in
     let ps : ℤ = c.total.result in
-    let ms : List ℤ = c.args.leaf.now.multipliers.now in
-    let is = less_held crossed ps c.multiplied_crossings.ensures.size c.total.ensures.size in
+    let ms : List ℤ = leaf.multipliers.now in
+    let sum = few_multipliers families.crossed.items ms leaf.numbers.each_comb families.some leaf.numbers.signs leaf.numbers.sum in
+    let value = c.sum_with.ensures ∙ ap (λ (cs : List Crossings). sum_with false cs ms) c.deref.ensures.value in
+    let size = least_fits families.crossed.items ms crossed families.small leaf.numbers.signs sum value in
+    let is = less_held crossed ps size c.total.ensures.size in
     rw is (record {
-      value = ap (λ (z : ℤ). z -ℤ (pos 2 *ℤ ps)) (c.multiplied_crossings.ensures.value ∙ ap (λ (cs : List Crossings). least_with cs ms) c.deref.ensures.value ∙ sym (least_told families.crossed.items ms (lent_in families) families.many))
+      value = ap (λ (z : ℤ). z -ℤ (pos 2 *ℤ ps)) (value ∙ sym (least_told families.crossed.items ms (lent_in families) families.many))
           ∙ ap (λ (z : ℤ). least_of (multiplied (good_in families) ms) -ℤ (pos 2 *ℤ z)) c.total.ensures.value;
-      size = less_sized crossed ps c.multiplied_crossings.ensures.size c.total.ensures.size;
+      size = less_sized crossed ps size c.total.ensures.size;
     })

@@ -1,6 +1,6 @@
 -- The loop of `taken_once` in src/decided.rt.
 use Rattle.std.proofs.Common.{take}
-use Rattle.tsp_branch.specs.states.PairSets.{HasKeys}
+use Rattle.tsp_verdict.specs.states.PairSets.{HasKeys}
 use Rattle.tsp_verdict.proofs.GivenPairs.{IsTakenSoFar}
 use Rattle.tsp_verdict.proofs.decided.taken_once.Given as goal
 

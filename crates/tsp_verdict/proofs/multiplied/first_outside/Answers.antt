@@ -4,7 +4,7 @@ use Rattle.std.specs.BTreeSet.{contains}
 use Rattle.std.specs.Prelude.{pos, slice_index_or}
 use Rattle.tsp_theory.specs.Adjusted.{pair_of}
 use Rattle.tsp_verdict.specs.Multiplied.{IsUnlisted}
-use Rattle.tsp_branch.specs.states.PairSets.{undirected, pair_cmp}
+use Rattle.tsp_verdict.specs.states.PairSets.{undirected, pair_cmp}
 use Rattle.tsp_verdict.specs.Places.{IsFirstPlace}
 use Rattle.tsp_verdict.proofs.PairSets.{has_listed, inside_more, outside_here}
 use Rattle.tsp_verdict.proofs.multiplied.first_outside.Goals as goal

@@ -5,7 +5,7 @@ use Rattle.std.specs.Prelude.{pos, slice_index_or}
 use Rattle.std.proofs.lemmas.Bool.{not-false, not-true}
 use Rattle.tsp_theory.specs.Adjusted.{pair_of}
 use Rattle.tsp_verdict.specs.Multiplied.{IsPairRepeated}
-use Rattle.tsp_branch.specs.states.PairSets.{undirected, pair_cmp}
+use Rattle.tsp_verdict.specs.states.PairSets.{undirected, pair_cmp}
 use Rattle.tsp_verdict.specs.Places.{IsFirstPlace}
 use Rattle.tsp_verdict.proofs.PairSets.{has_more, repeated_pair, apart_more, apart_all}
 use Rattle.tsp_verdict.proofs.multiplied.first_repeated_pair.Goals as goal

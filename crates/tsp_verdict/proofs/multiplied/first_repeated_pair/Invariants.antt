@@ -2,7 +2,7 @@
 use Rattle.std.proofs.Common.{◌≡◌, ◌<◌, ℕ, false, take}
 use Rattle.std.specs.Prelude.{slice_index_or, pos}
 use Rattle.tsp_theory.specs.Adjusted.{pair_of, is_same_pair}
-use Rattle.tsp_branch.specs.states.PairSets.{HasPairs}
+use Rattle.tsp_verdict.specs.states.PairSets.{HasPairs}
 use Rattle.tsp_verdict.proofs.multiplied.first_repeated_pair.Given as goal
 
 abbrev pub invariant-triples : goal.invariant-triples

@@ -2,7 +2,7 @@
 use Rattle.std.proofs.Common.{true, subst, arith}
 use Rattle.std.specs.BTreeSet.{Updates}
 use Rattle.std.proofs.lemmas.List.{take_all}
-use Rattle.tsp_branch.specs.states.PairSets.{pair_cmp, HasPairs}
+use Rattle.tsp_verdict.specs.states.PairSets.{pair_cmp, HasPairs}
 use Rattle.tsp_verdict.proofs.PairSets.{has_more}
 use Rattle.tsp_verdict.proofs.multiplied.set_of.Goals as goal
 

@@ -1,6 +1,6 @@
 -- The loop of `set_of` in src/multiplied.rt.
 use Rattle.std.proofs.Common.{take}
-use Rattle.tsp_branch.specs.states.PairSets.{HasPairs}
+use Rattle.tsp_verdict.specs.states.PairSets.{HasPairs}
 use Rattle.tsp_verdict.proofs.multiplied.set_of.Given as goal
 
 abbrev pub invariant-pairs : goal.invariant-pairs

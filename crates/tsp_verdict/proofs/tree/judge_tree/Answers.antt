@@ -11,7 +11,7 @@ use Rattle.tsp_format.specs.states.TreeSteps.{step_of, steps_of}
 use Rattle.tsp_draft.specs.states.Drafts.{combs_of}
 use Rattle.tsp_draft.specs.Valid.{IsPairOf}
 use Rattle.tsp_theory.specs.CertificateNumbers.{IsScale}
-use Rattle.tsp_branch.specs.declared.steps.BranchVerdict.TheVariants as found
+use Rattle.tsp_branch.specs.declared.judged.BranchVerdict.TheVariants as found
 use Rattle.tsp_branch.specs.BranchVerdicts.{IsBranchVerdict, IsSizedVerdict}
 use Rattle.tsp_branch.specs.Listed.{IsStepOf}
 use Rattle.tsp_families.specs.FamilySets.{AreFamiliesOf, lists_of}

@@ -1,13 +1,12 @@
 -- The loop of `OpenCase::new` in src/open_case.rt.
-use Rattle.std.proofs.Common.{◌≡◌, ◌≤◌, drop, length}
+use Rattle.std.proofs.Common.{◌≤◌, drop, length}
 use Rattle.tsp_branch.specs.states.OpenCases.{AreByNode}
 use Rattle.tsp_branch.proofs.open_case.OpenCase.new.Given as goal
 
 abbrev pub invariant-given : goal.invariant-given
 invariant-given l = record {
-  most : l.left ≤ length l.cases.given.now;
-  by_node : AreByNode l.cases.nodes l.by_node (drop l.left l.cases.given.now);
-  directed : l.by_node.directed ≡ l.cases.directed;
+  most : l.left ≤ length l.given;
+  by_node : AreByNode l.nodes l.by_node (drop l.left l.given);
 }
 
 abbrev pub decreases-given : goal.decreases-given

@@ -1,11 +1,11 @@
 //! Pairs of nodes as sets of pairs have them.
 
 ghost use Rattle.std.specs.Prelude.{◌≡◌};
-ghost use Rattle.tsp_branch.specs.states.PairSets.{key_of};
+ghost use Rattle.tsp_verdict.specs.states.PairSets.{key_of};
 
 /// A pair as a set of pairs has it: as it is, or with its smaller node first where pairs have no
 /// direction.
-pub fn key_of(directed: bool, pair: (u32, u32)) -> (u32, u32)
+pub(crate) fn key_of(directed: bool, pair: (u32, u32)) -> (u32, u32)
     ensures { result ≡ key_of directed pair }
 {
     if directed || pair.0 <= pair.1 {

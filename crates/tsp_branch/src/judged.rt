@@ -1,9 +1,9 @@
-//! The parts of a certificate that are judged.
+//! What is found of the parts of a certificate, and of the whole.
 
 use crate::families::Families;
 use crate::tree_cases::Cases;
 
-/// The parts of a certificate that are judged.
+/// The judgement on the leaves of a tree.
 #[derive(Drop)]
 pub enum JudgedLeaves {
     /// The bound: no cycle that keeps the given decisions is shorter. `None` where no leaf has one:

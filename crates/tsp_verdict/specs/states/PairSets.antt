@@ -1,14 +1,11 @@
 -- Sets of pairs of nodes, in which a pair has its smaller node first.
-use Rattle.std.specs.Prelude.{◌≡◌, ℕ, Bool, true, false, List, ◌++◌, if◌then◌else◌, nat_le}
+use Rattle.std.specs.Prelude.{◌≡◌, ℕ, Bool, true, false, List, if◌then◌else◌, nat_le}
 use Rattle.std.specs.BTreeSet.{BTreeSet, contains}
 use Rattle.std.specs.List.{list_any}
 use Rattle.std.specs.Ordering.{nat_cmp, ordering_then}
 use Rattle.std.specs.declared.cmp.Ordering.{Ordering}
 use Rattle.tsp_theory.specs.Adjusted.{is_same_pair}
-use Rattle.tsp_branch.specs.declared.decision.Decision.{Decision}
-use Rattle.tsp_branch.specs.Decisions.{is_same, DecideOnce}
-use Rattle.tsp_branch.specs.states.Decided.{stack_of}
-use Rattle.tsp_branch.specs.Twice.{is_decided}
+use Rattle.tsp_branch.specs.Decisions.{is_same}
 
 -- the same for both directions of a pair
 abbrev pub undirected : ℕ × ℕ → ℕ × ℕ
@@ -32,12 +29,3 @@ key_of false pair = undirected pair
 abbrev pub HasKeys : Bool → BTreeSet (ℕ × ℕ) → List (ℕ × ℕ) → Type 0
 HasKeys directed set pairs =
     (pair : ℕ × ℕ) → contains pair_cmp set (key_of directed pair) ≡ list_any (is_same directed pair) pairs
-
--- the set has exactly the pairs that a case decides
-abbrev pub HasDecided : Bool → BTreeSet (ℕ × ℕ) → List Decision → Type 0
-HasDecided directed set case = (pair : ℕ × ℕ) → contains pair_cmp set (key_of directed pair) ≡ is_decided directed case pair
-
--- those of a stack and the given ones, which decide each pair once
-pub record HasStack (directed : Bool) (set : BTreeSet (ℕ × ℕ)) (stack : List Decision) (given : List Decision) : Type 0 where
-  pub once : DecideOnce directed (stack_of stack ++ given)
-  pub has : HasDecided directed set (stack_of stack ++ given)

@@ -9,7 +9,7 @@ use Rattle.std.proofs.lemmas.Bool.{and_from, and_parts, cases_cond, cases_order,
 use Rattle.std.proofs.lemmas.Map.Lookups.{exact_pairs, exact_unsigned}
 use Rattle.tsp_theory.specs.Adjusted.{is_same_pair}
 use Rattle.tsp_branch.specs.Decisions.{is_same}
-use Rattle.tsp_branch.specs.states.PairSets.{undirected, pair_cmp, key_of}
+use Rattle.tsp_verdict.specs.states.PairSets.{undirected, pair_cmp, key_of}
 
 -- ---- the two directions of a pair
 

@@ -1,0 +1,45 @@
+-- The goals of `sum_with` in src/judge.rt: that no sum overflows and its loop.
+use Rattle.std.proofs.Common.{◌≡◌, ◌+◌, ◌∙◌, ◌<◌, ℕ, ℤ, List, drop, length, get_or, arith, rules, ap, sym, FitsSigned, to_z}
+use Rattle.std.specs.Prelude.{pos, ◌+ℤ◌, ◌*ℤ◌}
+use Rattle.std.specs.Int.{w64, w128}
+use Rattle.std.proofs.Math.IntN.{+ℤ_assoc}
+use Rattle.std.proofs.lemmas.Int.{to_z-of_z}
+use Rattle.tsp_families.specs.declared.family.Crossings.{Crossings}
+use Rattle.tsp_branch.specs.FamiliesOfSets.{most_or_least, sum_with}
+use Rattle.tsp_branch.proofs.FamilySums.{sum_left, number_small, AddsFamily, adds_family}
+use Rattle.tsp_branch.proofs.judge.sum_with.Goals as goal
+
+-- the number of the family that is next
+abbrev own : (c : goal.After-from-in-families) → ℕ
+own c = most_or_least c.args.is_most (get_or c.args.crossed.now c.families.index (record { least = 0; most = 0 }))
+
+added : (c : goal.After-from-in-families) → AddsFamily (to_z w128 c.families.sum-bits) (get_or c.args.multipliers.now c.families.index (pos 0)) c.families.index (own c) c.from.result c.from-in-families.result
+added c =
+    let ms : List ℤ = c.args.multipliers.now in
+    let index : ℕ = c.families.index in
+    let m : ℤ = get_or ms index (pos 0) in
+    let fits : FitsSigned w64 (get_or ms index (pos 0)) = search rules in
+    let inside : index < length c.args.crossed.now = omega (arith, c.families-test.true, c.requires.as_many) in
+    let small = number_small c.args.is_most _ (c.requires.numbers index (record { least = 0; most = 0 }) inside) in
+    adds_family (to_z w128 c.families.sum-bits) m index (own c) c.from.result c.from-in-families.result c.families.invariant.size
+    (c.requires.small index (pos 0) c.families-test.true) (omega (arith, c.families-test.true, c.requires.few)) small (c.from.ensures ∙ to_z-of_z w64 m fits)
+    (c.from-in-families.ensures ∙ ap pos c.most_or_least-number.ensures)
+
+pub overflow_add-sum : goal.overflow_add-sum
+overflow_add-sum c = let step = added c in rw step.product step.fits
+
+pub families-preserved : goal.families-preserved
+families-preserved c =
+    let step = added c in
+    let ms : List ℤ = c.args.multipliers.now in
+    let crossed : List Crossings = c.args.crossed.now in
+    let index : ℕ = c.families.index in
+    let sum : ℤ = to_z w128 c.families.sum-bits in
+    let m : ℤ = get_or ms index (pos 0) in
+    let rest : ℤ = sum_with c.args.is_most (drop (index + 1) crossed) (drop (index + 1) ms) in
+    let inside : index < length crossed = omega (arith, c.families-test.true, c.requires.as_many) in
+    let parts : sum_with c.args.is_most (drop index crossed) (drop index ms) ≡ (m *ℤ pos (own c)) +ℤ rest = sum_left c.args.is_most crossed ms index (record { least = 0; most = 0 }) inside c.families-test.true in
+    rw (step.product, step.computed) (record {
+      size = step.size;
+      so_far = +ℤ_assoc sum (m *ℤ pos (own c)) rest ∙ ap (λ z. sum +ℤ z) (sym parts) ∙ c.families.invariant.so_far;
+    })
