@@ -1,7 +1,8 @@
 -- Where no two decisions are on the same nodes, a weight changes by no more than one decision does.
-use Rattle.std.proofs.Common.{◌≡◌, ◌∙◌, ℕ, zero, suc, ◌==◌, ◌&&◌, ◌||◌, Bool, true, false, List, [], ◌∷◌, ◌++◌, ◌⊎◌, inl, inr, refl, ap, sym, arith}
+use Rattle.std.proofs.Common.{◌≡◌, ◌∙◌, ℕ, zero, suc, ◌==◌, ◌&&◌, Bool, true, false, List, [], ◌∷◌, ◌++◌, ◌⊎◌, inl, inr, refl, ap, sym, arith}
 use Rattle.std.specs.Prelude.{pos, neg_ℤ, ◌+ℤ◌, reverse}
 use Rattle.std.specs.List.{AllByRecursion}
+use Rattle.std.proofs.Math.Bool.{or-true}
 use Rattle.std.proofs.lemmas.Bool.{cases_Bool, both_ways, or_cases, and_parts, eqb-true, eq-eqb}
 use Rattle.std.proofs.lemmas.Int.{ints}
 use Rattle.std.proofs.lemmas.List.{reverse-append}
@@ -22,15 +23,11 @@ told p i j h = elim (or_cases ((p.0 == i) && (p.1 == j)) ((p.1 == i) && (p.0 == 
   | inr one ↦ let two = and_parts (p.1 == i) (p.0 == j) one in inr (eqb-true p.1 i two.0, eqb-true p.0 j two.1)
 ]
 
-pub or_true : (b : Bool) → (b || true) ≡ true
-or_true true = refl
-or_true false = refl
-
 both_on : (p q : ℕ × ℕ) (i j : ℕ) → Same p i j → Same q i j → is_same_pair p q ≡ true
 both_on p q i j (inl a) (inl b) = rw (eq-eqb p.0 q.0 (a.0 ∙ sym b.0), eq-eqb p.1 q.1 (a.1 ∙ sym b.1)) refl
 both_on p q i j (inr a) (inr b) = rw (eq-eqb p.0 q.0 (a.1 ∙ sym b.1), eq-eqb p.1 q.1 (a.0 ∙ sym b.0)) refl
-both_on p q i j (inl a) (inr b) = rw (eq-eqb p.1 q.0 (a.1 ∙ sym b.1), eq-eqb p.0 q.1 (a.0 ∙ sym b.0)) (or_true ((p.0 == q.0) && (p.1 == q.1)))
-both_on p q i j (inr a) (inl b) = rw (eq-eqb p.1 q.0 (a.0 ∙ sym b.0), eq-eqb p.0 q.1 (a.1 ∙ sym b.1)) (or_true ((p.0 == q.0) && (p.1 == q.1)))
+both_on p q i j (inl a) (inr b) = rw (eq-eqb p.1 q.0 (a.1 ∙ sym b.1), eq-eqb p.0 q.1 (a.0 ∙ sym b.0)) (or-true ((p.0 == q.0) && (p.1 == q.1)))
+both_on p q i j (inr a) (inl b) = rw (eq-eqb p.1 q.0 (a.0 ∙ sym b.0), eq-eqb p.0 q.1 (a.1 ∙ sym b.1)) (or-true ((p.0 == q.0) && (p.1 == q.1)))
 
 -- ---- what decisions change, in any order
 

@@ -7,8 +7,7 @@ use Rattle.std.specs.List.{All}
 use Rattle.std.proofs.Math.ListN.{set}
 use Rattle.std.proofs.lemmas.Bool.{cases_Bool, cases_lt}
 use Rattle.std.proofs.lemmas.Int.{ints, int_wrap-add_left, int_wrap-add_same, int_wrap_fits, SFits-int_wrap}
-use Rattle.std.proofs.lemmas.List.{length-append, get_or_append_left, get_or-replicate, get_or_past, length-replicate}
-use Rattle.std.proofs.Math.Seq.{get_or-append_seam}
+use Rattle.std.proofs.lemmas.List.{length-append, get_or_append_left, get_or-replicate, get_or_past, length-replicate, get_or_push}
 use Rattle.tsp_theory.specs.NodeBound.{weight_between, most_between}
 use Rattle.tsp_theory.specs.CertificateNumbers.{IsFromTo, entry}
 use Rattle.tsp_theory.specs.states.Nearest.{least_at}
@@ -37,9 +36,6 @@ last_or_below (suc k) (suc n) less = one_more (last_or_below k n (omega (arith, 
     one_more (inl below) = inl (omega (arith, below))
     one_more (inr same) = inr (ap suc same)
 
-at_end : {A : Type 0} (xs : List A) (x d : A) (n : ℕ) → length xs ≡ n → get_or (xs ++ x ∷ []) n d ≡ x
-at_end xs x d n long = subst (λ (m : ℕ). get_or (xs ++ x ∷ []) m d ≡ x) long (get_or-append_seam xs x [] d)
-
 pub rows_more : (n : ℕ) (cost weight : ℕ → ℕ → ℤ) (count : ℕ) (rows : List (Vec ℤ)) (row : Vec ℤ) → AreRows n cost weight count rows
     → IsKeptRow n (cost (count + 1)) (weight (count + 1)) row.items → AreRows n cost weight (count + 1) (rows ++ row ∷ [])
 rows_more n cost weight count rows row are last = record {
@@ -51,7 +47,7 @@ rows_more n cost weight count rows row are last = record {
     by_place k default (inl below) = subst (λ (r : Vec ℤ). IsKeptRow n (cost (k + 1)) (weight (k + 1)) r.items)
         (sym (get_or_append_left rows (row ∷ []) default k (omega (arith, below, are.many)))) (are.each k default below)
     by_place k default (inr same) = subst (λ (m : ℕ). IsKeptRow n (cost (m + 1)) (weight (m + 1)) (get_or (rows ++ row ∷ []) m default).items) (sym same)
-        (subst (λ (r : Vec ℤ). IsKeptRow n (cost (count + 1)) (weight (count + 1)) r.items) (sym (at_end rows row default count are.many)) last)
+        (subst (λ (r : Vec ℤ). IsKeptRow n (cost (count + 1)) (weight (count + 1)) r.items) (sym (get_or_push rows row default count are.many)) last)
 
 -- ---- other multipliers
 

@@ -1,6 +1,7 @@
 -- Marks by node: the list with one mark more, and the facts of a node that has one.
-use Rattle.std.proofs.Common.{◌≡◌, ◌≢◌, ◌∙◌, ℕ, ◌+◌, ◌<◌, ◌==◌, ◌||◌, Bool, true, false, List, [], ◌∷◌, ◌++◌, take, length, get_or, inl, inr, refl, ap, sym, subst, arith}
+use Rattle.std.proofs.Common.{◌≡◌, ◌≢◌, ◌∙◌, ℕ, ◌+◌, ◌<◌, ◌==◌, ◌||◌, true, false, List, [], ◌∷◌, ◌++◌, take, length, get_or, inl, inr, ap, sym, subst, arith}
 use Rattle.std.proofs.Math.ListN.{set}
+use Rattle.std.proofs.Math.Bool.{or-true, or-false, or_assoc}
 use Rattle.std.proofs.lemmas.Bool.{cases_eq, both_ways, eqb-true, eq-eqb, ne_eqb, or_cases, or_parts}
 use Rattle.std.proofs.lemmas.List.{get_or-set_same, get_or-set_other, get_or-take, length-take-le, take_more, get_or_default}
 use Rattle.std.proofs.lemmas.List.Elements.{All-more}
@@ -10,26 +11,14 @@ use Rattle.tsp_families.specs.Crossed.{has}
 use Rattle.tsp_branch.specs.GoodFamilies.{HasEachOnce}
 use Rattle.tsp_branch.specs.states.Marked.{is_marked, AreNew, AddsNoOther}
 
-or_true : (b : Bool) → (b || true) ≡ true
-or_true true = refl
-or_true false = refl
-
-or_false : (b : Bool) → (b || false) ≡ b
-or_false true = refl
-or_false false = refl
-
-or_assoc : (a b c : Bool) → ((a || b) || c) ≡ (a || (b || c))
-or_assoc true b c = refl
-or_assoc false b c = refl
-
 one_marked : (marks : List ℕ) (mark place x : ℕ) → place < length marks → is_marked (set marks place mark) mark x ≡ (is_marked marks mark x || (place == x))
 one_marked marks mark place x lt = elim (cases_eq x place) [
   | inl same ↦
       let here : get_or (set marks place mark) x 0 ≡ mark = ap (λ k. get_or (set marks place mark) k 0) same ∙ get_or-set_same marks place mark 0 lt in
-      eq-eqb (get_or (set marks place mark) x 0) mark here ∙ sym (ap (λ b. is_marked marks mark x || b) (eq-eqb place x (sym same)) ∙ or_true (is_marked marks mark x))
+      eq-eqb (get_or (set marks place mark) x 0) mark here ∙ sym (ap (λ b. is_marked marks mark x || b) (eq-eqb place x (sym same)) ∙ or-true (is_marked marks mark x))
   | inr other ↦
       ap (λ m. m == mark) (get_or-set_other marks place x mark 0 other)
-      ∙ sym (ap (λ b. is_marked marks mark x || b) (ne_eqb place x (λ e. other (sym e))) ∙ or_false (is_marked marks mark x))
+      ∙ sym (ap (λ b. is_marked marks mark x || b) (ne_eqb place x (λ e. other (sym e))) ∙ or-false (is_marked marks mark x))
 ]
 
 pub others_kept : (marks old : List ℕ) (mark place : ℕ) → place < length marks → AddsNoOther mark old marks → AddsNoOther mark old (set marks place mark)

@@ -3,6 +3,7 @@ use Rattle.std.proofs.Common.{◌≡◌, ◌≢◌, ℕ, suc, ◌+◌, ◌-◌, 
 use Rattle.std.specs.Prelude.{pos}
 use Rattle.std.specs.Global.{Vec}
 use Rattle.std.specs.List.{All, filter, list_any}
+use Rattle.std.proofs.Math.Bool.{or-true}
 use Rattle.std.proofs.lemmas.Bool.{cases_eq, eq-eqb, ne_eqb, eqb-true, and_parts}
 use Rattle.std.proofs.lemmas.Int.{ints}
 use Rattle.std.proofs.lemmas.List.{length-reverse, take_all, take_more}
@@ -16,7 +17,7 @@ use Rattle.tsp_branch.specs.declared.node_decisions.NodeDecisions.{NodeDecisions
 use Rattle.tsp_branch.specs.declared.open_case.OpenCase.{OpenCase}
 use Rattle.tsp_branch.specs.states.Decided.{IsDecision, stack_of, change_of, changes}
 use Rattle.tsp_branch.specs.states.OpenCases.{bears_on, listed_at, AreByNode, HaveOneMore, HaveOneLess, decisions_in, IsOpenCase}
-use Rattle.tsp_branch.proofs.DecidedOnce.{told, or_true, changes_turned}
+use Rattle.tsp_branch.proofs.DecidedOnce.{told, changes_turned}
 use Rattle.tsp_branch.proofs.NextCases.{stack_more}
 
 -- ---- lists of which one changes
@@ -38,7 +39,7 @@ pub first_bears : (x : ℕ) (d : Decision) → d.pair.0 ≡ x → bears_on x d �
 first_bears x d same = rw (eq-eqb d.pair.0 x same) refl
 
 second_bears : (x : ℕ) (d : Decision) → d.pair.1 ≡ x → bears_on x d ≡ true
-second_bears x d same = rw (eq-eqb d.pair.1 x same) (or_true (d.pair.0 == x))
+second_bears x d same = rw (eq-eqb d.pair.1 x same) (or-true (d.pair.0 == x))
 
 neither_bears : (x : ℕ) (d : Decision) → d.pair.0 ≢ x → d.pair.1 ≢ x → bears_on x d ≡ false
 neither_bears x d first second = rw (ne_eqb d.pair.0 x first, ne_eqb d.pair.1 x second) refl

@@ -1,14 +1,16 @@
 -- What the rows of code come to: each set takes its multiplier off the two nodes, and gives it back twice where it has both.
-use Rattle.std.proofs.Common.{◌≡◌, ◌≢◌, ℕ, zero, suc, ◌+◌, ◌<◌, ◌==◌, Bool, true, false, not, List, [], ◌∷◌, ◌++◌, length, get_or, inl, inr, refl, ap, sym, subst, ◌∙◌, arith}
-use Rattle.std.specs.Prelude.{ℤ, pos, neg_ℤ, ◌+ℤ◌, ◌*ℤ◌, ◌||◌, if◌then◌else◌}
-use Rattle.std.specs.List.{All, AllPairs, AllByRecursion}
-use Rattle.std.proofs.lemmas.Bool.{cases_Bool, cases_eq, both_ways, eq-eqb, ne_eqb}
+use Rattle.std.proofs.Common.{◌≡◌, ◌≢◌, ℕ, suc, ◌+◌, ◌<◌, ◌==◌, Bool, true, false, not, List, [], ◌∷◌, ◌++◌, length, get_or, inl, inr, refl, ap, sym, subst, ◌∙◌, arith}
+use Rattle.std.specs.Prelude.{ℤ, pos, neg_ℤ, ◌+ℤ◌, ◌*ℤ◌, if◌then◌else◌}
+use Rattle.std.specs.List.{All, AllByRecursion}
+use Rattle.std.proofs.lemmas.Bool.{cases_Bool, cases_eq, eq-eqb, ne_eqb, or_parts}
 use Rattle.std.specs.Int.{w64, int_wrap}
 use Rattle.std.proofs.lemmas.Int.{ints, int_wrap-add_right, int_wrap-add_same}
 use Rattle.std.proofs.lemmas.List.Elements.{recursion_from_All, All-from_recursion}
 use Rattle.std.proofs.Math.ListN.{set}
 use Rattle.tsp_theory.specs.Length.{sum_int_by}
 use Rattle.tsp_families.specs.Crossed.{has}
+use Rattle.tsp_families.specs.Paths.{AllApart}
+use Rattle.tsp_families.proofs.Lists.{apart_from_pairs}
 use Rattle.tsp_theory.specs.Tree.{crossing}
 use Rattle.tsp_branch.specs.GoodFamilies.{HasEachOnce}
 use Rattle.tsp_branch.specs.declared.set_place.SetPlace.{SetPlace}
@@ -16,33 +18,17 @@ use Rattle.tsp_branch.specs.states.Sets.{added, place_at, IsPlaceIn, times, plac
 use Rattle.tsp_branch.specs.states.Combed.{summed_from, set_crossings, multipliers_at, twice_in, inside_both}
 pub use Rattle.tsp_tree.proofs.Additions.{moved_to}
 
--- different nodes, by recursion
-abbrev Differ : List ℕ → Type 0
-Differ [] = Unit {0}
-Differ (node ∷ nodes) = AllByRecursion (λ other. node ≢ other) nodes × Differ nodes
-
-differ : (nodes : List ℕ) → AllPairs (λ a b. a ≢ b) nodes → Differ nodes
-differ [] h = tt
-differ (node ∷ nodes) h = (
-  recursion_from_All (λ other. node ≢ other) nodes (λ k d lt. h zero (suc k) d (omega arith) (omega arith)),
-  differ nodes (λ i j d below lt. h (suc i) (suc j) d (omega arith) (omega arith)),
-)
-
 -- a node that none of a list is
 absent : (node : ℕ) (nodes : List ℕ) (x : ℕ) → node ≡ x → AllByRecursion (λ other. node ≢ other) nodes → has nodes x ≡ false
 absent node [] x same h = refl
 absent node (other ∷ nodes) x same h = rw (ne_eqb other x (λ e. h.0 (same ∙ sym e))) (absent node nodes x same h.1)
 
-neither : (p q : Bool) → (p || q) ≡ false → (p ≡ false) × (q ≡ false)
-neither true q h = absurd (both_ways true h refl)
-neither false q h = (refl, h)
-
 none_added : (number : ℤ) (nodes : List ℕ) (x : ℕ) → has nodes x ≡ false → added number nodes x ≡ pos 0
 none_added number [] x h = refl
-none_added number (node ∷ nodes) x h = let two = neither (node == x) (has nodes x) h in rw two.0 (let rest = none_added number nodes x two.1 in omega (arith, ints, rest))
+none_added number (node ∷ nodes) x h = let two = or_parts (node == x) (has nodes x) h in rw two.0 (let rest = none_added number nodes x two.1 in omega (arith, ints, rest))
 
 -- where the nodes differ the number comes once
-pub added_once : (number : ℤ) (nodes : List ℕ) (x : ℕ) → Differ nodes → added number nodes x ≡ (if has nodes x then number else pos 0)
+pub added_once : (number : ℤ) (nodes : List ℕ) (x : ℕ) → AllApart nodes → added number nodes x ≡ (if has nodes x then number else pos 0)
 added_once number [] x h = refl
 added_once number (node ∷ nodes) x h = elim (cases_eq node x) [
   | inl same ↦ rw (eq-eqb node x same) (let rest = none_added number nodes x (absent node nodes x same h.0) in omega (arith, ints, rest))
@@ -51,9 +37,9 @@ added_once number (node ∷ nodes) x h = elim (cases_eq node x) [
 
 none_times : (place : SetPlace) (nodes : List ℕ) (x : ℕ) → has nodes x ≡ false → times place nodes x ≡ []
 none_times place [] x h = refl
-none_times place (node ∷ nodes) x h = let two = neither (node == x) (has nodes x) h in rw two.0 (none_times place nodes x two.1)
+none_times place (node ∷ nodes) x h = let two = or_parts (node == x) (has nodes x) h in rw two.0 (none_times place nodes x two.1)
 
-times_once : (place : SetPlace) (nodes : List ℕ) (x : ℕ) → Differ nodes → times place nodes x ≡ (if has nodes x then (place ∷ []) else [])
+times_once : (place : SetPlace) (nodes : List ℕ) (x : ℕ) → AllApart nodes → times place nodes x ≡ (if has nodes x then (place ∷ []) else [])
 times_once place [] x h = refl
 times_once place (node ∷ nodes) x h = elim (cases_eq node x) [
   | inl same ↦ rw (eq-eqb node x same) (ap (λ ps. place ∷ ps) (none_times place nodes x (absent node nodes x same h.0)))
@@ -92,7 +78,7 @@ family_comes_to : (g : SetPlace → ℤ) (family first : ℕ) (m : ℤ) (sets : 
     ≡ neg_ℤ (sum_int_by (λ set. m *ℤ crossing (has set) i x) sets)
 family_comes_to g family first m [] i x at once = omega (arith, ints)
 family_comes_to g family first m (set ∷ sets) i x at once =
-    let apart : Differ set = differ set once.0 in
+    let apart : AllApart set = apart_from_pairs set once.0 in
     let here : place_at family first ≡ place_at family (first + 0) = ap (place_at family) (omega arith) in
     let own : g (place_at family first) ≡ (if has set x then (pos 2 *ℤ m) else pos 0) = ap g here ∙ at 0 (omega arith) ∙ added_once (pos 2 *ℤ m) set x apart in
     let gained : sum_int_by g (times (place_at family first) set i) ≡ (if has set i then (if has set x then (pos 2 *ℤ m) else pos 0) else pos 0) =

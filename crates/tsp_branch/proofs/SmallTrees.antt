@@ -2,7 +2,7 @@
 use Rattle.std.proofs.Common.{◌≡◌, ℕ, zero, suc, ◌+◌, ◌-◌, ◌<◌, ◌≤◌, ◌==◌, ◌&&◌, ◌||◌, Bool, true, false, not, leb, List, [], ◌∷◌, length, ℤ, ◌≤ℤ◌, inl, inr, refl, arith, subst}
 use Rattle.std.specs.Int.Signed.{le_z, le_z_yes}
 use Rattle.std.specs.List.{list_all, range_with_len}
-use Rattle.std.proofs.lemmas.Bool.{cases_eq, both_ways, and_parts, or_cases, leb-true, eqb-true, eqb-false}
+use Rattle.std.proofs.lemmas.Bool.{cases_eq, both_ways, and_parts, or_cases, leb-true, eqb-true, eqb-false, not-true}
 use Rattle.std.proofs.lemmas.Float.{T_from_true}
 use Rattle.tsp_theory.specs.Tree.{IsInner, IsLeastOneTree}
 use Rattle.tsp_theory.specs.Growth.{and_node, Grows, grown_by, AreNearest, tree_of}
@@ -43,10 +43,6 @@ abbrev pub grows_well : ℕ → (ℕ → ℕ → ℤ) → (ℕ → Bool) → Lis
 grows_well n w grown [] = all_inner n grown
 grows_well n w grown (pair ∷ pairs) = ((grown pair.0 && not (grown pair.1)) && (is_inner n pair.1 && leaves_least n w grown pair)) && grows_well n w (and_node grown pair.1) pairs
 
-false_from_not : (b : Bool) → not b ≡ true → b ≡ false
-false_from_not true h = absurd (both_ways false refl h)
-false_from_not false h = refl
-
 or_right_from : (x y : Bool) → (x || y) ≡ true → x ≡ false → y ≡ true
 or_right_from x y h f = elim (or_cases x y h) [
   | inl t ↦ absurd (both_ways x f t)
@@ -66,12 +62,12 @@ grown_well n w grown (pair ∷ pairs) h =
       (
         record {
           from = ends.0;
-          to = false_from_not (grown pair.1) ends.1;
+          to = not-true (grown pair.1) ends.1;
           node = inner_from n pair.1 least.0;
           least = λ a b a_in b_in a_grown b_out.
               let from_a = at_inner n (λ a. not (grown a) || all_inner n (λ b. grown b || le_z (w pair.0 pair.1) (w a b))) least.1 a a_in in
               let to_all : all_inner n (λ b. grown b || le_z (w pair.0 pair.1) (w a b)) ≡ true = elim (or_cases (not (grown a)) (all_inner n (λ b. grown b || le_z (w pair.0 pair.1) (w a b))) from_a) [
-                | inl off ↦ absurd (both_ways (grown a) (false_from_not (grown a) off) a_grown)
+                | inl off ↦ absurd (both_ways (grown a) (not-true (grown a) off) a_grown)
                 | inr all ↦ all
               ] in
               below_from (w pair.0 pair.1) (w a b) (or_right_from (grown b) (le_z (w pair.0 pair.1) (w a b)) (at_inner n (λ b. grown b || le_z (w pair.0 pair.1) (w a b)) to_all b b_in) b_out);
@@ -97,7 +93,7 @@ nearest_from n w first second h =
     record {
       first_in = inner_from n first both.0;
       second_in = inner_from n second both.1;
-      differ = eqb-false first second (false_from_not (first == second) nodes.1);
+      differ = eqb-false first second (not-true (first == second) nodes.1);
       near = λ x x_in. below_from (w 1 first) (w 1 x) (at_inner n (λ x. le_z (w 1 first) (w 1 x)) least.0 x x_in);
       next = λ x x_in other. elim (or_cases (x == first) (le_z (w 1 second) (w 1 x)) (at_inner n (λ x. (x == first) || le_z (w 1 second) (w 1 x)) least.1 x x_in)) [
         | inl same ↦ absurd (other (eqb-true x first same))
