@@ -3,8 +3,7 @@ use Rattle.std.proofs.Common.{ℕ, Bool, true, false, List, [], ◌∷◌, map, 
 use Rattle.std.specs.Prelude.{if◌then◌else◌}
 use Rattle.std.specs.List.{All, AllByRecursion}
 use Rattle.std.proofs.lemmas.List.Elements.{recursion_from_All, All-from_recursion}
-use Rattle.tsp_theory.specs.Cycle.{AreNeighbours}
-use Rattle.tsp_theory.specs.Tour.{Uses}
+use Rattle.tsp_theory.specs.Cycle.{AreNeighbours, Uses}
 use Rattle.tsp_theory.specs.Adjusted.{pair_of, UsesEach, UsesNone, AdjustedBoundsBoundCycles}
 use Rattle.tsp_branch.specs.declared.decision.Decision.{Decision}
 use Rattle.tsp_branch.specs.Decisions.{KeepsPair, KeepsDecision, KeepsAll, take_pairs, on_taken, on_avoided, DecidedBoundsBoundCycles, FixedBoundsBoundTours}

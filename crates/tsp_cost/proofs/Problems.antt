@@ -1,10 +1,11 @@
 -- Each valid instance is one problem.
-use Rattle.std.proofs.Common.{◌≡◌, ◌≢◌, ℕ, ◌-◌, ◌<◌, eqb, ltb-false, Bool, true, false, List, [], ◌∷◌, length, get_or, Option, None, Some, refl, sym, ap, subst, ◌∙◌, inl, inr, arith}
-use Rattle.std.specs.Prelude.{◌⊎◌, ℤ, pos, unsigned_abs, unwrap_or, is_some, IsSome, slice_index, nat_lt, nat_le, if◌then◌else◌}
-use Rattle.std.specs.List.{slice_get}
+use Rattle.std.proofs.Common.{◌≡◌, ◌≢◌, ℕ, ◌+◌, ◌-◌, ◌<◌, eqb, ltb-false, Bool, true, false, List, [], ◌∷◌, length, map, Option, None, Some, refl, sym, ap, subst, ◌∙◌, inl, inr, arith}
+use Rattle.std.specs.Prelude.{◌⊎◌, ℤ, pos, unsigned_abs, unwrap_or, is_some, IsSome, slice_index, slice_index_or, nat_lt, nat_le, if◌then◌else◌}
+use Rattle.std.specs.List.{range_with_len}
 use Rattle.std.proofs.lemmas.Bool.{false≢true, leb-false}
 use Rattle.std.proofs.lemmas.Bool.Decides.{eqb_tells}
-use Rattle.std.proofs.lemmas.Option.{get_or_from_slice_get, slice_get-get_or, slice_get_within}
+use Rattle.std.proofs.lemmas.List.{length-map, get_or-map, ext_get_or}
+use Rattle.std.proofs.lemmas.List.FromFn.{length-range_with_len, get_or-range_with_len}
 use Rattle.tsp_distance.specs.declared.decimal.Point.{Point}
 use Rattle.tsp_format.specs.declared.kinds.Kind.{Kind}
 use Rattle.tsp_format.specs.declared.kinds.Kind.TheVariants as kinds
@@ -12,11 +13,11 @@ use Rattle.tsp_format.specs.declared.kinds.WeightKind.{WeightKind}
 use Rattle.tsp_format.specs.declared.kinds.WeightKind.TheVariants.{Explicit}
 use Rattle.tsp_format.specs.declared.layout.Layout.{Layout}
 use Rattle.tsp_format.specs.declared.layout.Layout.TheVariants.{FullMatrix, UpperRow, LowerRow, UpperDiagRow, LowerDiagRow, UpperCol, LowerCol, UpperDiagCol, LowerDiagCol}
-use Rattle.tsp_format.specs.Nodes.{IsNode}
+use Rattle.tsp_format.specs.Nodes.{IsNode, nodes_to}
 use Rattle.tsp_format.specs.Cells.{is_listed, cells}
 use Rattle.tsp_format.specs.Place.{place_of, place_by_table}
 use Rattle.tsp_format.proofs.Pairs.{cell_is}
-use Rattle.tsp_format.proofs.Places.{placed, place_within, place_from, stands_at, no_place}
+use Rattle.tsp_format.proofs.Places.{placed, place_within, no_place}
 use Rattle.tsp_draft.specs.Coords.{origin}
 use Rattle.tsp_draft.specs.Fields.{Fields, nodes_of}
 use Rattle.tsp_draft.specs.Rules.{is_explicit}
@@ -24,12 +25,14 @@ use Rattle.tsp_draft.specs.Valid.{IsInRange, HasInstance, HasRouting}
 use Rattle.tsp_file.specs.ByInequalities.{IsDistanceBy}
 use Rattle.tsp_file.specs.Cost.{cost, cost_by, listed_cost, point_of, layout_of}
 use Rattle.tsp_file.specs.ListedWeights.{UnlistedHaveNoPlace}
+use Rattle.tsp_file.specs.Relayout.{costs_in}
 use Rattle.tsp_file.proofs.Listed.{lists, cost_of_listed, cost_of_cell, cost_unlisted, triangle_even, unlisted_has_no_place}
-use Rattle.tsp_theory.specs.Routing.{RoutingProblem}
+use Rattle.tsp_file.proofs.Relaid.{laid_at, own_costs}
+use Rattle.tsp_theory.specs.Routing.{RoutingProblem, demand_of}
 use Rattle.tsp_theory.specs.Tour.{Problem}
 use Rattle.tsp_cost.specs.Problems.{CostsAreListed, CostsAreDistances, IsProblemOf, IsRoutingOf}
 use Rattle.tsp_cost.specs.ProblemLaws.{IsProblem, HaveSameCosts, AreSame, AreSameRouting}
-use Rattle.tsp_cost.specs.ComputedProblems.{is_directed, problem_of, routing_of, depots_of}
+use Rattle.tsp_cost.specs.ComputedProblems.{is_directed, problem_of, routing_of, depots_of, demands_of}
 use Rattle.tsp_cost.proofs.Instances.{distance_kind, is_listed_kind}
 
 -- what the law of the costs says
@@ -49,23 +52,42 @@ held (Some x) d is = refl
 value : {A : Type 0} (o : Option A) (d x : A) → o ≡ Some x → x ≡ unwrap_or o d
 value o d x is = ap (λ p. unwrap_or p d) (sym is)
 
--- the point of a node
-point_is : (f : Fields) (points : List Point) (i : ℕ) (a : Point) → f.coords ≡ Some points → slice_get points (i - 1) ≡ Some a → point_of (unwrap_or f.coords []) i ≡ a
-point_is f points i a section here = ap (λ o. point_of (unwrap_or o []) i) section ∙ get_or_from_slice_get points (i - 1) a origin here
+-- ---- lists by node
+
+-- a list is that of its entries by node
+by_node : {X : Type 0} (d : X) (xs : List X) → map (λ i. slice_index_or xs (i - 1) d) (nodes_to (length xs)) ≡ xs
+unfolding nodes_to
+by_node {X = X} d xs = ext_get_or d (map entry nodes) xs (length-map nodes entry ∙ length-range_with_len 1 (length xs)) (λ k lt.
+    let short : k < length xs = omega (arith, lt, length-map nodes entry, length-range_with_len 1 (length xs)) in
+    get_or-map entry nodes k 0 d (omega (arith, short, length-range_with_len 1 (length xs)))
+    ∙ ap entry (get_or-range_with_len 1 (length xs) k 0 short)
+    ∙ ap (λ (place : ℕ). slice_index_or xs place d) (omega arith))
+  where
+    entry : ℕ → X
+    entry i = slice_index_or xs (i - 1) d
+
+    nodes : List ℕ
+    nodes = range_with_len 1 (length xs)
+
+-- where it has as many entries as there are nodes
+over_nodes : {X : Type 0} (d : X) (n : ℕ) (xs : List X) → length xs ≡ n
+    → Some xs ≡ Some (map (λ i. slice_index_or xs (i - 1) d) (nodes_to n))
+over_nodes d n xs each =
+    ap (λ ys. Some ys) (sym (by_node d xs)) ∙ ap (λ m. Some (map (λ i. slice_index_or xs (i - 1) d) (nodes_to m))) each
+
+-- the entry of a node
+at_node : {X : Type 0} (d : X) (f : ℕ → X) (n i : ℕ) → IsNode n i → slice_index_or (map f (nodes_to n)) (i - 1) d ≡ f i
+unfolding nodes_to
+at_node d f n i node =
+    let short : i - 1 < n = omega (arith, node.0, node.1) in
+    let place : 1 + (i - 1) ≡ i = omega (arith, node.0) in
+    get_or-map f (range_with_len 1 n) (i - 1) 0 d (omega (arith, short, length-range_with_len 1 n))
+    ∙ ap f (get_or-range_with_len 1 n (i - 1) 0 short ∙ place)
 
 -- ---- listed costs
 
 unlisted : (layout : Layout) (n : ℕ) → UnlistedHaveNoPlace layout n
 unlisted layout n = unlisted_has_no_place cell_is no_place layout n
-
--- the listed costs have what the definition says of them
-listed_cell : (layout : Layout) (n : ℕ) (weights : List ℤ) (place i j : ℕ) (weight : ℤ) → slice_get (cells layout n) place ≡ Some (i, j)
-    → slice_get weights place ≡ Some weight → listed_cost layout n weights i j ≡ weight
-listed_cell layout n weights place i j weight cell here =
-    let pair : ℕ × ℕ = (i, j) in
-    let placed_here : place_of layout n (i, j) ≡ Some place =
-    place_from layout n place pair (slice_get_within (cells layout n) place pair cell) (λ d. get_or_from_slice_get (cells layout n) place pair d cell) in
-    cost_of_cell layout n weights i j place placed_here ∙ get_or_from_slice_get weights place weight (pos 0) here
 
 listed_diagonal : (layout : Layout) (n : ℕ) (weights : List ℤ) (i : ℕ) → is_listed layout (i, i) ≡ false → listed_cost layout n weights i i ≡ pos 0
 listed_diagonal layout n weights i out = cost_unlisted layout n weights i i (unlisted layout n i i out) (unlisted layout n i i out)
@@ -111,20 +133,17 @@ listed f range has is =
     let dimension : f.dimension ≡ Some n = held f.dimension 0 has.dimension in
     let layout : Layout = are.layout in
     let lists_these = lists f layout n weights range are.format dimension section in
+    let costs : listed_cost layout n weights ≡ cost f = λ t i j. cost_of_listed f layout n weights kind lists_these i j t in
     let same : (i j : ℕ) → cost f i j ≡ listed_cost layout n weights i j = λ i j. sym (cost_of_listed f layout n weights kind lists_these i j) in
     record {
       weight_type = kind;
       layout = layout;
       format = are.format;
-      weights = weights;
-      section = section;
-      count = lists_these.filled;
-      cell = λ place i j weight cell here. same i j ∙ listed_cell layout n weights place i j weight cell here;
+      weights = section ∙ ap (λ ws. Some ws) (sym (own_costs layout n weights lists_these.filled)) ∙ ap (λ c. Some (costs_in layout n c)) costs;
       half = λ i j row column part other. same i j ∙ triangle_even layout n weights part (unlisted layout n) i j other ∙ sym (same j i);
       diagonal = λ i row out. same i i ∙ listed_diagonal layout n weights i out;
     }
 
--- plan: by the weight type: the law of the costs gives the distance of the two points, which are the nodes' (`point_is`)
 distances : (f : Fields) → AreDefined → AreUnique → IsInRange f → HasInstance f → is_explicit f.weight_kind ≡ false → CostsAreDistances f (nodes_of f) (cost f)
 distances f defined unique range has not = by_kind f.weight_kind refl
   where
@@ -133,19 +152,15 @@ distances f defined unique range has not = by_kind f.weight_kind refl
         let other : kind ≢ Explicit = distance_kind f kind not is in
         let section = held f.coords [] (has.coords not) in
         let points : List Point = unwrap_or f.coords [] in
+        let each : length points ≡ nodes_of f = value f.dimension 0 (length points) (range.coords points section).0 in
         record {
           kind = kind;
           weight_type = is;
-          points = points;
-          section = section;
-          each_node = value f.dimension 0 (length points) (range.coords points section).0;
-          distance = λ i j a b row column first second.
-              let by : IsDistanceBy kind (point_of points i) (point_of points j) (unsigned_abs (cost f i j)) = defined f kind i j is other in (
-                unsigned_abs (cost f i j),
-                unique f kind i j (unsigned_abs (cost f i j)) is by,
-                subst (λ p. IsDistanceBy kind a p (unsigned_abs (cost f i j))) (point_is f points j b section second)
-                    (subst (λ p. IsDistanceBy kind p (point_of points j) (unsigned_abs (cost f i j))) (point_is f points i a section first) by),
-              );
+          point = point_of points;
+          points = section ∙ over_nodes origin (nodes_of f) points each;
+          costs = λ i j row column.
+              let by : IsDistanceBy kind (point_of points i) (point_of points j) (unsigned_abs (cost f i j)) = defined f kind i j is other in
+              (unsigned_abs (cost f i j), unique f kind i j (unsigned_abs (cost f i j)) is by, by);
         }
 
     by_kind : (o : Option WeightKind) → f.weight_kind ≡ o → CostsAreDistances f (nodes_of f) (cost f)
@@ -185,10 +200,13 @@ some_problem f defined unique range has routing = record {
         nodes = held f.dimension 0 has.dimension;
         costs = costs_of f defined unique range has;
         depot = held f.depots [] more.depots ∙ ap (λ ds. Some ds) (one_depot (depots_of f) one);
-        demands = held f.demands [] more.demands;
+        demands = held f.demands [] more.demands ∙ over_nodes (pos 0) (nodes_of f) (demands_of f) (carried more.demands);
         capacity = held f.capacity (pos 0) more.capacity;
       };
 }
+  where
+    carried : IsSome f.demands → length (demands_of f) ≡ nodes_of f
+    carried is = value f.dimension 0 (length (demands_of f)) (range.demands (demands_of f) (held f.demands [] is)).0
 
 -- ---- there is no other
 
@@ -199,52 +217,47 @@ same_listed f n costs dimension are i j row column = either i j row column ∙ s
     ap (λ k. cost_by k f i j) are.weight_type
     ∙ ap (λ o. listed_cost (layout_of o) (unwrap_or f.dimension 0) (unwrap_or f.weights []) i j) are.format
     ∙ ap (λ o. listed_cost are.layout (unwrap_or o 0) (unwrap_or f.weights []) i j) dimension
-    ∙ ap (λ o. listed_cost are.layout n (unwrap_or o []) i j) are.section)
+    ∙ ap (λ o. listed_cost are.layout n (unwrap_or o []) i j) are.weights)
   where
-    at_cell : (i j : ℕ) → IsNode n i → IsNode n j → is_listed are.layout (i, j) ≡ true → costs i j ≡ listed_cost are.layout n are.weights i j
+    weights : List ℤ
+    weights = costs_in are.layout n costs
+
+    at_cell : (i j : ℕ) → IsNode n i → IsNode n j → is_listed are.layout (i, j) ≡ true → costs i j ≡ listed_cost are.layout n weights i j
     at_cell i j row column in_layout =
-        let pair : ℕ × ℕ = (i, j) in
         let place : ℕ = place_by_table are.layout n i j in
         let there : place_of are.layout n (i, j) ≡ Some place = placed are.layout n i j row column in_layout in
         let within : place < length (cells are.layout n) = place_within are.layout n i j row column in_layout in
-        let inside : place < length are.weights = omega (arith, within, are.count) in
-        let cell : slice_get (cells are.layout n) place ≡ Some pair =
-        slice_get-get_or (cells are.layout n) place pair within ∙ ap (λ p. Some p) (stands_at are.layout n place pair there pair) in
-        are.cell place i j (get_or are.weights place (pos 0)) cell (slice_get-get_or are.weights place (pos 0) inside)
-        ∙ sym (cost_of_cell are.layout n are.weights i j place there)
+        sym (cost_of_cell are.layout n weights i j place there ∙ laid_at are.layout n costs i j place there within)
 
-    on_diagonal : (i j : ℕ) → IsNode n i → i ≡ j → is_listed are.layout (i, j) ≡ false → costs i j ≡ listed_cost are.layout n are.weights i j
+    on_diagonal : (i j : ℕ) → IsNode n i → i ≡ j → is_listed are.layout (i, j) ≡ false → costs i j ≡ listed_cost are.layout n weights i j
     on_diagonal i j row same out =
-        subst (λ k. is_listed are.layout (i, k) ≡ false → costs i k ≡ listed_cost are.layout n are.weights i k) same
-        (λ none. are.diagonal i row none ∙ sym (listed_diagonal are.layout n are.weights i none)) out
+        subst (λ k. is_listed are.layout (i, k) ≡ false → costs i k ≡ listed_cost are.layout n weights i k) same
+        (λ none. are.diagonal i row none ∙ sym (listed_diagonal are.layout n weights i none)) out
 
-    in_other_half : (i j : ℕ) → IsNode n i → IsNode n j → i ≢ j → is_listed are.layout (i, j) ≡ false → costs i j ≡ listed_cost are.layout n are.weights i j
+    in_other_half : (i j : ℕ) → IsNode n i → IsNode n j → i ≢ j → is_listed are.layout (i, j) ≡ false → costs i j ≡ listed_cost are.layout n weights i j
     in_other_half i j row column other out =
         are.half i j row column (no_matrix are.layout i j out) other
         ∙ at_cell j i column row (other_listed are.layout i j other out)
-        ∙ sym (triangle_even are.layout n are.weights (no_matrix are.layout i j out) (unlisted are.layout n) i j other)
+        ∙ sym (triangle_even are.layout n weights (no_matrix are.layout i j out) (unlisted are.layout n) i j other)
 
-    either : (i j : ℕ) → IsNode n i → IsNode n j → costs i j ≡ listed_cost are.layout n are.weights i j
+    either : (i j : ℕ) → IsNode n i → IsNode n j → costs i j ≡ listed_cost are.layout n weights i j
     either i j row column = by_test (is_listed are.layout (i, j)) refl (eqb_tells i j)
       where
-        by_test : (b : Bool) → is_listed are.layout (i, j) ≡ b → ((eqb i j ≡ true) × (i ≡ j)) ⊎ ((eqb i j ≡ false) × (i ≢ j)) → costs i j ≡ listed_cost are.layout n are.weights i j
+        by_test : (b : Bool) → is_listed are.layout (i, j) ≡ b → ((eqb i j ≡ true) × (i ≡ j)) ⊎ ((eqb i j ≡ false) × (i ≢ j)) → costs i j ≡ listed_cost are.layout n weights i j
         by_test true is tells = at_cell i j row column is
         by_test false is (inl same) = on_diagonal i j row same.1 is
         by_test false is (inr other) = in_other_half i j row column other.1 is
 
 same_distances : (f : Fields) (n : ℕ) (costs : ℕ → ℕ → ℤ) → AreUnique → CostsAreDistances f n costs → HaveSameCosts n costs (cost f)
 same_distances f n costs unique are i j row column =
-    let a : Point = get_or are.points (i - 1) origin in
-    let b : Point = get_or are.points (j - 1) origin in
-    let here : i - 1 < length are.points = omega (arith, are.each_node, row.0, row.1) in
-    let there : j - 1 < length are.points = omega (arith, are.each_node, column.0, column.1) in
-    let first : slice_get are.points (i - 1) ≡ Some a = slice_get-get_or are.points (i - 1) origin here in
-    let second : slice_get are.points (j - 1) ≡ Some b = slice_get-get_or are.points (j - 1) origin there in
-    let found = are.distance i j a b row column first second in
+    let found = are.costs i j row column in
     let by : IsDistanceBy are.kind (point_of (unwrap_or f.coords []) i) (point_of (unwrap_or f.coords []) j) found.0 =
-    subst (λ p. IsDistanceBy are.kind (point_of (unwrap_or f.coords []) i) p found.0) (sym (point_is f are.points j b are.section second))
-    (subst (λ p. IsDistanceBy are.kind p b found.0) (sym (point_is f are.points i a are.section first)) found.2) in
+    subst (λ p. IsDistanceBy are.kind (point_of (unwrap_or f.coords []) i) p found.0) (sym (point_is j column))
+    (subst (λ p. IsDistanceBy are.kind p (are.point j) found.0) (sym (point_is i row)) found.2) in
     found.1 ∙ sym (unique f are.kind i j found.0 are.weight_type by)
+  where
+    point_is : (i : ℕ) → IsNode n i → point_of (unwrap_or f.coords []) i ≡ are.point i
+    point_is i node = ap (λ o. point_of (unwrap_or o []) i) are.points ∙ at_node origin are.point n i node
 
 same_costs : (f : Fields) (n : ℕ) (costs : ℕ → ℕ → ℤ) → AreUnique → f.dimension ≡ Some n → CostsAreListed f n costs ⊎ CostsAreDistances f n costs → HaveSameCosts n costs (cost f)
 same_costs f n costs unique dimension (inl are) = same_listed f n costs dimension are
@@ -267,6 +280,6 @@ one_routing unique f problem is = record {
   nodes = value f.dimension 0 problem.nodes is.nodes;
   costs = same_costs f problem.nodes problem.cost unique is.nodes is.costs;
   depot = ap (λ o. slice_index (unwrap_or o []) 0) (sym is.depot);
-  demands = value f.demands [] problem.demands is.demands;
+  demands = λ i node. sym (ap (λ o. demand_of (unwrap_or o []) i) is.demands ∙ at_node (pos 0) problem.demand problem.nodes i node);
   capacity = value f.capacity (pos 0) problem.capacity is.capacity;
 }

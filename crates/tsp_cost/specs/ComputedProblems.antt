@@ -5,7 +5,7 @@ use Rattle.tsp_format.specs.declared.kinds.Kind.TheVariants.{Tsp, Atsp, Cvrp, To
 use Rattle.tsp_draft.specs.Fields.{Fields, nodes_of}
 use Rattle.tsp_file.specs.Cost.{cost}
 use Rattle.tsp_file.specs.Defaults.{fixed_of}
-use Rattle.tsp_theory.specs.Routing.{RoutingProblem, IsPlan}
+use Rattle.tsp_theory.specs.Routing.{RoutingProblem, demand_of, IsPlan}
 use Rattle.tsp_theory.specs.Tour.{Problem, IsTour}
 
 -- whether pairs have a direction
@@ -40,7 +40,13 @@ abbrev pub depot_of : Fields → ℕ
 depot_of f = slice_index (depots_of f) 0
 
 abbrev pub routing_of : Fields → RoutingProblem
-routing_of f = record { nodes = nodes_of f; cost = cost f; depot = depot_of f; demands = demands_of f; capacity = capacity_of f }
+routing_of f = record {
+  nodes = nodes_of f;
+  cost = cost f;
+  depot = depot_of f;
+  demand = demand_of (demands_of f);
+  capacity = capacity_of f;
+}
 
 abbrev pub IsPlanOf : Fields → List (List ℕ) → Type 0
 IsPlanOf f routes = IsPlan (routing_of f) routes

@@ -27,5 +27,5 @@ pub record AreSameRouting (a b : RoutingProblem) : Type 0 where
   pub nodes : a.nodes ≡ b.nodes
   pub costs : HaveSameCosts a.nodes a.cost b.cost
   pub depot : a.depot ≡ b.depot
-  pub demands : a.demands ≡ b.demands
+  pub demands : (i : ℕ) → IsNode a.nodes i → a.demand i ≡ b.demand i
   pub capacity : a.capacity ≡ b.capacity

@@ -127,7 +127,7 @@ diagonal_listed LowerDiagCol i e = le-leb i i (omega arith)
 -- ---- costs that the layout holds
 
 -- the weight at the place of a cell
-laid_at : (to : Layout) (n : ℕ) (cost : ℕ → ℕ → ℤ) (i j place : ℕ) → place_of to n (i, j) ≡ Some place
+pub laid_at : (to : Layout) (n : ℕ) (cost : ℕ → ℕ → ℤ) (i j place : ℕ) → place_of to n (i, j) ≡ Some place
     → place < length (cells to n) → get_or (costs_in to n cost) place (pos 0) ≡ cost i j
 laid_at to n cost i j place here inside =
     get_or-map (λ cell. cost cell.0 cell.1) (cells to n) place (i, j) (pos 0) inside ∙ ap (λ cell. cost cell.0 cell.1) (stands_at to n place (i, j) here (i, j))

@@ -2,7 +2,7 @@
 use Rattle.std.specs.Prelude.{ℕ, ◌+◌, ◌*◌, max}
 use Rattle.tsp_distance.specs.declared.decimal.Point.{Point}
 use Rattle.tsp_distance.specs.Decimal.{unit}
-use Rattle.tsp_distance.specs.Distances.{squared, across, along, above, square_apart, square_apart_in_space, IsNearestRoot, IsNearestWhole, IsFirstEnough}
+use Rattle.tsp_distance.specs.Distances.{squared, across, along, above, square_apart, IsNearestRoot, IsNearestWhole, IsFirstEnough}
 use Rattle.tsp_format.specs.declared.kinds.WeightKind.{WeightKind}
 use Rattle.tsp_format.specs.declared.kinds.WeightKind.TheVariants.{Explicit, Euc2d, Ceil2d, Man2d, Max2d, Att, Euc3d, Man3d, Max3d}
 
@@ -14,7 +14,7 @@ IsDistanceBy Ceil2d a b k = IsFirstEnough (square_apart a b) (λ j. squared (j *
 IsDistanceBy Man2d a b k = IsNearestWhole (across a b + along a b) k
 IsDistanceBy Max2d a b k = IsNearestWhole (max (across a b) (along a b)) k
 IsDistanceBy Att a b k = IsFirstEnough (square_apart a b) (λ j. 10 * squared (j * unit)) k
-IsDistanceBy Euc3d a b k = IsNearestRoot (square_apart_in_space a b) k
+IsDistanceBy Euc3d a b k = IsNearestRoot (square_apart a b + squared (above a b)) k
 IsDistanceBy Man3d a b k = IsNearestWhole (across a b + along a b + above a b) k
 IsDistanceBy Max3d a b k = IsNearestWhole (max (max (across a b) (along a b)) (above a b)) k
 IsDistanceBy Explicit a b k = ⊥

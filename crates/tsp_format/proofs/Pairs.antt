@@ -8,7 +8,7 @@ use Rattle.std.proofs.lemmas.List.Elements.{All-nil, All-head, All-tail, All-app
 use Rattle.std.proofs.lemmas.List.Kept.{AllPairs-cons, AllPairs-filter}
 use Rattle.tsp_format.specs.declared.layout.Layout.{Layout}
 use Rattle.tsp_format.specs.Nodes.{nodes_to, IsNode}
-use Rattle.tsp_format.specs.Cells.{row, column, pairs_by_rows, pairs_by_columns, is_listed, goes_by_columns, cells}
+use Rattle.tsp_format.specs.Cells.{is_listed, goes_by_columns, cells}
 
 -- ---- what a list contains
 
@@ -71,22 +71,29 @@ node_stands n i h =
 abbrev IsPair : ℕ → ℕ × ℕ → Type 0
 IsPair n c = IsNode n c.0 × IsNode n c.1
 
+-- all pairs, by columns or by rows
+abbrev line : Bool → ℕ → ℕ → List (ℕ × ℕ)
+line order n k = map (λ m. if order then (m, k) else (k, m)) (nodes_to n)
+
 abbrev pairs : Bool → ℕ → List (ℕ × ℕ)
-pairs order n = if order then pairs_by_columns n else pairs_by_rows n
+pairs order n = flat_map (line order n) (nodes_to n)
 
 all_pairs : (order : Bool) (n : ℕ) → All (IsPair n) (pairs order n)
-all_pairs true n =
-    All-flat_map (IsPair n) (IsNode n) (column n) (λ j hj. All-map (IsPair n) (λ i. (i, j)) (nodes_to n) (λ k d lt. (all_nodes n k d lt, hj))) (nodes_to n) (all_nodes n)
-all_pairs false n =
-    All-flat_map (IsPair n) (IsNode n) (row n) (λ i hi. All-map (IsPair n) (λ j. (i, j)) (nodes_to n) (λ k d lt. (hi, all_nodes n k d lt))) (nodes_to n) (all_nodes n)
+all_pairs order n = All-flat_map (IsPair n) (IsNode n) (line order n) (each order) (nodes_to n) (all_nodes n)
+  where
+    each : (by_columns : Bool) (k : ℕ) → IsNode n k → All (IsPair n) (line by_columns n k)
+    each true k node = All-map (IsPair n) (λ m. (m, k)) (nodes_to n) (λ i d lt. (all_nodes n i d lt, node))
+    each false k node = All-map (IsPair n) (λ m. (k, m)) (nodes_to n) (λ i d lt. (node, all_nodes n i d lt))
 
 pair_stands : (order : Bool) (n i j : ℕ) → IsNode n i → IsNode n j → Contains (pairs order n) (i, j)
 pair_stands true n i j hi hj =
     let stands = node_stands n j hj in
-    joined_at (column n) (nodes_to n) j (i, j) stands.0 (Contains-map (λ m. (m, j)) (nodes_to n) i (node_stands n i hi)) stands.1 stands.2
+    let inside = Contains-map (λ m. (m, j)) (nodes_to n) i (node_stands n i hi) in
+    joined_at (line true n) (nodes_to n) j (i, j) stands.0 inside stands.1 stands.2
 pair_stands false n i j hi hj =
     let stands = node_stands n i hi in
-    joined_at (row n) (nodes_to n) i (i, j) stands.0 (Contains-map (λ m. (i, m)) (nodes_to n) j (node_stands n j hj)) stands.1 stands.2
+    let inside = Contains-map (λ m. (i, m)) (nodes_to n) j (node_stands n j hj) in
+    joined_at (line false n) (nodes_to n) i (i, j) stands.0 inside stands.1 stands.2
 
 pub cell_is : (layout : Layout) (n i j : ℕ)
     → Contains (cells layout n) (i, j) ↔ (IsNode n i × IsNode n j × IsTrue (is_listed layout (i, j)))

@@ -6,20 +6,6 @@ use Rattle.tsp_format.specs.Nodes.{nodes_to}
 use Rattle.tsp_format.specs.declared.layout.Layout.{Layout}
 use Rattle.tsp_format.specs.declared.layout.Layout.TheVariants.{FullMatrix, UpperRow, LowerRow, UpperDiagRow, LowerDiagRow, UpperCol, LowerCol, UpperDiagCol, LowerDiagCol}
 
--- the pairs of row i, and those of column j
-abbrev pub row : ℕ → ℕ → List (ℕ × ℕ)
-row n i = map (λ j. (i, j)) (nodes_to n)
-
-abbrev pub column : ℕ → ℕ → List (ℕ × ℕ)
-column n j = map (λ i. (i, j)) (nodes_to n)
-
--- all pairs by i, then j; and by j, then i
-abbrev pub pairs_by_rows : ℕ → List (ℕ × ℕ)
-pairs_by_rows n = flat_map (row n) (nodes_to n)
-
-abbrev pub pairs_by_columns : ℕ → List (ℕ × ℕ)
-pairs_by_columns n = flat_map (column n) (nodes_to n)
-
 -- whether the layout lists the pair: all pairs, i < j, i > j, i <= j or i >= j
 abbrev pub is_listed : Layout → ℕ × ℕ → Bool
 is_listed FullMatrix (i, j) = true
@@ -34,23 +20,23 @@ is_listed LowerDiagCol (i, j) = nat_le j i
 
 -- whether the cells are listed by columns; else they are by rows
 abbrev pub goes_by_columns : Layout → Bool
-goes_by_columns FullMatrix = false
-goes_by_columns UpperRow = false
-goes_by_columns LowerRow = false
-goes_by_columns UpperDiagRow = false
-goes_by_columns LowerDiagRow = false
 goes_by_columns UpperCol = true
 goes_by_columns LowerCol = true
 goes_by_columns UpperDiagCol = true
 goes_by_columns LowerDiagCol = true
+goes_by_columns layout = false
 
--- the cells of a matrix over the nodes 1..n
+-- the pairs of row k, or of column k for a layout by columns
+abbrev pub pairs_of_line : Layout → ℕ → ℕ → List (ℕ × ℕ)
+pairs_of_line layout n k = map (λ m. if goes_by_columns layout then (m, k) else (k, m)) (nodes_to n)
+
+-- the cells of a matrix over the nodes 1..n, line by line
 unfoldable pub cells : Layout → ℕ → List (ℕ × ℕ)
-cells layout n = filter (is_listed layout) (if goes_by_columns layout then pairs_by_columns n else pairs_by_rows n)
+cells layout n = filter (is_listed layout) (flat_map (pairs_of_line layout n) (nodes_to n))
 
--- the cells of row k, or of column k for a layout by columns
+-- those of one line
 unfoldable pub cells_of_line : Layout → ℕ → ℕ → List (ℕ × ℕ)
-cells_of_line layout n k = filter (is_listed layout) (if goes_by_columns layout then column n k else row n k)
+cells_of_line layout n k = filter (is_listed layout) (pairs_of_line layout n k)
 
 -- The tables: how many cells there are, and how many of them line k has, for k in 1..n.
 abbrev pub cell_count_of : Layout → ℕ → ℕ

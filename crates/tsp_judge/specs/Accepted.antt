@@ -4,8 +4,8 @@ use Rattle.tsp_format.specs.declared.kinds.Kind.{Kind}
 use Rattle.tsp_format.specs.declared.kinds.Kind.TheVariants as kinds
 use Rattle.tsp_format.specs.Nodes.{nodes_to}
 use Rattle.tsp_draft.specs.Fields.{Fields}
-use Rattle.tsp_theory.specs.Length.{length_of}
-use Rattle.tsp_theory.specs.Routing.{RoutingProblem, IsPlan, plan_length, load_of, IsLeastRoutes}
+use Rattle.tsp_theory.specs.Length.{sum_int_by, length_of}
+use Rattle.tsp_theory.specs.Routing.{RoutingProblem, IsPlan, plan_length, IsLeastRoutes}
 use Rattle.tsp_theory.specs.Tour.{Problem, IsTour, BoundsTours, HasNoTour}
 use Rattle.tsp_cost.specs.Problems.{IsProblemOf, IsRoutingOf}
 use Rattle.tsp_reason.specs.declared.certificate.Certificate.{Certificate}
@@ -42,7 +42,7 @@ pub record AreAcceptedRoutes (claimed : Option ℤ) (instance solution : Fields)
   pub all : solution.tours ≡ Some routes
   pub is_plan : IsPlan problem routes
   pub least : ℕ
-  pub least_is : IsLeastRoutes (load_of problem.demands (nodes_to problem.nodes)) problem.capacity least
+  pub least_is : IsLeastRoutes (sum_int_by problem.demand (nodes_to problem.nodes)) problem.capacity least
   pub none_fewer : (other : List (List ℕ)) → IsPlan problem other → least ≤ length other
   pub as_claimed : (claim : ℤ) → claimed ≡ Some claim → claim ≡ plan_length problem.cost problem.depot routes
   pub printed : report ≡ report_of instance (Routes (plan_length problem.cost problem.depot routes) (length routes) least)

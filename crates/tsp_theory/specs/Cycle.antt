@@ -1,5 +1,5 @@
 -- Cycles, and what comes next on them.
-use Rattle.std.specs.Prelude.{◌≡◌, ◌≢◌, ℕ, List, [], ◌∷◌, length, ◌⊎◌}
+use Rattle.std.specs.Prelude.{◌≡◌, ◌≢◌, ℕ, Bool, true, false, List, [], ◌∷◌, length, ◌⊎◌}
 use Rattle.std.specs.List.{All, AllPairs, Contains}
 use Rattle.tsp_format.specs.Nodes.{IsNode}
 
@@ -19,9 +19,14 @@ abbrev pub links : List ℕ → List (ℕ × ℕ)
 links [] = []
 links (first ∷ nodes) = links_to first first nodes
 
--- b comes next after a; one of the two comes next after the other
+-- a list of nodes uses a pair: from the first to the second, or in either direction
+abbrev pub Uses : Bool → List ℕ → ℕ × ℕ → Type 0
+Uses true nodes (a, b) = Contains (links nodes) (a, b)
+Uses false nodes (a, b) = Contains (links nodes) (a, b) ⊎ Contains (links nodes) (b, a)
+
+-- the second comes next after the first; one of the two comes next after the other
 abbrev pub Follows : List ℕ → ℕ × ℕ → Type 0
-Follows nodes (a, b) = Contains (links nodes) (a, b)
+Follows nodes pair = Uses true nodes pair
 
 abbrev pub AreNeighbours : List ℕ → ℕ × ℕ → Type 0
-AreNeighbours nodes (a, b) = Follows nodes (a, b) ⊎ Follows nodes (b, a)
+AreNeighbours nodes pair = Uses false nodes pair

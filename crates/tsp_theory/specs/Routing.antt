@@ -11,16 +11,8 @@ pub record RoutingProblem : Type 0 where
   pub nodes : ℕ
   pub cost : ℕ → ℕ → ℤ
   pub depot : ℕ
-  pub demands : List ℤ
+  pub demand : ℕ → ℤ
   pub capacity : ℤ
-
--- the demand of a node
-abbrev pub demand_of : List ℤ → ℕ → ℤ
-demand_of demands node = slice_index_or demands (node - 1) (pos 0)
-
--- the sum of the demands of a list of nodes
-abbrev pub load_of : List ℤ → List ℕ → ℤ
-load_of demands nodes = sum_int_by (demand_of demands) nodes
 
 -- a node of 1..n other than the depot
 abbrev pub IsCustomer : ℕ → ℕ → ℕ → Type 0
@@ -31,7 +23,7 @@ pub record IsPlan (problem : RoutingProblem) (routes : List (List ℕ)) : Type 0
   pub customers : All (IsCustomer problem.nodes problem.depot) (concat routes)
   pub once : AllPairs (λ a b. a ≢ b) (concat routes)
   pub served : (node : ℕ) → IsCustomer problem.nodes problem.depot node → Contains (concat routes) node
-  pub within : All (λ route. load_of problem.demands route ≤ℤ problem.capacity) routes
+  pub within : All (λ route. sum_int_by problem.demand route ≤ℤ problem.capacity) routes
 
 -- the length of routes: each goes from the depot through its nodes and back
 abbrev pub plan_length : (ℕ → ℕ → ℤ) → ℕ → List (List ℕ) → ℤ
@@ -41,3 +33,13 @@ plan_length cost depot routes = sum_int_by (λ route. length_of cost (depot ∷ 
 pub record IsLeastRoutes (total capacity : ℤ) (least : ℕ) : Type 0 where
   pub enough : total ≤ℤ (pos least *ℤ capacity)
   pub none_less : (count : ℕ) → total ≤ℤ (pos count *ℤ capacity) → least ≤ count
+
+-- ---- demands as a list
+
+-- the demand of a node
+abbrev pub demand_of : List ℤ → ℕ → ℤ
+demand_of demands node = slice_index_or demands (node - 1) (pos 0)
+
+-- the sum of the demands of a list of nodes
+abbrev pub load_of : List ℤ → List ℕ → ℤ
+load_of demands nodes = sum_int_by (demand_of demands) nodes

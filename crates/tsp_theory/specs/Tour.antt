@@ -1,8 +1,8 @@
 -- Travelling salesman problems, their tours, and bounds on the lengths of these. Source: TSPLIB 95 (G. Reinelt),
 -- FIXED_EDGES_SECTION.
-use Rattle.std.specs.Prelude.{ℕ, Bool, true, false, List, ℤ, ◌≤ℤ◌}
+use Rattle.std.specs.Prelude.{ℕ, Bool, List, ℤ, ◌≤ℤ◌}
 use Rattle.std.specs.List.{All}
-use Rattle.tsp_theory.specs.Cycle.{IsCycle, Follows, AreNeighbours}
+use Rattle.tsp_theory.specs.Cycle.{IsCycle, Uses}
 use Rattle.tsp_theory.specs.Length.{length_of}
 
 -- The nodes are 1 to `nodes`, `cost i j` is the cost from i to j, and every tour uses the fixed pairs. These have a direction if
@@ -12,11 +12,6 @@ pub record Problem : Type 0 where
   pub directed : Bool
   pub cost : ℕ → ℕ → ℤ
   pub fixed : List (ℕ × ℕ)
-
--- a list of nodes uses a pair: from the first to the second, or in either direction
-abbrev pub Uses : Bool → List ℕ → ℕ × ℕ → Type 0
-Uses true nodes pair = Follows nodes pair
-Uses false nodes pair = AreNeighbours nodes pair
 
 -- a tour of a problem is a cycle of its nodes that uses every fixed pair
 pub record IsTour (problem : Problem) (tour : List ℕ) : Type 0 where

@@ -7,10 +7,9 @@ use Rattle.tsp_draft.specs.Fields.{Fields, nodes_of}
 use Rattle.tsp_file.specs.Cost.{cost}
 use Rattle.tsp_theory.specs.Costs.{IsSymmetric}
 use Rattle.tsp_theory.specs.Length.{length_of}
-use Rattle.tsp_theory.specs.Tour.{Uses}
 use Rattle.tsp_cost.specs.ComputedProblems.{is_directed}
 use Rattle.tsp_cost.specs.states.Views.{HasCosts}
-use Rattle.tsp_theory.specs.Cycle.{IsCycle, AreNeighbours}
+use Rattle.tsp_theory.specs.Cycle.{IsCycle, AreNeighbours, Uses}
 use Rattle.tsp_format.specs.declared.kinds.Kind.TheVariants as kinds
 use Rattle.tsp_theory.specs.CertificateNumbers.{IsScale, entry, IsBoundSized}
 use Rattle.tsp_theory.specs.Tree.{weight_of, IsLeastOneTree}

@@ -2,7 +2,7 @@
 use Rattle.std.proofs.Common.{◌≡◌, ◌≢◌, ℕ, ◌≤◌, Bool, true, false, eqb, List, get_or, sym, ◌∙◌, inl, inr}
 use Rattle.std.specs.Prelude.{MatchBool}
 use Rattle.std.proofs.lemmas.Bool.{eqb-true, eq-eqb, false≢true}
-use Rattle.tsp_theory.specs.Tour.{Uses}
+use Rattle.tsp_theory.specs.Cycle.{Uses}
 use Rattle.tsp_verdict.specs.states.Next.{AreNext}
 
 pub uses_next : (directed : Bool) (cycle next : List ℕ) (pair : ℕ × ℕ) → AreNext cycle next → 1 ≤ pair.1

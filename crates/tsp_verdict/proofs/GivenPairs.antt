@@ -9,7 +9,7 @@ use Rattle.std.proofs.lemmas.List.Elements.{All-from_recursion, recursion_from_A
 use Rattle.std.proofs.lemmas.List.Folds.{list_any-append}
 use Rattle.std.proofs.lemmas.List.Kept.{AllPairs-cons}
 use Rattle.tsp_draft.specs.Valid.{IsPairOf}
-use Rattle.tsp_theory.specs.Tour.{Uses}
+use Rattle.tsp_theory.specs.Cycle.{Uses}
 use Rattle.tsp_branch.specs.states.Decided.{IsDecision}
 use Rattle.tsp_branch.specs.declared.decision.Decision.{Decision}
 use Rattle.tsp_branch.specs.Decisions.{KeepsAll, KeepsDecision, DecideOnce, take_pairs, is_same}

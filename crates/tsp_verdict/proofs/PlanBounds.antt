@@ -12,7 +12,7 @@ use Rattle.std.proofs.lemmas.List.Sorted.{IsPermutation-remove, Contains-permuta
 use Rattle.std.proofs.Math.IntN.{suc_ℤ-*ℤ, zero-*ℤ}
 use Rattle.tsp_format.specs.Nodes.{nodes_to}
 use Rattle.tsp_theory.specs.Length.{sum_int_by}
-use Rattle.tsp_theory.specs.Routing.{RoutingProblem, demand_of, load_of, IsPlan, IsLeastRoutes}
+use Rattle.tsp_theory.specs.Routing.{RoutingProblem, demand_of, IsPlan, IsLeastRoutes}
 
 -- ---- sums
 
@@ -21,13 +21,13 @@ sum_append f [] ys = omega (arith, ints)
 sum_append f (x ∷ xs) ys = let tail = sum_append f xs ys in omega (arith, ints)
 
 -- what the routes carry is at most as many times the capacity
-carried : (demands : List ℤ) (capacity : ℤ) (routes : List (List ℕ))
-    → AllByRecursion (λ route. load_of demands route ≤ℤ capacity) routes
-    → load_of demands (concat routes) ≤ℤ (pos (length routes) *ℤ capacity)
-carried demands capacity [] within = let none = zero-*ℤ capacity in omega (arith, ints, none)
-carried demands capacity (route ∷ routes) within =
-    let tail = carried demands capacity routes within.1 in
-    let both = sum_append (demand_of demands) route (concat routes) in
+carried : (demand : ℕ → ℤ) (capacity : ℤ) (routes : List (List ℕ))
+    → AllByRecursion (λ route. sum_int_by demand route ≤ℤ capacity) routes
+    → sum_int_by demand (concat routes) ≤ℤ (pos (length routes) *ℤ capacity)
+carried demand capacity [] within = let none = zero-*ℤ capacity in omega (arith, ints, none)
+carried demand capacity (route ∷ routes) within =
+    let tail = carried demand capacity routes within.1 in
+    let both = sum_append demand route (concat routes) in
     let times = suc_ℤ-*ℤ (pos (length routes)) capacity in
     omega (arith, ints, tail, both, times, within.0)
 
@@ -75,18 +75,18 @@ demand_low demands low node = at_index (node - 1) (cases_lt (node - 1) (length d
     at_index k (inr le) = rw (get_or_past demands k (pos 0) le) (omega (arith, ints))
 
 -- a plan carries all demands
-plan_carries : (problem : RoutingProblem) (routes : List (List ℕ)) → ((node : ℕ) → pos 0 ≤ℤ demand_of problem.demands node)
-    → demand_of problem.demands problem.depot ≡ pos 0 → IsPlan problem routes
-    → load_of problem.demands (nodes_to problem.nodes) ≤ℤ (pos (length routes) *ℤ problem.capacity)
+plan_carries : (problem : RoutingProblem) (routes : List (List ℕ)) → ((node : ℕ) → pos 0 ≤ℤ problem.demand node)
+    → problem.demand problem.depot ≡ pos 0 → IsPlan problem routes
+    → sum_int_by problem.demand (nodes_to problem.nodes) ≤ℤ (pos (length routes) *ℤ problem.capacity)
 unfolding nodes_to
 plan_carries problem routes low none plan =
     let n : ℕ = problem.nodes in
     let depot : ℕ = problem.depot in
-    let demands : List ℤ = problem.demands in
+    let demand : ℕ → ℤ = problem.demand in
     let capacity : ℤ = problem.capacity in
-    let all : load_of demands (range_with_len 1 n) ≤ℤ load_of demands (depot ∷ concat routes) =
-    run_sum (demand_of demands) low n 1 (depot ∷ concat routes) (λ v above below. there v above below (eqb_tells v depot)) in
-    let held = carried demands capacity routes (recursion_from_All (λ route. load_of demands route ≤ℤ capacity) routes plan.within) in
+    let all : sum_int_by demand (range_with_len 1 n) ≤ℤ sum_int_by demand (depot ∷ concat routes) =
+    run_sum demand low n 1 (depot ∷ concat routes) (λ v above below. there v above below (eqb_tells v depot)) in
+    let held = carried demand capacity routes (recursion_from_All (λ route. sum_int_by demand route ≤ℤ capacity) routes plan.within) in
     omega (arith, ints, all, held, none)
   where
     there : (v : ℕ) → 1 ≤ v → v < 1 + problem.nodes → ((eqb v problem.depot ≡ true) × (v ≡ problem.depot)) ⊎ ((eqb v problem.depot ≡ false) × (v ≢ problem.depot))
@@ -96,8 +96,8 @@ plan_carries problem routes low none plan =
         let found = plan.served v ((above, omega (arith, below)), other.1) in
         (suc found.0, omega (arith, found.1), found.2)
 
-pub none_fewer : (problem : RoutingProblem) (least : ℕ) → ((node : ℕ) → pos 0 ≤ℤ demand_of problem.demands node)
-    → demand_of problem.demands problem.depot ≡ pos 0
-    → IsLeastRoutes (load_of problem.demands (nodes_to problem.nodes)) problem.capacity least → (routes : List (List ℕ))
+pub none_fewer : (problem : RoutingProblem) (least : ℕ) → ((node : ℕ) → pos 0 ≤ℤ problem.demand node)
+    → problem.demand problem.depot ≡ pos 0
+    → IsLeastRoutes (sum_int_by problem.demand (nodes_to problem.nodes)) problem.capacity least → (routes : List (List ℕ))
     → IsPlan problem routes → least ≤ length routes
 none_fewer problem least low none is routes plan = is.none_less (length routes) (plan_carries problem routes low none plan)

@@ -7,9 +7,8 @@ use Rattle.std.proofs.lemmas.List.{append-nil}
 use Rattle.tsp_draft.specs.Fields.{Fields, nodes_of}
 use Rattle.tsp_file.specs.Cost.{cost}
 use Rattle.tsp_theory.specs.Length.{length_of}
-use Rattle.tsp_theory.specs.Tour.{Uses}
 use Rattle.tsp_cost.specs.ComputedProblems.{is_directed, IsTourOf}
-use Rattle.tsp_theory.specs.Cycle.{IsCycle}
+use Rattle.tsp_theory.specs.Cycle.{IsCycle, Uses}
 use Rattle.tsp_reason.specs.declared.verdict.Reason.{Reason}
 use Rattle.tsp_reason.specs.declared.verdict.Reason.TheVariants.{NodeOutOfRange, RepeatedNode, FixedEdgeUnused}
 use Rattle.tsp_verdict.specs.Places.{IsFirstPlace, HoldsAtNone, IsLarger, IsAtEarlierPlace, IsUnused}

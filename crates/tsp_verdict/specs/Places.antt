@@ -1,6 +1,6 @@
 -- Places of a list, which count from 1.
 use Rattle.std.specs.Prelude.{◌≡◌, ℕ, ◌-◌, ◌<◌, ◌≤◌, Bool, List, length, slice_index, slice_index_or}
-use Rattle.tsp_theory.specs.Tour.{Uses}
+use Rattle.tsp_theory.specs.Cycle.{Uses}
 
 -- the node at a place of a list of nodes
 abbrev pub node_at : List ℕ → ℕ → ℕ

@@ -3,8 +3,7 @@
 ghost use Rattle.std.specs.Prelude.{◌≡◌, ◌+◌, ◌-◌, ◌^◌, ◌<◌, ◌≤◌, ℕ, List, length, vec_len, slice_index_or, IfOk, MatchOption, MatchBool};
 ghost use Rattle.std.specs.List.{All};
 ghost use Rattle.tsp_draft.specs.Valid.{IsPairOf};
-ghost use Rattle.tsp_theory.specs.Tour.{Uses};
-ghost use Rattle.tsp_theory.specs.Cycle.{IsCycle};
+ghost use Rattle.tsp_theory.specs.Cycle.{IsCycle, Uses};
 ghost use Rattle.tsp_verdict.specs.Places.{IsFirstPlace, IsUnused};
 ghost use Rattle.tsp_verdict.specs.states.Next.{AreNext};
 

@@ -1,7 +1,7 @@
 -- The loop of `first_unused` in src/fixed.rt.
 use Rattle.std.proofs.Common.{◌≡◌, ◌<◌, ℕ, List}
 use Rattle.std.specs.Prelude.{slice_index_or}
-use Rattle.tsp_theory.specs.Tour.{Uses}
+use Rattle.tsp_theory.specs.Cycle.{Uses}
 use Rattle.tsp_verdict.specs.states.Next.{AreNext}
 use Rattle.tsp_verdict.proofs.fixed.first_unused.Given as goal
 
