@@ -13,19 +13,28 @@ use Rattle.tsp_file.specs.Cost.{distance}
 whole-le : (m n : ℕ) → m ≤ n → pos m ≤ℤ pos n
 whole-le m n le = omega (arith, ints, le)
 
-pub distance_grows : IsMonotone euc_2d_of → IsMonotone ceil_2d_of → IsMonotone man_2d_of → IsMonotone max_2d_of → IsMonotone att_of
+pub distance_grows : IsMonotone euc_2d_of → IsMonotone ceil_2d_of → IsMonotone man_2d_of → IsMonotone max_2d_of
+    → IsMonotone att_of
     → IsMonotone euc_3d_of → IsMonotone man_3d_of → IsMonotone max_3d_of
-    → (kind : WeightKind) (a b c d : Point) → across a b ≤ across c d → along a b ≤ along c d → above a b ≤ above c d → distance kind a b ≤ℤ distance kind c d
+    → (kind : WeightKind) (a b c d : Point) → across a b ≤ across c d → along a b ≤ along c d → above a b ≤ above c d
+    → distance kind a b ≤ℤ distance kind c d
 unfolding distance
 distance_grows euc ceil man max att euc' man' max' Explicit a b c d x y z = whole-le 0 0 (omega arith)
-distance_grows euc ceil man max att euc' man' max' Euc2d a b c d x y z = whole-le (euc_2d_of a b) (euc_2d_of c d) (euc a b c d x y z)
-distance_grows euc ceil man max att euc' man' max' Ceil2d a b c d x y z = whole-le (ceil_2d_of a b) (ceil_2d_of c d) (ceil a b c d x y z)
-distance_grows euc ceil man max att euc' man' max' Man2d a b c d x y z = whole-le (man_2d_of a b) (man_2d_of c d) (man a b c d x y z)
-distance_grows euc ceil man max att euc' man' max' Max2d a b c d x y z = whole-le (max_2d_of a b) (max_2d_of c d) (max a b c d x y z)
+distance_grows euc ceil man max att euc' man' max' Euc2d a b c d x y z =
+    whole-le (euc_2d_of a b) (euc_2d_of c d) (euc a b c d x y z)
+distance_grows euc ceil man max att euc' man' max' Ceil2d a b c d x y z =
+    whole-le (ceil_2d_of a b) (ceil_2d_of c d) (ceil a b c d x y z)
+distance_grows euc ceil man max att euc' man' max' Man2d a b c d x y z =
+    whole-le (man_2d_of a b) (man_2d_of c d) (man a b c d x y z)
+distance_grows euc ceil man max att euc' man' max' Max2d a b c d x y z =
+    whole-le (max_2d_of a b) (max_2d_of c d) (max a b c d x y z)
 distance_grows euc ceil man max att euc' man' max' Att a b c d x y z = whole-le (att_of a b) (att_of c d) (att a b c d x y z)
-distance_grows euc ceil man max att euc' man' max' Euc3d a b c d x y z = whole-le (euc_3d_of a b) (euc_3d_of c d) (euc' a b c d x y z)
-distance_grows euc ceil man max att euc' man' max' Man3d a b c d x y z = whole-le (man_3d_of a b) (man_3d_of c d) (man' a b c d x y z)
-distance_grows euc ceil man max att euc' man' max' Max3d a b c d x y z = whole-le (max_3d_of a b) (max_3d_of c d) (max' a b c d x y z)
+distance_grows euc ceil man max att euc' man' max' Euc3d a b c d x y z =
+    whole-le (euc_3d_of a b) (euc_3d_of c d) (euc' a b c d x y z)
+distance_grows euc ceil man max att euc' man' max' Man3d a b c d x y z =
+    whole-le (man_3d_of a b) (man_3d_of c d) (man' a b c d x y z)
+distance_grows euc ceil man max att euc' man' max' Max3d a b c d x y z =
+    whole-le (max_3d_of a b) (max_3d_of c d) (max' a b c d x y z)
 
 pub at_least_further : (least near far : ℤ) → least ≤ℤ near → near ≤ℤ far → least ≤ℤ far
 at_least_further least near far h k = omega (arith, ints, h, k)

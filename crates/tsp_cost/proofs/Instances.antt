@@ -10,7 +10,8 @@ use Rattle.tsp_draft.specs.Rules.{is_explicit}
 use Rattle.tsp_file.specs.Cost.{distance, point_of, cost_by, cost}
 
 -- the cost from the coordinates
-by_distance : (kind : WeightKind) (f : Fields) (i j : ℕ) → kind ≢ Explicit → cost_by (Some kind) f i j ≡ distance kind (point_of (unwrap_or f.coords []) i) (point_of (unwrap_or f.coords []) j)
+by_distance : (kind : WeightKind) (f : Fields) (i j : ℕ) → kind ≢ Explicit
+    → cost_by (Some kind) f i j ≡ distance kind (point_of (unwrap_or f.coords []) i) (point_of (unwrap_or f.coords []) j)
 by_distance Explicit f i j other = absurd (other refl)
 by_distance Euc2d f i j other = refl
 by_distance Ceil2d f i j other = refl
@@ -21,7 +22,8 @@ by_distance Euc3d f i j other = refl
 by_distance Man3d f i j other = refl
 by_distance Max3d f i j other = refl
 
-pub cost_of_points : (f : Fields) (kind : WeightKind) (points : List Point) → f.weight_kind ≡ Some kind → kind ≢ Explicit → f.coords ≡ Some points → (i j : ℕ)
+pub cost_of_points : (f : Fields) (kind : WeightKind) (points : List Point) → f.weight_kind ≡ Some kind → kind ≢ Explicit
+    → f.coords ≡ Some points → (i j : ℕ)
     → distance kind (point_of points i) (point_of points j) ≡ cost f i j
 unfolding cost
 cost_of_points f kind points is_kind other stand i j = sym (
@@ -41,5 +43,6 @@ is_listed_kind (Some Euc3d) is = absurd (false≢true is)
 is_listed_kind (Some Man3d) is = absurd (false≢true is)
 is_listed_kind (Some Max3d) is = absurd (false≢true is)
 
-pub distance_kind : (f : Fields) (kind : WeightKind) → is_explicit f.weight_kind ≡ false → f.weight_kind ≡ Some kind → kind ≢ Explicit
+pub distance_kind : (f : Fields) (kind : WeightKind) → is_explicit f.weight_kind ≡ false → f.weight_kind ≡ Some kind
+    → kind ≢ Explicit
 distance_kind f kind other is explicit = false≢true (sym other ∙ ap is_explicit (is ∙ ap (λ k. Some k) explicit))

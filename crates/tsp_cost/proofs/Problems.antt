@@ -89,8 +89,10 @@ at_node d f n i node =
 unlisted : (layout : Layout) (n : ℕ) → UnlistedHaveNoPlace layout n
 unlisted layout n = unlisted_has_no_place cell_is no_place layout n
 
-listed_diagonal : (layout : Layout) (n : ℕ) (weights : List ℤ) (i : ℕ) → is_listed layout (i, i) ≡ false → listed_cost layout n weights i i ≡ pos 0
-listed_diagonal layout n weights i out = cost_unlisted layout n weights i i (unlisted layout n i i out) (unlisted layout n i i out)
+listed_diagonal : (layout : Layout) (n : ℕ) (weights : List ℤ) (i : ℕ) → is_listed layout (i, i) ≡ false
+    → listed_cost layout n weights i i ≡ pos 0
+listed_diagonal layout n weights i out =
+    cost_unlisted layout n weights i i (unlisted layout n i i out) (unlisted layout n i i out)
 
 -- of two different nodes one direction is listed
 by_order : (a b : ℕ) → a ≢ b → nat_lt a b ≡ false → nat_lt b a ≡ true
@@ -134,17 +136,21 @@ listed f range has is =
     let layout : Layout = are.layout in
     let lists_these = lists f layout n weights range are.format dimension section in
     let costs : listed_cost layout n weights ≡ cost f = λ t i j. cost_of_listed f layout n weights kind lists_these i j t in
-    let same : (i j : ℕ) → cost f i j ≡ listed_cost layout n weights i j = λ i j. sym (cost_of_listed f layout n weights kind lists_these i j) in
+    let same : (i j : ℕ) → cost f i j ≡ listed_cost layout n weights i j =
+    λ i j. sym (cost_of_listed f layout n weights kind lists_these i j) in
     record {
       weight_type = kind;
       layout = layout;
       format = are.format;
-      weights = section ∙ ap (λ ws. Some ws) (sym (own_costs layout n weights lists_these.filled)) ∙ ap (λ c. Some (costs_in layout n c)) costs;
-      half = λ i j row column part other. same i j ∙ triangle_even layout n weights part (unlisted layout n) i j other ∙ sym (same j i);
+      weights = section ∙ ap (λ ws. Some ws) (sym (own_costs layout n weights lists_these.filled))
+          ∙ ap (λ c. Some (costs_in layout n c)) costs;
+      half = λ i j row column part other. same i j ∙ triangle_even layout n weights part (unlisted layout n) i j other
+          ∙ sym (same j i);
       diagonal = λ i row out. same i i ∙ listed_diagonal layout n weights i out;
     }
 
-distances : (f : Fields) → AreDefined → AreUnique → IsInRange f → HasInstance f → is_explicit f.weight_kind ≡ false → CostsAreDistances f (nodes_of f) (cost f)
+distances : (f : Fields) → AreDefined → AreUnique → IsInRange f → HasInstance f → is_explicit f.weight_kind ≡ false
+    → CostsAreDistances f (nodes_of f) (cost f)
 distances f defined unique range has not = by_kind f.weight_kind refl
   where
     of_kind : (kind : WeightKind) → f.weight_kind ≡ Some kind → CostsAreDistances f (nodes_of f) (cost f)
@@ -159,7 +165,8 @@ distances f defined unique range has not = by_kind f.weight_kind refl
           point = point_of points;
           points = section ∙ over_nodes origin (nodes_of f) points each;
           costs = λ i j row column.
-              let by : IsDistanceBy kind (point_of points i) (point_of points j) (unsigned_abs (cost f i j)) = defined f kind i j is other in
+              let by : IsDistanceBy kind (point_of points i) (point_of points j) (unsigned_abs (cost f i j)) =
+              defined f kind i j is other in
               (unsigned_abs (cost f i j), unique f kind i j (unsigned_abs (cost f i j)) is by, by);
         }
 
@@ -167,16 +174,19 @@ distances f defined unique range has not = by_kind f.weight_kind refl
     by_kind None is = absurd (false≢true (sym (ap is_some is) ∙ has.weight_kind))
     by_kind (Some kind) is = of_kind kind is
 
-costs_of : (f : Fields) → AreDefined → AreUnique → IsInRange f → HasInstance f → CostsAreListed f (nodes_of f) (cost f) ⊎ CostsAreDistances f (nodes_of f) (cost f)
+costs_of : (f : Fields) → AreDefined → AreUnique → IsInRange f → HasInstance f
+    → CostsAreListed f (nodes_of f) (cost f) ⊎ CostsAreDistances f (nodes_of f) (cost f)
 costs_of f defined unique range has = by_test (is_explicit f.weight_kind) refl
   where
-    by_test : (b : Bool) → is_explicit f.weight_kind ≡ b → CostsAreListed f (nodes_of f) (cost f) ⊎ CostsAreDistances f (nodes_of f) (cost f)
+    by_test : (b : Bool) → is_explicit f.weight_kind ≡ b
+        → CostsAreListed f (nodes_of f) (cost f) ⊎ CostsAreDistances f (nodes_of f) (cost f)
     by_test true is = inl (listed f range has is)
     by_test false is = inr (distances f defined unique range has is)
 
 -- ---- the problem of a valid instance
 
-type_of_tours : (kind : Option Kind) → (kind ≡ Some kinds.Tsp) ⊎ (kind ≡ Some kinds.Atsp) → kind ≡ Some (if is_directed kind then kinds.Atsp else kinds.Tsp)
+type_of_tours : (kind : Option Kind) → (kind ≡ Some kinds.Tsp) ⊎ (kind ≡ Some kinds.Atsp)
+    → kind ≡ Some (if is_directed kind then kinds.Atsp else kinds.Tsp)
 type_of_tours kind (inl tsp) = subst (λ k. k ≡ Some (if is_directed k then kinds.Atsp else kinds.Tsp)) (sym tsp) refl
 type_of_tours kind (inr atsp) = subst (λ k. k ≡ Some (if is_directed k then kinds.Atsp else kinds.Tsp)) (sym atsp) refl
 
@@ -185,7 +195,8 @@ one_depot [] is = absurd (omega (arith, is))
 one_depot (depot ∷ []) is = refl
 one_depot (depot ∷ other ∷ depots) is = absurd (omega (arith, is))
 
-pub some_problem : (f : Fields) → AreDefined → AreUnique → IsInRange f → HasInstance f → (f.kind ≡ Some kinds.Cvrp → HasRouting f) → IsProblem f
+pub some_problem : (f : Fields) → AreDefined → AreUnique → IsInRange f → HasInstance f → (f.kind ≡ Some kinds.Cvrp → HasRouting f)
+    → IsProblem f
 some_problem f defined unique range has routing = record {
   of_tours = λ kind. record {
     type = type_of_tours f.kind kind;
@@ -211,7 +222,8 @@ some_problem f defined unique range has routing = record {
 -- ---- there is no other
 
 -- plan: by the pair: listed (`at_cell`), on a diagonal that isn't listed (`on_diagonal`), or in the other half (`in_other_half`)
-same_listed : (f : Fields) (n : ℕ) (costs : ℕ → ℕ → ℤ) → f.dimension ≡ Some n → CostsAreListed f n costs → HaveSameCosts n costs (cost f)
+same_listed : (f : Fields) (n : ℕ) (costs : ℕ → ℕ → ℤ) → f.dimension ≡ Some n → CostsAreListed f n costs
+    → HaveSameCosts n costs (cost f)
 unfolding cost
 same_listed f n costs dimension are i j row column = either i j row column ∙ sym (
     ap (λ k. cost_by k f i j) are.weight_type
@@ -222,19 +234,22 @@ same_listed f n costs dimension are i j row column = either i j row column ∙ s
     weights : List ℤ
     weights = costs_in are.layout n costs
 
-    at_cell : (i j : ℕ) → IsNode n i → IsNode n j → is_listed are.layout (i, j) ≡ true → costs i j ≡ listed_cost are.layout n weights i j
+    at_cell : (i j : ℕ) → IsNode n i → IsNode n j → is_listed are.layout (i, j) ≡ true
+        → costs i j ≡ listed_cost are.layout n weights i j
     at_cell i j row column in_layout =
         let place : ℕ = place_by_table are.layout n i j in
         let there : place_of are.layout n (i, j) ≡ Some place = placed are.layout n i j row column in_layout in
         let within : place < length (cells are.layout n) = place_within are.layout n i j row column in_layout in
         sym (cost_of_cell are.layout n weights i j place there ∙ laid_at are.layout n costs i j place there within)
 
-    on_diagonal : (i j : ℕ) → IsNode n i → i ≡ j → is_listed are.layout (i, j) ≡ false → costs i j ≡ listed_cost are.layout n weights i j
+    on_diagonal : (i j : ℕ) → IsNode n i → i ≡ j → is_listed are.layout (i, j) ≡ false
+        → costs i j ≡ listed_cost are.layout n weights i j
     on_diagonal i j row same out =
         subst (λ k. is_listed are.layout (i, k) ≡ false → costs i k ≡ listed_cost are.layout n weights i k) same
         (λ none. are.diagonal i row none ∙ sym (listed_diagonal are.layout n weights i none)) out
 
-    in_other_half : (i j : ℕ) → IsNode n i → IsNode n j → i ≢ j → is_listed are.layout (i, j) ≡ false → costs i j ≡ listed_cost are.layout n weights i j
+    in_other_half : (i j : ℕ) → IsNode n i → IsNode n j → i ≢ j → is_listed are.layout (i, j) ≡ false
+        → costs i j ≡ listed_cost are.layout n weights i j
     in_other_half i j row column other out =
         are.half i j row column (no_matrix are.layout i j out) other
         ∙ at_cell j i column row (other_listed are.layout i j other out)
@@ -243,12 +258,14 @@ same_listed f n costs dimension are i j row column = either i j row column ∙ s
     either : (i j : ℕ) → IsNode n i → IsNode n j → costs i j ≡ listed_cost are.layout n weights i j
     either i j row column = by_test (is_listed are.layout (i, j)) refl (eqb_tells i j)
       where
-        by_test : (b : Bool) → is_listed are.layout (i, j) ≡ b → ((eqb i j ≡ true) × (i ≡ j)) ⊎ ((eqb i j ≡ false) × (i ≢ j)) → costs i j ≡ listed_cost are.layout n weights i j
+        by_test : (b : Bool) → is_listed are.layout (i, j) ≡ b → ((eqb i j ≡ true) × (i ≡ j)) ⊎ ((eqb i j ≡ false) × (i ≢ j))
+            → costs i j ≡ listed_cost are.layout n weights i j
         by_test true is tells = at_cell i j row column is
         by_test false is (inl same) = on_diagonal i j row same.1 is
         by_test false is (inr other) = in_other_half i j row column other.1 is
 
-same_distances : (f : Fields) (n : ℕ) (costs : ℕ → ℕ → ℤ) → AreUnique → CostsAreDistances f n costs → HaveSameCosts n costs (cost f)
+same_distances : (f : Fields) (n : ℕ) (costs : ℕ → ℕ → ℤ) → AreUnique → CostsAreDistances f n costs
+    → HaveSameCosts n costs (cost f)
 same_distances f n costs unique are i j row column =
     let found = are.costs i j row column in
     let by : IsDistanceBy are.kind (point_of (unwrap_or f.coords []) i) (point_of (unwrap_or f.coords []) j) found.0 =
@@ -259,11 +276,13 @@ same_distances f n costs unique are i j row column =
     point_is : (i : ℕ) → IsNode n i → point_of (unwrap_or f.coords []) i ≡ are.point i
     point_is i node = ap (λ o. point_of (unwrap_or o []) i) are.points ∙ at_node origin are.point n i node
 
-same_costs : (f : Fields) (n : ℕ) (costs : ℕ → ℕ → ℤ) → AreUnique → f.dimension ≡ Some n → CostsAreListed f n costs ⊎ CostsAreDistances f n costs → HaveSameCosts n costs (cost f)
+same_costs : (f : Fields) (n : ℕ) (costs : ℕ → ℕ → ℤ) → AreUnique → f.dimension ≡ Some n
+    → CostsAreListed f n costs ⊎ CostsAreDistances f n costs → HaveSameCosts n costs (cost f)
 same_costs f n costs unique dimension (inl are) = same_listed f n costs dimension are
 same_costs f n costs unique dimension (inr are) = same_distances f n costs unique are
 
-direction : (directed : Bool) (kind : Option Kind) → kind ≡ Some (if directed then kinds.Atsp else kinds.Tsp) → directed ≡ is_directed kind
+direction : (directed : Bool) (kind : Option Kind) → kind ≡ Some (if directed then kinds.Atsp else kinds.Tsp)
+    → directed ≡ is_directed kind
 direction true kind is = sym (ap is_directed is)
 direction false kind is = sym (ap is_directed is)
 
@@ -275,11 +294,13 @@ one_problem unique f problem is = record {
   fixed = sym is.fixed;
 }
 
-pub one_routing : AreUnique → (f : Fields) (problem : RoutingProblem) → IsRoutingOf f problem → AreSameRouting problem (routing_of f)
+pub one_routing : AreUnique → (f : Fields) (problem : RoutingProblem) → IsRoutingOf f problem
+    → AreSameRouting problem (routing_of f)
 one_routing unique f problem is = record {
   nodes = value f.dimension 0 problem.nodes is.nodes;
   costs = same_costs f problem.nodes problem.cost unique is.nodes is.costs;
   depot = ap (λ o. slice_index (unwrap_or o []) 0) (sym is.depot);
-  demands = λ i node. sym (ap (λ o. demand_of (unwrap_or o []) i) is.demands ∙ at_node (pos 0) problem.demand problem.nodes i node);
+  demands = λ i node. sym (ap (λ o. demand_of (unwrap_or o []) i) is.demands
+      ∙ at_node (pos 0) problem.demand problem.nodes i node);
   capacity = value f.capacity (pos 0) problem.capacity is.capacity;
 }

@@ -39,7 +39,8 @@ pub record AreOfPoints (f : Fields) (metric : Metric) (points : List Point) : Ty
   pub count : f.dimension ≡ Some (length points)
   pub every : (i j : ℕ) → distance (weight_kind_of metric) (point_of points i) (point_of points j) ≡ cost f i j
 
-pub of_points : (f : Fields) (nodes : ℕ) (source : Source) (metric : Metric) (points : List Point) → HasFound f nodes source → ComesFrom f (Distances metric)
+pub of_points : (f : Fields) (nodes : ℕ) (source : Source) (metric : Metric) (points : List Point) → HasFound f nodes source
+    → ComesFrom f (Distances metric)
     → f.coords ≡ Some points → AreOfPoints f metric points
 of_points f nodes source metric points found comes stand = record {
   kind = ap is_explicit comes.0 ∙ none_listed metric;
@@ -53,7 +54,8 @@ pub record AreOfWeights (f : Fields) (layout : Layout) (nodes : ℕ) (weights : 
   pub lists : ListsWeights f layout nodes weights
   pub every : (i j : ℕ) → listed_cost layout nodes weights i j ≡ cost f i j
 
-pub of_weights : (f : Fields) (nodes : ℕ) (source : Source) (layout : Layout) (weights : List ℤ) → HasFound f nodes source → ComesFrom f (Weights layout)
+pub of_weights : (f : Fields) (nodes : ℕ) (source : Source) (layout : Layout) (weights : List ℤ) → HasFound f nodes source
+    → ComesFrom f (Weights layout)
     → f.weights ≡ Some weights → AreOfWeights f layout nodes weights
 of_weights f nodes source layout weights found comes stand =
     let held : ListsWeights f layout nodes weights = lists f layout nodes weights found.range comes.1 found.dimension stand in

@@ -29,7 +29,8 @@ pub found_passes : {V : Type 0} (test is_it : V → Bool) (value : V) (values : 
     → find is_it values ≡ Some value → test value ≡ true
 found_passes test is_it value [] all is_found = absurd (none-some value is_found)
 found_passes test is_it value (first ∷ values) all is_found =
-    found_more test (is_it first) (list_all test values) value first (find is_it values) all is_found (found_passes test is_it value values)
+    found_more test (is_it first) (list_all test values) value first (find is_it values) all is_found
+    (found_passes test is_it value values)
 
 -- no first fault: none of the first sort
 no_first : (bad : Option Field) (other : Option DraftFault) → option_or (option_map (λ field. BadField field) bad) other ≡ None
@@ -52,4 +53,5 @@ none_failing test (first ∷ fields) none =
 pub all_fit : (f : Fields) → fault_of f ≡ None → (field : Field) → fits f field ≡ true
 all_fit f none field =
     let no_bad = no_first (bad_field f) (option_map (λ fault. Rule fault) (end_fault (standing_of f) None)) none in
-    found_passes (fits f) (λ other. bytes_eq (field_word field) (field_word other)) field fields_in_order (none_failing (fits f) fields_in_order no_bad) (field_found field)
+    found_passes (fits f) (λ other. bytes_eq (field_word field) (field_word other)) field fields_in_order
+    (none_failing (fits f) fields_in_order no_bad) (field_found field)

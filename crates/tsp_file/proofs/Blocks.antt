@@ -19,8 +19,11 @@ pub block_more : (weights : List ℤ) (i start at number : ℕ) (old new : List 
     → drop (at - 1) (set new (at - 1) 32) ≡ after_blanks (drop i weights)
 block_more weights i start at number old new inside text some within written before =
     let next : at - 1 + 1 ≡ at = omega (arith, some) in
-    let blank : drop (at - 1) (set new (at - 1) 32) ≡ 32 ∷ drop (at - 1 + 1) new = drop-set new (at - 1) 32 (omega (arith, some, within)) in
-    let weight : after_blanks (drop i weights) ≡ (32 ∷ signed_decimal (get_or weights i (pos 0))) ++ after_blanks (drop (i + 1) weights) =
+    let blank : drop (at - 1) (set new (at - 1) 32) ≡ 32 ∷ drop (at - 1 + 1) new =
+    drop-set new (at - 1) 32 (omega (arith, some, within)) in
+    let weight : after_blanks (drop i weights) ≡ (32 ∷ signed_decimal (get_or weights i (pos 0))) ++ after_blanks
+    (drop (i + 1) weights) =
     ap after_blanks (drop_more weights i (pos 0) inside) in
-    blank ∙ ap (λ (k : ℕ). 32 ∷ drop k new) next ∙ ap (λ (t : List ℕ). 32 ∷ t) (written ∙ ap (λ (t : List ℕ). decimal number ++ t) before)
+    blank ∙ ap (λ (k : ℕ). 32 ∷ drop k new) next
+    ∙ ap (λ (t : List ℕ). 32 ∷ t) (written ∙ ap (λ (t : List ℕ). decimal number ++ t) before)
     ∙ ap (λ (t : List ℕ). (32 ∷ t) ++ after_blanks (drop (i + 1) weights)) (sym text) ∙ sym weight

@@ -23,7 +23,8 @@ below zero p t h = absurd (omega arith)
 below (suc n) p t h =
     elim (cases_lt p n) [
       | inl less ↦ below n p (and_r _ (are_pairs n) t) less
-      | inr last ↦ let e : p ≡ n = omega arith in let a = and_l _ (are_pairs n) t in rw e (eqb→eq _ _ (and_l _ _ a), eqb→eq _ _ (and_r _ _ a))
+      | inr last ↦ let e : p ≡ n = omega arith in let a = and_l _ (are_pairs n) t in
+          rw e (eqb→eq _ _ (and_l _ _ a), eqb→eq _ _ (and_r _ _ a))
     ]
 
 pub PAIRS_at : (p : ℕ) → p < 100 → (get_or PAIRS (p * 2) 0 ≡ 48 + p / 10) × (get_or PAIRS (p * 2 + 1) 0 ≡ 48 + p % 10)
@@ -36,7 +37,8 @@ length_by_power zero n small low high = ap length (decimal_digit n (omega arith)
 length_by_power (suc k) n small low high =
     let power : 10 ^ suc k ≡ 10 ^ k * 10 = pow-suc 10 k in
     let least : 10 ≤ 10 ^ k * 10 = omega (arith, one_le k) in
-    let step : length (decimal n) ≡ length (decimal (n / 10)) + 1 = ap length (decimal_step n (omega arith) small) ∙ length-append _ _ in
+    let step : length (decimal n) ≡ length (decimal (n / 10)) + 1 = ap length (decimal_step n (omega arith) small)
+    ∙ length-append _ _ in
     step ∙ ap (λ m. m + 1) (length_by_power k (n / 10) (omega arith) (omega arith) (omega arith)) ∙ omega arith
   where
     one_le : (k : ℕ) → 1 ≤ 10 ^ k
@@ -93,7 +95,8 @@ short n m front few long =
           let place : m + 2 - length (decimal n) ≡ m + 1 = omega (arith, count) in
           let same : n % 100 ≡ n = omega arith in
           let digit : n % 10 ≡ n = omega arith in
-          let front_len : length (front ++ (48 + n / 10) ∷ []) ≡ m + 1 = length-append front ((48 + n / 10) ∷ []) ∙ ap (λ (k : ℕ). k + 1) long in
+          let front_len : length (front ++ (48 + n / 10) ∷ []) ≡ m + 1 = length-append front ((48 + n / 10) ∷ [])
+          ∙ ap (λ (k : ℕ). k + 1) long in
           ap (λ (k : ℕ). drop k (front ++ pair (n % 100))) place
           ∙ ap (λ (k : ℕ). drop (m + 1) (front ++ pair k)) same
           ∙ ap (λ (t : List ℕ). drop (m + 1) t) (sym (append_assoc front ((48 + n / 10) ∷ []) ((48 + n % 10) ∷ [])))
@@ -114,7 +117,8 @@ long : (n m : ℕ) (front : List ℕ) → 100 ≤ n → n < 2 ^ 64 → length fr
     → drop (m + 2 - length (decimal n)) (front ++ pair (n % 100)) ≡ decimal n
 long n m front more small count rest =
     let text = decimal_pair n more small in
-    let length_is : length (decimal n) ≡ length (decimal (n / 100)) + 2 = ap length text ∙ length-append (decimal (n / 100)) (pair (n % 100)) in
+    let length_is : length (decimal n) ≡ length (decimal (n / 100)) + 2 = ap length text
+    ∙ length-append (decimal (n / 100)) (pair (n % 100)) in
     let place : m + 2 - length (decimal n) ≡ m - length (decimal (n / 100)) = omega (arith, length_is) in
     ap (λ k. drop k (front ++ pair (n % 100))) place
     ∙ drop-append-le (m - length (decimal (n / 100))) front (pair (n % 100)) (omega (arith, count))
@@ -130,12 +134,14 @@ without_zeros (suc k) n small few =
       | inr above ↦
           let two : 2 * k + 2 ≡ 2 * suc k = omega arith in
           long n (2 * suc k) (pairs (suc k) (n / 100)) above small count
-          (ap (λ m. drop (m - length (decimal (n / 100))) (pairs (suc k) (n / 100))) (sym two) ∙ without_zeros k (n / 100) (omega arith) (omega arith))
+          (ap (λ m. drop (m - length (decimal (n / 100))) (pairs (suc k) (n / 100))) (sym two)
+          ∙ without_zeros k (n / 100) (omega arith) (omega arith))
     ]
 
 -- Eight digits were written so that they end at a place. From the first that counts on they are the number's text.
 pub digits_written : (n end : ℕ) (old new : List ℕ) → n < 100000000 → 8 ≤ end
-    → drop (end - 8) new ≡ pair (n / 10000 / 100) ++ (pair (n / 10000 % 100) ++ (pair (n % 10000 / 100) ++ (pair (n % 10000 % 100) ++ drop end old)))
+    → drop (end - 8) new ≡ pair (n / 10000 / 100)
+    ++ (pair (n / 10000 % 100) ++ (pair (n % 10000 / 100) ++ (pair (n % 10000 % 100) ++ drop end old)))
     → drop (end - length (decimal n)) new ≡ decimal n ++ drop end old
 digits_written n end old new few most written =
     let a : n / 10000 / 100 ≡ n / 100 / 100 / 100 % 100 = omega arith in

@@ -69,7 +69,8 @@ by_node_section_short : {A : Type 0} (field : Field) (fits : A → Bool) (number
     → if_there (with_dimension (is_by_node fits) dimension) value ≡ true
     → length (optional (λ xs. section_text field (lines_by_node numbers xs)) value) ≤ 29 + (6 + k) * most_nodes
 by_node_section_short {A} field fits numbers k each dimension value nodes there =
-    let lines : (n : ℕ) (xs : List A) → n ≤ most_nodes → is_by_node fits n xs ≡ true → length (lines_by_node numbers xs) ≤ (6 + k) * most_nodes = λ n xs most by_nodes.
+    let lines : (n : ℕ) (xs : List A) → n ≤ most_nodes → is_by_node fits n xs ≡ true
+    → length (lines_by_node numbers xs) ≤ (6 + k) * most_nodes = λ n xs most by_nodes.
     let parts = and_parts (length xs == n) (list_all fits xs) by_nodes in
     let count = eqb-true (length xs) n parts.0 in
     by_node_short fits numbers k each xs (omega (arith, count, most)) parts.1 in
@@ -107,7 +108,8 @@ three_numbers_short a b c k first second third =
 point_short : (in_space : Bool) (point : Point) → is_point in_space point ≡ true
     → length (number_line [] (coordinate_words in_space point)) ≤ 75
 point_short true point fits =
-    let flat = and_parts (is_within most_coordinate point.x && is_within most_coordinate point.y) (is_within most_coordinate point.z) fits in
+    let flat = and_parts (is_within most_coordinate point.x && is_within most_coordinate point.y)
+    (is_within most_coordinate point.z) fits in
     let parts = and_parts (is_within most_coordinate point.x) (is_within most_coordinate point.y) flat.0 in
     omega (
       arith,
@@ -117,7 +119,11 @@ point_short true point fits =
 point_short false point fits =
     let flat = and_parts (is_within most_coordinate point.x && is_within most_coordinate point.y) (int_eq point.z (pos 0)) fits in
     let parts = and_parts (is_within most_coordinate point.x) (is_within most_coordinate point.y) flat.0 in
-    omega (arith, two_numbers_short (spelling point.x) (spelling point.y) 21 (coordinate_short point.x parts.0) (coordinate_short point.y parts.1))
+    omega (
+      arith,
+      two_numbers_short (spelling point.x) (spelling point.y) 21 (coordinate_short point.x parts.0)
+          (coordinate_short point.y parts.1),
+    )
 
 -- numbers of a range with no larger ones than potentials have
 abbrev is_short : Shape → Bool
@@ -168,7 +174,8 @@ triples_short n triples most fits =
 weights_short : (lens : List ℕ) (n : ℕ) (weights : List ℤ) → fit_matrix n weights ≡ true
     → length (matrix_lines lens weights) ≤ 375000000
 weights_short lens n weights fits =
-    let parts = three_parts (nat_le n most_matrix_nodes) (nat_le (length weights) (n * n)) (list_all (is_within most_weight) weights) fits in
+    let parts = three_parts (nat_le n most_matrix_nodes) (nat_le (length weights) (n * n))
+    (list_all (is_within most_weight) weights) fits in
     let few = leb-true n most_matrix_nodes parts.0 in
     let count = leb-true (length weights) (n * n) parts.1 in
     omega (arith, count, mul-le-mul few few, matrix_lines_short lens weights parts.2)
@@ -205,18 +212,22 @@ shape_short : (f : Fields) (field : Field) (shape : Shape) → is_short shape �
     → if_there (is_node most_nodes) f.dimension ≡ true → section_fits f field shape ≡ true
     → length (text_of_section f field shape) ≤ most_of shape
 shape_short f field (Numbers low high) short one fit =
-    by_node_section_short field (is_from_to low high) whole_number 20 (λ number fits. whole_short low high number short fits) f.dimension (numbers_in f field) one fit
+    by_node_section_short field (is_from_to low high) whole_number 20 (λ number fits. whole_short low high number short fits)
+    f.dimension (numbers_in f field) one fit
 shape_short f field Points short one fit =
-    by_node_section_short field (is_point false) (coordinate_words false) 75 (point_short false) f.dimension (points_in f field) one fit
+    by_node_section_short field (is_point false) (coordinate_words false) 75 (point_short false) f.dimension (points_in f field)
+    one fit
 shape_short f field SpacePoints short one fit =
-    by_node_section_short field (is_point true) (coordinate_words true) 75 (point_short true) f.dimension (points_in f field) one fit
+    by_node_section_short field (is_point true) (coordinate_words true) 75 (point_short true) f.dimension (points_in f field) one
+    fit
 shape_short f field Depots short one fit =
     section_of_short field are_depots node_list 900000 depots_short f.dimension f.depots one fit
 shape_short f field Pairs short one fit =
     section_of_short field are_fixed pair_list 1900000 fixed_short f.dimension f.fixed one fit
 shape_short f field Weights short one fit =
     let lens = line_lens f.weight_format f.dimension in
-    section_of_short field fit_matrix (matrix_lines lens) 375000000 (λ n weights most fits. weights_short lens n weights fits) f.dimension f.weights one fit
+    section_of_short field fit_matrix (matrix_lines lens) 375000000 (λ n weights most fits. weights_short lens n weights fits)
+    f.dimension f.weights one fit
 shape_short f field Tours short one fit =
     optional_short are_tours (λ tours. section_text field (flat_map node_list tours)) 10000029
     (λ tours fits. section_short field (flat_map node_list tours) 10000000 (all_tours_short tours fits)) f.tours fit
@@ -245,7 +256,8 @@ comments_short : (comments : List (List ℕ)) → are_comments comments ≡ true
     → length (flat_map (keyword_line CommentKey) comments) ≤ most_bytes CommentKey
 comments_short comments fits =
     let parts = and_parts (nat_le (length comments) most_comments) (list_all (is_kept (field_word CommentKey)) comments) fits in
-    flat_short_of (is_kept (field_word CommentKey)) (keyword_line CommentKey) 4004 most_comments (kept_short (field_word CommentKey)) comments parts.1
+    flat_short_of (is_kept (field_word CommentKey)) (keyword_line CommentKey) 4004 most_comments
+    (kept_short (field_word CommentKey)) comments parts.1
     (leb-true (length comments) most_comments parts.0)
 
 others_short : (others : List (List ℕ × List ℕ)) → are_others others ≡ true
@@ -258,12 +270,14 @@ others_short others fits =
 field_short : (f : Fields) → ((field : Field) → fits f field ≡ true) → (field : Field)
     → length (text_of_field f field) ≤ most_bytes field
 field_short f fit NameKey =
-    optional_short (is_kept (field_word NameKey)) (keyword_line NameKey) 4004 (kept_short (field_word NameKey)) f.name (fit NameKey)
+    optional_short (is_kept (field_word NameKey)) (keyword_line NameKey) 4004 (kept_short (field_word NameKey)) f.name
+    (fit NameKey)
 field_short f fit TypeKey = word_line_short TypeKey kind_word kind_short f.kind
 field_short f fit CommentKey = comments_short f.comments (fit CommentKey)
 field_short f fit OtherKey = others_short f.others (fit OtherKey)
 field_short f fit DimensionKey =
-    optional_short (is_node most_nodes) (λ n. keyword_line DimensionKey (decimal n)) 60 dimension_line_short f.dimension (fit DimensionKey)
+    optional_short (is_node most_nodes) (λ n. keyword_line DimensionKey (decimal n)) 60 dimension_line_short f.dimension
+    (fit DimensionKey)
 field_short f fit CapacityKey = whole_line_short CapacityKey most_capacity (omega arith) f.capacity (fit CapacityKey)
 field_short f fit ScaleKey = whole_line_short ScaleKey most_scale (omega arith) f.scale (fit ScaleKey)
 field_short f fit EdgeWeightTypeKey = word_line_short EdgeWeightTypeKey weight_kind_word weight_kind_short f.weight_kind
@@ -284,11 +298,14 @@ field_short f fit FixedEdgesPart = shape_short f FixedEdgesPart Pairs refl (fit 
 field_short f fit EdgeWeightPart = shape_short f EdgeWeightPart Weights refl (fit DimensionKey) (fit EdgeWeightPart)
 field_short f fit TourPart = shape_short f TourPart Tours refl (fit DimensionKey) (fit TourPart)
 field_short f fit NodePotentialPart =
-    shape_short f NodePotentialPart (Numbers (neg_ℤ (pos most_potential)) (pos most_potential)) refl (fit DimensionKey) (fit NodePotentialPart)
+    shape_short f NodePotentialPart (Numbers (neg_ℤ (pos most_potential)) (pos most_potential)) refl (fit DimensionKey)
+    (fit NodePotentialPart)
 field_short f fit RowPotentialPart =
-    shape_short f RowPotentialPart (Numbers (neg_ℤ (pos most_potential)) (pos most_potential)) refl (fit DimensionKey) (fit RowPotentialPart)
+    shape_short f RowPotentialPart (Numbers (neg_ℤ (pos most_potential)) (pos most_potential)) refl (fit DimensionKey)
+    (fit RowPotentialPart)
 field_short f fit ColumnPotentialPart =
-    shape_short f ColumnPotentialPart (Numbers (neg_ℤ (pos most_potential)) (pos most_potential)) refl (fit DimensionKey) (fit ColumnPotentialPart)
+    shape_short f ColumnPotentialPart (Numbers (neg_ℤ (pos most_potential)) (pos most_potential)) refl (fit DimensionKey)
+    (fit ColumnPotentialPart)
 field_short f fit FixedEdgePotentialPart =
     shape_short f FixedEdgePotentialPart Triples refl (fit DimensionKey) (fit FixedEdgePotentialPart)
 field_short f fit CombPart = shape_short f CombPart Combs refl (fit DimensionKey) (fit CombPart)
@@ -296,9 +313,16 @@ field_short f fit BranchPart = shape_short f BranchPart Steps refl (fit Dimensio
 
 pub text_short : (f : Fields) → fault_of f ≡ None → length (text_of f) < 750000000
 text_short f none =
-    let fields = sum_by-le-sum_by (λ field. length (text_of_field f field)) most_bytes fields_in_order (field_short f (all_fit f none)) in
+    let fields = sum_by-le-sum_by (λ field. length (text_of_field f field)) most_bytes fields_in_order
+    (field_short f (all_fit f none)) in
     let total : sum_by most_bytes fields_in_order ≤ 710000000 = omega arith in
-    omega (arith, length-append (flat_map (text_of_field f) fields_in_order) (codes "EOF" ++ line_end), length-flat_map (text_of_field f) fields_in_order, fields, total)
+    omega (
+      arith,
+      length-append (flat_map (text_of_field f) fields_in_order) (codes "EOF" ++ line_end),
+      length-flat_map (text_of_field f) fields_in_order,
+      fields,
+      total,
+    )
 
 -- ---- a file without combs and branches
 
@@ -348,4 +372,10 @@ text_short_without_trees f none combs branches =
     let fields = sum_by-le-sum_by (λ field. length (text_of_field f field)) most_without_trees fields_in_order
     (field_short_without_trees f (all_fit f none) combs branches) in
     let total : sum_by most_without_trees fields_in_order ≤ 440000000 = omega arith in
-    omega (arith, length-append (flat_map (text_of_field f) fields_in_order) (codes "EOF" ++ line_end), length-flat_map (text_of_field f) fields_in_order, fields, total)
+    omega (
+      arith,
+      length-append (flat_map (text_of_field f) fields_in_order) (codes "EOF" ++ line_end),
+      length-flat_map (text_of_field f) fields_in_order,
+      fields,
+      total,
+    )

@@ -31,37 +31,51 @@ module _ (n : ℕ) (full : List ℤ) where
   between cell = listed_cost FullMatrix n full cell.0 cell.1
 
   -- by its place
-  at_place : (i j place : ℕ) → IsNode n i → IsNode n j → (i - 1) * n + (j - 1) ≡ place → between (i, j) ≡ get_or full place (pos 0)
-  at_place i j place row column same = cost_of_cell FullMatrix n full i j place (placed FullMatrix n i j row column refl ∙ ap (λ k. Some k) same)
+  at_place : (i j place : ℕ) → IsNode n i → IsNode n j → (i - 1) * n + (j - 1) ≡ place
+      → between (i, j) ≡ get_or full place (pos 0)
+  at_place i j place row column same =
+      cost_of_cell FullMatrix n full i j place (placed FullMatrix n i j row column refl ∙ ap (λ k. Some k) same)
 
   -- or by that across the diagonal
-  across : (i j place : ℕ) → IsSymmetric (listed_cost FullMatrix n full) → IsNode n i → IsNode n j → (j - 1) * n + (i - 1) ≡ place → between (i, j) ≡ get_or full place (pos 0)
+  across : (i j place : ℕ) → IsSymmetric (listed_cost FullMatrix n full) → IsNode n i → IsNode n j → (j - 1) * n + (i - 1) ≡ place
+      → between (i, j) ≡ get_or full place (pos 0)
   across i j place even row column same = turned (listed_cost FullMatrix n full) even j i ∙ at_place j i place column row same
 
-  even_held : (to : Layout) → to ≢ FullMatrix → HoldsPairs to (listed_cost FullMatrix n full) → IsSymmetric (listed_cost FullMatrix n full)
+  even_held : (to : Layout) → to ≢ FullMatrix → HoldsPairs to (listed_cost FullMatrix n full)
+      → IsSymmetric (listed_cost FullMatrix n full)
   even_held to half holds = ⊎_elim (λ same. absurd (half same)) (λ even. even) holds
 
   -- a cell of a line
-  pub line_read : (to : Layout) (line at : ℕ) → IsNode n line → at < line_len_of to n line → HoldsPairs to (listed_cost FullMatrix n full)
+  pub line_read : (to : Layout) (line at : ℕ) → IsNode n line → at < line_len_of to n line
+      → HoldsPairs to (listed_cost FullMatrix n full)
       → between (get_or (cells_of_line to n line) at (0, 0)) ≡ get_or full (line_start_of to n line + at) (pos 0)
   line_read FullMatrix line at node lt holds = ap between (line_at FullMatrix n line at (0, 0) node.0 node.1 lt)
-      ∙ at_place line (1 + at) (line_start_of FullMatrix n line + at) node (omega (arith, node.0), omega (arith, node.1, lt)) (omega (arith, node.0))
+      ∙ at_place line (1 + at) (line_start_of FullMatrix n line + at) node (omega (arith, node.0), omega (arith, node.1, lt))
+      (omega (arith, node.0))
   line_read UpperRow line at node lt holds = ap between (line_at UpperRow n line at (0, 0) node.0 node.1 lt)
-      ∙ at_place line (line + 1 + at) (line_start_of UpperRow n line + at) node (omega (arith, node.0), omega (arith, node.1, lt)) (omega (arith, node.0))
+      ∙ at_place line (line + 1 + at) (line_start_of UpperRow n line + at) node (omega (arith, node.0), omega (arith, node.1, lt))
+      (omega (arith, node.0))
   line_read LowerRow line at node lt holds = ap between (line_at LowerRow n line at (0, 0) node.0 node.1 lt)
-      ∙ at_place line (1 + at) (line_start_of LowerRow n line + at) node (omega (arith, node.0), omega (arith, node.1, lt)) (omega (arith, node.0))
+      ∙ at_place line (1 + at) (line_start_of LowerRow n line + at) node (omega (arith, node.0), omega (arith, node.1, lt))
+      (omega (arith, node.0))
   line_read UpperDiagRow line at node lt holds = ap between (line_at UpperDiagRow n line at (0, 0) node.0 node.1 lt)
-      ∙ at_place line (line + at) (line_start_of UpperDiagRow n line + at) node (omega (arith, node.0), omega (arith, node.1, lt)) (omega (arith, node.0))
+      ∙ at_place line (line + at) (line_start_of UpperDiagRow n line + at) node (omega (arith, node.0), omega (arith, node.1, lt))
+      (omega (arith, node.0))
   line_read LowerDiagRow line at node lt holds = ap between (line_at LowerDiagRow n line at (0, 0) node.0 node.1 lt)
-      ∙ at_place line (1 + at) (line_start_of LowerDiagRow n line + at) node (omega (arith, node.0), omega (arith, node.1, lt)) (omega (arith, node.0))
+      ∙ at_place line (1 + at) (line_start_of LowerDiagRow n line + at) node (omega (arith, node.0), omega (arith, node.1, lt))
+      (omega (arith, node.0))
   line_read UpperCol line at node lt holds = ap between (line_at UpperCol n line at (0, 0) node.0 node.1 lt)
-      ∙ across (1 + at) line (line_start_of UpperCol n line + at) (even_held UpperCol (λ e. absurd cc) holds) (omega (arith, node.0), omega (arith, node.1, lt)) node (omega (arith, node.0))
+      ∙ across (1 + at) line (line_start_of UpperCol n line + at) (even_held UpperCol (λ e. absurd cc) holds)
+      (omega (arith, node.0), omega (arith, node.1, lt)) node (omega (arith, node.0))
   line_read LowerCol line at node lt holds = ap between (line_at LowerCol n line at (0, 0) node.0 node.1 lt)
-      ∙ across (line + 1 + at) line (line_start_of LowerCol n line + at) (even_held LowerCol (λ e. absurd cc) holds) (omega (arith, node.0), omega (arith, node.1, lt)) node (omega (arith, node.0))
+      ∙ across (line + 1 + at) line (line_start_of LowerCol n line + at) (even_held LowerCol (λ e. absurd cc) holds)
+      (omega (arith, node.0), omega (arith, node.1, lt)) node (omega (arith, node.0))
   line_read UpperDiagCol line at node lt holds = ap between (line_at UpperDiagCol n line at (0, 0) node.0 node.1 lt)
-      ∙ across (1 + at) line (line_start_of UpperDiagCol n line + at) (even_held UpperDiagCol (λ e. absurd cc) holds) (omega (arith, node.0), omega (arith, node.1, lt)) node (omega (arith, node.0))
+      ∙ across (1 + at) line (line_start_of UpperDiagCol n line + at) (even_held UpperDiagCol (λ e. absurd cc) holds)
+      (omega (arith, node.0), omega (arith, node.1, lt)) node (omega (arith, node.0))
   line_read LowerDiagCol line at node lt holds = ap between (line_at LowerDiagCol n line at (0, 0) node.0 node.1 lt)
-      ∙ across (line + at) line (line_start_of LowerDiagCol n line + at) (even_held LowerDiagCol (λ e. absurd cc) holds) (omega (arith, node.0), omega (arith, node.1, lt)) node (omega (arith, node.0))
+      ∙ across (line + at) line (line_start_of LowerDiagCol n line + at) (even_held LowerDiagCol (λ e. absurd cc) holds)
+      (omega (arith, node.0), omega (arith, node.1, lt)) node (omega (arith, node.0))
 
 -- ---- the loop
 
@@ -75,7 +89,8 @@ row_past (suc k) n low =
 pub record HasKept (to : Layout) (n line kept : ℕ) (full items : List ℤ) : Type 0 where
   pub size : length items ≡ length full
   pub few : kept ≤ (line - 1) * n
-  pub front : take kept items ≡ map (λ cell. listed_cost FullMatrix n full cell.0 cell.1) (flat_map (cells_of_line to n) (take (line - 1) (nodes_to n)))
+  pub front : take kept items ≡ map (λ cell. listed_cost FullMatrix n full cell.0 cell.1)
+      (flat_map (cells_of_line to n) (take (line - 1) (nodes_to n)))
   pub rest : SameFrom full items kept
 
 -- one line more
@@ -96,12 +111,17 @@ line_kept to n line kept start end full items new node holds so_far starts ends 
     let counted : length (map f cells) ≡ len = length-map cells f ∙ line_counted to n line node.0 node.1 in
     let low : kept ≤ start = omega (arith, so_far.few, starts) in
     let old_front : length (take kept items) ≡ kept = length-take-le kept items (omega (arith, so_far.size)) in
-    let new_front : length (take (kept + (end - start)) new) ≡ kept + (end - start) = length-take-le (kept + (end - start)) new (omega (arith, size, so_far.size)) in
-    let both : length (take kept items ++ map f cells) ≡ kept + (end - start) = length-append (take kept items) (map f cells) ∙ omega arith in
-    let laid : take (kept + (end - start)) new ≡ take kept items ++ map f cells = ext_get_or (pos 0) (take (kept + (end - start)) new) (take kept items ++ map f cells) (new_front ∙ sym both)
+    let new_front : length (take (kept + (end - start)) new) ≡ kept + (end - start) =
+    length-take-le (kept + (end - start)) new (omega (arith, size, so_far.size)) in
+    let both : length (take kept items ++ map f cells) ≡ kept + (end - start) = length-append (take kept items) (map f cells)
+    ∙ omega arith in
+    let laid : take (kept + (end - start)) new ≡ take kept items ++ map f cells =
+    ext_get_or (pos 0) (take (kept + (end - start)) new) (take kept items ++ map f cells) (new_front ∙ sym both)
     (λ k lt. get_or-take (kept + (end - start)) new k (pos 0) (omega (arith, lt, new_front))
     ∙ ⊎_elim
-    (λ here. below k (pos 0) here ∙ sym (get_or_append_left (take kept items) (map f cells) (pos 0) k (omega (arith, here, old_front)) ∙ get_or-take kept items k (pos 0) here))
+    (λ here. below k (pos 0) here
+    ∙ sym (get_or_append_left (take kept items) (map f cells) (pos 0) k (omega (arith, here, old_front))
+    ∙ get_or-take kept items k (pos 0) here))
     (λ past.
     let inside : k - kept < len = omega (arith, lt, new_front, is_len, past) in
     moved k (pos 0) past (omega (arith, lt, new_front))
@@ -114,7 +134,8 @@ line_kept to n line kept start end full items new node holds so_far starts ends 
     record {
       size = size ∙ so_far.size;
       few = omega (arith, so_far.few, within, next, starts, ends);
-      front = line_more f (cells_of_line to n) n line (take kept items) (take (kept + (end - start)) new) node.0 node.1 so_far.front laid;
+      front = line_more f (cells_of_line to n) n line (take kept items) (take (kept + (end - start)) new) node.0 node.1
+          so_far.front laid;
       rest = λ k d past. behind k d past ∙ so_far.rest k d (omega (arith, past));
     }
 
@@ -137,7 +158,11 @@ pub laid_of : (f : Fields) (from to : Layout) (n : ℕ) (old new : List ℤ) →
     → ListsWeights f from n old → new ≡ costs_in to n (listed_cost from n old)
     → (fault_of (with_weights f to new) ≡ None) × (new ≡ costs_in to (nodes_of f) (cost f))
 laid_of f from to n old new valid can held value =
-    let f_value : new ≡ costs_in to (nodes_of f) (cost f) = of_file (λ k c. new ≡ costs_in to k c) f from n old can.listed.0 held value in
-    let sizes : All (IsWithin most_weight) new = subst (All (IsWithin most_weight)) (sym value) (all_within to n (listed_cost from n old) (cost_within from n old held.sizes)) in
-    let count : length new ≡ length (cells to (nodes_of f)) = ap length f_value ∙ length-map (cells to (nodes_of f)) (λ cell. cost f cell.0 cell.1) in
+    let f_value : new ≡ costs_in to (nodes_of f) (cost f) =
+    of_file (λ k c. new ≡ costs_in to k c) f from n old can.listed.0 held value in
+    let sizes : All (IsWithin most_weight) new =
+    subst (All (IsWithin most_weight)) (sym value)
+    (all_within to n (listed_cost from n old) (cost_within from n old held.sizes)) in
+    let count : length new ≡ length (cells to (nodes_of f)) = ap length f_value
+    ∙ length-map (cells to (nodes_of f)) (λ cell. cost f cell.0 cell.1) in
     (stays_valid f to new valid can.listed.1 count sizes, f_value)

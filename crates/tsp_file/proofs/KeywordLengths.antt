@@ -24,7 +24,8 @@ word_short : {V : Type 0} (word : V → List ℕ) (most : ℕ) (values : List V)
     → list_all (λ v. nat_le (length (word v)) most) values ≡ true → IsFirstWithWord word values value
     → length (word value) ≤ most
 word_short word most values value all found =
-    leb-true (length (word value)) most (found_passes (λ v. nat_le (length (word v)) most) (λ other. bytes_eq (word value) (word other)) value values all found)
+    leb-true (length (word value)) most
+    (found_passes (λ v. nat_le (length (word v)) most) (λ other. bytes_eq (word value) (word other)) value values all found)
 
 pub keyword_short : (field : Field) → length (field_word field) ≤ 28
 keyword_short field = word_short field_word 28 fields_in_order field refl (field_found field)

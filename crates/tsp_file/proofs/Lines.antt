@@ -66,4 +66,5 @@ some_weights a b c d weights first rest is h k end =
 pub opened : (a b c : Way) (field : Field) (lines : List ℕ) → Carried a b (field_word field ++ line_end) → Carried b c lines
     → Carried a c (section_text field lines)
 opened a b c field lines h k =
-    subst (λ t. Carried a c t) (append_assoc (field_word field) line_end lines) (carried_then a b c (field_word field ++ line_end) lines h k)
+    subst (λ t. Carried a c t) (append_assoc (field_word field) line_end lines)
+    (carried_then a b c (field_word field ++ line_end) lines h k)

@@ -26,7 +26,8 @@ pub cost_of_cell : (layout : Layout) (n : ℕ) (weights : List ℤ) (i j place :
     → listed_cost layout n weights i j ≡ slice_index_or weights place (pos 0)
 unfolding listed_cost
 cost_of_cell layout n weights i j place here =
-    ap (λ o. unwrap_or (option_or (option_map (λ at. slice_index_or weights at (pos 0)) o) (weight_at layout n weights (j, i))) (pos 0)) here
+    ap (λ o. unwrap_or (option_or (option_map (λ at. slice_index_or weights at (pos 0)) o) (weight_at layout n weights (j, i)))
+    (pos 0)) here
 
 -- the cost of another pair is that of the mirrored pair
 pub cost_mirrored : (layout : Layout) (n : ℕ) (weights : List ℤ) (i j place : ℕ) → place_of layout n (i, j) ≡ None
@@ -34,14 +35,16 @@ pub cost_mirrored : (layout : Layout) (n : ℕ) (weights : List ℤ) (i j place 
     → listed_cost layout n weights i j ≡ slice_index_or weights place (pos 0)
 unfolding listed_cost
 cost_mirrored layout n weights i j place out there =
-    ap (λ o. unwrap_or (option_or (option_map (λ at. slice_index_or weights at (pos 0)) o) (weight_at layout n weights (j, i))) (pos 0)) out
+    ap (λ o. unwrap_or (option_or (option_map (λ at. slice_index_or weights at (pos 0)) o) (weight_at layout n weights (j, i)))
+    (pos 0)) out
     ∙ ap (λ o. unwrap_or (option_map (λ at. slice_index_or weights at (pos 0)) o) (pos 0)) there
 
 pub cost_unlisted : (layout : Layout) (n : ℕ) (weights : List ℤ) (i j : ℕ) → place_of layout n (i, j) ≡ None
     → place_of layout n (j, i) ≡ None → listed_cost layout n weights i j ≡ pos 0
 unfolding listed_cost
 cost_unlisted layout n weights i j out too =
-    ap (λ o. unwrap_or (option_or (option_map (λ at. slice_index_or weights at (pos 0)) o) (weight_at layout n weights (j, i))) (pos 0)) out
+    ap (λ o. unwrap_or (option_or (option_map (λ at. slice_index_or weights at (pos 0)) o) (weight_at layout n weights (j, i)))
+    (pos 0)) out
     ∙ ap (λ o. unwrap_or (option_map (λ at. slice_index_or weights at (pos 0)) o) (pos 0)) too
 
 -- ---- what the code reads
@@ -110,7 +113,8 @@ pub triangle_even : (layout : Layout) (n : ℕ) (weights : List ℤ) → layout 
 unfolding listed_cost
 triangle_even layout n weights half unlisted i j other =
     swapped (weight_at layout n weights (i, j)) (weight_at layout n weights (j, i))
-    (⊎_elim (λ out. inl (no_weight layout n weights i j (unlisted i j out))) (λ out. inr (no_weight layout n weights j i (unlisted j i out))) (one_half layout i j half other))
+    (⊎_elim (λ out. inl (no_weight layout n weights i j (unlisted i j out)))
+    (λ out. inr (no_weight layout n weights j i (unlisted j i out))) (one_half layout i j half other))
 
 -- ---- nodes and others
 
@@ -132,7 +136,8 @@ pub even_between_nodes : (layout : Layout) (n : ℕ) (weights : List ℤ)
 even_between_nodes layout n weights out inside i j other = ⊎_elim
     (λ outside. cost_unlisted layout n weights i j (out i j outside) (out j i (λ nodes. outside (nodes.1, nodes.0)))
     ∙ sym (cost_unlisted layout n weights j i (out j i (λ nodes. outside (nodes.1, nodes.0))) (out i j outside)))
-    (λ nodes. ⊎_elim (λ lt. inside i j nodes.0 nodes.1 lt) (λ le. sym (inside j i nodes.1 nodes.0 (omega (arith, other)))) (cases_lt i j))
+    (λ nodes. ⊎_elim (λ lt. inside i j nodes.0 nodes.1 lt) (λ le. sym (inside j i nodes.1 nodes.0 (omega (arith, other))))
+    (cases_lt i j))
     (nodes_or_not n i j)
 
 -- ---- pairs that are no cells
@@ -140,7 +145,8 @@ even_between_nodes layout n weights out inside i j other = ⊎_elim
 -- what the layouts' laws say
 abbrev pub CellsAreListed : Type 0
 CellsAreListed =
-    (layout : Layout) (n i j : ℕ) → Contains (cells layout n) (i, j) ↔ (IsNode n i × IsNode n j × IsTrue (is_listed layout (i, j)))
+    (layout : Layout) (n i j : ℕ)
+    → Contains (cells layout n) (i, j) ↔ (IsNode n i × IsNode n j × IsTrue (is_listed layout (i, j)))
 
 abbrev pub OnlyCellsHavePlaces : Type 0
 OnlyCellsHavePlaces = (layout : Layout) (n : ℕ) (pair : ℕ × ℕ) → ¬ Contains (cells layout n) pair → place_of layout n pair ≡ None
@@ -151,7 +157,8 @@ unlisted_has_no_place listed places layout n i j out =
 
 pub outside_has_no_place : CellsAreListed → OnlyCellsHavePlaces → (layout : Layout) (n i j : ℕ) → ¬ (IsNode n i × IsNode n j)
     → place_of layout n (i, j) ≡ None
-outside_has_no_place listed places layout n i j out = places layout n (i, j) (λ h. let cell = (listed layout n i j).0 h in out (cell.0, cell.1))
+outside_has_no_place listed places layout n i j out =
+    places layout n (i, j) (λ h. let cell = (listed layout n i j).0 h in out (cell.0, cell.1))
 
 -- ---- what a file lists
 

@@ -56,13 +56,18 @@ pub comes_next : (f : ℕ → ℕ) (n index len count : ℕ) (rest now later : L
     → Comes a c (lines_from f (index + 1 + 1) (n - (index + 1)) later) whole
 comes_next f n index len count rest now later whole a b c lt is fewer front back h k =
     let lines : n - index ≡ suc (n - (index + 1)) = omega arith in
-    let taken : now ≡ take (f (index + 1)) rest = front ∙ ap (λ m. take m rest) fewer ∙ take_min len rest ∙ ap (λ m. take m rest) is in
-    let left : later ≡ drop (f (index + 1)) rest = back ∙ ap (λ m. drop m rest) fewer ∙ drop_min len rest ∙ ap (λ m. drop m rest) is in
-    let parts : lines_from f (index + 1) (n - index) rest ≡ weight_line now ++ lines_from f (index + 1 + 1) (n - (index + 1)) later =
+    let taken : now ≡ take (f (index + 1)) rest = front ∙ ap (λ m. take m rest) fewer ∙ take_min len rest
+    ∙ ap (λ m. take m rest) is in
+    let left : later ≡ drop (f (index + 1)) rest = back ∙ ap (λ m. drop m rest) fewer ∙ drop_min len rest
+    ∙ ap (λ m. drop m rest) is in
+    let parts : lines_from f (index + 1) (n - index) rest ≡ weight_line now ++ lines_from f (index + 1 + 1) (n - (index + 1))
+    later =
     ap (λ m. lines_from f (index + 1) m rest) lines ∙ lines_first f (index + 1) (n - (index + 1)) rest
-    ∙ ap (λ (ws : List ℤ). weight_line ws ++ lines_from f (index + 1 + 1) (n - (index + 1)) (drop (f (index + 1)) rest)) (sym taken)
+    ∙ ap (λ (ws : List ℤ). weight_line ws ++ lines_from f (index + 1 + 1) (n - (index + 1)) (drop (f (index + 1)) rest))
+    (sym taken)
     ∙ ap (λ (ws : List ℤ). weight_line now ++ lines_from f (index + 1 + 1) (n - (index + 1)) ws) (sym left) in
-    comes_more a b c (lines_from f (index + 1) (n - index) rest) whole (weight_line now) (lines_from f (index + 1 + 1) (n - (index + 1)) later) h k parts
+    comes_more a b c (lines_from f (index + 1) (n - index) rest) whole (weight_line now)
+    (lines_from f (index + 1 + 1) (n - (index + 1)) later) h k parts
 
 -- no line is left
 pub comes_last : (f : ℕ → ℕ) (n index : ℕ) (rest : List ℤ) (whole : List ℕ) (a b c : Way) → n ≤ index
@@ -83,8 +88,10 @@ pub comes_block : (count : ℕ) (rest now later : List ℤ) (whole : List ℕ) (
     → Comes a b (after_blanks rest) whole → Carried b c (after_blanks now) → Comes a c (after_blanks later) whole
 comes_block count rest now later whole a b c front back h k =
     let parts : after_blanks rest ≡ after_blanks now ++ after_blanks later =
-    ap after_blanks (sym (take-append-drop count rest)) ∙ flat_map-append (λ weight. 32 ∷ signed_decimal weight) (take count rest) (drop count rest)
-    ∙ ap (λ (ws : List ℤ). after_blanks ws ++ after_blanks (drop count rest)) (sym front) ∙ ap (λ (ws : List ℤ). after_blanks now ++ after_blanks ws) (sym back) in
+    ap after_blanks (sym (take-append-drop count rest))
+    ∙ flat_map-append (λ weight. 32 ∷ signed_decimal weight) (take count rest) (drop count rest)
+    ∙ ap (λ (ws : List ℤ). after_blanks ws ++ after_blanks (drop count rest)) (sym front)
+    ∙ ap (λ (ws : List ℤ). after_blanks now ++ after_blanks ws) (sym back) in
     comes_more a b c (after_blanks rest) whole (after_blanks now) (after_blanks later) h k parts
 
 -- none of the weights is left

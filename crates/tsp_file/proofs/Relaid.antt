@@ -37,7 +37,8 @@ pub cell_more : {X Y : Type 0} (f : X → Y) (xs : List X) (before items : List 
     → items ≡ before ++ map f (take k xs) → items ++ y ∷ [] ≡ before ++ map f (take (k + 1) xs)
 cell_more f xs before items k x y lt here value so_far =
     let step : map f (take (k + 1) xs) ≡ map f (take k xs) ++ y ∷ [] =
-    ap (map f) (take_more xs k x lt ∙ ap (λ z. take k xs ++ z ∷ []) here) ∙ map-append f (take k xs) (x ∷ []) ∙ ap (λ z. map f (take k xs) ++ z ∷ []) (sym value) in
+    ap (map f) (take_more xs k x lt ∙ ap (λ z. take k xs ++ z ∷ []) here) ∙ map-append f (take k xs) (x ∷ [])
+    ∙ ap (λ z. map f (take k xs) ++ z ∷ []) (sym value) in
     ap (λ ys. ys ++ y ∷ []) so_far ∙ append_assoc before (map f (take k xs)) (y ∷ []) ∙ ap (λ ys. before ++ ys) (sym step)
 
 -- one line more
@@ -50,7 +51,8 @@ line_more f line_of n line items laid low high so_far value =
     let inside : line - 1 < length (nodes_to n) = omega (arith, length-range_with_len 1 n) in
     let here : get_or (nodes_to n) (line - 1) 0 ≡ line = get_or-range_with_len 1 n (line - 1) 0 (omega arith) ∙ omega arith in
     let next : line - 1 + 1 ≡ line + 1 - 1 = omega arith in
-    let more : take (line + 1 - 1) (nodes_to n) ≡ before ++ line ∷ [] = ap (λ k. take k (nodes_to n)) (sym next) ∙ take_more (nodes_to n) (line - 1) 0 inside ∙ ap (λ z. before ++ z ∷ []) here in
+    let more : take (line + 1 - 1) (nodes_to n) ≡ before ++ line ∷ [] = ap (λ k. take k (nodes_to n)) (sym next)
+    ∙ take_more (nodes_to n) (line - 1) 0 inside ∙ ap (λ z. before ++ z ∷ []) here in
     value ∙ ap (λ ys. ys ++ map f (line_of line)) so_far ∙ sym (map-append f (flat_map line_of before) (line_of line))
     ∙ ap (map f) (flat_map_more line_of [] before line ∙ ap (flat_map line_of) (sym more))
 
@@ -60,7 +62,8 @@ pub lines_all : {Y : Type 0} (f : ℕ × ℕ → Y) (layout : Layout) (n line : 
     → items ≡ map f (cells layout n)
 unfolding nodes_to
 lines_all f layout n line items past so_far =
-    so_far ∙ ap (λ ks. map f (flat_map (cells_of_line layout n) ks)) (take_all (line - 1) (nodes_to n) (omega (arith, length-range_with_len 1 n))) ∙ ap (map f) (sym (cells-lines layout n))
+    so_far ∙ ap (λ ks. map f (flat_map (cells_of_line layout n) ks))
+    (take_all (line - 1) (nodes_to n) (omega (arith, length-range_with_len 1 n))) ∙ ap (map f) (sym (cells-lines layout n))
 
 -- ---- sizes
 
@@ -71,7 +74,8 @@ read_within weights k sizes = ⊎_elim
     (cases_lt k (length weights))
 
 one_within : (weights : List ℤ) (a b : Option ℕ) → All (IsWithin most_weight) weights
-    → IsWithin most_weight (unwrap_or (option_or (option_map (λ k. get_or weights k (pos 0)) a) (option_map (λ k. get_or weights k (pos 0)) b)) (pos 0))
+    → IsWithin most_weight (unwrap_or
+    (option_or (option_map (λ k. get_or weights k (pos 0)) a) (option_map (λ k. get_or weights k (pos 0)) b)) (pos 0))
 one_within weights (Some k) b sizes = read_within weights k sizes
 one_within weights None (Some k) sizes = read_within weights k sizes
 one_within weights None None sizes = (grind (arith, ints), grind (arith, ints))
@@ -85,7 +89,8 @@ cost_within layout n weights sizes i j = one_within weights (place_of layout n (
 pub all_within : (layout : Layout) (n : ℕ) (cost : ℕ → ℕ → ℤ) → ((i j : ℕ) → IsWithin most_weight (cost i j))
     → All (IsWithin most_weight) (costs_in layout n cost)
 all_within layout n cost sizes =
-    All-map (IsWithin most_weight) (λ cell. cost cell.0 cell.1) (cells layout n) (λ k d lt. sizes (get_or (cells layout n) k d).0 (get_or (cells layout n) k d).1)
+    All-map (IsWithin most_weight) (λ cell. cost cell.0 cell.1) (cells layout n)
+    (λ k d lt. sizes (get_or (cells layout n) k d).0 (get_or (cells layout n) k d).1)
 
 -- ---- pairs that a layout doesn't list
 
@@ -130,7 +135,8 @@ diagonal_listed LowerDiagCol i e = le-leb i i (omega arith)
 pub laid_at : (to : Layout) (n : ℕ) (cost : ℕ → ℕ → ℤ) (i j place : ℕ) → place_of to n (i, j) ≡ Some place
     → place < length (cells to n) → get_or (costs_in to n cost) place (pos 0) ≡ cost i j
 laid_at to n cost i j place here inside =
-    get_or-map (λ cell. cost cell.0 cell.1) (cells to n) place (i, j) (pos 0) inside ∙ ap (λ cell. cost cell.0 cell.1) (stands_at to n place (i, j) here (i, j))
+    get_or-map (λ cell. cost cell.0 cell.1) (cells to n) place (i, j) (pos 0) inside
+    ∙ ap (λ cell. cost cell.0 cell.1) (stands_at to n place (i, j) here (i, j))
 
 diagonal_zero : (to : Layout) (cost : ℕ → ℕ → ℤ) (i : ℕ) → HoldsDiagonal to cost → is_listed to (i, i) ≡ false → cost i i ≡ pos 0
 diagonal_zero to cost i holds unlisted =
@@ -155,7 +161,8 @@ costs_kept to n cost none pairs diagonal i j = ⊎_elim
     weights : List ℤ
     weights = costs_in to n cost
 
-    by_mirror : (b : Bool) → IsNode n i × IsNode n j → is_listed to (i, j) ≡ false → is_listed to (j, i) ≡ b → listed_cost to n weights i j ≡ cost i j
+    by_mirror : (b : Bool) → IsNode n i × IsNode n j → is_listed to (i, j) ≡ false → is_listed to (j, i) ≡ b
+        → listed_cost to n weights i j ≡ cost i j
     by_mirror true nodes out listed =
         let place = place_by_table to n j i in
         let here : place_of to n (j, i) ≡ Some place = placed to n j i nodes.1 nodes.0 listed in
@@ -183,10 +190,12 @@ pub own_costs : (layout : Layout) (n : ℕ) (weights : List ℤ) → length weig
 own_costs layout n weights filled = ext_get_or (pos 0) (costs_in layout n (listed_cost layout n weights)) weights
     (length-map (cells layout n) (λ cell. listed_cost layout n weights cell.0 cell.1) ∙ sym filled)
     (λ k lt.
-    let inside : k < length (cells layout n) = omega (arith, lt, length-map (cells layout n) (λ cell. listed_cost layout n weights cell.0 cell.1)) in
+    let inside : k < length (cells layout n) =
+    omega (arith, lt, length-map (cells layout n) (λ cell. listed_cost layout n weights cell.0 cell.1)) in
     let cell = get_or (cells layout n) k (0, 0) in
     get_or-map (λ cell. listed_cost layout n weights cell.0 cell.1) (cells layout n) k (0, 0) (pos 0) inside
-    ∙ cost_of_cell layout n weights cell.0 cell.1 k (place_from layout n k cell inside (λ d. get_or_default (cells layout n) k d (0, 0) inside)))
+    ∙ cost_of_cell layout n weights cell.0 cell.1 k
+    (place_from layout n k cell inside (λ d. get_or_default (cells layout n) k d (0, 0) inside)))
 
 full_or_not : (layout : Layout) → (layout ≡ FullMatrix) ⊎ (layout ≢ FullMatrix)
 full_or_not FullMatrix = inl refl
@@ -259,8 +268,10 @@ pub own_layout : (f : Fields) (layout : Layout) (n : ℕ) (weights : List ℤ) (
     → ListsWeights f layout n weights → layout ≡ to
     → CanGo f to × ((f.weight_format ≡ Some (Listed to)) × (f.weights ≡ Some (costs_in to (nodes_of f) (cost f))))
 own_layout f layout n weights to explicit held same =
-    let stand : f.weights ≡ Some (costs_in layout n (listed_cost layout n weights)) = held.weights_are ∙ ap Some (sym (own_costs layout n weights held.filled)) in
-    subst (λ own. CanGo f own × ((f.weight_format ≡ Some (Listed own)) × (f.weights ≡ Some (costs_in own (nodes_of f) (cost f))))) same (
+    let stand : f.weights ≡ Some (costs_in layout n (listed_cost layout n weights)) = held.weights_are
+    ∙ ap Some (sym (own_costs layout n weights held.filled)) in
+    subst (λ own. CanGo f own × ((f.weight_format ≡ Some (Listed own)) × (f.weights ≡ Some (costs_in own (nodes_of f) (cost f)))))
+    same (
       can_go f layout n weights layout explicit held (own_pairs layout n weights) (own_diagonal layout n weights),
       (held.format, of_file (λ k c. f.weights ≡ Some (costs_in layout k c)) f layout n weights explicit held stand),
     )

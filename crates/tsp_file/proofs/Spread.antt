@@ -59,7 +59,8 @@ few_before from n (suc k) low =
     let one = length-map (before from n (suc k)) f in
     let two = length-map (before from n (suc k - 1)) f in
     let three = length-map (cells_of_line from n (suc k)) f in
-    let fewer : length (before from n (suc k - 1)) ≤ k * n = subst (λ m. length (before from n m) ≤ k * n) (sym less) (few_before from n k (omega (arith, low))) in
+    let fewer : length (before from n (suc k - 1)) ≤ k * n =
+    subst (λ m. length (before from n m) ≤ k * n) (sym less) (few_before from n k (omega (arith, low))) in
     let short = line_short from n (suc k) node in
     let counted = line_counted from n (suc k) node.0 node.1 in
     omega (arith, more, parts, one, two, three, fewer, short, counted)
@@ -102,17 +103,20 @@ spread_more from n line kept len start half items new node size is_kept is_len s
     let less = kept_less from n line kept len node is_kept is_len in
     let rows : line * n ≤ n * n = mul-le line n n n node.1 (omega arith) in
     let left_len : length left ≡ kept - len = omega (arith, length-map (before from n (line - 1)) f, less.0) in
-    let own_len : length own ≡ len = omega (arith, length-map (cells_of_line from n line) f, line_counted from n line node.0 node.1, is_len) in
+    let own_len : length own ≡ len =
+    omega (arith, length-map (cells_of_line from n line) f, line_counted from n line node.0 node.1, is_len) in
     let high : kept - len ≤ start = omega (arith, less.0, less.2, starts) in
     let parts : take kept items ≡ left ++ own = so_far.front ∙ before_more f from n line node in
     let read : (k : ℕ) → k < kept → get_or items k (pos 0) ≡ get_or (left ++ own) k (pos 0) = λ k lt.
     sym (get_or-take kept items k (pos 0) lt) ∙ ap (λ xs. get_or xs k (pos 0)) parts in
-    let front_len : length (take (kept - len) new) ≡ kept - len = length-take-le (kept - len) new (omega (arith, same, size, rows, less.1)) in
+    let front_len : length (take (kept - len) new) ≡ kept - len =
+    length-take-le (kept - len) new (omega (arith, same, size, rows, less.1)) in
     record {
       front = ext_get_or (pos 0) (take (kept - len) new) left (front_len ∙ sym left_len)
           (λ k lt.
           let inside : k < kept - len = omega (arith, lt, front_len) in
-          get_or-take (kept - len) new k (pos 0) inside ∙ below k (pos 0) (omega (arith, inside, high)) ∙ read k (omega (arith, inside))
+          get_or-take (kept - len) new k (pos 0) inside ∙ below k (pos 0) (omega (arith, inside, high))
+          ∙ read k (omega (arith, inside))
           ∙ get_or_append_left left own (pos 0) k (omega (arith, inside, left_len)));
       lines = λ l k past high_l lt.
           ⊎_elim
@@ -121,7 +125,8 @@ spread_more from n line kept len start half items new node size is_kept is_len s
           behind (line_start_of from n l + k) (pos 0) (omega (arith, row, within)) ∙ so_far.lines l k later high_l lt)
           (λ here.
           let is : line ≡ l = omega (arith, here, past) in
-          subst (λ m. (k < line_len_of from n m) → get_or new (line_start_of from n m + k) (pos 0) ≡ f (get_or (cells_of_line from n m) k (0, 0))) is
+          subst (λ m. (k < line_len_of from n m) → get_or new (line_start_of from n m + k) (pos 0) ≡ f
+          (get_or (cells_of_line from n m) k (0, 0))) is
           (λ inside.
           let place : start + k ≡ line_start_of from n line + k = ap (λ s. s + k) starts in
           ap (λ p. get_or new p (pos 0)) (sym place)
@@ -130,7 +135,8 @@ spread_more from n line kept len start half items new node size is_kept is_len s
           ∙ read (kept - len + k) (omega (arith, inside, is_len, less.0))
           ∙ get_or-append_right left own (kept - len) (kept - len + k) (pos 0) left_len (omega arith)
           ∙ ap (λ p. get_or own p (pos 0)) {x = kept - len + k - (kept - len)} {y = k} (omega arith)
-          ∙ get_or-map f (cells_of_line from n line) k (0, 0) (pos 0) (omega (arith, inside, is_len, own_len, length-map (cells_of_line from n line) f))) lt)
+          ∙ get_or-map f (cells_of_line from n line) k (0, 0) (pos 0)
+          (omega (arith, inside, is_len, own_len, length-map (cells_of_line from n line) f))) lt)
           (cases_lt line l);
     }
 
@@ -160,7 +166,8 @@ count_is LowerDiagCol n i node = omega (arith, node.1)
 
 -- a cell of a line has the cost of its row and column
 cell_cost : (cost : ℕ → ℕ → ℤ) (layout : Layout) (n i k : ℕ) → IsSymmetric cost → IsNode n i → k < line_len_of layout n i
-    → cost (get_or (cells_of_line layout n i) k (0, 0)).0 (get_or (cells_of_line layout n i) k (0, 0)).1 ≡ cost i (first_own layout i + k)
+    → cost (get_or (cells_of_line layout n i) k (0, 0)).0 (get_or (cells_of_line layout n i) k (0, 0)).1 ≡ cost i
+    (first_own layout i + k)
 cell_cost cost FullMatrix n i k even node lt =
     ap (λ (cell : ℕ × ℕ). cost cell.0 cell.1) (line_at FullMatrix n i k (0, 0) node.0 node.1 lt)
 cell_cost cost UpperRow n i k even node lt =
@@ -190,7 +197,8 @@ own_cost from n half full even lines i j node low high =
     let inside : k < line_len_of from n i = omega (arith, count, low, high) in
     let place : (i - 1) * n + (j - 1) ≡ line_start_of from n i + k = omega (arith, first, low) in
     let column : first_own from i + k ≡ j = omega (arith, low) in
-    ap (λ p. get_or full p (pos 0)) place ∙ lines i k (omega (arith, node.0)) node.1 inside ∙ cell_cost (listed_cost from n half) from n i k even node inside
+    ap (λ p. get_or full p (pos 0)) place ∙ lines i k (omega (arith, node.0)) node.1 inside
+    ∙ cell_cost (listed_cost from n half) from n i k even node inside
     ∙ ap (listed_cost from n half i) column
 
 -- a cell on the side of a layout's lines is one of them, or on a diagonal that isn't listed
@@ -238,19 +246,23 @@ zero_diagonal from n half i out =
 -- ---- a cell that is written
 
 -- no two cells have one place
-one_place : (n a b i j : ℕ) → IsNode n a → IsNode n b → IsNode n i → IsNode n j → (a - 1) * n + (b - 1) ≡ (i - 1) * n + (j - 1) → ◌≡◌ {A = ℕ × ℕ} (a, b) (i, j)
+one_place : (n a b i j : ℕ) → IsNode n a → IsNode n b → IsNode n i → IsNode n j → (a - 1) * n + (b - 1) ≡ (i - 1) * n + (j - 1)
+    → ◌≡◌ {A = ℕ × ℕ} (a, b) (i, j)
 one_place n a b i j la lb li lj same =
     sym (stands_at FullMatrix n ((a - 1) * n + (b - 1)) (a, b) (placed FullMatrix n a b la lb refl) (0, 0))
-    ∙ stands_at FullMatrix n ((a - 1) * n + (b - 1)) (i, j) (placed FullMatrix n i j li lj refl ∙ ap (λ p. Some p) (sym same)) (0, 0)
+    ∙ stands_at FullMatrix n ((a - 1) * n + (b - 1)) (i, j) (placed FullMatrix n i j li lj refl ∙ ap (λ p. Some p) (sym same))
+    (0, 0)
 
 pub cell_written : (cost : ℕ → ℕ → ℤ) (n : ℕ) (items : List ℤ) (i j place : ℕ) (value : ℤ) → IsNode n i → IsNode n j
     → place ≡ (i - 1) * n + (j - 1) → place < length items → cost i j ≡ value
     → KeepsCosts cost n items (slice_set items place value) × IsCostOfCell cost n (slice_set items place value) i j
 cell_written cost n items i j place value row column is inside same =
     let new = slice_set items place value in
-    let here : IsCostOfCell cost n new i j = ap (λ p. get_or new p (pos 0)) (sym is) ∙ get_or-set_same items place value (pos 0) inside ∙ sym same in (
+    let here : IsCostOfCell cost n new i j = ap (λ p. get_or new p (pos 0)) (sym is)
+    ∙ get_or-set_same items place value (pos 0) inside ∙ sym same in (
       λ a b la lb had. ⊎_elim
-          (λ one. subst (λ (cell : ℕ × ℕ). IsCostOfCell cost n new cell.0 cell.1) (sym (one_place n a b i j la lb row column (one ∙ is))) here)
+          (λ one. subst (λ (cell : ℕ × ℕ). IsCostOfCell cost n new cell.0 cell.1)
+          (sym (one_place n a b i j la lb row column (one ∙ is))) here)
           (λ other. get_or-set_other items place ((a - 1) * n + (b - 1)) value (pos 0) other ∙ had)
           (cases_eq ((a - 1) * n + (b - 1)) place),
       here,
@@ -268,11 +280,15 @@ whole_is cost n full size has =
     (λ k lt.
     let inside : k < length all = omega (arith, lt, size, counted) in
     let cell = get_or all k (0, 0) in
-    let at : place_of FullMatrix n (cell.0, cell.1) ≡ Some k = place_from FullMatrix n k cell inside (λ d. get_or_default all k d (0, 0) inside) in
+    let at : place_of FullMatrix n (cell.0, cell.1) ≡ Some k =
+    place_from FullMatrix n k cell inside (λ d. get_or_default all k d (0, 0) inside) in
     let nodes : IsNode n cell.0 × IsNode n cell.1 = ⊎_elim
-    (λ out. absurd (none-some k (sym (outside FullMatrix n cell.0 cell.1 out) ∙ at))) (λ here. here) (nodes_or_not n cell.0 cell.1) in
-    let place : (cell.0 - 1) * n + (cell.1 - 1) ≡ k = ap (λ o. unwrap_or o 0) (sym (placed FullMatrix n cell.0 cell.1 nodes.0 nodes.1 refl) ∙ at) in
-    ap (λ p. get_or full p (pos 0)) (sym place) ∙ has cell.0 cell.1 nodes.0 nodes.1 ∙ sym (get_or-map f all k (0, 0) (pos 0) inside))
+    (λ out. absurd (none-some k (sym (outside FullMatrix n cell.0 cell.1 out) ∙ at))) (λ here. here)
+    (nodes_or_not n cell.0 cell.1) in
+    let place : (cell.0 - 1) * n + (cell.1 - 1) ≡ k =
+    ap (λ o. unwrap_or o 0) (sym (placed FullMatrix n cell.0 cell.1 nodes.0 nodes.1 refl) ∙ at) in
+    ap (λ p. get_or full p (pos 0)) (sym place) ∙ has cell.0 cell.1 nodes.0 nodes.1
+    ∙ sym (get_or-map f all k (0, 0) (pos 0) inside))
 
 -- ---- where it begins
 
@@ -297,7 +313,8 @@ spread_begins from n count half items filled front = record {
 -- ---- the costs across the diagonal
 
 pair_path : (a b i j : ℕ) → a ≡ i → b ≡ j → ◌≡◌ {A = ℕ × ℕ} (a, b) (i, j)
-pair_path a b i j row column = ap (λ (k : ℕ). let cell : ℕ × ℕ = (k, b) in cell) row ∙ ap (λ (k : ℕ). let cell : ℕ × ℕ = (i, k) in cell) column
+pair_path a b i j row column = ap (λ (k : ℕ). let cell : ℕ × ℕ = (k, b) in cell) row
+    ∙ ap (λ (k : ℕ). let cell : ℕ × ℕ = (i, k) in cell) column
 
 -- one cell of the diagonal more
 pub diagonal_more : (cost : ℕ → ℕ → ℤ) (n node place : ℕ) (old items : List ℤ) → ((i : ℕ) → cost i i ≡ pos 0) → IsNode n node
@@ -311,7 +328,8 @@ diagonal_more cost n node place old items nothing here is inside so_far =
           (λ earlier. written.0 i j row column (so_far.1 i j row column (kind.0, earlier)))
           (λ last.
           let same : node ≡ i = omega (arith, last, kind.1) in
-          subst (λ (cell : ℕ × ℕ). IsCostOfCell cost n (slice_set items place (pos 0)) cell.0 cell.1) {x = (node, node)} {y = (i, j)} (pair_path node node i j same (same ∙ kind.0)) written.1)
+          subst (λ (cell : ℕ × ℕ). IsCostOfCell cost n (slice_set items place (pos 0)) cell.0 cell.1) {x = (node, node)} {y =
+          (i, j)} (pair_path node node i j same (same ∙ kind.0)) written.1)
           (cases_lt i node),
     )
 
@@ -331,6 +349,7 @@ column_more above cost n row first j place value old items even side here there 
           (λ earlier. written.0 i k li lk (so_far.1 i k li lk (kind.0, kind.1, earlier)))
           (λ last.
           let column : j ≡ k = omega (arith, last, kind.2) in
-          subst (λ (cell : ℕ × ℕ). IsCostOfCell cost n (slice_set items place value) cell.0 cell.1) {x = (row, j)} {y = (i, k)} (pair_path row j i k (sym kind.0) column) written.1)
+          subst (λ (cell : ℕ × ℕ). IsCostOfCell cost n (slice_set items place value) cell.0 cell.1) {x = (row, j)} {y = (i, k)}
+          (pair_path row j i k (sym kind.0) column) written.1)
           (cases_lt k j),
     )

@@ -86,7 +86,8 @@ flat_short_of fits text k most each xs all few = grind (arith, flat_short fits t
 numbered_short : {A : Type 0} (fits : A → Bool) (numbers : A → List (List ℕ)) (k : ℕ)
     → ((x : A) → fits x ≡ true → length (number_line [] (numbers x)) ≤ k) → (start : ℕ) (xs : List A)
     → start + length xs ≤ most_nodes + 1 → list_all fits xs ≡ true
-    → length (flat_map (λ (entry : ℕ × A). number_line (decimal entry.0) (numbers entry.1)) (enumerate_from start xs)) ≤ (6 + k) * length xs
+    → length (flat_map (λ (entry : ℕ × A). number_line (decimal entry.0) (numbers entry.1)) (enumerate_from start xs)) ≤ (6 + k)
+    * length xs
 numbered_short fits numbers k each start [] few all = omega arith
 numbered_short {A} fits numbers k each start (x ∷ xs) few all =
     let line : ℕ × A → List ℕ = λ (entry : ℕ × A). number_line (decimal entry.0) (numbers entry.1) in
@@ -122,7 +123,14 @@ node_list_short fits short nodes all =
 
 pub line_of_two_short : (a b : List ℕ) → (length a ≤ 6) × (length b ≤ 6) → length (number_line a (b ∷ [])) ≤ 14
 line_of_two_short a b short =
-    omega (arith, length-append a (flat_map (λ (text : List ℕ). 32 ∷ text) (b ∷ []) ++ line_end), length-append (32 ∷ b) [], length-append ((32 ∷ b) ++ []) line_end, short.0, short.1)
+    omega (
+      arith,
+      length-append a (flat_map (λ (text : List ℕ). 32 ∷ text) (b ∷ []) ++ line_end),
+      length-append (32 ∷ b) [],
+      length-append ((32 ∷ b) ++ []) line_end,
+      short.0,
+      short.1,
+    )
 
 pub pair_list_short : (fits : ℕ × ℕ → Bool)
     → ((pair : ℕ × ℕ) → fits pair ≡ true → (length (decimal pair.0) ≤ 6) × (length (decimal pair.1) ≤ 6)) → (pairs : List (ℕ × ℕ))
@@ -136,21 +144,38 @@ line_of_three_short : (a b c : List ℕ) → (length a ≤ 6) × (length b ≤ 6
     → length (number_line a (b ∷ c ∷ [])) ≤ 32
 line_of_three_short a b c short =
     let more : List ℕ = (32 ∷ c) ++ [] in
-    omega (arith, length-append a (((32 ∷ b) ++ more) ++ line_end), length-append ((32 ∷ b) ++ more) line_end, length-append (32 ∷ b) more, length-append (32 ∷ c) [], short.0, short.1, short.2)
+    omega (
+      arith,
+      length-append a (((32 ∷ b) ++ more) ++ line_end),
+      length-append ((32 ∷ b) ++ more) line_end,
+      length-append (32 ∷ b) more,
+      length-append (32 ∷ c) [],
+      short.0,
+      short.1,
+      short.2,
+    )
 
 pub triple_list_short : (fits : ℕ × ℕ × ℤ → Bool)
-    → ((triple : ℕ × ℕ × ℤ) → fits triple ≡ true → (length (decimal triple.0) ≤ 6) × (length (decimal triple.1) ≤ 6) × (length (signed_decimal triple.2) ≤ 17))
+    → ((triple : ℕ × ℕ × ℤ) → fits triple ≡ true
+    → (length (decimal triple.0) ≤ 6) × (length (decimal triple.1) ≤ 6) × (length (signed_decimal triple.2) ≤ 17))
     → (triples : List (ℕ × ℕ × ℤ)) → list_all fits triples ≡ true → length (triple_list triples) ≤ 32 * length triples + 3
 triple_list_short fits short triples all =
     let line : ℕ × ℕ × ℤ → List ℕ = λ triple. number_line (decimal triple.0) (decimal triple.1 ∷ signed_decimal triple.2 ∷ []) in
-    ended_short fits line 32 (λ triple fit. line_of_three_short (decimal triple.0) (decimal triple.1) (signed_decimal triple.2) (short triple fit)) triples all
+    ended_short fits line 32
+    (λ triple fit. line_of_three_short (decimal triple.0) (decimal triple.1) (signed_decimal triple.2) (short triple fit)) triples
+    all
 
 -- a tour has a node, so that the line after it is paid for by a node
 tour_short : (tour : List ℕ) → is_node_list tour ≡ true → length (node_list tour) ≤ 10 * length tour
 tour_short tour fits =
     let parts = and_parts (nat_le 1 (length tour)) (list_all (is_node most_nodes) tour) fits in
     let some = leb-true 1 (length tour) parts.0 in
-    omega (arith, some, node_list_short (is_node most_nodes) (λ node fit. node_short most_nodes node (omega arith) fit) tour parts.1)
+    omega (
+      arith,
+      some,
+      node_list_short (is_node most_nodes) (λ node fit. node_short most_nodes node (omega arith) fit) tour
+          parts.1,
+    )
 
 pub tours_short : (tours : List (List ℕ)) → list_all is_node_list tours ≡ true
     → length (flat_map node_list tours) ≤ 10 * sum_by length tours
@@ -158,7 +183,13 @@ tours_short [] all = omega arith
 tours_short (tour ∷ tours) all =
     let parts = and_parts (is_node_list tour) (list_all is_node_list tours) all in
     let sum : sum_by length (tour ∷ tours) ≡ length tour + sum_by length tours = sum_by-cons length tour tours in
-    omega (arith, length-append (node_list tour) (flat_map node_list tours), tour_short tour parts.0, tours_short tours parts.1, sum)
+    omega (
+      arith,
+      length-append (node_list tour) (flat_map node_list tours),
+      tour_short tour parts.0,
+      tours_short tours parts.1,
+      sum,
+    )
 
 -- ---- weights
 
@@ -172,20 +203,32 @@ weight_line_short [] all = omega arith
 weight_line_short (first ∷ rest) all =
     let word : ℤ → List ℕ = λ weight. 32 ∷ signed_decimal weight in
     let parts = and_parts (is_within most_weight first) (list_all (is_within most_weight) rest) all in
-    let each : (weight : ℤ) → is_within most_weight weight ≡ true → length (word weight) ≤ 15 = λ weight fit. omega (arith, weight_short weight fit) in
+    let each : (weight : ℤ) → is_within most_weight weight ≡ true → length (word weight) ≤ 15 =
+    λ weight fit. omega (arith, weight_short weight fit) in
     let words = flat_map-map (λ (text : List ℕ). 32 ∷ text) signed_decimal rest in
     let others = flat_short (is_within most_weight) word 15 each rest parts.1 in
     let more = length-append (flat_map (λ (text : List ℕ). 32 ∷ text) (map signed_decimal rest)) line_end in
-    omega (arith, length-append (signed_decimal first) (flat_map (λ (text : List ℕ). 32 ∷ text) (map signed_decimal rest) ++ line_end), more, ap length words, others, weight_short first parts.0)
+    omega (
+      arith,
+      length-append (signed_decimal first)
+          (flat_map (λ (text : List ℕ). 32 ∷ text) (map signed_decimal rest) ++ line_end),
+      more,
+      ap length words,
+      others,
+      weight_short first parts.0,
+    )
 
 pub matrix_lines_short : (lens : List ℕ) (weights : List ℤ) → list_all (is_within most_weight) weights ≡ true
     → length (matrix_lines lens weights) ≤ 15 * length weights
 matrix_lines_short [] weights all = weight_line_short weights all
 matrix_lines_short (len ∷ lens) weights all =
-    let halves : list_all (is_within most_weight) (take len weights ++ drop len weights) ≡ true = subst (λ ws. list_all (is_within most_weight) ws ≡ true) (sym (take-append-drop len weights)) all in
-    let parts = and_parts (list_all (is_within most_weight) (take len weights)) (list_all (is_within most_weight) (drop len weights))
+    let halves : list_all (is_within most_weight) (take len weights ++ drop len weights) ≡ true =
+    subst (λ ws. list_all (is_within most_weight) ws ≡ true) (sym (take-append-drop len weights)) all in
+    let parts = and_parts (list_all (is_within most_weight) (take len weights))
+    (list_all (is_within most_weight) (drop len weights))
     (sym (list_all-append (is_within most_weight) (take len weights) (drop len weights)) ∙ halves) in
-    let both : length weights ≡ length (take len weights) + length (drop len weights) = ap length (sym (take-append-drop len weights)) ∙ length-append (take len weights) (drop len weights) in
+    let both : length weights ≡ length (take len weights) + length (drop len weights) =
+    ap length (sym (take-append-drop len weights)) ∙ length-append (take len weights) (drop len weights) in
     let line = weight_line_short (take len weights) parts.0 in
     let others = matrix_lines_short lens (drop len weights) parts.1 in
     omega (arith, length-append (weight_line (take len weights)) (matrix_lines lens (drop len weights)), both, line, others)

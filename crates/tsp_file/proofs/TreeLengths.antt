@@ -34,8 +34,15 @@ set_short : (n : ℕ) → n ≤ most_nodes → (set : List ℕ) → is_set_of n 
 set_short n most set fits =
     let parts = and_parts (nat_le 1 (length set)) (list_all (is_node n) set) fits in
     let some = leb-true 1 (length set) parts.0 in
-    let nodes = flat_short (is_node n) (λ node. before_blank (decimal node)) 7 (λ node fit. blank_after (decimal node) 6 (node_short n node most fit)) set parts.1 in
-    omega (arith, some, nodes, ap length (flat_map-map before_blank decimal set), end_after (flat_map before_blank (map decimal set)))
+    let nodes = flat_short (is_node n) (λ node. before_blank (decimal node)) 7
+    (λ node fit. blank_after (decimal node) 6 (node_short n node most fit)) set parts.1 in
+    omega (
+      arith,
+      some,
+      nodes,
+      ap length (flat_map-map before_blank decimal set),
+      end_after (flat_map before_blank (map decimal set)),
+    )
 
 sets_short : (n : ℕ) → n ≤ most_nodes → (sets : List (List ℕ)) → list_all (is_set_of n) sets ≡ true
     → length (flat_map set_line sets) ≤ 10 * sum_by length sets
@@ -43,7 +50,13 @@ sets_short n most [] all = omega arith
 sets_short n most (set ∷ sets) all =
     let parts = and_parts (is_set_of n set) (list_all (is_set_of n) sets) all in
     let sum : sum_by length (set ∷ sets) ≡ length set + sum_by length sets = sum_by-cons length set sets in
-    omega (arith, length-append (set_line set) (flat_map set_line sets), set_short n most set parts.0, sets_short n most sets parts.1, sum)
+    omega (
+      arith,
+      length-append (set_line set) (flat_map set_line sets),
+      set_short n most set parts.0,
+      sets_short n most sets parts.1,
+      sum,
+    )
 
 comb_short : (n : ℕ) → n ≤ most_nodes → (comb : List (List ℕ)) → are_sets n comb ≡ true
     → length (comb_lines comb) ≤ 10 * sum_by length comb + 3
@@ -56,14 +69,22 @@ each_comb_short : (n : ℕ) → n ≤ most_nodes → (combs : List (List (List �
 each_comb_short n most [] all = omega arith
 each_comb_short n most (comb ∷ combs) all =
     let parts = and_parts (are_sets n comb) (list_all (are_sets n) combs) all in
-    let sum : sum_by (sum_by length) (comb ∷ combs) ≡ sum_by length comb + sum_by (sum_by length) combs = sum_by-cons (sum_by length) comb combs in
-    omega (arith, length-append (comb_lines comb) (flat_map comb_lines combs), comb_short n most comb parts.0, each_comb_short n most combs parts.1, sum)
+    let sum : sum_by (sum_by length) (comb ∷ combs) ≡ sum_by length comb + sum_by (sum_by length) combs =
+    sum_by-cons (sum_by length) comb combs in
+    omega (
+      arith,
+      length-append (comb_lines comb) (flat_map comb_lines combs),
+      comb_short n most comb parts.0,
+      each_comb_short n most combs parts.1,
+      sum,
+    )
 
 -- each of 1,000,000 nodes in at most 10 bytes, and a line for each of 10,000 combs
 pub combs_short : (n : ℕ) (combs : List (List (List ℕ))) → n ≤ most_nodes → are_combs n combs ≡ true
     → length (comb_list combs) ≤ 10030003
 combs_short n combs most fits =
-    let parts = three_parts (nat_le (length combs) most_combs) (list_all (are_sets n) combs) (nat_le (sum_by (sum_by length) combs) most_comb_nodes) fits in
+    let parts = three_parts (nat_le (length combs) most_combs) (list_all (are_sets n) combs)
+    (nat_le (sum_by (sum_by length) combs) most_comb_nodes) fits in
     let few = leb-true (length combs) most_combs parts.0 in
     let few_nodes = leb-true (sum_by (sum_by length) combs) most_comb_nodes parts.2 in
     omega (arith, few, few_nodes, each_comb_short n most combs parts.1, end_after (flat_map comb_lines combs))
@@ -81,14 +102,23 @@ change_short : (n : ℕ) → n ≤ most_nodes → (change : ℕ × ℤ) → is_c
 change_short n most change fits =
     let parts = and_parts (is_node (n + most_combs) change.0) (is_within most_difference change.1) fits in
     let index = blank_after (decimal change.0) 6 (index_short n change.0 most parts.0) in
-    let difference = blank_after (signed_decimal change.1) 17 (within_short 16 most_difference change.1 (omega arith) (omega arith) parts.1) in
-    omega (arith, index, difference, length-append (before_blank (decimal change.0)) (before_blank (signed_decimal change.1) ++ []), length-append (before_blank (signed_decimal change.1)) [])
+    let difference = blank_after (signed_decimal change.1) 17
+    (within_short 16 most_difference change.1 (omega arith) (omega arith) parts.1) in
+    omega (
+      arith,
+      index,
+      difference,
+      length-append (before_blank (decimal change.0))
+          (before_blank (signed_decimal change.1) ++ []),
+      length-append (before_blank (signed_decimal change.1)) [],
+    )
 
 leaf_short : (n : ℕ) → n ≤ most_nodes → (changes : List (ℕ × ℤ)) → list_all (is_change n) changes ≡ true
     → length (step_line (Leaf changes)) ≤ 25 * length changes + 5
 leaf_short n most changes all =
     let words : List (List ℕ) = flat_map change_words changes in
-    let each = flat_short (is_change n) (λ (change : ℕ × ℤ). flat_map before_blank (change_words change)) 25 (change_short n most) changes all in
+    let each = flat_short (is_change n) (λ (change : ℕ × ℤ). flat_map before_blank (change_words change)) 25 (change_short n most)
+    changes all in
     omega (
       arith,
       each,
@@ -113,17 +143,25 @@ all_steps_short n most zero (step ∷ steps) all whole = absurd (false≢true wh
 all_steps_short n most (suc count) (Branch first second ∷ steps) all whole =
     let parts = and_parts (is_step n (Branch first second)) (list_all (is_step n) steps) all in
     let others = all_steps_short n most (suc (suc count)) steps parts.1 whole in
-    omega (arith, length-append (step_line (Branch first second)) (case_tree_lines steps), branch_short n first second most parts.0, others)
+    omega (
+      arith,
+      length-append (step_line (Branch first second)) (case_tree_lines steps),
+      branch_short n first second most parts.0,
+      others,
+    )
 all_steps_short n most (suc count) (Leaf changes ∷ steps) all whole =
     let parts = and_parts (is_step n (Leaf changes)) (list_all (is_step n) steps) all in
     let others = all_steps_short n most count steps parts.1 whole in
     omega (arith, length-append (step_line (Leaf changes)) (case_tree_lines steps), leaf_short n most changes parts.0, others)
 
 -- each of 10,000,000 differences with its index in at most 25 bytes, and 19 for each of 1,000,000 branches and a leaf
-pub steps_short : (n : ℕ) (steps : List Step) → n ≤ most_nodes → are_tree_steps n steps ≡ true → length (case_tree_lines steps) ≤ 269000005
+pub steps_short : (n : ℕ) (steps : List Step) → n ≤ most_nodes → are_tree_steps n steps ≡ true
+    → length (case_tree_lines steps) ≤ 269000005
 steps_short n steps most fits =
-    let both = and_parts (list_all (is_step n) steps && nat_le (branch_count steps) most_branches && nat_le (change_count steps) most_changes) (are_whole 1 steps) fits in
-    let parts = three_parts (list_all (is_step n) steps) (nat_le (branch_count steps) most_branches) (nat_le (change_count steps) most_changes) both.0 in
+    let both = and_parts (list_all (is_step n) steps && nat_le (branch_count steps) most_branches && nat_le (change_count steps)
+    most_changes) (are_whole 1 steps) fits in
+    let parts = three_parts (list_all (is_step n) steps) (nat_le (branch_count steps) most_branches)
+    (nat_le (change_count steps) most_changes) both.0 in
     let few = leb-true (branch_count steps) most_branches parts.1 in
     let few_changes = leb-true (change_count steps) most_changes parts.2 in
     omega (arith, few, few_changes, all_steps_short n most 1 steps parts.0 both.1)

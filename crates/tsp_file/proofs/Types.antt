@@ -31,6 +31,7 @@ kind_first (Some kind) rest e = absurd cc
 pub has_kind : (f : Fields) → fault_of f ≡ None → f.kind ≡ None → ⊥
 has_kind f sound none =
     let missing : first_failing (is_there (standing_of f)) asked_in_order ≡ Some TypeKey = kind_first f.kind _ none in
-    let at_end : end_fault (standing_of f) None ≡ Some (Missing TypeKey) = ap (λ (field : Option Field). option_or (option_map (λ m. Missing m) field) (format_or_count (standing_of f))) missing in
+    let at_end : end_fault (standing_of f) None ≡ Some (Missing TypeKey) =
+    ap (λ (field : Option Field). option_or (option_map (λ m. Missing m) field) (format_or_count (standing_of f))) missing in
     let nothing = sym at_end ∙ sound_at_end f sound in
     absurd cc

@@ -53,7 +53,8 @@ few_cells LowerDiagCol n = half_square n
 
 is_small : (z : ℤ) → IsWithin most_weight z → is_within most_weight z ≡ true
 is_small z within =
-    and_true (int_le (neg_ℤ (pos most_weight)) z) (int_le z (pos most_weight)) (grind (arith, ints, within.0)) (grind (arith, ints, within.1))
+    and_true (int_le (neg_ℤ (pos most_weight)) z) (int_le z (pos most_weight)) (grind (arith, ints, within.0))
+    (grind (arith, ints, within.1))
 
 weights_fit : (layout : Layout) (n : ℕ) (weights : List ℤ) → n ≤ most_matrix_nodes → length weights ≡ length (cells layout n)
     → All (IsWithin most_weight) weights → fit_matrix n weights ≡ true
@@ -120,17 +121,24 @@ still_valid : (f : Fields) (to : Layout) (old weights : List ℤ) → fault_of f
     → fault_of (with_weights f to weights) ≡ None
 still_valid f to old weights valid stand held filled sizes =
     let new = with_weights f to weights in
-    let fit : with_dimension fit_matrix f.dimension weights ≡ true = ap (λ o. with_dimension fit_matrix o weights) held.dimension ∙ weights_fit to held.n weights held.few_nodes filled sizes in
+    let fit : with_dimension fit_matrix f.dimension weights ≡ true = ap (λ o. with_dimension fit_matrix o weights) held.dimension
+    ∙ weights_fit to held.n weights held.few_nodes filled sizes in
     let fields : bad_field new ≡ None = none_fails (fits new) fields_in_order (each_fits_with f to weights valid fit) in
     let there : first_failing (is_there (standing_of new)) asked_in_order ≡ None =
-    as_given (λ g. first_failing (is_there (standing_of g)) asked_in_order ≡ None) f held.layout old held.format stand (no_field_missing f valid) in
-    let format : has_wrong_format (standing_of new) ≡ false = as_given (λ g. has_wrong_format (standing_of g) ≡ false) f held.layout old held.format stand (format_and_count f valid).0 in
-    let count : has_wrong_count (standing_of new) ≡ false = count_right f.dimension held.n to (length weights) held.dimension filled in
-    let rest : format_or_count (standing_of new) ≡ None = ap (λ b. cond b (Some WrongFormat) (cond (has_wrong_count (standing_of new)) (Some WrongCount) None))
+    as_given (λ g. first_failing (is_there (standing_of g)) asked_in_order ≡ None) f held.layout old held.format stand
+    (no_field_missing f valid) in
+    let format : has_wrong_format (standing_of new) ≡ false =
+    as_given (λ g. has_wrong_format (standing_of g) ≡ false) f held.layout old held.format stand (format_and_count f valid).0 in
+    let count : has_wrong_count (standing_of new) ≡ false =
+    count_right f.dimension held.n to (length weights) held.dimension filled in
+    let rest : format_or_count (standing_of new) ≡ None =
+    ap (λ b. cond b (Some WrongFormat) (cond (has_wrong_count (standing_of new)) (Some WrongCount) None))
     format ∙ ap (λ b. cond b (Some WrongCount) None) count in
     let end : end_fault (standing_of new) None ≡ None =
-    ap (λ (o : Option Field). option_or (option_map (λ field. Missing field) o) (format_or_count (standing_of new))) there ∙ rest in
-    ap (λ (o : Option Field). option_or (option_map (λ field. BadField field) o) (option_map (λ fault. Rule fault) (end_fault (standing_of new) None))) fields
+    ap (λ (o : Option Field). option_or (option_map (λ field. Missing field) o) (format_or_count (standing_of new))) there
+    ∙ rest in
+    ap (λ (o : Option Field). option_or (option_map (λ field. BadField field) o)
+    (option_map (λ fault. Rule fault) (end_fault (standing_of new) None))) fields
     ∙ ap (λ (o : Option EndFault). option_map (λ fault. Rule fault) o) end
 
 pub some_is : {A : Type 0} (o : Option A) → IsSome o → (x : A) × (o ≡ Some x)

@@ -59,7 +59,8 @@ numbers_of_used : (n : ℕ) (nodes : List ℕ) (triples : List (ℕ × ℕ × �
 numbers_of_used n nodes [] laws some cycle used = sum_zero (links nodes)
 numbers_of_used n nodes (t ∷ ts) laws some cycle used =
     let split = laws.sum (number_on t) (numbers_on ts) nodes in
-    let first = (sum_counted (is_same_pair (pair_of t)) t.2 (links nodes)).1 (count_neighbours n nodes (pair_of t) laws some cycle used.0) in
+    let first = (sum_counted (is_same_pair (pair_of t)) t.2 (links nodes)).1
+    (count_neighbours n nodes (pair_of t) laws some cycle used.0) in
     let rest = numbers_of_used n nodes ts laws some cycle used.1 in
     omega (arith, ints, split, first, rest)
 
@@ -79,21 +80,26 @@ difference f g (x ∷ xs) = let rest = difference f g xs in omega (arith, ints, 
 
 -- the length under adjusted weights
 adjusted_length : (taken avoided : List (ℕ × ℕ × ℤ)) (w : ℕ → ℕ → ℤ) (nodes : List ℕ) → Laws
-    → length_of (adjusted taken avoided w) nodes ≡ (length_of w nodes -ℤ length_of (numbers_on taken) nodes) +ℤ length_of (numbers_on avoided) nodes
+    → length_of (adjusted taken avoided w) nodes ≡ (length_of w nodes -ℤ length_of (numbers_on taken) nodes) +ℤ length_of
+    (numbers_on avoided) nodes
 adjusted_length taken avoided w nodes laws =
     let outer = laws.sum (λ i j. w i j -ℤ numbers_on taken i j) (numbers_on avoided) nodes in
     let inner = difference (λ (link : ℕ × ℕ). w link.0 link.1) (λ (link : ℕ × ℕ). numbers_on taken link.0 link.1) (links nodes) in
     omega (arith, ints, outer, inner)
 
 -- what a cycle weighs that uses each taken pair and no avoided one
-pub adjusted_cycle : (n : ℕ) (cost : ℕ → ℕ → ℤ) (scale : ℤ) (potentials : List ℤ) (taken avoided : List (ℕ × ℕ × ℤ)) (nodes : List ℕ)
+pub adjusted_cycle : (n : ℕ) (cost : ℕ → ℕ → ℤ) (scale : ℤ) (potentials : List ℤ) (taken avoided : List (ℕ × ℕ × ℤ))
+    (nodes : List ℕ)
     → Laws → 3 ≤ n → IsScale scale → length potentials ≡ n
     → IsCycle n nodes → UsesEach taken nodes → UsesNone avoided nodes
-    → length_of (adjusted taken avoided (weight_between scale potentials cost)) nodes ≡ ((scale *ℤ length_of cost nodes) +ℤ (pos 2 *ℤ total potentials)) -ℤ triples_total taken
+    → length_of (adjusted taken avoided (weight_between scale potentials cost)) nodes
+    ≡ ((scale *ℤ length_of cost nodes) +ℤ (pos 2 *ℤ total potentials)) -ℤ triples_total taken
 adjusted_cycle n cost scale potentials taken avoided nodes laws some scale_in long cycle used unused =
     let own = adjusted_length taken avoided (weight_between scale potentials cost) nodes laws in
-    let less = numbers_of_used n nodes taken laws some cycle (recursion_from_All (λ t. AreNeighbours nodes (pair_of t)) taken used) in
-    let more = numbers_of_unused nodes avoided laws (recursion_from_All (λ t. AreNeighbours nodes (pair_of t) → ⊥) avoided unused) in
+    let less = numbers_of_used n nodes taken laws some cycle
+    (recursion_from_All (λ t. AreNeighbours nodes (pair_of t)) taken used) in
+    let more = numbers_of_unused nodes avoided laws
+    (recursion_from_All (λ t. AreNeighbours nodes (pair_of t) → ⊥) avoided unused) in
     let split = laws.sum (λ i j. scale *ℤ cost i j) (λ i j. entry potentials i +ℤ entry potentials j) nodes in
     let sums = entries_of_links n nodes potentials potentials laws long long cycle in
     let whole = scaled_length scale cost nodes laws scale_in in
@@ -102,7 +108,8 @@ adjusted_cycle n cost scale potentials taken avoided nodes laws some scale_in lo
 pub adjusted_bounds_bound_cycles : Laws → AdjustedBoundsBoundCycles
 adjusted_bounds_bound_cycles laws n cost scale potentials taken avoided bound nodes some even scale_in long is cycle used unused =
     let w = weight_between scale potentials cost in
-    let below = least_tree_below laws n (adjusted taken avoided w) is.tree nodes some (adjusted_even taken avoided w (weight_even scale potentials cost even)) is.least cycle in
+    let below = least_tree_below laws n (adjusted taken avoided w) is.tree nodes some
+    (adjusted_even taken avoided w (weight_even scale potentials cost even)) is.least cycle in
     let own = adjusted_cycle n cost scale potentials taken avoided nodes laws some scale_in long cycle used unused in
     is.bound_is.least (length_of cost nodes) (omega (arith, ints, below, own))
 
@@ -119,7 +126,8 @@ unadjusted_bounds_are_node_bounds n cost scale potentials bound is =
       tree = is.tree;
       least = record {
         tree = is.least.tree;
-        least = λ others tree. subst₂ (λ a b. a ≤ℤ b) (unadjusted_weight w is.tree) (unadjusted_weight w others) (is.least.least others tree);
+        least = λ others tree. subst₂ (λ a b. a ≤ℤ b) (unadjusted_weight w is.tree) (unadjusted_weight w others)
+            (is.least.least others tree);
       };
       bound_is = record {
         above = let own = is.bound_is.above in omega (arith, ints, own, unadjusted_weight w is.tree);

@@ -14,8 +14,10 @@ pub record Laws : Type 0 where
   pub sum_of_cycle : (n : ℕ) (nodes : List ℕ) (f : ℕ → ℤ) → IsCycle n nodes → sum_int_by f nodes ≡ sum_int_by f (nodes_to n)
   pub by_first : (f : ℕ → ℤ) (nodes : List ℕ) → length_of (λ i j. f i) nodes ≡ sum_int_by f nodes
   pub by_second : (f : ℕ → ℤ) (nodes : List ℕ) → length_of (λ i j. f j) nodes ≡ sum_int_by f nodes
-  pub sum : (first second : ℕ → ℕ → ℤ) (nodes : List ℕ) → length_of (λ i j. first i j +ℤ second i j) nodes ≡ length_of first nodes +ℤ length_of second nodes
-  pub scale : (scale : ℕ) (cost : ℕ → ℕ → ℤ) (nodes : List ℕ) → length_of (λ i j. pos scale *ℤ cost i j) nodes ≡ pos scale *ℤ length_of cost nodes
+  pub sum : (first second : ℕ → ℕ → ℤ) (nodes : List ℕ)
+      → length_of (λ i j. first i j +ℤ second i j) nodes ≡ length_of first nodes +ℤ length_of second nodes
+  pub scale : (scale : ℕ) (cost : ℕ → ℕ → ℤ) (nodes : List ℕ)
+      → length_of (λ i j. pos scale *ℤ cost i j) nodes ≡ pos scale *ℤ length_of cost nodes
   pub no_loops : (n : ℕ) (nodes : List ℕ) (lower upper : ℕ → ℕ → ℤ) → 2 ≤ n → IsCycle n nodes
       → ((i j : ℕ) → IsNode n i → IsNode n j → i ≢ j → lower i j ≤ℤ upper i j) → length_of lower nodes ≤ℤ length_of upper nodes
 
@@ -25,7 +27,8 @@ sum_by_places : (numbers : List ℤ) (a : ℕ) (f : ℕ → ℤ) → ((k : ℕ) 
 sum_by_places [] a f h = refl
 sum_by_places (z ∷ zs) a f h =
     let first : f a ≡ z = subst (λ (i : ℕ). f i ≡ z) (omega arith) (h 0 (omega arith)) in
-    let rest = sum_by_places zs (a + 1) f (λ k lt. subst (λ (i : ℕ). f i ≡ get_or zs k (pos 0)) (omega arith) (h (suc k) (omega arith))) in
+    let rest = sum_by_places zs (a + 1) f
+    (λ k lt. subst (λ (i : ℕ). f i ≡ get_or zs k (pos 0)) (omega arith) (h (suc k) (omega arith))) in
     omega (arith, ints)
 
 -- the entries of all nodes add up to the total

@@ -48,20 +48,24 @@ permutation_from_inside (x ∷ xs) ys apart inside few =
     let taken : IsPermutation ys (x ∷ remove ys i) = IsPermutation-remove ys i x inside.0.1 (sym inside.0.2) in
     let counted = length_permutation ys (x ∷ remove ys i) taken in
     let fewer : length (remove ys i) ≤ length xs = omega arith in
-    let rest = permutation_from_inside xs (remove ys i) apart.1 (still_inside xs ys (remove ys i) x taken apart.0 inside.1) fewer in
-    IsPermutation-trans (x ∷ xs) (x ∷ remove ys i) ys (IsPermutation-cons x xs (remove ys i) rest) (IsPermutation-sym ys (x ∷ remove ys i) taken)
+    let rest = permutation_from_inside xs (remove ys i) apart.1 (still_inside xs ys (remove ys i) x taken apart.0 inside.1)
+    fewer in
+    IsPermutation-trans (x ∷ xs) (x ∷ remove ys i) ys (IsPermutation-cons x xs (remove ys i) rest)
+    (IsPermutation-sym ys (x ∷ remove ys i) taken)
 
 node_inside : (n node : ℕ) → IsNode n node → Contains (range_with_len 1 n) node
 node_inside n node h =
     let long = length-range_with_len 1 n in
-    let read : get_or (range_with_len 1 n) (node - 1) node ≡ node = get_or-range_with_len 1 n (node - 1) node (omega (arith, h.0, h.1)) ∙ omega (arith, h.0) in
+    let read : get_or (range_with_len 1 n) (node - 1) node ≡ node =
+    get_or-range_with_len 1 n (node - 1) node (omega (arith, h.0, h.1)) ∙ omega (arith, h.0) in
     (node - 1, omega (arith, h.0, h.1), read)
 
 pub cycle_permutation : (n : ℕ) (nodes : List ℕ) → IsCycle n nodes → IsPermutation nodes (nodes_to n)
 unfolding nodes_to
 cycle_permutation n nodes w =
     permutation_from_inside nodes (range_with_len 1 n) (apart_from_pairs nodes w.once)
-    (recursion_from_All (Contains (range_with_len 1 n)) nodes (All-weaker (IsNode n) (Contains (range_with_len 1 n)) (node_inside n) nodes w.range))
+    (recursion_from_All (Contains (range_with_len 1 n)) nodes
+    (All-weaker (IsNode n) (Contains (range_with_len 1 n)) (node_inside n) nodes w.range))
     (omega (arith, length-range_with_len 1 n, w.count))
 
 pub sum_of_cycle : (n : ℕ) (nodes : List ℕ) (f : ℕ → ℤ) → IsCycle n nodes → sum_int_by f nodes ≡ sum_int_by f (nodes_to n)
@@ -106,11 +110,15 @@ links_in_to n end node (next ∷ nodes) e h range apart last away =
 cycle_links : (n : ℕ) (nodes : List ℕ) → 2 ≤ n → IsCycle n nodes → AllByRecursion (IsLink n) (links nodes)
 cycle_links n nodes more w = go nodes w.count (recursion_from_All (IsNode n) nodes w.range) (apart_from_pairs nodes w.once)
   where
-    go : (nodes : List ℕ) → length nodes ≡ n → AllByRecursion (IsNode n) nodes → AllApart nodes → AllByRecursion (IsLink n) (links nodes)
+    go : (nodes : List ℕ) → length nodes ≡ n → AllByRecursion (IsNode n) nodes → AllApart nodes
+        → AllByRecursion (IsLink n) (links nodes)
     go [] count range apart = tt
     go (a ∷ []) count range apart = absurd (omega arith)
-    go (a ∷ b ∷ nodes) count range apart =
-        ((range.0, range.1.0, apart.0.0), links_in_to n a b nodes range.0 range.1.0 range.1.1 apart.1 (λ same. apart.0.0 (sym same)) apart.0.1)
+    go (a ∷ b ∷ nodes) count range apart = (
+      (range.0, range.1.0, apart.0.0),
+      links_in_to n a b nodes range.0 range.1.0 range.1.1 apart.1
+          (λ same. apart.0.0 (sym same)) apart.0.1,
+    )
 
 each_link : (n : ℕ) (lower upper : ℕ → ℕ → ℤ) → ((i j : ℕ) → IsNode n i → IsNode n j → i ≢ j → lower i j ≤ℤ upper i j)
     → (pairs : List (ℕ × ℕ)) → AllByRecursion (IsLink n) pairs

@@ -37,4 +37,5 @@ one_node_bound n cost scale potentials a b p q =
     let first = p.least.least q.tree q.least.tree in
     let second = q.least.least p.tree p.least.tree in
     let same : weight_of w q.tree ≡ weight_of w p.tree = omega (arith, ints, first, second) in
-    one_bound scale (weight_of w p.tree -ℤ (pos 2 *ℤ total potentials)) a b p.bound_is (subst (λ (z : ℤ). IsLeastBound scale (z -ℤ (pos 2 *ℤ total potentials)) b) same q.bound_is)
+    one_bound scale (weight_of w p.tree -ℤ (pos 2 *ℤ total potentials)) a b p.bound_is
+    (subst (λ (z : ℤ). IsLeastBound scale (z -ℤ (pos 2 *ℤ total potentials)) b) same q.bound_is)

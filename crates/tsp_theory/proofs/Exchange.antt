@@ -87,7 +87,8 @@ uncrossed_left part xs ys h k d low =
 
 pub uncrossed_right : (part : ℕ → Bool) (xs ys : List (ℕ × ℕ)) → IsUncrossed part (xs ++ ys) → IsUncrossed part ys
 uncrossed_right part xs ys h k d low =
-    subst (λ pair. crosses part pair ≡ false) (get_or-append-add xs ys k d) (h (length xs + k) d (omega (arith, length-append xs ys, low)))
+    subst (λ pair. crosses part pair ≡ false) (get_or-append-add xs ys k d)
+    (h (length xs + k) d (omega (arith, length-append xs ys, low)))
 
 pub uncrossed_last : (part : ℕ → Bool) (pairs : List (ℕ × ℕ)) (pair : ℕ × ℕ) → IsUncrossed part (pairs ++ pair ∷ [])
     → crosses part pair ≡ false
@@ -133,29 +134,40 @@ leaving_cut : (pairs : List (ℕ × ℕ)) (e : ℕ × ℕ) (a b x y : ℕ) → (
 leaving_cut pairs e a b x y alike cut in_x out_y (inl first) other =
     let part : ℕ → Bool = λ v. cut.part v && first.part v in
     inl (cut_more pairs e a b part (uncrossed_both (λ p q. p && q) cut.part first.part pairs cut.free first.free)
-    (alike part ∙ crosses_neither part x y (and_right (cut.part x) (first.part x) first.outside) (and_left (cut.part y) (first.part y) out_y))
+    (alike part ∙ crosses_neither part x y (and_right (cut.part x) (first.part x) first.outside)
+    (and_left (cut.part y) (first.part y) out_y))
     (and_from (cut.part a) (first.part a) cut.inside first.inside) (and_left (cut.part b) (first.part b) cut.outside))
 leaving_cut pairs e a b x y alike cut in_x out_y (inr tied) (inl second) =
     let part : ℕ → Bool = λ v. cut.part v || second.part v in
     inl (cut_more pairs e a b part (uncrossed_both (λ p q. p || q) cut.part second.part pairs cut.free second.free)
-    (alike part ∙ crosses_both part x y (or_left (cut.part x) (second.part x) in_x) (or_right (cut.part y) (second.part y) second.inside))
+    (alike part ∙ crosses_both part x y (or_left (cut.part x) (second.part x) in_x)
+    (or_right (cut.part y) (second.part y) second.inside))
     (or_left (cut.part a) (second.part a) cut.inside) (or_from (cut.part b) (second.part b) cut.outside second.outside))
 leaving_cut pairs e a b x y alike cut in_x out_y (inr tied) (inr also) = inr (λ part free.
     let earlier = All-tail (λ pair. crosses part pair ≡ false) e pairs free in
-    tied part earlier ∙ (same_side part (x, y) (sym (alike part) ∙ All-head (λ pair. crosses part pair ≡ false) e pairs free) ∙ also part earlier))
+    tied part earlier ∙ (same_side part (x, y) (sym (alike part) ∙ All-head (λ pair. crosses part pair ≡ false) e pairs free)
+    ∙ also part earlier))
 
 cut_or_tied : (pairs : List (ℕ × ℕ)) (a b : ℕ) → IsCut pairs a b ⊎ AreTied pairs a b
 cut_or_tied [] a b = elim (cases_eq b a) [
   | inl same ↦ inr (λ part free. ap part (sym same))
-  | inr other ↦ inl (record { part = λ v. v == a; free = All-nil (λ pair. crosses (λ v. v == a) pair ≡ false); inside = eq-eqb a a refl; outside = ne_eqb b a other })
+  | inr other ↦ inl (record {
+    part = λ v. v == a;
+    free = All-nil (λ pair. crosses (λ v. v == a) pair ≡ false);
+    inside =
+        eq-eqb a a refl;
+    outside = ne_eqb b a other;
+  })
 ]
 cut_or_tied (e ∷ es) a b = elim (cut_or_tied es a b) [
   | inr tied ↦ inr (λ part free. tied part (All-tail (λ pair. crosses part pair ≡ false) e es free))
   | inl cut ↦ elim (cases_Bool (crosses cut.part e)) [
     | inr none ↦ inl (cut_more es e a b cut.part cut.free none cut.inside cut.outside)
     | inl leaves ↦ elim (cases_Bool (cut.part e.0)) [
-      | inl here ↦ leaving_cut es e a b e.0 e.1 (λ part. refl) cut here (other_side cut.part e leaves ∙ ap not here) (cut_or_tied es a e.0) (cut_or_tied es e.1 b)
-      | inr none ↦ leaving_cut es e a b e.1 e.0 (λ part. crosses_turned part e.0 e.1) cut (other_side cut.part e leaves ∙ ap not none) none (cut_or_tied es a e.1) (cut_or_tied es e.0 b)
+      | inl here ↦ leaving_cut es e a b e.0 e.1 (λ part. refl) cut here (other_side cut.part e leaves ∙ ap not here)
+          (cut_or_tied es a e.0) (cut_or_tied es e.1 b)
+      | inr none ↦ leaving_cut es e a b e.1 e.0 (λ part. crosses_turned part e.0 e.1) cut
+          (other_side cut.part e leaves ∙ ap not none) none (cut_or_tied es a e.1) (cut_or_tied es e.0 b)
     ]
   ]
 ]
@@ -171,14 +183,20 @@ differ x y = cond x (not y) y
 tied_by : (a b : ℕ) (earlier : List (ℕ × ℕ)) (t : ℕ × ℕ) → IsCut earlier a b → AreTied (t ∷ earlier) a b → (part : ℕ → Bool)
     → IsUncrossed part earlier → part a ≡ part b
     → crosses part t ≡ false
-tied_by a b earlier t cut tied part free same = false_from_ne_true (crosses part t) (λ leaves. elim (cases_Bool (crosses cut.part t)) [
-  | inr none ↦ both_ways (cut.part a) (tied cut.part (All-cons (λ pair. crosses cut.part pair ≡ false) t earlier none cut.free) ∙ cut.outside) cut.inside
-  | inl also ↦
-      let part_of : ℕ → Bool = λ v. differ (cut.part v) (part v) in
-      let level : part_of t.0 ≡ part_of t.1 = sym (ap₂ differ (other_side cut.part t also) (other_side part t leaves) ∙ both_turned (cut.part t.0) (part t.0)) in
-      let ends : part_of a ≡ part_of b = tied part_of (All-cons (λ pair. crosses part_of pair ≡ false) t earlier (crosses_not part_of t level) (uncrossed_both differ cut.part part earlier cut.free free)) in
-      not_itself (part a) (sym (ap (λ x. differ x (part a)) cut.inside) ∙ ends ∙ ap (λ x. differ x (part b)) cut.outside ∙ sym same)
-])
+tied_by a b earlier t cut tied part free same =
+    false_from_ne_true (crosses part t) (λ leaves. elim (cases_Bool (crosses cut.part t)) [
+      | inr none ↦ both_ways (cut.part a)
+          (tied cut.part (All-cons (λ pair. crosses cut.part pair ≡ false) t earlier none cut.free) ∙ cut.outside) cut.inside
+      | inl also ↦
+          let part_of : ℕ → Bool = λ v. differ (cut.part v) (part v) in
+          let level : part_of t.0 ≡ part_of t.1 =
+          sym (ap₂ differ (other_side cut.part t also) (other_side part t leaves) ∙ both_turned (cut.part t.0) (part t.0)) in
+          let ends : part_of a ≡ part_of b =
+          tied part_of (All-cons (λ pair. crosses part_of pair ≡ false) t earlier (crosses_not part_of t level)
+          (uncrossed_both differ cut.part part earlier cut.free free)) in
+          not_itself (part a) (sym (ap (λ x. differ x (part a)) cut.inside) ∙ ends ∙ ap (λ x. differ x (part b)) cut.outside
+          ∙ sym same)
+    ])
   where
     both_turned : (x y : Bool) → differ (not x) (not y) ≡ differ x y
     both_turned true true = refl
@@ -195,12 +213,14 @@ pub record IsTie (a b : ℕ) (earlier later : List (ℕ × ℕ)) : Type 0 where
   pub pair : ℕ × ℕ
   pub rest : List (ℕ × ℕ)
   pub takes : IsPermutation later (pair ∷ rest)
-  pub replaced : (part : ℕ → Bool) → IsUncrossed part earlier → IsUncrossed part rest → part a ≡ part b → crosses part pair ≡ false
+  pub replaced : (part : ℕ → Bool) → IsUncrossed part earlier → IsUncrossed part rest → part a ≡ part b
+      → crosses part pair ≡ false
 
 tie : (a b : ℕ) (earlier later : List (ℕ × ℕ)) → IsCut earlier a b
     → ((part : ℕ → Bool) → IsUncrossed part earlier → IsUncrossed part later → part a ≡ part b) → IsTie a b earlier later
 tie a b earlier [] cut joined =
-    absurd (both_ways (cut.part a) (joined cut.part cut.free (All-nil (λ pair. crosses cut.part pair ≡ false)) ∙ cut.outside) cut.inside)
+    absurd (both_ways (cut.part a) (joined cut.part cut.free (All-nil (λ pair. crosses cut.part pair ≡ false)) ∙ cut.outside)
+    cut.inside)
 tie a b earlier (t ∷ ts) cut joined = elim (cut_or_tied (t ∷ earlier) a b) [
   | inr tied ↦ record {
     pair = t;
@@ -217,7 +237,8 @@ tie a b earlier (t ∷ ts) cut joined = elim (cut_or_tied (t ∷ earlier) a b) [
         rest = t ∷ x.rest;
         takes = IsPermutation-trans _ _ _ (IsPermutation-cons t _ _ x.takes) (IsPermutation-middle (t ∷ []) x.pair x.rest);
         replaced = λ part free others same. x.replaced part
-            (All-cons (λ pair. crosses part pair ≡ false) t earlier (All-head (λ pair. crosses part pair ≡ false) t x.rest others) free)
+            (All-cons (λ pair. crosses part pair ≡ false) t earlier (All-head (λ pair. crosses part pair ≡ false) t x.rest others)
+            free)
             (All-tail (λ pair. crosses part pair ≡ false) t x.rest others) same;
       }
 ]
@@ -230,15 +251,18 @@ JoinsBeside Node earlier xs =
     (part : ℕ → Bool) → IsUncrossed part earlier → IsUncrossed part xs → (x y : ℕ) → Node x → Node y → part x ≡ part y
 
 pub crossed_joins : (Node : ℕ → Type 0) (xs : List (ℕ × ℕ))
-    → ((part : ℕ → Bool) (inside outside : ℕ) → Node inside → Node outside → part inside ≡ true → part outside ≡ false → IsCrossed xs part)
+    → ((part : ℕ → Bool) (inside outside : ℕ) → Node inside → Node outside → part inside ≡ true → part outside ≡ false
+    → IsCrossed xs part)
     → JoinsBeside Node [] xs
 crossed_joins Node xs crossed part free also x y in_x in_y = elim (cases_Bool (part x)) [
   | inl t ↦ elim (cases_Bool (part y)) [
     | inl u ↦ t ∙ sym u
-    | inr g ↦ absurd (both_ways (list_any (crosses part) xs) (list_any_none (crosses part) xs also) (crossed part x y in_x in_y t g))
+    | inr g ↦ absurd (both_ways (list_any (crosses part) xs) (list_any_none (crosses part) xs also)
+        (crossed part x y in_x in_y t g))
   ]
   | inr f ↦ elim (cases_Bool (part y)) [
-    | inl u ↦ absurd (both_ways (list_any (crosses part) xs) (list_any_none (crosses part) xs also) (crossed part y x in_y in_x u f))
+    | inl u ↦ absurd (both_ways (list_any (crosses part) xs) (list_any_none (crosses part) xs also)
+        (crossed part y x in_y in_x u f))
     | inr g ↦ f ∙ sym g
   ]
 ]
@@ -263,24 +287,32 @@ exchange Node w earlier xs e join joins =
     let parted : IsPermutation xs (stay ++ leave) = IsPermutation-filter_both staying leaving (λ pair. twice (leaving pair)) xs in
     let x = tie e.0 e.1 (earlier ++ stay) leave (record {
       part = join.part;
-      free = All-append (λ pair. leaving pair ≡ false) earlier stay join.uncrossed (All-weaker (λ pair. staying pair ≡ true) (λ pair. leaving pair ≡ false) (λ pair. not-true (leaving pair)) stay (passing staying xs));
+      free = All-append (λ pair. leaving pair ≡ false) earlier stay join.uncrossed
+          (All-weaker (λ pair. staying pair ≡ true) (λ pair. leaving pair ≡ false) (λ pair. not-true (leaving pair)) stay
+          (passing staying xs));
       inside = join.leaving.from;
       outside = join.leaving.to;
     }) (λ part free others. joins part (uncrossed_left part earlier stay free)
-    (All-permutation (λ pair. crosses part pair ≡ false) (stay ++ leave) xs (IsPermutation-sym _ _ parted) (All-append (λ pair. crosses part pair ≡ false) stay leave (uncrossed_right part earlier stay free) others))
+    (All-permutation (λ pair. crosses part pair ≡ false) (stay ++ leave) xs (IsPermutation-sym _ _ parted)
+    (All-append (λ pair. crosses part pair ≡ false) stay leave (uncrossed_right part earlier stay free) others))
     e.0 e.1 join.from join.leaving.node) in
-    let takes : IsPermutation xs (x.pair ∷ (stay ++ x.rest)) = IsPermutation-trans _ _ _ parted (IsPermutation-trans _ _ _ (IsPermutation-append_right stay _ _ x.takes) (IsPermutation-middle stay x.pair x.rest)) in
+    let takes : IsPermutation xs (x.pair ∷ (stay ++ x.rest)) =
+    IsPermutation-trans _ _ _ parted
+    (IsPermutation-trans _ _ _ (IsPermutation-append_right stay _ _ x.takes) (IsPermutation-middle stay x.pair x.rest)) in
     record {
       pair = x.pair;
       rest = stay ++ x.rest;
       takes = takes;
-      leaves = All-head (λ pair. leaving pair ≡ true) x.pair x.rest (All-permutation (λ pair. leaving pair ≡ true) leave (x.pair ∷ x.rest) x.takes (passing leaving xs));
+      leaves = All-head (λ pair. leaving pair ≡ true) x.pair x.rest
+          (All-permutation (λ pair. leaving pair ≡ true) leave (x.pair ∷ x.rest) x.takes (passing leaving xs));
       joins = λ part free others.
           let before = uncrossed_left part earlier (e ∷ []) free in
           let staying_free = uncrossed_left part stay x.rest others in
           let same = same_side part e (uncrossed_last part earlier e free) in
-          let pair_free = x.replaced part (All-append (λ pair. crosses part pair ≡ false) earlier stay before staying_free) (uncrossed_right part stay x.rest others) same in
-          joins part before (All-permutation (λ pair. crosses part pair ≡ false) (x.pair ∷ (stay ++ x.rest)) xs (IsPermutation-sym _ _ takes)
+          let pair_free = x.replaced part (All-append (λ pair. crosses part pair ≡ false) earlier stay before staying_free)
+          (uncrossed_right part stay x.rest others) same in
+          joins part before (All-permutation (λ pair. crosses part pair ≡ false) (x.pair ∷ (stay ++ x.rest)) xs
+          (IsPermutation-sym _ _ takes)
           (All-cons (λ pair. crosses part pair ≡ false) x.pair (stay ++ x.rest) pair_free others));
     }
   where
@@ -290,7 +322,8 @@ exchange Node w earlier xs e join joins =
 
     passing : (test : ℕ × ℕ → Bool) (pairs : List (ℕ × ℕ)) → All (λ pair. test pair ≡ true) (filter test pairs)
     passing test [] = All-nil (λ pair. test pair ≡ true)
-    passing test (y ∷ ys) = cond_both (test y) (y ∷ filter test ys) (filter test ys) (All (λ pair. test pair ≡ true)) (λ t. All-cons (λ pair. test pair ≡ true) y (filter test ys) t (passing test ys)) (λ f. passing test ys)
+    passing test (y ∷ ys) = cond_both (test y) (y ∷ filter test ys) (filter test ys) (All (λ pair. test pair ≡ true))
+        (λ t. All-cons (λ pair. test pair ≡ true) y (filter test ys) t (passing test ys)) (λ f. passing test ys)
 
 -- ---- the weight of a pair that leaves
 

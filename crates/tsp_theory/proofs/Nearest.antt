@@ -20,24 +20,29 @@ FindsNearest n inside node least best (Some v) =
     × ((x : ℕ) → IsInner n x → x < node → is_inside inside x ≡ false → best ≤ℤ least_at least x)
 
 -- the nodes before this one are brought up to date, and the others are as they were
-pub record IsBrought (n : ℕ) (w : ℕ → ℕ → ℤ) (inside : List Bool) (next node : ℕ) (old_near : List ℕ) (old_least : List ℤ) (near : List ℕ) (least : List ℤ)
+pub record IsBrought (n : ℕ) (w : ℕ → ℕ → ℤ) (inside : List Bool) (next node : ℕ) (old_near : List ℕ) (old_least : List ℤ)
+    (near : List ℕ) (least : List ℤ)
     (best : ℤ) (nearest : Option ℕ) : Type 0 where
-  pub done : (x : ℕ) → IsInner n x → x < node → is_inside inside x ≡ false → IsNearer (w next x) next (slice_index old_near x) (least_at old_least x) (slice_index near x) (least_at least x)
+  pub done : (x : ℕ) → IsInner n x → x < node → is_inside inside x ≡ false
+      → IsNearer (w next x) next (slice_index old_near x) (least_at old_least x) (slice_index near x) (least_at least x)
   pub small : (x : ℕ) → IsInner n x → x < node → is_inside inside x ≡ false → w next x <ℤ most_64
   pub near_rest : (x : ℕ) → node ≤ x → slice_index near x ≡ slice_index old_near x
   pub least_rest : (x : ℕ) → node ≤ x → least_at least x ≡ least_at old_least x
   pub found : FindsNearest n inside node least best nearest
 
 -- at one node alone something changed
-pub record IsTaken (weight : ℤ) (next node : ℕ) (near : List ℕ) (least : List ℤ) (new_near : List ℕ) (new_least : List ℤ) : Type 0 where
-  pub here : IsNearer weight next (slice_index near node) (least_at least node) (slice_index new_near node) (least_at new_least node)
-  pub near_other : (x : ℕ) → x ≢ node → slice_index new_near x ≡ slice_index near x
-  pub least_other : (x : ℕ) → x ≢ node → least_at new_least x ≡ least_at least x
+pub record IsTaken (weight : ℤ) (next node : ℕ) (near : List ℕ) (least : List ℤ) (new_near : List ℕ) (new_least : List ℤ) : Type 0
+  where
+    pub here : IsNearer weight next (slice_index near node) (least_at least node) (slice_index new_near node)
+        (least_at new_least node)
+    pub near_other : (x : ℕ) → x ≢ node → slice_index new_near x ≡ slice_index near x
+    pub least_other : (x : ℕ) → x ≢ node → least_at new_least x ≡ least_at least x
 
 -- ---- a node inside is passed by
 
 -- plan: a node inside is passed over, so those outside up to here are those before it (`earlier`, `found`)
-pub brought_inside : (n : ℕ) (w : ℕ → ℕ → ℤ) (inside : List Bool) (next node : ℕ) (old_near : List ℕ) (old_least : List ℤ) (near : List ℕ) (least : List ℤ) (best : ℤ) (nearest : Option ℕ)
+pub brought_inside : (n : ℕ) (w : ℕ → ℕ → ℤ) (inside : List Bool) (next node : ℕ) (old_near : List ℕ) (old_least : List ℤ)
+    (near : List ℕ) (least : List ℤ) (best : ℤ) (nearest : Option ℕ)
     → IsBrought n w inside next node old_near old_least near least best nearest → is_inside inside node ≡ true
     → IsBrought n w inside next (node + 1) old_near old_least near least best nearest
 brought_inside n w inside next node old_near old_least near least best nearest b in_node = record {
@@ -90,7 +95,8 @@ taken_found n inside node least new_least best kept nearest f same in_node out_n
   λ x h below out. elim (cases_eq x node) [
     | inl here ↦ subst (λ (y : ℕ). kept ≤ℤ least_at new_least y) (sym here) (omega (arith, ints, is))
     | inr other ↦
-        let under : best ≤ℤ least_at least x = below_others n inside node least best nearest f x h (omega (arith, below, other)) out in
+        let under : best ≤ℤ least_at least x =
+        below_others n inside node least best nearest f x h (omega (arith, below, other)) out in
         let kept_x = same x other in
         omega (arith, ints, under, kept_x, less)
   ],
@@ -114,7 +120,8 @@ kept_found n inside node least new_least best kept (Some v) f same is small less
   ],
 )
 
-brought_taken : (n : ℕ) (w : ℕ → ℕ → ℤ) (inside : List Bool) (next node : ℕ) (old_near : List ℕ) (old_least : List ℤ) (near new_near : List ℕ)
+brought_taken : (n : ℕ) (w : ℕ → ℕ → ℤ) (inside : List Bool) (next node : ℕ) (old_near : List ℕ) (old_least : List ℤ)
+    (near new_near : List ℕ)
     (least new_least : List ℤ) (best new_best : ℤ) (nearest new_nearest : Option ℕ)
     → IsBrought n w inside next node old_near old_least near least best nearest
     → IsTaken (w next node) next node near least new_near new_least → w next node <ℤ most_64
@@ -122,11 +129,16 @@ brought_taken : (n : ℕ) (w : ℕ → ℕ → ℤ) (inside : List Bool) (next n
     → IsBrought n w inside next (node + 1) old_near old_least new_near new_least new_best new_nearest
 brought_taken n w inside next node old_near old_least near new_near least new_least best new_best nearest new_nearest b t small found = record {
   done = λ x h below out. elim (cases_eq x node) [
-    | inl here ↦ subst (λ (y : ℕ). IsNearer (w next y) next (slice_index old_near y) (least_at old_least y) (slice_index new_near y) (least_at new_least y)) (sym here)
-        (subst (λ (z : ℤ). IsNearer (w next node) next (slice_index old_near node) z (slice_index new_near node) (least_at new_least node)) (b.least_rest node (omega arith))
-        (subst (λ (y : ℕ). IsNearer (w next node) next y (least_at least node) (slice_index new_near node) (least_at new_least node)) (b.near_rest node (omega arith)) t.here))
-    | inr other ↦ subst (λ (z : ℤ). IsNearer (w next x) next (slice_index old_near x) (least_at old_least x) (slice_index new_near x) z) (sym (t.least_other x other))
-        (subst (λ (y : ℕ). IsNearer (w next x) next (slice_index old_near x) (least_at old_least x) y (least_at least x)) (sym (t.near_other x other)) (b.done x h (omega (arith, below, other)) out))
+    | inl here ↦ subst (λ (y : ℕ). IsNearer (w next y) next (slice_index old_near y) (least_at old_least y)
+        (slice_index new_near y) (least_at new_least y)) (sym here)
+        (subst (λ (z : ℤ). IsNearer (w next node) next (slice_index old_near node) z (slice_index new_near node)
+        (least_at new_least node)) (b.least_rest node (omega arith))
+        (subst (λ (y : ℕ). IsNearer (w next node) next y (least_at least node) (slice_index new_near node)
+        (least_at new_least node)) (b.near_rest node (omega arith)) t.here))
+    | inr other ↦ subst (λ (z : ℤ). IsNearer (w next x) next (slice_index old_near x) (least_at old_least x)
+        (slice_index new_near x) z) (sym (t.least_other x other))
+        (subst (λ (y : ℕ). IsNearer (w next x) next (slice_index old_near x) (least_at old_least x) y (least_at least x))
+        (sym (t.near_other x other)) (b.done x h (omega (arith, below, other)) out))
   ];
   small = λ x h below out. elim (cases_eq x node) [
     | inl here ↦ subst (λ (y : ℕ). w next y <ℤ most_64) (sym here) small
@@ -138,18 +150,21 @@ brought_taken n w inside next node old_near old_least near new_near least new_le
 }
 
 -- it is the nearest so far
-pub brought_nearer : (n : ℕ) (w : ℕ → ℕ → ℤ) (inside : List Bool) (next node : ℕ) (old_near : List ℕ) (old_least : List ℤ) (near new_near : List ℕ)
+pub brought_nearer : (n : ℕ) (w : ℕ → ℕ → ℤ) (inside : List Bool) (next node : ℕ) (old_near : List ℕ) (old_least : List ℤ)
+    (near new_near : List ℕ)
     (least new_least : List ℤ) (best kept : ℤ) (nearest : Option ℕ)
     → IsBrought n w inside next node old_near old_least near least best nearest → IsInner n node → is_inside inside node ≡ false
     → IsTaken (w next node) next node near least new_near new_least → w next node <ℤ most_64
     → kept ≡ least_at new_least node → kept <ℤ best
     → IsBrought n w inside next (node + 1) old_near old_least new_near new_least kept (Some node)
-brought_nearer n w inside next node old_near old_least near new_near least new_least best kept nearest b in_node out_node t small is less =
+brought_nearer n w inside next node old_near old_least near new_near least new_least best kept nearest b in_node out_node t small
+    is less =
     brought_taken n w inside next node old_near old_least near new_near least new_least best kept nearest (Some node) b t small
     (taken_found n inside node least new_least best kept nearest b.found t.least_other in_node out_node is less)
 
 -- it isn't
-pub brought_farther : (n : ℕ) (w : ℕ → ℕ → ℤ) (inside : List Bool) (next node : ℕ) (old_near : List ℕ) (old_least : List ℤ) (near new_near : List ℕ)
+pub brought_farther : (n : ℕ) (w : ℕ → ℕ → ℤ) (inside : List Bool) (next node : ℕ) (old_near : List ℕ) (old_least : List ℤ)
+    (near new_near : List ℕ)
     (least new_least : List ℤ) (best kept : ℤ) (nearest : Option ℕ)
     → IsBrought n w inside next node old_near old_least near least best nearest
     → IsTaken (w next node) next node near least new_near new_least → w next node <ℤ most_64
@@ -158,7 +173,9 @@ pub brought_farther : (n : ℕ) (w : ℕ → ℕ → ℤ) (inside : List Bool) (
 brought_farther n w inside next node old_near old_least near new_near least new_least best kept nearest b t small is less =
     brought_taken n w inside next node old_near old_least near new_near least new_least best best nearest nearest b t small
     (kept_found n inside node least new_least best kept nearest b.found t.least_other is
-    (subst (λ (z : ℤ). z <ℤ most_64) (sym is) (taken_small (w next node) next (slice_index near node) (least_at least node) (slice_index new_near node) (least_at new_least node) small t.here)) less)
+    (subst (λ (z : ℤ). z <ℤ most_64) (sym is)
+    (taken_small (w next node) next (slice_index near node) (least_at least node) (slice_index new_near node)
+    (least_at new_least node) small t.here)) less)
 
 -- ---- the end
 
@@ -181,12 +198,16 @@ pub taken_by_set : (weight result : ℤ) (next node : ℕ) (near : List ℕ) (le
     → IsTaken weight next node near least (set near node new_near) (set least node new_least)
 taken_by_set weight result next node near least new_near new_least in_near in_least fits is nearer =
     let own : IsNearer weight next (get_or near node 0) (get_or least node (pos 0)) new_near new_least =
-    subst (λ (z : ℤ). IsNearer z next (get_or near node 0) (get_or least node (pos 0)) new_near new_least) (to_z-of_z w64 result fits ∙ is) nearer in
+    subst (λ (z : ℤ). IsNearer z next (get_or near node 0) (get_or least node (pos 0)) new_near new_least)
+    (to_z-of_z w64 result fits ∙ is) nearer in
     let near_here : get_or (set near node new_near) node 0 ≡ new_near = get_or-set_same near node new_near 0 in_near in
-    let least_here : get_or (set least node new_least) node (pos 0) ≡ new_least = get_or-set_same least node new_least (pos 0) in_least in
+    let least_here : get_or (set least node new_least) node (pos 0) ≡ new_least =
+    get_or-set_same least node new_least (pos 0) in_least in
     record {
-      here = subst (λ (z : ℤ). IsNearer weight next (get_or near node 0) (get_or least node (pos 0)) (get_or (set near node new_near) node 0) z) (sym least_here)
-          (subst (λ (y : ℕ). IsNearer weight next (get_or near node 0) (get_or least node (pos 0)) y new_least) (sym near_here) own);
+      here = subst (λ (z : ℤ). IsNearer weight next (get_or near node 0) (get_or least node (pos 0))
+          (get_or (set near node new_near) node 0) z) (sym least_here)
+          (subst (λ (y : ℕ). IsNearer weight next (get_or near node 0) (get_or least node (pos 0)) y new_least) (sym near_here)
+          own);
       near_other = λ x other. get_or-set_other near node x new_near 0 other;
       least_other = λ x other. get_or-set_other least node x new_least (pos 0) other;
     }

@@ -49,14 +49,23 @@ count_none test (x ∷ xs) h = elim (cases_Bool (test x)) [
 
 -- a number for each that passes: none, or that number, where none or one does
 pub sum_counted : {X : Type 0} (test : X → Bool) (z : ℤ) (xs : List X)
-    → ((count test xs ≡ pos 0) → sum_int_by (λ x. if test x then z else pos 0) xs ≡ pos 0) × ((count test xs ≡ pos 1) → sum_int_by (λ x. if test x then z else pos 0) xs ≡ z)
+    → ((count test xs ≡ pos 0) → sum_int_by (λ x. if test x then z else pos 0) xs ≡ pos 0)
+    × ((count test xs ≡ pos 1) → sum_int_by (λ x. if test x then z else pos 0) xs ≡ z)
 sum_counted test z [] = (λ h. refl, λ h. absurd (omega (arith, ints, h)))
 sum_counted test z (x ∷ xs) =
     let rest = sum_counted test z xs in
     let some = count_positive test xs in
     elim (cases_Bool (test x)) [
-      | inl t ↦ rw t (λ h. absurd (omega (arith, ints, h, some)), λ h. let none = rest.0 (omega (arith, ints, h)) in omega (arith, ints, none))
-      | inr f ↦ rw f (λ h. let none = rest.0 (omega (arith, ints, h)) in omega (arith, ints, none), λ h. let one = rest.1 (omega (arith, ints, h)) in omega (arith, ints, one))
+      | inl t ↦ rw t (
+        λ h. absurd (omega (arith, ints, h, some)),
+        λ h. let none = rest.0 (omega (arith, ints, h)) in
+            omega (arith, ints, none),
+      )
+      | inr f ↦ rw f (
+        λ h. let none = rest.0 (omega (arith, ints, h)) in
+            omega (arith, ints, none),
+        λ h. let one = rest.1 (omega (arith, ints, h)) in omega (arith, ints, one),
+      )
     ]
 
 -- a node is at most once in a list of different nodes
@@ -64,9 +73,15 @@ once : (a : ℕ) (xs : List ℕ) → AllPairs (λ x y. x ≢ y) xs → count (λ
 once a [] h = omega (arith, ints)
 once a (x ∷ xs) h = elim (cases_eq a x) [
   | inl same ↦
-      let none : count (λ y. x == y) xs ≡ pos 0 = never xs (recursion_from_All (λ y. x ≢ y) xs (λ k d lt. h zero (suc k) d (omega arith) (omega arith))) in
+      let none : count (λ y. x == y) xs ≡ pos 0 =
+      never xs (recursion_from_All (λ y. x ≢ y) xs (λ k d lt. h zero (suc k) d (omega arith) (omega arith))) in
       omega (arith, ints, (none_or_one (a == x)).1, subst (λ (z : ℕ). count (λ y. z == y) xs ≡ pos 0) (sym same) none)
-  | inr other ↦ omega (arith, ints, ap one_if (ne_eqb a x other), once a xs (λ i j d below lt. h (suc i) (suc j) d (omega arith) (omega arith)))
+  | inr other ↦ omega (
+    arith,
+    ints,
+    ap one_if (ne_eqb a x other),
+    once a xs (λ i j d below lt. h (suc i) (suc j) d (omega arith) (omega arith)),
+  )
 ]
   where
     never : (ys : List ℕ) → AllByRecursion (λ y. x ≢ y) ys → count (λ y. x == y) ys ≡ pos 0
@@ -81,12 +96,16 @@ neighbours_found nodes pair h =
     let link = found.1 in
     let here : Contains (links nodes) link = (found.0, found.2, found.3) in
     elim (or_cases ((pair.0 == link.0) && (pair.1 == link.1)) ((pair.1 == link.0) && (pair.0 == link.1)) found.4) [
-      | inl t ↦ let both = and_parts (pair.0 == link.0) (pair.1 == link.1) t in inl (at pair link (eqb-true pair.0 link.0 both.0) (eqb-true pair.1 link.1 both.1) here)
-      | inr t ↦ let both = and_parts (pair.1 == link.0) (pair.0 == link.1) t in inr (at (pair.1, pair.0) link (eqb-true pair.1 link.0 both.0) (eqb-true pair.0 link.1 both.1) here)
+      | inl t ↦ let both = and_parts (pair.0 == link.0) (pair.1 == link.1) t in
+          inl (at pair link (eqb-true pair.0 link.0 both.0) (eqb-true pair.1 link.1 both.1) here)
+      | inr t ↦ let both = and_parts (pair.1 == link.0) (pair.0 == link.1) t in
+          inr (at (pair.1, pair.0) link (eqb-true pair.1 link.0 both.0) (eqb-true pair.0 link.1 both.1) here)
     ]
   where
     at : (p link : ℕ × ℕ) → p.0 ≡ link.0 → p.1 ≡ link.1 → Contains (links nodes) link → Contains (links nodes) p
-    at p link first second here = subst (λ (x : ℕ). Contains (links nodes) (x, p.1)) (sym first) (subst (λ (y : ℕ). Contains (links nodes) (link.0, y)) (sym second) here)
+    at p link first second here =
+        subst (λ (x : ℕ). Contains (links nodes) (x, p.1)) (sym first)
+        (subst (λ (y : ℕ). Contains (links nodes) (link.0, y)) (sym second) here)
 
 found_neighbours : (nodes : List ℕ) (pair : ℕ × ℕ) → AreNeighbours nodes pair → list_any (is_same_pair pair) (links nodes) ≡ true
 found_neighbours nodes pair (inl c) =
@@ -111,8 +130,10 @@ either pair x = (pair.0 == x) || (pair.1 == x)
 
 ends_in : (pair : ℕ × ℕ) (i j : ℕ) → is_same_pair pair (i, j) ≡ true → (either pair i ≡ true) × (either pair j ≡ true)
 ends_in pair i j h = elim (or_cases ((pair.0 == i) && (pair.1 == j)) ((pair.1 == i) && (pair.0 == j)) h) [
-  | inl t ↦ let both = and_parts (pair.0 == i) (pair.1 == j) t in (or_left (pair.0 == i) (pair.1 == i) both.0, or_right (pair.0 == j) (pair.1 == j) both.1)
-  | inr t ↦ let both = and_parts (pair.1 == i) (pair.0 == j) t in (or_right (pair.0 == i) (pair.1 == i) both.0, or_left (pair.0 == j) (pair.1 == j) both.1)
+  | inl t ↦ let both = and_parts (pair.0 == i) (pair.1 == j) t in
+      (or_left (pair.0 == i) (pair.1 == i) both.0, or_right (pair.0 == j) (pair.1 == j) both.1)
+  | inr t ↦ let both = and_parts (pair.1 == i) (pair.0 == j) t in
+      (or_right (pair.0 == i) (pair.1 == i) both.0, or_left (pair.0 == j) (pair.1 == j) both.1)
 ]
 
 of_link : (same x y : Bool) → (same ≡ true → (x ≡ true) × (y ≡ true))
@@ -129,19 +150,24 @@ of_node true y = omega (arith, ints, (none_or_one y).0)
 of_node false y = omega (arith, ints)
 
 degrees : (nodes : List ℕ) (pair : ℕ × ℕ) → Laws
-    → (count (is_same_pair pair) (links nodes) +ℤ count (is_same_pair pair) (links nodes) +ℤ length_of (crossing (either pair)) nodes)
-    ≤ℤ ((count (λ x. pair.0 == x) nodes +ℤ count (λ x. pair.1 == x) nodes) +ℤ (count (λ x. pair.0 == x) nodes +ℤ count (λ x. pair.1 == x) nodes))
+    → (count (is_same_pair pair) (links nodes) +ℤ count (is_same_pair pair) (links nodes) +ℤ length_of (crossing (either pair))
+    nodes)
+    ≤ℤ ((count (λ x. pair.0 == x) nodes +ℤ count (λ x. pair.1 == x) nodes)
+    +ℤ (count (λ x. pair.0 == x) nodes +ℤ count (λ x. pair.1 == x) nodes))
 degrees nodes pair laws =
     let same = is_same_pair pair in
     let part = either pair in
-    let below = sum_below (λ (link : ℕ × ℕ). (one_if (same link) +ℤ one_if (same link)) +ℤ crossing part link.0 link.1) (λ (link : ℕ × ℕ). one_if (part link.0) +ℤ one_if (part link.1)) (links nodes)
+    let below = sum_below (λ (link : ℕ × ℕ). (one_if (same link) +ℤ one_if (same link)) +ℤ crossing part link.0 link.1)
+    (λ (link : ℕ × ℕ). one_if (part link.0) +ℤ one_if (part link.1)) (links nodes)
     (λ link. of_link (same link) (part link.0) (part link.1) (ends_in pair link.0 link.1)) in
-    let first = sum_both (λ (link : ℕ × ℕ). one_if (same link) +ℤ one_if (same link)) (λ (link : ℕ × ℕ). crossing part link.0 link.1) (links nodes) in
+    let first = sum_both (λ (link : ℕ × ℕ). one_if (same link) +ℤ one_if (same link))
+    (λ (link : ℕ × ℕ). crossing part link.0 link.1) (links nodes) in
     let second = sum_both (λ (link : ℕ × ℕ). one_if (same link)) (λ (link : ℕ × ℕ). one_if (same link)) (links nodes) in
     let third = laws.sum (λ i j. one_if (part i)) (λ i j. one_if (part j)) nodes in
     let by_first = laws.by_first (λ x. one_if (part x)) nodes in
     let by_second = laws.by_second (λ x. one_if (part x)) nodes in
-    let split = sum_below (λ x. one_if (part x)) (λ x. one_if (pair.0 == x) +ℤ one_if (pair.1 == x)) nodes (λ x. of_node (pair.0 == x) (pair.1 == x)) in
+    let split = sum_below (λ x. one_if (part x)) (λ x. one_if (pair.0 == x) +ℤ one_if (pair.1 == x)) nodes
+    (λ x. of_node (pair.0 == x) (pair.1 == x)) in
     let sums = sum_both (λ x. one_if (pair.0 == x)) (λ x. one_if (pair.1 == x)) nodes in
     omega (arith, ints, below, first, second, third, by_first, by_second, split, sums)
 
@@ -162,13 +188,22 @@ neighbours_once n nodes pair laws some cycle =
     let one = once pair.0 nodes cycle.once in
     let other = once pair.1 nodes cycle.once in
     elim (cases_Bool (list_any (λ x. pair.0 == x) nodes)) [
-      | inr f ↦ omega (arith, ints, ends, other, count_none (λ x. pair.0 == x) nodes f, count_positive (λ (link : ℕ × ℕ). crosses (either pair) link) (links nodes))
+      | inr f ↦ omega (
+        arith,
+        ints,
+        ends,
+        other,
+        count_none (λ x. pair.0 == x) nodes f,
+        count_positive (λ (link : ℕ × ℕ). crosses (either pair) link) (links nodes),
+      )
       | inl t ↦
           let found = Any-from_list_any (λ x. pair.0 == x) nodes t in
           let here : Contains nodes found.1 = (found.0, found.2, found.3) in
           let out = third pair.0 pair.1 in
-          let away : Contains nodes out.0 = has_node n nodes out.0 laws cycle (omega (arith, out.1), omega (arith, out.2, some)) in
-          let more = twice (either pair) nodes found.1 out.0 here away (or_left (pair.0 == found.1) (pair.1 == found.1) found.4) out.3 in
+          let away : Contains nodes out.0 =
+          has_node n nodes out.0 laws cycle (omega (arith, out.1), omega (arith, out.2, some)) in
+          let more = twice (either pair) nodes found.1 out.0 here away (or_left (pair.0 == found.1) (pair.1 == found.1) found.4)
+          out.3 in
           omega (arith, ints, ends, one, other, more)
     ]
 
@@ -182,4 +217,5 @@ count_neighbours n nodes pair laws some cycle h =
 pub count_others : (nodes : List ℕ) (pair : ℕ × ℕ) → (AreNeighbours nodes pair → ⊥)
     → count (is_same_pair pair) (links nodes) ≡ pos 0
 count_others nodes pair h =
-    count_none (is_same_pair pair) (links nodes) (false_from_ne_true (list_any (is_same_pair pair) (links nodes)) (λ t. h (neighbours_found nodes pair t)))
+    count_none (is_same_pair pair) (links nodes)
+    (false_from_ne_true (list_any (is_same_pair pair) (links nodes)) (λ t. h (neighbours_found nodes pair t)))

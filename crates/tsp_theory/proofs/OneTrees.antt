@@ -20,7 +20,12 @@ joins_links : (Node : ℕ → Type 0) (w : ℕ → ℕ → ℤ) (added earlier :
 joins_links Node w [] earlier joins = tt
 joins_links Node w (e ∷ es) earlier joins =
     let leaving = joins.0.leaving in (
-      (joins.0.from, leaving.node, λ same. both_ways (joins.0.part e.1) leaving.to (subst (λ x. joins.0.part x ≡ true) same leaving.from)),
+      (
+        joins.0.from,
+        leaving.node,
+        λ same. both_ways (joins.0.part e.1) leaving.to
+            (subst (λ x. joins.0.part x ≡ true) same leaving.from),
+      ),
       joins_links Node w es (earlier ++ e ∷ []) joins.1,
     )
 
@@ -35,13 +40,15 @@ pub ordered_weight : (w : ℕ → ℕ → ℤ) → ((a b : ℕ) → w a b ≡ w 
     → weight_of w (map ordered es) ≡ weight_of w es
 ordered_weight w symmetric [] = refl
 ordered_weight w symmetric (e ∷ es) =
-    let head : w (ordered e).0 (ordered e).1 ≡ w e.0 e.1 = ordered_both e (λ p. w p.0 p.1 ≡ w e.0 e.1) (λ h. refl) (λ h. symmetric e.1 e.0) in
+    let head : w (ordered e).0 (ordered e).1 ≡ w e.0 e.1 =
+    ordered_both e (λ p. w p.0 p.1 ≡ w e.0 e.1) (λ h. refl) (λ h. symmetric e.1 e.0) in
     omega (arith, ints, head, ordered_weight w symmetric es)
 
 ordered_crossed : (part : ℕ → Bool) (es : List (ℕ × ℕ)) → list_any (crosses part) (map ordered es) ≡ list_any (crosses part) es
 ordered_crossed part [] = refl
 ordered_crossed part (e ∷ es) =
-    let head : crosses part (ordered e) ≡ crosses part e = ordered_both e (λ p. crosses part p ≡ crosses part e) (λ h. refl) (λ h. crosses_turned part e.1 e.0) in
+    let head : crosses part (ordered e) ≡ crosses part e =
+    ordered_both e (λ p. crosses part p ≡ crosses part e) (λ h. refl) (λ h. crosses_turned part e.1 e.0) in
     ap (λ b. b || list_any (crosses part) (map ordered es)) head ∙ ap (λ b. crosses part e || b) (ordered_crossed part es)
 
 -- ---- the pairs at node 1 and the others
@@ -80,7 +87,8 @@ kept_pairs : (P : ℕ × ℕ → Type 0) (test : ℕ × ℕ → Bool) (es : List
     → AllByRecursion P (filter test es)
 kept_pairs P test [] h = tt
 kept_pairs P test (e ∷ es) h =
-    cond_both (test e) (e ∷ filter test es) (filter test es) (AllByRecursion P) (λ t. (h.0, kept_pairs P test es h.1)) (λ f. kept_pairs P test es h.1)
+    cond_both (test e) (e ∷ filter test es) (filter test es) (AllByRecursion P) (λ t. (h.0, kept_pairs P test es h.1))
+    (λ f. kept_pairs P test es h.1)
 
 -- ---- least joins with their spokes are a 1-tree
 
@@ -97,33 +105,40 @@ ordered_pairs n (e ∷ es) h =
     let differ : e.0 ≢ e.1 = ends.2 in
     let later = ordered_pairs n es h.1 in (
       (ordered_both e (IsPair n) (λ k. (omega arith, k, omega arith)) (λ k. (omega arith, omega arith, omega arith)), later.0),
-      (ordered_both e (λ p. is_at_one p ≡ false) (λ k. ne_eqb e.0 1 (λ s. omega arith)) (λ k. ne_eqb e.1 1 (λ s. omega arith)), later.1),
+      (
+        ordered_both e (λ p. is_at_one p ≡ false) (λ k. ne_eqb e.0 1 (λ s. omega arith)) (λ k. ne_eqb e.1 1 (λ s. omega arith)),
+        later.1,
+      ),
     )
 
 -- two spokes and as many links as a tree has, which cross each part
 pub one_tree_of : (n first second : ℕ) (added : List (ℕ × ℕ)) → IsInner n first → IsInner n second → first ≢ second
     → AllByRecursion (IsLink (IsInner n)) added
-    → ((part : ℕ → Bool) (inside outside : ℕ) → IsInner n inside → IsInner n outside → part inside ≡ true → part outside ≡ false → IsCrossed added part)
+    → ((part : ℕ → Bool) (inside outside : ℕ) → IsInner n inside → IsInner n outside → part inside ≡ true → part outside ≡ false
+    → IsCrossed added part)
     → 2 + length added ≡ n → IsOneTree n (tree_of first second added)
 one_tree_of n first second added one two differ links joined count =
     let pairs = ordered_pairs n added links in
     let none = none_at_one (map ordered added) pairs.1 in
     record {
       count = omega (arith, count, length-map added ordered);
-      range = All-from_recursion (IsPair n) (tree_of first second added) ((omega arith, omega arith, omega arith), ((omega arith, omega arith, omega arith), pairs.0));
+      range = All-from_recursion (IsPair n) (tree_of first second added)
+          ((omega arith, omega arith, omega arith), ((omega arith, omega arith, omega arith), pairs.0));
       first = first;
       second = second;
       spokes = ap (λ es. (1, first) ∷ (1, second) ∷ es) none.0;
       differ = differ;
       joined = λ part inside outside in_node out_node in_part out_part.
-          ap (list_any (crosses part)) none.1 ∙ (ordered_crossed part added ∙ joined part inside outside in_node out_node in_part out_part);
+          ap (list_any (crosses part)) none.1
+          ∙ (ordered_crossed part added ∙ joined part inside outside in_node out_node in_part out_part);
     }
 
 pub forest_one_tree : (n : ℕ) (w : ℕ → ℕ → ℤ) → ((a b : ℕ) → w a b ≡ w b a) → (first second : ℕ) (added : List (ℕ × ℕ))
     → AreNearest n w first second
     → IsWholeForest n w added → IsOneTree n (tree_of first second added)
 forest_one_tree n w symmetric first second added near forest =
-    one_tree_of n first second added near.first_in near.second_in near.differ (joins_links (IsInner n) w added [] forest.joins) (forest_joins n w symmetric added forest) forest.count
+    one_tree_of n first second added near.first_in near.second_in near.differ (joins_links (IsInner n) w added [] forest.joins)
+    (forest_joins n w symmetric added forest) forest.count
 
 -- ---- and none weighs less
 
@@ -146,11 +161,16 @@ pub forest_tree_least : (n : ℕ) (w : ℕ → ℕ → ℤ) → ((a b : ℕ) →
 forest_tree_least n w symmetric first second added nearest forest es t =
     let range = recursion_from_All (IsPair n) es t.range in
     let spokes = subst (AllByRecursion (IsPair n)) t.spokes (kept_pairs (IsPair n) is_at_one es range) in
-    let near : (w 1 first +ℤ w 1 second) ≤ℤ (w 1 t.first +ℤ w 1 t.second) = nearest_least n w first second t.first t.second nearest (omega arith, spokes.0.2) (omega arith, spokes.1.0.2) t.differ in
-    let size : length es ≡ 2 + length (inner_pairs es) = apart_length es ∙ ap (λ xs. length xs + length (inner_pairs es)) t.spokes in
-    let rest : weight_of w added ≤ℤ weight_of w (inner_pairs es) = forest_least n w symmetric added (inner_pairs es) forest (omega (arith, size, t.count, forest.count))
-    (All-from_recursion (IsPairOf (IsInner n)) (inner_pairs es) (ends_inside n es range)) (crossed_joins (IsInner n) (inner_pairs es) t.joined) in
-    let split : weight_of w es ≡ weight_of w ((1, t.first) ∷ (1, t.second) ∷ []) +ℤ weight_of w (inner_pairs es) = apart_weight w es
+    let near : (w 1 first +ℤ w 1 second) ≤ℤ (w 1 t.first +ℤ w 1 t.second) =
+    nearest_least n w first second t.first t.second nearest (omega arith, spokes.0.2) (omega arith, spokes.1.0.2) t.differ in
+    let size : length es ≡ 2 + length (inner_pairs es) = apart_length es
+    ∙ ap (λ xs. length xs + length (inner_pairs es)) t.spokes in
+    let rest : weight_of w added ≤ℤ weight_of w (inner_pairs es) =
+    forest_least n w symmetric added (inner_pairs es) forest (omega (arith, size, t.count, forest.count))
+    (All-from_recursion (IsPairOf (IsInner n)) (inner_pairs es) (ends_inside n es range))
+    (crossed_joins (IsInner n) (inner_pairs es) t.joined) in
+    let split : weight_of w es ≡ weight_of w ((1, t.first) ∷ (1, t.second) ∷ []) +ℤ weight_of w (inner_pairs es) =
+    apart_weight w es
     ∙ ap (λ xs. weight_of w xs +ℤ weight_of w (inner_pairs es)) t.spokes in
     let same : weight_of w (map ordered added) ≡ weight_of w added = ordered_weight w symmetric added in
     omega (arith, ints, near, rest, split, same)
@@ -161,14 +181,16 @@ pub least_from_forest : (n : ℕ) (w : ℕ → ℕ → ℤ) (first second : ℕ)
     → ((a b : ℕ) → w a b ≡ w b a)
     → AreNearest n w first second → IsWholeForest n w added → seen ≡ added → pairs ≡ tree_of first second seen
     → IsLeastOneTree n w pairs
-least_from_forest n w first second added seen pairs some symmetric nearest forest same is = subst (IsLeastOneTree n w) (sym (is ∙ ap (tree_of first second) same)) (record {
-  tree = forest_one_tree n w symmetric first second added nearest forest;
-  least = forest_tree_least n w symmetric first second added nearest forest;
-})
+least_from_forest n w first second added seen pairs some symmetric nearest forest same is =
+    subst (IsLeastOneTree n w) (sym (is ∙ ap (tree_of first second) same)) (record {
+      tree = forest_one_tree n w symmetric first second added nearest forest;
+      least = forest_tree_least n w symmetric first second added nearest forest;
+    })
 
 pub least_from_growth : (n : ℕ) (w : ℕ → ℕ → ℤ) (first second : ℕ) (added seen pairs : List (ℕ × ℕ)) → 3 ≤ n
     → ((a b : ℕ) → w a b ≡ w b a)
     → AreNearest n w first second → IsWholeGrowth n w added → seen ≡ added → pairs ≡ tree_of first second seen
     → IsLeastOneTree n w pairs
 least_from_growth n w first second added seen pairs some symmetric nearest growth =
-    least_from_forest n w first second added seen pairs some symmetric nearest (growth_is_forest n w added (omega (arith, some)) growth)
+    least_from_forest n w first second added seen pairs some symmetric nearest
+    (growth_is_forest n w added (omega (arith, some)) growth)

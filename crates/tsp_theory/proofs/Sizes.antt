@@ -25,7 +25,8 @@ product_size m n a b p q = from_size (m * n) (a *ℤ b) (rw (unsigned_abs-mul a 
 pub scaled_size : (scale cost : ℤ) → IsScale scale → neg_ℤ (pos most_weight) ≤ℤ cost → cost ≤ℤ pos most_weight
     → IsFromTo (neg_ℤ (pos (most_scale * most_weight))) (pos (most_scale * most_weight)) (scale *ℤ cost)
 scaled_size scale cost s low high =
-    product_size most_scale most_weight scale cost (size_of most_scale scale (omega (arith, ints, s.0), s.1)) (size_of most_weight cost (low, high))
+    product_size most_scale most_weight scale cost (size_of most_scale scale (omega (arith, ints, s.0), s.1))
+    (size_of most_weight cost (low, high))
 
 -- ---- what the code computes
 
@@ -38,7 +39,8 @@ pub product_fits : (scale cost : ℤ) → IsScale scale → neg_ℤ (pos most_we
 product_fits scale cost s low high =
     let first : to_z w64 (of_z w64 scale) ≡ scale = omega (arith, ints, s.0, s.1) in
     let second : to_z w64 (of_z w64 cost) ≡ cost = omega (arith, ints, low, high) in
-    rw (first, second) (fits_signed_mul w64 scale cost most_scale most_weight (size_of most_scale scale (omega (arith, ints, s.0), s.1)) (size_of most_weight cost (low, high)) (omega arith))
+    rw (first, second) (fits_signed_mul w64 scale cost most_scale most_weight
+    (size_of most_scale scale (omega (arith, ints, s.0), s.1)) (size_of most_weight cost (low, high)) (omega arith))
 
 pub product_is : (scale cost : ℤ) → IsScale scale → neg_ℤ (pos most_weight) ≤ℤ cost → cost ≤ℤ pos most_weight
     → to_z w64 (of_z w64 (to_z w64 (of_z w64 scale) *ℤ to_z w64 (of_z w64 cost))) ≡ scale *ℤ cost
@@ -53,9 +55,11 @@ decided a b = (λ h. grind (arith, ints), λ h. grind (arith, ints))
 pub pair_decided : (row column scaled : ℤ) → IsFromTo (neg_ℤ (pos most_potential)) (pos most_potential) row
     → IsFromTo (neg_ℤ (pos most_potential)) (pos most_potential) column
     → IsFromTo (neg_ℤ (pos (most_scale * most_weight))) (pos (most_scale * most_weight)) scaled
-    → IsTrue (int_le (to_z w64 (of_z w64 (to_z w64 (of_z w64 row) +ℤ to_z w64 (of_z w64 column)))) (to_z w64 (of_z w64 scaled))) ↔ ((row +ℤ column) ≤ℤ scaled)
+    → IsTrue (int_le (to_z w64 (of_z w64 (to_z w64 (of_z w64 row) +ℤ to_z w64 (of_z w64 column)))) (to_z w64 (of_z w64 scaled)))
+    ↔ ((row +ℤ column) ≤ℤ scaled)
 pair_decided row column scaled p q r =
-    let sum : to_z w64 (of_z w64 (to_z w64 (of_z w64 row) +ℤ to_z w64 (of_z w64 column))) ≡ row +ℤ column = omega (arith, ints, p.0, p.1, q.0, q.1) in
+    let sum : to_z w64 (of_z w64 (to_z w64 (of_z w64 row) +ℤ to_z w64 (of_z w64 column))) ≡ row +ℤ column =
+    omega (arith, ints, p.0, p.1, q.0, q.1) in
     let right : to_z w64 (of_z w64 scaled) ≡ scaled = omega (arith, ints, r.0, r.1) in
     rw (sum, right) (decided (row +ℤ column) scaled)
 
@@ -66,9 +70,12 @@ pub fit_decided : (row column scale cost scaled : ℤ) → IsFromTo (neg_ℤ (po
     → IsFromTo (neg_ℤ (pos most_potential)) (pos most_potential) column
     → IsScale scale → scaled ≡ to_z w64 (of_z w64 scale) *ℤ cost
     → IsFromTo (neg_ℤ (pos (most_scale * most_weight))) (pos (most_scale * most_weight)) scaled
-    → IsTrue (int_le (to_z w64 (of_z w64 (to_z w64 (of_z w64 row) +ℤ to_z w64 (of_z w64 column)))) (to_z w64 (of_z w64 scaled))) ↔ ((row +ℤ column) ≤ℤ (scale *ℤ cost))
+    → IsTrue (int_le (to_z w64 (of_z w64 (to_z w64 (of_z w64 row) +ℤ to_z w64 (of_z w64 column)))) (to_z w64 (of_z w64 scaled)))
+    ↔ ((row +ℤ column) ≤ℤ (scale *ℤ cost))
 fit_decided row column scale cost scaled p q s is r =
-    subst (λ (z : ℤ). IsTrue (int_le (to_z w64 (of_z w64 (to_z w64 (of_z w64 row) +ℤ to_z w64 (of_z w64 column)))) (to_z w64 (of_z w64 scaled))) ↔ ((row +ℤ column) ≤ℤ z))
+    subst (λ (z : ℤ). IsTrue
+    (int_le (to_z w64 (of_z w64 (to_z w64 (of_z w64 row) +ℤ to_z w64 (of_z w64 column)))) (to_z w64 (of_z w64 scaled)))
+    ↔ ((row +ℤ column) ≤ℤ z))
     (is ∙ ap (λ (z : ℤ). z *ℤ cost) (same_scale scale s))
     (pair_decided row column scaled p q r)
 
@@ -92,10 +99,13 @@ pub bound_of_sums : (scale first second first_total second_total bound : ℤ) �
     → IsFromTo (neg_ℤ (pos (most_nodes * most_potential))) (pos (most_nodes * most_potential)) first
     → IsFromTo (neg_ℤ (pos (most_nodes * most_potential))) (pos (most_nodes * most_potential)) second
     → first ≡ first_total → second ≡ second_total
-    → IsLeastBound (to_z w64 (of_z w64 scale)) (to_z w128 (of_z w128 (to_z w128 (of_z w128 first) +ℤ to_z w128 (of_z w128 second)))) bound
+    → IsLeastBound (to_z w64 (of_z w64 scale))
+    (to_z w128 (of_z w128 (to_z w128 (of_z w128 first) +ℤ to_z w128 (of_z w128 second)))) bound
     → IsLeastBound scale (first_total +ℤ second_total) (to_z w128 (of_z w128 bound))
 bound_of_sums scale first second first_total second_total bound s fits p q first_is second_is least =
-    let sum : to_z w128 (of_z w128 (to_z w128 (of_z w128 first) +ℤ to_z w128 (of_z w128 second))) ≡ first_total +ℤ second_total = omega (arith, ints, p.0, p.1, q.0, q.1) in
+    let sum : to_z w128 (of_z w128 (to_z w128 (of_z w128 first) +ℤ to_z w128 (of_z w128 second))) ≡ first_total +ℤ second_total =
+    omega (arith, ints, p.0, p.1, q.0, q.1) in
     rw (to_z-of_z w128 bound fits) (subst (λ (z : ℤ). IsLeastBound scale z bound) sum
-    (subst (λ (z : ℤ). IsLeastBound z (to_z w128 (of_z w128 (to_z w128 (of_z w128 first) +ℤ to_z w128 (of_z w128 second)))) bound) (same_scale scale s)
+    (subst (λ (z : ℤ). IsLeastBound z (to_z w128 (of_z w128 (to_z w128 (of_z w128 first) +ℤ to_z w128 (of_z w128 second)))) bound)
+    (same_scale scale s)
     least))

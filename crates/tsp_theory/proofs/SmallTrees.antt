@@ -38,7 +38,8 @@ nearest_so w second p so = record {
   second_in = so.second_in;
   differ = so.differ;
   near = inner (λ x. w 1 2 ≤ℤ w 1 x) (search rules) so.two_before_three so.two_before_four;
-  next = inner (λ x. x ≢ 2 → w 1 second ≤ℤ w 1 x) (λ other. absurd (other refl)) (λ other. so.second_before_three) (λ other. so.second_before_four);
+  next = inner (λ x. x ≢ 2 → w 1 second ≤ℤ w 1 x) (λ other. absurd (other refl)) (λ other. so.second_before_three)
+      (λ other. so.second_before_four);
 }
 
 -- the pair of node 3 leaves node 2, and then that of node 4 leaves both
@@ -48,7 +49,8 @@ three_so w second p so = record {
   to = refl;
   node = (omega arith, omega arith);
   least = λ a b in_a in_b. inner (λ a. (a == 2) ≡ true → (b == 2) ≡ false → w 2 3 ≤ℤ w a b)
-      (λ from. inner (λ b. (b == 2) ≡ false → w 2 3 ≤ℤ w 2 b) (λ to. absurd (both_ways (2 == 2) to refl)) (λ to. search rules) (λ to. so.three_first) b in_b)
+      (λ from. inner (λ b. (b == 2) ≡ false → w 2 3 ≤ℤ w 2 b) (λ to. absurd (both_ways (2 == 2) to refl)) (λ to. search rules)
+      (λ to. so.three_first) b in_b)
       (λ from to. absurd (both_ways (3 == 2) refl from))
       (λ from to. absurd (both_ways (4 == 2) refl from)) a in_a;
 }
@@ -63,7 +65,8 @@ four_so w second p so =
       least = λ a b in_a in_b. inner (λ b. grown a ≡ true → grown b ≡ false → w p 4 ≤ℤ w a b)
           (λ from to. absurd (both_ways (grown 2) to refl))
           (λ from to. absurd (both_ways (grown 3) to refl))
-          (λ from to. inner (λ a. grown a ≡ true → w p 4 ≤ℤ w a 4) (λ in_part. so.from_two) (λ in_part. so.from_three) (λ in_part. absurd (both_ways (grown 4) refl in_part)) a in_a from) b in_b;
+          (λ from to. inner (λ a. grown a ≡ true → w p 4 ≤ℤ w a 4) (λ in_part. so.from_two) (λ in_part. so.from_three)
+          (λ in_part. absurd (both_ways (grown 4) refl in_part)) a in_a from) b in_b;
     }
 
 grows_so : (w : ℕ → ℕ → ℤ) (second p : ℕ) → GrowsSo w second p → IsWholeGrowth 4 w ((2, 3) ∷ (p, 4) ∷ [])
@@ -100,7 +103,8 @@ costs_even costs i j = search rules
 
 pub bound_so : (costs : List ℤ) (scale : ℤ) (potentials : List ℤ) (second p : ℕ) (bound : ℤ)
     → GrowsSo (weight_between scale potentials (symmetric_costs costs)) second p
-    → IsBoundOfPotentials scale potentials (weight_of (weight_between scale potentials (symmetric_costs costs)) (tree_of 2 second ((2, 3) ∷ (p, 4) ∷ []))) bound
+    → IsBoundOfPotentials scale potentials
+    (weight_of (weight_between scale potentials (symmetric_costs costs)) (tree_of 2 second ((2, 3) ∷ (p, 4) ∷ []))) bound
     → IsNodeBound 4 (symmetric_costs costs) scale potentials bound
 bound_so costs scale potentials second p bound so is = record {
   tree = tree_of 2 second ((2, 3) ∷ (p, 4) ∷ []);

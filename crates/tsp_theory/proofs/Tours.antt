@@ -57,11 +57,15 @@ has_each n nodes t x in_x = elim (cases_Bool (list_any (eqb x) nodes)) [
   | inr h ↦
       let more : IsDistinct eqb (x ∷ nodes) = IsDistinct-cons eqb x nodes (none_equal x nodes h) t.once in
       let range : AllByRecursion (IsInner n) (x ∷ nodes) = (in_x, t.range) in
-      let one : IsDistinct eqb (1 ∷ x ∷ nodes) = IsDistinct-cons eqb 1 (x ∷ nodes) (all_apart n 1 (x ∷ nodes) (λ k. absurd (omega (arith, k.0))) range) more in
-      let zero_apart : AllByRecursion (λ y. eqb 0 y ≡ false) (1 ∷ x ∷ nodes) = (refl, all_apart n 0 (x ∷ nodes) (λ k. absurd (omega (arith, k.0))) range) in
+      let one : IsDistinct eqb (1 ∷ x ∷ nodes) =
+      IsDistinct-cons eqb 1 (x ∷ nodes) (all_apart n 1 (x ∷ nodes) (λ k. absurd (omega (arith, k.0))) range) more in
+      let zero_apart : AllByRecursion (λ y. eqb 0 y ≡ false) (1 ∷ x ∷ nodes) =
+      (refl, all_apart n 0 (x ∷ nodes) (λ k. absurd (omega (arith, k.0))) range) in
       let all : IsDistinct eqb (0 ∷ 1 ∷ x ∷ nodes) = IsDistinct-cons eqb 0 (1 ∷ x ∷ nodes) zero_apart one in
-      let below : AllByRecursion (λ y. y < suc n) (0 ∷ 1 ∷ x ∷ nodes) = (omega arith, (omega (arith, in_x), inner_below n (x ∷ nodes) range)) in
-      let few = length-le_from_distinct_below (0 ∷ 1 ∷ x ∷ nodes) (suc n) all (λ q e. at_equal (λ y. y < suc n) q (0 ∷ 1 ∷ x ∷ nodes) below e) in
+      let below : AllByRecursion (λ y. y < suc n) (0 ∷ 1 ∷ x ∷ nodes) =
+      (omega arith, (omega (arith, in_x), inner_below n (x ∷ nodes) range)) in
+      let few = length-le_from_distinct_below (0 ∷ 1 ∷ x ∷ nodes) (suc n) all
+      (λ q e. at_equal (λ y. y < suc n) q (0 ∷ 1 ∷ x ∷ nodes) below e) in
       absurd (omega (arith, few, t.count))
 ]
 
@@ -96,8 +100,10 @@ path_crosses part b bs inside outside has_in has_out in_part out_part = elim (ca
 path_links : (n b : ℕ) (bs : List ℕ) → IsInner n b → AllByRecursion (IsInner n) bs → IsDistinct eqb (b ∷ bs)
     → AllByRecursion (IsLink (IsInner n)) (path b bs)
 path_links n b [] in_b h d = tt
-path_links n b (c ∷ cs) in_b h d =
-    ((in_b, h.0, eqb-false b c (IsDistinct-head eqb b (c ∷ cs) d).0), path_links n c cs h.0 h.1 (IsDistinct-tail eqb b (c ∷ cs) d))
+path_links n b (c ∷ cs) in_b h d = (
+  (in_b, h.0, eqb-false b c (IsDistinct-head eqb b (c ∷ cs) d).0),
+  path_links n c cs h.0 h.1 (IsDistinct-tail eqb b (c ∷ cs) d),
+)
 
 path_length : (b : ℕ) (bs : List ℕ) → length (path b bs) ≡ length bs
 path_length b [] = refl
@@ -115,7 +121,8 @@ tour_tree n b c cs t =
     one_tree_of n b (last_of c cs) (path b (c ∷ cs)) t.range.0 (last_all (IsInner n) c cs t.range.1.0 t.range.1.1)
     (last_all (λ y. b ≢ y) c cs (eqb-false b c far.0) (all_other cs far.1))
     (path_links n b (c ∷ cs) t.range.0 t.range.1 t.once)
-    (λ part inside outside in_node out_node in_part out_part. path_crosses part b (c ∷ cs) inside outside (has_each n (b ∷ c ∷ cs) t inside in_node)
+    (λ part inside outside in_node out_node in_part out_part. path_crosses part b (c ∷ cs) inside outside
+    (has_each n (b ∷ c ∷ cs) t inside in_node)
     (has_each n (b ∷ c ∷ cs) t outside out_node) in_part out_part)
     (omega (arith, t.count, path_length b (c ∷ cs)))
   where
@@ -126,7 +133,8 @@ tour_tree n b c cs t =
 pub tour_tree_weight : (w : ℕ → ℕ → ℤ) → ((a b : ℕ) → w a b ≡ w b a) → (b c : ℕ) (cs : List ℕ)
     → weight_of w (tree_of b (last_of c cs) (path b (c ∷ cs))) ≡ tour_weight w (b ∷ c ∷ cs)
 tour_tree_weight w symmetric b c cs =
-    let same : weight_of w (map ordered (path b (c ∷ cs))) ≡ weight_of w (path b (c ∷ cs)) = ordered_weight w symmetric (path b (c ∷ cs)) in
+    let same : weight_of w (map ordered (path b (c ∷ cs))) ≡ weight_of w (path b (c ∷ cs)) =
+    ordered_weight w symmetric (path b (c ∷ cs)) in
     let back : w (last_of c cs) 1 ≡ w 1 (last_of c cs) = symmetric (last_of c cs) 1 in
     omega (arith, ints, same, back)
 
@@ -137,4 +145,5 @@ pub tree_below_tour : (n : ℕ) (w : ℕ → ℕ → ℤ) (pairs : List (ℕ × 
 tree_below_tour n w pairs [] some symmetric least t = absurd (omega (arith, t.count))
 tree_below_tour n w pairs (b ∷ []) some symmetric least t = absurd (omega (arith, t.count))
 tree_below_tour n w pairs (b ∷ c ∷ cs) some symmetric least t =
-    subst (λ z. weight_of w pairs ≤ℤ z) (tour_tree_weight w symmetric b c cs) (least.least (tree_of b (last_of c cs) (path b (c ∷ cs))) (tour_tree n b c cs t))
+    subst (λ z. weight_of w pairs ≤ℤ z) (tour_tree_weight w symmetric b c cs)
+    (least.least (tree_of b (last_of c cs) (path b (c ∷ cs))) (tour_tree n b c cs t))

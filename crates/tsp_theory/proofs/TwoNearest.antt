@@ -9,16 +9,17 @@ use Rattle.tsp_theory.specs.Growth.{AreNearest}
 use Rattle.tsp_theory.specs.states.Nearest.{least_at}
 
 -- the two nearest ones of the nodes before this one, and their weights
-pub record AreNearestBefore (n : ℕ) (w : ℕ → ℕ → ℤ) (node first : ℕ) (first_weight : ℤ) (second : ℕ) (second_weight : ℤ) : Type 0 where
-  pub first_in : IsInner n first
-  pub first_before : first < node
-  pub second_in : IsInner n second
-  pub second_before : second < node
-  pub differ : first ≢ second
-  pub first_is : first_weight ≡ w 1 first
-  pub second_is : second_weight ≡ w 1 second
-  pub near : (x : ℕ) → IsInner n x → x < node → first_weight ≤ℤ w 1 x
-  pub next : (x : ℕ) → IsInner n x → x < node → x ≢ first → second_weight ≤ℤ w 1 x
+pub record AreNearestBefore (n : ℕ) (w : ℕ → ℕ → ℤ) (node first : ℕ) (first_weight : ℤ) (second : ℕ) (second_weight : ℤ) : Type 0
+  where
+    pub first_in : IsInner n first
+    pub first_before : first < node
+    pub second_in : IsInner n second
+    pub second_before : second < node
+    pub differ : first ≢ second
+    pub first_is : first_weight ≡ w 1 first
+    pub second_is : second_weight ≡ w 1 second
+    pub near : (x : ℕ) → IsInner n x → x < node → first_weight ≤ℤ w 1 x
+    pub next : (x : ℕ) → IsInner n x → x < node → x ≢ first → second_weight ≤ℤ w 1 x
 
 -- the nodes 2 and 3
 two_nodes : (n : ℕ) (w : ℕ → ℕ → ℤ) (a b : ℕ) (a_weight b_weight : ℤ) → IsInner n a → IsInner n b → a < 4 → b < 4 → a ≢ b
@@ -45,7 +46,8 @@ pub two_first : (n : ℕ) (w : ℕ → ℕ → ℤ) (a b : ℕ) (a_weight b_weig
     → b_weight ≡ w 1 3 → a_weight ≤ℤ b_weight
     → AreNearestBefore n w 4 a a_weight b b_weight
 two_first n w a b a_weight b_weight some a_is b_is a_weighs b_weighs less =
-    two_nodes n w a b a_weight b_weight (omega (arith, a_is), omega (arith, a_is, some)) (omega (arith, b_is), omega (arith, b_is, some)) (omega (arith, a_is))
+    two_nodes n w a b a_weight b_weight (omega (arith, a_is), omega (arith, a_is, some))
+    (omega (arith, b_is), omega (arith, b_is, some)) (omega (arith, a_is))
     (omega (arith, b_is)) (λ same. omega (arith, a_is, b_is, same))
     (a_weighs ∙ ap (w 1) (sym a_is)) (b_weighs ∙ ap (w 1) (sym b_is)) less
 
@@ -53,7 +55,8 @@ pub three_first : (n : ℕ) (w : ℕ → ℕ → ℤ) (a b : ℕ) (a_weight b_we
     → b_weight ≡ w 1 3 → b_weight <ℤ a_weight
     → AreNearestBefore n w 4 b b_weight a a_weight
 three_first n w a b a_weight b_weight some a_is b_is a_weighs b_weighs less =
-    two_nodes n w b a b_weight a_weight (omega (arith, b_is), omega (arith, b_is, some)) (omega (arith, a_is), omega (arith, a_is, some)) (omega (arith, b_is))
+    two_nodes n w b a b_weight a_weight (omega (arith, b_is), omega (arith, b_is, some))
+    (omega (arith, a_is), omega (arith, a_is, some)) (omega (arith, b_is))
     (omega (arith, a_is)) (λ same. omega (arith, a_is, b_is, same))
     (b_weighs ∙ ap (w 1) (sym b_is)) (a_weighs ∙ ap (w 1) (sym a_is)) (omega (arith, ints, less))
 
@@ -72,7 +75,8 @@ nearer_first n w node first second here first_weight second_weight weight b low 
   second_is = b.first_is;
   near = λ x h before. elim (cases_eq x node) [
     | inl same ↦ subst (λ (y : ℕ). weight ≤ℤ w 1 y) (sym same) (omega (arith, ints, is))
-    | inr other ↦ let under : first_weight ≤ℤ w 1 x = b.near x h (omega (arith, before, other)) in omega (arith, ints, under, less)
+    | inr other ↦ let under : first_weight ≤ℤ w 1 x = b.near x h (omega (arith, before, other)) in
+        omega (arith, ints, under, less)
   ];
   next = λ x h before other. b.near x h (omega (arith, before, other, here_is));
 }
@@ -94,7 +98,8 @@ nearer_second n w node first second here first_weight second_weight weight b low
   ];
   next = λ x h before apart. elim (cases_eq x node) [
     | inl same ↦ subst (λ (y : ℕ). weight ≤ℤ w 1 y) (sym same) (omega (arith, ints, is))
-    | inr other ↦ let under : second_weight ≤ℤ w 1 x = b.next x h (omega (arith, before, other)) apart in omega (arith, ints, under, less)
+    | inr other ↦ let under : second_weight ≤ℤ w 1 x = b.next x h (omega (arith, before, other)) apart in
+        omega (arith, ints, under, less)
   ];
 }
 
@@ -136,8 +141,10 @@ nearest_by_row n w row first second same h = record {
   first_in = h.first_in;
   second_in = h.second_in;
   differ = h.differ;
-  near = λ x in_x. let below = h.near x in_x in let own = same first h.first_in in let other = same x in_x in omega (arith, ints, below, own, other);
-  next = λ x in_x apart. let below = h.next x in_x apart in let own = same second h.second_in in let other = same x in_x in omega (arith, ints, below, own, other);
+  near = λ x in_x. let below = h.near x in_x in let own = same first h.first_in in let other = same x in_x in
+      omega (arith, ints, below, own, other);
+  next = λ x in_x apart. let below = h.next x in_x apart in let own = same second h.second_in in let other = same x in_x in
+      omega (arith, ints, below, own, other);
 }
 
 -- ---- what the code compares

@@ -41,15 +41,18 @@ pub weight_fits : (scaled first second : ℤ)
     → IsFromTo (neg_ℤ (pos most_potential)) (pos most_potential) second
     → FitsSigned w64 (to_z w64 (of_z w64 scaled) +ℤ to_z w64 (of_z w64 (to_z w64 (of_z w64 first) +ℤ to_z w64 (of_z w64 second))))
 weight_fits scaled first second p q r =
-    rw (both_is first second q r, scaled_is scaled p) (between_fits (scaled +ℤ (first +ℤ second)) (between_size scaled first second p q r))
+    rw (both_is first second q r, scaled_is scaled p)
+    (between_fits (scaled +ℤ (first +ℤ second)) (between_size scaled first second p q r))
 
 pub weight_computed : (scaled first second : ℤ)
     → IsFromTo (neg_ℤ (pos (most_scale * most_weight))) (pos (most_scale * most_weight)) scaled
     → IsFromTo (neg_ℤ (pos most_potential)) (pos most_potential) first
     → IsFromTo (neg_ℤ (pos most_potential)) (pos most_potential) second
-    → to_z w64 (of_z w64 (to_z w64 (of_z w64 scaled) +ℤ to_z w64 (of_z w64 (to_z w64 (of_z w64 first) +ℤ to_z w64 (of_z w64 second))))) ≡ scaled +ℤ (first +ℤ second)
+    → to_z w64 (of_z w64 (to_z w64 (of_z w64 scaled) +ℤ to_z w64
+    (of_z w64 (to_z w64 (of_z w64 first) +ℤ to_z w64 (of_z w64 second))))) ≡ scaled +ℤ (first +ℤ second)
 weight_computed scaled first second p q r = rw (both_is first second q r, scaled_is scaled p)
-    (to_z-of_z w64 (scaled +ℤ (first +ℤ second)) (between_fits (scaled +ℤ (first +ℤ second)) (between_size scaled first second p q r)))
+    (to_z-of_z w64 (scaled +ℤ (first +ℤ second))
+    (between_fits (scaled +ℤ (first +ℤ second)) (between_size scaled first second p q r)))
 
 pub scaled_by : (scale cost scaled both : ℤ) → IsScale scale → scaled ≡ to_z w64 (of_z w64 scale) *ℤ cost
     → scaled +ℤ both ≡ (scale *ℤ cost) +ℤ both
@@ -59,7 +62,8 @@ scaled_by scale cost scaled both s is = ap (λ z. z +ℤ both) (is ∙ ap (λ z.
 pub weight_even : (scale : ℤ) (potentials : List ℤ) (cost : ℕ → ℕ → ℤ) → IsSymmetric cost → (i j : ℕ)
     → weight_between scale potentials cost i j ≡ weight_between scale potentials cost j i
 weight_even scale potentials cost even i j = elim (cases_eq i j) [
-  | inl same ↦ ap (λ k. weight_between scale potentials cost k j) same ∙ ap (λ k. weight_between scale potentials cost j k) (sym same)
+  | inl same ↦ ap (λ k. weight_between scale potentials cost k j) same
+      ∙ ap (λ k. weight_between scale potentials cost j k) (sym same)
   | inr other ↦ let turned : cost i j ≡ cost j i = even i j other in
       ap (λ z. (scale *ℤ z) +ℤ (entry potentials i +ℤ entry potentials j)) turned
       ∙ ap (λ z. (scale *ℤ cost j i) +ℤ z) (swapped (entry potentials i) (entry potentials j))
@@ -83,7 +87,8 @@ lower_is weight number p q = omega (arith, ints, p.0, p.1, q.0, q.1)
 lower_in : (weight number : ℤ) → IsFromTo (neg_ℤ (pos most_between)) (pos most_between) weight
     → IsFromTo (pos 0) (pos most_multiplier) number → FitsSigned w64 (weight -ℤ number)
 lower_in weight number p q =
-    fits_signed_from_abs w64 (weight -ℤ number) (let size = size_of 1003000000000000000 (weight -ℤ number) (lower_size weight number p q) in omega (arith, size))
+    fits_signed_from_abs w64 (weight -ℤ number)
+    (let size = size_of 1003000000000000000 (weight -ℤ number) (lower_size weight number p q) in omega (arith, size))
 
 pub lower_fits : (weight number : ℤ) → IsFromTo (neg_ℤ (pos most_between)) (pos most_between) weight
     → IsFromTo (pos 0) (pos most_multiplier) number
@@ -103,7 +108,8 @@ pub sum_fits : (sum weight from : ℤ) (index : ℕ) → index ≤ most_nodes
 sum_fits sum weight from index few s fits is =
     let same : from ≡ weight = is ∙ to_z-of_z w64 weight fits in
     let own : to_z w128 (of_z w128 from) ≡ weight = omega (arith, ints, fits, same) in
-    let size : IsFromTo (neg_ℤ (pos (2 ^ 100))) (pos (2 ^ 100)) (sum +ℤ weight) = (omega (arith, ints, s.0, fits, few), omega (arith, ints, s.1, fits, few)) in
+    let size : IsFromTo (neg_ℤ (pos (2 ^ 100))) (pos (2 ^ 100)) (sum +ℤ weight) =
+    (omega (arith, ints, s.0, fits, few), omega (arith, ints, s.1, fits, few)) in
     rw own (fits_signed_from_abs w128 (sum +ℤ weight) (let most = size_of (2 ^ 100) (sum +ℤ weight) size in omega (arith, most)))
 
 pub sum_computed : (sum weight from : ℤ) (index : ℕ) → index ≤ most_nodes
@@ -120,13 +126,16 @@ weight_added w [] pair = omega (arith, ints)
 weight_added w (p ∷ pairs) pair = let rest = weight_added w pairs pair in omega (arith, ints, rest)
 
 -- the pair that a growth adds, with the weight that is kept of it
-pub sum_pushed : (n : ℕ) (w : ℕ → ℕ → ℤ) (inside : List Bool) (near : List ℕ) (least : List ℤ) (pairs after : List (ℕ × ℕ)) (next from : ℕ) (weight : ℤ)
+pub sum_pushed : (n : ℕ) (w : ℕ → ℕ → ℤ) (inside : List Bool) (near : List ℕ) (least : List ℤ) (pairs after : List (ℕ × ℕ))
+    (next from : ℕ) (weight : ℤ)
     → IsState n w inside near least pairs → IsNearestOutside n inside least next
     → from ≡ get_or near next from → weight ≡ get_or least next weight → after ≡ pairs ++ (from, next) ∷ []
     → weight_of w after ≡ weight_of w pairs +ℤ weight
 sum_pushed n w inside near least pairs after next from weight s outside from_is weight_is pushed =
-    let node : from ≡ get_or near next 0 = from_is ∙ get_or_default near next from 0 (omega (arith, s.near_len, outside.inner.1)) in
-    let own : weight ≡ get_or least next (pos 0) = weight_is ∙ get_or_default least next weight (pos 0) (omega (arith, s.least_len, outside.inner.1)) in
+    let node : from ≡ get_or near next 0 = from_is
+    ∙ get_or_default near next from 0 (omega (arith, s.near_len, outside.inner.1)) in
+    let own : weight ≡ get_or least next (pos 0) = weight_is
+    ∙ get_or_default least next weight (pos 0) (omega (arith, s.least_len, outside.inner.1)) in
     let here : w from next ≡ weight = ap (λ k. w k next) node ∙ sym (s.weight next outside.inner outside.outside) ∙ sym own in
     ap (weight_of w) pushed ∙ weight_added w pairs (from, next) ∙ ap (λ z. weight_of w pairs +ℤ z) here
 
@@ -161,16 +170,20 @@ tree_in z h = fits_signed_from_abs w128 z (let size = size_of most_tree z h in o
 pub tree_fits : (first second grown from other : ℤ) → FitsSigned w64 first → FitsSigned w64 second
     → from ≡ to_z w64 (of_z w64 first) → other ≡ to_z w64 (of_z w64 second)
     → IsFromTo (neg_ℤ (pos (most_nodes * 2 ^ 63))) (pos (most_nodes * 2 ^ 63)) grown
-    → FitsSigned w128 (to_z w128 (of_z w128 (to_z w128 (of_z w128 from) +ℤ to_z w128 (of_z w128 other))) +ℤ to_z w128 (of_z w128 grown))
+    → FitsSigned w128 (to_z w128 (of_z w128 (to_z w128 (of_z w128 from) +ℤ to_z w128 (of_z w128 other))) +ℤ to_z w128
+    (of_z w128 grown))
 tree_fits first second grown from other p q is also r =
-    rw (spokes_is first second from other p q is also, grown_is grown r) (tree_in ((first +ℤ second) +ℤ grown) (tree_size first second grown p q r))
+    rw (spokes_is first second from other p q is also, grown_is grown r)
+    (tree_in ((first +ℤ second) +ℤ grown) (tree_size first second grown p q r))
 
 pub tree_computed : (first second grown from other : ℤ) → FitsSigned w64 first → FitsSigned w64 second
     → from ≡ to_z w64 (of_z w64 first) → other ≡ to_z w64 (of_z w64 second)
     → IsFromTo (neg_ℤ (pos (most_nodes * 2 ^ 63))) (pos (most_nodes * 2 ^ 63)) grown
-    → to_z w128 (of_z w128 (to_z w128 (of_z w128 (to_z w128 (of_z w128 from) +ℤ to_z w128 (of_z w128 other))) +ℤ to_z w128 (of_z w128 grown))) ≡ (first +ℤ second) +ℤ grown
+    → to_z w128 (of_z w128 (to_z w128 (of_z w128 (to_z w128 (of_z w128 from) +ℤ to_z w128 (of_z w128 other))) +ℤ to_z w128
+    (of_z w128 grown))) ≡ (first +ℤ second) +ℤ grown
 tree_computed first second grown from other p q is also r =
-    rw (spokes_is first second from other p q is also, grown_is grown r) (to_z-of_z w128 ((first +ℤ second) +ℤ grown) (tree_in ((first +ℤ second) +ℤ grown) (tree_size first second grown p q r)))
+    rw (spokes_is first second from other p q is also, grown_is grown r)
+    (to_z-of_z w128 ((first +ℤ second) +ℤ grown) (tree_in ((first +ℤ second) +ℤ grown) (tree_size first second grown p q r)))
 
 pub weight_of_tree : (w : ℕ → ℕ → ℤ) → ((a b : ℕ) → w a b ≡ w b a) → (first second : ℕ) (added : List (ℕ × ℕ))
     → weight_of w (tree_of first second added) ≡ (w 1 first +ℤ w 1 second) +ℤ weight_of w added
@@ -181,7 +194,8 @@ weight_of_tree w even first second added = let same = ordered_weight w even adde
 computed_parts : (a b c : ℤ) → IsFromTo (neg_ℤ (pos most_tree)) (pos most_tree) a
     → IsFromTo (neg_ℤ (pos (2 * (most_nodes * most_potential)))) (pos (2 * (most_nodes * most_potential))) b
     → IsFromTo (pos 0) (pos (most_triples * most_multiplier)) c
-    → (to_z w128 (of_z w128 (to_z w128 (of_z w128 (to_z w128 (of_z w128 a) -ℤ b)) +ℤ c)) ≡ (a -ℤ b) +ℤ c) × (to_z w128 (of_z w128 a) ≡ a)
+    → (to_z w128 (of_z w128 (to_z w128 (of_z w128 (to_z w128 (of_z w128 a) -ℤ b)) +ℤ c)) ≡ (a -ℤ b) +ℤ c)
+    × (to_z w128 (of_z w128 a) ≡ a)
 computed_parts a b c p q r =
     let same : to_z w128 (of_z w128 a) ≡ a = omega (arith, ints, p.0, p.1) in
     let less : to_z w128 (of_z w128 (a -ℤ b)) ≡ a -ℤ b = omega (arith, ints, p.0, p.1, q.0, q.1) in
@@ -192,14 +206,18 @@ computed_parts a b c p q r =
 pub sum_of_bound : (weight potentials given all more : ℤ) → IsFromTo (neg_ℤ (pos most_tree)) (pos most_tree) weight
     → IsFromTo (neg_ℤ (pos (most_nodes * most_potential))) (pos (most_nodes * most_potential)) potentials
     → IsFromTo (pos 0) (pos (most_triples * most_multiplier)) given → potentials ≡ all → given ≡ more
-    → (to_z w128 (of_z w128 (to_z w128 (of_z w128 (to_z w128 (of_z w128 weight) -ℤ to_z w128 (of_z w128 (pos 2 *ℤ to_z w128 (of_z w128 potentials)))))
+    → (to_z w128 (of_z w128 (to_z w128
+    (of_z w128 (to_z w128 (of_z w128 weight) -ℤ to_z w128 (of_z w128 (pos 2 *ℤ to_z w128 (of_z w128 potentials)))))
     +ℤ to_z w128 (of_z w128 given))) ≡ (weight -ℤ (pos 2 *ℤ all)) +ℤ more)
     × IsFromTo (neg_ℤ (pos (2 ^ 100))) (pos (2 ^ 100)) ((weight -ℤ (pos 2 *ℤ all)) +ℤ more)
 sum_of_bound weight potentials given all more p q r is also =
-    let twice : to_z w128 (of_z w128 (pos 2 *ℤ to_z w128 (of_z w128 potentials))) ≡ pos 2 *ℤ all = omega (arith, ints, q.0, q.1, is) in
-    let size : IsFromTo (neg_ℤ (pos (2 * (most_nodes * most_potential)))) (pos (2 * (most_nodes * most_potential))) (pos 2 *ℤ all) = (omega (arith, ints, q.0, is), omega (arith, ints, q.1, is)) in
+    let twice : to_z w128 (of_z w128 (pos 2 *ℤ to_z w128 (of_z w128 potentials))) ≡ pos 2 *ℤ all =
+    omega (arith, ints, q.0, q.1, is) in
+    let size : IsFromTo (neg_ℤ (pos (2 * (most_nodes * most_potential)))) (pos (2 * (most_nodes * most_potential)))
+    (pos 2 *ℤ all) = (omega (arith, ints, q.0, is), omega (arith, ints, q.1, is)) in
     let own : to_z w128 (of_z w128 given) ≡ more = omega (arith, ints, r.0, r.1, also) in
-    let over : IsFromTo (pos 0) (pos (most_triples * most_multiplier)) more = (omega (arith, ints, r.0, also), omega (arith, ints, r.1, also)) in
+    let over : IsFromTo (pos 0) (pos (most_triples * most_multiplier)) more =
+    (omega (arith, ints, r.0, also), omega (arith, ints, r.1, also)) in
     let parts = computed_parts weight (pos 2 *ℤ all) more p size over in
     (rw (twice, own) parts.0, (omega (arith, ints, p.0, size.1, over.0), omega (arith, ints, p.1, size.0, over.1)))
 
@@ -208,11 +226,13 @@ pub bound_of_weight : (scale weight potentials given all more bound : ℤ) → I
     → IsFromTo (neg_ℤ (pos (most_nodes * most_potential))) (pos (most_nodes * most_potential)) potentials
     → IsFromTo (pos 0) (pos (most_triples * most_multiplier)) given → potentials ≡ all → given ≡ more
     → IsLeastBound (to_z w64 (of_z w64 scale)) (to_z w128 (of_z w128
-    (to_z w128 (of_z w128 (to_z w128 (of_z w128 weight) -ℤ to_z w128 (of_z w128 (pos 2 *ℤ to_z w128 (of_z w128 potentials))))) +ℤ to_z w128 (of_z w128 given))))
+    (to_z w128 (of_z w128 (to_z w128 (of_z w128 weight) -ℤ to_z w128 (of_z w128 (pos 2 *ℤ to_z w128 (of_z w128 potentials)))))
+    +ℤ to_z w128 (of_z w128 given))))
     bound → IsLeastBound scale ((weight -ℤ (pos 2 *ℤ all)) +ℤ more) (to_z w128 (of_z w128 bound))
 bound_of_weight scale weight potentials given all more bound s fits p q r is also least =
     let sum = (sum_of_bound weight potentials given all more p q r is also).0 in
     rw (to_z-of_z w128 bound fits) (subst (λ (z : ℤ). IsLeastBound scale z bound) sum
     (subst (λ (z : ℤ). IsLeastBound z (to_z w128 (of_z w128 (to_z w128
-    (of_z w128 (to_z w128 (of_z w128 weight) -ℤ to_z w128 (of_z w128 (pos 2 *ℤ to_z w128 (of_z w128 potentials))))) +ℤ to_z w128 (of_z w128 given)))) bound)
+    (of_z w128 (to_z w128 (of_z w128 weight) -ℤ to_z w128 (of_z w128 (pos 2 *ℤ to_z w128 (of_z w128 potentials))))) +ℤ to_z w128
+    (of_z w128 given)))) bound)
     (same_scale scale s) least))

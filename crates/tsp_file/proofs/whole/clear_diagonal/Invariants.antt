@@ -7,5 +7,6 @@ use Rattle.tsp_file.proofs.whole.clear_diagonal.Given as goal
 abbrev pub invariant-nodes : goal.invariant-nodes
 invariant-nodes l = record {
   size : length l.weights.items ≡ l.nodes * l.nodes;
-  costs : (cost : ℕ → ℕ → ℤ) → ((i : ℕ) → cost i i ≡ pos 0) → Fills cost l.nodes l.fn.weights.items l.weights.items (λ i j. (i ≡ j) × (i < l.node));
+  costs : (cost : ℕ → ℕ → ℤ) → ((i : ℕ) → cost i i ≡ pos 0)
+      → Fills cost l.nodes l.fn.weights.items l.weights.items (λ i j. (i ≡ j) × (i < l.node));
 }

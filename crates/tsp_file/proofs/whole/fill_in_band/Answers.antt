@@ -14,16 +14,21 @@ columns-preserved c =
     let items = c.columns.weights.items in
     let n = c.args.nodes in
     let part = c.across_in_band-first.ensures in
-    let node : IsNode n c.columns.column = (omega (arith, part.some, c.columns.auto.column), omega (arith, part.most, c.columns-test.true)) in
+    let node : IsNode n c.columns.column =
+    (omega (arith, part.some, c.columns.auto.column), omega (arith, part.most, c.columns-test.true)) in
     let counted = cells_counted FullMatrix n in
     let from : c.place.result < length items = omega (arith, c.place.ensures.within, c.columns.invariant.size, counted) in
-    let inside : c.place-in-columns.result < length items = omega (arith, c.place-in-columns.ensures.within, c.columns.invariant.size, counted) in
+    let inside : c.place-in-columns.result < length items =
+    omega (arith, c.place-in-columns.ensures.within, c.columns.invariant.size, counted) in
     let fits : FitsSigned w64 c.index-turned.result.now = search rules in
-    let read = c.index-turned.ensures ∙ get_or_default items c.place.result c.index-turned.result.now (pos 0) from ∙ ap (λ p. get_or items p (pos 0)) c.place.ensures.table in
+    let read = c.index-turned.ensures ∙ get_or_default items c.place.result c.index-turned.result.now (pos 0) from
+    ∙ ap (λ p. get_or items p (pos 0)) c.place.ensures.table in
     rw (to_z-of_z w64 c.index-turned.result.now fits) (record {
       size = length-set items c.place-in-columns.result c.index-turned.result.now ∙ c.columns.invariant.size;
       costs = λ cost even side.
-          column_more c.args.above cost n c.args.row c.across_in_band-first.result.0 c.columns.column c.place-in-columns.result c.index-turned.result.now
-          c.args.weights.now.items items even side c.requires.row node (part.turned c.columns.column (omega (arith, c.columns.auto.column)) c.columns-test.true)
+          column_more c.args.above cost n c.args.row c.across_in_band-first.result.0 c.columns.column c.place-in-columns.result
+          c.index-turned.result.now
+          c.args.weights.now.items items even side c.requires.row node
+          (part.turned c.columns.column (omega (arith, c.columns.auto.column)) c.columns-test.true)
           read c.place-in-columns.ensures.table inside (c.columns.invariant.costs cost even side);
     })

@@ -17,7 +17,8 @@ returns-clause-ok c =
     let cost = listed_cost c.args.from n half in
     let few : length half ≤ n * n = omega (arith, c.requires.filled, cells_counted c.args.from n, few_cells c.args.from n) in
     let count : c.len-count.result ≡ length half = c.len-count.ensures ∙ c.args.weights.now.ok.0 in
-    let own : take (n * n) c.reserve_exact.new.self.items ≡ half = ap (take (n * n)) c.in_ok-reserve_exact.ensures.items ∙ take_all (n * n) half few in
+    let own : take (n * n) c.reserve_exact.new.self.items ≡ half = ap (take (n * n)) c.in_ok-reserve_exact.ensures.items
+    ∙ take_all (n * n) half few in
     let front : take c.len-count.result c.resize.new.self.items ≡ half =
     ap (take c.len-count.result) c.in_ok-resize.ensures.items ∙ rw (own, count) (take-append_seam half _) in
     let lines = c.spread_lines.ensures.lines half (sym count) front in

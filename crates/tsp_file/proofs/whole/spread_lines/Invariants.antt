@@ -9,7 +9,8 @@ invariant-lines l = record {
   size : length l.weights.items ≡ l.nodes * l.nodes;
   within : l.line ≤ l.nodes;
   kept : l.kept ≡ length (before l.from l.nodes l.line);
-  spread : (half : List ℤ) → length half ≡ l.count → take l.count l.fn.weights.items ≡ half → SpreadTo l.from l.nodes l.line l.kept half l.weights.items;
+  spread : (half : List ℤ) → length half ≡ l.count → take l.count l.fn.weights.items ≡ half
+      → SpreadTo l.from l.nodes l.line l.kept half l.weights.items;
 }
 
 abbrev pub decreases-lines : goal.decreases-lines

@@ -15,9 +15,11 @@ returns-then-failed-2 g c =
     let after_fields = way_of g.W.Write.contents c.put_fields.new.out c.put_fields.new.piece.items in
     let after_end = way_of g.W.Write.contents c.put.new.out c.put.new.piece.items in
     let last = way_of g.W.Write.contents c.hand_over.new.out c.hand_over.new.piece.items in
-    let whole = carried_then start after_fields last (flat_map (text_of_field (fields_of c.args.draft.now)) fields_in_order) (codes "EOF\n") c.put_fields.ensures
+    let whole = carried_then start after_fields last (flat_map (text_of_field (fields_of c.args.draft.now)) fields_in_order)
+    (codes "EOF\n") c.put_fields.ensures
     (carried_then after_fields after_end last (codes "EOF\n") [] c.put.ensures c.hand_over.ensures.carried) in
-    text_stopped start last (text_of (fields_of c.args.draft.now)) c.new-piece.ensures (sym c.failed.ensures ∙ c.if-failed.false) whole (sym c.failed-2.ensures ∙ c.if-failed-2.true)
+    text_stopped start last (text_of (fields_of c.args.draft.now)) c.new-piece.ensures (sym c.failed.ensures ∙ c.if-failed.false)
+    whole (sym c.failed-2.ensures ∙ c.if-failed-2.true)
 
 pub returns-else-failed-2 : goal.returns-else-failed-2
 returns-else-failed-2 g c =
@@ -25,7 +27,9 @@ returns-else-failed-2 g c =
     let after_fields = way_of g.W.Write.contents c.put_fields.new.out c.put_fields.new.piece.items in
     let after_end = way_of g.W.Write.contents c.put.new.out c.put.new.piece.items in
     let last = way_of g.W.Write.contents c.hand_over.new.out c.hand_over.new.piece.items in
-    let whole = carried_then start after_fields last (flat_map (text_of_field (fields_of c.args.draft.now)) fields_in_order) (codes "EOF\n") c.put_fields.ensures
+    let whole = carried_then start after_fields last (flat_map (text_of_field (fields_of c.args.draft.now)) fields_in_order)
+    (codes "EOF\n") c.put_fields.ensures
     (carried_then after_fields after_end last (codes "EOF\n") [] c.put.ensures c.hand_over.ensures.carried) in
-    text_written start last (text_of (fields_of c.args.draft.now)) c.new-piece.ensures (sym c.failed.ensures ∙ c.if-failed.false) whole
+    text_written start last (text_of (fields_of c.args.draft.now)) c.new-piece.ensures (sym c.failed.ensures ∙ c.if-failed.false)
+    whole
     c.hand_over.ensures.empty (sym c.failed-2.ensures ∙ c.if-failed-2.false)

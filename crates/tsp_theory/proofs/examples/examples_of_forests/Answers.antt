@@ -16,12 +16,16 @@ use Rattle.tsp_theory.proofs.examples.examples_of_forests.Goals as goal
 both_ends : IsWholeForest 4 rectangle ((4, 3) ∷ (2, 3) ∷ [])
 both_ends = record {
   joins = (
-    join_so rectangle [] 4 3 (omega arith, omega arith) (omega arith, omega arith) refl (All-nil (λ pair. crosses (λ x. x == 4) pair ≡ false))
-        (inner (λ b. (b == 4) ≡ false → rectangle 4 3 ≤ℤ rectangle 4 b) (λ out. search rules) (λ out. search rules) (λ out. absurd (both_ways (4 == 4) out refl))),
+    join_so rectangle [] 4 3 (omega arith, omega arith) (omega arith, omega arith) refl
+        (All-nil (λ pair. crosses (λ x. x == 4) pair ≡ false))
+        (inner (λ b. (b == 4) ≡ false → rectangle 4 3 ≤ℤ rectangle 4 b) (λ out. search rules) (λ out. search rules)
+        (λ out. absurd (both_ways (4 == 4) out refl))),
     (
       join_so rectangle ((4, 3) ∷ []) 2 3 (omega arith, omega arith) (omega arith, omega arith) refl
-          (All-cons (λ pair. crosses (λ x. x == 2) pair ≡ false) (4, 3) [] refl (All-nil (λ pair. crosses (λ x. x == 2) pair ≡ false)))
-          (inner (λ b. (b == 2) ≡ false → rectangle 2 3 ≤ℤ rectangle 2 b) (λ out. absurd (both_ways (2 == 2) out refl)) (λ out. search rules) (λ out. search rules)),
+          (All-cons (λ pair. crosses (λ x. x == 2) pair ≡ false) (4, 3) [] refl
+          (All-nil (λ pair. crosses (λ x. x == 2) pair ≡ false)))
+          (inner (λ b. (b == 2) ≡ false → rectangle 2 3 ≤ℤ rectangle 2 b) (λ out. absurd (both_ways (2 == 2) out refl))
+          (λ out. search rules) (λ out. search rules)),
       tt,
     ),
   );
@@ -41,8 +45,10 @@ pub returns-clause-heavier : goal.returns-clause-heavier
 returns-clause-heavier c = λ forest.
     let leaving = forest.joins.0.leaving in
     elim (cases_Bool (forest.joins.0.part 3)) [
-      | inl t ↦ let less : rectangle 2 4 ≤ℤ rectangle 3 4 = leaving.least 3 4 (omega arith, omega arith) (omega arith, omega arith) t leaving.to in omega (arith, ints, less)
-      | inr f ↦ let less : rectangle 2 4 ≤ℤ rectangle 2 3 = leaving.least 2 3 (omega arith, omega arith) (omega arith, omega arith) leaving.from f in omega (arith, ints, less)
+      | inl t ↦ let less : rectangle 2 4 ≤ℤ rectangle 3 4 =
+          leaving.least 3 4 (omega arith, omega arith) (omega arith, omega arith) t leaving.to in omega (arith, ints, less)
+      | inr f ↦ let less : rectangle 2 4 ≤ℤ rectangle 2 3 =
+          leaving.least 2 3 (omega arith, omega arith) (omega arith, omega arith) leaving.from f in omega (arith, ints, less)
     ]
 
 pub returns-clause-same_twice : goal.returns-clause-same_twice

@@ -16,7 +16,8 @@ returns-clause-tree c = rectangle_tree.tree
 
 -- no pair leaves the part of node 4 alone
 pub returns-clause-one_node_left_out : goal.returns-clause-one_node_left_out
-returns-clause-one_node_left_out c = λ tree. both_ways (list_any (crosses (λ x. x == 4)) (inner_pairs (pairs_of 2 4 (2, 3) (2, 3)))) refl
+returns-clause-one_node_left_out c =
+    λ tree. both_ways (list_any (crosses (λ x. x == 4)) (inner_pairs (pairs_of 2 4 (2, 3) (2, 3)))) refl
     (tree.joined (λ x. x == 4) 4 2 (omega arith, omega arith) (omega arith, omega arith) refl refl)
 
 pub returns-clause-least : goal.returns-clause-least

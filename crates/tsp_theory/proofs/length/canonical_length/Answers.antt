@@ -21,7 +21,9 @@ nodes-preserved g c =
     let less : count - (node + 1) ≡ count - node - 1 = omega arith in
     record {
       size = rw (sum, steps) (sum_more so_far c.cost-length.result (node - 1) c.nodes.invariant.size cost.low cost.high);
-      so_far = rw (sum, cost.value, less) (length_more (g.C.Costs.at c.args.c.now) so_far _ 1 node (node + 1) _ _ (run_parts (node + 1) (count - node) some) c.nodes.invariant.so_far);
+      so_far = rw (sum, cost.value, less)
+          (length_more (g.C.Costs.at c.args.c.now) so_far _ 1 node (node + 1) _ _ (run_parts (node + 1) (count - node) some)
+          c.nodes.invariant.so_far);
     }
 
 pub returns : goal.returns
@@ -33,6 +35,9 @@ returns g c =
     let few : node - 1 ≤ 1000000 = omega (arith, c.count-count.ensures.most) in
     let none : count - node ≡ 0 = omega arith in
     let sum = sum_fits so_far c.cost.result (node - 1) few c.nodes.invariant.size c.cost.ensures.low c.cost.ensures.high in
-    let whole = length_last (g.C.Costs.at c.args.c.now) so_far _ 1 node _ (ap (range_with_len (node + 1)) none) c.nodes.invariant.so_far in
-    let value : so_far +ℤ c.cost.result ≡ so_far +ℤ g.C.Costs.at c.args.c.now node 1 = ap (λ (z : ℤ). so_far +ℤ z) (c.cost.ensures.value ∙ ap (λ k. g.C.Costs.at c.args.c.now k 1) (sym last)) in
-    sum ∙ value ∙ whole ∙ sym (canonical (g.C.Costs.at c.args.c.now) count c.count-count.ensures.some) ∙ ap (λ n. length_of (g.C.Costs.at c.args.c.now) (nodes_to n)) c.count-count.ensures.value
+    let whole = length_last (g.C.Costs.at c.args.c.now) so_far _ 1 node _ (ap (range_with_len (node + 1)) none)
+    c.nodes.invariant.so_far in
+    let value : so_far +ℤ c.cost.result ≡ so_far +ℤ g.C.Costs.at c.args.c.now node 1 =
+    ap (λ (z : ℤ). so_far +ℤ z) (c.cost.ensures.value ∙ ap (λ k. g.C.Costs.at c.args.c.now k 1) (sym last)) in
+    sum ∙ value ∙ whole ∙ sym (canonical (g.C.Costs.at c.args.c.now) count c.count-count.ensures.some)
+    ∙ ap (λ n. length_of (g.C.Costs.at c.args.c.now) (nodes_to n)) c.count-count.ensures.value

@@ -13,50 +13,71 @@ use Rattle.tsp_cost.proofs.instance.Instance.listed_view.Goals as goal
 pub of-requires-clause-most : goal.of-requires-clause-most
 of-requires-clause-most c =
     let found = subst (λ (g : Fields). HasFound g c.self.inside.nodes c.self.inside.source) c.self.view_is c.self.invariant in
-    let stand = ap (λ (g : Fields). g.weights) (sym c.self.view_is) ∙ sym c.weights.ensures ∙ ap (option_map (λ w. w.now)) c.unwrap-weights.ensures in
-    (of_weights c.args.self.now c.self.inside.nodes c.self.inside.source c.args.layout c.unwrap-weights.result.now found c.requires stand).lists.most
+    let stand = ap (λ (g : Fields). g.weights) (sym c.self.view_is) ∙ sym c.weights.ensures
+    ∙ ap (option_map (λ w. w.now)) c.unwrap-weights.ensures in
+    (of_weights c.args.self.now c.self.inside.nodes c.self.inside.source c.args.layout c.unwrap-weights.result.now found
+    c.requires stand).lists.most
 
 pub of-requires-clause-full : goal.of-requires-clause-full
 of-requires-clause-full c =
     let found = subst (λ (g : Fields). HasFound g c.self.inside.nodes c.self.inside.source) c.self.view_is c.self.invariant in
-    let stand = ap (λ (g : Fields). g.weights) (sym c.self.view_is) ∙ sym c.weights.ensures ∙ ap (option_map (λ w. w.now)) c.unwrap-weights.ensures in
-    let are = of_weights c.args.self.now c.self.inside.nodes c.self.inside.source c.args.layout c.unwrap-weights.result.now found c.requires stand in
+    let stand = ap (λ (g : Fields). g.weights) (sym c.self.view_is) ∙ sym c.weights.ensures
+    ∙ ap (option_map (λ w. w.now)) c.unwrap-weights.ensures in
+    let are = of_weights c.args.self.now c.self.inside.nodes c.self.inside.source c.args.layout c.unwrap-weights.result.now found
+    c.requires stand in
     rw (← c.in-FullMatrix.is) are.lists.filled
 
 pub of-requires-clause-sizes : goal.of-requires-clause-sizes
 of-requires-clause-sizes c =
     let found = subst (λ (g : Fields). HasFound g c.self.inside.nodes c.self.inside.source) c.self.view_is c.self.invariant in
-    let stand = ap (λ (g : Fields). g.weights) (sym c.self.view_is) ∙ sym c.weights.ensures ∙ ap (option_map (λ w. w.now)) c.unwrap-weights.ensures in
-    (of_weights c.args.self.now c.self.inside.nodes c.self.inside.source c.args.layout c.unwrap-weights.result.now found c.requires stand).lists.sizes
+    let stand = ap (λ (g : Fields). g.weights) (sym c.self.view_is) ∙ sym c.weights.ensures
+    ∙ ap (option_map (λ w. w.now)) c.unwrap-weights.ensures in
+    (of_weights c.args.self.now c.self.inside.nodes c.self.inside.source c.args.layout c.unwrap-weights.result.now found
+    c.requires stand).lists.sizes
 
 pub of-requires-in_default : goal.of-requires-in_default
 of-requires-in_default c =
     let found = subst (λ (g : Fields). HasFound g c.self.inside.nodes c.self.inside.source) c.self.view_is c.self.invariant in
-    let stand = ap (λ (g : Fields). g.weights) (sym c.self.view_is) ∙ sym c.weights.ensures ∙ ap (option_map (λ w. w.now)) c.unwrap-weights.ensures in
-    let are = of_weights c.args.self.now c.self.inside.nodes c.self.inside.source c.args.layout c.unwrap-weights.result.now found c.requires stand in
-    record { half = c.in_default.not-FullMatrix; some = are.lists.some; most = are.lists.most; filled = are.lists.filled; sizes = are.lists.sizes }
+    let stand = ap (λ (g : Fields). g.weights) (sym c.self.view_is) ∙ sym c.weights.ensures
+    ∙ ap (option_map (λ w. w.now)) c.unwrap-weights.ensures in
+    let are = of_weights c.args.self.now c.self.inside.nodes c.self.inside.source c.args.layout c.unwrap-weights.result.now found
+    c.requires stand in
+    record {
+      half = c.in_default.not-FullMatrix;
+      some = are.lists.some;
+      most = are.lists.most;
+      filled = are.lists.filled;
+      sizes =
+          are.lists.sizes;
+    }
 
 pub returns-in-FullMatrix : goal.returns-in-FullMatrix
 returns-in-FullMatrix c =
     let found = subst (λ (g : Fields). HasFound g c.self.inside.nodes c.self.inside.source) c.self.view_is c.self.invariant in
-    let stand = ap (λ (g : Fields). g.weights) (sym c.self.view_is) ∙ sym c.weights.ensures ∙ ap (option_map (λ w. w.now)) c.unwrap-weights.ensures in
-    let are = of_weights c.args.self.now c.self.inside.nodes c.self.inside.source c.args.layout c.unwrap-weights.result.now found c.requires stand in (
+    let stand = ap (λ (g : Fields). g.weights) (sym c.self.view_is) ∙ sym c.weights.ensures
+    ∙ ap (option_map (λ w. w.now)) c.unwrap-weights.ensures in
+    let are = of_weights c.args.self.now c.self.inside.nodes c.self.inside.source c.args.layout c.unwrap-weights.result.now found
+    c.requires stand in (
       are.kind,
       are.lists.format ∙ ap (λ layout. Some (Listed layout)) c.in-FullMatrix.is,
       record {
         count = are.lists.dimension ∙ ap (λ n. Some n) (sym c.of.ensures.nodes);
         every = λ i j. c.of.ensures.costs i j
-            ∙ ap (λ layout. listed_cost layout c.self.inside.nodes c.unwrap-weights.result.now i j) (sym c.in-FullMatrix.is) ∙ are.every i j;
+            ∙ ap (λ layout. listed_cost layout c.self.inside.nodes c.unwrap-weights.result.now i j) (sym c.in-FullMatrix.is)
+            ∙ are.every i j;
       },
     )
 
 pub returns-in_default : goal.returns-in_default
 returns-in_default c =
     let found = subst (λ (g : Fields). HasFound g c.self.inside.nodes c.self.inside.source) c.self.view_is c.self.invariant in
-    let stand = ap (λ (g : Fields). g.weights) (sym c.self.view_is) ∙ sym c.weights.ensures ∙ ap (option_map (λ w. w.now)) c.unwrap-weights.ensures in
-    let are = of_weights c.args.self.now c.self.inside.nodes c.self.inside.source c.args.layout c.unwrap-weights.result.now found c.requires stand in (
+    let stand = ap (λ (g : Fields). g.weights) (sym c.self.view_is) ∙ sym c.weights.ensures
+    ∙ ap (option_map (λ w. w.now)) c.unwrap-weights.ensures in
+    let are = of_weights c.args.self.now c.self.inside.nodes c.self.inside.source c.args.layout c.unwrap-weights.result.now found
+    c.requires stand in (
       are.kind,
-      λ full. c.in_default.not-FullMatrix (same_layout c.args.self.now.weight_format c.args.layout FullMatrix are.lists.format full),
+      λ full. c.in_default.not-FullMatrix
+          (same_layout c.args.self.now.weight_format c.args.layout FullMatrix are.lists.format full),
       record {
         count = are.lists.dimension ∙ ap (λ n. Some n) (sym c.of-in_default.ensures.nodes);
         every = λ i j. c.of-in_default.ensures.costs i j ∙ are.every i j;

@@ -16,7 +16,10 @@ returns g c = known_true c.is_at_least.result _ (λ true_is to node inside.
     let there : Point = points_place g.P.InSpace.place c.args.self.now to in
     let nearest = c.nearest.result in
     let grows : distance kind here nearest ≤ℤ distance kind here there =
-    distance_grows laws.euc_2d laws.ceil_2d laws.man_2d laws.max_2d laws.att laws.euc_3d laws.man_3d laws.max_3d kind here nearest here there
+    distance_grows laws.euc_2d laws.ceil_2d laws.man_2d laws.max_2d laws.att laws.euc_3d laws.man_3d laws.max_3d kind here nearest
+    here there
     (c.nearest.ensures.across there inside) (c.nearest.ensures.along there inside) (c.nearest.ensures.above there inside) in
     subst (λ (p : Point). c.args.least ≤ℤ distance kind p there) c.place-here.ensures
-    (at_least_further c.args.least (distance kind here nearest) (distance kind here there) (subst (λ (z : ℤ). z ≤ℤ distance kind here nearest) (to_z-of_z w64 c.args.least c.ranges.least) (c.is_at_least.ensures.0 true_is)) grows))
+    (at_least_further c.args.least (distance kind here nearest) (distance kind here there)
+    (subst (λ (z : ℤ). z ≤ℤ distance kind here nearest) (to_z-of_z w64 c.args.least c.ranges.least)
+    (c.is_at_least.ensures.0 true_is)) grows))

@@ -18,12 +18,15 @@ nodes-preserved g c =
     let next : ℕ = slice_index_or c.args.nodes.now k 0 in
     let so_far : ℤ = to_z w64 c.nodes.sum-bits in
     let paid : ℤ = c.between-sum.result in
-    let behind : slice_index_or (c.args.from ∷ c.args.nodes.now) (k + 1) 0 ≡ next = ap (λ (i : ℕ). slice_index_or (c.args.from ∷ c.args.nodes.now) i 0) (add-one k) in
+    let behind : slice_index_or (c.args.from ∷ c.args.nodes.now) (k + 1) 0 ≡ next =
+    ap (λ (i : ℕ). slice_index_or (c.args.from ∷ c.args.nodes.now) i 0) (add-one k) in
     let here : slice_index_or c.places-places.result k c.index-places-k.result ≡ place c.nodes.last =
-    c.places-places.ensures.each k c.index-places-k.result (omega (arith, c.nodes-test.true)) ∙ ap place (sym c.nodes.invariant.here) in
+    c.places-places.ensures.each k c.index-places-k.result (omega (arith, c.nodes-test.true))
+    ∙ ap place (sym c.nodes.invariant.here) in
     let there : slice_index_or c.places-places.result (k + 1) c.index-places-k-in-nodes.result ≡ place next =
     c.places-places.ensures.each (k + 1) c.index-places-k-in-nodes.result (omega (arith, c.nodes-test.true)) ∙ ap place behind in
-    let is : paid ≡ cost c.nodes.last next = c.between-sum.ensures.value ∙ ap₂ (distance (weight_kind_of c.args.self.now.metric)) here there in
+    let is : paid ≡ cost c.nodes.last next = c.between-sum.ensures.value
+    ∙ ap₂ (distance (weight_kind_of c.args.self.now.metric)) here there in
     let few : k ≤ 1000000 = omega (arith, c.nodes-test.true, c.requires.few) in
     let low : neg_ℤ (pos 1000000000000) ≤ℤ paid = omega (arith, ints, c.between-sum.ensures.low) in
     let high : paid ≤ℤ pos 1000000000000 = omega (arith, ints, c.between-sum.ensures.high) in
@@ -32,5 +35,6 @@ nodes-preserved g c =
       node = c.requires.range k 0 c.nodes-test.true;
       here = sym behind;
       size = rw fits (sum_more so_far paid k c.nodes.invariant.size low high);
-      so_far = rw (fits, is, add-one k) (way_more cost so_far c.args.from c.nodes.last k c.args.nodes.now c.nodes-test.true c.nodes.invariant.so_far);
+      so_far = rw (fits, is, add-one k)
+          (way_more cost so_far c.args.from c.nodes.last k c.args.nodes.now c.nodes-test.true c.nodes.invariant.so_far);
     }

@@ -11,6 +11,7 @@ invariant-nodes g l = record {
   node : IsNode (points_nodes l.self) l.last;
   here : l.last ≡ slice_index_or (l.from ∷ l.nodes) l.k 0;
   size : IsSumOfCosts l.k l.sum;
-  so_far : (end : ℕ) (more : List ℕ) → (l.sum +ℤ length_to (points_cost g.P.InSpace.place l.self) end l.last (drop l.k l.nodes ++ more))
+  so_far : (end : ℕ) (more : List ℕ)
+      → (l.sum +ℤ length_to (points_cost g.P.InSpace.place l.self) end l.last (drop l.k l.nodes ++ more))
       ≡ length_to (points_cost g.P.InSpace.place l.self) end l.from (l.nodes ++ more);
 }

@@ -40,16 +40,20 @@ parts-preserved g c =
     let later : List ℕ = c.split_at.result.1.now in
     let so_far : ℤ = to_z w64 c.parts.length-bits in
     let way : ℤ = c.through-way.result.0 in
-    let halves : front ++ later ≡ rest = rw (c.split_at.ensures.front, c.split_at.ensures.back) (take-append-drop c.min.result rest) in
+    let halves : front ++ later ≡ rest =
+    rw (c.split_at.ensures.front, c.split_at.ensures.back) (take-append-drop c.min.result rest) in
     let counts : (length c.args.tour.now - (length rest + 1)) + length front ≡ length c.args.tour.now - (length later + 1) =
     omega (arith, c.split_at.ensures.front_len, c.split_at.ensures.back_len, c.parts.invariant.few) in
-    let fits = sum_fits so_far way (length c.args.tour.now - (length rest + 1)) (length front) (omega (arith, counts, c.requires.size)) c.parts.invariant.size c.through-way.ensures.size in
+    let fits = sum_fits so_far way (length c.args.tour.now - (length rest + 1)) (length front)
+    (omega (arith, counts, c.requires.size)) c.parts.invariant.size c.through-way.ensures.size in
     record {
       node = c.through-way.ensures.last;
-      range = subst (λ (xs : List ℕ). All IsIn xs) (sym c.split_at.ensures.back) (All-drop IsIn c.min.result rest c.parts.invariant.range);
+      range = subst (λ (xs : List ℕ). All IsIn xs) (sym c.split_at.ensures.back)
+          (All-drop IsIn c.min.result rest c.parts.invariant.range);
       few = omega (arith, c.split_at.ensures.back_len, c.parts.invariant.few);
       size = rw fits (subst (λ (n : ℕ). IsSumOfCosts n (so_far +ℤ way)) counts
-          (sum_both so_far way (length c.args.tour.now - (length rest + 1)) (length front) c.parts.invariant.size c.through-way.ensures.size));
+          (sum_both so_far way (length c.args.tour.now - (length rest + 1)) (length front) c.parts.invariant.size
+          c.through-way.ensures.size));
       so_far = rw fits (+ℤ_assoc so_far way (length_to cost first c.through-way.result.1 later)
           ∙ ap (λ (z : ℤ). so_far +ℤ z) (c.through-way.ensures.sum first later)
           ∙ ap (λ (xs : List ℕ). so_far +ℤ length_to cost first c.parts.from xs) halves
@@ -61,9 +65,11 @@ returns g c =
     let cost : ℕ → ℕ → ℤ = points_cost g.P.InSpace.place c.args.self.now in
     let first : ℕ = c.in-Some.first.now in
     let so_far : ℤ = to_z w64 c.parts.length-bits in
-    let none : c.parts.rest.now ≡ [] = nil_from_length c.parts.rest.now (eqb-true (length c.parts.rest.now) 0 (sym c.is_empty.ensures ∙ c.parts-test.false)) in
+    let none : c.parts.rest.now ≡ [] =
+    nil_from_length c.parts.rest.now (eqb-true (length c.parts.rest.now) 0 (sym c.is_empty.ensures ∙ c.parts-test.false)) in
     let few : length c.args.tour.now - (length c.parts.rest.now + 1) ≤ 1000000 = omega (arith, c.requires.size) in
-    let fits = cost_fits so_far c.cost.result (length c.args.tour.now - (length c.parts.rest.now + 1)) few c.parts.invariant.size c.cost.ensures.low c.cost.ensures.high in
+    let fits = cost_fits so_far c.cost.result (length c.args.tour.now - (length c.parts.rest.now + 1)) few c.parts.invariant.size
+    c.cost.ensures.low c.cost.ensures.high in
     rw (fits, c.cost.ensures.value)
     (ap (λ (z : ℤ). so_far +ℤ z) (sym (+ℤ_idr (cost c.parts.from first)))
     ∙ ap (λ (xs : List ℕ). so_far +ℤ length_to cost first c.parts.from xs) (sym none)

@@ -5,7 +5,8 @@ use Rattle.tsp_cost.proofs.triangle.Triangle.of.Goals as goal
 
 pub invariant_of-result : goal.invariant_of-result
 invariant_of-result c =
-    let out : UnlistedHaveNoPlace c.args.layout c.args.nodes = unlisted_has_no_place c.cells_are_the_listed_pairs.ensures c.only_cells_have_places.ensures c.args.layout c.args.nodes in
+    let out : UnlistedHaveNoPlace c.args.layout c.args.nodes =
+    unlisted_has_no_place c.cells_are_the_listed_pairs.ensures c.only_cells_have_places.ensures c.args.layout c.args.nodes in
     record {
       half = c.requires.half;
       some = c.requires.some;

@@ -18,9 +18,14 @@ pub of-requires : goal.of-requires
 of-requires c =
     let f : Fields = c.args.self.now in
     let layout : Layout = c.in-Some-Listed.layout in
-    let format : f.weight_format ≡ Some (Listed layout) = sym c.weight_format.ensures ∙ c.in-Some-Listed.is ∙ ap (λ x. Some x) c.in-Some-Listed.field-0-is in
-    let dimension : f.dimension ≡ Some c.unwrap-nodes.result = sym (ap (λ (g : Fields). g.dimension) c.fields-fields.ensures.value) ∙ c.unwrap-nodes.ensures in
-    (f, lists f layout c.unwrap-nodes.result c.in_ok-weights.weights.now c.fields-fields.ensures.held.range format dimension (sym c.in_ok-weights.ensures))
+    let format : f.weight_format ≡ Some (Listed layout) = sym c.weight_format.ensures ∙ c.in-Some-Listed.is
+    ∙ ap (λ x. Some x) c.in-Some-Listed.field-0-is in
+    let dimension : f.dimension ≡ Some c.unwrap-nodes.result =
+    sym (ap (λ (g : Fields). g.dimension) c.fields-fields.ensures.value) ∙ c.unwrap-nodes.ensures in (
+      f,
+      lists f layout c.unwrap-nodes.result c.in_ok-weights.weights.now c.fields-fields.ensures.held.range format dimension
+          (sym c.in_ok-weights.ensures),
+    )
 
 pub returns-in-Some-ByFunction : goal.returns-in-Some-ByFunction
 returns-in-Some-ByFunction c = λ listed.

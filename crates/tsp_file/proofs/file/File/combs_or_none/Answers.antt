@@ -10,5 +10,6 @@ pub returns-in-Some-clause-are : goal.returns-in-Some-clause-are
 returns-in-Some-clause-are c =
     let f : Fields = c.args.self.now in
     let stand : f.combs ≡ Some (combs_of c.as_slice.result.now) =
-    sym (ap (λ (g : Fields). g.combs) c.fields.ensures.value) ∙ ap (option_map (λ combs. combs_of combs.items)) c.in-Some.is ∙ ap (λ combs. Some (combs_of combs)) (sym c.as_slice.ensures.value) in
+    sym (ap (λ (g : Fields). g.combs) c.fields.ensures.value) ∙ ap (option_map (λ combs. combs_of combs.items)) c.in-Some.is
+    ∙ ap (λ combs. Some (combs_of combs)) (sym c.as_slice.ensures.value) in
     combs_hold f (combs_of c.as_slice.result.now) (c.fields.ensures.held.range.combs _ stand)

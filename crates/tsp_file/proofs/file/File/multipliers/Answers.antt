@@ -9,5 +9,6 @@ pub returns-in-Some-clause-are : goal.returns-in-Some-clause-are
 returns-in-Some-clause-are c =
     let f : Fields = c.args.self.now in
     let stand : f.fixed_potentials ≡ Some c.as_slice.result.now =
-    sym (ap (λ (g : Fields). g.fixed_potentials) c.fields.ensures.value) ∙ ap (option_map (λ triples. triples.items)) c.in-Some.is ∙ ap (λ x. Some x) (sym c.as_slice.ensures.value) in
+    sym (ap (λ (g : Fields). g.fixed_potentials) c.fields.ensures.value) ∙ ap (option_map (λ triples. triples.items)) c.in-Some.is
+    ∙ ap (λ x. Some x) (sym c.as_slice.ensures.value) in
     multipliers_hold f c.as_slice.result.now (c.fields.ensures.held.range.fixed_potentials _ stand)

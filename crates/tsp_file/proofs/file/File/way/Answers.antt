@@ -42,7 +42,8 @@ returns-then-are_in-2 c =
     let f = c.args.self.now in
     let w = c.in-Some.listed in
     let held = c.in-Some.ensures in (
-      can_go f w.layout w.nodes w.weights.now c.args.to held.0 held.1 c.in_default-lost_pair.ensures c.in_default-lost_diagonal.ensures,
+      can_go f w.layout w.nodes w.weights.now c.args.to held.0 held.1 c.in_default-lost_pair.ensures
+          c.in_default-lost_diagonal.ensures,
       held.1.format ∙ ap (λ layout. Some (Listed layout)) (c.are_in-2.ensures.0 c.if-are_in-2.true),
     )
 
@@ -51,8 +52,13 @@ returns-in-Ok c =
     let f = c.args.self.now in
     let w = c.in-Some.listed in
     let held = c.in-Some.ensures in (
-      can_go f w.layout w.nodes w.weights.now c.args.to held.0 held.1 c.in_default-lost_pair.ensures c.in_default-lost_diagonal.ensures,
-      (of_file (λ n cost. c.in-Ok.weights.items ≡ costs_in c.args.to n cost) f w.layout w.nodes w.weights.now held.0 held.1 c.in-Ok.ensures.value, c.in-Ok.ensures.sizes),
+      can_go f w.layout w.nodes w.weights.now c.args.to held.0 held.1 c.in_default-lost_pair.ensures
+          c.in_default-lost_diagonal.ensures,
+      (
+        of_file (λ n cost. c.in-Ok.weights.items ≡ costs_in c.args.to n cost) f w.layout w.nodes w.weights.now held.0 held.1
+            c.in-Ok.ensures.value,
+        c.in-Ok.ensures.sizes,
+      ),
     )
 
 pub returns-in-Err : goal.returns-in-Err
@@ -60,6 +66,8 @@ returns-in-Err c =
     let f = c.args.self.now in
     let w = c.in-Some.listed in
     let held = c.in-Some.ensures in (
-      can_go f w.layout w.nodes w.weights.now c.args.to held.0 held.1 c.in_default-lost_pair.ensures c.in_default-lost_diagonal.ensures,
-      λ same. false≢true (sym c.if-are_in.false ∙ c.are_in.ensures.1 (same_layout f.weight_format w.layout c.args.to held.1.format same)),
+      can_go f w.layout w.nodes w.weights.now c.args.to held.0 held.1 c.in_default-lost_pair.ensures
+          c.in_default-lost_diagonal.ensures,
+      λ same. false≢true (sym c.if-are_in.false
+          ∙ c.are_in.ensures.1 (same_layout f.weight_format w.layout c.args.to held.1.format same)),
     )

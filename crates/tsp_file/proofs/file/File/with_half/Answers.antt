@@ -25,7 +25,8 @@ held : (f g : Fields) (n : ℕ) (weights : List ℤ) → f ≡ g → fault_of f 
     → f.dimension ≡ Some n
     → f.weights ≡ Some weights → ListsWeights f FullMatrix n weights
 held f g n weights same valid full dimension stand =
-    lists f FullMatrix n weights (in_range f valid) (subst (λ (h : Fields). h.weight_format ≡ Some (Listed FullMatrix)) (sym same) full) dimension stand
+    lists f FullMatrix n weights (in_range f valid)
+    (subst (λ (h : Fields). h.weight_format ≡ Some (Listed FullMatrix)) (sym same) full) dimension stand
 
 pub unwrap-nodes-requires : goal.unwrap-nodes-requires
 unwrap-nodes-requires c =
@@ -38,35 +39,44 @@ pub keep_half-requires-clause-few : goal.keep_half-requires-clause-few
 keep_half-requires-clause-few c =
     let f : Fields = fields_of c.self.inside.draft in
     let stand = ap (option_map (λ w. w.items)) (sym (c.take.ensures.value) ∙ c.unwrap-weights.ensures) in
-    (held f c.args.self c.unwrap-nodes.result c.unwrap-weights.result.items c.self.view_is c.self.invariant c.requires.full c.unwrap-nodes.ensures stand).most
+    (held f c.args.self c.unwrap-nodes.result c.unwrap-weights.result.items c.self.view_is c.self.invariant c.requires.full
+    c.unwrap-nodes.ensures stand).most
 
 pub keep_half-requires-clause-filled : goal.keep_half-requires-clause-filled
 keep_half-requires-clause-filled c =
     let f : Fields = fields_of c.self.inside.draft in
     let stand = ap (option_map (λ w. w.items)) (sym (c.take.ensures.value) ∙ c.unwrap-weights.ensures) in
-    (held f c.args.self c.unwrap-nodes.result c.unwrap-weights.result.items c.self.view_is c.self.invariant c.requires.full c.unwrap-nodes.ensures stand).filled
+    (held f c.args.self c.unwrap-nodes.result c.unwrap-weights.result.items c.self.view_is c.self.invariant c.requires.full
+    c.unwrap-nodes.ensures stand).filled
 
 pub keep_half-requires-clause-pairs : goal.keep_half-requires-clause-pairs
 keep_half-requires-clause-pairs c =
     let f : Fields = fields_of c.self.inside.draft in
     let can = as_held f c.args.self c.args.to c.self.view_is c.requires.can_go in
     let stand = ap (option_map (λ w. w.items)) (sym (c.take.ensures.value) ∙ c.unwrap-weights.ensures) in
-    of_weights (λ n costs. HoldsPairs c.args.to costs) f FullMatrix c.unwrap-nodes.result c.unwrap-weights.result.items can.listed.0
-    (held f c.args.self c.unwrap-nodes.result c.unwrap-weights.result.items c.self.view_is c.self.invariant c.requires.full c.unwrap-nodes.ensures stand) can.pairs
+    of_weights (λ n costs. HoldsPairs c.args.to costs) f FullMatrix c.unwrap-nodes.result c.unwrap-weights.result.items
+    can.listed.0
+    (held f c.args.self c.unwrap-nodes.result c.unwrap-weights.result.items c.self.view_is c.self.invariant c.requires.full
+    c.unwrap-nodes.ensures stand) can.pairs
 
 pub invariant_of-result : goal.invariant_of-result
 invariant_of-result c =
     let f : Fields = fields_of c.self.inside.draft in
     let can = as_held f c.args.self c.args.to c.self.view_is c.requires.can_go in
     let stand = ap (option_map (λ w. w.items)) (sym (c.take.ensures.value) ∙ c.unwrap-weights.ensures) in
-    (laid_of f FullMatrix c.args.to c.unwrap-nodes.result c.unwrap-weights.result.items c.keep_half.new.weights.items c.self.invariant can
-    (held f c.args.self c.unwrap-nodes.result c.unwrap-weights.result.items c.self.view_is c.self.invariant c.requires.full c.unwrap-nodes.ensures stand) c.keep_half.ensures).0
+    (laid_of f FullMatrix c.args.to c.unwrap-nodes.result c.unwrap-weights.result.items c.keep_half.new.weights.items
+    c.self.invariant can
+    (held f c.args.self c.unwrap-nodes.result c.unwrap-weights.result.items c.self.view_is c.self.invariant c.requires.full
+    c.unwrap-nodes.ensures stand) c.keep_half.ensures).0
 
 pub returns : goal.returns
 returns c =
     let f : Fields = fields_of c.self.inside.draft in
     let can = as_held f c.args.self c.args.to c.self.view_is c.requires.can_go in
     let stand = ap (option_map (λ w. w.items)) (sym (c.take.ensures.value) ∙ c.unwrap-weights.ensures) in
-    let value = (laid_of f FullMatrix c.args.to c.unwrap-nodes.result c.unwrap-weights.result.items c.keep_half.new.weights.items c.self.invariant can
-    (held f c.args.self c.unwrap-nodes.result c.unwrap-weights.result.items c.self.view_is c.self.invariant c.requires.full c.unwrap-nodes.ensures stand) c.keep_half.ensures).1 in
-    ap (with_weights f c.args.to) value ∙ ap (λ (g : Fields). with_weights g c.args.to (costs_in c.args.to (nodes_of g) (cost g))) c.self.view_is
+    let value = (laid_of f FullMatrix c.args.to c.unwrap-nodes.result c.unwrap-weights.result.items c.keep_half.new.weights.items
+    c.self.invariant can
+    (held f c.args.self c.unwrap-nodes.result c.unwrap-weights.result.items c.self.view_is c.self.invariant c.requires.full
+    c.unwrap-nodes.ensures stand) c.keep_half.ensures).1 in
+    ap (with_weights f c.args.to) value ∙ ap (λ (g : Fields). with_weights g c.args.to (costs_in c.args.to (nodes_of g) (cost g)))
+    c.self.view_is

@@ -34,7 +34,8 @@ make_whole-requires-clause-few c =
     let f : Fields = fields_of c.self.inside.draft in
     let stand = ap (option_map (λ w. w.items)) (sym (c.take.ensures.value) ∙ c.unwrap-weights.ensures) in
     let format : f.weight_format ≡ Some (Listed c.args.from) = search rules in
-    let held = lists f c.args.from c.unwrap-nodes.result c.unwrap-weights.result.items (in_range f c.self.invariant) format c.unwrap-nodes.ensures stand in
+    let held = lists f c.args.from c.unwrap-nodes.result c.unwrap-weights.result.items (in_range f c.self.invariant) format
+    c.unwrap-nodes.ensures stand in
     held.most
 
 pub make_whole-requires-clause-filled : goal.make_whole-requires-clause-filled
@@ -42,7 +43,8 @@ make_whole-requires-clause-filled c =
     let f : Fields = fields_of c.self.inside.draft in
     let stand = ap (option_map (λ w. w.items)) (sym (c.take.ensures.value) ∙ c.unwrap-weights.ensures) in
     let format : f.weight_format ≡ Some (Listed c.args.from) = search rules in
-    let held = lists f c.args.from c.unwrap-nodes.result c.unwrap-weights.result.items (in_range f c.self.invariant) format c.unwrap-nodes.ensures stand in
+    let held = lists f c.args.from c.unwrap-nodes.result c.unwrap-weights.result.items (in_range f c.self.invariant) format
+    c.unwrap-nodes.ensures stand in
     held.filled
 
 pub invariant_of-result-2 : goal.invariant_of-result-2
@@ -50,9 +52,11 @@ invariant_of-result-2 c =
     let f : Fields = fields_of c.self.inside.draft in
     let stand = ap (option_map (λ w. w.items)) (sym (c.take.ensures.value) ∙ c.unwrap-weights.ensures) in
     let format : f.weight_format ≡ Some (Listed c.args.from) = search rules in
-    let held = lists f c.args.from c.unwrap-nodes.result c.unwrap-weights.result.items (in_range f c.self.invariant) format c.unwrap-nodes.ensures stand in
+    let held = lists f c.args.from c.unwrap-nodes.result c.unwrap-weights.result.items (in_range f c.self.invariant) format
+    c.unwrap-nodes.ensures stand in
     let value = made c.make_whole.result _ (sym c.is_err.ensures.value ∙ c.if-is_err.false) c.make_whole.ensures.ok in
-    (laid_of f c.args.from FullMatrix c.unwrap-nodes.result c.unwrap-weights.result.items c.make_whole.new.weights.items c.self.invariant
+    (laid_of f c.args.from FullMatrix c.unwrap-nodes.result c.unwrap-weights.result.items c.make_whole.new.weights.items
+    c.self.invariant
     (can_go f c.args.self c.self.view_is c.requires.can_go) held value).0
 
 pub returns : goal.returns
@@ -60,8 +64,11 @@ returns c =
     let f : Fields = fields_of c.self.inside.draft in
     let stand = ap (option_map (λ w. w.items)) (sym (c.take.ensures.value) ∙ c.unwrap-weights.ensures) in
     let format : f.weight_format ≡ Some (Listed c.args.from) = search rules in
-    let held = lists f c.args.from c.unwrap-nodes.result c.unwrap-weights.result.items (in_range f c.self.invariant) format c.unwrap-nodes.ensures stand in
+    let held = lists f c.args.from c.unwrap-nodes.result c.unwrap-weights.result.items (in_range f c.self.invariant) format
+    c.unwrap-nodes.ensures stand in
     let value = made c.make_whole.result _ (sym c.is_err.ensures.value ∙ c.if-is_err.false) c.make_whole.ensures.ok in
-    let laid = (laid_of f c.args.from FullMatrix c.unwrap-nodes.result c.unwrap-weights.result.items c.make_whole.new.weights.items c.self.invariant
+    let laid = (laid_of f c.args.from FullMatrix c.unwrap-nodes.result c.unwrap-weights.result.items
+    c.make_whole.new.weights.items c.self.invariant
     (can_go f c.args.self c.self.view_is c.requires.can_go) held value).1 in
-    ap (with_weights f FullMatrix) laid ∙ ap (λ (g : Fields). with_weights g FullMatrix (costs_in FullMatrix (nodes_of g) (cost g))) c.self.view_is
+    ap (with_weights f FullMatrix) laid
+    ∙ ap (λ (g : Fields). with_weights g FullMatrix (costs_in FullMatrix (nodes_of g) (cost g))) c.self.view_is

@@ -18,7 +18,8 @@ returns-then-lists-2 c =
     let w = c.args.self.now in
     let place = c.place-then-lists-2 in
     let inside : place.result < length w.weights.now = omega (arith, place.ensures.within, w.filled) in
-    let out : place_of w.layout w.nodes (c.args.i, c.args.j) ≡ None = no_cell w.layout w.nodes c.args.i c.args.j (sym c.lists.ensures ∙ c.if-lists.false) in
+    let out : place_of w.layout w.nodes (c.args.i, c.args.j) ≡ None =
+    no_cell w.layout w.nodes c.args.i c.args.j (sym c.lists.ensures ∙ c.if-lists.false) in
     weight_read (slice_index_or w.weights.now place.result (pos 0)) (w.sizes place.result (pos 0) inside)
     ∙ sym (cost_mirrored w.layout w.nodes w.weights.now c.args.i c.args.j place.result out place.ensures.value)
 

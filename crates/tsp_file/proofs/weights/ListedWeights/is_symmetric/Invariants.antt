@@ -6,4 +6,5 @@ use Rattle.tsp_file.proofs.weights.ListedWeights.is_symmetric.Given as goal
 
 abbrev pub invariant-bands : goal.invariant-bands
 invariant-bands l =
-    (i j : ℕ) → IsNode (l.self.nodes) i → IsNode (l.self.nodes) j → i < j → i ≤ l.band * 64 → costs_of l.self i j ≡ costs_of l.self j i
+    (i j : ℕ) → IsNode (l.self.nodes) i → IsNode (l.self.nodes) j → i < j → i ≤ l.band * 64
+    → costs_of l.self i j ≡ costs_of l.self j i

@@ -5,4 +5,5 @@ use Rattle.tsp_file.proofs.weights.ListedWeights.is_symmetric_band.Given as goal
 
 abbrev pub invariant-across : goal.invariant-across
 invariant-across l =
-    (i j : ℕ) → l.band * 64 < i → i ≤ l.band * 64 + 64 → l.band * 64 < j → j ≤ l.block * 64 → i ≤ l.self.nodes → j ≤ l.self.nodes → costs_of l.self i j ≡ costs_of l.self j i
+    (i j : ℕ) → l.band * 64 < i → i ≤ l.band * 64 + 64 → l.band * 64 < j → j ≤ l.block * 64 → i ≤ l.self.nodes → j ≤ l.self.nodes
+    → costs_of l.self i j ≡ costs_of l.self j i

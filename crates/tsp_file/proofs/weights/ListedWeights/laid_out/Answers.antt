@@ -11,7 +11,8 @@ use Rattle.tsp_file.proofs.weights.ListedWeights.laid_out.Goals as goal
 pub lines-preserved : goal.lines-preserved
 lines-preserved c =
     let w = c.args.self.now in
-    line_more (λ cell. costs_of w cell.0 cell.1) (cells_of_line c.args.to w.nodes) w.nodes c.lines.line _ _ (omega arith) (omega arith) c.lines.invariant c.in_ok-lay_line.ensures
+    line_more (λ cell. costs_of w cell.0 cell.1) (cells_of_line c.args.to w.nodes) w.nodes c.lines.line _ _ (omega arith)
+    (omega arith) c.lines.invariant c.in_ok-lay_line.ensures
 
 pub returns-clause-value : goal.returns-clause-value
 returns-clause-value c =
@@ -21,5 +22,6 @@ returns-clause-value c =
 pub returns-clause-sizes : goal.returns-clause-sizes
 returns-clause-sizes c =
     let w = c.args.self.now in
-    subst (All (IsWithin most_weight)) (sym (lines_all (λ cell. costs_of w cell.0 cell.1) c.args.to w.nodes c.lines.line _ (omega arith) c.lines.invariant))
+    subst (All (IsWithin most_weight))
+    (sym (lines_all (λ cell. costs_of w cell.0 cell.1) c.args.to w.nodes c.lines.line _ (omega arith) c.lines.invariant))
     (all_within c.args.to w.nodes (costs_of w) (cost_within w.layout w.nodes w.weights.now w.sizes))

@@ -9,4 +9,5 @@ use Rattle.tsp_file.proofs.weights.ListedWeights.laid_out.Given as goal
 -- the costs of the lines before this one
 abbrev pub invariant-lines : goal.invariant-lines
 invariant-lines l =
-    l.weights.items ≡ map (λ cell. costs_of l.self cell.0 cell.1) (flat_map (cells_of_line l.to l.self.nodes) (take (l.line - 1) (nodes_to l.self.nodes)))
+    l.weights.items ≡ map (λ cell. costs_of l.self cell.0 cell.1)
+    (flat_map (cells_of_line l.to l.self.nodes) (take (l.line - 1) (nodes_to l.self.nodes)))

@@ -7,4 +7,5 @@ use Rattle.tsp_file.proofs.weights.ListedWeights.lay_line.Given as goal
 -- the costs of the cells before this one, after what was there
 abbrev pub invariant-cells : goal.invariant-cells
 invariant-cells l =
-    l.weights.items ≡ l.initial.weights.items ++ map (λ cell. costs_of l.self cell.0 cell.1) (take l.index (cells_of_line l.to l.self.nodes l.line))
+    l.weights.items ≡ l.initial.weights.items ++ map (λ cell. costs_of l.self cell.0 cell.1)
+    (take l.index (cells_of_line l.to l.self.nodes l.line))

@@ -11,6 +11,7 @@ returns c =
     let w = c.args.self.now in
     let filled = w.filled ∙ ap (λ layout. length (cells layout w.nodes)) c.requires.full in
     let inside : c.place.result < length w.weights.now = omega (arith, c.place.ensures.within, filled) in
-    let here : place_of w.layout w.nodes (c.args.i, c.args.j) ≡ Some c.place.result = ap (λ layout. place_of layout w.nodes (c.args.i, c.args.j)) c.requires.full ∙ c.place.ensures.value in
+    let here : place_of w.layout w.nodes (c.args.i, c.args.j) ≡ Some c.place.result =
+    ap (λ layout. place_of layout w.nodes (c.args.i, c.args.j)) c.requires.full ∙ c.place.ensures.value in
     weight_read (slice_index_or w.weights.now c.place.result (pos 0)) (w.sizes c.place.result (pos 0) inside)
     ∙ sym (cost_of_cell w.layout w.nodes w.weights.now c.args.i c.args.j c.place.result here)

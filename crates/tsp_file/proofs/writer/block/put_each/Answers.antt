@@ -22,4 +22,5 @@ weights-preserved g c =
 
 pub returns : goal.returns
 returns g c = carried_all (λ (weight : ℤ). 32 ∷ signed_decimal weight) c.args.weights.now c.weights.weight-index
-    (way_of g.W.Write.contents c.args.out.now c.args.piece.now.items) (way_of g.W.Write.contents c.weights.out c.weights.piece.items) (omega arith) c.weights.invariant
+    (way_of g.W.Write.contents c.args.out.now c.args.piece.now.items)
+    (way_of g.W.Write.contents c.weights.out c.weights.piece.items) (omega arith) c.weights.invariant

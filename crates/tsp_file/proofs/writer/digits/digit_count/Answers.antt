@@ -6,4 +6,5 @@ use Rattle.tsp_file.proofs.writer.digits.digit_count.Goals as goal
 pub returns : goal.returns
 returns c =
     let fits = c.ranges.number.fits in
-    counted c.args.number c.ilog10.result c.max.result (omega (arith, c.max.ensures, fits)) c.max.ensures c.ilog10.ensures.power_le c.ilog10.ensures.next_power_gt
+    counted c.args.number c.ilog10.result c.max.result (omega (arith, c.max.ensures, fits)) c.max.ensures
+    c.ilog10.ensures.power_le c.ilog10.ensures.next_power_gt

@@ -25,10 +25,15 @@ returns-clause-written c =
     let two : drop (end - 2) c.write_pair.new.block ≡ pair (n % 10000 % 100) ++ drop end old =
     c.write_pair.ensures ∙ ap (λ (k : ℕ). pair (n % 10000 % 100) ++ drop k old) e2 in
     let four : drop (end - 4) c.write_pair-2.new.block ≡ pair (n % 10000 / 100) ++ (pair (n % 10000 % 100) ++ drop end old) =
-    c.write_pair-2.ensures ∙ ap (λ (k : ℕ). pair (n % 10000 / 100) ++ drop k c.write_pair.new.block) e4 ∙ ap (λ (t : List ℕ). pair (n % 10000 / 100) ++ t) two in
-    let six : drop (end - 6) c.write_pair-3.new.block ≡ pair (n / 10000 % 100) ++ (pair (n % 10000 / 100) ++ (pair (n % 10000 % 100) ++ drop end old)) =
-    c.write_pair-3.ensures ∙ ap (λ (k : ℕ). pair (n / 10000 % 100) ++ drop k c.write_pair-2.new.block) e6 ∙ ap (λ (t : List ℕ). pair (n / 10000 % 100) ++ t) four in
-    let eight : drop (end - 8) c.write_pair-4.new.block ≡ pair (n / 10000 / 100) ++ (pair (n / 10000 % 100) ++ (pair (n % 10000 / 100) ++ (pair (n % 10000 % 100) ++ drop end old))) =
-    c.write_pair-4.ensures ∙ ap (λ (k : ℕ). pair (n / 10000 / 100) ++ drop k c.write_pair-3.new.block) e8 ∙ ap (λ (t : List ℕ). pair (n / 10000 / 100) ++ t) six in
+    c.write_pair-2.ensures ∙ ap (λ (k : ℕ). pair (n % 10000 / 100) ++ drop k c.write_pair.new.block) e4
+    ∙ ap (λ (t : List ℕ). pair (n % 10000 / 100) ++ t) two in
+    let six : drop (end - 6) c.write_pair-3.new.block ≡ pair (n / 10000 % 100)
+    ++ (pair (n % 10000 / 100) ++ (pair (n % 10000 % 100) ++ drop end old)) =
+    c.write_pair-3.ensures ∙ ap (λ (k : ℕ). pair (n / 10000 % 100) ++ drop k c.write_pair-2.new.block) e6
+    ∙ ap (λ (t : List ℕ). pair (n / 10000 % 100) ++ t) four in
+    let eight : drop (end - 8) c.write_pair-4.new.block ≡ pair (n / 10000 / 100)
+    ++ (pair (n / 10000 % 100) ++ (pair (n % 10000 / 100) ++ (pair (n % 10000 % 100) ++ drop end old))) =
+    c.write_pair-4.ensures ∙ ap (λ (k : ℕ). pair (n / 10000 / 100) ++ drop k c.write_pair-3.new.block) e8
+    ∙ ap (λ (t : List ℕ). pair (n / 10000 / 100) ++ t) six in
     ap (λ (k : ℕ). drop (end - k) c.write_pair-4.new.block) c.digit_count.ensures
     ∙ digits_written n end old c.write_pair-4.new.block c.requires.few room eight

@@ -10,4 +10,11 @@ returns c =
     let at = c.args.at in
     let block = c.args.block.now in
     let e : at + 1 + 1 ≡ at + 2 = omega arith in
-    rw (p.0, p.1, set_comm block at (at + 1) _ _ (λ x. omega arith), drop-set (set block (at + 1) (48 + c.args.pair % 10)) at _ (omega (arith, length-set block (at + 1) (48 + c.args.pair % 10))), drop-set block (at + 1) _ (omega arith), e)
+    rw (
+      p.0,
+      p.1,
+      set_comm block at (at + 1) _ _ (λ x. omega arith),
+      drop-set (set block (at + 1) (48 + c.args.pair % 10)) at _ (omega (arith, length-set block (at + 1) (48 + c.args.pair % 10))),
+      drop-set block (at + 1) _ (omega arith),
+      e,
+    )

@@ -20,5 +20,6 @@ loop-comment-preserved g c =
 
 pub returns : goal.returns
 returns g c = carried_mapped (keyword_line CommentKey) (λ v. v.items) c.args.comments.now c.loop-comment.comment-index
-    (way_of g.W.Write.contents c.args.out.now c.args.piece.now.items) (way_of g.W.Write.contents c.loop-comment.out c.loop-comment.piece.items)
+    (way_of g.W.Write.contents c.args.out.now c.args.piece.now.items)
+    (way_of g.W.Write.contents c.loop-comment.out c.loop-comment.piece.items)
     (omega arith) c.loop-comment.invariant

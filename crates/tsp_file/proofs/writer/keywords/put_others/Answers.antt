@@ -19,5 +19,6 @@ loop-keyword-preserved g c =
 
 pub returns : goal.returns
 returns g c = carried_mapped other_line (λ p. (p.0.items, p.1.items)) c.args.others.now c.loop-keyword.keyword-index
-    (way_of g.W.Write.contents c.args.out.now c.args.piece.now.items) (way_of g.W.Write.contents c.loop-keyword.out c.loop-keyword.piece.items)
+    (way_of g.W.Write.contents c.args.out.now c.args.piece.now.items)
+    (way_of g.W.Write.contents c.loop-keyword.out c.loop-keyword.piece.items)
     (omega arith) c.loop-keyword.invariant

@@ -20,10 +20,13 @@ returns g c =
       | then-not-is_empty w ↦
           let blank_before = way_of g.W.Write.contents w.put-then-not-is_empty.new.out w.put-then-not-is_empty.new.piece.items in
           some_value after_colon after_value c.args.value.now (sym c.is_empty.ensures ∙ w.if-not-is_empty.true)
-          (carried_then after_colon blank_before after_value (32 ∷ []) c.args.value.now w.put-then-not-is_empty.ensures (rw (w.piece-is, w.out-is) w.put-then-not-is_empty-2.ensures))
-      | else-not-is_empty w ↦ no_value after_colon after_value c.args.value.now (sym c.is_empty.ensures ∙ w.if-not-is_empty.false) (rw (w.piece-is, w.out-is) (carried_none after_colon))
+          (carried_then after_colon blank_before after_value (32 ∷ []) c.args.value.now w.put-then-not-is_empty.ensures
+          (rw (w.piece-is, w.out-is) w.put-then-not-is_empty-2.ensures))
+      | else-not-is_empty w ↦ no_value after_colon after_value c.args.value.now (sym c.is_empty.ensures ∙ w.if-not-is_empty.false)
+          (rw (w.piece-is, w.out-is) (carried_none after_colon))
     ]
     in
-    carried_then start after_keyword last c.args.keyword.now (codes " :" ++ (blank_before c.args.value.now ++ line_end)) c.put.ensures
+    carried_then start after_keyword last c.args.keyword.now (codes " :" ++ (blank_before c.args.value.now ++ line_end))
+    c.put.ensures
     (carried_then after_keyword after_colon last (codes " :") (blank_before c.args.value.now ++ line_end) c.put-2.ensures
     (carried_then after_colon after_value last (blank_before c.args.value.now) line_end value c.put-3.ensures))

@@ -15,7 +15,8 @@ returns-in-Some g c =
     let after_first = way_of g.W.Write.contents c.put_number.new.out c.put_number.new.piece.items in
     let after_rest = way_of g.W.Write.contents c.put_more_weights.new.out c.put_more_weights.new.piece.items in
     let last = way_of g.W.Write.contents c.put.new.out c.put.new.piece.items in
-    some_weights start after_first after_rest last c.args.weights.now c.in-Some.first.now c.in-Some.rest.now c.in-Some.ensures.cases.0 first c.put_more_weights.ensures c.put.ensures
+    some_weights start after_first after_rest last c.args.weights.now c.in-Some.first.now c.in-Some.rest.now
+    c.in-Some.ensures.cases.0 first c.put_more_weights.ensures c.put.ensures
 
 pub returns-in_default : goal.returns-in_default
 returns-in_default g c =

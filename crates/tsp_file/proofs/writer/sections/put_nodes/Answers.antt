@@ -16,7 +16,8 @@ nodes-preserved g c =
     let start = way_of g.W.Write.contents c.args.out.now c.args.piece.now.items in
     let before = way_of g.W.Write.contents c.nodes.out c.nodes.piece.items in
     let after = way_of g.W.Write.contents c.put_node_line.new.out c.put_node_line.new.piece.items in
-    carried_next_or (λ (node : ℕ). number_line (decimal node) []) c.args.nodes.now c.nodes.node-index 0 start before after c.nodes-test.true c.nodes.invariant c.put_node_line.ensures
+    carried_next_or (λ (node : ℕ). number_line (decimal node) []) c.args.nodes.now c.nodes.node-index 0 start before after
+    c.nodes-test.true c.nodes.invariant c.put_node_line.ensures
 
 pub returns : goal.returns
 returns g c =

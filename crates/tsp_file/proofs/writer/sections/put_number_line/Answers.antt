@@ -16,4 +16,5 @@ returns g c =
     let after_node = way_of g.W.Write.contents c.put_number.new.out c.put_number.new.piece.items in
     let after_number = way_of g.W.Write.contents c.put_next_number.new.out c.put_next_number.new.piece.items in
     let last = way_of g.W.Write.contents c.put.new.out c.put.new.piece.items in
-    two_numbers start after_node after_number last (decimal c.args.node) (signed_decimal c.args.number) c.put_number.ensures number c.put.ensures
+    two_numbers start after_node after_number last (decimal c.args.node) (signed_decimal c.args.number) c.put_number.ensures
+    number c.put.ensures

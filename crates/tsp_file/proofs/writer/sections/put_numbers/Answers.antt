@@ -13,7 +13,8 @@ pub nodes-preserved : goal.nodes-preserved
 nodes-preserved g c =
     let fits : FitsSigned w64 (get_or c.args.numbers.now c.nodes.index (pos 0)) = search rules in
     let line = simp to_z-of_z at c.put_number_line.ensures in
-    carried_node_or (λ (entry : ℕ × ℤ). number_line (decimal entry.0) (whole_number entry.1)) c.args.numbers.now c.nodes.index (pos 0)
+    carried_node_or (λ (entry : ℕ × ℤ). number_line (decimal entry.0) (whole_number entry.1)) c.args.numbers.now c.nodes.index
+    (pos 0)
     (way_of g.W.Write.contents c.args.out.now c.args.piece.now.items) (way_of g.W.Write.contents c.nodes.out c.nodes.piece.items)
     (way_of g.W.Write.contents c.put_number_line.new.out c.put_number_line.new.piece.items)
     (omega arith) c.nodes.invariant line
@@ -21,5 +22,6 @@ nodes-preserved g c =
 pub returns : goal.returns
 returns g c =
     carried_nodes (λ (entry : ℕ × ℤ). number_line (decimal entry.0) (whole_number entry.1)) c.args.numbers.now c.nodes.index
-    (way_of g.W.Write.contents c.args.out.now c.args.piece.now.items) (way_of g.W.Write.contents c.nodes.out c.nodes.piece.items) (omega arith)
+    (way_of g.W.Write.contents c.args.out.now c.args.piece.now.items) (way_of g.W.Write.contents c.nodes.out c.nodes.piece.items)
+    (omega arith)
     c.nodes.invariant

@@ -10,4 +10,5 @@ returns g c =
     let after_first = way_of g.W.Write.contents c.put_number.new.out c.put_number.new.piece.items in
     let after_second = way_of g.W.Write.contents c.put_next_number.new.out c.put_next_number.new.piece.items in
     let last = way_of g.W.Write.contents c.put.new.out c.put.new.piece.items in
-    two_numbers start after_first after_second last (decimal c.args.first) (decimal c.args.second) c.put_number.ensures c.put_next_number.ensures c.put.ensures
+    two_numbers start after_first after_second last (decimal c.args.first) (decimal c.args.second) c.put_number.ensures
+    c.put_next_number.ensures c.put.ensures

@@ -16,7 +16,8 @@ pairs-preserved g c =
     let start = way_of g.W.Write.contents c.args.out.now c.args.piece.now.items in
     let before = way_of g.W.Write.contents c.pairs.out c.pairs.piece.items in
     let after = way_of g.W.Write.contents c.put_pair_line.new.out c.put_pair_line.new.piece.items in
-    carried_next_or (λ (pair : ℕ × ℕ). number_line (decimal pair.0) (decimal pair.1 ∷ [])) c.args.pairs.now c.pairs.first-index (0, 0)
+    carried_next_or (λ (pair : ℕ × ℕ). number_line (decimal pair.0) (decimal pair.1 ∷ [])) c.args.pairs.now c.pairs.first-index
+    (0, 0)
     start before after c.pairs-test.true c.pairs.invariant c.put_pair_line.ensures
 
 pub returns : goal.returns

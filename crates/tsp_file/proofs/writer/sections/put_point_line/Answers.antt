@@ -18,11 +18,14 @@ returns g c =
     let last = way_of g.W.Write.contents c.put.new.out c.put.new.piece.items in
     elim c.if-spatial.branch [
       | then-spatial w ↦
-          let third : Carried after_y after_all (32 ∷ spelling c.args.point.z) = rw (w.piece-is, w.out-is) w.put_coordinate-then-spatial.ensures in
-          rw w.if-spatial.true (four_numbers start after_node after_x after_y after_all last (decimal c.args.node) (spelling c.args.point.x) (spelling c.args.point.y) (spelling c.args.point.z)
+          let third : Carried after_y after_all (32 ∷ spelling c.args.point.z) =
+          rw (w.piece-is, w.out-is) w.put_coordinate-then-spatial.ensures in
+          rw w.if-spatial.true (four_numbers start after_node after_x after_y after_all last (decimal c.args.node)
+          (spelling c.args.point.x) (spelling c.args.point.y) (spelling c.args.point.z)
           c.put_number.ensures c.put_coordinate.ensures c.put_coordinate-2.ensures third c.put.ensures)
       | else-spatial w ↦
           let end : Carried after_y last line_end = rw (w.piece-is, w.out-is) at c.put.ensures in
-          rw w.if-spatial.false (three_numbers start after_node after_x after_y last (decimal c.args.node) (spelling c.args.point.x) (spelling c.args.point.y)
+          rw w.if-spatial.false (three_numbers start after_node after_x after_y last (decimal c.args.node)
+          (spelling c.args.point.x) (spelling c.args.point.y)
           c.put_number.ensures c.put_coordinate.ensures c.put_coordinate-2.ensures end)
     ]

@@ -17,5 +17,6 @@ returns g c =
     let after_second = way_of g.W.Write.contents c.put_next_number.new.out c.put_next_number.new.piece.items in
     let after_number = way_of g.W.Write.contents c.put_next_number-2.new.out c.put_next_number-2.new.piece.items in
     let last = way_of g.W.Write.contents c.put.new.out c.put.new.piece.items in
-    three_numbers start after_first after_second after_number last (decimal c.args.first) (decimal c.args.second) (signed_decimal c.args.number)
+    three_numbers start after_first after_second after_number last (decimal c.args.first) (decimal c.args.second)
+    (signed_decimal c.args.number)
     c.put_number.ensures c.put_next_number.ensures number c.put.ensures

@@ -20,7 +20,8 @@ triples-preserved g c =
     let start = way_of g.W.Write.contents c.args.out.now c.args.piece.now.items in
     let before = way_of g.W.Write.contents c.triples.out c.triples.piece.items in
     let after = way_of g.W.Write.contents c.put_triple_line.new.out c.put_triple_line.new.piece.items in
-    carried_next_or (λ (triple : ℕ × ℕ × ℤ). number_line (decimal triple.0) (decimal triple.1 ∷ signed_decimal triple.2 ∷ [])) c.args.triples.now c.triples.first-index (0, 0, pos 0)
+    carried_next_or (λ (triple : ℕ × ℕ × ℤ). number_line (decimal triple.0) (decimal triple.1 ∷ signed_decimal triple.2 ∷ []))
+    c.args.triples.now c.triples.first-index (0, 0, pos 0)
     start before after c.triples-test.true c.triples.invariant line
 
 pub returns : goal.returns
@@ -30,4 +31,5 @@ returns g c =
     let last = way_of g.W.Write.contents c.put.new.out c.put.new.piece.items in
     let lines = λ (triple : ℕ × ℕ × ℤ). number_line (decimal triple.0) (decimal triple.1 ∷ signed_decimal triple.2 ∷ []) in
     carried_then start after_lines last (flat_map lines c.args.triples.now) (codes "-1\n")
-    (carried_all lines c.args.triples.now c.triples.first-index start after_lines c.triples-test.false c.triples.invariant) c.put.ensures
+    (carried_all lines c.args.triples.now c.triples.first-index start after_lines c.triples-test.false c.triples.invariant)
+    c.put.ensures

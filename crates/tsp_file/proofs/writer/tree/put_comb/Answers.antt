@@ -16,7 +16,8 @@ sets-preserved g c =
     let before = way_of g.W.Write.contents c.sets.out c.sets.piece.items in
     let after = way_of g.W.Write.contents c.put_set.new.out c.put_set.new.piece.items in
     let text = rw c.deref.ensures.value at c.put_set.ensures in
-    carried_next (λ set. set_line set.items) c.args.comb.now c.sets.set-index c.set-item.result start before after c.sets-test.true c.set-item.is c.sets.invariant text
+    carried_next (λ set. set_line set.items) c.args.comb.now c.sets.set-index c.set-item.result start before after
+    c.sets-test.true c.set-item.is c.sets.invariant text
 
 pub returns : goal.returns
 returns g c =
@@ -24,4 +25,5 @@ returns g c =
     let after_sets = way_of g.W.Write.contents c.sets.out c.sets.piece.items in
     let last = way_of g.W.Write.contents c.put.new.out c.put.new.piece.items in
     carried_then start after_sets last (flat_map set_line (map (λ set. set.items) c.args.comb.now)) (codes "-1\n")
-    (carried_mapped set_line (λ set. set.items) c.args.comb.now c.sets.set-index start after_sets (omega arith) c.sets.invariant) c.put.ensures
+    (carried_mapped set_line (λ set. set.items) c.args.comb.now c.sets.set-index start after_sets (omega arith) c.sets.invariant)
+    c.put.ensures

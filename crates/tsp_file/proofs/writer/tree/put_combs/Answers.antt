@@ -26,4 +26,5 @@ returns g c =
     let after_combs = way_of g.W.Write.contents c.combs.out c.combs.piece.items in
     let last = way_of g.W.Write.contents c.put.new.out c.put.new.piece.items in
     carried_then start after_combs last (flat_map comb_lines (combs_of c.args.combs.now)) (codes "-1\n")
-    (carried_mapped comb_lines (λ comb. map (λ set. set.items) comb.items) c.args.combs.now c.combs.comb-index start after_combs (omega arith) c.combs.invariant) c.put.ensures
+    (carried_mapped comb_lines (λ comb. map (λ set. set.items) comb.items) c.args.combs.now c.combs.comb-index start after_combs
+    (omega arith) c.combs.invariant) c.put.ensures

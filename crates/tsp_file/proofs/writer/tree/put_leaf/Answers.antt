@@ -14,5 +14,6 @@ returns g c =
     let after_changes = way_of g.W.Write.contents c.put_changes.new.out c.put_changes.new.piece.items in
     let last = way_of g.W.Write.contents c.put-2.new.out c.put-2.new.piece.items in
     let changes = flat_map before_blank (flat_map change_words c.args.changes.now) in
-    carried_then start after_changes last (codes "0 " ++ changes) (codes "-1\n") (carried_then start begun after_changes (codes "0 ") changes c.put.ensures c.put_changes.ensures)
+    carried_then start after_changes last (codes "0 " ++ changes) (codes "-1\n")
+    (carried_then start begun after_changes (codes "0 ") changes c.put.ensures c.put_changes.ensures)
     c.put-2.ensures

@@ -16,7 +16,8 @@ nodes-preserved g c =
     let start = way_of g.W.Write.contents c.args.out.now c.args.piece.now.items in
     let before = way_of g.W.Write.contents c.nodes.out c.nodes.piece.items in
     let after = way_of g.W.Write.contents c.put_before_blank.new.out c.put_before_blank.new.piece.items in
-    carried_next_or (λ (node : ℕ). before_blank (decimal node)) c.args.set.now c.nodes.node-index 0 start before after c.nodes-test.true c.nodes.invariant c.put_before_blank.ensures
+    carried_next_or (λ (node : ℕ). before_blank (decimal node)) c.args.set.now c.nodes.node-index 0 start before after
+    c.nodes-test.true c.nodes.invariant c.put_before_blank.ensures
 
 pub returns : goal.returns
 returns g c =
@@ -24,4 +25,5 @@ returns g c =
     let after_nodes = way_of g.W.Write.contents c.nodes.out c.nodes.piece.items in
     let last = way_of g.W.Write.contents c.put.new.out c.put.new.piece.items in
     carried_then start after_nodes last (flat_map before_blank (map decimal c.args.set.now)) (codes "-1\n")
-    (carried_mapped before_blank decimal c.args.set.now c.nodes.node-index start after_nodes (omega arith) c.nodes.invariant) c.put.ensures
+    (carried_mapped before_blank decimal c.args.set.now c.nodes.node-index start after_nodes (omega arith) c.nodes.invariant)
+    c.put.ensures

@@ -13,7 +13,8 @@ cost-length-requires-clause-to g c =
     let IsIn : ℕ → Type 0 = IsNode (g.Self.Costs.nodes c.args.self.now) in
     let first : ℕ = c.in-Some.first.now in
     let others : List ℕ = c.in-Some.others.now in
-    All-tail IsIn first others (subst (λ (xs : List ℕ). All IsIn xs) c.in-Some.ensures.cases.0 c.requires.range) c.nodes.node-index 0 c.nodes-test.true
+    All-tail IsIn first others (subst (λ (xs : List ℕ). All IsIn xs) c.in-Some.ensures.cases.0 c.requires.range)
+    c.nodes.node-index 0 c.nodes-test.true
 
 pub nodes-preserved : goal.nodes-preserved
 nodes-preserved g c =
@@ -27,7 +28,10 @@ nodes-preserved g c =
     let few : index ≤ 1000000 = omega (arith, c.in-Some.ensures.cases.1, c.requires.size) in
     let sum = sum_fits so_far c.cost-length.result index few c.nodes.invariant.size cost.low cost.high in
     record {
-      from = All-tail IsIn first others (subst (λ (xs : List ℕ). All IsIn xs) c.in-Some.ensures.cases.0 c.requires.range) index 0 c.nodes-test.true;
+      from = All-tail IsIn first others (subst (λ (xs : List ℕ). All IsIn xs) c.in-Some.ensures.cases.0 c.requires.range) index 0
+          c.nodes-test.true;
       size = rw sum (sum_more so_far c.cost-length.result index c.nodes.invariant.size cost.low cost.high);
-      so_far = rw (sum, cost.value, add-one index) (length_more (g.Self.Costs.at c.args.self.now) so_far _ first c.nodes.from next _ _ (drop-cons others index 0 c.nodes-test.true) c.nodes.invariant.so_far);
+      so_far = rw (sum, cost.value, add-one index)
+          (length_more (g.Self.Costs.at c.args.self.now) so_far _ first c.nodes.from next _ _
+          (drop-cons others index 0 c.nodes-test.true) c.nodes.invariant.so_far);
     }

@@ -9,5 +9,6 @@ abbrev pub invariant-nodes : goal.invariant-nodes
 invariant-nodes g l = record {
   from : IsNode (g.Self.Costs.nodes l.self) l.from;
   size : IsSumOf l.node-index l.length;
-  so_far : (l.length +ℤ length_to (g.Self.Costs.at l.self) l.first l.from (drop l.node-index l.others)) ≡ length_to (g.Self.Costs.at l.self) l.first l.first l.others;
+  so_far : (l.length +ℤ length_to (g.Self.Costs.at l.self) l.first l.from (drop l.node-index l.others)) ≡ length_to
+      (g.Self.Costs.at l.self) l.first l.first l.others;
 }
