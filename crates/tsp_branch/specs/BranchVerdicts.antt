@@ -28,7 +28,7 @@ abbrev pub IsBranchVerdict : Bool → ℕ → (ℕ → ℕ → ℤ) → ℤ → 
     → Type 0
 IsBranchVerdict directed n cost scale families given steps (verdict.Bound found) =
     AreLeavesJudged directed n cost scale families given steps (judged.Bound found)
-IsBranchVerdict directed n cost scale families given steps (verdict.BadComb comb) = IsFirstBadFamily n families comb
+IsBranchVerdict directed n cost scale families given steps (verdict.BadFamily family) = IsFirstBadFamily n families family
 IsBranchVerdict directed n cost scale families given steps (verdict.BranchTwice branch) =
     (crossed : List Crossings) × AreFamilies n families crossed × AreBranchesJudged directed given steps (Some branch)
 IsBranchVerdict directed n cost scale families given steps (verdict.BadLeaf leaf) =
@@ -37,13 +37,13 @@ IsBranchVerdict directed n cost scale families given steps (verdict.BadLeaf leaf
 -- A bound is at most the length of every cycle that keeps the given decisions; where there is none, no cycle keeps them.
 abbrev pub VerdictBoundsCycles : Bool → ℕ → (ℕ → ℕ → ℤ) → List Decision → BranchVerdict → Type 0
 VerdictBoundsCycles directed n cost given (verdict.Bound found) = BoundsIfAny directed n cost given found
-VerdictBoundsCycles directed n cost given (verdict.BadComb comb) = Unit {0}
+VerdictBoundsCycles directed n cost given (verdict.BadFamily family) = Unit {0}
 VerdictBoundsCycles directed n cost given (verdict.BranchTwice branch) = Unit {0}
 VerdictBoundsCycles directed n cost given (verdict.BadLeaf leaf) = Unit {0}
 
 -- Sums with it fit 128 bits.
 abbrev pub IsSizedVerdict : BranchVerdict → Type 0
 IsSizedVerdict (verdict.Bound found) = IfSome found IsBoundSized
-IsSizedVerdict (verdict.BadComb comb) = Unit {0}
+IsSizedVerdict (verdict.BadFamily family) = Unit {0}
 IsSizedVerdict (verdict.BranchTwice branch) = Unit {0}
 IsSizedVerdict (verdict.BadLeaf leaf) = Unit {0}

@@ -48,7 +48,7 @@ pub enum BranchVerdict {
     /// then no cycle keeps them.
     Bound(Option<i128>),
     /// The first family that isn't good, counted from 1.
-    BadComb(usize),
+    BadFamily(usize),
     /// The first branch on a pair that is decided above it or given, counted from 1.
     BranchTwice(usize),
     /// The first leaf that isn't good, counted from 1.

@@ -37,7 +37,7 @@ pub fn judge_branches<C: Costs>(alloc: Global, tree: &CaseTree<C>) -> Result<Bra
 {
     let families = match judge_families(alloc, tree)? {
         JudgedFamilies::Good(families) => families,
-        JudgedFamilies::Bad(comb) => return Ok(BranchVerdict::BadComb(comb)),
+        JudgedFamilies::Bad(family) => return Ok(BranchVerdict::BadFamily(family)),
     };
     let cases = match judge_cases(alloc, tree)? {
         JudgedCases::Good(cases) => cases,

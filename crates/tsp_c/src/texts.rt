@@ -83,7 +83,7 @@ pub(crate) fn bounded(
     let mut report = Watched::new(Vec::new(alloc));
     let found = run_bound_with_cause(alloc, &mut first, by, &mut second, &mut report);
     let numbers = Told::of_bound_run(&found);
-    let answer = ended(has_bound(found), report);
+    let answer = ended(bound_answer(found), report);
     let told = answer.numbers(numbers);
     (answer, told)
 }
@@ -107,7 +107,7 @@ fn told(ended: Result<Judged, Early>) -> Result<bool, Early>
 }
 
 /// Whether there is no reason against the files, where they were read.
-fn has_bound(ended: Result<Bounded, Early>) -> Result<bool, Early>
+fn bound_answer(ended: Result<Bounded, Early>) -> Result<bool, Early>
     ensures { result ≡ bound_answer ended }
 {
     let bounded = ended?;

@@ -63,7 +63,7 @@ IsRefusedIn common turn = StopsAt read_faults.OutOfMemory turn
 
 -- what is found, without the file
 abbrev pub result_of : Found → Result Verdict ReadFault
-result_of (founds.Judged verdict solution) = Ok verdict
+result_of (founds.Solution verdict solution) = Ok verdict
 result_of (founds.Fault fault) = Err fault
 
 -- what is found, or that memory is refused

@@ -37,7 +37,7 @@ pub struct Common {
 #[derive(Drop)]
 pub enum Found {
     /// It is a file, and this is the verdict on it.
-    Judged { verdict: Verdict, solution: File },
+    Solution { verdict: Verdict, solution: File },
     /// It is none, or can't be read.
     Fault(ReadFault),
 }
@@ -48,7 +48,7 @@ impl Found {
         ensures { result ≡ result_of self.now }
     {
         match self {
-            Found::Judged { verdict, .. } => Ok(*verdict),
+            Found::Solution { verdict, .. } => Ok(*verdict),
             Found::Fault(fault) => Err(*fault),
         }
     }
@@ -117,7 +117,7 @@ pub(crate) fn find<R: Gives>(
         }
     };
     match next_verdict(alloc, &common.instance, common.basis, &solution, None) {
-        Ok(verdict) => Ok(Found::Judged { verdict, solution }),
+        Ok(verdict) => Ok(Found::Solution { verdict, solution }),
         Err(undecided) => Err(Early::undecided(undecided)),
     }
 }

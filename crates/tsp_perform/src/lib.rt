@@ -12,4 +12,4 @@ mod outcome;
 
 pub use examples::examples_of_done_tasks;
 pub use explained::{explain_fault, explain_outcome};
-pub use outcome::{Outcome, is_accepted, perform};
+pub use outcome::{Outcome, is_yes_outcome, perform};

@@ -23,7 +23,7 @@ pub enum Outcome {
 }
 
 /// Whether the outcome is no refusal.
-pub fn is_accepted(outcome: &Outcome) -> bool
+pub fn is_yes_outcome(outcome: &Outcome) -> bool
     ensures { result ≡ is_yes_outcome outcome.now }
 {
     match outcome {

@@ -13,7 +13,7 @@ use std::io::Write;
 use std::{fmt, io};
 use tsp_cli::{JobFault, TaskFault};
 use tsp_judge::{Compared, RunFault, Status, WriteFault, status_of};
-use tsp_perform::{Outcome, is_accepted};
+use tsp_perform::{Outcome, is_yes_outcome};
 
 /// How many bytes of a fault's line are written at once.
 const MOST_TEXT: usize = 256;
@@ -83,7 +83,7 @@ pub fn status_of_ending(ending: &Ending) -> u8
         Ending::NoJob(JobFault::OutOfMemory) => Status::OutOfMemory as u8,
         Ending::Printed(Ok(())) => Status::Yes as u8,
         Ending::Printed(Err(fault)) => status_of(&Err(RunFault::Write(*fault))),
-        Ending::Ended(Ok(outcome)) => status_of(&Ok(is_accepted(outcome))),
+        Ending::Ended(Ok(outcome)) => status_of(&Ok(is_yes_outcome(outcome))),
         Ending::Compared(Ok(compared)) => compared.status,
         Ending::Ended(Err(fault)) | Ending::Compared(Err(fault)) => status_of(&Err(*fault)),
     }

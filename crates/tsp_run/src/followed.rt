@@ -96,11 +96,11 @@ impl<F: Read + Drop, O: Open<F>> Followed<'_, F, O> {
             None => None,
         };
         match found {
-            Found::Judged {
+            Found::Solution {
                 verdict,
                 solution: _,
             } if verdict.is_yes() => Ok(()),
-            Found::Judged { verdict, solution } => {
+            Found::Solution { verdict, solution } => {
                 let files = Files {
                     names: names_of(self.comparison, place),
                     instance: &common.instance,

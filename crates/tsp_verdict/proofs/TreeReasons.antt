@@ -185,7 +185,7 @@ none_of_tree inst tree sort size =
     none_before inst tree 25 (λ low. sort) (λ low. size) (λ low. absurd (omega (arith, low))) (λ low. absurd (omega (arith, low))) (λ low. absurd (omega (arith, low)))
 
 pub comb_first : (inst tree : Fields) (costs : ℕ → ℕ → ℤ) (index : ℕ) → is_branches_file tree.kind ≡ true → nodes_of tree ≡ nodes_of inst
-    → IsTold inst tree costs (found.BadComb index)
+    → IsTold inst tree costs (found.BadFamily index)
     → IsFirstReason (StandsAgainstBranches inst tree) (BadComb index)
 comb_first inst tree costs index sort size is = record {
   stands = bad_comb inst tree index is.by_steps;

@@ -113,7 +113,7 @@ fn judge_tree<C: Costs>(
     match judge_branches(alloc, &cases)? {
         BranchVerdict::Bound(Some(bound)) => Ok(BoundVerdict::Bound(bound)),
         BranchVerdict::Bound(None) => Ok(BoundVerdict::NoTour),
-        BranchVerdict::BadComb(index) => Ok(BoundVerdict::No(Reason::BadComb {
+        BranchVerdict::BadFamily(index) => Ok(BoundVerdict::No(Reason::BadComb {
             index: index as u32,
         })),
         BranchVerdict::BranchTwice(index) => Ok(BoundVerdict::No(Reason::BranchTwice {

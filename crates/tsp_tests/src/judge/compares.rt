@@ -63,7 +63,7 @@ impl Follow<Counts> for Four {
     fn written(&self, to: &mut Counts, _: &Common, _: usize, found: &Found) {
         to.lines = to.lines.saturating_add(1);
         let yes = match found {
-            Found::Judged { verdict, .. } => verdict.is_yes(),
+            Found::Solution { verdict, .. } => verdict.is_yes(),
             Found::Fault(_) => false,
         };
         if !yes {

@@ -23,7 +23,7 @@ returns-clause-texts c = let first = c.run_bound_with_cause-found.ensures in let
       second_is = ap (λ s. Some s.now) c.new-second.ensures.inner;
     })
     (record { held = ap (λ v. Some v.items) c.new-report.ensures.inner ∙ ap Some c.new.ensures.items; holds = refl })
-    second.2 (rw c.has_bound.ensures at c.ended-answer.ensures)
+    second.2 (rw c.bound_answer.ensures at c.ended-answer.ensures)
 
 pub returns-clause-numbers : goal.returns-clause-numbers
 returns-clause-numbers c = let first = c.run_bound_with_cause-found.ensures in let second = first.2 in
@@ -35,4 +35,4 @@ returns-clause-numbers c = let first = c.run_bound_with_cause-found.ensures in l
       first_is = ap (λ s. Some s.now) c.new-first.ensures.inner;
       second_is = ap (λ s. Some s.now) c.new-second.ensures.inner;
     })
-    second.2.0 c.of_bound_run-numbers.ensures c.numbers-told.ensures.kept c.numbers-told.ensures.none (rw c.has_bound.ensures at c.ended-answer.ensures)
+    second.2.0 c.of_bound_run-numbers.ensures c.numbers-told.ensures.kept c.numbers-told.ensures.none (rw c.bound_answer.ensures at c.ended-answer.ensures)

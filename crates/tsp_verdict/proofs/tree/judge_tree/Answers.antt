@@ -93,8 +93,8 @@ returns-in-Bound-None g c =
     (subst IsScale c.requires.held.scale_is c.requires.held.scaled) c.requires.keeps.every all_told in
     (none_stands c.numbers_are_unique.ensures inst tree costs None c.requires.sort c.requires.count all_told, gone.0, gone.1)
 
-pub returns-in-BadComb : goal.returns-in-BadComb
-returns-in-BadComb g c =
+pub returns-in-BadFamily : goal.returns-in-BadFamily
+returns-in-BadFamily g c =
     let inst = c.args.instance.now in
     let tree = c.args.branches.now in
     let n : ℕ = g.C.Costs.nodes c.args.costs.now in
@@ -106,8 +106,8 @@ returns-in-BadComb g c =
     let scaled : FitsSigned w64 c.args.tree.now.scale = search rules in
     let are = are_of inst tree c.is_directed-directed.result n (to_z w64 (of_z w64 c.args.tree.now.scale)) combs c.fixed.result.now given steps (directed_is c.is_directed-directed.result inst c.kind.result c.is_directed-directed.ensures c.kind.ensures.value) c.requires.keeps.count
     (to_z-of_z w64 c.args.tree.now.scale scaled ∙ c.requires.held.scale_is) c.requires.held.combs_are c.fixed.ensures.value (c.deref.ensures.value ∙ c.in_ok-given.ensures) c.requires.held.steps_are in
-    let is = subst (IsBranchVerdict c.is_directed-directed.result n costs (to_z w64 (of_z w64 c.args.tree.now.scale)) families given steps) c.in-BadComb.is c.in_ok-bound.ensures.verdict in
-    comb_first inst tree costs c.in-BadComb.index c.requires.sort c.requires.count (told inst tree c.is_directed-directed.result n costs _ families given steps (found.BadComb c.in-BadComb.index) are is)
+    let is = subst (IsBranchVerdict c.is_directed-directed.result n costs (to_z w64 (of_z w64 c.args.tree.now.scale)) families given steps) c.in-BadFamily.is c.in_ok-bound.ensures.verdict in
+    comb_first inst tree costs c.in-BadFamily.index c.requires.sort c.requires.count (told inst tree c.is_directed-directed.result n costs _ families given steps (found.BadFamily c.in-BadFamily.index) are is)
 
 pub overflow_cast-result-in-BranchTwice : goal.overflow_cast-result-in-BranchTwice
 overflow_cast-result-in-BranchTwice g c =
