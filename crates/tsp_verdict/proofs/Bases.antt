@@ -11,7 +11,7 @@ use Rattle.tsp_reason.specs.declared.basis.Basis.TheVariants as bases
 use Rattle.tsp_reason.specs.declared.certificate.Certificate.{Certificate}
 use Rattle.tsp_reason.specs.declared.verdict.BoundVerdict.TheVariants as bounds
 use Rattle.tsp_reason.specs.declared.verdict.Reason.{Reason}
-use Rattle.tsp_reason.specs.declared.verdict.Reason.TheVariants.{NotASolution, TooFewNodes, NotSymmetric, DepotCount, DepotDemand, FixedEdgesInRoutes, LengthClaimed}
+use Rattle.tsp_reason.specs.declared.verdict.Reason.TheVariants.{NotASolution, TooFewNodes, NotSymmetric, DepotCount, DepotDemand, FixedEdgesInRoutes, LengthClaimed, Dimension, NotPotentials}
 use Rattle.tsp_reason.specs.declared.verdict.Verdict.{Verdict}
 use Rattle.tsp_reason.specs.declared.verdict.Verdict.TheVariants as verdicts
 use Rattle.tsp_verdict.specs.Basis.{StandsAgainstRouting, IsBasisOfTours, IsBasisOfRoutes, IsBasisAlone, IsBasisBy, IsBasis, HasBasis, IsVerdictFrom}
@@ -22,7 +22,7 @@ use Rattle.tsp_verdict.specs.Plan.{total_of, IsLeastRoutes}
 use Rattle.tsp_verdict.specs.Reasons.{rank_of, NoneBefore, IsFirstReason}
 use Rattle.tsp_cost.specs.ComputedProblems.{capacity_of}
 use Rattle.tsp_verdict.specs.Routes.{StandsAgainstRoutes, IsRoutesVerdict}
-use Rattle.tsp_verdict.specs.Tours.{NoneOfTourUpTo, IsFirstAgainstTour, IsTourVerdict}
+use Rattle.tsp_verdict.specs.Tours.{NoneOfTourBefore, IsFirstAgainstTour, IsTourVerdict, StandsAgainstTour}
 use Rattle.tsp_verdict.specs.states.Sources.{verdict_by, IsSubject, IsVerdictGiven, IsBasisGiven}
 use Rattle.tsp_verdict.specs.declared.source.Given.{Given}
 use Rattle.tsp_verdict.specs.declared.source.Given.TheVariants as givens
@@ -41,13 +41,13 @@ alone_of_tours : (inst : Fields) (basis : Basis) → HasTours inst → IsBasisAl
 alone_of_tours inst basis (inl tsp) b = subst (λ kind. IsBasisAlone kind inst basis) tsp b
 alone_of_tours inst basis (inr atsp) b = subst (λ kind. IsBasisAlone kind inst basis) atsp b
 
-instance_rank : (inst : Fields) (reason : Reason) → StandsAgainstInstance inst reason → rank_of reason < 4
+instance_rank : (inst : Fields) (reason : Reason) → StandsAgainstInstance inst reason → rank_of reason < rank_of Dimension
 instance_rank inst TooFewNodes stands = omega arith
 instance_rank inst (NotSymmetric i j) stands = omega arith
 instance_rank inst reason stands = absurd stands
 
 -- the first of all is the first against the instance, where it comes before those against the certificate
-of_instance : (by : Certificate) (inst cert : Fields) (reason : Reason) → rank_of reason < 17
+of_instance : (by : Certificate) (inst cert : Fields) (reason : Reason) → rank_of reason < rank_of NotPotentials
     → IsFirstReason (StandsAgainstBounded by inst cert) reason
     → IsFirstReason (StandsAgainstInstance inst) reason
 of_instance by inst cert reason early first = record {
@@ -60,7 +60,7 @@ of_instance by inst cert reason early first = record {
     by_side (inr stands) = absurd (omega (arith, early, certificate_rank by inst cert reason stands))
 
 -- none applies to the instance, where the first of all comes after those
-after_instance : (by : Certificate) (inst cert : Fields) (reason : Reason) → 4 ≤ rank_of reason
+after_instance : (by : Certificate) (inst cert : Fields) (reason : Reason) → rank_of Dimension ≤ rank_of reason
     → IsFirstReason (StandsAgainstBounded by inst cert) reason → NoneAgainstInstance inst
 after_instance by inst cert reason late first = λ other stands. first.none_before other (omega (arith, late, instance_rank inst other stands)) (inl stands)
 
@@ -118,8 +118,8 @@ first_known inst basis found reason is some knows =
 
 -- ---- the reasons before those against the tours
 
-up_to_instance : (inst sol : Fields) (rank : ℕ) → rank ≤ 3 → is_tour_file sol.kind ≡ true
-    → NoneBefore (StandsAgainstInstance inst) rank → NoneOfTourUpTo inst sol rank
+up_to_instance : (inst sol : Fields) (rank : ℕ) → rank ≤ rank_of (NotSymmetric 1 2) → is_tour_file sol.kind ≡ true
+    → NoneBefore (StandsAgainstInstance inst) rank → NoneBefore (StandsAgainstTour inst sol) rank
 up_to_instance inst sol rank few is none NotASolution low stands = false≢true (sym stands ∙ is)
 up_to_instance inst sol rank few is none TooFewNodes low stands = none TooFewNodes low stands
 up_to_instance inst sol rank few is none reason low stands = absurd (omega (arith, few, low))
@@ -128,13 +128,13 @@ up_to_instance inst sol rank few is none reason low stands = absurd (omega (arit
 pub instance_first : (inst sol : Fields) (reason : Reason) → is_tour_file sol.kind ≡ true
     → IsFirstReason (StandsAgainstInstance inst) reason → IsFirstAgainstTour inst sol reason
 instance_first inst sol TooFewNodes is first =
-    record { stands = first.stands; none_before = up_to_instance inst sol 2 (omega arith) is first.none_before }
+    record { stands = first.stands; none_before = up_to_instance inst sol (rank_of TooFewNodes) (omega arith) is first.none_before }
 instance_first inst sol (NotSymmetric i j) is first =
-    record { stands = first.stands; none_before = up_to_instance inst sol 3 (omega arith) is first.none_before }
+    record { stands = first.stands; none_before = up_to_instance inst sol (rank_of (NotSymmetric 1 2)) (omega arith) is first.none_before }
 instance_first inst sol reason is first = absurd first.stands
 
 -- where none applies to the instance
-pub up_to_dimension : (inst sol : Fields) → is_tour_file sol.kind ≡ true → NoneAgainstInstance inst → NoneOfTourUpTo inst sol 4
+pub up_to_dimension : (inst sol : Fields) → is_tour_file sol.kind ≡ true → NoneAgainstInstance inst → NoneOfTourBefore inst sol Dimension
 up_to_dimension inst sol is none NotASolution low stands = false≢true (sym stands ∙ is)
 up_to_dimension inst sol is none TooFewNodes low stands = none TooFewNodes stands
 up_to_dimension inst sol is none (NotSymmetric i j) low stands = none (NotSymmetric i j) stands

@@ -1,12 +1,12 @@
 -- An instance with a certificate: the reasons against either, in order.
 use Rattle.std.proofs.Common.{◌≡◌, ℕ, ◌<◌, ◌≤◌, ◌⊎◌, inl, inr, refl, arith}
-use Rattle.std.specs.Prelude.{Result, Ok, Err, IfOk, IsErr, MatchResult}
+use Rattle.std.specs.Prelude.{Result, Ok, Err, IfOk, IsErr, MatchResult, pos}
 use Rattle.tsp_draft.specs.Fields.{Fields, nodes_of}
 use Rattle.tsp_reason.specs.declared.certificate.Certificate.{Certificate}
 use Rattle.tsp_reason.specs.declared.verdict.BoundVerdict.{BoundVerdict}
 use Rattle.tsp_reason.specs.declared.verdict.BoundVerdict.TheVariants as bounds
 use Rattle.tsp_reason.specs.declared.verdict.Reason.{Reason}
-use Rattle.tsp_reason.specs.declared.verdict.Reason.TheVariants.{TooFewNodes, NotSymmetric}
+use Rattle.tsp_reason.specs.declared.verdict.Reason.TheVariants.{TooFewNodes, NotSymmetric, LengthClaimed}
 use Rattle.tsp_file.specs.Cost.{cost}
 use Rattle.tsp_theory.specs.Costs.{IsSymmetric, IsFirstAsymmetric}
 use Rattle.tsp_verdict.specs.declared.tour.TourCosts.{TourCosts}
@@ -16,7 +16,7 @@ use Rattle.tsp_verdict.specs.Certified.{StandsAgainstCertificate, FindsBound, No
 use Rattle.tsp_verdict.specs.Reasons.{rank_of, IsFirstReason}
 use Rattle.tsp_verdict.proofs.Certificates.{certificate_rank, symmetric_tsp}
 
-instance_rank : (inst : Fields) (reason : Reason) → StandsAgainstInstance inst reason → rank_of reason < 16
+instance_rank : (inst : Fields) (reason : Reason) → StandsAgainstInstance inst reason → rank_of reason < rank_of (LengthClaimed (pos 0))
 instance_rank inst TooFewNodes stands = omega arith
 instance_rank inst (NotSymmetric i j) stands = omega arith
 instance_rank inst reason stands = absurd stands
@@ -67,7 +67,7 @@ either_way by inst cert (Err refused) none finds without = (none, without refl)
 pub few_first : (inst : Fields) → nodes_of inst < 3 → IsFirstReason (StandsAgainstInstance inst) TooFewNodes
 few_first inst few = record { stands = few; none_before = λ other low stands. ranked other low stands }
   where
-    ranked : (other : Reason) → rank_of other < 2 → StandsAgainstInstance inst other → ⊥
+    ranked : (other : Reason) → rank_of other < rank_of TooFewNodes → StandsAgainstInstance inst other → ⊥
     ranked TooFewNodes low stands = omega (arith, low)
     ranked (NotSymmetric i j) low stands = omega (arith, low)
     ranked other low stands = stands
@@ -76,7 +76,7 @@ pub asymmetric_first : (inst : Fields) (i j : ℕ) → 3 ≤ nodes_of inst → S
     → IsFirstReason (StandsAgainstInstance inst) (NotSymmetric i j)
 asymmetric_first inst i j many is = record { stands = is; none_before = λ other low stands. ranked other low stands }
   where
-    ranked : (other : Reason) → rank_of other < 3 → StandsAgainstInstance inst other → ⊥
+    ranked : (other : Reason) → rank_of other < rank_of (NotSymmetric 1 2) → StandsAgainstInstance inst other → ⊥
     ranked TooFewNodes low stands = omega (arith, many, stands)
     ranked (NotSymmetric k l) low stands = omega (arith, low)
     ranked other low stands = stands

@@ -32,12 +32,12 @@ use Rattle.tsp_format.specs.declared.kinds.Kind.{Kind}
 -- ---- against the certificate alone
 
 -- the facts before a rank rule out the reasons before it
-pub none_before : (inst pot : Fields) (rank : ℕ) → (17 < rank → is_potentials_file pot.kind ≡ true)
-    → (18 < rank → nodes_of pot ≡ nodes_of inst)
-    → (19 < rank → has_wanted inst.kind pot ≡ true)
-    → (20 < rank → (index : ℕ) → StandsAgainstPotentials inst pot (MultiplierNotFixed index) → ⊥)
-    → (21 < rank → (index : ℕ) → StandsAgainstPotentials inst pot (MultiplierRepeated index) → ⊥)
-    → (22 < rank → (i j : ℕ) → StandsAgainstPotentials inst pot (DualInfeasible i j) → ⊥)
+pub none_before : (inst pot : Fields) (rank : ℕ) → (rank_of NotPotentials < rank → is_potentials_file pot.kind ≡ true)
+    → (rank_of PotentialsDimension < rank → nodes_of pot ≡ nodes_of inst)
+    → (rank_of PotentialsKind < rank → has_wanted inst.kind pot ≡ true)
+    → (rank_of (MultiplierNotFixed 1) < rank → (index : ℕ) → StandsAgainstPotentials inst pot (MultiplierNotFixed index) → ⊥)
+    → (rank_of (MultiplierRepeated 1) < rank → (index : ℕ) → StandsAgainstPotentials inst pot (MultiplierRepeated index) → ⊥)
+    → (rank_of (DualInfeasible 1 2) < rank → (i j : ℕ) → StandsAgainstPotentials inst pot (DualInfeasible i j) → ⊥)
     → NoneBefore (StandsAgainstPotentials inst pot) rank
 none_before inst pot rank sort size wanted fixed once good NotPotentials low stands = false≢true (sym stands ∙ sort low)
 none_before inst pot rank sort size wanted fixed once good PotentialsDimension low stands = stands (size low)
@@ -52,7 +52,7 @@ pub none_of_potentials : (inst pot : Fields) → is_potentials_file pot.kind ≡
     → has_wanted inst.kind pot ≡ true
     → NoneWithoutMemory Potentials inst pot
 none_of_potentials inst pot sort size wanted =
-    none_before inst pot 20 (λ low. sort) (λ low. size) (λ low. wanted) (λ low. absurd (omega (arith, low))) (λ low. absurd (omega (arith, low))) (λ low. absurd (omega (arith, low)))
+    none_before inst pot (rank_of (MultiplierNotFixed 1)) (λ low. sort) (λ low. size) (λ low. wanted) (λ low. absurd (omega (arith, low))) (λ low. absurd (omega (arith, low))) (λ low. absurd (omega (arith, low)))
 
 -- all six are ruled out
 pub none_stands : (inst pot : Fields) → is_potentials_file pot.kind ≡ true → nodes_of pot ≡ nodes_of inst
@@ -93,7 +93,7 @@ pub not_fixed : (inst pot : Fields) (fixed : List (ℕ × ℕ)) (triples : List 
     → IsFirstReason (StandsAgainstPotentials inst pot) (MultiplierNotFixed index)
 not_fixed inst pot fixed triples index fixed_are triples_are kind sort size wanted first = record {
   stands = (kind, subst₂ (λ fs ts. IsFirstPlace (IsUnlisted fs ts) ts index) fixed_are triples_are first);
-  none_before = none_before inst pot 20 (λ low. sort) (λ low. size) (λ low. rw kind wanted) (λ low. absurd (omega (arith, low)))
+  none_before = none_before inst pot (rank_of (MultiplierNotFixed 1)) (λ low. sort) (λ low. size) (λ low. rw kind wanted) (λ low. absurd (omega (arith, low)))
       (λ low. absurd (omega (arith, low))) (λ low. absurd (omega (arith, low)));
 }
 
@@ -106,7 +106,7 @@ pub repeats : (inst pot : Fields) (fixed : List (ℕ × ℕ)) (triples : List (�
     → IsFirstReason (StandsAgainstPotentials inst pot) (MultiplierRepeated index)
 repeats inst pot fixed triples index fixed_are triples_are kind sort size wanted listed first = record {
   stands = (kind, subst (λ ts. IsFirstPlace (IsPairRepeated ts) ts index) triples_are first);
-  none_before = none_before inst pot 21 (λ low. sort) (λ low. size) (λ low. rw kind wanted)
+  none_before = none_before inst pot (rank_of (MultiplierRepeated 1)) (λ low. sort) (λ low. size) (λ low. rw kind wanted)
       (λ low. none_unlisted inst pot (subst₂ (λ fs ts. AreListed fs ts) fixed_are triples_are listed)) (λ low. absurd (omega (arith, low)))
       (λ low. absurd (omega (arith, low)));
 }
@@ -138,7 +138,7 @@ pub kind_first : (inst pot : Fields) → is_potentials_file pot.kind ≡ true �
     → IsFirstReason (StandsAgainstPotentials inst pot) PotentialsKind
 kind_first inst pot sort size other = record {
   stands = other;
-  none_before = none_before inst pot 19 (λ low. sort) (λ low. size) (λ low. absurd (omega (arith, low))) (λ low. absurd (omega (arith, low)))
+  none_before = none_before inst pot (rank_of PotentialsKind) (λ low. sort) (λ low. size) (λ low. absurd (omega (arith, low))) (λ low. absurd (omega (arith, low)))
       (λ low. absurd (omega (arith, low))) (λ low. absurd (omega (arith, low)));
 }
 
@@ -152,7 +152,7 @@ pub broken_first : (inst pot : Fields) (i j : ℕ) → inst.kind ≡ Some kinds.
     → IsFirstReason (StandsAgainstPotentials inst pot) (DualInfeasible i j)
 broken_first inst pot i j kind sort size wanted broken = record {
   stands = (kind, broken);
-  none_before = none_before inst pot 22 (λ low. sort) (λ low. size) (λ low. rw kind wanted) (λ low index stands. not_undirected inst.kind kind stands.0)
+  none_before = none_before inst pot (rank_of (DualInfeasible 1 2)) (λ low. sort) (λ low. size) (λ low. rw kind wanted) (λ low index stands. not_undirected inst.kind kind stands.0)
       (λ low index stands. not_undirected inst.kind kind stands.0) (λ low. absurd (omega (arith, low)));
 }
 
@@ -180,7 +180,7 @@ none_of_atsp inst pot bound kind sort size wanted certified =
 
 -- ---- with those against the tour
 
-pub tour_rank : (inst sol : Fields) (reason : Reason) → StandsAgainstTour inst sol reason → rank_of reason < 16
+pub tour_rank : (inst sol : Fields) (reason : Reason) → StandsAgainstTour inst sol reason → rank_of reason < rank_of (LengthClaimed (pos 0))
 tour_rank inst sol NotPotentials stands = absurd stands
 tour_rank inst sol PotentialsDimension stands = absurd stands
 tour_rank inst sol PotentialsKind stands = absurd stands
@@ -202,7 +202,7 @@ tour_rank inst sol (LengthClaimed length) stands = absurd stands
 tour_rank inst sol reason stands = omega arith
 
 pub certificate_rank : (by : Certificate) (inst cert : Fields) (reason : Reason) → StandsAgainstCertificate by inst cert reason
-    → 17 ≤ rank_of reason
+    → rank_of NotPotentials ≤ rank_of reason
 certificate_rank Potentials inst cert NotPotentials stands = omega arith
 certificate_rank Potentials inst cert PotentialsDimension stands = omega arith
 certificate_rank Potentials inst cert PotentialsKind stands = omega arith

@@ -14,7 +14,7 @@ use Rattle.tsp_verdict.specs.states.Marks.{Marked}
 use Rattle.tsp_verdict.specs.Places.{IsFirstPlace, IsLarger, IsAt, IsAtEarlierPlace}
 use Rattle.tsp_cost.specs.ComputedProblems.{routing_of, demands_of, capacity_of}
 use Rattle.tsp_verdict.specs.Plan.{demand_of, load_of, IsCustomer, plan_length, IsLeastRoutes, depot_of, total_of, AreCustomers}
-use Rattle.tsp_verdict.specs.Routes.{IsOverloaded, StandsAgainstRoutes, NoneOfRoutesUpTo, IsFirstAgainstRoutes, IsPlanned}
+use Rattle.tsp_verdict.specs.Routes.{IsOverloaded, StandsAgainstRoutes, NoneOfRoutesBefore, IsFirstAgainstRoutes, IsPlanned}
 use Rattle.tsp_verdict.specs.Solution.{visited, tours_of}
 use Rattle.tsp_verdict.proofs.MarkedNodes.{all_apart, marked_there, there_marked}
 use Rattle.tsp_verdict.proofs.PlanBounds.{demand_low, none_fewer}
@@ -23,7 +23,7 @@ use Rattle.tsp_verdict.proofs.RouteReasons.{after_depot, after_range, after_repe
 -- ---- places
 
 pub depot_first : (inst sol : Fields) (nodes : List ℕ) (depot place : ℕ) → nodes ≡ visited sol → depot ≡ depot_of inst
-    → NoneOfRoutesUpTo inst sol 10
+    → NoneOfRoutesBefore inst sol (DepotInRoute 1)
     → IsFirstPlace (IsAt depot nodes) nodes place → IsFirstAgainstRoutes inst sol (DepotInRoute place)
 depot_first inst sol nodes depot place are is none first = record {
   stands = subst (λ d. IsFirstPlace (IsAt d (visited sol)) (visited sol) place) is (subst (λ (xs : List ℕ). IsFirstPlace (IsAt depot xs) xs place) are first);
@@ -31,13 +31,13 @@ depot_first inst sol nodes depot place are is none first = record {
 }
 
 pub no_depot : (inst sol : Fields) (nodes : List ℕ) (depot : ℕ) → nodes ≡ visited sol → depot ≡ depot_of inst
-    → NoneOfRoutesUpTo inst sol 10 → All (λ node. node ≢ depot) nodes → NoneOfRoutesUpTo inst sol 11
+    → NoneOfRoutesBefore inst sol (DepotInRoute 1) → All (λ node. node ≢ depot) nodes → NoneOfRoutesBefore inst sol (NodeOutOfRange 1)
 no_depot inst sol nodes depot are is none others =
     let all : All (λ node. node ≢ depot_of inst) (visited sol) = subst (λ d. All (λ node. node ≢ d) (visited sol)) is (subst (λ (xs : List ℕ). All (λ node. node ≢ depot) xs) are others) in
     after_depot inst sol none (λ place first. all (place - 1) 0 (omega (arith, first.here.0, first.here.1)) first.holds)
 
 pub larger_first : (inst sol : Fields) (nodes : List ℕ) (n place : ℕ) → nodes ≡ visited sol → n ≡ nodes_of inst
-    → NoneOfRoutesUpTo inst sol 11
+    → NoneOfRoutesBefore inst sol (NodeOutOfRange 1)
     → IsFirstPlace (IsLarger n nodes) nodes place → IsFirstAgainstRoutes inst sol (NodeOutOfRange place)
 larger_first inst sol nodes n place are is none first = record {
   stands = subst (λ m. IsFirstPlace (IsLarger m (visited sol)) (visited sol) place) is (subst (λ (xs : List ℕ). IsFirstPlace (IsLarger n xs) xs place) are first);
@@ -45,9 +45,9 @@ larger_first inst sol nodes n place are is none first = record {
 }
 
 pub customers : (inst sol : Fields) (nodes : List ℕ) (n depot : ℕ) → nodes ≡ visited sol → n ≡ nodes_of inst
-    → depot ≡ depot_of inst → NoneOfRoutesUpTo inst sol 11
+    → depot ≡ depot_of inst → NoneOfRoutesBefore inst sol (NodeOutOfRange 1)
     → All (λ node. 1 ≤ node) nodes → All (λ node. node ≢ depot) nodes → All (λ node. node ≤ n) nodes
-    → AreCustomers inst sol × NoneOfRoutesUpTo inst sol 12
+    → AreCustomers inst sol × NoneOfRoutesBefore inst sol (RepeatedNode 1)
 customers inst sol nodes n depot are n_is depot_is none low other high =
     let all : All (IsCustomer n depot) nodes = λ k d lt. ((low k d lt, high k d lt), other k d lt) in
     let there : AreCustomers inst sol =
@@ -64,7 +64,7 @@ pub customers_in : (inst sol : Fields) (nodes : List ℕ) (n : ℕ) → nodes �
 customers_in inst sol nodes n are is all =
     subst (λ m. All (IsNode m) nodes) (sym is) (subst (λ (xs : List ℕ). All (IsNode (nodes_of inst)) xs) (sym are) (λ k d lt. (all k d lt).0))
 
-pub repeated_first : (inst sol : Fields) (nodes : List ℕ) (place : ℕ) → nodes ≡ visited sol → NoneOfRoutesUpTo inst sol 12
+pub repeated_first : (inst sol : Fields) (nodes : List ℕ) (place : ℕ) → nodes ≡ visited sol → NoneOfRoutesBefore inst sol (RepeatedNode 1)
     → IsFirstPlace (IsAtEarlierPlace nodes) nodes place
     → IsFirstAgainstRoutes inst sol (RepeatedNode place)
 repeated_first inst sol nodes place are none first = record {
@@ -78,10 +78,10 @@ repeated_first inst sol nodes place are none first = record {
 pub record IsMarked (inst sol : Fields) (seen : List Bool) (size : ℕ) : Type 0 where
   pub marks : Marked (visited sol) seen (length (visited sol))
   pub wide : size ≡ nodes_of inst + 1
-  pub none : NoneOfRoutesUpTo inst sol 14
+  pub none : NoneOfRoutesBefore inst sol (Unserved 1)
 
 pub is_marked : (inst sol : Fields) (nodes : List ℕ) (seen : List Bool) (size : ℕ) → nodes ≡ visited sol
-    → size ≡ nodes_of inst + 1 → NoneOfRoutesUpTo inst sol 12
+    → size ≡ nodes_of inst + 1 → NoneOfRoutesBefore inst sol (RepeatedNode 1)
     → Marked nodes seen (length nodes) → IsMarked inst sol seen size
 is_marked inst sol nodes seen size are wide none m =
     let there : Marked (visited sol) seen (length (visited sol)) = subst (λ (xs : List ℕ). Marked xs seen (length xs)) are m in
@@ -107,15 +107,15 @@ pub all_served : (inst sol : Fields) (seen : List Bool) (size depot : ℕ) → I
 all_served inst sol seen size depot m is all node customer =
     marked_there (visited sol) seen node m.marks (all node customer.0.0 (omega (arith, customer.0.1, m.wide)) (λ same. customer.1 (same ∙ is)))
 
-pub none_unserved : (inst sol : Fields) → NoneOfRoutesUpTo inst sol 14
-    → ((node : ℕ) → IsCustomer (nodes_of inst) (depot_of inst) node → Contains (visited sol) node) → NoneOfRoutesUpTo inst sol 15
+pub none_unserved : (inst sol : Fields) → NoneOfRoutesBefore inst sol (Unserved 1)
+    → ((node : ℕ) → IsCustomer (nodes_of inst) (depot_of inst) node → Contains (visited sol) node) → NoneOfRoutesBefore inst sol (Overload 1)
 none_unserved inst sol none served = after_served inst sol none (λ node first. first.unserved (served node first.customer))
 
 -- ---- the carried demands
 
 pub overload_first : (inst sol : Fields) (routes : List (List ℕ)) (demands : List ℤ) (capacity : ℤ) (place : ℕ)
     → routes ≡ tours_of sol → demands ≡ demands_of inst → capacity ≡ capacity_of inst
-    → NoneOfRoutesUpTo inst sol 15 → IsFirstPlace (IsOverloaded demands capacity routes) routes place
+    → NoneOfRoutesBefore inst sol (Overload 1) → IsFirstPlace (IsOverloaded demands capacity routes) routes place
     → IsFirstAgainstRoutes inst sol (Overload place)
 overload_first inst sol routes demands capacity place are demands_are capacity_is none first = record {
   stands = subst (λ (z : ℤ). IsFirstPlace (IsOverloaded (demands_of inst) z (tours_of sol)) (tours_of sol) place) capacity_is

@@ -12,33 +12,33 @@ use Rattle.tsp_reason.specs.declared.verdict.Reason.TheVariants.{NotASolution, T
 use Rattle.tsp_verdict.specs.Places.{IsFirstPlace, IsLarger, IsAtEarlierPlace, IsUnused}
 use Rattle.tsp_file.specs.Defaults.{fixed_of}
 use Rattle.tsp_verdict.specs.Solution.{visited, tours_of}
-use Rattle.tsp_verdict.specs.Tours.{StandsAgainstTour, NoneOfTourUpTo}
+use Rattle.tsp_verdict.specs.Tours.{StandsAgainstTour, NoneOfTourBefore}
 
-pub after_solution : (inst sol : Fields) → is_tour_file sol.kind ≡ true → NoneOfTourUpTo inst sol 2
+pub after_solution : (inst sol : Fields) → is_tour_file sol.kind ≡ true → NoneOfTourBefore inst sol TooFewNodes
 after_solution inst sol is NotASolution low stands = false≢true (sym stands ∙ is)
 after_solution inst sol is reason low stands = absurd (omega (arith, low))
 
-pub after_nodes : (inst sol : Fields) → NoneOfTourUpTo inst sol 2 → 3 ≤ nodes_of inst → NoneOfTourUpTo inst sol 3
+pub after_nodes : (inst sol : Fields) → NoneOfTourBefore inst sol TooFewNodes → 3 ≤ nodes_of inst → NoneOfTourBefore inst sol (NotSymmetric 1 2)
 after_nodes inst sol before enough TooFewNodes low stands = omega (arith, enough, stands)
 after_nodes inst sol before enough reason low stands = before reason (omega (arith, low)) stands
 
-pub after_symmetry : (inst sol : Fields) → NoneOfTourUpTo inst sol 3
+pub after_symmetry : (inst sol : Fields) → NoneOfTourBefore inst sol (NotSymmetric 1 2)
     → (inst.kind ≡ Some kinds.Tsp → (i j : ℕ) → IsFirstAsymmetric (nodes_of inst) (cost inst) (i, j) → ⊥)
-    → NoneOfTourUpTo inst sol 4
+    → NoneOfTourBefore inst sol Dimension
 after_symmetry inst sol before even (NotSymmetric i j) low stands = even stands.0 i j stands.1
 after_symmetry inst sol before even reason low stands = before reason (omega (arith, low)) stands
 
-pub after_dimension : (inst sol : Fields) → NoneOfTourUpTo inst sol 4 → ((n : ℕ) → sol.dimension ≡ Some n → n ≡ nodes_of inst)
-    → NoneOfTourUpTo inst sol 5
+pub after_dimension : (inst sol : Fields) → NoneOfTourBefore inst sol Dimension → ((n : ℕ) → sol.dimension ≡ Some n → n ≡ nodes_of inst)
+    → NoneOfTourBefore inst sol TourCount
 after_dimension inst sol before same Dimension low stands = stands.2 (same stands.0 stands.1)
 after_dimension inst sol before same reason low stands = before reason (omega (arith, low)) stands
 
-pub after_count : (inst sol : Fields) → NoneOfTourUpTo inst sol 5 → length (tours_of sol) ≡ 1 → NoneOfTourUpTo inst sol 6
+pub after_count : (inst sol : Fields) → NoneOfTourBefore inst sol TourCount → length (tours_of sol) ≡ 1 → NoneOfTourBefore inst sol TourLength
 after_count inst sol before one TourCount low stands = stands one
 after_count inst sol before one reason low stands = before reason (omega (arith, low)) stands
 
-pub after_length : (inst sol : Fields) → NoneOfTourUpTo inst sol 6 → length (visited sol) ≡ nodes_of inst
-    → NoneOfTourUpTo inst sol 11
+pub after_length : (inst sol : Fields) → NoneOfTourBefore inst sol TourLength → length (visited sol) ≡ nodes_of inst
+    → NoneOfTourBefore inst sol (NodeOutOfRange 1)
 after_length inst sol before full TourLength low stands = stands full
 after_length inst sol before full DepotCount low stands = stands
 after_length inst sol before full DepotDemand low stands = stands
@@ -46,17 +46,17 @@ after_length inst sol before full FixedEdgesInRoutes low stands = stands
 after_length inst sol before full (DepotInRoute place) low stands = stands
 after_length inst sol before full reason low stands = before reason (omega (arith, low)) stands
 
-pub after_range : (inst sol : Fields) → NoneOfTourUpTo inst sol 11
-    → ((place : ℕ) → IsFirstPlace (IsLarger (nodes_of inst) (visited sol)) (visited sol) place → ⊥) → NoneOfTourUpTo inst sol 12
+pub after_range : (inst sol : Fields) → NoneOfTourBefore inst sol (NodeOutOfRange 1)
+    → ((place : ℕ) → IsFirstPlace (IsLarger (nodes_of inst) (visited sol)) (visited sol) place → ⊥) → NoneOfTourBefore inst sol (RepeatedNode 1)
 after_range inst sol before inside (NodeOutOfRange place) low stands = inside place stands
 after_range inst sol before inside reason low stands = before reason (omega (arith, low)) stands
 
-pub after_repeats : (inst sol : Fields) → NoneOfTourUpTo inst sol 12
-    → ((place : ℕ) → IsFirstPlace (IsAtEarlierPlace (visited sol)) (visited sol) place → ⊥) → NoneOfTourUpTo inst sol 13
+pub after_repeats : (inst sol : Fields) → NoneOfTourBefore inst sol (RepeatedNode 1)
+    → ((place : ℕ) → IsFirstPlace (IsAtEarlierPlace (visited sol)) (visited sol) place → ⊥) → NoneOfTourBefore inst sol (FixedEdgeUnused 1)
 after_repeats inst sol before once (RepeatedNode place) low stands = once place stands
 after_repeats inst sol before once reason low stands = before reason (omega (arith, low)) stands
 
-pub after_fixed : (inst sol : Fields) → NoneOfTourUpTo inst sol 13 → ((index : ℕ)
+pub after_fixed : (inst sol : Fields) → NoneOfTourBefore inst sol (FixedEdgeUnused 1) → ((index : ℕ)
     → IsFirstPlace (IsUnused (is_directed inst.kind) (visited sol) (fixed_of inst)) (fixed_of inst) index → ⊥) → (reason : Reason)
     → StandsAgainstTour inst sol reason → ⊥
 after_fixed inst sol before used (FixedEdgeUnused index) stands = used index stands

@@ -10,11 +10,11 @@ use Rattle.tsp_theory.specs.Length.{length_of}
 use Rattle.tsp_cost.specs.ComputedProblems.{is_directed, IsTourOf}
 use Rattle.tsp_theory.specs.Cycle.{IsCycle, Uses}
 use Rattle.tsp_reason.specs.declared.verdict.Reason.{Reason}
-use Rattle.tsp_reason.specs.declared.verdict.Reason.TheVariants.{NodeOutOfRange, RepeatedNode, FixedEdgeUnused}
+use Rattle.tsp_reason.specs.declared.verdict.Reason.TheVariants.{NodeOutOfRange, RepeatedNode, FixedEdgeUnused, TourCount}
 use Rattle.tsp_verdict.specs.Places.{IsFirstPlace, HoldsAtNone, IsLarger, IsAtEarlierPlace, IsUnused}
 use Rattle.tsp_file.specs.Defaults.{fixed_of}
 use Rattle.tsp_verdict.specs.Solution.{visited, tours_of}
-use Rattle.tsp_verdict.specs.Tours.{StandsAgainstTour, NoneOfTourUpTo, IsFirstAgainstTour}
+use Rattle.tsp_verdict.specs.Tours.{StandsAgainstTour, NoneOfTourBefore, IsFirstAgainstTour}
 use Rattle.tsp_verdict.proofs.MarkedNodes.{all_apart}
 use Rattle.tsp_verdict.proofs.TourReasons.{after_count, after_length, after_range, after_repeats, after_fixed}
 
@@ -30,8 +30,8 @@ visited_is sol tour only = ap concat only ∙ append-nil tour
 
 -- one tour that has this many nodes
 pub tour_found : (inst sol : Fields) (tour : List ℕ) → tours_of sol ≡ tour ∷ [] → length tour ≡ nodes_of inst
-    → All (λ node. 1 ≤ node) (visited sol) → NoneOfTourUpTo inst sol 5
-    → (tours_of sol ≡ tour ∷ []) × (length tour ≡ nodes_of inst) × All (λ node. 1 ≤ node) tour × NoneOfTourUpTo inst sol 11
+    → All (λ node. 1 ≤ node) (visited sol) → NoneOfTourBefore inst sol TourCount
+    → (tours_of sol ≡ tour ∷ []) × (length tour ≡ nodes_of inst) × All (λ node. 1 ≤ node) tour × NoneOfTourBefore inst sol (NodeOutOfRange 1)
 tour_found inst sol tour only full low none =
     let low_all : All (λ node. 1 ≤ node) tour = subst (λ (xs : List ℕ). All (λ node. 1 ≤ node) xs) (visited_is sol tour only) low in
     (only, full, low_all, after_length inst sol (after_count inst sol none (ap length only)) (ap length (visited_is sol tour only) ∙ full))
@@ -47,7 +47,7 @@ is_cycle n tour full low high once = record {
 
 -- the first node that is too large
 pub larger_first : (inst sol : Fields) (tour : List ℕ) (n place : ℕ) → tours_of sol ≡ tour ∷ [] → n ≡ nodes_of inst
-    → NoneOfTourUpTo inst sol 11
+    → NoneOfTourBefore inst sol (NodeOutOfRange 1)
     → IsFirstPlace (IsLarger n tour) tour place → IsFirstAgainstTour inst sol (NodeOutOfRange place)
 larger_first inst sol tour n place only n_is none first = record {
   stands = subst (λ m. IsFirstPlace (IsLarger m (visited sol)) (visited sol) place) n_is
@@ -56,15 +56,15 @@ larger_first inst sol tour n place only n_is none first = record {
 }
 
 -- where no node is too large
-pub none_up_to_repeats : (inst sol : Fields) (tour : List ℕ) → tours_of sol ≡ tour ∷ [] → NoneOfTourUpTo inst sol 11
+pub none_up_to_repeats : (inst sol : Fields) (tour : List ℕ) → tours_of sol ≡ tour ∷ [] → NoneOfTourBefore inst sol (NodeOutOfRange 1)
     → All (λ node. node ≤ nodes_of inst) tour
-    → NoneOfTourUpTo inst sol 12
+    → NoneOfTourBefore inst sol (RepeatedNode 1)
 none_up_to_repeats inst sol tour only none high =
     let high_all : All (λ node. node ≤ nodes_of inst) (visited sol) = subst (λ (xs : List ℕ). All (λ node. node ≤ nodes_of inst) xs) (sym (visited_is sol tour only)) high in
     after_range inst sol none (λ place first. omega (arith, first.holds, high_all (place - 1) 0 (omega (arith, first.here.0, first.here.1))))
 
 -- the first node that an earlier place has
-pub repeated_first : (inst sol : Fields) (tour : List ℕ) (place : ℕ) → tours_of sol ≡ tour ∷ [] → NoneOfTourUpTo inst sol 12
+pub repeated_first : (inst sol : Fields) (tour : List ℕ) (place : ℕ) → tours_of sol ≡ tour ∷ [] → NoneOfTourBefore inst sol (RepeatedNode 1)
     → IsFirstPlace (IsAtEarlierPlace tour) tour place → IsFirstAgainstTour inst sol (RepeatedNode place)
 repeated_first inst sol tour place only none first = record {
   stands = subst (λ (xs : List ℕ). IsFirstPlace (IsAtEarlierPlace xs) xs place) (sym (visited_is sol tour only)) first;
@@ -72,9 +72,9 @@ repeated_first inst sol tour place only none first = record {
 }
 
 -- reasons 1 to 8 are ruled out
-pub none_up_to_fixed : (inst sol : Fields) (tour : List ℕ) → tours_of sol ≡ tour ∷ [] → NoneOfTourUpTo inst sol 11
+pub none_up_to_fixed : (inst sol : Fields) (tour : List ℕ) → tours_of sol ≡ tour ∷ [] → NoneOfTourBefore inst sol (NodeOutOfRange 1)
     → All (λ node. node ≤ nodes_of inst) tour
-    → HoldsAtNone (IsAtEarlierPlace tour) (length tour) → NoneOfTourUpTo inst sol 13
+    → HoldsAtNone (IsAtEarlierPlace tour) (length tour) → NoneOfTourBefore inst sol (FixedEdgeUnused 1)
 none_up_to_fixed inst sol tour only none high once =
     let is : tour ≡ visited sol = sym (visited_is sol tour only) in
     let once_all : HoldsAtNone (IsAtEarlierPlace (visited sol)) (length (visited sol)) = subst (λ (xs : List ℕ). HoldsAtNone (IsAtEarlierPlace xs) (length xs)) is once in
@@ -83,7 +83,7 @@ none_up_to_fixed inst sol tour only none high once =
 -- the first fixed pair that isn't used
 pub unused_first : (inst sol : Fields) (tour : List ℕ) (directed : Bool) (pairs : List (ℕ × ℕ)) (index : ℕ)
     → tours_of sol ≡ tour ∷ [] → directed ≡ is_directed inst.kind → pairs ≡ fixed_of inst
-    → NoneOfTourUpTo inst sol 13 → IsFirstPlace (IsUnused directed tour pairs) pairs index
+    → NoneOfTourBefore inst sol (FixedEdgeUnused 1) → IsFirstPlace (IsUnused directed tour pairs) pairs index
     → IsFirstAgainstTour inst sol (FixedEdgeUnused index)
 unused_first inst sol tour directed pairs index only way listed none first = record {
   stands = subst (λ (xs : List ℕ). IsFirstPlace (IsUnused (is_directed inst.kind) xs (fixed_of inst)) (fixed_of inst) index) (sym (visited_is sol tour only))
@@ -95,7 +95,7 @@ unused_first inst sol tour directed pairs index only way listed none first = rec
 -- where every fixed pair is used it is accepted
 pub is_yes : (inst sol : Fields) (tour : List ℕ) (directed : Bool) (pairs : List (ℕ × ℕ)) (size : ℤ) → tours_of sol ≡ tour ∷ []
     → directed ≡ is_directed inst.kind → pairs ≡ fixed_of inst
-    → NoneOfTourUpTo inst sol 13 → IsCycle (nodes_of inst) tour → All (Uses directed tour) pairs
+    → NoneOfTourBefore inst sol (FixedEdgeUnused 1) → IsCycle (nodes_of inst) tour → All (Uses directed tour) pairs
     → size ≡ length_of (cost inst) tour
     → ((reason : Reason) → StandsAgainstTour inst sol reason → ⊥) × ((cycle : List ℕ) × (tours_of sol ≡ cycle ∷ []) × IsTourOf inst cycle × (size ≡ length_of (cost inst) cycle))
 is_yes inst sol tour directed pairs size only way listed none cycle used measured =

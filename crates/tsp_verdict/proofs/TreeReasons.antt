@@ -34,7 +34,7 @@ use Rattle.tsp_reason.specs.declared.verdict.Reason.{Reason}
 use Rattle.tsp_reason.specs.declared.verdict.Reason.TheVariants.{NotBranches, BranchesDimension, BadComb, BranchTwice, BadLeaf}
 use Rattle.tsp_file.specs.Defaults.{scale_in, fixed_of, families_listed}
 use Rattle.tsp_verdict.specs.Places.{IsFirstPlace}
-use Rattle.tsp_verdict.specs.Reasons.{NoneBefore, IsFirstReason}
+use Rattle.tsp_verdict.specs.Reasons.{NoneBefore, IsFirstReason, rank_of}
 use Rattle.tsp_verdict.specs.states.TourCosts.{IsSymmetricTsp}
 use Rattle.tsp_verdict.specs.BranchesCertificate.{each_once, given_in, case_steps_in, families_with_numbers, AreNumbersOf, IsBadFamily, StandsAgainstBranches, HasBoundByBranches, IsBoundByBranches, HasNoBoundByBranches}
 use Rattle.tsp_verdict.specs.Certified.{IsBoundBy, IsCertified, NoneWithoutMemory}
@@ -166,11 +166,11 @@ no_twice inst tree steps steps_are none index stands =
     none index (subst (λ (ss : List listed.Step). IsFirstTwice (is_directed inst.kind) (given_in inst) ss index) (one_list tree.branches stands.0 steps stands.1 steps_are) stands.2)
 
 -- the facts before a rank rule out the reasons before it
-none_before : (inst tree : Fields) (rank : ℕ) → (23 < rank → is_branches_file tree.kind ≡ true)
-    → (24 < rank → nodes_of tree ≡ nodes_of inst)
-    → (25 < rank → (index : ℕ) → StandsAgainstBranches inst tree (BadComb index) → ⊥)
-    → (26 < rank → (index : ℕ) → StandsAgainstBranches inst tree (BranchTwice index) → ⊥)
-    → (27 < rank → (index : ℕ) → StandsAgainstBranches inst tree (BadLeaf index) → ⊥) → NoneBefore (StandsAgainstBranches inst tree) rank
+none_before : (inst tree : Fields) (rank : ℕ) → (rank_of NotBranches < rank → is_branches_file tree.kind ≡ true)
+    → (rank_of BranchesDimension < rank → nodes_of tree ≡ nodes_of inst)
+    → (rank_of (BadComb 1) < rank → (index : ℕ) → StandsAgainstBranches inst tree (BadComb index) → ⊥)
+    → (rank_of (BranchTwice 1) < rank → (index : ℕ) → StandsAgainstBranches inst tree (BranchTwice index) → ⊥)
+    → (rank_of (BadLeaf 1) < rank → (index : ℕ) → StandsAgainstBranches inst tree (BadLeaf index) → ⊥) → NoneBefore (StandsAgainstBranches inst tree) rank
 none_before inst tree rank sort size combs once leaves NotBranches low stands = false≢true (sym stands ∙ sort low)
 none_before inst tree rank sort size combs once leaves BranchesDimension low stands = stands (size low)
 none_before inst tree rank sort size combs once leaves (BadComb index) low stands = combs low index stands
@@ -182,14 +182,14 @@ none_before inst tree rank sort size combs once leaves reason low stands = stand
 pub none_of_tree : (inst tree : Fields) → is_branches_file tree.kind ≡ true → nodes_of tree ≡ nodes_of inst
     → NoneWithoutMemory Branches inst tree
 none_of_tree inst tree sort size =
-    none_before inst tree 25 (λ low. sort) (λ low. size) (λ low. absurd (omega (arith, low))) (λ low. absurd (omega (arith, low))) (λ low. absurd (omega (arith, low)))
+    none_before inst tree (rank_of (BadComb 1)) (λ low. sort) (λ low. size) (λ low. absurd (omega (arith, low))) (λ low. absurd (omega (arith, low))) (λ low. absurd (omega (arith, low)))
 
 pub comb_first : (inst tree : Fields) (costs : ℕ → ℕ → ℤ) (index : ℕ) → is_branches_file tree.kind ≡ true → nodes_of tree ≡ nodes_of inst
     → IsTold inst tree costs (found.BadFamily index)
     → IsFirstReason (StandsAgainstBranches inst tree) (BadComb index)
 comb_first inst tree costs index sort size is = record {
   stands = bad_comb inst tree index is.by_steps;
-  none_before = none_before inst tree 25 (λ low. sort) (λ low. size) (λ low. absurd (omega (arith, low))) (λ low. absurd (omega (arith, low))) (λ low. absurd (omega (arith, low)));
+  none_before = none_before inst tree (rank_of (BadComb 1)) (λ low. sort) (λ low. size) (λ low. absurd (omega (arith, low))) (λ low. absurd (omega (arith, low))) (λ low. absurd (omega (arith, low)));
 }
 
 pub twice_first : (inst tree : Fields) (costs : ℕ → ℕ → ℤ) (index : ℕ) → is_branches_file tree.kind ≡ true → nodes_of tree ≡ nodes_of inst
@@ -197,7 +197,7 @@ pub twice_first : (inst tree : Fields) (costs : ℕ → ℕ → ℤ) (index : �
     → IsFirstReason (StandsAgainstBranches inst tree) (BranchTwice index)
 twice_first inst tree costs index sort size is = record {
   stands = (is.steps, is.steps_are, is.by_steps.2);
-  none_before = none_before inst tree 26 (λ low. sort) (λ low. size) (λ low. no_bad_comb inst tree is.by_steps.1.good) (λ low. absurd (omega (arith, low))) (λ low. absurd (omega (arith, low)));
+  none_before = none_before inst tree (rank_of (BranchTwice 1)) (λ low. sort) (λ low. size) (λ low. no_bad_comb inst tree is.by_steps.1.good) (λ low. absurd (omega (arith, low))) (λ low. absurd (omega (arith, low)));
 }
 
 pub leaf_first : (inst tree : Fields) (costs : ℕ → ℕ → ℤ) (index : ℕ) → is_branches_file tree.kind ≡ true → nodes_of tree ≡ nodes_of inst
@@ -205,7 +205,7 @@ pub leaf_first : (inst tree : Fields) (costs : ℕ → ℕ → ℤ) (index : ℕ
     → IsFirstReason (StandsAgainstBranches inst tree) (BadLeaf index)
 leaf_first inst tree costs index sort size is = record {
   stands = (is.steps, is.steps_are, is.by_steps.crossed, numbers_told inst tree is.by_steps.crossed is.by_steps.are_families, is.by_steps.leaves);
-  none_before = none_before inst tree 27 (λ low. sort) (λ low. size) (λ low. no_bad_comb inst tree is.by_steps.are_families.good) (λ low. no_twice inst tree is.steps is.steps_are is.by_steps.are_once.0) (λ low. absurd (omega (arith, low)));
+  none_before = none_before inst tree (rank_of (BadLeaf 1)) (λ low. sort) (λ low. size) (λ low. no_bad_comb inst tree is.by_steps.are_families.good) (λ low. no_twice inst tree is.steps is.steps_are is.by_steps.are_once.0) (λ low. absurd (omega (arith, low)));
 }
 
 pub none_stands : NumbersAreUnique → (inst tree : Fields) (costs : ℕ → ℕ → ℤ) (bound : Option ℤ) → is_branches_file tree.kind ≡ true

@@ -46,9 +46,9 @@ StandsAgainstRoutes instance solution (Overload route) =
     IsFirstPlace (IsOverloaded (demands_of instance) (capacity_of instance) (tours_of solution)) (tours_of solution) route
 StandsAgainstRoutes instance solution reason = ⊥
 
--- none of the reasons applies that are judged before this rank
-abbrev pub NoneOfRoutesUpTo : Fields → Fields → ℕ → Type 0
-NoneOfRoutesUpTo instance solution rank = NoneBefore (StandsAgainstRoutes instance solution) rank
+-- none of the reasons applies that are judged before this one
+abbrev pub NoneOfRoutesBefore : Fields → Fields → Reason → Type 0
+NoneOfRoutesBefore instance solution reason = NoneBefore (StandsAgainstRoutes instance solution) (rank_of reason)
 
 -- the reason is the first one that applies
 abbrev pub IsFirstAgainstRoutes : Fields → Fields → Reason → Type 0
@@ -73,8 +73,8 @@ IsRoutesVerdict instance solution (verdicts.Tour length_is bound) = ⊥
 
 -- No reason applies that needs no look at the nodes of the routes.
 abbrev pub NoneOfRoutesBeforePlaces : Fields → Fields → Type 0
-NoneOfRoutesBeforePlaces instance solution = (place : ℕ) → NoneOfRoutesUpTo instance solution (rank_of (DepotInRoute place))
+NoneOfRoutesBeforePlaces instance solution = (place : ℕ) → NoneOfRoutesBefore instance solution (DepotInRoute place)
 
 -- No reason up to `NodeOutOfRange` applies: they are found without memory.
 abbrev pub NoneOfRoutesBeforeRepeats : Fields → Fields → Type 0
-NoneOfRoutesBeforeRepeats instance solution = (place : ℕ) → NoneOfRoutesUpTo instance solution (rank_of (RepeatedNode place))
+NoneOfRoutesBeforeRepeats instance solution = (place : ℕ) → NoneOfRoutesBefore instance solution (RepeatedNode place)

@@ -34,9 +34,9 @@ StandsAgainstTour instance solution (FixedEdgeUnused index) =
     IsFirstPlace (IsUnused (is_directed instance.kind) (visited solution) (fixed_of instance)) (fixed_of instance) index
 StandsAgainstTour instance solution reason = ⊥
 
--- none of the reasons applies that are judged before this rank
-abbrev pub NoneOfTourUpTo : Fields → Fields → ℕ → Type 0
-NoneOfTourUpTo instance solution rank = NoneBefore (StandsAgainstTour instance solution) rank
+-- none of the reasons applies that are judged before this one
+abbrev pub NoneOfTourBefore : Fields → Fields → Reason → Type 0
+NoneOfTourBefore instance solution reason = NoneBefore (StandsAgainstTour instance solution) (rank_of reason)
 
 -- the reason is the first one that applies
 abbrev pub IsFirstAgainstTour : Fields → Fields → Reason → Type 0
@@ -54,8 +54,8 @@ IsTourVerdict instance solution (verdicts.Routes length routes least) = ⊥
 
 -- No reason applies that needs no look at the nodes of the tour.
 abbrev pub NoneOfTourBeforeNodes : Fields → Fields → Type 0
-NoneOfTourBeforeNodes instance solution = (place : ℕ) → NoneOfTourUpTo instance solution (rank_of (NodeOutOfRange place))
+NoneOfTourBeforeNodes instance solution = (place : ℕ) → NoneOfTourBefore instance solution (NodeOutOfRange place)
 
 -- No reason up to `NodeOutOfRange` applies: they are found without memory.
 abbrev pub NoneOfTourBeforeRepeats : Fields → Fields → Type 0
-NoneOfTourBeforeRepeats instance solution = (place : ℕ) → NoneOfTourUpTo instance solution (rank_of (RepeatedNode place))
+NoneOfTourBeforeRepeats instance solution = (place : ℕ) → NoneOfTourBefore instance solution (RepeatedNode place)

@@ -7,10 +7,10 @@ ghost use Rattle.tsp_format.specs.Nodes.{IsNode};
 ghost use Rattle.tsp_verdict.specs.Plan.{demand_of, depot_of, AreCustomers};
 ghost use Rattle.tsp_draft.specs.Fields.{nodes_of};
 ghost use Rattle.tsp_cost.specs.ComputedProblems.{demands_of, depots_of};
-ghost use Rattle.tsp_verdict.specs.Routes.{NoneOfRoutesUpTo, NoneOfRoutesBeforePlaces, IsFirstAgainstRoutes, IsRoutesVerdict, NoneOfRoutesBeforeRepeats};
+ghost use Rattle.tsp_verdict.specs.Routes.{NoneOfRoutesBefore, NoneOfRoutesBeforePlaces, IsFirstAgainstRoutes, IsRoutesVerdict, NoneOfRoutesBeforeRepeats};
 ghost use Rattle.tsp_reason.specs.declared.verdict.Reason.TheVariants.{DepotCount};
 ghost use Rattle.tsp_verdict.specs.Basis.{StandsAgainstRouting, NoneAgainstRouting};
-ghost use Rattle.tsp_verdict.specs.Reasons.{rank_of, IsFirstReason};
+ghost use Rattle.tsp_verdict.specs.Reasons.{IsFirstReason};
 ghost use Rattle.tsp_verdict.specs.states.RouteLists.{AreToursOf};
 
 use crate::files::{routing, solution_tours};
@@ -120,7 +120,7 @@ fn depot_and_routes<'a>(
 /// The routes of a solution, or the first reason that needs no look at the depot.
 fn first_against_files<'a>(inst: &Instance, sol: &'a File) -> Result<&'a [Vec<u32>], Reason>
     ensures { MatchResult result (λ routes. AreToursOf sol.now routes.now
-        × (2 ≤ nodes_of inst.now) × NoneOfRoutesUpTo inst.now sol.now (rank_of DepotCount))
+        × (2 ≤ nodes_of inst.now) × NoneOfRoutesBefore inst.now sol.now DepotCount)
         (λ reason. IsFirstAgainstRoutes inst.now sol.now reason) }
 {
     let nodes = inst.count();

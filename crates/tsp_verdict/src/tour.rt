@@ -5,10 +5,9 @@ ghost use Rattle.std.specs.List.{All};
 ghost use Rattle.tsp_format.specs.declared.kinds.Kind.TheVariants as kinds;
 ghost use Rattle.tsp_cost.specs.ComputedProblems.{is_directed};
 ghost use Rattle.tsp_reason.specs.declared.verdict.Reason.TheVariants.{TourCount};
-ghost use Rattle.tsp_verdict.specs.Reasons.{rank_of};
 ghost use Rattle.tsp_draft.specs.Fields.{nodes_of};
 ghost use Rattle.tsp_verdict.specs.Solution.{tours_of};
-ghost use Rattle.tsp_verdict.specs.Tours.{NoneOfTourUpTo, NoneOfTourBeforeNodes, IsFirstAgainstTour, NoneOfTourBeforeRepeats};
+ghost use Rattle.tsp_verdict.specs.Tours.{NoneOfTourBefore, NoneOfTourBeforeNodes, IsFirstAgainstTour, NoneOfTourBeforeRepeats};
 ghost use Rattle.tsp_file.specs.Cost.{cost};
 ghost use Rattle.tsp_theory.specs.Costs.{IsFirstAsymmetric};
 ghost use Rattle.tsp_verdict.specs.states.TourCosts.{AreTourCosts, IsLengthOf};
@@ -45,7 +44,7 @@ pub(crate) fn length_after_files(
 ) -> Result<Result<i64, Reason>, Refused>
     requires kind { (inst.now.kind ≡ Some kinds.Tsp) ⊎ (inst.now.kind ≡ Some kinds.Atsp) }
     requires tours { AreToursOf sol.now tours.now }
-    requires before { NoneOfTourUpTo inst.now sol.now (rank_of TourCount) }
+    requires before { NoneOfTourBefore inst.now sol.now TourCount }
     ensures { MatchResult result
         (λ found. IsLengthOf inst.now sol.now found)
         (λ refused. NoneOfTourBeforeRepeats inst.now sol.now) }
@@ -73,7 +72,7 @@ pub(crate) fn length_after_files(
 /// that is judged before its nodes are looked at.
 fn the_tour<'a>(inst: &Instance, sol: &File, tours: &'a [Vec<u32>]) -> Result<&'a [u32], Reason>
     requires tours { AreToursOf sol.now tours.now }
-    requires before { NoneOfTourUpTo inst.now sol.now (rank_of TourCount) }
+    requires before { NoneOfTourBefore inst.now sol.now TourCount }
     ensures { MatchResult result
         (λ tour. (tours_of sol.now ≡ tour.now ∷ []) × (length tour.now ≡ nodes_of inst.now)
         × All (λ node. 1 ≤ node) tour.now × NoneOfTourBeforeNodes inst.now sol.now)

@@ -6,9 +6,10 @@ use Rattle.std.specs.List.{All}
 use Rattle.std.proofs.lemmas.Int.{to_z-of_z}
 use Rattle.tsp_draft.specs.Fields.{Fields, nodes_of}
 use Rattle.tsp_cost.specs.ComputedProblems.{is_directed}
+use Rattle.tsp_reason.specs.declared.verdict.Reason.TheVariants.{FixedEdgeUnused}
 use Rattle.tsp_theory.specs.Cycle.{IsCycle}
 use Rattle.tsp_verdict.specs.states.Next.{AreNext}
-use Rattle.tsp_verdict.specs.Tours.{NoneOfTourUpTo, NoneOfTourBeforeRepeats}
+use Rattle.tsp_verdict.specs.Tours.{NoneOfTourBefore, NoneOfTourBeforeRepeats}
 use Rattle.tsp_verdict.proofs.TourVerdicts.{is_cycle, larger_first, none_up_to_repeats, repeated_first, none_up_to_fixed, unused_first, is_yes}
 use Rattle.tsp_verdict.proofs.tour.length_after_files.Goals as goal
 
@@ -56,7 +57,7 @@ returns-in-Some-first_unused c =
     let tour : List ℕ = c.in-Ok.tour.now in
     let once = rw c.in_default-2.is at c.in_ok-place.ensures in
     let high : All (λ node. node ≤ nodes_of inst) tour = subst (λ n. All (λ node. node ≤ n) tour) c.count-nodes.ensures.value c.in_default.ensures in
-    let none : NoneOfTourUpTo inst sol 13 = none_up_to_fixed inst sol tour c.in-Ok.ensures.0 (c.in-Ok.ensures.3 0) high once in
+    let none : NoneOfTourBefore inst sol (FixedEdgeUnused 1) = none_up_to_fixed inst sol tour c.in-Ok.ensures.0 (c.in-Ok.ensures.3 0) high once in
     let way : c.is_directed-directed.result ≡ is_directed inst.kind = c.is_directed-directed.ensures ∙ ap is_directed c.kind.ensures.value in
     let next : AreNext tour c.as_slice.result.now = subst (λ (xs : List ℕ). AreNext tour xs) (sym c.as_slice.ensures.value) c.in_ok-next.ensures.1 in
     unused_first inst sol tour c.is_directed-directed.result c.fixed.result.now c.in-Some-first_unused.index c.in-Ok.ensures.0 way
@@ -70,7 +71,7 @@ returns c =
     let fits : FitsSigned w64 c.tour_length.result = search rules in
     let once = rw c.in_default-2.is at c.in_ok-place.ensures in
     let high : All (λ node. node ≤ nodes_of inst) tour = subst (λ n. All (λ node. node ≤ n) tour) c.count-nodes.ensures.value c.in_default.ensures in
-    let none : NoneOfTourUpTo inst sol 13 = none_up_to_fixed inst sol tour c.in-Ok.ensures.0 (c.in-Ok.ensures.3 0) high once in
+    let none : NoneOfTourBefore inst sol (FixedEdgeUnused 1) = none_up_to_fixed inst sol tour c.in-Ok.ensures.0 (c.in-Ok.ensures.3 0) high once in
     let cycle : IsCycle (nodes_of inst) tour = is_cycle (nodes_of inst) tour c.in-Ok.ensures.1 c.in-Ok.ensures.2 high once in
     let way : c.is_directed-directed.result ≡ is_directed inst.kind = c.is_directed-directed.ensures ∙ ap is_directed c.kind.ensures.value in
     let next : AreNext tour c.as_slice.result.now = subst (λ (xs : List ℕ). AreNext tour xs) (sym c.as_slice.ensures.value) c.in_ok-next.ensures.1 in
