@@ -62,7 +62,8 @@ of_instance by inst cert reason early first = record {
 -- none applies to the instance, where the first of all comes after those
 after_instance : (by : Certificate) (inst cert : Fields) (reason : Reason) → rank_of Dimension ≤ rank_of reason
     → IsFirstReason (StandsAgainstBounded by inst cert) reason → NoneAgainstInstance inst
-after_instance by inst cert reason late first = λ other stands. first.none_before other (omega (arith, late, instance_rank inst other stands)) (inl stands)
+after_instance by inst cert reason late first =
+    λ other stands. first.none_before other (omega (arith, late, instance_rank inst other stands)) (inl stands)
 
 -- whether the file is a solution is judged of that alone
 no_solution : (by : Certificate) (inst cert : Fields)
@@ -107,14 +108,16 @@ knows_instance (Some given) inst basis kind b = knows_by given.0 inst given.1 ba
 pub none_known : (inst : Fields) (basis : Basis) (found : Option Reason) → found ≡ against_instance basis → found ≡ None
     → KnowsInstance inst basis → NoneAgainstInstance inst
 none_known inst basis found is none knows =
-    subst (λ (it : Option Reason). MatchOption it (NoneAgainstInstance inst) (λ reason. IsFirstReason (StandsAgainstInstance inst) reason)) (sym is ∙ none) knows
+    subst (λ (it : Option Reason). MatchOption it (NoneAgainstInstance inst)
+    (λ reason. IsFirstReason (StandsAgainstInstance inst) reason)) (sym is ∙ none) knows
 
 -- the one that it has is the first
 pub first_known : (inst : Fields) (basis : Basis) (found : Option Reason) (reason : Reason) → found ≡ against_instance basis
     → found ≡ Some reason → KnowsInstance inst basis
     → IsFirstReason (StandsAgainstInstance inst) reason
 first_known inst basis found reason is some knows =
-    subst (λ (it : Option Reason). MatchOption it (NoneAgainstInstance inst) (λ r. IsFirstReason (StandsAgainstInstance inst) r)) (sym is ∙ some) knows
+    subst (λ (it : Option Reason). MatchOption it (NoneAgainstInstance inst) (λ r. IsFirstReason (StandsAgainstInstance inst) r))
+    (sym is ∙ some) knows
 
 -- ---- the reasons before those against the tours
 
@@ -128,13 +131,22 @@ up_to_instance inst sol rank few is none reason low stands = absurd (omega (arit
 pub instance_first : (inst sol : Fields) (reason : Reason) → is_tour_file sol.kind ≡ true
     → IsFirstReason (StandsAgainstInstance inst) reason → IsFirstAgainstTour inst sol reason
 instance_first inst sol TooFewNodes is first =
-    record { stands = first.stands; none_before = up_to_instance inst sol (rank_of TooFewNodes) (omega arith) is first.none_before }
+    record {
+      stands = first.stands;
+      none_before =
+          up_to_instance inst sol (rank_of TooFewNodes) (omega arith) is first.none_before;
+    }
 instance_first inst sol (NotSymmetric i j) is first =
-    record { stands = first.stands; none_before = up_to_instance inst sol (rank_of (NotSymmetric 1 2)) (omega arith) is first.none_before }
+    record {
+      stands = first.stands;
+      none_before =
+          up_to_instance inst sol (rank_of (NotSymmetric 1 2)) (omega arith) is first.none_before;
+    }
 instance_first inst sol reason is first = absurd first.stands
 
 -- where none applies to the instance
-pub up_to_dimension : (inst sol : Fields) → is_tour_file sol.kind ≡ true → NoneAgainstInstance inst → NoneOfTourBefore inst sol Dimension
+pub up_to_dimension : (inst sol : Fields) → is_tour_file sol.kind ≡ true → NoneAgainstInstance inst
+    → NoneOfTourBefore inst sol Dimension
 up_to_dimension inst sol is none NotASolution low stands = false≢true (sym stands ∙ is)
 up_to_dimension inst sol is none TooFewNodes low stands = none TooFewNodes stands
 up_to_dimension inst sol is none (NotSymmetric i j) low stands = none (NotSymmetric i j) stands
@@ -160,7 +172,8 @@ tour_disclaimed : (given : Option (Certificate × Fields)) (inst sol : Fields) (
     → IsTrue (is_judged given inst.kind) → IsTourVerdict inst sol (verdicts.Tour found None) → IsOtherClaimed claimed found
     → IsVerdictWith given claimed inst sol (verdicts.No (LengthClaimed found))
 tour_disclaimed None inst sol claimed found kind is v other =
-    other_alone claimed inst sol (verdicts.Tour found None) found refl other (tour_alone inst sol (verdicts.Tour found None) kind v)
+    other_alone claimed inst sol (verdicts.Tour found None) found refl other
+    (tour_alone inst sol (verdicts.Tour found None) kind v)
 tour_disclaimed (Some given) inst sol claimed found kind is v other =
     tour_of_another_length given.0 inst sol given.1 claimed found is v other
 
@@ -169,12 +182,14 @@ tour_accepted : (given : Option (Certificate × Fields)) (inst sol : Fields) (bo
     → IsBasis given inst (bases.Tours bound) → IsTourVerdict inst sol (verdicts.Tour found None) → IsAsClaimed claimed found
     → IsVerdictWith given claimed inst sol (verdicts.Tour found bound)
 tour_accepted None inst sol None claimed found kind b v claims =
-    accepted_alone claimed inst sol (verdicts.Tour found None) found refl claims (tour_alone inst sol (verdicts.Tour found None) kind v)
+    accepted_alone claimed inst sol (verdicts.Tour found None) found refl claims
+    (tour_alone inst sol (verdicts.Tour found None) kind v)
 tour_accepted (Some given) inst sol None claimed found kind b v claims = absurd b.1
 tour_accepted None inst sol (Some least) claimed found kind b v claims =
     absurd (alone_of_tours inst (bases.Tours (Some least)) kind b.1)
 tour_accepted (Some given) inst sol (Some least) claimed found kind b v claims =
-    tour_bounded given.0 inst sol given.1 claimed found least v claims (found_by_certificate given.0 inst sol given.1 (bounds.Bound least) v.0 b.1)
+    tour_bounded given.0 inst sol given.1 claimed found least v claims
+    (found_by_certificate given.0 inst sol given.1 (bounds.Bound least) v.0 b.1)
 
 -- the reason against the certificate, where none applies to the tour
 tour_uncertified : (given : Option (Certificate × Fields)) (inst sol : Fields) (claimed : Option ℤ) (found : ℤ) (reason : Reason)
@@ -184,7 +199,8 @@ tour_uncertified : (given : Option (Certificate × Fields)) (inst sol : Fields) 
 tour_uncertified None inst sol claimed found reason kind b v claims =
     absurd (v.0 reason (against_tour inst sol reason (alone_of_tours inst (bases.No reason) kind b.1).stands))
 tour_uncertified (Some given) inst sol claimed found reason kind b v claims =
-    certificate_refused given.0 inst sol given.1 claimed found reason b.0 v claims (found_by_certificate given.0 inst sol given.1 (bounds.No reason) v.0 b.1)
+    certificate_refused given.0 inst sol given.1 claimed found reason b.0 v claims
+    (found_by_certificate given.0 inst sol given.1 (bounds.No reason) v.0 b.1)
 
 -- an instance without tours has no tour of a solution
 no_tour : (given : Option (Certificate × Fields)) (inst sol : Fields) (found : ℤ) → HasTours inst
@@ -303,14 +319,16 @@ routes_have inst sol basis claimed (verdicts.Tour found bound) cvrp b v =
     absurd (subst (λ kind. IsVerdictBy kind inst sol (verdicts.Tour found bound)) cvrp (own_tour claimed inst sol found bound v))
 routes_have inst sol basis claimed (verdicts.Routes found count least) cvrp b v =
     accepted_basis inst sol basis found count least b
-    (subst (λ kind. IsVerdictBy kind inst sol (verdicts.Routes found count least)) cvrp (own_routes claimed inst sol found count least v))
+    (subst (λ kind. IsVerdictBy kind inst sol (verdicts.Routes found count least)) cvrp
+    (own_routes claimed inst sol found count least v))
 routes_have inst sol basis claimed (verdicts.No reason) cvrp b v = tt
 
 with_either : (given : Option (Certificate × Fields)) (inst sol : Fields) (claimed : Option ℤ) (verdict : Verdict)
     → inst.kind ≡ Some kinds.Cvrp → IsTrue (is_judged given inst.kind)
     → IsVerdictWith None claimed inst sol verdict → IsVerdictWith given claimed inst sol verdict
 with_either None inst sol claimed verdict cvrp is v = v
-with_either (Some given) inst sol claimed verdict cvrp is v = absurd (cvrp_apart inst.kind cvrp (kinds_bounded given.0 inst.kind is))
+with_either (Some given) inst sol claimed verdict cvrp is v =
+    absurd (cvrp_apart inst.kind cvrp (kinds_bounded given.0 inst.kind is))
 
 -- the verdict on routes is that of the solution
 pub routes_judged : (given : Given) (inst sol : Fields) (claimed : Option ℤ) (verdict next : Verdict)
@@ -321,7 +339,8 @@ routes_judged (givens.Certificate certificate) inst sol claimed verdict next cvr
     with_either (option_map (λ it. (it.0, it.1.now)) certificate) inst sol claimed next cvrp s
     (claims inst sol (subst (λ kind. IsVerdictBy kind inst sol verdict) (sym cvrp) routes))
 routes_judged (givens.Basis basis) inst sol claimed verdict next cvrp s routes claims =
-    let own : IsVerdictWith None claimed inst sol next = claims inst sol (subst (λ kind. IsVerdictBy kind inst sol verdict) (sym cvrp) routes) in (
+    let own : IsVerdictWith None claimed inst sol next =
+    claims inst sol (subst (λ kind. IsVerdictBy kind inst sol verdict) (sym cvrp) routes) in (
       routes_have inst sol basis claimed next cvrp (alone_of_routes s.0 inst basis cvrp s.1) own,
       λ other b. with_either other inst sol claimed next cvrp b.0 own,
     )

@@ -16,7 +16,8 @@ use Rattle.tsp_verdict.specs.Certified.{StandsAgainstCertificate, FindsBound, No
 use Rattle.tsp_verdict.specs.Reasons.{rank_of, IsFirstReason}
 use Rattle.tsp_verdict.proofs.Certificates.{certificate_rank, symmetric_tsp}
 
-instance_rank : (inst : Fields) (reason : Reason) → StandsAgainstInstance inst reason → rank_of reason < rank_of (LengthClaimed (pos 0))
+instance_rank : (inst : Fields) (reason : Reason) → StandsAgainstInstance inst reason
+    → rank_of reason < rank_of (LengthClaimed (pos 0))
 instance_rank inst TooFewNodes stands = omega arith
 instance_rank inst (NotSymmetric i j) stands = omega arith
 instance_rank inst reason stands = absurd stands
@@ -29,9 +30,11 @@ instance_refused by inst cert reason first = record {
   none_before = λ other low stands. by_side other low stands;
 }
   where
-    by_side : (other : Reason) → rank_of other < rank_of reason → StandsAgainstInstance inst other ⊎ StandsAgainstCertificate by inst cert other → ⊥
+    by_side : (other : Reason) → rank_of other < rank_of reason
+        → StandsAgainstInstance inst other ⊎ StandsAgainstCertificate by inst cert other → ⊥
     by_side other low (inl stands) = first.none_before other low stands
-    by_side other low (inr stands) = omega (arith, low, instance_rank inst reason first.stands, certificate_rank by inst cert other stands)
+    by_side other low (inr stands) =
+        omega (arith, low, instance_rank inst reason first.stands, certificate_rank by inst cert other stands)
 
 none_of_both : (by : Certificate) (inst cert : Fields) → NoneAgainstInstance inst
     → ((other : Reason) → StandsAgainstCertificate by inst cert other → ⊥)
@@ -50,7 +53,8 @@ certificate_decides by inst cert (bounds.No reason) none first = record {
   none_before = λ other low stands. by_side other low stands;
 }
   where
-    by_side : (other : Reason) → rank_of other < rank_of reason → StandsAgainstInstance inst other ⊎ StandsAgainstCertificate by inst cert other → ⊥
+    by_side : (other : Reason) → rank_of other < rank_of reason
+        → StandsAgainstInstance inst other ⊎ StandsAgainstCertificate by inst cert other → ⊥
     by_side other low (inl stands) = none other stands
     by_side other low (inr stands) = first.none_before other low stands
 
@@ -58,7 +62,8 @@ certificate_decides by inst cert (bounds.No reason) none first = record {
 pub either_way : {E : Type 0} (by : Certificate) (inst cert : Fields) (result : Result BoundVerdict E) → NoneAgainstInstance inst
     → IfOk result (λ found. FindsBound by inst cert found)
     → (IsErr result → NoneWithoutMemory by inst cert)
-    → MatchResult result (λ found. IsBoundVerdict by inst cert found) (λ refused. NoneAgainstInstance inst × NoneWithoutMemory by inst cert)
+    → MatchResult result (λ found. IsBoundVerdict by inst cert found)
+    (λ refused. NoneAgainstInstance inst × NoneWithoutMemory by inst cert)
 either_way by inst cert (Ok found) none finds without = certificate_decides by inst cert found none finds
 either_way by inst cert (Err refused) none finds without = (none, without refl)
 

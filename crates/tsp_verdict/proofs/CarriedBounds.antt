@@ -34,7 +34,8 @@ pub least_same : (n : ℕ) (v w : ℕ → ℕ → ℤ) → Same v w → (pairs :
     → IsLeastOneTree n w pairs
 least_same n v w same pairs found = record {
   tree = found.tree;
-  least = λ others tree. subst₂ (λ a b. a ≤ℤ b) (weights_same v w same pairs) (weights_same v w same others) (found.least others tree);
+  least = λ others tree. subst₂ (λ a b. a ≤ℤ b) (weights_same v w same pairs) (weights_same v w same others)
+      (found.least others tree);
 }
 
 pub bound_same : (n : ℕ) (a b : ℕ → ℕ → ℤ) (scale : ℤ) (potentials : List ℤ) (triples : List (ℕ × ℕ × ℤ)) (bound : ℤ) → Same a b
@@ -42,11 +43,14 @@ pub bound_same : (n : ℕ) (a b : ℕ → ℕ → ℤ) (scale : ℤ) (potentials
 bound_same n a b scale potentials triples bound same found =
     let v = adjusted triples [] (weight_between scale potentials a) in
     let w = adjusted triples [] (weight_between scale potentials b) in
-    let between : Same v w = λ i j. ap (λ c. (((scale *ℤ c) +ℤ (entry potentials i +ℤ entry potentials j)) -ℤ numbers_on triples i j) +ℤ numbers_on [] i j) (same i j) in
+    let between : Same v w =
+    λ i j. ap (λ c. (((scale *ℤ c) +ℤ (entry potentials i +ℤ entry potentials j)) -ℤ numbers_on triples i j) +ℤ numbers_on [] i j)
+    (same i j) in
     record {
       tree = found.tree;
       least = least_same n v w between found.tree found.least;
-      bound_is = subst (λ weight. IsAdjustedBoundOf scale potentials triples weight bound) (weights_same v w between found.tree) found.bound_is;
+      bound_is = subst (λ weight. IsAdjustedBoundOf scale potentials triples weight bound) (weights_same v w between found.tree)
+          found.bound_is;
     }
 
 -- a tour of a TSP uses each pair that is listed as fixed
@@ -57,7 +61,8 @@ listed_used nodes pairs triples used listed k d lt = elim (listed k d lt) [
   | inr back ↦ turned (All-contains (AreNeighbours nodes) pairs ((get_or triples k d).1, (get_or triples k d).0) used back)
 ]
   where
-    turned : AreNeighbours nodes ((get_or triples k d).1, (get_or triples k d).0) → AreNeighbours nodes (pair_of (get_or triples k d))
+    turned : AreNeighbours nodes ((get_or triples k d).1, (get_or triples k d).0)
+        → AreNeighbours nodes (pair_of (get_or triples k d))
     turned (inl next) = inr next
     turned (inr next) = inl next
 
@@ -69,25 +74,32 @@ keeps_on f m n a b same_count same keeps = record {
 }
 
 -- the bound that a view's costs give is that of the certificate
-pub certified : (inst pot : Fields) (n : ℕ) (costs : ℕ → ℕ → ℤ) (scale : ℤ) (potentials : List ℤ) (triples : List (ℕ × ℕ × ℤ)) (bound : ℤ)
+pub certified : (inst pot : Fields) (n : ℕ) (costs : ℕ → ℕ → ℤ) (scale : ℤ) (potentials : List ℤ) (triples : List (ℕ × ℕ × ℤ))
+    (bound : ℤ)
     → AdjustedBoundsBoundCycles
     → triples ≡ multipliers_in pot → AreListed (fixed_of inst) (multipliers_in pot) → inst.kind ≡ Some kinds.Tsp
     → IsSymmetric (cost inst) → 3 ≤ nodes_of inst
     → IsScale scale → scale ≡ scale_in pot → pot.node_potentials ≡ Some potentials → length potentials ≡ nodes_of inst
     → HasCosts inst n costs → IsAdjustedBound n costs scale potentials triples [] bound × IsBoundSized bound
     → IsCertified Potentials inst pot bound
-certified inst pot n costs scale potentials triples bound law triples_are listed kind even some scale_is scale_in_is potentials_are count keeps found =
+certified inst pot n costs scale potentials triples bound law triples_are listed kind even some scale_is scale_in_is
+    potentials_are count keeps found =
     let same : nodes_of inst ≡ n = ap (λ o. unwrap_or o 0) keeps.count in
     let here : IsAdjustedBound (nodes_of inst) (cost inst) scale potentials triples [] bound =
-    subst (λ m. IsAdjustedBound m (cost inst) scale potentials triples [] bound) (sym same) (bound_same n costs (cost inst) scale potentials triples bound keeps.every found.0) in
+    subst (λ m. IsAdjustedBound m (cost inst) scale potentials triples [] bound) (sym same)
+    (bound_same n costs (cost inst) scale potentials triples bound keeps.every found.0) in
     let by_numbers : IsAdjustedBound (nodes_of inst) (cost inst) (scale_in pot) potentials (multipliers_in pot) [] bound =
     subst₂ (λ s ts. IsAdjustedBound (nodes_of inst) (cost inst) s potentials ts [] bound) scale_in_is triples_are here in
-    let by_certificate : IsBoundByNodes inst pot bound = record { potentials = potentials; potentials_are = potentials_are; of_tree = by_numbers } in
-    let cycles : (nodes : List ℕ) → IsCycle (nodes_of inst) nodes → UsesEach (multipliers_in pot) nodes → bound ≤ℤ length_of (cost inst) nodes = λ nodes cycle used.
+    let by_certificate : IsBoundByNodes inst pot bound =
+    record { potentials = potentials; potentials_are = potentials_are; of_tree = by_numbers } in
+    let cycles : (nodes : List ℕ) → IsCycle (nodes_of inst) nodes → UsesEach (multipliers_in pot) nodes
+    → bound ≤ℤ length_of (cost inst) nodes = λ nodes cycle used.
     law (nodes_of inst) (cost inst) scale potentials triples [] bound nodes some even scale_is count here cycle
     (subst (λ ts. UsesEach ts nodes) (sym triples_are) used) (λ k d lt. absurd (omega arith)) in (
       subst (λ k. IsBoundBy Potentials k inst pot bound) (sym kind) by_certificate,
-      λ nodes tour. cycles nodes tour.cycle (listed_used nodes (fixed_of inst) (multipliers_in pot) (subst (λ k. All (Uses (is_directed k) nodes) (fixed_of inst)) kind tour.fixed_used) listed),
+      λ nodes tour. cycles nodes tour.cycle
+          (listed_used nodes (fixed_of inst) (multipliers_in pot)
+          (subst (λ k. All (Uses (is_directed k) nodes) (fixed_of inst)) kind tour.fixed_used) listed),
       found.1,
     )
 
@@ -105,7 +117,8 @@ broken_same n a b scale rows columns i j same pair = record {
   column = pair.column;
   other = pair.other;
   broken = subst (λ c. (scale *ℤ c) <ℤ (entry rows i +ℤ entry columns j)) (same i j) pair.broken;
-  first = λ k l row column other before. subst (λ c. (entry rows k +ℤ entry columns l) ≤ℤ (scale *ℤ c)) (same k l) (pair.first k l row column other before);
+  first = λ k l row column other before. subst (λ c. (entry rows k +ℤ entry columns l) ≤ℤ (scale *ℤ c)) (same k l)
+      (pair.first k l row column other before);
 }
 
 -- duals that are those of the certificate
@@ -123,7 +136,8 @@ pub assigned : (inst pot : Fields) (n : ℕ) (costs : ℕ → ℕ → ℤ) (scal
 assigned inst pot n costs scale rows columns bound law kind some scaled are as_rows as_columns keeps found small =
     let nodes : nodes_of inst ≡ n = ap (λ o. unwrap_or o 0) keeps.count in
     let good : AreGood (nodes_of inst) (cost inst) scale rows columns =
-    subst (λ m. AreGood m (cost inst) scale rows columns) (sym nodes) (good_same n costs (cost inst) scale rows columns keeps.every found.0) in
+    subst (λ m. AreGood m (cost inst) scale rows columns) (sym nodes)
+    (good_same n costs (cost inst) scale rows columns keeps.every found.0) in
     let by_certificate : IsBoundByDuals inst pot bound = record {
       rows = rows;
       rows_are = are.rows_are;
@@ -133,7 +147,8 @@ assigned inst pot n costs scale rows columns bound law kind some scaled are as_r
       of_duals = subst (λ s. IsDualBound s rows columns bound) are.scale_is found.1;
     } in (
       subst (λ k. IsBoundBy Potentials k inst pot bound) (sym kind) by_certificate,
-      λ cycle tour. law (nodes_of inst) (cost inst) scale rows columns bound cycle (omega (arith, some)) scaled as_rows as_columns good found.1 tour.cycle,
+      λ cycle tour. law (nodes_of inst) (cost inst) scale rows columns bound cycle (omega (arith, some)) scaled as_rows as_columns
+          good found.1 tour.cycle,
       small,
     )
 
@@ -145,7 +160,8 @@ pub broken_stands : (inst pot : Fields) (n : ℕ) (costs : ℕ → ℕ → ℤ) 
 broken_stands inst pot n costs scale rows columns i j kind are keeps pair =
     let nodes : nodes_of inst ≡ n = ap (λ o. unwrap_or o 0) keeps.count in
     let here : IsFirstBroken (nodes_of inst) (cost inst) scale rows columns i j =
-    subst (λ m. IsFirstBroken m (cost inst) scale rows columns i j) (sym nodes) (broken_same n costs (cost inst) scale rows columns i j keeps.every pair) in (
+    subst (λ m. IsFirstBroken m (cost inst) scale rows columns i j) (sym nodes)
+    (broken_same n costs (cost inst) scale rows columns i j keeps.every pair) in (
       kind,
       record {
         rows = rows;

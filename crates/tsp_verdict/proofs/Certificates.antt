@@ -52,7 +52,8 @@ pub none_of_potentials : (inst pot : Fields) → is_potentials_file pot.kind ≡
     → has_wanted inst.kind pot ≡ true
     → NoneWithoutMemory Potentials inst pot
 none_of_potentials inst pot sort size wanted =
-    none_before inst pot (rank_of (MultiplierNotFixed 1)) (λ low. sort) (λ low. size) (λ low. wanted) (λ low. absurd (omega (arith, low))) (λ low. absurd (omega (arith, low))) (λ low. absurd (omega (arith, low)))
+    none_before inst pot (rank_of (MultiplierNotFixed 1)) (λ low. sort) (λ low. size) (λ low. wanted)
+    (λ low. absurd (omega (arith, low))) (λ low. absurd (omega (arith, low))) (λ low. absurd (omega (arith, low)))
 
 -- all six are ruled out
 pub none_stands : (inst pot : Fields) → is_potentials_file pot.kind ≡ true → nodes_of pot ≡ nodes_of inst
@@ -81,7 +82,8 @@ pub none_repeated : (n : ℕ) (inst pot : Fields) → AreOnPairs n (multipliers_
 none_repeated n inst pot are index stands =
     let again = stands.1.holds in
     let apart : is_same_pair (pair_at (multipliers_in pot) again.0) (pair_at (multipliers_in pot) index) ≡ false =
-    are.differ (again.0 - 1) (index - 1) (0, 0, pos 0) (omega (arith, again.1, again.2)) (omega (arith, stands.1.here.0, stands.1.here.1)) in
+    are.differ (again.0 - 1) (index - 1) (0, 0, pos 0) (omega (arith, again.1, again.2))
+    (omega (arith, stands.1.here.0, stands.1.here.1)) in
     false≢true (sym apart ∙ again.3)
 
 -- the first multiplier that isn't on a fixed pair is the first reason
@@ -93,7 +95,8 @@ pub not_fixed : (inst pot : Fields) (fixed : List (ℕ × ℕ)) (triples : List 
     → IsFirstReason (StandsAgainstPotentials inst pot) (MultiplierNotFixed index)
 not_fixed inst pot fixed triples index fixed_are triples_are kind sort size wanted first = record {
   stands = (kind, subst₂ (λ fs ts. IsFirstPlace (IsUnlisted fs ts) ts index) fixed_are triples_are first);
-  none_before = none_before inst pot (rank_of (MultiplierNotFixed 1)) (λ low. sort) (λ low. size) (λ low. rw kind wanted) (λ low. absurd (omega (arith, low)))
+  none_before = none_before inst pot (rank_of (MultiplierNotFixed 1)) (λ low. sort) (λ low. size) (λ low. rw kind wanted)
+      (λ low. absurd (omega (arith, low)))
       (λ low. absurd (omega (arith, low))) (λ low. absurd (omega (arith, low)));
 }
 
@@ -107,7 +110,8 @@ pub repeats : (inst pot : Fields) (fixed : List (ℕ × ℕ)) (triples : List (�
 repeats inst pot fixed triples index fixed_are triples_are kind sort size wanted listed first = record {
   stands = (kind, subst (λ ts. IsFirstPlace (IsPairRepeated ts) ts index) triples_are first);
   none_before = none_before inst pot (rank_of (MultiplierRepeated 1)) (λ low. sort) (λ low. size) (λ low. rw kind wanted)
-      (λ low. none_unlisted inst pot (subst₂ (λ fs ts. AreListed fs ts) fixed_are triples_are listed)) (λ low. absurd (omega (arith, low)))
+      (λ low. none_unlisted inst pot (subst₂ (λ fs ts. AreListed fs ts) fixed_are triples_are listed))
+      (λ low. absurd (omega (arith, low)))
       (λ low. absurd (omega (arith, low)));
 }
 
@@ -122,12 +126,14 @@ multiplied inst pot fixed triples fixed_are triples_are size nodes listed apart 
     (subst₂ (λ n ts. AreOnPairs n ts) size triples_are on_pairs, subst₂ (λ fs ts. AreListed fs ts) fixed_are triples_are listed)
 
 -- no reason applies to a certificate of a TSP whose multipliers are on different fixed pairs
-pub none_of_tsp : (inst pot : Fields) → inst.kind ≡ Some kinds.Tsp → is_potentials_file pot.kind ≡ true → nodes_of pot ≡ nodes_of inst
+pub none_of_tsp : (inst pot : Fields) → inst.kind ≡ Some kinds.Tsp → is_potentials_file pot.kind ≡ true
+    → nodes_of pot ≡ nodes_of inst
     → has_wanted inst.kind pot ≡ true
     → AreOnPairs (nodes_of inst) (multipliers_in pot) → AreListed (fixed_of inst) (multipliers_in pot) → (reason : Reason)
     → StandsAgainstPotentials inst pot reason → ⊥
 none_of_tsp inst pot kind sort size wanted on_pairs listed =
-    none_stands inst pot sort size wanted (none_unlisted inst pot listed) (none_repeated (nodes_of inst) inst pot on_pairs) (λ i j stands. other (sym kind ∙ stands.0))
+    none_stands inst pot sort size wanted (none_unlisted inst pot listed) (none_repeated (nodes_of inst) inst pot on_pairs)
+    (λ i j stands. other (sym kind ∙ stands.0))
   where
     other : Some kinds.Tsp ≡ Some kinds.Atsp → ⊥
     other e = cc
@@ -138,7 +144,8 @@ pub kind_first : (inst pot : Fields) → is_potentials_file pot.kind ≡ true �
     → IsFirstReason (StandsAgainstPotentials inst pot) PotentialsKind
 kind_first inst pot sort size other = record {
   stands = other;
-  none_before = none_before inst pot (rank_of PotentialsKind) (λ low. sort) (λ low. size) (λ low. absurd (omega (arith, low))) (λ low. absurd (omega (arith, low)))
+  none_before = none_before inst pot (rank_of PotentialsKind) (λ low. sort) (λ low. size) (λ low. absurd (omega (arith, low)))
+      (λ low. absurd (omega (arith, low)))
       (λ low. absurd (omega (arith, low))) (λ low. absurd (omega (arith, low)));
 }
 
@@ -152,7 +159,8 @@ pub broken_first : (inst pot : Fields) (i j : ℕ) → inst.kind ≡ Some kinds.
     → IsFirstReason (StandsAgainstPotentials inst pot) (DualInfeasible i j)
 broken_first inst pot i j kind sort size wanted broken = record {
   stands = (kind, broken);
-  none_before = none_before inst pot (rank_of (DualInfeasible 1 2)) (λ low. sort) (λ low. size) (λ low. rw kind wanted) (λ low index stands. not_undirected inst.kind kind stands.0)
+  none_before = none_before inst pot (rank_of (DualInfeasible 1 2)) (λ low. sort) (λ low. size) (λ low. rw kind wanted)
+      (λ low index stands. not_undirected inst.kind kind stands.0)
       (λ low index stands. not_undirected inst.kind kind stands.0) (λ low. absurd (omega (arith, low)));
 }
 
@@ -164,7 +172,8 @@ one_list o xs ys a b = sym (ap (λ p. unwrap_or p []) a) ∙ ap (λ p. unwrap_or
 none_broken : (inst pot : Fields) (bound : ℤ) (i j : ℕ) → IsBoundByDuals inst pot bound → BreaksDuals inst pot i j → ⊥
 none_broken inst pot bound i j good bad =
     let pair = bad.first in
-    let fits = subst₂ (λ (rows columns : List ℤ). AreGood (nodes_of inst) (cost inst) (scale_in pot) rows columns) (one_list pot.row_potentials good.rows bad.rows good.rows_are bad.rows_are)
+    let fits = subst₂ (λ (rows columns : List ℤ). AreGood (nodes_of inst) (cost inst) (scale_in pot) rows columns)
+    (one_list pot.row_potentials good.rows bad.rows good.rows_are bad.rows_are)
     (one_list pot.column_potentials good.columns bad.columns good.columns_are bad.columns_are) good.good in
     omega (arith, ints, pair.broken, fits i j pair.row pair.column pair.other)
 
@@ -175,12 +184,14 @@ pub none_of_atsp : (inst pot : Fields) (bound : ℤ) → inst.kind ≡ Some kind
     → StandsAgainstPotentials inst pot reason → ⊥
 none_of_atsp inst pot bound kind sort size wanted certified =
     let by_duals : IsBoundByDuals inst pot bound = subst (λ k. IsBoundBy Potentials k inst pot bound) kind certified.0 in
-    none_stands inst pot sort size (rw kind wanted) (λ index stands. not_undirected inst.kind kind stands.0) (λ index stands. not_undirected inst.kind kind stands.0)
+    none_stands inst pot sort size (rw kind wanted) (λ index stands. not_undirected inst.kind kind stands.0)
+    (λ index stands. not_undirected inst.kind kind stands.0)
     (λ i j stands. none_broken inst pot bound i j by_duals stands.1)
 
 -- ---- with those against the tour
 
-pub tour_rank : (inst sol : Fields) (reason : Reason) → StandsAgainstTour inst sol reason → rank_of reason < rank_of (LengthClaimed (pos 0))
+pub tour_rank : (inst sol : Fields) (reason : Reason) → StandsAgainstTour inst sol reason
+    → rank_of reason < rank_of (LengthClaimed (pos 0))
 tour_rank inst sol NotPotentials stands = absurd stands
 tour_rank inst sol PotentialsDimension stands = absurd stands
 tour_rank inst sol PotentialsKind stands = absurd stands
@@ -225,9 +236,11 @@ tour_first by inst sol cert reason first = record {
   none_before = λ other low stands. by_side other low stands;
 }
   where
-    by_side : (other : Reason) → rank_of other < rank_of reason → StandsAgainstTour inst sol other ⊎ StandsAgainstCertificate by inst cert other → ⊥
+    by_side : (other : Reason) → rank_of other < rank_of reason
+        → StandsAgainstTour inst sol other ⊎ StandsAgainstCertificate by inst cert other → ⊥
     by_side other low (inl stands) = first.none_before other low stands
-    by_side other low (inr stands) = omega (arith, low, tour_rank inst sol reason first.stands, certificate_rank by inst cert other stands)
+    by_side other low (inr stands) =
+        omega (arith, low, tour_rank inst sol reason first.stands, certificate_rank by inst cert other stands)
 
 -- where none applies to the tour, the first against the certificate is the first of all
 pub certificate_first : (by : Certificate) (inst sol cert : Fields) (reason : Reason)
@@ -238,7 +251,8 @@ certificate_first by inst sol cert reason none first = record {
   none_before = λ other low stands. by_side other low stands;
 }
   where
-    by_side : (other : Reason) → rank_of other < rank_of reason → StandsAgainstTour inst sol other ⊎ StandsAgainstCertificate by inst cert other → ⊥
+    by_side : (other : Reason) → rank_of other < rank_of reason
+        → StandsAgainstTour inst sol other ⊎ StandsAgainstCertificate by inst cert other → ⊥
     by_side other low (inl stands) = none other stands
     by_side other low (inr stands) = first.none_before other low stands
 

@@ -59,8 +59,10 @@ none_before by inst sol is none = by_kind (kinds_bounded by inst.kind is)
 -- out of memory, with a certificate as without one
 pub with_either : {E : Type 0} (by : Certificate) (inst sol cert : Fields) (claimed : Option ℤ) (result : Result Verdict E)
     → IsTrue (is_bounded by inst.kind)
-    → MatchResult result (λ verdict. IsVerdictWith (Some (by, cert)) claimed inst sol verdict) (λ refused. NoneOfTourBeforeRepeats inst sol)
-    → MatchResult result (λ verdict. IsVerdictWith (Some (by, cert)) claimed inst sol verdict) (λ refused. NoneBeforeRepeatsOn inst sol)
+    → MatchResult result (λ verdict. IsVerdictWith (Some (by, cert)) claimed inst sol verdict)
+    (λ refused. NoneOfTourBeforeRepeats inst sol)
+    → MatchResult result (λ verdict. IsVerdictWith (Some (by, cert)) claimed inst sol verdict)
+    (λ refused. NoneBeforeRepeatsOn inst sol)
 with_either by inst sol cert claimed (Ok verdict) is found = found
 with_either by inst sol cert claimed (Err refused) is found = none_before by inst sol is found
 

@@ -17,20 +17,25 @@ use Rattle.tsp_branch.specs.FamiliesOfSets.{family_with, families_with}
 
 -- ---- sets of nodes
 
-from_lists : (P : List ℕ → Type 0) (sets : List (Vec ℕ)) → AllByRecursion P (lists_of sets) → AllByRecursion (λ set. P set.items) sets
+from_lists : (P : List ℕ → Type 0) (sets : List (Vec ℕ)) → AllByRecursion P (lists_of sets)
+    → AllByRecursion (λ set. P set.items) sets
 from_lists P [] h = tt
 from_lists P (set ∷ sets) h = (h.0, from_lists P sets h.1)
 
 sets_hold : (n : ℕ) (sets : List (Vec ℕ)) → AreSets n (lists_of sets) → AreSetsOf n sets
 sets_hold n sets are = All-from_recursion (λ (set : Vec ℕ). All (IsNode n) set.items) sets (from_lists (All (IsNode n)) sets
-    (recursion_from_All (All (IsNode n)) (lists_of sets) (All-weaker (IsSetOf n) (All (IsNode n)) (λ set is. is.1) (lists_of sets) are.1)))
+    (recursion_from_All (All (IsNode n)) (lists_of sets)
+    (All-weaker (IsSetOf n) (All (IsNode n)) (λ set is. is.1) (lists_of sets) are.1)))
 
-families_by : (n : ℕ) (families : List (Vec (Vec ℕ))) → AllByRecursion (AreSets n) (families_in families) → AllByRecursion (λ sets. AreSetsOf n sets.items) families
+families_by : (n : ℕ) (families : List (Vec (Vec ℕ))) → AllByRecursion (AreSets n) (families_in families)
+    → AllByRecursion (λ sets. AreSetsOf n sets.items) families
 families_by n [] h = tt
 families_by n (sets ∷ families) h = (sets_hold n sets.items h.0, families_by n families h.1)
 
 pub families_hold : (n : ℕ) (families : List (Vec (Vec ℕ))) → AreSomeSets n (families_in families) → AreFamiliesOf n families
-families_hold n families some = All-from_recursion (λ (sets : Vec (Vec ℕ)). AreSetsOf n sets.items) families (families_by n families (recursion_from_All (AreSets n) (families_in families) some.sets))
+families_hold n families some =
+    All-from_recursion (λ (sets : Vec (Vec ℕ)). AreSetsOf n sets.items) families
+    (families_by n families (recursion_from_All (AreSets n) (families_in families) some.sets))
 
 -- ---- how many
 
@@ -38,7 +43,8 @@ set_nodes : (n : ℕ) (sets : List (List ℕ)) → AllByRecursion (IsSetOf n) se
 set_nodes n [] are = omega arith
 set_nodes n (set ∷ sets) are = omega (arith, are.0.0, set_nodes n sets are.1, sum_by-cons length set sets)
 
-few_by : (n : ℕ) (families : List (Vec (Vec ℕ))) → AllByRecursion (AreSets n) (families_in families) → sum_by (sum_by length) (families_in families) ≤ most_comb_nodes
+few_by : (n : ℕ) (families : List (Vec (Vec ℕ))) → AllByRecursion (AreSets n) (families_in families)
+    → sum_by (sum_by length) (families_in families) ≤ most_comb_nodes
     → AllByRecursion (λ sets. length sets.items < 2 ^ 32) families
 few_by n [] h most = tt
 few_by n (sets ∷ families) h most =
@@ -48,7 +54,8 @@ few_by n (sets ∷ families) h most =
     let long = length-map sets.items (λ (set : Vec ℕ). set.items) in
     (omega (arith, all, own, long, most), few_by n families h.1 (omega (arith, all, most)))
 
-pub families_few : (n : ℕ) (families : List (Vec (Vec ℕ))) → AreSomeSets n (families_in families) → All (λ sets. length sets.items < 2 ^ 32) families
+pub families_few : (n : ℕ) (families : List (Vec (Vec ℕ))) → AreSomeSets n (families_in families)
+    → All (λ sets. length sets.items < 2 ^ 32) families
 families_few n families some = All-from_recursion (λ (sets : Vec (Vec ℕ)). length sets.items < 2 ^ 32) families
     (few_by n families (recursion_from_All (AreSets n) (families_in families) some.sets) some.few_nodes)
 

@@ -29,7 +29,8 @@ in_both P (x ∷ xs) ys first second = (first.0, in_both P xs ys first.1 second)
 in_all : (tours : List (List ℕ)) → AllByRecursion IsNodeList tours → AllByRecursion (IsNode most_nodes) (concat tours)
 in_all [] filled = tt
 in_all (tour ∷ tours) filled =
-    in_both (IsNode most_nodes) tour (concat tours) (recursion_from_All (IsNode most_nodes) tour filled.0.1) (in_all tours filled.1)
+    in_both (IsNode most_nodes) tour (concat tours) (recursion_from_All (IsNode most_nodes) tour filled.0.1)
+    (in_all tours filled.1)
 
 pub counted_from_one : (tours : List (Vec ℕ)) → AreTours (map (λ (t : Vec ℕ). t.items) tours)
     → All (λ node. 1 ≤ node) (nodes_in tours)
@@ -52,7 +53,13 @@ as_many (t ∷ tours) = ap suc (as_many tours)
 
 pub few_tours : (tours : List (Vec ℕ)) → AreTours (map (λ (t : Vec ℕ). t.items) tours) → length tours ≤ most_tour_nodes
 few_tours tours held =
-    omega (arith, count_le (map (λ (t : Vec ℕ). t.items) tours) (recursion_from_All IsNodeList (map (λ (t : Vec ℕ). t.items) tours) held.0), held.1, as_many tours)
+    omega (
+      arith,
+      count_le (map (λ (t : Vec ℕ). t.items) tours)
+          (recursion_from_All IsNodeList (map (λ (t : Vec ℕ). t.items) tours) held.0),
+      held.1,
+      as_many tours,
+    )
 
 pub few_nodes : (tours : List (Vec ℕ)) → AreTours (map (λ (t : Vec ℕ). t.items) tours) → length (nodes_in tours) ≤ most_tour_nodes
 few_nodes tours held = omega (arith, ap length (nodes_in_is tours), sum_is (map (λ (t : Vec ℕ). t.items) tours), held.1)
@@ -106,7 +113,9 @@ pub steps_hold : (f : Fields) (steps : List Step) → AreTreeSteps f steps → A
 steps_hold f steps held =
     let same : held.n ≡ nodes_of f = sym (ap (λ (d : Option ℕ). unwrap_or d 0) held.dimension) in
     All-from_recursion (IsStepOf (nodes_of f)) steps
-    (few_changes (nodes_of f) most_changes steps (omega arith) (subst (λ (n : ℕ). AllByRecursion (IsStep n) steps) same (recursion_from_All (IsStep held.n) steps held.each)) held.few_changes)
+    (few_changes (nodes_of f) most_changes steps (omega arith)
+    (subst (λ (n : ℕ). AllByRecursion (IsStep n) steps) same (recursion_from_All (IsStep held.n) steps held.each))
+    held.few_changes)
 
 -- n trees have n leaves more than branches
 leaves_of_trees : (count : ℕ) (steps : List Step) → are_whole count steps ≡ true → leaf_count steps ≡ branch_count steps + count
@@ -114,7 +123,8 @@ leaves_of_trees zero [] whole = refl
 leaves_of_trees zero (Branch a b ∷ steps) whole = absurd (false≢true whole)
 leaves_of_trees zero (Leaf changes ∷ steps) whole = absurd (false≢true whole)
 leaves_of_trees (suc count) [] whole = absurd (false≢true whole)
-leaves_of_trees (suc count) (Branch a b ∷ steps) whole = let more = leaves_of_trees (suc (suc count)) steps whole in omega (arith, more)
+leaves_of_trees (suc count) (Branch a b ∷ steps) whole = let more = leaves_of_trees (suc (suc count)) steps whole in
+    omega (arith, more)
 leaves_of_trees (suc count) (Leaf changes ∷ steps) whole = let more = leaves_of_trees count steps whole in omega (arith, more)
 
 all_counted : (steps : List Step) → length steps ≡ branch_count steps + leaf_count steps

@@ -26,7 +26,8 @@ first_of_certificate by inst sol cert reason none first = record {
   none_before = λ other low stands. first.none_before other low (inr stands);
 }
   where
-    by_side : StandsAgainstInstance inst reason ⊎ StandsAgainstCertificate by inst cert reason → StandsAgainstCertificate by inst cert reason
+    by_side : StandsAgainstInstance inst reason ⊎ StandsAgainstCertificate by inst cert reason
+        → StandsAgainstCertificate by inst cert reason
     by_side (inl stands) = absurd (none reason (against_tour inst sol reason stands))
     by_side (inr stands) = stands
 

@@ -61,9 +61,11 @@ once_after : (directed : Bool) (earlier pairs : List (ℕ × ℕ))
     → each_once_after directed earlier pairs ≡ filter (is_new directed earlier) (each_once directed pairs)
 once_after directed earlier [] = refl
 once_after directed earlier (pair ∷ pairs) =
-    let rest : each_once_after directed (earlier ++ pair ∷ []) pairs ≡ filter (is_new directed earlier) (filter (λ other. not (is_same directed pair other)) (each_once directed pairs)) =
+    let rest : each_once_after directed (earlier ++ pair ∷ []) pairs ≡ filter (is_new directed earlier)
+    (filter (λ other. not (is_same directed pair other)) (each_once directed pairs)) =
     once_after directed (earlier ++ pair ∷ []) pairs
-    ∙ filter_twice (is_new directed (earlier ++ pair ∷ [])) (is_new directed earlier) (λ other. not (is_same directed pair other)) (new_after directed earlier pair) (each_once directed pairs) in
+    ∙ filter_twice (is_new directed (earlier ++ pair ∷ [])) (is_new directed earlier) (λ other. not (is_same directed pair other))
+    (new_after directed earlier pair) (each_once directed pairs) in
     elim (cases_Bool (list_any (is_same directed pair) earlier)) [
       | inl known ↦ rw known rest
       | inr fresh ↦ rw fresh (ap (λ (xs : List (ℕ × ℕ)). pair ∷ xs) rest)
@@ -105,8 +107,10 @@ keeps_taken directed nodes (pair ∷ pairs) h = (h.0, keeps_taken directed nodes
 pub keeps_given : (directed : Bool) (nodes : List ℕ) (pairs : List (ℕ × ℕ)) → All (Uses directed nodes) pairs
     → KeepsAll directed nodes (take_pairs (each_once directed pairs))
 keeps_given directed nodes pairs used =
-    subst (λ (xs : List (ℕ × ℕ)). KeepsAll directed nodes (take_pairs xs)) (once_all directed pairs) (All-from_recursion (KeepsDecision directed nodes) (take_pairs (each_once_after directed [] pairs))
-    (keeps_taken directed nodes (each_once_after directed [] pairs) (each_holds directed (Uses directed nodes) [] pairs (recursion_from_All (Uses directed nodes) pairs used))))
+    subst (λ (xs : List (ℕ × ℕ)). KeepsAll directed nodes (take_pairs xs)) (once_all directed pairs)
+    (All-from_recursion (KeepsDecision directed nodes) (take_pairs (each_once_after directed [] pairs))
+    (keeps_taken directed nodes (each_once_after directed [] pairs)
+    (each_holds directed (Uses directed nodes) [] pairs (recursion_from_All (Uses directed nodes) pairs used))))
 
 -- ---- no pair comes twice
 
@@ -126,7 +130,8 @@ fresh_before : (directed : Bool) (earlier xs : List (ℕ × ℕ)) (pair : ℕ ×
     → AllByRecursion (Fresh directed (earlier ++ pair ∷ [])) xs → AllByRecursion (Fresh directed earlier) xs
 fresh_before directed earlier [] pair h = tt
 fresh_before directed earlier (x ∷ xs) pair h = (
-  left_false (list_any (is_same directed x) earlier) (list_any (is_same directed x) (pair ∷ [])) (sym (list_any-append (is_same directed x) earlier (pair ∷ [])) ∙ h.0),
+  left_false (list_any (is_same directed x) earlier) (list_any (is_same directed x) (pair ∷ []))
+      (sym (list_any-append (is_same directed x) earlier (pair ∷ [])) ∙ h.0),
   fresh_before directed earlier xs pair h.1,
 )
 
@@ -134,8 +139,13 @@ all_fresh : (directed : Bool) (earlier pairs : List (ℕ × ℕ))
     → AllByRecursion (Fresh directed earlier) (each_once_after directed earlier pairs)
 all_fresh directed earlier [] = tt
 all_fresh directed earlier (pair ∷ pairs) = elim (cases_Bool (list_any (is_same directed pair) earlier)) [
-  | inl known ↦ rw known (fresh_before directed earlier (each_once_after directed (earlier ++ pair ∷ []) pairs) pair (all_fresh directed (earlier ++ pair ∷ []) pairs))
-  | inr fresh ↦ rw fresh (fresh, fresh_before directed earlier (each_once_after directed (earlier ++ pair ∷ []) pairs) pair (all_fresh directed (earlier ++ pair ∷ []) pairs))
+  | inl known ↦ rw known (fresh_before directed earlier (each_once_after directed (earlier ++ pair ∷ []) pairs) pair
+      (all_fresh directed (earlier ++ pair ∷ []) pairs))
+  | inr fresh ↦ rw fresh (
+    fresh,
+    fresh_before directed earlier (each_once_after directed (earlier ++ pair ∷ []) pairs) pair
+        (all_fresh directed (earlier ++ pair ∷ []) pairs),
+  )
 ]
 
 apart_from : (directed : Bool) (earlier xs : List (ℕ × ℕ)) (pair : ℕ × ℕ)
@@ -143,7 +153,9 @@ apart_from : (directed : Bool) (earlier xs : List (ℕ × ℕ)) (pair : ℕ × �
     → AllByRecursion (λ (decision : Decision). is_same directed pair decision.pair ≡ false) (take_pairs xs)
 apart_from directed earlier [] pair h = tt
 apart_from directed earlier (x ∷ xs) pair h = (
-  turned_same directed pair x ∙ last (right_false (list_any (is_same directed x) earlier) (list_any (is_same directed x) (pair ∷ [])) (sym (list_any-append (is_same directed x) earlier (pair ∷ [])) ∙ h.0)),
+  turned_same directed pair x
+      ∙ last (right_false (list_any (is_same directed x) earlier) (list_any (is_same directed x) (pair ∷ []))
+      (sym (list_any-append (is_same directed x) earlier (pair ∷ [])) ∙ h.0)),
   apart_from directed earlier xs pair h.1,
 )
   where
@@ -155,9 +167,12 @@ once_taken : (directed : Bool) (earlier pairs : List (ℕ × ℕ))
 once_taken directed earlier [] = λ i j d before inside. absurd (omega (arith, inside))
 once_taken directed earlier (pair ∷ pairs) = elim (cases_Bool (list_any (is_same directed pair) earlier)) [
   | inl known ↦ rw known (once_taken directed (earlier ++ pair ∷ []) pairs)
-  | inr fresh ↦ rw fresh (AllPairs-cons (λ (a b : Decision). is_same directed a.pair b.pair ≡ false) (record { pair = pair; taken = true }) (take_pairs (each_once_after directed (earlier ++ pair ∷ []) pairs))
-      (All-from_recursion (λ (decision : Decision). is_same directed pair decision.pair ≡ false) (take_pairs (each_once_after directed (earlier ++ pair ∷ []) pairs))
-      (apart_from directed earlier (each_once_after directed (earlier ++ pair ∷ []) pairs) pair (all_fresh directed (earlier ++ pair ∷ []) pairs)))
+  | inr fresh ↦ rw fresh (AllPairs-cons (λ (a b : Decision). is_same directed a.pair b.pair ≡ false)
+      (record { pair = pair; taken = true }) (take_pairs (each_once_after directed (earlier ++ pair ∷ []) pairs))
+      (All-from_recursion (λ (decision : Decision). is_same directed pair decision.pair ≡ false)
+      (take_pairs (each_once_after directed (earlier ++ pair ∷ []) pairs))
+      (apart_from directed earlier (each_once_after directed (earlier ++ pair ∷ []) pairs) pair
+      (all_fresh directed (earlier ++ pair ∷ []) pairs)))
       (once_taken directed (earlier ++ pair ∷ []) pairs))
 ]
 
@@ -176,8 +191,10 @@ decisions_of n (decision ∷ given) h = (h.0, decisions_of n given h.1)
 pub given_are : (directed : Bool) (n : ℕ) (given : List Decision) (pairs : List (ℕ × ℕ))
     → given ≡ take_pairs (each_once directed pairs) → All (IsPairOf n) pairs → All (IsDecision n) given
 given_are directed n given pairs are of_nodes = All-from_recursion (IsDecision n) given
-    (decisions_of n given (subst (AllByRecursion (λ (decision : Decision). IsPairOf n decision.pair)) (sym (after_none directed given pairs are))
-    (taken_hold (IsPairOf n) (each_once_after directed [] pairs) (each_holds directed (IsPairOf n) [] pairs (recursion_from_All (IsPairOf n) pairs of_nodes)))))
+    (decisions_of n given (subst (AllByRecursion (λ (decision : Decision). IsPairOf n decision.pair))
+    (sym (after_none directed given pairs are))
+    (taken_hold (IsPairOf n) (each_once_after directed [] pairs)
+    (each_holds directed (IsPairOf n) [] pairs (recursion_from_All (IsPairOf n) pairs of_nodes)))))
 
 once_count : (directed : Bool) (earlier pairs : List (ℕ × ℕ)) → length (each_once_after directed earlier pairs) ≤ length pairs
 once_count directed earlier [] = omega arith
@@ -189,7 +206,13 @@ once_count directed earlier (pair ∷ pairs) = elim (cases_Bool (list_any (is_sa
 pub given_few : (directed : Bool) (most : ℕ) (given : List Decision) (pairs : List (ℕ × ℕ))
     → given ≡ take_pairs (each_once directed pairs) → length pairs ≤ most → length given ≤ most
 given_few directed most given pairs are few =
-    omega (arith, few, ap length (after_none directed given pairs are), taken_length (each_once_after directed [] pairs), once_count directed [] pairs)
+    omega (
+      arith,
+      few,
+      ap length (after_none directed given pairs are),
+      taken_length (each_once_after directed [] pairs),
+      once_count directed [] pairs,
+    )
   where
     taken_length : (xs : List (ℕ × ℕ)) → length (take_pairs xs) ≡ length xs
     taken_length xs = length-map xs _
@@ -199,19 +222,23 @@ given_few directed most given pairs are few =
 -- the taken pairs, and the pairs left to take, are all
 abbrev pub IsTakenSoFar : Bool → List (ℕ × ℕ) → List Decision → ℕ → Type 0
 IsTakenSoFar directed pairs taken index =
-    taken ++ take_pairs (each_once_after directed (take index pairs) (drop index pairs)) ≡ take_pairs (each_once_after directed [] pairs)
+    taken ++ take_pairs (each_once_after directed (take index pairs) (drop index pairs)) ≡ take_pairs
+    (each_once_after directed [] pairs)
 
 pub taken_at_start : (directed : Bool) (pairs : List (ℕ × ℕ)) → IsTakenSoFar directed pairs [] 0
 taken_at_start directed pairs = refl
 
 next_left : (directed : Bool) (pairs : List (ℕ × ℕ)) (index : ℕ) → index < length pairs
     → each_once_after directed (take index pairs) (drop index pairs)
-    ≡ (if list_any (is_same directed (get_or pairs index (0, 0))) (take index pairs) then each_once_after directed (take (index + 1) pairs) (drop (index + 1) pairs)
+    ≡ (if list_any (is_same directed (get_or pairs index (0, 0))) (take index pairs) then each_once_after directed
+    (take (index + 1) pairs) (drop (index + 1) pairs)
     else (get_or pairs index (0, 0) ∷ each_once_after directed (take (index + 1) pairs) (drop (index + 1) pairs)))
 next_left directed pairs index lt =
     let pair : ℕ × ℕ = get_or pairs index (0, 0) in
-    ap (each_once_after directed (take index pairs)) (drop-cons pairs index (0, 0) lt ∙ ap (λ (k : ℕ). pair ∷ drop k pairs) (sym (add-one index)))
-    ∙ ap (λ (earlier : List (ℕ × ℕ)). if list_any (is_same directed pair) (take index pairs) then each_once_after directed earlier (drop (index + 1) pairs)
+    ap (each_once_after directed (take index pairs))
+    (drop-cons pairs index (0, 0) lt ∙ ap (λ (k : ℕ). pair ∷ drop k pairs) (sym (add-one index)))
+    ∙ ap (λ (earlier : List (ℕ × ℕ)). if list_any (is_same directed pair) (take index pairs) then each_once_after directed earlier
+    (drop (index + 1) pairs)
     else (pair ∷ each_once_after directed earlier (drop (index + 1) pairs))) (sym (take_more pairs index (0, 0) lt))
 
 -- the set has an earlier pair that is the next one; it has none
@@ -222,7 +249,8 @@ pub taken_known : (directed : Bool) (pairs : List (ℕ × ℕ)) (taken : List De
 taken_known directed pairs taken index seen lt has there so_far =
     let pair : ℕ × ℕ = get_or pairs index (0, 0) in
     let known : list_any (is_same directed pair) (take index pairs) ≡ true = sym (has pair) ∙ there in
-    let left : each_once_after directed (take index pairs) (drop index pairs) ≡ each_once_after directed (take (index + 1) pairs) (drop (index + 1) pairs) = next_left directed pairs index lt ∙ rw known refl in
+    let left : each_once_after directed (take index pairs) (drop index pairs) ≡ each_once_after directed (take (index + 1) pairs)
+    (drop (index + 1) pairs) = next_left directed pairs index lt ∙ rw known refl in
     ap (λ (xs : List (ℕ × ℕ)). taken ++ take_pairs xs) (sym left) ∙ so_far
 
 pub taken_new : (directed : Bool) (pairs : List (ℕ × ℕ)) (taken pushed : List Decision) (index : ℕ) (seen : BTreeSet (ℕ × ℕ))
@@ -234,7 +262,8 @@ taken_new directed pairs taken pushed index seen lt has lacks more so_far =
     let pair : ℕ × ℕ = get_or pairs index (0, 0) in
     let fresh : list_any (is_same directed pair) (take index pairs) ≡ false = sym (has pair) ∙ lacks in
     let rest : List (ℕ × ℕ) = each_once_after directed (take (index + 1) pairs) (drop (index + 1) pairs) in
-    let left : each_once_after directed (take index pairs) (drop index pairs) ≡ pair ∷ rest = next_left directed pairs index lt ∙ rw fresh refl in
+    let left : each_once_after directed (take index pairs) (drop index pairs) ≡ pair ∷ rest = next_left directed pairs index lt
+    ∙ rw fresh refl in
     ap (λ (ds : List Decision). ds ++ take_pairs rest) more
     ∙ append_assoc taken (take_pairs (pair ∷ [])) (take_pairs rest)
     ∙ ap (λ (xs : List (ℕ × ℕ)). taken ++ take_pairs xs) (sym left) ∙ so_far
@@ -243,4 +272,5 @@ pub taken_all : (directed : Bool) (pairs : List (ℕ × ℕ)) (taken : List Deci
     → IsTakenSoFar directed pairs taken index → taken ≡ take_pairs (each_once directed pairs)
 taken_all directed pairs taken index past so_far =
     let none : drop index pairs ≡ [] = drop_all index pairs past in
-    sym (append-nil taken) ∙ ap (λ (xs : List (ℕ × ℕ)). taken ++ take_pairs (each_once_after directed (take index pairs) xs)) (sym none) ∙ so_far ∙ ap take_pairs (once_all directed pairs)
+    sym (append-nil taken) ∙ ap (λ (xs : List (ℕ × ℕ)). taken ++ take_pairs (each_once_after directed (take index pairs) xs))
+    (sym none) ∙ so_far ∙ ap take_pairs (once_all directed pairs)

@@ -27,7 +27,8 @@ pub are_potentials : (pot : Fields) (scale : ℤ) (numbers : List ℤ) (triples 
 are_potentials pot scale numbers triples held = record { scale_is = held.scaled; numbers_are = held.each_number.1 }
 
 pub are_multipliers : (pot : Fields) (triples : List (ℕ × ℕ × ℤ)) → AreMultipliersIn pot triples → AreMultipliers triples
-are_multipliers pot triples held = record { few = held.few; each = λ k d lt. let triple = held.each k d lt in (triple.0.2, triple.1) }
+are_multipliers pot triples held =
+    record { few = held.few; each = λ k d lt. let triple = held.each k d lt in (triple.0.2, triple.1) }
 
 pub multiplied_nodes : (pot : Fields) (triples : List (ℕ × ℕ × ℤ)) → AreMultipliersIn pot triples
     → All (λ triple. IsNode (nodes_of pot) triple.0 × IsNode (nodes_of pot) triple.1) triples

@@ -31,8 +31,10 @@ set_read (x ∷ next) zero value (suc a) lt = inr (λ e. omega (arith, e), refl)
 set_read (x ∷ next) (suc at) value zero lt = inr (λ e. omega (arith, e), refl)
 set_read (x ∷ next) (suc at) value (suc a) lt = further (set_read next at value a (omega (arith, lt)))
   where
-    further : ((a ≡ at) × (get_or (set next at value) a 0 ≡ value)) ⊎ ((a ≢ at) × (get_or (set next at value) a 0 ≡ get_or next a 0))
-        → ((suc a ≡ suc at) × (get_or (set next at value) a 0 ≡ value)) ⊎ ((suc a ≢ suc at) × (get_or (set next at value) a 0 ≡ get_or next a 0))
+    further : ((a ≡ at) × (get_or (set next at value) a 0 ≡ value))
+        ⊎ ((a ≢ at) × (get_or (set next at value) a 0 ≡ get_or next a 0))
+        → ((suc a ≡ suc at) × (get_or (set next at value) a 0 ≡ value))
+        ⊎ ((suc a ≢ suc at) × (get_or (set next at value) a 0 ≡ get_or next a 0))
     further (inl h) = inl (ap suc h.0, h.1)
     further (inr h) = inr (λ e. h.0 (omega (arith, e)), h.1)
 
@@ -57,7 +59,8 @@ set_more firsts seconds next count inside fits once m = record {
     new : List ℕ
     new = set next (get_or firsts count 0) (get_or seconds count 0)
 
-    read_at : (k : ℕ) → (k ≡ count) ⊎ (k < count) → ((get_or firsts k 0 ≡ get_or firsts count 0) × (get_or new (get_or firsts k 0) 0 ≡ get_or seconds count 0))
+    read_at : (k : ℕ) → (k ≡ count) ⊎ (k < count)
+        → ((get_or firsts k 0 ≡ get_or firsts count 0) × (get_or new (get_or firsts k 0) 0 ≡ get_or seconds count 0))
         ⊎ ((get_or firsts k 0 ≢ get_or firsts count 0) × (get_or new (get_or firsts k 0) 0 ≡ get_or next (get_or firsts k 0) 0))
         → get_or new (get_or firsts k 0) 0 ≡ get_or seconds k 0
     read_at k (inl e) (inl h) = h.1 ∙ ap (λ j. get_or seconds j 0) (sym e)
@@ -69,9 +72,11 @@ set_more firsts seconds next count inside fits once m = record {
     set_at k place = read_at k place (set_read next (get_or firsts count 0) (get_or seconds count 0) (get_or firsts k 0) fits)
 
     only_at : (a b : ℕ) → 1 ≤ b → get_or new a 0 ≡ b → ((a ≡ get_or firsts count 0) × (get_or new a 0 ≡ get_or seconds count 0))
-        ⊎ ((a ≢ get_or firsts count 0) × (get_or new a 0 ≡ get_or next a 0)) → (k : ℕ) × (k < count + 1) × (get_or firsts k 0 ≡ a) × (get_or seconds k 0 ≡ b)
+        ⊎ ((a ≢ get_or firsts count 0) × (get_or new a 0 ≡ get_or next a 0))
+        → (k : ℕ) × (k < count + 1) × (get_or firsts k 0 ≡ a) × (get_or seconds k 0 ≡ b)
     only_at a b some is (inl h) = (count, omega arith, sym h.0, sym h.1 ∙ is)
-    only_at a b some is (inr h) = let found = m.only a b some (sym h.1 ∙ is) in (found.0, omega (arith, found.1), found.2, found.3)
+    only_at a b some is (inr h) = let found = m.only a b some (sym h.1 ∙ is) in
+        (found.0, omega (arith, found.1), found.2, found.3)
 
 -- with all links in it the table says what comes next
 pub are_next : (first : ℕ) (others next : List ℕ) → SetUpTo (first ∷ others) (others ++ first ∷ []) next (suc (length others))
@@ -79,7 +84,8 @@ pub are_next : (first : ℕ) (others next : List ℕ) → SetUpTo (first ∷ oth
 are_next first others next m = record {
   follows = λ a b found.
       let lt : found.0 < suc (length others) = omega (arith, found.1, link_count first first others) in
-      let pair : (get_or (first ∷ others) found.0 0, get_or (others ++ first ∷ []) found.0 0) ≡ (a, b) = sym (link_at first first others found.0 (a, b) lt) ∙ found.2 in
+      let pair : (get_or (first ∷ others) found.0 0, get_or (others ++ first ∷ []) found.0 0) ≡ (a, b) =
+      sym (link_at first first others found.0 (a, b) lt) ∙ found.2 in
       let from : get_or (first ∷ others) found.0 0 ≡ a = ap (λ (p : ℕ × ℕ). p.0) pair in
       let to : get_or (others ++ first ∷ []) found.0 0 ≡ b = ap (λ (p : ℕ × ℕ). p.1) pair in
       ap (λ v. get_or next v 0) (sym from) ∙ m.set_to found.0 lt ∙ to;
@@ -119,7 +125,9 @@ pub set_next : (n first : ℕ) (others next : List ℕ) (index from value : ℕ)
     → SetUpTo (first ∷ others) (others ++ first ∷ []) next index
     → SetUpTo (first ∷ others) (others ++ first ∷ []) (set next from value) (index + 1)
 set_next n first others next index from value cycle lt wide from_is value_is m =
-    let fits : get_or (first ∷ others) index 0 < length next = from_in n first others index (get_or (first ∷ others) index 0) (length next) cycle lt refl wide in
+    let fits : get_or (first ∷ others) index 0 < length next =
+    from_in n first others index (get_or (first ∷ others) index 0) (length next) cycle lt refl wide in
     subst (λ (v : ℕ). SetUpTo (first ∷ others) (others ++ first ∷ []) (set next v value) (index + 1)) (sym from_is)
-    (subst (λ (v : ℕ). SetUpTo (first ∷ others) (others ++ first ∷ []) (set next (get_or (first ∷ others) index 0) v) (index + 1)) (sym value_is)
+    (subst (λ (v : ℕ). SetUpTo (first ∷ others) (others ++ first ∷ []) (set next (get_or (first ∷ others) index 0) v) (index + 1))
+    (sym value_is)
     (set_more (first ∷ others) (others ++ first ∷ []) next index lt fits cycle.once m))

@@ -51,11 +51,13 @@ mark_more nodes seen count fits free m = record {
   once = λ place low high. once_at place low (last_or_before place count high);
 }
   where
-    marked_at : (place : ℕ) → 1 ≤ place → (place ≡ count + 1) ⊎ (place ≤ count) → get_or (set seen (get_or nodes count 0) true) (node_at nodes place) false ≡ true
+    marked_at : (place : ℕ) → 1 ≤ place → (place ≡ count + 1) ⊎ (place ≤ count)
+        → get_or (set seen (get_or nodes count 0) true) (node_at nodes place) false ≡ true
     marked_at place low (inl e) = rw (here nodes place count e) (set_marks seen (get_or nodes count 0) fits)
     marked_at place low (inr le) = set_keeps seen (get_or nodes count 0) (node_at nodes place) (m.marked place low le)
 
-    only_at : (node : ℕ) → (node ≡ get_or nodes count 0) ⊎ (get_or seen node false ≡ true) → (place : ℕ) × (1 ≤ place) × (place ≤ count + 1) × (node_at nodes place ≡ node)
+    only_at : (node : ℕ) → (node ≡ get_or nodes count 0) ⊎ (get_or seen node false ≡ true)
+        → (place : ℕ) × (1 ≤ place) × (place ≤ count + 1) × (node_at nodes place ≡ node)
     only_at node (inl e) = (count + 1, omega arith, omega arith, here nodes (count + 1) count refl ∙ sym e)
     only_at node (inr h) = let found = m.only node h in (found.0, found.1, omega (arith, found.2), found.3)
 
@@ -107,7 +109,8 @@ mark_next nodes piece seen before index stands lt fits free m =
     let more : Marked nodes (set seen (get_or nodes (before + index) 0) true) (before + index + 1) =
     mark_more nodes seen (before + index) fits_there (ap (λ k. get_or seen k false) same ∙ free) m in
     let count : before + index + 1 ≡ before + (index + 1) = omega arith in
-    subst (λ k. Marked nodes (set seen (get_or piece index 0) true) k) count (subst (λ v. Marked nodes (set seen v true) (before + index + 1)) same more)
+    subst (λ k. Marked nodes (set seen (get_or piece index 0) true) k) count
+    (subst (λ v. Marked nodes (set seen v true) (before + index + 1)) same more)
 
 -- the next node of a piece is marked
 pub repeated_next : (nodes piece : List ℕ) (seen : List Bool) (before index : ℕ) → StandsAfter before nodes piece
@@ -116,7 +119,8 @@ pub repeated_next : (nodes piece : List ℕ) (seen : List Bool) (before index : 
 repeated_next nodes piece seen before index stands lt taken m =
     let same : get_or nodes (before + index) 0 ≡ get_or piece index 0 = stands.same index lt in
     let inside : before + index < length nodes = omega (arith, stands.inside, lt) in
-    let first : IsFirstPlace (IsAtEarlierPlace nodes) nodes (before + index + 1) = repeated_here nodes seen (before + index) inside (ap (λ k. get_or seen k false) same ∙ taken) m in
+    let first : IsFirstPlace (IsAtEarlierPlace nodes) nodes (before + index + 1) =
+    repeated_here nodes seen (before + index) inside (ap (λ k. get_or seen k false) same ∙ taken) m in
     let count : before + index + 1 ≡ before + (index + 1) = omega arith in
     subst (λ k. IsFirstPlace (IsAtEarlierPlace nodes) nodes k) count first
 
@@ -130,7 +134,8 @@ stands_whole nodes = record {
 -- what was found from the first place on
 pub found_whole : (nodes : List ℕ) (seen : List Bool) (found : Option ℕ)
     → MatchOption found (Marked nodes seen (0 + length nodes)) (λ place. IsFirstPlace (IsAtEarlierPlace nodes) nodes (0 + place))
-    → MatchOption found (HoldsAtNone (IsAtEarlierPlace nodes) (length nodes)) (λ place. IsFirstPlace (IsAtEarlierPlace nodes) nodes place)
+    → MatchOption found (HoldsAtNone (IsAtEarlierPlace nodes) (length nodes))
+    (λ place. IsFirstPlace (IsAtEarlierPlace nodes) nodes place)
 found_whole nodes seen None m = λ place low high. m.once place low (omega (arith, high))
 found_whole nodes seen (Some place) first = subst (λ k. IsFirstPlace (IsAtEarlierPlace nodes) nodes k) (omega arith) first
 
@@ -141,17 +146,23 @@ all_apart xs once i j d before inside same =
     let second : node_at xs (suc j) ≡ get_or xs j 0 = ap (λ k. get_or xs k 0) (omega arith) in
     let first_is : get_or xs i d ≡ get_or xs i 0 = get_or_default xs i d 0 (omega (arith, before, inside)) in
     let second_is : get_or xs j d ≡ get_or xs j 0 = get_or_default xs j d 0 inside in
-    once (suc j) (omega arith) (omega (arith, inside)) (suc i, omega arith, omega (arith, before), first ∙ sym first_is ∙ same ∙ second_is ∙ sym second)
+    once (suc j) (omega arith) (omega (arith, inside))
+    (suc i, omega arith, omega (arith, before), first ∙ sym first_is ∙ same ∙ second_is ∙ sym second)
 
 -- a node is marked exactly where the list has it
 pub marked_there : (nodes : List ℕ) (seen : List Bool) (node : ℕ) → Marked nodes seen (length nodes)
     → get_or seen node false ≡ true → Contains nodes node
 marked_there nodes seen node m is =
-    let found = m.only node is in
-    (found.0 - 1, omega (arith, found.1, found.2), get_or_default nodes (found.0 - 1) node 0 (omega (arith, found.1, found.2)) ∙ found.3)
+    let found = m.only node is in (
+      found.0 - 1,
+      omega (arith, found.1, found.2),
+      get_or_default nodes (found.0 - 1) node 0 (omega (arith, found.1, found.2))
+          ∙ found.3,
+    )
 
 pub there_marked : (nodes : List ℕ) (seen : List Bool) (node : ℕ) → Marked nodes seen (length nodes) → Contains nodes node
     → get_or seen node false ≡ true
 there_marked nodes seen node m there =
-    let place : node_at nodes (suc there.0) ≡ node = ap (λ k. get_or nodes k 0) (omega arith) ∙ get_or_default nodes there.0 0 node there.1 ∙ there.2 in
+    let place : node_at nodes (suc there.0) ≡ node = ap (λ k. get_or nodes k 0) (omega arith)
+    ∙ get_or_default nodes there.0 0 node there.1 ∙ there.2 in
     subst (λ v. get_or seen v false ≡ true) place (m.marked (suc there.0) (omega arith) (omega (arith, there.1)))

@@ -55,7 +55,8 @@ asymmetric_by_rank n cost i j carried one other =
 pub tours_by_rank : (inst sol : Fields) → IsOneByRank (StandsAgainstTour inst sol)
 tours_by_rank inst sol NotASolution carried one other = refl
 tours_by_rank inst sol TooFewNodes carried one other = refl
-tours_by_rank inst sol (NotSymmetric i j) carried one other = asymmetric_by_rank (nodes_of inst) (cost inst) i j carried one.1 other.1
+tours_by_rank inst sol (NotSymmetric i j) carried one other =
+    asymmetric_by_rank (nodes_of inst) (cost inst) i j carried one.1 other.1
 tours_by_rank inst sol Dimension carried one other = refl
 tours_by_rank inst sol TourCount carried one other = refl
 tours_by_rank inst sol TourLength carried one other = refl
@@ -87,7 +88,8 @@ tours_by_rank inst sol (BadLeaf i) carried one other = absurd one
 pub instances_by_rank : (inst : Fields) → IsOneByRank (StandsAgainstInstance inst)
 instances_by_rank inst NotASolution carried one other = absurd one
 instances_by_rank inst TooFewNodes carried one other = refl
-instances_by_rank inst (NotSymmetric i j) carried one other = asymmetric_by_rank (nodes_of inst) (cost inst) i j carried one.1 other.1
+instances_by_rank inst (NotSymmetric i j) carried one other =
+    asymmetric_by_rank (nodes_of inst) (cost inst) i j carried one.1 other.1
 instances_by_rank inst Dimension carried one other = absurd one
 instances_by_rank inst TourCount carried one other = absurd one
 instances_by_rank inst TourLength carried one other = absurd one
@@ -145,7 +147,8 @@ routings_by_rank inst (BadLeaf i) carried one other = absurd one
 
 -- ---- against routes
 
-one_unserved : (n depot : ℕ) (nodes : List ℕ) (a b : ℕ) → IsFirstUnserved n depot nodes a → IsFirstUnserved n depot nodes b → a ≡ b
+one_unserved : (n depot : ℕ) (nodes : List ℕ) (a b : ℕ) → IsFirstUnserved n depot nodes a → IsFirstUnserved n depot nodes b
+    → a ≡ b
 one_unserved n depot nodes a b one other = elim (cases_order a b) [
   | inl same ↦ same
   | inr (inl less) ↦ absurd (one.unserved (other.first a one.customer less))
@@ -196,8 +199,10 @@ one_breaking : (inst pot : Fields) (a b i j : ℕ) → BreaksDuals inst pot a b 
 one_breaking inst pot a b i j one other =
     let rows = one_value pot.row_potentials other.rows one.rows other.rows_are one.rows_are in
     let columns = one_value pot.column_potentials other.columns one.columns other.columns_are one.columns_are in
-    let of_rows = subst (λ rows. IsFirstBroken (nodes_of inst) (cost inst) (scale_in pot) rows other.columns i j) rows other.first in
-    let of_both = subst (λ columns. IsFirstBroken (nodes_of inst) (cost inst) (scale_in pot) one.rows columns i j) columns of_rows in
+    let of_rows = subst (λ rows. IsFirstBroken (nodes_of inst) (cost inst) (scale_in pot) rows other.columns i j) rows
+    other.first in
+    let of_both = subst (λ columns. IsFirstBroken (nodes_of inst) (cost inst) (scale_in pot) one.rows columns i j) columns
+    of_rows in
     one_broken (nodes_of inst) (cost inst) (scale_in pot) one.rows one.columns a b i j one.first of_both
 
 broken_by_rank : (inst pot : Fields) (i j : ℕ) (carried : Carried) → BreaksDuals inst pot i j
@@ -226,8 +231,10 @@ potentials_by_rank inst pot (LengthClaimed i) carried one other = absurd one
 potentials_by_rank inst pot NotPotentials carried one other = refl
 potentials_by_rank inst pot PotentialsDimension carried one other = refl
 potentials_by_rank inst pot PotentialsKind carried one other = refl
-potentials_by_rank inst pot (MultiplierNotFixed i) carried one other = ap MultiplierNotFixed (one_place _ _ i carried.0 one.1 other.1)
-potentials_by_rank inst pot (MultiplierRepeated i) carried one other = ap MultiplierRepeated (one_place _ _ i carried.0 one.1 other.1)
+potentials_by_rank inst pot (MultiplierNotFixed i) carried one other =
+    ap MultiplierNotFixed (one_place _ _ i carried.0 one.1 other.1)
+potentials_by_rank inst pot (MultiplierRepeated i) carried one other =
+    ap MultiplierRepeated (one_place _ _ i carried.0 one.1 other.1)
 potentials_by_rank inst pot (DualInfeasible i j) carried one other = broken_by_rank inst pot i j carried one.1 other.1
 potentials_by_rank inst pot NotBranches carried one other = absurd one
 potentials_by_rank inst pot BranchesDimension carried one other = absurd one
@@ -304,7 +311,8 @@ trees_by_rank unique inst tree NotBranches carried one other = refl
 trees_by_rank unique inst tree BranchesDimension carried one other = refl
 trees_by_rank unique inst tree (BadComb i) carried one other = ap BadComb (one_place _ _ i carried.0 one other)
 trees_by_rank unique inst tree (BranchTwice i) carried one other = ap BranchTwice (twice_by_rank inst tree i carried.0 one other)
-trees_by_rank unique inst tree (BadLeaf i) carried one other = ap BadLeaf (bad_leaf_by_rank unique inst tree i carried.0 one other)
+trees_by_rank unique inst tree (BadLeaf i) carried one other =
+    ap BadLeaf (bad_leaf_by_rank unique inst tree i carried.0 one other)
 
 -- ---- against either of two: a reason of one rank applies to one of them alone
 
@@ -324,7 +332,8 @@ either_by_rank One Other apart again one other reason carried (inr a) (inl b) = 
 either_by_rank One Other apart again one other reason carried (inr a) (inr b) = other reason carried a b
 
 -- plan: by the certificate and the reason: none is one of tours and of certificates
-tour_apart : (by : Certificate) (inst sol cert : Fields) → AreApart (StandsAgainstTour inst sol) (StandsAgainstCertificate by inst cert)
+tour_apart : (by : Certificate) (inst sol cert : Fields)
+    → AreApart (StandsAgainstTour inst sol) (StandsAgainstCertificate by inst cert)
 tour_apart Potentials inst sol cert NotASolution carried one other = absurd other
 tour_apart Potentials inst sol cert TooFewNodes carried one other = absurd other
 tour_apart Potentials inst sol cert (NotSymmetric i j) carried one other = absurd other
@@ -381,7 +390,8 @@ tour_apart Branches inst sol cert (BranchTwice i) carried one other = absurd one
 tour_apart Branches inst sol cert (BadLeaf i) carried one other = absurd one
 
 -- plan: by the certificate and the reason: none is one of certificates and of tours
-certificate_apart : (by : Certificate) (inst sol cert : Fields) → AreApart (StandsAgainstCertificate by inst cert) (StandsAgainstTour inst sol)
+certificate_apart : (by : Certificate) (inst sol cert : Fields)
+    → AreApart (StandsAgainstCertificate by inst cert) (StandsAgainstTour inst sol)
 certificate_apart Potentials inst sol cert NotASolution carried one other = absurd one
 certificate_apart Potentials inst sol cert TooFewNodes carried one other = absurd one
 certificate_apart Potentials inst sol cert (NotSymmetric i j) carried one other = absurd one

@@ -73,7 +73,8 @@ one_least total capacity a b one other =
 three : {X Y Z W : Type 0} (f : X → Y → Z → W) (x p : X) (y q : Y) (z r : Z) → x ≡ p → y ≡ q → z ≡ r → f x y z ≡ f p q r
 three f x p y q z r first second third = ap (λ x. f x y z) first ∙ ap₂ (λ y z. f p y z) second third
 
-one_routes : (inst sol : Fields) (one other : Verdict) → IsRoutesVerdict inst sol one → IsRoutesVerdict inst sol other → one ≡ other
+one_routes : (inst sol : Fields) (one other : Verdict) → IsRoutesVerdict inst sol one → IsRoutesVerdict inst sol other
+    → one ≡ other
 one_routes inst sol (No a) (No b) one other =
     ap No (one_first (StandsAgainstRoutes inst sol) (routes_by_rank inst sol) a b one other)
 one_routes inst sol (No a) (Routes found routes least) one other = absurd (other.0 a one.stands)
@@ -119,7 +120,8 @@ one_by_nodes : (inst pot : Fields) (a b : ℤ) → IsBoundByNodes inst pot a →
 one_by_nodes inst pot a b one other =
     let same = one_value pot.node_potentials other.potentials one.potentials other.potentials_are one.potentials_are in
     one_adjusted (nodes_of inst) (cost inst) (scale_in pot) one.potentials (multipliers_in pot) [] a b one.of_tree
-    (subst (λ numbers. IsAdjustedBound (nodes_of inst) (cost inst) (scale_in pot) numbers (multipliers_in pot) [] b) same other.of_tree)
+    (subst (λ numbers. IsAdjustedBound (nodes_of inst) (cost inst) (scale_in pot) numbers (multipliers_in pot) [] b) same
+    other.of_tree)
 
 one_by_duals : (inst pot : Fields) (a b : ℤ) → IsBoundByDuals inst pot a → IsBoundByDuals inst pot b → a ≡ b
 one_by_duals inst pot a b one other =
@@ -129,15 +131,18 @@ one_by_duals inst pot a b one other =
     let of_both = subst (λ numbers. IsDualBound (scale_in pot) one.rows numbers b) columns of_rows in
     one_sum_bound (scale_in pot) _ a b one.of_duals of_both
 
-one_by_tree : Laws → (inst tree : Fields) (a b : Option ℤ) → HasBoundByBranches inst tree a → HasBoundByBranches inst tree b → a ≡ b
+one_by_tree : Laws → (inst tree : Fields) (a b : Option ℤ) → HasBoundByBranches inst tree a → HasBoundByBranches inst tree b
+    → a ≡ b
 one_by_tree laws inst tree a b one other =
-    let Bounds : List Crossings → List listed.Step → Type 0 = λ crossed steps. IsCaseTreeBound (is_directed inst.kind) (nodes_of inst) (cost inst)
+    let Bounds : List Crossings → List listed.Step → Type 0 =
+    λ crossed steps. IsCaseTreeBound (is_directed inst.kind) (nodes_of inst) (cost inst)
     (scale_in tree) decided_number (families_with_numbers tree crossed) (given_in inst) (case_steps_in inst tree steps) b in
     let steps = one_value tree.branches other.steps one.steps other.steps_are one.steps_are in
     let crossed = one_crossed laws.numbers inst tree other.crossed one.crossed other.numbers one.numbers in
     let of_steps : Bounds other.crossed one.steps = subst (λ steps. Bounds other.crossed steps) steps other.bound in
     let moved : Bounds one.crossed one.steps = subst (λ crossed. Bounds crossed one.steps) crossed of_steps in
-    laws.leaves (is_directed inst.kind) (nodes_of inst) (cost inst) (scale_in tree) decided_number (families_with_numbers tree one.crossed)
+    laws.leaves (is_directed inst.kind) (nodes_of inst) (cost inst) (scale_in tree) decided_number
+    (families_with_numbers tree one.crossed)
     (given_in inst) (case_steps_in inst tree one.steps) a b one.bound moved
 
 of_some : (a b : ℤ) → Some a ≡ Some b → a ≡ b
@@ -152,8 +157,10 @@ one_bound_by laws Potentials (Some kinds.Tour) inst cert a b one other = absurd 
 one_bound_by laws Potentials (Some kinds.Potentials) inst cert a b one other = absurd one
 one_bound_by laws Potentials (Some kinds.Branches) inst cert a b one other = absurd one
 one_bound_by laws Potentials None inst cert a b one other = absurd one
-one_bound_by laws Branches (Some kinds.Tsp) inst cert a b one other = of_some a b (one_by_tree laws inst cert (Some a) (Some b) one other)
-one_bound_by laws Branches (Some kinds.Atsp) inst cert a b one other = of_some a b (one_by_tree laws inst cert (Some a) (Some b) one other)
+one_bound_by laws Branches (Some kinds.Tsp) inst cert a b one other =
+    of_some a b (one_by_tree laws inst cert (Some a) (Some b) one other)
+one_bound_by laws Branches (Some kinds.Atsp) inst cert a b one other =
+    of_some a b (one_by_tree laws inst cert (Some a) (Some b) one other)
 one_bound_by laws Branches (Some kinds.Cvrp) inst cert a b one other = absurd one
 one_bound_by laws Branches (Some kinds.Tour) inst cert a b one other = absurd one
 one_bound_by laws Branches (Some kinds.Potentials) inst cert a b one other = absurd one
@@ -215,7 +222,8 @@ one_certified laws by inst sol cert (Routes length routes least) other is none =
 one_unclaimed : Laws → (given : Option (Certificate × Fields)) (inst sol : Fields) (one other : Verdict)
     → IsUnclaimedVerdict given inst sol one → IsUnclaimedVerdict given inst sol other → one ≡ other
 one_unclaimed laws None inst sol one other first second = one_alone inst sol one other first second
-one_unclaimed laws (Some given) inst sol one other first second = one_certified laws given.0 inst sol given.1 one other first second
+one_unclaimed laws (Some given) inst sol one other first second =
+    one_certified laws given.0 inst sol given.1 one other first second
 
 -- ---- with a claimed length
 
@@ -230,12 +238,14 @@ one_length inst sol a b one other =
     same_length one.0 a b one.2 (subst (λ verdict. HasLength verdict b) same other.2)
 
 -- a solution that has a length isn't rejected on its own
-never_refused : (inst sol : Fields) (length : ℤ) (reason : Reason) → IsOfLength inst sol length → IsVerdictOn inst sol (No reason) → ⊥
+never_refused : (inst sol : Fields) (length : ℤ) (reason : Reason) → IsOfLength inst sol length → IsVerdictOn inst sol (No reason)
+    → ⊥
 never_refused inst sol length reason one refused =
     subst (λ verdict. HasLength verdict length) (one_alone inst sol one.0 (No reason) one.1 refused) one.2
 
 -- an accepted solution with a certificate is accepted on its own
-tour_by_kind : (by : Certificate) (kind : Option Kind) (inst sol cert : Fields) (least length : ℤ) → IsBoundBy by kind inst cert least
+tour_by_kind : (by : Certificate) (kind : Option Kind) (inst sol cert : Fields) (least length : ℤ)
+    → IsBoundBy by kind inst cert least
     → IsTourVerdict inst sol (Tour length None) → IsVerdictBy kind inst sol (Tour length None)
 tour_by_kind by (Some kinds.Tsp) inst sol cert least length bound tour = tour
 tour_by_kind by (Some kinds.Atsp) inst sol cert least length bound tour = tour
@@ -250,7 +260,8 @@ tour_by_kind Branches (Some kinds.Potentials) inst sol cert least length bound t
 tour_by_kind Branches (Some kinds.Branches) inst sol cert least length bound tour = absurd bound
 tour_by_kind Branches None inst sol cert least length bound tour = absurd bound
 
-accepted_alone : (given : Option (Certificate × Fields)) (inst sol : Fields) (verdict : Verdict) (length : ℤ) → HasLength verdict length
+accepted_alone : (given : Option (Certificate × Fields)) (inst sol : Fields) (verdict : Verdict) (length : ℤ)
+    → HasLength verdict length
     → IsUnclaimedVerdict given inst sol verdict → IsOfLength inst sol length
 accepted_alone None inst sol verdict length has accepted = (verdict, accepted, has)
 accepted_alone (Some given) inst sol (Tour measured bound) length has accepted = (
@@ -273,7 +284,8 @@ none_against (Some given) inst sol (Tour measured bound) length reason has accep
 none_against (Some given) inst sol (Routes measured routes least) length reason has accepted first = accepted
 none_against (Some given) inst sol (No other) length reason has accepted first = has
 
-never_both : (claim : ℤ) (given : Option (Certificate × Fields)) (inst sol : Fields) (reason : Reason) (verdict : Verdict) (length : ℤ)
+never_both : (claim : ℤ) (given : Option (Certificate × Fields)) (inst sol : Fields) (reason : Reason) (verdict : Verdict)
+    (length : ℤ)
     → HasLength verdict length → IsClaimedVerdict claim given inst sol (No reason) → IsUnclaimedVerdict given inst sol verdict
     → claim ≡ length → ⊥
 never_both claim given inst sol reason verdict length has (inl refused) accepted is =
@@ -283,11 +295,13 @@ never_both claim given inst sol reason verdict length has (inr (inl other)) acce
 never_both claim given inst sol reason verdict length has (inr (inr against)) accepted is =
     none_against given inst sol verdict length reason has accepted against.1
 
-one_against_given : Laws → (given : Option (Certificate × Fields)) (inst : Fields) (a b : Reason) → IsFirstAgainstGiven given inst a
+one_against_given : Laws → (given : Option (Certificate × Fields)) (inst : Fields) (a b : Reason)
+    → IsFirstAgainstGiven given inst a
     → IsFirstAgainstGiven given inst b → a ≡ b
 one_against_given laws None inst a b one other = absurd one
 one_against_given laws (Some given) inst a b one other =
-    one_first (StandsAgainstCertificate given.0 inst given.1) (certificates_by_rank laws.numbers given.0 inst given.1) a b one other
+    one_first (StandsAgainstCertificate given.0 inst given.1) (certificates_by_rank laws.numbers given.0 inst given.1) a b one
+    other
 
 one_refused : Laws → (claim : ℤ) (given : Option (Certificate × Fields)) (inst sol : Fields) (a b : Reason)
     → IsClaimedVerdict claim given inst sol (No a) → IsClaimedVerdict claim given inst sol (No b) → No a ≡ No b
@@ -361,7 +375,8 @@ one_of_routes inst (bases.No reason) (bases.Routes least) one other = absurd (ot
 one_of_routes inst (bases.No a) (bases.No b) one other =
     ap bases.No (one_first (StandsAgainstRouting inst) (routings_by_rank inst) a b one other)
 
-one_basis_alone : (kind : Option Kind) (inst : Fields) (one other : Basis) → IsBasisAlone kind inst one → IsBasisAlone kind inst other
+one_basis_alone : (kind : Option Kind) (inst : Fields) (one other : Basis) → IsBasisAlone kind inst one
+    → IsBasisAlone kind inst other
     → one ≡ other
 one_basis_alone (Some kinds.Tsp) inst one other first second = one_of_tours inst one other first second
 one_basis_alone (Some kinds.Atsp) inst one other first second = one_of_tours inst one other first second

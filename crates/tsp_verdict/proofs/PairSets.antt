@@ -25,7 +25,8 @@ pub has_more : {X : Type 0} (pair_in : X → ℕ × ℕ) (s n : BTreeSet (ℕ ×
     → Updates pair_cmp s n (undirected (pair_in (get_or xs i d))) true
     → HasPairs pair_in s (take i xs) → HasPairs pair_in n (take (i + 1) xs)
 has_more pair_in s n xs i d lt updates has = λ pair.
-    let here : is_at (pair_cmp (undirected (pair_in (get_or xs i d)))) (undirected pair) ≡ is_same_pair pair (pair_in (get_or xs i d)) = same_keys (pair_in (get_or xs i d)) pair in
+    let here : is_at (pair_cmp (undirected (pair_in (get_or xs i d)))) (undirected pair) ≡ is_same_pair pair
+    (pair_in (get_or xs i d)) = same_keys (pair_in (get_or xs i d)) pair in
     updates.0 (undirected pair) ∙ ap₂ (λ a b. cond a true b) here (has pair)
     ∙ cond_or (is_same_pair pair (pair_in (get_or xs i d))) (list_any (λ x. is_same_pair pair (pair_in x)) (take i xs))
     ∙ sym (list_any_more (λ x. is_same_pair pair (pair_in x)) xs i d lt)
@@ -46,7 +47,8 @@ listed pairs pair h =
           inr (found.0, found.2, get_or_default pairs found.0 (pair.1, pair.0) found.1 found.2 ∙ found.3 ∙ s)
     ]
 
-found_listed : (pairs : List (ℕ × ℕ)) (pair : ℕ × ℕ) → IsListedEitherWay pairs pair → list_any (λ x. is_same_pair pair x) pairs ≡ true
+found_listed : (pairs : List (ℕ × ℕ)) (pair : ℕ × ℕ) → IsListedEitherWay pairs pair
+    → list_any (λ x. is_same_pair pair x) pairs ≡ true
 found_listed pairs pair (inl at) =
     list_any_at (λ x. is_same_pair pair x) pairs at.0 pair at.1 (rw at.2 (straight pair pair refl refl))
 found_listed pairs pair (inr at) =
@@ -81,7 +83,8 @@ none = (0, 0, pos 0)
 
 abbrev pub AreApart : List (ℕ × ℕ × ℤ) → ℕ → Type 0
 AreApart triples count =
-    (i j : ℕ) → i < j → j < count → is_same_pair (pair_of (get_or triples i (0, 0, pos 0))) (pair_of (get_or triples j (0, 0, pos 0))) ≡ false
+    (i j : ℕ) → i < j → j < count → is_same_pair (pair_of (get_or triples i (0, 0, pos 0)))
+    (pair_of (get_or triples j (0, 0, pos 0))) ≡ false
 
 at_place : (triples : List (ℕ × ℕ × ℤ)) (k : ℕ) → pair_at triples (k + 1) ≡ pair_of (get_or triples k none)
 at_place triples k = let e : (k + 1) - 1 ≡ k = omega arith in ap (λ m. pair_of (get_or triples m none)) e
@@ -95,13 +98,21 @@ repeated_pair triples s i lt has apart there =
     let pair = pair_of (get_or triples i none) in
     let found = Any-from_list_any (λ x. is_same_pair pair (pair_of x)) (take i triples) (sym (has pair) ∙ there) in
     let low : found.0 < i = omega (arith, found.2, length-take-le i triples (omega (arith, lt))) in
-    let same : get_or triples found.0 none ≡ found.1 = get_or_default triples found.0 none found.1 (omega (arith, low, lt)) ∙ sym (get_or-take i triples found.0 found.1 low) ∙ found.3 in
-    let known : is_same_pair (pair_of (get_or triples found.0 none)) pair ≡ true = ap (λ x. is_same_pair (pair_of x) pair) same ∙ same_turn (pair_of found.1) pair ∙ found.4 in
+    let same : get_or triples found.0 none ≡ found.1 = get_or_default triples found.0 none found.1 (omega (arith, low, lt))
+    ∙ sym (get_or-take i triples found.0 found.1 low) ∙ found.3 in
+    let known : is_same_pair (pair_of (get_or triples found.0 none)) pair ≡ true = ap (λ x. is_same_pair (pair_of x) pair) same
+    ∙ same_turn (pair_of found.1) pair ∙ found.4 in
     record {
       here = (omega arith, omega (arith, lt));
-      holds = (found.0 + 1, omega arith, omega (arith, low), ap₂ (λ p q. is_same_pair p q) (at_place triples found.0) (at_place triples i) ∙ known);
+      holds = (
+        found.0 + 1,
+        omega arith,
+        omega (arith, low),
+        ap₂ (λ p q. is_same_pair p q) (at_place triples found.0) (at_place triples i) ∙ known,
+      );
       first = λ earlier from before again.
-          let e : is_same_pair (pair_at triples again.0) (pair_at triples earlier) ≡ false = apart (again.0 - 1) (earlier - 1) (omega (arith, again.1, again.2)) (omega (arith, before, from)) in
+          let e : is_same_pair (pair_at triples again.0) (pair_at triples earlier) ≡ false =
+          apart (again.0 - 1) (earlier - 1) (omega (arith, again.1, again.2)) (omega (arith, before, from)) in
           false≢true (sym e ∙ again.3);
     }
 
@@ -133,7 +144,8 @@ apart_more triples s i lt has apart lacks k j before inside = elim (cases_lt j i
 pub apart_all : (triples : List (ℕ × ℕ × ℤ)) → AreApart triples (length triples)
     → AllPairs (λ s t. is_same_pair (pair_of s) (pair_of t) ≡ false) triples
 apart_all triples apart i j d before inside =
-    ap₂ (λ s t. is_same_pair (pair_of s) (pair_of t)) (get_or_default triples i d none (omega (arith, before, inside))) (get_or_default triples j d none inside) ∙ apart i j before inside
+    ap₂ (λ s t. is_same_pair (pair_of s) (pair_of t)) (get_or_default triples i d none (omega (arith, before, inside)))
+    (get_or_default triples j d none inside) ∙ apart i j before inside
 
 -- ---- of triples whose pairs are looked up
 
@@ -144,8 +156,10 @@ pub outside_here : (pairs : List (ℕ × ℕ)) (s : BTreeSet (ℕ × ℕ)) (trip
     → IsFirstPlace (IsUnlisted pairs triples) triples (i + 1)
 outside_here pairs s triples i has lt inside lacks = record {
   here = (omega arith, omega (arith, lt));
-  holds = λ is. lacks_unlisted pairs s (pair_of (get_or triples i none)) has lacks (subst (IsListedEitherWay pairs) (at_place triples i) is);
-  first = λ earlier from before isnt. isnt (has_listed pairs s (pair_at triples earlier) has (inside (earlier - 1) none (omega (arith, from, before))));
+  holds = λ is. lacks_unlisted pairs s (pair_of (get_or triples i none)) has lacks
+      (subst (IsListedEitherWay pairs) (at_place triples i) is);
+  first = λ earlier from before isnt. isnt
+      (has_listed pairs s (pair_at triples earlier) has (inside (earlier - 1) none (omega (arith, from, before))));
 }
 
 pub inside_more : (s : BTreeSet (ℕ × ℕ)) (triples : List (ℕ × ℕ × ℤ)) (i : ℕ) → i < length triples

@@ -15,7 +15,8 @@ use Rattle.tsp_verdict.specs.states.RouteLists.{nodes_in}
 pub route_stands : (routes : List (Vec ℕ)) (i : ℕ) (route : Vec ℕ) → i < length routes → route ≡ get_or routes i route
     → StandsAfter (length (nodes_in (take i routes))) (nodes_in routes) route.items
 route_stands routes i route lt is = record {
-  inside = subst (λ (r : Vec ℕ). length (nodes_in (take i routes)) + length r.items ≤ length (nodes_in routes)) (sym is) (length-flat_map-take (λ (r : Vec ℕ). r.items) routes i route lt);
+  inside = subst (λ (r : Vec ℕ). length (nodes_in (take i routes)) + length r.items ≤ length (nodes_in routes)) (sym is)
+      (length-flat_map-take (λ (r : Vec ℕ). r.items) routes i route lt);
   same = λ k inside.
       let there : k < length (get_or routes i route).items = subst (λ (r : Vec ℕ). k < length r.items) is inside in
       get_or-flat_map (λ (r : Vec ℕ). r.items) routes i k route 0 lt there ∙ ap (λ (r : Vec ℕ). get_or r.items k 0) (sym is);
@@ -29,7 +30,12 @@ count_more (r ∷ routes) zero route lt is = rw is (omega (arith, length-append 
 count_more (r ∷ routes) (suc i) route lt is =
     let tail = count_more routes i route (omega (arith, lt)) is in
     let further : suc i + 1 ≡ suc (i + 1) = omega arith in
-    rw further (omega (arith, length-append r.items (nodes_in (take i routes)), length-append r.items (nodes_in (take (i + 1) routes)), tail))
+    rw further (omega (
+      arith,
+      length-append r.items (nodes_in (take i routes)),
+      length-append r.items (nodes_in (take (i + 1) routes)),
+      tail,
+    ))
 
 -- in the code's terms
 pub stands_here : (routes : List (Vec ℕ)) (i before : ℕ) (route : Vec ℕ) (nodes : List ℕ) → i < length routes
@@ -38,7 +44,8 @@ pub stands_here : (routes : List (Vec ℕ)) (i before : ℕ) (route : Vec ℕ) (
     → StandsAfter before (nodes_in routes) nodes
 stands_here routes i before route nodes lt is counted same =
     subst (λ (b : ℕ). StandsAfter b (nodes_in routes) nodes) (sym counted)
-    (subst (λ (xs : List ℕ). StandsAfter (length (nodes_in (take i routes))) (nodes_in routes) xs) (sym same) (route_stands routes i route lt is))
+    (subst (λ (xs : List ℕ). StandsAfter (length (nodes_in (take i routes))) (nodes_in routes) xs) (sym same)
+    (route_stands routes i route lt is))
 
 pub count_here : (routes : List (Vec ℕ)) (i before : ℕ) (route : Vec ℕ) (nodes : List ℕ) → i < length routes
     → route ≡ get_or routes i route
@@ -61,11 +68,13 @@ first_after P Q nodes piece before place apart stands none first = record {
     at_place : (k : ℕ) → 1 ≤ k → k ≤ length piece → node_at piece k ≡ node_at nodes (before + k)
     at_place k low high = sym (stands.same (k - 1) (omega (arith, low, high))) ∙ ap (λ j. get_or nodes j 0) (omega (arith, low))
 
-    earlier_out : (earlier : ℕ) → 1 ≤ earlier → earlier < before + place → (before < earlier) ⊎ (earlier ≤ before) → P (node_at nodes earlier) → ⊥
+    earlier_out : (earlier : ℕ) → 1 ≤ earlier → earlier < before + place → (before < earlier) ⊎ (earlier ≤ before)
+        → P (node_at nodes earlier) → ⊥
     earlier_out earlier low less (inl after) p =
         let k : ℕ = earlier - before in
         let is : before + k ≡ earlier = omega (arith, after) in
-        first.first k (omega (arith, after)) (omega (arith, after, less)) (subst P (sym (at_place k (omega (arith, after)) (omega (arith, less, first.here.1, after)) ∙ ap (node_at nodes) is)) p)
+        first.first k (omega (arith, after)) (omega (arith, after, less))
+        (subst P (sym (at_place k (omega (arith, after)) (omega (arith, less, first.here.1, after)) ∙ ap (node_at nodes) is)) p)
     earlier_out earlier low less (inr le) p = apart (node_at nodes earlier) p (none (earlier - 1) 0 (omega (arith, low, le)))
 
 -- what holds of all nodes before a route and of its own
@@ -80,7 +89,8 @@ all_more Q nodes piece before stands so_far all k d less = by_place (cases_lt k 
         let j : ℕ = k - before in
         let is : before + j ≡ k = omega (arith, le) in
         let inside : j < length piece = omega (arith, less, le) in
-        let same : get_or nodes k d ≡ get_or piece j 0 = get_or_default nodes k d 0 (omega (arith, stands.inside, inside, is)) ∙ ap (λ i. get_or nodes i 0) (sym is) ∙ stands.same j inside in
+        let same : get_or nodes k d ≡ get_or piece j 0 = get_or_default nodes k d 0 (omega (arith, stands.inside, inside, is))
+        ∙ ap (λ i. get_or nodes i 0) (sym is) ∙ stands.same j inside in
         subst Q (sym same) (all j 0 inside)
 
 -- the routes as lists

@@ -61,7 +61,8 @@ run_sum f low (suc m) a xs inside =
     let found : Contains xs a = inside a (omega arith) (omega arith) in
     let rest : sum_int_by f (range_with_len (a + 1) m) ≤ℤ sum_int_by f (remove xs found.0) =
     run_sum f low m (a + 1) (remove xs found.0) (λ v above below.
-    still_there xs found.0 a v found.1 found.2 (λ same. omega (arith, above, same)) (inside v (omega (arith, above)) (omega (arith, below)))) in
+    still_there xs found.0 a v found.1 found.2 (λ same. omega (arith, above, same))
+    (inside v (omega (arith, above)) (omega (arith, below)))) in
     omega (arith, ints, rest, sum_remove f xs found.0 a found.1 found.2)
 
 -- ---- plans
@@ -86,10 +87,12 @@ plan_carries problem routes low none plan =
     let capacity : ℤ = problem.capacity in
     let all : sum_int_by demand (range_with_len 1 n) ≤ℤ sum_int_by demand (depot ∷ concat routes) =
     run_sum demand low n 1 (depot ∷ concat routes) (λ v above below. there v above below (eqb_tells v depot)) in
-    let held = carried demand capacity routes (recursion_from_All (λ route. sum_int_by demand route ≤ℤ capacity) routes plan.within) in
+    let held = carried demand capacity routes
+    (recursion_from_All (λ route. sum_int_by demand route ≤ℤ capacity) routes plan.within) in
     omega (arith, ints, all, held, none)
   where
-    there : (v : ℕ) → 1 ≤ v → v < 1 + problem.nodes → ((eqb v problem.depot ≡ true) × (v ≡ problem.depot)) ⊎ ((eqb v problem.depot ≡ false) × (v ≢ problem.depot))
+    there : (v : ℕ) → 1 ≤ v → v < 1 + problem.nodes
+        → ((eqb v problem.depot ≡ true) × (v ≡ problem.depot)) ⊎ ((eqb v problem.depot ≡ false) × (v ≢ problem.depot))
         → Contains (problem.depot ∷ concat routes) v
     there v above below (inl is) = (0, omega arith, sym is.1)
     there v above below (inr other) =

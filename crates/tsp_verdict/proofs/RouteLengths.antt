@@ -46,9 +46,11 @@ sum_fits sum cost count more few size other = omega (arith, ints, size.low, size
 pub plan_more : (cost : ℕ → ℕ → ℤ) (depot : ℕ) (so_far total : ℤ) (routes : List (Vec ℕ)) (i : ℕ) (route : Vec ℕ)
     → i < length routes → route ≡ get_or routes i route
     → so_far +ℤ plan_length cost depot (map (λ r. r.items) (drop i routes)) ≡ total
-    → (so_far +ℤ length_of cost (depot ∷ route.items)) +ℤ plan_length cost depot (map (λ r. r.items) (drop (i + 1) routes)) ≡ total
+    → (so_far +ℤ length_of cost (depot ∷ route.items)) +ℤ plan_length cost depot (map (λ r. r.items) (drop (i + 1) routes))
+    ≡ total
 plan_more cost depot so_far total routes i route lt is e =
-    let parts : drop i routes ≡ route ∷ drop (i + 1) routes = drop-cons routes i route lt ∙ ap (λ (r : Vec ℕ). r ∷ drop (suc i) routes) (sym is) ∙ ap (λ k. route ∷ drop k routes) (sym (add-one i)) in
+    let parts : drop i routes ≡ route ∷ drop (i + 1) routes = drop-cons routes i route lt
+    ∙ ap (λ (r : Vec ℕ). r ∷ drop (suc i) routes) (sym is) ∙ ap (λ k. route ∷ drop k routes) (sym (add-one i)) in
     +ℤ_assoc so_far (length_of cost (depot ∷ route.items)) (plan_length cost depot (map (λ r. r.items) (drop (i + 1) routes)))
     ∙ subst (λ (xs : List (Vec ℕ)). so_far +ℤ plan_length cost depot (map (λ r. r.items) xs) ≡ total) parts e
 
@@ -56,4 +58,5 @@ plan_more cost depot so_far total routes i route lt is e =
 pub plan_all : (cost : ℕ → ℕ → ℤ) (depot : ℕ) (so_far total : ℤ) (routes : List (Vec ℕ)) (i : ℕ) → length routes ≤ i
     → so_far +ℤ plan_length cost depot (map (λ r. r.items) (drop i routes)) ≡ total → so_far ≡ total
 plan_all cost depot so_far total routes i le e =
-    sym (+ℤ_idr so_far) ∙ subst (λ (xs : List (Vec ℕ)). so_far +ℤ plan_length cost depot (map (λ r. r.items) xs) ≡ total) (drop_all i routes le) e
+    sym (+ℤ_idr so_far) ∙ subst (λ (xs : List (Vec ℕ)). so_far +ℤ plan_length cost depot (map (λ r. r.items) xs) ≡ total)
+    (drop_all i routes le) e

@@ -41,7 +41,8 @@ pub sum_end : {X : Type 0} (f : X → ℤ) (so_far total : ℤ) (others : List X
 sum_end {X} f so_far total others none e = sym (+ℤ_idr so_far) ∙ subst (λ (xs : List X). so_far +ℤ sum_int_by f xs ≡ total) none e
 
 -- the least number of routes
-pub least_is : (total capacity : ℕ) → 1 ≤ capacity → IsLeastRoutes (pos total) (pos capacity) ((total + (capacity - 1)) / capacity)
+pub least_is : (total capacity : ℕ) → 1 ≤ capacity
+    → IsLeastRoutes (pos total) (pos capacity) ((total + (capacity - 1)) / capacity)
 least_is total capacity some = record {
   enough =
       let above = lt-div-mul-add {a = total + (capacity - 1)} {b = capacity} some in
@@ -73,15 +74,19 @@ run_parts a (suc m) some = ap (λ k. a ∷ range_with_len (a + 1) k) (omega arit
 -- one node further, over all nodes
 pub total_more : (demands : List ℤ) (so_far total : ℤ) (i : ℕ) → i < length demands
     → so_far +ℤ load_of demands (range_with_len (i + 1) (length demands - i)) ≡ total
-    → (so_far +ℤ slice_index_or demands i (pos 0)) +ℤ load_of demands (range_with_len (i + 1 + 1) (length demands - (i + 1))) ≡ total
+    → (so_far +ℤ slice_index_or demands i (pos 0)) +ℤ load_of demands (range_with_len (i + 1 + 1) (length demands - (i + 1)))
+    ≡ total
 total_more demands so_far total i lt e =
     let some : 0 < length demands - i = omega (arith, lt) in
     let less : length demands - (i + 1) ≡ length demands - i - 1 = omega arith in
     let at : i + 1 - 1 ≡ i = omega arith in
-    let step : (so_far +ℤ demand_of demands (i + 1)) +ℤ load_of demands (range_with_len (i + 1 + 1) (length demands - i - 1)) ≡ total =
-    sum_step (demand_of demands) so_far total (i + 1) (range_with_len (i + 1) (length demands - i)) (range_with_len (i + 1 + 1) (length demands - i - 1))
+    let step : (so_far +ℤ demand_of demands (i + 1)) +ℤ load_of demands (range_with_len (i + 1 + 1) (length demands - i - 1))
+    ≡ total =
+    sum_step (demand_of demands) so_far total (i + 1) (range_with_len (i + 1) (length demands - i))
+    (range_with_len (i + 1 + 1) (length demands - i - 1))
     (run_parts (i + 1) (length demands - i) some) e in
-    subst (λ k. (so_far +ℤ slice_index_or demands k (pos 0)) +ℤ load_of demands (range_with_len (i + 1 + 1) (length demands - (i + 1))) ≡ total) at
+    subst (λ k. (so_far +ℤ slice_index_or demands k (pos 0)) +ℤ load_of demands
+    (range_with_len (i + 1 + 1) (length demands - (i + 1))) ≡ total) at
     (subst (λ k. (so_far +ℤ demand_of demands (i + 1)) +ℤ load_of demands (range_with_len (i + 1 + 1) k) ≡ total) (sym less) step)
 
 pub total_end : (demands : List ℤ) (so_far total : ℤ) (i : ℕ) → length demands ≤ i
@@ -108,7 +113,8 @@ carried_more demands capacity routes i route lt is carries so_far k d less = by_
     by_place (inl before) = so_far k d before
     by_place (inr le) =
         let here : k ≡ i = omega (arith, less, le) in
-        let same : get_or (map (λ (r : Vec ℕ). r.items) routes) k d ≡ route.items = ap (λ j. get_or (map (λ (r : Vec ℕ). r.items) routes) j d) here ∙ read_route routes i route d lt is in
+        let same : get_or (map (λ (r : Vec ℕ). r.items) routes) k d ≡ route.items =
+        ap (λ j. get_or (map (λ (r : Vec ℕ). r.items) routes) j d) here ∙ read_route routes i route d lt is in
         subst (λ (xs : List ℕ). load_of demands xs ≤ℤ capacity) (sym same) carries
 
 pub not_over : (a b : ℤ) → int_lt b a ≡ false → a ≤ℤ b

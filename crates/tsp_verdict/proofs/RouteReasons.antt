@@ -25,38 +25,55 @@ pub routing_first : (inst sol : Fields) (reason : Reason) → NoneOfRoutesBefore
     → IsFirstReason (StandsAgainstRouting inst) reason → IsFirstAgainstRoutes inst sol reason
 routing_first inst sol TooFewNodes before first = absurd (before TooFewNodes (omega arith) first.stands)
 routing_first inst sol DepotCount before first =
-    record { stands = first.stands; none_before = up_to_places inst sol (rank_of DepotCount) (omega arith) before first.none_before }
+    record {
+      stands = first.stands;
+      none_before =
+          up_to_places inst sol (rank_of DepotCount) (omega arith) before first.none_before;
+    }
 routing_first inst sol DepotDemand before first =
-    record { stands = first.stands; none_before = up_to_places inst sol (rank_of DepotDemand) (omega arith) before first.none_before }
+    record {
+      stands = first.stands;
+      none_before =
+          up_to_places inst sol (rank_of DepotDemand) (omega arith) before first.none_before;
+    }
 routing_first inst sol FixedEdgesInRoutes before first =
-    record { stands = first.stands; none_before = up_to_places inst sol (rank_of FixedEdgesInRoutes) (omega arith) before first.none_before }
+    record {
+      stands = first.stands;
+      none_before =
+          up_to_places inst sol (rank_of FixedEdgesInRoutes) (omega arith) before first.none_before;
+    }
 routing_first inst sol reason before first = absurd first.stands
 
 -- where none applies, the nodes of the routes are judged next
-pub after_routing : (inst sol : Fields) → NoneOfRoutesBefore inst sol DepotCount → NoneAgainstRouting inst → NoneOfRoutesBeforePlaces inst sol
+pub after_routing : (inst sol : Fields) → NoneOfRoutesBefore inst sol DepotCount → NoneAgainstRouting inst
+    → NoneOfRoutesBeforePlaces inst sol
 after_routing inst sol before none place =
     up_to_places inst sol (rank_of (DepotInRoute 1)) (omega arith) before (λ reason low stands. none reason stands)
 
 -- ---- the reasons against routes
 
 pub after_depot : (inst sol : Fields) → NoneOfRoutesBefore inst sol (DepotInRoute 1)
-    → ((place : ℕ) → IsFirstPlace (IsAt (depot_of inst) (visited sol)) (visited sol) place → ⊥) → NoneOfRoutesBefore inst sol (NodeOutOfRange 1)
+    → ((place : ℕ) → IsFirstPlace (IsAt (depot_of inst) (visited sol)) (visited sol) place → ⊥)
+    → NoneOfRoutesBefore inst sol (NodeOutOfRange 1)
 after_depot inst sol before out (DepotInRoute place) low stands = out place stands
 after_depot inst sol before out reason low stands = before reason (omega (arith, low)) stands
 
 pub after_range : (inst sol : Fields) → NoneOfRoutesBefore inst sol (NodeOutOfRange 1)
-    → ((place : ℕ) → IsFirstPlace (IsLarger (nodes_of inst) (visited sol)) (visited sol) place → ⊥) → NoneOfRoutesBefore inst sol (RepeatedNode 1)
+    → ((place : ℕ) → IsFirstPlace (IsLarger (nodes_of inst) (visited sol)) (visited sol) place → ⊥)
+    → NoneOfRoutesBefore inst sol (RepeatedNode 1)
 after_range inst sol before inside (NodeOutOfRange place) low stands = inside place stands
 after_range inst sol before inside reason low stands = before reason (omega (arith, low)) stands
 
 pub after_repeats : (inst sol : Fields) → NoneOfRoutesBefore inst sol (RepeatedNode 1)
-    → ((place : ℕ) → IsFirstPlace (IsAtEarlierPlace (visited sol)) (visited sol) place → ⊥) → NoneOfRoutesBefore inst sol (Unserved 1)
+    → ((place : ℕ) → IsFirstPlace (IsAtEarlierPlace (visited sol)) (visited sol) place → ⊥)
+    → NoneOfRoutesBefore inst sol (Unserved 1)
 after_repeats inst sol before once (RepeatedNode place) low stands = once place stands
 after_repeats inst sol before once (FixedEdgeUnused index) low stands = stands
 after_repeats inst sol before once reason low stands = before reason (omega (arith, low)) stands
 
 pub after_served : (inst sol : Fields) → NoneOfRoutesBefore inst sol (Unserved 1)
-    → ((node : ℕ) → IsFirstUnserved (nodes_of inst) (depot_of inst) (visited sol) node → ⊥) → NoneOfRoutesBefore inst sol (Overload 1)
+    → ((node : ℕ) → IsFirstUnserved (nodes_of inst) (depot_of inst) (visited sol) node → ⊥)
+    → NoneOfRoutesBefore inst sol (Overload 1)
 after_served inst sol before served (Unserved node) low stands = served node stands
 after_served inst sol before served reason low stands = before reason (omega (arith, low)) stands
 

@@ -18,7 +18,8 @@ pub after_solution : (inst sol : Fields) → is_tour_file sol.kind ≡ true → 
 after_solution inst sol is NotASolution low stands = false≢true (sym stands ∙ is)
 after_solution inst sol is reason low stands = absurd (omega (arith, low))
 
-pub after_nodes : (inst sol : Fields) → NoneOfTourBefore inst sol TooFewNodes → 3 ≤ nodes_of inst → NoneOfTourBefore inst sol (NotSymmetric 1 2)
+pub after_nodes : (inst sol : Fields) → NoneOfTourBefore inst sol TooFewNodes → 3 ≤ nodes_of inst
+    → NoneOfTourBefore inst sol (NotSymmetric 1 2)
 after_nodes inst sol before enough TooFewNodes low stands = omega (arith, enough, stands)
 after_nodes inst sol before enough reason low stands = before reason (omega (arith, low)) stands
 
@@ -28,12 +29,14 @@ pub after_symmetry : (inst sol : Fields) → NoneOfTourBefore inst sol (NotSymme
 after_symmetry inst sol before even (NotSymmetric i j) low stands = even stands.0 i j stands.1
 after_symmetry inst sol before even reason low stands = before reason (omega (arith, low)) stands
 
-pub after_dimension : (inst sol : Fields) → NoneOfTourBefore inst sol Dimension → ((n : ℕ) → sol.dimension ≡ Some n → n ≡ nodes_of inst)
+pub after_dimension : (inst sol : Fields) → NoneOfTourBefore inst sol Dimension
+    → ((n : ℕ) → sol.dimension ≡ Some n → n ≡ nodes_of inst)
     → NoneOfTourBefore inst sol TourCount
 after_dimension inst sol before same Dimension low stands = stands.2 (same stands.0 stands.1)
 after_dimension inst sol before same reason low stands = before reason (omega (arith, low)) stands
 
-pub after_count : (inst sol : Fields) → NoneOfTourBefore inst sol TourCount → length (tours_of sol) ≡ 1 → NoneOfTourBefore inst sol TourLength
+pub after_count : (inst sol : Fields) → NoneOfTourBefore inst sol TourCount → length (tours_of sol) ≡ 1
+    → NoneOfTourBefore inst sol TourLength
 after_count inst sol before one TourCount low stands = stands one
 after_count inst sol before one reason low stands = before reason (omega (arith, low)) stands
 
@@ -47,12 +50,14 @@ after_length inst sol before full (DepotInRoute place) low stands = stands
 after_length inst sol before full reason low stands = before reason (omega (arith, low)) stands
 
 pub after_range : (inst sol : Fields) → NoneOfTourBefore inst sol (NodeOutOfRange 1)
-    → ((place : ℕ) → IsFirstPlace (IsLarger (nodes_of inst) (visited sol)) (visited sol) place → ⊥) → NoneOfTourBefore inst sol (RepeatedNode 1)
+    → ((place : ℕ) → IsFirstPlace (IsLarger (nodes_of inst) (visited sol)) (visited sol) place → ⊥)
+    → NoneOfTourBefore inst sol (RepeatedNode 1)
 after_range inst sol before inside (NodeOutOfRange place) low stands = inside place stands
 after_range inst sol before inside reason low stands = before reason (omega (arith, low)) stands
 
 pub after_repeats : (inst sol : Fields) → NoneOfTourBefore inst sol (RepeatedNode 1)
-    → ((place : ℕ) → IsFirstPlace (IsAtEarlierPlace (visited sol)) (visited sol) place → ⊥) → NoneOfTourBefore inst sol (FixedEdgeUnused 1)
+    → ((place : ℕ) → IsFirstPlace (IsAtEarlierPlace (visited sol)) (visited sol) place → ⊥)
+    → NoneOfTourBefore inst sol (FixedEdgeUnused 1)
 after_repeats inst sol before once (RepeatedNode place) low stands = once place stands
 after_repeats inst sol before once reason low stands = before reason (omega (arith, low)) stands
 

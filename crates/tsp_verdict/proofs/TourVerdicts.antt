@@ -31,10 +31,17 @@ visited_is sol tour only = ap concat only ∙ append-nil tour
 -- one tour that has this many nodes
 pub tour_found : (inst sol : Fields) (tour : List ℕ) → tours_of sol ≡ tour ∷ [] → length tour ≡ nodes_of inst
     → All (λ node. 1 ≤ node) (visited sol) → NoneOfTourBefore inst sol TourCount
-    → (tours_of sol ≡ tour ∷ []) × (length tour ≡ nodes_of inst) × All (λ node. 1 ≤ node) tour × NoneOfTourBefore inst sol (NodeOutOfRange 1)
+    → (tours_of sol ≡ tour ∷ []) × (length tour ≡ nodes_of inst) × All (λ node. 1 ≤ node) tour × NoneOfTourBefore inst sol
+    (NodeOutOfRange 1)
 tour_found inst sol tour only full low none =
-    let low_all : All (λ node. 1 ≤ node) tour = subst (λ (xs : List ℕ). All (λ node. 1 ≤ node) xs) (visited_is sol tour only) low in
-    (only, full, low_all, after_length inst sol (after_count inst sol none (ap length only)) (ap length (visited_is sol tour only) ∙ full))
+    let low_all : All (λ node. 1 ≤ node) tour =
+    subst (λ (xs : List ℕ). All (λ node. 1 ≤ node) xs) (visited_is sol tour only) low in (
+      only,
+      full,
+      low_all,
+      after_length inst sol (after_count inst sol none (ap length only))
+          (ap length (visited_is sol tour only) ∙ full),
+    )
 
 -- nodes of 1..n, as many as n and none repeated, are a cycle
 pub is_cycle : (n : ℕ) (tour : List ℕ) → length tour ≡ n → All (λ node. 1 ≤ node) tour → All (λ node. node ≤ n) tour
@@ -56,15 +63,19 @@ larger_first inst sol tour n place only n_is none first = record {
 }
 
 -- where no node is too large
-pub none_up_to_repeats : (inst sol : Fields) (tour : List ℕ) → tours_of sol ≡ tour ∷ [] → NoneOfTourBefore inst sol (NodeOutOfRange 1)
+pub none_up_to_repeats : (inst sol : Fields) (tour : List ℕ) → tours_of sol ≡ tour ∷ []
+    → NoneOfTourBefore inst sol (NodeOutOfRange 1)
     → All (λ node. node ≤ nodes_of inst) tour
     → NoneOfTourBefore inst sol (RepeatedNode 1)
 none_up_to_repeats inst sol tour only none high =
-    let high_all : All (λ node. node ≤ nodes_of inst) (visited sol) = subst (λ (xs : List ℕ). All (λ node. node ≤ nodes_of inst) xs) (sym (visited_is sol tour only)) high in
-    after_range inst sol none (λ place first. omega (arith, first.holds, high_all (place - 1) 0 (omega (arith, first.here.0, first.here.1))))
+    let high_all : All (λ node. node ≤ nodes_of inst) (visited sol) =
+    subst (λ (xs : List ℕ). All (λ node. node ≤ nodes_of inst) xs) (sym (visited_is sol tour only)) high in
+    after_range inst sol none
+    (λ place first. omega (arith, first.holds, high_all (place - 1) 0 (omega (arith, first.here.0, first.here.1))))
 
 -- the first node that an earlier place has
-pub repeated_first : (inst sol : Fields) (tour : List ℕ) (place : ℕ) → tours_of sol ≡ tour ∷ [] → NoneOfTourBefore inst sol (RepeatedNode 1)
+pub repeated_first : (inst sol : Fields) (tour : List ℕ) (place : ℕ) → tours_of sol ≡ tour ∷ []
+    → NoneOfTourBefore inst sol (RepeatedNode 1)
     → IsFirstPlace (IsAtEarlierPlace tour) tour place → IsFirstAgainstTour inst sol (RepeatedNode place)
 repeated_first inst sol tour place only none first = record {
   stands = subst (λ (xs : List ℕ). IsFirstPlace (IsAtEarlierPlace xs) xs place) (sym (visited_is sol tour only)) first;
@@ -72,13 +83,16 @@ repeated_first inst sol tour place only none first = record {
 }
 
 -- reasons 1 to 8 are ruled out
-pub none_up_to_fixed : (inst sol : Fields) (tour : List ℕ) → tours_of sol ≡ tour ∷ [] → NoneOfTourBefore inst sol (NodeOutOfRange 1)
+pub none_up_to_fixed : (inst sol : Fields) (tour : List ℕ) → tours_of sol ≡ tour ∷ []
+    → NoneOfTourBefore inst sol (NodeOutOfRange 1)
     → All (λ node. node ≤ nodes_of inst) tour
     → HoldsAtNone (IsAtEarlierPlace tour) (length tour) → NoneOfTourBefore inst sol (FixedEdgeUnused 1)
 none_up_to_fixed inst sol tour only none high once =
     let is : tour ≡ visited sol = sym (visited_is sol tour only) in
-    let once_all : HoldsAtNone (IsAtEarlierPlace (visited sol)) (length (visited sol)) = subst (λ (xs : List ℕ). HoldsAtNone (IsAtEarlierPlace xs) (length xs)) is once in
-    after_repeats inst sol (none_up_to_repeats inst sol tour only none high) (λ place first. once_all place first.here.0 first.here.1 first.holds)
+    let once_all : HoldsAtNone (IsAtEarlierPlace (visited sol)) (length (visited sol)) =
+    subst (λ (xs : List ℕ). HoldsAtNone (IsAtEarlierPlace xs) (length xs)) is once in
+    after_repeats inst sol (none_up_to_repeats inst sol tour only none high)
+    (λ place first. once_all place first.here.0 first.here.1 first.holds)
 
 -- the first fixed pair that isn't used
 pub unused_first : (inst sol : Fields) (tour : List ℕ) (directed : Bool) (pairs : List (ℕ × ℕ)) (index : ℕ)
@@ -86,7 +100,8 @@ pub unused_first : (inst sol : Fields) (tour : List ℕ) (directed : Bool) (pair
     → NoneOfTourBefore inst sol (FixedEdgeUnused 1) → IsFirstPlace (IsUnused directed tour pairs) pairs index
     → IsFirstAgainstTour inst sol (FixedEdgeUnused index)
 unused_first inst sol tour directed pairs index only way listed none first = record {
-  stands = subst (λ (xs : List ℕ). IsFirstPlace (IsUnused (is_directed inst.kind) xs (fixed_of inst)) (fixed_of inst) index) (sym (visited_is sol tour only))
+  stands = subst (λ (xs : List ℕ). IsFirstPlace (IsUnused (is_directed inst.kind) xs (fixed_of inst)) (fixed_of inst) index)
+      (sym (visited_is sol tour only))
       (subst (λ (ps : List (ℕ × ℕ)). IsFirstPlace (IsUnused (is_directed inst.kind) tour ps) ps index) listed
       (subst (λ (b : Bool). IsFirstPlace (IsUnused b tour pairs) pairs index) way first));
   none_before = none;
@@ -97,12 +112,16 @@ pub is_yes : (inst sol : Fields) (tour : List ℕ) (directed : Bool) (pairs : Li
     → directed ≡ is_directed inst.kind → pairs ≡ fixed_of inst
     → NoneOfTourBefore inst sol (FixedEdgeUnused 1) → IsCycle (nodes_of inst) tour → All (Uses directed tour) pairs
     → size ≡ length_of (cost inst) tour
-    → ((reason : Reason) → StandsAgainstTour inst sol reason → ⊥) × ((cycle : List ℕ) × (tours_of sol ≡ cycle ∷ []) × IsTourOf inst cycle × (size ≡ length_of (cost inst) cycle))
+    → ((reason : Reason) → StandsAgainstTour inst sol reason → ⊥)
+    × ((cycle : List ℕ) × (tours_of sol ≡ cycle ∷ []) × IsTourOf inst cycle × (size ≡ length_of (cost inst) cycle))
 is_yes inst sol tour directed pairs size only way listed none cycle used measured =
     let used_all : All (Uses (is_directed inst.kind) tour) (fixed_of inst) =
-    subst (λ (ps : List (ℕ × ℕ)). All (Uses (is_directed inst.kind) tour) ps) listed (subst (λ (b : Bool). All (Uses b tour) pairs) way used) in
+    subst (λ (ps : List (ℕ × ℕ)). All (Uses (is_directed inst.kind) tour) ps) listed
+    (subst (λ (b : Bool). All (Uses b tour) pairs) way used) in
     let is : tour ≡ visited sol = sym (visited_is sol tour only) in
-    let used_there : All (Uses (is_directed inst.kind) (visited sol)) (fixed_of inst) = subst (λ (xs : List ℕ). All (Uses (is_directed inst.kind) xs) (fixed_of inst)) is used_all in (
-      after_fixed inst sol none (λ index first. first.holds (used_there (index - 1) (0, 0) (omega (arith, first.here.0, first.here.1)))),
+    let used_there : All (Uses (is_directed inst.kind) (visited sol)) (fixed_of inst) =
+    subst (λ (xs : List ℕ). All (Uses (is_directed inst.kind) xs) (fixed_of inst)) is used_all in (
+      after_fixed inst sol none
+          (λ index first. first.holds (used_there (index - 1) (0, 0) (omega (arith, first.here.0, first.here.1)))),
       (tour, only, record { cycle = cycle; fixed_used = used_all }, measured),
     )

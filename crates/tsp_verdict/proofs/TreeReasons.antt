@@ -46,7 +46,8 @@ use Rattle.tsp_verdict.proofs.FamiliesHold.{one_numbers}
 -- ---- where indexes end
 
 -- a branch, and a leaf, in the list is one of the steps
-branches_within : (cases : List (List Decision)) (steps : List listed.Step) → length (branches_of_cases cases steps) ≤ length steps
+branches_within : (cases : List (List Decision)) (steps : List listed.Step)
+    → length (branches_of_cases cases steps) ≤ length steps
 branches_within [] steps = omega arith
 branches_within (case ∷ cases) [] = omega arith
 branches_within (case ∷ cases) (listed.Branch a b ∷ steps) =
@@ -77,14 +78,16 @@ bad_within n crossed steps bad h =
 pub record IsTold (inst tree : Fields) (costs : ℕ → ℕ → ℤ) (verdict : BranchVerdict) : Type 0 where
   pub steps : List listed.Step
   pub steps_are : tree.branches ≡ Some steps
-  pub by_steps : IsBranchVerdict (is_directed inst.kind) (nodes_of inst) costs (scale_in tree) (families_listed tree) (given_in inst) steps verdict
+  pub by_steps : IsBranchVerdict (is_directed inst.kind) (nodes_of inst) costs (scale_in tree) (families_listed tree)
+      (given_in inst) steps verdict
 
 -- a file has one list of steps
 one_list : {A : Type 0} (o : Option (List A)) (xs ys : List A) → o ≡ Some xs → o ≡ Some ys → xs ≡ ys
 one_list o xs ys a b = sym (ap (λ p. unwrap_or p []) a) ∙ ap (λ p. unwrap_or p []) b
 
 -- the values that the code passes are those of the files
-pub record AreOf (inst tree : Fields) (directed : Bool) (n : ℕ) (scale : ℤ) (families : List (List (List ℕ))) (given : List Decision) (steps : List listed.Step) : Type 0 where
+pub record AreOf (inst tree : Fields) (directed : Bool) (n : ℕ) (scale : ℤ) (families : List (List (List ℕ)))
+    (given : List Decision) (steps : List listed.Step) : Type 0 where
   pub directed_is : directed ≡ is_directed inst.kind
   pub nodes_are : n ≡ nodes_of inst
   pub scale_is : scale ≡ scale_in tree
@@ -92,27 +95,33 @@ pub record AreOf (inst tree : Fields) (directed : Bool) (n : ℕ) (scale : ℤ) 
   pub given_is : given ≡ given_in inst
   pub steps_are : tree.branches ≡ Some steps
 
-pub are_of : (inst tree : Fields) (directed : Bool) (n : ℕ) (scale : ℤ) (combs : List (Vec (Vec ℕ))) (fixed : List (ℕ × ℕ)) (given : List Decision) (steps : List listed.Step)
-    → directed ≡ is_directed inst.kind → inst.dimension ≡ Some n → scale ≡ scale_in tree → lists_of_combs combs ≡ families_listed tree
+pub are_of : (inst tree : Fields) (directed : Bool) (n : ℕ) (scale : ℤ) (combs : List (Vec (Vec ℕ))) (fixed : List (ℕ × ℕ))
+    (given : List Decision) (steps : List listed.Step)
+    → directed ≡ is_directed inst.kind → inst.dimension ≡ Some n → scale ≡ scale_in tree
+    → lists_of_combs combs ≡ families_listed tree
     → fixed ≡ fixed_of inst
     → given ≡ take_pairs (each_once directed fixed) → tree.branches ≡ Some steps
     → AreOf inst tree directed n scale (lists_of_combs combs) given steps
-are_of inst tree directed n scale combs fixed given steps directed_is count scale_is combs_are fixed_are given_is steps_are = record {
-  directed_is = directed_is;
-  nodes_are = sym (ap (λ (d : Option ℕ). unwrap_or d 0) count);
-  scale_is = scale_is;
-  families_are = combs_are;
-  given_is = given_is ∙ ap (λ (pairs : List (ℕ × ℕ)). take_pairs (each_once directed pairs)) fixed_are ∙ ap (λ (d : Bool). take_pairs (each_once d (fixed_of inst))) directed_is;
-  steps_are = steps_are;
-}
+are_of inst tree directed n scale combs fixed given steps directed_is count scale_is combs_are fixed_are given_is steps_are =
+    record {
+      directed_is = directed_is;
+      nodes_are = sym (ap (λ (d : Option ℕ). unwrap_or d 0) count);
+      scale_is = scale_is;
+      families_are = combs_are;
+      given_is = given_is ∙ ap (λ (pairs : List (ℕ × ℕ)). take_pairs (each_once directed pairs)) fixed_are
+          ∙ ap (λ (d : Bool). take_pairs (each_once d (fixed_of inst))) directed_is;
+      steps_are = steps_are;
+    }
 
-pub told : (inst tree : Fields) (directed : Bool) (n : ℕ) (costs : ℕ → ℕ → ℤ) (scale : ℤ) (families : List (List (List ℕ))) (given : List Decision) (steps : List listed.Step) (verdict : BranchVerdict)
+pub told : (inst tree : Fields) (directed : Bool) (n : ℕ) (costs : ℕ → ℕ → ℤ) (scale : ℤ) (families : List (List (List ℕ)))
+    (given : List Decision) (steps : List listed.Step) (verdict : BranchVerdict)
     → AreOf inst tree directed n scale families given steps
     → IsBranchVerdict directed n costs scale families given steps verdict → IsTold inst tree costs verdict
 told inst tree directed n costs scale families given steps verdict are h =
     let to : Bool = is_directed inst.kind in
     let by_steps =
-    subst (λ (m : ℕ). IsBranchVerdict to m costs (scale_in tree) (families_listed tree) (given_in inst) steps verdict) are.nodes_are
+    subst (λ (m : ℕ). IsBranchVerdict to m costs (scale_in tree) (families_listed tree) (given_in inst) steps verdict)
+    are.nodes_are
     (subst (λ (z : ℤ). IsBranchVerdict to n costs z (families_listed tree) (given_in inst) steps verdict) are.scale_is
     (subst (λ (fs : List (List (List ℕ))). IsBranchVerdict to n costs scale fs (given_in inst) steps verdict) are.families_are
     (subst (λ (ds : List Decision). IsBranchVerdict to n costs scale families ds steps verdict) are.given_is
@@ -154,8 +163,10 @@ no_bad_leaf unique inst tree steps crossed steps_are are good index stands =
     let n : ℕ = nodes_of inst in
     let others = stands.2 in
     let same : others ≡ crossed = one_numbers unique n others crossed (families_listed tree) stands.3.many are.many
-    (recursion_from_All (IsFamily n) (families_with_numbers tree others) stands.3.are) (recursion_from_All (IsFamily n) (families_with_numbers tree crossed) are.are) in
-    let bad = subst₂ (λ (cs : List Crossings) (ss : List listed.Step). IsFirstBadLeaf n cs ss index) same (one_list tree.branches stands.0 steps stands.1 steps_are) stands.4 in
+    (recursion_from_All (IsFamily n) (families_with_numbers tree others) stands.3.are)
+    (recursion_from_All (IsFamily n) (families_with_numbers tree crossed) are.are) in
+    let bad = subst₂ (λ (cs : List Crossings) (ss : List listed.Step). IsFirstBadLeaf n cs ss index) same
+    (one_list tree.branches stands.0 steps stands.1 steps_are) stands.4 in
     bad.bad (good index bad.least bad.most)
 
 -- where no case is divided twice, none is, as the file lists its steps
@@ -163,14 +174,16 @@ no_twice : (inst tree : Fields) (steps : List listed.Step) → tree.branches ≡
     → ((index : ℕ) → IsFirstTwice (is_directed inst.kind) (given_in inst) steps index → ⊥) → (index : ℕ)
     → StandsAgainstBranches inst tree (BranchTwice index) → ⊥
 no_twice inst tree steps steps_are none index stands =
-    none index (subst (λ (ss : List listed.Step). IsFirstTwice (is_directed inst.kind) (given_in inst) ss index) (one_list tree.branches stands.0 steps stands.1 steps_are) stands.2)
+    none index (subst (λ (ss : List listed.Step). IsFirstTwice (is_directed inst.kind) (given_in inst) ss index)
+    (one_list tree.branches stands.0 steps stands.1 steps_are) stands.2)
 
 -- the facts before a rank rule out the reasons before it
 none_before : (inst tree : Fields) (rank : ℕ) → (rank_of NotBranches < rank → is_branches_file tree.kind ≡ true)
     → (rank_of BranchesDimension < rank → nodes_of tree ≡ nodes_of inst)
     → (rank_of (BadComb 1) < rank → (index : ℕ) → StandsAgainstBranches inst tree (BadComb index) → ⊥)
     → (rank_of (BranchTwice 1) < rank → (index : ℕ) → StandsAgainstBranches inst tree (BranchTwice index) → ⊥)
-    → (rank_of (BadLeaf 1) < rank → (index : ℕ) → StandsAgainstBranches inst tree (BadLeaf index) → ⊥) → NoneBefore (StandsAgainstBranches inst tree) rank
+    → (rank_of (BadLeaf 1) < rank → (index : ℕ) → StandsAgainstBranches inst tree (BadLeaf index) → ⊥)
+    → NoneBefore (StandsAgainstBranches inst tree) rank
 none_before inst tree rank sort size combs once leaves NotBranches low stands = false≢true (sym stands ∙ sort low)
 none_before inst tree rank sort size combs once leaves BranchesDimension low stands = stands (size low)
 none_before inst tree rank sort size combs once leaves (BadComb index) low stands = combs low index stands
@@ -182,33 +195,48 @@ none_before inst tree rank sort size combs once leaves reason low stands = stand
 pub none_of_tree : (inst tree : Fields) → is_branches_file tree.kind ≡ true → nodes_of tree ≡ nodes_of inst
     → NoneWithoutMemory Branches inst tree
 none_of_tree inst tree sort size =
-    none_before inst tree (rank_of (BadComb 1)) (λ low. sort) (λ low. size) (λ low. absurd (omega (arith, low))) (λ low. absurd (omega (arith, low))) (λ low. absurd (omega (arith, low)))
+    none_before inst tree (rank_of (BadComb 1)) (λ low. sort) (λ low. size) (λ low. absurd (omega (arith, low)))
+    (λ low. absurd (omega (arith, low))) (λ low. absurd (omega (arith, low)))
 
-pub comb_first : (inst tree : Fields) (costs : ℕ → ℕ → ℤ) (index : ℕ) → is_branches_file tree.kind ≡ true → nodes_of tree ≡ nodes_of inst
+pub comb_first : (inst tree : Fields) (costs : ℕ → ℕ → ℤ) (index : ℕ) → is_branches_file tree.kind ≡ true
+    → nodes_of tree ≡ nodes_of inst
     → IsTold inst tree costs (found.BadFamily index)
     → IsFirstReason (StandsAgainstBranches inst tree) (BadComb index)
 comb_first inst tree costs index sort size is = record {
   stands = bad_comb inst tree index is.by_steps;
-  none_before = none_before inst tree (rank_of (BadComb 1)) (λ low. sort) (λ low. size) (λ low. absurd (omega (arith, low))) (λ low. absurd (omega (arith, low))) (λ low. absurd (omega (arith, low)));
+  none_before = none_before inst tree (rank_of (BadComb 1)) (λ low. sort) (λ low. size) (λ low. absurd (omega (arith, low)))
+      (λ low. absurd (omega (arith, low))) (λ low. absurd (omega (arith, low)));
 }
 
-pub twice_first : (inst tree : Fields) (costs : ℕ → ℕ → ℤ) (index : ℕ) → is_branches_file tree.kind ≡ true → nodes_of tree ≡ nodes_of inst
+pub twice_first : (inst tree : Fields) (costs : ℕ → ℕ → ℤ) (index : ℕ) → is_branches_file tree.kind ≡ true
+    → nodes_of tree ≡ nodes_of inst
     → IsTold inst tree costs (found.BranchTwice index)
     → IsFirstReason (StandsAgainstBranches inst tree) (BranchTwice index)
 twice_first inst tree costs index sort size is = record {
   stands = (is.steps, is.steps_are, is.by_steps.2);
-  none_before = none_before inst tree (rank_of (BranchTwice 1)) (λ low. sort) (λ low. size) (λ low. no_bad_comb inst tree is.by_steps.1.good) (λ low. absurd (omega (arith, low))) (λ low. absurd (omega (arith, low)));
+  none_before = none_before inst tree (rank_of (BranchTwice 1)) (λ low. sort) (λ low. size)
+      (λ low. no_bad_comb inst tree is.by_steps.1.good) (λ low. absurd (omega (arith, low))) (λ low. absurd (omega (arith, low)));
 }
 
-pub leaf_first : (inst tree : Fields) (costs : ℕ → ℕ → ℤ) (index : ℕ) → is_branches_file tree.kind ≡ true → nodes_of tree ≡ nodes_of inst
+pub leaf_first : (inst tree : Fields) (costs : ℕ → ℕ → ℤ) (index : ℕ) → is_branches_file tree.kind ≡ true
+    → nodes_of tree ≡ nodes_of inst
     → IsTold inst tree costs (found.BadLeaf index)
     → IsFirstReason (StandsAgainstBranches inst tree) (BadLeaf index)
 leaf_first inst tree costs index sort size is = record {
-  stands = (is.steps, is.steps_are, is.by_steps.crossed, numbers_told inst tree is.by_steps.crossed is.by_steps.are_families, is.by_steps.leaves);
-  none_before = none_before inst tree (rank_of (BadLeaf 1)) (λ low. sort) (λ low. size) (λ low. no_bad_comb inst tree is.by_steps.are_families.good) (λ low. no_twice inst tree is.steps is.steps_are is.by_steps.are_once.0) (λ low. absurd (omega (arith, low)));
+  stands = (
+    is.steps,
+    is.steps_are,
+    is.by_steps.crossed,
+    numbers_told inst tree is.by_steps.crossed is.by_steps.are_families,
+    is.by_steps.leaves,
+  );
+  none_before = none_before inst tree (rank_of (BadLeaf 1)) (λ low. sort) (λ low. size)
+      (λ low. no_bad_comb inst tree is.by_steps.are_families.good)
+      (λ low. no_twice inst tree is.steps is.steps_are is.by_steps.are_once.0) (λ low. absurd (omega (arith, low)));
 }
 
-pub none_stands : NumbersAreUnique → (inst tree : Fields) (costs : ℕ → ℕ → ℤ) (bound : Option ℤ) → is_branches_file tree.kind ≡ true
+pub none_stands : NumbersAreUnique → (inst tree : Fields) (costs : ℕ → ℕ → ℤ) (bound : Option ℤ)
+    → is_branches_file tree.kind ≡ true
     → nodes_of tree ≡ nodes_of inst → IsTold inst tree costs (found.Bound bound)
     → (reason : Reason) → StandsAgainstBranches inst tree reason → ⊥
 none_stands unique inst tree costs bound sort size is NotBranches stands = false≢true (sym stands ∙ sort)
@@ -218,7 +246,8 @@ none_stands unique inst tree costs bound sort size is (BadComb index) stands =
 none_stands unique inst tree costs bound sort size is (BranchTwice index) stands =
     no_twice inst tree is.steps is.steps_are is.by_steps.are_once.0 index stands
 none_stands unique inst tree costs bound sort size is (BadLeaf index) stands =
-    no_bad_leaf unique inst tree is.steps is.by_steps.crossed is.steps_are (numbers_told inst tree is.by_steps.crossed is.by_steps.are_families) is.by_steps.leaves.2 index stands
+    no_bad_leaf unique inst tree is.steps is.by_steps.crossed is.steps_are
+    (numbers_told inst tree is.by_steps.crossed is.by_steps.are_families) is.by_steps.leaves.2 index stands
 none_stands unique inst tree costs bound sort size is reason stands = stands
 
 -- ---- the bound, carried to costs that are the same between all nodes
@@ -249,28 +278,44 @@ even_view inst directed costs kind is even same undirected i j differ =
     same i j ∙ even (tsp_of_undirected inst kind (sym is ∙ undirected)) i j differ ∙ sym (same j i)
 
 -- what is found for the costs of a view is found for those of the instance
-module _ (inst tree : Fields) (costs : ℕ → ℕ → ℤ) (bound : Option ℤ) (same : Same costs (cost inst)) (is : IsTold inst tree costs (found.Bound bound)) where
+module _ (inst tree : Fields) (costs : ℕ → ℕ → ℤ) (bound : Option ℤ) (same : Same costs (cost inst))
+    (is : IsTold inst tree costs (found.Bound bound)) where
   numbers_are : AreNumbersOf inst tree is.by_steps.crossed
   numbers_are = numbers_told inst tree is.by_steps.crossed is.by_steps.are_families
 
-  certificate_is : IsCaseTree (nodes_of inst) (families_with_numbers tree is.by_steps.crossed) (given_in inst) (case_steps_in inst tree is.steps)
+  certificate_is : IsCaseTree (nodes_of inst) (families_with_numbers tree is.by_steps.crossed) (given_in inst)
+      (case_steps_in inst tree is.steps)
   certificate_is =
-      subst (λ (k : ℕ). IsCaseTree (nodes_of inst) (families_with_numbers tree is.by_steps.crossed) (given_in inst) (listed_steps (nodes_of inst) k is.steps)) numbers_are.many is.by_steps.leaves.0
+      subst (λ (k : ℕ). IsCaseTree (nodes_of inst) (families_with_numbers tree is.by_steps.crossed) (given_in inst)
+      (listed_steps (nodes_of inst) k is.steps)) numbers_are.many is.by_steps.leaves.0
 
-  bound_is : IsCaseTreeBound (is_directed inst.kind) (nodes_of inst) (cost inst) (scale_in tree) decided_number (families_with_numbers tree is.by_steps.crossed) (given_in inst) (case_steps_in inst tree is.steps) bound
+  bound_is : IsCaseTreeBound (is_directed inst.kind) (nodes_of inst) (cost inst) (scale_in tree) decided_number
+      (families_with_numbers tree is.by_steps.crossed) (given_in inst) (case_steps_in inst tree is.steps) bound
   bound_is =
-      subst (λ (f : ℕ → ℕ → ℤ). IsCaseTreeBound (is_directed inst.kind) (nodes_of inst) f (scale_in tree) decided_number (families_with_numbers tree is.by_steps.crossed) (given_in inst) (case_steps_in inst tree is.steps) bound)
+      subst (λ (f : ℕ → ℕ → ℤ). IsCaseTreeBound (is_directed inst.kind) (nodes_of inst) f (scale_in tree) decided_number
+      (families_with_numbers tree is.by_steps.crossed) (given_in inst) (case_steps_in inst tree is.steps) bound)
       (fun_ext (λ i. fun_ext (same i)))
-      (subst (λ (k : ℕ). IsCaseTreeBound (is_directed inst.kind) (nodes_of inst) costs (scale_in tree) decided_number (families_with_numbers tree is.by_steps.crossed) (given_in inst)
+      (subst (λ (k : ℕ). IsCaseTreeBound (is_directed inst.kind) (nodes_of inst) costs (scale_in tree) decided_number
+      (families_with_numbers tree is.by_steps.crossed) (given_in inst)
       (listed_steps (nodes_of inst) k is.steps) bound) numbers_are.many is.by_steps.leaves.1)
 
   has_bound : HasBoundByBranches inst tree bound
-  has_bound = record { steps = is.steps; steps_are = is.steps_are; crossed = is.by_steps.crossed; numbers = numbers_are; certificate = certificate_is; bound = bound_is }
+  has_bound = record {
+    steps = is.steps;
+    steps_are = is.steps_are;
+    crossed = is.by_steps.crossed;
+    numbers = numbers_are;
+    certificate = certificate_is;
+    bound = bound_is;
+  }
 
-  cycles_bounded : CaseTreesBoundCycles → HasArcsOrEdges inst → 3 ≤ nodes_of inst → IsSymmetricTsp inst → IsScale (scale_in tree) → BoundsIfAny (is_directed inst.kind) (nodes_of inst) (cost inst) (given_in inst) bound
+  cycles_bounded : CaseTreesBoundCycles → HasArcsOrEdges inst → 3 ≤ nodes_of inst → IsSymmetricTsp inst → IsScale (scale_in tree)
+      → BoundsIfAny (is_directed inst.kind) (nodes_of inst) (cost inst) (given_in inst) bound
   cycles_bounded law kind some even scaled =
-      law (is_directed inst.kind) (nodes_of inst) (cost inst) (scale_in tree) decided_number (families_with_numbers tree is.by_steps.crossed) (given_in inst) (case_steps_in inst tree is.steps) bound
-      (costs_for (is_directed inst.kind) (nodes_of inst) (cost inst) some (λ undirected. even (tsp_of_undirected inst kind undirected))) scaled certificate_is bound_is
+      law (is_directed inst.kind) (nodes_of inst) (cost inst) (scale_in tree) decided_number
+      (families_with_numbers tree is.by_steps.crossed) (given_in inst) (case_steps_in inst tree is.steps) bound
+      (costs_for (is_directed inst.kind) (nodes_of inst) (cost inst) some
+      (λ undirected. even (tsp_of_undirected inst kind undirected))) scaled certificate_is bound_is
 
 tour_keeps : (inst : Fields) (nodes : List ℕ) → IsTourOf inst nodes → KeepsAll (is_directed inst.kind) nodes (given_in inst)
 tour_keeps inst nodes tour = keeps_given (is_directed inst.kind) nodes (fixed_of inst) tour.fixed_used
@@ -287,7 +332,8 @@ pub certified : (inst tree : Fields) (costs : ℕ → ℕ → ℤ) (bound : ℤ)
     → IsCertified Branches inst tree bound
 certified inst tree costs bound law kind some even scaled same sized is = (
   bound_by inst tree bound kind (has_bound inst tree costs (Some bound) same is),
-  λ nodes tour. cycles_bounded inst tree costs (Some bound) same is law kind some even scaled nodes tour.cycle (tour_keeps inst nodes tour),
+  λ nodes tour. cycles_bounded inst tree costs (Some bound) same is law kind some even scaled nodes tour.cycle
+      (tour_keeps inst nodes tour),
   sized,
 )
 
@@ -298,5 +344,6 @@ pub no_tour : (inst tree : Fields) (costs : ℕ → ℕ → ℤ) → CaseTreesBo
     → HasNoBoundByBranches inst tree × HasNoTour (problem_of inst)
 no_tour inst tree costs law kind some even scaled same is = (
   has_bound inst tree costs None same is,
-  λ nodes tour. cycles_bounded inst tree costs None same is law kind some even scaled nodes tour.cycle (tour_keeps inst nodes tour),
+  λ nodes tour. cycles_bounded inst tree costs None same is law kind some even scaled nodes tour.cycle
+      (tour_keeps inst nodes tour),
 )

@@ -12,9 +12,11 @@ returns-in-Ok g c =
     let duals = c.args.duals.now in
     let held = c.requires.held in
     let fits : FitsSigned w128 c.in-Ok.bound = search rules in
-    rw (to_z-of_z w128 c.in-Ok.bound fits) (assigned c.args.inst.now pot (g.C.Costs.nodes c.args.c.now) (g.C.Costs.at c.args.c.now)
+    rw (to_z-of_z w128 c.in-Ok.bound fits)
+    (assigned c.args.inst.now pot (g.C.Costs.nodes c.args.c.now) (g.C.Costs.at c.args.c.now)
     duals.scale duals.rows.now duals.columns.now c.in-Ok.bound
-    c.duals_bound_cycles.ensures c.requires.kind c.requires.some held.scaled (duals_are pot _ _ _ held) (rows_counted pot _ _ _ held ∙ c.requires.count)
+    c.duals_bound_cycles.ensures c.requires.kind c.requires.some held.scaled (duals_are pot _ _ _ held)
+    (rows_counted pot _ _ _ held ∙ c.requires.count)
     (columns_counted pot _ _ _ held ∙ c.requires.count) c.requires.keeps c.in-Ok.ensures.value c.in-Ok.ensures.size)
 
 pub returns-in-Err : goal.returns-in-Err

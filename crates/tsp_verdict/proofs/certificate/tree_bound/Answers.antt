@@ -17,6 +17,7 @@ returns-in-Ok g c =
     subst (λ bound. IsCertified Potentials c.args.inst.now pot bound) (sym (to_z-of_z w128 c.in-Ok.found.bound fits))
     (certified c.args.inst.now pot (g.C.Costs.nodes c.args.c.now) (g.C.Costs.at c.args.c.now)
     numbers.potentials.scale numbers.potentials.numbers.now numbers.multipliers.triples.now c.in-Ok.found.bound
-    c.adjusted_bounds_bound_cycles.ensures.cycles held.multipliers_are c.requires.listed c.requires.kind c.requires.even c.requires.some
+    c.adjusted_bounds_bound_cycles.ensures.cycles held.multipliers_are c.requires.listed c.requires.kind c.requires.even
+    c.requires.some
     held.scaled held.scale_is held.numbers_are (numbers_counted pot _ _ _ held ∙ c.requires.count) c.requires.keeps
     (c.in-Ok.ensures.bound, c.in-Ok.ensures.size))

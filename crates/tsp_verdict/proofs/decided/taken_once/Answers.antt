@@ -14,24 +14,30 @@ pairs-preserved c =
     let st = c.pairs in
     let pairs = c.args.pairs.now in
     let has = has_more_keys c.args.directed st.seen c.insert.new.set pairs st.pair-index (0, 0) c.pairs-test.true
-    (subst (λ p. Updates pair_cmp st.seen c.insert.new.set p true) c.key_of.ensures c.in_ok-is_new.ensures.updates) st.invariant.has in
+    (subst (λ p. Updates pair_cmp st.seen c.insert.new.set p true) c.key_of.ensures c.in_ok-is_new.ensures.updates)
+    st.invariant.has in
     elim c.if-is_new.branch [
       | then-is_new+in_ok-push w ↦
           let lacks : contains pair_cmp st.seen (key_of c.args.directed (slice_index_or pairs st.pair-index (0, 0))) ≡ false =
-          subst (λ p. contains pair_cmp st.seen p ≡ false) c.key_of.ensures (not-true _ (sym c.in_ok-is_new.ensures.added ∙ w.if-is_new.true)) in
+          subst (λ p. contains pair_cmp st.seen p ≡ false) c.key_of.ensures
+          (not-true _ (sym c.in_ok-is_new.ensures.added ∙ w.if-is_new.true)) in
           rw w.taken-is (record {
             has = has;
-            so_far = taken_new c.args.directed pairs st.taken.items w.push.new.list.items st.pair-index st.seen c.pairs-test.true st.invariant.has lacks w.in_ok-push.ensures.items st.invariant.so_far;
+            so_far = taken_new c.args.directed pairs st.taken.items w.push.new.list.items st.pair-index st.seen c.pairs-test.true
+                st.invariant.has lacks w.in_ok-push.ensures.items st.invariant.so_far;
           })
       | else-is_new w ↦
           let there : contains pair_cmp st.seen (key_of c.args.directed (slice_index_or pairs st.pair-index (0, 0))) ≡ true =
-          subst (λ p. contains pair_cmp st.seen p ≡ true) c.key_of.ensures (not-false _ (sym c.in_ok-is_new.ensures.added ∙ w.if-is_new.false)) in
+          subst (λ p. contains pair_cmp st.seen p ≡ true) c.key_of.ensures
+          (not-false _ (sym c.in_ok-is_new.ensures.added ∙ w.if-is_new.false)) in
           rw w.taken-is (record {
             has = has;
-            so_far = taken_known c.args.directed pairs st.taken.items st.pair-index st.seen c.pairs-test.true st.invariant.has there st.invariant.so_far;
+            so_far = taken_known c.args.directed pairs st.taken.items st.pair-index st.seen c.pairs-test.true st.invariant.has
+                there st.invariant.so_far;
           })
     ]
 
 pub returns : goal.returns
 returns c =
-    taken_all c.args.directed c.args.pairs.now c.pairs.taken.items c.pairs.pair-index (omega (arith, c.pairs-test.false)) c.pairs.invariant.so_far
+    taken_all c.args.directed c.args.pairs.now c.pairs.taken.items c.pairs.pair-index (omega (arith, c.pairs-test.false))
+    c.pairs.invariant.so_far

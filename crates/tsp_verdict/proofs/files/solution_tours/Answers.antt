@@ -11,4 +11,5 @@ both (Some x) P R Q S held none some = some x held
 
 pub returns : goal.returns
 returns c =
-    both c.as_tours.result _ _ _ _ c.as_tours.ensures (no_tours c.args.sol.now) (λ tours held. tours_held c.args.sol.now tours.now held.0 held.1 held.2)
+    both c.as_tours.result _ _ _ _ c.as_tours.ensures (no_tours c.args.sol.now)
+    (λ tours held. tours_held c.args.sol.now tours.now held.0 held.1 held.2)

@@ -8,5 +8,6 @@ use Rattle.tsp_verdict.proofs.fixed.first_unused.Given as goal
 abbrev pub invariant-pairs : goal.invariant-pairs
 invariant-pairs l = record {
   counted : l.index ≡ l.pair-index;
-  used : (cycle : List ℕ) → AreNext cycle l.next → (k : ℕ) (d : ℕ × ℕ) → k < l.pair-index → Uses l.directed cycle (slice_index_or l.fixed k d);
+  used : (cycle : List ℕ) → AreNext cycle l.next → (k : ℕ) (d : ℕ × ℕ) → k < l.pair-index
+      → Uses l.directed cycle (slice_index_or l.fixed k d);
 }

@@ -4,7 +4,9 @@ use Rattle.tsp_verdict.proofs.FixedPairs.{uses_other, uses_none}
 use Rattle.tsp_verdict.proofs.fixed.is_used.Goals as goal
 
 pub returns-then-directed : goal.returns-then-directed
-returns-then-directed c = λ cycle m. uses_none c.args.directed cycle c.args.next.now c.args.pair m c.if-next-pair.false c.if-directed.true
+returns-then-directed c =
+    λ cycle m. uses_none c.args.directed cycle c.args.next.now c.args.pair m c.if-next-pair.false c.if-directed.true
 
 pub returns : goal.returns
-returns c = λ cycle m. uses_other c.args.directed cycle c.args.next.now c.args.pair _ m c.requires.0.0 c.if-next-pair.false c.if-directed.false refl
+returns c = λ cycle m. uses_other c.args.directed cycle c.args.next.now c.args.pair _ m c.requires.0.0 c.if-next-pair.false
+    c.if-directed.false refl

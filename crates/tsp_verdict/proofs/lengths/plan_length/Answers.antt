@@ -39,7 +39,8 @@ overflow_add-length c =
     let stands : StandsAfter before (nodes_in c.args.routes.now) nodes =
     stands_here c.args.routes.now c.routes.route-index before c.route-item.result nodes c.routes-test.true c.route-item.is refl
     c.as_slice-nodes.ensures.value in
-    let few : before + c.routes.route-index + (length nodes + 1) ≤ 2000001 = omega (arith, stands.inside, c.requires.size, c.requires.few, c.routes-test.true) in
+    let few : before + c.routes.route-index + (length nodes + 1) ≤ 2000001 =
+    omega (arith, stands.inside, c.requires.size, c.requires.few, c.routes-test.true) in
     let other : IsSumOf (length nodes + 1) c.route_length-length.result = c.route_length-length.ensures.size in
     omega (arith, ints, few, c.routes.invariant.size.low, c.routes.invariant.size.high, other.low, other.high)
 
@@ -50,17 +51,25 @@ routes-preserved c =
     let nodes : List ℕ = c.as_slice-nodes.result.now in
     let so_far : ℤ = to_z w64 c.routes.length-bits in
     let stands : StandsAfter before (nodes_in c.args.routes.now) nodes =
-    stands_here c.args.routes.now index before c.route-item.result nodes c.routes-test.true c.route-item.is refl c.as_slice-nodes.ensures.value in
-    let few : before + index + (length nodes + 1) ≤ 2000001 = omega (arith, stands.inside, c.requires.size, c.requires.few, c.routes-test.true) in
+    stands_here c.args.routes.now index before c.route-item.result nodes c.routes-test.true c.route-item.is refl
+    c.as_slice-nodes.ensures.value in
+    let few : before + index + (length nodes + 1) ≤ 2000001 =
+    omega (arith, stands.inside, c.requires.size, c.requires.few, c.routes-test.true) in
     let more : before + length nodes ≡ length (nodes_in (take (index + 1) c.args.routes.now)) =
-    count_here c.args.routes.now index before c.route-item.result nodes c.routes-test.true c.route-item.is refl c.as_slice-nodes.ensures.value in
-    let count : before + index + (length nodes + 1) ≡ length (nodes_in (take (index + 1) c.args.routes.now)) + (index + 1) = omega (arith, more) in
+    count_here c.args.routes.now index before c.route-item.result nodes c.routes-test.true c.route-item.is refl
+    c.as_slice-nodes.ensures.value in
+    let count : before + index + (length nodes + 1) ≡ length (nodes_in (take (index + 1) c.args.routes.now)) + (index + 1) =
+    omega (arith, more) in
     let other : IsSumOf (length nodes + 1) c.route_length-length.result = c.route_length-length.ensures.size in
-    let sum = sum_fits so_far c.route_length-length.result (before + index) (length nodes + 1) few c.routes.invariant.size other in
+    let sum = sum_fits so_far c.route_length-length.result (before + index) (length nodes + 1) few c.routes.invariant.size
+    other in
     let value : c.route_length-length.result ≡ length_of (cost c.args.inst.now) (c.args.depot ∷ c.route-item.result.items) =
-    c.route_length-length.ensures.value ∙ ap (λ (xs : List ℕ). length_of (cost c.args.inst.now) (c.args.depot ∷ xs)) c.as_slice-nodes.ensures.value in
+    c.route_length-length.ensures.value ∙ ap (λ (xs : List ℕ). length_of (cost c.args.inst.now) (c.args.depot ∷ xs))
+    c.as_slice-nodes.ensures.value in
     record {
       size = rw sum (subst (λ k. IsSumOf k (so_far +ℤ c.route_length-length.result)) count
           (sum_more so_far c.route_length-length.result (before + index) (length nodes + 1) c.routes.invariant.size other));
-      so_far = rw (sum, value) (plan_more (cost c.args.inst.now) c.args.depot so_far _ c.args.routes.now index c.route-item.result c.routes-test.true c.route-item.is c.routes.invariant.so_far);
+      so_far = rw (sum, value)
+          (plan_more (cost c.args.inst.now) c.args.depot so_far _ c.args.routes.now index c.route-item.result c.routes-test.true
+          c.route-item.is c.routes.invariant.so_far);
     }

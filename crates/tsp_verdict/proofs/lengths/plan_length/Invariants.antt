@@ -10,5 +10,6 @@ use Rattle.tsp_verdict.proofs.lengths.plan_length.Given as goal
 abbrev pub invariant-routes : goal.invariant-routes
 invariant-routes l = record {
   size : IsSumOf (length (nodes_in (take l.route-index l.routes)) + l.route-index) l.length;
-  so_far : (l.length +ℤ plan_length (cost l.inst) l.depot (map (λ r. r.items) (drop l.route-index l.routes))) ≡ plan_length (cost l.inst) l.depot (map (λ r. r.items) l.routes);
+  so_far : (l.length +ℤ plan_length (cost l.inst) l.depot (map (λ r. r.items) (drop l.route-index l.routes))) ≡ plan_length
+      (cost l.inst) l.depot (map (λ r. r.items) l.routes);
 }

@@ -14,7 +14,15 @@ use Rattle.tsp_verdict.proofs.lengths.route_length.Goals as goal
 pub overflow_add-length : goal.overflow_add-length
 overflow_add-length c =
     let few : c.nodes.node-index ≤ 1000000 = omega (arith, c.nodes-test.true, c.requires.size) in
-    omega (arith, ints, few, c.nodes.invariant.size.low, c.nodes.invariant.size.high, c.cost-length.ensures.low, c.cost-length.ensures.high)
+    omega (
+      arith,
+      ints,
+      few,
+      c.nodes.invariant.size.low,
+      c.nodes.invariant.size.high,
+      c.cost-length.ensures.low,
+      c.cost-length.ensures.high,
+    )
 
 pub nodes-preserved : goal.nodes-preserved
 nodes-preserved c =
@@ -26,11 +34,13 @@ nodes-preserved c =
     let few : index + 1 ≤ 2000001 = omega (arith, c.nodes-test.true, c.requires.size) in
     let one = sum_one c.cost-length.result c.cost-length.ensures.low c.cost-length.ensures.high in
     let sum = sum_fits so_far c.cost-length.result index 1 few c.nodes.invariant.size one in
-    let parts : drop index route ≡ node ∷ drop (index + 1) route = drop-cons route index 0 c.nodes-test.true ∙ rw (add-one index) refl in
+    let parts : drop index route ≡ node ∷ drop (index + 1) route = drop-cons route index 0 c.nodes-test.true
+    ∙ rw (add-one index) refl in
     record {
       from = in_node;
       size = rw sum (sum_more so_far c.cost-length.result index 1 c.nodes.invariant.size one);
-      so_far = rw (sum, c.cost-length.ensures.value) (length_more (cost c.args.inst.now) so_far (length_to (cost c.args.inst.now) c.args.depot c.args.depot route)
+      so_far = rw (sum, c.cost-length.ensures.value)
+          (length_more (cost c.args.inst.now) so_far (length_to (cost c.args.inst.now) c.args.depot c.args.depot route)
           c.args.depot c.nodes.from node (drop index route) (drop (index + 1) route) parts c.nodes.invariant.so_far);
     }
 
@@ -49,7 +59,9 @@ returns c =
     let one = sum_one c.cost.result c.cost.ensures.low c.cost.ensures.high in
     let sum = sum_fits so_far c.cost.result index 1 few c.nodes.invariant.size one in
     record {
-      value = rw (sum, c.cost.ensures.value) (length_last (cost c.args.inst.now) so_far (length_to (cost c.args.inst.now) c.args.depot c.args.depot route)
+      value = rw (sum, c.cost.ensures.value)
+          (length_last (cost c.args.inst.now) so_far (length_to (cost c.args.inst.now) c.args.depot c.args.depot route)
           c.args.depot c.nodes.from (drop index route) (drop_all index route (omega (arith, last))) c.nodes.invariant.so_far);
-      size = rw sum (subst (λ (k : ℕ). IsSumOf (k + 1) (so_far +ℤ c.cost.result)) last (sum_more so_far c.cost.result index 1 c.nodes.invariant.size one));
+      size = rw sum (subst (λ (k : ℕ). IsSumOf (k + 1) (so_far +ℤ c.cost.result)) last
+          (sum_more so_far c.cost.result index 1 c.nodes.invariant.size one));
     }

@@ -12,5 +12,6 @@ abbrev pub invariant-nodes : goal.invariant-nodes
 invariant-nodes l = record {
   from : IsNode (nodes_of l.inst) l.from;
   size : IsSumOf l.node-index l.length;
-  so_far : (l.length +ℤ length_to (cost l.inst) l.depot l.from (drop l.node-index l.route)) ≡ length_to (cost l.inst) l.depot l.depot l.route;
+  so_far : (l.length +ℤ length_to (cost l.inst) l.depot l.from (drop l.node-index l.route)) ≡ length_to (cost l.inst) l.depot
+      l.depot l.route;
 }

@@ -34,10 +34,13 @@ routes-preserved c =
     let capacity_fits : FitsSigned w64 c.args.capacity = search rules in
     let load_fits : FitsSigned w64 c.load.result = search rules in
     let below = simp to_z-of_z at c.if-load-capacity.false in
-    let value : load_of c.args.demands.now c.route-item.result.items ≡ c.load.result = ap (load_of c.args.demands.now) (sym c.as_slice-nodes.ensures.value) ∙ sym c.load.ensures in
-    let carries : load_of c.args.demands.now c.route-item.result.items ≤ℤ c.args.capacity = rw value (not_over c.load.result c.args.capacity below) in
+    let value : load_of c.args.demands.now c.route-item.result.items ≡ c.load.result =
+    ap (load_of c.args.demands.now) (sym c.as_slice-nodes.ensures.value) ∙ sym c.load.ensures in
+    let carries : load_of c.args.demands.now c.route-item.result.items ≤ℤ c.args.capacity =
+    rw value (not_over c.load.result c.args.capacity below) in
     let before = simp to_z-of_z at c.routes.invariant.so_far in
     record {
       counted = omega (arith, c.routes.invariant.counted);
-      so_far = simp to_z-of_z (carried_more c.args.demands.now c.args.capacity c.args.routes.now c.routes.route-index c.route-item.result c.routes-test.true c.route-item.is carries before);
+      so_far = simp to_z-of_z (carried_more c.args.demands.now c.args.capacity c.args.routes.now c.routes.route-index
+          c.route-item.result c.routes-test.true c.route-item.is carries before);
     }

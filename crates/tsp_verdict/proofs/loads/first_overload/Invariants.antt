@@ -7,5 +7,6 @@ use Rattle.tsp_verdict.proofs.loads.first_overload.Given as goal
 abbrev pub invariant-routes : goal.invariant-routes
 invariant-routes l = record {
   counted : l.index ≡ l.route-index;
-  so_far : (k : ℕ) (d : List ℕ) → k < l.route-index → load_of l.demands (slice_index_or (map (λ r. r.items) l.routes) k d) ≤ℤ l.capacity;
+  so_far : (k : ℕ) (d : List ℕ) → k < l.route-index
+      → load_of l.demands (slice_index_or (map (λ r. r.items) l.routes) k d) ≤ℤ l.capacity;
 }

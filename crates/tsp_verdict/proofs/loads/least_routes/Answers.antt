@@ -12,5 +12,6 @@ returns c =
     let total : ℤ = c.total-total.result in
     let total_fits : FitsSigned w64 c.total-total.result = search rules in
     let capacity_fits : FitsSigned w64 c.args.capacity = search rules in
-    simp to_z-of_z (subst (λ (z : ℤ). IsLeastRoutes z c.args.capacity ((nat_abs c.total-total.result + (nat_abs c.args.capacity - 1)) / nat_abs c.args.capacity)) c.total-total.ensures.value
+    simp to_z-of_z (subst (λ (z : ℤ). IsLeastRoutes z c.args.capacity
+    ((nat_abs c.total-total.result + (nat_abs c.args.capacity - 1)) / nat_abs c.args.capacity)) c.total-total.ensures.value
     (least_of c.total-total.result c.args.capacity c.total-total.ensures.low c.requires.capacity.0))

@@ -23,4 +23,5 @@ demands-preserved c =
 pub returns-clause-value : goal.returns-clause-value
 unfolding nodes_to
 returns-clause-value c =
-    total_end c.args.demands.now (to_z w64 c.demands.sum-bits) _ c.demands.demand-index c.demands-test.false c.demands.invariant.so_far
+    total_end c.args.demands.now (to_z w64 c.demands.sum-bits) _ c.demands.demand-index c.demands-test.false
+    c.demands.invariant.so_far

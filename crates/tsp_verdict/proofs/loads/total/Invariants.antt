@@ -9,5 +9,6 @@ use Rattle.tsp_verdict.proofs.loads.total.Given as goal
 abbrev pub invariant-demands : goal.invariant-demands
 invariant-demands l = record {
   size : IsLoadOf l.demand-index l.sum;
-  so_far : (l.sum +ℤ load_of l.demands (range_with_len (l.demand-index + 1) (length l.demands - l.demand-index))) ≡ load_of l.demands (range_with_len 1 (length l.demands));
+  so_far : (l.sum +ℤ load_of l.demands (range_with_len (l.demand-index + 1) (length l.demands - l.demand-index))) ≡ load_of
+      l.demands (range_with_len 1 (length l.demands));
 }

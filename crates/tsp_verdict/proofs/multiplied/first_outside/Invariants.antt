@@ -9,5 +9,6 @@ use Rattle.tsp_verdict.proofs.multiplied.first_outside.Given as goal
 abbrev pub invariant-triples : goal.invariant-triples
 invariant-triples l = record {
   counted : l.index ≡ l.triple-index;
-  inside : (k : ℕ) (d : ℕ × ℕ × ℤ) → k < l.triple-index → contains pair_cmp l.set (undirected (pair_of (slice_index_or l.triples k d))) ≡ true;
+  inside : (k : ℕ) (d : ℕ × ℕ × ℤ) → k < l.triple-index
+      → contains pair_cmp l.set (undirected (pair_of (slice_index_or l.triples k d))) ≡ true;
 }

@@ -9,5 +9,7 @@ abbrev pub invariant-triples : goal.invariant-triples
 invariant-triples l = record {
   counted : l.index ≡ l.triple-index;
   has : HasPairs pair_of l.seen (take l.triple-index l.triples);
-  apart : (i j : ℕ) → i < j → j < l.triple-index → is_same_pair (pair_of (slice_index_or l.triples i (0, 0, pos 0))) (pair_of (slice_index_or l.triples j (0, 0, pos 0))) ≡ false;
+  apart : (i j : ℕ) → i < j → j < l.triple-index
+      → is_same_pair (pair_of (slice_index_or l.triples i (0, 0, pos 0))) (pair_of (slice_index_or l.triples j (0, 0, pos 0)))
+      ≡ false;
 }

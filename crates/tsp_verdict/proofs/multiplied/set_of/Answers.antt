@@ -9,8 +9,10 @@ use Rattle.tsp_verdict.proofs.multiplied.set_of.Goals as goal
 pub pairs-preserved : goal.pairs-preserved
 pairs-preserved c =
     has_more (λ pair. pair) c.pairs.set c.insert.new.set c.args.pairs.now c.pairs.pair-index (0, 0) c.pairs-test.true
-    (subst (λ p. Updates pair_cmp c.pairs.set c.insert.new.set p true) c.key_of.ensures c.in_ok-insert.ensures.updates) c.pairs.invariant
+    (subst (λ p. Updates pair_cmp c.pairs.set c.insert.new.set p true) c.key_of.ensures c.in_ok-insert.ensures.updates)
+    c.pairs.invariant
 
 pub returns : goal.returns
 returns c =
-    subst (λ ps. HasPairs (λ pair. pair) c.pairs.set ps) (take_all c.pairs.pair-index c.args.pairs.now (omega (arith, c.pairs-test.false))) c.pairs.invariant
+    subst (λ ps. HasPairs (λ pair. pair) c.pairs.set ps)
+    (take_all c.pairs.pair-index c.args.pairs.now (omega (arith, c.pairs-test.false))) c.pairs.invariant

@@ -8,5 +8,6 @@ pub returns : goal.returns
 returns c =
     let nodes : List ℕ = c.args.nodes.now in
     let blank : c.in_ok-seen.seen.items ≡ replicate (c.args.n + 1) false = search rules in
-    let fresh : Marked nodes c.in_ok-seen.seen.items 0 = subst (λ (xs : List Bool). Marked nodes xs 0) (sym blank) (none_marked nodes (c.args.n + 1)) in
+    let fresh : Marked nodes c.in_ok-seen.seen.items 0 =
+    subst (λ (xs : List Bool). Marked nodes xs 0) (sym blank) (none_marked nodes (c.args.n + 1)) in
     found_whole nodes c.mark.new.seen.items c.mark.result (c.mark.ensures.marks nodes 0 (stands_whole nodes) fresh)

@@ -13,7 +13,8 @@ index_mut-requires c = omega (arith, c.requires.range c.nodes.node-index 0 c.nod
 pub returns-then-index : goal.returns-then-index
 returns-then-index c =
     let index : ℕ = c.nodes.node-index in
-    let fits : get_or c.args.nodes.now index 0 < length c.nodes.seen.items = omega (arith, c.requires.range index 0 c.nodes-test.true, c.nodes.invariant.wide, c.nodes.seen.ok.0) in
+    let fits : get_or c.args.nodes.now index 0 < length c.nodes.seen.items =
+    omega (arith, c.requires.range index 0 c.nodes-test.true, c.nodes.invariant.wide, c.nodes.seen.ok.0) in
     let taken : get_or c.nodes.seen.items (get_or c.args.nodes.now index 0) false ≡ true =
     mark_is c.nodes.seen.items (get_or c.args.nodes.now index 0) c.index.result.now _ fits c.index.ensures c.if-index.true in
     record {
@@ -28,12 +29,14 @@ returns-then-index c =
 pub nodes-preserved : goal.nodes-preserved
 nodes-preserved c =
     let index : ℕ = c.nodes.node-index in
-    let fits : get_or c.args.nodes.now index 0 < length c.nodes.seen.items = omega (arith, c.requires.range index 0 c.nodes-test.true, c.nodes.invariant.wide, c.nodes.seen.ok.0) in
+    let fits : get_or c.args.nodes.now index 0 < length c.nodes.seen.items =
+    omega (arith, c.requires.range index 0 c.nodes-test.true, c.nodes.invariant.wide, c.nodes.seen.ok.0) in
     let free : get_or c.nodes.seen.items (get_or c.args.nodes.now index 0) false ≡ false =
     mark_is c.nodes.seen.items (get_or c.args.nodes.now index 0) c.index.result.now _ fits c.index.ensures c.if-index.false in
     record {
       counted = omega (arith, c.nodes.invariant.counted);
       wide = c.nodes.invariant.wide;
       marks = λ all before stands marked.
-          mark_next all c.args.nodes.now c.nodes.seen.items before index stands c.nodes-test.true fits free (c.nodes.invariant.marks all before stands marked);
+          mark_next all c.args.nodes.now c.nodes.seen.items before index stands c.nodes-test.true fits free
+          (c.nodes.invariant.marks all before stands marked);
     }

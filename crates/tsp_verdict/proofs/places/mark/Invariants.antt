@@ -8,5 +8,6 @@ abbrev pub invariant-nodes : goal.invariant-nodes
 invariant-nodes l = record {
   counted : l.place ≡ l.node-index;
   wide : vec_len l.seen ≡ vec_len l.initial.seen;
-  marks : (all : List ℕ) (before : ℕ) → StandsAfter before all l.nodes → Marked all l.initial.seen.items before → Marked all l.seen.items (before + l.node-index);
+  marks : (all : List ℕ) (before : ℕ) → StandsAfter before all l.nodes → Marked all l.initial.seen.items before
+      → Marked all l.seen.items (before + l.node-index);
 }

@@ -17,23 +17,28 @@ returns-in-Some-first_unmarked c =
     let inst : Fields = c.args.inst.now in
     let sol : Fields = c.args.sol.now in
     let seen : List Bool = c.mark_all.new.seen.items in
-    let wide : vec_len c.mark_all.new.seen ≡ nodes_of inst + 1 = omega (arith, c.in_default-mark_all.ensures.len, c.in_ok-seen.ensures.len, c.count.ensures.value) in
+    let wide : vec_len c.mark_all.new.seen ≡ nodes_of inst + 1 =
+    omega (arith, c.in_default-mark_all.ensures.len, c.in_ok-seen.ensures.len, c.count.ensures.value) in
     let marked : IsMarked inst sol seen (vec_len c.mark_all.new.seen) =
     is_marked inst sol _ seen _ c.in-Ok.ensures.4.nodes wide (c.in_default.ensures.1 0) c.in_default-mark_all.ensures.marks in
-    unserved_first inst sol seen (vec_len c.mark_all.new.seen) c.in-Ok.found.0 c.in-Some-first_unmarked.node marked c.in-Ok.ensures.0 c.in-Some-first_unmarked.ensures
+    unserved_first inst sol seen (vec_len c.mark_all.new.seen) c.in-Ok.found.0 c.in-Some-first_unmarked.node marked
+    c.in-Ok.ensures.0 c.in-Some-first_unmarked.ensures
 
 pub returns-in-Some-first_overload : goal.returns-in-Some-first_overload
 returns-in-Some-first_overload c =
     let inst : Fields = c.args.inst.now in
     let sol : Fields = c.args.sol.now in
     let seen : List Bool = c.mark_all.new.seen.items in
-    let wide : vec_len c.mark_all.new.seen ≡ nodes_of inst + 1 = omega (arith, c.in_default-mark_all.ensures.len, c.in_ok-seen.ensures.len, c.count.ensures.value) in
+    let wide : vec_len c.mark_all.new.seen ≡ nodes_of inst + 1 =
+    omega (arith, c.in_default-mark_all.ensures.len, c.in_ok-seen.ensures.len, c.count.ensures.value) in
     let marked : IsMarked inst sol seen (vec_len c.mark_all.new.seen) =
     is_marked inst sol _ seen _ c.in-Ok.ensures.4.nodes wide (c.in_default.ensures.1 0) c.in_default-mark_all.ensures.marks in
-    let served = all_served inst sol seen (vec_len c.mark_all.new.seen) c.in-Ok.found.0 marked c.in-Ok.ensures.0 c.in_default-first_unmarked.ensures in
+    let served = all_served inst sol seen (vec_len c.mark_all.new.seen) c.in-Ok.found.0 marked c.in-Ok.ensures.0
+    c.in_default-first_unmarked.ensures in
     let fits : FitsSigned w64 c.routing-routing.result.capacity = search rules in
     let first = simp to_z-of_z at c.in-Some-first_overload.ensures in
-    overload_first inst sol _ c.routing-routing.result.demands.now c.routing-routing.result.capacity c.in-Some-first_overload.route c.in-Ok.ensures.4.value
+    overload_first inst sol _ c.routing-routing.result.demands.now c.routing-routing.result.capacity
+    c.in-Some-first_overload.route c.in-Ok.ensures.4.value
     c.routing-routing.ensures.demands c.routing-routing.ensures.capacity
     (none_unserved inst sol marked.none served) first
 
@@ -42,17 +47,21 @@ returns c =
     let inst : Fields = c.args.inst.now in
     let sol : Fields = c.args.sol.now in
     let seen : List Bool = c.mark_all.new.seen.items in
-    let wide : vec_len c.mark_all.new.seen ≡ nodes_of inst + 1 = omega (arith, c.in_default-mark_all.ensures.len, c.in_ok-seen.ensures.len, c.count.ensures.value) in
+    let wide : vec_len c.mark_all.new.seen ≡ nodes_of inst + 1 =
+    omega (arith, c.in_default-mark_all.ensures.len, c.in_ok-seen.ensures.len, c.count.ensures.value) in
     let marked : IsMarked inst sol seen (vec_len c.mark_all.new.seen) =
     is_marked inst sol _ seen _ c.in-Ok.ensures.4.nodes wide (c.in_default.ensures.1 0) c.in_default-mark_all.ensures.marks in
-    let served = all_served inst sol seen (vec_len c.mark_all.new.seen) c.in-Ok.found.0 marked c.in-Ok.ensures.0 c.in_default-first_unmarked.ensures in
+    let served = all_served inst sol seen (vec_len c.mark_all.new.seen) c.in-Ok.found.0 marked c.in-Ok.ensures.0
+    c.in_default-first_unmarked.ensures in
     let capacity_fits : FitsSigned w64 c.routing-routing.result.capacity = search rules in
     let length_fits : FitsSigned w64 c.plan_length.result = search rules in
     let within = simp to_z-of_z at c.in_default-first_overload.ensures in
     let least = simp to_z-of_z at c.least_routes.ensures in
     simp to_z-of_z (is_planned inst sol seen (vec_len c.mark_all.new.seen) (map (λ route. route.items) c.in-Ok.found.1.now)
-    c.routing-routing.result.demands.now c.routing-routing.result.capacity c.in-Ok.found.0 c.plan_length.result (length c.in-Ok.found.1.now)
+    c.routing-routing.result.demands.now c.routing-routing.result.capacity c.in-Ok.found.0 c.plan_length.result
+    (length c.in-Ok.found.1.now)
     c.least_routes.result
-    c.in-Ok.ensures.4.value c.routing-routing.ensures.demands c.routing-routing.ensures.each c.routing-routing.ensures.capacity c.in-Ok.ensures.0
+    c.in-Ok.ensures.4.value c.routing-routing.ensures.demands c.routing-routing.ensures.each c.routing-routing.ensures.capacity
+    c.in-Ok.ensures.0
     c.in_default.ensures.0 marked served c.routing-routing.ensures.each_demand c.in-Ok.ensures.2
     within c.plan_length.ensures (sym (as_many c.in-Ok.found.1.now)) least)

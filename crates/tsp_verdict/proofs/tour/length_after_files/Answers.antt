@@ -23,8 +23,10 @@ returns-in_err-place c =
     let inst : Fields = c.args.inst.now in
     let sol : Fields = c.args.sol.now in
     let tour : List ℕ = c.in-Ok.tour.now in
-    let high : All (λ node. node ≤ nodes_of inst) tour = subst (λ n. All (λ node. node ≤ n) tour) c.count-nodes.ensures.value c.in_default.ensures in
-    let none : NoneOfTourBeforeRepeats inst sol = λ place. none_up_to_repeats inst sol tour c.in-Ok.ensures.0 (c.in-Ok.ensures.3 0) high in
+    let high : All (λ node. node ≤ nodes_of inst) tour =
+    subst (λ n. All (λ node. node ≤ n) tour) c.count-nodes.ensures.value c.in_default.ensures in
+    let none : NoneOfTourBeforeRepeats inst sol =
+    λ place. none_up_to_repeats inst sol tour c.in-Ok.ensures.0 (c.in-Ok.ensures.3 0) high in
     search (rules, none)
 
 pub returns-in-Some-2 : goal.returns-in-Some-2
@@ -32,23 +34,28 @@ returns-in-Some-2 c =
     let inst : Fields = c.args.inst.now in
     let sol : Fields = c.args.sol.now in
     let tour : List ℕ = c.in-Ok.tour.now in
-    let high : All (λ node. node ≤ nodes_of inst) tour = subst (λ n. All (λ node. node ≤ n) tour) c.count-nodes.ensures.value c.in_default.ensures in
+    let high : All (λ node. node ≤ nodes_of inst) tour =
+    subst (λ n. All (λ node. node ≤ n) tour) c.count-nodes.ensures.value c.in_default.ensures in
     let first = rw c.in-Some-2.is at c.in_ok-place.ensures in
-    repeated_first inst sol tour c.in-Some-2.place c.in-Ok.ensures.0 (none_up_to_repeats inst sol tour c.in-Ok.ensures.0 (c.in-Ok.ensures.3 0) high) first
+    repeated_first inst sol tour c.in-Some-2.place c.in-Ok.ensures.0
+    (none_up_to_repeats inst sol tour c.in-Ok.ensures.0 (c.in-Ok.ensures.3 0) high) first
 
 pub returns-in_err-next : goal.returns-in_err-next
 returns-in_err-next c =
     let inst : Fields = c.args.inst.now in
     let sol : Fields = c.args.sol.now in
     let tour : List ℕ = c.in-Ok.tour.now in
-    let high : All (λ node. node ≤ nodes_of inst) tour = subst (λ n. All (λ node. node ≤ n) tour) c.count-nodes.ensures.value c.in_default.ensures in
-    let none : NoneOfTourBeforeRepeats inst sol = λ place. none_up_to_repeats inst sol tour c.in-Ok.ensures.0 (c.in-Ok.ensures.3 0) high in
+    let high : All (λ node. node ≤ nodes_of inst) tour =
+    subst (λ n. All (λ node. node ≤ n) tour) c.count-nodes.ensures.value c.in_default.ensures in
+    let none : NoneOfTourBeforeRepeats inst sol =
+    λ place. none_up_to_repeats inst sol tour c.in-Ok.ensures.0 (c.in-Ok.ensures.3 0) high in
     search (rules, none)
 
 pub next_nodes-requires : goal.next_nodes-requires
 next_nodes-requires c =
     let once = rw c.in_default-2.is at c.in_ok-place.ensures in
-    is_cycle c.count-nodes.result c.in-Ok.tour.now (c.in-Ok.ensures.1 ∙ sym c.count-nodes.ensures.value) c.in-Ok.ensures.2 c.in_default.ensures once
+    is_cycle c.count-nodes.result c.in-Ok.tour.now (c.in-Ok.ensures.1 ∙ sym c.count-nodes.ensures.value) c.in-Ok.ensures.2
+    c.in_default.ensures once
 
 pub returns-in-Some-first_unused : goal.returns-in-Some-first_unused
 returns-in-Some-first_unused c =
@@ -56,10 +63,14 @@ returns-in-Some-first_unused c =
     let sol : Fields = c.args.sol.now in
     let tour : List ℕ = c.in-Ok.tour.now in
     let once = rw c.in_default-2.is at c.in_ok-place.ensures in
-    let high : All (λ node. node ≤ nodes_of inst) tour = subst (λ n. All (λ node. node ≤ n) tour) c.count-nodes.ensures.value c.in_default.ensures in
-    let none : NoneOfTourBefore inst sol (FixedEdgeUnused 1) = none_up_to_fixed inst sol tour c.in-Ok.ensures.0 (c.in-Ok.ensures.3 0) high once in
-    let way : c.is_directed-directed.result ≡ is_directed inst.kind = c.is_directed-directed.ensures ∙ ap is_directed c.kind.ensures.value in
-    let next : AreNext tour c.as_slice.result.now = subst (λ (xs : List ℕ). AreNext tour xs) (sym c.as_slice.ensures.value) c.in_ok-next.ensures.1 in
+    let high : All (λ node. node ≤ nodes_of inst) tour =
+    subst (λ n. All (λ node. node ≤ n) tour) c.count-nodes.ensures.value c.in_default.ensures in
+    let none : NoneOfTourBefore inst sol (FixedEdgeUnused 1) =
+    none_up_to_fixed inst sol tour c.in-Ok.ensures.0 (c.in-Ok.ensures.3 0) high once in
+    let way : c.is_directed-directed.result ≡ is_directed inst.kind = c.is_directed-directed.ensures
+    ∙ ap is_directed c.kind.ensures.value in
+    let next : AreNext tour c.as_slice.result.now =
+    subst (λ (xs : List ℕ). AreNext tour xs) (sym c.as_slice.ensures.value) c.in_ok-next.ensures.1 in
     unused_first inst sol tour c.is_directed-directed.result c.fixed.result.now c.in-Some-first_unused.index c.in-Ok.ensures.0 way
     c.fixed.ensures.value none (c.in-Some-first_unused.ensures tour next)
 
@@ -70,11 +81,16 @@ returns c =
     let tour : List ℕ = c.in-Ok.tour.now in
     let fits : FitsSigned w64 c.tour_length.result = search rules in
     let once = rw c.in_default-2.is at c.in_ok-place.ensures in
-    let high : All (λ node. node ≤ nodes_of inst) tour = subst (λ n. All (λ node. node ≤ n) tour) c.count-nodes.ensures.value c.in_default.ensures in
-    let none : NoneOfTourBefore inst sol (FixedEdgeUnused 1) = none_up_to_fixed inst sol tour c.in-Ok.ensures.0 (c.in-Ok.ensures.3 0) high once in
+    let high : All (λ node. node ≤ nodes_of inst) tour =
+    subst (λ n. All (λ node. node ≤ n) tour) c.count-nodes.ensures.value c.in_default.ensures in
+    let none : NoneOfTourBefore inst sol (FixedEdgeUnused 1) =
+    none_up_to_fixed inst sol tour c.in-Ok.ensures.0 (c.in-Ok.ensures.3 0) high once in
     let cycle : IsCycle (nodes_of inst) tour = is_cycle (nodes_of inst) tour c.in-Ok.ensures.1 c.in-Ok.ensures.2 high once in
-    let way : c.is_directed-directed.result ≡ is_directed inst.kind = c.is_directed-directed.ensures ∙ ap is_directed c.kind.ensures.value in
-    let next : AreNext tour c.as_slice.result.now = subst (λ (xs : List ℕ). AreNext tour xs) (sym c.as_slice.ensures.value) c.in_ok-next.ensures.1 in
-    let yes = is_yes inst sol tour c.is_directed-directed.result c.fixed.result.now c.tour_length.result c.in-Ok.ensures.0 way c.fixed.ensures.value
+    let way : c.is_directed-directed.result ≡ is_directed inst.kind = c.is_directed-directed.ensures
+    ∙ ap is_directed c.kind.ensures.value in
+    let next : AreNext tour c.as_slice.result.now =
+    subst (λ (xs : List ℕ). AreNext tour xs) (sym c.as_slice.ensures.value) c.in_ok-next.ensures.1 in
+    let yes = is_yes inst sol tour c.is_directed-directed.result c.fixed.result.now c.tour_length.result c.in-Ok.ensures.0 way
+    c.fixed.ensures.value
     none cycle (c.in_default-first_unused.ensures tour next) c.tour_length.ensures in
     (yes.0, simp to_z-of_z yes.1, refl)

@@ -35,16 +35,22 @@ invariant_of-cases g c =
     record {
       some = omega (arith, c.requires.some, own);
       even = even_view c.args.instance.now directed (g.C.Costs.at c.args.costs.now) c.requires.kind
-          (directed_is directed c.args.instance.now c.kind.result c.is_directed-directed.ensures c.kind.ensures.value) c.requires.even c.requires.keeps.every;
+          (directed_is directed c.args.instance.now c.kind.result c.is_directed-directed.ensures c.kind.ensures.value)
+          c.requires.even c.requires.keeps.every;
       scaled = subst IsScale (sym (to_z-of_z w64 tree.scale scaled)) held.scaled;
-      few_families = let few = held.each_comb.few in let long = length-map tree.combs.now (λ (sets : Vec (Vec ℕ)). lists_of sets.items) in omega (arith, few, long);
+      few_families = let few = held.each_comb.few in
+          let long = length-map tree.combs.now (λ (sets : Vec (Vec ℕ)). lists_of sets.items) in omega (arith, few, long);
       few_sets = families_few (nodes_of c.args.branches.now) tree.combs.now held.each_comb;
-      few_given = let few = given_few directed most_fixed c.deref.result.now c.fixed.result.now given_is c.fixed.ensures.few in omega (arith, few);
+      few_given = let few = given_few directed most_fixed c.deref.result.now c.fixed.result.now given_is c.fixed.ensures.few in
+          omega (arith, few);
       few_steps = steps_few c.args.branches.now tree.steps.now held.each_step;
-      sets_are = subst (λ (m : ℕ). AreFamiliesOf m tree.combs.now) same (families_hold (nodes_of c.args.branches.now) tree.combs.now held.each_comb);
-      given_are = given_are directed n c.deref.result.now c.fixed.result.now given_is (subst (λ (m : ℕ). All (IsPairOf m) c.fixed.result.now) own c.fixed.ensures.range);
+      sets_are = subst (λ (m : ℕ). AreFamiliesOf m tree.combs.now) same
+          (families_hold (nodes_of c.args.branches.now) tree.combs.now held.each_comb);
+      given_are = given_are directed n c.deref.result.now c.fixed.result.now given_is
+          (subst (λ (m : ℕ). All (IsPairOf m) c.fixed.result.now) own c.fixed.ensures.range);
       given_once = given_once directed c.deref.result.now c.fixed.result.now given_is;
-      steps_are = ∣ subst (λ (m : ℕ). All (IsStepOf m) (steps_of tree.steps.now)) same (steps_hold c.args.branches.now (steps_of tree.steps.now) held.each_step) ∣₁;
+      steps_are = ∣ subst (λ (m : ℕ). All (IsStepOf m) (steps_of tree.steps.now)) same
+          (steps_hold c.args.branches.now (steps_of tree.steps.now) held.each_step) ∣₁;
       whole = held.each_step.whole;
     }
 
@@ -60,12 +66,18 @@ returns-in-Bound-Some g c =
     let given = c.deref.result.now in
     let steps = steps_of c.args.tree.now.steps.now in
     let scaled : FitsSigned w64 c.args.tree.now.scale = search rules in
-    let are = are_of inst tree c.is_directed-directed.result n (to_z w64 (of_z w64 c.args.tree.now.scale)) combs c.fixed.result.now given steps (directed_is c.is_directed-directed.result inst c.kind.result c.is_directed-directed.ensures c.kind.ensures.value) c.requires.keeps.count
-    (to_z-of_z w64 c.args.tree.now.scale scaled ∙ c.requires.held.scale_is) c.requires.held.combs_are c.fixed.ensures.value (c.deref.ensures.value ∙ c.in_ok-given.ensures) c.requires.held.steps_are in
+    let are = are_of inst tree c.is_directed-directed.result n (to_z w64 (of_z w64 c.args.tree.now.scale)) combs
+    c.fixed.result.now given steps
+    (directed_is c.is_directed-directed.result inst c.kind.result c.is_directed-directed.ensures c.kind.ensures.value)
+    c.requires.keeps.count
+    (to_z-of_z w64 c.args.tree.now.scale scaled ∙ c.requires.held.scale_is) c.requires.held.combs_are c.fixed.ensures.value
+    (c.deref.ensures.value ∙ c.in_ok-given.ensures) c.requires.held.steps_are in
     let bound = c.in-Bound-Some.bound in
-    let is = subst (IsBranchVerdict c.is_directed-directed.result n costs (to_z w64 (of_z w64 c.args.tree.now.scale)) families given steps) whole c.in_ok-bound.ensures.verdict in
+    let is = subst (IsBranchVerdict c.is_directed-directed.result n costs (to_z w64 (of_z w64 c.args.tree.now.scale)) families
+    given steps) whole c.in_ok-bound.ensures.verdict in
     let fits : FitsSigned w128 bound = search rules in
-    let all_told = told inst tree c.is_directed-directed.result n costs _ families given steps (found.Bound (Some bound)) are is in
+    let all_told = told inst tree c.is_directed-directed.result n costs _ families given steps (found.Bound (Some bound)) are
+    is in
     rw (to_z-of_z w128 bound fits) (
       none_stands c.numbers_are_unique.ensures inst tree costs (Some bound) c.requires.sort c.requires.count all_told,
       certified inst tree costs bound c.case_trees_bound_cycles.ensures.cycles c.requires.kind c.requires.some c.requires.even
@@ -85,9 +97,14 @@ returns-in-Bound-None g c =
     let given = c.deref.result.now in
     let steps = steps_of c.args.tree.now.steps.now in
     let scaled : FitsSigned w64 c.args.tree.now.scale = search rules in
-    let are = are_of inst tree c.is_directed-directed.result n (to_z w64 (of_z w64 c.args.tree.now.scale)) combs c.fixed.result.now given steps (directed_is c.is_directed-directed.result inst c.kind.result c.is_directed-directed.ensures c.kind.ensures.value) c.requires.keeps.count
-    (to_z-of_z w64 c.args.tree.now.scale scaled ∙ c.requires.held.scale_is) c.requires.held.combs_are c.fixed.ensures.value (c.deref.ensures.value ∙ c.in_ok-given.ensures) c.requires.held.steps_are in
-    let is = subst (IsBranchVerdict c.is_directed-directed.result n costs (to_z w64 (of_z w64 c.args.tree.now.scale)) families given steps) whole c.in_ok-bound.ensures.verdict in
+    let are = are_of inst tree c.is_directed-directed.result n (to_z w64 (of_z w64 c.args.tree.now.scale)) combs
+    c.fixed.result.now given steps
+    (directed_is c.is_directed-directed.result inst c.kind.result c.is_directed-directed.ensures c.kind.ensures.value)
+    c.requires.keeps.count
+    (to_z-of_z w64 c.args.tree.now.scale scaled ∙ c.requires.held.scale_is) c.requires.held.combs_are c.fixed.ensures.value
+    (c.deref.ensures.value ∙ c.in_ok-given.ensures) c.requires.held.steps_are in
+    let is = subst (IsBranchVerdict c.is_directed-directed.result n costs (to_z w64 (of_z w64 c.args.tree.now.scale)) families
+    given steps) whole c.in_ok-bound.ensures.verdict in
     let all_told = told inst tree c.is_directed-directed.result n costs _ families given steps (found.Bound None) are is in
     let gone = no_tour inst tree costs c.case_trees_bound_cycles.ensures.cycles c.requires.kind c.requires.some c.requires.even
     (subst IsScale c.requires.held.scale_is c.requires.held.scaled) c.requires.keeps.every all_told in
@@ -104,17 +121,29 @@ returns-in-BadFamily g c =
     let given = c.deref.result.now in
     let steps = steps_of c.args.tree.now.steps.now in
     let scaled : FitsSigned w64 c.args.tree.now.scale = search rules in
-    let are = are_of inst tree c.is_directed-directed.result n (to_z w64 (of_z w64 c.args.tree.now.scale)) combs c.fixed.result.now given steps (directed_is c.is_directed-directed.result inst c.kind.result c.is_directed-directed.ensures c.kind.ensures.value) c.requires.keeps.count
-    (to_z-of_z w64 c.args.tree.now.scale scaled ∙ c.requires.held.scale_is) c.requires.held.combs_are c.fixed.ensures.value (c.deref.ensures.value ∙ c.in_ok-given.ensures) c.requires.held.steps_are in
-    let is = subst (IsBranchVerdict c.is_directed-directed.result n costs (to_z w64 (of_z w64 c.args.tree.now.scale)) families given steps) c.in-BadFamily.is c.in_ok-bound.ensures.verdict in
-    comb_first inst tree costs c.in-BadFamily.index c.requires.sort c.requires.count (told inst tree c.is_directed-directed.result n costs _ families given steps (found.BadFamily c.in-BadFamily.index) are is)
+    let are = are_of inst tree c.is_directed-directed.result n (to_z w64 (of_z w64 c.args.tree.now.scale)) combs
+    c.fixed.result.now given steps
+    (directed_is c.is_directed-directed.result inst c.kind.result c.is_directed-directed.ensures c.kind.ensures.value)
+    c.requires.keeps.count
+    (to_z-of_z w64 c.args.tree.now.scale scaled ∙ c.requires.held.scale_is) c.requires.held.combs_are c.fixed.ensures.value
+    (c.deref.ensures.value ∙ c.in_ok-given.ensures) c.requires.held.steps_are in
+    let is = subst (IsBranchVerdict c.is_directed-directed.result n costs (to_z w64 (of_z w64 c.args.tree.now.scale)) families
+    given steps) c.in-BadFamily.is c.in_ok-bound.ensures.verdict in
+    comb_first inst tree costs c.in-BadFamily.index c.requires.sort c.requires.count
+    (told inst tree c.is_directed-directed.result n costs _ families given steps (found.BadFamily c.in-BadFamily.index) are is)
 
 pub overflow_cast-result-in-BranchTwice : goal.overflow_cast-result-in-BranchTwice
 overflow_cast-result-in-BranchTwice g c =
     let steps = steps_of c.args.tree.now.steps.now in
     let given = c.deref.result.now in
-    let is = subst (IsBranchVerdict c.is_directed-directed.result _ _ _ _ given steps) c.in-BranchTwice.is c.in_ok-bound.ensures.verdict in
-    omega (arith, twice_within c.is_directed-directed.result given steps c.in-BranchTwice.index is.2, length-map c.args.tree.now.steps.now step_of, steps_few c.args.branches.now c.args.tree.now.steps.now c.requires.held.each_step)
+    let is = subst (IsBranchVerdict c.is_directed-directed.result _ _ _ _ given steps) c.in-BranchTwice.is
+    c.in_ok-bound.ensures.verdict in
+    omega (
+      arith,
+      twice_within c.is_directed-directed.result given steps c.in-BranchTwice.index is.2,
+      length-map c.args.tree.now.steps.now step_of,
+      steps_few c.args.branches.now c.args.tree.now.steps.now c.requires.held.each_step,
+    )
 
 pub returns-in-BranchTwice : goal.returns-in-BranchTwice
 returns-in-BranchTwice g c =
@@ -127,18 +156,30 @@ returns-in-BranchTwice g c =
     let given = c.deref.result.now in
     let steps = steps_of c.args.tree.now.steps.now in
     let scaled : FitsSigned w64 c.args.tree.now.scale = search rules in
-    let are = are_of inst tree c.is_directed-directed.result n (to_z w64 (of_z w64 c.args.tree.now.scale)) combs c.fixed.result.now given steps (directed_is c.is_directed-directed.result inst c.kind.result c.is_directed-directed.ensures c.kind.ensures.value) c.requires.keeps.count
-    (to_z-of_z w64 c.args.tree.now.scale scaled ∙ c.requires.held.scale_is) c.requires.held.combs_are c.fixed.ensures.value (c.deref.ensures.value ∙ c.in_ok-given.ensures) c.requires.held.steps_are in
-    let is = subst (IsBranchVerdict c.is_directed-directed.result n costs (to_z w64 (of_z w64 c.args.tree.now.scale)) families given steps) c.in-BranchTwice.is c.in_ok-bound.ensures.verdict in
+    let are = are_of inst tree c.is_directed-directed.result n (to_z w64 (of_z w64 c.args.tree.now.scale)) combs
+    c.fixed.result.now given steps
+    (directed_is c.is_directed-directed.result inst c.kind.result c.is_directed-directed.ensures c.kind.ensures.value)
+    c.requires.keeps.count
+    (to_z-of_z w64 c.args.tree.now.scale scaled ∙ c.requires.held.scale_is) c.requires.held.combs_are c.fixed.ensures.value
+    (c.deref.ensures.value ∙ c.in_ok-given.ensures) c.requires.held.steps_are in
+    let is = subst (IsBranchVerdict c.is_directed-directed.result n costs (to_z w64 (of_z w64 c.args.tree.now.scale)) families
+    given steps) c.in-BranchTwice.is c.in_ok-bound.ensures.verdict in
     twice_first inst tree costs c.in-BranchTwice.index c.requires.sort c.requires.count
-    (told inst tree c.is_directed-directed.result n costs _ families given steps (found.BranchTwice c.in-BranchTwice.index) are is)
+    (told inst tree c.is_directed-directed.result n costs _ families given steps (found.BranchTwice c.in-BranchTwice.index) are
+    is)
 
 pub overflow_cast-result-in-BadLeaf : goal.overflow_cast-result-in-BadLeaf
 overflow_cast-result-in-BadLeaf g c =
     let n : ℕ = g.C.Costs.nodes c.args.costs.now in
     let steps = steps_of c.args.tree.now.steps.now in
-    let is = subst (IsBranchVerdict c.is_directed-directed.result n _ _ _ _ steps) c.in-BadLeaf.is c.in_ok-bound.ensures.verdict in
-    omega (arith, bad_within n is.crossed steps c.in-BadLeaf.index is.leaves, length-map c.args.tree.now.steps.now step_of, steps_few c.args.branches.now c.args.tree.now.steps.now c.requires.held.each_step)
+    let is = subst (IsBranchVerdict c.is_directed-directed.result n _ _ _ _ steps) c.in-BadLeaf.is
+    c.in_ok-bound.ensures.verdict in
+    omega (
+      arith,
+      bad_within n is.crossed steps c.in-BadLeaf.index is.leaves,
+      length-map c.args.tree.now.steps.now step_of,
+      steps_few c.args.branches.now c.args.tree.now.steps.now c.requires.held.each_step,
+    )
 
 pub returns : goal.returns
 returns g c =
@@ -151,7 +192,13 @@ returns g c =
     let given = c.deref.result.now in
     let steps = steps_of c.args.tree.now.steps.now in
     let scaled : FitsSigned w64 c.args.tree.now.scale = search rules in
-    let are = are_of inst tree c.is_directed-directed.result n (to_z w64 (of_z w64 c.args.tree.now.scale)) combs c.fixed.result.now given steps (directed_is c.is_directed-directed.result inst c.kind.result c.is_directed-directed.ensures c.kind.ensures.value) c.requires.keeps.count
-    (to_z-of_z w64 c.args.tree.now.scale scaled ∙ c.requires.held.scale_is) c.requires.held.combs_are c.fixed.ensures.value (c.deref.ensures.value ∙ c.in_ok-given.ensures) c.requires.held.steps_are in
-    let is = subst (IsBranchVerdict c.is_directed-directed.result n costs (to_z w64 (of_z w64 c.args.tree.now.scale)) families given steps) c.in-BadLeaf.is c.in_ok-bound.ensures.verdict in
-    leaf_first inst tree costs c.in-BadLeaf.index c.requires.sort c.requires.count (told inst tree c.is_directed-directed.result n costs _ families given steps (found.BadLeaf c.in-BadLeaf.index) are is)
+    let are = are_of inst tree c.is_directed-directed.result n (to_z w64 (of_z w64 c.args.tree.now.scale)) combs
+    c.fixed.result.now given steps
+    (directed_is c.is_directed-directed.result inst c.kind.result c.is_directed-directed.ensures c.kind.ensures.value)
+    c.requires.keeps.count
+    (to_z-of_z w64 c.args.tree.now.scale scaled ∙ c.requires.held.scale_is) c.requires.held.combs_are c.fixed.ensures.value
+    (c.deref.ensures.value ∙ c.in_ok-given.ensures) c.requires.held.steps_are in
+    let is = subst (IsBranchVerdict c.is_directed-directed.result n costs (to_z w64 (of_z w64 c.args.tree.now.scale)) families
+    given steps) c.in-BadLeaf.is c.in_ok-bound.ensures.verdict in
+    leaf_first inst tree costs c.in-BadLeaf.index c.requires.sort c.requires.count
+    (told inst tree c.is_directed-directed.result n costs _ families given steps (found.BadLeaf c.in-BadLeaf.index) are is)

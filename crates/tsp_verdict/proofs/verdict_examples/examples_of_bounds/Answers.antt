@@ -39,6 +39,7 @@ returns-clause-duals c = λ inst bound is.
 
 pub returns-clause-branches : goal.returns-clause-branches
 returns-clause-branches c = λ inst found is.
-    subst₂ (λ (families : List Family) (steps : List listed.Step). IsCaseTreeBound (is_directed inst.kind) (nodes_of inst) (cost inst) (pos 2)
+    subst₂ (λ (families : List Family) (steps : List listed.Step). IsCaseTreeBound (is_directed inst.kind) (nodes_of inst)
+    (cost inst) (pos 2)
     decided_number families (given_in inst) (case_steps_in inst halves_of_leaf steps) found)
     (no_families is.crossed) (the_list (listed.Leaf [] ∷ []) is.steps is.steps_are) is.bound

@@ -9,7 +9,11 @@ use Rattle.tsp_verdict.proofs.subject.Subject.length_of_tour.Goals as goal
 pub returns-then-is_some_and : goal.returns-then-is_some_and
 returns-then-is_some_and c =
     let is : is_tour_file c.args.sol.now.kind ≡ true = search rules in
-    record { stands = search rules; none_before = up_to_dimension c.args.self.now.instance.now c.args.sol.now is c.in-Ok.ensures.0 }
+    record {
+      stands = search rules;
+      none_before =
+          up_to_dimension c.args.self.now.instance.now c.args.sol.now is c.in-Ok.ensures.0;
+    }
 
 pub length_after_files-requires-clause-before : goal.length_after_files-requires-clause-before
 length_after_files-requires-clause-before c =
