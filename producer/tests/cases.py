@@ -535,7 +535,7 @@ def finding_tsp():
     shutil.copy(CERTIFY, "above/here")
     words = [os.path.abspath("above/here/tsp-certify"), "a.tsp", "-o", "out.branches", "--tour-out", "out.tour"]
     def find(path, *more):
-        return subprocess.run([*words, *more], capture_output=True, text=True, env={"PATH": path}, timeout=100)
+        return subprocess.run([*words, *more], capture_output=True, text=True, env={**os.environ, "PATH": path}, timeout=100)
 
     for place, path in ((None, "/nowhere"), ("above", "/nowhere"), ("on-path", os.path.abspath("on-path"))):
         if place:
