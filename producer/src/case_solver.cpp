@@ -149,7 +149,8 @@ bool CaseSolver::stalled(const std::vector<double>& values, const Patience& pati
   return values.back() - values[values.size() - 1 - patience.window] < patience.least_gain * gap();
 }
 
-bool CaseSolver::add_cuts(const Effort& effort, int round) {
+bool CaseSolver::add_cuts(Effort effort, int round) {
+  if (far_) effort.reach = kFarReach;
   const bool added = separation_.add_cuts(effort);
   if (added && round % kProgram.rounds_of_purge == 0)
     relaxation_.purge(whole_ ? kProgram.slack_at_root : kProgram.slack_in_tree);
@@ -208,6 +209,11 @@ bool CaseSolver::tighten(Numbers& numbers) {
     values.push_back(relaxation_.value());
     const bool stall = stalled(values, patience) && !relaxation_.is_whole();
     if (!stall && add_cuts(level, round)) continue;
+    if (whole_ && !far_ && has_large_gap()) {
+      far_ = true;
+      values.clear();
+      if (add_cuts(level, round)) continue;
+    }
     if (!whole_ || level == kCutting.levels || (problem_.start.families && has_large_gap())) return false;
     level++;
     if (stall) values.clear();
@@ -230,8 +236,8 @@ bool CaseSolver::tighten_by_families(const Effort& effort, Numbers& numbers) {
   return false;
 }
 
-bool CaseSolver::has_large_gap() const {
-  return gap() >= kCutting.large_gap * std::abs(static_cast<double>(goal_.length));
+bool CaseSolver::is_large(double gap) const {
+  return gap >= kCutting.large_gap * std::abs(static_cast<double>(goal_.length));
 }
 
 // Whether the root is worth families: where the gap is large, or the tree by what the best branch gains.
@@ -284,6 +290,7 @@ void CaseSolver::load(const Case& here) {
   whole_ = here.whole;
   large_tree_ = here.large_tree;
   root_gap_ = here.root_gap;
+  far_ = !whole_ && is_large(root_gap_);
   choice_.reset();
   branching_.set_history(here.history ? *here.history : History{});
   separation_.begin(here.warm ? here.warm->experience : Experience{}, here.seed);

@@ -113,10 +113,11 @@ class CaseSolver {
   bool solve_round(int round, Numbers& numbers);
   bool tighten(Numbers& numbers);
   bool tighten_by_families(const Effort& effort, Numbers& numbers);
-  bool has_large_gap() const;
+  bool is_large(double gap) const;
+  bool has_large_gap() const { return is_large(gap()); }
   bool wants_families();
   bool add_cuts(int level, int round);
-  bool add_cuts(const Effort& effort, int round);
+  bool add_cuts(Effort effort, int round);
   bool stalled(const std::vector<double>& values, const Patience& patience) const;
   double gap() const { return static_cast<double>(goal_.target) - relaxation_.value(); }
   void improve(const Case& here, Outcome& outcome);
@@ -145,6 +146,7 @@ class CaseSolver {
   Goal goal_{};
   bool shorter_ = false;  // the tour is shorter than the one that was given
   bool whole_ = false, large_tree_ = false;
+  bool far_ = false;  // cuts may have large sets
   double root_gap_ = 0;
   std::optional<Pair> choice_;  // the branch, where it was chosen before
   Note note_;

@@ -85,10 +85,10 @@ void Chunks::link_parts() {
   }
 }
 
-void Chunks::shrink(int kind) {
+void Chunks::shrink(int kind, std::size_t largest) {
   part_of_.assign(nodes_, std::nullopt);
   parts_.clear();
-  if (kind > 0) take_tight_sets(kFamilies.largest_sets[kind]);
+  if (kind > 0) take_tight_sets(largest);
   for (int v = 0; v < nodes_; v++) {
     if (!part_of_[v]) take_path(v, kind > 1 && random_.below(2) == 0);
   }

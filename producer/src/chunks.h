@@ -19,8 +19,9 @@ class Chunks {
   // Tight sets are crossed twice by the solution.
   Chunks(const Graph& graph, const std::vector<const NodeSet*>& tight, Random& random)
       : graph_(graph), tight_(tight), random_(random), nodes_(static_cast<int>(graph.size())) {}
-  // Shrinks the graph anew, the more the larger the kind, from 0 to 3.
-  void shrink(int kind);
+  // Shrinks the graph anew, the more the larger the kind, from 0 to 3, and by tight sets of at most as many
+  // nodes.
+  void shrink(int kind, std::size_t largest);
   // The parts of the shrunk graph with an edge in part, in a random order.
   std::vector<int> centers();
   // A ball of this many parts around one, and the rest, as atoms. Nothing if the ball is too small.

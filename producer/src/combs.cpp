@@ -3,8 +3,6 @@
 #include <algorithm>
 #include <array>
 
-#include "parameters.h"
-
 namespace certify {
 namespace {
 constexpr double kNoComb = -9;
@@ -45,11 +43,12 @@ void Handle::set(const NodeSet& nodes) {
 }
 
 CombSearch::CombSearch(const Graph& graph, const CutPool& pool, const Runs& runs, Random& random,
-                       double least_violation)
+                       const Effort& effort)
     : graph_(graph),
       runs_(runs),
       random_(random),
-      least_(least_violation),
+      effort_(effort),
+      least_(effort.least_violation),
       count_(static_cast<int>(graph.size())),
       handle_(graph, pool),
       paths_(components(graph, [](double value) { return value > 1 - 1e-6; })),
@@ -320,7 +319,7 @@ CombSearch::Step CombSearch::best_step() {
   std::vector<int> tried, flipped;
   for (const int v : nodes) {
     const NodeSet& path = paths_[path_of_[v]];
-    if (path.size() < 2 || path.size() > kCombs.longest_path) continue;
+    if (path.size() < 2 || path.size() > effort_.reach.longest_path) continue;
     if (std::find(tried.begin(), tried.end(), path_of_[v]) != tried.end()) continue;
     tried.push_back(path_of_[v]);
     flipped.clear();
@@ -343,8 +342,8 @@ void CombSearch::climb(const NodeSet& start) {
   handle_.set(start);
   double best = with_runs(kNoComb);
   int patience = kCombs.patience;
-  for (int k = 0; k < kCombs.most_steps && patience > 0 && handle_.nodes().size() < kCombs.largest_handle;
-       k++) {
+  const std::size_t largest = effort_.reach.largest_handle;
+  for (int k = 0; k < kCombs.most_steps && patience > 0 && handle_.nodes().size() < largest; k++) {
     const Step step = best_step();
     if (step.node < 0) break;
     if (step.path) {
@@ -359,16 +358,17 @@ void CombSearch::climb(const NodeSet& start) {
   handle_.clear();
 }
 
-std::vector<FoundComb> CombSearch::find(const std::vector<NodeSet>& known, int climbs, int growths) {
+std::vector<FoundComb> CombSearch::find(const std::vector<NodeSet>& known) {
   seed_parts();
   for (const NodeSet& set : known) seed(set);
   for (int v = 0; v < count_; v++) {
     if (!fractional(v)) continue;
-    for (int k = 0; k < growths; k++) grow(v, k > 0);
+    for (int k = 0; k < effort_.growths; k++) grow(v, k > 0);
   }
   handle_.clear();
   std::stable_sort(seeds_.begin(), seeds_.end(), [](auto& a, auto& b) { return a.first > b.first; });
-  for (std::size_t k = 0; k < seeds_.size() && static_cast<int>(k) < climbs; k++) climb(seeds_[k].second);
+  const std::size_t climbs = std::min(seeds_.size(), static_cast<std::size_t>(effort_.climbs));
+  for (std::size_t k = 0; k < climbs; k++) climb(seeds_[k].second);
   std::stable_sort(found_.begin(), found_.end(), [](auto& a, auto& b) { return a.violation > b.violation; });
   return std::move(found_);
 }

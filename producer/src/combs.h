@@ -8,6 +8,7 @@
 
 #include "cut_pool.h"
 #include "handle_table.h"
+#include "parameters.h"
 #include "random.h"
 #include "runs.h"
 
@@ -46,10 +47,10 @@ class Handle {
 
 class CombSearch {
  public:
-  CombSearch(const Graph& graph, const CutPool& pool, const Runs& runs, Random& random,
-             double least_violation);
-  // Known sets are handles to begin with. The best handles so far are climbed from, this many.
-  std::vector<FoundComb> find(const std::vector<NodeSet>& known, int climbs, int growths);
+  // The effort says how many of the best handles are climbed from, and how large sets may be.
+  CombSearch(const Graph& graph, const CutPool& pool, const Runs& runs, Random& random, const Effort& effort);
+  // Known sets are handles to begin with.
+  std::vector<FoundComb> find(const std::vector<NodeSet>& known);
 
  private:
   struct Interval {
@@ -94,6 +95,7 @@ class CombSearch {
   const Graph& graph_;
   const Runs& runs_;
   Random& random_;
+  const Effort& effort_;
   double least_;
   int count_;
   Handle handle_;

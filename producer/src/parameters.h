@@ -47,6 +47,19 @@ struct ProgramParameters {
 };
 inline constexpr ProgramParameters kProgram{};
 
+// How large the sets of cuts may be, in nodes.
+struct Reach {
+  std::size_t largest_handle = 200;  // that a climb goes on from
+  std::size_t longest_path = 60;     // of whole edges that a step takes
+  int longest_run = 100;             // of a tour of which all crossings are known
+  int longest_tooth = 60;
+  std::size_t largest_sets[4] = {0, 8, 20, 80};  // that a chunk shrinks, by the kind of a pass
+};
+// Most cuts are small, and larger ones take longer. Where few long edges join clusters, so that each tour
+// crosses some place four times, the missed cuts have hundreds of nodes: lattice 1000 1 had a gap of 0.80 %
+// after combs, and has 0.67 % with these, while uniform 1000 1 has 0.13 % by both.
+inline constexpr Reach kFarReach{500, 200, 300, 250, {0, 20, 100, 500}};
+
 // How much a round of cuts tries.
 struct Effort {
   int climbs = 0;   // by combs, from the best handles
@@ -56,6 +69,7 @@ struct Effort {
   int most_cuts = 200;        // combs of a round, and families
   bool tighten = false;       // nodes of cuts move to other atoms
   int atoms = 0, chunks = 0;  // of families; 0 looks for none
+  Reach reach{};
 };
 // Rounds are cheap at the root, and each later case gains from its cuts.
 inline constexpr Effort kRootEffort{.climbs = 400, .further_tours = 4};
@@ -90,7 +104,6 @@ struct SeparationParameters {
   double least_in_pool = 0.02;       // violation of a cut of the pool
   int most_handles_of_node = 12;     // of the combs of a round: near copies of one comb help little
   int most_sets_of_node = 60;        // of the families of a round
-  std::size_t largest_tight = 80;    // nodes of a set that a chunk may shrink
   int many_subtours = 10, many_from_pool = 50;  // then no combs are looked for, as the solution is far away
   std::size_t most_subtours = 60;               // of a round
   int near = 6;                                 // neighbours of a node in tours along the solution
@@ -100,18 +113,13 @@ inline constexpr SeparationParameters kSeparation{};
 
 // Combs by climbing.
 struct CombParameters {
-  int most_steps = 30;               // of a climb
-  int patience = 3;                  // steps that gain nothing
-  std::size_t largest_handle = 200;  // nodes; larger ones are seldom violated
-  std::size_t longest_path = 60;     // of whole edges that a step takes
-  int longest_run = 100;             // nodes of a tour of which all crossings are known
-  int longest_tooth = 60;
+  int most_steps = 30;  // of a climb
+  int patience = 3;     // steps that gain nothing
 };
 inline constexpr CombParameters kCombs{};
 
 // Families by small quotients.
 struct FamilyParameters {
-  std::size_t largest_sets[4] = {0, 8, 20, 80};     // that are shrunk, by the kind of a pass
   int fewest_parts = 5;                             // of a ball: fewer give combs at most
   double most_crossed = 4.6;                        // by the solution, of a set that a family may have
   long most_steps = 400000;                         // of the listing of such sets

@@ -88,13 +88,12 @@ std::uint64_t mixed(std::uint64_t number) {
 }  // namespace
 
 QuotientSearch::QuotientSearch(const Graph& graph, const std::vector<const NodeSet*>& tight, const Tour& tour,
-                               Random& random, std::unordered_set<std::uint64_t>& tried,
-                               double least_violation)
+                               Random& random, std::unordered_set<std::uint64_t>& tried, const Effort& effort)
     : graph_(graph),
       tour_(tour),
       random_(random),
       tried_(tried),
-      least_(least_violation),
+      effort_(effort),
       chunks_(graph, tight, random) {}
 
 AtomGraph QuotientSearch::graph_of(const Chunk& chunk) const {
@@ -129,7 +128,8 @@ std::uint64_t QuotientSearch::hash_of(const Chunk& chunk, const AtomGraph& betwe
   return hash;
 }
 
-void QuotientSearch::begin(Trial& trial, int atoms) const {
+void QuotientSearch::begin(Trial& trial) const {
+  const int atoms = effort_.atoms;
   const int balls[] = {atoms - 1, atoms + atoms / 2, kFamilies.wide_ball * atoms};
   trial.chunk = chunks_.around(trial.center, atoms, balls[trial.random.below(3)], trial.random);
   if (!trial.chunk) return;
@@ -192,17 +192,18 @@ std::optional<Family> QuotientSearch::rounded(const Chunk& chunk, const AtomGrap
   }
   Family family{sets_of(chunk, sets), 0, 0};
   const auto required = required_crossings(family.sets, static_cast<int>(graph_.size()));
-  if (!required || *required - crossed < least_) return std::nullopt;
+  if (!required || *required - crossed < effort_.least_violation) return std::nullopt;
   family.required = *required;
   family.depth = (*required - crossed) / std::sqrt(norm);
   return family;
 }
 
-std::vector<Family> QuotientSearch::find(int atoms, int most_chunks) {
+std::vector<Family> QuotientSearch::find() {
+  const int most_chunks = effort_.chunks;
   std::vector<Family> found;
   int tried = 0;
   for (int pass = 0; tried < most_chunks && pass < kFamilies.passes; pass++) {
-    chunks_.shrink(pass % 4);
+    chunks_.shrink(pass % 4, effort_.reach.largest_sets[pass % 4]);
     std::vector<int> centers = chunks_.centers();
     if (centers.empty()) break;
     centers.resize(
@@ -210,7 +211,7 @@ std::vector<Family> QuotientSearch::find(int atoms, int most_chunks) {
     std::vector<Trial> trials;
     trials.reserve(centers.size());
     for (const int center : centers) trials.push_back({center, Random(random_.next())});
-    for_each_at_once(trials.size(), [&](std::size_t k) { begin(trials[k], atoms); });
+    for_each_at_once(trials.size(), [&](std::size_t k) { begin(trials[k]); });
     std::erase_if(trials, [](const Trial& trial) { return !trial.chunk; });
     trials.resize(std::min(trials.size(), static_cast<std::size_t>(most_chunks - tried)), {0, Random(0)});
     tried += static_cast<int>(trials.size());

@@ -10,15 +10,17 @@
 #include "bonds.h"
 #include "chunks.h"
 #include "families.h"
+#include "parameters.h"
 
 namespace certify {
 class QuotientSearch {
  public:
-  // Chunks that gave nothing are known by their hash.
+  // Chunks that gave nothing are known by their hash. The effort says how many chunks of how many atoms there
+  // are.
   QuotientSearch(const Graph& graph, const std::vector<const NodeSet*>& tight, const Tour& tour,
-                 Random& random, std::unordered_set<std::uint64_t>& tried, double least_violation);
-  // Families from at most `most_chunks` chunks of at most `atoms` atoms, the deepest first.
-  std::vector<Family> find(int atoms, int most_chunks);
+                 Random& random, std::unordered_set<std::uint64_t>& tried, const Effort& effort);
+  // Families, the deepest first.
+  std::vector<Family> find();
 
  private:
   // A chunk around a part, with the values between its atoms.
@@ -30,7 +32,7 @@ class QuotientSearch {
     std::uint64_t hash = 0;
     std::optional<Family> family{};
   };
-  void begin(Trial& trial, int atoms) const;
+  void begin(Trial& trial) const;
   AtomGraph graph_of(const Chunk& chunk) const;
   std::uint64_t hash_of(const Chunk& chunk, const AtomGraph& between) const;
   std::optional<Family> family_of(Trial& trial) const;
@@ -43,7 +45,7 @@ class QuotientSearch {
   const Tour tour_;
   Random& random_;
   std::unordered_set<std::uint64_t>& tried_;
-  double least_;
+  const Effort& effort_;
   Chunks chunks_;
 };
 }  // namespace certify

@@ -2,20 +2,19 @@
 
 #include <algorithm>
 
-#include "parameters.h"
-
 namespace certify {
-Runs::Runs(const Graph& graph, const Tour& given)
+Runs::Runs(const Graph& graph, const Tour& given, const Reach& reach)
     : tour(given),
       place(given.size()),
       nodes_(static_cast<int>(given.size())),
-      longest_(std::min(kCombs.longest_run, nodes_ - 2)),
+      longest_(std::min(reach.longest_run, nodes_ - 2)),
+      longest_tooth_(std::min(reach.longest_tooth, longest_)),
       crossings_(static_cast<std::size_t>(nodes_) * (longest_ + 1), 0),
       over_(nodes_),
       best_gain_(nodes_, 0) {
   for (int k = 0; k < nodes_; k++) place[tour[k]] = k;
   count_crossings(graph);
-  std::vector<double> shortest(kCombs.longest_tooth + 2);
+  std::vector<double> shortest(longest_tooth_ + 2);
   for (int k = 0; k < nodes_; k++) choose_runs(k, shortest);
 }
 
@@ -36,7 +35,7 @@ void Runs::count_crossings(const Graph& graph) {
 // Keeps the runs from k - a to k + b that gain more than each shorter one inside them. shortest[b] is
 // the best gain of those with a smaller a.
 void Runs::choose_runs(int k, std::vector<double>& shortest) {
-  const int most = std::min(longest_, kCombs.longest_tooth);
+  const int most = longest_tooth_;
   std::fill(shortest.begin(), shortest.end(), 0.02);
   for (int a = 0; a < most; a++) {
     const int left = (k - a + nodes_) % nodes_;

@@ -3,6 +3,7 @@
 // Source: D. Applegate, R. Bixby, V. Chvatal and W. Cook, The Traveling Salesman Problem (2006), on
 // intervals of a tour and combs by dynamic programming.
 #pragma once
+#include "parameters.h"
 #include "support.h"
 
 namespace certify {
@@ -13,7 +14,7 @@ struct Run {
 
 class Runs {
  public:
-  Runs(const Graph& graph, const Tour& tour);
+  Runs(const Graph& graph, const Tour& tour, const Reach& reach);
   // The runs over the place between k and k + 1 that no shorter run is as good as.
   const std::vector<Run>& over(int k) const { return over_[k]; }
   double best_gain(int k) const { return best_gain_[k]; }
@@ -31,7 +32,7 @@ class Runs {
   void count_crossings(const Graph& graph);
   void choose_runs(int k, std::vector<double>& shortest);
 
-  int nodes_, longest_;
+  int nodes_, longest_, longest_tooth_;
   std::vector<float> crossings_;  // of the run from each place on, by its size
   std::vector<std::vector<Run>> over_;
   std::vector<double> best_gain_;

@@ -138,10 +138,9 @@ struct Separation::CombTrial {
 };
 
 void Separation::look(CombTrial& trial, const std::vector<NodeSet>& known, const Effort& effort) const {
-  const Runs runs(relaxation_.support(), tour_for(trial.number, trial.random));
+  const Runs runs(relaxation_.support(), tour_for(trial.number, trial.random), effort.reach);
   trial.sets = runs.crossed_too_little(0.01);
-  CombSearch search(relaxation_.support(), pool_, runs, trial.random, effort.least_violation);
-  trial.found = search.find(known, effort.climbs, effort.growths);
+  trial.found = CombSearch(relaxation_.support(), pool_, runs, trial.random, effort).find(known);
 }
 
 // As many tours at once as there are threads. What is taken is the same for any number of them.
@@ -195,23 +194,21 @@ double Separation::crossed(const NodeSet& set) {
 }
 
 // Sets of cuts with duals that the solution crosses twice.
-std::vector<const NodeSet*> Separation::tight_sets() {
+std::vector<const NodeSet*> Separation::tight_sets(std::size_t largest) {
   std::vector<const NodeSet*> tight;
   for (std::size_t row = 0; row < relaxation_.cuts().size(); row++) {
     if (relaxation_.cut_dual(row) <= 1e-7) continue;
     for (const NodeSet& set : pool_[relaxation_.cuts()[row]].sets) {
-      if (set.size() >= 3 && set.size() <= kSeparation.largest_tight && crossed(set) < 2 + 1e-5)
-        tight.push_back(&set);
+      if (set.size() >= 3 && set.size() <= largest && crossed(set) < 2 + 1e-5) tight.push_back(&set);
     }
   }
   return tight;
 }
 
 void Separation::families(Round& round, const Effort& effort) {
-  const std::vector<const NodeSet*> tight = tight_sets();
-  QuotientSearch search(relaxation_.support(), tight, best_, random_, experience_.chunks,
-                        effort.least_violation);
-  const std::vector<Family> found = search.find(effort.atoms, effort.chunks);
+  const std::vector<const NodeSet*> tight = tight_sets(effort.reach.largest_sets[3]);
+  QuotientSearch search(relaxation_.support(), tight, best_, random_, experience_.chunks, effort);
+  const std::vector<Family> found = search.find();
   std::vector<int> uses(scratch_.size(), 0);
   int count = 0;
   for (const Family& family : found) {

@@ -43,7 +43,7 @@ class Separation {
   void combs(Round& round, const Effort& effort);
   void tighten_cuts(Round& round, const Effort& effort);
   void families(Round& round, const Effort& effort);
-  std::vector<const NodeSet*> tight_sets();
+  std::vector<const NodeSet*> tight_sets(std::size_t largest);
   double crossed(const NodeSet& set);
   bool take(Round& round, int cut, double least_violation);
   void take_combs(Round& round, const std::vector<FoundComb>& found, const Effort& effort);

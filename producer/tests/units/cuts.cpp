@@ -39,15 +39,32 @@ TEST_CASE("the comb of a prism") {
   for (int k = 0; k < 3; k++) join(k, k + 3, 1);
   CutPool pool(6);
   Random random(1);
-  const Runs runs(graph, {0, 1, 2, 5, 4, 3});
-  CombSearch search(graph, pool, runs, random, 0.01);
-  const std::vector<FoundComb> found = search.find({}, 10, 1);
+  const Effort effort{.climbs = 10, .growths = 1};
+  const Runs runs(graph, {0, 1, 2, 5, 4, 3}, effort.reach);
+  CombSearch search(graph, pool, runs, random, effort);
+  const std::vector<FoundComb> found = search.find({});
   CHECK((!found.empty() && found[0].violation > 0.99 && pool.is_comb(found[0].sets)));  // the comb of a prism
   CHECK(ViolationMeter(graph).violation(pool[pool.add_comb(found.at(0).sets)]) >
         0.99);                                                // its violation by its sets
   CHECK(!pool.is_comb({{0, 1, 2}, {0, 3}, {1, 4}}));          // two teeth are no comb
   CHECK(!pool.is_comb({{0, 1, 2}, {0, 3}, {1, 3}, {2, 5}}));  // teeth with a common node are no comb
   CHECK(!pool.is_comb({{0, 1, 2}, {0, 1}, {2, 4}, {3, 5}}));  // a tooth has nodes inside and outside
+}
+
+// Two rings of 120 nodes each, which no edge joins.
+TEST_CASE("a set may be as large as the reach says") {
+  Graph graph(240);
+  Tour tour;
+  for (int v = 0; v < 240; v++) {
+    const int next = v % 120 == 119 ? v - 119 : v + 1;
+    graph[v].push_back({next, 1});
+    graph[next].push_back({v, 1});
+    tour.push_back(v);
+  }
+  CHECK(Runs(graph, tour, Reach{}).crossed_too_little(0.01).empty());
+  const std::vector<NodeSet> rings = Runs(graph, tour, kFarReach).crossed_too_little(0.01);
+  REQUIRE(rings.size() == 2);
+  CHECK((rings[0].size() == 120 && rings[1].size() == 120));
 }
 
 TEST_CASE("a handle is known where it was put") {

@@ -167,8 +167,9 @@ TEST_CASE("the family of a prism is found") {
   Random random(1);
   std::unordered_set<std::uint64_t> tried;
   const Tour tour{0, 1, 2, 5, 4, 3};
-  QuotientSearch search(graph, tight, tour, random, tried, 0.01);
-  const std::vector<Family> found = search.find(12, 100);
+  const Effort effort{.atoms = 12, .chunks = 100};
+  QuotientSearch search(graph, tight, tour, random, tried, effort);
+  const std::vector<Family> found = search.find();
   REQUIRE(!found.empty());
   for (const Family& family : found) {
     CHECK(family.required == least_crossings(family.sets, 6));
