@@ -26,8 +26,8 @@ Tour shortest_by_orders(const Problem& problem) {
   return best;
 }
 
-Tour shorter_one(const Problem& problem, const Tour& one, Tour other) {
-  return problem.length(other) < problem.length(one) ? std::move(other) : one;
+Tour shorter_one(const Problem& problem, const Tour& one, const Tour& other) {
+  return problem.length(other) < problem.length(one) ? other : one;
 }
 }  // namespace
 
