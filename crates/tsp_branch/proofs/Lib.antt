@@ -11,7 +11,9 @@ pub mod NextCases
 pub mod SetSums
 pub mod CombedRows
 pub mod CombedValues
+pub mod BoxedValues
 pub mod SetAlgebra
+pub mod SharedSets
 pub mod CombsBySets
 pub mod CombSizes
 pub mod DecidedOnce

@@ -31,7 +31,7 @@ turned_back P xs all = all_within P xs (reverse xs) (λ x c. Contains-permutatio
 avoided_allows : (pair : ℕ × ℕ) (i j : ℕ) → pair.0 ≢ i → AllowsLink false pair i j
 avoided_allows pair i j other = λ e same. other (sym e)
 
-all_passed : (P : Decision → Type 0) (test : Decision → Bool) (case own : List Decision) → stack_of own ≡ filter test case → All P case → All P own
+pub all_passed : (P : Decision → Type 0) (test : Decision → Bool) (case own : List Decision) → stack_of own ≡ filter test case → All P case → All P own
 all_passed P test case own is all = turned_back P own (subst (All P) (sym is) (All-filter test P case all))
 
 -- plan: forwards by induction over the case (`each`): it is taken, or bears on the row, or allows the arc (`avoided_allows`)

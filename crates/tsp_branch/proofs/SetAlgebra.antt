@@ -46,7 +46,7 @@ times_once place (node ∷ nodes) x h = elim (cases_eq node x) [
   | inr other ↦ rw (ne_eqb node x other) (times_once place nodes x h.1)
 ]
 
-both_sums : (g : SetPlace → ℤ) (xs ys : List SetPlace) → sum_int_by g (xs ++ ys) ≡ sum_int_by g xs +ℤ sum_int_by g ys
+pub both_sums : (g : SetPlace → ℤ) (xs ys : List SetPlace) → sum_int_by g (xs ++ ys) ≡ sum_int_by g xs +ℤ sum_int_by g ys
 both_sums g [] ys = omega (arith, ints)
 both_sums g (x ∷ xs) ys = let rest = both_sums g xs ys in omega (arith, ints, rest)
 

@@ -8,3 +8,4 @@ pub mod Closed
 pub mod Decided
 pub mod OpenCases
 pub mod Lent
+pub mod Shared

@@ -21,6 +21,7 @@ use crate::laws::case_trees_bound_cycles;
 use crate::moved::fill_moved;
 use crate::numbers::add_differences;
 use crate::open_case::OpenCase;
+use crate::placed_costs::PlacedCosts;
 use crate::room::Room;
 use crate::sets::sets_by_node;
 use crate::setting::Setting;
@@ -28,7 +29,6 @@ use crate::tree_cases::Cases;
 use std::alloc::Global;
 use tsp_format::TreeStep;
 use tsp_memory::Refused;
-use tsp_theory::Costs;
 
 /// The bound of cases: the least of the bounds of the leaves, which is at most the length of every
 /// cycle that keeps the given decisions, or none where no leaf has one. Or the first leaf that is
@@ -49,7 +49,7 @@ use tsp_theory::Costs;
 /// Out of memory, of which it takes some for each node, each comb, each node of a set, and
 /// each decision of a case. For trees of several leaves it also takes some for each pair of up to
 /// 2,000 nodes, where there is any.
-pub fn branch_bound<C: Costs>(
+pub fn branch_bound<C: PlacedCosts>(
     alloc: Global,
     costs: &C,
     families: &Families,
@@ -82,7 +82,10 @@ pub fn branch_bound<C: Costs>(
 /// # Errors
 ///
 /// Out of memory.
-fn judge_leaves<C: Costs>(alloc: Global, setting: &Setting<C>) -> Result<JudgedLeaves, Refused>
+fn judge_leaves<C: PlacedCosts>(
+    alloc: Global,
+    setting: &Setting<C>,
+) -> Result<JudgedLeaves, Refused>
     ensures judged { IfOk result (λ judged. All (IsFamily (C.nodes setting.now.costs.now)) (good_in setting.now.families.now)
         → AreJudgedLeaves setting.now.cases.now.directed (C.nodes setting.now.costs.now) (C.at setting.now.costs.now)
         setting.now.cases.now.scale (good_in setting.now.families.now) setting.now.families.now.crossed.items
@@ -116,7 +119,7 @@ fn judge_leaves<C: Costs>(alloc: Global, setting: &Setting<C>) -> Result<JudgedL
 /// # Errors
 ///
 /// Out of memory.
-fn judge_leaf<C: Costs>(
+fn judge_leaf<C: PlacedCosts>(
     alloc: Global,
     setting: &Setting<C>,
     changes: &[(u32, i64)],

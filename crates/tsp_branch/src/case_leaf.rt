@@ -8,11 +8,12 @@ ghost use Rattle.tsp_branch.specs.states.OpenCases.{IsOpenCase, decisions_in};
 ghost use Rattle.tsp_branch.specs.states.Combed.{AreFewCrossings};
 ghost use Rattle.tsp_branch.specs.states.Kept.{AreMoved, AreRowsIfAny, kept_weight};
 
+use crate::boxed_leaf::decided_bound;
 use crate::combed::CombedWeights;
 use crate::decided::DecidedWeights;
 use crate::given_back::{given_back, taken_back};
-use crate::leaf::leaf_bound;
 use crate::open_case::OpenCase;
+use crate::placed_costs::PlacedCosts;
 use crate::rows::AllowedRows;
 use crate::setting::Setting;
 use std::alloc::Global;
@@ -43,7 +44,7 @@ pub(crate) struct CaseLeaf<'a, C: Costs> {
         (kept_weight setting.now.cases.now.scale (lent_in setting.now.families.now) (C.at setting.now.costs.now) multipliers.now) kept.now },
 }
 
-impl<C: Costs> CaseLeaf<'_, C> {
+impl<C: PlacedCosts> CaseLeaf<'_, C> {
     ghost use Rattle.std.specs.Prelude.{◌≡◌, ◌+◌, true, false, length, Some, IfOk, IfSome};
     ghost use Rattle.tsp_theory.specs.CertificateNumbers.{IsBoundSized};
     ghost use Rattle.tsp_branch.specs.Decisions.{decided_number};
@@ -73,7 +74,8 @@ impl<C: Costs> CaseLeaf<'_, C> {
         Ok(Some(bound))
     }
 
-    /// The bound of a least 1-tree, where pairs have no direction.
+    /// The bound of a least 1-tree, where pairs have no direction: by rows where they are kept, else
+    /// by boxes where nodes have places.
     ///
     /// # Errors
     ///
@@ -97,7 +99,8 @@ impl<C: Costs> CaseLeaf<'_, C> {
         };
         let taken = taken_back(&self.case.by_node.taken);
         let back = taken + given_back(self);
-        leaf_bound(alloc, &weights, row, self.setting.cases.scale, back)
+        let scale = self.setting.cases.scale;
+        decided_bound(alloc, &weights, row, scale, back)
     }
 
     /// The bound of the least link from each node; `None` where some node has no link that the

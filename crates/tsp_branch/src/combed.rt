@@ -1,6 +1,7 @@
 //! Weights under combs.
 
-ghost use Rattle.std.specs.Prelude.{◌≡◌, ◌+◌, ◌+ℤ◌, ℕ, length, neg_ℤ};
+ghost use Rattle.std.specs.Prelude.{◌≡◌, ◌+◌, ◌+ℤ◌, ℕ, true, length, pos, neg_ℤ};
+ghost use Rattle.tsp_bound.specs.states.NodeNumbers.{most_number};
 ghost use Rattle.std.specs.Int.{w64, int_wrap};
 ghost use Rattle.tsp_format.specs.Nodes.{IsNode};
 ghost use Rattle.tsp_theory.specs.CertificateNumbers.{IsFromTo, IsScale, ArePotentials, entry};
@@ -11,6 +12,7 @@ ghost use Rattle.tsp_branch.specs.states.Combed.{AreSmallMultipliers, AreFewCros
 ghost use Rattle.tsp_branch.specs.states.Kept.{AreMoved, AreRowsIfAny, kept_weight};
 
 use crate::add_sets::{add_sets, sum_left};
+use crate::both_sets::are_few;
 use crate::case_leaf::CaseLeaf;
 use crate::families::Families;
 use crate::multiplied::MultipliedFamilies;
@@ -19,6 +21,9 @@ use crate::set_place::SetPlace;
 use tsp_theory::Costs;
 use tsp_tree::{Weights, weight_in};
 
+/// The most that a number of a node may be where boxes bound its weights.
+const MOST_NUMBER: i64 = 4_000_000_000_000_000_000;
+
 /// Costs, a scale, potentials, and sets of nodes with the multipliers of their combs.
 ///
 /// What two nodes cross of a set is 1 for each of them that it has, less 2 where it has both. So
@@ -26,14 +31,14 @@ use tsp_tree::{Weights, weight_in};
 /// only the sets of its own node. Where rows are kept, they have these and the costs.
 #[derive(Drop)]
 pub(crate) struct CombedWeights<'a, C: Costs> {
-    costs: &'a C,
-    scale: i64,
-    potentials: &'a [i64],
-    multipliers: &'a [i64],
-    families: &'a Families<'a>,
-    by_node: &'a [Vec<SetPlace>],
-    moved: &'a [i64],
-    kept: &'a [Vec<i64>],
+    pub(crate) costs: &'a C,
+    pub(crate) scale: i64,
+    pub(crate) potentials: &'a [i64],
+    pub(crate) multipliers: &'a [i64],
+    pub(crate) families: &'a Families<'a>,
+    pub(crate) by_node: &'a [Vec<SetPlace>],
+    pub(crate) moved: &'a [i64],
+    pub(crate) kept: &'a [Vec<i64>],
     ghost scaled: { IsScale scale },
     ghost small: { AreSmallMultipliers multipliers.now },
     ghost same: { families.now.nodes ≡ C.nodes costs.now },
@@ -48,6 +53,13 @@ pub(crate) struct CombedWeights<'a, C: Costs> {
     ghost crossed: { AreFewCrossings (C.nodes costs.now) multipliers.now (lent_in families.now) },
 }
 
+/// Whether a number is at most 4 * 10^18 in size.
+fn is_number(number: i64) -> bool
+    ensures { result ≡ true → IsFromTo (neg_ℤ (pos most_number)) (pos most_number) number }
+{
+    -MOST_NUMBER <= number && number <= MOST_NUMBER
+}
+
 impl<'a, C: Costs> CombedWeights<'a, C> {
     ghost use Rattle.std.specs.Prelude.{◌≡◌, ◌<◌, ◌≤◌, ◌+◌, ◌+ℤ◌, ℕ, length, slice_index, pos, neg_ℤ};
     ghost use Rattle.std.specs.Int.{w64, int_wrap};
@@ -58,6 +70,8 @@ impl<'a, C: Costs> CombedWeights<'a, C> {
     ghost use Rattle.tsp_branch.specs.states.Sets.{IsMoved};
     ghost use Rattle.tsp_branch.specs.states.Lent.{lent_in};
     ghost use Rattle.tsp_branch.specs.states.Combed.{AreSmallMultipliers, multipliers_at, AreFewCrossings, IsApart, most_combed, set_weight};
+    ghost use Rattle.tsp_branch.specs.states.Shared.{AreExact};
+    ghost use Rattle.std.specs.Prelude.{true};
 
     /// The weights of a leaf without its decisions.
     pub(crate) fn of(leaf: &CaseLeaf<'a, C>) -> CombedWeights<'a, C>
@@ -77,6 +91,21 @@ impl<'a, C: Costs> CombedWeights<'a, C> {
             moved: leaf.moved,
             kept: leaf.kept,
         }
+    }
+
+    /// Whether each node's potential less the multipliers of its sets is at most 4 * 10^18 in size.
+    pub(crate) fn are_exact(&self) -> bool
+        ensures { result ≡ true → AreExact (C.nodes self.now.costs.now) self.now.potentials.now self.now.multipliers.now
+            (lent_in self.now.families.now) self.now.moved.now }
+    {
+        'nodes: for node in 1..self.costs.count() + 1 {
+            if !are_few(self.multipliers, &self.by_node[node as usize])
+                || !is_number(weight_in(self.moved, node))
+            {
+                return false;
+            }
+        }
+        true
     }
 
     /// A row of these as if no set had two nodes; and how large the weights between the node and

@@ -1,12 +1,14 @@
 //! Weights that decisions change.
 
 ghost use Rattle.std.specs.Prelude.{◌≡◌, ℕ, false, length};
+ghost use Rattle.std.specs.Int.{w64, int_wrap};
 ghost use Rattle.std.specs.List.{All};
 ghost use Rattle.tsp_theory.specs.states.Nearest.{least_at};
 ghost use Rattle.tsp_branch.specs.states.Sets.{IsMoved};
-ghost use Rattle.tsp_branch.specs.states.Decided.{IsOnPlaces, IsChanged, AreFewChanges, changes};
+ghost use Rattle.tsp_branch.specs.states.Decided.{IsOnPlaces, IsChanged, AreFewChanges, change_of, changes};
 ghost use Rattle.tsp_branch.specs.states.OpenCases.{IsOpenCase, decisions_in};
 
+use crate::add_sets::sum_left;
 use crate::combed::CombedWeights;
 use crate::decision::Decision;
 use crate::open_case::OpenCase;
@@ -79,4 +81,26 @@ fn change(row: &mut [i64], decision: Decision, from: u32)
     } else if second == from {
         add_at(row, first, number);
     }
+}
+
+/// What a decision adds to the weight between two nodes.
+fn change_of(decision: Decision, from: u32, to: u32) -> i64
+    ensures { result ≡ change_of decision from to }
+{
+    let (first, second) = decision.pair;
+    if !((first == from && second == to) || (second == from && first == to)) {
+        return 0;
+    }
+    if decision.taken { -DECIDED } else { DECIDED }
+}
+
+/// What decisions add to the weight between two nodes, wrapped to 64 bits.
+pub(crate) fn change_between(decisions: &[Decision], from: u32, to: u32) -> i64
+    ensures { int_wrap w64 result ≡ int_wrap w64 (changes decisions.now from to) }
+{
+    let mut sum = 0;
+    'decisions: for decision in decisions {
+        sum = sum_left(sum, change_of(*decision, from, to));
+    }
+    sum
 }

@@ -10,6 +10,8 @@
 #![tactic(auto)]
 
 mod add_sets;
+mod both_sets;
+mod boxed_leaf;
 mod branch;
 mod case_leaf;
 mod case_tree;
@@ -35,6 +37,7 @@ mod number_examples;
 mod numbers;
 mod open_case;
 mod other_families;
+mod placed_costs;
 mod room;
 mod row_examples;
 mod rows;
@@ -64,10 +67,11 @@ pub use laws::{
     row_leaf_bounds_bound_cycles, sets_tell_combs, stacks_hold_cases, steps_leave_cases,
     sums_are_below_cycles,
 };
-pub use leaf::leaf_bound;
+pub use leaf::{leaf_bound, leaf_bound_in_space};
 pub use number_examples::{examples_of_differences, examples_of_good_numbers};
+pub use placed_costs::{InSpace, OutOfSpace, PlacedCosts};
 pub use row_examples::{examples_of_arcs, examples_of_leaves, examples_of_links, examples_of_rows};
 pub use tree_cases::Cases;
 pub use tsp_families::Crossings;
 pub use twice::judge_cases;
-pub use verdict::judge_branches;
+pub use verdict::{judge_branches, judge_branches_in_space};

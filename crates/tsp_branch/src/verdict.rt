@@ -9,6 +9,7 @@ use crate::branch::branch_bound;
 use crate::case_tree::CaseTree;
 use crate::good_families::judge_families;
 use crate::judged::{BranchVerdict, JudgedCases, JudgedFamilies, JudgedLeaves};
+use crate::placed_costs::{OutOfSpace, PlacedCosts};
 use crate::twice::judge_cases;
 use std::alloc::Global;
 use tsp_memory::Refused;
@@ -29,6 +30,34 @@ use tsp_theory::Costs;
 /// each decision of a case. For trees of several leaves it also takes some for each pair of up to
 /// 2,000 nodes, where there is any.
 pub fn judge_branches<C: Costs>(alloc: Global, tree: &CaseTree<C>) -> Result<BranchVerdict, Refused>
+    ensures verdict { IfOk result (IsBranchVerdict tree.now.directed (C.nodes tree.now.costs.now) (C.at tree.now.costs.now)
+        tree.now.scale (families_in tree.now.families.now) tree.now.given.now (steps_of tree.now.steps.now)) }
+    ensures cycles { IfOk result (VerdictBoundsCycles tree.now.directed (C.nodes tree.now.costs.now) (C.at tree.now.costs.now)
+        tree.now.given.now) }
+    ensures size { IfOk result IsSizedVerdict }
+{
+    let costs = OutOfSpace { costs: tree.costs };
+    let placed = CaseTree {
+        costs: &costs,
+        directed: tree.directed,
+        scale: tree.scale,
+        families: tree.families,
+        given: tree.given,
+        steps: tree.steps,
+    };
+    judge_branches_in_space(alloc, &placed)
+}
+
+/// What [`judge_branches`] returns, over costs whose nodes may have places in space: regions of them
+/// then take the place of most pairs, so that it asks for far fewer costs.
+///
+/// # Errors
+///
+/// Out of memory, as [`judge_branches`].
+pub fn judge_branches_in_space<C: PlacedCosts>(
+    alloc: Global,
+    tree: &CaseTree<C>,
+) -> Result<BranchVerdict, Refused>
     ensures verdict { IfOk result (IsBranchVerdict tree.now.directed (C.nodes tree.now.costs.now) (C.at tree.now.costs.now)
         tree.now.scale (families_in tree.now.families.now) tree.now.given.now (steps_of tree.now.steps.now)) }
     ensures cycles { IfOk result (VerdictBoundsCycles tree.now.directed (C.nodes tree.now.costs.now) (C.at tree.now.costs.now)

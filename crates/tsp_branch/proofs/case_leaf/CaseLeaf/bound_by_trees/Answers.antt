@@ -34,8 +34,8 @@ invariant_of-weights g c =
       once = few_changes case (subst (λ (d : Bool). DecideOnce d case) c.requires.undirected leaf.once);
     }
 
-pub leaf_bound-requires-clause-even : goal.leaf_bound-requires-clause-even
-leaf_bound-requires-clause-even g c =
+pub decided_bound-requires-clause-even : goal.decided_bound-requires-clause-even
+decided_bound-requires-clause-even g c =
     let leaf = c.args.self.now in
     let p = leaf.setting.now in
     let cost = g.C.Costs.at p.costs.now in
@@ -79,9 +79,9 @@ returns-clause-bound g c =
     let least = c.given_back.ensures.value in
     let taken_is = c.taken_back-taken.ensures.value ∙ taken_listed case c.deref.result.now (ap stack_of c.deref.ensures.value ∙ leaf.is_case.by_node.taken) in
     let back_is : back ≡ given_back_of ps (on_taken decided_number case) combs = sum_is ∙ back_of taken less _ _ _ taken_is least in
-    IfOk-weaker c.leaf_bound.result _ _
+    IfOk-weaker c.decided_bound.result _ _
     (λ (bound : ℤ) bounds.
     let whole : BoundsEachLeaf k v p.cases.now.scale back bound = subst (λ (z : ℤ). BoundsEachLeaf k v z back bound) (same_scale p.cases.now.scale p.cases.now.scaled) bounds in
     let own = whole cost ps (on_taken decided_number case) (on_avoided decided_number case) combs agree back_is in
     subst (λ (m : ℕ). IsLeafBound m cost p.cases.now.scale ps (on_taken decided_number case) (on_avoided decided_number case) combs bound) c.of-combed.ensures.nodes own)
-    c.leaf_bound.ensures.leaf
+    c.decided_bound.ensures.leaf

@@ -1,0 +1,9 @@
+-- The loop of `shared_by` in src/both_sets.rt.
+use Rattle.std.proofs.Common.{◌≡◌, drop}
+use Rattle.std.specs.Prelude.{◌+ℤ◌}
+use Rattle.std.specs.Int.{w64, int_wrap}
+use Rattle.tsp_branch.specs.states.Shared.{shared_by}
+use Rattle.tsp_branch.proofs.both_sets.shared_by.Given as goal
+
+abbrev pub invariant-places : goal.invariant-places
+invariant-places l = int_wrap w64 (l.sum +ℤ shared_by l.numbers l.others (drop l.place-index l.places)) ≡ int_wrap w64 (shared_by l.numbers l.others l.places)

@@ -1,0 +1,16 @@
+-- The goals of `BoxedLeafBoxedWeights::number` in src/boxed_leaf.rt: what it ensures.
+use Rattle.std.proofs.Common.{◌≡◌, ◌∙◌, ℤ, sym, subst, rules, to_z, of_z, FitsSigned}
+use Rattle.std.specs.Int.{w64}
+use Rattle.std.specs.Prelude.{pos, neg_ℤ}
+use Rattle.std.proofs.lemmas.Int.{to_z-of_z}
+use Rattle.tsp_theory.specs.CertificateNumbers.{IsFromTo}
+use Rattle.tsp_bound.specs.states.NodeNumbers.{most_number}
+use Rattle.tsp_theory.specs.states.Nearest.{least_at}
+use Rattle.tsp_branch.proofs.boxed_leaf.BoxedLeafBoxedWeights.number.Goals as goal
+
+pub returns : goal.returns
+returns g c =
+    let p = c.args.self.now in
+    let fits : FitsSigned w64 c.weight_in.result = search rules in
+    let is : to_z w64 (of_z w64 c.weight_in.result) ≡ least_at p.decided.now.combed.now.moved.now c.args.node = to_z-of_z w64 c.weight_in.result fits ∙ c.weight_in.ensures in
+    record { value = is; size = subst (λ (z : ℤ). IsFromTo (neg_ℤ (pos most_number)) (pos most_number) z) (sym is) (p.exact c.args.node c.requires).1 }

@@ -1,0 +1,16 @@
+-- The goals of `BoxedLeafBoxedWeights::weight` in src/boxed_leaf.rt: what it ensures.
+use Rattle.std.proofs.Common.{◌∙◌, sym, rules, FitsSigned}
+use Rattle.std.specs.Int.{w64}
+use Rattle.std.proofs.lemmas.Int.{to_z-of_z}
+use Rattle.tsp_branch.specs.states.Lent.{lent_in}
+use Rattle.tsp_branch.specs.states.Combed.{set_weight}
+use Rattle.tsp_branch.specs.states.OpenCases.{decisions_in}
+use Rattle.tsp_branch.proofs.Changes.{changes_are}
+use Rattle.tsp_branch.proofs.boxed_leaf.BoxedLeafBoxedWeights.weight.Goals as goal
+
+pub returns : goal.returns
+returns g c =
+    let q = c.args.self.now.decided.now.combed.now in
+    let w = set_weight q.scale q.potentials.now q.multipliers.now (lent_in q.families.now) (g.C.Costs.at q.costs.now) in
+    let fits : FitsSigned w64 c.decided.result = search rules in
+    to_z-of_z w64 c.decided.result fits ∙ c.decided.ensures ∙ sym (changes_are (decisions_in c.args.self.now.decided.now.case.now) w c.args.from c.args.to)

@@ -1,0 +1,89 @@
+-- The goals of `BoxedLeafBoxedWeights::weight_within` in src/boxed_leaf.rt: what it ensures.
+use Rattle.std.proofs.Common.{◌≡◌, ◌∙◌, ℤ, List, ◌≤ℤ◌, ◌<ℤ◌, ap, sym, subst, arith, rules, to_z, of_z, FitsSigned}
+use Rattle.std.specs.Int.{w64}
+use Rattle.std.specs.Prelude.{pos, ◌+ℤ◌}
+use Rattle.std.proofs.lemmas.Int.{ints, to_z-of_z}
+use Rattle.tsp_theory.specs.states.Nearest.{least_at}
+use Rattle.tsp_bound.proofs.Boxed.{below_seen, not_less_seen}
+use Rattle.tsp_branch.specs.declared.decision.Decision.{Decision}
+use Rattle.tsp_branch.specs.states.Lent.{lent_in}
+use Rattle.tsp_branch.specs.states.Combed.{set_weight}
+use Rattle.tsp_branch.specs.states.Decided.{changes}
+use Rattle.tsp_branch.specs.states.OpenCases.{decisions_in}
+use Rattle.tsp_branch.specs.states.Shared.{upwards, raised}
+use Rattle.tsp_branch.proofs.BoxedValues.{base_below, upwards_less, upwards_same}
+use Rattle.tsp_branch.proofs.boxed_leaf.BoxedLeafBoxedWeights.weight_within.Goals as goal
+
+pub returns-then-base-most-clause-no_less : goal.returns-then-base-most-clause-no_less
+returns-then-base-most-clause-no_less g c = λ above.
+    let p = c.args.self.now in
+    let q = p.decided.now.combed.now in
+    let case : List Decision = decisions_in p.decided.now.case.now in
+    let fits : FitsSigned w64 c.base-base.result = search rules in
+    let back = to_z-of_z w64 c.base-base.result fits in
+    let below = base_below q.scale q.potentials.now q.multipliers.now (lent_in q.families.now) (g.C.Costs.at q.costs.now) c.args.from c.args.to (least_at q.moved.now c.args.from)
+    (least_at q.moved.now c.args.to) c.base-base.result q.families.now.once (p.exact c.args.from c.requires.from).0 (p.exact c.args.to c.requires.to).0 c.base-base.ensures.value case q.small
+    q.as_many q.families.now.many q.families.now.as_many in
+    omega (arith, ints, above, back, below)
+
+pub returns-then-change-lt0-clause-less : goal.returns-then-change-lt0-clause-less
+returns-then-change-lt0-clause-less g c = λ low.
+    let p = c.args.self.now in
+    let q = p.decided.now.combed.now in
+    let case : List Decision = decisions_in p.decided.now.case.now in
+    let w = set_weight q.scale q.potentials.now q.multipliers.now (lent_in q.families.now) (g.C.Costs.at q.costs.now) in
+    let change : ℤ = c.change-change.result in
+    let change_fits : FitsSigned w64 c.change-change.result = search rules in
+    let fits : FitsSigned w64 c.combed-combed.result = search rules in
+    let zero_fits : FitsSigned w64 (pos 0) = omega (arith, ints) in
+    let less : change <ℤ pos 0 = below_seen change (pos 0) change_fits zero_fits c.if-change-lt0.true in
+    let none : upwards (changes case c.args.from c.args.to) ≡ pos 0 = ap upwards (sym c.change-change.ensures.value) ∙ upwards_less change less in
+    let is : to_z w64 (of_z w64 c.combed-combed.result) ≡ raised case w c.args.from c.args.to =
+    to_z-of_z w64 c.combed-combed.result fits ∙ (let value = c.combed-combed.ensures.value in omega (arith, ints, value, none)) in
+    is
+
+pub returns-then-change-lt0-clause-no_less : goal.returns-then-change-lt0-clause-no_less
+returns-then-change-lt0-clause-no_less g c = λ above.
+    let p = c.args.self.now in
+    let q = p.decided.now.combed.now in
+    let case : List Decision = decisions_in p.decided.now.case.now in
+    let w = set_weight q.scale q.potentials.now q.multipliers.now (lent_in q.families.now) (g.C.Costs.at q.costs.now) in
+    let change : ℤ = c.change-change.result in
+    let change_fits : FitsSigned w64 c.change-change.result = search rules in
+    let fits : FitsSigned w64 c.combed-combed.result = search rules in
+    let zero_fits : FitsSigned w64 (pos 0) = omega (arith, ints) in
+    let less : change <ℤ pos 0 = below_seen change (pos 0) change_fits zero_fits c.if-change-lt0.true in
+    let none : upwards (changes case c.args.from c.args.to) ≡ pos 0 = ap upwards (sym c.change-change.ensures.value) ∙ upwards_less change less in
+    let is : to_z w64 (of_z w64 c.combed-combed.result) ≡ raised case w c.args.from c.args.to =
+    to_z-of_z w64 c.combed-combed.result fits ∙ (let value = c.combed-combed.ensures.value in omega (arith, ints, value, none)) in
+    subst (λ (z : ℤ). c.args.most ≤ℤ z) is above
+
+pub returns-else-change-lt0-clause-less : goal.returns-else-change-lt0-clause-less
+returns-else-change-lt0-clause-less g c = λ low.
+    let p = c.args.self.now in
+    let q = p.decided.now.combed.now in
+    let case : List Decision = decisions_in p.decided.now.case.now in
+    let w = set_weight q.scale q.potentials.now q.multipliers.now (lent_in q.families.now) (g.C.Costs.at q.costs.now) in
+    let change : ℤ = c.change-change.result in
+    let change_fits : FitsSigned w64 c.change-change.result = search rules in
+    let zero_fits : FitsSigned w64 (pos 0) = omega (arith, ints) in
+    let some : pos 0 ≤ℤ change = not_less_seen change (pos 0) change_fits zero_fits c.if-change-lt0.false in
+    let all : upwards (changes case c.args.from c.args.to) ≡ change = ap upwards (sym c.change-change.ensures.value) ∙ upwards_same change some in
+    let is : to_z w64 (of_z w64 (to_z w64 (of_z w64 c.combed-combed.result) +ℤ to_z w64 (of_z w64 c.change-change.result))) ≡ raised case w c.args.from c.args.to =
+    (let value = c.combed-combed.ensures.value in let a = c.combed-combed.ensures.size in let b = c.change-change.ensures.size in omega (arith, ints, value, all, a.0, a.1, b.0, b.1)) in
+    is
+
+pub returns-else-change-lt0-clause-no_less : goal.returns-else-change-lt0-clause-no_less
+returns-else-change-lt0-clause-no_less g c = λ above.
+    let p = c.args.self.now in
+    let q = p.decided.now.combed.now in
+    let case : List Decision = decisions_in p.decided.now.case.now in
+    let w = set_weight q.scale q.potentials.now q.multipliers.now (lent_in q.families.now) (g.C.Costs.at q.costs.now) in
+    let change : ℤ = c.change-change.result in
+    let change_fits : FitsSigned w64 c.change-change.result = search rules in
+    let zero_fits : FitsSigned w64 (pos 0) = omega (arith, ints) in
+    let some : pos 0 ≤ℤ change = not_less_seen change (pos 0) change_fits zero_fits c.if-change-lt0.false in
+    let all : upwards (changes case c.args.from c.args.to) ≡ change = ap upwards (sym c.change-change.ensures.value) ∙ upwards_same change some in
+    let is : to_z w64 (of_z w64 (to_z w64 (of_z w64 c.combed-combed.result) +ℤ to_z w64 (of_z w64 c.change-change.result))) ≡ raised case w c.args.from c.args.to =
+    (let value = c.combed-combed.ensures.value in let a = c.combed-combed.ensures.size in let b = c.change-change.ensures.size in omega (arith, ints, value, all, a.0, a.1, b.0, b.1)) in
+    subst (λ (z : ℤ). c.args.most ≤ℤ z) is above

@@ -1,0 +1,56 @@
+-- The goals of `CombedWeights::are_exact` in src/combed.rt: its loop and what its calls require.
+use Rattle.std.proofs.Common.{◌≡◌, ◌∙◌, ◌-◌, ℕ, ℤ, List, inl, inr, ap, sym, subst, arith, rules, to_z, of_z, FitsSigned}
+use Rattle.std.specs.Int.{w64, int_wrap}
+use Rattle.std.specs.Prelude.{pos, neg_ℤ, ◌+ℤ◌}
+use Rattle.std.specs.List.{All}
+use Rattle.std.proofs.lemmas.Bool.{cases_eq}
+use Rattle.std.proofs.lemmas.Int.{ints, to_z-of_z, int_wrap_fits}
+use Rattle.tsp_format.specs.Nodes.{IsNode}
+use Rattle.tsp_theory.specs.CertificateNumbers.{IsFromTo, entry}
+use Rattle.tsp_theory.specs.states.Nearest.{least_at}
+use Rattle.tsp_bound.specs.states.NodeNumbers.{most_number}
+use Rattle.tsp_branch.specs.states.Sets.{IsPlaceIn, places_with}
+use Rattle.tsp_branch.specs.states.Lent.{lent_in}
+use Rattle.tsp_branch.specs.states.Combed.{multipliers_at}
+use Rattle.tsp_branch.specs.states.Shared.{number_at}
+use Rattle.tsp_branch.proofs.Changes.{within}
+use Rattle.tsp_branch.proofs.SetAlgebra.{places_inside}
+use Rattle.tsp_branch.proofs.SharedSets.{number_is}
+use Rattle.tsp_branch.proofs.combed.CombedWeights.are_exact.Goals as goal
+
+pub are_few-requires-clause-places : goal.are_few-requires-clause-places
+are_few-requires-clause-places g c = λ k d lt.
+    let q = c.args.self.now in
+    let families : List (List (List ℕ)) = lent_in q.families.now in
+    let node_in : IsNode (g.C.Costs.nodes q.costs.now) c.nodes.node = (omega (arith, c.nodes.auto.node), omega (arith, c.nodes-test.true, c.count-node-end.ensures.value)) in
+    let places_are : c.deref.result.now ≡ places_with 0 families c.nodes.node = c.deref.ensures.value ∙ q.table.said c.nodes.node c.index-self-node.result node_in.1 in
+    let own = (subst (All (IsPlaceIn families)) (sym places_are) (places_inside families c.nodes.node)) k d lt in
+    omega (arith, own.0, q.as_many, q.families.now.many, q.families.now.as_many)
+
+-- plan: of the node itself the sum is small, so that what is left in 64 bits is the whole number
+pub nodes-preserved : goal.nodes-preserved
+nodes-preserved g c = λ x low below. elim (cases_eq x c.nodes.node) [
+  | inl same ↦
+      let q = c.args.self.now in
+      let node = c.nodes.node in
+      let families : List (List (List ℕ)) = lent_in q.families.now in
+      let node_in : IsNode (g.C.Costs.nodes q.costs.now) c.nodes.node = (omega (arith, c.nodes.auto.node), omega (arith, c.nodes-test.true, c.count-node-end.ensures.value)) in
+      let places_are : c.deref.result.now ≡ places_with 0 families node = c.deref.ensures.value ∙ q.table.said node c.index-self-node.result node_in.1 in
+      let taken : ℤ = multipliers_at q.multipliers.now families node in
+      let few : IsFromTo (pos 0) (pos 3000000000000000000) taken =
+      subst (λ (z : ℤ). IsFromTo (pos 0) (pos 3000000000000000000) z) (ap (number_at q.multipliers.now) places_are ∙ number_is q.multipliers.now families node) (c.are_few.ensures c.if-not-are_few.false) in
+      let potential = q.potentials_are (node - 1) (pos 0) (omega (arith, node_in, q.long)) in
+      let whole : ℤ = entry q.potentials.now node +ℤ neg_ℤ taken in
+      let whole_fits : FitsSigned w64 whole = within whole (omega (arith, ints, few.0, few.1, potential.0, potential.1), omega (arith, ints, few.0, few.1, potential.0, potential.1)) in
+      let fits : FitsSigned w64 c.weight_in.result = search rules in
+      let is : least_at q.moved.now node ≡ whole =
+      sym c.weight_in.ensures ∙ sym (int_wrap_fits w64 c.weight_in.result fits) ∙ ap (int_wrap w64) c.weight_in.ensures ∙ q.are_moved node node_in ∙ int_wrap_fits w64 whole whole_fits in
+      let size : IsFromTo (neg_ℤ (pos most_number)) (pos most_number) (least_at q.moved.now node) = subst (λ (z : ℤ). IsFromTo (neg_ℤ (pos most_number)) (pos most_number) z) (sym is)
+      (omega (arith, ints, few.0, few.1, potential.0, potential.1), omega (arith, ints, few.0, few.1, potential.0, potential.1)) in
+      subst (λ (y : ℕ). (least_at q.moved.now y ≡ entry q.potentials.now y +ℤ neg_ℤ (multipliers_at q.multipliers.now families y))
+      × IsFromTo (neg_ℤ (pos most_number)) (pos most_number) (least_at q.moved.now y)) (sym same) (is, size)
+  | inr other ↦ c.nodes.invariant x low (omega (arith, below, other))
+]
+
+pub returns : goal.returns
+returns g c = λ holds x node. c.nodes.invariant x node.0 (omega (arith, node.1, c.nodes-test.false, c.count-node-end.ensures.value))

@@ -1,0 +1,54 @@
+-- What two nodes have in common: the sets of both, by the places of each node's sets; and what decisions do to a weight.
+use Rattle.std.specs.Prelude.{◌≡◌, ℕ, ◌==◌, ◌&&◌, Bool, false, if◌then◌else◌, List, map, reverse, slice_index_or, ℤ, pos, negsuc, neg_ℤ, ◌+ℤ◌, ◌*ℤ◌}
+use Rattle.std.specs.List.{list_any, filter}
+use Rattle.tsp_format.specs.Nodes.{IsNode}
+use Rattle.tsp_theory.specs.Length.{sum_int_by}
+use Rattle.tsp_theory.specs.CertificateNumbers.{IsFromTo, entry}
+use Rattle.tsp_theory.specs.states.Nearest.{least_at}
+use Rattle.tsp_bound.specs.states.NodeNumbers.{most_number}
+use Rattle.tsp_branch.specs.declared.decision.Decision.{Decision}
+use Rattle.tsp_branch.specs.declared.set_place.SetPlace.{SetPlace}
+use Rattle.tsp_branch.specs.states.Combed.{multipliers_at, set_weight}
+use Rattle.tsp_branch.specs.states.Decided.{changes}
+use Rattle.tsp_branch.specs.states.OpenCases.{bears_on}
+
+abbrev pub is_place : SetPlace → SetPlace → Bool
+is_place place other = (other.family == place.family) && (other.set == place.set)
+
+-- a list has the place
+abbrev pub has_place : List SetPlace → SetPlace → Bool
+has_place places place = list_any (λ other. is_place place other) places
+
+-- the numbers of the families of places, each place's if another list has it, and twice
+abbrev pub shared_by : List ℤ → List SetPlace → List SetPlace → ℤ
+shared_by numbers others places =
+    sum_int_by (λ place. if has_place others place then (pos 2 *ℤ slice_index_or numbers place.family (pos 0)) else pos 0) places
+
+-- the numbers of the families of places
+abbrev pub number_at : List ℤ → List SetPlace → ℤ
+number_at numbers places = sum_int_by (λ place. slice_index_or numbers place.family (pos 0)) places
+
+-- each node's potential less the multipliers of its sets, as it is, and not too large
+abbrev pub AreExact : ℕ → List ℤ → List ℤ → List (List (List ℕ)) → List ℤ → Type 0
+AreExact n potentials multipliers families moved = (x : ℕ) → IsNode n x
+    → (least_at moved x ≡ entry potentials x +ℤ neg_ℤ (multipliers_at multipliers families x))
+    × IsFromTo (neg_ℤ (pos most_number)) (pos most_number) (least_at moved x)
+
+-- ---- decisions
+
+-- a number that isn't negative, else 0
+abbrev pub upwards : ℤ → ℤ
+upwards (pos k) = pos k
+upwards (negsuc k) = pos 0
+
+-- weights under the decisions that make them more
+abbrev pub raised : List Decision → (ℕ → ℕ → ℤ) → ℕ → ℕ → ℤ
+raised case w i j = w i j +ℤ upwards (changes case i j)
+
+-- the other node of a decision's pair
+abbrev pub other_of : ℕ → Decision → ℕ
+other_of from decision = if decision.pair.0 == from then decision.pair.1 else decision.pair.0
+
+-- the other nodes of the decisions that bear on a node, in the order of code
+abbrev pub others_of : List Decision → ℕ → List ℕ
+others_of case from = map (other_of from) (reverse (filter (bears_on false from) case))

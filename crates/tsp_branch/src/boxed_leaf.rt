@@ -1,0 +1,222 @@
+//! The weights of a leaf, as boxes bound them.
+
+ghost use Rattle.std.specs.Prelude.{◌≡◌, ◌≤◌, ◌+◌, ◌^◌, ◌+ℤ◌, ◌*ℤ◌, ℕ, length, pos, neg_ℤ, IfOk};
+ghost use Rattle.std.specs.Int.{w64, int_wrap};
+ghost use Rattle.tsp_format.specs.Nodes.{IsNode};
+ghost use Rattle.tsp_theory.specs.CertificateNumbers.{IsFromTo, IsScale, IsBoundSized};
+ghost use Rattle.tsp_theory.specs.NodeBound.{weight_between, most_between};
+ghost use Rattle.tsp_theory.specs.states.Nearest.{least_at};
+ghost use Rattle.tsp_branch.specs.LeafWeight.{BoundsEachLeaf};
+ghost use Rattle.tsp_branch.specs.Decisions.{decided_number};
+ghost use Rattle.tsp_branch.specs.states.Lent.{lent_in};
+ghost use Rattle.tsp_branch.specs.states.Combed.{most_combed, set_weight};
+ghost use Rattle.tsp_branch.specs.states.Decided.{changes, decided};
+ghost use Rattle.tsp_branch.specs.states.OpenCases.{decisions_in};
+ghost use Rattle.tsp_branch.specs.states.Shared.{AreExact};
+
+use crate::add_sets::sum_left;
+use crate::both_sets::shared_by;
+use crate::decided::{DecidedWeights, change_between};
+use crate::leaf::{leaf_bound, leaf_bound_in_space};
+use crate::placed_costs::PlacedCosts;
+use std::alloc::Global;
+use tsp_bound::BoxedWeights;
+use tsp_memory::Refused;
+use tsp_theory::Region;
+use tsp_tree::{Weights, weight_in};
+
+/// The weights of a leaf, of which each node's potential less the multipliers of its sets isn't too
+/// large.
+///
+/// What the sets of both nodes add is never negative, and avoided pairs only add: so each weight is
+/// at least the cost at the scale and the numbers of both nodes, but for those of taken pairs.
+#[derive(Drop)]
+pub(crate) struct BoxedLeaf<'a, C: PlacedCosts> {
+    pub(crate) decided: &'a DecidedWeights<'a, C>,
+    ghost exact: { AreExact (C.nodes decided.now.combed.now.costs.now) decided.now.combed.now.potentials.now
+        decided.now.combed.now.multipliers.now (lent_in decided.now.combed.now.families.now) decided.now.combed.now.moved.now },
+}
+
+impl<C: PlacedCosts> BoxedLeaf<'_, C> {
+    /// The cost at the scale and the numbers of both nodes.
+    #[inline]
+    fn base(&self, from: u32, to: u32) -> i64
+        requires from { IsNode (C.nodes self.now.decided.now.combed.now.costs.now) from }
+        requires to { IsNode (C.nodes self.now.decided.now.combed.now.costs.now) to }
+        ensures value { result ≡ (self.now.decided.now.combed.now.scale *ℤ C.at self.now.decided.now.combed.now.costs.now from to)
+            +ℤ (least_at self.now.decided.now.combed.now.moved.now from +ℤ least_at self.now.decided.now.combed.now.moved.now to) }
+        ensures size { IsFromTo (neg_ℤ (pos most_between)) (pos most_between) (weight_between self.now.decided.now.combed.now.scale
+            self.now.decided.now.combed.now.potentials.now (C.at self.now.decided.now.combed.now.costs.now) from to) }
+    {
+        let combed = self.decided.combed;
+        let both = weight_in(combed.moved, from) + weight_in(combed.moved, to);
+        combed.scale * combed.costs.cost(from, to) + both
+    }
+
+    /// The weight without decisions, where the caller passes what it is without the sets of both
+    /// nodes.
+    fn combed(&self, base: i64, from: u32, to: u32) -> i64
+        requires from { IsNode (C.nodes self.now.decided.now.combed.now.costs.now) from }
+        requires to { IsNode (C.nodes self.now.decided.now.combed.now.costs.now) to }
+        requires base { base ≡ (self.now.decided.now.combed.now.scale *ℤ C.at self.now.decided.now.combed.now.costs.now from to)
+            +ℤ (least_at self.now.decided.now.combed.now.moved.now from +ℤ least_at self.now.decided.now.combed.now.moved.now to) }
+        requires size { IsFromTo (neg_ℤ (pos most_between)) (pos most_between) (weight_between self.now.decided.now.combed.now.scale
+            self.now.decided.now.combed.now.potentials.now (C.at self.now.decided.now.combed.now.costs.now) from to) }
+        ensures value { result ≡ set_weight self.now.decided.now.combed.now.scale self.now.decided.now.combed.now.potentials.now
+            self.now.decided.now.combed.now.multipliers.now (lent_in self.now.decided.now.combed.now.families.now)
+            (C.at self.now.decided.now.combed.now.costs.now) from to }
+        ensures size { IsFromTo (neg_ℤ (pos most_combed)) (pos most_combed) result }
+    {
+        let combed = self.decided.combed;
+        let shared = shared_by(
+            combed.multipliers,
+            &combed.by_node[to as usize],
+            &combed.by_node[from as usize],
+        );
+        sum_left(base, shared)
+    }
+
+    /// What the decisions of the case add to a weight.
+    fn change(&self, from: u32, to: u32) -> i64
+        requires { IsNode (C.nodes self.now.decided.now.combed.now.costs.now) from }
+        ensures value { result ≡ changes (decisions_in self.now.decided.now.case.now) from to }
+        ensures size { IsFromTo (neg_ℤ decided_number) decided_number result }
+    {
+        change_between(self.decided.case.at(from), from, to)
+    }
+
+    /// The weight between two nodes.
+    fn decided(&self, from: u32, to: u32) -> i64
+        requires from { IsNode (C.nodes self.now.decided.now.combed.now.costs.now) from }
+        requires to { IsNode (C.nodes self.now.decided.now.combed.now.costs.now) to }
+        ensures { result ≡ set_weight self.now.decided.now.combed.now.scale self.now.decided.now.combed.now.potentials.now
+            self.now.decided.now.combed.now.multipliers.now (lent_in self.now.decided.now.combed.now.families.now)
+            (C.at self.now.decided.now.combed.now.costs.now) from to +ℤ changes (decisions_in self.now.decided.now.case.now) from to }
+    {
+        let combed = self.combed(self.base(from, to), from, to);
+        combed + self.change(from, to)
+    }
+}
+
+impl<C: PlacedCosts> Weights for BoxedLeaf<'_, C> {
+    ghost nodes = { λ w. C.nodes w.decided.now.combed.now.costs.now };
+
+    ghost at = { λ w. decided (decisions_in w.decided.now.case.now) (set_weight w.decided.now.combed.now.scale
+        w.decided.now.combed.now.potentials.now w.decided.now.combed.now.multipliers.now (lent_in w.decided.now.combed.now.families.now)
+        (C.at w.decided.now.combed.now.costs.now)) };
+
+    #[inline]
+    fn count(&self) -> u32 {
+        self.decided.count()
+    }
+
+    fn fill(&self, from: u32, row: &mut [i64]) {
+        self.decided.fill(from, row);
+    }
+
+    fn fill_at(&self, from: u32, to: &[u32], row: &mut [i64]) {
+        self.decided.fill_at(from, to, row);
+    }
+}
+
+impl<C: PlacedCosts> BoxedWeights for BoxedLeaf<'_, C> {
+    ghost use Rattle.tsp_branch.specs.states.Shared.{raised, others_of};
+
+    ghost place_of = { λ w. C.place w.decided.now.combed.now.costs.now };
+
+    ghost scale_of = { λ w. w.decided.now.combed.now.scale };
+
+    ghost cost_of = { λ w. C.at w.decided.now.combed.now.costs.now };
+
+    ghost number_of = { λ w. least_at w.decided.now.combed.now.moved.now };
+
+    ghost unlowered = { λ w. raised (decisions_in w.decided.now.case.now) (set_weight w.decided.now.combed.now.scale
+        w.decided.now.combed.now.potentials.now w.decided.now.combed.now.multipliers.now (lent_in w.decided.now.combed.now.families.now)
+        (C.at w.decided.now.combed.now.costs.now)) };
+
+    ghost lowered_of = { λ w. others_of (decisions_in w.decided.now.case.now) };
+
+    #[inline]
+    fn scale(&self) -> i64 {
+        self.decided.combed.scale
+    }
+
+    #[inline]
+    fn number(&self, node: u32) -> i64 {
+        weight_in(self.decided.combed.moved, node)
+    }
+
+    fn order(&self, alloc: Global) -> Result<Vec<u32>, Refused> {
+        self.decided.combed.costs.order(alloc)
+    }
+
+    #[inline]
+    fn region(&self, node: u32) -> Option<Region> {
+        self.decided.combed.costs.region(node)
+    }
+
+    #[inline(always)]
+    fn is_beyond(&self, from: u32, region: &Region, least: i64) -> bool {
+        self.decided.combed.costs.is_beyond(from, region, least)
+    }
+
+    fn weight_within(&self, from: u32, to: u32, most: i64) -> i64 {
+        let base = self.base(from, to);
+        if base >= most {
+            return base;
+        }
+        let combed = self.combed(base, from, to);
+        let change = self.change(from, to);
+        if change < 0 { combed } else { combed + change }
+    }
+
+    #[inline]
+    fn count_lowered(&self, from: u32) -> usize {
+        self.decided.case.at(from).len()
+    }
+
+    fn lowered(&self, from: u32, index: usize) -> (u32, i64) {
+        let (first, second) = self.decided.case.at(from)[index].pair;
+        let to = if first == from { second } else { first };
+        (to, self.decided(from, to))
+    }
+
+    fn weight(&self, from: u32, to: u32) -> i64 {
+        self.decided(from, to)
+    }
+}
+
+/// The bound of a leaf whose weights are those of a case: by rows where they are kept, else by
+/// boxes, if its numbers aren't too large for these. It asks for what
+/// [`leaf_bound`](crate::leaf_bound) does.
+///
+/// # Errors
+///
+/// Out of memory.
+pub(crate) fn decided_bound<C: PlacedCosts>(
+    alloc: Global,
+    w: &DecidedWeights<C>,
+    row: &mut [i64],
+    scale: i64,
+    given_back: i128,
+) -> Result<i128, Refused>
+    requires some { 3 ≤ C.nodes w.now.combed.now.costs.now }
+    requires room { length row.old ≡ C.nodes w.now.combed.now.costs.now + 1 }
+    requires even { (i j : ℕ) → decided (decisions_in w.now.case.now) (set_weight w.now.combed.now.scale w.now.combed.now.potentials.now
+        w.now.combed.now.multipliers.now (lent_in w.now.combed.now.families.now) (C.at w.now.combed.now.costs.now)) i j
+        ≡ decided (decisions_in w.now.case.now) (set_weight w.now.combed.now.scale w.now.combed.now.potentials.now
+        w.now.combed.now.multipliers.now (lent_in w.now.combed.now.families.now) (C.at w.now.combed.now.costs.now)) j i }
+    requires scale { IsScale scale }
+    requires given_back { IsFromTo (neg_ℤ (pos (2 ^ 99))) (pos (2 ^ 99)) given_back }
+    ensures leaf { IfOk result (λ bound. BoundsEachLeaf (C.nodes w.now.combed.now.costs.now)
+        (decided (decisions_in w.now.case.now) (set_weight w.now.combed.now.scale w.now.combed.now.potentials.now
+        w.now.combed.now.multipliers.now (lent_in w.now.combed.now.families.now) (C.at w.now.combed.now.costs.now)))
+        scale given_back bound) }
+    ensures size { IfOk result (λ bound. IsBoundSized bound) }
+{
+    if w.combed.kept.is_empty() && w.combed.are_exact() {
+        let boxed = BoxedLeaf { decided: w };
+        return leaf_bound_in_space(alloc, &boxed, row, scale, given_back);
+    }
+    leaf_bound(alloc, w, row, scale, given_back)
+}
