@@ -1,5 +1,5 @@
 -- One pass over the steps that finds the first branch on a pair decided above it.
-use Rattle.std.proofs.Common.{◌≡◌, ◌∙◌, ℕ, suc, ◌+◌, ◌<◌, ◌≤◌, Bool, true, false, List, [], ◌∷◌, ◌++◌, drop, length, get_or, ℤ, inl, inr, refl, ap, sym, subst, add-one}
+use Rattle.std.proofs.Common.{◌≡◌, ◌∙◌, ℕ, suc, ◌+◌, ◌<◌, ◌≤◌, Bool, true, false, List, [], ◌∷◌, ◌++◌, drop, length, get_or, ℤ, inl, inr, refl, ap, ap₂, sym, subst, add-one}
 use Rattle.std.specs.Prelude.{None, Some}
 use Rattle.std.specs.List.{All, AllByRecursion}
 use Rattle.std.proofs.lemmas.Bool.{both_ways, cases_Bool}
@@ -124,8 +124,10 @@ once_at_end directed given all stack branch index h past =
     subst (λ (steps : List TreeStep). IsOnceSoFar directed given (steps_of all) stack branch (steps_of steps)) (drop_all index all past) h in
     no_branch_twice directed given (steps_of all) none.left (none.once tt)
 
--- what the open case of the code says of a pair
-pub decided_here : (directed : Bool) (given : List Decision) (case : OpenCase) (pair : ℕ × ℕ) (result : Bool) → case.given.now ≡ given
-    → result ≡ is_decided directed (decisions_in case) pair → is_decided directed (stack_of case.stack.items ++ given) pair ≡ result
-decided_here directed given case pair result given_is is =
-    ap (λ (ds : List Decision). is_decided directed (stack_of case.stack.items ++ ds) pair) (sym given_is) ∙ sym is
+-- ---- the open case of the code
+
+-- what it says of a pair
+pub decided_here : (directed : Bool) (given : List Decision) (case : OpenCase) (pair : ℕ × ℕ) (result : Bool) → case.given.now ≡ given → case.by_node.directed ≡ directed
+    → result ≡ is_decided case.by_node.directed (decisions_in case) pair → is_decided directed (stack_of case.stack.items ++ given) pair ≡ result
+decided_here directed given case pair result given_is direction is =
+    ap₂ (λ (d : Bool) (ds : List Decision). is_decided d (stack_of case.stack.items ++ ds) pair) (sym direction) (sym given_is) ∙ sym is

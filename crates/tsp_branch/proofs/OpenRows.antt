@@ -13,7 +13,7 @@ use Rattle.tsp_branch.specs.states.Decided.{IsDecision, IsOnPlaces, stack_of}
 use Rattle.tsp_branch.specs.states.OpenCases.{bears_on}
 use Rattle.tsp_branch.specs.Rows.{AllowsLink, Allows, IsAllowed, IsLeastFrom}
 use Rattle.tsp_branch.specs.states.Closed.{no_link, IsShut, IsOpenRow}
-use Rattle.tsp_branch.proofs.OpenCases.{first_bears, filter_in, filter_out}
+use Rattle.tsp_branch.proofs.OpenCases.{first_bears, second_only, filter_in, filter_out}
 
 -- ---- the decisions of a case
 
@@ -35,12 +35,12 @@ pub all_passed : (P : Decision → Type 0) (test : Decision → Bool) (case own 
 all_passed P test case own is all = turned_back P own (subst (All P) (sym is) (All-filter test P case all))
 
 -- plan: forwards by induction over the case (`each`): it is taken, or bears on the row, or allows the arc (`avoided_allows`)
-both_parts : (from x : ℕ) (case own taken : List Decision) → stack_of own ≡ filter (bears_on from) case → stack_of taken ≡ filter (λ decision. decision.taken) case
+both_parts : (from x : ℕ) (case own taken : List Decision) → stack_of own ≡ filter (bears_on true from) case → stack_of taken ≡ filter (λ decision. decision.taken) case
     → (All (Allows from x) own × All (Allows from x) taken) ↔ All (Allows from x) case
 both_parts from x case own taken own_is taken_is = (
-  λ h. All-from_recursion P case (each case (recursion_from_All P (filter (bears_on from) case) (subst (All P) own_is (turned P own h.0)))
+  λ h. All-from_recursion P case (each case (recursion_from_All P (filter (bears_on true from) case) (subst (All P) own_is (turned P own h.0)))
       (recursion_from_All P (filter is_taken case) (subst (All P) taken_is (turned P taken h.1)))),
-  λ all. (all_passed P (bears_on from) case own own_is all, all_passed P is_taken case taken taken_is all),
+  λ all. (all_passed P (bears_on true from) case own own_is all, all_passed P is_taken case taken taken_is all),
 )
   where
     P : Decision → Type 0
@@ -49,24 +49,28 @@ both_parts from x case own taken own_is taken_is = (
     is_taken : Decision → Bool
     is_taken decision = decision.taken
 
-    rest : (test : Decision → Bool) (d : Decision) (case : List Decision) → AllByRecursion P (filter test (d ∷ case)) → AllByRecursion P (filter test case)
-    rest test d case a = elim (cases_Bool (test d)) [
-      | inl passes ↦ (subst (AllByRecursion P) (filter_in test d case passes) a).1
-      | inr fails ↦ subst (AllByRecursion P) (filter_out test d case fails) a
-    ]
-
-    each : (case : List Decision) → AllByRecursion P (filter (bears_on from) case) → AllByRecursion P (filter is_taken case) → AllByRecursion P case
+    each : (case : List Decision) → AllByRecursion P (filter (bears_on true from) case) → AllByRecursion P (filter is_taken case) → AllByRecursion P case
     each [] a b = tt
-    each (d ∷ case) a b = (
-      elim (cases_Bool d.taken) [
-        | inl t ↦ (subst (AllByRecursion P) (filter_in is_taken d case t) b).0
-        | inr f ↦ elim (cases_eq d.pair.0 from) [
-          | inl same ↦ (subst (AllByRecursion P) (filter_in (bears_on from) d case (first_bears from d same)) a).0
-          | inr other ↦ subst (λ (t : Bool). AllowsLink t d.pair from x) (sym f) (avoided_allows d.pair from x other)
-        ]
-      ],
-      each case (rest (bears_on from) d case a) (rest is_taken d case b),
-    )
+    each (d ∷ case) a b = elim (cases_Bool d.taken) [
+      | inl t ↦
+          let more = subst (AllByRecursion P) (filter_in is_taken d case t) b in (
+            more.0,
+            each case (elim (cases_eq d.pair.0 from) [
+              | inl same ↦ (subst (AllByRecursion P) (filter_in (bears_on true from) d case (first_bears true from d same)) a).1
+              | inr other ↦ subst (AllByRecursion P) (filter_out (bears_on true from) d case (second_only from d other)) a
+            ]) more.1,
+          )
+      | inr f ↦
+          let more = subst (AllByRecursion P) (filter_out is_taken d case f) b in
+          elim (cases_eq d.pair.0 from) [
+            | inl same ↦
+                let own = subst (AllByRecursion P) (filter_in (bears_on true from) d case (first_bears true from d same)) a in
+                (own.0, each case own.1 more)
+            | inr other ↦
+                let own = subst (AllByRecursion P) (filter_out (bears_on true from) d case (second_only from d other)) a in
+                (subst (λ (t : Bool). AllowsLink t d.pair from x) (sym f) (avoided_allows d.pair from x other), each case own more)
+          ]
+    ]
 
 pub ends_inside : (n long : ℕ) (test : Decision → Bool) (case own : List Decision) → long ≡ n + 1 → stack_of own ≡ filter test case → All (IsDecision n) case
     → All (λ decision. decision.pair.1 < long) own
@@ -96,7 +100,7 @@ allowed_if A B a c (inr one) to from = inr (λ h. one.0 (from h), one.1)
 
 -- the node itself, the decisions that begin at it, and those that take their pair
 pub opened : (n : ℕ) (w : ℕ → ℕ → ℤ) (case own taken : List Decision) (from long : ℕ) (old shut mid new : List ℤ) → n < long → ((x : ℕ) → IsNode n x → least_at old x ≡ w from x)
-    → stack_of own ≡ filter (bears_on from) case → stack_of taken ≡ filter (λ decision. decision.taken) case
+    → stack_of own ≡ filter (bears_on true from) case → stack_of taken ≡ filter (λ decision. decision.taken) case
     → least_at shut from ≡ no_link → ((x : ℕ) → x ≢ from → least_at shut x ≡ least_at old x)
     → ((x : ℕ) → x < long → IsShut (All (Allows from x) own) (least_at shut x) (least_at mid x))
     → ((x : ℕ) → x < long → IsShut (All (Allows from x) taken) (least_at mid x) (least_at new x)) → IsOpenRow n w case from new

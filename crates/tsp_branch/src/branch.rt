@@ -94,7 +94,7 @@ fn judge_leaves<C: PlacedCosts>(
 {
     let cases = setting.cases;
     let mut room = Room::new(alloc, setting)?;
-    let mut case = OpenCase::new(alloc, cases.nodes, cases.given)?;
+    let mut case = OpenCase::new(alloc, cases.nodes, cases.directed, cases.given)?;
     let mut lowest = None;
     let mut leaf = 0;
     'steps: for step in cases.steps {
@@ -129,6 +129,7 @@ fn judge_leaf<C: PlacedCosts>(
     requires few_changes { length changes.now < 2 ^ 32 }
     requires few { length (decisions_in case.now) < 2 ^ 33 }
     requires case { IsOpenCase (C.nodes setting.now.costs.now) case.now }
+    requires direction { case.now.by_node.directed ≡ setting.now.cases.now.directed }
     requires once { DecideOnce setting.now.cases.now.directed (decisions_in case.now) }
     requires room { IsRoom (C.nodes setting.now.costs.now) (length setting.now.families.now.crossed.items) room.old }
     requires kept { HoldsRows (C.nodes setting.now.costs.now) (length setting.now.families.now.crossed.items) setting.now.cases.now.scale

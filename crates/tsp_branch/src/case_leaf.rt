@@ -32,6 +32,7 @@ pub(crate) struct CaseLeaf<'a, C: Costs> {
     pub(crate) moved: &'a [i64],
     pub(crate) kept: &'a [Vec<i64>],
     ghost is_case: { IsOpenCase (C.nodes setting.now.costs.now) case.now },
+    ghost direction: { case.now.by_node.directed ≡ setting.now.cases.now.directed },
     ghost once: { DecideOnce setting.now.cases.now.directed (decisions_in case.now) },
     ghost few: { length (decisions_in case.now) < 2 ^ 33 },
     ghost numbers: { AreGoodNumbers (C.nodes setting.now.costs.now) setting.now.families.now.crossed.items

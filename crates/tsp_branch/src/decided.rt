@@ -25,6 +25,7 @@ pub(crate) struct DecidedWeights<'a, C: Costs> {
     pub(crate) combed: &'a CombedWeights<'a, C>,
     pub(crate) case: &'a OpenCase<'a>,
     ghost is_case: { IsOpenCase (C.nodes combed.now.costs.now) case.now },
+    ghost both: { case.now.by_node.directed ≡ false },
     ghost once: { AreFewChanges (decisions_in case.now) },
 }
 

@@ -9,10 +9,14 @@ use crate::decision::Decision;
 use std::alloc::Global;
 use tsp_memory::{Refused, push, with_capacity};
 
-/// For each node the decisions on pairs that have it, and all that take their pair, the last one
+/// For each node the decisions that bear on its row, and all that take their pair, the last one
 /// last.
+///
+/// A decision bears on the row of its first node, and where pairs have no direction on that of its
+/// second one too.
 #[derive(Drop)]
 pub(crate) struct NodeDecisions {
+    pub(crate) directed: bool,
     pub(crate) lists: Vec<Vec<Decision>>,
     pub(crate) taken: Vec<Decision>,
 }
@@ -28,10 +32,12 @@ impl NodeDecisions {
     /// # Errors
     ///
     /// Out of memory, of which it takes some for each node.
-    pub(crate) fn new(alloc: Global, nodes: u32) -> Result<NodeDecisions, Refused>
-        ensures { IfOk result (λ made. AreByNode nodes made []) }
+    pub(crate) fn new(alloc: Global, nodes: u32, directed: bool) -> Result<NodeDecisions, Refused>
+        ensures none { IfOk result (λ made. AreByNode nodes made []) }
+        ensures directed { IfOk result (λ made. made.directed ≡ directed) }
     {
         Ok(NodeDecisions {
+            directed,
             lists: empty_lists(alloc, nodes)?,
             taken: Vec::new(alloc),
         })
@@ -47,10 +53,13 @@ impl NodeDecisions {
         ensures more { IfOk result (λ unit. (n : ℕ) (case : List Decision) → AreByNode n self.old case
             → AreByNode n self.new (decision ∷ case)) }
         ensures places { IfOk result (λ unit. length self.new.lists.items ≡ length self.old.lists.items) }
+        ensures directed { IfOk result (λ unit. self.new.directed ≡ self.old.directed) }
     {
         let (first, second) = decision.pair;
         list_at(&mut self.lists, first, decision)?;
-        list_at(&mut self.lists, second, decision)?;
+        if !self.directed {
+            list_at(&mut self.lists, second, decision)?;
+        }
         if decision.taken {
             push(&mut self.taken, decision)?;
         }
@@ -63,10 +72,13 @@ impl NodeDecisions {
         ensures less { (n : ℕ) (case : List Decision) → AreByNode n self.old (decision ∷ case)
             → AreByNode n self.new case }
         ensures places { length self.new.lists.items ≡ length self.old.lists.items }
+        ensures directed { self.new.directed ≡ self.old.directed }
     {
         let (first, second) = decision.pair;
         unlist_at(&mut self.lists, first);
-        unlist_at(&mut self.lists, second);
+        if !self.directed {
+            unlist_at(&mut self.lists, second);
+        }
         if decision.taken {
             self.taken.pop();
         }

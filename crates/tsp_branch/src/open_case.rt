@@ -33,14 +33,16 @@ impl<'a> OpenCase<'a> {
     pub(crate) fn new(
         alloc: Global,
         nodes: u32,
+        directed: bool,
         given: &'a [Decision],
     ) -> Result<OpenCase<'a>, Refused>
         requires { All (IsDecision nodes) given.now }
         ensures case { IfOk result (λ case. IsOpenCase nodes case) }
         ensures given { IfOk result (λ case. case.given.now ≡ given.now) }
         ensures stack { IfOk result (λ case. case.stack.items ≡ []) }
+        ensures directed { IfOk result (λ case. case.by_node.directed ≡ directed) }
     {
-        let mut by_node = NodeDecisions::new(alloc, nodes)?;
+        let mut by_node = NodeDecisions::new(alloc, nodes, directed)?;
         let mut left = given.len();
         'given: while left > 0 {
             left -= 1;
@@ -65,6 +67,7 @@ impl<'a> OpenCase<'a> {
         ensures stack { IfOk result (λ unit. self.new.stack.items
             ≡ self.old.stack.items ++ record { pair = pair; taken = true } ∷ []) }
         ensures given { IfOk result (λ unit. self.new.given.now ≡ self.old.given.now) }
+        ensures directed { IfOk result (λ unit. self.new.by_node.directed ≡ self.old.by_node.directed) }
     {
         let decision = Decision { pair, taken: true };
         self.by_node.add(decision)?;
@@ -72,23 +75,23 @@ impl<'a> OpenCase<'a> {
         Ok(())
     }
 
-    /// The decisions on pairs that have a node, the last one last.
+    /// The decisions that bear on the row of a node, the last one last.
     pub(crate) fn at(&self, node: u32) -> &[Decision]
         requires { node < length self.now.by_node.lists.items }
         ensures { (n : ℕ) → IsOpenCase n self.now → node ≤ n
-            → stack_of result.now ≡ filter (bears_on node) (decisions_in self.now) }
+            → stack_of result.now ≡ filter (bears_on self.now.by_node.directed node) (decisions_in self.now) }
     {
         self.by_node.lists[node as usize].as_slice()
     }
 
     /// Whether the pair is decided, of two nodes that the case has.
-    pub(crate) fn decides(&self, directed: bool, pair: (u32, u32)) -> bool
+    pub(crate) fn decides(&self, pair: (u32, u32)) -> bool
         requires { (n : ℕ) × IsOpenCase n self.now × (pair.0 ≤ n) }
-        ensures { result ≡ is_decided directed (decisions_in self.now) pair }
+        ensures { result ≡ is_decided self.now.by_node.directed (decisions_in self.now) pair }
     {
         let own = self.at(pair.0);
         'decisions: for decision in own {
-            if is_same(directed, pair, decision.pair) {
+            if is_same(self.by_node.directed, pair, decision.pair) {
                 return true;
             }
         }
@@ -108,6 +111,7 @@ impl<'a> OpenCase<'a> {
         ensures next { IfOk result (λ is_open. IsNextStack self.old.stack.items is_open self.new.stack.items) }
         ensures few { IfOk result (λ is_open. length self.new.stack.items ≤ length self.old.stack.items) }
         ensures given { IfOk result (λ is_open. self.new.given.now ≡ self.old.given.now) }
+        ensures directed { IfOk result (λ is_open. self.new.by_node.directed ≡ self.old.by_node.directed) }
     {
         'leave: while let Some(last) = self.stack.pop() {
             self.by_node.drop_last(last);

@@ -22,6 +22,7 @@ pub(crate) struct AllowedRows<'a, W: Weights> {
     pub(crate) weights: &'a W,
     pub(crate) case: &'a OpenCase<'a>,
     ghost is_case: { IsOpenCase (W.nodes weights.now) case.now },
+    ghost direction: { case.now.by_node.directed ≡ true },
 }
 
 impl<W: Weights> AllowedRows<'_, W> {
@@ -91,14 +92,14 @@ impl<W: Weights> AllowedRows<'_, W> {
 }
 
 /// Closes in the row of a node the place of the node itself, and what some decision doesn't allow:
-/// one on a pair that has the node, or one that takes its pair.
+/// one that begins at the node, or one that takes its pair.
 fn close_row(row: &mut [i64], own: &[Decision], taken: &[Decision], from: u32)
     requires own { All (λ decision. decision.pair.1 < length row.old) own.now }
     requires taken { All (λ decision. decision.pair.1 < length row.old) taken.now }
     requires from { from < length row.old }
     ensures { (n : ℕ) (w : ℕ → ℕ → ℤ) (case : List Decision) → n < length row.old
         → ((x : ℕ) → IsNode n x → least_at row.old x ≡ w from x)
-        → stack_of own.now ≡ filter (bears_on from) case
+        → stack_of own.now ≡ filter (bears_on true from) case
         → stack_of taken.now ≡ filter (λ decision. decision.taken) case → IsOpenRow n w case from row.new }
 {
     shut(row, from);

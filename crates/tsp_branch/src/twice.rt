@@ -51,14 +51,14 @@ fn first_twice<C: Costs>(alloc: Global, tree: &CaseTree<C>) -> Result<Option<usi
     ensures { IfOk result (AreBranchesJudged tree.now.directed tree.now.given.now (steps_of tree.now.steps.now)) }
 {
     let nodes = tree.costs.count();
-    let mut case = OpenCase::new(alloc, nodes, tree.given)?;
+    let mut case = OpenCase::new(alloc, nodes, tree.directed, tree.given)?;
     let mut count = 0;
     'steps: for step in tree.steps {
         match step {
             TreeStep::Branch(first, second) => {
                 count += 1;
                 let pair = (*first, *second);
-                if case.decides(tree.directed, pair) {
+                if case.decides(pair) {
                     return Ok(Some(count));
                 }
                 case.take(pair)?;

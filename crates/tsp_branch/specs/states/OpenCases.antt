@@ -1,5 +1,5 @@
 -- The decisions of the open case as code has them: a stack above those that are given, and by node.
-use Rattle.std.specs.Prelude.{◌≡◌, ◌≢◌, ℕ, ◌==◌, ◌||◌, ◌+◌, ◌<◌, ◌≤◌, Bool, List, ◌∷◌, ◌++◌, length, slice_index_or}
+use Rattle.std.specs.Prelude.{◌≡◌, ◌≢◌, ℕ, ◌==◌, ◌||◌, ◌&&◌, not, ◌+◌, ◌<◌, ◌≤◌, Bool, List, ◌∷◌, ◌++◌, length, slice_index_or}
 use Rattle.std.specs.Global.{Vec}
 use Rattle.std.specs.List.{All, filter}
 use Rattle.tsp_branch.specs.declared.decision.Decision.{Decision}
@@ -7,9 +7,9 @@ use Rattle.tsp_branch.specs.declared.node_decisions.NodeDecisions.{NodeDecisions
 use Rattle.tsp_branch.specs.declared.open_case.OpenCase.{OpenCase}
 use Rattle.tsp_branch.specs.states.Decided.{IsDecision, stack_of}
 
--- a decision is on a node: one of the two of its pair
-abbrev pub bears_on : ℕ → Decision → Bool
-bears_on x decision = (decision.pair.0 == x) || (decision.pair.1 == x)
+-- a decision bears on the row of its first node; undirected: on that of its second one too
+abbrev pub bears_on : Bool → ℕ → Decision → Bool
+bears_on directed x decision = (decision.pair.0 == x) || (not directed && (decision.pair.1 == x))
 
 -- the list at a node, the last one first
 abbrev pub listed_at : List (Vec Decision) → ℕ → Vec Decision → List Decision
@@ -19,7 +19,7 @@ listed_at lists x default = stack_of (slice_index_or lists x default).items
 pub record AreByNode (n : ℕ) (held : NodeDecisions) (case : List Decision) : Type 0 where
   pub places : length held.lists.items ≡ n + 1
   pub each : (x : ℕ) (default : Vec Decision) → x ≤ n
-      → listed_at held.lists.items x default ≡ filter (bears_on x) case
+      → listed_at held.lists.items x default ≡ filter (bears_on held.directed x) case
   pub taken : stack_of held.taken.items ≡ filter (λ decision. decision.taken) case
 
 -- lists of which one has a decision more at its end, or less

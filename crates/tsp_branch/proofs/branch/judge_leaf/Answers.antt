@@ -76,6 +76,7 @@ invariant_of-leaf g c =
     let numbers = numbers_are n _ crossed read c.deref-5.result.now c.deref-6.result.now at of_nodes of_combs (c.if-not-judge.ensures.good.0 refl) in
     record {
       is_case = c.requires.case;
+      direction = c.requires.direction;
       once = c.requires.once;
       few = c.requires.few;
       numbers = numbers;

@@ -26,6 +26,7 @@ invariant-steps g l =
       small : AreSmall l.room.numbers.items;
       case : IsOpenCase n l.case;
       given : l.case.given.now ≡ s.cases.now.given.now;
+      direction : l.case.by_node.directed ≡ s.cases.now.directed;
       few : length l.case.stack.items ≤ l.step-index;
       leaves : l.leaf ≤ l.step-index;
       sized : IfSome l.lowest IsBoundSized;

@@ -27,6 +27,7 @@ steps-init g c =
           (once_at_start tree.directed tree.given.now told tree.given_once);
       case = subst (λ (k : ℕ). IsOpenCase k c.in_ok-case.case) c.count-nodes.ensures.value c.in_ok-case.ensures.case;
       given = c.in_ok-case.ensures.given;
+      direction = c.in_ok-case.ensures.directed;
       few = omega arith;
     }
 
@@ -53,7 +54,7 @@ returns-then-decides g c =
     let st = c.steps in
     let at = once_next tree.directed tree.given.now all (stack_of st.case.stack.items) st.count st.step-index c.step-item.result (code.Branch c.in-Branch.first c.in-Branch.second)
     c.steps-test.true c.step-item.is c.in-Branch.is st.invariant.so_far in
-    let is = decided_here tree.directed tree.given.now st.case (c.in-Branch.first, c.in-Branch.second) true st.invariant.given (sym c.if-decides.true ∙ c.decides.ensures) in
+    let is = decided_here tree.directed tree.given.now st.case (c.in-Branch.first, c.in-Branch.second) true st.invariant.given st.invariant.direction (sym c.if-decides.true ∙ c.decides.ensures) in
     twice_found tree.directed tree.given.now (steps_of all) st.case.stack.items st.count c.in-Branch.first c.in-Branch.second (steps_of (drop (st.step-index + 1) all)) at is
 
 pub returns-then-not-branch : goal.returns-then-not-branch
@@ -83,12 +84,13 @@ steps-preserved g c =
           c.steps-test.true c.step-item.is w.in-Branch.is st.invariant.so_far in
           let own : IsDecision n (record { pair = (w.in-Branch.first, w.in-Branch.second); taken = true }) = ∥∥₁_elim tree.steps_are (hlevel props) (λ each. own_step
           n all st.step-index c.step-item.result (code.Branch w.in-Branch.first w.in-Branch.second) each c.steps-test.true c.step-item.is w.in-Branch.is) in
-          let is = decided_here tree.directed given st.case (w.in-Branch.first, w.in-Branch.second) false st.invariant.given (sym w.if-decides.false ∙ w.decides.ensures) in
+          let is = decided_here tree.directed given st.case (w.in-Branch.first, w.in-Branch.second) false st.invariant.given st.invariant.direction (sym w.if-decides.false ∙ w.decides.ensures) in
           rw (w.case-is, w.count-is) (record {
             so_far = once_pushed tree.directed given told items w.take.new.self.stack.items st.count w.in-Branch.first w.in-Branch.second rest at is
                 w.in_ok-take-in-Branch.ensures.stack;
             case = w.in_ok-take-in-Branch.ensures.case n st.invariant.case own;
             given = w.in_ok-take-in-Branch.ensures.given ∙ st.invariant.given;
+            direction = w.in_ok-take-in-Branch.ensures.directed ∙ st.invariant.direction;
             few = omega (arith, st.invariant.few);
           })
       | in-Leaf+in_ok-next-in-Leaf+else-not-branch w ↦
@@ -99,6 +101,7 @@ steps-preserved g c =
             so_far = once_at_leaf tree.directed given told (stack_of items) st.count w.in-Leaf.field-0.items rest (stack_of w.next.new.self.stack.items) at next;
             case = w.in_ok-next-in-Leaf.ensures.case n st.invariant.case;
             given = w.in_ok-next-in-Leaf.ensures.given ∙ st.invariant.given;
+            direction = w.in_ok-next-in-Leaf.ensures.directed ∙ st.invariant.direction;
             few = omega (arith, st.invariant.few);
           })
     ]

@@ -12,5 +12,6 @@ invariant-steps g l = record {
       (steps_of (drop l.step-index l.tree.steps.now));
   case : IsOpenCase (g.C.Costs.nodes l.tree.costs.now) l.case;
   given : l.case.given.now ≡ l.tree.given.now;
+  direction : l.case.by_node.directed ≡ l.tree.directed;
   few : l.count ≤ l.step-index;
 }

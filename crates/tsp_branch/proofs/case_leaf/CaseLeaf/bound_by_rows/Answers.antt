@@ -22,6 +22,7 @@ invariant_of-rows g c =
     let leaf = c.args.self.now in
     record {
       is_case = subst (λ (n : ℕ). IsOpenCase n leaf.case.now) (sym c.of-combed.ensures.nodes) leaf.is_case;
+      direction = leaf.direction ∙ c.requires.directed;
     }
 
 pub returns-clause-bound : goal.returns-clause-bound

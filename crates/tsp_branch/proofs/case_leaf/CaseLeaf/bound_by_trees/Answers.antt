@@ -31,6 +31,7 @@ invariant_of-weights g c =
     let case : List Decision = decisions_in leaf.case.now in
     record {
       is_case = subst (λ (n : ℕ). IsOpenCase n leaf.case.now) (sym c.of-combed.ensures.nodes) leaf.is_case;
+      both = leaf.direction ∙ c.requires.undirected;
       once = few_changes case (subst (λ (d : Bool). DecideOnce d case) c.requires.undirected leaf.once);
     }
 

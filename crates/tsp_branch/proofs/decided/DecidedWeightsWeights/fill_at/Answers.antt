@@ -21,7 +21,7 @@ pub change_row-requires : goal.change_row-requires
 change_row-requires g c =
     let p = c.args.self.now in
     let n : ℕ = g.C.Costs.nodes p.combed.now.costs.now in
-    both_inside n _ (bears_on c.args.from) (decisions_in p.case.now) c.at.result.now (c.fill_combed_at.auto.row ∙ c.requires.room)
+    both_inside n _ (bears_on p.case.now.by_node.directed c.args.from) (decisions_in p.case.now) c.at.result.now (c.fill_combed_at.auto.row ∙ c.requires.room)
     (c.at.ensures n p.is_case c.requires.from.1) p.is_case.pairs
 
 -- plan: the entries changed by the node's decisions are the decided ones (`changes_are`); 64 bits are enough (`moved_to`)
@@ -35,7 +35,7 @@ returns g c =
     let case : List Decision = decisions_in p.case.now in
     let row : List ℤ = c.change_row.new.row in
     let first : ℕ → ℤ = λ x. least_at c.fill_combed_at.new.row x in
-    let own_is = c.at.ensures n p.is_case c.requires.from.1 in
+    let own_is = subst (λ (d : Bool). stack_of c.at.result.now ≡ filter (bears_on d from) case) p.both (c.at.ensures n p.is_case c.requires.from.1) in
     let moved : (x : ℕ) → IsMoved (changes case from x) (first x) (least_at row x) = λ x.
     subst (λ (z : ℤ). IsMoved z (first x) (least_at row x)) (changes_listed case c.at.result.now from x own_is) (c.change_row.ensures x) in
     let node : ℕ → ℕ = slice_index c.args.to.now in

@@ -1,14 +1,33 @@
 -- The goals of `NodeDecisions::add` in src/node_decisions.rt: what it ensures.
-use Rattle.std.proofs.Common.{◌∙◌, sym}
-use Rattle.tsp_branch.proofs.OpenCases.{by_node_more, taken_more, filter_out, is_taken}
+use Rattle.std.proofs.Common.{◌∙◌, ◌∷◌, inl, inr, refl, sym, ap}
+use Rattle.tsp_branch.specs.declared.decision.Decision.{Decision}
+use Rattle.tsp_branch.specs.states.Decided.{stack_of}
+use Rattle.tsp_branch.proofs.OpenCases.{ListsNow, now_more, taken_more, filter_out, is_taken, by_node_now}
 use Rattle.tsp_branch.proofs.node_decisions.NodeDecisions.add.Goals as goal
+use Rattle.tsp_branch.proofs.node_decisions.NodeDecisions.add.Goals.{then-not-self+in_ok-list_at-2, else-not-self}
 
 pub returns-in_ok-push-clause-more : goal.returns-in_ok-push-clause-more
 returns-in_ok-push-clause-more c = λ n case was.
-    by_node_more n c.args.decision case c.args.self.now c.list_at.new.lists.items _ was c.requires.2 c.in_ok-list_at.ensures c.in_ok-list_at-2.ensures
-    (taken_more c.args.decision case c.args.self.now.taken.items _ c.if-decision.true was.taken c.in_ok-push.ensures.items)
+    let d : Decision = c.args.decision in
+    let old = c.args.self.now in
+    let now : ListsNow n (d ∷ case) old c.if-not-self.self = elim c.if-not-self.branch [
+      | then-not-self+in_ok-list_at-2 w ↦ rw w.self-is (now_more n d case old c.list_at.new.lists.items _ was refl refl c.requires.2 c.requires.0 c.requires.1 c.in_ok-list_at.ensures
+          (inr (w.if-not-self.true, w.in_ok-list_at-2.ensures)))
+      | else-not-self w ↦ rw w.self-is (now_more n d case old c.list_at.new.lists.items _ was refl refl c.requires.2 c.requires.0 c.requires.1 c.in_ok-list_at.ensures
+          (inl (w.if-not-self.false, refl)))
+    ] in
+    by_node_now n (d ∷ case) old c.if-not-self.self _ now refl refl
+    (taken_more d case c.if-not-self.self.taken.items _ c.if-decision.true (ap stack_of (ap (λ v. v.items) now.taken) ∙ was.taken) c.in_ok-push.ensures.items)
 
 pub returns-else-decision-clause-more : goal.returns-else-decision-clause-more
 returns-else-decision-clause-more c = λ n case was.
-    by_node_more n c.args.decision case c.args.self.now c.list_at.new.lists.items _ was c.requires.2 c.in_ok-list_at.ensures c.in_ok-list_at-2.ensures
-    (was.taken ∙ sym (filter_out is_taken c.args.decision case c.if-decision.false))
+    let d : Decision = c.args.decision in
+    let old = c.args.self.now in
+    let now : ListsNow n (d ∷ case) old c.if-not-self.self = elim c.if-not-self.branch [
+      | then-not-self+in_ok-list_at-2 w ↦ rw w.self-is (now_more n d case old c.list_at.new.lists.items _ was refl refl c.requires.2 c.requires.0 c.requires.1 c.in_ok-list_at.ensures
+          (inr (w.if-not-self.true, w.in_ok-list_at-2.ensures)))
+      | else-not-self w ↦ rw w.self-is (now_more n d case old c.list_at.new.lists.items _ was refl refl c.requires.2 c.requires.0 c.requires.1 c.in_ok-list_at.ensures
+          (inl (w.if-not-self.false, refl)))
+    ] in
+    by_node_now n (d ∷ case) old c.if-not-self.self _ now refl refl
+    (ap (λ v. stack_of v.items) now.taken ∙ was.taken ∙ sym (filter_out is_taken d case c.if-decision.false))

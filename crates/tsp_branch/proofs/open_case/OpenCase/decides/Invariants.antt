@@ -6,4 +6,4 @@ use Rattle.tsp_branch.specs.Decisions.{is_same}
 use Rattle.tsp_branch.proofs.open_case.OpenCase.decides.Given as goal
 
 abbrev pub invariant-decisions : goal.invariant-decisions
-invariant-decisions l = (k : ℕ) (d : Decision) → k < l.decision-index → is_same l.directed l.pair (slice_index_or l.own k d).pair ≡ false
+invariant-decisions l = (k : ℕ) (d : Decision) → k < l.decision-index → is_same l.self.by_node.directed l.pair (slice_index_or l.own k d).pair ≡ false

@@ -27,4 +27,5 @@ given-preserved c =
       most = omega (arith, st.invariant.most);
       by_node = subst (λ (ds : List Decision). AreByNode c.args.nodes c.add.new.self ds) (sym parts)
           (c.in_ok-add.ensures.more c.args.nodes (drop st.left given) st.invariant.by_node);
+      directed = c.in_ok-add.ensures.directed ∙ st.invariant.directed;
     }

@@ -7,6 +7,7 @@ abbrev pub invariant-given : goal.invariant-given
 invariant-given l = record {
   most : l.left ≤ length l.given;
   by_node : AreByNode l.nodes l.by_node (drop l.left l.given);
+  directed : l.by_node.directed ≡ l.directed;
 }
 
 abbrev pub decreases-given : goal.decreases-given

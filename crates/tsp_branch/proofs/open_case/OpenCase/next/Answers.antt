@@ -57,6 +57,7 @@ leave-preserved c =
       same = c.leave.invariant.same ∙ ap (λ (xs : List Decision). next_stack (stack_of xs)) items ∙ next_avoided last c.pop.new.self.items c.if-last.false;
       few = omega (arith, ap length items, length-append c.pop.new.self.items (last ∷ []), c.leave.invariant.few);
       given = c.leave.invariant.given;
+      directed = c.drop_last.ensures.directed ∙ c.leave.invariant.directed;
     }
 
 pub returns-clause-case : goal.returns-clause-case

@@ -11,6 +11,7 @@ invariant-leave l = record {
   same : next_stack (stack_of l.fn.self.stack.items) ≡ next_stack (stack_of l.self.stack.items);
   few : length l.self.stack.items ≤ length l.fn.self.stack.items;
   given : l.self.given.now ≡ l.fn.self.given.now;
+  directed : l.self.by_node.directed ≡ l.fn.self.by_node.directed;
 }
 
 abbrev pub decreases-leave : goal.decreases-leave

@@ -11,7 +11,7 @@ use Rattle.tsp_branch.proofs.rows.AllowedRows.least_from.Goals as goal
 
 pub close_row-requires-clause-own : goal.close_row-requires-clause-own
 close_row-requires-clause-own g c =
-    ends_inside (g.W.Weights.nodes c.args.self.now.weights.now) _ (bears_on c.args.from) (decisions_in c.args.self.now.case.now) c.at.result.now (c.fill.auto.row ∙ c.requires.room)
+    ends_inside (g.W.Weights.nodes c.args.self.now.weights.now) _ (bears_on c.args.self.now.case.now.by_node.directed c.args.from) (decisions_in c.args.self.now.case.now) c.at.result.now (c.fill.auto.row ∙ c.requires.room)
     (c.at.ensures (g.W.Weights.nodes c.args.self.now.weights.now) c.args.self.now.is_case c.requires.from.1) c.args.self.now.is_case.pairs
 
 pub close_row-requires-clause-taken : goal.close_row-requires-clause-taken
@@ -24,7 +24,7 @@ returns-then-least-eq-CLOSED g c =
     let n = g.W.Weights.nodes c.args.self.now.weights.now in
     let w = g.W.Weights.at c.args.self.now.weights.now in
     let long : n + 1 ≡ length c.close_row.new.row = omega (arith, c.requires.room, c.fill.auto.row, c.close_row.auto.row) in
-    let own_is = c.at.ensures n c.args.self.now.is_case c.requires.from.1 in
+    let own_is = subst (λ (d : Bool). stack_of c.at.result.now ≡ filter (bears_on d c.args.from) (decisions_in c.args.self.now.case.now)) c.args.self.now.direction (c.at.ensures n c.args.self.now.is_case c.requires.from.1) in
     let taken_is = ap stack_of c.deref.ensures.value ∙ c.args.self.now.is_case.by_node.taken in
     let open_row : IsOpenRow n w (decisions_in c.args.self.now.case.now) c.args.from c.close_row.new.row =
     c.close_row.ensures n w (decisions_in c.args.self.now.case.now) (omega (arith, long, c.close_row.auto.row)) c.fill.ensures.values own_is taken_is in
@@ -38,7 +38,7 @@ returns g c =
     let n = g.W.Weights.nodes c.args.self.now.weights.now in
     let w = g.W.Weights.at c.args.self.now.weights.now in
     let long : n + 1 ≡ length c.close_row.new.row = omega (arith, c.requires.room, c.fill.auto.row, c.close_row.auto.row) in
-    let own_is = c.at.ensures n c.args.self.now.is_case c.requires.from.1 in
+    let own_is = subst (λ (d : Bool). stack_of c.at.result.now ≡ filter (bears_on d c.args.from) (decisions_in c.args.self.now.case.now)) c.args.self.now.direction (c.at.ensures n c.args.self.now.is_case c.requires.from.1) in
     let taken_is = ap stack_of c.deref.ensures.value ∙ c.args.self.now.is_case.by_node.taken in
     let open_row : IsOpenRow n w (decisions_in c.args.self.now.case.now) c.args.from c.close_row.new.row =
     c.close_row.ensures n w (decisions_in c.args.self.now.case.now) (omega (arith, long, c.close_row.auto.row)) c.fill.ensures.values own_is taken_is in
