@@ -1,15 +1,14 @@
 -- The weights of a leaf beside what boxes bound: the cost at the scale and the numbers of both nodes.
-use Rattle.std.proofs.Common.{◌≡◌, ◌≢◌, ◌∙◌, ℕ, zero, suc, ◌<◌, ◌==◌, ◌&&◌, Bool, true, false, List, [], ◌∷◌, ◌++◌, length, map, get_or, ℤ, ◌≤ℤ◌, inl, inr, refl, ap, sym, subst, arith}
+use Rattle.std.proofs.Common.{◌≡◌, ◌≢◌, ◌∙◌, ℕ, zero, suc, ◌<◌, ◌==◌, ◌&&◌, Bool, true, false, List, [], ◌∷◌, length, map, get_or, ℤ, ◌≤ℤ◌, inl, inr, refl, ap, sym, subst, arith}
 use Rattle.std.specs.Int.{w64, int_wrap}
-use Rattle.std.specs.Prelude.{pos, negsuc, neg_ℤ, ◌+ℤ◌, ◌-ℤ◌, ◌*ℤ◌, ◌<ℤ◌, FitsSigned, reverse}
+use Rattle.std.specs.Prelude.{pos, negsuc, neg_ℤ, ◌+ℤ◌, ◌*ℤ◌, ◌<ℤ◌, reverse}
 use Rattle.std.specs.List.{All, filter}
 use Rattle.std.proofs.Math.ListN.{get_or-map}
-use Rattle.std.proofs.lemmas.Bool.{cases_Bool, cases_eq, eq-eqb, ne_eqb}
+use Rattle.std.proofs.lemmas.Bool.{cases_eq, eq-eqb, ne_eqb}
 use Rattle.std.proofs.lemmas.Int.{ints, int_wrap_fits, int_wrap-add_same}
 use Rattle.std.proofs.lemmas.List.{reverse-append}
 use Rattle.tsp_theory.specs.CertificateNumbers.{IsFromTo, entry}
 use Rattle.tsp_theory.specs.NodeBound.{weight_between, most_between}
-use Rattle.tsp_theory.specs.Adjusted.{is_same_pair}
 use Rattle.tsp_bound.specs.states.NodeNumbers.{node_in}
 use Rattle.tsp_branch.specs.GoodNumbers.{most_crossed}
 use Rattle.tsp_branch.specs.GoodFamilies.{HasEachOnce}

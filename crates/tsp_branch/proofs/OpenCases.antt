@@ -1,6 +1,6 @@
 -- The decisions of a case by node, as decisions come and go.
 use Rattle.std.proofs.Common.{◌≡◌, ◌≢◌, ℕ, suc, ◌+◌, ◌-◌, ◌<◌, ◌≤◌, ◌==◌, Bool, true, false, List, [], ◌∷◌, ◌++◌, get_or, length, take, drop, inl, inr, refl, ap, sym, subst, ap₂, ◌∙◌, arith}
-use Rattle.std.specs.Prelude.{pos}
+use Rattle.std.specs.Prelude.{◌⊎◌, pos}
 use Rattle.std.specs.Global.{Vec}
 use Rattle.std.specs.List.{All, filter, list_any}
 use Rattle.std.proofs.Math.Bool.{or-true}

@@ -11,7 +11,7 @@ use Rattle.tsp_branch.specs.GoodFamilies.{HasEachOnce}
 use Rattle.tsp_branch.specs.declared.set_place.SetPlace.{SetPlace}
 use Rattle.tsp_branch.specs.states.Sets.{added, place_at, IsPlaceIn, times, places_in, places_with}
 use Rattle.tsp_branch.specs.states.Combed.{summed_from, multipliers_at, set_in, twice_in, inside_both, AreSmallMultipliers}
-use Rattle.tsp_branch.specs.states.Shared.{is_place, has_place, shared_by, number_at}
+use Rattle.tsp_branch.specs.states.Shared.{is_same_place, has_place, shared_by, sum_at_places}
 use Rattle.tsp_families.proofs.Lists.{apart_from_pairs}
 use Rattle.tsp_branch.proofs.SetAlgebra.{both_sums, added_once}
 
@@ -25,7 +25,7 @@ times_sum g place (node ∷ nodes) x = let rest = times_sum g place nodes x in e
 ]
 
 family_sum : (ms : List ℤ) (family first : ℕ) (sets : List (List ℕ)) (x : ℕ)
-    → number_at ms (places_in family first sets x) ≡ sum_int_by (λ set. added (get_or ms family (pos 0)) set x) sets
+    → sum_at_places ms (places_in family first sets x) ≡ sum_int_by (λ set. added (get_or ms family (pos 0)) set x) sets
 family_sum ms family first [] x = refl
 family_sum ms family first (set ∷ sets) x =
     let own = times_sum (λ place. get_or ms place.family (pos 0)) (place_at family first) set x in
@@ -34,7 +34,7 @@ family_sum ms family first (set ∷ sets) x =
     omega (arith, ints, own, split, rest)
 
 families_sum : (ms : List ℤ) (first : ℕ) (families : List (List (List ℕ))) (x : ℕ)
-    → number_at ms (places_with first families x) ≡ summed_from first (λ m set. added m set x) ms families
+    → sum_at_places ms (places_with first families x) ≡ summed_from first (λ m set. added m set x) ms families
 families_sum ms first [] x = refl
 families_sum ms first (sets ∷ families) x =
     let own = family_sum ms first 0 sets x in
@@ -42,7 +42,7 @@ families_sum ms first (sets ∷ families) x =
     let rest = families_sum ms (suc first) families x in
     omega (arith, ints, own, split, rest)
 
-pub number_is : (ms : List ℤ) (families : List (List (List ℕ))) (x : ℕ) → number_at ms (places_with 0 families x) ≡ multipliers_at ms families x
+pub number_is : (ms : List ℤ) (families : List (List (List ℕ))) (x : ℕ) → sum_at_places ms (places_with 0 families x) ≡ multipliers_at ms families x
 number_is ms families x = families_sum ms 0 families x
 
 -- ---- a node's list has a place if the set there has the node
@@ -57,33 +57,33 @@ or_assoc false b c = refl
 
 has_both : (xs ys : List SetPlace) (p : SetPlace) → has_place (xs ++ ys) p ≡ (has_place xs p || has_place ys p)
 has_both [] ys p = refl
-has_both (x ∷ xs) ys p = ap (λ b. is_place p x || b) (has_both xs ys p) ∙ sym (or_assoc (is_place p x) (has_place xs p) (has_place ys p))
+has_both (x ∷ xs) ys p = ap (λ b. is_same_place p x || b) (has_both xs ys p) ∙ sym (or_assoc (is_same_place p x) (has_place xs p) (has_place ys p))
 
-has_times : (place : SetPlace) (nodes : List ℕ) (x : ℕ) (p : SetPlace) → is_place p place ≡ true → has_place (times place nodes x) p ≡ has nodes x
+has_times : (place : SetPlace) (nodes : List ℕ) (x : ℕ) (p : SetPlace) → is_same_place p place ≡ true → has_place (times place nodes x) p ≡ has nodes x
 has_times place [] x p is = refl
 has_times place (node ∷ nodes) x p is = elim (cases_Bool (node == x)) [
   | inl here ↦ rw (here, is) refl
   | inr other ↦ rw other (has_times place nodes x p is)
 ]
 
-no_times : (place : SetPlace) (nodes : List ℕ) (x : ℕ) (p : SetPlace) → is_place p place ≡ false → has_place (times place nodes x) p ≡ false
+no_times : (place : SetPlace) (nodes : List ℕ) (x : ℕ) (p : SetPlace) → is_same_place p place ≡ false → has_place (times place nodes x) p ≡ false
 no_times place [] x p not = refl
 no_times place (node ∷ nodes) x p not = elim (cases_Bool (node == x)) [
   | inl here ↦ rw (here, not) (no_times place nodes x p not)
   | inr other ↦ rw other (no_times place nodes x p not)
 ]
 
-own_place : (family set : ℕ) → is_place (place_at family set) (place_at family set) ≡ true
+own_place : (family set : ℕ) → is_same_place (place_at family set) (place_at family set) ≡ true
 own_place family set = rw (eq-eqb family family refl, eq-eqb set set refl) refl
 
-other_family : (f s family set : ℕ) → family ≢ f → is_place (place_at f s) (place_at family set) ≡ false
+other_family : (f s family set : ℕ) → family ≢ f → is_same_place (place_at f s) (place_at family set) ≡ false
 other_family f s family set apart = rw (ne_eqb family f apart) refl
 
 and_none : (b : Bool) → (b && false) ≡ false
 and_none true = refl
 and_none false = refl
 
-other_set : (f s family set : ℕ) → set ≢ s → is_place (place_at f s) (place_at family set) ≡ false
+other_set : (f s family set : ℕ) → set ≢ s → is_same_place (place_at f s) (place_at family set) ≡ false
 other_set f s family set apart = rw (ne_eqb set s apart) (and_none (family == f))
 
 -- the places of one family's sets from a first one on have none before it, and none of another family
@@ -186,7 +186,7 @@ inside_no_less ms families places x small inside = inside_some ms families place
 -- ---- one place after the other
 
 pub has_left : (places : List SetPlace) (index : ℕ) (p default : SetPlace) → index < length places
-    → has_place (drop index places) p ≡ (is_place p (get_or places index default) || has_place (drop (index + 1) places) p)
+    → has_place (drop index places) p ≡ (is_same_place p (get_or places index default) || has_place (drop (index + 1) places) p)
 has_left places index p default lt = ap (λ ps. has_place ps p) (drop-cons places index default lt) ∙ rw (add-one index) refl
 
 pub shared_left : (numbers : List ℤ) (others places : List SetPlace) (index : ℕ) (default : SetPlace) → index < length places
@@ -195,5 +195,5 @@ pub shared_left : (numbers : List ℤ) (others places : List SetPlace) (index : 
 shared_left numbers others places index default lt = ap (shared_by numbers others) (drop-cons places index default lt) ∙ rw (add-one index) refl
 
 pub number_left : (numbers : List ℤ) (places : List SetPlace) (index : ℕ) (default : SetPlace) → index < length places
-    → number_at numbers (drop index places) ≡ get_or numbers (get_or places index default).family (pos 0) +ℤ number_at numbers (drop (index + 1) places)
-number_left numbers places index default lt = ap (number_at numbers) (drop-cons places index default lt) ∙ rw (add-one index) refl
+    → sum_at_places numbers (drop index places) ≡ get_or numbers (get_or places index default).family (pos 0) +ℤ sum_at_places numbers (drop (index + 1) places)
+number_left numbers places index default lt = ap (sum_at_places numbers) (drop-cons places index default lt) ∙ rw (add-one index) refl

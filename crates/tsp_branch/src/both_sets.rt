@@ -6,7 +6,7 @@ ghost use Rattle.std.specs.List.{All};
 ghost use Rattle.tsp_theory.specs.CertificateNumbers.{IsFromTo};
 ghost use Rattle.tsp_branch.specs.GoodNumbers.{most_crossed};
 ghost use Rattle.tsp_branch.specs.states.Combed.{AreSmallMultipliers};
-ghost use Rattle.tsp_branch.specs.states.Shared.{is_place, has_place, shared_by, number_at};
+ghost use Rattle.tsp_branch.specs.states.Shared.{is_same_place, has_place, shared_by, sum_at_places};
 
 use crate::add_sets::sum_left;
 use crate::set_place::SetPlace;
@@ -16,8 +16,8 @@ const MOST_TAKEN: i64 = 3_000_000_000_000_000_000;
 
 /// Whether two places are the same.
 #[inline]
-fn is_place(place: SetPlace, other: SetPlace) -> bool
-    ensures { result ≡ is_place place other }
+fn is_same_place(place: SetPlace, other: SetPlace) -> bool
+    ensures { result ≡ is_same_place place other }
 {
     other.family == place.family && other.set == place.set
 }
@@ -27,7 +27,7 @@ fn has_place(places: &[SetPlace], place: SetPlace) -> bool
     ensures { result ≡ has_place places.now place }
 {
     'places: for other in places {
-        if is_place(place, *other) {
+        if is_same_place(place, *other) {
             return true;
         }
     }
@@ -54,7 +54,7 @@ pub(crate) fn shared_by(numbers: &[i64], others: &[SetPlace], places: &[SetPlace
 pub(crate) fn are_few(numbers: &[i64], places: &[SetPlace]) -> bool
     requires small { AreSmallMultipliers numbers.now }
     requires places { All (λ place. place.family < length numbers.now) places.now }
-    ensures { result ≡ true → IsFromTo (pos 0) (pos 3000000000000000000) (number_at numbers.now places.now) }
+    ensures { result ≡ true → IsFromTo (pos 0) (pos 3000000000000000000) (sum_at_places numbers.now places.now) }
 {
     let mut sum = 0;
     'places: for place in places {

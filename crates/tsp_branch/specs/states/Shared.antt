@@ -12,12 +12,12 @@ use Rattle.tsp_branch.specs.states.Combed.{multipliers_at, set_weight}
 use Rattle.tsp_branch.specs.states.Decided.{changes}
 use Rattle.tsp_branch.specs.states.OpenCases.{bears_on}
 
-abbrev pub is_place : SetPlace → SetPlace → Bool
-is_place place other = (other.family == place.family) && (other.set == place.set)
+abbrev pub is_same_place : SetPlace → SetPlace → Bool
+is_same_place place other = (other.family == place.family) && (other.set == place.set)
 
 -- a list has the place
 abbrev pub has_place : List SetPlace → SetPlace → Bool
-has_place places place = list_any (λ other. is_place place other) places
+has_place places place = list_any (λ other. is_same_place place other) places
 
 -- the numbers of the families of places, each place's if another list has it, and twice
 abbrev pub shared_by : List ℤ → List SetPlace → List SetPlace → ℤ
@@ -25,8 +25,8 @@ shared_by numbers others places =
     sum_int_by (λ place. if has_place others place then (pos 2 *ℤ slice_index_or numbers place.family (pos 0)) else pos 0) places
 
 -- the numbers of the families of places
-abbrev pub number_at : List ℤ → List SetPlace → ℤ
-number_at numbers places = sum_int_by (λ place. slice_index_or numbers place.family (pos 0)) places
+abbrev pub sum_at_places : List ℤ → List SetPlace → ℤ
+sum_at_places numbers places = sum_int_by (λ place. slice_index_or numbers place.family (pos 0)) places
 
 -- each node's potential less the multipliers of its sets, as it is, and not too large
 abbrev pub AreExact : ℕ → List ℤ → List ℤ → List (List (List ℕ)) → List ℤ → Type 0

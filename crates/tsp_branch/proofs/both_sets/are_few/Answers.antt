@@ -1,6 +1,5 @@
 -- The goals of `are_few` in src/both_sets.rt: that no sum overflows.
-use Rattle.std.proofs.Common.{◌≡◌, ℤ, get_or, arith, to_z, of_z}
-use Rattle.std.specs.Int.{w64}
+use Rattle.std.proofs.Common.{get_or, arith}
 use Rattle.std.specs.Prelude.{pos}
 use Rattle.std.proofs.lemmas.Int.{ints}
 use Rattle.tsp_branch.specs.declared.set_place.SetPlace.{SetPlace}

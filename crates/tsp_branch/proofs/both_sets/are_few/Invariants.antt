@@ -2,11 +2,11 @@
 use Rattle.std.proofs.Common.{◌≡◌, drop}
 use Rattle.std.specs.Prelude.{pos, ◌+ℤ◌}
 use Rattle.tsp_theory.specs.CertificateNumbers.{IsFromTo}
-use Rattle.tsp_branch.specs.states.Shared.{number_at}
+use Rattle.tsp_branch.specs.states.Shared.{sum_at_places}
 use Rattle.tsp_branch.proofs.both_sets.are_few.Given as goal
 
 abbrev pub invariant-places : goal.invariant-places
 invariant-places l = record {
-  sum : l.sum +ℤ number_at l.numbers (drop l.place-index l.places) ≡ number_at l.numbers l.places;
+  sum : l.sum +ℤ sum_at_places l.numbers (drop l.place-index l.places) ≡ sum_at_places l.numbers l.places;
   size : IsFromTo (pos 0) (pos 3000000000000000000) l.sum;
 }

@@ -1,5 +1,5 @@
 -- The goals of `has_place` in src/both_sets.rt: its loop and what it ensures.
-use Rattle.std.proofs.Common.{◌≡◌, ◌≤◌, ◌+◌, ◌||◌, List, length, drop, ap, sym, ◌∙◌, arith}
+use Rattle.std.proofs.Common.{◌≤◌, ◌+◌, ◌||◌, List, length, drop, ap, sym, ◌∙◌, arith}
 use Rattle.std.proofs.lemmas.List.{drop_all}
 use Rattle.tsp_branch.specs.declared.set_place.SetPlace.{SetPlace}
 use Rattle.tsp_branch.specs.states.Sets.{place_at}
@@ -10,12 +10,12 @@ use Rattle.tsp_branch.proofs.both_sets.has_place.Goals as goal
 pub places-preserved : goal.places-preserved
 places-preserved c =
     let left = has_left c.args.places.now c.places.other-index c.args.place (place_at 0 0) c.places-test.true in
-    sym (left ∙ ap (λ b. b || has_place (drop (c.places.other-index + 1) c.args.places.now) c.args.place) (sym c.is_place.ensures ∙ c.if-is_place.false)) ∙ c.places.invariant
+    sym (left ∙ ap (λ b. b || has_place (drop (c.places.other-index + 1) c.args.places.now) c.args.place) (sym c.is_same_place.ensures ∙ c.if-is_same_place.false)) ∙ c.places.invariant
 
-pub returns-then-is_place : goal.returns-then-is_place
-returns-then-is_place c =
+pub returns-then-is_same_place : goal.returns-then-is_same_place
+returns-then-is_same_place c =
     let left = has_left c.args.places.now c.places.other-index c.args.place (place_at 0 0) c.places-test.true in
-    sym (sym c.places.invariant ∙ left ∙ ap (λ b. b || has_place (drop (c.places.other-index + 1) c.args.places.now) c.args.place) (sym c.is_place.ensures ∙ c.if-is_place.true))
+    sym (sym c.places.invariant ∙ left ∙ ap (λ b. b || has_place (drop (c.places.other-index + 1) c.args.places.now) c.args.place) (sym c.is_same_place.ensures ∙ c.if-is_same_place.true))
 
 pub returns : goal.returns
 returns c =

@@ -1,7 +1,6 @@
 -- The goals of `BoxedLeaf::base` in src/boxed_leaf.rt: that no sum overflows and what it ensures.
-use Rattle.std.proofs.Common.{◌≡◌, ◌∙◌, ◌-◌, ◌*◌, ℤ, ap, subst, arith, to_z, of_z}
-use Rattle.std.specs.Int.{w64}
-use Rattle.std.specs.Prelude.{pos, neg_ℤ, ◌+ℤ◌, ◌*ℤ◌}
+use Rattle.std.proofs.Common.{◌-◌, ◌*◌, ℤ, ap, subst, arith}
+use Rattle.std.specs.Prelude.{pos, neg_ℤ, ◌*ℤ◌}
 use Rattle.std.proofs.lemmas.Int.{ints}
 use Rattle.tsp_format.specs.Limits.{most_scale, most_weight}
 use Rattle.tsp_theory.specs.CertificateNumbers.{IsFromTo, entry}

@@ -1,10 +1,10 @@
 -- The goals of `CombedWeights::are_exact` in src/combed.rt: its loop and what its calls require.
-use Rattle.std.proofs.Common.{◌≡◌, ◌∙◌, ◌-◌, ℕ, ℤ, List, inl, inr, ap, sym, subst, arith, rules, to_z, of_z, FitsSigned}
+use Rattle.std.proofs.Common.{◌≡◌, ◌∙◌, ◌-◌, ℕ, ℤ, List, inl, inr, ap, sym, subst, arith, rules, FitsSigned}
 use Rattle.std.specs.Int.{w64, int_wrap}
 use Rattle.std.specs.Prelude.{pos, neg_ℤ, ◌+ℤ◌}
 use Rattle.std.specs.List.{All}
 use Rattle.std.proofs.lemmas.Bool.{cases_eq}
-use Rattle.std.proofs.lemmas.Int.{ints, to_z-of_z, int_wrap_fits}
+use Rattle.std.proofs.lemmas.Int.{ints, int_wrap_fits}
 use Rattle.tsp_format.specs.Nodes.{IsNode}
 use Rattle.tsp_theory.specs.CertificateNumbers.{IsFromTo, entry}
 use Rattle.tsp_theory.specs.states.Nearest.{least_at}
@@ -12,7 +12,7 @@ use Rattle.tsp_bound.specs.states.NodeNumbers.{most_number}
 use Rattle.tsp_branch.specs.states.Sets.{IsPlaceIn, places_with}
 use Rattle.tsp_branch.specs.states.Lent.{lent_in}
 use Rattle.tsp_branch.specs.states.Combed.{multipliers_at}
-use Rattle.tsp_branch.specs.states.Shared.{number_at}
+use Rattle.tsp_branch.specs.states.Shared.{sum_at_places}
 use Rattle.tsp_branch.proofs.Changes.{within}
 use Rattle.tsp_branch.proofs.SetAlgebra.{places_inside}
 use Rattle.tsp_branch.proofs.SharedSets.{number_is}
@@ -38,7 +38,7 @@ nodes-preserved g c = λ x low below. elim (cases_eq x c.nodes.node) [
       let places_are : c.deref.result.now ≡ places_with 0 families node = c.deref.ensures.value ∙ q.table.said node c.index-self-node.result node_in.1 in
       let taken : ℤ = multipliers_at q.multipliers.now families node in
       let few : IsFromTo (pos 0) (pos 3000000000000000000) taken =
-      subst (λ (z : ℤ). IsFromTo (pos 0) (pos 3000000000000000000) z) (ap (number_at q.multipliers.now) places_are ∙ number_is q.multipliers.now families node) (c.are_few.ensures c.if-not-are_few.false) in
+      subst (λ (z : ℤ). IsFromTo (pos 0) (pos 3000000000000000000) z) (ap (sum_at_places q.multipliers.now) places_are ∙ number_is q.multipliers.now families node) (c.are_few.ensures c.if-not-are_few.false) in
       let potential = q.potentials_are (node - 1) (pos 0) (omega (arith, node_in, q.long)) in
       let whole : ℤ = entry q.potentials.now node +ℤ neg_ℤ taken in
       let whole_fits : FitsSigned w64 whole = within whole (omega (arith, ints, few.0, few.1, potential.0, potential.1), omega (arith, ints, few.0, few.1, potential.0, potential.1)) in

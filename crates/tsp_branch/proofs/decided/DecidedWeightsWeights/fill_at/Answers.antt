@@ -1,6 +1,7 @@
 -- The goals of `DecidedWeightsWeights::fill_at` in src/decided.rt: what it ensures.
-use Rattle.std.proofs.Common.{◌≡◌, ◌∙◌, ◌<◌, ℕ, ℤ, List, length, slice_index, arith, sym, subst}
+use Rattle.std.proofs.Common.{◌≡◌, ◌∙◌, ◌<◌, ℕ, ℤ, Bool, List, length, slice_index, arith, sym, subst}
 use Rattle.std.specs.Prelude.{◌+ℤ◌, pos, neg_ℤ, ◌<ℤ◌}
+use Rattle.std.specs.List.{filter}
 use Rattle.std.proofs.lemmas.Int.{ints}
 use Rattle.tsp_theory.specs.CertificateNumbers.{IsFromTo}
 use Rattle.tsp_theory.specs.states.Nearest.{least_at}
@@ -9,7 +10,7 @@ use Rattle.tsp_branch.specs.states.Lent.{lent_in}
 use Rattle.tsp_branch.specs.states.Combed.{set_weight}
 use Rattle.tsp_branch.specs.states.Sets.{IsMoved}
 use Rattle.tsp_branch.specs.declared.decision.Decision.{Decision}
-use Rattle.tsp_branch.specs.states.Decided.{decided, changes}
+use Rattle.tsp_branch.specs.states.Decided.{stack_of, decided, changes}
 use Rattle.tsp_branch.specs.states.OpenCases.{bears_on, decisions_in}
 use Rattle.tsp_branch.proofs.Changes.{changes_are, within}
 use Rattle.tsp_branch.proofs.OpenCases.{changes_listed}

@@ -1,5 +1,5 @@
 -- The loop of `OpenCase::new` in src/open_case.rt.
-use Rattle.std.proofs.Common.{◌≤◌, drop, length}
+use Rattle.std.proofs.Common.{◌≡◌, ◌≤◌, drop, length}
 use Rattle.tsp_branch.specs.states.OpenCases.{AreByNode}
 use Rattle.tsp_branch.proofs.open_case.OpenCase.new.Given as goal
 

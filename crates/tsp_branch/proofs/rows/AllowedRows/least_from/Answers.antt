@@ -1,6 +1,7 @@
 -- The goals of `AllowedRows::least_from` in src/rows.rt: what its calls require and what it ensures.
-use Rattle.std.proofs.Common.{◌≡◌, ◌+◌, ◌∙◌, length, inl, inr, arith, rules, FitsSigned, to_z, of_z, ap, sym}
+use Rattle.std.proofs.Common.{◌≡◌, ◌+◌, ◌∙◌, Bool, length, inl, inr, arith, rules, FitsSigned, to_z, of_z, ap, sym, subst}
 use Rattle.std.specs.Int.{w64}
+use Rattle.std.specs.List.{filter}
 use Rattle.std.proofs.lemmas.Int.{ints, to_z-of_z}
 use Rattle.tsp_branch.specs.Rows.{IsLeastFrom}
 use Rattle.tsp_branch.specs.states.Closed.{no_link, IsOpenRow}
