@@ -75,8 +75,8 @@ impl<C: PlacedCosts> CaseLeaf<'_, C> {
         Ok(Some(bound))
     }
 
-    /// The bound of a least 1-tree, where pairs have no direction: by rows where they are kept, else
-    /// by boxes where nodes have places.
+    /// The bound of a least 1-tree, where pairs have no direction: by rows where they are kept,
+    /// else by boxes where nodes have places.
     ///
     /// # Errors
     ///

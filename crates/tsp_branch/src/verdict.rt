@@ -48,8 +48,8 @@ pub fn judge_branches<C: Costs>(alloc: Global, tree: &CaseTree<C>) -> Result<Bra
     judge_branches_in_space(alloc, &placed)
 }
 
-/// What [`judge_branches`] returns, over costs whose nodes may have places in space: regions of them
-/// then take the place of most pairs, so that it asks for far fewer costs.
+/// What [`judge_branches`] returns, over costs whose nodes may have places in space: regions of
+/// them then take the place of most pairs, so that it asks for far fewer costs.
 ///
 /// # Errors
 ///
