@@ -75,6 +75,7 @@ void Branching::try_values(const Relaxation& relaxation, const std::vector<Candi
 // isn't tried where the candidate can't be among the best.
 void Branching::score(const Relaxation& relaxation, std::vector<Candidate>& candidates, const Trial& trial) {
   std::vector<Candidate*> order;
+  order.reserve(candidates.size());
   for (Candidate& candidate : candidates) order.push_back(&candidate);
   try_values(relaxation, order, false, trial);
   std::stable_sort(order.begin(), order.end(), [](auto* a, auto* b) { return a->score > b->score; });
