@@ -76,17 +76,16 @@ struct Rows {
 // What comes of a case: numbers that reach the target, or a pair to branch on, or neither where the time is
 // over.
 struct Outcome {
-  bool done = false;
+  bool done = false, large_tree = false;
+  int first = 0;  // the number of the first cut that is new
   Numbers numbers{};
   Value value = ExactBound::nothing();
   std::optional<Pair> pair{};
   std::shared_ptr<const WarmStart> warm{};         // where there is a pair
   std::vector<std::shared_ptr<const Cut>> cuts{};  // that are new
-  int first = 0;                                   // the number of the first of them
   std::optional<Tour> tour{};                      // a shorter one
   History history{};
   double gap = 0;
-  bool large_tree = false;
   std::optional<Weight> shift{};
   Rows rows{};
 };
