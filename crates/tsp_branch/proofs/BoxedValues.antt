@@ -10,18 +10,18 @@ use Rattle.std.proofs.lemmas.List.{reverse-append}
 use Rattle.tsp_theory.specs.CertificateNumbers.{IsFromTo, entry}
 use Rattle.tsp_theory.specs.NodeBound.{weight_between, most_between}
 use Rattle.tsp_bound.specs.states.NodeNumbers.{node_in}
-use Rattle.tsp_branch.specs.GoodNumbers.{most_crossed}
-use Rattle.tsp_branch.specs.GoodFamilies.{HasEachOnce}
-use Rattle.tsp_branch.specs.declared.decision.Decision.{Decision}
+use Rattle.tsp_cases.specs.GoodNumbers.{most_crossed}
+use Rattle.tsp_cases.specs.GoodFamilies.{HasEachOnce}
+use Rattle.tsp_cases.specs.declared.decision.Decision.{Decision}
 use Rattle.tsp_branch.specs.states.Sets.{places_with}
 use Rattle.tsp_branch.specs.states.Combed.{AreSmallMultipliers, inside_both, multipliers_at, set_crossings, most_combed, set_weight}
-use Rattle.tsp_branch.specs.states.Decided.{decided, change_of, changes, stack_of}
-use Rattle.tsp_branch.specs.states.OpenCases.{bears_on}
+use Rattle.tsp_cases.specs.states.Decided.{decided, change_of, changes, stack_of}
+use Rattle.tsp_cases.specs.states.OpenCases.{bears_on}
 use Rattle.tsp_branch.specs.states.Shared.{upwards, raised, other_of, others_of}
 use Rattle.tsp_branch.proofs.Changes.{changes_are}
 use Rattle.tsp_branch.proofs.CombSizes.{combed_size, combed_fits}
-use Rattle.tsp_branch.proofs.OpenCases.{changes_borne}
-use Rattle.tsp_branch.proofs.DecidedOnce.{changes_turned}
+use Rattle.tsp_cases.proofs.OpenCases.{changes_borne}
+use Rattle.tsp_cases.proofs.DecidedOnce.{changes_turned}
 use Rattle.tsp_branch.proofs.SetAlgebra.{sets_come_to, places_inside}
 use Rattle.tsp_branch.proofs.SharedSets.{inside_no_less}
 

@@ -8,21 +8,21 @@ use Rattle.std.proofs.lemmas.Int.{ints}
 use Rattle.std.proofs.lemmas.List.Elements.{recursion_from_All, All-from_recursion}
 use Rattle.tsp_theory.specs.CertificateNumbers.{IsFromTo, total}
 use Rattle.tsp_families.specs.declared.family.Crossings.{Crossings}
-use Rattle.tsp_branch.specs.Families.{Family, IsFamily}
-use Rattle.tsp_branch.specs.declared.decision.Decision.{Decision}
-use Rattle.tsp_branch.specs.Decisions.{on_taken, on_avoided, decided_number}
+use Rattle.tsp_cases.specs.Families.{Family, IsFamily}
+use Rattle.tsp_cases.specs.declared.decision.Decision.{Decision}
+use Rattle.tsp_cases.specs.Decisions.{on_taken, on_avoided, decided_number}
 use Rattle.tsp_theory.specs.NodeBound.{weight_between}
-use Rattle.tsp_branch.specs.LeafBound.{combed, least_of, leaf_weight}
-use Rattle.tsp_branch.specs.Rows.{HasNoLink, IsRowBound}
-use Rattle.tsp_branch.specs.CaseTrees.{multiplied, IsFoundAt}
+use Rattle.tsp_cases.specs.LeafBound.{combed, least_of, leaf_weight}
+use Rattle.tsp_cases.specs.Rows.{HasNoLink, IsRowBound}
+use Rattle.tsp_cases.specs.CaseTrees.{multiplied, IsFoundAt}
 use Rattle.tsp_branch.specs.states.Combed.{AreSmallMultipliers, AreFewCrossings, set_weight}
-use Rattle.tsp_branch.specs.FamiliesOfSets.{families_with, sum_with}
-use Rattle.tsp_branch.specs.states.Decided.{decided}
-use Rattle.tsp_branch.specs.GoodNumbers.{AreGoodNumbers, as_leaf_numbers, most_crossed}
+use Rattle.tsp_cases.specs.FamiliesOfSets.{families_with, sum_with}
+use Rattle.tsp_cases.specs.states.Decided.{decided}
+use Rattle.tsp_cases.specs.GoodNumbers.{AreGoodNumbers, as_leaf_numbers, most_crossed}
 use Rattle.tsp_branch.proofs.Changes.{changes_are}
-use Rattle.tsp_branch.proofs.CombSizes.{families_crossed_few, families_some, multipliers_below}
+use Rattle.tsp_branch.proofs.CombSizes.{families_crossed_few, multipliers_below}
 use Rattle.tsp_branch.proofs.CombsBySets.{sets_tell_combs, sets_give_leaves}
-use Rattle.tsp_branch.proofs.RowLeaves.{agreed_rows}
+use Rattle.tsp_cases.proofs.RowLeaves.{agreed_rows}
 
 -- weights that are those by sets, under the decisions of a case, are those of the leaf
 pub case_weight : (w : ℕ → ℕ → ℤ) (scale : ℤ) (crossed : List Crossings) (potentials multipliers : List ℤ) (families : List (List (List ℕ))) (case : List Decision) (cost : ℕ → ℕ → ℤ) (i j : ℕ)
@@ -63,10 +63,6 @@ small_multipliers n crossed potentials ms some good =
     λ k default lt.
     let own = All-from_recursion (λ m. IsFromTo (pos 0) (total ms) m) ms each k default lt in
     (own.0, let most = own.1 in let sum = few_multipliers crossed ms good.each_comb some good.signs good.sum in omega (arith, ints, most, sum))
-
--- some two nodes cross each family
-pub all_some : (n : ℕ) (crossed : List Crossings) (families : List (List (List ℕ))) → length crossed ≡ length families → All (IsFamily n) (families_with crossed families) → All (λ own. 1 ≤ own.most) crossed
-all_some n crossed families many are = All-from_recursion (λ own. 1 ≤ own.most) crossed (families_some n crossed families many (recursion_from_All (IsFamily n) (families_with crossed families) are))
 
 pub few_crossings : (n : ℕ) (crossed : List Crossings) (potentials multipliers : List ℤ) (families : List (List (List ℕ))) → AreGoodNumbers n crossed (as_leaf_numbers potentials multipliers)
     → length crossed ≡ length families → ∥ All (IsFamily n) (families_with crossed families) ∥₁ → AreFewCrossings n multipliers families

@@ -7,8 +7,8 @@ use Rattle.std.proofs.lemmas.Int.{ints, fits_signed_from_abs}
 use Rattle.tsp_theory.specs.CertificateNumbers.{IsFromTo}
 use Rattle.tsp_theory.specs.Adjusted.{is_same_pair}
 use Rattle.tsp_theory.proofs.Sizes.{size_of}
-use Rattle.tsp_branch.specs.declared.decision.Decision.{Decision}
-use Rattle.tsp_branch.specs.states.Decided.{decided, change_of, changes}
+use Rattle.tsp_cases.specs.declared.decision.Decision.{Decision}
+use Rattle.tsp_cases.specs.states.Decided.{decided, change_of, changes}
 
 pub changes_are : (decisions : List Decision) (w : ℕ → ℕ → ℤ) (i j : ℕ) → decided decisions w i j ≡ w i j +ℤ changes decisions i j
 changes_are [] w i j = omega (arith, ints)

@@ -15,15 +15,15 @@ use Rattle.tsp_theory.proofs.Crossings.{one_if, none_or_one}
 use Rattle.tsp_theory.proofs.Sizes.{size_of}
 use Rattle.tsp_format.specs.Nodes.{IsNode}
 use Rattle.tsp_families.specs.declared.family.Crossings.{Crossings}
-use Rattle.tsp_branch.specs.Combs.{Comb, AreApart, family_crossings}
-use Rattle.tsp_branch.specs.Families.{Family, IsLoneOrComb, IsFamily}
-use Rattle.tsp_branch.specs.LeafBound.{crossings_of}
-use Rattle.tsp_branch.specs.CaseTrees.{multiplied}
-use Rattle.tsp_branch.specs.FamiliesOfSets.{family_with, families_with, sum_with}
-use Rattle.tsp_branch.specs.GoodNumbers.{most_crossed}
+use Rattle.tsp_cases.specs.Combs.{Comb, AreApart, family_crossings}
+use Rattle.tsp_cases.specs.Families.{Family, IsLoneOrComb, IsFamily}
+use Rattle.tsp_cases.specs.LeafBound.{crossings_of}
+use Rattle.tsp_cases.specs.CaseTrees.{multiplied}
+use Rattle.tsp_cases.specs.FamiliesOfSets.{family_with, families_with, sum_with}
+use Rattle.tsp_cases.specs.GoodNumbers.{most_crossed}
 use Rattle.tsp_branch.specs.states.Combed.{most_combed}
-use Rattle.tsp_branch.proofs.Combs.{Apart, apart_from_pairs}
-use Rattle.tsp_branch.proofs.LeafBounds.{product_below}
+use Rattle.tsp_cases.proofs.Combs.{Apart, apart_from_pairs}
+use Rattle.tsp_cases.proofs.LeafBounds.{product_below}
 
 pub combed_size : (base crossed : ℤ) → IsFromTo (neg_ℤ (pos most_between)) (pos most_between) base → IsFromTo (pos 0) (pos most_crossed) crossed
     → IsFromTo (neg_ℤ (pos most_combed)) (pos most_combed) (base -ℤ crossed)
@@ -105,17 +105,6 @@ families_crossed_few n (own ∷ crossed) (sets ∷ families) (m ∷ ms) i j in_i
     let family : Family = family_with own sets in
     let one = times_at_most m (family_crossings family.sets i j) own.most signs.0 (crossed_some family.sets i j) (family_crossed_few n family i j in_i in_j are.0) in
     (omega (arith, ints, rest.0, one.0), omega (arith, ints, rest.1, one.1))
-
--- some two nodes cross each family
-pub families_some : (n : ℕ) (crossed : List Crossings) (families : List (List (List ℕ))) → length crossed ≡ length families → AllByRecursion (IsFamily n) (families_with crossed families)
-    → AllByRecursion (λ own. 1 ≤ own.most) crossed
-families_some n [] families many are = tt
-families_some n (own ∷ crossed) [] many are = absurd (omega (arith, many))
-families_some n (own ∷ crossed) (sets ∷ families) many are = (some are.0, families_some n crossed families (omega (arith, many)) are.1)
-  where
-    some : IsFamily n (family_with own sets) → 1 ≤ own.most
-    some (inl known) = omega (arith, known.most_is)
-    some (inr other) = other.parted
 
 -- so that multipliers sum to no more than the crossings
 pub multipliers_below : (crossed : List Crossings) (multipliers : List ℤ) → length multipliers ≡ length crossed → AllByRecursion (λ own. 1 ≤ own.most) crossed

@@ -2,7 +2,7 @@
 use Rattle.std.proofs.Common.{◌≡◌, ℕ, ◌+◌, ◌<◌, List, [], ◌∷◌, drop, length, get_or, refl, ap, ◌∙◌, arith, drop-cons, add-one}
 use Rattle.std.specs.Prelude.{ℤ, pos, ◌+ℤ◌, if◌then◌else◌, Bool, true, false, ◌==◌}
 use Rattle.std.proofs.lemmas.Int.{ints}
-use Rattle.tsp_branch.specs.declared.set_place.SetPlace.{SetPlace}
+use Rattle.tsp_cases.specs.declared.set_place.SetPlace.{SetPlace}
 use Rattle.tsp_branch.specs.states.Sets.{added}
 use Rattle.tsp_branch.specs.states.Combed.{twice_in, inside_both}
 

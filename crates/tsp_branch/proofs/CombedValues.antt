@@ -5,8 +5,8 @@ use Rattle.std.specs.List.{All}
 use Rattle.std.proofs.lemmas.Int.{ints}
 use Rattle.tsp_theory.specs.CertificateNumbers.{IsFromTo}
 use Rattle.tsp_theory.specs.NodeBound.{weight_between}
-use Rattle.tsp_branch.specs.GoodNumbers.{most_crossed}
-use Rattle.tsp_branch.specs.GoodFamilies.{HasEachOnce}
+use Rattle.tsp_cases.specs.GoodNumbers.{most_crossed}
+use Rattle.tsp_cases.specs.GoodFamilies.{HasEachOnce}
 use Rattle.tsp_branch.specs.states.Sets.{IsMoved, places_with}
 use Rattle.tsp_branch.specs.states.Combed.{IsApart, inside_both, set_crossings, most_combed, set_weight}
 use Rattle.tsp_branch.proofs.CombSizes.{combed_size, combed_fits}

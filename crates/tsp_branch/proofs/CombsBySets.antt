@@ -6,9 +6,9 @@ use Rattle.std.proofs.lemmas.Int.{ints}
 use Rattle.tsp_theory.specs.Length.{sum_int_by}
 use Rattle.tsp_theory.specs.Tree.{crossing}
 use Rattle.tsp_families.specs.Crossed.{has}
-use Rattle.tsp_branch.specs.Combs.{family_crossings}
+use Rattle.tsp_cases.specs.Combs.{family_crossings}
 use Rattle.tsp_branch.specs.states.Combed.{summed_from, SetsTellCombs, SetsGiveLeaves}
-use Rattle.tsp_branch.specs.FamiliesOfSets.{comb_with}
+use Rattle.tsp_cases.specs.FamiliesOfSets.{comb_with}
 
 abbrev crossed_sets : List (List ℕ) → ℕ → ℕ → ℤ
 crossed_sets sets i j = sum_int_by (λ set. crossing (has set) i j) sets

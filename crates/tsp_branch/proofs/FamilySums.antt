@@ -8,9 +8,9 @@ use Rattle.std.proofs.lemmas.List.Elements.{recursion_from_All}
 use Rattle.tsp_theory.specs.CertificateNumbers.{IsFromTo, total}
 use Rattle.tsp_theory.proofs.Sizes.{size_of}
 use Rattle.tsp_families.specs.declared.family.Crossings.{Crossings}
-use Rattle.tsp_branch.specs.GoodNumbers.{most_crossed}
-use Rattle.tsp_branch.specs.FamiliesOfSets.{most_or_least, sum_with}
-use Rattle.tsp_branch.specs.states.FamilyNumbers.{IsSmall}
+use Rattle.tsp_cases.specs.GoodNumbers.{most_crossed}
+use Rattle.tsp_cases.specs.FamiliesOfSets.{most_or_least, sum_with}
+use Rattle.tsp_cases.specs.states.FamilyNumbers.{IsSmall}
 use Rattle.tsp_branch.proofs.CombSizes.{times_at_most}
 
 pub sum_left : (is_most : Bool) (crossed : List Crossings) (ms : List ℤ) (index : ℕ) (default : Crossings) → index < length crossed → index < length ms

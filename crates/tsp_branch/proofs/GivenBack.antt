@@ -10,12 +10,12 @@ use Rattle.std.proofs.lemmas.List.Sums.{length-filter, count_by-le-length}
 use Rattle.tsp_theory.specs.CertificateNumbers.{IsFromTo, total}
 use Rattle.tsp_theory.specs.Adjusted.{triples_total}
 use Rattle.tsp_families.specs.declared.family.Crossings.{Crossings}
-use Rattle.tsp_branch.specs.LeafBound.{least_of}
-use Rattle.tsp_branch.specs.CaseTrees.{multiplied}
-use Rattle.tsp_branch.specs.declared.decision.Decision.{Decision}
-use Rattle.tsp_branch.specs.Decisions.{on_taken, decided_number}
-use Rattle.tsp_branch.specs.FamiliesOfSets.{families_with, sum_with}
-use Rattle.tsp_branch.specs.states.Decided.{stack_of}
+use Rattle.tsp_cases.specs.LeafBound.{least_of}
+use Rattle.tsp_cases.specs.CaseTrees.{multiplied}
+use Rattle.tsp_cases.specs.declared.decision.Decision.{Decision}
+use Rattle.tsp_cases.specs.Decisions.{on_taken, decided_number}
+use Rattle.tsp_cases.specs.FamiliesOfSets.{families_with, sum_with}
+use Rattle.tsp_cases.specs.states.Decided.{stack_of}
 
 -- ---- sums of numbers
 

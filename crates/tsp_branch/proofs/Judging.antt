@@ -1,11 +1,11 @@
 -- The findings of a leaf, from the numbers in the code's memory.
-use Rattle.std.proofs.Common.{◌≡◌, ◌∙◌, ℕ, zero, suc, ◌+◌, ◌^◌, ◌<◌, ◌≤◌, Bool, true, false, List, [], ◌∷◌, ◌++◌, length, take, drop, get_or, ℤ, inl, inr, refl, sym, ap, subst, arith, drop-cons, add-one, length-append}
+use Rattle.std.proofs.Common.{◌≡◌, ◌∙◌, ℕ, zero, suc, ◌+◌, ◌^◌, ◌<◌, ◌≤◌, Bool, true, false, List, [], ◌∷◌, ◌++◌, length, take, drop, get_or, ℤ, inl, inr, refl, sym, ap, subst, arith, add-one, length-append}
 use Rattle.std.specs.Prelude.{Option, None, Some, IfSome, pos, neg_ℤ}
 use Rattle.std.specs.List.{All}
 use Rattle.std.proofs.Math.Logic.{∥∥₁_elim}
 use Rattle.std.proofs.Props.{props}
 use Rattle.std.proofs.lemmas.Int.{ints}
-use Rattle.std.proofs.lemmas.List.{get_or-map, length-map, length-reverse, take-append-drop, take-append-le, take_all, drop_all}
+use Rattle.std.proofs.lemmas.List.{length-reverse, take-append-drop, drop_all}
 use Rattle.std.proofs.lemmas.List.Elements.{All-append, All-weaker}
 use Rattle.tsp_format.specs.Nodes.{IsNode}
 use Rattle.tsp_format.specs.Limits.{most_potential}
@@ -18,26 +18,24 @@ use Rattle.tsp_theory.specs.CertificateNumbers.{IsFromTo, IsScale, IsBoundSized}
 use Rattle.tsp_families.specs.declared.family.Crossings.{Crossings}
 use Rattle.tsp_branch.specs.declared.judged.JudgedLeaves.{JudgedLeaves}
 use Rattle.tsp_branch.specs.declared.judged.JudgedLeaves.TheVariants as judged
-use Rattle.tsp_branch.specs.Families.{Family, IsFamily}
-use Rattle.tsp_branch.specs.declared.decision.Decision.{Decision}
-use Rattle.tsp_branch.specs.Decisions.{DecideOnce, decided_number}
+use Rattle.tsp_cases.specs.Families.{Family, IsFamily}
+use Rattle.tsp_cases.specs.declared.decision.Decision.{Decision}
+use Rattle.tsp_cases.specs.Decisions.{DecideOnce, decided_number}
 use Rattle.tsp_branch.specs.declared.judged.JudgedLeaf.{JudgedLeaf}
 use Rattle.tsp_branch.specs.declared.judged.JudgedLeaf.TheVariants as leaves
-use Rattle.tsp_branch.specs.Cases.{LeafNumbers, are_case_trees, leaves_of, next_stack}
-use Rattle.tsp_branch.specs.CaseTrees.{IsCaseTree, IsLeastFound, AreCostsFor, BoundsIfAny, CaseTreesBoundCycles}
-use Rattle.tsp_branch.specs.states.Decided.{stack_of, IsNextStack}
-use Rattle.tsp_branch.specs.GoodNumbers.{AreGoodNumbers, as_leaf_numbers, most_crossed}
-use Rattle.tsp_branch.specs.Listed.{all_grown, split_at, steps_from, listed_steps, IsStepOf, AreGoodLeaves, IsFirstBadLeaf, AreJudgedLeaves, BoundsCycles, IsLowest}
-use Rattle.tsp_branch.specs.JudgedTrees.{AreCasesOf}
-use Rattle.tsp_branch.specs.declared.tree_cases.Cases.{Cases}
+use Rattle.tsp_cases.specs.Cases.{LeafNumbers, are_case_trees, leaves_of, next_stack}
+use Rattle.tsp_cases.specs.CaseTrees.{IsCaseTree, IsLeastFound, AreCostsFor, BoundsIfAny, CaseTreesBoundCycles}
+use Rattle.tsp_cases.specs.states.Decided.{stack_of, IsNextStack}
+use Rattle.tsp_cases.specs.GoodNumbers.{AreGoodNumbers, as_leaf_numbers, most_crossed}
+use Rattle.tsp_cases.specs.Listed.{all_grown, split_at, steps_from, listed_steps, AreGoodLeaves, IsFirstBadLeaf}
+use Rattle.tsp_branch.specs.JudgedLeaves.{AreJudgedLeaves, BoundsCycles, IsLowest}
+use Rattle.tsp_cases.specs.JudgedTrees.{AreCasesOf}
+use Rattle.tsp_cases.specs.declared.tree_cases.Cases.{Cases}
 use Rattle.tsp_branch.specs.states.Rooms.{AreSmall, IsJudgedLeaf, IsSizedLeaf}
 use Rattle.tsp_branch.proofs.CaseWeights.{small_multipliers}
-use Rattle.tsp_branch.proofs.OnePass.{first_bad_by_place}
+use Rattle.tsp_cases.proofs.Lists.{left_at}
+use Rattle.tsp_cases.proofs.OnePass.{first_bad_by_place}
 use Rattle.tsp_branch.proofs.Passes.{IsAtStep, IsPassing, at_leaf, at_step, passed}
-
--- a list that was written over whole
-pub written : {A : Type 0} (len : ℕ) (xs rest : List A) → length xs ≡ len → take len (xs ++ rest) ≡ xs
-written len xs rest long = take-append-le len xs rest (omega (arith, long)) ∙ take_all len xs (omega (arith, long))
 
 pub good_are_small : (n : ℕ) (crossed : List Crossings) (numbers : List ℤ) → All (λ own. 1 ≤ own.most) crossed
     → AreGoodNumbers n crossed (split_at n numbers) → AreSmall numbers
@@ -102,22 +100,6 @@ whole_trees n numbers zero (listed.Leaf changes ∷ steps) = refl
 whole_trees n numbers (suc count) [] = refl
 whole_trees n numbers (suc count) (listed.Branch a b ∷ steps) = whole_trees n numbers (suc (suc count)) steps
 whole_trees n numbers (suc count) (listed.Leaf changes ∷ steps) = whole_trees n (all_grown changes numbers) count steps
-
--- ---- the step that is next
-
-pub left_at : (steps : List TreeStep) (index : ℕ) (step : TreeStep) → index < length steps → step ≡ get_or steps index step
-    → drop index steps ≡ step ∷ drop (index + 1) steps
-left_at steps index step lt is =
-    drop-cons steps index step lt ∙ ap (λ (k : ℕ). get_or steps index step ∷ drop k steps) (sym (add-one index)) ∙ ap
-    (λ (s : TreeStep). s ∷ drop (index + 1) steps) (sym is)
-
-pub own_step : (n : ℕ) (steps : List TreeStep) (index : ℕ) (step other : TreeStep) → All (IsStepOf n) (steps_of steps)
-    → index < length steps → step ≡ get_or steps index step → step ≡ other
-    → IsStepOf n (step_of other)
-own_step n steps index step other each lt is same =
-    subst (λ (s : TreeStep). IsStepOf n (step_of s)) (sym is ∙ same)
-    (subst (IsStepOf n) (get_or-map step_of steps index step (step_of step) lt)
-    (each index (step_of step) (subst (λ (k : ℕ). index < k) (sym (length-map steps step_of)) lt)))
 
 module _ (Found : List Decision × LeafNumbers → Option ℤ → Type 0) (directed : Bool) (n : ℕ) (crossed : List Crossings)
     (given : List Decision) where

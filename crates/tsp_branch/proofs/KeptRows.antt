@@ -12,9 +12,9 @@ use Rattle.tsp_theory.specs.NodeBound.{weight_between, most_between}
 use Rattle.tsp_theory.specs.CertificateNumbers.{IsFromTo, entry}
 use Rattle.tsp_theory.specs.states.Nearest.{least_at}
 use Rattle.tsp_theory.specs.Length.{sum_int_by}
-use Rattle.tsp_branch.specs.GoodFamilies.{HasEachOnce}
-use Rattle.tsp_branch.specs.GoodNumbers.{most_crossed}
-use Rattle.tsp_branch.specs.declared.set_place.SetPlace.{SetPlace}
+use Rattle.tsp_cases.specs.GoodFamilies.{HasEachOnce}
+use Rattle.tsp_cases.specs.GoodNumbers.{most_crossed}
+use Rattle.tsp_cases.specs.declared.set_place.SetPlace.{SetPlace}
 use Rattle.tsp_branch.specs.states.Sets.{IsMoved, added, places_with, IsSetTable}
 use Rattle.tsp_branch.specs.states.Combed.{AreSmallMultipliers, summed_from, multipliers_at, set_in, twice_in, inside_both, set_crossings, most_combed, set_weight}
 use Rattle.tsp_branch.specs.states.Kept.{kept_weight, IsKeptRow, AreRows, AreRowsIfAny, AreAdded, AreDifferences, AreEnds}

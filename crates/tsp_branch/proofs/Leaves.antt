@@ -7,7 +7,7 @@ use Rattle.tsp_format.specs.Limits.{most_nodes}
 use Rattle.tsp_theory.specs.CertificateNumbers.{IsFromTo, total, IsLeastBound}
 use Rattle.tsp_theory.specs.Tree.{weight_of, IsLeastOneTree}
 use Rattle.tsp_theory.specs.Adjusted.{triples_total}
-use Rattle.tsp_branch.specs.LeafBound.{least_of, leaf_weight}
+use Rattle.tsp_cases.specs.LeafBound.{least_of, leaf_weight}
 use Rattle.tsp_branch.specs.LeafWeight.{IsBoundOfWeights, BoundsEachLeaf}
 
 agreed_weight : (w v : ℕ → ℕ → ℤ) → ((i j : ℕ) → w i j ≡ v i j) → (pairs : List (ℕ × ℕ)) → weight_of w pairs ≡ weight_of v pairs

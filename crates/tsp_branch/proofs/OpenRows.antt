@@ -8,12 +8,12 @@ use Rattle.std.proofs.lemmas.List.Elements.{All-contains, All-filter, All-from_r
 use Rattle.std.proofs.lemmas.List.Sorted.{IsPermutation-reverse, IsPermutation-sym, Contains-permutation}
 use Rattle.tsp_format.specs.Nodes.{IsNode}
 use Rattle.tsp_theory.specs.states.Nearest.{least_at}
-use Rattle.tsp_branch.specs.declared.decision.Decision.{Decision}
-use Rattle.tsp_branch.specs.states.Decided.{IsDecision, IsOnPlaces, stack_of}
-use Rattle.tsp_branch.specs.states.OpenCases.{bears_on}
-use Rattle.tsp_branch.specs.Rows.{AllowsLink, Allows, IsAllowed, IsLeastFrom}
+use Rattle.tsp_cases.specs.declared.decision.Decision.{Decision}
+use Rattle.tsp_cases.specs.states.Decided.{IsDecision, IsOnPlaces, stack_of}
+use Rattle.tsp_cases.specs.states.OpenCases.{bears_on}
+use Rattle.tsp_cases.specs.Rows.{AllowsLink, Allows, IsAllowed, IsLeastFrom}
 use Rattle.tsp_branch.specs.states.Closed.{no_link, IsShut, IsOpenRow}
-use Rattle.tsp_branch.proofs.OpenCases.{first_bears, second_only, filter_in, filter_out}
+use Rattle.tsp_cases.proofs.OpenCases.{first_bears, second_only, filter_in, filter_out}
 
 -- ---- the decisions of a case
 

@@ -8,16 +8,17 @@ use Rattle.std.proofs.lemmas.Int.{ints}
 use Rattle.std.proofs.lemmas.List.Elements.{recursion_from_All, All-from_recursion}
 use Rattle.tsp_format.specs.Steps as listed
 use Rattle.tsp_families.specs.declared.family.Crossings.{Crossings}
-use Rattle.tsp_branch.specs.Families.{Family, IsFamily}
-use Rattle.tsp_branch.specs.declared.decision.Decision.{Decision}
-use Rattle.tsp_branch.specs.Decisions.{DecideOnce}
-use Rattle.tsp_branch.specs.Cases.{LeafNumbers, are_case_trees, decide, leaves_of, cases_of, later_cases, open_cases, next_stack}
-use Rattle.tsp_branch.specs.CaseTrees.{AreLeafNumbers, IsCaseTree, IsAbove, IsLeastFound}
-use Rattle.tsp_branch.specs.states.Decided.{stack_of}
-use Rattle.tsp_branch.specs.Listed.{all_grown, split_at, steps_from, no_numbers_of, listed_steps, IsGoodLeaf, AreGoodLeaves, IsLowest}
-use Rattle.tsp_branch.proofs.CaseLaws.{stacks_hold_cases}
-use Rattle.tsp_branch.proofs.NextCases.{stack_more}
-use Rattle.tsp_branch.proofs.OnePass.{AreGoodFrom, IsFirstBadFrom, all_good_by_place}
+use Rattle.tsp_cases.specs.Families.{Family, IsFamily}
+use Rattle.tsp_cases.specs.declared.decision.Decision.{Decision}
+use Rattle.tsp_cases.specs.Decisions.{DecideOnce}
+use Rattle.tsp_cases.specs.Cases.{LeafNumbers, are_case_trees, decide, leaves_of, cases_of, later_cases, open_cases, next_stack}
+use Rattle.tsp_cases.specs.CaseTrees.{AreLeafNumbers, IsCaseTree, IsAbove, IsLeastFound}
+use Rattle.tsp_cases.specs.states.Decided.{stack_of}
+use Rattle.tsp_cases.specs.Listed.{all_grown, split_at, steps_from, no_numbers_of, listed_steps, IsGoodLeaf, AreGoodLeaves}
+use Rattle.tsp_branch.specs.JudgedLeaves.{IsLowest}
+use Rattle.tsp_cases.proofs.CaseLaws.{stacks_hold_cases}
+use Rattle.tsp_cases.proofs.NextCases.{stack_more}
+use Rattle.tsp_cases.proofs.OnePass.{AreGoodFrom, IsFirstBadFrom, all_good_by_place}
 
 -- ---- the least of the known bounds and of leaves, whatever is found of a leaf
 

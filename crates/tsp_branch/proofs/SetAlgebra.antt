@@ -12,9 +12,10 @@ use Rattle.tsp_families.specs.Crossed.{has}
 use Rattle.tsp_families.specs.Paths.{AllApart}
 use Rattle.tsp_families.proofs.Lists.{apart_from_pairs}
 use Rattle.tsp_theory.specs.Tree.{crossing}
-use Rattle.tsp_branch.specs.GoodFamilies.{HasEachOnce}
-use Rattle.tsp_branch.specs.declared.set_place.SetPlace.{SetPlace}
-use Rattle.tsp_branch.specs.states.Sets.{added, place_at, IsPlaceIn, times, places_in, places_with}
+use Rattle.tsp_cases.specs.GoodFamilies.{HasEachOnce}
+use Rattle.tsp_cases.specs.declared.set_place.SetPlace.{SetPlace}
+use Rattle.tsp_branch.specs.states.Sets.{added, times, places_in, places_with}
+use Rattle.tsp_cases.specs.states.Places.{place_at, IsPlaceIn}
 use Rattle.tsp_branch.specs.states.Combed.{summed_from, set_crossings, multipliers_at, twice_in, inside_both}
 pub use Rattle.tsp_tree.proofs.Additions.{moved_to}
 

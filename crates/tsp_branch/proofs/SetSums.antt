@@ -7,8 +7,9 @@ use Rattle.std.proofs.lemmas.Bool.{cases_eq, eq-eqb, ne_eqb}
 use Rattle.std.proofs.lemmas.List.{append_assoc, get_or-set_same, get_or-set_other}
 pub use Rattle.tsp_tree.proofs.Additions.{moved_on, node_moved}
 use Rattle.tsp_families.specs.FamilySets.{lists_of, families_in}
-use Rattle.tsp_branch.specs.declared.set_place.SetPlace.{SetPlace}
-use Rattle.tsp_branch.specs.states.Sets.{added, place_at, times, places_in, places_with}
+use Rattle.tsp_cases.specs.declared.set_place.SetPlace.{SetPlace}
+use Rattle.tsp_branch.specs.states.Sets.{added, times, places_in, places_with}
+use Rattle.tsp_cases.specs.states.Places.{place_at}
 
 pub added_left : (number : ℤ) (nodes : List ℕ) (index x default : ℕ) → index < length nodes
     → added number (drop index nodes) x ≡ (if get_or nodes index default == x then number else pos 0) +ℤ added number (drop (index + 1) nodes) x

@@ -7,9 +7,10 @@ use Rattle.std.proofs.lemmas.Int.{ints}
 use Rattle.std.proofs.lemmas.List.Elements.{recursion_from_All}
 use Rattle.tsp_theory.specs.Length.{sum_int_by}
 use Rattle.tsp_families.specs.Crossed.{has}
-use Rattle.tsp_branch.specs.GoodFamilies.{HasEachOnce}
-use Rattle.tsp_branch.specs.declared.set_place.SetPlace.{SetPlace}
-use Rattle.tsp_branch.specs.states.Sets.{added, place_at, IsPlaceIn, times, places_in, places_with}
+use Rattle.tsp_cases.specs.GoodFamilies.{HasEachOnce}
+use Rattle.tsp_cases.specs.declared.set_place.SetPlace.{SetPlace}
+use Rattle.tsp_branch.specs.states.Sets.{added, times, places_in, places_with}
+use Rattle.tsp_cases.specs.states.Places.{place_at, IsPlaceIn}
 use Rattle.tsp_branch.specs.states.Combed.{summed_from, multipliers_at, set_in, twice_in, inside_both, AreSmallMultipliers}
 use Rattle.tsp_branch.specs.states.Shared.{is_same_place, has_place, shared_by, sum_at_places}
 use Rattle.tsp_families.proofs.Lists.{apart_from_pairs}

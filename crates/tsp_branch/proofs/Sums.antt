@@ -9,8 +9,8 @@ use Rattle.tsp_format.specs.Nodes.{nodes_to}
 use Rattle.tsp_format.specs.Limits.{most_nodes}
 use Rattle.tsp_theory.specs.Length.{sum_int_by}
 use Rattle.tsp_theory.specs.CertificateNumbers.{IsFromTo, IsSumSized}
-use Rattle.tsp_branch.specs.declared.decision.Decision.{Decision}
-use Rattle.tsp_branch.specs.Rows.{IsLeastFrom, IsSumOfLeast}
+use Rattle.tsp_cases.specs.declared.decision.Decision.{Decision}
+use Rattle.tsp_cases.specs.Rows.{IsLeastFrom, IsSumOfLeast}
 
 -- one number more at the end of a run
 run_more : (f : ℕ → ℤ) (a n : ℕ) → sum_int_by f (range_with_len a (suc n)) ≡ sum_int_by f (range_with_len a n) +ℤ f (a + n)

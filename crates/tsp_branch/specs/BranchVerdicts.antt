@@ -7,12 +7,12 @@ use Rattle.tsp_branch.specs.declared.judged.JudgedLeaves.TheVariants as judged
 use Rattle.tsp_branch.specs.declared.judged.BranchVerdict.{BranchVerdict}
 use Rattle.tsp_branch.specs.declared.judged.BranchVerdict.TheVariants as verdict
 use Rattle.tsp_families.specs.declared.family.Crossings.{Crossings}
-use Rattle.tsp_branch.specs.CaseTrees.{BoundsIfAny}
-use Rattle.tsp_branch.specs.FamiliesOfSets.{families_with}
-use Rattle.tsp_branch.specs.declared.decision.Decision.{Decision}
-use Rattle.tsp_branch.specs.GoodFamilies.{AreFamilies, IsFirstBadFamily}
-use Rattle.tsp_branch.specs.Listed.{AreJudgedLeaves}
-use Rattle.tsp_branch.specs.Twice.{AreBranchesJudged}
+use Rattle.tsp_cases.specs.CaseTrees.{BoundsIfAny}
+use Rattle.tsp_cases.specs.FamiliesOfSets.{families_with}
+use Rattle.tsp_cases.specs.declared.decision.Decision.{Decision}
+use Rattle.tsp_cases.specs.GoodFamilies.{AreFamilies, IsFirstBadFamily}
+use Rattle.tsp_branch.specs.JudgedLeaves.{AreJudgedLeaves}
+use Rattle.tsp_cases.specs.Twice.{AreBranchesJudged}
 
 -- the judgement on the leaves, where all families are good and no branch comes twice
 pub record AreLeavesJudged (directed : Bool) (n : ℕ) (cost : ℕ → ℕ → ℤ) (scale : ℤ)

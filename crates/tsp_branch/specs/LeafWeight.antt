@@ -3,8 +3,8 @@ use Rattle.std.specs.Prelude.{◌≡◌, ℕ, List, ℤ, pos, ◌+ℤ◌, ◌-�
 use Rattle.tsp_theory.specs.CertificateNumbers.{total, IsLeastBound}
 use Rattle.tsp_theory.specs.Adjusted.{triples_total}
 use Rattle.tsp_tree.specs.Weighed.{IsLeastWeight}
-use Rattle.tsp_branch.specs.Families.{Family}
-use Rattle.tsp_branch.specs.LeafBound.{least_of, leaf_weight, IsLeafBound}
+use Rattle.tsp_cases.specs.Families.{Family}
+use Rattle.tsp_cases.specs.LeafBound.{least_of, leaf_weight, IsLeafBound}
 
 -- the least whole number that at the scale is no less than such a weight and the sum that is added
 pub record IsBoundOfWeights (n : ℕ) (w : ℕ → ℕ → ℤ) (scale given_back bound : ℤ) : Type 0 where

@@ -1,11 +1,6 @@
 pub mod Rooms
-pub mod FamilyNumbers
-pub mod Marked
 pub mod Kept
 pub mod Sets
 pub mod Combed
 pub mod Closed
-pub mod Decided
-pub mod OpenCases
-pub mod Lent
 pub mod Shared

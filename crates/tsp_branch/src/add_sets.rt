@@ -6,13 +6,14 @@ ghost use Rattle.std.specs.List.{All};
 ghost use Rattle.tsp_theory.specs.states.Nearest.{least_at};
 ghost use Rattle.tsp_theory.specs.Length.{sum_int_by};
 ghost use Rattle.tsp_families.specs.FamilySets.{lists_of};
-ghost use Rattle.tsp_branch.specs.states.Sets.{IsMoved, IsPlaceIn, added};
-ghost use Rattle.tsp_branch.specs.states.Lent.{lent_in};
+ghost use Rattle.tsp_branch.specs.states.Sets.{IsMoved, added};
+ghost use Rattle.tsp_cases.specs.states.Places.{IsPlaceIn};
+ghost use Rattle.tsp_cases.specs.states.Lent.{lent_in};
 ghost use Rattle.tsp_branch.specs.states.Combed.{inside_both};
 
 use crate::multiplied::MultipliedFamilies;
-use crate::set_place::SetPlace;
 use crate::sets::add_to_nodes;
+use tsp_cases::SetPlace;
 
 /// Adds to a row, at each node of the sets at these places, the number of the set's family twice.
 pub(crate) fn add_sets(row: &mut [i64], places: &[SetPlace], multiplied: &MultipliedFamilies)

@@ -4,12 +4,12 @@ ghost use Rattle.std.specs.Prelude.{◌≡◌, ◌<◌, ◌*◌, true, length, p
 ghost use Rattle.std.specs.Int.{w64, int_wrap};
 ghost use Rattle.std.specs.List.{All};
 ghost use Rattle.tsp_theory.specs.CertificateNumbers.{IsFromTo};
-ghost use Rattle.tsp_branch.specs.GoodNumbers.{most_crossed};
+ghost use Rattle.tsp_cases.specs.GoodNumbers.{most_crossed};
 ghost use Rattle.tsp_branch.specs.states.Combed.{AreSmallMultipliers};
 ghost use Rattle.tsp_branch.specs.states.Shared.{is_same_place, has_place, shared_by, sum_at_places};
 
 use crate::add_sets::sum_left;
-use crate::set_place::SetPlace;
+use tsp_cases::SetPlace;
 
 /// The most that the multipliers of a node's sets may come to where boxes bound its weights.
 const MOST_TAKEN: i64 = 3_000_000_000_000_000_000;

@@ -7,11 +7,11 @@ ghost use Rattle.tsp_theory.specs.CertificateNumbers.{IsFromTo, IsScale, IsBound
 ghost use Rattle.tsp_theory.specs.NodeBound.{weight_between, most_between};
 ghost use Rattle.tsp_theory.specs.states.Nearest.{least_at};
 ghost use Rattle.tsp_branch.specs.LeafWeight.{BoundsEachLeaf};
-ghost use Rattle.tsp_branch.specs.Decisions.{decided_number};
-ghost use Rattle.tsp_branch.specs.states.Lent.{lent_in};
+ghost use Rattle.tsp_cases.specs.Decisions.{decided_number};
+ghost use Rattle.tsp_cases.specs.states.Lent.{lent_in};
 ghost use Rattle.tsp_branch.specs.states.Combed.{most_combed, set_weight};
-ghost use Rattle.tsp_branch.specs.states.Decided.{changes, decided};
-ghost use Rattle.tsp_branch.specs.states.OpenCases.{decisions_in};
+ghost use Rattle.tsp_cases.specs.states.Decided.{changes, decided};
+ghost use Rattle.tsp_cases.specs.states.OpenCases.{decisions_in};
 ghost use Rattle.tsp_branch.specs.states.Shared.{AreExact};
 
 use crate::add_sets::sum_left;

@@ -4,29 +4,26 @@ ghost use Rattle.std.specs.Prelude.{◌≡◌, ◌≤◌, ◌<◌, ◌^◌, fals
 ghost use Rattle.std.specs.List.{All};
 ghost use Rattle.tsp_format.specs.states.TreeSteps.{steps_of};
 ghost use Rattle.tsp_theory.specs.Costs.{IsSymmetric};
-ghost use Rattle.tsp_branch.specs.Families.{IsFamily};
-ghost use Rattle.tsp_branch.specs.Decisions.{DecideOnce, decided_number};
-ghost use Rattle.tsp_branch.specs.states.Lent.{lent_in, good_in};
-ghost use Rattle.tsp_branch.specs.CaseTrees.{IsFoundAt};
-ghost use Rattle.tsp_branch.specs.states.OpenCases.{IsOpenCase, decisions_in};
-ghost use Rattle.tsp_branch.specs.Listed.{AreJudgedLeaves, BoundsCycles, AreSizedLeaves, IsLowest};
+ghost use Rattle.tsp_cases.specs.Families.{IsFamily};
+ghost use Rattle.tsp_cases.specs.Decisions.{DecideOnce, decided_number};
+ghost use Rattle.tsp_cases.specs.states.Lent.{lent_in, good_in};
+ghost use Rattle.tsp_cases.specs.CaseTrees.{IsFoundAt};
+ghost use Rattle.tsp_cases.specs.states.OpenCases.{IsOpenCase, decisions_in};
+ghost use Rattle.tsp_branch.specs.JudgedLeaves.{AreJudgedLeaves, BoundsCycles, AreSizedLeaves, IsLowest};
 ghost use Rattle.tsp_branch.specs.states.Kept.{HoldsRows};
 ghost use Rattle.tsp_branch.specs.states.Rooms.{IsRoom, AreSmall, IsJudgedLeaf, IsSizedLeaf};
 
 use crate::case_leaf::CaseLeaf;
-use crate::families::Families;
 use crate::judge::judge;
 use crate::judged::{JudgedLeaf, JudgedLeaves};
-use crate::laws::case_trees_bound_cycles;
 use crate::moved::fill_moved;
 use crate::numbers::add_differences;
-use crate::open_case::OpenCase;
 use crate::placed_costs::PlacedCosts;
 use crate::room::Room;
 use crate::sets::sets_by_node;
 use crate::setting::Setting;
-use crate::tree_cases::Cases;
 use std::alloc::Global;
+use tsp_cases::{Cases, Families, OpenCase, case_trees_bound_cycles};
 use tsp_format::TreeStep;
 use tsp_memory::Refused;
 

@@ -1,10 +1,10 @@
 //! A leaf of a tree of cases, and its bound.
 
 ghost use Rattle.std.specs.Prelude.{◌≡◌, ◌<◌, ◌+◌, ◌^◌, length};
-ghost use Rattle.tsp_branch.specs.Decisions.{DecideOnce};
-ghost use Rattle.tsp_branch.specs.GoodNumbers.{AreGoodNumbers, as_leaf_numbers};
-ghost use Rattle.tsp_branch.specs.states.Lent.{lent_in};
-ghost use Rattle.tsp_branch.specs.states.OpenCases.{IsOpenCase, decisions_in};
+ghost use Rattle.tsp_cases.specs.Decisions.{DecideOnce};
+ghost use Rattle.tsp_cases.specs.GoodNumbers.{AreGoodNumbers, as_leaf_numbers};
+ghost use Rattle.tsp_cases.specs.states.Lent.{lent_in};
+ghost use Rattle.tsp_cases.specs.states.OpenCases.{IsOpenCase, decisions_in};
 ghost use Rattle.tsp_branch.specs.states.Combed.{AreFewCrossings};
 ghost use Rattle.tsp_branch.specs.states.Kept.{AreMoved, AreRowsIfAny, kept_weight};
 
@@ -12,11 +12,11 @@ use crate::boxed_leaf::decided_bound;
 use crate::combed::CombedWeights;
 use crate::decided::DecidedWeights;
 use crate::given_back::{given_back, taken_back};
-use crate::open_case::OpenCase;
 use crate::placed_costs::PlacedCosts;
 use crate::rows::AllowedRows;
 use crate::setting::Setting;
 use std::alloc::Global;
+use tsp_cases::OpenCase;
 use tsp_memory::Refused;
 use tsp_theory::Costs;
 
@@ -48,11 +48,11 @@ pub(crate) struct CaseLeaf<'a, C: Costs> {
 impl<C: PlacedCosts> CaseLeaf<'_, C> {
     ghost use Rattle.std.specs.Prelude.{◌≡◌, ◌+◌, true, false, length, Some, IfOk, IfSome};
     ghost use Rattle.tsp_theory.specs.CertificateNumbers.{IsBoundSized};
-    ghost use Rattle.tsp_branch.specs.Decisions.{decided_number};
-    ghost use Rattle.tsp_branch.specs.CaseTrees.{IsFoundAt};
-    ghost use Rattle.tsp_branch.specs.states.Lent.{good_in};
-    ghost use Rattle.tsp_branch.specs.states.OpenCases.{decisions_in};
-    ghost use Rattle.tsp_branch.specs.GoodNumbers.{as_leaf_numbers};
+    ghost use Rattle.tsp_cases.specs.Decisions.{decided_number};
+    ghost use Rattle.tsp_cases.specs.CaseTrees.{IsFoundAt};
+    ghost use Rattle.tsp_cases.specs.states.Lent.{good_in};
+    ghost use Rattle.tsp_cases.specs.states.OpenCases.{decisions_in};
+    ghost use Rattle.tsp_cases.specs.GoodNumbers.{as_leaf_numbers};
 
     /// The bound of the leaf under the decisions of its case; `None` where it has none, since some
     /// node has no link that these allow. A row is lent, which is written over.

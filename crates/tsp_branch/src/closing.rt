@@ -3,10 +3,10 @@
 ghost use Rattle.std.specs.Prelude.{◌≡◌, ◌≢◌, ◌<◌, ℕ, length};
 ghost use Rattle.std.specs.List.{All};
 ghost use Rattle.tsp_theory.specs.states.Nearest.{least_at};
-ghost use Rattle.tsp_branch.specs.Rows.{Allows};
+ghost use Rattle.tsp_cases.specs.Rows.{Allows};
 ghost use Rattle.tsp_branch.specs.states.Closed.{no_link, IsShut};
 
-use crate::decision::Decision;
+use tsp_cases::Decision;
 
 /// The weight that means no link: all weights are below it.
 pub(crate) const CLOSED: i64 = i64::MAX;

@@ -7,17 +7,16 @@ ghost use Rattle.tsp_format.specs.Nodes.{IsNode};
 ghost use Rattle.tsp_theory.specs.CertificateNumbers.{IsFromTo, IsScale, ArePotentials, entry};
 ghost use Rattle.tsp_theory.specs.states.Nearest.{least_at};
 ghost use Rattle.tsp_branch.specs.states.Sets.{IsMoved, IsSetTable};
-ghost use Rattle.tsp_branch.specs.states.Lent.{lent_in};
+ghost use Rattle.tsp_cases.specs.states.Lent.{lent_in};
 ghost use Rattle.tsp_branch.specs.states.Combed.{AreSmallMultipliers, AreFewCrossings, set_weight};
 ghost use Rattle.tsp_branch.specs.states.Kept.{AreMoved, AreRowsIfAny, kept_weight};
 
 use crate::add_sets::{add_sets, sum_left};
 use crate::both_sets::are_few;
 use crate::case_leaf::CaseLeaf;
-use crate::families::Families;
 use crate::multiplied::MultipliedFamilies;
 use crate::scaled::{scale_row, shift_row};
-use crate::set_place::SetPlace;
+use tsp_cases::{Families, SetPlace};
 use tsp_theory::Costs;
 use tsp_tree::{Weights, weight_in};
 
@@ -68,7 +67,7 @@ impl<'a, C: Costs> CombedWeights<'a, C> {
     ghost use Rattle.tsp_theory.specs.states.Nearest.{least_at};
     ghost use Rattle.tsp_theory.specs.NodeBound.{weight_between, most_between};
     ghost use Rattle.tsp_branch.specs.states.Sets.{IsMoved};
-    ghost use Rattle.tsp_branch.specs.states.Lent.{lent_in};
+    ghost use Rattle.tsp_cases.specs.states.Lent.{lent_in};
     ghost use Rattle.tsp_branch.specs.states.Combed.{AreSmallMultipliers, multipliers_at, AreFewCrossings, IsApart, most_combed, set_weight};
     ghost use Rattle.tsp_branch.specs.states.Shared.{AreExact};
     ghost use Rattle.std.specs.Prelude.{true};
@@ -225,7 +224,7 @@ impl<'a, C: Costs> CombedWeights<'a, C> {
 }
 
 impl<C: Costs> Weights for CombedWeights<'_, C> {
-    ghost use Rattle.tsp_branch.specs.states.Lent.{lent_in};
+    ghost use Rattle.tsp_cases.specs.states.Lent.{lent_in};
     ghost use Rattle.tsp_branch.specs.states.Combed.{set_weight};
 
     ghost nodes = { λ w. C.nodes w.costs.now };

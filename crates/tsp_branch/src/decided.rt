@@ -5,13 +5,12 @@ ghost use Rattle.std.specs.Int.{w64, int_wrap};
 ghost use Rattle.std.specs.List.{All};
 ghost use Rattle.tsp_theory.specs.states.Nearest.{least_at};
 ghost use Rattle.tsp_branch.specs.states.Sets.{IsMoved};
-ghost use Rattle.tsp_branch.specs.states.Decided.{IsOnPlaces, IsChanged, AreFewChanges, change_of, changes};
-ghost use Rattle.tsp_branch.specs.states.OpenCases.{IsOpenCase, decisions_in};
+ghost use Rattle.tsp_cases.specs.states.Decided.{IsOnPlaces, IsChanged, AreFewChanges, change_of, changes};
+ghost use Rattle.tsp_cases.specs.states.OpenCases.{IsOpenCase, decisions_in};
 
 use crate::add_sets::sum_left;
 use crate::combed::CombedWeights;
-use crate::decision::Decision;
-use crate::open_case::OpenCase;
+use tsp_cases::{Decision, OpenCase};
 use tsp_theory::Costs;
 use tsp_tree::{Weights, add_at};
 
@@ -30,10 +29,10 @@ pub(crate) struct DecidedWeights<'a, C: Costs> {
 }
 
 impl<C: Costs> Weights for DecidedWeights<'_, C> {
-    ghost use Rattle.tsp_branch.specs.states.Lent.{lent_in};
+    ghost use Rattle.tsp_cases.specs.states.Lent.{lent_in};
     ghost use Rattle.tsp_branch.specs.states.Combed.{set_weight};
-    ghost use Rattle.tsp_branch.specs.states.Decided.{decided};
-    ghost use Rattle.tsp_branch.specs.states.OpenCases.{decisions_in};
+    ghost use Rattle.tsp_cases.specs.states.Decided.{decided};
+    ghost use Rattle.tsp_cases.specs.states.OpenCases.{decisions_in};
 
     ghost nodes = { λ w. C.nodes w.combed.now.costs.now };
 

@@ -3,15 +3,15 @@
 ghost use Rattle.std.specs.Prelude.{◌≡◌, ◌<◌, ◌^◌, length, pos, neg_ℤ, ◌-ℤ◌, ◌*ℤ◌};
 ghost use Rattle.tsp_theory.specs.CertificateNumbers.{IsFromTo, total};
 ghost use Rattle.tsp_theory.specs.Adjusted.{triples_total};
-ghost use Rattle.tsp_branch.specs.Decisions.{on_taken, decided_number};
-ghost use Rattle.tsp_branch.specs.CaseTrees.{multiplied};
-ghost use Rattle.tsp_branch.specs.LeafBound.{least_of};
-ghost use Rattle.tsp_branch.specs.states.Lent.{good_in};
+ghost use Rattle.tsp_cases.specs.Decisions.{on_taken, decided_number};
+ghost use Rattle.tsp_cases.specs.CaseTrees.{multiplied};
+ghost use Rattle.tsp_cases.specs.LeafBound.{least_of};
+ghost use Rattle.tsp_cases.specs.states.Lent.{good_in};
 
 use crate::case_leaf::CaseLeaf;
 use crate::decided::DECIDED;
-use crate::decision::Decision;
 use crate::judge::sum_with;
+use tsp_cases::Decision;
 use tsp_theory::Costs;
 
 /// The least crossings of a leaf's families, each times its multiplier, less each potential twice:

@@ -1,13 +1,13 @@
 //! Whether the numbers of a leaf are good.
 
 ghost use Rattle.std.specs.Prelude.{◌≡◌, ◌<◌, ◌+◌, ◌^◌, ◌↔◌, IsTrue, length, take, drop, true};
-ghost use Rattle.tsp_branch.specs.GoodNumbers.{AreGoodNumbers, as_leaf_numbers};
-ghost use Rattle.tsp_branch.specs.FamiliesOfSets.{most_or_least, sum_with};
+ghost use Rattle.tsp_cases.specs.GoodNumbers.{AreGoodNumbers, as_leaf_numbers};
+ghost use Rattle.tsp_cases.specs.FamiliesOfSets.{most_or_least, sum_with};
 ghost use Rattle.tsp_branch.specs.states.Combed.{AreSmallMultipliers};
-ghost use Rattle.tsp_branch.specs.states.FamilyNumbers.{AreSmallCrossings};
+ghost use Rattle.tsp_cases.specs.states.FamilyNumbers.{AreSmallCrossings};
 
-use crate::families::Families;
 use crate::numbers::copy_within;
+use tsp_cases::Families;
 use tsp_families::Crossings;
 use tsp_format::MOST_POTENTIAL;
 

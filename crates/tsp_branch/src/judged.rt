@@ -1,7 +1,4 @@
-//! What is found of the parts of a certificate, and of the whole.
-
-use crate::families::Families;
-use crate::tree_cases::Cases;
+//! What is found of the leaves of a tree, of one of them, and of the whole.
 
 /// The judgement on the leaves of a tree.
 #[derive(Drop)]
@@ -11,24 +8,6 @@ pub enum JudgedLeaves {
     Bound(Option<i128>),
     /// The first leaf that isn't good, counted from 1.
     BadLeaf(usize),
-}
-
-/// The judgement on families.
-#[derive(Drop)]
-pub enum JudgedFamilies<'a> {
-    /// All are good.
-    Good(Families<'a>),
-    /// The first one that isn't good, counted from 1.
-    Bad(usize),
-}
-
-/// The judgement on the cases of a tree.
-#[derive(Drop)]
-pub enum JudgedCases<'a> {
-    /// None decides a pair twice.
-    Good(Cases<'a>),
-    /// The first branch on a pair that is decided above it or given, counted from 1.
-    Twice(usize),
 }
 
 /// The judgement on a leaf.

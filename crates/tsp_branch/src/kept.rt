@@ -5,19 +5,18 @@ ghost use Rattle.std.specs.Global.{Vec};
 ghost use Rattle.std.specs.List.{All};
 ghost use Rattle.tsp_format.specs.Nodes.{IsNode};
 ghost use Rattle.tsp_theory.specs.states.Nearest.{least_at};
-ghost use Rattle.tsp_branch.specs.states.Sets.{IsPlaceIn};
-ghost use Rattle.tsp_branch.specs.states.Lent.{lent_in};
+ghost use Rattle.tsp_cases.specs.states.Places.{IsPlaceIn};
+ghost use Rattle.tsp_cases.specs.states.Lent.{lent_in};
 ghost use Rattle.tsp_branch.specs.states.Combed.{AreSmallMultipliers, AreSmallDifferences};
 ghost use Rattle.tsp_branch.specs.states.Kept.{IsKeptRow, AreRows, AreRowsIfAny, AreAdded, AreDifferences};
 
 use crate::add_sets::add_to_row;
-use crate::families::Families;
 use crate::moved::take_multipliers;
 use crate::multiplied::MultipliedFamilies;
 use crate::scaled::scale_row;
-use crate::set_place::SetPlace;
 use crate::setting::Setting;
 use std::alloc::Global;
+use tsp_cases::{Families, SetPlace};
 use tsp_memory::{Refused, filled, push, with_capacity};
 use tsp_theory::Costs;
 
@@ -39,7 +38,7 @@ pub(crate) struct KeptRows {
 impl KeptRows {
     ghost use Rattle.std.specs.Prelude.{◌≡◌, ℕ, ℤ, length, IfOk};
     ghost use Rattle.tsp_branch.specs.states.Sets.{IsSetTable};
-    ghost use Rattle.tsp_branch.specs.states.Lent.{lent_in};
+    ghost use Rattle.tsp_cases.specs.states.Lent.{lent_in};
     ghost use Rattle.tsp_branch.specs.states.Combed.{AreSmallMultipliers};
     ghost use Rattle.tsp_branch.specs.states.Kept.{HoldsRows};
 

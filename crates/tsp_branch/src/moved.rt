@@ -6,7 +6,7 @@ ghost use Rattle.tsp_format.specs.Nodes.{IsNode};
 ghost use Rattle.tsp_theory.specs.CertificateNumbers.{entry};
 ghost use Rattle.tsp_theory.specs.states.Nearest.{least_at};
 ghost use Rattle.tsp_branch.specs.states.Sets.{IsMoved};
-ghost use Rattle.tsp_branch.specs.states.Lent.{lent_in};
+ghost use Rattle.tsp_cases.specs.states.Lent.{lent_in};
 ghost use Rattle.tsp_branch.specs.states.Combed.{multipliers_at};
 
 use crate::add_sets::{add_to_sets, sum_left};

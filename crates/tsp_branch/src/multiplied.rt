@@ -3,7 +3,7 @@
 ghost use Rattle.std.specs.Prelude.{◌≡◌, length};
 ghost use Rattle.tsp_branch.specs.states.Combed.{AreSmallDifferences};
 
-use crate::families::Families;
+use tsp_cases::Families;
 
 /// Families, and for each a number by which its sets count, of at most 9 * 10^17 in size.
 #[derive(Clone, Copy)]

@@ -4,7 +4,7 @@ ghost use Rattle.std.specs.Prelude.{◌≡◌, ◌↔◌, ◌<◌, ◌^◌, IsTr
 ghost use Rattle.std.specs.List.{All};
 ghost use Rattle.tsp_format.specs.Nodes.{IsNode};
 ghost use Rattle.tsp_theory.specs.CertificateNumbers.{IsFromTo};
-ghost use Rattle.tsp_branch.specs.Listed.{all_grown};
+ghost use Rattle.tsp_cases.specs.Listed.{all_grown};
 
 /// Adds differences to the numbers at their indexes, from 1 on; `false` where an index is none of
 /// a number.

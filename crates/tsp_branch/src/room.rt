@@ -20,8 +20,8 @@ pub(crate) struct Room {
 
 impl Room {
     ghost use Rattle.std.specs.Prelude.{◌≡◌, length, IfOk};
-    ghost use Rattle.tsp_branch.specs.Listed.{no_numbers_of};
-    ghost use Rattle.tsp_branch.specs.states.Lent.{lent_in};
+    ghost use Rattle.tsp_cases.specs.Listed.{no_numbers_of};
+    ghost use Rattle.tsp_cases.specs.states.Lent.{lent_in};
     ghost use Rattle.tsp_branch.specs.states.Kept.{HoldsRows};
     ghost use Rattle.tsp_branch.specs.states.Rooms.{IsRoom};
 

@@ -4,15 +4,14 @@ ghost use Rattle.std.specs.Prelude.{◌≡◌, ◌≤◌, ◌<◌, ℕ, List, tr
 ghost use Rattle.std.specs.List.{All, filter};
 ghost use Rattle.tsp_format.specs.Nodes.{IsNode};
 ghost use Rattle.tsp_theory.specs.states.Nearest.{least_at};
-ghost use Rattle.tsp_branch.specs.declared.decision.Decision.{Decision};
-ghost use Rattle.tsp_branch.specs.states.Decided.{stack_of};
-ghost use Rattle.tsp_branch.specs.states.OpenCases.{IsOpenCase, bears_on};
+ghost use Rattle.tsp_cases.specs.declared.decision.Decision.{Decision};
+ghost use Rattle.tsp_cases.specs.states.Decided.{stack_of};
+ghost use Rattle.tsp_cases.specs.states.OpenCases.{IsOpenCase, bears_on};
 ghost use Rattle.tsp_branch.specs.states.Closed.{no_link, IsOpenRow};
 
 use crate::closing::{CLOSED, close_all, shut};
-use crate::decision::Decision;
 use crate::leaf::rounded_up;
-use crate::open_case::OpenCase;
+use tsp_cases::{Decision, OpenCase};
 use tsp_tree::Weights;
 
 /// Weights by rows, and the decisions of a case, by which a link is allowed or not. Pairs have a
@@ -30,8 +29,8 @@ impl<W: Weights> AllowedRows<'_, W> {
     ghost use Rattle.tsp_format.specs.Nodes.{IsNode};
     ghost use Rattle.tsp_format.specs.Limits.{most_nodes};
     ghost use Rattle.tsp_theory.specs.CertificateNumbers.{IsFromTo, IsScale, IsBoundSized, IsSumSized};
-    ghost use Rattle.tsp_branch.specs.states.OpenCases.{decisions_in};
-    ghost use Rattle.tsp_branch.specs.Rows.{IsAllowed, HasNoLink, IsLeastFrom, IsSumOfLeast, IsRowBound};
+    ghost use Rattle.tsp_cases.specs.states.OpenCases.{decisions_in};
+    ghost use Rattle.tsp_cases.specs.Rows.{IsAllowed, HasNoLink, IsLeastFrom, IsSumOfLeast, IsRowBound};
 
     /// The bound of a leaf that has these weights: the least whole number that at the scale is no
     /// less than the least weights from all nodes plus a sum. `None` where the decisions allow no

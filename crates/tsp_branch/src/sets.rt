@@ -5,11 +5,10 @@ ghost use Rattle.std.specs.List.{All};
 ghost use Rattle.tsp_theory.specs.states.Nearest.{least_at};
 ghost use Rattle.tsp_families.specs.FamilySets.{lists_of};
 ghost use Rattle.tsp_branch.specs.states.Sets.{IsMoved, added, times, places_in, AreLengthened, IsSetTable};
-ghost use Rattle.tsp_branch.specs.states.Lent.{lent_in};
+ghost use Rattle.tsp_cases.specs.states.Lent.{lent_in};
 
-use crate::families::Families;
-use crate::set_place::SetPlace;
 use std::alloc::Global;
+use tsp_cases::{Families, SetPlace};
 use tsp_memory::{Refused, push, with_capacity};
 use tsp_tree::add_at;
 

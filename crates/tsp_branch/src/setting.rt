@@ -3,11 +3,9 @@
 ghost use Rattle.std.specs.Prelude.{◌≡◌, ◌≤◌, false};
 ghost use Rattle.tsp_theory.specs.Costs.{IsSymmetric};
 ghost use Rattle.tsp_branch.specs.states.Sets.{IsSetTable};
-ghost use Rattle.tsp_branch.specs.states.Lent.{lent_in};
+ghost use Rattle.tsp_cases.specs.states.Lent.{lent_in};
 
-use crate::families::Families;
-use crate::set_place::SetPlace;
-use crate::tree_cases::Cases;
+use tsp_cases::{Cases, Families, SetPlace};
 use tsp_theory::Costs;
 
 /// What all leaves share: costs, the cases, families, and the places of the sets of each node.

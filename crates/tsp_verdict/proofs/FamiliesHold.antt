@@ -12,8 +12,8 @@ use Rattle.tsp_draft.specs.Valid.{IsSetOf, AreSets}
 use Rattle.tsp_file.specs.Typed.{AreSomeSets}
 use Rattle.tsp_families.specs.FamilySets.{AreSetsOf, AreFamiliesOf, lists_of, families_in}
 use Rattle.tsp_families.specs.declared.family.Crossings.{Crossings}
-use Rattle.tsp_branch.specs.Families.{IsFamily, NumbersAreUnique}
-use Rattle.tsp_branch.specs.FamiliesOfSets.{family_with, families_with}
+use Rattle.tsp_cases.specs.Families.{IsFamily, NumbersAreUnique}
+use Rattle.tsp_cases.specs.FamiliesOfSets.{family_with, families_with}
 
 -- ---- sets of nodes
 

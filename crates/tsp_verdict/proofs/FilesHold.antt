@@ -17,7 +17,7 @@ use Rattle.tsp_format.specs.declared.kinds.Kind.TheVariants as kinds
 use Rattle.tsp_draft.specs.Fields.{Fields, nodes_of}
 use Rattle.tsp_draft.specs.Rules.{is_tour_file}
 use Rattle.tsp_draft.specs.Valid.{AreTours, AreDepots, IsNodeList, IsStep, AreTreeSteps}
-use Rattle.tsp_branch.specs.Listed.{IsStepOf}
+use Rattle.tsp_cases.specs.Listed.{IsStepOf}
 use Rattle.tsp_verdict.specs.Solution.{visited, tours_of}
 use Rattle.tsp_verdict.specs.states.RouteLists.{nodes_in, AreToursOf}
 use Rattle.tsp_verdict.proofs.Pieces.{nodes_in_is}

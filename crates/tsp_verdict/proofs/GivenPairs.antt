@@ -10,9 +10,9 @@ use Rattle.std.proofs.lemmas.List.Folds.{list_any-append}
 use Rattle.std.proofs.lemmas.List.Kept.{AllPairs-cons}
 use Rattle.tsp_draft.specs.Valid.{IsPairOf}
 use Rattle.tsp_theory.specs.Cycle.{Uses}
-use Rattle.tsp_branch.specs.states.Decided.{IsDecision}
-use Rattle.tsp_branch.specs.declared.decision.Decision.{Decision}
-use Rattle.tsp_branch.specs.Decisions.{KeepsAll, KeepsDecision, DecideOnce, take_pairs, is_same}
+use Rattle.tsp_cases.specs.states.Decided.{IsDecision}
+use Rattle.tsp_cases.specs.declared.decision.Decision.{Decision}
+use Rattle.tsp_cases.specs.Decisions.{KeepsAll, KeepsDecision, DecideOnce, take_pairs, is_same}
 use Rattle.tsp_verdict.specs.states.PairSets.{key_of, pair_cmp, HasKeys}
 use Rattle.tsp_verdict.specs.BranchesCertificate.{each_once}
 use Rattle.tsp_verdict.proofs.PairKeys.{turned_same}

@@ -10,10 +10,10 @@ use Rattle.tsp_file.specs.Cost.{cost}
 use Rattle.tsp_theory.specs.Costs.{IsFirstAsymmetric}
 use Rattle.tsp_theory.specs.Assignment.{IsFirstBroken}
 use Rattle.tsp_families.specs.declared.family.Crossings.{Crossings}
-use Rattle.tsp_branch.specs.Families.{IsFamily, NumbersAreUnique}
-use Rattle.tsp_branch.specs.declared.decision.Decision.{Decision}
-use Rattle.tsp_branch.specs.Listed.{IsFirstBadLeaf}
-use Rattle.tsp_branch.specs.Twice.{IsFirstTwice}
+use Rattle.tsp_cases.specs.Families.{IsFamily, NumbersAreUnique}
+use Rattle.tsp_cases.specs.declared.decision.Decision.{Decision}
+use Rattle.tsp_cases.specs.Listed.{IsFirstBadLeaf}
+use Rattle.tsp_cases.specs.Twice.{IsFirstTwice}
 use Rattle.tsp_cost.specs.ComputedProblems.{is_directed}
 use Rattle.tsp_file.specs.Defaults.{scale_in, families_listed}
 use Rattle.tsp_reason.specs.declared.certificate.Certificate.{Certificate}

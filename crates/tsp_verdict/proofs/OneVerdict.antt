@@ -16,9 +16,9 @@ use Rattle.tsp_theory.specs.Adjusted.{IsAdjustedBound}
 use Rattle.tsp_theory.specs.Assignment.{IsDualBound}
 use Rattle.tsp_cost.specs.ComputedProblems.{is_directed}
 use Rattle.tsp_families.specs.declared.family.Crossings.{Crossings}
-use Rattle.tsp_branch.specs.Families.{NumbersAreUnique}
-use Rattle.tsp_branch.specs.CaseTrees.{IsCaseTreeBound, CaseTreeBoundsAreUnique}
-use Rattle.tsp_branch.specs.Decisions.{decided_number}
+use Rattle.tsp_cases.specs.Families.{NumbersAreUnique}
+use Rattle.tsp_cases.specs.CaseTrees.{IsCaseTreeBound, CaseTreeBoundsAreUnique}
+use Rattle.tsp_cases.specs.Decisions.{decided_number}
 use Rattle.tsp_reason.specs.declared.basis.Basis.{Basis}
 use Rattle.tsp_reason.specs.declared.basis.Basis.TheVariants as bases
 use Rattle.tsp_reason.specs.declared.certificate.Certificate.{Certificate}

@@ -8,7 +8,7 @@ use Rattle.std.specs.declared.cmp.Ordering.TheVariants.{Less, Equal, Greater}
 use Rattle.std.proofs.lemmas.Bool.{and_from, and_parts, cases_cond, cases_order, eq-eqb, eqb-true, false≢true, le-leb, le-ltb, lt-leb, or_cases}
 use Rattle.std.proofs.lemmas.Map.Lookups.{exact_pairs, exact_unsigned}
 use Rattle.tsp_theory.specs.Adjusted.{is_same_pair}
-use Rattle.tsp_branch.specs.Decisions.{is_same}
+use Rattle.tsp_cases.specs.Decisions.{is_same}
 use Rattle.tsp_verdict.specs.states.PairSets.{undirected, pair_cmp, key_of}
 
 -- ---- the two directions of a pair

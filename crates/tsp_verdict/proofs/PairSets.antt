@@ -9,7 +9,7 @@ use Rattle.std.proofs.lemmas.Bool.{and_parts, cases_lt, eqb-true, false≢true, 
 use Rattle.std.proofs.lemmas.List.{get_or-take, get_or_default, length-take-le}
 use Rattle.std.proofs.lemmas.List.Folds.{Any-from_list_any, list_any_at, list_any_more}
 use Rattle.tsp_theory.specs.Adjusted.{pair_of, is_same_pair}
-use Rattle.tsp_branch.specs.Decisions.{is_same}
+use Rattle.tsp_cases.specs.Decisions.{is_same}
 use Rattle.tsp_verdict.proofs.PairKeys.{straight, crossed, same_keys, key_at, cond_or, same_turn}
 use Rattle.tsp_verdict.specs.Multiplied.{IsListedEitherWay, pair_at, IsUnlisted, IsPairRepeated}
 use Rattle.tsp_verdict.specs.states.PairSets.{undirected, pair_cmp, HasPairs, key_of, HasKeys}

@@ -21,15 +21,15 @@ use Rattle.tsp_theory.specs.CertificateNumbers.{IsScale, IsBoundSized}
 use Rattle.tsp_branch.specs.declared.judged.BranchVerdict.{BranchVerdict}
 use Rattle.tsp_branch.specs.declared.judged.BranchVerdict.TheVariants as found
 use Rattle.tsp_branch.specs.BranchVerdicts.{IsBranchVerdict}
-use Rattle.tsp_branch.specs.Cases.{decide}
-use Rattle.tsp_branch.specs.CaseTrees.{IsCaseTree, IsCaseTreeBound, AreCostsFor, BoundsIfAny, CaseTreesBoundCycles}
+use Rattle.tsp_cases.specs.Cases.{decide}
+use Rattle.tsp_cases.specs.CaseTrees.{IsCaseTree, IsCaseTreeBound, AreCostsFor, BoundsIfAny, CaseTreesBoundCycles}
 use Rattle.tsp_families.specs.declared.family.Crossings.{Crossings}
-use Rattle.tsp_branch.specs.Families.{Family, IsFamily, NumbersAreUnique}
-use Rattle.tsp_branch.specs.declared.decision.Decision.{Decision}
-use Rattle.tsp_branch.specs.Decisions.{KeepsAll, take_pairs, decided_number}
-use Rattle.tsp_branch.specs.GoodFamilies.{IsGoodFamily, IsFirstBadFamily, AreFamilies}
-use Rattle.tsp_branch.specs.Listed.{leaf_changes, listed_steps, AreGoodLeaves, IsFirstBadLeaf}
-use Rattle.tsp_branch.specs.Twice.{branches_of_cases, IsFirstTwice}
+use Rattle.tsp_cases.specs.Families.{Family, IsFamily, NumbersAreUnique}
+use Rattle.tsp_cases.specs.declared.decision.Decision.{Decision}
+use Rattle.tsp_cases.specs.Decisions.{KeepsAll, take_pairs, decided_number}
+use Rattle.tsp_cases.specs.GoodFamilies.{IsGoodFamily, IsFirstBadFamily, AreFamilies}
+use Rattle.tsp_cases.specs.Listed.{leaf_changes, listed_steps, AreGoodLeaves, IsFirstBadLeaf}
+use Rattle.tsp_cases.specs.Twice.{branches_of_cases, IsFirstTwice}
 use Rattle.tsp_reason.specs.declared.verdict.Reason.{Reason}
 use Rattle.tsp_reason.specs.declared.verdict.Reason.TheVariants.{NotBranches, BranchesDimension, BadComb, BranchTwice, BadLeaf}
 use Rattle.tsp_file.specs.Defaults.{scale_in, fixed_of, families_listed}

@@ -8,15 +8,15 @@ use Rattle.tsp_file.specs.Defaults.{fixed_of, scale_in, families_listed}
 use Rattle.tsp_file.specs.Cost.{cost}
 use Rattle.tsp_cost.specs.ComputedProblems.{is_directed}
 use Rattle.tsp_families.specs.declared.family.Crossings.{Crossings}
-use Rattle.tsp_branch.specs.Families.{Family, IsFamily}
-use Rattle.tsp_branch.specs.FamiliesOfSets.{families_with}
-use Rattle.tsp_branch.specs.Cases.{CaseStep}
-use Rattle.tsp_branch.specs.CaseTrees.{IsCaseTree, IsCaseTreeBound}
-use Rattle.tsp_branch.specs.declared.decision.Decision.{Decision}
-use Rattle.tsp_branch.specs.Decisions.{take_pairs, is_same, decided_number}
-use Rattle.tsp_branch.specs.GoodFamilies.{IsGoodFamily}
-use Rattle.tsp_branch.specs.Listed.{listed_steps, IsFirstBadLeaf}
-use Rattle.tsp_branch.specs.Twice.{IsFirstTwice}
+use Rattle.tsp_cases.specs.Families.{Family, IsFamily}
+use Rattle.tsp_cases.specs.FamiliesOfSets.{families_with}
+use Rattle.tsp_cases.specs.Cases.{CaseStep}
+use Rattle.tsp_cases.specs.CaseTrees.{IsCaseTree, IsCaseTreeBound}
+use Rattle.tsp_cases.specs.declared.decision.Decision.{Decision}
+use Rattle.tsp_cases.specs.Decisions.{take_pairs, is_same, decided_number}
+use Rattle.tsp_cases.specs.GoodFamilies.{IsGoodFamily}
+use Rattle.tsp_cases.specs.Listed.{listed_steps, IsFirstBadLeaf}
+use Rattle.tsp_cases.specs.Twice.{IsFirstTwice}
 use Rattle.tsp_reason.specs.declared.verdict.Reason.{Reason}
 use Rattle.tsp_reason.specs.declared.verdict.Reason.TheVariants.{NotBranches, BranchesDimension, BadComb, BranchTwice, BadLeaf}
 use Rattle.tsp_verdict.specs.Places.{IsFirstPlace}

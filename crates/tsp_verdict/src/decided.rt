@@ -1,7 +1,7 @@
 //! The fixed pairs of an instance as decisions.
 
 ghost use Rattle.std.specs.Prelude.{◌≡◌, ◌≤◌, IfOk};
-ghost use Rattle.tsp_branch.specs.Decisions.{take_pairs};
+ghost use Rattle.tsp_cases.specs.Decisions.{take_pairs};
 ghost use Rattle.tsp_verdict.specs.BranchesCertificate.{each_once};
 
 use crate::pairs::key_of;

@@ -9,11 +9,11 @@ use Rattle.tsp_theory.specs.Adjusted.{adjusted}
 use Rattle.tsp_format.specs.Nodes.{IsNode}
 use Rattle.tsp_families.specs.Crossed.{has}
 use Rattle.tsp_families.specs.declared.family.Crossings.{Crossings}
-use Rattle.tsp_branch.specs.LeafBound.{crossings_of, leaf_weight}
-use Rattle.tsp_branch.specs.CaseTrees.{multiplied}
-use Rattle.tsp_branch.specs.FamiliesOfSets.{families_with}
-use Rattle.tsp_branch.specs.GoodNumbers.{most_crossed}
-use Rattle.tsp_branch.specs.declared.set_place.SetPlace.{SetPlace}
+use Rattle.tsp_cases.specs.LeafBound.{crossings_of, leaf_weight}
+use Rattle.tsp_cases.specs.CaseTrees.{multiplied}
+use Rattle.tsp_cases.specs.FamiliesOfSets.{families_with}
+use Rattle.tsp_cases.specs.GoodNumbers.{most_crossed}
+use Rattle.tsp_cases.specs.declared.set_place.SetPlace.{SetPlace}
 use Rattle.tsp_branch.specs.states.Sets.{IsMoved, added}
 
 abbrev pub AreSmallMultipliers : List ℤ → Type 0

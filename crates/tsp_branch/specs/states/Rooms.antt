@@ -6,9 +6,9 @@ use Rattle.tsp_families.specs.declared.family.Crossings.{Crossings}
 use Rattle.tsp_branch.specs.declared.room.Room.{Room}
 use Rattle.tsp_branch.specs.declared.judged.JudgedLeaf.{JudgedLeaf}
 use Rattle.tsp_branch.specs.declared.judged.JudgedLeaf.TheVariants as leaves
-use Rattle.tsp_branch.specs.declared.decision.Decision.{Decision}
-use Rattle.tsp_branch.specs.Cases.{LeafNumbers}
-use Rattle.tsp_branch.specs.Listed.{all_grown, split_at, IsGoodLeaf}
+use Rattle.tsp_cases.specs.declared.decision.Decision.{Decision}
+use Rattle.tsp_cases.specs.Cases.{LeafNumbers}
+use Rattle.tsp_cases.specs.Listed.{all_grown, split_at, IsGoodLeaf}
 
 -- a number for each node and each comb, and a row has a place more than there are nodes
 pub record IsRoom (n combs : ℕ) (room : Room) : Type 0 where

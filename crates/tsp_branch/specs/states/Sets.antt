@@ -3,18 +3,12 @@ use Rattle.std.specs.Prelude.{◌≡◌, ℕ, suc, ◌==◌, ◌+◌, ◌++◌, 
 use Rattle.std.specs.Global.{Vec}
 use Rattle.tsp_theory.specs.Length.{sum_int_by}
 pub use Rattle.tsp_tree.specs.states.Additions.{IsMoved}
-use Rattle.tsp_branch.specs.declared.set_place.SetPlace.{SetPlace}
+use Rattle.tsp_cases.specs.states.Places.{place_at}
+use Rattle.tsp_cases.specs.declared.set_place.SetPlace.{SetPlace}
 
 -- the number of a node where a number is added for each place with the node
 abbrev pub added : ℤ → List ℕ → ℕ → ℤ
 added number nodes x = sum_int_by (λ node. if node == x then number else pos 0) nodes
-
-abbrev pub place_at : ℕ → ℕ → SetPlace
-place_at family set = record { family = family; set = set }
-
--- these families have a set at the place
-abbrev pub IsPlaceIn : List (List (List ℕ)) → SetPlace → Type 0
-IsPlaceIn families place = (place.family < length families) × (place.set < length (slice_index_or families place.family []))
 
 -- a place, as often as a node is in a list
 abbrev pub times : SetPlace → List ℕ → ℕ → List SetPlace

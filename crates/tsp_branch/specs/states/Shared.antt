@@ -6,11 +6,11 @@ use Rattle.tsp_theory.specs.Length.{sum_int_by}
 use Rattle.tsp_theory.specs.CertificateNumbers.{IsFromTo, entry}
 use Rattle.tsp_theory.specs.states.Nearest.{least_at}
 use Rattle.tsp_bound.specs.states.NodeNumbers.{most_number}
-use Rattle.tsp_branch.specs.declared.decision.Decision.{Decision}
-use Rattle.tsp_branch.specs.declared.set_place.SetPlace.{SetPlace}
-use Rattle.tsp_branch.specs.states.Combed.{multipliers_at, set_weight}
-use Rattle.tsp_branch.specs.states.Decided.{changes}
-use Rattle.tsp_branch.specs.states.OpenCases.{bears_on}
+use Rattle.tsp_cases.specs.declared.decision.Decision.{Decision}
+use Rattle.tsp_cases.specs.declared.set_place.SetPlace.{SetPlace}
+use Rattle.tsp_branch.specs.states.Combed.{multipliers_at}
+use Rattle.tsp_cases.specs.states.Decided.{changes}
+use Rattle.tsp_cases.specs.states.OpenCases.{bears_on}
 
 abbrev pub is_same_place : SetPlace → SetPlace → Bool
 is_same_place place other = (other.family == place.family) && (other.set == place.set)

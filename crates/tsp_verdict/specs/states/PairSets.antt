@@ -5,7 +5,7 @@ use Rattle.std.specs.List.{list_any}
 use Rattle.std.specs.Ordering.{nat_cmp, ordering_then}
 use Rattle.std.specs.declared.cmp.Ordering.{Ordering}
 use Rattle.tsp_theory.specs.Adjusted.{is_same_pair}
-use Rattle.tsp_branch.specs.Decisions.{is_same}
+use Rattle.tsp_cases.specs.Decisions.{is_same}
 
 -- the same for both directions of a pair
 abbrev pub undirected : ℕ × ℕ → ℕ × ℕ

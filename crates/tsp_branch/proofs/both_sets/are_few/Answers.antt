@@ -2,8 +2,8 @@
 use Rattle.std.proofs.Common.{get_or, arith}
 use Rattle.std.specs.Prelude.{pos}
 use Rattle.std.proofs.lemmas.Int.{ints}
-use Rattle.tsp_branch.specs.declared.set_place.SetPlace.{SetPlace}
-use Rattle.tsp_branch.specs.states.Sets.{place_at}
+use Rattle.tsp_cases.specs.declared.set_place.SetPlace.{SetPlace}
+use Rattle.tsp_cases.specs.states.Places.{place_at}
 use Rattle.tsp_branch.proofs.both_sets.are_few.Goals as goal
 
 pub overflow_add-sum : goal.overflow_add-sum

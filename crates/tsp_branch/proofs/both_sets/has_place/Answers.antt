@@ -1,8 +1,8 @@
 -- The goals of `has_place` in src/both_sets.rt: its loop and what it ensures.
 use Rattle.std.proofs.Common.{◌≤◌, ◌+◌, ◌||◌, List, length, drop, ap, sym, ◌∙◌, arith}
 use Rattle.std.proofs.lemmas.List.{drop_all}
-use Rattle.tsp_branch.specs.declared.set_place.SetPlace.{SetPlace}
-use Rattle.tsp_branch.specs.states.Sets.{place_at}
+use Rattle.tsp_cases.specs.declared.set_place.SetPlace.{SetPlace}
+use Rattle.tsp_cases.specs.states.Places.{place_at}
 use Rattle.tsp_branch.specs.states.Shared.{has_place}
 use Rattle.tsp_branch.proofs.SharedSets.{has_left}
 use Rattle.tsp_branch.proofs.both_sets.has_place.Goals as goal

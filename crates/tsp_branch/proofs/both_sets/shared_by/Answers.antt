@@ -4,8 +4,8 @@ use Rattle.std.specs.Int.{w64, int_wrap}
 use Rattle.std.specs.Prelude.{pos, ◌+ℤ◌, ◌*ℤ◌, if◌then◌else◌}
 use Rattle.std.proofs.lemmas.Int.{ints, to_z-of_z, int_wrap-add_left}
 use Rattle.std.proofs.lemmas.List.{drop_all}
-use Rattle.tsp_branch.specs.declared.set_place.SetPlace.{SetPlace}
-use Rattle.tsp_branch.specs.states.Sets.{place_at}
+use Rattle.tsp_cases.specs.declared.set_place.SetPlace.{SetPlace}
+use Rattle.tsp_cases.specs.states.Places.{place_at}
 use Rattle.tsp_branch.specs.states.Shared.{has_place, shared_by}
 use Rattle.tsp_branch.proofs.SharedSets.{shared_left}
 use Rattle.tsp_branch.proofs.both_sets.shared_by.Goals as goal

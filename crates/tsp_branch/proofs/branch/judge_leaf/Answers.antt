@@ -6,19 +6,20 @@ use Rattle.std.specs.List.{All}
 use Rattle.tsp_format.specs.Nodes.{IsNode}
 use Rattle.tsp_theory.specs.CertificateNumbers.{entry}
 use Rattle.tsp_theory.specs.states.Nearest.{least_at}
-use Rattle.tsp_branch.specs.Families.{IsFamily}
-use Rattle.tsp_branch.specs.states.Lent.{lent_in, good_in}
+use Rattle.tsp_cases.specs.Families.{IsFamily}
+use Rattle.tsp_cases.specs.states.Lent.{lent_in, good_in}
 use Rattle.tsp_branch.specs.states.Combed.{AreSmallMultipliers, multipliers_at}
 use Rattle.tsp_branch.specs.states.Kept.{kept_weight, AreRowsIfAny, AreEnds, HoldsRows}
-use Rattle.tsp_branch.specs.Cases.{LeafNumbers}
-use Rattle.tsp_branch.specs.CaseTrees.{IsFoundAt}
-use Rattle.tsp_branch.specs.declared.decision.Decision.{Decision}
-use Rattle.tsp_branch.specs.Decisions.{decided_number}
-use Rattle.tsp_branch.specs.states.OpenCases.{decisions_in}
-use Rattle.tsp_branch.specs.Listed.{all_grown}
+use Rattle.tsp_cases.specs.Cases.{LeafNumbers}
+use Rattle.tsp_cases.specs.CaseTrees.{IsFoundAt}
+use Rattle.tsp_cases.specs.declared.decision.Decision.{Decision}
+use Rattle.tsp_cases.specs.Decisions.{decided_number}
+use Rattle.tsp_cases.specs.states.OpenCases.{decisions_in}
+use Rattle.tsp_cases.specs.Listed.{all_grown}
 use Rattle.tsp_branch.proofs.CaseWeights.{small_multipliers, few_crossings}
 use Rattle.tsp_branch.proofs.KeptRows.{moved_from_ends}
-use Rattle.tsp_branch.proofs.Judging.{written, good_read, judged_leaf, numbers_are}
+use Rattle.tsp_cases.proofs.Lists.{written}
+use Rattle.tsp_branch.proofs.Judging.{good_read, judged_leaf, numbers_are}
 use Rattle.tsp_branch.proofs.branch.judge_leaf.Goals as goal
 
 pub bring_to-requires-clause-small : goal.bring_to-requires-clause-small

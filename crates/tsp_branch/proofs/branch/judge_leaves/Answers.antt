@@ -9,17 +9,18 @@ use Rattle.tsp_format.specs.declared.steps.TreeStep.{TreeStep}
 use Rattle.tsp_format.specs.declared.steps.TreeStep.TheVariants as code
 use Rattle.tsp_format.specs.Steps as listed
 use Rattle.tsp_format.specs.states.TreeSteps.{steps_of}
-use Rattle.tsp_branch.specs.states.Lent.{good_in}
-use Rattle.tsp_branch.specs.Cases.{LeafNumbers}
-use Rattle.tsp_branch.specs.CaseTrees.{IsFoundAt}
-use Rattle.tsp_branch.specs.Listed.{no_numbers_of}
-use Rattle.tsp_branch.specs.declared.decision.Decision.{Decision}
-use Rattle.tsp_branch.specs.Decisions.{DecideOnce, decided_number}
-use Rattle.tsp_branch.specs.states.Decided.{IsDecision, stack_of}
-use Rattle.tsp_branch.specs.states.OpenCases.{IsOpenCase}
+use Rattle.tsp_cases.specs.states.Lent.{good_in}
+use Rattle.tsp_cases.specs.Cases.{LeafNumbers}
+use Rattle.tsp_cases.specs.CaseTrees.{IsFoundAt}
+use Rattle.tsp_cases.specs.Listed.{no_numbers_of}
+use Rattle.tsp_cases.specs.declared.decision.Decision.{Decision}
+use Rattle.tsp_cases.specs.Decisions.{DecideOnce, decided_number}
+use Rattle.tsp_cases.specs.states.Decided.{IsDecision, stack_of}
+use Rattle.tsp_cases.specs.states.OpenCases.{IsOpenCase}
 use Rattle.tsp_branch.specs.states.Rooms.{AreSmall, IsJudgedLeaf}
 use Rattle.tsp_branch.proofs.Passes.{IsAtStep, at_start, at_branch}
-use Rattle.tsp_branch.proofs.Judging.{few_decided, whole_trees, own_step, at_next, all_passed, bad_here, after_found, small_found, once_here, low_sized}
+use Rattle.tsp_branch.proofs.Judging.{few_decided, whole_trees, at_next, all_passed, bad_here, after_found, small_found, once_here, low_sized}
+use Rattle.tsp_cases.proofs.Lists.{own_step}
 use Rattle.tsp_branch.proofs.branch.judge_leaves.Goals as goal
 use Rattle.tsp_branch.proofs.branch.judge_leaves.Goals.{in-Branch+in_ok-take-in-Branch, in-Leaf+in_ok-judged-in-Leaf+in-Found+in_ok-next-in-Leaf}
 

@@ -3,10 +3,10 @@ use Rattle.std.proofs.Common.{◌≡◌, ◌≤◌, ℕ, length, drop}
 use Rattle.std.specs.Prelude.{IfSome}
 use Rattle.tsp_format.specs.states.TreeSteps.{steps_of}
 use Rattle.tsp_theory.specs.CertificateNumbers.{IsBoundSized}
-use Rattle.tsp_branch.specs.states.Lent.{lent_in, good_in}
-use Rattle.tsp_branch.specs.CaseTrees.{IsFoundAt}
-use Rattle.tsp_branch.specs.states.OpenCases.{IsOpenCase}
-use Rattle.tsp_branch.specs.Decisions.{decided_number}
+use Rattle.tsp_cases.specs.states.Lent.{lent_in, good_in}
+use Rattle.tsp_cases.specs.CaseTrees.{IsFoundAt}
+use Rattle.tsp_cases.specs.states.OpenCases.{IsOpenCase}
+use Rattle.tsp_cases.specs.Decisions.{decided_number}
 use Rattle.tsp_branch.specs.states.Kept.{HoldsRows}
 use Rattle.tsp_branch.specs.states.Rooms.{IsRoom, AreSmall}
 use Rattle.tsp_branch.proofs.Passes.{IsPassing}

@@ -2,8 +2,8 @@
 use Rattle.std.proofs.Common.{List, arith}
 use Rattle.std.specs.List.{All}
 use Rattle.tsp_theory.specs.states.Nearest.{least_at}
-use Rattle.tsp_branch.specs.declared.decision.Decision.{Decision}
-use Rattle.tsp_branch.specs.Rows.{Allows}
+use Rattle.tsp_cases.specs.declared.decision.Decision.{Decision}
+use Rattle.tsp_cases.specs.Rows.{Allows}
 use Rattle.tsp_branch.proofs.Closed.{shut_none, shut_more, shut_same}
 use Rattle.tsp_branch.proofs.closing.close_all.Goals as goal
 

@@ -1,7 +1,7 @@
 -- The loop of `close_all` in src/closing.rt.
 use Rattle.std.proofs.Common.{◌<◌, ℕ, length}
 use Rattle.tsp_theory.specs.states.Nearest.{least_at}
-use Rattle.tsp_branch.specs.Rows.{Allows}
+use Rattle.tsp_cases.specs.Rows.{Allows}
 use Rattle.tsp_branch.specs.states.Closed.{IsShut}
 use Rattle.tsp_branch.proofs.Closed.{AllBelow}
 use Rattle.tsp_branch.proofs.closing.close_all.Given as goal

@@ -4,8 +4,8 @@ use Rattle.std.specs.Int.{w64, int_wrap}
 use Rattle.std.specs.Prelude.{pos, ◌+ℤ◌}
 use Rattle.std.proofs.lemmas.Int.{ints, to_z-of_z, int_wrap-add_left}
 use Rattle.std.proofs.lemmas.List.{drop_all}
-use Rattle.tsp_branch.specs.declared.decision.Decision.{Decision}
-use Rattle.tsp_branch.specs.states.Decided.{changes}
+use Rattle.tsp_cases.specs.declared.decision.Decision.{Decision}
+use Rattle.tsp_cases.specs.states.Decided.{changes}
 use Rattle.tsp_branch.proofs.Changes.{changes_left}
 use Rattle.tsp_branch.proofs.decided.change_between.Goals as goal
 

@@ -2,7 +2,7 @@
 use Rattle.std.proofs.Common.{◌≡◌, drop}
 use Rattle.std.specs.Prelude.{◌+ℤ◌}
 use Rattle.std.specs.Int.{w64, int_wrap}
-use Rattle.tsp_branch.specs.states.Decided.{changes}
+use Rattle.tsp_cases.specs.states.Decided.{changes}
 use Rattle.tsp_branch.proofs.decided.change_between.Given as goal
 
 abbrev pub invariant-decisions : goal.invariant-decisions

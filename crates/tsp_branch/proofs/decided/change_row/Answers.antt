@@ -2,8 +2,8 @@
 use Rattle.std.proofs.Common.{◌≤◌, List, false, length, refl, ap, inl, arith}
 use Rattle.std.proofs.lemmas.List.{drop_all}
 use Rattle.tsp_theory.specs.states.Nearest.{least_at}
-use Rattle.tsp_branch.specs.declared.decision.Decision.{Decision}
-use Rattle.tsp_branch.specs.states.Decided.{changes}
+use Rattle.tsp_cases.specs.declared.decision.Decision.{Decision}
+use Rattle.tsp_cases.specs.states.Decided.{changes}
 use Rattle.tsp_branch.proofs.Changes.{changes_left}
 use Rattle.tsp_branch.proofs.SetSums.{moved_on}
 use Rattle.tsp_branch.proofs.decided.change_row.Goals as goal

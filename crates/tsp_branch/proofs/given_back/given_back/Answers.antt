@@ -2,10 +2,10 @@
 use Rattle.std.proofs.Common.{◌∙◌, ℤ, List, ap, sym, arith, false}
 use Rattle.std.specs.Prelude.{pos, ◌-ℤ◌, ◌*ℤ◌}
 use Rattle.tsp_families.specs.declared.family.Crossings.{Crossings}
-use Rattle.tsp_branch.specs.LeafBound.{least_of}
-use Rattle.tsp_branch.specs.FamiliesOfSets.{sum_with}
-use Rattle.tsp_branch.specs.CaseTrees.{multiplied}
-use Rattle.tsp_branch.specs.states.Lent.{lent_in, good_in}
+use Rattle.tsp_cases.specs.LeafBound.{least_of}
+use Rattle.tsp_cases.specs.FamiliesOfSets.{sum_with}
+use Rattle.tsp_cases.specs.CaseTrees.{multiplied}
+use Rattle.tsp_cases.specs.states.Lent.{lent_in, good_in}
 use Rattle.tsp_branch.proofs.CaseWeights.{few_multipliers, small_multipliers}
 use Rattle.tsp_branch.proofs.FamilySums.{least_fits}
 use Rattle.tsp_branch.proofs.GivenBack.{least_told, less_fits, less_held, less_sized}

@@ -3,7 +3,7 @@ use Rattle.std.proofs.Common.{◌≡◌, ◌*◌, drop}
 use Rattle.std.specs.Prelude.{pos, ◌+ℤ◌}
 use Rattle.tsp_theory.specs.CertificateNumbers.{IsFromTo}
 use Rattle.tsp_theory.specs.Adjusted.{triples_total}
-use Rattle.tsp_branch.specs.Decisions.{on_taken, decided_number}
+use Rattle.tsp_cases.specs.Decisions.{on_taken, decided_number}
 use Rattle.tsp_branch.proofs.given_back.taken_back.Given as goal
 
 abbrev pub invariant-decisions : goal.invariant-decisions

@@ -5,7 +5,7 @@ use Rattle.std.specs.Int.{w64, w128}
 use Rattle.std.proofs.Math.IntN.{+ℤ_assoc}
 use Rattle.std.proofs.lemmas.Int.{to_z-of_z}
 use Rattle.tsp_families.specs.declared.family.Crossings.{Crossings}
-use Rattle.tsp_branch.specs.FamiliesOfSets.{most_or_least, sum_with}
+use Rattle.tsp_cases.specs.FamiliesOfSets.{most_or_least, sum_with}
 use Rattle.tsp_branch.proofs.FamilySums.{sum_left, number_small, AddsFamily, adds_family}
 use Rattle.tsp_branch.proofs.judge.sum_with.Goals as goal
 

@@ -2,7 +2,7 @@
 use Rattle.std.proofs.Common.{◌≡◌, ◌*◌, ◌^◌, drop}
 use Rattle.std.specs.Prelude.{pos, ◌+ℤ◌}
 use Rattle.tsp_theory.specs.CertificateNumbers.{IsFromTo}
-use Rattle.tsp_branch.specs.FamiliesOfSets.{sum_with}
+use Rattle.tsp_cases.specs.FamiliesOfSets.{sum_with}
 use Rattle.tsp_branch.proofs.judge.sum_with.Given as goal
 
 abbrev pub invariant-families : goal.invariant-families

@@ -1,5 +1,5 @@
 -- The loop of `add_to_rows` in src/kept.rt.
-use Rattle.tsp_branch.specs.states.Lent.{lent_in}
+use Rattle.tsp_cases.specs.states.Lent.{lent_in}
 use Rattle.tsp_branch.proofs.KeptRows.{IsAddedTo}
 use Rattle.tsp_branch.proofs.kept.add_to_rows.Given as goal
 

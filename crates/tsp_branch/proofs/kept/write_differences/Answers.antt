@@ -8,7 +8,7 @@ use Rattle.std.proofs.lemmas.Int.{ints}
 use Rattle.std.proofs.lemmas.List.{get_or-set_same, get_or-set_other, get_or_default}
 use Rattle.tsp_theory.specs.CertificateNumbers.{IsFromTo}
 use Rattle.tsp_theory.specs.states.Nearest.{least_at}
-use Rattle.tsp_branch.specs.GoodNumbers.{most_crossed}
+use Rattle.tsp_cases.specs.GoodNumbers.{most_crossed}
 use Rattle.tsp_branch.proofs.kept.write_differences.Goals as goal
 
 -- plan: by cases of the place: the one just written, whose difference fits 64 bits, or one before, which `set` leaves

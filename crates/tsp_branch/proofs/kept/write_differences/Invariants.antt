@@ -3,7 +3,7 @@ use Rattle.std.proofs.Common.{◌≡◌, ◌<◌, ℕ, length}
 use Rattle.std.specs.Prelude.{pos, neg_ℤ, ◌+ℤ◌}
 use Rattle.tsp_theory.specs.CertificateNumbers.{IsFromTo}
 use Rattle.tsp_theory.specs.states.Nearest.{least_at}
-use Rattle.tsp_branch.specs.GoodNumbers.{most_crossed}
+use Rattle.tsp_cases.specs.GoodNumbers.{most_crossed}
 use Rattle.tsp_branch.proofs.kept.write_differences.Given as goal
 
 abbrev pub invariant-numbers : goal.invariant-numbers

@@ -4,7 +4,7 @@ use Rattle.std.specs.Prelude.{neg_ℤ}
 use Rattle.tsp_theory.specs.states.Nearest.{least_at}
 use Rattle.tsp_families.specs.FamilySets.{families_in}
 use Rattle.tsp_branch.specs.states.Sets.{IsMoved, added}
-use Rattle.tsp_branch.specs.states.Lent.{lent_in}
+use Rattle.tsp_cases.specs.states.Lent.{lent_in}
 use Rattle.tsp_branch.specs.states.Combed.{summed_from, multipliers_at}
 use Rattle.tsp_branch.proofs.moved.take_multipliers.Given as goal
 

@@ -6,7 +6,7 @@ use Rattle.std.proofs.Math.ListN.{set, length-set}
 use Rattle.std.proofs.lemmas.Bool.{cases_eq}
 use Rattle.std.proofs.lemmas.Int.{to_z-of_z}
 use Rattle.std.proofs.lemmas.List.{get_or_default}
-use Rattle.tsp_branch.specs.Listed.{all_grown}
+use Rattle.tsp_cases.specs.Listed.{all_grown}
 use Rattle.tsp_branch.proofs.Grown.{grown_left, sum_held, more_sized}
 use Rattle.tsp_branch.proofs.numbers.add_differences.Goals as goal
 

@@ -1,7 +1,7 @@
 -- The loop of `add_differences` in src/numbers.rt.
 use Rattle.std.proofs.Common.{◌≡◌, ◌<◌, ℕ, ℤ, drop, length, get_or}
 use Rattle.tsp_format.specs.Nodes.{IsNode}
-use Rattle.tsp_branch.specs.Listed.{all_grown}
+use Rattle.tsp_cases.specs.Listed.{all_grown}
 use Rattle.tsp_branch.proofs.Grown.{AreSized}
 use Rattle.tsp_branch.proofs.numbers.add_differences.Given as goal
 

@@ -2,7 +2,7 @@
 use Rattle.std.proofs.Common.{◌≡◌, ◌<◌, ℕ, ◌++◌, drop, length, get_or}
 use Rattle.std.specs.Global.{Vec}
 use Rattle.tsp_families.specs.FamilySets.{lists_of}
-use Rattle.tsp_branch.specs.declared.set_place.SetPlace.{SetPlace}
+use Rattle.tsp_cases.specs.declared.set_place.SetPlace.{SetPlace}
 use Rattle.tsp_branch.specs.states.Sets.{places_in}
 use Rattle.tsp_branch.proofs.sets.place_family.Given as goal
 

@@ -4,12 +4,12 @@ use Rattle.std.specs.List.{All}
 use Rattle.std.specs.Global.{Vec}
 use Rattle.tsp_format.specs.states.TreeSteps.{steps_of}
 use Rattle.tsp_families.specs.FamilySets.{families_in}
-use Rattle.tsp_branch.specs.Families.{IsFamily}
-use Rattle.tsp_branch.specs.FamiliesOfSets.{families_with}
-use Rattle.tsp_branch.specs.JudgedSets.{AreFamiliesJudged}
-use Rattle.tsp_branch.specs.Listed.{AreJudgedLeaves, BoundsCycles}
-use Rattle.tsp_branch.specs.JudgedTrees.{AreCasesJudged}
-use Rattle.tsp_branch.specs.states.Lent.{good_in}
+use Rattle.tsp_cases.specs.Families.{IsFamily}
+use Rattle.tsp_cases.specs.FamiliesOfSets.{families_with}
+use Rattle.tsp_cases.specs.JudgedSets.{AreFamiliesJudged}
+use Rattle.tsp_branch.specs.JudgedLeaves.{AreJudgedLeaves, BoundsCycles}
+use Rattle.tsp_cases.specs.JudgedTrees.{AreCasesJudged}
+use Rattle.tsp_cases.specs.states.Lent.{good_in}
 use Rattle.tsp_branch.specs.declared.judged.JudgedLeaves.TheVariants as judged
 use Rattle.tsp_branch.proofs.Judging.{judged_of, cycles_of_cases}
 use Rattle.tsp_branch.proofs.verdict.judge_branches_in_space.Goals as goal

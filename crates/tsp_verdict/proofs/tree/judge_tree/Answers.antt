@@ -13,7 +13,7 @@ use Rattle.tsp_draft.specs.Valid.{IsPairOf}
 use Rattle.tsp_theory.specs.CertificateNumbers.{IsScale}
 use Rattle.tsp_branch.specs.declared.judged.BranchVerdict.TheVariants as found
 use Rattle.tsp_branch.specs.BranchVerdicts.{IsBranchVerdict, IsSizedVerdict}
-use Rattle.tsp_branch.specs.Listed.{IsStepOf}
+use Rattle.tsp_cases.specs.Listed.{IsStepOf}
 use Rattle.tsp_families.specs.FamilySets.{AreFamiliesOf, lists_of}
 use Rattle.tsp_draft.specs.Fields.{nodes_of}
 use Rattle.tsp_verdict.proofs.FilesHold.{steps_hold, steps_few}

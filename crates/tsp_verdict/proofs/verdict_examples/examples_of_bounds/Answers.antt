@@ -9,10 +9,10 @@ use Rattle.tsp_theory.specs.Adjusted.{IsAdjustedBound}
 use Rattle.tsp_theory.specs.Assignment.{IsDualBound}
 use Rattle.tsp_cost.specs.ComputedProblems.{is_directed}
 use Rattle.tsp_families.specs.declared.family.Crossings.{Crossings}
-use Rattle.tsp_branch.specs.CaseTrees.{IsCaseTreeBound}
-use Rattle.tsp_branch.specs.Decisions.{decided_number}
-use Rattle.tsp_branch.specs.Families.{Family}
-use Rattle.tsp_branch.specs.FamiliesOfSets.{families_with}
+use Rattle.tsp_cases.specs.CaseTrees.{IsCaseTreeBound}
+use Rattle.tsp_cases.specs.Decisions.{decided_number}
+use Rattle.tsp_cases.specs.Families.{Family}
+use Rattle.tsp_cases.specs.FamiliesOfSets.{families_with}
 use Rattle.tsp_verdict.specs.BranchesCertificate.{given_in, case_steps_in}
 use Rattle.tsp_verdict.specs.Examples.{halves_of_leaf}
 use Rattle.tsp_verdict.proofs.verdict_examples.examples_of_bounds.Goals as goal

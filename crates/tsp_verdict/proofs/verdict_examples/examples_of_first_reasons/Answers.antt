@@ -2,8 +2,8 @@
 use Rattle.std.proofs.Common.{◌<◌, [], ◌∷◌, rules, arith, refl, inl, pos}
 use Rattle.std.specs.List.{Contains}
 use Rattle.std.proofs.lemmas.List.Elements.{All-nil}
-use Rattle.tsp_branch.specs.Families.{IsFamily}
-use Rattle.tsp_branch.proofs.OnePass.{first_bad_by_place}
+use Rattle.tsp_cases.specs.Families.{IsFamily}
+use Rattle.tsp_cases.proofs.OnePass.{first_bad_by_place}
 use Rattle.tsp_verdict.proofs.SmallPlans.{customer}
 use Rattle.tsp_verdict.proofs.verdict_examples.examples_of_first_reasons.Goals as goal
 

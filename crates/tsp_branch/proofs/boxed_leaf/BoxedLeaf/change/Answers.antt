@@ -5,12 +5,12 @@ use Rattle.std.specs.Prelude.{neg_ℤ}
 use Rattle.std.specs.List.{filter}
 use Rattle.std.proofs.lemmas.Int.{ints, to_z-of_z, int_wrap_fits}
 use Rattle.tsp_theory.specs.CertificateNumbers.{IsFromTo}
-use Rattle.tsp_branch.specs.declared.decision.Decision.{Decision}
-use Rattle.tsp_branch.specs.Decisions.{decided_number}
-use Rattle.tsp_branch.specs.states.Decided.{changes, stack_of}
-use Rattle.tsp_branch.specs.states.OpenCases.{bears_on, decisions_in}
+use Rattle.tsp_cases.specs.declared.decision.Decision.{Decision}
+use Rattle.tsp_cases.specs.Decisions.{decided_number}
+use Rattle.tsp_cases.specs.states.Decided.{changes, stack_of}
+use Rattle.tsp_cases.specs.states.OpenCases.{bears_on, decisions_in}
 use Rattle.tsp_branch.proofs.Changes.{within}
-use Rattle.tsp_branch.proofs.OpenCases.{changes_listed}
+use Rattle.tsp_cases.proofs.OpenCases.{changes_listed}
 use Rattle.tsp_branch.proofs.boxed_leaf.BoxedLeaf.change.Goals as goal
 
 pub returns : goal.returns

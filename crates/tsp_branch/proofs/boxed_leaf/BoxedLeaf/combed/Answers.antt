@@ -5,9 +5,10 @@ use Rattle.std.specs.Prelude.{◌+ℤ◌}
 use Rattle.std.specs.List.{All}
 use Rattle.std.proofs.lemmas.Int.{to_z-of_z}
 use Rattle.tsp_theory.specs.states.Nearest.{least_at}
-use Rattle.tsp_branch.specs.declared.set_place.SetPlace.{SetPlace}
-use Rattle.tsp_branch.specs.states.Sets.{IsPlaceIn, places_with}
-use Rattle.tsp_branch.specs.states.Lent.{lent_in}
+use Rattle.tsp_cases.specs.declared.set_place.SetPlace.{SetPlace}
+use Rattle.tsp_cases.specs.states.Places.{IsPlaceIn}
+use Rattle.tsp_branch.specs.states.Sets.{places_with}
+use Rattle.tsp_cases.specs.states.Lent.{lent_in}
 use Rattle.tsp_branch.specs.states.Combed.{inside_both}
 use Rattle.tsp_branch.specs.states.Shared.{shared_by}
 use Rattle.tsp_branch.proofs.SetAlgebra.{places_inside}

@@ -1,8 +1,8 @@
 -- The goals of `BoxedLeafBoxedWeights::is_beyond` in src/boxed_leaf.rt: what it ensures.
 use Rattle.std.proofs.Common.{refl}
 use Rattle.tsp_theory.specs.states.Nearest.{least_at}
-use Rattle.tsp_branch.specs.states.Lent.{lent_in}
-use Rattle.tsp_branch.specs.states.OpenCases.{decisions_in}
+use Rattle.tsp_cases.specs.states.Lent.{lent_in}
+use Rattle.tsp_cases.specs.states.OpenCases.{decisions_in}
 use Rattle.tsp_branch.proofs.BoxedValues.{base_below}
 use Rattle.tsp_branch.proofs.boxed_leaf.BoxedLeafBoxedWeights.is_beyond.Goals as goal
 

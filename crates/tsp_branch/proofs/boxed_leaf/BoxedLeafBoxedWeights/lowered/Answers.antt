@@ -1,17 +1,17 @@
 -- The goals of `BoxedLeafBoxedWeights::lowered` in src/boxed_leaf.rt: what its calls require and what it ensures.
 use Rattle.std.proofs.Common.{◌≡◌, ◌∙◌, ◌<◌, ◌==◌, Bool, true, false, List, length, get_or, refl, inl, inr, ap, sym, subst, arith, rules, FitsSigned}
 use Rattle.std.specs.Int.{w64}
-use Rattle.std.specs.Prelude.{if◌then◌else◌, ℕ}
+use Rattle.std.specs.Prelude.{if◌then◌else◌}
 use Rattle.std.specs.List.{filter}
 use Rattle.std.proofs.lemmas.Bool.{cases_Bool, eq-eqb, ne_eqb}
 use Rattle.std.proofs.lemmas.Int.{to_z-of_z}
 use Rattle.std.proofs.lemmas.List.{length-map}
 use Rattle.tsp_format.specs.Nodes.{IsNode}
-use Rattle.tsp_branch.specs.declared.decision.Decision.{Decision}
-use Rattle.tsp_branch.specs.states.Lent.{lent_in}
+use Rattle.tsp_cases.specs.declared.decision.Decision.{Decision}
+use Rattle.tsp_cases.specs.states.Lent.{lent_in}
 use Rattle.tsp_branch.specs.states.Combed.{set_weight}
-use Rattle.tsp_branch.specs.states.Decided.{IsDecision, stack_of}
-use Rattle.tsp_branch.specs.states.OpenCases.{bears_on, decisions_in}
+use Rattle.tsp_cases.specs.states.Decided.{IsDecision, stack_of}
+use Rattle.tsp_cases.specs.states.OpenCases.{bears_on, decisions_in}
 use Rattle.tsp_branch.specs.states.Shared.{other_of, others_of}
 use Rattle.tsp_branch.proofs.Changes.{changes_are}
 use Rattle.tsp_branch.proofs.OpenRows.{all_passed}

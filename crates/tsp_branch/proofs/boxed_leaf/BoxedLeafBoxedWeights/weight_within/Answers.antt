@@ -5,11 +5,11 @@ use Rattle.std.specs.Prelude.{pos, ◌+ℤ◌}
 use Rattle.std.proofs.lemmas.Int.{ints, to_z-of_z}
 use Rattle.tsp_theory.specs.states.Nearest.{least_at}
 use Rattle.tsp_bound.proofs.Boxed.{below_seen, not_less_seen}
-use Rattle.tsp_branch.specs.declared.decision.Decision.{Decision}
-use Rattle.tsp_branch.specs.states.Lent.{lent_in}
+use Rattle.tsp_cases.specs.declared.decision.Decision.{Decision}
+use Rattle.tsp_cases.specs.states.Lent.{lent_in}
 use Rattle.tsp_branch.specs.states.Combed.{set_weight}
-use Rattle.tsp_branch.specs.states.Decided.{changes}
-use Rattle.tsp_branch.specs.states.OpenCases.{decisions_in}
+use Rattle.tsp_cases.specs.states.Decided.{changes}
+use Rattle.tsp_cases.specs.states.OpenCases.{decisions_in}
 use Rattle.tsp_branch.specs.states.Shared.{upwards, raised}
 use Rattle.tsp_branch.proofs.BoxedValues.{base_below, upwards_less, upwards_same}
 use Rattle.tsp_branch.proofs.boxed_leaf.BoxedLeafBoxedWeights.weight_within.Goals as goal

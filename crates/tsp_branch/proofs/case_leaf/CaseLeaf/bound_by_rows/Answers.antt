@@ -6,14 +6,14 @@ use Rattle.std.proofs.lemmas.Int.{to_z-of_z}
 use Rattle.tsp_theory.specs.CertificateNumbers.{total}
 use Rattle.tsp_theory.specs.NodeBound.{weight_between}
 use Rattle.tsp_theory.proofs.Sizes.{same_scale}
-use Rattle.tsp_branch.specs.Families.{Family}
-use Rattle.tsp_branch.specs.declared.decision.Decision.{Decision}
-use Rattle.tsp_branch.specs.Decisions.{decided_number}
-use Rattle.tsp_branch.specs.LeafBound.{combed, least_of}
-use Rattle.tsp_branch.specs.CaseTrees.{multiplied}
-use Rattle.tsp_branch.specs.states.Lent.{lent_in, good_in}
+use Rattle.tsp_cases.specs.Families.{Family}
+use Rattle.tsp_cases.specs.declared.decision.Decision.{Decision}
+use Rattle.tsp_cases.specs.Decisions.{decided_number}
+use Rattle.tsp_cases.specs.LeafBound.{combed, least_of}
+use Rattle.tsp_cases.specs.CaseTrees.{multiplied}
+use Rattle.tsp_cases.specs.states.Lent.{lent_in, good_in}
 use Rattle.tsp_branch.specs.states.Combed.{set_weight}
-use Rattle.tsp_branch.specs.states.OpenCases.{IsOpenCase, decisions_in}
+use Rattle.tsp_cases.specs.states.OpenCases.{IsOpenCase, decisions_in}
 use Rattle.tsp_branch.proofs.CaseWeights.{row_weight, found_by_rows}
 use Rattle.tsp_branch.proofs.case_leaf.CaseLeaf.bound_by_rows.Goals as goal
 

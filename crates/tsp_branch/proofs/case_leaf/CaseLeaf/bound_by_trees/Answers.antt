@@ -4,18 +4,18 @@ use Rattle.std.specs.Prelude.{◌+ℤ◌}
 use Rattle.std.specs.Int.{w128}
 use Rattle.std.proofs.lemmas.Result.{IfOk-weaker}
 use Rattle.tsp_theory.proofs.Sizes.{same_scale}
-use Rattle.tsp_branch.specs.Families.{Family}
-use Rattle.tsp_branch.specs.declared.decision.Decision.{Decision}
-use Rattle.tsp_branch.specs.Decisions.{DecideOnce, on_taken, on_avoided, decided_number}
-use Rattle.tsp_branch.specs.LeafBound.{IsLeafBound}
-use Rattle.tsp_branch.specs.CaseTrees.{multiplied}
+use Rattle.tsp_cases.specs.Families.{Family}
+use Rattle.tsp_cases.specs.declared.decision.Decision.{Decision}
+use Rattle.tsp_cases.specs.Decisions.{DecideOnce, on_taken, on_avoided, decided_number}
+use Rattle.tsp_cases.specs.LeafBound.{IsLeafBound}
+use Rattle.tsp_cases.specs.CaseTrees.{multiplied}
 use Rattle.tsp_branch.specs.LeafWeight.{BoundsEachLeaf, given_back_of}
-use Rattle.tsp_branch.specs.states.Lent.{lent_in, good_in}
+use Rattle.tsp_cases.specs.states.Lent.{lent_in, good_in}
 use Rattle.tsp_branch.specs.states.Combed.{set_weight}
-use Rattle.tsp_branch.specs.states.Decided.{stack_of, decided}
-use Rattle.tsp_branch.specs.states.OpenCases.{IsOpenCase, decisions_in}
-use Rattle.tsp_branch.proofs.LeafBounds.{leaf_even}
-use Rattle.tsp_branch.proofs.DecidedOnce.{few_changes}
+use Rattle.tsp_cases.specs.states.Decided.{stack_of, decided}
+use Rattle.tsp_cases.specs.states.OpenCases.{IsOpenCase, decisions_in}
+use Rattle.tsp_cases.proofs.LeafBounds.{leaf_even}
+use Rattle.tsp_cases.proofs.DecidedOnce.{few_changes}
 use Rattle.tsp_branch.proofs.CaseWeights.{case_weight, back_of}
 use Rattle.tsp_branch.proofs.GivenBack.{back_held, taken_listed, taken_few}
 use Rattle.tsp_branch.proofs.case_leaf.CaseLeaf.bound_by_trees.Goals as goal

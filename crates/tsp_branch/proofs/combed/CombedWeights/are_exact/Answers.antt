@@ -9,8 +9,9 @@ use Rattle.tsp_format.specs.Nodes.{IsNode}
 use Rattle.tsp_theory.specs.CertificateNumbers.{IsFromTo, entry}
 use Rattle.tsp_theory.specs.states.Nearest.{least_at}
 use Rattle.tsp_bound.specs.states.NodeNumbers.{most_number}
-use Rattle.tsp_branch.specs.states.Sets.{IsPlaceIn, places_with}
-use Rattle.tsp_branch.specs.states.Lent.{lent_in}
+use Rattle.tsp_cases.specs.states.Places.{IsPlaceIn}
+use Rattle.tsp_branch.specs.states.Sets.{places_with}
+use Rattle.tsp_cases.specs.states.Lent.{lent_in}
 use Rattle.tsp_branch.specs.states.Combed.{multipliers_at}
 use Rattle.tsp_branch.specs.states.Shared.{sum_at_places}
 use Rattle.tsp_branch.proofs.Changes.{within}

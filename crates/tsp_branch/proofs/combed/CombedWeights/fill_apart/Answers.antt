@@ -8,7 +8,7 @@ use Rattle.tsp_theory.specs.CertificateNumbers.{IsFromTo, entry}
 use Rattle.tsp_theory.specs.states.Nearest.{least_at}
 use Rattle.tsp_theory.proofs.Weights.{between_size}
 use Rattle.tsp_theory.proofs.Sizes.{same_scale, scaled_size}
-use Rattle.tsp_branch.specs.states.Lent.{lent_in}
+use Rattle.tsp_cases.specs.states.Lent.{lent_in}
 use Rattle.tsp_branch.specs.states.Combed.{multipliers_at}
 use Rattle.tsp_branch.proofs.SetAlgebra.{apart_is}
 use Rattle.tsp_branch.proofs.combed.CombedWeights.fill_apart.Goals as goal

@@ -1,7 +1,7 @@
 -- The loop of `CombedWeights::fill_apart_at` in src/combed.rt.
 use Rattle.std.proofs.Common.{◌<◌, ℕ, length, slice_index}
 use Rattle.tsp_theory.specs.states.Nearest.{least_at}
-use Rattle.tsp_branch.specs.states.Lent.{lent_in}
+use Rattle.tsp_cases.specs.states.Lent.{lent_in}
 use Rattle.tsp_branch.specs.states.Combed.{IsApart}
 use Rattle.tsp_branch.proofs.combed.CombedWeights.fill_apart_at.Given as goal
 

@@ -9,7 +9,7 @@ use Rattle.tsp_theory.specs.CertificateNumbers.{IsFromTo, entry}
 use Rattle.tsp_theory.specs.states.Nearest.{least_at}
 use Rattle.tsp_theory.proofs.Weights.{between_size}
 use Rattle.tsp_theory.proofs.Sizes.{scaled_size}
-use Rattle.tsp_branch.specs.states.Lent.{lent_in}
+use Rattle.tsp_cases.specs.states.Lent.{lent_in}
 use Rattle.tsp_branch.specs.states.Combed.{most_combed, set_weight}
 use Rattle.tsp_branch.specs.states.Kept.{kept_weight, IsKeptRow}
 use Rattle.tsp_branch.proofs.KeptRows.{kept_at}

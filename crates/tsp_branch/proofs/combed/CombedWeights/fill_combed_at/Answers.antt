@@ -5,9 +5,10 @@ use Rattle.std.specs.List.{All}
 use Rattle.std.proofs.lemmas.Int.{ints}
 use Rattle.tsp_theory.specs.CertificateNumbers.{IsFromTo}
 use Rattle.tsp_theory.specs.states.Nearest.{least_at}
-use Rattle.tsp_branch.specs.declared.set_place.SetPlace.{SetPlace}
-use Rattle.tsp_branch.specs.states.Sets.{IsMoved, IsPlaceIn, places_with}
-use Rattle.tsp_branch.specs.states.Lent.{lent_in}
+use Rattle.tsp_cases.specs.declared.set_place.SetPlace.{SetPlace}
+use Rattle.tsp_branch.specs.states.Sets.{IsMoved, places_with}
+use Rattle.tsp_cases.specs.states.Places.{IsPlaceIn}
+use Rattle.tsp_cases.specs.states.Lent.{lent_in}
 use Rattle.tsp_branch.specs.states.Combed.{inside_both, most_combed, set_weight}
 use Rattle.tsp_branch.proofs.SetAlgebra.{places_inside}
 use Rattle.tsp_branch.proofs.CombedValues.{combed_at}

@@ -2,7 +2,7 @@
 use Rattle.std.proofs.Common.{◌∙◌, ℤ, sym, subst}
 use Rattle.tsp_theory.specs.CertificateNumbers.{IsScale}
 use Rattle.tsp_theory.proofs.Sizes.{same_scale}
-use Rattle.tsp_branch.specs.states.Lent.{lent_in}
+use Rattle.tsp_cases.specs.states.Lent.{lent_in}
 use Rattle.tsp_branch.specs.states.Kept.{kept_weight, AreRowsIfAny}
 use Rattle.tsp_branch.proofs.CaseWeights.{small_multipliers}
 use Rattle.tsp_branch.proofs.combed.CombedWeights.of.Goals as goal

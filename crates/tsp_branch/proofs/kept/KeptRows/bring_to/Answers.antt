@@ -6,12 +6,13 @@ use Rattle.tsp_theory.specs.states.Nearest.{least_at}
 use Rattle.std.proofs.lemmas.Bool.Decides.{Decides-int_eq}
 use Rattle.std.specs.List.{All}
 use Rattle.std.proofs.lemmas.Slice.Eq.{slice_eq-Decides}
-use Rattle.tsp_branch.specs.declared.set_place.SetPlace.{SetPlace}
-use Rattle.tsp_branch.specs.states.Sets.{IsMoved, IsPlaceIn}
-use Rattle.tsp_branch.specs.states.Lent.{lent_in}
+use Rattle.tsp_cases.specs.declared.set_place.SetPlace.{SetPlace}
+use Rattle.tsp_branch.specs.states.Sets.{IsMoved}
+use Rattle.tsp_cases.specs.states.Places.{IsPlaceIn}
+use Rattle.tsp_cases.specs.states.Lent.{lent_in}
 use Rattle.tsp_branch.specs.states.Combed.{multipliers_at, AreSmallMultipliers, AreSmallDifferences}
 use Rattle.tsp_branch.specs.states.Kept.{kept_weight, AreRowsIfAny, AreAdded, AreDifferences, AreEnds}
-use Rattle.tsp_branch.proofs.Judging.{written}
+use Rattle.tsp_cases.proofs.Lists.{written}
 use Rattle.tsp_branch.proofs.KeptRows.{rows_brought, ends_brought}
 use Rattle.tsp_branch.proofs.SetAlgebra.{places_inside}
 use Rattle.tsp_branch.proofs.kept.KeptRows.bring_to.Goals as goal

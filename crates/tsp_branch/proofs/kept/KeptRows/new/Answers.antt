@@ -2,7 +2,7 @@
 use Rattle.std.proofs.Common.{◌≡◌, ◌∙◌, ◌+◌, ℕ, arith, ℤ, List, replicate, length, refl, ap, sym, subst}
 use Rattle.std.specs.Prelude.{pos}
 use Rattle.std.proofs.lemmas.List.{length-replicate}
-use Rattle.tsp_branch.specs.states.Lent.{lent_in}
+use Rattle.tsp_cases.specs.states.Lent.{lent_in}
 use Rattle.tsp_branch.specs.states.Combed.{AreSmallMultipliers}
 use Rattle.tsp_branch.specs.states.Kept.{kept_weight, AreRowsIfAny, AreEnds}
 use Rattle.tsp_branch.proofs.KeptRows.{kept_at_start, small_at_start, ends_at_start}

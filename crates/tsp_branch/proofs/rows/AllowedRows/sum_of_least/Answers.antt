@@ -3,7 +3,7 @@ use Rattle.std.proofs.Common.{◌+◌, ◌≤◌, ◌∙◌, ℤ, arith, rules, 
 use Rattle.std.specs.Int.{w64, w128}
 use Rattle.std.proofs.lemmas.Int.{ints, to_z-of_z}
 use Rattle.tsp_format.specs.Limits.{most_nodes}
-use Rattle.tsp_branch.specs.states.OpenCases.{decisions_in}
+use Rattle.tsp_cases.specs.states.OpenCases.{decisions_in}
 use Rattle.tsp_branch.proofs.Sums.{sum_none, sum_more, size_more, sum_computed}
 use Rattle.tsp_branch.proofs.rows.AllowedRows.sum_of_least.Goals as goal
 

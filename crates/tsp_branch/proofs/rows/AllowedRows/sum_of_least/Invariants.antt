@@ -1,7 +1,7 @@
 -- The loop of `AllowedRows::sum_of_least` in src/rows.rt.
 use Rattle.tsp_theory.specs.CertificateNumbers.{IsSumSized}
-use Rattle.tsp_branch.specs.Rows.{IsSumOfLeast}
-use Rattle.tsp_branch.specs.states.OpenCases.{decisions_in}
+use Rattle.tsp_cases.specs.Rows.{IsSumOfLeast}
+use Rattle.tsp_cases.specs.states.OpenCases.{decisions_in}
 use Rattle.tsp_branch.proofs.rows.AllowedRows.sum_of_least.Given as goal
 
 abbrev pub invariant-nodes : goal.invariant-nodes

@@ -1,6 +1,0 @@
--- The goals of `cases_have_no_cycle` in src/laws.rt: what it ensures.
-use Rattle.tsp_branch.proofs.CaseLaws.{cases_have_no_cycle}
-use Rattle.tsp_branch.proofs.laws.cases_have_no_cycle.Goals as goal
-
-pub returns : goal.returns
-returns c = cases_have_no_cycle

@@ -1,6 +1,0 @@
--- The goals of `cycles_keep_leaves` in src/laws.rt: what it ensures.
-use Rattle.tsp_branch.proofs.CaseLaws.{cycles_keep_leaves}
-use Rattle.tsp_branch.proofs.laws.cycles_keep_leaves.Goals as goal
-
-pub returns : goal.returns
-returns c = cycles_keep_leaves

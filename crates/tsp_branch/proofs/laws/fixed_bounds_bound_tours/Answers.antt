@@ -1,6 +1,0 @@
--- The goals of `fixed_bounds_bound_tours` in src/laws.rt: what it ensures.
-use Rattle.tsp_branch.proofs.Decisions.{fixed_bounds_bound_tours}
-use Rattle.tsp_branch.proofs.laws.fixed_bounds_bound_tours.Goals as goal
-
-pub returns : goal.returns
-returns c = fixed_bounds_bound_tours c.adjusted_bounds_bound_cycles.ensures.cycles

@@ -1,6 +1,0 @@
--- The goals of `stacks_hold_cases` in src/laws.rt: what it ensures.
-use Rattle.tsp_branch.proofs.CaseLaws.{stacks_hold_cases}
-use Rattle.tsp_branch.proofs.laws.stacks_hold_cases.Goals as goal
-
-pub returns-clause-leaf : goal.returns-clause-leaf
-returns-clause-leaf c = stacks_hold_cases

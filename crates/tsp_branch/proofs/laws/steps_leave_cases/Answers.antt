@@ -1,6 +1,0 @@
--- The goals of `steps_leave_cases` in src/laws.rt: what it ensures.
-use Rattle.tsp_branch.proofs.CaseLaws.{open_start, open_branch, open_leaf, open_none, open_end}
-use Rattle.tsp_branch.proofs.laws.steps_leave_cases.Goals as goal
-
-pub returns : goal.returns
-returns c = record { start = open_start; branch = open_branch; leaf = open_leaf; none = open_none; end = open_end }

@@ -1,0 +1,38 @@
+-- The judgement on the leaves of a tree: its bound, or the first leaf that is bad.
+use Rattle.std.specs.Prelude.{◌≡◌, ℕ, ◌≤◌, length, Bool, List, Option, Some, None, IfSome, ◌⊎◌, ℤ, ◌≤ℤ◌}
+use Rattle.tsp_format.specs.Steps as listed
+use Rattle.tsp_theory.specs.CertificateNumbers.{IsBoundSized}
+use Rattle.tsp_branch.specs.declared.judged.JudgedLeaves.{JudgedLeaves}
+use Rattle.tsp_branch.specs.declared.judged.JudgedLeaves.TheVariants as judged
+use Rattle.tsp_families.specs.declared.family.Crossings.{Crossings}
+use Rattle.tsp_cases.specs.Families.{Family}
+use Rattle.tsp_cases.specs.declared.decision.Decision.{Decision}
+use Rattle.tsp_cases.specs.Decisions.{decided_number}
+use Rattle.tsp_cases.specs.CaseTrees.{IsCaseTree, IsCaseTreeBound, BoundsIfAny}
+use Rattle.tsp_cases.specs.Listed.{listed_steps, AreGoodLeaves, IsFirstBadLeaf}
+
+-- Where all leaves are good, the bound, or none where no leaf has one; else the first leaf that isn't.
+abbrev pub AreJudgedLeaves : Bool → ℕ → (ℕ → ℕ → ℤ) → ℤ → List Family → List Crossings → List Decision → List listed.Step
+    → JudgedLeaves
+    → Type 0
+AreJudgedLeaves directed n cost scale families crossed given steps (judged.Bound found) =
+    IsCaseTree n families given (listed_steps n (length crossed) steps)
+    × IsCaseTreeBound directed n cost scale decided_number families given (listed_steps n (length crossed) steps) found
+    × AreGoodLeaves n crossed steps
+AreJudgedLeaves directed n cost scale families crossed given steps (judged.BadLeaf leaf) = IsFirstBadLeaf n crossed steps leaf
+
+-- Then the bound is at most the length of every cycle that keeps the given decisions, and where there is none, no cycle does.
+abbrev pub BoundsCycles : Bool → ℕ → (ℕ → ℕ → ℤ) → List Decision → JudgedLeaves → Type 0
+BoundsCycles directed n cost given (judged.Bound found) = BoundsIfAny directed n cost given found
+BoundsCycles directed n cost given (judged.BadLeaf leaf) = Unit {0}
+
+-- Sums with it fit 128 bits.
+abbrev pub AreSizedLeaves : JudgedLeaves → Type 0
+AreSizedLeaves (judged.Bound found) = IfSome found IsBoundSized
+AreSizedLeaves (judged.BadLeaf leaf) = Unit {0}
+
+-- the lower one of a bound and the lowest so far, where there are both; else the one that there is
+abbrev pub IsLowest : Option ℤ → Option ℤ → Option ℤ → Type 0
+IsLowest None own lower = lower ≡ own
+IsLowest (Some lowest) None lower = lower ≡ Some lowest
+IsLowest (Some lowest) (Some own) lower = ((lower ≡ Some lowest) × (lowest ≤ℤ own)) ⊎ ((lower ≡ Some own) × (own ≤ℤ lowest))

@@ -1,0 +1,12 @@
+-- The stack of a cycle over the steps, whose last decision is at the end of a list.
+use Rattle.std.proofs.Common.{◌≡◌, ◌+◌, false, List, [], ◌∷◌, ◌++◌, refl, ap, ◌∙◌}
+use Rattle.std.proofs.lemmas.List.{reverse-append}
+use Rattle.tsp_cases.specs.declared.decision.Decision.{Decision}
+use Rattle.tsp_cases.specs.Cases.{next_stack}
+use Rattle.tsp_cases.specs.states.Decided.{stack_of}
+
+pub stack_more : (xs : List Decision) (d : Decision) → stack_of (xs ++ d ∷ []) ≡ d ∷ stack_of xs
+stack_more xs d = reverse-append xs (d ∷ [])
+
+pub next_avoided : (d : Decision) (xs : List Decision) → d.taken ≡ false → next_stack (stack_of (xs ++ d ∷ [])) ≡ next_stack (stack_of xs)
+next_avoided d xs h = ap next_stack (stack_more xs d) ∙ rw h refl

@@ -1,0 +1,11 @@
+-- The goals of `examples_of_cases` in src/examples.rt: what it ensures.
+use Rattle.tsp_cases.proofs.SmallCases.{once, turned, turned_arcs, given_too}
+use Rattle.tsp_cases.proofs.examples.examples_of_cases.Goals as goal
+
+pub returns : goal.returns
+returns c = record {
+  once = once;
+  turned = turned;
+  arcs = turned_arcs;
+  given = given_too;
+}

@@ -1,0 +1,14 @@
+-- The loop of `are_teeth` in src/good_families.rt.
+use Rattle.std.proofs.Common.{◌≡◌, ℕ, length, drop}
+use Rattle.std.specs.Prelude.{◌↔◌}
+use Rattle.tsp_families.specs.FamilySets.{AreSetsOf, lists_of}
+use Rattle.tsp_cases.specs.states.Marked.{is_marked, AddsNoOther, AreTeeth}
+use Rattle.tsp_cases.proofs.good_families.are_teeth.Given as goal
+
+abbrev pub invariant-teeth : goal.invariant-teeth
+invariant-teeth l = record {
+  long : length l.used ≡ length l.fn.used;
+  others : AddsNoOther l.mark l.fn.used l.used;
+  rest : (n : ℕ) → AreSetsOf n l.teeth → AreTeeth n (is_marked l.handles l.mark) (is_marked l.used l.mark) (lists_of (drop l.tooth-index l.teeth))
+      ↔ AreTeeth n (is_marked l.handles l.mark) (is_marked l.fn.used l.mark) (lists_of l.teeth);
+}

@@ -1,0 +1,15 @@
+-- The goals of `crossings_of` in src/good_families.rt: what it ensures.
+use Rattle.std.proofs.Common.{length}
+use Rattle.std.proofs.lemmas.Bool.{iff_false}
+use Rattle.tsp_families.specs.FamilySets.{lists_of}
+use Rattle.tsp_cases.proofs.FamilyKinds.{known_found, lists_long}
+use Rattle.tsp_cases.proofs.good_families.crossings_of.Goals as goal
+
+pub returns-then-is_comb-clause-found : goal.returns-then-is_comb-clause-found
+returns-then-is_comb-clause-found c =
+    let sets = c.args.family.now.sets.now in
+    known_found c.args.family.now.nodes (length sets) (lists_of sets) c.known_crossings.result (lists_long sets) c.known_crossings.ensures.least c.known_crossings.ensures.most
+    ((c.is_comb.ensures.comb c.args.family.now.nodes c.requires.handle_places c.args.family.now.inside).0 c.if-is_comb.true)
+
+pub returns-clause-found : goal.returns-clause-found
+returns-clause-found c = c.other_crossings.ensures.found (λ good. iff_false (c.is_comb.ensures.comb c.args.family.now.nodes c.requires.handle_places c.args.family.now.inside) c.if-is_comb.false good)

@@ -1,0 +1,20 @@
+-- The loop of `judge_families` in src/good_families.rt.
+use Rattle.std.proofs.Common.{◌≡◌, ◌<◌, ◌+◌, ℕ, length}
+use Rattle.tsp_families.specs.FamilySets.{families_in}
+use Rattle.tsp_cases.specs.states.FamilyNumbers.{AreSmallCrossings}
+use Rattle.tsp_cases.specs.states.Marked.{AreUnmarked}
+use Rattle.tsp_cases.proofs.FirstBad.{HaveNumbers}
+use Rattle.tsp_cases.proofs.good_families.judge_families.Given as goal
+
+abbrev pub invariant-families : goal.invariant-families
+invariant-families g l =
+    let n : ℕ = g.C.Costs.nodes l.tree.costs.now in
+    record {
+      handles_long : length l.handles.items ≡ n + 1;
+      teeth_long : length l.teeth.items ≡ n + 1;
+      handles_fresh : (mark : ℕ) → l.number < mark → AreUnmarked l.handles.items mark;
+      teeth_fresh : (mark : ℕ) → l.number < mark → AreUnmarked l.teeth.items mark;
+      many : length l.crossed.items ≡ l.number;
+      have : HaveNumbers n (families_in l.tree.families.now) l.crossed.items;
+      small : AreSmallCrossings l.crossed.items;
+    }

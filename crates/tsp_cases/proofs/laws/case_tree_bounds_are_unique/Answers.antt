@@ -1,0 +1,6 @@
+-- The goals of `case_tree_bounds_are_unique` in src/laws.rt: what it ensures.
+use Rattle.tsp_cases.proofs.Certificates.{case_tree_bounds_are_unique}
+use Rattle.tsp_cases.proofs.laws.case_tree_bounds_are_unique.Goals as goal
+
+pub returns : goal.returns
+returns c = case_tree_bounds_are_unique

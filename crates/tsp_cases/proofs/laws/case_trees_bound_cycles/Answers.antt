@@ -1,0 +1,13 @@
+-- The goals of `case_trees_bound_cycles` in src/laws.rt: what it ensures.
+use Rattle.tsp_cases.proofs.Certificates.{LeafLaws, case_trees_bound_cycles, certificates_bound_tours, no_bound_no_tour}
+use Rattle.tsp_cases.proofs.laws.case_trees_bound_cycles.Goals as goal
+
+pub returns : goal.returns
+returns c =
+    let laws : LeafLaws = record {
+      trees = c.leaf_bounds_bound_cycles.ensures.cycles;
+      rows = c.row_leaf_bounds_bound_cycles.ensures;
+      no_link = c.links_are_allowed.ensures.none;
+    } in
+    let cycles = case_trees_bound_cycles laws c.cases_bound_cycles.ensures c.cases_have_no_cycle.ensures in
+    record { cycles = cycles; tours = certificates_bound_tours cycles; none = no_bound_no_tour cycles }

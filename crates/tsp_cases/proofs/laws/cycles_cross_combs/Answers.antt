@@ -1,0 +1,17 @@
+-- The goals of `cycles_cross_combs` in src/laws.rt: what it ensures.
+use Rattle.tsp_theory.proofs.CostLaws.{Laws}
+use Rattle.tsp_cases.proofs.Combs.{cycles_cross_combs}
+use Rattle.tsp_cases.proofs.laws.cycles_cross_combs.Goals as goal
+
+pub returns : goal.returns
+returns c =
+    let laws : Laws = record {
+      permutation = c.cycles_are_permutations.ensures.permutation;
+      sum_of_cycle = c.cycles_are_permutations.ensures.sum;
+      by_first = c.lengths_add_up.ensures.by_first;
+      by_second = c.lengths_add_up.ensures.by_second;
+      sum = c.lengths_add_up.ensures.sum;
+      scale = c.lengths_add_up.ensures.scale;
+      no_loops = c.cycles_have_no_loops.ensures;
+    } in
+    cycles_cross_combs laws

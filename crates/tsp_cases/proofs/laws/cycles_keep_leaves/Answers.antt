@@ -1,0 +1,6 @@
+-- The goals of `cycles_keep_leaves` in src/laws.rt: what it ensures.
+use Rattle.tsp_cases.proofs.CaseLaws.{cycles_keep_leaves}
+use Rattle.tsp_cases.proofs.laws.cycles_keep_leaves.Goals as goal
+
+pub returns : goal.returns
+returns c = cycles_keep_leaves

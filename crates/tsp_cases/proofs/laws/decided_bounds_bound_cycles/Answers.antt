@@ -1,0 +1,6 @@
+-- The goals of `decided_bounds_bound_cycles` in src/laws.rt: what it ensures.
+use Rattle.tsp_cases.proofs.Decisions.{decided_bounds_bound_cycles}
+use Rattle.tsp_cases.proofs.laws.decided_bounds_bound_cycles.Goals as goal
+
+pub returns : goal.returns
+returns c = decided_bounds_bound_cycles c.adjusted_bounds_bound_cycles.ensures.cycles

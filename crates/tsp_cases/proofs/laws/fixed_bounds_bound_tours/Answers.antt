@@ -1,0 +1,6 @@
+-- The goals of `fixed_bounds_bound_tours` in src/laws.rt: what it ensures.
+use Rattle.tsp_cases.proofs.Decisions.{fixed_bounds_bound_tours}
+use Rattle.tsp_cases.proofs.laws.fixed_bounds_bound_tours.Goals as goal
+
+pub returns : goal.returns
+returns c = fixed_bounds_bound_tours c.adjusted_bounds_bound_cycles.ensures.cycles

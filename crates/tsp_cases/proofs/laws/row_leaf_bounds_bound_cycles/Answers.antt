@@ -1,0 +1,17 @@
+-- The goals of `row_leaf_bounds_bound_cycles` in src/laws.rt: what it ensures.
+use Rattle.tsp_theory.proofs.CostLaws.{Laws}
+use Rattle.tsp_cases.proofs.RowLeaves.{row_leaf_bounds_bound_cycles}
+use Rattle.tsp_cases.proofs.laws.row_leaf_bounds_bound_cycles.Goals as goal
+
+pub returns : goal.returns
+returns c =
+    let laws : Laws = record {
+      permutation = c.cycles_are_permutations.ensures.permutation;
+      sum_of_cycle = c.cycles_are_permutations.ensures.sum;
+      by_first = c.lengths_add_up.ensures.by_first;
+      by_second = c.lengths_add_up.ensures.by_second;
+      sum = c.lengths_add_up.ensures.sum;
+      scale = c.lengths_add_up.ensures.scale;
+      no_loops = c.cycles_have_no_loops.ensures;
+    } in
+    row_leaf_bounds_bound_cycles laws c.cycles_cross_families.ensures c.sums_are_below_cycles.ensures

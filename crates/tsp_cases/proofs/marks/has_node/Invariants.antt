@@ -1,0 +1,7 @@
+-- The loop of `has_node` in src/marks.rt.
+use Rattle.std.proofs.Common.{◌≡◌, ◌<◌, ℕ, get_or}
+use Rattle.tsp_cases.specs.states.Marked.{is_marked}
+use Rattle.tsp_cases.proofs.marks.has_node.Given as goal
+
+abbrev pub invariant-nodes : goal.invariant-nodes
+invariant-nodes l = (k default : ℕ) → k < l.node-index → is_marked l.marks l.mark (get_or l.nodes k default) ≡ l.wanted → ⊥

@@ -1,0 +1,7 @@
+-- The loop of `leaves_one_out` in src/marks.rt.
+use Rattle.std.proofs.Common.{◌≡◌, ◌≤◌, ◌<◌, ℕ, true}
+use Rattle.tsp_cases.specs.states.Marked.{is_marked}
+use Rattle.tsp_cases.proofs.marks.leaves_one_out.Given as goal
+
+abbrev pub invariant-places : goal.invariant-places
+invariant-places l = (node : ℕ) → 1 ≤ node → node < l.place → is_marked l.marks l.mark node ≡ true

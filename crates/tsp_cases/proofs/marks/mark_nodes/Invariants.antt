@@ -1,0 +1,13 @@
+-- The loop of `mark_nodes` in src/marks.rt.
+use Rattle.std.proofs.Common.{◌≡◌, ◌||◌, ℕ, length, take}
+use Rattle.tsp_families.specs.Crossed.{has}
+use Rattle.tsp_cases.specs.states.Marked.{is_marked, AreNew, AddsNoOther}
+use Rattle.tsp_cases.proofs.marks.mark_nodes.Given as goal
+
+abbrev pub invariant-nodes : goal.invariant-nodes
+invariant-nodes l = record {
+  long : length l.marks ≡ length l.fn.marks;
+  own : (x : ℕ) → is_marked l.marks l.mark x ≡ (is_marked l.fn.marks l.mark x || has (take l.node-index l.nodes) x);
+  new : AreNew (is_marked l.fn.marks l.mark) (take l.node-index l.nodes);
+  others : AddsNoOther l.mark l.fn.marks l.marks;
+}

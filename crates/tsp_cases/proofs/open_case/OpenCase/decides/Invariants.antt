@@ -1,0 +1,9 @@
+-- The loop of `OpenCase::decides` in src/open_case.rt.
+use Rattle.std.proofs.Common.{◌≡◌, ◌<◌, ℕ, false}
+use Rattle.std.specs.Prelude.{slice_index_or}
+use Rattle.tsp_cases.specs.declared.decision.Decision.{Decision}
+use Rattle.tsp_cases.specs.Decisions.{is_same}
+use Rattle.tsp_cases.proofs.open_case.OpenCase.decides.Given as goal
+
+abbrev pub invariant-decisions : goal.invariant-decisions
+invariant-decisions l = (k : ℕ) (d : Decision) → k < l.decision-index → is_same l.self.by_node.directed l.pair (slice_index_or l.own k d).pair ≡ false

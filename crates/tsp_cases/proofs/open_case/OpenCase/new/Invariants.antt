@@ -1,0 +1,14 @@
+-- The loop of `OpenCase::new` in src/open_case.rt.
+use Rattle.std.proofs.Common.{◌≡◌, ◌≤◌, drop, length}
+use Rattle.tsp_cases.specs.states.OpenCases.{AreByNode}
+use Rattle.tsp_cases.proofs.open_case.OpenCase.new.Given as goal
+
+abbrev pub invariant-given : goal.invariant-given
+invariant-given l = record {
+  most : l.left ≤ length l.given;
+  by_node : AreByNode l.nodes l.by_node (drop l.left l.given);
+  directed : l.by_node.directed ≡ l.directed;
+}
+
+abbrev pub decreases-given : goal.decreases-given
+decreases-given l = l.left

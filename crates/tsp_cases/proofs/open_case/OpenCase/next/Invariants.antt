@@ -1,0 +1,18 @@
+-- The loop of `OpenCase::next` in src/open_case.rt.
+use Rattle.std.proofs.Common.{◌≡◌, ◌≤◌, ℕ, length}
+use Rattle.tsp_cases.specs.Cases.{next_stack}
+use Rattle.tsp_cases.specs.states.Decided.{stack_of}
+use Rattle.tsp_cases.specs.states.OpenCases.{IsOpenCase}
+use Rattle.tsp_cases.proofs.open_case.OpenCase.next.Given as goal
+
+abbrev pub invariant-leave : goal.invariant-leave
+invariant-leave l = record {
+  case : (n : ℕ) → IsOpenCase n l.fn.self → IsOpenCase n l.self;
+  same : next_stack (stack_of l.fn.self.stack.items) ≡ next_stack (stack_of l.self.stack.items);
+  few : length l.self.stack.items ≤ length l.fn.self.stack.items;
+  given : l.self.given.now ≡ l.fn.self.given.now;
+  directed : l.self.by_node.directed ≡ l.fn.self.by_node.directed;
+}
+
+abbrev pub decreases-leave : goal.decreases-leave
+decreases-leave l = length l.self.stack.items

@@ -1,0 +1,13 @@
+-- The loop of `have_each_once` in src/other_families.rt.
+use Rattle.std.proofs.Common.{◌≡◌, ◌<◌, ◌+◌, ℕ, List, length, get_or}
+use Rattle.tsp_families.specs.FamilySets.{lists_of}
+use Rattle.tsp_cases.specs.GoodFamilies.{HasEachOnce}
+use Rattle.tsp_cases.specs.states.Marked.{AreUnmarked}
+use Rattle.tsp_cases.proofs.other_families.have_each_once.Given as goal
+
+abbrev pub invariant-sets : goal.invariant-sets
+invariant-sets l = record {
+  long : length l.marks.items ≡ l.family.nodes + 1;
+  fresh : (mark : ℕ) → l.index < mark → AreUnmarked l.marks.items mark;
+  once : (k : ℕ) (d : List ℕ) → k < l.index → HasEachOnce (get_or (lists_of l.family.sets.now) k d);
+}

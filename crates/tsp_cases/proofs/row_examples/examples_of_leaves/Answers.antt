@@ -1,0 +1,9 @@
+-- The goals of `examples_of_leaves` in src/row_examples.rt: what it ensures.
+use Rattle.tsp_cases.proofs.SmallRows.{leaf_alone, leaf_with_arc}
+use Rattle.tsp_cases.proofs.row_examples.examples_of_leaves.Goals as goal
+
+pub returns-clause-alone : goal.returns-clause-alone
+returns-clause-alone c = leaf_alone
+
+pub returns-clause-taken : goal.returns-clause-taken
+returns-clause-taken c = leaf_with_arc

@@ -1,0 +1,19 @@
+-- Small trees of cases: some that decide each pair once, and some that don't.
+use Rattle.std.specs.Prelude.{ℕ, Bool, List, [], ◌∷◌}
+use Rattle.std.specs.List.{All}
+use Rattle.tsp_format.specs.Steps as listed
+use Rattle.tsp_cases.specs.declared.decision.Decision.{Decision}
+use Rattle.tsp_cases.specs.Decisions.{DecideOnce}
+use Rattle.tsp_cases.specs.Cases.{leaves_of, cases_of}
+use Rattle.tsp_cases.specs.Listed.{listed_steps}
+
+-- no case of four nodes decides a pair twice
+abbrev pub AreOnce : Bool → List Decision → List listed.Step → Type 0
+AreOnce directed given steps = All (DecideOnce directed) (cases_of (leaves_of (given ∷ []) (listed_steps 4 0 steps)))
+
+abbrev pub AreNotOnce : Bool → List Decision → List listed.Step → Type 0
+AreNotOnce directed given steps = AreOnce directed given steps → ⊥
+
+-- the second branch is in the tree with the first one's pair
+abbrev pub branched : ℕ → ℕ → ℕ → ℕ → List listed.Step
+branched a b c d = listed.Branch a b ∷ listed.Branch c d ∷ listed.Leaf [] ∷ listed.Leaf [] ∷ listed.Leaf [] ∷ []

@@ -1,0 +1,12 @@
+-- The judgement on families: where none is bad, they are lent on; else the first bad one is reported.
+use Rattle.std.specs.Prelude.{◌≡◌, ℕ, List}
+use Rattle.std.specs.Global.{Vec}
+use Rattle.tsp_families.specs.FamilySets.{families_in}
+use Rattle.tsp_cases.specs.GoodFamilies.{AreFamilies, IsFirstBadFamily}
+use Rattle.tsp_cases.specs.declared.judged.JudgedFamilies.{JudgedFamilies}
+use Rattle.tsp_cases.specs.declared.judged.JudgedFamilies.TheVariants as judged
+
+abbrev pub AreFamiliesJudged : ℕ → List (Vec (Vec ℕ)) → JudgedFamilies → Type 0
+AreFamiliesJudged n families (judged.Good found) =
+    (found.nodes ≡ n) × (found.lent.now ≡ families) × AreFamilies n (families_in families) found.crossed.items
+AreFamiliesJudged n families (judged.Bad first) = IsFirstBadFamily n (families_in families) first

@@ -1,0 +1,22 @@
+-- The judgement on the cases of a tree: where no branch comes twice, they are lent on; else the first one that does is reported.
+use Rattle.std.specs.Prelude.{◌≡◌, ℕ, Bool, List, ℤ, Some, None}
+use Rattle.tsp_format.specs.declared.steps.TreeStep.{TreeStep}
+use Rattle.tsp_format.specs.states.TreeSteps.{steps_of}
+use Rattle.tsp_cases.specs.declared.decision.Decision.{Decision}
+use Rattle.tsp_cases.specs.Twice.{AreBranchesJudged}
+use Rattle.tsp_cases.specs.declared.tree_cases.Cases.{Cases}
+use Rattle.tsp_cases.specs.declared.judged.JudgedCases.{JudgedCases}
+use Rattle.tsp_cases.specs.declared.judged.JudgedCases.TheVariants as judged
+
+-- cases of these nodes with these parts
+pub record AreCasesOf (n : ℕ) (directed : Bool) (scale : ℤ) (given : List Decision) (steps : List TreeStep) (cases : Cases) : Type 0 where
+  pub nodes : cases.nodes ≡ n
+  pub direction : cases.directed ≡ directed
+  pub scale_is : cases.scale ≡ scale
+  pub given_are : cases.given.now ≡ given
+  pub steps_are : cases.steps.now ≡ steps
+
+abbrev pub AreCasesJudged : ℕ → Bool → ℤ → List Decision → List TreeStep → JudgedCases → Type 0
+AreCasesJudged n directed scale given steps (judged.Good cases) =
+    AreCasesOf n directed scale given steps cases × AreBranchesJudged directed given (steps_of steps) None
+AreCasesJudged n directed scale given steps (judged.Twice branch) = AreBranchesJudged directed given (steps_of steps) (Some branch)

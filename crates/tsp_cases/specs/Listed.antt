@@ -1,0 +1,79 @@
+-- A certificate as it is listed: each leaf by what changes since the leaf before it.
+use Rattle.std.specs.Prelude.{◌≢◌, ℕ, ◌+◌, ◌-◌, ◌^◌, ◌<◌, ◌≤◌, length, List, [], ◌∷◌, take, drop, replicate, slice_set, slice_index_or, ℤ, pos, ◌+ℤ◌}
+use Rattle.std.specs.List.{All}
+use Rattle.tsp_format.specs.Nodes.{IsNode}
+use Rattle.tsp_format.specs.Steps as listed
+use Rattle.tsp_theory.specs.CertificateNumbers.{entry}
+use Rattle.tsp_families.specs.declared.family.Crossings.{Crossings}
+use Rattle.tsp_cases.specs.Cases.{LeafNumbers, CaseStep, Branch, Leaf}
+use Rattle.tsp_cases.specs.GoodNumbers.{AreGoodNumbers}
+
+-- ---- the numbers of a leaf
+
+-- numbers of which one grows by a difference; of which some do, one after the other
+abbrev pub grown : ℕ × ℤ → List ℤ → List ℤ
+grown change numbers = slice_set numbers (change.0 - 1) (entry numbers change.0 +ℤ change.1)
+
+abbrev pub all_grown : List (ℕ × ℤ) → List ℤ → List ℤ
+all_grown [] numbers = numbers
+all_grown (change ∷ changes) numbers = all_grown changes (grown change numbers)
+
+-- the potentials of n nodes, and after them the multipliers of the combs
+abbrev pub split_at : ℕ → List ℤ → LeafNumbers
+split_at n numbers = record { potentials = take n numbers; multipliers = drop n numbers }
+
+-- ---- the steps
+
+-- the steps of the tree, where the leaf before had these numbers
+abbrev pub steps_from : ℕ → List ℤ → List listed.Step → List CaseStep
+steps_from n numbers [] = []
+steps_from n numbers (listed.Branch a b ∷ steps) = Branch (a, b) ∷ steps_from n numbers steps
+steps_from n numbers (listed.Leaf changes ∷ steps) =
+    Leaf (split_at n (all_grown changes numbers)) ∷ steps_from n (all_grown changes numbers) steps
+
+-- before the first leaf all numbers are 0
+abbrev pub no_numbers_of : ℕ → ℕ → List ℤ
+no_numbers_of n combs = replicate (n + combs) (pos 0)
+
+abbrev pub listed_steps : ℕ → ℕ → List listed.Step → List CaseStep
+listed_steps n combs steps = steps_from n (no_numbers_of n combs) steps
+
+-- each branch is on two different nodes, and the differences of a leaf can be counted
+abbrev pub IsStepOf : ℕ → listed.Step → Type 0
+IsStepOf n (listed.Branch a b) = IsNode n a × IsNode n b × (a ≢ b)
+IsStepOf n (listed.Leaf changes) = length changes < 2 ^ 32
+
+-- ---- good leaves
+
+-- each index is that of a node or of a comb, and the numbers are good
+pub record IsGoodLeaf (n : ℕ) (crossed : List Crossings) (numbers : List ℤ) (changes : List (ℕ × ℤ)) : Type 0 where
+  pub indexes : All (λ change. IsNode (n + length crossed) change.0) changes
+  pub numbers_are : AreGoodNumbers n crossed (split_at n (all_grown changes numbers))
+
+-- the leaves, each by its differences
+abbrev pub leaf_changes : List listed.Step → List (List (ℕ × ℤ))
+leaf_changes [] = []
+leaf_changes (listed.Branch a b ∷ steps) = leaf_changes steps
+leaf_changes (listed.Leaf changes ∷ steps) = changes ∷ leaf_changes steps
+
+-- numbers that grow by the differences of all these leaves
+abbrev pub after_leaves : List (List (ℕ × ℤ)) → List ℤ → List ℤ
+after_leaves [] numbers = numbers
+after_leaves (changes ∷ leaves) numbers = after_leaves leaves (all_grown changes numbers)
+
+-- the leaf at a place, from 1 on, is good: its differences are added to what all leaves before it give
+abbrev pub IsGoodAt : ℕ → List Crossings → List (List (ℕ × ℤ)) → ℕ → Type 0
+IsGoodAt n crossed leaves place =
+    IsGoodLeaf n crossed (after_leaves (take (place - 1) leaves) (no_numbers_of n (length crossed)))
+    (slice_index_or leaves (place - 1) [])
+
+abbrev pub AreGoodLeaves : ℕ → List Crossings → List listed.Step → Type 0
+AreGoodLeaves n crossed steps =
+    (place : ℕ) → 1 ≤ place → place ≤ length (leaf_changes steps) → IsGoodAt n crossed (leaf_changes steps) place
+
+-- the first leaf that isn't good, counted from 1
+pub record IsFirstBadLeaf (n : ℕ) (crossed : List Crossings) (steps : List listed.Step) (leaf : ℕ) : Type 0 where
+  pub least : 1 ≤ leaf
+  pub most : leaf ≤ length (leaf_changes steps)
+  pub bad : IsGoodAt n crossed (leaf_changes steps) leaf → ⊥
+  pub before : (earlier : ℕ) → 1 ≤ earlier → earlier < leaf → IsGoodAt n crossed (leaf_changes steps) earlier

@@ -1,0 +1,33 @@
+-- Small combs that are bad, and small trees with a branch that comes twice.
+use Rattle.std.specs.Prelude.{ℕ, Bool, List, [], ◌∷◌, ℤ}
+use Rattle.tsp_format.specs.Steps as listed
+use Rattle.tsp_cases.specs.declared.decision.Decision.{Decision}
+use Rattle.tsp_cases.specs.GoodFamilies.{IsGoodComb}
+use Rattle.tsp_cases.specs.Twice.{IsFirstTwice}
+
+-- sets of six nodes are neither a lone set nor those of a comb, and that they are
+abbrev pub IsNotGood : List (List ℕ) → Type 0
+IsNotGood sets = IsGoodComb 6 sets → ⊥
+
+abbrev pub IsGood : List (List ℕ) → Type 0
+IsGood sets = IsGoodComb 6 sets
+
+-- the teeth 1 4, 2 5 and 3 6
+abbrev pub three_teeth : List (List ℕ)
+three_teeth = (1 ∷ 4 ∷ []) ∷ (2 ∷ 5 ∷ []) ∷ (3 ∷ 6 ∷ []) ∷ []
+
+-- this branch is the first that comes twice
+abbrev pub TwiceAt : Bool → List Decision → List listed.Step → ℕ → Type 0
+TwiceAt directed given steps branch = IsFirstTwice directed given steps branch
+
+abbrev pub branches : ℕ → ℕ → ℕ → ℕ → List listed.Step
+branches a b c d = listed.Branch a b ∷ listed.Branch c d ∷ []
+
+-- the second branch is in the tree without the first one's pair
+abbrev pub branches_apart : ℕ → ℕ → ℕ → ℕ → List (ℕ × ℤ) → List listed.Step
+branches_apart a b c d changes = listed.Branch a b ∷ listed.Leaf changes ∷ listed.Branch c d ∷ []
+
+-- 1 3 on both sides of 1 2, and then once more
+abbrev pub on_both_sides : List (ℕ × ℤ) → List listed.Step
+on_both_sides changes = listed.Branch 1 2 ∷ listed.Branch 1 3 ∷ listed.Leaf changes ∷ listed.Leaf changes ∷ listed.Branch 1 3
+    ∷ listed.Leaf changes ∷ listed.Branch 3 1 ∷ []

@@ -1,0 +1,6 @@
+pub mod FamilyNumbers
+pub mod Marked
+pub mod Decided
+pub mod OpenCases
+pub mod Lent
+pub mod Places

@@ -1,0 +1,50 @@
+-- What decisions change: each the weight of its pair, by the same number. And the stack of decisions of code.
+use Rattle.std.specs.Prelude.{◌≡◌, ◌≢◌, ◌<◌, ℕ, Bool, true, false, if◌then◌else◌, List, [], reverse, Some, None, ℤ, pos, neg_ℤ, ◌+ℤ◌, ◌⊎◌}
+use Rattle.std.specs.Int.{w64, int_wrap}
+use Rattle.tsp_format.specs.Nodes.{IsNode}
+use Rattle.tsp_theory.specs.Length.{sum_int_by}
+use Rattle.tsp_theory.specs.CertificateNumbers.{IsFromTo}
+use Rattle.tsp_theory.specs.Adjusted.{is_same_pair, adjusted}
+use Rattle.tsp_cases.specs.declared.decision.Decision.{Decision}
+use Rattle.tsp_cases.specs.Decisions.{on_taken, on_avoided, decided_number}
+use Rattle.tsp_cases.specs.Cases.{next_stack}
+
+-- on two different nodes
+abbrev pub IsDecision : ℕ → Decision → Type 0
+IsDecision n decision = IsNode n decision.pair.0 × IsNode n decision.pair.1 × (decision.pair.0 ≢ decision.pair.1)
+
+-- on two different numbers below this one
+abbrev pub IsOnPlaces : ℕ → Decision → Type 0
+IsOnPlaces places decision = (decision.pair.0 < places) × (decision.pair.1 < places) × (decision.pair.0 ≢ decision.pair.1)
+
+-- weights less the number of each taken pair, and more by that of each avoided one
+abbrev pub decided : List Decision → (ℕ → ℕ → ℤ) → ℕ → ℕ → ℤ
+decided decisions w = adjusted (on_taken decided_number decisions) (on_avoided decided_number decisions) w
+
+-- what a decision adds to the weight of two nodes, and what several do
+abbrev pub signed : Bool → ℤ
+signed taken = if taken then (neg_ℤ decided_number) else decided_number
+
+abbrev pub change_of : Decision → ℕ → ℕ → ℤ
+change_of decision i j = if is_same_pair decision.pair (i, j) then signed decision.taken else pos 0
+
+abbrev pub changes : List Decision → ℕ → ℕ → ℤ
+changes decisions i j = sum_int_by (λ decision. change_of decision i j) decisions
+
+-- no weight changes by more than one decision does
+abbrev pub AreFewChanges : List Decision → Type 0
+AreFewChanges case = (i j : ℕ) → IsFromTo (neg_ℤ decided_number) decided_number (changes case i j)
+
+-- a value as it was, where the pair is another one; else what is left of the sum with the number in 64 bits
+abbrev pub IsChanged : Decision → ℕ → ℕ → ℤ → ℤ → Type 0
+IsChanged decision i j old new = ((new ≡ old) × (change_of decision i j ≡ pos 0))
+    ⊎ (new ≡ int_wrap w64 (old +ℤ change_of decision i j))
+
+-- a stack of decisions as code has it, the last one at the end: as a case has it, the last one first
+abbrev pub stack_of : List Decision → List Decision
+stack_of decisions = reverse decisions
+
+-- what is left of a stack after a leaf, where a case is open; else nothing
+abbrev pub IsNextStack : List Decision → Bool → List Decision → Type 0
+IsNextStack old true new = next_stack (stack_of old) ≡ Some (stack_of new)
+IsNextStack old false new = (next_stack (stack_of old) ≡ None) × (new ≡ [])

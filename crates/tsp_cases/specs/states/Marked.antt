@@ -1,0 +1,37 @@
+-- Nodes of sets as code finds out that no two of them are the same: each gets a mark, by which it is known again.
+use Rattle.std.specs.Prelude.{◌≡◌, ◌≢◌, ℕ, ◌==◌, ◌||◌, ◌<◌, length, Bool, false, List, [], ◌∷◌, slice_index}
+use Rattle.std.specs.List.{All}
+use Rattle.tsp_families.specs.Crossed.{has}
+use Rattle.tsp_cases.specs.Combs.{IsTooth}
+use Rattle.tsp_cases.specs.GoodFamilies.{HasEachOnce}
+use Rattle.std.specs.Global.{Vec}
+
+-- whether a node has a mark
+abbrev pub is_marked : List ℕ → ℕ → ℕ → Bool
+is_marked marks mark node = slice_index marks node == mark
+
+abbrev pub AreUnmarked : List ℕ → ℕ → Type 0
+AreUnmarked marks mark = (node : ℕ) → is_marked marks mark node ≡ false
+
+-- marks that have a place for each node of sets
+abbrev pub HavePlaces : List ℕ → List (Vec ℕ) → Type 0
+HavePlaces marks sets = All (λ set. All (λ node. node < length marks) set.items) sets
+
+-- nodes of which none is used, and none appears twice
+pub record AreNew (used : ℕ → Bool) (nodes : List ℕ) : Type 0 where
+  pub unused : All (λ node. used node ≡ false) nodes
+  pub once : HasEachOnce nodes
+
+-- Where these are marked too, the nodes with the mark are those with it before and these; no other mark comes up.
+pub record AreMarked (mark : ℕ) (nodes old new : List ℕ) : Type 0 where
+  pub own : (node : ℕ) → is_marked new mark node ≡ (is_marked old mark node || has nodes node)
+  pub length : length new ≡ length old
+
+abbrev pub AddsNoOther : ℕ → List ℕ → List ℕ → Type 0
+AddsNoOther mark old new = (other : ℕ) → other ≢ mark → AreUnmarked old other → AreUnmarked new other
+
+-- sets that are teeth of a handle, of which none has a node that is used or in one before it
+abbrev pub AreTeeth : ℕ → (ℕ → Bool) → (ℕ → Bool) → List (List ℕ) → Type 0
+AreTeeth n handle used [] = Unit {0}
+AreTeeth n handle used (tooth ∷ teeth) =
+    AreNew used tooth × IsTooth n handle (has tooth) × AreTeeth n handle (λ node. used node || has tooth node) teeth

@@ -1,0 +1,51 @@
+//! The families of a certificate.
+
+ghost use Rattle.std.specs.Prelude.{◌≡◌, ◌≤◌, ◌<◌, ◌-◌, ◌^◌, length};
+ghost use Rattle.std.specs.List.{All};
+ghost use Rattle.tsp_families.specs.FamilySets.{families_in, AreFamiliesOf};
+ghost use Rattle.tsp_cases.specs.Families.{IsFamily};
+ghost use Rattle.tsp_cases.specs.FamiliesOfSets.{families_with};
+ghost use Rattle.tsp_cases.specs.GoodFamilies.{HasEachOnce};
+ghost use Rattle.tsp_cases.specs.states.FamilyNumbers.{AreSmallCrossings};
+
+use crate::set_place::SetPlace;
+use tsp_families::Crossings;
+
+/// Families of sets of nodes, all of them good, as a file lends them, and the numbers of each. Of a
+/// comb the handle is before the teeth, and a lone set is a handle without teeth.
+///
+/// [`judge_families`](crate::judge_families) makes such a value.
+#[derive(Drop)]
+pub struct Families<'a> {
+    pub nodes: u32,
+    pub lent: &'a [Vec<Vec<u32>>],
+    pub crossed: Vec<Crossings>,
+    pub ghost few_nodes: { nodes < 2 ^ 32 - 1 },
+    pub ghost as_many: { length crossed.items ≡ length lent.now },
+    pub ghost many: { length crossed.items ≡ length (families_in lent.now) },
+    pub ghost few: { length lent.now < 2 ^ 32 },
+    pub ghost few_sets: { All (λ sets. length sets.items < 2 ^ 32) lent.now },
+    pub ghost inside: { AreFamiliesOf nodes lent.now },
+    pub ghost are: { ∥ All (IsFamily nodes) (families_with crossed.items (families_in lent.now)) ∥₁ },
+    pub ghost once: { All (All HasEachOnce) (families_in lent.now) },
+    pub ghost small: { AreSmallCrossings crossed.items },
+    pub ghost some: { All (λ own. 1 ≤ own.most) crossed.items },
+}
+
+impl Families<'_> {
+    ghost use Rattle.std.specs.Prelude.{◌≡◌, [], slice_index_or};
+    ghost use Rattle.std.specs.List.{All};
+    ghost use Rattle.tsp_format.specs.Nodes.{IsNode};
+    ghost use Rattle.tsp_cases.specs.states.Places.{IsPlaceIn};
+    ghost use Rattle.tsp_cases.specs.states.Lent.{lent_in};
+
+    /// The nodes of the set at a place.
+    #[inline]
+    pub fn set_at(&self, place: SetPlace) -> &[u32]
+        requires { IsPlaceIn (lent_in self.now) place }
+        ensures set { result.now ≡ slice_index_or (slice_index_or (lent_in self.now) place.family []) place.set [] }
+        ensures nodes { All (IsNode self.now.nodes) result.now }
+    {
+        &self.lent[place.family as usize][place.set as usize]
+    }
+}

@@ -1,0 +1,181 @@
+//! Which family is bad, and the numbers of the others.
+
+ghost use Rattle.std.specs.Prelude.{◌≡◌, ◌≤◌, ◌<◌, ◌-◌, ◌+◌, ◌^◌, ◌↔◌, ℕ, IsTrue, [], length, true, IfOk, IfSome};
+ghost use Rattle.std.specs.List.{All};
+ghost use Rattle.tsp_format.specs.Nodes.{IsNode};
+ghost use Rattle.tsp_families.specs.Crossed.{has};
+ghost use Rattle.tsp_families.specs.FamilySets.{AreSetsOf, lists_of};
+ghost use Rattle.tsp_cases.specs.Combs.{IsTooth, comb_of};
+ghost use Rattle.tsp_cases.specs.Families.{IsLoneSet, least_crossings_of};
+ghost use Rattle.tsp_cases.specs.GoodFamilies.{IsGoodComb, IsToothCount};
+ghost use Rattle.tsp_cases.specs.JudgedSets.{AreFamiliesJudged};
+ghost use Rattle.tsp_cases.specs.states.FamilyNumbers.{AreFamilyNumbers, IsSmall};
+ghost use Rattle.tsp_cases.specs.states.Marked.{is_marked, AreUnmarked, HavePlaces, AddsNoOther, AreTeeth};
+
+use crate::case_tree::CaseTree;
+use crate::families::Families;
+use crate::judged::JudgedFamilies;
+use crate::marks::{has_node, leaves_one_out, mark_nodes};
+use crate::other_families::other_crossings;
+use std::alloc::Global;
+use tsp_families::{Crossings, NodeSets};
+use tsp_memory::{Refused, filled, push};
+use tsp_theory::Costs;
+
+/// The families of a tree, or the first one that isn't good, counted from 1: one with a node twice
+/// in a set, or one that is neither a lone set nor a comb and that has more than 63 sets, or whose
+/// nodes make more than 14 parts or one alone. Two nodes are in one part where they are in the same
+/// sets.
+///
+/// # Errors
+///
+/// Out of memory, of which it takes some for each node and for each family.
+pub fn judge_families<'a, C: Costs>(
+    alloc: Global,
+    tree: &CaseTree<'a, C>,
+) -> Result<JudgedFamilies<'a>, Refused>
+    ensures { IfOk result (AreFamiliesJudged (C.nodes tree.now.costs.now) tree.now.families.now) }
+{
+    let nodes = tree.costs.count();
+    let mut handles = filled(alloc, 0, nodes as usize + 1)?;
+    let mut teeth = filled(alloc, 0, nodes as usize + 1)?;
+    let mut crossed = Vec::new(alloc);
+    'families: for number in 0..tree.families.len() {
+        // Marks from 1 on, since 0 means no mark.
+        let mark = number as u32 + 1;
+        let own = NodeSets {
+            nodes,
+            sets: &tree.families[number],
+        };
+        let found = crossings_of(alloc, &mut handles, &mut teeth, mark, &own)?;
+        let Some(numbers) = found else {
+            return Ok(JudgedFamilies::Bad(number + 1));
+        };
+        push(&mut crossed, numbers)?;
+    }
+    Ok(JudgedFamilies::Good(Families {
+        nodes,
+        lent: tree.families,
+        crossed,
+    }))
+}
+
+/// The numbers of the family that sets are, the handle first; `None` where they are none, or one
+/// has a node twice.
+///
+/// # Errors
+///
+/// Out of memory.
+fn crossings_of(
+    alloc: Global,
+    handles: &mut [u32],
+    used: &mut [u32],
+    mark: u32,
+    family: &NodeSets,
+) -> Result<Option<Crossings>, Refused>
+    requires handle_places { length handles.old ≡ family.now.nodes + 1 }
+    requires tooth_places { length used.old ≡ family.now.nodes + 1 }
+    requires fresh_handle { AreUnmarked handles.old mark }
+    requires fresh_teeth { AreUnmarked used.old mark }
+    ensures found { IfOk result (AreFamilyNumbers family.now.nodes (lists_of family.now.sets.now)) }
+    ensures small { IfOk result (λ found. IfSome found IsSmall) }
+    ensures handle_others { AddsNoOther mark handles.old handles.new }
+    ensures tooth_others { AddsNoOther mark used.old used.new }
+    ensures handle_length { length handles.new ≡ length handles.old }
+    ensures tooth_length { length used.new ≡ length used.old }
+{
+    if is_comb(handles, used, mark, family.sets) {
+        return Ok(Some(known_crossings(family.sets.len())));
+    }
+    other_crossings(alloc, family)
+}
+
+/// The numbers of a lone set or a comb with this many sets: a cycle crosses a lone set twice at
+/// least, and the handle and the k teeth of a comb 3k + 1 times.
+fn known_crossings(sets: usize) -> Crossings
+    requires { sets < 2 ^ 32 }
+    ensures least { result.least ≡ least_crossings_of (sets - 1) }
+    ensures most { result.most ≡ 3 }
+    ensures small { IsSmall result }
+{
+    let least = if sets <= 1 { 2 } else { 3 * sets as u64 - 2 };
+    Crossings { least, most: 3 }
+}
+
+/// Whether sets, the handle first, are a lone set or a comb, each with its nodes once.
+///
+/// The nodes of the handle get a mark, and so do those of the teeth in marks of their own: a mark
+/// that no node has before.
+fn is_comb(handles: &mut [u32], used: &mut [u32], mark: u32, sets: &[Vec<u32>]) -> bool
+    requires handle_places { HavePlaces handles.old sets.now }
+    requires tooth_places { HavePlaces used.old sets.now }
+    requires fresh_handle { AreUnmarked handles.old mark }
+    requires fresh_teeth { AreUnmarked used.old mark }
+    ensures comb { (n : ℕ) → length handles.old ≡ n + 1 → AreSetsOf n sets.now → (IsTrue result ↔ IsGoodComb n (lists_of sets.now)) }
+    ensures handle_others { AddsNoOther mark handles.old handles.new }
+    ensures tooth_others { AddsNoOther mark used.old used.new }
+    ensures handle_length { length handles.new ≡ length handles.old }
+    ensures tooth_length { length used.new ≡ length used.old }
+{
+    let Some((handle, teeth)) = sets.split_first() else {
+        return false;
+    };
+    if !mark_nodes(handles, mark, handle) {
+        return false;
+    }
+    if teeth.is_empty() {
+        return is_lone_set(handles, mark, handle);
+    }
+    if !is_tooth_count(teeth.len()) {
+        return false;
+    }
+    are_teeth(handles, used, mark, teeth)
+}
+
+/// Whether nodes, which are those with the mark, are a lone set: there is one, and they leave one
+/// out.
+fn is_lone_set(handles: &[u32], mark: u32, nodes: &[u32]) -> bool
+    ensures { (n : ℕ) → length handles.now ≡ n + 1 → All (IsNode n) nodes.now
+        → ((x : ℕ) → is_marked handles.now mark x ≡ has nodes.now x)
+        → (IsTrue result ↔ IsLoneSet n (comb_of nodes.now [])) }
+{
+    !nodes.is_empty() && leaves_one_out(handles, mark)
+}
+
+/// Whether a comb can have this many teeth.
+fn is_tooth_count(count: usize) -> bool
+    ensures { IsTrue result ↔ IsToothCount count }
+{
+    count >= 3 && count % 2 == 1
+}
+
+/// Whether sets are teeth of the handle whose nodes have the mark, and all their nodes different
+/// and without the mark. They get it.
+fn are_teeth(handles: &[u32], used: &mut [u32], mark: u32, teeth: &[Vec<u32>]) -> bool
+    requires handle_places { HavePlaces handles.now teeth.now }
+    requires tooth_places { HavePlaces used.old teeth.now }
+    ensures teeth { (n : ℕ) → AreSetsOf n teeth.now → (IsTrue result
+        ↔ AreTeeth n (is_marked handles.now mark) (is_marked used.old mark) (lists_of teeth.now)) }
+    ensures others { AddsNoOther mark used.old used.new }
+    ensures length { length used.new ≡ length used.old }
+{
+    'teeth: for tooth in teeth {
+        let nodes: &[u32] = tooth;
+        if !mark_nodes(used, mark, nodes) {
+            return false;
+        }
+        if !is_tooth(handles, mark, nodes) {
+            return false;
+        }
+    }
+    true
+}
+
+/// Whether nodes are a tooth of the handle whose nodes have the mark.
+fn is_tooth(handles: &[u32], mark: u32, nodes: &[u32]) -> bool
+    requires { All (λ node. node < length handles.now) nodes.now }
+    ensures { (n : ℕ) → All (IsNode n) nodes.now
+        → (IsTrue result ↔ IsTooth n (is_marked handles.now mark) (has nodes.now)) }
+{
+    has_node(handles, mark, nodes, true) && has_node(handles, mark, nodes, false)
+}

@@ -1,0 +1,170 @@
+//! What always holds of bounds by branching, as contracts of functions that do nothing.
+
+ghost use Rattle.std.specs.Prelude.{ℕ, ℤ, List, [], ◌∷◌, ◌≤ℤ◌, Bool, true, false};
+ghost use Rattle.tsp_cases.specs.Combs.{CyclesCrossCombs};
+ghost use Rattle.tsp_cases.specs.declared.decision.Decision.{Decision};
+ghost use Rattle.tsp_cases.specs.Decisions.{DecidedBoundsBoundCycles, FixedBoundsBoundTours};
+ghost use Rattle.tsp_cases.specs.LeafBound.{LeafBoundsBoundCycles, UncombedBoundsAreAdjustedBounds};
+ghost use Rattle.tsp_cases.specs.Cases.{decide, BoundsCase, HasNoCycle, BoundsButOpen, CyclesKeepLeaves, CasesBoundCycles, CasesHaveNoCycle, StacksBegin, StacksBranch, StacksHoldCases};
+ghost use Rattle.tsp_cases.specs.Rows.{LinksAreAllowed, NoLinkNoCycle, SumsAreBelowCycles};
+ghost use Rattle.tsp_cases.specs.Families.{CyclesCrossFamilies, NumbersAreUnique};
+ghost use Rattle.tsp_cases.specs.RowLeaves.{RowLeafBoundsBoundCycles};
+ghost use Rattle.tsp_cases.specs.CaseTrees.{CaseTreesBoundCycles, CaseTreesBoundTours, NoBoundNoTour, CaseTreeBoundsAreUnique};
+
+use tsp_families::{least_lengths_are_unique, most_costs_are_unique};
+use tsp_theory::{
+    adjusted_bounds_bound_cycles, cycles_are_permutations, cycles_have_no_loops, lengths_add_up,
+};
+
+/// The bound of potentials and decisions is at most the length of every cycle that keeps the
+/// decisions.
+pub fn decided_bounds_bound_cycles()
+    ensures { DecidedBoundsBoundCycles }
+{
+    adjusted_bounds_bound_cycles();
+}
+
+/// The bound of potentials and of numbers on fixed pairs is at most the length of every tour.
+pub fn fixed_bounds_bound_tours()
+    ensures { FixedBoundsBoundTours }
+{
+    adjusted_bounds_bound_cycles();
+}
+
+/// Each cycle crosses a comb of k teeth at least 3k + 1 times.
+pub fn cycles_cross_combs()
+    ensures { CyclesCrossCombs }
+{
+    cycles_are_permutations();
+    lengths_add_up();
+    cycles_have_no_loops();
+}
+
+/// Each cycle crosses a family at least as often as its number says: a lone set twice, and a comb
+/// of k teeth 3k + 1 times.
+pub fn cycles_cross_families()
+    ensures { CyclesCrossFamilies }
+{
+    cycles_are_permutations();
+    lengths_add_up();
+    cycles_have_no_loops();
+    cycles_cross_combs();
+}
+
+/// The bound of potentials, of numbers on pairs and of families is at most the length of every
+/// cycle that uses each taken pair and no avoided one. With no family it is the bound of
+/// tsp_theory.
+pub fn leaf_bounds_bound_cycles()
+    ensures cycles { LeafBoundsBoundCycles }
+    ensures uncombed { UncombedBoundsAreAdjustedBounds }
+{
+    cycles_are_permutations();
+    lengths_add_up();
+    cycles_have_no_loops();
+    cycles_cross_families();
+}
+
+/// Each link of a cycle is allowed by the decisions that the cycle keeps; so where no link from
+/// some node is allowed, no cycle keeps them.
+pub fn links_are_allowed()
+    ensures links { LinksAreAllowed }
+    ensures none { NoLinkNoCycle }
+{
+    cycles_are_permutations();
+    lengths_add_up();
+    cycles_have_no_loops();
+}
+
+/// The least weights of the allowed links from all nodes sum to no more than a cycle weighs that
+/// keeps the decisions.
+pub fn sums_are_below_cycles()
+    ensures { SumsAreBelowCycles }
+{
+    cycles_are_permutations();
+    lengths_add_up();
+    cycles_have_no_loops();
+    links_are_allowed();
+}
+
+/// The bound of a leaf by rows is at most the length of every cycle that keeps its decisions,
+/// whichever costs.
+pub fn row_leaf_bounds_bound_cycles()
+    ensures { RowLeafBoundsBoundCycles }
+{
+    cycles_are_permutations();
+    lengths_add_up();
+    cycles_have_no_loops();
+    cycles_cross_families();
+    sums_are_below_cycles();
+}
+
+/// Each cycle that keeps the given decisions keeps those of a leaf.
+pub fn cycles_keep_leaves()
+    ensures { CyclesKeepLeaves }
+{}
+
+/// A bound that is at most the length of every cycle of each leaf's case is at most the length of
+/// every cycle that keeps the given decisions.
+pub fn cases_bound_cycles()
+    ensures { CasesBoundCycles }
+{}
+
+/// Where no cycle keeps the decisions of a leaf, whichever leaf, none keeps the given ones.
+pub fn cases_have_no_cycle()
+    ensures { CasesHaveNoCycle }
+{}
+
+/// How a bound of all cycles but those of the open cases goes from step to step.
+pub fn steps_leave_cases()
+    ensures start { (directed : Bool) (n : ℕ) (cost : ℕ → ℕ → ℤ) (given : List Decision) (bound : ℤ)
+        → BoundsButOpen directed n cost given bound (given ∷ []) }
+    ensures branch { (directed : Bool) (n : ℕ) (cost : ℕ → ℕ → ℤ) (given : List Decision) (bound : ℤ) (pair : ℕ × ℕ)
+        (case : List Decision) (cases : List (List Decision))
+        → BoundsButOpen directed n cost given bound (case ∷ cases)
+        → BoundsButOpen directed n cost given bound (decide pair true case ∷ decide pair false case ∷ cases) }
+    ensures leaf { (directed : Bool) (n : ℕ) (cost : ℕ → ℕ → ℤ) (given : List Decision) (bound own lower : ℤ)
+        (case : List Decision) (cases : List (List Decision)) → lower ≤ℤ bound → lower ≤ℤ own
+        → BoundsCase directed n cost own case → BoundsButOpen directed n cost given bound (case ∷ cases)
+        → BoundsButOpen directed n cost given lower cases }
+    ensures none { (directed : Bool) (n : ℕ) (cost : ℕ → ℕ → ℤ) (given : List Decision) (bound : ℤ)
+        (case : List Decision) (cases : List (List Decision)) → HasNoCycle directed n case
+        → BoundsButOpen directed n cost given bound (case ∷ cases) → BoundsButOpen directed n cost given bound cases }
+    ensures end { (directed : Bool) (n : ℕ) (cost : ℕ → ℕ → ℤ) (given : List Decision) (bound : ℤ)
+        → BoundsButOpen directed n cost given bound [] → BoundsCase directed n cost bound given }
+{}
+
+/// A stack of decisions has the open cases: the given one at first, after a branch two in the place
+/// of the first, and after a leaf all but the first.
+pub fn stacks_hold_cases()
+    ensures start { StacksBegin }
+    ensures branch { StacksBranch }
+    ensures leaf { StacksHoldCases }
+{}
+
+/// The bound of a certificate is at most the length of every cycle that keeps the given decisions,
+/// and of every tour where the fixed pairs are given. Where no leaf has a bound there is no such
+/// cycle or tour.
+pub fn case_trees_bound_cycles()
+    ensures cycles { CaseTreesBoundCycles }
+    ensures tours { CaseTreesBoundTours }
+    ensures none { NoBoundNoTour }
+{
+    leaf_bounds_bound_cycles();
+    row_leaf_bounds_bound_cycles();
+    links_are_allowed();
+    cases_bound_cycles();
+    cases_have_no_cycle();
+}
+
+/// A certificate has one bound, or none, whichever least 1-trees are found.
+pub fn case_tree_bounds_are_unique()
+    ensures { CaseTreeBoundsAreUnique }
+{}
+
+/// A family has one pair of numbers.
+pub fn numbers_are_unique()
+    ensures { NumbersAreUnique }
+{
+    least_lengths_are_unique();
+    most_costs_are_unique();
+}

@@ -1,0 +1,55 @@
+//! Families of sets of nodes and trees of cases, as theorems on lower bounds, and their judges.
+//! There are two relaxations: least 1-trees, and the least arc from each node.
+//!
+//! [`judge_families`] finds the first family of a certificate that isn't good, [`judge_cases`] the
+//! first branch that comes twice. Both know costs by their count of nodes only. The bound itself is
+//! tsp_branch's.
+//!
+//! ```text
+//! let families = judge_families(alloc, &tree)?;
+//! let cases = judge_cases(alloc, &tree)?;
+//! ```
+#![tactic(auto)]
+
+mod case_tree;
+mod decision;
+mod examples;
+mod families;
+mod family_examples;
+mod good_families;
+mod judged;
+mod laws;
+mod marks;
+mod node_decisions;
+mod number_examples;
+mod open_case;
+mod other_families;
+mod row_examples;
+mod set_place;
+mod tree_cases;
+mod twice;
+
+pub use case_tree::CaseTree;
+pub use decision::Decision;
+pub use examples::{
+    examples_of_bounds, examples_of_cases, examples_of_crossings, examples_of_trees,
+    examples_of_verdicts, examples_of_weights,
+};
+pub use families::Families;
+pub use family_examples::examples_of_families;
+pub use good_families::judge_families;
+pub use judged::{JudgedCases, JudgedFamilies};
+pub use laws::{
+    case_tree_bounds_are_unique, case_trees_bound_cycles, cases_bound_cycles, cases_have_no_cycle,
+    cycles_cross_combs, cycles_cross_families, cycles_keep_leaves, decided_bounds_bound_cycles,
+    fixed_bounds_bound_tours, leaf_bounds_bound_cycles, links_are_allowed, numbers_are_unique,
+    row_leaf_bounds_bound_cycles, stacks_hold_cases, steps_leave_cases, sums_are_below_cycles,
+};
+pub use node_decisions::NodeDecisions;
+pub use number_examples::{examples_of_differences, examples_of_good_numbers};
+pub use open_case::OpenCase;
+pub use row_examples::{examples_of_arcs, examples_of_leaves, examples_of_links, examples_of_rows};
+pub use set_place::SetPlace;
+pub use tree_cases::Cases;
+pub use tsp_families::Crossings;
+pub use twice::judge_cases;
