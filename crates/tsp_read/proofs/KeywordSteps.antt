@@ -108,7 +108,7 @@ kind_line old new line slot (Ok done) sets is same_first same_part earlier h sho
       incomplete = same_first ∙ h.incomplete;
       part = still_none old new (Line (Known TypeKey) line ∷ earlier) refl same_part h.part;
     }
-kind_line old new line slot (Err steps.Memory) sets is same_first same_part earlier h short = tt
+kind_line old new line slot (Err (steps.Memory refused)) sets is same_first same_part earlier h short = tt
 kind_line old new line slot (Err (steps.Fault fault)) sets is same_first same_part earlier h short =
     let there : is_some old.draft.kind ≡ has_line TypeKey earlier = ap (λ (xs : List Bool). get_or xs 1 false) h.stand in
     kind_rows earlier line short ∙ ap (λ (b : Bool). named_rows b (is_left_out TypeKey (first_word line.value)) (kind_named (first_word line.value)) false) (sym there) ∙ sets.1
@@ -146,7 +146,7 @@ weight_kind_line old new line slot (Ok done) sets is same_first same_part earlie
           (spatial_after (Line (Known EdgeWeightTypeKey) line ∷ earlier)) (has_line NodeCoordPart earlier) refl space;
       part = still_none old new (Line (Known EdgeWeightTypeKey) line ∷ earlier) refl same_part h.part;
     }
-weight_kind_line old new line slot (Err steps.Memory) sets is same_first same_part earlier h short = tt
+weight_kind_line old new line slot (Err (steps.Memory refused)) sets is same_first same_part earlier h short = tt
 weight_kind_line old new line slot (Err (steps.Fault fault)) sets is same_first same_part earlier h short =
     let there : is_some old.draft.weight_kind ≡ has_line EdgeWeightTypeKey earlier = ap (λ (xs : List Bool). get_or xs 5 false) h.stand in
     weight_kind_rows earlier line short ∙ ap (λ (b : Bool). named_rows b (is_left_out EdgeWeightTypeKey (first_word line.value))
@@ -178,7 +178,7 @@ weight_format_line old new line slot (Ok done) sets is same_first same_part earl
       incomplete = same_first ∙ h.incomplete;
       part = still_none old new (Line (Known EdgeWeightFormatKey) line ∷ earlier) refl same_part h.part;
     }
-weight_format_line old new line slot (Err steps.Memory) sets is same_first same_part earlier h short = tt
+weight_format_line old new line slot (Err (steps.Memory refused)) sets is same_first same_part earlier h short = tt
 weight_format_line old new line slot (Err (steps.Fault fault)) sets is same_first same_part earlier h short =
     let there : is_some old.draft.weight_format ≡ has_line EdgeWeightFormatKey earlier = ap (λ (xs : List Bool). get_or xs 6 false) h.stand in
     weight_format_rows earlier line short ∙ ap (λ (b : Bool). named_rows b (is_left_out EdgeWeightFormatKey (first_word line.value))
@@ -217,7 +217,7 @@ coord_kind_line old new line slot (Ok done) sets is same_first same_part earlier
           (spatial_after (Line (Known NodeCoordTypeKey) line ∷ earlier)) (has_line NodeCoordPart earlier) refl space;
       part = still_none old new (Line (Known NodeCoordTypeKey) line ∷ earlier) refl same_part h.part;
     }
-coord_kind_line old new line slot (Err steps.Memory) sets is same_first same_part earlier h short = tt
+coord_kind_line old new line slot (Err (steps.Memory refused)) sets is same_first same_part earlier h short = tt
 coord_kind_line old new line slot (Err (steps.Fault fault)) sets is same_first same_part earlier h short =
     let there : is_some old.draft.coord_kind ≡ has_line NodeCoordTypeKey earlier = ap (λ (xs : List Bool). get_or xs 7 false) h.stand in
     coord_kind_rows earlier line short ∙ ap (λ (b : Bool). named_rows b (is_left_out NodeCoordTypeKey (first_word line.value))
@@ -249,7 +249,7 @@ display_kind_line old new line slot (Ok done) sets is same_first same_part earli
       incomplete = same_first ∙ h.incomplete;
       part = still_none old new (Line (Known DisplayDataTypeKey) line ∷ earlier) refl same_part h.part;
     }
-display_kind_line old new line slot (Err steps.Memory) sets is same_first same_part earlier h short = tt
+display_kind_line old new line slot (Err (steps.Memory refused)) sets is same_first same_part earlier h short = tt
 display_kind_line old new line slot (Err (steps.Fault fault)) sets is same_first same_part earlier h short =
     let there : is_some old.draft.display_kind ≡ has_line DisplayDataTypeKey earlier = ap (λ (xs : List Bool). get_or xs 8 false) h.stand in
     display_kind_rows earlier line short ∙ ap (λ (b : Bool). named_rows b (is_left_out DisplayDataTypeKey (first_word line.value))

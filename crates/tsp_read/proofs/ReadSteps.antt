@@ -47,7 +47,7 @@ takes_ok earlier cut item new ended same h e = let P : Item → Type 0 = λ i. T
 
 pub takes_err : (earlier : List Item) (cut item : Item) (new : Reading) (fault : StepFault) → cut ≡ item
     → AnswersItem earlier cut new (Err fault) → TakesItem earlier item new (Err fault)
-takes_err earlier cut item new steps.Memory same h = tt
+takes_err earlier cut item new (steps.Memory refused) same h = tt
 takes_err earlier cut item new (steps.Fault fault) same h = let P : Item → Type 0 = λ i. row_of earlier i ≡ Some fault in subst P same h
 
 -- ---- counts

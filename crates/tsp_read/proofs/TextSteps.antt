@@ -52,7 +52,7 @@ name_line old new line slot (Ok done) sets is same_first same_part earlier h sho
       incomplete = same_first ∙ h.incomplete;
       part = still_none old new (Line (Known NameKey) line ∷ earlier) refl same_part h.part;
     }
-name_line old new line slot (Err steps.Memory) sets is same_first same_part earlier h short = tt
+name_line old new line slot (Err (steps.Memory refused)) sets is same_first same_part earlier h short = tt
 name_line old new line slot (Err (steps.Fault fault)) sets is same_first same_part earlier h short =
     let there : is_some (fields_of old.draft).name ≡ has_line NameKey earlier = ap (λ (xs : List Bool). get_or xs 0 false) h.stand in
     name_rows earlier line short ∙ ap (λ (b : Bool). first_row (when b row.Repeated ∷ when (is_too_long_to_keep line) row.BadValue ∷ [])) (sym there) ∙ sets.1
@@ -80,7 +80,7 @@ comment_line old new line comments (Ok done) adds is same_first same_part earlie
       incomplete = same_first ∙ h.incomplete;
       part = still_none old new (Line (Known CommentKey) line ∷ earlier) refl same_part h.part;
     }
-comment_line old new line comments (Err steps.Memory) adds is same_first same_part earlier h short = tt
+comment_line old new line comments (Err (steps.Memory refused)) adds is same_first same_part earlier h short = tt
 comment_line old new line comments (Err (steps.Fault fault)) adds is same_first same_part earlier h short =
     let same : (fields_of old.draft).comments ≡ values_at CommentKey earlier = ap (λ (fields : Fields). fields.comments) h.spelled in
     comment_rows earlier line short
@@ -110,7 +110,7 @@ other_line old new line others (Ok done) adds is same_first same_part earlier h 
       incomplete = same_first ∙ h.incomplete;
       part = still_none old new (Line Unknown line ∷ earlier) refl same_part h.part;
     }
-other_line old new line others (Err steps.Memory) adds is same_first same_part earlier h short = tt
+other_line old new line others (Err (steps.Memory refused)) adds is same_first same_part earlier h short = tt
 other_line old new line others (Err (steps.Fault fault)) adds is same_first same_part earlier h short =
     let same : (fields_of old.draft).others ≡ others_in earlier = ap (λ (fields : Fields). fields.others) h.spelled in
     other_rows earlier line short

@@ -62,7 +62,7 @@ word_answer old new section after word (Ok done) earlier there same same_draft s
       incomplete = same_first ∙ h.incomplete ∙ sym (word_first earlier word f kind held.0);
       part = rw is (open_more section after earlier word held.0 held.1.0 same next.1);
     }
-word_answer old new section after word (Err steps.Memory) earlier there same same_draft same_first is step h = tt
+word_answer old new section after word (Err (steps.Memory refused)) earlier there same same_draft same_first is step h = tt
 word_answer old new section after word (Err (steps.Fault fault)) earlier there same same_draft same_first is step h =
     let held : OpenHolds (Some section) earlier = rw there at h.part in
     word_rows earlier word section.field held.0

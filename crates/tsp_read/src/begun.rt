@@ -9,10 +9,10 @@ ghost use Rattle.tsp_read.specs.states.Intake.{ReadsOn};
 use crate::cut::{Next, without_start};
 use crate::intake::Intake;
 use crate::token::Token;
+use crate::unread::Unread;
 use arrayvec::ArrayVec;
 use std::alloc::Global;
 use tsp_format::MOST_LINE_BYTES;
-use tsp_text::ReadFault;
 
 /// The bytes so far of a word line or of a word whose end has not come, from the first that isn't
 /// blank on; none where nothing has begun.
@@ -60,7 +60,7 @@ impl Begun {
         intake: &mut Intake,
         alloc: Global,
         piece: &'a [u8],
-    ) -> Result<Option<&'a [u8]>, ReadFault>
+    ) -> Result<Option<&'a [u8]>, Unread>
         requires lines { most_lines intake.old self.old (length piece.now) ≤ most_file_bytes + 1 }
         requires words { most_words intake.old self.old (length piece.now) ≤ most_file_bytes }
         ensures joined { (bytes : List ℕ)
@@ -90,7 +90,7 @@ impl Begun {
 
     /// Takes what has begun as the last item of the text, if anything has. Returns whether it is
     /// an end line.
-    pub(crate) fn take_last(&self, intake: &mut Intake, alloc: Global) -> Result<bool, ReadFault>
+    pub(crate) fn take_last(&self, intake: &mut Intake, alloc: Global) -> Result<bool, Unread>
         requires lines { most_lines intake.old self.now 0 ≤ most_file_bytes + 1 }
         requires words { most_words intake.old self.now 0 ≤ most_file_bytes }
         ensures { (bytes : List ℕ) → IsPaused intake.old self.now bytes

@@ -11,6 +11,7 @@ use crate::intake::Intake;
 use crate::stage::Stage;
 use crate::state::finish::completed;
 use crate::state::reading::Reading;
+use crate::unread::{Unread, promised};
 use std::alloc::Global;
 use tsp_file::File;
 use tsp_format::MOST_FILE_BYTES;
@@ -23,7 +24,7 @@ fn read_on(
     begun: &mut Begun,
     alloc: Global,
     piece: &[u8],
-) -> Result<bool, ReadFault>
+) -> Result<bool, Unread>
     requires lines { most_lines intake.old begun.old (length piece.now) ≤ most_file_bytes + 1 }
     requires words { most_words intake.old begun.old (length piece.now) ≤ most_file_bytes }
     ensures read { (bytes : List ℕ) → IsFedTo intake.old begun.old bytes piece.now
@@ -61,19 +62,19 @@ fn split_at_most(text: &[u8], most: usize) -> (&[u8], &[u8])
 }
 
 /// How far a text is after a piece, by whether all of it could be read.
-fn stage_after(all: bool, read: Result<bool, ReadFault>) -> Stage
+fn stage_after(all: bool, read: Result<bool, Unread>) -> Stage
     ensures { result ≡ stage_after all read }
 {
     match read {
         Ok(true) => Stage::Ended,
         Ok(false) if all => Stage::Going,
-        Ok(false) => Stage::Refused(ReadFault::TooLong),
+        Ok(false) => Stage::Refused(Unread::too_long()),
         Err(fault) => Stage::Refused(fault),
     }
 }
 
 /// The answer at a stage.
-fn outcome(stage: Stage) -> Result<(), ReadFault>
+fn outcome(stage: Stage) -> Result<(), Unread>
     ensures { result ≡ outcome_of stage }
 {
     match stage {
@@ -182,7 +183,21 @@ impl Feed {
         ensures ended { (bytes : List ℕ) → HasTaken self.old bytes → settled_fault bytes ≡ None
             → has_end_line (settled_part bytes) ≡ true → result ≡ Ok tt }
     {
-        match self.stage {
+        promised(self.take(piece))
+    }
+
+    /// Takes the next piece, as `feed` does.
+    pub(crate) fn take(&mut self, piece: &[u8]) -> Result<(), Unread>
+        ensures taken { (bytes : List ℕ) → HasTaken self.old bytes
+            → Feeds (bytes ++ piece.now) self.new result }
+        ensures again { (found : ReadFault) → refusal self.old ≡ Some found
+            → (result ≡ Err found) × (refusal self.new ≡ Some found) }
+        ensures refused { IfErr result (λ found. refusal self.new ≡ Some found) }
+        ensures ended { (bytes : List ℕ) → HasTaken self.old bytes → settled_fault bytes ≡ None
+            → has_end_line (settled_part bytes) ≡ true → result ≡ Ok tt }
+    {
+        let reached = self.stage;
+        match reached {
             Stage::Refused(fault) => Err(fault),
             Stage::Ended => Ok(()),
             Stage::Going => {
@@ -191,8 +206,9 @@ impl Feed {
             }
         }
     }
+
     /// All that was read, once the line or word that has begun is taken as the last.
-    fn end(self) -> Result<Reading, ReadFault>
+    fn end(self) -> Result<Reading, Unread>
         ensures ends { (bytes : List ℕ) → HasTaken self bytes → EndsReading bytes result }
         ensures again { (found : ReadFault) → refusal self ≡ Some found → result ≡ Err found }
         ensures ended { (bytes : List ℕ) → HasTaken self bytes → settled_fault bytes ≡ None
@@ -232,6 +248,18 @@ impl Feed {
     /// - `End`: no line has a fault, and the lines together are no file.
     /// - `OutOfMemory`: memory was refused. Where a line EOF is settled none is wanted.
     pub fn finish(self) -> Result<File, ReadFault>
+        ensures read { (bytes : List ℕ) → HasTaken self bytes → Reads bytes result }
+        ensures memory { (bytes : List ℕ) → HasTaken self bytes → result ≡ Err OutOfMemory
+            → is_bare bytes ≡ false }
+        ensures again { (found : ReadFault) → refusal self ≡ Some found → result ≡ Err found }
+        ensures ended { (bytes : List ℕ) → HasTaken self bytes → settled_fault bytes ≡ None
+            → has_end_line (settled_part bytes) ≡ true → result ≢ Err OutOfMemory }
+    {
+        promised(self.into_file())
+    }
+
+    /// The file that the bytes so far parse to, as `finish` gives it.
+    pub(crate) fn into_file(self) -> Result<File, Unread>
         ensures read { (bytes : List ℕ) → HasTaken self bytes → Reads bytes result }
         ensures memory { (bytes : List ℕ) → HasTaken self bytes → result ≡ Err OutOfMemory
             → is_bare bytes ≡ false }

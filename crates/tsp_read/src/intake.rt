@@ -11,11 +11,12 @@ use crate::cut::{Next, next_item};
 use crate::item::{line_after, take, word_of};
 use crate::state::reading::Reading;
 use crate::token::Token;
+use crate::unread::Unread;
 use std::alloc::Global;
 use tsp_format::MOST_WORD_BYTES;
 use tsp_number::NumberFault;
 use tsp_section::StepFault;
-use tsp_text::{LineFault, ReadFault};
+use tsp_text::LineFault;
 
 /// A word that is too long.
 const LONG_WORD: [u8; MOST_WORD_BYTES + 1] = [b'1'; MOST_WORD_BYTES + 1];
@@ -64,7 +65,7 @@ impl Intake {
     }
 
     /// Takes the next item. Returns whether it is an end line.
-    pub(crate) fn take_next(&mut self, alloc: Global, next: &Next<'_>) -> Result<bool, ReadFault>
+    pub(crate) fn take_next(&mut self, alloc: Global, next: &Next<'_>) -> Result<bool, Unread>
         requires line { self.old.line ≤ most_file_bytes }
         requires words { self.old.words < most_file_bytes }
         ensures item { (earlier : List Item) → HasTakenItems self.old earlier
@@ -80,30 +81,22 @@ impl Intake {
                 self.inside = next.is_inside();
                 Ok(ended)
             }
-            Err(StepFault::Memory) => Err(ReadFault::OutOfMemory),
-            Err(StepFault::Fault(fault)) => Err(ReadFault::Line {
-                line: self.line,
-                word: self.words,
-                fault,
-            }),
+            Err(StepFault::Memory(refused)) => Err(Unread::refused(refused)),
+            Err(StepFault::Fault(fault)) => Err(Unread::at(self.line, self.words, fault)),
         }
     }
 
     /// The fault of a word line that is too long.
-    fn long_line(&self) -> ReadFault
+    fn long_line(&self) -> Unread
         ensures { (earlier : List Item) → HasTakenItems self.now earlier → (text : List ℕ)
             → is_over_long (line_item text) ≡ true
             → TakesNext earlier (line_item text) self.now (Err result) }
     {
-        ReadFault::Line {
-            line: self.line,
-            word: 0,
-            fault: LineFault::LongLine,
-        }
+        Unread::at(self.line, 0, LineFault::LongLine)
     }
 
     /// The fault of a word that is too long, whatever its bytes are.
-    fn long_word(&mut self, alloc: Global) -> ReadFault
+    fn long_word(&mut self, alloc: Global) -> Unread
         requires line { self.old.line ≤ most_file_bytes }
         requires words { self.old.words < most_file_bytes }
         ensures { (earlier : List Item) → HasTakenItems self.old earlier → (word : List ℕ)
@@ -113,16 +106,15 @@ impl Intake {
         match self.take_next(alloc, &Next::Word(&LONG_WORD)) {
             Err(fault) => fault,
             // No such word is taken.
-            Ok(_) => ReadFault::Line {
-                line: self.line,
-                word: self.words,
-                fault: LineFault::Number(NumberFault::LongWord),
-            },
+            Ok(_) => {
+                let fault = LineFault::Number(NumberFault::LongWord);
+                Unread::at(self.line, self.words, fault)
+            }
         }
     }
 
     /// The fault of a line or a word that is too long, whatever its bytes are.
-    pub(crate) fn too_long(&mut self, alloc: Global, token: Token) -> ReadFault
+    pub(crate) fn too_long(&mut self, alloc: Global, token: Token) -> Unread
         requires line { self.old.line ≤ most_file_bytes }
         requires words { self.old.words < most_file_bytes }
         ensures { (earlier : List Item) → HasTakenItems self.old earlier → (text : List ℕ)
@@ -141,7 +133,7 @@ impl Intake {
         &mut self,
         alloc: Global,
         piece: &'a [u8],
-    ) -> Result<Option<&'a [u8]>, ReadFault>
+    ) -> Result<Option<&'a [u8]>, Unread>
         requires line { self.old.line + length piece.now ≤ most_file_bytes + 1 }
         requires words { self.old.words + length piece.now ≤ most_file_bytes }
         ensures items { (bytes : List ℕ) → IsReadTo self.old bytes piece.now

@@ -8,8 +8,7 @@ ghost use Rattle.tsp_read.specs.Asked.{IsReadOn};
 ghost use Rattle.tsp_read.specs.Reads.{Reads, ReadsFrom};
 ghost use Rattle.tsp_read.specs.Timely.{ReadsInTime};
 
-use crate::feed::Feed;
-use crate::input::feed_all;
+use crate::unread::{file_of_bytes, file_of_reader, promised};
 use std::alloc::Global;
 use tsp_file::File;
 use tsp_stream::{Gives, Watched};
@@ -29,14 +28,7 @@ pub fn read_bytes(alloc: Global, bytes: &[u8]) -> Result<File, ReadFault>
     ensures answer { Reads bytes.now result }
     ensures memory { result ≡ Err OutOfMemory → is_bare bytes.now ≡ false }
 {
-    let mut feed = Feed::new(alloc);
-    match feed.feed(bytes) {
-        Ok(()) => feed.finish(),
-        Err(fault) => {
-            drop(feed);
-            Err(fault)
-        }
-    }
+    promised(file_of_bytes(alloc, bytes))
 }
 
 /// Reads a file from a reader, in pieces of at most 4,096 bytes: up to an end, to an end line, to a
@@ -58,15 +50,5 @@ pub fn read_from<R: Gives>(alloc: Global, reader: &mut Watched<R>) -> Result<Fil
     ensures asked { IsReadOn R.gives reader.old reader.new }
     ensures in_time { ReadsInTime (turn_of R.remaining reader.old reader.new) result }
 {
-    if reader.failed() {
-        return Err(ReadFault::Device);
-    }
-    let mut feed = Feed::new(alloc);
-    match feed_all(&mut feed, reader) {
-        Ok(()) => feed.finish(),
-        Err(fault) => {
-            drop(feed);
-            Err(fault)
-        }
-    }
+    promised(file_of_reader(alloc, reader))
 }

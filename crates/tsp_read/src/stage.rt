@@ -1,11 +1,11 @@
 //! How far a text is that comes in pieces.
 
-use tsp_text::ReadFault;
+use crate::unread::Unread;
 
 /// How far a text is: it goes on, its end line was taken, or it was refused.
 #[derive(Clone, Copy)]
 pub(crate) enum Stage {
     Going,
     Ended,
-    Refused(ReadFault),
+    Refused(Unread),
 }

@@ -13,5 +13,6 @@ pub mod TreeSteps
 pub mod Readings
 pub mod Taken
 pub mod PartSteps
+pub mod HandedOver
 pub mod NamedRows
 pub mod Scans

@@ -8,5 +8,5 @@ use Rattle.tsp_section.specs.states.Parts.{Takes}
 pub takes_also : (n : ℕ) (place : Place) (word : List ℕ) (A B : Type 0) (r : Result (Unit {0}) StepFault) → (A → B)
     → Takes n place word A r → Takes n place word B r
 takes_also n place word A B (Ok done) f h = (h.0, f h.1)
-takes_also n place word A B (Err steps.Memory) f h = tt
+takes_also n place word A B (Err (steps.Memory refused)) f h = tt
 takes_also n place word A B (Err (steps.Fault fault)) f h = h

@@ -1,20 +1,17 @@
 -- One word more of the tours.
 use Rattle.std.proofs.Common.{◌≡◌, ℕ, ℤ, zero, suc, ◌+◌, ◌≤◌, Bool, true, false, cond, List, [], ◌∷◌, ◌++◌, length, map, refl, sym, ap, ◌∙◌, arith, rules, Result, Ok, Err, None}
 use Rattle.std.specs.Int.{FitsUnsignedBits}
-use Rattle.std.specs.Prelude.{pos, negsuc, nat_abs, nat_le, not, ◌&&◌, OnOk, IfErr}
+use Rattle.std.specs.Prelude.{pos, negsuc, nat_abs, nat_le, not, ◌&&◌}
 use Rattle.std.specs.List.{slice_split, filter}
 use Rattle.std.specs.Ordering.{int_eq}
 use Rattle.std.proofs.lemmas.Int.{ints}
 use Rattle.std.proofs.lemmas.List.{map_push}
 use Rattle.tsp_format.specs.Limits.{most_nodes, most_tour_nodes}
-use Rattle.tsp_section.specs.declared.fault.StepFault.{StepFault}
-use Rattle.tsp_section.specs.declared.fault.StepFault.TheVariants as steps
 use Rattle.tsp_section.specs.declared.parts.tours.TourList.{TourList}
 use Rattle.tsp_number.specs.Reading.{whole_of}
 use Rattle.tsp_text.specs.SectionNumbers.{node_or_end, IsWhole}
 use Rattle.tsp_text.specs.WordPlaces.{TourNode}
 use Rattle.tsp_text.specs.TourSection.{ends_tour, tour_node, place_of_tour}
-use Rattle.tsp_section.specs.states.Parts.{Takes}
 use Rattle.tsp_text.specs.FaultRows.{word_fault}
 use Rattle.tsp_section.specs.states.HeldParts.{HoldsTours, EndsRunOf}
 use Rattle.tsp_section.proofs.NodeGroups.{natural}
@@ -48,12 +45,11 @@ whole_node z k word whole from some within =
     let read : whole_of word (negsuc 0) (pos most_nodes) ≡ Ok z = whole (negsuc 0) (pos most_nodes) (omega (arith, ints, is)) (omega (arith, ints, is, within)) in
     rw (read, is, not_nothing k some) refl
 
-pub after_end : (n : ℕ) (words : List (List ℕ)) (word : List ℕ) (old new : TourList) (r : Result (Unit {0}) StepFault)
+pub after_end : (n : ℕ) (words : List (List ℕ)) (word : List ℕ) (old new : TourList)
     → node_or_end most_nodes word ≡ Ok (negsuc 0)
-    → OnOk r ((words : List (List ℕ)) → HoldsTours old words → EndsRunOf new words) → new.count ≡ old.count
-    → IfErr r (λ e. e ≡ steps.Memory)
-    → HoldsTours old words → Takes n (place_of_tour words) word (HoldsTours new (words ++ word ∷ [])) r
-after_end n words word old new (Ok done) read ok same err h =
+    → ((words : List (List ℕ)) → HoldsTours old words → EndsRunOf new words) → new.count ≡ old.count
+    → HoldsTours old words → (word_fault n (place_of_tour words) word ≡ None) × HoldsTours new (words ++ word ∷ [])
+after_end n words word old new read ok same h =
     let ended = ok words h in
     let ends : ends_tour word ≡ true = rw read refl in
     let none : ◌≡◌ {A = ℕ} (cond (not (ends_tour word)) 1 0) 0 = rw ends refl in
@@ -68,8 +64,6 @@ after_end n words word old new (Ok done) read ok same err h =
         nodes = omega (arith, same, h.nodes, counted, none);
       },
     )
-after_end n words word old new (Err steps.Memory) read ok same err h = tt
-after_end n words word old new (Err (steps.Fault fault)) read ok same err h = cc
 
 pub after_node : (n k : ℕ) (words : List (List ℕ)) (word : List ℕ) (old new : TourList) → node_or_end most_nodes word ≡ Ok (pos k)
     → nat_le most_tour_nodes old.count ≡ false

@@ -11,6 +11,7 @@
 mod blanks;
 mod fault;
 mod line;
+mod moved;
 mod part;
 mod parts;
 mod run;

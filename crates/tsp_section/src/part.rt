@@ -12,8 +12,9 @@ use crate::parts::tours::TourList;
 use crate::parts::tree::TreeList;
 use crate::parts::triples::TripleList;
 use crate::parts::weights::WeightList;
-use std::alloc::{AllocError, Global};
+use std::alloc::Global;
 use tsp_format::{MOST_MATRIX_NODES, MOST_NODES, Shape};
+use tsp_memory::Refused;
 
 /// What was read of a section, by its shape.
 #[derive(Drop)]
@@ -41,7 +42,7 @@ impl Part {
     /// # Errors
     ///
     /// Memory was refused.
-    pub fn open(alloc: Global, shape: Shape, n: u32) -> Result<Part, AllocError>
+    pub fn open(alloc: Global, shape: Shape, n: u32) -> Result<Part, Refused>
         requires { shape ≡ shapes.Weights → n ≤ MOST_MATRIX_NODES }
         ensures { IfOk result (λ part. n ≤ MOST_NODES → HoldsShape shape part n []) }
     {

@@ -1,7 +1,7 @@
 //! Slots of the draft that a line fills.
 
 ghost use Rattle.tsp_text.specs.Lines.{first_word};
-ghost use Rattle.std.specs.Prelude.{◌≡◌, map};
+ghost use Rattle.std.specs.Prelude.{◌≡◌, map, IfOk};
 ghost use Rattle.std.specs.Option.{option_map};
 ghost use Rattle.tsp_section.specs.states.CutLine.{seen, SetsNamed, SetsName, AddsComment, AddsOther};
 ghost use Rattle.tsp_text.specs.FaultRows.{is_too_long_to_keep};
@@ -10,6 +10,7 @@ use crate::fault::StepFault;
 use crate::line::{CutLine, named};
 use std::alloc::Global;
 use tsp_format::{Field, MOST_COMMENTS, MOST_KEPT_BYTES, MOST_OTHERS, Word};
+use tsp_memory::{Refused, copied, push};
 use tsp_text::LineFault;
 
 /// Sets the value that a line names, where none is set yet; `late` is whether it comes too late.
@@ -68,12 +69,12 @@ pub fn set_name(
     if is_too_long_to_keep(line) {
         return Err(StepFault::Fault(LineFault::BadValue));
     }
-    match Vec::from_slice(alloc, line.value) {
+    match copied(alloc, line.value) {
         Ok(name) => {
             *slot = Some(name);
             Ok(())
         }
-        Err(_) => Err(StepFault::Memory),
+        Err(refused) => Err(StepFault::Memory(refused)),
     }
 }
 
@@ -100,12 +101,12 @@ pub fn add_comment(
     if comments.len() >= MOST_COMMENTS {
         return Err(StepFault::Fault(LineFault::Surplus));
     }
-    match Vec::from_slice(alloc, line.value) {
-        Ok(comment) => match comments.push(comment) {
+    match copied(alloc, line.value) {
+        Ok(comment) => match push(comments, comment) {
             Ok(()) => Ok(()),
-            Err(_) => Err(StepFault::Memory),
+            Err(refused) => Err(StepFault::Memory(refused)),
         },
-        Err(_) => Err(StepFault::Memory),
+        Err(refused) => Err(StepFault::Memory(refused)),
     }
 }
 
@@ -136,14 +137,21 @@ pub fn add_other(
     if others.len() >= MOST_OTHERS {
         return Err(StepFault::Fault(LineFault::Surplus));
     }
-    let (Ok(keyword), Ok(value)) = (
-        Vec::from_slice(alloc, line.keyword),
-        Vec::from_slice(alloc, line.value),
-    ) else {
-        return Err(StepFault::Memory);
-    };
-    match others.push((keyword, value)) {
-        Ok(()) => Ok(()),
-        Err(_) => Err(StepFault::Memory),
+    match kept(alloc, line) {
+        Ok(other) => match push(others, other) {
+            Ok(()) => Ok(()),
+            Err(refused) => Err(StepFault::Memory(refused)),
+        },
+        Err(refused) => Err(StepFault::Memory(refused)),
     }
+}
+
+/// The keyword and the value of a line.
+fn kept(alloc: Global, line: &CutLine<'_>) -> Result<(Vec<u8>, Vec<u8>), Refused>
+    ensures { IfOk result (λ other. (other.0.items ≡ line.now.keyword.now)
+        × (other.1.items ≡ line.now.value.now)) }
+{
+    let keyword = copied(alloc, line.keyword)?;
+    let value = copied(alloc, line.value)?;
+    Ok((keyword, value))
 }

@@ -12,7 +12,7 @@ use Rattle.tsp_text.specs.Spells.{spelled, fault_at_end}
 
 abbrev pub Finishes : List Item → Result Fields FinishFault → Type 0
 Finishes items (Ok file) = IsClean items × (fault_at_end items ≡ None) × (file ≡ spelled items)
-Finishes items (Err faults.Memory) = Unit {0}
+Finishes items (Err (faults.Memory refused)) = Unit {0}
 Finishes items (Err (faults.End fault)) = IsClean items × (fault_at_end items ≡ Some fault)
 
 -- The file of these fields, with this first section that is incomplete, or the fault of the end table.

@@ -72,7 +72,7 @@ IsReadFrom reading = ∥ ((earlier : List Item) × Holds reading earlier × AreC
 -- What a step returns for an item: its fault, or none and the state holds that item too.
 abbrev pub AnswersItem : List Item → Item → Reading → Result (Unit {0}) StepFault → Type 0
 AnswersItem earlier item new (Ok done) = Holds new (item ∷ earlier)
-AnswersItem earlier item new (Err steps.Memory) = Unit {0}
+AnswersItem earlier item new (Err (steps.Memory refused)) = Unit {0}
 AnswersItem earlier item new (Err (steps.Fault fault)) = row_of earlier item ≡ Some fault
 
 -- the same from a state where no section is open, for a line that isn't too long

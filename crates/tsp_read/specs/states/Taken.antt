@@ -13,7 +13,7 @@ use Rattle.tsp_read.specs.states.Holds.{Holds}
 -- an item is taken, and whether it is an end line; or it has this row
 abbrev pub TakesItem : List Item → Item → Reading → Result Bool StepFault → Type 0
 TakesItem earlier item new (Ok ended) = Holds new (item ∷ earlier) × (ended ≡ is_end_line item)
-TakesItem earlier item new (Err steps.Memory) = Unit {0}
+TakesItem earlier item new (Err (steps.Memory refused)) = Unit {0}
 TakesItem earlier item new (Err (steps.Fault fault)) = row_of earlier item ≡ Some fault
 
 -- the items that count are read, and whether an end line is among them; or they have this first fault

@@ -11,17 +11,18 @@ ghost use Rattle.tsp_draft.specs.Rules.{standing_of, end_fault, fault_of};
 ghost use Rattle.tsp_read.specs.states.Finishes.{FileOf};
 
 use crate::state::reading::Reading;
+use crate::unread::Unread;
 use std::alloc::Global;
 use tsp_draft::{Draft, EndFault, end_fault};
 use tsp_file::File;
 use tsp_format::Field;
-use tsp_text::ReadFault;
+use tsp_memory::Refused;
 
 /// Why what was read is no file.
 #[derive(Clone, Copy)]
 pub(crate) enum FinishFault {
     /// Memory was refused.
-    Memory,
+    Memory(Refused),
     /// The lines together have this fault.
     End(EndFault),
 }
@@ -55,13 +56,14 @@ impl Reading {
         requires { IsReadFrom self }
         ensures file { (earlier : List Item) → Holds self earlier → AreCut earlier
             → Finishes earlier result }
-        ensures stood { result ≡ Err Memory → is_some self.opened ≡ true }
+        ensures stood { (refused : Refused) → result ≡ Err (Memory refused)
+            → is_some self.opened ≡ true }
     {
         match self.close(alloc) {
             Ok(()) => {}
-            Err(_) => {
+            Err(refused) => {
                 drop(self);
-                return Err(FinishFault::Memory);
+                return Err(FinishFault::Memory(refused));
             }
         }
         let (draft, incomplete) = self.into_draft();
@@ -73,7 +75,7 @@ impl Reading {
 }
 
 /// The file of all that was read.
-pub(crate) fn completed(reading: Reading, alloc: Global) -> Result<File, ReadFault>
+pub(crate) fn completed(reading: Reading, alloc: Global) -> Result<File, Unread>
     requires { IsReadFrom reading }
     ensures file { (earlier : List Item) → Holds reading earlier → AreCut earlier
         → Completes earlier result }
@@ -81,7 +83,7 @@ pub(crate) fn completed(reading: Reading, alloc: Global) -> Result<File, ReadFau
 {
     match reading.finish(alloc) {
         Ok(file) => Ok(file),
-        Err(FinishFault::Memory) => Err(ReadFault::OutOfMemory),
-        Err(FinishFault::End(fault)) => Err(ReadFault::End(fault)),
+        Err(FinishFault::Memory(refused)) => Err(Unread::refused(refused)),
+        Err(FinishFault::End(fault)) => Err(Unread::at_end(fault)),
     }
 }

@@ -28,7 +28,9 @@ impl Reading {
         if line.size > MOST_LINE_BYTES {
             return Err(StepFault::Fault(LineFault::LongLine));
         }
-        self.close(alloc)?;
+        if let Err(refused) = self.close(alloc) {
+            return Err(StepFault::Memory(refused));
+        }
         match line.key {
             Keyword::Known(field) => match field.shape(self.draft.is_spatial()) {
                 Some(shape) => self.open(alloc, field, shape, line),

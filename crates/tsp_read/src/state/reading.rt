@@ -10,6 +10,7 @@ use crate::state::store::store;
 use std::alloc::Global;
 use tsp_draft::Draft;
 use tsp_format::Field;
+use tsp_memory::Refused;
 use tsp_section::{Part, StepFault};
 use tsp_text::LineFault;
 
@@ -77,7 +78,6 @@ fn is_same(field: Field, other: Field) -> bool
 
 impl Reading {
     ghost use Rattle.tsp_read.specs.states.Holds.{Holds, Closed, AnswersItem};
-    ghost use Rattle.tsp_section.specs.declared.fault.StepFault.TheVariants.{Memory};
 
     /// Nothing so far.
     pub(crate) fn new(alloc: Global) -> Reading
@@ -125,10 +125,9 @@ impl Reading {
     }
 
     /// Closes the section that is open, if one is: what it has goes into the draft.
-    pub(crate) fn close(&mut self, alloc: Global) -> Result<(), StepFault>
+    pub(crate) fn close(&mut self, alloc: Global) -> Result<(), Refused>
         ensures closed { OnOk result ((earlier : List Item) → Holds self.old earlier
             → Closed self.new earlier) }
-        ensures err { IfErr result (λ e. e ≡ Memory) }
         ensures stood { IfErr result (λ _. is_some self.old.opened ≡ true) }
     {
         let Some(section) = self.opened.take() else {

@@ -31,7 +31,7 @@ impl Reading {
                     self.begin(OpenSection { field, part });
                     Ok(())
                 }
-                Err(_) => Err(StepFault::Memory),
+                Err(refused) => Err(StepFault::Memory(refused)),
             },
             Err(fault) => Err(StepFault::Fault(fault)),
         }

@@ -1,8 +1,7 @@
 //! What a section has read goes into its field of the draft.
 
-ghost use Rattle.std.specs.Prelude.{◌≡◌, ℕ, Bool, List, IfOk, IfErr};
+ghost use Rattle.std.specs.Prelude.{◌≡◌, ℕ, Bool, List, IfOk};
 ghost use Rattle.tsp_draft.specs.states.Drafts.{fields_of};
-ghost use Rattle.tsp_section.specs.declared.fault.StepFault.TheVariants.{Memory};
 ghost use Rattle.tsp_text.specs.Sections.{place_in};
 ghost use Rattle.tsp_text.specs.Spells.{wants_more};
 ghost use Rattle.tsp_read.specs.states.OpenSection.{HoldsSection};
@@ -11,19 +10,15 @@ ghost use Rattle.tsp_read.specs.states.Stored.{with_section};
 use crate::state::reading::OpenSection;
 use std::alloc::Global;
 use tsp_draft::Draft;
-use tsp_section::{Part, StepFault};
+use tsp_memory::Refused;
+use tsp_section::Part;
 
 /// Stores what a section has. Returns whether it is incomplete.
-pub(crate) fn store(
-    draft: &mut Draft,
-    alloc: Global,
-    section: OpenSection,
-) -> Result<bool, StepFault>
-    ensures stored { IfOk result (λ more. (in_space : Bool) (n : ℕ) (words : List (List ℕ))
+pub(crate) fn store(draft: &mut Draft, alloc: Global, section: OpenSection) -> Result<bool, Refused>
+    ensures { IfOk result (λ more. (in_space : Bool) (n : ℕ) (words : List (List ℕ))
         → HoldsSection in_space section n words
         → (fields_of draft.new ≡ with_section in_space section.field n words (fields_of draft.old))
         × (more ≡ wants_more (place_in in_space section.field n words))) }
-    ensures err { IfErr result (λ e. e ≡ Memory) }
 {
     let OpenSection { field, part } = section;
     match part {

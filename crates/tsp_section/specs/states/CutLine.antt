@@ -53,7 +53,7 @@ abbrev pub SetsNamed : {V : Type 0} → (V → List ℕ) → List V → Field �
     → Result (Unit {0}) StepFault → Type 0
 SetsNamed text values field word late old new (Ok done) = (is_some old ≡ false) × (is_left_out field word ≡ false)
     × (named text values word ≡ new) × (is_some new ≡ true) × (late ≡ false)
-SetsNamed text values field word late old new (Err steps.Memory) = ⊥
+SetsNamed text values field word late old new (Err (steps.Memory refused)) = ⊥
 SetsNamed text values field word late old new (Err (steps.Fault fault)) = (new ≡ old)
     × (named_rows (is_some old) (is_left_out field word) (named text values word) late ≡ Some fault)
 
@@ -72,7 +72,7 @@ GivesNumber stands low high value (Err fault) =
 -- the name is there now, or the fault of the line
 abbrev pub SetsName : WordLine → Option (List ℕ) → Option (List ℕ) → Result (Unit {0}) StepFault → Type 0
 SetsName line old new (Ok done) = (is_some old ≡ false) × (is_too_long_to_keep line ≡ false) × (new ≡ Some line.value)
-SetsName line old new (Err steps.Memory) = new ≡ old
+SetsName line old new (Err (steps.Memory refused)) = new ≡ old
 SetsName line old new (Err (steps.Fault fault)) = (new ≡ old)
     × (first_row (when (is_some old) row.Repeated ∷ when (is_too_long_to_keep line) row.BadValue ∷ []) ≡ Some fault)
 
@@ -80,7 +80,7 @@ SetsName line old new (Err (steps.Fault fault)) = (new ≡ old)
 abbrev pub AddsComment : WordLine → List (List ℕ) → List (List ℕ) → Result (Unit {0}) StepFault → Type 0
 AddsComment line old new (Ok done) = (is_too_long_to_keep line ≡ false) × (nat_le most_comments (length old) ≡ false)
     × (new ≡ old ++ line.value ∷ [])
-AddsComment line old new (Err steps.Memory) = new ≡ old
+AddsComment line old new (Err (steps.Memory refused)) = new ≡ old
 AddsComment line old new (Err (steps.Fault fault)) = (new ≡ old)
     × (first_row (when (is_too_long_to_keep line) row.BadValue ∷ when (nat_le most_comments (length old)) row.Surplus ∷ [])
     ≡ Some fault)
@@ -89,7 +89,7 @@ AddsComment line old new (Err (steps.Fault fault)) = (new ≡ old)
 abbrev pub AddsOther : WordLine → List (List ℕ × List ℕ) → List (List ℕ × List ℕ) → Result (Unit {0}) StepFault → Type 0
 AddsOther line old new (Ok done) = (line.has_colon ≡ true) × (is_too_long_to_keep line ≡ false)
     × (nat_le most_others (length old) ≡ false) × (new ≡ old ++ (line.keyword, line.value) ∷ [])
-AddsOther line old new (Err steps.Memory) = new ≡ old
+AddsOther line old new (Err (steps.Memory refused)) = new ≡ old
 AddsOther line old new (Err (steps.Fault fault)) = (new ≡ old)
     × (first_row (when (not line.has_colon) row.UnknownLine ∷ when (is_too_long_to_keep line) row.BadValue
     ∷ when (nat_le most_others (length old)) row.Surplus ∷ []) ≡ Some fault)

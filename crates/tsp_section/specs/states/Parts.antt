@@ -25,7 +25,7 @@ use Rattle.tsp_text.specs.FaultRows.{word_fault}
 -- How a word at this place is taken: it has no fault and `Held` holds, or it has this one.
 abbrev pub Takes : ℕ → Place → List ℕ → Type 0 → Result (Unit {0}) StepFault → Type 0
 Takes n place word Held (Ok done) = (word_fault n place word ≡ None) × Held
-Takes n place word Held (Err steps.Memory) = Unit {0}
+Takes n place word Held (Err (steps.Memory refused)) = Unit {0}
 Takes n place word Held (Err (steps.Fault fault)) = word_fault n place word ≡ Some fault
 
 -- ---- nodes as they are read

@@ -3,10 +3,11 @@
 ghost use Rattle.std.specs.Prelude.{◌≡◌, [], ℕ, List, ◌∷◌, ◌++◌, ◌<◌, length, OnOk, IfErr, false};
 
 use crate::fault::StepFault;
+use crate::moved::move_to_end;
 use crate::parts::nodes::{is_minus_one, read_node_or_end};
 use std::alloc::Global;
-use std::mem;
 use tsp_format::{MOST_COMB_NODES, MOST_COMBS};
+use tsp_memory::{Refused, push};
 use tsp_text::LineFault;
 
 /// What was read of the combs: those that are whole, of a comb that has begun the whole sets, of a
@@ -22,7 +23,6 @@ pub struct CombList {
 }
 
 impl CombList {
-    ghost use Rattle.tsp_section.specs.declared.fault.StepFault.TheVariants.{Memory};
     ghost use Rattle.tsp_draft.specs.states.Drafts.{combs_of};
     ghost use Rattle.tsp_text.specs.CombSection.{whole_combs, with_set, with_comb, with_end, has_begun_comb, place_of_comb};
     ghost use Rattle.tsp_text.specs.FaultRows.{is_past_combs};
@@ -69,14 +69,17 @@ impl CombList {
         }
         match read_node_or_end(word, self.n) {
             Err(fault) => Err(StepFault::Fault(LineFault::Number(fault))),
-            Ok(None) => self.push_end(alloc),
+            Ok(None) => match self.push_end(alloc) {
+                Ok(()) => Ok(()),
+                Err(refused) => Err(StepFault::Memory(refused)),
+            },
             Ok(Some(_)) if self.is_full() => Err(StepFault::Fault(LineFault::Surplus)),
-            Ok(Some(node)) => match self.nodes.push(node) {
+            Ok(Some(node)) => match push(&mut self.nodes, node) {
                 Ok(()) => {
                     self.count += 1;
                     Ok(())
                 }
-                Err(_) => Err(StepFault::Memory),
+                Err(refused) => Err(StepFault::Memory(refused)),
             },
         }
     }
@@ -98,11 +101,10 @@ impl CombList {
     }
 
     /// Takes a -1: it ends the set that has begun, else the comb, else the section.
-    fn push_end(&mut self, alloc: Global) -> Result<(), StepFault>
+    fn push_end(&mut self, alloc: Global) -> Result<(), Refused>
         ensures done { OnOk result (combs_held self.new ≡ with_end (combs_held self.old)) }
         ensures kept { IfErr result (λ _. combs_held self.new ≡ combs_held self.old) }
         ensures n { self.new.n ≡ self.old.n }
-        ensures err { IfErr result (λ e. e ≡ Memory) }
     {
         if !self.nodes.is_empty() {
             return self.end_set(alloc);
@@ -115,37 +117,21 @@ impl CombList {
     }
 
     /// Ends the set that has begun.
-    fn end_set(&mut self, alloc: Global) -> Result<(), StepFault>
+    fn end_set(&mut self, alloc: Global) -> Result<(), Refused>
         ensures done { OnOk result (combs_held self.new ≡ with_set (combs_held self.old)) }
         ensures kept { IfErr result (λ _. combs_held self.new ≡ combs_held self.old) }
         ensures n { self.new.n ≡ self.old.n }
-        ensures err { IfErr result (λ e. e ≡ Memory) }
     {
-        let nodes = mem::replace(&mut self.nodes, Vec::new(alloc));
-        match self.sets.push(nodes) {
-            Ok(()) => Ok(()),
-            Err(refused) => {
-                self.nodes = refused.value;
-                Err(StepFault::Memory)
-            }
-        }
+        move_to_end(alloc, &mut self.sets, &mut self.nodes)
     }
 
     /// Ends the comb that has begun.
-    fn end_comb(&mut self, alloc: Global) -> Result<(), StepFault>
+    fn end_comb(&mut self, alloc: Global) -> Result<(), Refused>
         ensures done { OnOk result (combs_held self.new ≡ with_comb (combs_held self.old)) }
         ensures kept { IfErr result (λ _. combs_held self.new ≡ combs_held self.old) }
         ensures n { self.new.n ≡ self.old.n }
-        ensures err { IfErr result (λ e. e ≡ Memory) }
     {
-        let sets = mem::replace(&mut self.sets, Vec::new(alloc));
-        match self.combs.push(sets) {
-            Ok(()) => Ok(()),
-            Err(refused) => {
-                self.sets = refused.value;
-                Err(StepFault::Memory)
-            }
-        }
+        move_to_end(alloc, &mut self.combs, &mut self.sets)
     }
 
     /// The combs, and whether one is cut short.

@@ -6,6 +6,7 @@ use crate::fault::StepFault;
 use crate::parts::nodes::{is_minus_one, read_node_or_end};
 use std::alloc::Global;
 use tsp_format::MOST_DEPOTS;
+use tsp_memory::push;
 use tsp_text::LineFault;
 
 /// What was read of the depots.
@@ -63,9 +64,9 @@ impl DepotList {
             Ok(Some(_)) if self.depots.len() >= MOST_DEPOTS => {
                 Err(StepFault::Fault(LineFault::Surplus))
             }
-            Ok(Some(node)) => match self.depots.push(node) {
+            Ok(Some(node)) => match push(&mut self.depots, node) {
                 Ok(()) => Ok(()),
-                Err(_) => Err(StepFault::Memory),
+                Err(refused) => Err(StepFault::Memory(refused)),
             },
         }
     }

@@ -6,6 +6,7 @@ use crate::fault::StepFault;
 use crate::parts::nodes::{is_minus_one, read_node, read_node_or_end};
 use std::alloc::Global;
 use tsp_format::MOST_FIXED;
+use tsp_memory::push;
 use tsp_text::LineFault;
 
 /// What was read of the fixed pairs.
@@ -101,12 +102,12 @@ impl FixedList {
         match read_node(word, self.n) {
             Err(fault) => Err(StepFault::Fault(LineFault::Number(fault))),
             Ok(second) if second == first => Err(StepFault::Fault(LineFault::SelfEdge)),
-            Ok(second) => match self.pairs.push((first, second)) {
+            Ok(second) => match push(&mut self.pairs, (first, second)) {
                 Ok(()) => {
                     self.first = None;
                     Ok(())
                 }
-                Err(_) => Err(StepFault::Memory),
+                Err(refused) => Err(StepFault::Memory(refused)),
             },
         }
     }

@@ -5,7 +5,8 @@ ghost use Rattle.std.specs.Option.{ForSome};
 
 use crate::fault::StepFault;
 use crate::parts::nodes::{is_minus_one, new_node, unmarked_node};
-use std::alloc::{AllocError, Global};
+use std::alloc::Global;
+use tsp_memory::{Refused, filled};
 use tsp_number::parse_whole;
 use tsp_text::LineFault;
 
@@ -37,12 +38,12 @@ impl NumberList {
     /// # Errors
     ///
     /// Memory was refused.
-    pub fn open(alloc: Global, n: u32, low: i64, high: i64) -> Result<NumberList, AllocError>
+    pub fn open(alloc: Global, n: u32, low: i64, high: i64) -> Result<NumberList, Refused>
         ensures { IfOk result (λ part. HoldsNumbers part low high n []) }
     {
         Ok(NumberList {
-            seen: vec![in alloc; false; n as usize]?,
-            entries: vec![in alloc; 0; n as usize]?,
+            seen: filled(alloc, false, n as usize)?,
+            entries: filled(alloc, 0, n as usize)?,
             left: n,
             begun: None,
             low,
@@ -64,7 +65,7 @@ impl NumberList {
             (HoldsNumbers self.new low high n (words ++ word.now ∷ [])) result }
         ensures kept { IfErr result (λ _. (low high : ℤ) (n : ℕ) (words : List (List ℕ))
             → HoldsNumbers self.old low high n words → HoldsNumbers self.new low high n words) }
-        ensures memory { result ≢ Err Memory }
+        ensures memory { (refused : Refused) → result ≢ Err (Memory refused) }
     {
         if self.left == 0 {
             if is_minus_one(word) {

@@ -8,9 +8,10 @@ ghost use Rattle.tsp_section.specs.states.Parts.{are_in_space};
 
 use crate::fault::StepFault;
 use crate::parts::nodes::{is_minus_one, new_node, unmarked_node};
-use std::alloc::{AllocError, Global};
+use std::alloc::Global;
 use tsp_distance::{Decimal, PlanePoint, Point};
 use tsp_draft::Coords;
+use tsp_memory::{Refused, filled};
 use tsp_number::parse_decimal;
 use tsp_text::LineFault;
 
@@ -34,7 +35,7 @@ pub struct PointList {
 /// # Errors
 ///
 /// Memory was refused.
-fn at_origin(alloc: Global, n: u32, in_space: bool) -> Result<Coords, AllocError>
+fn at_origin(alloc: Global, n: u32, in_space: bool) -> Result<Coords, Refused>
     ensures { IfOk result (λ coords. (are_in_space coords ≡ in_space)
         × (points_of coords ≡ replicate n origin)) }
 {
@@ -45,10 +46,10 @@ fn at_origin(alloc: Global, n: u32, in_space: bool) -> Result<Coords, AllocError
             y: zero,
             z: zero,
         };
-        return Ok(Coords::Space(vec![in alloc; point; n as usize]?));
+        return Ok(Coords::Space(filled(alloc, point, n as usize)?));
     }
     let point = PlanePoint { x: zero, y: zero };
-    Ok(Coords::Plane(vec![in alloc; point; n as usize]?))
+    Ok(Coords::Plane(filled(alloc, point, n as usize)?))
 }
 
 impl PointList {
@@ -68,11 +69,11 @@ impl PointList {
     /// # Errors
     ///
     /// Memory was refused.
-    pub fn open(alloc: Global, n: u32, in_space: bool) -> Result<PointList, AllocError>
+    pub fn open(alloc: Global, n: u32, in_space: bool) -> Result<PointList, Refused>
         ensures { IfOk result (λ part. HoldsPoints part in_space n []) }
     {
         Ok(PointList {
-            seen: vec![in alloc; false; n as usize]?,
+            seen: filled(alloc, false, n as usize)?,
             entries: at_origin(alloc, n, in_space)?,
             left: n,
             begun: None,
@@ -94,7 +95,7 @@ impl PointList {
             n words) word.now (HoldsPoints self.new in_space n (words ++ word.now ∷ [])) result }
         ensures kept { IfErr result (λ _. (in_space : Bool) (n : ℕ) (words : List (List ℕ))
             → HoldsPoints self.old in_space n words → HoldsPoints self.new in_space n words) }
-        ensures memory { result ≢ Err Memory }
+        ensures memory { (refused : Refused) → result ≢ Err (Memory refused) }
     {
         if self.left == 0 {
             if is_minus_one(word) {

@@ -4,10 +4,11 @@ ghost use Rattle.std.specs.Prelude.{◌≡◌, [], ℕ, List, ◌∷◌, ◌++�
 ghost use Rattle.tsp_text.specs.SectionNumbers.{IsWhole};
 
 use crate::fault::StepFault;
+use crate::moved::move_to_end;
 use crate::parts::nodes::read_node_or_end;
 use std::alloc::Global;
-use std::mem;
 use tsp_format::{MOST_NODES, MOST_TOUR_NODES};
+use tsp_memory::{Refused, push};
 use tsp_text::LineFault;
 
 /// What was read of the tours: those that are done, the run of nodes that is open, and how many
@@ -20,7 +21,6 @@ pub struct TourList {
 }
 
 impl TourList {
-    ghost use Rattle.tsp_section.specs.declared.fault.StepFault.TheVariants.{Memory};
     ghost use Rattle.tsp_text.specs.TourSection.{place_of_tour, tours_in};
     ghost use Rattle.tsp_section.specs.states.Parts.{Takes};
     ghost use Rattle.tsp_section.specs.states.HeldParts.{HoldsTours, EndsRunOf};
@@ -54,17 +54,20 @@ impl TourList {
     {
         match read_node_or_end(word, MOST_NODES) {
             Err(fault) => Err(StepFault::Fault(LineFault::Number(fault))),
-            Ok(None) => self.end_run(alloc),
+            Ok(None) => match self.end_run(alloc) {
+                Ok(()) => Ok(()),
+                Err(refused) => Err(StepFault::Memory(refused)),
+            },
             Ok(Some(node)) => {
                 if self.count >= MOST_TOUR_NODES {
                     return Err(StepFault::Fault(LineFault::Surplus));
                 }
-                match self.run.push(node) {
+                match push(&mut self.run, node) {
                     Ok(()) => {
                         self.count += 1;
                         Ok(())
                     }
-                    Err(_) => Err(StepFault::Memory),
+                    Err(refused) => Err(StepFault::Memory(refused)),
                 }
             }
         }
@@ -94,36 +97,27 @@ impl TourList {
     }
 
     /// Ends the run that is open, if one is.
-    fn end_run(&mut self, alloc: Global) -> Result<(), StepFault>
+    fn end_run(&mut self, alloc: Global) -> Result<(), Refused>
         ensures done { OnOk result ((words : List (List ℕ)) → HoldsTours self.old words
             → EndsRunOf self.new words) }
         ensures kept { IfErr result (λ _. (words : List (List ℕ)) → HoldsTours self.old words
             → HoldsTours self.new words) }
         ensures count { self.new.count ≡ self.old.count }
-        ensures err { IfErr result (λ e. e ≡ Memory) }
     {
         if self.run.is_empty() {
             return Ok(());
         }
-        let run = mem::replace(&mut self.run, Vec::new(alloc));
-        match self.done.push(run) {
-            Ok(()) => Ok(()),
-            Err(refused) => {
-                self.run = refused.value;
-                Err(StepFault::Memory)
-            }
-        }
+        move_to_end(alloc, &mut self.done, &mut self.run)
     }
 
     /// The tours.
     ///
     /// # Errors
     ///
-    /// `Memory`: memory was refused. The tours are gone then.
-    pub fn finish(mut self, alloc: Global) -> Result<Vec<Vec<u32>>, StepFault>
+    /// Memory was refused. The tours are gone then.
+    pub fn finish(mut self, alloc: Global) -> Result<Vec<Vec<u32>>, Refused>
         ensures tours { (words : List (List ℕ)) → HoldsTours self words
             → IfOk result (λ tours. map (λ tour. tour.items) tours.items ≡ tours_in words) }
-        ensures err { IfErr result (λ e. e ≡ Memory) }
     {
         self.end_run(alloc)?;
         Ok(self.done)

@@ -7,6 +7,7 @@ use crate::parts::nodes::{is_minus_one, read_node, read_node_or_end, read_node_o
 use std::alloc::Global;
 use std::mem;
 use tsp_format::{MOST_BRANCHES, MOST_CHANGES, MOST_COMBS, MOST_DIFFERENCE, MOST_NODES, TreeStep};
+use tsp_memory::{Refused, push};
 use tsp_number::parse_whole;
 use tsp_text::LineFault;
 
@@ -27,7 +28,6 @@ pub struct TreeList {
 }
 
 impl TreeList {
-    ghost use Rattle.tsp_section.specs.declared.fault.StepFault.TheVariants.{Memory};
     ghost use Rattle.tsp_format.specs.states.TreeSteps.{steps_of};
     ghost use Rattle.tsp_text.specs.BranchSection.{whole_steps, with_leaf, place_of_step};
     ghost use Rattle.tsp_text.specs.Spells.{wants_more};
@@ -121,13 +121,13 @@ impl TreeList {
         match read_node(word, self.n) {
             Err(fault) => Err(StepFault::Fault(LineFault::Number(fault))),
             Ok(second) if second == first => Err(StepFault::Fault(LineFault::SelfEdge)),
-            Ok(second) => match self.steps.push(TreeStep::Branch(first, second)) {
+            Ok(second) => match push(&mut self.steps, TreeStep::Branch(first, second)) {
                 Ok(()) => {
                     self.first = None;
                     self.to_come = self.to_come.saturating_add(1);
                     Ok(())
                 }
-                Err(_) => Err(StepFault::Memory),
+                Err(refused) => Err(StepFault::Memory(refused)),
             },
         }
     }
@@ -143,7 +143,10 @@ impl TreeList {
     {
         match read_node_or_end(word, self.last_index) {
             Err(fault) => Err(StepFault::Fault(LineFault::Number(fault))),
-            Ok(None) => self.end_leaf(alloc),
+            Ok(None) => match self.end_leaf(alloc) {
+                Ok(()) => Ok(()),
+                Err(refused) => Err(StepFault::Memory(refused)),
+            },
             Ok(Some(_)) if self.changes >= MOST_CHANGES => {
                 Err(StepFault::Fault(LineFault::Surplus))
             }
@@ -156,28 +159,20 @@ impl TreeList {
     }
 
     /// Ends the leaf that has begun, and with it a tree that was to come.
-    fn end_leaf(&mut self, alloc: Global) -> Result<(), StepFault>
+    fn end_leaf(&mut self, alloc: Global) -> Result<(), Refused>
         ensures done { OnOk result (tree_held self.new ≡ with_leaf (tree_held self.old)) }
         ensures few { OnOk result ((n : ℕ) (words : List (List ℕ)) → HoldsTree self.old n words
             → self.new.to_come ≤ length self.new.steps.items + 1) }
         ensures kept { IfErr result (λ _. tree_held self.new ≡ tree_held self.old) }
         ensures n { (self.new.n ≡ self.old.n) × (self.new.last_index ≡ self.old.last_index) }
-        ensures err { IfErr result (λ e. e ≡ Memory) }
     {
+        push(&mut self.steps, TreeStep::Leaf(Vec::new(alloc)))?;
+        let last = self.steps.len() - 1;
         let leaf = mem::replace(&mut self.leaf, Vec::new(alloc));
-        match self.steps.push(TreeStep::Leaf(leaf)) {
-            Ok(()) => {
-                self.in_leaf = false;
-                self.to_come = self.to_come.saturating_sub(1);
-                Ok(())
-            }
-            Err(refused) => {
-                if let TreeStep::Leaf(leaf) = refused.value {
-                    self.leaf = leaf;
-                }
-                Err(StepFault::Memory)
-            }
-        }
+        self.steps[last] = TreeStep::Leaf(leaf);
+        self.in_leaf = false;
+        self.to_come = self.to_come.saturating_sub(1);
+        Ok(())
     }
 
     /// Takes the difference of an index.
@@ -191,12 +186,12 @@ impl TreeList {
     {
         match parse_whole(word, -MOST_DIFFERENCE, MOST_DIFFERENCE) {
             Err(fault) => Err(StepFault::Fault(LineFault::Number(fault))),
-            Ok(difference) => match self.leaf.push((index, difference)) {
+            Ok(difference) => match push(&mut self.leaf, (index, difference)) {
                 Ok(()) => {
                     self.first = None;
                     Ok(())
                 }
-                Err(_) => Err(StepFault::Memory),
+                Err(refused) => Err(StepFault::Memory(refused)),
             },
         }
     }

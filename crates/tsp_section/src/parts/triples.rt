@@ -6,6 +6,7 @@ use crate::fault::StepFault;
 use crate::parts::nodes::{is_minus_one, read_node, read_node_or_end};
 use std::alloc::Global;
 use tsp_format::{MOST_MULTIPLIER, MOST_MULTIPLIERS};
+use tsp_memory::push;
 use tsp_number::parse_whole;
 use tsp_text::LineFault;
 
@@ -123,13 +124,13 @@ impl TripleList {
     {
         match parse_whole(word, 0, MOST_MULTIPLIER) {
             Err(fault) => Err(StepFault::Fault(LineFault::Number(fault))),
-            Ok(multiplier) => match self.triples.push((first, second, multiplier)) {
+            Ok(multiplier) => match push(&mut self.triples, (first, second, multiplier)) {
                 Ok(()) => {
                     self.first = None;
                     self.second = None;
                     Ok(())
                 }
-                Err(_) => Err(StepFault::Memory),
+                Err(refused) => Err(StepFault::Memory(refused)),
             },
         }
     }

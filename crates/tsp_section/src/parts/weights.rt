@@ -7,6 +7,7 @@ use crate::fault::StepFault;
 use std::alloc::Global;
 use std::mem;
 use tsp_format::{MOST_MATRIX_NODES, MOST_WEIGHT};
+use tsp_memory::push;
 use tsp_number::parse_whole;
 use tsp_text::LineFault;
 
@@ -54,9 +55,9 @@ impl WeightList {
         }
         match parse_whole(word, -MOST_WEIGHT, MOST_WEIGHT) {
             Err(fault) => Err(StepFault::Fault(LineFault::Number(fault))),
-            Ok(weight) => match self.weights.push(weight) {
+            Ok(weight) => match push(&mut self.weights, weight) {
                 Ok(()) => Ok(()),
-                Err(_) => Err(StepFault::Memory),
+                Err(refused) => Err(StepFault::Memory(refused)),
             },
         }
     }

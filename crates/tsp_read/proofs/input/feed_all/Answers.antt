@@ -12,7 +12,11 @@ pub returns-in_default-clause-fed : goal.returns-in_default-clause-fed
 returns-in_default-clause-fed g c =
     let way = gathered_kept _ _ _ c.pieces.feed c.pieces.taken c.pieces.invariant.gathered c.in_default.ensures.bytes in
     let broken = c.in_default.ensures.failed ∙ ap (λ b. b || true) c.pieces.invariant.sound in
-    (way.given, omega (arith, way.counted, c.pieces.invariant.few), ((way.gave, broken, λ had. absurd (true≢false (sym had ∙ c.requires.sound))), way.timely, λ wants. absurd cc))
+    rw c.by_device.ensures (
+      way.given,
+      omega (arith, way.counted, c.pieces.invariant.few),
+      ((way.gave, broken, λ had. absurd (true≢false (sym had ∙ c.requires.sound))), way.timely, λ wants. absurd cc),
+    )
 
 pub returns-then-count-eq0-clause-fed : goal.returns-then-count-eq0-clause-fed
 returns-then-count-eq0-clause-fed g c =
@@ -24,14 +28,14 @@ returns-then-count-eq0-clause-fed g c =
     (gathered_none _ _ _ c.pieces.feed c.pieces.taken c.pieces.invariant.gathered last)
     (λ given. inl (c.in-Ok.ensures.bytes.1 zero (omega (arith, c.read.auto.buf))))
 
-pub returns-in_err-feed-clause-fed : goal.returns-in_err-feed-clause-fed
-returns-in_err-feed-clause-fed g c =
-    let same : c.from_residual.result ≡ Err c.in_err-feed.field-0.0 = handed_on _ _ c.from_residual.ensures.1 in
+pub returns-in_err-take-clause-fed : goal.returns-in_err-take-clause-fed
+returns-in_err-take-clause-fed g c =
+    let same : c.from_residual.result ≡ Err c.in_err-take.field-0.0 = handed_on _ _ c.from_residual.ensures.1 in
     rw same (
-    piece_stops (turn_of g.R.Read.remaining c.args.reader.now c.read.new.self) _ _ _ c.pieces.feed c.feed.new.self c.pieces.taken (take c.in-Ok.count c.read.new.buf) c.in_err-feed.field-0.0
+    piece_stops (turn_of g.R.Read.remaining c.args.reader.now c.read.new.self) _ _ _ c.pieces.feed c.take.new.self c.pieces.taken (take c.in-Ok.count c.read.new.buf) c.in_err-take.field-0.0
     (λ given. refl) (λ given gave. gave) (λ given. (c.requires.sound, c.in-Ok.ensures.failed ∙ ap (λ b. b || false) c.pieces.invariant.sound))
     (omega (arith, c.pieces-test.true)) c.pieces.invariant.gathered (sym c.may_go_on.ensures ∙ c.if-not-may_go_on.false)
-    (omega (arith, c.in-Ok.ensures.bound.0, c.in-Ok.ensures.bound.1, c.read.auto.buf)) c.in-Ok.ensures.bytes.0 c.in_err-feed.ensures.taken)
+    (omega (arith, c.in-Ok.ensures.bound.0, c.in-Ok.ensures.bound.1, c.read.auto.buf)) c.in-Ok.ensures.bytes.0 c.in_err-take.ensures.taken)
 
 pub pieces-init : goal.pieces-init
 pieces-init g c = record {
@@ -44,9 +48,9 @@ pieces-init g c = record {
 pub pieces-preserved : goal.pieces-preserved
 pieces-preserved g c = record {
   gathered =
-      gathered_more _ _ _ c.pieces.feed c.feed.new.self c.pieces.taken c.in-Ok.count (take c.in-Ok.count c.read.new.buf) c.pieces.invariant.gathered
+      gathered_more _ _ _ c.pieces.feed c.take.new.self c.pieces.taken c.in-Ok.count (take c.in-Ok.count c.read.new.buf) c.pieces.invariant.gathered
       (sym c.may_go_on.ensures ∙ c.if-not-may_go_on.false) (omega (arith, c.in-Ok.ensures.bound.0, c.in-Ok.ensures.bound.1, c.read.auto.buf)) c.in-Ok.ensures.bytes.0
-      (sym c.in-Ok.ensures.bound.1) c.in_ok-feed.ensures.taken;
+      (sym c.in-Ok.ensures.bound.1) c.in_ok-take.ensures.taken;
   asked = read_more g.R.Gives.gives c.args.reader.now c.pieces.reader c.read.new.self _ _ _ c.pieces.invariant.asked c.pieces.invariant.sound
       c.in-Ok.ensures.once c.in-Ok.ensures.failed;
   sound = c.in-Ok.ensures.failed ∙ ap (λ b. b || false) c.pieces.invariant.sound;
@@ -69,7 +73,7 @@ returns-then-count-eq0-clause-asked g c =
     read_more g.R.Gives.gives c.args.reader.now c.pieces.reader c.read.new.self _ _ _ c.pieces.invariant.asked c.pieces.invariant.sound
     c.in-Ok.ensures.once c.in-Ok.ensures.failed
 
-pub returns-in_err-feed-clause-asked : goal.returns-in_err-feed-clause-asked
-returns-in_err-feed-clause-asked g c =
+pub returns-in_err-take-clause-asked : goal.returns-in_err-take-clause-asked
+returns-in_err-take-clause-asked g c =
     read_more g.R.Gives.gives c.args.reader.now c.pieces.reader c.read.new.self _ _ _ c.pieces.invariant.asked c.pieces.invariant.sound
     c.in-Ok.ensures.once c.in-Ok.ensures.failed

@@ -10,7 +10,7 @@ use Rattle.tsp_section.proofs.parts.points.at_origin.Goals as goal
 pub returns : goal.returns
 returns c =
     let place : PlanePoint → Point = λ point. on_plane point.x point.y in
-    let items = c.in_ok-vec-2.ensures.items_if_clones_equal (λ y h. h) in (
+    let items = c.in_ok-filled-2.ensures.items_if_clones_equal (λ y h. h) in (
       sym c.if-in_space.false,
       ap (map place) items ∙ map_replicate place c.args.n (record { x = c.of_nanos-zero.result; y = c.of_nanos-zero.result })
           ∙ ap (λ zero. replicate c.args.n (on_plane zero zero)) c.of_nanos-zero.ensures,

@@ -11,6 +11,6 @@ returns c =
     let high_fits : SFits w64 c.args.high = search rules in record {
       from = to_z-of_z w64 c.args.low low_fits;
       to = to_z-of_z w64 c.args.high high_fits;
-      read = no_numbers c.in_ok-vec.field-0.items c.in_ok-vec-2.field-0.items c.args.low c.args.high c.args.n
-          (c.in_ok-vec.ensures.items_if_clones_equal (λ y h. h)) (c.in_ok-vec-2.ensures.items_if_clones_equal (λ y h. h));
+      read = no_numbers c.in_ok-filled.field-0.items c.in_ok-filled-2.field-0.items c.args.low c.args.high c.args.n
+          (c.in_ok-filled.ensures.items_if_clones_equal (λ y h. h)) (c.in_ok-filled-2.ensures.items_if_clones_equal (λ y h. h));
     }

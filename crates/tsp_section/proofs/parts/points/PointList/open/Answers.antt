@@ -6,6 +6,6 @@ use Rattle.tsp_section.proofs.parts.points.PointList.open.Goals as goal
 pub returns : goal.returns
 returns c = record {
   kind = c.in_ok-at_origin.ensures.0;
-  read = none_so_far c.args.in_space c.in_ok-vec.field-0.items (points_of c.in_ok-at_origin.field-0) c.args.n
-      (c.in_ok-vec.ensures.items_if_clones_equal (λ y h. h)) c.in_ok-at_origin.ensures.1;
+  read = none_so_far c.args.in_space c.in_ok-filled.field-0.items (points_of c.in_ok-at_origin.field-0) c.args.n
+      (c.in_ok-filled.ensures.items_if_clones_equal (λ y h. h)) c.in_ok-at_origin.ensures.1;
 }

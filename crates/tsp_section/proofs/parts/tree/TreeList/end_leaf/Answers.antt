@@ -1,19 +1,28 @@
 -- The goals of `TreeList::end_leaf` in src/parts/tree.rt: what it ensures.
-use Rattle.std.proofs.Common.{◌≡◌, ◌∙◌, ap, ◌∷◌, ◌++◌, [], refl, arith}
-use Rattle.std.proofs.lemmas.List.{map_push}
+use Rattle.std.proofs.Common.{◌≡◌, ◌∙◌, ap, ◌-◌, length, ◌∷◌, ◌++◌, [], refl, arith}
+use Rattle.std.specs.Prelude.{slice_set}
+use Rattle.std.proofs.Math.Seq.{set-append_seam}
+use Rattle.std.proofs.lemmas.List.{length-set, map_push}
 use Rattle.tsp_format.specs.declared.steps.TreeStep.TheVariants as tree
 use Rattle.tsp_format.specs.Steps.{Leaf}
 use Rattle.tsp_format.specs.states.TreeSteps.{step_of, steps_of}
 use Rattle.tsp_section.proofs.parts.tree.TreeList.end_leaf.Goals as goal
 
-pub returns-in-Ok-clause-done : goal.returns-in-Ok-clause-done
-returns-in-Ok-clause-done c =
+pub returns-clause-done : goal.returns-clause-done
+returns-clause-done c =
     let s = c.args.self.now in
-    let steps : steps_of c.push.new.self.items ≡ steps_of s.steps.items ++ Leaf s.leaf.items ∷ [] =
-    ap steps_of c.in-Ok.ensures.items ∙ map_push step_of s.steps.items (tree.Leaf c.replace-leaf.result)
+    let leaf = tree.Leaf c.replace-leaf.result in
+    let last : c.len-last.result - 1 ≡ length s.steps.items = omega (arith, c.len-last.ensures, c.in_ok-push.ensures.len) in
+    let steps : steps_of (slice_set c.push.new.list.items (c.len-last.result - 1) leaf) ≡ steps_of s.steps.items ++ Leaf s.leaf.items ∷ [] =
+    ap (λ items. steps_of (slice_set items (c.len-last.result - 1) leaf)) c.in_ok-push.ensures.items
+    ∙ ap (λ i. steps_of (slice_set (s.steps.items ++ tree.Leaf c.new.result ∷ []) i leaf)) last
+    ∙ ap steps_of (set-append_seam s.steps.items (tree.Leaf c.new.result) [] leaf)
+    ∙ map_push step_of s.steps.items leaf
     ∙ ap (λ leaf. steps_of s.steps.items ++ Leaf leaf.items ∷ []) c.replace-leaf.ensures.value in
-    let leaf : c.replace-leaf.new.dest.items ≡ [] = ap (λ leaf. leaf.items) c.replace-leaf.ensures.after ∙ c.new.ensures.items in
-    rw (steps, leaf, c.saturating_sub-self.ensures) refl
+    let nodes : c.replace-leaf.new.dest.items ≡ [] = ap (λ leaf. leaf.items) c.replace-leaf.ensures.after ∙ c.new-2.ensures.items in
+    rw (steps, nodes, c.saturating_sub-self.ensures) refl
 
-pub returns-in-Ok-clause-few : goal.returns-in-Ok-clause-few
-returns-in-Ok-clause-few c = λ n words h. omega (arith, c.saturating_sub-self.ensures, c.in-Ok.ensures.len, h.few)
+pub returns-clause-few : goal.returns-clause-few
+returns-clause-few c = λ n words h.
+    let same = length-set c.push.new.list.items (c.len-last.result - 1) (tree.Leaf c.replace-leaf.result) in
+    omega (arith, same, c.saturating_sub-self.ensures, c.in_ok-push.ensures.len, h.few)

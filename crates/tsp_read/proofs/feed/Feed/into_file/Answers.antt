@@ -1,8 +1,8 @@
--- The goals of `Feed::finish` in src/feed.rt: what it ensures.
+-- The goals of `Feed::into_file` in src/feed.rt: what it ensures.
 use Rattle.std.proofs.Common.{sym, ◌∙◌}
 use Rattle.std.proofs.lemmas.Bool.{false≢true}
 use Rattle.tsp_read.proofs.LastSteps.{whole_answer, open_not_bare}
-use Rattle.tsp_read.proofs.feed.Feed.finish.Goals as goal
+use Rattle.tsp_read.proofs.feed.Feed.into_file.Goals as goal
 
 pub returns-clause-read : goal.returns-clause-read
 returns-clause-read c = λ bytes h. whole_answer bytes c.in_ok-reading.reading c.completed.result (c.in_ok-reading.ensures.ends bytes h) c.completed.ensures.file
