@@ -13,16 +13,16 @@ use Rattle.tsp_bound.specs.states.NodeNumbers.{node_in}
 use Rattle.tsp_cases.specs.GoodNumbers.{most_crossed}
 use Rattle.tsp_cases.specs.GoodFamilies.{HasEachOnce}
 use Rattle.tsp_cases.specs.declared.decision.Decision.{Decision}
-use Rattle.tsp_branch.specs.states.Sets.{places_with}
-use Rattle.tsp_branch.specs.states.Combed.{AreSmallMultipliers, inside_both, multipliers_at, set_crossings, most_combed, set_weight}
+use Rattle.tsp_cases.specs.states.Sets.{places_with}
+use Rattle.tsp_cases.specs.states.Combed.{AreSmallMultipliers, inside_both, multipliers_at, set_crossings, most_combed, set_weight}
 use Rattle.tsp_cases.specs.states.Decided.{decided, change_of, changes, stack_of}
 use Rattle.tsp_cases.specs.states.OpenCases.{bears_on}
 use Rattle.tsp_branch.specs.states.Shared.{upwards, raised, other_of, others_of}
-use Rattle.tsp_branch.proofs.Changes.{changes_are}
-use Rattle.tsp_branch.proofs.CombSizes.{combed_size, combed_fits}
+use Rattle.tsp_cases.proofs.Changes.{changes_are}
+use Rattle.tsp_cases.proofs.CombSizes.{combed_size, combed_fits}
 use Rattle.tsp_cases.proofs.OpenCases.{changes_borne}
 use Rattle.tsp_cases.proofs.DecidedOnce.{changes_turned}
-use Rattle.tsp_branch.proofs.SetAlgebra.{sets_come_to, places_inside}
+use Rattle.tsp_cases.proofs.SetAlgebra.{sets_come_to, places_inside}
 use Rattle.tsp_branch.proofs.SharedSets.{inside_no_less}
 
 module _ (scale : ℤ) (potentials multipliers : List ℤ) (families : List (List (List ℕ))) (cost : ℕ → ℕ → ℤ) (from x : ℕ) (p q base : ℤ) (once : All (All HasEachOnce) families)

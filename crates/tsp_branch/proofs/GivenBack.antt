@@ -60,7 +60,8 @@ taken_passed (d ∷ case) =
     ]
 
 -- those of a case are listed in either order
-pub taken_listed : (case taken : List Decision) → stack_of taken ≡ filter (λ decision. decision.taken) case → triples_total (on_taken decided_number taken) ≡ triples_total (on_taken decided_number case)
+pub taken_listed : (case taken : List Decision) → stack_of taken ≡ filter (λ decision. decision.taken) case
+    → triples_total (on_taken decided_number taken) ≡ triples_total (on_taken decided_number case)
 taken_listed case taken is = sym (taken_turned taken) ∙ ap (λ (ds : List Decision). triples_total (on_taken decided_number ds)) is ∙ taken_passed case
 
 pub taken_few : (case taken : List Decision) (most : ℕ) → stack_of taken ≡ filter (λ decision. decision.taken) case → length case < most → length taken < most
@@ -71,7 +72,8 @@ taken_few case taken most is few =
     omega (arith, first, second, few)
 
 -- what the families give back, whatever their sets
-pub least_told : (crossed : List Crossings) (ms : List ℤ) (families : List (List (List ℕ))) → length crossed ≡ length families → least_of (multiplied (families_with crossed families) ms) ≡ sum_with false crossed ms
+pub least_told : (crossed : List Crossings) (ms : List ℤ) (families : List (List (List ℕ))) → length crossed ≡ length families
+    → least_of (multiplied (families_with crossed families) ms) ≡ sum_with false crossed ms
 least_told [] ms families many = refl
 least_told (own ∷ crossed) ms [] many = absurd (omega (arith, many))
 least_told (own ∷ crossed) [] (sets ∷ families) many = refl

@@ -31,9 +31,10 @@ use Rattle.tsp_cases.specs.Listed.{all_grown, split_at, steps_from, listed_steps
 use Rattle.tsp_branch.specs.JudgedLeaves.{AreJudgedLeaves, BoundsCycles, IsLowest}
 use Rattle.tsp_cases.specs.JudgedTrees.{AreCasesOf}
 use Rattle.tsp_cases.specs.declared.tree_cases.Cases.{Cases}
-use Rattle.tsp_branch.specs.states.Rooms.{AreSmall, IsJudgedLeaf, IsSizedLeaf}
-use Rattle.tsp_branch.proofs.CaseWeights.{small_multipliers}
-use Rattle.tsp_cases.proofs.Lists.{left_at}
+use Rattle.tsp_cases.specs.states.Rooms.{AreSmall}
+use Rattle.tsp_branch.specs.JudgedLeaves.{IsJudgedLeaf, IsSizedLeaf}
+use Rattle.tsp_cases.proofs.CaseWeights.{small_multipliers}
+use Rattle.tsp_cases.proofs.ListPlaces.{left_at}
 use Rattle.tsp_cases.proofs.OnePass.{first_bad_by_place}
 use Rattle.tsp_branch.proofs.Passes.{IsAtStep, IsPassing, at_leaf, at_step, passed}
 

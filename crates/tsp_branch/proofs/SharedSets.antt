@@ -9,12 +9,12 @@ use Rattle.tsp_theory.specs.Length.{sum_int_by}
 use Rattle.tsp_families.specs.Crossed.{has}
 use Rattle.tsp_cases.specs.GoodFamilies.{HasEachOnce}
 use Rattle.tsp_cases.specs.declared.set_place.SetPlace.{SetPlace}
-use Rattle.tsp_branch.specs.states.Sets.{added, times, places_in, places_with}
+use Rattle.tsp_cases.specs.states.Sets.{added, times, places_in, places_with}
 use Rattle.tsp_cases.specs.states.Places.{place_at, IsPlaceIn}
-use Rattle.tsp_branch.specs.states.Combed.{summed_from, multipliers_at, set_in, twice_in, inside_both, AreSmallMultipliers}
+use Rattle.tsp_cases.specs.states.Combed.{summed_from, multipliers_at, set_in, twice_in, inside_both, AreSmallMultipliers}
 use Rattle.tsp_branch.specs.states.Shared.{is_same_place, has_place, shared_by, sum_at_places}
 use Rattle.tsp_families.proofs.Lists.{apart_from_pairs}
-use Rattle.tsp_branch.proofs.SetAlgebra.{both_sums, added_once}
+use Rattle.tsp_cases.proofs.SetAlgebra.{both_sums, added_once}
 
 -- ---- the multipliers of the sets that have a node, by the places of these
 
@@ -130,7 +130,8 @@ in_families first k s [] x lt inside = absurd (omega (arith, lt))
 in_families first zero s (sets ∷ families) x lt inside =
     ap (λ f. has_place (places_with first (sets ∷ families) x) (place_at f s)) (let e : first + 0 ≡ first = omega arith in e)
     ∙ has_both (places_in first 0 sets x) (places_with (suc first) families x) (place_at first s)
-    ∙ ap (λ b. b || has_place (places_with (suc first) families x) (place_at first s)) (ap (λ k. has_place (places_in first 0 sets x) (place_at first k)) (let e : s ≡ 0 + s = omega arith in e) ∙ in_family first 0 s sets x inside)
+    ∙ ap (λ b. b || has_place (places_with (suc first) families x) (place_at first s))
+    (ap (λ k. has_place (places_in first 0 sets x) (place_at first k)) (let e : s ≡ 0 + s = omega arith in e) ∙ in_family first 0 s sets x inside)
     ∙ ap (λ b. has (get_or sets s []) x || b) (none_with (suc first) first s families x (omega arith)) ∙ or_none (has (get_or sets s []) x)
 in_families first (suc k) s (sets ∷ families) x lt inside =
     has_both (places_in first 0 sets x) (places_with (suc first) families x) (place_at (first + suc k) s)

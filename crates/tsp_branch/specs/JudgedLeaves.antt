@@ -9,7 +9,11 @@ use Rattle.tsp_cases.specs.Families.{Family}
 use Rattle.tsp_cases.specs.declared.decision.Decision.{Decision}
 use Rattle.tsp_cases.specs.Decisions.{decided_number}
 use Rattle.tsp_cases.specs.CaseTrees.{IsCaseTree, IsCaseTreeBound, BoundsIfAny}
-use Rattle.tsp_cases.specs.Listed.{listed_steps, AreGoodLeaves, IsFirstBadLeaf}
+use Rattle.tsp_cases.specs.Listed.{listed_steps, AreGoodLeaves, IsFirstBadLeaf, all_grown, split_at, IsGoodLeaf}
+use Rattle.tsp_branch.specs.declared.judged.JudgedLeaf.{JudgedLeaf}
+use Rattle.tsp_branch.specs.declared.judged.JudgedLeaf.TheVariants as leaves
+use Rattle.tsp_cases.specs.Cases.{LeafNumbers}
+use Rattle.tsp_cases.specs.states.Rooms.{AreSmall}
 
 -- Where all leaves are good, the bound, or none where no leaf has one; else the first leaf that isn't.
 abbrev pub AreJudgedLeaves : Bool → ℕ → (ℕ → ℕ → ℤ) → ℤ → List Family → List Crossings → List Decision → List listed.Step
@@ -36,3 +40,17 @@ abbrev pub IsLowest : Option ℤ → Option ℤ → Option ℤ → Type 0
 IsLowest None own lower = lower ≡ own
 IsLowest (Some lowest) None lower = lower ≡ Some lowest
 IsLowest (Some lowest) (Some own) lower = ((lower ≡ Some lowest) × (lowest ≤ℤ own)) ⊎ ((lower ≡ Some own) × (own ≤ℤ lowest))
+
+-- ---- one leaf
+
+-- What is found of a leaf that is good, whose numbers are kept for the next one; nothing of one that isn't.
+abbrev pub IsJudgedLeaf : (List Decision × LeafNumbers → Option ℤ → Type 0) → ℕ → List Crossings → List Decision → List ℤ
+    → List (ℕ × ℤ) → List ℤ → JudgedLeaf → Type 0
+IsJudgedLeaf found n crossed case old changes new leaves.Bad = IsGoodLeaf n crossed old changes → ⊥
+IsJudgedLeaf found n crossed case old changes new (leaves.Found own) = IsGoodLeaf n crossed old changes
+    × (new ≡ all_grown changes old) × AreSmall new × found (case, split_at n (all_grown changes old)) own
+
+-- Sums with the bound fit 128 bits.
+abbrev pub IsSizedLeaf : JudgedLeaf → Type 0
+IsSizedLeaf leaves.Bad = Unit {0}
+IsSizedLeaf (leaves.Found own) = IfSome own IsBoundSized

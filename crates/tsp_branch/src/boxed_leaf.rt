@@ -1,26 +1,26 @@
 //! The weights of a leaf, as boxes bound them.
 
-ghost use Rattle.std.specs.Prelude.{◌≡◌, ◌≤◌, ◌+◌, ◌^◌, ◌+ℤ◌, ◌*ℤ◌, ℕ, length, pos, neg_ℤ, IfOk};
-ghost use Rattle.std.specs.Int.{w64, int_wrap};
+ghost use Rattle.std.specs.Prelude.{◌≡◌, ◌+◌, ◌+ℤ◌, ◌*ℤ◌, length, pos, neg_ℤ, IfOk};
 ghost use Rattle.tsp_format.specs.Nodes.{IsNode};
-ghost use Rattle.tsp_theory.specs.CertificateNumbers.{IsFromTo, IsScale, IsBoundSized};
+ghost use Rattle.tsp_theory.specs.CertificateNumbers.{IsFromTo, IsBoundSized};
 ghost use Rattle.tsp_theory.specs.NodeBound.{weight_between, most_between};
 ghost use Rattle.tsp_theory.specs.states.Nearest.{least_at};
 ghost use Rattle.tsp_branch.specs.LeafWeight.{BoundsEachLeaf};
 ghost use Rattle.tsp_cases.specs.Decisions.{decided_number};
 ghost use Rattle.tsp_cases.specs.states.Lent.{lent_in};
-ghost use Rattle.tsp_branch.specs.states.Combed.{most_combed, set_weight};
+ghost use Rattle.tsp_cases.specs.states.Combed.{most_combed, set_weight};
 ghost use Rattle.tsp_cases.specs.states.Decided.{changes, decided};
 ghost use Rattle.tsp_cases.specs.states.OpenCases.{decisions_in};
 ghost use Rattle.tsp_branch.specs.states.Shared.{AreExact};
 
-use crate::add_sets::sum_left;
 use crate::both_sets::shared_by;
 use crate::decided::{DecidedWeights, change_between};
 use crate::leaf::{leaf_bound, leaf_bound_in_space};
+use crate::leaf_sum::LeafSum;
 use crate::placed_costs::PlacedCosts;
 use std::alloc::Global;
 use tsp_bound::BoxedWeights;
+use tsp_cases::{Multipliers, sum_left};
 use tsp_memory::Refused;
 use tsp_theory::Region;
 use tsp_tree::{Weights, weight_in};
@@ -44,8 +44,10 @@ impl<C: PlacedCosts> BoxedLeaf<'_, C> {
         requires from { IsNode (C.nodes self.now.decided.now.combed.now.costs.now) from }
         requires to { IsNode (C.nodes self.now.decided.now.combed.now.costs.now) to }
         ensures value { result ≡ (self.now.decided.now.combed.now.scale *ℤ C.at self.now.decided.now.combed.now.costs.now from to)
-            +ℤ (least_at self.now.decided.now.combed.now.moved.now from +ℤ least_at self.now.decided.now.combed.now.moved.now to) }
-        ensures size { IsFromTo (neg_ℤ (pos most_between)) (pos most_between) (weight_between self.now.decided.now.combed.now.scale
+            +ℤ (least_at self.now.decided.now.combed.now.moved.now from
+            +ℤ least_at self.now.decided.now.combed.now.moved.now to) }
+        ensures size { IsFromTo (neg_ℤ (pos most_between)) (pos most_between)
+            (weight_between self.now.decided.now.combed.now.scale
             self.now.decided.now.combed.now.potentials.now (C.at self.now.decided.now.combed.now.costs.now) from to) }
     {
         let combed = self.decided.combed;
@@ -59,8 +61,10 @@ impl<C: PlacedCosts> BoxedLeaf<'_, C> {
         requires from { IsNode (C.nodes self.now.decided.now.combed.now.costs.now) from }
         requires to { IsNode (C.nodes self.now.decided.now.combed.now.costs.now) to }
         requires base { base ≡ (self.now.decided.now.combed.now.scale *ℤ C.at self.now.decided.now.combed.now.costs.now from to)
-            +ℤ (least_at self.now.decided.now.combed.now.moved.now from +ℤ least_at self.now.decided.now.combed.now.moved.now to) }
-        requires size { IsFromTo (neg_ℤ (pos most_between)) (pos most_between) (weight_between self.now.decided.now.combed.now.scale
+            +ℤ (least_at self.now.decided.now.combed.now.moved.now from
+            +ℤ least_at self.now.decided.now.combed.now.moved.now to) }
+        requires size { IsFromTo (neg_ℤ (pos most_between)) (pos most_between)
+            (weight_between self.now.decided.now.combed.now.scale
             self.now.decided.now.combed.now.potentials.now (C.at self.now.decided.now.combed.now.costs.now) from to) }
         ensures value { result ≡ set_weight self.now.decided.now.combed.now.scale self.now.decided.now.combed.now.potentials.now
             self.now.decided.now.combed.now.multipliers.now (lent_in self.now.decided.now.combed.now.families.now)
@@ -68,8 +72,12 @@ impl<C: PlacedCosts> BoxedLeaf<'_, C> {
         ensures size { IsFromTo (neg_ℤ (pos most_combed)) (pos most_combed) result }
     {
         let combed = self.decided.combed;
+        let multipliers = Multipliers {
+            families: combed.families,
+            numbers: combed.multipliers,
+        };
         let shared = shared_by(
-            combed.multipliers,
+            &multipliers,
             &combed.by_node[to as usize],
             &combed.by_node[from as usize],
         );
@@ -91,7 +99,8 @@ impl<C: PlacedCosts> BoxedLeaf<'_, C> {
         requires to { IsNode (C.nodes self.now.decided.now.combed.now.costs.now) to }
         ensures { result ≡ set_weight self.now.decided.now.combed.now.scale self.now.decided.now.combed.now.potentials.now
             self.now.decided.now.combed.now.multipliers.now (lent_in self.now.decided.now.combed.now.families.now)
-            (C.at self.now.decided.now.combed.now.costs.now) from to +ℤ changes (decisions_in self.now.decided.now.case.now) from to }
+            (C.at self.now.decided.now.combed.now.costs.now) from to
+            +ℤ changes (decisions_in self.now.decided.now.case.now) from to }
     {
         let combed = self.combed(self.base(from, to), from, to);
         combed + self.change(from, to)
@@ -102,7 +111,8 @@ impl<C: PlacedCosts> Weights for BoxedLeaf<'_, C> {
     ghost nodes = { λ w. C.nodes w.decided.now.combed.now.costs.now };
 
     ghost at = { λ w. decided (decisions_in w.decided.now.case.now) (set_weight w.decided.now.combed.now.scale
-        w.decided.now.combed.now.potentials.now w.decided.now.combed.now.multipliers.now (lent_in w.decided.now.combed.now.families.now)
+        w.decided.now.combed.now.potentials.now w.decided.now.combed.now.multipliers.now
+        (lent_in w.decided.now.combed.now.families.now)
         (C.at w.decided.now.combed.now.costs.now)) };
 
     #[inline]
@@ -131,7 +141,8 @@ impl<C: PlacedCosts> BoxedWeights for BoxedLeaf<'_, C> {
     ghost number_of = { λ w. least_at w.decided.now.combed.now.moved.now };
 
     ghost unlowered = { λ w. raised (decisions_in w.decided.now.case.now) (set_weight w.decided.now.combed.now.scale
-        w.decided.now.combed.now.potentials.now w.decided.now.combed.now.multipliers.now (lent_in w.decided.now.combed.now.families.now)
+        w.decided.now.combed.now.potentials.now w.decided.now.combed.now.multipliers.now
+        (lent_in w.decided.now.combed.now.families.now)
         (C.at w.decided.now.combed.now.costs.now)) };
 
     ghost lowered_of = { λ w. others_of (decisions_in w.decided.now.case.now) };
@@ -197,26 +208,18 @@ pub(crate) fn decided_bound<C: PlacedCosts>(
     alloc: Global,
     w: &DecidedWeights<C>,
     row: &mut [i64],
-    scale: i64,
-    given_back: i128,
+    sum: LeafSum,
 ) -> Result<i128, Refused>
-    requires some { 3 ≤ C.nodes w.now.combed.now.costs.now }
     requires room { length row.old ≡ C.nodes w.now.combed.now.costs.now + 1 }
-    requires even { (i j : ℕ) → decided (decisions_in w.now.case.now) (set_weight w.now.combed.now.scale w.now.combed.now.potentials.now
-        w.now.combed.now.multipliers.now (lent_in w.now.combed.now.families.now) (C.at w.now.combed.now.costs.now)) i j
-        ≡ decided (decisions_in w.now.case.now) (set_weight w.now.combed.now.scale w.now.combed.now.potentials.now
-        w.now.combed.now.multipliers.now (lent_in w.now.combed.now.families.now) (C.at w.now.combed.now.costs.now)) j i }
-    requires scale { IsScale scale }
-    requires given_back { IsFromTo (neg_ℤ (pos (2 ^ 99))) (pos (2 ^ 99)) given_back }
     ensures leaf { IfOk result (λ bound. BoundsEachLeaf (C.nodes w.now.combed.now.costs.now)
         (decided (decisions_in w.now.case.now) (set_weight w.now.combed.now.scale w.now.combed.now.potentials.now
         w.now.combed.now.multipliers.now (lent_in w.now.combed.now.families.now) (C.at w.now.combed.now.costs.now)))
-        scale given_back bound) }
+        sum.scale sum.given_back bound) }
     ensures size { IfOk result (λ bound. IsBoundSized bound) }
 {
     if w.combed.kept.is_empty() && w.combed.are_exact() {
         let boxed = BoxedLeaf { decided: w };
-        return leaf_bound_in_space(alloc, &boxed, row, scale, given_back);
+        return leaf_bound_in_space(alloc, &boxed, row, sum.scale, sum.given_back);
     }
-    leaf_bound(alloc, w, row, scale, given_back)
+    leaf_bound(alloc, w, row, sum.scale, sum.given_back)
 }

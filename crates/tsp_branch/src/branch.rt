@@ -5,25 +5,24 @@ ghost use Rattle.std.specs.List.{All};
 ghost use Rattle.tsp_format.specs.states.TreeSteps.{steps_of};
 ghost use Rattle.tsp_theory.specs.Costs.{IsSymmetric};
 ghost use Rattle.tsp_cases.specs.Families.{IsFamily};
-ghost use Rattle.tsp_cases.specs.Decisions.{DecideOnce, decided_number};
+ghost use Rattle.tsp_cases.specs.Decisions.{decided_number};
 ghost use Rattle.tsp_cases.specs.states.Lent.{lent_in, good_in};
 ghost use Rattle.tsp_cases.specs.CaseTrees.{IsFoundAt};
-ghost use Rattle.tsp_cases.specs.states.OpenCases.{IsOpenCase, decisions_in};
+ghost use Rattle.tsp_cases.specs.states.OpenCases.{decisions_in};
 ghost use Rattle.tsp_branch.specs.JudgedLeaves.{AreJudgedLeaves, BoundsCycles, AreSizedLeaves, IsLowest};
-ghost use Rattle.tsp_branch.specs.states.Kept.{HoldsRows};
-ghost use Rattle.tsp_branch.specs.states.Rooms.{IsRoom, AreSmall, IsJudgedLeaf, IsSizedLeaf};
+ghost use Rattle.tsp_cases.specs.states.Kept.{HoldsRows};
+ghost use Rattle.tsp_cases.specs.states.Rooms.{IsRoom, AreSmall};
+ghost use Rattle.tsp_branch.specs.JudgedLeaves.{IsJudgedLeaf, IsSizedLeaf};
 
 use crate::case_leaf::CaseLeaf;
-use crate::judge::judge;
 use crate::judged::{JudgedLeaf, JudgedLeaves};
-use crate::moved::fill_moved;
-use crate::numbers::add_differences;
+use crate::leaf_case::LeafCase;
 use crate::placed_costs::PlacedCosts;
-use crate::room::Room;
-use crate::sets::sets_by_node;
-use crate::setting::Setting;
 use std::alloc::Global;
-use tsp_cases::{Cases, Families, OpenCase, case_trees_bound_cycles};
+use tsp_cases::{
+    Cases, Families, Multipliers, OpenCase, Room, Setting, add_differences,
+    case_trees_bound_cycles, fill_moved, judge_numbers, sets_by_node,
+};
 use tsp_format::TreeStep;
 use tsp_memory::Refused;
 
@@ -99,7 +98,11 @@ fn judge_leaves<C: PlacedCosts>(
             TreeStep::Branch(first, second) => case.take((*first, *second))?,
             TreeStep::Leaf(changes) => {
                 leaf += 1;
-                let judged = judge_leaf(alloc, setting, changes, &case, &mut room)?;
+                let at = LeafCase {
+                    setting: &*setting,
+                    case: &case,
+                };
+                let judged = judge_leaf(alloc, &at, changes, &mut room)?;
                 let JudgedLeaf::Found(own) = judged else {
                     return Ok(JudgedLeaves::BadLeaf(leaf));
                 };
@@ -118,48 +121,50 @@ fn judge_leaves<C: PlacedCosts>(
 /// Out of memory.
 fn judge_leaf<C: PlacedCosts>(
     alloc: Global,
-    setting: &Setting<C>,
+    at: &LeafCase<C>,
     changes: &[(u32, i64)],
-    case: &OpenCase,
     room: &mut Room,
 ) -> Result<JudgedLeaf, Refused>
     requires few_changes { length changes.now < 2 ^ 32 }
-    requires few { length (decisions_in case.now) < 2 ^ 33 }
-    requires case { IsOpenCase (C.nodes setting.now.costs.now) case.now }
-    requires direction { case.now.by_node.directed ≡ setting.now.cases.now.directed }
-    requires once { DecideOnce setting.now.cases.now.directed (decisions_in case.now) }
-    requires room { IsRoom (C.nodes setting.now.costs.now) (length setting.now.families.now.crossed.items) room.old }
-    requires kept { HoldsRows (C.nodes setting.now.costs.now) (length setting.now.families.now.crossed.items) setting.now.cases.now.scale
-        (lent_in setting.now.families.now) (C.at setting.now.costs.now) room.old.kept }
+    requires room { IsRoom (C.nodes at.now.setting.now.costs.now)
+        (length at.now.setting.now.families.now.crossed.items) room.old }
+    requires kept { HoldsRows (C.nodes at.now.setting.now.costs.now)
+        (length at.now.setting.now.families.now.crossed.items) at.now.setting.now.cases.now.scale
+        (lent_in at.now.setting.now.families.now) (C.at at.now.setting.now.costs.now) room.old.kept }
     requires small { AreSmall room.old.numbers.items }
-    ensures judged { IfOk result (IsJudgedLeaf (IsFoundAt setting.now.cases.now.directed (C.nodes setting.now.costs.now)
-        (C.at setting.now.costs.now) setting.now.cases.now.scale decided_number
-        (good_in setting.now.families.now))
-        (C.nodes setting.now.costs.now) setting.now.families.now.crossed.items
-        (decisions_in case.now) room.old.numbers.items changes.now
+    ensures judged { IfOk result (IsJudgedLeaf (IsFoundAt at.now.setting.now.cases.now.directed
+        (C.nodes at.now.setting.now.costs.now)
+        (C.at at.now.setting.now.costs.now) at.now.setting.now.cases.now.scale decided_number
+        (good_in at.now.setting.now.families.now))
+        (C.nodes at.now.setting.now.costs.now) at.now.setting.now.families.now.crossed.items
+        (decisions_in at.now.case.now) room.old.numbers.items changes.now
         room.new.numbers.items) }
-    ensures room { IfOk result (λ own. IsRoom (C.nodes setting.now.costs.now) (length setting.now.families.now.crossed.items) room.new) }
-    ensures kept { IfOk result (λ own. HoldsRows (C.nodes setting.now.costs.now)
-        (length setting.now.families.now.crossed.items) setting.now.cases.now.scale (lent_in setting.now.families.now) (C.at setting.now.costs.now) room.new.kept) }
+    ensures room { IfOk result (λ own. IsRoom (C.nodes at.now.setting.now.costs.now)
+        (length at.now.setting.now.families.now.crossed.items) room.new) }
+    ensures kept { IfOk result (λ own. HoldsRows (C.nodes at.now.setting.now.costs.now)
+        (length at.now.setting.now.families.now.crossed.items) at.now.setting.now.cases.now.scale
+        (lent_in at.now.setting.now.families.now) (C.at at.now.setting.now.costs.now) room.new.kept) }
     ensures size { IfOk result IsSizedLeaf }
 {
     if !add_differences(&mut room.numbers, changes) {
         return Ok(JudgedLeaf::Bad);
     }
-    if !judge(
+    if !judge_numbers(
         &room.numbers,
-        setting.families,
+        at.setting.families,
         &mut room.potentials,
         &mut room.multipliers,
     ) {
         return Ok(JudgedLeaf::Bad);
     }
-    room.kept
-        .bring_to(&room.multipliers, setting.by_node, setting.families);
+    let multipliers = Multipliers {
+        families: at.setting.families,
+        numbers: &room.multipliers,
+    };
+    room.kept.bring_to(&multipliers, at.setting.by_node);
     fill_moved(&mut room.moved, &room.potentials, &room.kept.ends);
     let leaf = CaseLeaf {
-        setting,
-        case,
+        at,
         potentials: &room.potentials,
         multipliers: &room.multipliers,
         moved: &room.moved,

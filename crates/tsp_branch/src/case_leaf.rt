@@ -1,48 +1,43 @@
 //! A leaf of a tree of cases, and its bound.
 
-ghost use Rattle.std.specs.Prelude.{◌≡◌, ◌<◌, ◌+◌, ◌^◌, length};
-ghost use Rattle.tsp_cases.specs.Decisions.{DecideOnce};
+ghost use Rattle.std.specs.Prelude.{◌≡◌, ◌+◌, length};
 ghost use Rattle.tsp_cases.specs.GoodNumbers.{AreGoodNumbers, as_leaf_numbers};
 ghost use Rattle.tsp_cases.specs.states.Lent.{lent_in};
-ghost use Rattle.tsp_cases.specs.states.OpenCases.{IsOpenCase, decisions_in};
-ghost use Rattle.tsp_branch.specs.states.Combed.{AreFewCrossings};
-ghost use Rattle.tsp_branch.specs.states.Kept.{AreMoved, AreRowsIfAny, kept_weight};
+ghost use Rattle.tsp_cases.specs.states.Combed.{AreFewCrossings};
+ghost use Rattle.tsp_cases.specs.states.Kept.{AreMoved, AreRowsIfAny, kept_weight};
 
 use crate::boxed_leaf::decided_bound;
 use crate::combed::CombedWeights;
 use crate::decided::DecidedWeights;
 use crate::given_back::{given_back, taken_back};
+use crate::leaf_case::LeafCase;
+use crate::leaf_sum::LeafSum;
 use crate::placed_costs::PlacedCosts;
 use crate::rows::AllowedRows;
-use crate::setting::Setting;
 use std::alloc::Global;
-use tsp_cases::OpenCase;
 use tsp_memory::Refused;
 use tsp_theory::Costs;
 
-/// A leaf: what it shares with all others, its case, its numbers, which are good, and what its
+/// A leaf: its case in what it shares with all others, its numbers, which are good, and what its
 /// weights need of them. That is by node its potential less the multipliers of its sets, and the
 /// rows that are kept, if any, at these multipliers.
 #[derive(Drop)]
 pub(crate) struct CaseLeaf<'a, C: Costs> {
-    pub(crate) setting: &'a Setting<'a, C>,
-    pub(crate) case: &'a OpenCase<'a>,
+    pub(crate) at: &'a LeafCase<'a, C>,
     pub(crate) potentials: &'a [i64],
     pub(crate) multipliers: &'a [i64],
     pub(crate) moved: &'a [i64],
     pub(crate) kept: &'a [Vec<i64>],
-    ghost is_case: { IsOpenCase (C.nodes setting.now.costs.now) case.now },
-    ghost direction: { case.now.by_node.directed ≡ setting.now.cases.now.directed },
-    ghost once: { DecideOnce setting.now.cases.now.directed (decisions_in case.now) },
-    ghost few: { length (decisions_in case.now) < 2 ^ 33 },
-    ghost numbers: { AreGoodNumbers (C.nodes setting.now.costs.now) setting.now.families.now.crossed.items
+    ghost numbers: { AreGoodNumbers (C.nodes at.now.setting.now.costs.now) at.now.setting.now.families.now.crossed.items
         (as_leaf_numbers potentials.now multipliers.now) },
-    ghost crossed: { AreFewCrossings (C.nodes setting.now.costs.now) multipliers.now (lent_in setting.now.families.now) },
-    ghost places: { length moved.now ≡ C.nodes setting.now.costs.now + 1 },
-    ghost are_moved: { AreMoved (C.nodes setting.now.costs.now) potentials.now multipliers.now
-        (lent_in setting.now.families.now) moved.now },
-    ghost are_kept: { AreRowsIfAny (C.nodes setting.now.costs.now) (C.at setting.now.costs.now)
-        (kept_weight setting.now.cases.now.scale (lent_in setting.now.families.now) (C.at setting.now.costs.now) multipliers.now) kept.now },
+    ghost crossed: { AreFewCrossings (C.nodes at.now.setting.now.costs.now) multipliers.now
+        (lent_in at.now.setting.now.families.now) },
+    ghost places: { length moved.now ≡ C.nodes at.now.setting.now.costs.now + 1 },
+    ghost are_moved: { AreMoved (C.nodes at.now.setting.now.costs.now) potentials.now multipliers.now
+        (lent_in at.now.setting.now.families.now) moved.now },
+    ghost are_kept: { AreRowsIfAny (C.nodes at.now.setting.now.costs.now) (C.at at.now.setting.now.costs.now)
+        (kept_weight at.now.setting.now.cases.now.scale (lent_in at.now.setting.now.families.now)
+        (C.at at.now.setting.now.costs.now) multipliers.now) kept.now },
 }
 
 impl<C: PlacedCosts> CaseLeaf<'_, C> {
@@ -61,14 +56,15 @@ impl<C: PlacedCosts> CaseLeaf<'_, C> {
     ///
     /// Out of memory.
     pub(crate) fn bound(&self, alloc: Global, row: &mut [i64]) -> Result<Option<i128>, Refused>
-        requires { length row.old ≡ C.nodes self.now.setting.now.costs.now + 1 }
-        ensures bound { IfOk result (IsFoundAt self.now.setting.now.cases.now.directed (C.nodes self.now.setting.now.costs.now)
-            (C.at self.now.setting.now.costs.now) self.now.setting.now.cases.now.scale decided_number
-            (good_in self.now.setting.now.families.now)
-            (decisions_in self.now.case.now, as_leaf_numbers self.now.potentials.now self.now.multipliers.now)) }
+        requires { length row.old ≡ C.nodes self.now.at.now.setting.now.costs.now + 1 }
+        ensures bound { IfOk result (IsFoundAt self.now.at.now.setting.now.cases.now.directed
+            (C.nodes self.now.at.now.setting.now.costs.now)
+            (C.at self.now.at.now.setting.now.costs.now) self.now.at.now.setting.now.cases.now.scale decided_number
+            (good_in self.now.at.now.setting.now.families.now)
+            (decisions_in self.now.at.now.case.now, as_leaf_numbers self.now.potentials.now self.now.multipliers.now)) }
         ensures size { IfOk result (λ bound. IfSome bound IsBoundSized) }
     {
-        if self.setting.cases.directed {
+        if self.at.setting.cases.directed {
             return Ok(self.bound_by_rows(row));
         }
         let bound = self.bound_by_trees(alloc, row)?;
@@ -82,48 +78,53 @@ impl<C: PlacedCosts> CaseLeaf<'_, C> {
     ///
     /// Out of memory.
     fn bound_by_trees(&self, alloc: Global, row: &mut [i64]) -> Result<i128, Refused>
-        requires undirected { self.now.setting.now.cases.now.directed ≡ false }
-        requires row { length row.old ≡ C.nodes self.now.setting.now.costs.now + 1 }
-        ensures bound { IfOk result (λ bound. IsFoundAt false (C.nodes self.now.setting.now.costs.now)
-            (C.at self.now.setting.now.costs.now) self.now.setting.now.cases.now.scale decided_number
-            (good_in self.now.setting.now.families.now)
-            (decisions_in self.now.case.now, as_leaf_numbers self.now.potentials.now self.now.multipliers.now)
+        requires undirected { self.now.at.now.setting.now.cases.now.directed ≡ false }
+        requires row { length row.old ≡ C.nodes self.now.at.now.setting.now.costs.now + 1 }
+        ensures bound { IfOk result (λ bound. IsFoundAt false (C.nodes self.now.at.now.setting.now.costs.now)
+            (C.at self.now.at.now.setting.now.costs.now) self.now.at.now.setting.now.cases.now.scale decided_number
+            (good_in self.now.at.now.setting.now.families.now)
+            (decisions_in self.now.at.now.case.now, as_leaf_numbers self.now.potentials.now self.now.multipliers.now)
             (Some bound)) }
         ensures size { IfOk result (λ bound. IsBoundSized bound) }
     {
         // The count shows that there are at most 100,000 nodes.
-        self.setting.costs.count();
+        self.at.setting.costs.count();
         let combed = CombedWeights::of(self);
         let weights = DecidedWeights {
             combed: &combed,
-            case: self.case,
+            case: self.at.case,
         };
-        let taken = taken_back(&self.case.by_node.taken);
-        let back = taken + given_back(self);
-        let scale = self.setting.cases.scale;
-        decided_bound(alloc, &weights, row, scale, back)
+        let taken = taken_back(&self.at.case.by_node.taken);
+        let sum = LeafSum {
+            scale: self.at.setting.cases.scale,
+            given_back: taken + given_back(self),
+        };
+        decided_bound(alloc, &weights, row, sum)
     }
 
     /// The bound of the least link from each node; `None` where some node has no link that the
     /// decisions allow.
     fn bound_by_rows(&self, row: &mut [i64]) -> Option<i128>
-        requires directed { self.now.setting.now.cases.now.directed ≡ true }
-        requires row { length row.old ≡ C.nodes self.now.setting.now.costs.now + 1 }
-        ensures bound { IsFoundAt true (C.nodes self.now.setting.now.costs.now)
-            (C.at self.now.setting.now.costs.now) self.now.setting.now.cases.now.scale decided_number
-            (good_in self.now.setting.now.families.now)
-            (decisions_in self.now.case.now, as_leaf_numbers self.now.potentials.now self.now.multipliers.now)
+        requires directed { self.now.at.now.setting.now.cases.now.directed ≡ true }
+        requires row { length row.old ≡ C.nodes self.now.at.now.setting.now.costs.now + 1 }
+        ensures bound { IsFoundAt true (C.nodes self.now.at.now.setting.now.costs.now)
+            (C.at self.now.at.now.setting.now.costs.now) self.now.at.now.setting.now.cases.now.scale decided_number
+            (good_in self.now.at.now.setting.now.families.now)
+            (decisions_in self.now.at.now.case.now, as_leaf_numbers self.now.potentials.now self.now.multipliers.now)
             result }
         ensures size { IfSome result IsBoundSized }
     {
         // The contract of `count` says that there are at most 100,000 nodes.
-        self.setting.costs.count();
+        self.at.setting.costs.count();
         let combed = CombedWeights::of(self);
         let rows = AllowedRows {
             weights: &combed,
-            case: self.case,
+            case: self.at.case,
         };
-        let back = given_back(self);
-        rows.bound(row, self.setting.cases.scale, back)
+        let sum = LeafSum {
+            scale: self.at.setting.cases.scale,
+            given_back: given_back(self),
+        };
+        rows.bound(row, sum)
     }
 }

@@ -2,21 +2,19 @@
 
 ghost use Rattle.std.specs.Prelude.{◌≡◌, ◌+◌, ◌+ℤ◌, ℕ, true, length, pos, neg_ℤ};
 ghost use Rattle.tsp_bound.specs.states.NodeNumbers.{most_number};
-ghost use Rattle.std.specs.Int.{w64, int_wrap};
 ghost use Rattle.tsp_format.specs.Nodes.{IsNode};
-ghost use Rattle.tsp_theory.specs.CertificateNumbers.{IsFromTo, IsScale, ArePotentials, entry};
+ghost use Rattle.tsp_theory.specs.CertificateNumbers.{IsFromTo, IsScale, ArePotentials};
 ghost use Rattle.tsp_theory.specs.states.Nearest.{least_at};
-ghost use Rattle.tsp_branch.specs.states.Sets.{IsMoved, IsSetTable};
+ghost use Rattle.tsp_cases.specs.states.Sets.{IsMoved, IsSetTable};
 ghost use Rattle.tsp_cases.specs.states.Lent.{lent_in};
-ghost use Rattle.tsp_branch.specs.states.Combed.{AreSmallMultipliers, AreFewCrossings, set_weight};
-ghost use Rattle.tsp_branch.specs.states.Kept.{AreMoved, AreRowsIfAny, kept_weight};
+ghost use Rattle.tsp_cases.specs.states.Combed.{AreSmallMultipliers, AreFewCrossings, set_weight};
+ghost use Rattle.tsp_cases.specs.states.Kept.{AreMoved, AreRowsIfAny, kept_weight};
 
-use crate::add_sets::{add_sets, sum_left};
 use crate::both_sets::are_few;
 use crate::case_leaf::CaseLeaf;
-use crate::multiplied::MultipliedFamilies;
-use crate::scaled::{scale_row, shift_row};
-use tsp_cases::{Families, SetPlace};
+use tsp_cases::{
+    Families, MultipliedFamilies, Multipliers, SetPlace, add_sets, scale_row, shift_row, sum_left,
+};
 use tsp_theory::Costs;
 use tsp_tree::{Weights, weight_in};
 
@@ -61,32 +59,31 @@ fn is_number(number: i64) -> bool
 
 impl<'a, C: Costs> CombedWeights<'a, C> {
     ghost use Rattle.std.specs.Prelude.{◌≡◌, ◌<◌, ◌≤◌, ◌+◌, ◌+ℤ◌, ℕ, length, slice_index, pos, neg_ℤ};
-    ghost use Rattle.std.specs.Int.{w64, int_wrap};
     ghost use Rattle.tsp_format.specs.Nodes.{IsNode};
-    ghost use Rattle.tsp_theory.specs.CertificateNumbers.{IsFromTo, IsScale, ArePotentials, entry};
+    ghost use Rattle.tsp_theory.specs.CertificateNumbers.{IsFromTo, IsScale, ArePotentials};
     ghost use Rattle.tsp_theory.specs.states.Nearest.{least_at};
     ghost use Rattle.tsp_theory.specs.NodeBound.{weight_between, most_between};
-    ghost use Rattle.tsp_branch.specs.states.Sets.{IsMoved};
+    ghost use Rattle.tsp_cases.specs.states.Sets.{IsMoved};
     ghost use Rattle.tsp_cases.specs.states.Lent.{lent_in};
-    ghost use Rattle.tsp_branch.specs.states.Combed.{AreSmallMultipliers, multipliers_at, AreFewCrossings, IsApart, most_combed, set_weight};
+    ghost use Rattle.tsp_cases.specs.states.Combed.{AreSmallMultipliers, multipliers_at, AreFewCrossings, IsApart, most_combed, set_weight};
     ghost use Rattle.tsp_branch.specs.states.Shared.{AreExact};
     ghost use Rattle.std.specs.Prelude.{true};
 
     /// The weights of a leaf without its decisions.
     pub(crate) fn of(leaf: &CaseLeaf<'a, C>) -> CombedWeights<'a, C>
-        ensures nodes { C.nodes result.costs.now ≡ C.nodes leaf.now.setting.now.costs.now }
+        ensures nodes { C.nodes result.costs.now ≡ C.nodes leaf.now.at.now.setting.now.costs.now }
         ensures weights { (i j : ℕ) → set_weight result.scale result.potentials.now result.multipliers.now
             (lent_in result.families.now) (C.at result.costs.now) i j
-            ≡ set_weight leaf.now.setting.now.cases.now.scale leaf.now.potentials.now leaf.now.multipliers.now
-            (lent_in leaf.now.setting.now.families.now) (C.at leaf.now.setting.now.costs.now) i j }
+            ≡ set_weight leaf.now.at.now.setting.now.cases.now.scale leaf.now.potentials.now leaf.now.multipliers.now
+            (lent_in leaf.now.at.now.setting.now.families.now) (C.at leaf.now.at.now.setting.now.costs.now) i j }
     {
         CombedWeights {
-            costs: leaf.setting.costs,
-            scale: leaf.setting.cases.scale,
+            costs: leaf.at.setting.costs,
+            scale: leaf.at.setting.cases.scale,
             potentials: leaf.potentials,
             multipliers: leaf.multipliers,
-            families: leaf.setting.families,
-            by_node: leaf.setting.by_node,
+            families: leaf.at.setting.families,
+            by_node: leaf.at.setting.by_node,
             moved: leaf.moved,
             kept: leaf.kept,
         }
@@ -97,8 +94,12 @@ impl<'a, C: Costs> CombedWeights<'a, C> {
         ensures { result ≡ true → AreExact (C.nodes self.now.costs.now) self.now.potentials.now self.now.multipliers.now
             (lent_in self.now.families.now) self.now.moved.now }
     {
+        let multipliers = Multipliers {
+            families: self.families,
+            numbers: self.multipliers,
+        };
         'nodes: for node in 1..self.costs.count() + 1 {
-            if !are_few(self.multipliers, &self.by_node[node as usize])
+            if !are_few(&multipliers, &self.by_node[node as usize])
                 || !is_number(weight_in(self.moved, node))
             {
                 return false;
@@ -225,7 +226,7 @@ impl<'a, C: Costs> CombedWeights<'a, C> {
 
 impl<C: Costs> Weights for CombedWeights<'_, C> {
     ghost use Rattle.tsp_cases.specs.states.Lent.{lent_in};
-    ghost use Rattle.tsp_branch.specs.states.Combed.{set_weight};
+    ghost use Rattle.tsp_cases.specs.states.Combed.{set_weight};
 
     ghost nodes = { λ w. C.nodes w.costs.now };
 

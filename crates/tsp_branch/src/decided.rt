@@ -1,16 +1,17 @@
 //! Weights that decisions change.
 
-ghost use Rattle.std.specs.Prelude.{◌≡◌, ℕ, false, length};
+ghost use Rattle.std.specs.Prelude.{◌≡◌, ◌≤◌, ℕ, false, length};
 ghost use Rattle.std.specs.Int.{w64, int_wrap};
 ghost use Rattle.std.specs.List.{All};
 ghost use Rattle.tsp_theory.specs.states.Nearest.{least_at};
-ghost use Rattle.tsp_branch.specs.states.Sets.{IsMoved};
-ghost use Rattle.tsp_cases.specs.states.Decided.{IsOnPlaces, IsChanged, AreFewChanges, change_of, changes};
+ghost use Rattle.tsp_cases.specs.states.Sets.{IsMoved};
+ghost use Rattle.tsp_cases.specs.states.Decided.{IsOnPlaces, IsChanged, AreFewChanges, change_of, changes, decided};
+ghost use Rattle.tsp_cases.specs.states.Lent.{lent_in};
+ghost use Rattle.tsp_cases.specs.states.Combed.{set_weight};
 ghost use Rattle.tsp_cases.specs.states.OpenCases.{IsOpenCase, decisions_in};
 
-use crate::add_sets::sum_left;
 use crate::combed::CombedWeights;
-use tsp_cases::{Decision, OpenCase};
+use tsp_cases::{Decision, OpenCase, sum_left};
 use tsp_theory::Costs;
 use tsp_tree::{Weights, add_at};
 
@@ -26,11 +27,16 @@ pub(crate) struct DecidedWeights<'a, C: Costs> {
     ghost is_case: { IsOpenCase (C.nodes combed.now.costs.now) case.now },
     ghost both: { case.now.by_node.directed ≡ false },
     ghost once: { AreFewChanges (decisions_in case.now) },
+    ghost some: { 3 ≤ C.nodes combed.now.costs.now },
+    ghost even: { (i j : ℕ) → decided (decisions_in case.now) (set_weight combed.now.scale combed.now.potentials.now
+        combed.now.multipliers.now (lent_in combed.now.families.now) (C.at combed.now.costs.now)) i j
+        ≡ decided (decisions_in case.now) (set_weight combed.now.scale combed.now.potentials.now
+        combed.now.multipliers.now (lent_in combed.now.families.now) (C.at combed.now.costs.now)) j i },
 }
 
 impl<C: Costs> Weights for DecidedWeights<'_, C> {
     ghost use Rattle.tsp_cases.specs.states.Lent.{lent_in};
-    ghost use Rattle.tsp_branch.specs.states.Combed.{set_weight};
+    ghost use Rattle.tsp_cases.specs.states.Combed.{set_weight};
     ghost use Rattle.tsp_cases.specs.states.Decided.{decided};
     ghost use Rattle.tsp_cases.specs.states.OpenCases.{decisions_in};
 

@@ -10,29 +10,30 @@ ghost use Rattle.tsp_cases.specs.states.Lent.{good_in};
 
 use crate::case_leaf::CaseLeaf;
 use crate::decided::DECIDED;
-use crate::judge::sum_with;
-use tsp_cases::Decision;
+use tsp_cases::{Decision, Multipliers, sum_with};
 use tsp_theory::Costs;
 
 /// The least crossings of a leaf's families, each times its multiplier, less each potential twice:
 /// at most 2^98 in size.
 pub(crate) fn given_back<C: Costs>(leaf: &CaseLeaf<C>) -> i128
-    ensures value { result ≡ least_of (multiplied (good_in leaf.now.setting.now.families.now) leaf.now.multipliers.now)
+    ensures value { result ≡ least_of (multiplied (good_in leaf.now.at.now.setting.now.families.now) leaf.now.multipliers.now)
         -ℤ (pos 2 *ℤ total leaf.now.potentials.now) }
     ensures size { IsFromTo (neg_ℤ (pos (2 ^ 98))) (pos (2 ^ 98)) result }
 {
-    let crossed = &leaf.setting.families.crossed;
-    sum_with(false, crossed, leaf.multipliers) - 2 * total(leaf.potentials)
+    let multipliers = Multipliers {
+        families: leaf.at.setting.families,
+        numbers: leaf.multipliers,
+    };
+    sum_with(false, &multipliers) - 2 * total(leaf)
 }
 
-/// The sum of numbers.
-pub(crate) fn total(numbers: &[i64]) -> i128
-    requires { length numbers.now < 2 ^ 32 }
-    ensures value { result ≡ total numbers.now }
+/// The sum of the potentials of a leaf.
+fn total<C: Costs>(leaf: &CaseLeaf<C>) -> i128
+    ensures value { result ≡ total leaf.now.potentials.now }
     ensures size { IsFromTo (neg_ℤ (pos (2 ^ 95))) (pos (2 ^ 95)) result }
 {
     let mut sum = 0;
-    'numbers: for number in numbers {
+    'numbers: for number in leaf.potentials {
         sum += i128::from(*number);
     }
     sum

@@ -9,7 +9,6 @@
 //! ```
 #![tactic(auto)]
 
-mod add_sets;
 mod both_sets;
 mod boxed_leaf;
 mod branch;
@@ -18,33 +17,24 @@ mod closing;
 mod combed;
 mod decided;
 mod given_back;
-mod judge;
 mod judged;
-mod kept;
 mod leaf;
-mod moved;
-mod multiplied;
-mod numbers;
+mod leaf_case;
+mod leaf_sum;
 mod placed_costs;
-mod room;
 mod rows;
-mod scaled;
-mod set_laws;
-mod sets;
-mod setting;
 mod verdict;
 
 pub use branch::branch_bound;
 pub use judged::{BranchVerdict, JudgedLeaves};
 pub use leaf::{leaf_bound, leaf_bound_in_space};
 pub use placed_costs::{InSpace, OutOfSpace, PlacedCosts};
-pub use set_laws::sets_tell_combs;
 pub use tsp_cases::{
     CaseTree, Cases, Crossings, Decision, Families, JudgedCases, JudgedFamilies,
     case_tree_bounds_are_unique, case_trees_bound_cycles, cases_bound_cycles, cases_have_no_cycle,
     cycles_cross_combs, cycles_cross_families, cycles_keep_leaves, decided_bounds_bound_cycles,
     fixed_bounds_bound_tours, judge_cases, judge_families, leaf_bounds_bound_cycles,
-    links_are_allowed, numbers_are_unique, row_leaf_bounds_bound_cycles, stacks_hold_cases,
-    steps_leave_cases, sums_are_below_cycles,
+    links_are_allowed, numbers_are_unique, row_leaf_bounds_bound_cycles, sets_tell_combs,
+    stacks_hold_cases, steps_leave_cases, sums_are_below_cycles,
 };
 pub use verdict::{judge_branches, judge_branches_in_space};

@@ -11,6 +11,7 @@ ghost use Rattle.tsp_branch.specs.states.Closed.{no_link, IsOpenRow};
 
 use crate::closing::{CLOSED, close_all, shut};
 use crate::leaf::rounded_up;
+use crate::leaf_sum::LeafSum;
 use tsp_cases::{Decision, OpenCase};
 use tsp_tree::Weights;
 
@@ -25,10 +26,10 @@ pub(crate) struct AllowedRows<'a, W: Weights> {
 }
 
 impl<W: Weights> AllowedRows<'_, W> {
-    ghost use Rattle.std.specs.Prelude.{◌≡◌, ◌+◌, ◌^◌, ℕ, length, pos, neg_ℤ, MatchOption, IfSome};
+    ghost use Rattle.std.specs.Prelude.{◌≡◌, ◌+◌, ℕ, length, MatchOption, IfSome};
     ghost use Rattle.tsp_format.specs.Nodes.{IsNode};
     ghost use Rattle.tsp_format.specs.Limits.{most_nodes};
-    ghost use Rattle.tsp_theory.specs.CertificateNumbers.{IsFromTo, IsScale, IsBoundSized, IsSumSized};
+    ghost use Rattle.tsp_theory.specs.CertificateNumbers.{IsBoundSized, IsSumSized};
     ghost use Rattle.tsp_cases.specs.states.OpenCases.{decisions_in};
     ghost use Rattle.tsp_cases.specs.Rows.{IsAllowed, HasNoLink, IsLeastFrom, IsSumOfLeast, IsRowBound};
 
@@ -38,19 +39,16 @@ impl<W: Weights> AllowedRows<'_, W> {
     ///
     /// # Requires
     ///
-    /// A sum of at most 2^99 in size, and a row of one place more than
-    /// there are nodes, which is overwritten.
-    pub(crate) fn bound(&self, row: &mut [i64], scale: i64, given_back: i128) -> Option<i128>
+    /// A row of one place more than there are nodes, which is overwritten.
+    pub(crate) fn bound(&self, row: &mut [i64], sum: LeafSum) -> Option<i128>
         requires room { length row.old ≡ W.nodes self.now.weights.now + 1 }
-        requires scale { IsScale scale }
-        requires given_back { IsFromTo (neg_ℤ (pos (2 ^ 99))) (pos (2 ^ 99)) given_back }
         ensures bound { MatchOption result (HasNoLink (W.nodes self.now.weights.now) (decisions_in self.now.case.now))
             (λ bound. IsRowBound (W.nodes self.now.weights.now) (W.at self.now.weights.now)
-            (decisions_in self.now.case.now) scale given_back bound) }
+            (decisions_in self.now.case.now) sum.scale sum.given_back bound) }
         ensures size { IfSome result IsBoundSized }
     {
-        let sum = self.sum_of_least(row)?;
-        Some(rounded_up(scale, sum + given_back))
+        let least = self.sum_of_least(row)?;
+        Some(rounded_up(sum.scale, least + sum.given_back))
     }
 
     /// The sum of the least weights of the allowed links from each node.

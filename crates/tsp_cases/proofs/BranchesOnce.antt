@@ -20,7 +20,7 @@ use Rattle.tsp_cases.specs.Listed.{all_grown, steps_from, no_numbers_of}
 use Rattle.tsp_cases.specs.Twice.{is_decided, IsFirstTwice, AreBranchesJudged}
 use Rattle.tsp_cases.proofs.CaseLaws.{stacks_hold_cases}
 use Rattle.tsp_cases.proofs.NextCases.{stack_more}
-use Rattle.tsp_cases.proofs.Lists.{left_at}
+use Rattle.tsp_cases.proofs.ListPlaces.{left_at}
 use Rattle.tsp_cases.proofs.OnePass.{IsFirstTwiceFrom, first_twice_by_place, first_twice_in_pass}
 
 -- ---- the cases of the leaves, whatever their numbers
@@ -37,7 +37,8 @@ told_cases n numbers (case ∷ cases) [] = refl
 told_cases n numbers (case ∷ cases) (listed.Branch a b ∷ steps) = told_cases n numbers (decide (a, b) true case ∷ decide (a, b) false case ∷ cases) steps
 told_cases n numbers (case ∷ cases) (listed.Leaf changes ∷ steps) = ap (λ (cs : List (List Decision)). case ∷ cs) (told_cases n (all_grown changes numbers) cases steps)
 
-pub no_branch_twice : (directed : Bool) (given : List Decision) (steps : List listed.Step) → ((first : ℕ) → IsFirstTwiceFrom directed 0 (given ∷ []) steps first → ⊥) → AllByRecursion (DecideOnce directed) (listed_cases (given ∷ []) steps)
+pub no_branch_twice : (directed : Bool) (given : List Decision) (steps : List listed.Step) → ((first : ℕ) → IsFirstTwiceFrom directed 0 (given ∷ []) steps first → ⊥)
+    → AllByRecursion (DecideOnce directed) (listed_cases (given ∷ []) steps)
     → AreBranchesJudged directed given steps None
 no_branch_twice directed given steps none once = (
   λ first h. none first (first_twice_in_pass directed given steps first h),
@@ -63,14 +64,16 @@ once_more directed case pair taken none h = AllPairs-cons (λ (a b : Decision). 
       | inr other ↦ other
     ]) h
 
-pub once_next : (directed : Bool) (given : List Decision) (all : List TreeStep) (stack : List Decision) (branch index : ℕ) (step other : TreeStep) → index < length all → step ≡ get_or all index step → step ≡ other
+pub once_next : (directed : Bool) (given : List Decision) (all : List TreeStep) (stack : List Decision) (branch index : ℕ) (step other : TreeStep) → index < length all → step ≡ get_or all index step
+    → step ≡ other
     → IsOnceSoFar directed given (steps_of all) stack branch (steps_of (drop index all)) → IsOnceSoFar directed given (steps_of all) stack branch (step_of other ∷ steps_of (drop (index + 1) all))
 once_next directed given all stack branch index step other lt is same h =
     subst (λ (steps : List TreeStep). IsOnceSoFar directed given (steps_of all) stack branch (steps_of steps))
     (left_at all index step lt is ∙ ap (λ (s : TreeStep). s ∷ drop (index + 1) all) same) h
 
 pub once_at_branch : (directed : Bool) (given : List Decision) (all : List listed.Step) (stack : List Decision) (branch a b : ℕ) (steps : List listed.Step)
-    → IsOnceSoFar directed given all stack branch (listed.Branch a b ∷ steps) → is_decided directed (stack ++ given) (a, b) ≡ false → IsOnceSoFar directed given all (decide (a, b) true stack) (suc branch) steps
+    → IsOnceSoFar directed given all stack branch (listed.Branch a b ∷ steps) → is_decided directed (stack ++ given) (a, b) ≡ false
+    → IsOnceSoFar directed given all (decide (a, b) true stack) (suc branch) steps
 once_at_branch directed given all stack branch a b steps h none = record {
   each = (once_more directed (stack ++ given) (a, b) true none h.each.0, (once_more directed (stack ++ given) (a, b) false none h.each.0, h.each.1));
   once = h.once;
@@ -90,13 +93,15 @@ pub once_pushed : (directed : Bool) (given : List Decision) (all : List listed.S
     → pushed ≡ items ++ decide (a, b) true [] → IsOnceSoFar directed given all (stack_of pushed) (branch + 1) steps
 once_pushed directed given all items pushed branch a b steps h none more =
     subst (λ (st : List Decision). IsOnceSoFar directed given all st (branch + 1) steps) (sym (stack_more items (record { pair = (a, b); taken = true })) ∙ ap stack_of (sym more))
-    (subst (λ (k : ℕ). IsOnceSoFar directed given all (decide (a, b) true (stack_of items)) k steps) (sym (add-one branch)) (once_at_branch directed given all (stack_of items) branch a b steps h none))
+    (subst (λ (k : ℕ). IsOnceSoFar directed given all (decide (a, b) true (stack_of items)) k steps) (sym (add-one branch))
+    (once_at_branch directed given all (stack_of items) branch a b steps h none))
 
 pub twice_found : (directed : Bool) (given : List Decision) (all : List listed.Step) (items : List Decision) (branch a b : ℕ) (steps : List listed.Step)
     → IsOnceSoFar directed given all (stack_of items) branch (listed.Branch a b ∷ steps) → is_decided directed (stack_of items ++ given) (a, b) ≡ true
     → IsFirstTwice directed given all (branch + 1)
 twice_found directed given all items branch a b steps h is =
-    first_twice_by_place directed given all (branch + 1) (subst (IsFirstTwiceFrom directed 0 (given ∷ []) all) (sym (add-one branch)) (twice_here directed given all (stack_of items) branch a b steps h is))
+    first_twice_by_place directed given all (branch + 1) (subst (IsFirstTwiceFrom directed 0 (given ∷ []) all) (sym (add-one branch))
+    (twice_here directed given all (stack_of items) branch a b steps h is))
 
 -- after a leaf, with a case that is open, and with none; and where no step is left
 pub once_at_leaf : (directed : Bool) (given : List Decision) (all : List listed.Step) (stack : List Decision) (branch : ℕ) (changes : List (ℕ × ℤ)) (steps : List listed.Step) (next : List Decision)
@@ -117,7 +122,8 @@ once_at_last directed given all stack branch changes steps h turned =
     no_branch_twice directed given all (λ first all_of. subst (λ (cs : List (List Decision)). IsFirstTwiceFrom directed branch cs steps first) none (h.left first all_of))
     (h.once (h.each.0, subst (λ (cs : List (List Decision)). AllByRecursion (DecideOnce directed) (listed_cases cs steps)) (sym none) tt))
 
-pub once_at_end : (directed : Bool) (given : List Decision) (all : List TreeStep) (stack : List Decision) (branch index : ℕ) → IsOnceSoFar directed given (steps_of all) stack branch (steps_of (drop index all))
+pub once_at_end : (directed : Bool) (given : List Decision) (all : List TreeStep) (stack : List Decision) (branch index : ℕ)
+    → IsOnceSoFar directed given (steps_of all) stack branch (steps_of (drop index all))
     → length all ≤ index → AreBranchesJudged directed given (steps_of all) None
 once_at_end directed given all stack branch index h past =
     let none : IsOnceSoFar directed given (steps_of all) stack branch [] =

@@ -22,7 +22,8 @@ families_with n [] multipliers are signs = tt
 families_with n (family ∷ families) [] are signs = tt
 families_with n (family ∷ families) (multiplier ∷ multipliers) are signs = ((are.0, signs.0), families_with n families multipliers are.1 signs.1)
 
-are_multiplied : (n : ℕ) (families : List Family) (multipliers : List ℤ) → All (IsFamily n) families → All (λ multiplier. pos 0 ≤ℤ multiplier) multipliers → AreMultiplied n (multiplied families multipliers)
+are_multiplied : (n : ℕ) (families : List Family) (multipliers : List ℤ) → All (IsFamily n) families → All (λ multiplier. pos 0 ≤ℤ multiplier) multipliers
+    → AreMultiplied n (multiplied families multipliers)
 are_multiplied n families multipliers are signs = All-from_recursion (λ f. IsFamily n f.0 × (pos 0 ≤ℤ f.1)) (multiplied families multipliers)
     (families_with n families multipliers (recursion_from_All (IsFamily n) families are) (recursion_from_All (λ multiplier. pos 0 ≤ℤ multiplier) multipliers signs))
 
@@ -33,13 +34,15 @@ pub record LeafLaws : Type 0 where
   pub no_link : NoLinkNoCycle
 
 -- a leaf's bound, and that it has none
-leaf_bounds_case : (directed : Bool) (n : ℕ) (cost : ℕ → ℕ → ℤ) (scale number : ℤ) (families : List Family) (leaf : List Decision × LeafNumbers) (own : ℤ) → LeafLaws → AreCostsFor directed n cost → IsScale scale
+leaf_bounds_case : (directed : Bool) (n : ℕ) (cost : ℕ → ℕ → ℤ) (scale number : ℤ) (families : List Family) (leaf : List Decision × LeafNumbers) (own : ℤ) → LeafLaws → AreCostsFor directed n cost
+    → IsScale scale
     → All (IsFamily n) families → AreLeafNumbers n leaf.1 → IsFoundAt directed n cost scale number families leaf (Some own) → BoundsCase directed n cost own leaf.0
 leaf_bounds_case false n cost scale number families leaf own laws costs_are scale_in are numbers is = λ nodes cycle keeps.
     laws.trees n cost scale leaf.1.potentials (on_taken number leaf.0) (on_avoided number leaf.0) (multiplied families leaf.1.multipliers) own nodes costs_are.0 costs_are.1 scale_in numbers.each_node
     (are_multiplied n families leaf.1.multipliers are numbers.signs) is cycle (takes_each nodes number leaf.0 keeps) (takes_none nodes number leaf.0 keeps)
 leaf_bounds_case true n cost scale number families leaf own laws costs_are scale_in are numbers is =
-    laws.rows n cost scale leaf.1.potentials (multiplied families leaf.1.multipliers) leaf.0 own costs_are scale_in numbers.each_node (are_multiplied n families leaf.1.multipliers are numbers.signs) is
+    laws.rows n cost scale leaf.1.potentials (multiplied families leaf.1.multipliers) leaf.0 own costs_are scale_in numbers.each_node
+    (are_multiplied n families leaf.1.multipliers are numbers.signs) is
 
 leaf_has_none : (directed : Bool) (n : ℕ) (cost : ℕ → ℕ → ℤ) (scale number : ℤ) (families : List Family) (leaf : List Decision × LeafNumbers) → LeafLaws → AreCostsFor directed n cost
     → IsFoundAt directed n cost scale number families leaf None → HasNoCycle directed n leaf.0
@@ -71,7 +74,8 @@ case_trees_bound_cycles laws bounds_cases no_cases directed n cost scale number 
     no_cases directed n given steps certificate.whole (All-from_recursion (HasNoCycle directed n) (cases_of leaves)
     (each leaves (recursion_from_All (λ leaf. IsFoundAt directed n cost scale number families leaf None) leaves is)))
   where
-    each : (leaves : List (List Decision × LeafNumbers)) → AllByRecursion (λ leaf. IsFoundAt directed n cost scale number families leaf None) leaves → AllByRecursion (HasNoCycle directed n) (cases_of leaves)
+    each : (leaves : List (List Decision × LeafNumbers)) → AllByRecursion (λ leaf. IsFoundAt directed n cost scale number families leaf None) leaves
+        → AllByRecursion (HasNoCycle directed n) (cases_of leaves)
     each [] none = tt
     each (leaf ∷ leaves) none = (leaf_has_none directed n cost scale number families leaf laws costs_are none.0, each leaves none.1)
 
@@ -97,13 +101,15 @@ one_leaf_bound n cost scale potentials taken avoided families a b one other =
     let second = other.bound_is.least a (let own = one.bound_is.above in omega (arith, ints, own, above)) in
     omega (arith, ints, first, second)
 
-one_found : (directed : Bool) (n : ℕ) (cost : ℕ → ℕ → ℤ) (scale number : ℤ) (families : List Family) (leaf : List Decision × LeafNumbers) (a b : ℤ) → IsFoundAt directed n cost scale number families leaf (Some a)
+one_found : (directed : Bool) (n : ℕ) (cost : ℕ → ℕ → ℤ) (scale number : ℤ) (families : List Family) (leaf : List Decision × LeafNumbers) (a b : ℤ)
+    → IsFoundAt directed n cost scale number families leaf (Some a)
     → IsFoundAt directed n cost scale number families leaf (Some b) → a ≡ b
 one_found false n cost scale number families leaf a b one other =
     one_leaf_bound n cost scale leaf.1.potentials (on_taken number leaf.0) (on_avoided number leaf.0) (multiplied families leaf.1.multipliers) a b one other
 one_found true n cost scale number families leaf a b one other = one_bound n _ leaf.0 scale _ a b one other
 
-some_or_none : (directed : Bool) (n : ℕ) (cost : ℕ → ℕ → ℤ) (scale number : ℤ) (families : List Family) (leaf : List Decision × LeafNumbers) (a : ℤ) → IsFoundAt directed n cost scale number families leaf (Some a)
+some_or_none : (directed : Bool) (n : ℕ) (cost : ℕ → ℕ → ℤ) (scale number : ℤ) (families : List Family) (leaf : List Decision × LeafNumbers) (a : ℤ)
+    → IsFoundAt directed n cost scale number families leaf (Some a)
     → IsFoundAt directed n cost scale number families leaf None → ⊥
 some_or_none false n cost scale number families leaf a one none = none
 some_or_none true n cost scale number families leaf a one none = has_no_bound n _ leaf.0 scale _ a none one

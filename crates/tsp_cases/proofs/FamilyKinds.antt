@@ -22,7 +22,8 @@ teeth_of : (sets : List (List ℕ)) → length (comb_with sets).teeth ≡ length
 teeth_of [] = refl
 teeth_of (handle ∷ teeth) = length-map teeth has ∙ (let e : length teeth ≡ suc (length teeth) - 1 = omega arith in e)
 
-pub known_found : (n count : ℕ) (sets : List (List ℕ)) (own : Crossings) → length sets ≡ count → own.least ≡ least_crossings_of (count - 1) → own.most ≡ 3 → IsGoodComb n sets → AreFamilyNumbers n sets (Some own)
+pub known_found : (n count : ℕ) (sets : List (List ℕ)) (own : Crossings) → length sets ≡ count → own.least ≡ least_crossings_of (count - 1) → own.most ≡ 3 → IsGoodComb n sets
+    → AreFamilyNumbers n sets (Some own)
 known_found n count sets own long least most good = (
   inl (record {
     kind = good.kind;

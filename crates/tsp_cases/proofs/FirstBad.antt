@@ -28,17 +28,20 @@ module _ (families : List (Vec (Vec ℕ))) (index : ℕ) (own : Vec (Vec ℕ)) (
 abbrev pub HaveNumbers : ℕ → List (List (List ℕ)) → List Crossings → Type 0
 HaveNumbers n families crossed = (k : ℕ) (default : Crossings) → k < length crossed → AreFamilyNumbers n (get_or families k []) (Some (get_or crossed k default))
 
-pub numbers_more : (n : ℕ) (families : List (List (List ℕ))) (crossed : List Crossings) (own : Crossings) → HaveNumbers n families crossed → AreFamilyNumbers n (get_or families (length crossed) []) (Some own)
+pub numbers_more : (n : ℕ) (families : List (List (List ℕ))) (crossed : List Crossings) (own : Crossings) → HaveNumbers n families crossed
+    → AreFamilyNumbers n (get_or families (length crossed) []) (Some own)
     → HaveNumbers n families (crossed ++ own ∷ [])
 numbers_more n families crossed own before here k default lt = elim (cases_lt k (length crossed)) [
   | inl old ↦ subst (λ (c : Crossings). AreFamilyNumbers n (get_or families k []) (Some c)) (sym (get_or_append_left crossed (own ∷ []) default k old)) (before k default old)
   | inr new ↦
       let last : length crossed ≡ k = omega (arith, new, lt, length-append crossed (own ∷ [])) in
-      subst (λ (c : Crossings). AreFamilyNumbers n (get_or families k []) (Some c)) (sym (get_or_push crossed own default k last)) (subst (λ (m : ℕ). AreFamilyNumbers n (get_or families m []) (Some own)) last here)
+      subst (λ (c : Crossings). AreFamilyNumbers n (get_or families k []) (Some c)) (sym (get_or_push crossed own default k last))
+      (subst (λ (m : ℕ). AreFamilyNumbers n (get_or families m []) (Some own)) last here)
 ]
 
 -- so each of them is good
-pub good_so_far : (n place : ℕ) (families : List (List (List ℕ))) (crossed : List Crossings) → length crossed ≡ place → HaveNumbers n families crossed → (other : ℕ) → other < place → IsGoodFamily n (get_or families other [])
+pub good_so_far : (n place : ℕ) (families : List (List (List ℕ))) (crossed : List Crossings) → length crossed ≡ place → HaveNumbers n families crossed → (other : ℕ) → other < place
+    → IsGoodFamily n (get_or families other [])
 good_so_far n place families crossed many have other lt =
     let default : Crossings = record { least = 0; most = 0 } in
     let own = have other default (omega (arith, lt, many)) in
@@ -60,7 +63,8 @@ all_good n families crossed many have =
       once = λ k d lt. subst (All HasEachOnce) (get_or_default families k [] d lt) (good k lt).once;
     }
 
-pub first_found : (n place : ℕ) (families : List (List (List ℕ))) → place < length families → ((other : ℕ) → other < place → IsGoodFamily n (get_or families other [])) → (IsGoodFamily n (get_or families place []) → ⊥)
+pub first_found : (n place : ℕ) (families : List (List (List ℕ))) → place < length families → ((other : ℕ) → other < place → IsGoodFamily n (get_or families other []))
+    → (IsGoodFamily n (get_or families place []) → ⊥)
     → IsFirstBadFamily n families (place + 1)
 first_found n place families lt before bad = record {
   least = omega arith;
@@ -81,5 +85,6 @@ families_some n (own ∷ crossed) (sets ∷ families) many are = (some are.0, fa
     some (inl known) = omega (arith, known.most_is)
     some (inr other) = other.parted
 
-pub all_some : (n : ℕ) (crossed : List Crossings) (families : List (List (List ℕ))) → length crossed ≡ length families → All (IsFamily n) (families_with crossed families) → All (λ own. 1 ≤ own.most) crossed
+pub all_some : (n : ℕ) (crossed : List Crossings) (families : List (List (List ℕ))) → length crossed ≡ length families → All (IsFamily n) (families_with crossed families)
+    → All (λ own. 1 ≤ own.most) crossed
 all_some n crossed families many are = All-from_recursion (λ own. 1 ≤ own.most) crossed (families_some n crossed families many (recursion_from_All (IsFamily n) (families_with crossed families) are))

@@ -60,14 +60,16 @@ bad_by_place n crossed numbers leaf (listed.Leaf changes ∷ steps) bad (inr lat
     one_more P k first more zero lt = first
     one_more P k first more (suc j) lt = more j (omega (arith, lt))
 
-good_by_place : (n : ℕ) (crossed : List Crossings) (numbers : List ℤ) (steps : List listed.Step) → AreGoodFrom n crossed numbers steps → (k : ℕ) → k < length (leaf_changes steps) → GoodAfter n crossed numbers (leaf_changes steps) k
+good_by_place : (n : ℕ) (crossed : List Crossings) (numbers : List ℤ) (steps : List listed.Step) → AreGoodFrom n crossed numbers steps → (k : ℕ) → k < length (leaf_changes steps)
+    → GoodAfter n crossed numbers (leaf_changes steps) k
 good_by_place n crossed numbers [] h k lt = absurd (omega (arith, lt))
 good_by_place n crossed numbers (listed.Branch a b ∷ steps) h k lt = good_by_place n crossed numbers steps h k lt
 good_by_place n crossed numbers (listed.Leaf changes ∷ steps) h zero lt = h.0
 good_by_place n crossed numbers (listed.Leaf changes ∷ steps) h (suc k) lt = good_by_place n crossed (all_grown changes numbers) steps h.1 k (omega (arith, lt))
 
 -- of a whole tree, before whose first leaf all numbers are 0
-pub first_bad_by_place : (n : ℕ) (crossed : List Crossings) (steps : List listed.Step) (bad : ℕ) → IsFirstBadFrom n crossed (no_numbers_of n (length crossed)) 0 steps bad → IsFirstBadLeaf n crossed steps bad
+pub first_bad_by_place : (n : ℕ) (crossed : List Crossings) (steps : List listed.Step) (bad : ℕ) → IsFirstBadFrom n crossed (no_numbers_of n (length crossed)) 0 steps bad
+    → IsFirstBadLeaf n crossed steps bad
 first_bad_by_place n crossed steps bad h =
     let found = bad_by_place n crossed (no_numbers_of n (length crossed)) 0 steps bad h in
     let place : found.0 ≡ bad - 1 = omega (arith, found.1) in
@@ -148,7 +150,8 @@ twice_in_pass directed branch (case ∷ cases) (listed.Branch a b ∷ steps) (su
 twice_in_pass directed branch (case ∷ cases) (listed.Leaf changes ∷ steps) k h = twice_in_pass directed branch cases steps k h
 
 -- of a whole tree, which begins with the given decisions
-pub first_twice_by_place : (directed : Bool) (given : List Decision) (steps : List listed.Step) (first : ℕ) → IsFirstTwiceFrom directed 0 (given ∷ []) steps first → IsFirstTwice directed given steps first
+pub first_twice_by_place : (directed : Bool) (given : List Decision) (steps : List listed.Step) (first : ℕ) → IsFirstTwiceFrom directed 0 (given ∷ []) steps first
+    → IsFirstTwice directed given steps first
 first_twice_by_place directed given steps first h =
     let found = twice_by_place directed 0 (given ∷ []) steps first h in
     let place : found.0 ≡ first - 1 = omega (arith, found.1) in
@@ -159,7 +162,8 @@ first_twice_by_place directed given steps first h =
       before = λ earlier from lt. found.2.before (earlier - 1) (omega (arith, from, lt, found.1));
     }
 
-pub first_twice_in_pass : (directed : Bool) (given : List Decision) (steps : List listed.Step) (first : ℕ) → IsFirstTwice directed given steps first → IsFirstTwiceFrom directed 0 (given ∷ []) steps first
+pub first_twice_in_pass : (directed : Bool) (given : List Decision) (steps : List listed.Step) (first : ℕ) → IsFirstTwice directed given steps first
+    → IsFirstTwiceFrom directed 0 (given ∷ []) steps first
 first_twice_in_pass directed given steps first h =
     let place : 0 + suc (first - 1) ≡ first = omega (arith, h.least) in
     subst (IsFirstTwiceFrom directed 0 (given ∷ []) steps) place (twice_in_pass directed 0 (given ∷ []) steps (first - 1) (record {

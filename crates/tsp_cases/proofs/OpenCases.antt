@@ -155,7 +155,8 @@ pub record ListsNow (n : ℕ) (case : List Decision) (old new : NodeDecisions) :
   pub places : length new.lists.items ≡ n + 1
   pub each : AreListed old.directed n new.lists.items case
 
-pub now_more : (n : ℕ) (d : Decision) (case : List Decision) (old : NodeDecisions) (mid : List (Vec Decision)) (new : NodeDecisions) → AreByNode n old case → new.directed ≡ old.directed → new.taken ≡ old.taken → d.pair.0 ≢ d.pair.1
+pub now_more : (n : ℕ) (d : Decision) (case : List Decision) (old : NodeDecisions) (mid : List (Vec Decision)) (new : NodeDecisions) → AreByNode n old case → new.directed ≡ old.directed
+    → new.taken ≡ old.taken → d.pair.0 ≢ d.pair.1
     → d.pair.0 < length old.lists.items → d.pair.1 < length old.lists.items → HaveOneMore d.pair.0 d old.lists.items mid
     → ((old.directed ≡ true) × (new.lists.items ≡ mid)) ⊎ ((old.directed ≡ false) × HaveOneMore d.pair.1 d mid new.lists.items)
     → ListsNow n (d ∷ case) old new
@@ -175,7 +176,8 @@ now_more n d case old mid new was directed taken differ first_in second_in first
       (more_both n old.lists.items mid new.lists.items case d was.places differ first_in second_in first two.1 (subst (λ (b : Bool). AreListed b n old.lists.items case) two.0 was.each));
 }
 
-pub now_less : (n : ℕ) (d : Decision) (case : List Decision) (old : NodeDecisions) (mid : List (Vec Decision)) (new : NodeDecisions) → AreByNode n old (d ∷ case) → new.directed ≡ old.directed → new.taken ≡ old.taken → d.pair.0 ≢ d.pair.1
+pub now_less : (n : ℕ) (d : Decision) (case : List Decision) (old : NodeDecisions) (mid : List (Vec Decision)) (new : NodeDecisions) → AreByNode n old (d ∷ case) → new.directed ≡ old.directed
+    → new.taken ≡ old.taken → d.pair.0 ≢ d.pair.1
     → HaveOneLess d.pair.0 old.lists.items mid
     → ((old.directed ≡ true) × (new.lists.items ≡ mid)) ⊎ ((old.directed ≡ false) × HaveOneLess d.pair.1 mid new.lists.items)
     → ListsNow n case old new

@@ -66,8 +66,13 @@ two_parts = record {
 
 around : IsCycle 6 (1 ∷ 2 ∷ 3 ∷ 4 ∷ 5 ∷ 6 ∷ [])
 around = cycle_from 6 (1 ∷ 2 ∷ 3 ∷ 4 ∷ 5 ∷ 6 ∷ [])
-    ((omega arith, omega arith), ((omega arith, omega arith), ((omega arith, omega arith), ((omega arith, omega arith), ((omega arith, omega arith), ((omega arith, omega arith), tt))))))
-    ((less 1 2 (omega arith), (less 1 3 (omega arith), (less 1 4 (omega arith), (less 1 5 (omega arith), (less 1 6 (omega arith), tt))))), ((less 2 3 (omega arith), (less 2 4 (omega arith), (less 2 5 (omega arith), (less 2 6 (omega arith), tt)))), ((less 3 4 (omega arith), (less 3 5 (omega arith), (less 3 6 (omega arith), tt))), ((less 4 5 (omega arith), (less 4 6 (omega arith), tt)), ((less 5 6 (omega arith), tt), (tt, tt))))))
+    ((omega arith, omega arith), ((omega arith, omega arith), ((omega arith, omega arith), ((omega arith, omega arith), ((omega arith, omega arith), ((omega arith, omega arith), tt)))))) (
+      (less 1 2 (omega arith), (less 1 3 (omega arith), (less 1 4 (omega arith), (less 1 5 (omega arith), (less 1 6 (omega arith), tt))))),
+      (
+        (less 2 3 (omega arith), (less 2 4 (omega arith), (less 2 5 (omega arith), (less 2 6 (omega arith), tt)))),
+        ((less 3 4 (omega arith), (less 3 5 (omega arith), (less 3 6 (omega arith), tt))), ((less 4 5 (omega arith), (less 4 6 (omega arith), tt)), ((less 5 6 (omega arith), tt), (tt, tt)))),
+      ),
+    )
     (of_six (λ x. (1 ≡ x) ⊎ ((2 ≡ x) ⊎ ((3 ≡ x) ⊎ ((4 ≡ x) ⊎ ((5 ≡ x) ⊎ ((6 ≡ x) ⊎ ⊥))))))
     (inl refl) (inr (inl refl)) (inr (inr (inl refl))) (inr (inr (inr (inl refl)))) (inr (inr (inr (inr (inl refl))))) (inr (inr (inr (inr (inr (inl refl)))))))
   where
@@ -138,7 +143,8 @@ parts_beside = record {
   apart = AllPairs-cons (λ (i j : ℕ). AreAlike (sets_of beside_all_six) i j → ⊥) 1 (4 ∷ [])
       (All-from_recursion (λ (j : ℕ). AreAlike (sets_of beside_all_six) 1 j → ⊥) (4 ∷ []) ((λ same. both_ways true (same 0 (has three) (omega arith)) refl), tt))
       (λ i j d below lt. absurd (omega (arith, below, lt)));
-  each = of_six (λ node. Any (AreAlike (sets_of beside_all_six) node) (1 ∷ 4 ∷ [])) (first 1 refl refl) (first 2 refl refl) (first 3 refl refl) (second 4 refl refl) (second 5 refl refl) (second 6 refl refl);
+  each = of_six (λ node. Any (AreAlike (sets_of beside_all_six) node) (1 ∷ 4 ∷ [])) (first 1 refl refl) (first 2 refl refl) (first 3 refl refl) (second 4 refl refl) (second 5 refl refl)
+      (second 6 refl refl);
 }
   where
     first : (node : ℕ) → has three node ≡ true → has six node ≡ true → Any (AreAlike (sets_of beside_all_six) node) (1 ∷ 4 ∷ [])

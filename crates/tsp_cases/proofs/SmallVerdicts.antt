@@ -34,7 +34,8 @@ pub node_twice : IsNotGood ((1 ∷ 2 ∷ 3 ∷ 1 ∷ []) ∷ three_teeth)
 node_twice h = h.once 0 [] (omega arith) 0 3 0 (omega arith) (omega arith) refl
 
 pub teeth_meet : IsNotGood ((1 ∷ 2 ∷ 3 ∷ []) ∷ (1 ∷ 4 ∷ []) ∷ (2 ∷ 4 ∷ []) ∷ (3 ∷ 6 ∷ []) ∷ [])
-teeth_meet h = both_ways true ((comb_of_family 6 (1 ∷ 2 ∷ 3 ∷ []) ((1 ∷ 4 ∷ []) ∷ (2 ∷ 4 ∷ []) ∷ (3 ∷ 6 ∷ []) ∷ []) (omega arith) h.kind).apart 0 1 (λ node. false) (omega arith) (omega arith) 4 refl) refl
+teeth_meet h = both_ways true ((comb_of_family 6 (1 ∷ 2 ∷ 3 ∷ []) ((1 ∷ 4 ∷ []) ∷ (2 ∷ 4 ∷ []) ∷ (3 ∷ 6 ∷ []) ∷ []) (omega arith) h.kind).apart 0 1 (λ node. false) (omega arith)
+    (omega arith) 4 refl) refl
 
 pub tooth_inside : IsNotGood ((1 ∷ 2 ∷ 3 ∷ 4 ∷ []) ∷ three_teeth)
 tooth_inside h =

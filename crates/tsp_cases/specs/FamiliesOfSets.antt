@@ -26,4 +26,5 @@ most_or_least is_most own = if is_most then own.most else own.least
 abbrev pub sum_with : Bool → List Crossings → List ℤ → ℤ
 sum_with is_most [] multipliers = pos 0
 sum_with is_most (own ∷ crossed) [] = pos 0
-sum_with is_most (own ∷ crossed) (multiplier ∷ multipliers) = (multiplier *ℤ pos (most_or_least is_most own)) +ℤ sum_with is_most crossed multipliers
+sum_with is_most (own ∷ crossed) (multiplier ∷ multipliers) = (multiplier *ℤ pos (most_or_least is_most own))
+    +ℤ sum_with is_most crossed multipliers

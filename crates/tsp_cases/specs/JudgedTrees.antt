@@ -9,7 +9,8 @@ use Rattle.tsp_cases.specs.declared.judged.JudgedCases.{JudgedCases}
 use Rattle.tsp_cases.specs.declared.judged.JudgedCases.TheVariants as judged
 
 -- cases of these nodes with these parts
-pub record AreCasesOf (n : ℕ) (directed : Bool) (scale : ℤ) (given : List Decision) (steps : List TreeStep) (cases : Cases) : Type 0 where
+pub record AreCasesOf (n : ℕ) (directed : Bool) (scale : ℤ) (given : List Decision) (steps : List TreeStep)
+    (cases : Cases) : Type 0 where
   pub nodes : cases.nodes ≡ n
   pub direction : cases.directed ≡ directed
   pub scale_is : cases.scale ≡ scale
@@ -19,4 +20,5 @@ pub record AreCasesOf (n : ℕ) (directed : Bool) (scale : ℤ) (given : List De
 abbrev pub AreCasesJudged : ℕ → Bool → ℤ → List Decision → List TreeStep → JudgedCases → Type 0
 AreCasesJudged n directed scale given steps (judged.Good cases) =
     AreCasesOf n directed scale given steps cases × AreBranchesJudged directed given (steps_of steps) None
-AreCasesJudged n directed scale given steps (judged.Twice branch) = AreBranchesJudged directed given (steps_of steps) (Some branch)
+AreCasesJudged n directed scale given steps (judged.Twice branch) =
+    AreBranchesJudged directed given (steps_of steps) (Some branch)

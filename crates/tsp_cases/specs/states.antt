@@ -1,5 +1,9 @@
+pub mod Rooms
 pub mod FamilyNumbers
 pub mod Marked
+pub mod Kept
+pub mod Sets
+pub mod Combed
 pub mod Decided
 pub mod OpenCases
 pub mod Lent

@@ -111,7 +111,8 @@ fn is_comb(handles: &mut [u32], used: &mut [u32], mark: u32, sets: &[Vec<u32>]) 
     requires tooth_places { HavePlaces used.old sets.now }
     requires fresh_handle { AreUnmarked handles.old mark }
     requires fresh_teeth { AreUnmarked used.old mark }
-    ensures comb { (n : ℕ) → length handles.old ≡ n + 1 → AreSetsOf n sets.now → (IsTrue result ↔ IsGoodComb n (lists_of sets.now)) }
+    ensures comb { (n : ℕ) → length handles.old ≡ n + 1 → AreSetsOf n sets.now
+        → (IsTrue result ↔ IsGoodComb n (lists_of sets.now)) }
     ensures handle_others { AddsNoOther mark handles.old handles.new }
     ensures tooth_others { AddsNoOther mark used.old used.new }
     ensures handle_length { length handles.new ≡ length handles.old }

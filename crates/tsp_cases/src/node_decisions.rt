@@ -6,8 +6,9 @@ ghost use Rattle.tsp_cases.specs.declared.decision.Decision.{Decision};
 ghost use Rattle.tsp_cases.specs.states.OpenCases.{HaveOneMore, HaveOneLess};
 
 use crate::decision::Decision;
+use crate::lists::empty_lists;
 use std::alloc::Global;
-use tsp_memory::{Refused, push, with_capacity};
+use tsp_memory::{Refused, push};
 
 /// For each node the decisions that bear on its row, and all that take their pair, the last one
 /// last.
@@ -100,18 +101,4 @@ fn unlist_at(lists: &mut Vec<Vec<Decision>>, node: u32)
     ensures { HaveOneLess node lists.old.items lists.new.items }
 {
     lists[node as usize].pop();
-}
-
-/// An empty list for each node, and one for 0.
-fn empty_lists(alloc: Global, nodes: u32) -> Result<Vec<Vec<Decision>>, Refused>
-    ensures many { IfOk result (λ lists. length lists.items ≡ nodes + 1) }
-    ensures empty { IfOk result (λ lists. (x : ℕ) (default : Vec Decision) → x ≤ nodes
-        → (slice_index_or lists.items x default).items ≡ []) }
-{
-    let places = nodes as usize + 1;
-    let mut lists = with_capacity(alloc, places)?;
-    'lists: for _ in 0..places {
-        push(&mut lists, Vec::new(alloc))?;
-    }
-    Ok(lists)
 }

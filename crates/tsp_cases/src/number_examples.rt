@@ -10,8 +10,10 @@ ghost use Rattle.tsp_cases.specs.NumberExamples.{by_differences, by_numbers, two
 pub fn examples_of_good_numbers()
     ensures largest_sum { AreGoodNumbers 3 two_combs (multiplied_by (pos (3 * 10 ^ 17 - 1)) (pos 1)) }
     ensures larger_sum { ¬ AreGoodNumbers 3 two_combs (multiplied_by (pos (3 * 10 ^ 17)) (pos 1)) }
-    ensures largest_of_five { AreGoodNumbers 3 (crossed_by 5 ∷ crossed_by 2 ∷ []) (multiplied_by (pos (18 * 10 ^ 16 - 2)) (pos 5)) }
-    ensures larger_of_five { ¬ AreGoodNumbers 3 (crossed_by 5 ∷ crossed_by 2 ∷ []) (multiplied_by (pos (18 * 10 ^ 16 - 2)) (pos 6)) }
+    ensures largest_of_five { AreGoodNumbers 3 (crossed_by 5 ∷ crossed_by 2 ∷ [])
+        (multiplied_by (pos (18 * 10 ^ 16 - 2)) (pos 5)) }
+    ensures larger_of_five { ¬ AreGoodNumbers 3 (crossed_by 5 ∷ crossed_by 2 ∷ [])
+        (multiplied_by (pos (18 * 10 ^ 16 - 2)) (pos 6)) }
     ensures below_zero { ¬ AreGoodNumbers 3 two_combs (multiplied_by (pos 5) (negsuc 0)) }
     ensures fewer_combs { ¬ AreGoodNumbers 3 (known_three ∷ []) (multiplied_by (pos 5) (pos 1)) }
     ensures largest_potential { AreGoodNumbers 3 [] (moved_at_three (pos (10 ^ 15))) }

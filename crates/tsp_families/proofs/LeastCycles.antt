@@ -43,7 +43,8 @@ all_bits n nodes range once all = same_from_bits (number_of nodes) (2 ^ (n - 1) 
       let here : bit_at (number_of nodes) (i + 2 - 2) ≡ 1 = present n (i + 2) nodes range once (all (i + 2) (omega arith, omega (arith, lt))) in
       ap (bit_at (number_of nodes)) (omega arith) ∙ here ∙ sym (bit_at_ones (n - 1) i lt)
   | inr ge ↦
-      let none : bit_at (number_of nodes) (i + 2 - 2) ≡ 0 = absent n (i + 2) nodes (omega arith) range once (weaker (IsInner n) (λ y. i + 2 ≢ y) (λ y h. λ same. omega (arith, same, h.0, h.1, ge)) nodes range) in
+      let none : bit_at (number_of nodes) (i + 2 - 2) ≡ 0 = absent n (i + 2) nodes (omega arith) range once
+      (weaker (IsInner n) (λ y. i + 2 ≢ y) (λ y h. λ same. omega (arith, same, h.0, h.1, ge)) nodes range) in
       ap (bit_at (number_of nodes)) (omega arith) ∙ none ∙ sym (clear_above (n - 1) i ge)
 ])
 
@@ -222,7 +223,8 @@ least_of_paths n least costs paths more few small long best sum =
     below : IsBelowAll n (cost_by_rows n costs) least
     below x rest order = below_at (x - 2) x rest (omega (arith, order.range.0)) (omega (arith, order.range.0)) order
 
-    next : (k : ℕ) → least ≡ slice_index costs (1 + k) + slice_index paths ((2 ^ (n - 1) - 1) * (n - 1) + k) → IsFound n (cost_by_rows n costs) (2 ^ (n - 1) - 1) (k + 2) (slice_index paths ((2 ^ (n - 1) - 1) * (n - 1) + k))
+    next : (k : ℕ) → least ≡ slice_index costs (1 + k) + slice_index paths ((2 ^ (n - 1) - 1) * (n - 1) + k)
+        → IsFound n (cost_by_rows n costs) (2 ^ (n - 1) - 1) (k + 2) (slice_index paths ((2 ^ (n - 1) - 1) * (n - 1) + k))
         → (least ≡ no_path) ⊎ ((x : ℕ) × (rest : List ℕ) × IsOrderOf n (2 ^ (n - 1) - 1) (x ∷ rest) × (least ≡ length_from_one (cost_by_rows n costs) x rest))
     next k is (inl none) = inl (omega (arith, is, none, sum.below_start))
     next k is (inr path) = inr (k + 2, path.0, path.1, omega (arith, is, path.2, step k))

@@ -147,7 +147,8 @@ pub parts_from : (n : ℕ) (sets : List (ℕ → Bool)) (memberships firsts : Li
     → AreFirsts memberships firsts → ArePartsOf n sets firsts
 parts_from n sets memberships firsts are is = record {
   nodes = All-weaker (IsNodePlace memberships) (IsNode n) (λ node h. node_from n memberships node are.count h) firsts is.places;
-  apart = λ i j d lt in_list. differ_from n sets memberships (get_or firsts i d) (get_or firsts j d) are (is.places i d (omega (arith, lt, in_list))) (is.places j d in_list) (is.differ i j d lt in_list);
+  apart = λ i j d lt in_list. differ_from n sets memberships (get_or firsts i d) (get_or firsts j d) are (is.places i d (omega (arith, lt, in_list))) (is.places j d in_list)
+      (is.differ i j d lt in_list);
   each = λ node h.
       let place : IsNodePlace memberships node = (h.0, omega (arith, h.1, are.count)) in
       let found = is.each node place in
@@ -194,7 +195,8 @@ crossings_by_memberships [] i j = no_bits
 crossings_by_memberships (s ∷ ss) i j =
     let split = xor_block 1 (membership ss i) (membership ss j) (if s i then 1 else 0) (if s j then 1 else 0) (one_bit (s i)) (one_bit (s j)) in
     let sum = ones_cat 1 (bit_xor (membership ss i) (membership ss j)) (bit_xor (if s i then 1 else 0) (if s j then 1 else 0)) (one_bit_xor (s i) (s j)) in
-    let whole : count_ones (bit_xor (membership (s ∷ ss) i) (membership (s ∷ ss) j)) ≡ count_ones (bit_xor (membership ss i) (membership ss j)) + count_ones (bit_xor (if s i then 1 else 0) (if s j then 1 else 0)) = ap count_ones split ∙ sum in
+    let whole : count_ones (bit_xor (membership (s ∷ ss) i) (membership (s ∷ ss) j))
+    ≡ count_ones (bit_xor (membership ss i) (membership ss j)) + count_ones (bit_xor (if s i then 1 else 0) (if s j then 1 else 0)) = ap count_ones split ∙ sum in
     let rest = crossings_by_memberships ss i j in
     let here = bits_differ (s i) (s j) in
     omega (arith, ints, whole, rest, here)

@@ -178,7 +178,8 @@ pub unlike_nodes_need_parts : UnlikeNodesNeedParts
 unlike_nodes_need_parts n sets firsts nodes is range apart =
     let parts = parts_found n sets firsts nodes is (recursion_from_All (IsNode n) nodes range) in
     let once = unlike_parts n sets firsts nodes parts.0 parts.1 apart in
-    let inside = weaker (IsNode (length firsts)) (Within (range_with_len 1 (length firsts))) (λ p h. run_has 1 (length firsts) p h.0 (omega (arith, h.1))) parts.0 (in_range sets firsts nodes parts.0 parts.1) in
+    let inside = weaker (IsNode (length firsts)) (Within (range_with_len 1 (length firsts))) (λ p h. run_has 1 (length firsts) p h.0 (omega (arith, h.1))) parts.0
+    (in_range sets firsts nodes parts.0 parts.1) in
     let few = no_more parts.0 (range_with_len 1 (length firsts)) once inside in
     let long = length-range_with_len 1 (length firsts) in
     let many = as_many sets firsts nodes parts.0 parts.1 in

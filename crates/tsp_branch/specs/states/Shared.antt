@@ -8,7 +8,7 @@ use Rattle.tsp_theory.specs.states.Nearest.{least_at}
 use Rattle.tsp_bound.specs.states.NodeNumbers.{most_number}
 use Rattle.tsp_cases.specs.declared.decision.Decision.{Decision}
 use Rattle.tsp_cases.specs.declared.set_place.SetPlace.{SetPlace}
-use Rattle.tsp_branch.specs.states.Combed.{multipliers_at}
+use Rattle.tsp_cases.specs.states.Combed.{multipliers_at}
 use Rattle.tsp_cases.specs.states.Decided.{changes}
 use Rattle.tsp_cases.specs.states.OpenCases.{bears_on}
 

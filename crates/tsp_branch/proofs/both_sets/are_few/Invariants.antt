@@ -7,6 +7,6 @@ use Rattle.tsp_branch.proofs.both_sets.are_few.Given as goal
 
 abbrev pub invariant-places : goal.invariant-places
 invariant-places l = record {
-  sum : l.sum +ℤ sum_at_places l.numbers (drop l.place-index l.places) ≡ sum_at_places l.numbers l.places;
+  sum : l.sum +ℤ sum_at_places l.multipliers.numbers.now (drop l.place-index l.places) ≡ sum_at_places l.multipliers.numbers.now l.places;
   size : IsFromTo (pos 0) (pos 3000000000000000000) l.sum;
 }

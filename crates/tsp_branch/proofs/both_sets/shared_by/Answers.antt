@@ -16,7 +16,7 @@ places-init c = ap (int_wrap w64) (omega (arith, ints))
 
 pub places-preserved : goal.places-preserved
 places-preserved c =
-    let ns : List ℤ = c.args.numbers.now in
+    let ns : List ℤ = c.args.multipliers.now.numbers.now in
     let os : List SetPlace = c.args.others.now in
     let ps : List SetPlace = c.args.places.now in
     let index = c.places.place-index in
@@ -25,7 +25,7 @@ places-preserved c =
     let rest : ℤ = shared_by ns os (drop (index + 1) ps) in
     let sum : ℤ = to_z w64 c.places.sum-bits in
     let left = shared_left ns os ps index (place_at 0 0) c.places-test.true in
-    let own = c.requires.small place.family (pos 0) (c.requires.places index (place_at 0 0) c.places-test.true) in
+    let own = c.args.multipliers.now.small place.family (pos 0) (c.requires index (place_at 0 0) c.places-test.true) in
     elim c.if-has_place.branch [
       | then-has_place u ↦
           let more : shared_by ns os (drop index ps) ≡ z +ℤ rest = left ∙ ap (λ b. (if b then z else pos 0) +ℤ rest) (sym c.has_place.ensures ∙ u.if-has_place.true) in
@@ -43,7 +43,8 @@ places-preserved c =
 pub returns : goal.returns
 returns c =
     let past : length c.args.places.now ≤ c.places.place-index = omega (arith, c.places-test.false) in
-    let none : shared_by c.args.numbers.now c.args.others.now (drop c.places.place-index c.args.places.now) ≡ pos 0 =
-    ap (shared_by c.args.numbers.now c.args.others.now) (drop_all c.places.place-index c.args.places.now past) in
-    ap (int_wrap w64) (let e : to_z w64 c.places.sum-bits ≡ to_z w64 c.places.sum-bits +ℤ shared_by c.args.numbers.now c.args.others.now (drop c.places.place-index c.args.places.now) = omega (arith, ints, none) in e)
+    let none : shared_by c.args.multipliers.now.numbers.now c.args.others.now (drop c.places.place-index c.args.places.now) ≡ pos 0 =
+    ap (shared_by c.args.multipliers.now.numbers.now c.args.others.now) (drop_all c.places.place-index c.args.places.now past) in
+    ap (int_wrap w64) (let e : to_z w64 c.places.sum-bits ≡ to_z w64 c.places.sum-bits
+    +ℤ shared_by c.args.multipliers.now.numbers.now c.args.others.now (drop c.places.place-index c.args.places.now) = omega (arith, ints, none) in e)
     ∙ c.places.invariant

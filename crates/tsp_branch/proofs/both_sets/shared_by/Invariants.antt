@@ -6,4 +6,4 @@ use Rattle.tsp_branch.specs.states.Shared.{shared_by}
 use Rattle.tsp_branch.proofs.both_sets.shared_by.Given as goal
 
 abbrev pub invariant-places : goal.invariant-places
-invariant-places l = int_wrap w64 (l.sum +ℤ shared_by l.numbers l.others (drop l.place-index l.places)) ≡ int_wrap w64 (shared_by l.numbers l.others l.places)
+invariant-places l = int_wrap w64 (l.sum +ℤ shared_by l.multipliers.numbers.now l.others (drop l.place-index l.places)) ≡ int_wrap w64 (shared_by l.multipliers.numbers.now l.others l.places)

@@ -8,39 +8,45 @@ use Rattle.tsp_theory.specs.CertificateNumbers.{entry}
 use Rattle.tsp_theory.specs.states.Nearest.{least_at}
 use Rattle.tsp_cases.specs.Families.{IsFamily}
 use Rattle.tsp_cases.specs.states.Lent.{lent_in, good_in}
-use Rattle.tsp_branch.specs.states.Combed.{AreSmallMultipliers, multipliers_at}
-use Rattle.tsp_branch.specs.states.Kept.{kept_weight, AreRowsIfAny, AreEnds, HoldsRows}
+use Rattle.tsp_cases.specs.states.Combed.{AreSmallMultipliers, multipliers_at}
+use Rattle.tsp_cases.specs.states.Kept.{kept_weight, AreRowsIfAny, AreEnds, HoldsRows}
 use Rattle.tsp_cases.specs.Cases.{LeafNumbers}
 use Rattle.tsp_cases.specs.CaseTrees.{IsFoundAt}
 use Rattle.tsp_cases.specs.declared.decision.Decision.{Decision}
 use Rattle.tsp_cases.specs.Decisions.{decided_number}
 use Rattle.tsp_cases.specs.states.OpenCases.{decisions_in}
 use Rattle.tsp_cases.specs.Listed.{all_grown}
-use Rattle.tsp_branch.proofs.CaseWeights.{small_multipliers, few_crossings}
-use Rattle.tsp_branch.proofs.KeptRows.{moved_from_ends}
-use Rattle.tsp_cases.proofs.Lists.{written}
+use Rattle.tsp_cases.proofs.CaseWeights.{small_multipliers, few_crossings}
+use Rattle.tsp_cases.proofs.RowsKept.{moved_from_ends}
+use Rattle.tsp_cases.proofs.ListPlaces.{written}
 use Rattle.tsp_branch.proofs.Judging.{good_read, judged_leaf, numbers_are}
 use Rattle.tsp_branch.proofs.branch.judge_leaf.Goals as goal
 
-pub bring_to-requires-clause-small : goal.bring_to-requires-clause-small
-bring_to-requires-clause-small g c =
-    let s = c.args.setting.now in
-    let is = c.deref-2.ensures.value ∙ written c.args.room.now.multipliers.len c.judge.new.multipliers _ (c.judge.ensures.multipliers_len ∙ c.deref_mut-3.ensures.len)
-    ∙ c.if-not-judge.ensures.multipliers refl in
-    subst AreSmallMultipliers (sym is) (small_multipliers _ s.families.now.crossed.items _ _ s.families.now.some
-    (c.if-not-judge.ensures.good.0 refl))
+pub invariant_of-multipliers : goal.invariant_of-multipliers
+invariant_of-multipliers g c =
+    let s = c.args.at.now.setting.now in
+    let is = c.deref-2.ensures.value ∙ written c.args.room.now.multipliers.len c.judge_numbers.new.multipliers _ (c.judge_numbers.ensures.multipliers_len ∙ c.deref_mut-3.ensures.len)
+    ∙ c.if-not-judge_numbers.ensures.multipliers refl in
+    let good = c.if-not-judge_numbers.ensures.good.0 refl in
+    let long = ap length is ∙ good.each_comb in
+    record {
+      as_many = omega (arith, long, s.families.now.as_many);
+      small = subst AreSmallMultipliers (sym is) (small_multipliers _ s.families.now.crossed.items _ _ s.families.now.some
+          (c.if-not-judge_numbers.ensures.good.0 refl));
+    }
 
 pub fill_moved-requires-clause-ends : goal.fill_moved-requires-clause-ends
 fill_moved-requires-clause-ends g c =
-    let s = c.args.setting.now in
+    let s = c.args.at.now.setting.now in
     let n : ℕ = g.C.Costs.nodes s.costs.now in
     let cost = g.C.Costs.at s.costs.now in
     let room = c.args.room.now in
-    let ps_len : length c.deref-3.result.now ≡ n = ap length (c.deref-3.ensures.value ∙ written room.potentials.len c.judge.new.potentials _ (c.judge.ensures.potentials_len ∙ c.deref_mut-2.ensures.len))
-    ∙ c.judge.ensures.potentials_len ∙ ap length c.deref_mut-2.ensures.value ∙ c.requires.room.potentials in
+    let ps_len : length c.deref-3.result.now ≡ n = ap length (c.deref-3.ensures.value
+    ∙ written room.potentials.len c.judge_numbers.new.potentials _ (c.judge_numbers.ensures.potentials_len ∙ c.deref_mut-2.ensures.len))
+    ∙ c.judge_numbers.ensures.potentials_len ∙ ap length c.deref_mut-2.ensures.value ∙ c.requires.room.potentials in
     let ms_len : length c.deref-2.result.now ≡ length s.families.now.crossed.items =
-    ap length (c.deref-2.ensures.value ∙ written room.multipliers.len c.judge.new.multipliers _ (c.judge.ensures.multipliers_len ∙ c.deref_mut-3.ensures.len))
-    ∙ c.judge.ensures.multipliers_len ∙ ap length c.deref_mut-3.ensures.value ∙ c.requires.room.multipliers in
+    ap length (c.deref-2.ensures.value ∙ written room.multipliers.len c.judge_numbers.new.multipliers _ (c.judge_numbers.ensures.multipliers_len ∙ c.deref_mut-3.ensures.len))
+    ∙ c.judge_numbers.ensures.multipliers_len ∙ ap length c.deref_mut-3.ensures.value ∙ c.requires.room.multipliers in
     let brought = c.bring_to.ensures.kept n s.cases.now.scale cost (subst (λ (k : ℕ). HoldsRows n k s.cases.now.scale (lent_in s.families.now) cost room.kept) (sym ms_len) c.requires.kept) s.table in
     let places = ap length c.deref-4.ensures.value ∙ brought.ends.places in
     omega (arith, places, ps_len)
@@ -48,16 +54,17 @@ fill_moved-requires-clause-ends g c =
 -- plan: the judged numbers are a leaf's (`numbers_are`), and the moved ends are those of its numbers (`moved_from_ends`)
 pub invariant_of-leaf : goal.invariant_of-leaf
 invariant_of-leaf g c =
-    let s = c.args.setting.now in
+    let s = c.args.at.now.setting.now in
     let n : ℕ = g.C.Costs.nodes s.costs.now in
     let cost = g.C.Costs.at s.costs.now in
     let room = c.args.room.now in
     let families : List (List (List ℕ)) = lent_in s.families.now in
-    let ps_len : length c.deref-3.result.now ≡ n = ap length (c.deref-3.ensures.value ∙ written room.potentials.len c.judge.new.potentials _ (c.judge.ensures.potentials_len ∙ c.deref_mut-2.ensures.len))
-    ∙ c.judge.ensures.potentials_len ∙ ap length c.deref_mut-2.ensures.value ∙ c.requires.room.potentials in
+    let ps_len : length c.deref-3.result.now ≡ n = ap length (c.deref-3.ensures.value
+    ∙ written room.potentials.len c.judge_numbers.new.potentials _ (c.judge_numbers.ensures.potentials_len ∙ c.deref_mut-2.ensures.len))
+    ∙ c.judge_numbers.ensures.potentials_len ∙ ap length c.deref_mut-2.ensures.value ∙ c.requires.room.potentials in
     let ms_len : length c.deref-2.result.now ≡ length s.families.now.crossed.items =
-    ap length (c.deref-2.ensures.value ∙ written room.multipliers.len c.judge.new.multipliers _ (c.judge.ensures.multipliers_len ∙ c.deref_mut-3.ensures.len))
-    ∙ c.judge.ensures.multipliers_len ∙ ap length c.deref_mut-3.ensures.value ∙ c.requires.room.multipliers in
+    ap length (c.deref-2.ensures.value ∙ written room.multipliers.len c.judge_numbers.new.multipliers _ (c.judge_numbers.ensures.multipliers_len ∙ c.deref_mut-3.ensures.len))
+    ∙ c.judge_numbers.ensures.multipliers_len ∙ ap length c.deref_mut-3.ensures.value ∙ c.requires.room.multipliers in
     let ps_same : c.deref-3.result.now ≡ c.deref-5.result.now = c.deref-3.ensures.value ∙ sym c.deref-5.ensures.value in
     let ms_same : c.deref-2.result.now ≡ c.deref-6.result.now = c.deref-2.ensures.value ∙ sym c.deref-6.ensures.value in
     let moved_is = c.deref-7.ensures.value ∙ written room.moved.len c.fill_moved.new.row _ (c.fill_moved.auto.row ∙ c.deref_mut-4.ensures.len) in
@@ -69,19 +76,16 @@ invariant_of-leaf g c =
     subst (λ (ms : List ℤ). AreRowsIfAny n cost (kept_weight s.cases.now.scale families cost ms) c.bring_to.new.self.rows.items) now_at brought.rows in
     let read : List ℤ = c.deref.result.now in
     let at = ap length c.deref_mut-2.ensures.value ∙ c.requires.room.potentials in
-    let of_nodes = c.deref-5.ensures.value ∙ written room.potentials.len c.judge.new.potentials _ (c.judge.ensures.potentials_len ∙ c.deref_mut-2.ensures.len)
-    ∙ c.if-not-judge.ensures.potentials refl in
-    let of_combs = c.deref-6.ensures.value ∙ written room.multipliers.len c.judge.new.multipliers _ (c.judge.ensures.multipliers_len ∙ c.deref_mut-3.ensures.len)
-    ∙ c.if-not-judge.ensures.multipliers refl in
+    let of_nodes = c.deref-5.ensures.value ∙ written room.potentials.len c.judge_numbers.new.potentials _ (c.judge_numbers.ensures.potentials_len ∙ c.deref_mut-2.ensures.len)
+    ∙ c.if-not-judge_numbers.ensures.potentials refl in
+    let of_combs = c.deref-6.ensures.value ∙ written room.multipliers.len c.judge_numbers.new.multipliers _ (c.judge_numbers.ensures.multipliers_len ∙ c.deref_mut-3.ensures.len)
+    ∙ c.if-not-judge_numbers.ensures.multipliers refl in
     let crossed = s.families.now.crossed.items in
-    let numbers = numbers_are n _ crossed read c.deref-5.result.now c.deref-6.result.now at of_nodes of_combs (c.if-not-judge.ensures.good.0 refl) in
+    let numbers = numbers_are n _ crossed read c.deref-5.result.now c.deref-6.result.now at of_nodes of_combs (c.if-not-judge_numbers.ensures.good.0 refl) in
     record {
-      is_case = c.requires.case;
-      direction = c.requires.direction;
-      once = c.requires.once;
-      few = c.requires.few;
       numbers = numbers;
-      crossed = few_crossings n crossed c.deref-5.result.now c.deref-6.result.now families numbers s.families.now.many (subst (λ (m : ℕ). ∥ All (IsFamily m) (good_in s.families.now) ∥₁) s.same s.families.now.are);
+      crossed = few_crossings n crossed c.deref-5.result.now c.deref-6.result.now families numbers s.families.now.many
+          (subst (λ (m : ℕ). ∥ All (IsFamily m) (good_in s.families.now) ∥₁) s.same s.families.now.are);
       places = ap length moved_is ∙ c.fill_moved.auto.row ∙ ap length c.deref_mut-4.ensures.value ∙ c.requires.room.moved;
       are_moved = λ x x_in.
           ap (λ (zs : List ℤ). int_wrap w64 (least_at zs x)) moved_is
@@ -93,19 +97,19 @@ invariant_of-leaf g c =
 
 pub returns-clause-kept : goal.returns-clause-kept
 returns-clause-kept g c =
-    let s = c.args.setting.now in
+    let s = c.args.at.now.setting.now in
     let n : ℕ = g.C.Costs.nodes s.costs.now in
     let cost = g.C.Costs.at s.costs.now in
     let room = c.args.room.now in
     let ms_len : length c.deref-2.result.now ≡ length s.families.now.crossed.items =
-    ap length (c.deref-2.ensures.value ∙ written room.multipliers.len c.judge.new.multipliers _ (c.judge.ensures.multipliers_len ∙ c.deref_mut-3.ensures.len))
-    ∙ c.judge.ensures.multipliers_len ∙ ap length c.deref_mut-3.ensures.value ∙ c.requires.room.multipliers in
+    ap length (c.deref-2.ensures.value ∙ written room.multipliers.len c.judge_numbers.new.multipliers _ (c.judge_numbers.ensures.multipliers_len ∙ c.deref_mut-3.ensures.len))
+    ∙ c.judge_numbers.ensures.multipliers_len ∙ ap length c.deref_mut-3.ensures.value ∙ c.requires.room.multipliers in
     let brought = c.bring_to.ensures.kept n s.cases.now.scale cost (subst (λ (k : ℕ). HoldsRows n k s.cases.now.scale (lent_in s.families.now) cost room.kept) (sym ms_len) c.requires.kept) s.table in
     subst (λ (k : ℕ). HoldsRows n k s.cases.now.scale (lent_in s.families.now) cost c.bring_to.new.self) ms_len brought
 
 pub returns-clause-judged : goal.returns-clause-judged
 returns-clause-judged g c =
-    let n : ℕ = g.C.Costs.nodes c.args.setting.now.costs.now in
+    let n : ℕ = g.C.Costs.nodes c.args.at.now.setting.now.costs.now in
     let room = c.args.room.now in
     let changes : List (ℕ × ℤ) = c.args.changes.now in
     let numbers : List ℤ = c.add_differences.new.numbers in
@@ -114,14 +118,15 @@ returns-clause-judged g c =
     let at = ap length c.deref_mut-2.ensures.value ∙ c.requires.room.potentials in
     let inside = subst (λ (zs : List ℤ). All (λ change. IsNode (length zs) change.0) changes) c.deref_mut.ensures.value (c.if-not-add_differences.ensures.inside.0 refl) in
     let grown = c.if-not-add_differences.ensures.grown refl ∙ ap (all_grown changes) c.deref_mut.ensures.value in
-    let good = good_read n _ c.args.setting.now.families.now.crossed.items c.deref.result.now _ at c.deref.ensures.value (c.if-not-judge.ensures.good.0 refl) in
-    let of_nodes = c.deref-5.ensures.value ∙ written room.potentials.len c.judge.new.potentials _ (c.judge.ensures.potentials_len ∙ c.deref_mut-2.ensures.len)
-    ∙ c.if-not-judge.ensures.potentials refl in
-    let of_combs = c.deref-6.ensures.value ∙ written room.multipliers.len c.judge.new.multipliers _ (c.judge.ensures.multipliers_len ∙ c.deref_mut-3.ensures.len)
-    ∙ c.if-not-judge.ensures.multipliers refl in
-    let setting = c.args.setting.now in
-    let found : List Decision × LeafNumbers → Option ℤ → Type 0 = IsFoundAt setting.cases.now.directed n (g.C.Costs.at setting.costs.now) setting.cases.now.scale decided_number (good_in setting.families.now) in
-    judged_leaf found n setting.families.now.crossed.items (decisions_in c.args.case.now) room.numbers.items changes _ c.deref-5.result.now c.deref-6.result.now c.in_ok-bound.bound
+    let good = good_read n _ c.args.at.now.setting.now.families.now.crossed.items c.deref.result.now _ at c.deref.ensures.value (c.if-not-judge_numbers.ensures.good.0 refl) in
+    let of_nodes = c.deref-5.ensures.value ∙ written room.potentials.len c.judge_numbers.new.potentials _ (c.judge_numbers.ensures.potentials_len ∙ c.deref_mut-2.ensures.len)
+    ∙ c.if-not-judge_numbers.ensures.potentials refl in
+    let of_combs = c.deref-6.ensures.value ∙ written room.multipliers.len c.judge_numbers.new.multipliers _ (c.judge_numbers.ensures.multipliers_len ∙ c.deref_mut-3.ensures.len)
+    ∙ c.if-not-judge_numbers.ensures.multipliers refl in
+    let setting = c.args.at.now.setting.now in
+    let found : List Decision × LeafNumbers → Option ℤ → Type 0 = IsFoundAt setting.cases.now.directed n (g.C.Costs.at setting.costs.now) setting.cases.now.scale decided_number
+    (good_in setting.families.now) in
+    judged_leaf found n setting.families.now.crossed.items (decisions_in c.args.at.now.case.now) room.numbers.items changes _ c.deref-5.result.now c.deref-6.result.now c.in_ok-bound.bound
     c.requires.room.numbers setting.families.now.some inside (now ∙ grown) good (of_nodes ∙ ap (λ (k : ℕ). take k read) at ∙ ap (take n) c.deref.ensures.value)
     (of_combs ∙ ap (λ (k : ℕ). drop k read) at ∙ ap (drop n) c.deref.ensures.value)
     c.in_ok-bound.ensures.bound

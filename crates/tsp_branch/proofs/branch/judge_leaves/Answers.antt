@@ -17,10 +17,11 @@ use Rattle.tsp_cases.specs.declared.decision.Decision.{Decision}
 use Rattle.tsp_cases.specs.Decisions.{DecideOnce, decided_number}
 use Rattle.tsp_cases.specs.states.Decided.{IsDecision, stack_of}
 use Rattle.tsp_cases.specs.states.OpenCases.{IsOpenCase}
-use Rattle.tsp_branch.specs.states.Rooms.{AreSmall, IsJudgedLeaf}
+use Rattle.tsp_cases.specs.states.Rooms.{AreSmall}
+use Rattle.tsp_branch.specs.JudgedLeaves.{IsJudgedLeaf}
 use Rattle.tsp_branch.proofs.Passes.{IsAtStep, at_start, at_branch}
 use Rattle.tsp_branch.proofs.Judging.{few_decided, whole_trees, at_next, all_passed, bad_here, after_found, small_found, once_here, low_sized}
-use Rattle.tsp_cases.proofs.Lists.{own_step}
+use Rattle.tsp_cases.proofs.ListPlaces.{own_step}
 use Rattle.tsp_branch.proofs.branch.judge_leaves.Goals as goal
 use Rattle.tsp_branch.proofs.branch.judge_leaves.Goals.{in-Branch+in_ok-take-in-Branch, in-Leaf+in_ok-judged-in-Leaf+in-Found+in_ok-next-in-Leaf}
 
@@ -32,13 +33,6 @@ judge_leaf-requires-clause-few_changes g c =
     s.cases.now.nodes s.cases.now.steps.now st.step-index c.step-item.result
     (code.Leaf c.in-Leaf.changes) each c.steps-test.true c.step-item.is c.in-Leaf.is) in
     subst (λ (cs : List (ℕ × ℤ)). length cs < 2 ^ 32) (sym c.deref.ensures.value) own
-
-pub judge_leaf-requires-clause-few : goal.judge_leaf-requires-clause-few
-judge_leaf-requires-clause-few g c =
-    let cases = c.args.setting.now.cases.now in
-    let st = c.steps in
-    few_decided st.case.stack.items st.case.given.now (omega (arith, st.invariant.few, c.steps-test.true, cases.few_steps))
-    (subst (λ (ds : List Decision). length ds < 2 ^ 32) (sym st.invariant.given) cases.few_given)
 
 none_small : (n combs : ℕ) → AreSmall (no_numbers_of n combs)
 none_small n combs k default lt =
@@ -73,19 +67,8 @@ steps-init g c =
       sized = tt;
     }
 
-pub take-requires : goal.take-requires
-take-requires g c =
-    let s = c.args.setting.now in
-    let n : ℕ = g.C.Costs.nodes s.costs.now in
-    let st = c.steps in
-    let decision : Decision = record { pair = (c.in-Branch.first, c.in-Branch.second); taken = true } in
-    let own : IsDecision s.cases.now.nodes decision = ∥∥₁_elim s.cases.now.steps_are (hlevel props) (λ each. own_step
-    s.cases.now.nodes s.cases.now.steps.now st.step-index c.step-item.result
-    (code.Branch c.in-Branch.first c.in-Branch.second) each c.steps-test.true c.step-item.is c.in-Branch.is) in
-    record { case = (n, st.invariant.case, subst (λ (k : ℕ). IsDecision k decision) s.own own) }
-
-pub judge_leaf-requires-clause-once : goal.judge_leaf-requires-clause-once
-judge_leaf-requires-clause-once g c =
+pub invariant_of-at : goal.invariant_of-at
+invariant_of-at g c =
     let s = c.args.setting.now in
     let n : ℕ = g.C.Costs.nodes s.costs.now in
     let found : List Decision × LeafNumbers → Option ℤ → Type 0 = IsFoundAt s.cases.now.directed n
@@ -97,9 +80,27 @@ judge_leaf-requires-clause-once g c =
     let at = at_next found s.cases.now.directed n s.families.now.crossed.items given all st.room.numbers.items st.case.stack.items st.lowest st.leaf
     st.step-index c.step-item.result
     (code.Leaf c.in-Leaf.changes) c.steps-test.true c.step-item.is c.in-Leaf.is st.invariant.at in
-    subst (λ (ds : List Decision). DecideOnce s.cases.now.directed (stack_of st.case.stack.items ++ ds)) (sym st.invariant.given)
-    (once_here found s.cases.now.directed n s.families.now.crossed.items given told st.room.numbers.items st.case.stack.items st.lowest st.leaf
-    c.in-Leaf.changes.items _ at)
+    let cases = s.cases.now in
+    record {
+      is_case = st.invariant.case;
+      direction = st.invariant.direction;
+      once = subst (λ (ds : List Decision). DecideOnce s.cases.now.directed (stack_of st.case.stack.items ++ ds)) (sym st.invariant.given)
+          (once_here found s.cases.now.directed n s.families.now.crossed.items given told st.room.numbers.items st.case.stack.items st.lowest st.leaf
+          c.in-Leaf.changes.items _ at);
+      few = few_decided st.case.stack.items st.case.given.now (omega (arith, st.invariant.few, c.steps-test.true, cases.few_steps))
+          (subst (λ (ds : List Decision). length ds < 2 ^ 32) (sym st.invariant.given) cases.few_given);
+    }
+
+pub take-requires : goal.take-requires
+take-requires g c =
+    let s = c.args.setting.now in
+    let n : ℕ = g.C.Costs.nodes s.costs.now in
+    let st = c.steps in
+    let decision : Decision = record { pair = (c.in-Branch.first, c.in-Branch.second); taken = true } in
+    let own : IsDecision s.cases.now.nodes decision = ∥∥₁_elim s.cases.now.steps_are (hlevel props) (λ each. own_step
+    s.cases.now.nodes s.cases.now.steps.now st.step-index c.step-item.result
+    (code.Branch c.in-Branch.first c.in-Branch.second) each c.steps-test.true c.step-item.is c.in-Branch.is) in
+    record { case = (n, st.invariant.case, subst (λ (k : ℕ). IsDecision k decision) s.own own) }
 
 pub returns-in_default-clause-judged : goal.returns-in_default-clause-judged
 returns-in_default-clause-judged g c = λ are.

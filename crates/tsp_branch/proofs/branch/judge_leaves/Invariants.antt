@@ -7,8 +7,8 @@ use Rattle.tsp_cases.specs.states.Lent.{lent_in, good_in}
 use Rattle.tsp_cases.specs.CaseTrees.{IsFoundAt}
 use Rattle.tsp_cases.specs.states.OpenCases.{IsOpenCase}
 use Rattle.tsp_cases.specs.Decisions.{decided_number}
-use Rattle.tsp_branch.specs.states.Kept.{HoldsRows}
-use Rattle.tsp_branch.specs.states.Rooms.{IsRoom, AreSmall}
+use Rattle.tsp_cases.specs.states.Kept.{HoldsRows}
+use Rattle.tsp_cases.specs.states.Rooms.{IsRoom, AreSmall}
 use Rattle.tsp_branch.proofs.Passes.{IsPassing}
 use Rattle.tsp_branch.proofs.branch.judge_leaves.Given as goal
 

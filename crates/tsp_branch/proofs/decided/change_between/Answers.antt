@@ -6,7 +6,7 @@ use Rattle.std.proofs.lemmas.Int.{ints, to_z-of_z, int_wrap-add_left}
 use Rattle.std.proofs.lemmas.List.{drop_all}
 use Rattle.tsp_cases.specs.declared.decision.Decision.{Decision}
 use Rattle.tsp_cases.specs.states.Decided.{changes}
-use Rattle.tsp_branch.proofs.Changes.{changes_left}
+use Rattle.tsp_cases.proofs.Changes.{changes_left}
 use Rattle.tsp_branch.proofs.decided.change_between.Goals as goal
 
 pub decisions-preserved : goal.decisions-preserved
@@ -32,5 +32,6 @@ returns c =
     let past : length c.args.decisions.now ≤ c.decisions.decision-index = omega (arith, c.decisions-test.false) in
     let none : changes (drop c.decisions.decision-index c.args.decisions.now) c.args.from c.args.to ≡ pos 0 =
     ap (λ (ds : List Decision). changes ds c.args.from c.args.to) (drop_all c.decisions.decision-index c.args.decisions.now past) in
-    ap (int_wrap w64) (let e : to_z w64 c.decisions.sum-bits ≡ to_z w64 c.decisions.sum-bits +ℤ changes (drop c.decisions.decision-index c.args.decisions.now) c.args.from c.args.to = omega (arith, ints, none) in e)
+    ap (int_wrap w64) (let e : to_z w64 c.decisions.sum-bits ≡ to_z w64 c.decisions.sum-bits
+    +ℤ changes (drop c.decisions.decision-index c.args.decisions.now) c.args.from c.args.to = omega (arith, ints, none) in e)
     ∙ c.decisions.invariant

@@ -4,14 +4,15 @@ use Rattle.std.proofs.lemmas.List.{drop_all}
 use Rattle.tsp_theory.specs.states.Nearest.{least_at}
 use Rattle.tsp_cases.specs.declared.decision.Decision.{Decision}
 use Rattle.tsp_cases.specs.states.Decided.{changes}
-use Rattle.tsp_branch.proofs.Changes.{changes_left}
-use Rattle.tsp_branch.proofs.SetSums.{moved_on}
+use Rattle.tsp_cases.proofs.Changes.{changes_left}
+use Rattle.tsp_cases.proofs.SetSums.{moved_on}
 use Rattle.tsp_branch.proofs.decided.change_row.Goals as goal
 
 pub decisions-preserved : goal.decisions-preserved
 decisions-preserved c = λ x last rest.
     let ds : List Decision = c.args.decisions.now in
-    c.decisions.invariant x last (rw (changes_left ds c.decisions.decision-index c.args.from x (record { pair = (0, 0); taken = false }) c.decisions-test.true) (moved_on _ _ _ _ _ (c.change.ensures x) rest))
+    c.decisions.invariant x last (rw (changes_left ds c.decisions.decision-index c.args.from x (record { pair = (0, 0); taken = false }) c.decisions-test.true)
+    (moved_on _ _ _ _ _ (c.change.ensures x) rest))
 
 pub returns : goal.returns
 returns c = λ x.

@@ -1,7 +1,7 @@
 -- The loop of `change_row` in src/decided.rt.
 use Rattle.std.proofs.Common.{ℕ, ℤ, drop}
 use Rattle.tsp_theory.specs.states.Nearest.{least_at}
-use Rattle.tsp_branch.specs.states.Sets.{IsMoved}
+use Rattle.tsp_cases.specs.states.Sets.{IsMoved}
 use Rattle.tsp_cases.specs.states.Decided.{changes}
 use Rattle.tsp_branch.proofs.decided.change_row.Given as goal
 

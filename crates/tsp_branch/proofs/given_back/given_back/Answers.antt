@@ -1,51 +1,44 @@
 -- The goals of `given_back` in src/given_back.rt: what its calls require, that no sum overflows and what it ensures.
-use Rattle.std.proofs.Common.{◌∙◌, ℤ, List, ap, sym, arith, false}
+use Rattle.std.proofs.Common.{◌∙◌, ℤ, List, ap, sym}
 use Rattle.std.specs.Prelude.{pos, ◌-ℤ◌, ◌*ℤ◌}
-use Rattle.tsp_families.specs.declared.family.Crossings.{Crossings}
 use Rattle.tsp_cases.specs.LeafBound.{least_of}
 use Rattle.tsp_cases.specs.FamiliesOfSets.{sum_with}
 use Rattle.tsp_cases.specs.CaseTrees.{multiplied}
 use Rattle.tsp_cases.specs.states.Lent.{lent_in, good_in}
-use Rattle.tsp_branch.proofs.CaseWeights.{few_multipliers, small_multipliers}
-use Rattle.tsp_branch.proofs.FamilySums.{least_fits}
+use Rattle.tsp_cases.proofs.CaseWeights.{few_multipliers, small_multipliers}
+use Rattle.tsp_cases.proofs.FamilySums.{least_fits}
 use Rattle.tsp_branch.proofs.GivenBack.{least_told, less_fits, less_held, less_sized}
 use Rattle.tsp_branch.proofs.given_back.given_back.Goals as goal
 
-pub sum_with-requires-clause-few : goal.sum_with-requires-clause-few
-sum_with-requires-clause-few g c =
+pub invariant_of-multipliers : goal.invariant_of-multipliers
+invariant_of-multipliers g c =
     let leaf = c.args.leaf.now in
-    let families = leaf.setting.now.families.now in
-    omega (arith, leaf.numbers.each_comb, families.as_many, families.few)
-
-pub sum_with-requires-clause-small : goal.sum_with-requires-clause-small
-sum_with-requires-clause-small g c =
-    let leaf = c.args.leaf.now in
-    let setting = leaf.setting.now in
-    small_multipliers (g.C.Costs.nodes setting.costs.now) setting.families.now.crossed.items leaf.potentials.now leaf.multipliers.now setting.families.now.some leaf.numbers
-
-pub total-requires : goal.total-requires
-total-requires g c =
-    let leaf = c.args.leaf.now in
-    omega (arith, leaf.numbers.each_node, leaf.setting.now.same, leaf.setting.now.families.now.few_nodes)
+    let setting = leaf.at.now.setting.now in
+    let families = setting.families.now in
+    record {
+      as_many = leaf.numbers.each_comb ∙ families.as_many;
+      small = small_multipliers (g.C.Costs.nodes setting.costs.now) families.crossed.items leaf.potentials.now leaf.multipliers.now
+          families.some leaf.numbers;
+    }
 
 pub overflow_sub-result : goal.overflow_sub-result
 overflow_sub-result g c =
     let leaf = c.args.leaf.now in
-    let families = leaf.setting.now.families.now in
+    let families = leaf.at.now.setting.now.families.now in
     let ms : List ℤ = leaf.multipliers.now in
     let sum = few_multipliers families.crossed.items ms leaf.numbers.each_comb families.some leaf.numbers.signs leaf.numbers.sum in
-    let size = least_fits families.crossed.items ms c.sum_with.result families.small leaf.numbers.signs sum (c.sum_with.ensures ∙ ap (λ (cs : List Crossings). sum_with false cs ms) c.deref.ensures.value) in
+    let size = least_fits families.crossed.items ms c.sum_with.result families.small leaf.numbers.signs sum c.sum_with.ensures in
     less_fits c.sum_with.result c.total.result size c.total.ensures.size
 
 pub returns : goal.returns
 returns g c =
     let leaf = c.args.leaf.now in
-    let families = leaf.setting.now.families.now in
+    let families = leaf.at.now.setting.now.families.now in
     let crossed : ℤ = c.sum_with.result in
     let ps : ℤ = c.total.result in
     let ms : List ℤ = leaf.multipliers.now in
     let sum = few_multipliers families.crossed.items ms leaf.numbers.each_comb families.some leaf.numbers.signs leaf.numbers.sum in
-    let value = c.sum_with.ensures ∙ ap (λ (cs : List Crossings). sum_with false cs ms) c.deref.ensures.value in
+    let value = c.sum_with.ensures in
     let size = least_fits families.crossed.items ms crossed families.small leaf.numbers.signs sum value in
     let is = less_held crossed ps size c.total.ensures.size in
     rw is (record {

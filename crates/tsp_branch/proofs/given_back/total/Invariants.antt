@@ -5,7 +5,7 @@ use Rattle.tsp_theory.specs.CertificateNumbers.{IsFromTo, total}
 use Rattle.tsp_branch.proofs.given_back.total.Given as goal
 
 abbrev pub invariant-numbers : goal.invariant-numbers
-invariant-numbers l = record {
+invariant-numbers g l = record {
   size : IsFromTo (neg_ℤ (pos (l.number-index * 2 ^ 63))) (pos (l.number-index * 2 ^ 63)) l.sum;
-  so_far : (l.sum +ℤ total (drop l.number-index l.numbers)) ≡ total l.numbers;
+  so_far : (l.sum +ℤ total (drop l.number-index l.leaf.potentials.now)) ≡ total l.leaf.potentials.now;
 }

@@ -39,12 +39,14 @@ returns-in-Bound-clause-verdict g c =
     let is = subst (AreFamiliesJudged n tree.families.now) c.in-Good.is c.in_ok-families.ensures in
     let told = subst (AreCasesJudged n tree.directed tree.scale tree.given.now tree.steps.now) c.in-Good-2.is c.in_ok-cases.ensures in
     let are = subst (λ (lent : List (Vec (Vec ℕ))). All (IsFamily n) (families_with families.crossed.items (families_in lent))) (sym is.1) is.2.are in
-    let found = subst (AreJudgedLeaves cases.directed n cost cases.scale (good_in families) families.crossed.items cases.given.now (steps_of cases.steps.now)) c.in-Bound.is (c.in_ok-bound.ensures.judged are) in
+    let found = subst (AreJudgedLeaves cases.directed n cost cases.scale (good_in families) families.crossed.items cases.given.now (steps_of cases.steps.now)) c.in-Bound.is
+    (c.in_ok-bound.ensures.judged are) in
     record {
       crossed = families.crossed.items;
       are_families = is.2;
       are_once = told.1;
-      leaves = subst (λ (lent : List (Vec (Vec ℕ))). AreJudgedLeaves tree.directed n cost tree.scale (families_with families.crossed.items (families_in lent)) families.crossed.items tree.given.now (steps_of tree.steps.now)
+      leaves = subst (λ (lent : List (Vec (Vec ℕ))). AreJudgedLeaves tree.directed n cost tree.scale (families_with families.crossed.items (families_in lent)) families.crossed.items tree.given.now
+          (steps_of tree.steps.now)
           (judged.Bound c.in-Bound.bound)) is.1
           (judged_of n cost (good_in families) families.crossed.items (judged.Bound c.in-Bound.bound) cases tree.directed tree.scale tree.given.now tree.steps.now told.0 found);
     }
@@ -69,12 +71,14 @@ returns-clause-verdict g c =
     let is = subst (AreFamiliesJudged n tree.families.now) c.in-Good.is c.in_ok-families.ensures in
     let told = subst (AreCasesJudged n tree.directed tree.scale tree.given.now tree.steps.now) c.in-Good-2.is c.in_ok-cases.ensures in
     let are = subst (λ (lent : List (Vec (Vec ℕ))). All (IsFamily n) (families_with families.crossed.items (families_in lent))) (sym is.1) is.2.are in
-    let found = subst (AreJudgedLeaves cases.directed n cost cases.scale (good_in families) families.crossed.items cases.given.now (steps_of cases.steps.now)) c.in-BadLeaf.is (c.in_ok-bound.ensures.judged are) in
+    let found = subst (AreJudgedLeaves cases.directed n cost cases.scale (good_in families) families.crossed.items cases.given.now (steps_of cases.steps.now)) c.in-BadLeaf.is
+    (c.in_ok-bound.ensures.judged are) in
     record {
       crossed = families.crossed.items;
       are_families = is.2;
       are_once = told.1;
-      leaves = subst (λ (lent : List (Vec (Vec ℕ))). AreJudgedLeaves tree.directed n cost tree.scale (families_with families.crossed.items (families_in lent)) families.crossed.items tree.given.now (steps_of tree.steps.now)
+      leaves = subst (λ (lent : List (Vec (Vec ℕ))). AreJudgedLeaves tree.directed n cost tree.scale (families_with families.crossed.items (families_in lent)) families.crossed.items tree.given.now
+          (steps_of tree.steps.now)
           (judged.BadLeaf c.in-BadLeaf.leaf)) is.1
           (judged_of n cost (good_in families) families.crossed.items (judged.BadLeaf c.in-BadLeaf.leaf) cases tree.directed tree.scale tree.given.now tree.steps.now told.0 found);
     }

@@ -38,10 +38,12 @@ returns-then-is_empty-clause-comb c = λ n long are.
     let used : ℕ → Bool = is_marked c.args.used.now c.args.mark in
     let marks = (c.mark_nodes.ensures.marked c.if-not-mark_nodes.false).own in
     let own : All (IsNode n) nodes = first_all n sets c.in-Some.handle.now teeth nodes same read (IsNode n) are in
-    let told : IsTrue c.is_lone_set.result ↔ IsLoneSet n (comb_of nodes []) = subst (λ (ns : List ℕ). All (IsNode n) ns → ((x : ℕ) → marked x ≡ has ns x) → IsTrue c.is_lone_set.result ↔ IsLoneSet n (comb_of ns [])) again
+    let told : IsTrue c.is_lone_set.result ↔ IsLoneSet n (comb_of nodes []) =
+    subst (λ (ns : List ℕ). All (IsNode n) ns → ((x : ℕ) → marked x ≡ has ns x) → IsTrue c.is_lone_set.result ↔ IsLoneSet n (comb_of ns [])) again
     (c.is_lone_set.ensures n (c.mark_nodes.ensures.length ∙ long)) own
     (own_marks n sets c.in-Some.handle.now teeth nodes same read old marked used c.requires.fresh_handle marks) in (
-      λ yes_lone. lone_found n sets c.in-Some.handle.now teeth nodes same read old marked used c.requires.fresh_handle marks none (c.mark_nodes.ensures.new.0 c.if-not-mark_nodes.false) (told.0 yes_lone),
+      λ yes_lone. lone_found n sets c.in-Some.handle.now teeth nodes same read old marked used c.requires.fresh_handle marks none (c.mark_nodes.ensures.new.0 c.if-not-mark_nodes.false)
+          (told.0 yes_lone),
       λ lone. told.1 (lone_in n sets c.in-Some.handle.now teeth nodes same read old marked used c.requires.fresh_handle marks none lone),
     )
 

@@ -13,7 +13,7 @@ use Rattle.tsp_cases.specs.GoodFamilies.{IsGoodFamily, AreFamilies}
 use Rattle.tsp_cases.specs.states.Marked.{AreUnmarked}
 use Rattle.tsp_cases.specs.states.FamilyNumbers.{AreFamilyNumbers, IsSmall, AreSmallCrossings}
 use Rattle.tsp_cases.proofs.FirstBad.{all_some}
-use Rattle.tsp_cases.proofs.Lists.{written}
+use Rattle.tsp_cases.proofs.ListPlaces.{written}
 use Rattle.tsp_cases.proofs.FirstBad.{sets_here, holds_here, all_good, first_found, HaveNumbers, numbers_more, good_so_far}
 use Rattle.tsp_cases.proofs.good_families.judge_families.Goals as goal
 
@@ -21,7 +21,8 @@ pub invariant_of-own : goal.invariant_of-own
 invariant_of-own g c =
     let tree = c.args.tree.now in
     let families : List (Vec (Vec ℕ)) = tree.families.now in
-    let here = holds_here families c.families.number c.index-tree-number.result c.deref.result.now c.families-test.true c.index-tree-number.is (c.deref.ensures.value ∙ ap (λ (f : Vec (Vec ℕ)). f.items) (sym c.index-tree-number.is)) in
+    let here = holds_here families c.families.number c.index-tree-number.result c.deref.result.now c.families-test.true c.index-tree-number.is
+    (c.deref.ensures.value ∙ ap (λ (f : Vec (Vec ℕ)). f.items) (sym c.index-tree-number.is)) in
     record {
       some = omega (arith, tree.some, c.count-nodes.ensures.value);
       few_nodes = omega (arith, c.count-nodes.ensures.most);
@@ -35,7 +36,8 @@ returns-in_default g c =
     let n : ℕ = g.C.Costs.nodes c.args.tree.now.costs.now in
     let read : List (Vec ℕ) = c.deref.result.now in
     let lists : List (List (List ℕ)) = families_in c.args.tree.now.families.now in
-    let same = sets_here c.args.tree.now.families.now c.families.number c.index-tree-number.result read c.families-test.true c.index-tree-number.is (c.deref.ensures.value ∙ ap (λ (f : Vec (Vec ℕ)). f.items) (sym c.index-tree-number.is)) in
+    let same = sets_here c.args.tree.now.families.now c.families.number c.index-tree-number.result read c.families-test.true c.index-tree-number.is
+    (c.deref.ensures.value ∙ ap (λ (f : Vec (Vec ℕ)). f.items) (sym c.index-tree-number.is)) in
     let none : IsGoodFamily n (lists_of read) → ⊥ = subst (λ (o : Option Crossings). AreFamilyNumbers n (lists_of read) o) c.in_default.is
     (subst (λ (m : ℕ). AreFamilyNumbers m (lists_of read) c.in_ok-found.found) c.count-nodes.ensures.value c.in_ok-found.ensures.found) in
     let long = length-map c.args.tree.now.families.now (λ (f : Vec (Vec ℕ)). lists_of f.items) in
@@ -51,7 +53,8 @@ families-preserved g c =
     let read : List (Vec ℕ) = c.deref.result.now in
     let lists : List (List (List ℕ)) = families_in c.args.tree.now.families.now in
     let crossed : List Crossings = c.families.crossed.items in
-    let same = sets_here c.args.tree.now.families.now number c.index-tree-number.result read c.families-test.true c.index-tree-number.is (c.deref.ensures.value ∙ ap (λ (f : Vec (Vec ℕ)). f.items) (sym c.index-tree-number.is)) in
+    let same = sets_here c.args.tree.now.families.now number c.index-tree-number.result read c.families-test.true c.index-tree-number.is
+    (c.deref.ensures.value ∙ ap (λ (f : Vec (Vec ℕ)). f.items) (sym c.index-tree-number.is)) in
     let handles = written c.families.handles.len c.crossings_of.new.handles _ (c.in_ok-found.ensures.handle_length ∙ c.deref_mut.ensures.len) in
     let teeth = written c.families.teeth.len c.crossings_of.new.used _ (c.in_ok-found.ensures.tooth_length ∙ c.deref_mut-in-families.ensures.len) in
     let found : AreFamilyNumbers n (lists_of read) (Some c.in-Some.numbers) = subst (λ (o : Option Crossings). AreFamilyNumbers n (lists_of read) o) c.in-Some.is
@@ -75,7 +78,8 @@ families-preserved g c =
 as_lists : (families : List (Vec (Vec ℕ))) (crossed : List Crossings) → length crossed ≡ length families → length crossed ≡ length (families_in families)
 as_lists families crossed many = many ∙ sym (length-map families (λ (f : Vec (Vec ℕ)). lists_of f.items))
 
-all_judged : (n : ℕ) (families : List (Vec (Vec ℕ))) (crossed : List Crossings) → length crossed ≡ length families → HaveNumbers n (families_in families) crossed → AreFamilies n (families_in families) crossed
+all_judged : (n : ℕ) (families : List (Vec (Vec ℕ))) (crossed : List Crossings) → length crossed ≡ length families → HaveNumbers n (families_in families) crossed
+    → AreFamilies n (families_in families) crossed
 all_judged n families crossed many have = all_good n (families_in families) crossed (as_lists families crossed many) have
 
 pub invariant_of-result : goal.invariant_of-result

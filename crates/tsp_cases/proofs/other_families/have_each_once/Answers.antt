@@ -4,7 +4,7 @@ use Rattle.std.proofs.lemmas.Bool.{both_ways, iff_false}
 use Rattle.std.specs.Global.{Vec}
 use Rattle.tsp_cases.specs.GoodFamilies.{HasEachOnce}
 use Rattle.tsp_cases.specs.states.Marked.{AreUnmarked}
-use Rattle.tsp_cases.proofs.Lists.{written}
+use Rattle.tsp_cases.proofs.ListPlaces.{written}
 use Rattle.tsp_cases.proofs.FamilyKinds.{set_here, lists_long, new_once, once_more}
 use Rattle.tsp_cases.proofs.other_families.have_each_once.Goals as goal
 

@@ -11,7 +11,7 @@ use Rattle.tsp_cases.specs.declared.decision.Decision.{Decision}
 use Rattle.tsp_cases.specs.states.Decided.{IsDecision, IsNextStack, stack_of}
 use Rattle.tsp_cases.specs.states.OpenCases.{IsOpenCase}
 use Rattle.tsp_cases.proofs.BranchesOnce.{IsOnceSoFar, once_at_start, once_next, once_pushed, twice_found, once_at_leaf, once_at_last, once_at_end, decided_here}
-use Rattle.tsp_cases.proofs.Lists.{own_step}
+use Rattle.tsp_cases.proofs.ListPlaces.{own_step}
 use Rattle.tsp_cases.proofs.twice.first_twice.Goals as goal
 use Rattle.tsp_cases.proofs.twice.first_twice.Goals.{in-Branch+else-decides+in_ok-take-in-Branch, in-Leaf+in_ok-next-in-Leaf+else-not-branch}
 

@@ -8,7 +8,8 @@ use Rattle.tsp_families.proofs.cycles.least_cycle.Goals as goal
 
 pub returns-then-between-eq1 : goal.returns-then-between-eq1
 returns-then-between-eq1 c =
-    subst (λ (n : ℕ). IsLeastLength n (as_whole (cost_by_rows n c.args.between.now.costs.now)) (pos c.from.result)) (sym c.if-between-eq1.true) (alone (cost_by_rows 1 c.args.between.now.costs.now) c.from.result c.from.ensures)
+    subst (λ (n : ℕ). IsLeastLength n (as_whole (cost_by_rows n c.args.between.now.costs.now)) (pos c.from.result)) (sym c.if-between-eq1.true)
+    (alone (cost_by_rows 1 c.args.between.now.costs.now) c.from.result c.from.ensures)
 
 pub returns : goal.returns
 returns c =
@@ -17,5 +18,6 @@ returns c =
     let sum : IsLeastSum no_path c.args.between.now.costs.now c.deref.result.now 1 ((c.power-all.result - 1) * (n - 1)) (n - 1) c.least_sum.result = c.least_sum.ensures in
     let in_ways : IsLeastSum no_path c.args.between.now.costs.now c.in_ok-paths.paths.items 1 ((c.power-all.result - 1) * (n - 1)) (n - 1) c.least_sum.result =
     subst (λ (paths : List ℕ). IsLeastSum no_path c.args.between.now.costs.now paths 1 ((c.power-all.result - 1) * (n - 1)) (n - 1) c.least_sum.result) c.deref.ensures.value sum in
-    least_of_paths n c.least_sum.result c.args.between.now.costs.now c.in_ok-paths.paths.items more c.args.between.now.few (small_costs c.args.between.now.costs.now c.args.between.now.small) c.in_ok-paths.ensures.long c.in_ok-paths.ensures.best
+    least_of_paths n c.least_sum.result c.args.between.now.costs.now c.in_ok-paths.paths.items more c.args.between.now.few
+    (small_costs c.args.between.now.costs.now c.args.between.now.small) c.in_ok-paths.ensures.long c.in_ok-paths.ensures.best
     (subst (λ (z : ℕ). IsLeastSum no_path c.args.between.now.costs.now c.in_ok-paths.paths.items 1 ((z - 1) * (n - 1)) (n - 1) c.least_sum.result) c.power-all.ensures in_ways)

@@ -15,4 +15,5 @@ returns-in-Some-clause-parts c =
 pub returns-in-None-clause-parts : goal.returns-in-None-clause-parts
 returns-in-None-clause-parts c =
     unlike_from c.args.family.now.nodes 15 (sets_of (lists_of c.args.family.now.sets.now)) c.in_ok-memberships.memberships.items c.in_ok-memberships.ensures
-    (subst (λ (memberships : List ℕ). (nodes : List ℕ) × (length nodes ≡ 15) × All (IsNodePlace memberships) nodes × AreDifferent memberships nodes) c.deref.ensures.value (rw c.in-None.is at c.in_ok-found.ensures.firsts))
+    (subst (λ (memberships : List ℕ). (nodes : List ℕ) × (length nodes ≡ 15) × All (IsNodePlace memberships) nodes × AreDifferent memberships nodes) c.deref.ensures.value
+    (rw c.in-None.is at c.in_ok-found.ensures.firsts))

@@ -22,4 +22,5 @@ returns c =
     ] in
     best_from n c.args.set c.args.other c.if-rest-eq0.start c.least_sum.result c.args.between.now.costs.now c.args.paths.now c.requires.other own c.requires.paths c.requires.best
     (search rules) starts
-    (subst (λ (z : ℕ). IsLeastSum c.if-rest-eq0.start c.args.between.now.costs.now c.args.paths.now ((c.args.other + 1) * n + 1) ((c.args.set - z) * (n - 1)) (n - 1) c.least_sum.result) power c.least_sum.ensures)
+    (subst (λ (z : ℕ). IsLeastSum c.if-rest-eq0.start c.args.between.now.costs.now c.args.paths.now ((c.args.other + 1) * n + 1) ((c.args.set - z) * (n - 1))
+    (n - 1) c.least_sum.result) power c.least_sum.ensures)

@@ -17,6 +17,7 @@ nodes-preserved c =
       long = ap length pushed ∙ omega (arith, long, h.long);
       small = subst (All (λ path. path ≤ no_path)) (sym pushed) (All-push (λ path. path ≤ no_path) paths c.best_path-best.result h.small c.best_path-best.ensures.most);
       best = subst (AreBestPaths n (cost_by_rows n c.args.between.now.costs.now)) (sym pushed)
-          (by_rows_push (n - 1) (λ set other best. IsBestPath n (cost_by_rows n c.args.between.now.costs.now) set (other + 2) best) paths c.sets.set c.nodes.other c.best_path-best.result c.nodes-test.true h.long h.best
+          (by_rows_push (n - 1) (λ set other best. IsBestPath n (cost_by_rows n c.args.between.now.costs.now) set
+          (other + 2) best) paths c.sets.set c.nodes.other c.best_path-best.result c.nodes-test.true h.long h.best
           c.best_path-best.ensures);
     }

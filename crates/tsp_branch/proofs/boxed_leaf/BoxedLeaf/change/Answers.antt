@@ -9,7 +9,7 @@ use Rattle.tsp_cases.specs.declared.decision.Decision.{Decision}
 use Rattle.tsp_cases.specs.Decisions.{decided_number}
 use Rattle.tsp_cases.specs.states.Decided.{changes, stack_of}
 use Rattle.tsp_cases.specs.states.OpenCases.{bears_on, decisions_in}
-use Rattle.tsp_branch.proofs.Changes.{within}
+use Rattle.tsp_cases.proofs.Changes.{within}
 use Rattle.tsp_cases.proofs.OpenCases.{changes_listed}
 use Rattle.tsp_branch.proofs.boxed_leaf.BoxedLeaf.change.Goals as goal
 

@@ -7,17 +7,17 @@ use Rattle.std.proofs.lemmas.Int.{to_z-of_z}
 use Rattle.tsp_theory.specs.states.Nearest.{least_at}
 use Rattle.tsp_cases.specs.declared.set_place.SetPlace.{SetPlace}
 use Rattle.tsp_cases.specs.states.Places.{IsPlaceIn}
-use Rattle.tsp_branch.specs.states.Sets.{places_with}
+use Rattle.tsp_cases.specs.states.Sets.{places_with}
 use Rattle.tsp_cases.specs.states.Lent.{lent_in}
-use Rattle.tsp_branch.specs.states.Combed.{inside_both}
+use Rattle.tsp_cases.specs.states.Combed.{inside_both}
 use Rattle.tsp_branch.specs.states.Shared.{shared_by}
-use Rattle.tsp_branch.proofs.SetAlgebra.{places_inside}
+use Rattle.tsp_cases.proofs.SetAlgebra.{places_inside}
 use Rattle.tsp_branch.proofs.SharedSets.{shared_is}
 use Rattle.tsp_branch.proofs.BoxedValues.{boxed_at}
 use Rattle.tsp_branch.proofs.boxed_leaf.BoxedLeaf.combed.Goals as goal
 
-pub shared_by-shared-requires-clause-places : goal.shared_by-shared-requires-clause-places
-shared_by-shared-requires-clause-places g c = λ k d lt.
+pub shared_by-shared-requires : goal.shared_by-shared-requires
+shared_by-shared-requires g c = λ k d lt.
     let q = c.args.self.now.decided.now.combed.now in
     let families : List (List (List ℕ)) = lent_in q.families.now in
     let places_are : c.deref-2.result.now ≡ places_with 0 families c.args.from = c.deref-2.ensures.value ∙ q.table.said c.args.from c.index-combed-from.result c.requires.from.1 in

@@ -6,7 +6,7 @@ use Rattle.tsp_cases.specs.declared.decision.Decision.{Decision}
 use Rattle.tsp_cases.specs.states.Decided.{stack_of}
 use Rattle.tsp_branch.specs.states.Shared.{other_of}
 use Rattle.tsp_cases.specs.states.Lent.{lent_in}
-use Rattle.tsp_branch.specs.states.Combed.{set_weight}
+use Rattle.tsp_cases.specs.states.Combed.{set_weight}
 use Rattle.tsp_cases.specs.states.OpenCases.{bears_on, decisions_in}
 use Rattle.tsp_branch.proofs.BoxedValues.{listed_is, lowered_no_more, others_same}
 use Rattle.tsp_branch.proofs.boxed_leaf.BoxedLeafBoxedWeights.count_lowered.Goals as goal

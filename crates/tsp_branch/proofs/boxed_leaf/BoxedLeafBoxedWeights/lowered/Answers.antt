@@ -9,11 +9,11 @@ use Rattle.std.proofs.lemmas.List.{length-map}
 use Rattle.tsp_format.specs.Nodes.{IsNode}
 use Rattle.tsp_cases.specs.declared.decision.Decision.{Decision}
 use Rattle.tsp_cases.specs.states.Lent.{lent_in}
-use Rattle.tsp_branch.specs.states.Combed.{set_weight}
+use Rattle.tsp_cases.specs.states.Combed.{set_weight}
 use Rattle.tsp_cases.specs.states.Decided.{IsDecision, stack_of}
 use Rattle.tsp_cases.specs.states.OpenCases.{bears_on, decisions_in}
 use Rattle.tsp_branch.specs.states.Shared.{other_of, others_of}
-use Rattle.tsp_branch.proofs.Changes.{changes_are}
+use Rattle.tsp_cases.proofs.Changes.{changes_are}
 use Rattle.tsp_branch.proofs.OpenRows.{all_passed}
 use Rattle.tsp_branch.proofs.BoxedValues.{listed_is, listed_at_index}
 use Rattle.tsp_branch.proofs.boxed_leaf.BoxedLeafBoxedWeights.lowered.Goals as goal

@@ -7,7 +7,7 @@ use Rattle.tsp_theory.specs.states.Nearest.{least_at}
 use Rattle.tsp_bound.proofs.Boxed.{below_seen, not_less_seen}
 use Rattle.tsp_cases.specs.declared.decision.Decision.{Decision}
 use Rattle.tsp_cases.specs.states.Lent.{lent_in}
-use Rattle.tsp_branch.specs.states.Combed.{set_weight}
+use Rattle.tsp_cases.specs.states.Combed.{set_weight}
 use Rattle.tsp_cases.specs.states.Decided.{changes}
 use Rattle.tsp_cases.specs.states.OpenCases.{decisions_in}
 use Rattle.tsp_branch.specs.states.Shared.{upwards, raised}

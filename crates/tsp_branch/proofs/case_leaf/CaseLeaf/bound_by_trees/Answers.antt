@@ -1,8 +1,10 @@
 -- The goals of `CaseLeaf::bound_by_trees` in src/case_leaf.rt: what its calls require and what it ensures.
-use Rattle.std.proofs.Common.{◌≡◌, ◌∙◌, ◌^◌, ℕ, ℤ, Bool, List, ap, sym, subst, to_z, of_z}
-use Rattle.std.specs.Prelude.{◌+ℤ◌}
+use Rattle.std.proofs.Common.{◌≡◌, ◌∙◌, ◌^◌, ℕ, ℤ, Bool, List, ap, sym, subst, arith, to_z, of_z}
+use Rattle.std.specs.Prelude.{pos, neg_ℤ, ◌+ℤ◌}
 use Rattle.std.specs.Int.{w128}
+use Rattle.std.proofs.lemmas.Int.{ints}
 use Rattle.std.proofs.lemmas.Result.{IfOk-weaker}
+use Rattle.tsp_theory.specs.CertificateNumbers.{IsFromTo, IsScale}
 use Rattle.tsp_theory.proofs.Sizes.{same_scale}
 use Rattle.tsp_cases.specs.Families.{Family}
 use Rattle.tsp_cases.specs.declared.decision.Decision.{Decision}
@@ -11,39 +13,29 @@ use Rattle.tsp_cases.specs.LeafBound.{IsLeafBound}
 use Rattle.tsp_cases.specs.CaseTrees.{multiplied}
 use Rattle.tsp_branch.specs.LeafWeight.{BoundsEachLeaf, given_back_of}
 use Rattle.tsp_cases.specs.states.Lent.{lent_in, good_in}
-use Rattle.tsp_branch.specs.states.Combed.{set_weight}
+use Rattle.tsp_cases.specs.states.Combed.{set_weight}
 use Rattle.tsp_cases.specs.states.Decided.{stack_of, decided}
 use Rattle.tsp_cases.specs.states.OpenCases.{IsOpenCase, decisions_in}
 use Rattle.tsp_cases.proofs.LeafBounds.{leaf_even}
 use Rattle.tsp_cases.proofs.DecidedOnce.{few_changes}
-use Rattle.tsp_branch.proofs.CaseWeights.{case_weight, back_of}
+use Rattle.tsp_cases.proofs.CaseWeights.{case_weight, back_of}
 use Rattle.tsp_branch.proofs.GivenBack.{back_held, taken_listed, taken_few}
 use Rattle.tsp_branch.proofs.case_leaf.CaseLeaf.bound_by_trees.Goals as goal
 
 pub taken_back-taken-requires : goal.taken_back-taken-requires
 taken_back-taken-requires g c =
     let leaf = c.args.self.now in
-    taken_few (decisions_in leaf.case.now) c.deref.result.now (2 ^ 33) (ap stack_of c.deref.ensures.value ∙ leaf.is_case.by_node.taken) leaf.few
+    taken_few (decisions_in leaf.at.now.case.now) c.deref.result.now (2 ^ 33) (ap stack_of c.deref.ensures.value ∙ leaf.at.now.is_case.by_node.taken) leaf.at.now.few
 
 pub invariant_of-weights : goal.invariant_of-weights
 invariant_of-weights g c =
     let leaf = c.args.self.now in
-    let case : List Decision = decisions_in leaf.case.now in
-    record {
-      is_case = subst (λ (n : ℕ). IsOpenCase n leaf.case.now) (sym c.of-combed.ensures.nodes) leaf.is_case;
-      both = leaf.direction ∙ c.requires.undirected;
-      once = few_changes case (subst (λ (d : Bool). DecideOnce d case) c.requires.undirected leaf.once);
-    }
-
-pub decided_bound-requires-clause-even : goal.decided_bound-requires-clause-even
-decided_bound-requires-clause-even g c =
-    let leaf = c.args.self.now in
-    let p = leaf.setting.now in
+    let case : List Decision = decisions_in leaf.at.now.case.now in
+    let p = leaf.at.now.setting.now in
     let cost = g.C.Costs.at p.costs.now in
     let families = p.families.now in
     let ps : List ℤ = leaf.potentials.now in
     let ms : List ℤ = leaf.multipliers.now in
-    let case : List Decision = decisions_in leaf.case.now in
     let q = c.of-combed.result in
     let w : ℕ → ℕ → ℤ = set_weight q.scale q.potentials.now q.multipliers.now (lent_in q.families.now) (g.C.Costs.at q.costs.now) in
     let many = families.many in
@@ -51,19 +43,36 @@ decided_bound-requires-clause-even g c =
     let combs : List (Family × ℤ) = multiplied (good_in families) ms in
     let agree = λ (i j : ℕ). case_weight w p.cases.now.scale families.crossed.items ps ms (lent_in families) case cost i j many long
     (c.of-combed.ensures.weights i j) in
-    λ i j. agree i j ∙ leaf_even p.cases.now.scale ps (on_taken decided_number case) (on_avoided decided_number case) combs cost (p.even c.requires.undirected) i j ∙ sym (agree j i)
+    record {
+      is_case = subst (λ (n : ℕ). IsOpenCase n leaf.at.now.case.now) (sym c.of-combed.ensures.nodes) leaf.at.now.is_case;
+      both = leaf.at.now.direction ∙ c.requires.undirected;
+      once = few_changes case (subst (λ (d : Bool). DecideOnce d case) c.requires.undirected leaf.at.now.once);
+      some = omega (arith, c.of-combed.ensures.nodes, p.some);
+      even = λ i j. agree i j ∙ leaf_even p.cases.now.scale ps (on_taken decided_number case) (on_avoided decided_number case) combs cost (p.even c.requires.undirected) i j ∙ sym (agree j i);
+    }
+
+pub invariant_of-sum : goal.invariant_of-sum
+invariant_of-sum g c =
+    let cases = c.args.self.now.at.now.setting.now.cases.now in
+    let taken = c.taken_back-taken.ensures.size in
+    let less = c.given_back.ensures.size in
+    record {
+      scaled = subst IsScale (sym (same_scale cases.scale cases.scaled)) cases.scaled;
+      size = subst (IsFromTo (neg_ℤ (pos (2 ^ 99))) (pos (2 ^ 99))) (sym (back_held c.taken_back-taken.result c.given_back.result taken less))
+          (omega (arith, ints, taken.0, less.0), omega (arith, ints, taken.1, less.1));
+    }
 
 -- plan: the weights are those of the case (`case_weight`), and `back_of` sums what its bound gives back
 pub returns-clause-bound : goal.returns-clause-bound
 returns-clause-bound g c =
     let leaf = c.args.self.now in
-    let p = leaf.setting.now in
+    let p = leaf.at.now.setting.now in
     let n : ℕ = g.C.Costs.nodes p.costs.now in
     let cost = g.C.Costs.at p.costs.now in
     let families = p.families.now in
     let ps : List ℤ = leaf.potentials.now in
     let ms : List ℤ = leaf.multipliers.now in
-    let case : List Decision = decisions_in leaf.case.now in
+    let case : List Decision = decisions_in leaf.at.now.case.now in
     let q = c.of-combed.result in
     let w : ℕ → ℕ → ℤ = set_weight q.scale q.potentials.now q.multipliers.now (lent_in q.families.now) (g.C.Costs.at q.costs.now) in
     let many = families.many in
@@ -78,7 +87,7 @@ returns-clause-bound g c =
     let back : ℤ = to_z w128 (of_z w128 (to_z w128 (of_z w128 taken) +ℤ to_z w128 (of_z w128 less))) in
     let sum_is : back ≡ taken +ℤ less = back_held taken less c.taken_back-taken.ensures.size c.given_back.ensures.size in
     let least = c.given_back.ensures.value in
-    let taken_is = c.taken_back-taken.ensures.value ∙ taken_listed case c.deref.result.now (ap stack_of c.deref.ensures.value ∙ leaf.is_case.by_node.taken) in
+    let taken_is = c.taken_back-taken.ensures.value ∙ taken_listed case c.deref.result.now (ap stack_of c.deref.ensures.value ∙ leaf.at.now.is_case.by_node.taken) in
     let back_is : back ≡ given_back_of ps (on_taken decided_number case) combs = sum_is ∙ back_of taken less _ _ _ taken_is least in
     IfOk-weaker c.decided_bound.result _ _
     (λ (bound : ℤ) bounds.

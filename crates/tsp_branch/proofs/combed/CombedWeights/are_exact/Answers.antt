@@ -10,17 +10,17 @@ use Rattle.tsp_theory.specs.CertificateNumbers.{IsFromTo, entry}
 use Rattle.tsp_theory.specs.states.Nearest.{least_at}
 use Rattle.tsp_bound.specs.states.NodeNumbers.{most_number}
 use Rattle.tsp_cases.specs.states.Places.{IsPlaceIn}
-use Rattle.tsp_branch.specs.states.Sets.{places_with}
+use Rattle.tsp_cases.specs.states.Sets.{places_with}
 use Rattle.tsp_cases.specs.states.Lent.{lent_in}
-use Rattle.tsp_branch.specs.states.Combed.{multipliers_at}
+use Rattle.tsp_cases.specs.states.Combed.{multipliers_at}
 use Rattle.tsp_branch.specs.states.Shared.{sum_at_places}
-use Rattle.tsp_branch.proofs.Changes.{within}
-use Rattle.tsp_branch.proofs.SetAlgebra.{places_inside}
+use Rattle.tsp_cases.proofs.Changes.{within}
+use Rattle.tsp_cases.proofs.SetAlgebra.{places_inside}
 use Rattle.tsp_branch.proofs.SharedSets.{number_is}
 use Rattle.tsp_branch.proofs.combed.CombedWeights.are_exact.Goals as goal
 
-pub are_few-requires-clause-places : goal.are_few-requires-clause-places
-are_few-requires-clause-places g c = λ k d lt.
+pub are_few-requires : goal.are_few-requires
+are_few-requires g c = λ k d lt.
     let q = c.args.self.now in
     let families : List (List (List ℕ)) = lent_in q.families.now in
     let node_in : IsNode (g.C.Costs.nodes q.costs.now) c.nodes.node = (omega (arith, c.nodes.auto.node), omega (arith, c.nodes-test.true, c.count-node-end.ensures.value)) in
@@ -39,7 +39,8 @@ nodes-preserved g c = λ x low below. elim (cases_eq x c.nodes.node) [
       let places_are : c.deref.result.now ≡ places_with 0 families node = c.deref.ensures.value ∙ q.table.said node c.index-self-node.result node_in.1 in
       let taken : ℤ = multipliers_at q.multipliers.now families node in
       let few : IsFromTo (pos 0) (pos 3000000000000000000) taken =
-      subst (λ (z : ℤ). IsFromTo (pos 0) (pos 3000000000000000000) z) (ap (sum_at_places q.multipliers.now) places_are ∙ number_is q.multipliers.now families node) (c.are_few.ensures c.if-not-are_few.false) in
+      subst (λ (z : ℤ). IsFromTo (pos 0) (pos 3000000000000000000) z) (ap (sum_at_places q.multipliers.now) places_are ∙ number_is q.multipliers.now families node)
+      (c.are_few.ensures c.if-not-are_few.false) in
       let potential = q.potentials_are (node - 1) (pos 0) (omega (arith, node_in, q.long)) in
       let whole : ℤ = entry q.potentials.now node +ℤ neg_ℤ taken in
       let whole_fits : FitsSigned w64 whole = within whole (omega (arith, ints, few.0, few.1, potential.0, potential.1), omega (arith, ints, few.0, few.1, potential.0, potential.1)) in

@@ -5,7 +5,7 @@ use Rattle.tsp_theory.specs.CertificateNumbers.{IsFromTo, entry}
 use Rattle.tsp_theory.specs.states.Nearest.{least_at}
 use Rattle.tsp_bound.specs.states.NodeNumbers.{most_number}
 use Rattle.tsp_cases.specs.states.Lent.{lent_in}
-use Rattle.tsp_branch.specs.states.Combed.{multipliers_at}
+use Rattle.tsp_cases.specs.states.Combed.{multipliers_at}
 use Rattle.tsp_branch.proofs.combed.CombedWeights.are_exact.Given as goal
 
 abbrev pub invariant-nodes : goal.invariant-nodes

@@ -9,8 +9,8 @@ use Rattle.tsp_theory.specs.states.Nearest.{least_at}
 use Rattle.tsp_theory.proofs.Weights.{between_size}
 use Rattle.tsp_theory.proofs.Sizes.{same_scale, scaled_size}
 use Rattle.tsp_cases.specs.states.Lent.{lent_in}
-use Rattle.tsp_branch.specs.states.Combed.{multipliers_at}
-use Rattle.tsp_branch.proofs.SetAlgebra.{apart_is}
+use Rattle.tsp_cases.specs.states.Combed.{multipliers_at}
+use Rattle.tsp_cases.proofs.SetAlgebra.{apart_is}
 use Rattle.tsp_branch.proofs.combed.CombedWeights.fill_apart.Goals as goal
 
 -- plan: `apart_is`: the sum in 64 bits is the weight apart; `between_size` for its size

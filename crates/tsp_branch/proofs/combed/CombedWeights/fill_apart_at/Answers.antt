@@ -8,7 +8,7 @@ use Rattle.std.proofs.lemmas.Int.{to_z-of_z}
 use Rattle.std.proofs.lemmas.List.{get_or-set_same, get_or-set_other}
 use Rattle.tsp_theory.specs.states.Nearest.{least_at}
 use Rattle.tsp_cases.specs.states.Lent.{lent_in}
-use Rattle.tsp_branch.specs.states.Combed.{IsApart}
+use Rattle.tsp_cases.specs.states.Combed.{IsApart}
 use Rattle.tsp_branch.proofs.combed.CombedWeights.fill_apart_at.Goals as goal
 
 pub places-preserved : goal.places-preserved

@@ -2,7 +2,7 @@
 use Rattle.std.proofs.Common.{◌<◌, ℕ, length, slice_index}
 use Rattle.tsp_theory.specs.states.Nearest.{least_at}
 use Rattle.tsp_cases.specs.states.Lent.{lent_in}
-use Rattle.tsp_branch.specs.states.Combed.{IsApart}
+use Rattle.tsp_cases.specs.states.Combed.{IsApart}
 use Rattle.tsp_branch.proofs.combed.CombedWeights.fill_apart_at.Given as goal
 
 abbrev pub invariant-places : goal.invariant-places

@@ -10,9 +10,9 @@ use Rattle.tsp_theory.specs.states.Nearest.{least_at}
 use Rattle.tsp_theory.proofs.Weights.{between_size}
 use Rattle.tsp_theory.proofs.Sizes.{scaled_size}
 use Rattle.tsp_cases.specs.states.Lent.{lent_in}
-use Rattle.tsp_branch.specs.states.Combed.{most_combed, set_weight}
-use Rattle.tsp_branch.specs.states.Kept.{kept_weight, IsKeptRow}
-use Rattle.tsp_branch.proofs.KeptRows.{kept_at}
+use Rattle.tsp_cases.specs.states.Combed.{most_combed, set_weight}
+use Rattle.tsp_cases.specs.states.Kept.{kept_weight, IsKeptRow}
+use Rattle.tsp_cases.proofs.RowsKept.{kept_at}
 use Rattle.tsp_branch.proofs.combed.CombedWeights.fill_by_kept.Goals as goal
 
 -- plan: the kept row is copied and shifted; `kept_at` gives each entry, `between_size` its size

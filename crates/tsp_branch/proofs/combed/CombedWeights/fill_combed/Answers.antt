@@ -7,12 +7,12 @@ use Rattle.tsp_format.specs.Nodes.{IsNode}
 use Rattle.tsp_theory.specs.CertificateNumbers.{IsFromTo}
 use Rattle.tsp_theory.specs.states.Nearest.{least_at}
 use Rattle.tsp_cases.specs.declared.set_place.SetPlace.{SetPlace}
-use Rattle.tsp_branch.specs.states.Sets.{IsMoved, places_with}
+use Rattle.tsp_cases.specs.states.Sets.{IsMoved, places_with}
 use Rattle.tsp_cases.specs.states.Places.{IsPlaceIn}
 use Rattle.tsp_cases.specs.states.Lent.{lent_in}
-use Rattle.tsp_branch.specs.states.Combed.{inside_both, most_combed, set_weight}
-use Rattle.tsp_branch.proofs.SetAlgebra.{places_inside}
-use Rattle.tsp_branch.proofs.CombedValues.{combed_at}
+use Rattle.tsp_cases.specs.states.Combed.{inside_both, most_combed, set_weight}
+use Rattle.tsp_cases.proofs.SetAlgebra.{places_inside}
+use Rattle.tsp_cases.proofs.CombedValues.{combed_at}
 use Rattle.tsp_branch.proofs.combed.CombedWeights.fill_combed.Goals as goal
 
 pub invariant_of-multiplied : goal.invariant_of-multiplied
@@ -42,7 +42,8 @@ returns g c =
     subst (λ (ps : List SetPlace). IsMoved (inside_both multipliers families ps x) (least_at old x) (least_at row x)) places_are (c.add_sets.ensures x) in
     let both : (x : ℕ) → IsNode (g.C.Costs.nodes p.costs.now) x
     → (least_at row x ≡ set_weight p.scale p.potentials.now multipliers families cost from x) × IsFromTo (neg_ℤ (pos most_combed)) (pos most_combed) (least_at row x) = λ x h.
-    combed_at p.scale p.potentials.now multipliers families cost from x (least_at old x) (least_at row x) p.families.now.once (p.crossed from x c.requires.from h) (c.fill_apart.ensures.values x h, c.fill_apart.ensures.sizes x h) (gained x) in
+    combed_at p.scale p.potentials.now multipliers families cost from x (least_at old x) (least_at row x) p.families.now.once (p.crossed from x c.requires.from h)
+    (c.fill_apart.ensures.values x h, c.fill_apart.ensures.sizes x h) (gained x) in
     record {
       values = λ x h. (both x h).0;
       sizes = λ x h. (both x h).1;

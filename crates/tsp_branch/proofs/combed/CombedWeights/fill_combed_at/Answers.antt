@@ -6,12 +6,12 @@ use Rattle.std.proofs.lemmas.Int.{ints}
 use Rattle.tsp_theory.specs.CertificateNumbers.{IsFromTo}
 use Rattle.tsp_theory.specs.states.Nearest.{least_at}
 use Rattle.tsp_cases.specs.declared.set_place.SetPlace.{SetPlace}
-use Rattle.tsp_branch.specs.states.Sets.{IsMoved, places_with}
+use Rattle.tsp_cases.specs.states.Sets.{IsMoved, places_with}
 use Rattle.tsp_cases.specs.states.Places.{IsPlaceIn}
 use Rattle.tsp_cases.specs.states.Lent.{lent_in}
-use Rattle.tsp_branch.specs.states.Combed.{inside_both, most_combed, set_weight}
-use Rattle.tsp_branch.proofs.SetAlgebra.{places_inside}
-use Rattle.tsp_branch.proofs.CombedValues.{combed_at}
+use Rattle.tsp_cases.specs.states.Combed.{inside_both, most_combed, set_weight}
+use Rattle.tsp_cases.proofs.SetAlgebra.{places_inside}
+use Rattle.tsp_cases.proofs.CombedValues.{combed_at}
 use Rattle.tsp_branch.proofs.combed.CombedWeights.fill_combed_at.Goals as goal
 
 pub invariant_of-multiplied : goal.invariant_of-multiplied
@@ -42,7 +42,8 @@ returns g c =
     let node : ℕ → ℕ = slice_index c.args.to.now in
     let both : (k : ℕ) → k < length c.args.to.now
     → (least_at row (node k) ≡ set_weight p.scale p.potentials.now multipliers families cost from (node k)) × IsFromTo (neg_ℤ (pos most_combed)) (pos most_combed) (least_at row (node k)) = λ k h.
-    combed_at p.scale p.potentials.now multipliers families cost from (node k) (least_at old (node k)) (least_at row (node k)) p.families.now.once (p.crossed from (node k) c.requires.from (c.requires.to k h)) (c.fill_apart_at.ensures k h) (gained (node k)) in
+    combed_at p.scale p.potentials.now multipliers families cost from (node k) (least_at old (node k)) (least_at row (node k)) p.families.now.once
+    (p.crossed from (node k) c.requires.from (c.requires.to k h)) (c.fill_apart_at.ensures k h) (gained (node k)) in
     record {
       values = λ k h. (both k h).0;
       sizes = λ k h. (both k h).1;

@@ -3,14 +3,14 @@ use Rattle.std.proofs.Common.{◌∙◌, ℤ, sym, subst}
 use Rattle.tsp_theory.specs.CertificateNumbers.{IsScale}
 use Rattle.tsp_theory.proofs.Sizes.{same_scale}
 use Rattle.tsp_cases.specs.states.Lent.{lent_in}
-use Rattle.tsp_branch.specs.states.Kept.{kept_weight, AreRowsIfAny}
-use Rattle.tsp_branch.proofs.CaseWeights.{small_multipliers}
+use Rattle.tsp_cases.specs.states.Kept.{kept_weight, AreRowsIfAny}
+use Rattle.tsp_cases.proofs.CaseWeights.{small_multipliers}
 use Rattle.tsp_branch.proofs.combed.CombedWeights.of.Goals as goal
 
 pub invariant_of-result : goal.invariant_of-result
 invariant_of-result g c =
     let leaf = c.args.leaf.now in
-    let p = leaf.setting.now in
+    let p = leaf.at.now.setting.now in
     let families = p.families.now in
     let n = g.C.Costs.nodes p.costs.now in
     let cost = g.C.Costs.at p.costs.now in

@@ -8,15 +8,15 @@ use Rattle.tsp_format.specs.Nodes.{IsNode}
 use Rattle.tsp_theory.specs.states.Nearest.{least_at}
 use Rattle.tsp_theory.proofs.Nearest.{most_64}
 use Rattle.tsp_cases.specs.states.Lent.{lent_in}
-use Rattle.tsp_branch.specs.states.Combed.{set_weight}
-use Rattle.tsp_branch.specs.states.Sets.{IsMoved}
+use Rattle.tsp_cases.specs.states.Combed.{set_weight}
+use Rattle.tsp_cases.specs.states.Sets.{IsMoved}
 use Rattle.tsp_cases.specs.declared.decision.Decision.{Decision}
 use Rattle.tsp_cases.specs.states.Decided.{stack_of, decided, changes}
 use Rattle.tsp_cases.specs.states.OpenCases.{bears_on, decisions_in}
-use Rattle.tsp_branch.proofs.Changes.{changes_are, within}
+use Rattle.tsp_cases.proofs.Changes.{changes_are, within}
 use Rattle.tsp_cases.proofs.OpenCases.{changes_listed}
 use Rattle.tsp_branch.proofs.OpenRows.{both_inside}
-use Rattle.tsp_branch.proofs.SetAlgebra.{moved_to}
+use Rattle.tsp_cases.proofs.SetAlgebra.{moved_to}
 use Rattle.tsp_branch.proofs.decided.DecidedWeightsWeights.fill.Goals as goal
 
 pub change_row-requires : goal.change_row-requires

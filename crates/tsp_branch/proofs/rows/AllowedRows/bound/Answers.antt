@@ -10,16 +10,16 @@ use Rattle.tsp_branch.proofs.rows.AllowedRows.bound.Goals as goal
 
 pub returns-clause-bound : goal.returns-clause-bound
 returns-clause-bound g c =
-    let sum : ℤ = c.in_ok-sum.sum in
-    let back : ℤ = c.args.given_back in
+    let sum : ℤ = c.in_ok-least.least in
+    let back : ℤ = c.args.sum.given_back in
     let found = c.rounded_up.result in
     let fits : FitsSigned w128 c.rounded_up.result = search rules in
-    let computed = with_back sum back c.in_ok-sum.ensures.size c.requires.given_back in
-    let rounded : IsLeastBound c.args.scale (sum +ℤ back) found = subst (λ (z : ℤ). IsLeastBound c.args.scale z found) computed
-    (subst (λ (z : ℤ). IsLeastBound z (to_z w128 (of_z w128 (to_z w128 (of_z w128 sum) +ℤ to_z w128 (of_z w128 back)))) found) (same_scale c.args.scale c.requires.scale)
+    let computed = with_back sum back c.in_ok-least.ensures.size c.args.sum.size in
+    let rounded : IsLeastBound c.args.sum.scale (sum +ℤ back) found = subst (λ (z : ℤ). IsLeastBound c.args.sum.scale z found) computed
+    (subst (λ (z : ℤ). IsLeastBound z (to_z w128 (of_z w128 (to_z w128 (of_z w128 sum) +ℤ to_z w128 (of_z w128 back)))) found) (same_scale c.args.sum.scale c.args.sum.scaled)
     c.rounded_up.ensures.value) in
     record {
       sum = sum;
-      least = c.in_ok-sum.ensures.sum;
-      bound_is = subst (λ (z : ℤ). IsLeastBound c.args.scale (sum +ℤ back) z) (sym (to_z-of_z w128 found fits)) rounded;
+      least = c.in_ok-least.ensures.sum;
+      bound_is = subst (λ (z : ℤ). IsLeastBound c.args.sum.scale (sum +ℤ back) z) (sym (to_z-of_z w128 found fits)) rounded;
     }

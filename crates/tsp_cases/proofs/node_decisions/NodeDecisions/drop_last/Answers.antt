@@ -11,7 +11,8 @@ returns-then-decision-clause-less c = λ n case was.
     let d : Decision = c.args.decision in
     let old = c.args.self.now in
     let now : ListsNow n case old c.if-not-self.self = elim c.if-not-self.branch [
-      | then-not-self w ↦ rw w.self-is (now_less n d case old c.unlist_at.new.lists.items _ was refl refl c.requires.2 c.unlist_at.ensures (inr (w.if-not-self.true, w.unlist_at-then-not-self.ensures)))
+      | then-not-self w ↦ rw w.self-is (now_less n d case old c.unlist_at.new.lists.items _ was refl refl c.requires.2 c.unlist_at.ensures
+          (inr (w.if-not-self.true, w.unlist_at-then-not-self.ensures)))
       | else-not-self w ↦ rw w.self-is (now_less n d case old c.unlist_at.new.lists.items _ was refl refl c.requires.2 c.unlist_at.ensures (inl (w.if-not-self.false, refl)))
     ] in
     let long : c.if-not-self.self.taken.len ≡ length c.if-not-self.self.taken.items = omega arith in
@@ -23,7 +24,8 @@ returns-else-decision-clause-less c = λ n case was.
     let d : Decision = c.args.decision in
     let old = c.args.self.now in
     let now : ListsNow n case old c.if-not-self.self = elim c.if-not-self.branch [
-      | then-not-self w ↦ rw w.self-is (now_less n d case old c.unlist_at.new.lists.items _ was refl refl c.requires.2 c.unlist_at.ensures (inr (w.if-not-self.true, w.unlist_at-then-not-self.ensures)))
+      | then-not-self w ↦ rw w.self-is (now_less n d case old c.unlist_at.new.lists.items _ was refl refl c.requires.2 c.unlist_at.ensures
+          (inr (w.if-not-self.true, w.unlist_at-then-not-self.ensures)))
       | else-not-self w ↦ rw w.self-is (now_less n d case old c.unlist_at.new.lists.items _ was refl refl c.requires.2 c.unlist_at.ensures (inl (w.if-not-self.false, refl)))
     ] in
     by_node_now n case old c.if-not-self.self _ now refl refl

@@ -38,7 +38,8 @@ returns-then-last-clause-case c = λ n was.
     let popped : OpenCase = record { given = old.given; stack = c.pop.new.self; by_node = c.drop_last.new.self } in
     let above = one_above old popped last c.in-Some.ensures.items refl in
     let is = c.leave.invariant.case n was in
-    let by_node : AreByNode n c.drop_last.new.self (decisions_in popped) = c.drop_last.ensures.less n (decisions_in popped) (subst (λ (ds : List Decision). AreByNode n old.by_node ds) above is.by_node) in
+    let by_node : AreByNode n c.drop_last.new.self (decisions_in popped) =
+    c.drop_last.ensures.less n (decisions_in popped) (subst (λ (ds : List Decision). AreByNode n old.by_node ds) above is.by_node) in
     let left = case_less n old popped last is above by_node in
     case_more n popped _ (record { pair = last.pair; taken = false }) left (first_pair n old popped last is above) c.in_ok-push.ensures.items refl
     (c.in_ok-add.ensures.more n (decisions_in popped) by_node)

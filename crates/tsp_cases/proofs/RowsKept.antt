@@ -1,0 +1,232 @@
+-- Rows that are kept: one row more, other multipliers, and the weights that they give.
+use Rattle.std.proofs.Common.{◌≡◌, ℕ, zero, suc, ◌+◌, ◌<◌, ◌==◌, List, [], ◌∷◌, ◌++◌, length, replicate, inl, inr, refl, sym, ap, subst, ◌∙◌, arith}
+use Rattle.std.specs.Prelude.{◌⊎◌, ℤ, pos, neg_ℤ, ◌+ℤ◌, ◌*ℤ◌, slice_index_or as get_or}
+use Rattle.std.specs.Int.{w64, int_wrap}
+use Rattle.std.specs.Global.{Vec}
+use Rattle.std.specs.List.{All}
+use Rattle.std.proofs.Math.ListN.{set}
+use Rattle.std.proofs.lemmas.Bool.{cases_Bool, cases_lt}
+use Rattle.std.proofs.lemmas.Int.{ints, int_wrap-add_left, int_wrap-add_same, int_wrap_fits, SFits-int_wrap}
+use Rattle.std.proofs.lemmas.List.{length-append, get_or_append_left, get_or-replicate, get_or_past, length-replicate, get_or_push}
+use Rattle.tsp_theory.specs.NodeBound.{weight_between, most_between}
+use Rattle.tsp_theory.specs.CertificateNumbers.{IsFromTo, entry}
+use Rattle.tsp_theory.specs.states.Nearest.{least_at}
+use Rattle.tsp_theory.specs.Length.{sum_int_by}
+use Rattle.tsp_cases.specs.GoodFamilies.{HasEachOnce}
+use Rattle.tsp_cases.specs.GoodNumbers.{most_crossed}
+use Rattle.tsp_cases.specs.declared.set_place.SetPlace.{SetPlace}
+use Rattle.tsp_cases.specs.states.Sets.{IsMoved, added, places_with, IsSetTable}
+use Rattle.tsp_cases.specs.states.Combed.{AreSmallMultipliers, summed_from, multipliers_at, set_in, twice_in, inside_both, set_crossings, most_combed, set_weight}
+use Rattle.tsp_cases.specs.states.Kept.{kept_weight, IsKeptRow, AreRows, AreRowsIfAny, AreAdded, AreDifferences, AreEnds}
+use Rattle.tsp_cases.proofs.CombedRows.{added_none}
+use Rattle.tsp_cases.proofs.CombedValues.{combed_at}
+use Rattle.tsp_cases.proofs.MovedSums.{wrapped_by}
+use Rattle.tsp_cases.proofs.SetAlgebra.{apart_is}
+
+-- ---- one row more
+
+-- a place below one more is below, or the last one
+last_or_below : (k n : ℕ) → k < n + 1 → (k < n) ⊎ (k ≡ n)
+last_or_below zero zero less = inr refl
+last_or_below zero (suc n) less = inl (omega arith)
+last_or_below (suc k) zero less = absurd (omega (arith, less))
+last_or_below (suc k) (suc n) less = one_more (last_or_below k n (omega (arith, less)))
+  where
+    one_more : (k < n) ⊎ (k ≡ n) → (suc k < suc n) ⊎ (suc k ≡ suc n)
+    one_more (inl below) = inl (omega (arith, below))
+    one_more (inr same) = inr (ap suc same)
+
+pub rows_more : (n : ℕ) (cost weight : ℕ → ℕ → ℤ) (count : ℕ) (rows : List (Vec ℤ)) (row : Vec ℤ) → AreRows n cost weight count rows
+    → IsKeptRow n (cost (count + 1)) (weight (count + 1)) row.items → AreRows n cost weight (count + 1) (rows ++ row ∷ [])
+rows_more n cost weight count rows row are last = record {
+  many = omega (arith, length-append rows (row ∷ []), are.many);
+  each = λ k default less. by_place k default (last_or_below k count less);
+}
+  where
+    by_place : (k : ℕ) (default : Vec ℤ) → (k < count) ⊎ (k ≡ count) → IsKeptRow n (cost (k + 1)) (weight (k + 1)) (get_or (rows ++ row ∷ []) k default).items
+    by_place k default (inl below) = subst (λ (r : Vec ℤ). IsKeptRow n (cost (k + 1)) (weight (k + 1)) r.items)
+        (sym (get_or_append_left rows (row ∷ []) default k (omega (arith, below, are.many)))) (are.each k default below)
+    by_place k default (inr same) = subst (λ (m : ℕ). IsKeptRow n (cost (m + 1)) (weight (m + 1)) (get_or (rows ++ row ∷ []) m default).items) (sym same)
+        (subst (λ (r : Vec ℤ). IsKeptRow n (cost (count + 1)) (weight (count + 1)) r.items) (sym (get_or_push rows row default count are.many)) last)
+
+-- ---- other multipliers
+
+added_sum : (a b : ℤ) (nodes : List ℕ) (x : ℕ) → added (a +ℤ b) nodes x ≡ added a nodes x +ℤ added b nodes x
+added_sum a b [] x = refl
+added_sum a b (node ∷ nodes) x =
+    let rest = added_sum a b nodes x in
+    elim (cases_Bool (node == x)) [
+      | inl here ↦ rw here (omega (arith, ints, rest))
+      | inr other ↦ rw other (omega (arith, ints, rest))
+    ]
+
+twice_sum : (old new differences : List ℤ) (families : List (List (List ℕ))) (place : SetPlace) (x : ℕ) → AreDifferences old new differences
+    → twice_in new families place x ≡ twice_in old families place x +ℤ twice_in differences families place x
+twice_sum old new differences families place x are =
+    let own : List ℕ = set_in families place in
+    let more = are place.family in
+    let twice : pos 2 *ℤ get_or new place.family (pos 0) ≡ (pos 2 *ℤ get_or old place.family (pos 0)) +ℤ (pos 2 *ℤ get_or differences place.family (pos 0)) = omega (arith, ints, more) in
+    ap (λ (z : ℤ). added z own x) twice ∙ added_sum (pos 2 *ℤ get_or old place.family (pos 0)) (pos 2 *ℤ get_or differences place.family (pos 0)) own x
+
+inside_sum : (old new differences : List ℤ) (families : List (List (List ℕ))) (places : List SetPlace) (x : ℕ) → AreDifferences old new differences
+    → inside_both new families places x ≡ inside_both old families places x +ℤ inside_both differences families places x
+inside_sum old new differences families [] x are = refl
+inside_sum old new differences families (place ∷ places) x are =
+    let own = twice_sum old new differences families place x are in
+    let rest = inside_sum old new differences families places x are in
+    omega (arith, ints, own, rest)
+
+row_brought : (n : ℕ) (cost was is change : ℕ → ℤ) (old new : List ℤ) → length new ≡ length old → ((x : ℕ) → is x ≡ was x +ℤ change x)
+    → ((x : ℕ) → IsMoved (change x) (least_at old x) (least_at new x)) → IsKeptRow n cost was old → IsKeptRow n cost is new
+row_brought n cost was is change old new same sum moved kept = record {
+  long = same ∙ kept.long;
+  weights = λ x x_in. wrapped_by (change x) (least_at old x) (least_at new x) (least_at old x) (moved x) refl
+      ∙ int_wrap-add_same w64 (least_at old x) (was x) (change x) (kept.weights x x_in) ∙ ap (int_wrap w64) (sym (sum x));
+  costs = kept.costs;
+}
+
+some_of : {A : Type 0} (xs : List A) (k : ℕ) → k < length xs → A
+some_of [] k less = absurd (omega (arith, less))
+some_of (x ∷ xs) k less = x
+
+pub rows_brought : (n : ℕ) (scale : ℤ) (families : List (List (List ℕ))) (cost : ℕ → ℕ → ℤ) (old new differences : List ℤ) (by_node : List (Vec SetPlace)) (rows brought : List (Vec ℤ))
+    → AreDifferences old new differences → IsSetTable n families by_node → AreAdded differences families by_node rows brought → AreRowsIfAny n cost (kept_weight scale families cost old) rows
+    → AreRowsIfAny n cost (kept_weight scale families cost new) brought
+rows_brought n scale families cost old new differences by_node rows brought are table more all some =
+    let kept = all (omega (arith, some, more.many)) in
+    record {
+      many = more.many ∙ kept.many;
+      each = λ k default less.
+          let inside : k < length rows = omega (arith, less, kept.many) in
+          let list : Vec SetPlace = some_of by_node (k + 1) (omega (arith, less, table.count)) in
+          let listed = table.said (k + 1) list (omega (arith, less)) in
+          row_brought n (cost (k + 1)) (kept_weight scale families cost old (k + 1)) (kept_weight scale families cost new (k + 1))
+          (λ x. inside_both differences families (places_with 0 families (k + 1)) x)
+          (get_or rows k default).items (get_or brought k default).items (more.long k default default inside)
+          (λ x. let sum = inside_sum old new differences families (places_with 0 families (k + 1)) x are in omega (arith, ints, sum))
+          (λ x. subst (λ (ns : List SetPlace). IsMoved (inside_both differences families ns x) (least_at (get_or rows k default).items x) (least_at (get_or brought k default).items x)) listed
+          (more.moved k x default default list inside)) (kept.each k default less);
+    }
+
+abbrev at_sets : ℤ → List (List ℕ) → ℕ → ℤ
+at_sets number sets x = sum_int_by (λ set. added number set x) sets
+
+family_sum : (a b : ℤ) (sets : List (List ℕ)) (x : ℕ) → at_sets (a +ℤ b) sets x ≡ at_sets a sets x +ℤ at_sets b sets x
+family_sum a b [] x = refl
+family_sum a b (set ∷ sets) x = let own = added_sum a b set x in let rest = family_sum a b sets x in omega (arith, ints, own, rest)
+
+abbrev taken_from : ℕ → List ℤ → List (List (List ℕ)) → ℕ → ℤ
+taken_from first multipliers families x = summed_from first (λ multiplier set. added multiplier set x) multipliers families
+
+ends_sum : (first : ℕ) (old new differences : List ℤ) (families : List (List (List ℕ))) (x : ℕ) → AreDifferences old new differences
+    → taken_from first new families x ≡ taken_from first old families x +ℤ taken_from first differences families x
+ends_sum first old new differences [] x are = refl
+ends_sum first old new differences (sets ∷ families) x are =
+    let own = ap (λ (z : ℤ). at_sets z sets x) (are first) ∙ family_sum (get_or old first (pos 0)) (get_or differences first (pos 0)) sets x in
+    let rest = ends_sum (suc first) old new differences families x are in
+    omega (arith, ints, own, rest)
+
+pub ends_brought : (n : ℕ) (families : List (List (List ℕ))) (old new differences ends brought : List ℤ) → AreDifferences old new differences → length brought ≡ length ends
+    → ((x : ℕ) → IsMoved (neg_ℤ (multipliers_at differences families x)) (least_at ends x) (least_at brought x)) → AreEnds n old families ends → AreEnds n new families brought
+ends_brought n families old new differences ends brought are same moved was = record {
+  places = same ∙ was.places;
+  taken = λ x x_in.
+      let change : ℤ = neg_ℤ (multipliers_at differences families x) in
+      let sum : neg_ℤ (multipliers_at old families x) +ℤ change ≡ neg_ℤ (multipliers_at new families x) =
+      (let all = ends_sum 0 old new differences families x are in omega (arith, ints, all)) in
+      wrapped_by change (least_at ends x) (least_at brought x) (least_at ends x) (moved x) refl
+      ∙ int_wrap-add_same w64 (least_at ends x) (neg_ℤ (multipliers_at old families x)) change (was.taken x x_in) ∙ ap (int_wrap w64) sum;
+}
+
+-- the potential of a node with its end
+pub moved_from_ends : (potential end held taken : ℤ) → held ≡ int_wrap w64 (potential +ℤ end) → int_wrap w64 end ≡ int_wrap w64 taken → int_wrap w64 held ≡ int_wrap w64 (potential +ℤ taken)
+moved_from_ends potential end held taken held_is end_is =
+    let turned : potential +ℤ end ≡ end +ℤ potential = omega (arith, ints) in
+    let back : taken +ℤ potential ≡ potential +ℤ taken = omega (arith, ints) in
+    ap (int_wrap w64) held_is ∙ int_wrap_fits w64 (int_wrap w64 (potential +ℤ end)) (SFits-int_wrap w64 (potential +ℤ end)) ∙ ap (int_wrap w64) turned
+    ∙ int_wrap-add_same w64 end taken potential end_is ∙ ap (int_wrap w64) back
+
+-- ---- no multipliers
+
+none_at : (count k : ℕ) → get_or (replicate count (pos 0)) k (pos 0) ≡ pos 0
+none_at count k = elim (cases_lt k count) [
+  | inl less ↦ get_or-replicate count k (pos 0) (pos 0) less
+  | inr past ↦ get_or_past (replicate count (pos 0)) k (pos 0) (omega (arith, past, length-replicate count (pos 0)))
+]
+
+twice_none : (count : ℕ) (families : List (List (List ℕ))) (place : SetPlace) (x : ℕ) → twice_in (replicate count (pos 0)) families place x ≡ pos 0
+twice_none count families place x = ap (λ (z : ℤ). added (pos 2 *ℤ z) (set_in families place) x) (none_at count place.family) ∙ added_none (set_in families place) x
+
+inside_none : (count : ℕ) (families : List (List (List ℕ))) (places : List SetPlace) (x : ℕ) → inside_both (replicate count (pos 0)) families places x ≡ pos 0
+inside_none count families [] x = refl
+inside_none count families (place ∷ places) x =
+    let own = twice_none count families place x in
+    let rest = inside_none count families places x in
+    omega (arith, ints, own, rest)
+
+pub kept_at_start : (n combs : ℕ) (scale held : ℤ) (families : List (List (List ℕ))) (cost : ℕ → ℕ → ℤ) (rows : List (Vec ℤ)) → held ≡ scale
+    → AreRowsIfAny n cost (λ i x. held *ℤ cost i x) rows → AreRowsIfAny n cost (kept_weight scale families cost (replicate combs (pos 0))) rows
+kept_at_start n combs scale held families cost rows same all some =
+    let kept = all some in
+    record {
+      many = kept.many;
+      each = λ k default less.
+          let row = kept.each k default less in
+          record {
+            long = row.long;
+            costs = row.costs;
+            weights = λ x x_in. row.weights x x_in ∙ ap (int_wrap w64)
+                (let none = inside_none combs families (places_with 0 families (k + 1)) x in let whole = ap (λ (z : ℤ). z *ℤ cost (k + 1) x) same in omega (arith, ints, none, whole));
+          };
+    }
+
+family_none : (sets : List (List ℕ)) (x : ℕ) → at_sets (pos 0) sets x ≡ pos 0
+family_none [] x = refl
+family_none (set ∷ sets) x = let own = added_none set x in let rest = family_none sets x in omega (arith, ints, own, rest)
+
+none_taken : (first count : ℕ) (families : List (List (List ℕ))) (x : ℕ) → taken_from first (replicate count (pos 0)) families x ≡ pos 0
+none_taken first count [] x = refl
+none_taken first count (sets ∷ families) x =
+    let own = ap (λ (z : ℤ). at_sets z sets x) (none_at count first) ∙ family_none sets x in
+    let rest = none_taken (suc first) count families x in
+    omega (arith, ints, own, rest)
+
+pub ends_at_start : (n combs places : ℕ) (families : List (List (List ℕ))) → places ≡ n + 1 → AreEnds n (replicate combs (pos 0)) families (replicate places (pos 0))
+ends_at_start n combs places families same = record {
+  places = length-replicate places (pos 0) ∙ same;
+  taken = λ x x_in. ap (int_wrap w64) (let one = none_at places x in let two = none_taken 0 combs families x in omega (arith, ints, one, two));
+}
+
+pub small_at_start : (combs : ℕ) → AreSmallMultipliers (replicate combs (pos 0))
+small_at_start combs k default less =
+    rw (get_or-replicate combs k (pos 0) default (omega (arith, less, length-replicate combs (pos 0)))) (omega (arith, ints), omega (arith, ints))
+
+-- ---- what the sets add, row by row
+
+-- the rows before this one have it, and the others are as they were
+pub record IsAddedTo (index : ℕ) (multipliers : List ℤ) (families : List (List (List ℕ))) (by_node : List (Vec SetPlace)) (old new : List (Vec ℤ)) : Type 0 where
+  pub many : length new ≡ length old
+  pub long : (k : ℕ) (a b : Vec ℤ) → k < length old → length (get_or new k a).items ≡ length (get_or old k b).items
+  pub moved : (k x : ℕ) (a b : Vec ℤ) (c : Vec SetPlace) → k < index → k < length old
+      → IsMoved (inside_both multipliers families (get_or by_node (k + 1) c).items x) (least_at (get_or old k b).items x) (least_at (get_or new k a).items x)
+  pub rest : (k : ℕ) (a b : Vec ℤ) → index < k + 1 → k < length old → get_or new k a ≡ get_or old k b
+
+-- ---- the weights
+
+pub kept_at : (scale : ℤ) (potentials multipliers : List ℤ) (families : List (List (List ℕ))) (cost : ℕ → ℕ → ℤ) (from x : ℕ) (m k kept value : ℤ)
+    → All (All HasEachOnce) families → IsFromTo (pos 0) (pos most_crossed) (set_crossings multipliers families from x)
+    → IsFromTo (neg_ℤ (pos most_between)) (pos most_between) (weight_between scale potentials cost from x)
+    → int_wrap w64 m ≡ int_wrap w64 (entry potentials from +ℤ neg_ℤ (multipliers_at multipliers families from))
+    → int_wrap w64 k ≡ int_wrap w64 (entry potentials x +ℤ neg_ℤ (multipliers_at multipliers families x))
+    → int_wrap w64 kept ≡ int_wrap w64 (kept_weight scale families cost multipliers from x) → value ≡ int_wrap w64 (kept +ℤ int_wrap w64 (m +ℤ k))
+    → (value ≡ set_weight scale potentials multipliers families cost from x) × IsFromTo (neg_ℤ (pos most_combed)) (pos most_combed) value
+kept_at scale potentials multipliers families cost from x m k kept value once crossed size m_is k_is kept_is value_is =
+    let scaled : ℤ = scale *ℤ cost from x in
+    let both : ℤ = int_wrap w64 (m +ℤ k) in
+    let inside : ℤ = inside_both multipliers families (places_with 0 families from) x in
+    let apart : ℤ = int_wrap w64 (scaled +ℤ both) in
+    let first = apart_is scaled (entry potentials from) (entry potentials x) (multipliers_at multipliers families from) (multipliers_at multipliers families x) m k both apart m_is k_is refl refl in
+    let order : (scaled +ℤ inside) +ℤ both ≡ (scaled +ℤ both) +ℤ inside = omega (arith, ints) in
+    let gained : value ≡ int_wrap w64 (apart +ℤ inside) =
+    value_is ∙ int_wrap-add_same w64 kept (scaled +ℤ inside) both kept_is ∙ ap (int_wrap w64) order ∙ sym (int_wrap-add_left w64 (scaled +ℤ both) inside) in
+    combed_at scale potentials multipliers families cost from x apart value once crossed (inr first, size) (inr gained)

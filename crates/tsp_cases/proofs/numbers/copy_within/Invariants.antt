@@ -1,0 +1,11 @@
+-- The loop of `copy_within` in src/numbers.rt.
+use Rattle.std.proofs.Common.{◌≡◌, ◌<◌, ℕ, ℤ, take, length, get_or}
+use Rattle.tsp_theory.specs.CertificateNumbers.{IsFromTo}
+use Rattle.tsp_cases.proofs.numbers.copy_within.Given as goal
+
+abbrev pub invariant-numbers : goal.invariant-numbers
+invariant-numbers l = record {
+  long : length l.copy ≡ length l.numbers;
+  inside : (k : ℕ) (default : ℤ) → k < l.index → IsFromTo l.least l.most (get_or l.numbers k default);
+  copied : take l.index l.copy ≡ take l.index l.numbers;
+}

@@ -1,0 +1,11 @@
+-- The goals of `sum_left` in src/row_sets.rt: what it ensures.
+use Rattle.std.proofs.Common.{rules, FitsSigned}
+use Rattle.std.specs.Int.{w64}
+use Rattle.std.proofs.lemmas.Int.{wrapping_add_is}
+use Rattle.tsp_cases.proofs.row_sets.sum_left.Goals as goal
+
+pub returns : goal.returns
+returns c =
+    let first : FitsSigned w64 c.args.a = search rules in
+    let second : FitsSigned w64 c.args.b = search rules in
+    wrapping_add_is w64 c.args.a c.args.b first second

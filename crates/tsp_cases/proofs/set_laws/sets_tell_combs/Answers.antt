@@ -1,0 +1,6 @@
+-- The goals of `sets_tell_combs` in src/set_laws.rt: what it ensures.
+use Rattle.tsp_cases.proofs.CombsBySets.{sets_tell_combs, sets_give_leaves}
+use Rattle.tsp_cases.proofs.set_laws.sets_tell_combs.Goals as goal
+
+pub returns : goal.returns
+returns c = record { combs = sets_tell_combs; leaves = sets_give_leaves }

@@ -1,0 +1,32 @@
+-- The goals of `add_to_nodes` in src/sets.rt: its loop and what it ensures.
+use Rattle.std.proofs.Common.{◌≡◌, ◌≤◌, ℕ, ℤ, List, length, get_or, refl, ap, sym, ◌∙◌, subst, inl, arith, rules, FitsSigned, to_z, of_z}
+use Rattle.std.specs.Int.{w64}
+use Rattle.std.specs.Prelude.{pos}
+use Rattle.std.proofs.lemmas.Int.{to_z-of_z}
+use Rattle.std.proofs.lemmas.List.{drop_all}
+use Rattle.tsp_theory.specs.states.Nearest.{least_at}
+use Rattle.tsp_cases.specs.states.Sets.{IsMoved, added}
+use Rattle.tsp_cases.proofs.SetSums.{moved_on, node_moved, added_left}
+use Rattle.tsp_cases.proofs.CombedRows.{added_none}
+use Rattle.tsp_cases.proofs.sets.add_to_nodes.Goals as goal
+
+pub returns-then-number-eq0 : goal.returns-then-number-eq0
+returns-then-number-eq0 c = λ x.
+    let fits : FitsSigned w64 c.args.number = search rules in
+    let none : c.args.number ≡ pos 0 = sym (to_z-of_z w64 c.args.number fits) ∙ ap (to_z w64) c.if-number-eq0.true in
+    inl (refl, ap (λ (z : ℤ). added z c.args.nodes.now x) none ∙ added_none c.args.nodes.now x)
+
+pub nodes-preserved : goal.nodes-preserved
+nodes-preserved c = λ x last rest.
+    c.nodes.invariant x last (rw (added_left (to_z w64 (of_z w64 c.args.number)) c.args.nodes.now c.nodes.node-index x 0 c.nodes-test.true)
+    (moved_on _ _ _ _ _ (node_moved (to_z w64 (of_z w64 c.args.number)) (get_or c.args.nodes.now c.nodes.node-index 0) x
+    c.nodes.row c.add_at.new.row c.add_at.ensures.here c.add_at.ensures.others) rest))
+
+pub returns : goal.returns
+returns c = λ x.
+    let nodes : List ℕ = c.args.nodes.now in
+    let past : length nodes ≤ c.nodes.node-index = omega (arith, c.nodes-test.false) in
+    let fits : FitsSigned w64 c.args.number = search rules in
+    let number : to_z w64 (of_z w64 c.args.number) ≡ c.args.number = to_z-of_z w64 c.args.number fits in
+    subst (λ (z : ℤ). IsMoved (added z nodes x) (least_at c.args.row.now x) (least_at c.nodes.row x)) number
+    (c.nodes.invariant x (least_at c.nodes.row x) (inl (refl, ap (λ ns. added (to_z w64 (of_z w64 c.args.number)) ns x) (drop_all c.nodes.node-index nodes past))))

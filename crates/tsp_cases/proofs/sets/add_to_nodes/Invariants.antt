@@ -1,0 +1,8 @@
+-- The loop of `add_to_nodes` in src/sets.rt.
+use Rattle.std.proofs.Common.{ℕ, ℤ, drop}
+use Rattle.tsp_theory.specs.states.Nearest.{least_at}
+use Rattle.tsp_cases.specs.states.Sets.{IsMoved, added}
+use Rattle.tsp_cases.proofs.sets.add_to_nodes.Given as goal
+
+abbrev pub invariant-nodes : goal.invariant-nodes
+invariant-nodes l = (x : ℕ) (last : ℤ) → IsMoved (added l.number (drop l.node-index l.nodes) x) (least_at l.row x) last → IsMoved (added l.number l.nodes x) (least_at l.fn.row x) last

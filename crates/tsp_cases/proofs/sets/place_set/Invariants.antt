@@ -1,0 +1,13 @@
+-- The loop of `place_set` in src/sets.rt.
+use Rattle.std.proofs.Common.{◌≡◌, ◌<◌, ℕ, ◌++◌, drop, length, get_or}
+use Rattle.std.specs.Global.{Vec}
+use Rattle.tsp_cases.specs.declared.set_place.SetPlace.{SetPlace}
+use Rattle.tsp_cases.specs.states.Sets.{times}
+use Rattle.tsp_cases.proofs.sets.place_set.Given as goal
+
+abbrev pub invariant-nodes : goal.invariant-nodes
+invariant-nodes l = record {
+  count : length l.lists.items ≡ length l.fn.lists.items;
+  said : (x : ℕ) (a b : Vec SetPlace) → x < length l.fn.lists.items → (get_or l.lists.items x a).items ++ times l.place (drop l.node-index l.nodes) x ≡
+      (get_or l.fn.lists.items x b).items ++ times l.place l.nodes x;
+}

@@ -1,0 +1,15 @@
+-- The loop of `sets_by_node` in src/sets.rt.
+use Rattle.std.proofs.Common.{◌≡◌, ◌≤◌, ◌+◌, ℕ, ◌++◌, drop, length, get_or}
+use Rattle.std.specs.Global.{Vec}
+use Rattle.tsp_families.specs.FamilySets.{families_in}
+use Rattle.tsp_cases.specs.declared.set_place.SetPlace.{SetPlace}
+use Rattle.tsp_cases.specs.states.Sets.{places_with}
+use Rattle.tsp_cases.specs.states.Lent.{lent_in}
+use Rattle.tsp_cases.proofs.sets.sets_by_node.Given as goal
+
+abbrev pub invariant-families : goal.invariant-families
+invariant-families l = record {
+  count : length l.lists.items ≡ l.families.nodes + 1;
+  said : (x : ℕ) (a : Vec SetPlace) → x ≤ l.families.nodes
+      → (get_or l.lists.items x a).items ++ places_with l.number (families_in (drop l.number l.families.lent.now)) x ≡ places_with 0 (lent_in l.families) x;
+}

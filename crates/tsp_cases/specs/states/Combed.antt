@@ -1,0 +1,85 @@
+-- Weights under families as code finds them: by their sets, each with the multiplier of its family.
+use Rattle.std.specs.Prelude.{◌≡◌, ℕ, suc, List, [], ◌∷◌, length, slice_index_or, ℤ, pos, neg_ℤ, ◌+ℤ◌, ◌-ℤ◌, ◌*ℤ◌}
+use Rattle.std.specs.List.{All}
+use Rattle.tsp_theory.specs.Length.{sum_int_by}
+use Rattle.tsp_theory.specs.CertificateNumbers.{IsFromTo}
+use Rattle.tsp_theory.specs.NodeBound.{weight_between, most_between}
+use Rattle.tsp_theory.specs.Tree.{crossing}
+use Rattle.tsp_theory.specs.Adjusted.{adjusted}
+use Rattle.tsp_format.specs.Nodes.{IsNode}
+use Rattle.tsp_families.specs.Crossed.{has}
+use Rattle.tsp_families.specs.declared.family.Crossings.{Crossings}
+use Rattle.tsp_cases.specs.LeafBound.{crossings_of, leaf_weight}
+use Rattle.tsp_cases.specs.CaseTrees.{multiplied}
+use Rattle.tsp_cases.specs.FamiliesOfSets.{families_with}
+use Rattle.tsp_cases.specs.GoodNumbers.{most_crossed}
+use Rattle.tsp_cases.specs.declared.set_place.SetPlace.{SetPlace}
+use Rattle.tsp_cases.specs.states.Sets.{IsMoved, added}
+
+abbrev pub AreSmallMultipliers : List ℤ → Type 0
+AreSmallMultipliers multipliers = All (IsFromTo (pos 0) (pos most_crossed)) multipliers
+
+-- and by how much one multiplier differs from another
+abbrev pub AreSmallDifferences : List ℤ → Type 0
+AreSmallDifferences differences = All (IsFromTo (neg_ℤ (pos most_crossed)) (pos most_crossed)) differences
+
+-- the sum over the sets of families, from a first family on, of numbers that depend on the multiplier of the family
+abbrev pub summed_from : ℕ → (ℤ → List ℕ → ℤ) → List ℤ → List (List (List ℕ)) → ℤ
+summed_from first number multipliers [] = pos 0
+summed_from first number multipliers (sets ∷ families) =
+    sum_int_by (number (slice_index_or multipliers first (pos 0))) sets +ℤ summed_from (suc first) number multipliers families
+
+-- the sets that have one of two nodes and not the other, each as often as its multiplier says
+abbrev pub set_crossings : List ℤ → List (List (List ℕ)) → ℕ → ℕ → ℤ
+set_crossings multipliers families i j = summed_from 0
+    (λ multiplier set. multiplier *ℤ crossing (has set) i j) multipliers families
+
+-- the multipliers of the sets that have a node
+abbrev pub multipliers_at : List ℤ → List (List (List ℕ)) → ℕ → ℤ
+multipliers_at multipliers families x = summed_from 0 (λ multiplier set. added multiplier set x) multipliers families
+
+-- the set at a place
+abbrev pub set_in : List (List (List ℕ)) → SetPlace → List ℕ
+set_in families place = slice_index_or (slice_index_or families place.family []) place.set []
+
+-- of the sets at these places those that have a node, each with its multiplier twice
+abbrev pub twice_in : List ℤ → List (List (List ℕ)) → SetPlace → ℕ → ℤ
+twice_in multipliers families place x =
+    added (pos 2 *ℤ slice_index_or multipliers place.family (pos 0)) (set_in families place) x
+
+abbrev pub inside_both : List ℤ → List (List (List ℕ)) → List SetPlace → ℕ → ℤ
+inside_both multipliers families places x = sum_int_by (λ place. twice_in multipliers families place x) places
+
+-- the weight between two nodes: by the cost at the scale and both potentials, less the crossings
+abbrev pub set_weight : ℤ → List ℤ → List ℤ → List (List (List ℕ)) → (ℕ → ℕ → ℤ) → ℕ → ℕ → ℤ
+set_weight scale potentials multipliers families cost i j =
+    weight_between scale potentials cost i j -ℤ set_crossings multipliers families i j
+
+-- a value is what is left in 64 bits of a weight as if no set had two nodes, which without sets is so large at most
+abbrev pub IsApart : ℤ → List ℤ → List ℤ → List (List (List ℕ)) → (ℕ → ℕ → ℤ) → ℕ → ℕ → ℤ → Type 0
+IsApart scale potentials multipliers families cost i j value =
+    IsMoved (neg_ℤ (multipliers_at multipliers families i) +ℤ neg_ℤ (multipliers_at multipliers families j))
+    (weight_between scale potentials cost i j) value
+    × IsFromTo (neg_ℤ (pos most_between)) (pos most_between) (weight_between scale potentials cost i j)
+
+-- two nodes of 1..n don't cross the sets too often; and how large a weight is
+abbrev pub AreFewCrossings : ℕ → List ℤ → List (List (List ℕ)) → Type 0
+AreFewCrossings n multipliers families = (i j : ℕ) → IsNode n i → IsNode n j
+    → IsFromTo (pos 0) (pos most_crossed) (set_crossings multipliers families i j)
+
+abbrev pub most_combed : ℕ
+most_combed = 2000000000000000000
+
+-- The crossings of the sets are those of the families.
+abbrev pub SetsTellCombs : Type 0
+SetsTellCombs = (crossed : List Crossings) (multipliers : List ℤ) (families : List (List (List ℕ))) (i j : ℕ)
+    → length crossed ≡ length families → length multipliers ≡ length families
+    → crossings_of (multiplied (families_with crossed families) multipliers) i j ≡ set_crossings multipliers families i j
+
+-- So the weights by sets are, under taken and avoided pairs, those of a leaf.
+abbrev pub SetsGiveLeaves : Type 0
+SetsGiveLeaves = (scale : ℤ) (crossed : List Crossings) (potentials multipliers : List ℤ) (taken avoided : List (ℕ × ℕ × ℤ))
+    (families : List (List (List ℕ))) (cost : ℕ → ℕ → ℤ) (i j : ℕ)
+    → length crossed ≡ length families → length multipliers ≡ length families
+    → adjusted taken avoided (set_weight scale potentials multipliers families cost) i j
+    ≡ leaf_weight scale potentials taken avoided (multiplied (families_with crossed families) multipliers) cost i j

@@ -1,0 +1,67 @@
+-- Rows that are kept for all nodes while leaves change: of each two nodes what no potential changes.
+use Rattle.std.specs.Prelude.{◌≡◌, ℕ, ◌+◌, ◌<◌, ◌≤◌, List, length, slice_index_or, ℤ, pos, neg_ℤ, ◌+ℤ◌, ◌*ℤ◌}
+use Rattle.std.specs.Int.{w64, int_wrap}
+use Rattle.std.specs.Global.{Vec}
+use Rattle.tsp_format.specs.Nodes.{IsNode}
+use Rattle.tsp_format.specs.Limits.{most_weight}
+use Rattle.tsp_theory.specs.CertificateNumbers.{IsFromTo, entry}
+use Rattle.tsp_theory.specs.states.Nearest.{least_at}
+use Rattle.tsp_cases.specs.declared.set_place.SetPlace.{SetPlace}
+use Rattle.tsp_cases.specs.states.Sets.{IsMoved, places_with}
+use Rattle.tsp_cases.specs.states.Combed.{inside_both, multipliers_at, AreSmallMultipliers}
+use Rattle.tsp_cases.specs.declared.kept.KeptRows.{KeptRows}
+
+-- the cost of two nodes at the scale, and what the sets of both add
+abbrev pub kept_weight : ℤ → List (List (List ℕ)) → (ℕ → ℕ → ℤ) → List ℤ → ℕ → ℕ → ℤ
+kept_weight scale families cost multipliers i x =
+    (scale *ℤ cost i x) +ℤ inside_both multipliers families (places_with 0 families i) x
+
+-- the row of a node, with a place for 0 and for each node: what is left of each weight in 64 bits; and the costs aren't large
+pub record IsKeptRow (n : ℕ) (cost weight : ℕ → ℤ) (row : List ℤ) : Type 0 where
+  pub long : length row ≡ n + 1
+  pub weights : (x : ℕ) → IsNode n x → int_wrap w64 (least_at row x) ≡ int_wrap w64 (weight x)
+  pub costs : (x : ℕ) → IsNode n x → IsFromTo (neg_ℤ (pos most_weight)) (pos most_weight) (cost x)
+
+-- the rows of the first nodes
+pub record AreRows (n : ℕ) (cost weight : ℕ → ℕ → ℤ) (count : ℕ) (rows : List (Vec ℤ)) : Type 0 where
+  pub many : length rows ≡ count
+  pub each : (k : ℕ) (default : Vec ℤ) → k < count
+      → IsKeptRow n (cost (k + 1)) (weight (k + 1)) (slice_index_or rows k default).items
+
+-- those of all nodes, where there are any
+abbrev pub AreRowsIfAny : ℕ → (ℕ → ℕ → ℤ) → (ℕ → ℕ → ℤ) → List (Vec ℤ) → Type 0
+AreRowsIfAny n cost weight rows = 1 ≤ length rows → AreRows n cost weight n rows
+
+-- rows to which the sets of each node, whose numbers are listed, have added
+pub record AreAdded (multipliers : List ℤ) (families : List (List (List ℕ))) (by_node : List (Vec SetPlace))
+    (old new : List (Vec ℤ)) : Type 0 where
+  pub many : length new ≡ length old
+  pub long : (k : ℕ) (a b : Vec ℤ) → k < length old
+      → length (slice_index_or new k a).items ≡ length (slice_index_or old k b).items
+  pub moved : (k x : ℕ) (a b : Vec ℤ) (c : Vec SetPlace) → k < length old
+      → IsMoved (inside_both multipliers families (slice_index_or by_node (k + 1) c).items x)
+      (least_at (slice_index_or old k b).items x) (least_at (slice_index_or new k a).items x)
+
+-- numbers that are each the difference of two others
+abbrev pub AreDifferences : List ℤ → List ℤ → List ℤ → Type 0
+AreDifferences old new differences = (k : ℕ) → least_at new k ≡ least_at old k +ℤ least_at differences k
+
+-- by node what is left in 64 bits of what the multipliers of its sets take off its potential
+pub record AreEnds (n : ℕ) (multipliers : List ℤ) (families : List (List (List ℕ))) (ends : List ℤ) : Type 0 where
+  pub places : length ends ≡ n + 1
+  pub taken : (x : ℕ) → IsNode n x
+      → int_wrap w64 (least_at ends x) ≡ int_wrap w64 (neg_ℤ (multipliers_at multipliers families x))
+
+-- rows and ends, and the multipliers that they have been brought to
+pub record HoldsRows (n combs : ℕ) (scale : ℤ) (families : List (List (List ℕ))) (cost : ℕ → ℕ → ℤ)
+    (kept : KeptRows) : Type 0 where
+  pub multipliers : length kept.multipliers.items ≡ combs
+  pub differences : length kept.differences.items ≡ combs
+  pub small : AreSmallMultipliers kept.multipliers.items
+  pub ends : AreEnds n kept.multipliers.items families kept.ends.items
+  pub rows : AreRowsIfAny n cost (kept_weight scale families cost kept.multipliers.items) kept.rows.items
+
+-- what is left in 64 bits of each node's potential less the multipliers of its sets
+abbrev pub AreMoved : ℕ → List ℤ → List ℤ → List (List (List ℕ)) → List ℤ → Type 0
+AreMoved n potentials multipliers families moved = (x : ℕ) → IsNode n x → int_wrap w64 (least_at moved x)
+    ≡ int_wrap w64 (entry potentials x +ℤ neg_ℤ (multipliers_at multipliers families x))

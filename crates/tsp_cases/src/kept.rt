@@ -1,0 +1,165 @@
+//! Rows that are kept for all nodes while leaves change.
+
+ghost use Rattle.std.specs.Prelude.{◌≡◌, ◌<◌, ◌+◌, ℕ, length, IfOk, ◌*ℤ◌};
+ghost use Rattle.std.specs.Global.{Vec};
+ghost use Rattle.std.specs.List.{All};
+ghost use Rattle.tsp_format.specs.Nodes.{IsNode};
+ghost use Rattle.tsp_cases.specs.states.Places.{IsPlaceIn};
+ghost use Rattle.tsp_cases.specs.states.Lent.{lent_in};
+ghost use Rattle.tsp_cases.specs.states.Combed.{AreSmallDifferences};
+ghost use Rattle.tsp_cases.specs.states.Kept.{IsKeptRow, AreRows, AreRowsIfAny, AreAdded, AreDifferences};
+
+use crate::moved::take_multipliers;
+use crate::multiplied::MultipliedFamilies;
+use crate::multipliers::Multipliers;
+use crate::row_sets::add_to_row;
+use crate::scaled::scale_row;
+use crate::set_place::SetPlace;
+use crate::setting::Setting;
+use std::alloc::Global;
+use tsp_memory::{Refused, filled, push, with_capacity};
+use tsp_theory::Costs;
+
+/// The most nodes of which rows are kept, in 32 MB.
+const MOST_KEPT: u32 = 2_000;
+
+/// For each node a row: its costs at the scale, each with what the sets of both nodes add. Leaves
+/// share them, since a leaf mostly changes potentials alone, of which nothing is in the rows. None
+/// where there are too many nodes. And by node what the multipliers of its sets take off its
+/// potential.
+#[derive(Drop)]
+pub struct KeptRows {
+    pub rows: Vec<Vec<i64>>,
+    pub ends: Vec<i64>,
+    pub multipliers: Vec<i64>,
+    pub differences: Vec<i64>,
+}
+
+impl KeptRows {
+    ghost use Rattle.std.specs.Prelude.{◌≡◌, ℕ, ℤ, length, IfOk};
+    ghost use Rattle.tsp_cases.specs.states.Sets.{IsSetTable};
+    ghost use Rattle.tsp_cases.specs.states.Lent.{lent_in};
+    ghost use Rattle.tsp_cases.specs.states.Kept.{HoldsRows};
+
+    /// The rows where all multipliers are 0.
+    ///
+    /// # Errors
+    ///
+    /// Out of memory, where there is none for a number of each comb and each node.
+    pub(crate) fn new<C: Costs>(alloc: Global, setting: &Setting<C>) -> Result<KeptRows, Refused>
+        ensures { IfOk result (HoldsRows (C.nodes setting.now.costs.now) (length setting.now.families.now.crossed.items)
+            setting.now.cases.now.scale (lent_in setting.now.families.now) (C.at setting.now.costs.now)) }
+    {
+        let combs = setting.families.crossed.len();
+        let multipliers = filled(alloc, 0, combs)?;
+        let differences = filled(alloc, 0, combs)?;
+        let ends = filled(alloc, 0, setting.costs.count() as usize + 1)?;
+        Ok(KeptRows {
+            rows: rows_if_any(alloc, setting),
+            ends,
+            multipliers,
+            differences,
+        })
+    }
+
+    /// Brings the rows to other multipliers.
+    pub fn bring_to(&mut self, multipliers: &Multipliers, by_node: &[Vec<SetPlace>])
+        requires kept { (n : ℕ) × (scale : ℤ) × (cost : ℕ → ℕ → ℤ)
+            × HoldsRows n (length multipliers.now.numbers.now) scale (lent_in multipliers.now.families.now) cost self.old
+            × (multipliers.now.families.now.nodes ≡ n) × IsSetTable n (lent_in multipliers.now.families.now) by_node.now }
+        ensures kept { (n : ℕ) (scale : ℤ) (cost : ℕ → ℕ → ℤ)
+            → HoldsRows n (length multipliers.now.numbers.now) scale (lent_in multipliers.now.families.now) cost self.old
+            → IsSetTable n (lent_in multipliers.now.families.now) by_node.now
+            → HoldsRows n (length multipliers.now.numbers.now) scale (lent_in multipliers.now.families.now) cost self.new }
+        ensures multipliers { self.new.multipliers.items ≡ multipliers.now.numbers.now }
+    {
+        if self.multipliers.as_slice() == multipliers.numbers {
+            return;
+        }
+        let old = Multipliers {
+            families: multipliers.families,
+            numbers: &self.multipliers,
+        };
+        write_differences(&mut self.differences, &old, multipliers);
+        self.multipliers.copy_from_slice(multipliers.numbers);
+        let changed = MultipliedFamilies {
+            families: multipliers.families,
+            numbers: &self.differences,
+        };
+        take_multipliers(&mut self.ends, &changed);
+        add_to_rows(&mut self.rows, by_node, &changed);
+    }
+}
+
+/// The rows of all nodes without combs; none where the tree is a leaf, there are too many nodes, or
+/// no memory is left.
+fn rows_if_any<C: Costs>(alloc: Global, setting: &Setting<C>) -> Vec<Vec<i64>>
+    ensures { AreRowsIfAny (C.nodes setting.now.costs.now) (C.at setting.now.costs.now)
+        (λ i x. setting.now.cases.now.scale *ℤ C.at setting.now.costs.now i x) result.items }
+{
+    if setting.cases.steps.len() <= 1 || setting.costs.count() > MOST_KEPT {
+        return Vec::new(alloc);
+    }
+    match rows_of(alloc, setting) {
+        Ok(rows) => rows,
+        Err(_) => Vec::new(alloc),
+    }
+}
+
+/// The rows of all nodes without combs.
+///
+/// # Errors
+///
+/// Out of memory.
+#[tactic(auto, using(crate::proofs::RowsKept::rows_more))]
+fn rows_of<C: Costs>(alloc: Global, setting: &Setting<C>) -> Result<Vec<Vec<i64>>, Refused>
+    ensures { IfOk result (λ rows. AreRows (C.nodes setting.now.costs.now) (C.at setting.now.costs.now)
+        (λ i x. setting.now.cases.now.scale *ℤ C.at setting.now.costs.now i x) (C.nodes setting.now.costs.now) rows.items) }
+{
+    let count = setting.costs.count();
+    let mut rows = with_capacity(alloc, count as usize)?;
+    'rows: for index in 0..count {
+        push(&mut rows, row_of(alloc, setting, index + 1)?)?;
+    }
+    Ok(rows)
+}
+
+/// The costs from a node to each at the scale, each at the place of its node.
+///
+/// # Errors
+///
+/// Out of memory.
+fn row_of<C: Costs>(alloc: Global, setting: &Setting<C>, from: u32) -> Result<Vec<i64>, Refused>
+    requires { IsNode (C.nodes setting.now.costs.now) from }
+    ensures { IfOk result (λ row. IsKeptRow (C.nodes setting.now.costs.now) (C.at setting.now.costs.now from)
+        (λ x. setting.now.cases.now.scale *ℤ C.at setting.now.costs.now from x) row.items) }
+{
+    let mut row = filled(alloc, 0, setting.costs.count() as usize + 1)?;
+    setting.costs.costs_from(from, &mut row);
+    scale_row(&mut row, setting.cases.scale);
+    Ok(row)
+}
+
+/// Writes how much each number has grown.
+fn write_differences(differences: &mut [i64], old: &Multipliers, new: &Multipliers)
+    requires differences { length differences.old ≡ length new.now.numbers.now }
+    requires old { length old.now.numbers.now ≡ length new.now.numbers.now }
+    ensures differences { AreDifferences old.now.numbers.now new.now.numbers.now differences.new }
+    ensures small { AreSmallDifferences differences.new }
+{
+    'numbers: for index in 0..new.numbers.len() {
+        differences[index] = new.numbers[index] - old.numbers[index];
+    }
+}
+
+/// Adds to each row, at each node of the sets of its node, the number of the set's family twice.
+fn add_to_rows(rows: &mut [Vec<i64>], by_node: &[Vec<SetPlace>], multiplied: &MultipliedFamilies)
+    requires table { length rows.old < length by_node.now }
+    requires places { All (λ list. All (IsPlaceIn (lent_in multiplied.now.families.now)) list.items) by_node.now }
+    requires rows { All (λ row. length row.items ≡ multiplied.now.families.now.nodes + 1) rows.old }
+    ensures { AreAdded multiplied.now.numbers.now (lent_in multiplied.now.families.now) by_node.now rows.old rows.new }
+{
+    'rows: for index in 0..rows.len() {
+        add_to_row(&mut rows[index], &by_node[index + 1], multiplied);
+    }
+}

@@ -1,0 +1,15 @@
+//! The multipliers of families.
+
+ghost use Rattle.std.specs.Prelude.{◌≡◌, length};
+ghost use Rattle.tsp_cases.specs.states.Combed.{AreSmallMultipliers};
+
+use crate::families::Families;
+
+/// Families, and for each its multiplier, from 0 to 9 * 10^17.
+#[derive(Clone, Copy)]
+pub struct Multipliers<'a> {
+    pub families: &'a Families<'a>,
+    pub numbers: &'a [i64],
+    pub ghost as_many: { length numbers.now ≡ length families.now.lent.now },
+    pub ghost small: { AreSmallMultipliers numbers.now },
+}
