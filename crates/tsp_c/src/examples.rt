@@ -1,7 +1,7 @@
 //! The numbers of the calls for C, worked out by hand. No body is looked at here: a definition that
 //! is changed together with its code is refused by its examples.
 
-ghost use Rattle.std.specs.Prelude.{◌≡◌, ◌∷◌, ◌+◌, ◌-◌, ◌^◌, ℤ, pos, negsuc, [], None, Some, codes};
+ghost use Rattle.std.specs.Prelude.{◌≡◌, ◌∷◌, ◌++◌, ◌+◌, ◌-◌, ◌^◌, ℤ, pos, negsuc, [], None, Some, codes};
 ghost use Rattle.tsp_draft.specs.declared.fault.EndFault.TheVariants as end_faults;
 ghost use Rattle.tsp_draft.specs.Fields.{Fields, nodes_of};
 ghost use Rattle.tsp_file.specs.Cost.{cost};
@@ -15,10 +15,11 @@ ghost use Rattle.tsp_reason.specs.declared.certificate.Certificate.TheVariants a
 ghost use Rattle.tsp_reason.specs.declared.verdict.BoundVerdict.TheVariants as bounds;
 ghost use Rattle.tsp_reason.specs.declared.verdict.Reason.TheVariants as reasons;
 ghost use Rattle.tsp_reason.specs.declared.verdict.Verdict.TheVariants as verdicts;
+ghost use Rattle.tsp_stream.specs.declared.output.WriteFault.TheVariants as write_faults;
 ghost use Rattle.tsp_text.specs.declared.fault.LineFault.TheVariants as line_faults;
 ghost use Rattle.tsp_text.specs.declared.fault.ReadFault.TheVariants as read_faults;
 ghost use Rattle.tsp_c.specs.declared.told.Told.{Told};
-ghost use Rattle.tsp_c.specs.Ended.{IsPlaced, nth};
+ghost use Rattle.tsp_c.specs.Ended.{IsPlaced, fault_line, nth, without_devices};
 ghost use Rattle.tsp_c.specs.NumberCalls.{distance_kinds, lists_in, pair_cost, row_cost, row_count};
 ghost use Rattle.tsp_c.specs.Texts.{certificates, claim_of};
 ghost use Rattle.tsp_c.specs.Told.{blank_told, high_half, low_half, told_of_bound, told_of_fault, told_of_verdict};
@@ -55,6 +56,17 @@ pub fn examples_of_placed_texts()
     ensures fits { IsPlaced (codes "no") 1 (codes "1234") (codes "no34") 2 1 }
     ensures too_small { IsPlaced (codes "no") 1 (codes "1") (codes "1") 2 6 }
     ensures cut { ¬ IsPlaced (codes "no") 1 (codes "1") (codes "n") 2 6 }
+{}
+
+/// The line of a fault, which the byte 10 ends, and the faults that texts in memory don't have.
+pub fn examples_of_fault_lines()
+    ensures line { fault_line run_faults.OutOfMemory ≡ codes "out of memory" ++ 10 ∷ [] }
+    ensures read { without_devices (run_faults.File 2 read_faults.Device)
+        ≡ run_faults.File 2 read_faults.OutOfMemory }
+    ensures write { without_devices (run_faults.Write write_faults.Device)
+        ≡ run_faults.Write write_faults.OutOfMemory }
+    ensures kept { without_devices (run_faults.File 2 read_faults.TooLong)
+        ≡ run_faults.File 2 read_faults.TooLong }
 {}
 
 /// The halves of a bound.

@@ -2,7 +2,7 @@
 
 ghost use Rattle.tsp_c.specs.NumberCalls.{FillsCount, FindsInstance};
 
-use crate::status::{DONE, status_of_fault};
+use crate::status::Ending;
 use std::alloc::Global;
 use tsp_cost::{Costs, Instance};
 use tsp_judge::{Early, read_text};
@@ -27,15 +27,15 @@ pub(crate) fn instance_of(alloc: Global, text: &[u8]) -> Result<Instance, Early>
 }
 
 /// Fills in how many nodes the instance of a text has; the status.
-pub(crate) fn fill_count(alloc: Global, text: &[u8], count: &mut u32) -> u32
+pub(crate) fn fill_count(alloc: Global, text: &[u8], count: &mut u32) -> Ending
     ensures { FillsCount text.now count.old count.new result }
 {
     match instance_of(alloc, text) {
-        Err(early) => status_of_fault(early),
+        Err(early) => Ending::of_fault(early),
         Ok(instance) => {
             *count = instance.count();
             drop(instance);
-            DONE
+            Ending::done()
         }
     }
 }

@@ -7,7 +7,7 @@ ghost use Rattle.tsp_draft.specs.Fields.{nodes_of};
 
 use crate::fill::put;
 use crate::instance::instance_of;
-use crate::status::{DONE, REFUSED, TOO_SMALL, status_of_fault};
+use crate::status::Ending;
 use std::alloc::Global;
 use tsp_cost::{Costs, Instance, tour_length};
 
@@ -15,11 +15,11 @@ use tsp_cost::{Costs, Instance, tour_length};
 const MOST_NUMBERS: usize = 1_000_000;
 
 /// Fills in the lengths of lists of nodes of the instance of a text; the status.
-pub(crate) fn fill_lengths(alloc: Global, text: &[u8], nodes: &[u32], out: &mut [i64]) -> u32
+pub(crate) fn fill_lengths(alloc: Global, text: &[u8], nodes: &[u32], out: &mut [i64]) -> Ending
     ensures { FillsLengths text.now nodes.now out.old out.new result }
 {
     match instance_of(alloc, text) {
-        Err(early) => status_of_fault(early),
+        Err(early) => Ending::of_fault(early),
         Ok(instance) => {
             let status = lengths_of(&instance, nodes, out);
             drop(instance);
@@ -30,17 +30,17 @@ pub(crate) fn fill_lengths(alloc: Global, text: &[u8], nodes: &[u32], out: &mut 
 
 /// The same of an instance.
 #[tactic(auto, using(crate::proofs::Lists::lists_counted))]
-pub(crate) fn lengths_of(instance: &Instance, nodes: &[u32], out: &mut [i64]) -> u32
+pub(crate) fn lengths_of(instance: &Instance, nodes: &[u32], out: &mut [i64]) -> Ending
     ensures { EndsLengths instance.now nodes.now out.old out.new result }
 {
     if !are_lists(instance.count(), nodes) {
-        return REFUSED;
+        return Ending::refused();
     }
     if out.len() < count_of(nodes) {
-        return TOO_SMALL;
+        return Ending::too_small();
     }
     put_lengths(instance, nodes, out);
-    DONE
+    Ending::done()
 }
 
 /// Whether numbers are lists of nodes up to `count`, each with its 0.

@@ -219,7 +219,7 @@ pub extern "C" fn tsp_explain(
 pub extern "C" fn tsp_count(alloc: Global, instance: &[u8], count: &mut u32) -> u32
     ensures { FillsCount instance.now count.old count.new result }
 {
-    fill_count(alloc, instance, count)
+    fill_count(alloc, instance, count).number()
 }
 
 /// Fills in the coordinates of each node, as counts of 10^-9: section 1 is NODE_COORD_SECTION, 2 is
@@ -228,7 +228,7 @@ pub extern "C" fn tsp_count(alloc: Global, instance: &[u8], count: &mut u32) -> 
 pub extern "C" fn tsp_points(alloc: Global, file: &[u8], section: u32, out: &mut [i64]) -> u32
     ensures { FillsPoints file.now section out.old out.new result }
 {
-    fill_points(alloc, file, section, out)
+    fill_points(alloc, file, section, out).number()
 }
 
 /// Fills in the cost from the first node of each pair to its second.
@@ -236,7 +236,7 @@ pub extern "C" fn tsp_points(alloc: Global, file: &[u8], section: u32, out: &mut
 pub extern "C" fn tsp_weights(alloc: Global, instance: &[u8], pairs: &[u32], out: &mut [i64]) -> u32
     ensures { FillsWeights instance.now pairs.now out.old out.new result }
 {
-    fill_weights(alloc, instance, pairs, out)
+    fill_weights(alloc, instance, pairs, out).number()
 }
 
 /// Fills in as many whole rows of the matrix of costs as fit, from the row of a node on.
@@ -244,7 +244,7 @@ pub extern "C" fn tsp_weights(alloc: Global, instance: &[u8], pairs: &[u32], out
 pub extern "C" fn tsp_matrix(alloc: Global, instance: &[u8], first_row: u32, out: &mut [i64]) -> u32
     ensures { FillsMatrix instance.now first_row out.old out.new result }
 {
-    fill_matrix(alloc, instance, first_row, out)
+    fill_matrix(alloc, instance, first_row, out).number()
 }
 
 /// Fills in the lengths of lists of nodes, each of which a 0 ends.
@@ -252,7 +252,7 @@ pub extern "C" fn tsp_matrix(alloc: Global, instance: &[u8], first_row: u32, out
 pub extern "C" fn tsp_lengths(alloc: Global, instance: &[u8], nodes: &[u32], out: &mut [i64]) -> u32
     ensures { FillsLengths instance.now nodes.now out.old out.new result }
 {
-    fill_lengths(alloc, instance, nodes, out)
+    fill_lengths(alloc, instance, nodes, out).number()
 }
 
 /// Opens a handle on the instance that a text is. What the handle was open on before is freed
@@ -266,7 +266,7 @@ pub extern "C" fn tsp_open(
 ) -> u32
     ensures { OpensText instance.now handle.new.loose.value told.new result }
 {
-    open_text(alloc, instance, handle, told)
+    open_text(alloc, instance, handle, told).number()
 }
 
 /// Closes a handle, and frees what it was open on.
@@ -290,7 +290,7 @@ pub extern "C" fn tsp_bind(
     ensures { BindsText (nth by certificates) certificate.now handle.old.loose.value handle.new.loose.value
         told.new result }
 {
-    bind_text(alloc, handle, certificate, by, told)
+    bind_text(alloc, handle, certificate, by, told).number()
 }
 
 /// Judges a solution of the instance of a handle, as `tsp_check` does, with the certificate that is
@@ -324,7 +324,7 @@ pub extern "C" fn tsp_instance_count(alloc: Global, handle: &mut Handle, count: 
     ensures fills { OfHeld handle.old.loose.value (λ instance. EndsCount instance count.new result)
         count.old count.new result }
 {
-    count_held(alloc, handle, count)
+    count_held(alloc, handle, count).number()
 }
 
 /// Fills in coordinates of the instance of a handle, as `tsp_points` does.
@@ -339,7 +339,7 @@ pub extern "C" fn tsp_instance_points(
     ensures fills { OfHeld handle.old.loose.value (λ instance. EndsSection instance section out.old out.new result)
         out.old out.new result }
 {
-    points_held(alloc, handle, section, out)
+    points_held(alloc, handle, section, out).number()
 }
 
 /// Fills in costs of the instance of a handle, as `tsp_weights` does.
@@ -354,7 +354,7 @@ pub extern "C" fn tsp_instance_weights(
     ensures fills { OfHeld handle.old.loose.value (λ instance. EndsWeights instance pairs.now out.old out.new result)
         out.old out.new result }
 {
-    weights_held(alloc, handle, pairs, out)
+    weights_held(alloc, handle, pairs, out).number()
 }
 
 /// Fills in rows of costs of the instance of a handle, as `tsp_matrix` does.
@@ -369,7 +369,7 @@ pub extern "C" fn tsp_instance_matrix(
     ensures fills { OfHeld handle.old.loose.value (λ instance. EndsMatrix instance first_row out.old out.new result)
         out.old out.new result }
 {
-    rows_held(alloc, handle, first_row, out)
+    rows_held(alloc, handle, first_row, out).number()
 }
 
 /// Fills in lengths of lists of nodes of the instance of a handle, as `tsp_lengths` does.
@@ -384,7 +384,7 @@ pub extern "C" fn tsp_instance_lengths(
     ensures fills { OfHeld handle.old.loose.value (λ instance. EndsLengths instance nodes.now out.old out.new result)
         out.old out.new result }
 {
-    lengths_held(alloc, handle, nodes, out)
+    lengths_held(alloc, handle, nodes, out).number()
 }
 
 /// The distance of two points, whose coordinates are counts of 10^-9; -1 where there is none. The

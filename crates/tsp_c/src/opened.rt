@@ -19,19 +19,19 @@ use crate::in_box::{NoBox, in_box};
 use crate::lengths::lengths_of;
 use crate::points::points_of_file;
 use crate::refused::{certificate_of, claim_of};
-use crate::status::{DONE, OUT_OF_MEMORY, REFUSED, status_of_fault};
+use crate::status::Ending;
 use crate::told::Told;
 use crate::weights::{rows_of, weights_of};
 use std::alloc::Global;
 use std::boxed::Box;
 use std::io::Write;
 use tsp_cost::{Costs, Instance};
-use tsp_judge::{Certificate, Early, Opened, Verdict, Watched, status_of, verdicts_mean_reports};
+use tsp_judge::{Certificate, Early, Opened, Verdict, Watched, verdicts_mean_reports};
 use tsp_report::write_report;
 
 /// Opens a handle on the instance that a text is; the status. What it was open on before is freed
 /// first.
-pub(crate) fn open_text(alloc: Global, text: &[u8], handle: &mut Handle, told: &mut Told) -> u32
+pub(crate) fn open_text(alloc: Global, text: &[u8], handle: &mut Handle, told: &mut Told) -> Ending
     ensures { OpensText text.now handle.new.loose.value told.new result }
 {
     drop(handle.take(alloc));
@@ -41,28 +41,27 @@ pub(crate) fn open_text(alloc: Global, text: &[u8], handle: &mut Handle, told: &
         Ok(Ok(opened)) => {
             *told = Told::of_instance(opened.instance());
             handle.put(opened);
-            DONE
+            Ending::done()
         }
     }
 }
 
 /// Tells the numbers of a fault; its status.
-fn tell_fault(early: Early, told: &mut Told) -> u32
+fn tell_fault(early: Early, told: &mut Told) -> Ending
     ensures told { told.new ≡ told_of_fault early }
     ensures status { result ≡ status_of_fault early }
 {
     *told = Told::of_early(early);
-    status_of_fault(early)
+    Ending::of_fault(early)
 }
 
 /// Tells that there was no memory for a box; the status.
-fn tell_no_box(no_box: NoBox, told: &mut Told) -> u32
+fn tell_no_box(no_box: NoBox, told: &mut Told) -> Ending
     ensures told { told.new ≡ told_of_fault OutOfMemory }
     ensures status { result ≡ status_of_fault OutOfMemory }
 {
-    drop(no_box);
     *told = Told::blank();
-    OUT_OF_MEMORY
+    Ending::without_box(no_box)
 }
 
 /// The instance that a text is, in a box, where there was memory for it.
@@ -97,15 +96,15 @@ pub(crate) fn bind_text(
     text: &[u8],
     by: u32,
     told: &mut Told,
-) -> u32
+) -> Ending
     ensures { BindsText (nth by certificates) text.now handle.old.loose.value handle.new.loose.value told.new result }
 {
     *told = Told::blank();
     let Some(by) = certificate_of(by) else {
-        return REFUSED;
+        return Ending::refused();
     };
     match handle.take(alloc) {
-        None => REFUSED,
+        None => Ending::refused(),
         Some(mut opened) => {
             let status = bind_opened(alloc, &mut opened, by, text, told);
             handle.put(opened);
@@ -121,14 +120,14 @@ fn bind_opened(
     by: Certificate,
     text: &[u8],
     told: &mut Told,
-) -> u32
+) -> Ending
     ensures { BindsOpen by text.now opened.old (Some opened.new) told.new result }
 {
     match opened.bind(alloc, by, text) {
         Err(early) => tell_fault(early, told),
         Ok(found) => {
             *told = Told::of_bound(opened.instance(), found);
-            u32::from(status_of(&Ok(found.is_yes())))
+            Ending::of_answer(found.is_yes())
         }
     }
 }
@@ -208,13 +207,13 @@ pub(crate) fn weights_held(
     handle: &mut Handle,
     pairs: &[u32],
     out: &mut [i64],
-) -> u32
+) -> Ending
     ensures same { handle.new.loose.value ≡ handle.old.loose.value }
     ensures fills { OfHeld handle.old.loose.value (λ instance. EndsWeights instance pairs.now out.old out.new result)
         out.old out.new result }
 {
     match handle.take(alloc) {
-        None => REFUSED,
+        None => Ending::refused(),
         Some(opened) => {
             let status = weights_of(opened.instance(), pairs, out);
             handle.put(opened);
@@ -224,13 +223,18 @@ pub(crate) fn weights_held(
 }
 
 /// Fills in rows of the matrix of the instance of a handle; the status.
-pub(crate) fn rows_held(alloc: Global, handle: &mut Handle, first_row: u32, out: &mut [i64]) -> u32
+pub(crate) fn rows_held(
+    alloc: Global,
+    handle: &mut Handle,
+    first_row: u32,
+    out: &mut [i64],
+) -> Ending
     ensures same { handle.new.loose.value ≡ handle.old.loose.value }
     ensures fills { OfHeld handle.old.loose.value (λ instance. EndsMatrix instance first_row out.old out.new result)
         out.old out.new result }
 {
     match handle.take(alloc) {
-        None => REFUSED,
+        None => Ending::refused(),
         Some(opened) => {
             let status = rows_of(opened.instance(), first_row, out);
             handle.put(opened);
@@ -245,13 +249,13 @@ pub(crate) fn lengths_held(
     handle: &mut Handle,
     nodes: &[u32],
     out: &mut [i64],
-) -> u32
+) -> Ending
     ensures same { handle.new.loose.value ≡ handle.old.loose.value }
     ensures fills { OfHeld handle.old.loose.value (λ instance. EndsLengths instance nodes.now out.old out.new result)
         out.old out.new result }
 {
     match handle.take(alloc) {
-        None => REFUSED,
+        None => Ending::refused(),
         Some(opened) => {
             let status = lengths_of(opened.instance(), nodes, out);
             handle.put(opened);
@@ -261,16 +265,21 @@ pub(crate) fn lengths_held(
 }
 
 /// Fills in the coordinates of the points of a section of the instance of a handle; the status.
-pub(crate) fn points_held(alloc: Global, handle: &mut Handle, section: u32, out: &mut [i64]) -> u32
+pub(crate) fn points_held(
+    alloc: Global,
+    handle: &mut Handle,
+    section: u32,
+    out: &mut [i64],
+) -> Ending
     ensures same { handle.new.loose.value ≡ handle.old.loose.value }
     ensures fills { OfHeld handle.old.loose.value (λ instance. EndsSection instance section out.old out.new result)
         out.old out.new result }
 {
     if section < 1 || section > 2 {
-        return REFUSED;
+        return Ending::refused();
     }
     match handle.take(alloc) {
-        None => REFUSED,
+        None => Ending::refused(),
         Some(opened) => {
             let status = points_of_file(opened.instance().file(), section, out);
             handle.put(opened);
@@ -280,17 +289,17 @@ pub(crate) fn points_held(alloc: Global, handle: &mut Handle, section: u32, out:
 }
 
 /// How many nodes the instance of a handle has; the status.
-pub(crate) fn count_held(alloc: Global, handle: &mut Handle, count: &mut u32) -> u32
+pub(crate) fn count_held(alloc: Global, handle: &mut Handle, count: &mut u32) -> Ending
     ensures same { handle.new.loose.value ≡ handle.old.loose.value }
     ensures fills { OfHeld handle.old.loose.value (λ instance. EndsCount instance count.new result)
         count.old count.new result }
 {
     match handle.take(alloc) {
-        None => REFUSED,
+        None => Ending::refused(),
         Some(opened) => {
             *count = opened.instance().count();
             handle.put(opened);
-            DONE
+            Ending::done()
         }
     }
 }

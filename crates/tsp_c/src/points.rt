@@ -6,7 +6,7 @@ ghost use Rattle.tsp_draft.specs.states.Drafts.{points_of};
 ghost use Rattle.tsp_c.specs.NumberCalls.{EndsPoints, FillsPoints, IsFilled, IsSection, coordinate, point_number, section_points};
 
 use crate::fill::put;
-use crate::status::{DONE, NO, REFUSED, TOO_SMALL, status_of_fault};
+use crate::status::Ending;
 use std::alloc::Global;
 use tsp_distance::{InSpace, Point};
 use tsp_draft::Coords;
@@ -14,14 +14,14 @@ use tsp_file::File;
 use tsp_judge::read_text;
 
 /// Fills in the coordinates of the points of a section of a text; the status.
-pub(crate) fn fill_points(alloc: Global, text: &[u8], section: u32, out: &mut [i64]) -> u32
+pub(crate) fn fill_points(alloc: Global, text: &[u8], section: u32, out: &mut [i64]) -> Ending
     ensures { FillsPoints text.now section out.old out.new result }
 {
     if section < 1 || section > 2 {
-        return REFUSED;
+        return Ending::refused();
     }
     match read_text(alloc, 1, text) {
-        Err(early) => status_of_fault(early),
+        Err(early) => Ending::of_fault(early),
         Ok(file) => {
             let status = points_of_file(&file, section, out);
             drop(file);
@@ -31,18 +31,18 @@ pub(crate) fn fill_points(alloc: Global, text: &[u8], section: u32, out: &mut [i
 }
 
 /// The same of a file.
-pub(crate) fn points_of_file(file: &File, section: u32, out: &mut [i64]) -> u32
+pub(crate) fn points_of_file(file: &File, section: u32, out: &mut [i64]) -> Ending
     requires { IsSection section }
     ensures { EndsPoints (section_points section file.now) out.old out.new result }
 {
     match section_of(file, section) {
-        None => NO,
+        None => Ending::no(),
         Some(points) => {
             if out.len() / 3 < points.len() {
-                return TOO_SMALL;
+                return Ending::too_small();
             }
             put_points(points, out);
-            DONE
+            Ending::done()
         }
     }
 }

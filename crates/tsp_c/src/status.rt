@@ -1,28 +1,101 @@
 //! The statuses of the calls on numbers.
 
-ghost use Rattle.std.specs.Prelude.{◌≡◌};
-ghost use Rattle.tsp_judge.specs.Status.{status_of_fault};
+ghost use Rattle.std.specs.Prelude.{◌≡◌, Ok};
+ghost use Rattle.tsp_judge.specs.Status.{status_of, status_of_fault};
+ghost use Rattle.tsp_judge.specs.declared.fault.RunFault.TheVariants.{OutOfMemory};
 
+use crate::in_box::NoBox;
+use std::marker::Model;
 use tsp_judge::{Early, Status, status_of};
-
-/// Done.
-pub(crate) const DONE: u32 = Status::Yes as u32;
-
-/// The file has no such section.
-pub(crate) const NO: u32 = Status::No as u32;
-
-/// Out of memory.
-pub(crate) const OUT_OF_MEMORY: u32 = Status::OutOfMemory as u32;
-
-/// The instance doesn't have it.
-pub(crate) const REFUSED: u32 = Status::Refused as u32;
 
 /// The buffer has too few places.
 pub(crate) const TOO_SMALL: u32 = Status::TooSmall as u32;
 
-/// The status of a fault: 2 of a text, 3 out of memory.
-pub(crate) fn status_of_fault(early: Early) -> u32
-    ensures { result ≡ status_of_fault early }
-{
-    u32::from(status_of(&Err(early.fault())))
+/// The status of a call on numbers. Contracts see its number.
+///
+/// Only the calls of this file make one: out of memory comes from an [`Early`] or a [`NoBox`].
+#[derive(Clone, Copy, Drop)]
+pub(crate) struct Ending {
+    number: u32,
+}
+
+impl Model for Ending {
+    ghost use Rattle.std.specs.Prelude.{ℕ};
+
+    ghost Value = { ℕ };
+
+    ghost view = { λ ending. ending.number };
+
+    ghost inverse = { λ number. record { number = number } };
+}
+
+impl Ending {
+    /// The number of the status.
+    pub(crate) fn number(self) -> u32
+        ensures { result ≡ self }
+    {
+        self.number
+    }
+
+    /// Done.
+    pub(crate) fn done() -> Ending
+        ensures { result ≡ 0 }
+    {
+        Ending {
+            number: Status::Yes as u32,
+        }
+    }
+
+    /// The file has no such section.
+    pub(crate) fn no() -> Ending
+        ensures { result ≡ 1 }
+    {
+        Ending {
+            number: Status::No as u32,
+        }
+    }
+
+    /// The instance doesn't have it.
+    pub(crate) fn refused() -> Ending
+        ensures { result ≡ 4 }
+    {
+        Ending {
+            number: Status::Refused as u32,
+        }
+    }
+
+    /// The buffer has too few places.
+    pub(crate) fn too_small() -> Ending
+        ensures { result ≡ 6 }
+    {
+        Ending { number: TOO_SMALL }
+    }
+
+    /// Of a call with a verdict: 0 where it accepts, else 1.
+    pub(crate) fn of_answer(accepts: bool) -> Ending
+        ensures { result ≡ status_of (Ok accepts) }
+    {
+        Ending {
+            number: u32::from(status_of(&Ok(accepts))),
+        }
+    }
+
+    /// Of a fault: 2 of a text, 3 out of memory.
+    pub(crate) fn of_fault(early: Early) -> Ending
+        ensures { result ≡ status_of_fault early }
+    {
+        Ending {
+            number: u32::from(status_of(&Err(early.fault()))),
+        }
+    }
+
+    /// There was no memory for a box.
+    pub(crate) fn without_box(no_box: NoBox) -> Ending
+        ensures { result ≡ status_of_fault OutOfMemory }
+    {
+        drop(no_box);
+        Ending {
+            number: Status::OutOfMemory as u32,
+        }
+    }
 }

@@ -8,16 +8,16 @@ ghost use Rattle.tsp_draft.specs.Fields.{nodes_of};
 
 use crate::fill::put;
 use crate::instance::instance_of;
-use crate::status::{DONE, REFUSED, TOO_SMALL, status_of_fault};
+use crate::status::Ending;
 use std::alloc::Global;
 use tsp_cost::{Costs, Instance};
 
 /// Fills in the costs of pairs of nodes of the instance of a text; the status.
-pub(crate) fn fill_weights(alloc: Global, text: &[u8], pairs: &[u32], out: &mut [i64]) -> u32
+pub(crate) fn fill_weights(alloc: Global, text: &[u8], pairs: &[u32], out: &mut [i64]) -> Ending
     ensures { FillsWeights text.now pairs.now out.old out.new result }
 {
     match instance_of(alloc, text) {
-        Err(early) => status_of_fault(early),
+        Err(early) => Ending::of_fault(early),
         Ok(instance) => {
             let status = weights_of(&instance, pairs, out);
             drop(instance);
@@ -27,17 +27,17 @@ pub(crate) fn fill_weights(alloc: Global, text: &[u8], pairs: &[u32], out: &mut 
 }
 
 /// The same of an instance.
-pub(crate) fn weights_of(instance: &Instance, pairs: &[u32], out: &mut [i64]) -> u32
+pub(crate) fn weights_of(instance: &Instance, pairs: &[u32], out: &mut [i64]) -> Ending
     ensures { EndsWeights instance.now pairs.now out.old out.new result }
 {
     if !are_pairs(instance.count(), pairs) {
-        return REFUSED;
+        return Ending::refused();
     }
     if out.len() < pairs.len() / 2 {
-        return TOO_SMALL;
+        return Ending::too_small();
     }
     put_weights(instance, pairs, out);
-    DONE
+    Ending::done()
 }
 
 /// Whether numbers are pairs of nodes up to `count`.
@@ -66,11 +66,11 @@ fn put_weights(instance: &Instance, pairs: &[u32], out: &mut [i64])
 }
 
 /// Fills in rows of the matrix of the instance of a text; the status.
-pub(crate) fn fill_matrix(alloc: Global, text: &[u8], first_row: u32, out: &mut [i64]) -> u32
+pub(crate) fn fill_matrix(alloc: Global, text: &[u8], first_row: u32, out: &mut [i64]) -> Ending
     ensures { FillsMatrix text.now first_row out.old out.new result }
 {
     match instance_of(alloc, text) {
-        Err(early) => status_of_fault(early),
+        Err(early) => Ending::of_fault(early),
         Ok(instance) => {
             let status = rows_of(&instance, first_row, out);
             drop(instance);
@@ -80,19 +80,19 @@ pub(crate) fn fill_matrix(alloc: Global, text: &[u8], first_row: u32, out: &mut 
 }
 
 /// The same of an instance.
-pub(crate) fn rows_of(instance: &Instance, first_row: u32, out: &mut [i64]) -> u32
+pub(crate) fn rows_of(instance: &Instance, first_row: u32, out: &mut [i64]) -> Ending
     ensures { EndsMatrix instance.now first_row out.old out.new result }
 {
     let count = instance.count();
     if first_row < 1 || first_row > count {
-        return REFUSED;
+        return Ending::refused();
     }
     if out.len() < count as usize {
-        return TOO_SMALL;
+        return Ending::too_small();
     }
     let rows = (out.len() / count as usize).min((count + 1 - first_row) as usize);
     put_rows(instance, first_row, rows, out);
-    DONE
+    Ending::done()
 }
 
 /// Puts rows of costs at the start of a buffer that has a place for each.

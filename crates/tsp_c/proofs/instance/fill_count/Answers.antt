@@ -4,11 +4,11 @@ use Rattle.tsp_c.proofs.Counted.{some_count}
 use Rattle.tsp_c.proofs.instance.fill_count.Goals as goal
 
 pub returns-in-Err : goal.returns-in-Err
-returns-in-Err c = inr (c.in-Err.early, c.in-Err.ensures, (c.status_of_fault.ensures, refl))
+returns-in-Err c = inr (c.in-Err.early, c.in-Err.ensures, (c.of_fault.ensures, refl))
 
 pub returns-in-Ok : goal.returns-in-Ok
 returns-in-Ok c = inl (
   c.in-Ok.instance,
   c.in-Ok.ensures,
-  (refl, some_count c.in-Ok.instance.dimension c.count.result c.count.ensures.value c.count.ensures.some),
+  (c.done.ensures, some_count c.in-Ok.instance.dimension c.count.result c.count.ensures.value c.count.ensures.some),
 )

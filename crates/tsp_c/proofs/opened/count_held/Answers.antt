@@ -13,8 +13,8 @@ returns-in-Some-clause-fills c =
     let held : Open = c.in-Some.opened.value in
     let old : Some held ≡ c.args.handle.now.loose.value = search rules in
     let lent : c.instance.result.now ≡ held.instance = search rules in
-    subst (λ (h : Held). OfHeld h (λ instance. EndsCount instance c.count.result 0) c.args.count.now c.count.result 0) old (
-      refl,
+    subst (λ (h : Held). OfHeld h (λ instance. EndsCount instance c.count.result c.done.result) c.args.count.now c.count.result c.done.result) old (
+      c.done.ensures,
       some_count held.instance.dimension c.count.result
           (c.count.ensures.value ∙ ap (λ (f : Fields). unwrap_or f.dimension 0) lent) c.count.ensures.some,
     )

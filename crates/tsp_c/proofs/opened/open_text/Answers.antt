@@ -20,5 +20,5 @@ returns-in-Ok-Ok c = inl (
   c.put.ensures,
   MatchResult-at_ok _ _ c.in-Ok-Ok.opened c.in-Ok-Ok.field-0-is c.in-Ok-Ok.ensures,
   c.of_instance.ensures ∙ ap told_of_instance (c.instance.ensures ∙ ap (λ (o : Open). o.instance) c.deref.ensures),
-  refl,
+  c.done.ensures,
 )

@@ -1,0 +1,5 @@
+-- The goals of `tsp_count` in src/lib.rt: what it ensures.
+use Rattle.tsp_c.proofs.tsp_count.Goals as goal
+
+pub returns : goal.returns
+returns c = rw c.number.ensures c.fill_count.ensures

@@ -1,0 +1,5 @@
+-- The goals of `tsp_open` in src/lib.rt: what it ensures.
+use Rattle.tsp_c.proofs.tsp_open.Goals as goal
+
+pub returns : goal.returns
+returns c = rw c.number.ensures c.open_text.ensures
