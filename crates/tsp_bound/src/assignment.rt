@@ -23,8 +23,8 @@ pub struct Infeasible {
 /// The least whole number that at the duals' scale is no less than the sum of them all, where row i
 /// and column j sum to at most the cost from i to j for all different nodes.
 ///
-/// With two or more nodes no cycle is shorter than it. The costs from a node to itself aren't
-/// looked at. No memory is taken. Source: the dual of the assignment problem, H. W. Kuhn, The
+/// With two or more nodes no cycle is shorter than it. The costs from a node to itself don't
+/// matter. No memory is taken. Source: the dual of the assignment problem, H. W. Kuhn, The
 /// Hungarian method for the assignment problem, 1955.
 ///
 /// # Requires
@@ -70,8 +70,10 @@ fn first_broken_of_row<C: Costs>(c: &C, d: &Duals, i: u32) -> Option<u32>
         → dual_of d.now i b ≤ℤ scaled d.now (C.at c.now) i b)) }
 {
     let row = d.rows[i as usize - 1];
+    // (each pair is compared first, the node's own too: what the costs are taken from is then looked
+    // up before the loop, and not by pair)
     'columns: for j in 1..c.count() + 1 {
-        if i != j && !fits(c, d, row, i, j) {
+        if !fits(c, d, row, i, j) && i != j {
             return Some(j);
         }
     }

@@ -1,6 +1,9 @@
 //! Instances: files that have costs.
 
-ghost use Rattle.std.specs.Prelude.{IsTrue, unwrap_or, MatchResult};
+ghost use Rattle.std.specs.Prelude.{◌≡◌, IsTrue, unwrap_or, MatchResult, pos, neg_ℤ, ◌≤ℤ◌};
+ghost use Rattle.tsp_format.specs.Nodes.{IsNode};
+ghost use Rattle.tsp_format.specs.Limits.{most_weight};
+ghost use Rattle.tsp_draft.specs.Fields.{nodes_of};
 ghost use Rattle.tsp_draft.specs.Rules.{is_instance};
 ghost use Rattle.tsp_file.specs.Cost.{cost};
 ghost use Rattle.tsp_theory.specs.Costs.{IsSymmetric, IsFirstAsymmetric, FindsAsymmetric};
@@ -185,6 +188,23 @@ fn found(f: &File) -> (u32, Source)
     (fields.dimension.unwrap(), source)
 }
 
+/// The cost from one node of an instance to another, by its view.
+#[inline(never)]
+fn viewed_cost(inst: &Instance, i: u32, j: u32) -> i64
+    requires from { IsNode (nodes_of inst.now) i }
+    requires to { IsNode (nodes_of inst.now) j }
+    ensures value { result ≡ cost inst.now i j }
+    ensures low { neg_ℤ (pos most_weight) ≤ℤ result }
+    ensures high { result ≤ℤ pos most_weight }
+{
+    match inst.view() {
+        View::Plane(points) => points.cost(i, j),
+        View::Space(points) => points.cost(i, j),
+        View::Matrix(matrix) => matrix.cost(i, j),
+        View::Triangle(triangle) => triangle.cost(i, j),
+    }
+}
+
 impl Costs for Instance {
     ghost use Rattle.std.specs.Prelude.{unwrap_or};
     ghost use Rattle.tsp_file.specs.Cost.{cost};
@@ -197,13 +217,15 @@ impl Costs for Instance {
         self.nodes
     }
 
+    // (with distances in the same loop, a pair of a matrix took four times as many instructions)
     #[inline]
     fn cost(&self, i: u32, j: u32) -> i64 {
-        match self.view() {
-            View::Plane(points) => points.cost(i, j),
-            View::Space(points) => points.cost(i, j),
-            View::Matrix(matrix) => matrix.cost(i, j),
-            View::Triangle(triangle) => triangle.cost(i, j),
+        match self.source {
+            Source::Weights(layout) => match self.listed_view(layout) {
+                View::Matrix(matrix) => matrix.cost(i, j),
+                _ => viewed_cost(self, i, j),
+            },
+            Source::Distances(_) => viewed_cost(self, i, j),
         }
     }
 

@@ -7,7 +7,7 @@ use Rattle.tsp_theory.proofs.Sizes.{same_64}
 use Rattle.tsp_bound.specs.states.Duals.{dual_of, scaled}
 use Rattle.tsp_bound.proofs.Passed.{columns_passed, above_where_not}
 use Rattle.tsp_bound.proofs.assignment.first_broken_of_row.Goals as goal
-use Rattle.tsp_bound.proofs.assignment.first_broken_of_row.Goals.{else-i-j-via-then-i-j+else-not-fits, else-i-j-via-else-i-j}
+use Rattle.tsp_bound.proofs.assignment.first_broken_of_row.Goals.{else-not-fits-via-then-not-fits+else-i-j, else-not-fits-via-else-not-fits}
 
 pub columns-init : goal.columns-init
 columns-init g c = λ b low below other. absurd (omega (arith, low, below))
@@ -21,17 +21,17 @@ fits-requires-clause-number g c =
 pub columns-preserved : goal.columns-preserved
 columns-preserved g c =
     let cost = g.C.Costs.at c.args.c.now in
-    elim c.else-i-j.branch [
-      | else-i-j-via-then-i-j+else-not-fits w ↦
-          columns_passed (λ (b : ℕ). dual_of c.args.d.now c.args.i b ≤ℤ scaled c.args.d.now cost c.args.i b) c.args.i c.columns.j
-          c.columns.invariant (λ other. w.if-not-fits.ensures.0 refl)
-      | else-i-j-via-else-i-j w ↦
+    elim c.else-not-fits.branch [
+      | else-not-fits-via-then-not-fits+else-i-j w ↦
           columns_passed (λ (b : ℕ). dual_of c.args.d.now c.args.i b ≤ℤ scaled c.args.d.now cost c.args.i b) c.args.i c.columns.j
           c.columns.invariant (λ other. absurd (other w.if-i-j.false))
+      | else-not-fits-via-else-not-fits w ↦
+          columns_passed (λ (b : ℕ). dual_of c.args.d.now c.args.i b ≤ℤ scaled c.args.d.now cost c.args.i b) c.args.i c.columns.j
+          c.columns.invariant (λ other. w.if-not-fits.ensures.0 refl)
     ]
 
-pub returns-then-not-fits : goal.returns-then-not-fits
-returns-then-not-fits g c =
+pub returns-then-i-j : goal.returns-then-i-j
+returns-then-i-j g c =
     let d = c.args.d.now in
     let cost = g.C.Costs.at c.args.c.now in
     let broken = above_where_not (dual_of d c.args.i c.columns.j) (scaled d cost c.args.i c.columns.j) (λ fit. false≢true (c.if-not-fits.ensures.1 fit)) in
