@@ -70,8 +70,8 @@ fn first_broken_of_row<C: Costs>(c: &C, d: &Duals, i: u32) -> Option<u32>
         → dual_of d.now i b ≤ℤ scaled d.now (C.at c.now) i b)) }
 {
     let row = d.rows[i as usize - 1];
-    // (each pair is compared first, the node's own too: what the costs are taken from is then looked
-    // up before the loop, and not by pair)
+    // (each pair is compared first, the node's own too, so that what is the same for all pairs is
+    // looked up once)
     'columns: for j in 1..c.count() + 1 {
         if !fits(c, d, row, i, j) && i != j {
             return Some(j);
