@@ -12,9 +12,11 @@ constexpr double kLifted = 1e200;  // the number of the special node, so that no
 
 class Boruvka {
  public:
-  Boruvka(const Problem& problem, const std::vector<double>& numbers, std::vector<Edge> some)
+  Boruvka(const Problem& problem, const std::vector<double>& numbers, std::vector<Edge> some,
+          Surcharges* surcharges)
       : problem_(problem),
         numbers_(numbers),
+        surcharges_(surcharges),
         open_(std::move(some)),
         components_(problem.nodes()),
         labels_(problem.nodes()),
@@ -37,6 +39,7 @@ class Boruvka {
         if (best_[i].a >= 0) add(best_[i].a, best_[i].b);
       }
     }
+    problem_.searches().set_extra(nullptr);
     return std::move(tree_);
   }
 
@@ -58,7 +61,8 @@ class Boruvka {
       return edge.a == special || edge.b == special || labels_[edge.a] == labels_[edge.b];
     });
     for (const Edge& edge : open_) {
-      const double weight = problem_.cost(edge.a, edge.b) + numbers_[edge.a] + numbers_[edge.b];
+      double weight = problem_.cost(edge.a, edge.b) + numbers_[edge.a] + numbers_[edge.b];
+      if (surcharges_ != nullptr) weight += surcharges_->between(edge.a, edge.b);
       for (const int label : {labels_[edge.a], labels_[edge.b]}) {
         if (weight < best_[label].weight) best_[label] = {weight, edge.a, edge.b};
       }
@@ -68,6 +72,7 @@ class Boruvka {
   void look_from(int i) {
     Join& join = best_[labels_[i]];
     if (i == problem_.special() || floors_[i] >= join.weight) return;
+    if (surcharges_ != nullptr) problem_.searches().set_extra(&surcharges_->of(i));
     const Near near = problem_.searches().lightest_outside(i, join.weight - numbers_[i]);
     if (near.node >= 0) {
       join = {near.weight + numbers_[i], i, near.node};
@@ -79,6 +84,7 @@ class Boruvka {
 
   const Problem& problem_;
   const std::vector<double>& numbers_;
+  Surcharges* const surcharges_;
   std::vector<Edge> open_, tree_;
   Components components_;
   std::vector<int> labels_;
@@ -135,15 +141,18 @@ class Prim {
 };
 
 // The two edges at the special node: fixed ones first.
-void close(const Problem& problem, const std::vector<double>& numbers, std::vector<Edge>& tree) {
+void close(const Problem& problem, const std::vector<double>& numbers, Surcharges* surcharges,
+           std::vector<Edge>& tree) {
   const int special = problem.special();
   const std::size_t whole = static_cast<std::size_t>(problem.nodes());
   for (const auto& [a, b] : problem.fixed()) {
     if (a == special || b == special) tree.push_back(problem.edge(a, b));
   }
   problem.searches().set_numbers(numbers);
+  if (surcharges != nullptr) problem.searches().set_extra(&surcharges->of(special));
   std::vector<Near> found;
   problem.searches().lightest(special, 4, found);
+  problem.searches().set_extra(nullptr);
   for (std::size_t k = 0; tree.size() < whole; k++) {
     if (!problem.is_fixed(special, found[k].node)) tree.push_back(problem.edge(special, found[k].node));
   }
@@ -151,10 +160,10 @@ void close(const Problem& problem, const std::vector<double>& numbers, std::vect
 }  // namespace
 
 std::vector<Edge> exact_tree(const Problem& problem, const std::vector<double>& numbers,
-                             const std::vector<Edge>& some) {
-  std::vector<Edge> tree =
-      problem.matrix() != nullptr ? Prim(problem, numbers).find() : Boruvka(problem, numbers, some).find();
-  close(problem, numbers, tree);
+                             const std::vector<Edge>& some, Surcharges* surcharges) {
+  std::vector<Edge> tree = problem.matrix() != nullptr ? Prim(problem, numbers).find()
+                                                       : Boruvka(problem, numbers, some, surcharges).find();
+  close(problem, numbers, surcharges, tree);
   return tree;
 }
 

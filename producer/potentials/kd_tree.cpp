@@ -125,7 +125,7 @@ void KdTree::visit(Query& query, int box) const {
     for (int j = b.first; j < b.last; j++) {
       if (j == query.node || (query.quadrant >= 0 && !is_in_quadrant(query.node, j, query.quadrant)))
         continue;
-      const double weight = points_.cost(query.node, j) + numbers_[j];
+      const double weight = points_.cost(query.node, j) + numbers_[j] + extra(j);
       if (weight < query.limit) query.limit = keep(query.found, query.count, {weight, j});
     }
     return;
@@ -169,7 +169,7 @@ void KdTree::visit_outside(int i, int box, Near& best) const {
   if (b.left < 0) {
     for (int j = b.first; j < b.last; j++) {
       if (labels_[j] == labels_[i]) continue;
-      const double weight = points_.cost(i, j) + numbers_[j];
+      const double weight = points_.cost(i, j) + numbers_[j] + extra(j);
       if (weight < best.weight) best = {weight, j};
     }
     return;

@@ -41,6 +41,8 @@ class Problem {
   // A number that no cost is below: 0 for points.
   double base() const { return base_; }
   const Matrix* matrix() const { return matrix_ ? &*matrix_ : nullptr; }
+  // Empty where there is a matrix.
+  const Points& points() const { return points_; }
   Searches& searches() const { return *searches_; }
   // The node whose two edges close a 1-tree: node 1 of the file.
   int special() const { return special_; }

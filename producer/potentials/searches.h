@@ -16,6 +16,8 @@ class Searches {
   virtual void set_numbers(const std::vector<double>& numbers) = 0;
   // The components of the nodes from here on.
   virtual void set_labels(const std::vector<int>& labels) = 0;
+  // What a node j weighs more from here on, from 0 on, or nothing. It has to outlive the searches.
+  void set_extra(const std::vector<double>* extra) { extra_ = extra; }
   // The (at most) `count` nodes other than i with the least cost(i, j) + p(j), lightest first.
   virtual void lightest(int i, int count, std::vector<Near>& found) const = 0;
   // The same for each quadrant around i alone; of a matrix none. The order is by quadrants.
@@ -26,5 +28,9 @@ class Searches {
  protected:
   // Keeps the lightest ones, sorted. Returns what another one has to be lighter than.
   static double keep(std::vector<Near>& found, int count, const Near& near);
+  double extra(int j) const { return extra_ == nullptr ? 0 : (*extra_)[j]; }
+
+ private:
+  const std::vector<double>* extra_ = nullptr;
 };
 }  // namespace potentials

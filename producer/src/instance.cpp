@@ -12,7 +12,6 @@ namespace certify {
 namespace {
 __extension__ typedef unsigned __int128 Wide;
 constexpr Weight kUnit = 1000000000;
-constexpr int kMostNodes = 5000;
 
 // The largest whole number whose square is at most this one.
 Wide square_root(Wide square) {

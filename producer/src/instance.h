@@ -11,6 +11,8 @@
 #include "tour.h"
 
 namespace certify {
+constexpr int kMostNodes = 5000;  // of a matrix
+
 // An instance of TYPE TSP, or of TYPE ATSP, which is directed: there a pair is an arc from its first node.
 struct Instance {
   Matrix weights;

@@ -6,13 +6,16 @@
 #include <oneapi/tbb/task_arena.h>
 
 #include <algorithm>
-#include <iomanip>
 #include <iostream>
+#include <memory>
+#include <utility>
 
 #include "arc_tours.h"
 #include "eax.h"
+#include "large.h"
 #include "options.h"
 #include "parameters.h"
+#include "report.h"
 #include "search.h"
 #include "tsp_program.h"
 #include "writing.h"
@@ -64,39 +67,13 @@ Start find_tours(const Instance& instance, const Options& options, const Clock& 
 }
 
 // A length that says little: where distances of points are rounded away.
-void warn_of_rounding(const Instance& instance, const Tour& tour) {
+bool is_rounded_away(const Instance& instance, const Tour& tour) {
   const std::vector<Pair> arcs = arcs_of(tour);
   const auto tiny = [&](const Pair& arc) {
     const Weight weight = instance.weights(arc.first, arc.second);
     return weight == 0 || weight == 1;
   };
-  if (!instance.rounded || !std::all_of(arcs.begin(), arcs.end(), tiny)) return;
-  std::cerr
-      << "tsp-certify: distances are rounded to whole numbers, and each of this tour is 0 or 1: multiply the "
-         "coordinates by a power of ten, and say so where the length is published\n";
-}
-
-// Reports the files, and the gap by its own reckoning.
-void report(const Options& options, const Search& search, const Instance& instance, const Tour& given) {
-  const Weight length = length_of(instance.weights, search.tour());
-  const Weight bound = std::min(search.bound(), length);
-  std::cerr << "tsp-certify: length " << length << ", bound " << bound << " as reckoned here, leaves "
-            << search.leaves() << ", seconds " << std::fixed << std::setprecision(1) << Clock::now()
-            << ", processor seconds " << Clock::processor() << "\n";
-  if (bound < length) std::cerr << "tsp-certify: a gap of " << length - bound << " is left\n";
-  if (!given.empty() && length < length_of(instance.weights, given)) {
-    std::cerr << "tsp-certify: a shorter tour than the named one was found"
-              << (options.tour_out ? "" : "; --tour-out says where it goes") << "\n";
-  }
-  warn_of_rounding(instance, search.tour());
-  if (options.leaf) {
-    std::cerr << "tsp-certify: this is a part: tsp-certify " << options.instance << " --tree "
-              << *options.tree << " --join PART.. -o CERTIFICATE puts parts together\n";
-    return;
-  }
-  const std::string tour = options.tour_out.value_or(options.tour.value_or("TOUR"));
-  std::cerr << "tsp-certify: this decides: tsp check " << options.instance << " " << tour << " --branches "
-            << options.certificate << "\n";
+  return instance.rounded && std::all_of(arcs.begin(), arcs.end(), tiny);
 }
 
 Certificate read_tree(const std::string& tsp, const std::string& path, const Instance& instance) {
@@ -107,7 +84,11 @@ Certificate read_tree(const std::string& tsp, const std::string& path, const Ins
 
 int certify_instance(const Options& options) {
   const std::string tsp = find_tsp(options.tsp);
-  const Instance instance = read_instance(tsp, options.instance);
+  auto file = std::make_unique<Canonical>(canonical_text(tsp, options.instance, {}));
+  refuse_other_kinds(*file, options.instance);
+  if (is_large(options, *file)) return certify_large(options, tsp, std::move(file));
+  const Instance instance = read_instance(tsp, options.instance, *file);
+  file.reset();  // the text of a matrix is large
   const Tour given = options.tour ? read_tour(tsp, *options.tour, instance) : Tour{};
   Progress progress(options.log);
   Clock::catch_signals();
@@ -127,7 +108,10 @@ int certify_instance(const Options& options) {
   if (options.split > 0) {
     for (const int leaf : search.open_leaves()) std::cout << leaf << "\n";
   }
-  report(options, search, instance, given);
+  Ending ending{length_of(instance.weights, search.tour()), search.bound(), search.leaves()};
+  if (!given.empty()) ending.given = length_of(instance.weights, given);
+  ending.rounded_away = is_rounded_away(instance, search.tour());
+  report(options, ending);
   return Clock::signal() ? 128 + *Clock::signal() : 0;
 }
 

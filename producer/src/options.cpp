@@ -60,6 +60,8 @@ void declare(CLI::App& app, Options& options) {
       ->type_name("W")
       ->check(CLI::PositiveNumber)
       ->capture_default_str();
+  // of tests: an empty group is left out of the help
+  app.add_flag("--sparse", options.sparse, "without a matrix, as more than 5,000 points")->group("");
   declare_common(app, options);
   declare_trees(app, options);
   app.footer(kFooter);

@@ -15,6 +15,7 @@ struct Options : CommonOptions {
   double seconds = 300;
   std::optional<Weight> upper;
   bool families = true;
+  bool sparse = false;                // as instances of more nodes, without a matrix
   int threads = 0;                    // 0 for one by processor
   int window = kTree.window;          // cases that are begun and not ended
   std::size_t split = 0;              // ends where as many cases are open

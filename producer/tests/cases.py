@@ -371,6 +371,64 @@ def short_numbers():
     need(scale < 840, f"the scale is {scale}")
 
 
+def need_bounded(instance, least, *words):
+    """A certificate without a matrix, whose bound is at least this part of the length. The bound."""
+    said = certify(instance, "-o", "out.branches", "--tour-out", "out.tour", *words)
+    report = judged(instance)
+    bound, length = int(report["bound"]), int(report["length"])
+    need(f"bound {bound} as reckoned" in said, f"{instance}: {report}, and not as reckoned: {said}")
+    need(least * length <= bound <= length, f"{instance}: a poor bound: {report}")
+    return bound
+
+
+def sparse():
+    """What instances of more than 5,000 points take, on small ones, against shortest tours."""
+    for kind in POINTS + SPACE:
+        write_points("a.tsp", kind, 60, random.Random(f"sparse {kind}"), places=2)
+        bound = need_bounded("a.tsp", 0.97, "--sparse")
+        need(bound <= need_optimal("a.tsp"), f"{kind}: a bound above the shortest tour")
+    chance = random.Random(14)
+    write_points("a.tsp", "EUC_2D", 9, chance)
+    need_bounded("a.tsp", 0.9, "--sparse")
+    order = chance.sample(range(1, 201), 200)
+    pairs = [f"{a} {b}" for a, b in zip(order[:120:3], order[1:120:3])]
+    write_points("a.tsp", "EUC_2D", 200, chance, "FIXED_EDGES_SECTION", *pairs, "-1", side=10**6)
+    need_bounded("a.tsp", 0.97, "--sparse", "--seconds", "0")
+    texts = []
+    for threads in ("1", "4"):
+        words = ["--sparse", "--seconds", "0", "--threads", threads, "--seed", "3", "--log", "out.log"]
+        need_bounded("a.tsp", 0.97, *words)
+        texts.append((Path("out.branches").read_bytes(), Path("out.tour").read_bytes()))
+    need(texts[0] == texts[1], "the same seed gives other bytes")
+    events = [json.loads(line) for line in Path("out.log").read_text().splitlines()]
+    need(all(0 <= event["bound"] <= event["length"] for event in events), "a bound is above, or none")
+    Path("named.tour").write_bytes(texts[0][1])
+    said = certify("a.tsp", "named.tour", "-o", "out.branches", "--sparse")
+    need("bound" in judged("a.tsp", "named.tour"), f"no bound of a named tour: {said}")
+    for side, rounded in ((0, False), (1, True), (1000, False)):
+        write_points("a.tsp", "EUC_2D", 30, random.Random(1), side=side, places=3)
+        said = certify("a.tsp", "-o", "out.branches", "--tour-out", "out.tour", "--sparse")
+        need(rounded == ("rounded to whole" in said), f"side {side}: {said}")
+        judged("a.tsp")
+
+
+def large():
+    """More than 5,000 points: the time limit, signals, and what isn't taken."""
+    write_points("a.tsp", "EUC_2D", 5200, random.Random(15), side=10**6)
+    begun = time.monotonic()
+    need_bounded("a.tsp", 0.9, "--seconds", "25")
+    need(time.monotonic() - begun < 100, "the limit isn't kept")
+    for wait in (3, 20):
+        found = signalled("4", (wait, signal.SIGINT))
+        need(found == 130 and "bound" in judged("a.tsp"), f"status {found} after {wait} seconds")
+    said = certify("a.tsp", "-o", "out.branches", "--tour-out", "out.tour", "--split", "4", status=2)
+    need("one leaf" in said, f"another refusal: {said}")
+    text = Path("a.tsp").read_text().replace(": TSP", ": ATSP")
+    Path("a.atsp").write_text(text)
+    said = certify("a.atsp", "-o", "out.branches", "--tour-out", "out.tour", status=2)
+    need("more than 5000 nodes" in said, f"another refusal: {said}")
+
+
 def signalled(threads, *signals):
     """The status of a run that gets these signals, each as many seconds after the one before."""
     words = [CERTIFY, "a.tsp", "-o", "out.branches", "--tour-out", "out.tour", "--seconds", "0", "--tsp", TSP]
@@ -572,7 +630,7 @@ def installing():
 
 CASES = [weights, fixed, small, matrix, atsp_small, atsp, atsp_named_tour, named_tour, upper, time_limit, same_bytes,
          threads, split, resume, parallel, dask,
-         short_numbers, interrupt, rounding, overwriting, families, log, bad_input, finding_tsp, installing]
+         short_numbers, sparse, large, interrupt, rounding, overwriting, families, log, bad_input, finding_tsp, installing]
 
 
 def main():

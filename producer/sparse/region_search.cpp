@@ -1,0 +1,121 @@
+#include "region_search.h"
+
+#include <algorithm>
+#include <cmath>
+#include <numeric>
+
+#include "eax.h"
+#include "sparse_parameters.h"
+
+namespace sparse {
+using certify::Instance;
+using certify::Matrix;
+using certify::Weight;
+
+namespace {
+constexpr std::size_t kFewest = 9;  // nodes of a region that edge assembly takes
+
+// Where the parts of a sequence begin. An odd pass begins with half a part.
+std::vector<std::size_t> cuts_of(std::size_t count, std::size_t size, bool shifted) {
+  const std::size_t parts = std::max<std::size_t>(1, (count + size / 2) / size);
+  std::vector<std::size_t> cuts{0};
+  for (std::size_t k = 1; k <= parts; k++) {
+    const std::size_t cut = shifted ? (2 * k - 1) * count / (2 * parts) : k * count / parts;
+    if (cut > cuts.back()) cuts.push_back(cut);
+  }
+  if (cuts.back() < count) cuts.push_back(count);
+  return cuts;
+}
+}  // namespace
+
+std::vector<NodeSet> regions_of(const Problem& problem, int size, int pass) {
+  const potentials::Points& points = problem.points();
+  const bool shifted = pass % 2 == 1;
+  const bool turned = pass % 4 >= 2;  // rows first
+  const std::vector<double>& first = turned ? points.y : points.x;
+  const std::vector<double>& second = turned ? points.x : points.y;
+  const auto by = [](const std::vector<double>& values) {
+    return [&values](int a, int b) { return values[a] != values[b] ? values[a] < values[b] : a < b; };
+  };
+  NodeSet nodes(problem.nodes());
+  std::iota(nodes.begin(), nodes.end(), 0);
+  std::sort(nodes.begin(), nodes.end(), by(first));
+  const auto wide = static_cast<std::size_t>(std::sqrt(static_cast<double>(nodes.size()) * size));
+  std::vector<NodeSet> regions;
+  const std::vector<std::size_t> columns = cuts_of(nodes.size(), std::max<std::size_t>(1, wide), shifted);
+  for (std::size_t c = 1; c < columns.size(); c++) {
+    NodeSet column(nodes.begin() + static_cast<std::ptrdiff_t>(columns[c - 1]),
+                   nodes.begin() + static_cast<std::ptrdiff_t>(columns[c]));
+    std::sort(column.begin(), column.end(), by(second));
+    const std::vector<std::size_t> rows = cuts_of(column.size(), static_cast<std::size_t>(size), shifted);
+    for (std::size_t r = 1; r < rows.size(); r++) {
+      regions.emplace_back(column.begin() + static_cast<std::ptrdiff_t>(rows[r - 1]),
+                           column.begin() + static_cast<std::ptrdiff_t>(rows[r]));
+    }
+  }
+  return regions;
+}
+
+// The nodes at these places of the tour, with a fixed edge for each path outside. Fixed edges of the problem
+// are fixed too.
+Instance RegionSearch::part_of(const std::vector<int>& places) const {
+  const int nodes = static_cast<int>(places.size());
+  Instance part{Matrix(nodes), {}};
+  for (int i = 0; i < nodes; i++) {
+    for (int j = 0; j < i; j++) {
+      part.weights.set(i, j, std::llround(problem_.cost(tour_[places[i]], tour_[places[j]])));
+    }
+    const int next = i + 1 == nodes ? 0 : i + 1;
+    const bool beside = (places[i] + 1) % problem_.nodes() == places[next];
+    if (!beside || problem_.is_fixed(tour_[places[i]], tour_[places[next]])) {
+      part.fixed.emplace_back(std::minmax(i, next));
+    }
+  }
+  std::sort(part.fixed.begin(), part.fixed.end());
+  return part;
+}
+
+// The whole tour where the region's nodes are in this order.
+Tour RegionSearch::whole_of(const Tour& order, const std::vector<int>& places) const {
+  const int nodes = static_cast<int>(places.size());
+  const int all = problem_.nodes();
+  Tour whole;
+  whole.reserve(tour_.size());
+  for (int k = 0; k < nodes; k++) {
+    const int i = order[k];
+    const int j = order[k + 1 == nodes ? 0 : k + 1];
+    whole.push_back(tour_[places[i]]);
+    if (j == (i + 1) % nodes) {
+      for (int at = (places[i] + 1) % all; at != places[j]; at = (at + 1) % all) whole.push_back(tour_[at]);
+    } else if (i == (j + 1) % nodes) {
+      for (int at = (places[i] + all - 1) % all; at != places[j]; at = (at + all - 1) % all)
+        whole.push_back(tour_[at]);
+    }
+  }
+  return whole;
+}
+
+void RegionSearch::improve(const NodeSet& region, const std::function<bool()>& stop) {
+  std::vector<char> inside(tour_.size(), 0);
+  for (const int v : region) inside[v] = 1;
+  std::vector<int> places;
+  for (std::size_t k = 0; k < tour_.size(); k++) {
+    if (inside[tour_[k]] != 0) places.push_back(static_cast<int>(k));
+  }
+  const Instance part = part_of(places);
+  if (places.size() < kFewest || part.fixed.size() + 2 > places.size()) return;
+  const Matrix costs = certify::with_fixed_lowered(part.weights, part.fixed);
+  certify::Eax eax(costs, part, kSparse.population, seed_++);
+  const Tour order = eax.run(stop, [](Weight) {});
+  if (!part.allows(order)) return;
+  Tour whole = whole_of(order, places);
+  if (whole.size() == tour_.size() && problem_.length(whole) < problem_.length(tour_)) tour_ = std::move(whole);
+}
+
+void RegionSearch::pass_over(const std::vector<NodeSet>& regions, const std::function<bool()>& stop) {
+  for (const NodeSet& region : regions) {
+    if (stop()) return;
+    improve(region, stop);
+  }
+}
+}  // namespace sparse

@@ -1,0 +1,38 @@
+// Shortens a tour region by region, by edge assembly over the small matrix of each: the paths of the tour
+// outside of a region are fixed edges between its nodes.
+// Sources: R. M. Karp, Probabilistic analysis of partitioning algorithms for the TSP in the plane (1977), for
+// regions; K. Helsgaun, General k-opt submoves for the Lin-Kernighan TSP heuristic (2009), for tours of parts
+// that shorten a whole one.
+#pragma once
+#include <functional>
+
+#include "instance.h"
+#include "problem.h"
+
+namespace sparse {
+using certify::NodeSet;
+using certify::Tour;
+using potentials::Problem;
+
+// Parts of the nodes of about this size, by columns of equal numbers and by rows in them. Each pass has other
+// borders.
+std::vector<NodeSet> regions_of(const Problem& problem, int size, int pass);
+
+class RegionSearch {
+ public:
+  RegionSearch(const Problem& problem, Tour tour, std::uint64_t seed)
+      : problem_(problem), tour_(std::move(tour)), seed_(seed) {}
+  // Once over these regions. True from stop ends it early.
+  void pass_over(const std::vector<NodeSet>& regions, const std::function<bool()>& stop);
+  const Tour& tour() const { return tour_; }
+
+ private:
+  void improve(const NodeSet& region, const std::function<bool()>& stop);
+  certify::Instance part_of(const std::vector<int>& places) const;
+  Tour whole_of(const Tour& order, const std::vector<int>& places) const;
+
+  const Problem& problem_;
+  Tour tour_;
+  std::uint64_t seed_;
+};
+}  // namespace sparse

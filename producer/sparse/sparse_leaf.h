@@ -1,0 +1,37 @@
+// The whole numbers of a leaf, by duals of a large linear program, and their bound by the least 1-tree among
+// all pairs of points. Subtours need no multipliers, since a tree over the nodes 2.. keeps sets without node 1
+// by itself.
+// Source: M. Held and R. Karp, The traveling-salesman problem and minimum spanning trees (1970).
+#pragma once
+#include "certificate.h"
+#include "exact_tree.h"
+#include "sparse_program.h"
+
+namespace sparse {
+using certify::Numbers;
+using certify::Value;
+
+class SparseLeaf {
+ public:
+  SparseLeaf(const Problem& problem, const CutPool& pool, double average);
+  Weight scale() const { return scale_; }
+  // The duals of the program. Of more combs than a file may have, those with the largest duals.
+  Numbers extract(const SparseProgram& program) const;
+  // The bound times the scale. Likely edges limit the searches.
+  Value value(const Numbers& numbers, const std::vector<Pair>& likely);
+  // The least bound that a value gives.
+  Weight bound_of(Value value) const;
+  // The edges of the last 1-tree.
+  const std::vector<potentials::Edge>& tree() const { return tree_; }
+  // A file of one leaf, in the order of the instance's nodes.
+  certify::Certificate certificate(const Numbers& numbers) const;
+
+ private:
+  std::vector<std::size_t> multiplied_rows(const SparseProgram& program) const;
+
+  const Problem& problem_;
+  const CutPool& pool_;
+  Weight scale_ = 1;
+  std::vector<potentials::Edge> tree_;
+};
+}  // namespace sparse

@@ -1,0 +1,14 @@
+// What a run tells at its end: the files, and the gap by its own reckoning.
+#pragma once
+#include "options.h"
+
+namespace certify {
+struct Ending {
+  Weight length, bound;
+  int leaves = 1;
+  std::optional<Weight> given{};  // the length of the named tour
+  bool rounded_away = false;      // distances are rounded, and each of the tour is 0 or 1: they say little
+};
+
+void report(const Options& options, const Ending& ending);
+}  // namespace certify

@@ -1,0 +1,300 @@
+#include <algorithm>
+#include <cmath>
+#include <limits>
+#include <numeric>
+#include <set>
+
+#include "exact_tree.h"
+#include "fixtures.h"
+#include "region_search.h"
+#include "scan_cuts.h"
+#include "separation.h"
+#include "sparse_leaf.h"
+#include "sparse_search.h"
+#include "tours.h"
+#include "tree_bound.h"
+
+using certify::CutPool;
+using certify::Graph;
+using certify::Instance;
+using certify::Matrix;
+using certify::NodeSet;
+using certify::Numbers;
+using certify::Pair;
+using certify::Random;
+using certify::Tour;
+using certify::Weight;
+using potentials::Points;
+using potentials::Problem;
+using namespace sparse;
+
+namespace {
+Points random_points(int nodes, Random& random) {
+  Points points;
+  for (int i = 0; i < nodes; i++) {
+    points.x.push_back(random.below(1000));
+    points.y.push_back(random.below(1000));
+    points.z.push_back(0);
+  }
+  return points;
+}
+
+// The costs by the numbers of the problem.
+Matrix matrix_of(const Problem& problem) {
+  Matrix matrix(problem.nodes());
+  for (int i = 0; i < problem.nodes(); i++) {
+    for (int j = 0; j < i; j++) matrix.set(i, j, std::llround(problem.cost(i, j)));
+  }
+  return matrix;
+}
+
+std::vector<Pair> all_pairs(int nodes) {
+  std::vector<Pair> pairs;
+  for (int i = 0; i < nodes; i++) {
+    for (int j = 0; j < i; j++) pairs.emplace_back(j, i);
+  }
+  return pairs;
+}
+
+Tour in_order(int nodes) {
+  Tour tour(nodes);
+  std::iota(tour.begin(), tour.end(), 0);
+  return tour;
+}
+
+// The least weight of a 1-tree with fixed edges in it, by Prim's method.
+double least_tree(const Problem& problem, const std::vector<double>& numbers,
+                  const potentials::Surcharges& surcharges) {
+  const int special = problem.special();
+  const auto order_of = [&](int i, int j) {
+    return std::pair(problem.is_fixed(i, j) ? 0 : 1,
+                     problem.cost(i, j) + numbers[i] + numbers[j] + surcharges.between(i, j));
+  };
+  double sum = 0;
+  std::set<int> inside{special == 0 ? 1 : 0};
+  while (static_cast<int>(inside.size()) < problem.nodes() - 1) {
+    std::pair best(2, 0.0);
+    int next = -1;
+    for (const int i : inside) {
+      for (int j = 0; j < problem.nodes(); j++) {
+        if (j == special || inside.contains(j) || order_of(i, j) >= best) continue;
+        best = order_of(i, j);
+        next = j;
+      }
+    }
+    inside.insert(next);
+    sum += best.second;
+  }
+  std::vector<std::pair<int, double>> ways;
+  for (const int j : inside) ways.push_back(order_of(special, j));
+  std::sort(ways.begin(), ways.end());
+  return sum + ways[0].second + ways[1].second;
+}
+
+double crossing_of(const Graph& graph, const NodeSet& set) {
+  double sum = 0;
+  for (const int v : set) {
+    for (const certify::Edge& edge : graph[v]) {
+      sum += std::find(set.begin(), set.end(), edge.to) == set.end() ? edge.value : 0;
+    }
+  }
+  return sum;
+}
+
+// The average of some random tours, of which no set is crossed too little. Else each of them is two cycles.
+Graph random_graph(int nodes, int tours, bool cycles, Random& random) {
+  Matrix values(nodes);
+  const auto add = [&](const Tour& cycle) {
+    for (const auto& [i, j] : certify::edges_of(cycle)) values.set(i, j, values(i, j) + 12 / tours);
+  };
+  for (int k = 0; k < tours; k++) {
+    Tour tour = in_order(nodes);
+    for (int i = nodes - 1; i > 0; i--) std::swap(tour[i], tour[random.below(i + 1)]);
+    const int first = cycles ? 3 + random.below(nodes - 5) : nodes;
+    add(Tour(tour.begin(), tour.begin() + first));
+    if (cycles) add(Tour(tour.begin() + first, tour.end()));
+  }
+  Graph graph(nodes);
+  for (const auto& [i, j] : all_pairs(nodes)) {
+    if (values(i, j) == 0) continue;
+    graph[i].push_back({j, static_cast<double>(values(i, j)) / 12});
+    graph[j].push_back({i, static_cast<double>(values(i, j)) / 12});
+  }
+  return graph;
+}
+
+// The relaxation with all subtours, and the combs of a list.
+double value_by_matrix(const Instance& instance, const Tour& tour, const std::vector<std::vector<NodeSet>>& combs) {
+  CutPool pool(instance.nodes());
+  certify::Relaxation relaxation(instance, pool, tour);
+  relaxation.add_edges(instance.links_of(tour));
+  for (const auto& comb : combs) relaxation.add_cuts({pool.add_comb(comb)});
+  certify::Separation separation(instance.weights, pool, relaxation, 1);
+  separation.set_tours(tour, {});
+  do {
+    relaxation.solve();
+  } while (separation.add_subtours());
+  return relaxation.value();
+}
+
+const std::vector<std::vector<NodeSet>> kCombs{{{0, 1, 2}, {0, 3}, {1, 4}, {2, 5}},
+                                               {{6, 7, 8, 9, 10, 11}, {6, 12}, {7, 8, 13}, {9, 14, 15}}};
+}  // namespace
+
+TEST_CASE("least 1-trees with surcharges are those of all pairs") {
+  Random random(1);
+  for (int round = 0; round < 20; round++) {
+    const int nodes = 12 + random.below(60);
+    std::vector<Pair> fixed;
+    if (round % 2 == 1) fixed = {{3, 4}, {4, 7}, {9, 0}};
+    const Problem problem(random_points(nodes, random), fixed);
+    std::vector<double> numbers(nodes);
+    for (double& number : numbers) number = random.below(400) - 300;
+    potentials::Surcharges surcharges(nodes);
+    std::vector<NodeSet> sets(8);
+    for (NodeSet& set : sets) {
+      const int first = random.below(nodes - 8);
+      for (int v = first; v < first + 8; v += 1 + random.below(2)) set.push_back(v);
+      surcharges.add(set, random.below(300));
+    }
+    std::vector<potentials::Edge> some;
+    for (int v = 1; v < nodes; v++) some.push_back(problem.edge(v - 1, v));
+    double sum = 0;
+    for (const potentials::Edge& edge : potentials::exact_tree(problem, numbers, some, &surcharges)) {
+      sum += problem.cost(edge.a, edge.b) + numbers[edge.a] + numbers[edge.b] +
+             surcharges.between(edge.a, edge.b);
+    }
+    CHECK(sum == Approx(least_tree(problem, numbers, surcharges)));
+  }
+}
+
+TEST_CASE("scans find a set that is crossed too little where there is one") {
+  Random random(2);
+  int found = 0;
+  for (int round = 0; round < 300; round++) {
+    const int nodes = 6 + random.below(5);
+    const Graph graph = random_graph(nodes, 1 + random.below(3), round % 3 > 0, random);
+    const std::vector<NodeSet> sets = small_cuts(graph, 0.01);
+    bool small = false;
+    for (const NodeSet& set : sets) CHECK(crossing_of(graph, set) < 1.99);
+    for (int mask = 1; mask < 1 << (nodes - 1); mask++) {
+      NodeSet set;
+      for (int v = 0; v < nodes - 1; v++) {
+        if ((mask >> v & 1) != 0) set.push_back(v);
+      }
+      small = small || (set.size() > 1 && set.size() + 1 < graph.size() && crossing_of(graph, set) < 1.99);
+    }
+    const bool any = std::any_of(sets.begin(), sets.end(), [&](const NodeSet& set) { return set.size() < graph.size(); });
+    CHECK(any == small);
+    found += small ? 1 : 0;
+  }
+  CHECK(found > 20);
+}
+
+TEST_CASE("sparse programs have the values of programs over a matrix") {
+  Random random(3);
+  const certify::Clock clock(0);
+  for (int round = 0; round < 6; round++) {
+    const int nodes = 40;
+    const Problem problem(random_points(nodes, random), {});
+    const Instance instance{matrix_of(problem), {}};
+    const Tour tour = potentials::first_tour(problem);
+    CutPool pool(nodes);
+    SparseProgram program(problem, pool, tour, clock);
+    program.add_candidates(all_pairs(nodes));
+    std::vector<int> combs;
+    for (const auto& comb : kCombs) combs.push_back(pool.add_comb(comb));
+    program.add_cuts(combs);
+    SparseSeparation separation(pool, program, 1);
+    int cuts = 0;
+    do {
+      REQUIRE(program.solve());
+      if (round % 2 == 1) program.drop_edges();
+      if (round % 3 == 1) program.purge(3);
+      cuts = separation.add_subtours();
+    } while (cuts > 0);
+    const double expected = value_by_matrix(instance, tour, kCombs);
+    CHECK(program.value() == Approx(expected).epsilon(1e-7));
+    // the numbers are worth as much, where edges of trees join
+    SparseLeaf leaf(problem, pool, program.average());
+    const Numbers numbers = leaf.extract(program);
+    const double bound = static_cast<double>(leaf.value(numbers, program.edges())) / static_cast<double>(leaf.scale());
+    CHECK(bound <= program.value() + 0.01);
+    CHECK(bound > program.value() - 0.1);
+  }
+}
+
+TEST_CASE("the bound of a sparse leaf is that of its certificate") {
+  Random random(4);
+  for (int round = 0; round < 10; round++) {
+    const int nodes = 20;
+    const Points points = random_points(nodes, random);
+    const Problem problem(points, {});
+    Matrix weights(nodes);
+    for (const auto& [i, j] : all_pairs(nodes)) weights.set(i, j, std::llround(points.cost(i, j)));
+    CutPool pool(nodes);
+    const SparseLeaf plain(problem, pool, 250);
+    Numbers numbers;
+    for (int v = 0; v < nodes; v++) numbers.potentials.push_back(random.below(20000) - 10000);
+    for (const auto& comb : kCombs) numbers.multipliers[pool.add_comb(comb)] = random.below(5000);
+    SparseLeaf leaf(problem, pool, 250);
+    const certify::Value value = leaf.value(numbers, {});
+    const certify::Certificate certificate = leaf.certificate(numbers);
+    CutPool own(nodes);
+    Numbers outward = std::get<Numbers>(certificate.steps[0]);
+    const std::map<int, Weight> multipliers = std::exchange(outward.multipliers, {});
+    for (const auto& [family, multiplier] : multipliers) {
+      outward.multipliers[certify::add_family(own, certificate.families[family], nodes)] = multiplier;
+    }
+    CHECK(leaf.scale() == 1000);
+    CHECK(value == certify::TreeBound(weights, own, certificate.scale).value(outward, {}));
+  }
+}
+
+TEST_CASE("regions have each node once") {
+  Random random(5);
+  for (const int nodes : {3, 50, 1000}) {
+    const Problem problem(random_points(nodes, random), {});
+    for (int pass = 0; pass < 4; pass++) {
+      NodeSet all;
+      for (const NodeSet& region : regions_of(problem, 60, pass)) {
+        CHECK(region.size() <= 150);
+        all.insert(all.end(), region.begin(), region.end());
+      }
+      std::sort(all.begin(), all.end());
+      CHECK(all == in_order(nodes));
+    }
+  }
+}
+
+TEST_CASE("a search in regions shortens a tour and keeps fixed edges") {
+  Random random(6);
+  const std::vector<Pair> fixed{{0, 50}, {50, 120}, {200, 3}, {77, 78}};
+  const Problem problem(random_points(300, random), fixed);
+  const Tour tour = potentials::first_tour(problem);
+  RegionSearch search(problem, tour, 1);
+  for (int pass = 0; pass < 2; pass++) {
+    const double before = problem.length(search.tour());
+    search.pass_over(regions_of(problem, 100, pass), [] { return false; });
+    CHECK(problem.length(search.tour()) < before);
+    CHECK(problem.allows(search.tour()));
+    Tour sorted = search.tour();
+    std::sort(sorted.begin(), sorted.end());
+    CHECK(sorted == in_order(300));
+  }
+}
+
+TEST_CASE("a sparse search bounds all tours") {
+  Random random(7);
+  for (const int nodes : {9, 12, 60}) {
+    const Problem problem(random_points(nodes, random), nodes == 12 ? std::vector<Pair>{{0, 5}} : std::vector<Pair>{});
+    const certify::Clock clock(0);
+    certify::Progress progress;
+    SparseSearch search(problem, {}, clock, progress);
+    search.run();
+    CHECK(problem.allows(search.tour()));
+    CHECK(search.length() == std::llround(problem.length(search.tour())));
+    CHECK(search.bound() <= search.length());
+    CHECK(static_cast<double>(search.bound()) > 0.97 * static_cast<double>(search.length()));
+  }
+}
