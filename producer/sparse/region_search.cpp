@@ -15,23 +15,25 @@ using certify::Weight;
 namespace {
 constexpr std::size_t kFewest = 9;  // nodes of a region that edge assembly takes
 
-// Where the parts of a sequence begin. An odd pass begins with half a part.
-std::vector<std::size_t> cuts_of(std::size_t count, std::size_t size, bool shifted) {
+// Where the parts of a sequence begin. The first part is this share of one.
+std::vector<std::size_t> cuts_of(std::size_t count, std::size_t size, double share) {
   const std::size_t parts = std::max<std::size_t>(1, (count + size / 2) / size);
+  const double part = static_cast<double>(count) / static_cast<double>(parts);
   std::vector<std::size_t> cuts{0};
-  for (std::size_t k = 1; k <= parts; k++) {
-    const std::size_t cut = shifted ? (2 * k - 1) * count / (2 * parts) : k * count / parts;
-    if (cut > cuts.back()) cuts.push_back(cut);
+  for (std::size_t k = 0; k <= parts; k++) {
+    const auto cut = static_cast<std::size_t>((static_cast<double>(k) + share) * part);
+    if (cut > cuts.back() && cut < count) cuts.push_back(cut);
   }
-  if (cuts.back() < count) cuts.push_back(count);
+  cuts.push_back(count);
   return cuts;
 }
 }  // namespace
 
 std::vector<NodeSet> regions_of(const Problem& problem, int size, int pass) {
   const potentials::Points& points = problem.points();
-  const bool shifted = pass % 2 == 1;
-  const bool turned = pass % 4 >= 2;  // rows first
+  constexpr double kGolden = 0.6180339887;  // its multiples are far from each other
+  const double share = std::fmod(pass * kGolden, 1);
+  const bool turned = pass % 2 == 1;  // rows first
   const std::vector<double>& first = turned ? points.y : points.x;
   const std::vector<double>& second = turned ? points.x : points.y;
   const auto by = [](const std::vector<double>& values) {
@@ -42,12 +44,12 @@ std::vector<NodeSet> regions_of(const Problem& problem, int size, int pass) {
   std::sort(nodes.begin(), nodes.end(), by(first));
   const auto wide = static_cast<std::size_t>(std::sqrt(static_cast<double>(nodes.size()) * size));
   std::vector<NodeSet> regions;
-  const std::vector<std::size_t> columns = cuts_of(nodes.size(), std::max<std::size_t>(1, wide), shifted);
+  const std::vector<std::size_t> columns = cuts_of(nodes.size(), std::max<std::size_t>(1, wide), share);
   for (std::size_t c = 1; c < columns.size(); c++) {
     NodeSet column(nodes.begin() + static_cast<std::ptrdiff_t>(columns[c - 1]),
                    nodes.begin() + static_cast<std::ptrdiff_t>(columns[c]));
     std::sort(column.begin(), column.end(), by(second));
-    const std::vector<std::size_t> rows = cuts_of(column.size(), static_cast<std::size_t>(size), shifted);
+    const std::vector<std::size_t> rows = cuts_of(column.size(), static_cast<std::size_t>(size), share);
     for (std::size_t r = 1; r < rows.size(); r++) {
       regions.emplace_back(column.begin() + static_cast<std::ptrdiff_t>(rows[r - 1]),
                            column.begin() + static_cast<std::ptrdiff_t>(rows[r]));
@@ -104,12 +106,17 @@ void RegionSearch::improve(const NodeSet& region, const std::function<bool()>& s
   }
   const Instance part = part_of(places);
   if (places.size() < kFewest || part.fixed.size() + 2 > places.size()) return;
-  const Matrix costs = certify::with_fixed_lowered(part.weights, part.fixed);
+  std::vector<Weight> potentials;
+  potentials.reserve(places.size());
+  for (const int place : places) potentials.push_back(-std::llround(numbers_[tour_[place]]));
+  const Matrix costs =
+      certify::with_fixed_lowered(certify::with_potentials(part.weights, potentials), part.fixed);
   certify::Eax eax(costs, part, kSparse.population, seed_++);
   const Tour order = eax.run(stop, [](Weight) {});
   if (!part.allows(order)) return;
   Tour whole = whole_of(order, places);
-  if (whole.size() == tour_.size() && problem_.length(whole) < problem_.length(tour_)) tour_ = std::move(whole);
+  if (whole.size() == tour_.size() && problem_.length(whole) < problem_.length(tour_))
+    tour_ = std::move(whole);
 }
 
 void RegionSearch::pass_over(const std::vector<NodeSet>& regions, const std::function<bool()>& stop) {

@@ -20,8 +20,9 @@ std::vector<NodeSet> regions_of(const Problem& problem, int size, int pass);
 
 class RegionSearch {
  public:
-  RegionSearch(const Problem& problem, Tour tour, std::uint64_t seed)
-      : problem_(problem), tour_(std::move(tour)), seed_(seed) {}
+  // Costs are looked at with these numbers of the nodes added, which leads to short tours sooner.
+  RegionSearch(const Problem& problem, const std::vector<double>& numbers, Tour tour, std::uint64_t seed)
+      : problem_(problem), numbers_(numbers), tour_(std::move(tour)), seed_(seed) {}
   // Once over these regions. True from stop ends it early.
   void pass_over(const std::vector<NodeSet>& regions, const std::function<bool()>& stop);
   const Tour& tour() const { return tour_; }
@@ -32,6 +33,7 @@ class RegionSearch {
   Tour whole_of(const Tour& order, const std::vector<int>& places) const;
 
   const Problem& problem_;
+  const std::vector<double>& numbers_;
   Tour tour_;
   std::uint64_t seed_;
 };

@@ -1,7 +1,6 @@
 // The whole numbers of a leaf, by duals of a large linear program, and their bound by the least 1-tree among
-// all pairs of points. Subtours need no multipliers, since a tree over the nodes 2.. keeps sets without node 1
-// by itself.
-// Source: M. Held and R. Karp, The traveling-salesman problem and minimum spanning trees (1970).
+// all pairs of points. Subtours need no multipliers, since a tree over the nodes 2.. keeps sets without node
+// 1 by itself. Source: M. Held and R. Karp, The traveling-salesman problem and minimum spanning trees (1970).
 #pragma once
 #include "certificate.h"
 #include "exact_tree.h"

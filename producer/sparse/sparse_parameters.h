@@ -1,32 +1,35 @@
-// The numbers that the search without a matrix is tuned by, on uniform and clustered points of bench/instances.
+// The numbers that the search without a matrix is tuned by, on uniform and clustered points of
+// bench/instances.
 #pragma once
 #include <cstddef>
 
 namespace sparse {
 struct SparseParameters {
-  int steps = 400;              // of the ascent: duals to begin with, and candidates
-  long kicks_of_node = 10;      // of the tour, before edge assembly in its regions
-  int region = 700, population = 40;
-  int passes = 3;               // over all regions
-  int further_tours = 2;        // that were met, whose runs are teeth
-  double part_for_tours = 0.2;  // of the time
-  double part_of_time = 0.93;   // that linear programs may take; the rest is for whole numbers
+  int steps = 400;          // of the ascent: duals to begin with, and candidates
+  long kicks_of_node = 10;  // of the tour, before edge assembly in its regions
+  int region = 1000, population = 30;
+  int passes = 5;               // over all regions, before the linear program
+  int passes_between = 2;       // where cuts stop to help
+  int most_misses = 2;          // passes in a row that gain nothing
+  int guided_tours = 2;         // along each solution: with other tours combs are found that one tour misses
+  double part_for_tours = 0.3;  // of the time
+  double part_of_time = 0.85;   // that linear programs may take; the rest is for whole numbers and the tour
   int near = 10, near_in_quadrant = 2;  // neighbours of a node: candidates of pricing
   int light = 5;                        // edges that the program begins with, by the ascent's duals
   double part_of_edge = 0.5;            // of an average edge: edges at 0 with more reduced cost are dropped
   int slack = 4;                        // a row that is slack in more solutions in a row is dropped
   int rounds_of_purge = 3, rounds_of_edges = 6, rounds_of_trees = 5;
-  double cuts_of_node = 0.15;           // combs of a round
-  double climbs_of_node = 0.4;          // handles of a round that are climbed from
-  double pooled_of_node = 0.15;         // cuts of the pool that join in a round
-  int levels = 2;                       // as often climbs are doubled before the search ends
-  std::size_t window = 4;               // rounds whose gain is looked at
-  double least_gain = 0.03;             // a part of the gap; less is a stall
+  double cuts_of_node = 0.2;              // combs of a round
+  double climbs_of_node = 0.4;            // handles of a round that are climbed from
+  double pooled_of_node = 0.3;            // cuts of the pool that join in a round
+  int levels = 2;                         // as often climbs are doubled before the search ends
+  std::size_t window = 4;                 // rounds whose gain is looked at
+  double least_gain = 0.03;               // a part of the gap; less is a stall
   double least_subtours_of_node = 0.003;  // while there are more, no combs are looked for
-  int longest_rest = 4;                 // rounds that a cut of the pool is left out
-  double least_in_pool = 0.02;          // violation of a cut of the pool
-  int trees = 4;                        // exact 1-trees at the end, each of which brings edges
-  double average_at_scale = 1e5;        // an average edge times the scale is at least as much
+  int longest_rest = 4;                   // rounds that a cut of the pool is left out
+  double least_in_pool = 0.02;            // violation of a cut of the pool
+  int trees = 4;                          // exact 1-trees at the end, each of which brings edges
+  double average_at_scale = 1e5;          // an average edge times the scale is at least as much
   std::size_t most_families = 10000, most_nodes = 1000000;  // of a file
 };
 inline constexpr SparseParameters kSparse{};

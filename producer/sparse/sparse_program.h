@@ -59,9 +59,7 @@ class SparseProgram {
   struct Member {
     int row, set;
     bool crossing;  // the row counts the edges that cross the set
-    bool operator<(const Member& other) const {
-      return row != other.row ? row < other.row : set < other.set;
-    }
+    bool operator<(const Member& other) const { return row != other.row ? row < other.row : set < other.set; }
   };
   void begin();
   bool optimize();

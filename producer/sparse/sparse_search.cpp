@@ -4,7 +4,6 @@
 #include <cmath>
 
 #include "candidates.h"
-#include "region_search.h"
 #include "sparse_parameters.h"
 #include "tours.h"
 
@@ -20,9 +19,14 @@ std::vector<Pair> pairs_of(const std::vector<potentials::Edge>& edges) {
 
 Weight SparseSearch::length() const { return std::llround(problem_.length(tours_[0])); }
 
+// What the program is worth, before its numbers are whole.
+Weight SparseSearch::bound_so_far() const {
+  return std::max<Weight>(0, std::min(target(), static_cast<Weight>(program_->value())));
+}
+
 void SparseSearch::note(std::string_view event) {
   certify::Standing standing{length(), 0};
-  standing.bound = std::max<Weight>(0, std::min(target(), static_cast<Weight>(program_->value())));
+  standing.bound = bound_so_far();
   for (const int cut : program_->cuts()) {
     (pool_[cut].kind == certify::CutKind::kSubtour ? standing.subtours : standing.combs)++;
   }
@@ -48,27 +52,33 @@ Tour SparseSearch::looked_for() {
   return potentials::shorten(problem_, potentials::first_tour(problem_), duals_, support_, search).tour;
 }
 
-// The best tour, and others whose runs are teeth.
-void SparseSearch::find_tours() {
-  Tour tour = looked_for();
-  if (start_.tour && problem_.length(*start_.tour) < problem_.length(tour)) tour = *start_.tour;
-  RegionSearch regions(problem_, tour, start_.seed);
-  tours_.push_back(std::move(tour));
-  for (int pass = 0; pass < kSparse.passes; pass++) {
-    note_tour(regions.tour());
-    regions.pass_over(regions_of(problem_, kSparse.region, pass),
-                      [&] { return clock_.over(kSparse.part_for_tours); });
-    tours_.push_back(regions.tour());
-  }
-  note_tour(regions.tour());
-  std::reverse(tours_.begin(), tours_.end());
-  tours_.erase(std::unique(tours_.begin(), tours_.end()), tours_.end());
-  tours_.resize(std::min(tours_.size(), static_cast<std::size_t>(1 + kSparse.further_tours)));
+// One pass over all regions. Whether it shortens the tour.
+bool SparseSearch::pass_regions(double part) {
+  const Weight before = length();
+  const std::vector<NodeSet> regions = regions_of(problem_, kSparse.region, passes_++);
+  regions_->pass_over(regions, [&] { return clock_.over(part); });
+  tours_[0] = regions_->tour();
+  progress_.log("tour", length(), program_ ? bound_so_far() : 0, "\"pass\": " + std::to_string(passes_));
+  return length() < before;
 }
 
-void SparseSearch::note_tour(const Tour& tour) {
-  const Weight length = std::llround(problem_.length(tour));
-  progress_.log("tour", length, 0, "\"regions\": true");
+// The best tour, and one whose runs are teeth too.
+void SparseSearch::find_tours() {
+  Tour tour = looked_for();
+  const Tour further = tour;
+  if (start_.tour && problem_.length(*start_.tour) < problem_.length(tour)) tour = *start_.tour;
+  regions_.emplace(problem_, duals_, tour, start_.seed);
+  tours_ = {std::move(tour), further};
+  for (int pass = 0; pass < kSparse.passes && !clock_.over(kSparse.part_for_tours); pass++) {
+    pass_regions(kSparse.part_for_tours);
+  }
+}
+
+// What is left of the time, or passes until they gain nothing.
+void SparseSearch::shorten_tour() {
+  for (int misses = 0; misses < kSparse.most_misses && !clock_.over() && bound() < target();) {
+    misses = pass_regions(1) ? 0 : misses + 1;
+  }
 }
 
 void SparseSearch::begin_program() {
@@ -76,8 +86,9 @@ void SparseSearch::begin_program() {
   for (const Tour& tour : tours_) program_->add_edges(certify::edges_of(tour));
   program_->add_edges(pairs_of(support_));
   program_->add_edges(pairs_of(potentials::light_edges(problem_, duals_, kSparse.light)));
-  program_->add_candidates(pairs_of(potentials::near_edges(problem_, kSparse.near, kSparse.near_in_quadrant)));
-  separation_.emplace(pool_, *program_, start_.seed);
+  program_->add_candidates(
+      pairs_of(potentials::near_edges(problem_, kSparse.near, kSparse.near_in_quadrant)));
+  separation_.emplace(problem_, pool_, *program_, start_.seed);
   separation_->set_tours(tours_);
   leaf_.emplace(problem_, pool_, program_->average());
 }
@@ -109,22 +120,41 @@ void SparseSearch::cut_subtours() {
   }
 }
 
-// Rounds of cuts, until they stop to help by twice as many climbs too.
+// What a solution is worth before cuts join it: edges and rows that aren't needed are dropped, and edges of
+// least 1-trees join.
+void SparseSearch::tidy(int round) {
+  if (round % kSparse.rounds_of_edges == 0) program_->drop_edges();
+  if (round % kSparse.rounds_of_purge == 0) program_->purge(kSparse.slack);
+  if (round % kSparse.rounds_of_trees == 0) judge();
+}
+
+// What is tried where cuts stop to help: a shorter tour, whose runs are other teeth; with it larger sets
+// where the gap is large, then twice as many climbs.
+bool SparseSearch::goes_further() {
+  values_.clear();
+  for (int k = 0; k < kSparse.passes_between; k++) pass_regions(kSparse.part_of_time);
+  program_->add_edges(certify::edges_of(tours_[0]));
+  separation_->set_tours(tours_);
+  const double gap = static_cast<double>(target()) - program_->value();
+  if (!far_ && gap > certify::kCutting.large_gap * static_cast<double>(length())) {
+    far_ = true;
+    return true;
+  }
+  return ++level_ <= kSparse.levels;
+}
+
+// Rounds of cuts until they stop to help.
 void SparseSearch::cut() {
-  int level = 0;
   for (int round = 1; program_->solve(); round++) {
     note("");
     note("round");
     if (reaches()) return;
     values_.push_back(program_->value());
-    if (round % kSparse.rounds_of_trees == 0) judge();
-    if (round % kSparse.rounds_of_purge == 0) program_->purge(kSparse.slack);
-    const bool stall = stalled();
-    if (!stall && separation_->add_cuts(level) > 0) continue;
-    if (level == kSparse.levels) return;
-    level++;
-    values_.clear();
-    separation_->add_cuts(level);
+    tidy(round);
+    if (!stalled() && separation_->add_cuts(level_, far_) > 0) continue;
+    do {
+      if (!goes_further()) return;
+    } while (separation_->add_cuts(level_, far_) == 0);
   }
 }
 
@@ -138,6 +168,7 @@ void SparseSearch::run() {
     if (judge() == 0 || clock_.over() || bound() >= target()) break;
     if (!program_->solve()) break;
   }
+  shorten_tour();
   note("end");
 }
 }  // namespace sparse

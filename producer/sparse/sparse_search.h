@@ -6,6 +6,7 @@
 
 #include "ascent.h"
 #include "progress.h"
+#include "region_search.h"
 #include "sparse_leaf.h"
 #include "sparse_separation.h"
 
@@ -20,7 +21,11 @@ class SparseSearch {
  public:
   SparseSearch(const Problem& problem, SparseStart start, const certify::Clock& clock,
                certify::Progress& progress)
-      : problem_(problem), start_(std::move(start)), clock_(clock), progress_(progress), pool_(problem.nodes()) {}
+      : problem_(problem),
+        start_(std::move(start)),
+        clock_(clock),
+        progress_(progress),
+        pool_(problem.nodes()) {}
   void run();
   certify::Certificate certificate() const { return leaf_->certificate(numbers_); }
   const Tour& tour() const { return tours_[0]; }
@@ -32,9 +37,13 @@ class SparseSearch {
   void ascend();
   void find_tours();
   Tour looked_for();
-  void note_tour(const Tour& tour);
+  bool pass_regions(double part);
+  void shorten_tour();
+  Weight bound_so_far() const;
   void begin_program();
   void cut_subtours();
+  void tidy(int round);
+  bool goes_further();
   void cut();
   bool stalled() const;
   int judge();
@@ -47,13 +56,17 @@ class SparseSearch {
   const certify::Clock& clock_;
   certify::Progress& progress_;
   CutPool pool_;
-  std::vector<double> duals_;                // of the ascent
-  std::vector<potentials::Edge> support_;    // of its trees
-  std::vector<Tour> tours_;                  // the best one first
+  std::vector<double> duals_;              // of the ascent
+  std::vector<potentials::Edge> support_;  // of its trees
+  std::vector<Tour> tours_;                // the best one first
+  std::optional<RegionSearch> regions_;
+  int passes_ = 0;
   std::optional<SparseProgram> program_;
   std::optional<SparseSeparation> separation_;
   std::optional<SparseLeaf> leaf_;
   std::vector<double> values_;  // of the last rounds
+  int level_ = 0;               // as often climbs were doubled
+  bool far_ = false;            // cuts may have large sets
   Numbers numbers_;             // the best ones
   Value value_ = certify::ExactBound::nothing();
 };

@@ -2,6 +2,7 @@
 
 #include <algorithm>
 
+#include "greedy.h"
 #include "scan_cuts.h"
 #include "sparse_parameters.h"
 #include "threads.h"
@@ -10,7 +11,9 @@ namespace sparse {
 using certify::FoundComb;
 
 namespace {
-int times(double part, const Graph& graph) { return static_cast<int>(part * static_cast<double>(graph.size())); }
+int times(double part, const Graph& graph) {
+  return static_cast<int>(part * static_cast<double>(graph.size()));
+}
 }  // namespace
 
 void SparseSeparation::begin(Round& round) {
@@ -80,6 +83,21 @@ void SparseSeparation::take_combs(Round& round, const std::vector<FoundComb>& fo
   }
 }
 
+// A tour of the heavy edges of the solution, by chance. Its long links are few.
+Tour SparseSeparation::guided_tour() {
+  const Graph& graph = program_.support();
+  potentials::Neighbours neighbours;
+  for (const auto& edges : graph) {
+    neighbours.starts.push_back(static_cast<int>(neighbours.nodes.size()));
+    for (const certify::Edge& edge : edges) {
+      neighbours.nodes.push_back(edge.to);
+      neighbours.costs.push_back(-edge.value * (edge.value < 1 ? 0.5 + random_.unit() : 2));
+    }
+  }
+  neighbours.starts.push_back(static_cast<int>(neighbours.nodes.size()));
+  return potentials::greedy_tour(problem_, std::vector<double>(graph.size(), 0), neighbours);
+}
+
 // What a tour gives: runs that are crossed too little, and combs.
 struct SparseSeparation::Trial {
   const Tour* tour;
@@ -88,25 +106,32 @@ struct SparseSeparation::Trial {
   std::vector<FoundComb> found{};
 };
 
+certify::Effort SparseSeparation::effort_of(int level, bool far) const {
+  certify::Effort effort = certify::kRootEffort;
+  effort.climbs = std::max(effort.climbs, times(kSparse.climbs_of_node, program_.support())) << level;
+  effort.growths += level;
+  effort.most_cuts = std::max(effort.most_cuts, times(kSparse.cuts_of_node, program_.support()));
+  if (far) effort.reach = certify::kFarReach;
+  return effort;
+}
+
 // All tours at once. What is taken is the same for any number of threads.
-void SparseSeparation::combs(Round& round, int level) {
+void SparseSeparation::combs(Round& round, const certify::Effort& effort) {
   const Graph& graph = program_.support();
   const std::vector<NodeSet> known = known_handles();
   round.uses.assign(graph.size(), 0);
-  certify::Effort effort = certify::kRootEffort;
-  effort.climbs = std::max(effort.climbs, times(kSparse.climbs_of_node, graph)) << level;
-  effort.growths += level;
+  std::vector<Tour> tours = tours_;
+  for (int k = 0; k < kSparse.guided_tours; k++) tours.push_back(guided_tour());
   std::vector<Trial> trials;
-  for (const Tour& tour : tours_) trials.push_back({&tour, certify::Random(random_.next())});
+  for (const Tour& tour : tours) trials.push_back({&tour, certify::Random(random_.next())});
   certify::for_each_at_once(trials.size(), [&](std::size_t k) {
     const certify::Runs runs(graph, *trials[k].tour, effort.reach);
     trials[k].sets = runs.crossed_too_little(0.01);
     trials[k].found = certify::CombSearch(graph, pool_, runs, trials[k].random, effort).find(known);
   });
-  const int most = std::max(effort.most_cuts, times(kSparse.cuts_of_node, graph));
   for (const Trial& trial : trials) {
     subtours(round, trial.sets);
-    take_combs(round, trial.found, most);
+    take_combs(round, trial.found, effort.most_cuts);
   }
 }
 
@@ -118,12 +143,12 @@ int SparseSeparation::add_subtours() {
   return static_cast<int>(round.cuts.size());
 }
 
-int SparseSeparation::add_cuts(int level) {
+int SparseSeparation::add_cuts(int level, bool far) {
   Round round;
   begin(round);
   const int sets = subtours(round, small_cuts(program_.support(), 0.01));
   const int few = std::max(10, times(kSparse.least_subtours_of_node, program_.support()));
-  if (sets <= few) combs(round, level);
+  if (sets <= few) combs(round, effort_of(level, far));
   program_.add_cuts(round.cuts);
   return static_cast<int>(round.cuts.size());
 }

@@ -8,14 +8,15 @@
 namespace sparse {
 class SparseSeparation {
  public:
-  SparseSeparation(CutPool& pool, SparseProgram& program, std::uint64_t seed)
-      : pool_(pool), program_(program), random_(seed) {}
-  // The runs of these are teeth. The best one comes first.
+  SparseSeparation(const Problem& problem, CutPool& pool, SparseProgram& program, std::uint64_t seed)
+      : problem_(problem), pool_(pool), program_(program), random_(seed) {}
+  // The runs of these are teeth, and those of tours along the solution. The best one comes first.
   void set_tours(std::vector<Tour> tours) { tours_ = std::move(tours); }
   // Adds subtours and cuts of the pool. How many joined.
   int add_subtours();
-  // The same with combs, where there are few subtours. Climbs are doubled as often as the level says.
-  int add_cuts(int level);
+  // The same with combs, where there are few subtours. Climbs are doubled as often as the level says, and
+  // far sets are large ones.
+  int add_cuts(int level, bool far);
 
  private:
   struct Round {
@@ -29,10 +30,13 @@ class SparseSeparation {
   void from_pool(Round& round);
   int subtours(Round& round, const std::vector<NodeSet>& sets);
   bool take(Round& round, int cut, double least_violation);
-  void combs(Round& round, int level);
+  void combs(Round& round, const certify::Effort& effort);
+  certify::Effort effort_of(int level, bool far) const;
   void take_combs(Round& round, const std::vector<certify::FoundComb>& found, int most);
   std::vector<NodeSet> known_handles() const;
+  Tour guided_tour();
 
+  const Problem& problem_;
   CutPool& pool_;
   SparseProgram& program_;
   certify::Random random_;

@@ -9,18 +9,18 @@
 namespace certify {
 void report(const Options& options, const Ending& ending) {
   const Weight bound = std::min(ending.bound, ending.length);
-  std::cerr << "tsp-certify: length " << ending.length << ", bound " << bound
-            << " as reckoned here, leaves " << ending.leaves << ", seconds " << std::fixed
-            << std::setprecision(1) << Clock::now() << ", processor seconds " << Clock::processor() << "\n";
-  if (bound < ending.length)
-    std::cerr << "tsp-certify: a gap of " << ending.length - bound << " is left\n";
+  std::cerr << "tsp-certify: length " << ending.length << ", bound " << bound << " as reckoned here, leaves "
+            << ending.leaves << ", seconds " << std::fixed << std::setprecision(1) << Clock::now()
+            << ", processor seconds " << Clock::processor() << "\n";
+  if (bound < ending.length) std::cerr << "tsp-certify: a gap of " << ending.length - bound << " is left\n";
   if (ending.given && ending.length < *ending.given) {
     std::cerr << "tsp-certify: a shorter tour than the named one was found"
               << (options.tour_out ? "" : "; --tour-out says where it goes") << "\n";
   }
   if (ending.rounded_away) {
-    std::cerr << "tsp-certify: distances are rounded to whole numbers, and each of this tour is 0 or 1: multiply "
-                 "the coordinates by a power of ten, and say so where the length is published\n";
+    std::cerr
+        << "tsp-certify: distances are rounded to whole numbers, and each of this tour is 0 or 1: multiply "
+           "the coordinates by a power of ten, and say so where the length is published\n";
   }
   if (options.leaf) {
     std::cerr << "tsp-certify: this is a part: tsp-certify " << options.instance << " --tree "

@@ -124,7 +124,8 @@ Graph random_graph(int nodes, int tours, bool cycles, Random& random) {
 }
 
 // The relaxation with all subtours, and the combs of a list.
-double value_by_matrix(const Instance& instance, const Tour& tour, const std::vector<std::vector<NodeSet>>& combs) {
+double value_by_matrix(const Instance& instance, const Tour& tour,
+                       const std::vector<std::vector<NodeSet>>& combs) {
   CutPool pool(instance.nodes());
   certify::Relaxation relaxation(instance, pool, tour);
   relaxation.add_edges(instance.links_of(tour));
@@ -184,7 +185,8 @@ TEST_CASE("scans find a set that is crossed too little where there is one") {
       }
       small = small || (set.size() > 1 && set.size() + 1 < graph.size() && crossing_of(graph, set) < 1.99);
     }
-    const bool any = std::any_of(sets.begin(), sets.end(), [&](const NodeSet& set) { return set.size() < graph.size(); });
+    const bool any =
+        std::any_of(sets.begin(), sets.end(), [&](const NodeSet& set) { return set.size() < graph.size(); });
     CHECK(any == small);
     found += small ? 1 : 0;
   }
@@ -205,7 +207,7 @@ TEST_CASE("sparse programs have the values of programs over a matrix") {
     std::vector<int> combs;
     for (const auto& comb : kCombs) combs.push_back(pool.add_comb(comb));
     program.add_cuts(combs);
-    SparseSeparation separation(pool, program, 1);
+    SparseSeparation separation(problem, pool, program, 1);
     int cuts = 0;
     do {
       REQUIRE(program.solve());
@@ -218,7 +220,8 @@ TEST_CASE("sparse programs have the values of programs over a matrix") {
     // the numbers are worth as much, where edges of trees join
     SparseLeaf leaf(problem, pool, program.average());
     const Numbers numbers = leaf.extract(program);
-    const double bound = static_cast<double>(leaf.value(numbers, program.edges())) / static_cast<double>(leaf.scale());
+    const double bound =
+        static_cast<double>(leaf.value(numbers, program.edges())) / static_cast<double>(leaf.scale());
     CHECK(bound <= program.value() + 0.01);
     CHECK(bound > program.value() - 0.1);
   }
@@ -272,7 +275,8 @@ TEST_CASE("a search in regions shortens a tour and keeps fixed edges") {
   const std::vector<Pair> fixed{{0, 50}, {50, 120}, {200, 3}, {77, 78}};
   const Problem problem(random_points(300, random), fixed);
   const Tour tour = potentials::first_tour(problem);
-  RegionSearch search(problem, tour, 1);
+  const std::vector<double> numbers(300, 0);
+  RegionSearch search(problem, numbers, tour, 1);
   for (int pass = 0; pass < 2; pass++) {
     const double before = problem.length(search.tour());
     search.pass_over(regions_of(problem, 100, pass), [] { return false; });
@@ -287,7 +291,8 @@ TEST_CASE("a search in regions shortens a tour and keeps fixed edges") {
 TEST_CASE("a sparse search bounds all tours") {
   Random random(7);
   for (const int nodes : {9, 12, 60}) {
-    const Problem problem(random_points(nodes, random), nodes == 12 ? std::vector<Pair>{{0, 5}} : std::vector<Pair>{});
+    const Problem problem(random_points(nodes, random),
+                          nodes == 12 ? std::vector<Pair>{{0, 5}} : std::vector<Pair>{});
     const certify::Clock clock(0);
     certify::Progress progress;
     SparseSearch search(problem, {}, clock, progress);
