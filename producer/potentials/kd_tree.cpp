@@ -105,7 +105,7 @@ double KdTree::least(int box, int i) const {
 bool KdTree::is_in_quadrant(int i, int j, int quadrant) const {
   const double apart[] = {points_.x[j] - points_.x[i], points_.y[j] - points_.y[i],
                           points_.z[j] - points_.z[i]};
-  for (int axis = 0; axis < points_.axes; axis++) {
+  for (int axis = 0; axis < std::min(points_.axes, 3); axis++) {
     if ((quadrant >> axis & 1) != 0 ? apart[axis] > 0 : apart[axis] < 0) return false;
   }
   return true;
@@ -113,7 +113,7 @@ bool KdTree::is_in_quadrant(int i, int j, int quadrant) const {
 
 bool KdTree::misses_quadrant(int i, const Box& box, int quadrant) const {
   const double at[] = {points_.x[i], points_.y[i], points_.z[i]};
-  for (int axis = 0; axis < points_.axes; axis++) {
+  for (int axis = 0; axis < std::min(points_.axes, 3); axis++) {
     if ((quadrant >> axis & 1) != 0 ? box.low[axis] > at[axis] : box.high[axis] < at[axis]) return true;
   }
   return false;

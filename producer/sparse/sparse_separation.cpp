@@ -123,6 +123,7 @@ void SparseSeparation::combs(Round& round, const certify::Effort& effort) {
   std::vector<Tour> tours = tours_;
   for (int k = 0; k < kSparse.guided_tours; k++) tours.push_back(guided_tour());
   std::vector<Trial> trials;
+  trials.reserve(tours.size());
   for (const Tour& tour : tours) trials.push_back({&tour, certify::Random(random_.next())});
   certify::for_each_at_once(trials.size(), [&](std::size_t k) {
     const certify::Runs runs(graph, *trials[k].tour, effort.reach);
