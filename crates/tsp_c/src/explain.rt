@@ -6,10 +6,9 @@ ghost use Rattle.tsp_c.specs.Texts.{ExplainsTexts, IsExplained};
 use crate::refused::{certificate_of, claim_of, layout_of};
 use std::alloc::{AllocError, Global};
 use std::str;
-use tsp_explain::Names;
 use tsp_judge::{ReadFault, RunFault, Status, Watched};
 use tsp_perform::{explain_fault, explain_outcome, perform};
-use tsp_task::Task;
+use tsp_task::{Request, Task};
 
 /// The calls that are explained, by their numbers.
 const SHOW: u32 = 0;
@@ -54,7 +53,7 @@ pub(crate) fn explained(alloc: Global, numbers: Numbers, texts: Texts<'_>) -> (u
     let Some(task) = task_of(numbers, texts) else {
         return (Status::Refused as u8, text);
     };
-    match explain(alloc, &mut text, &task) {
+    match explain(alloc, &mut text, task) {
         Ok(()) => (Status::Yes as u8, text),
         Err(AllocError) => {
             text.clear();
@@ -70,98 +69,66 @@ fn task_of<'a>(numbers: Numbers, texts: Texts<'a>) -> Option<Task<Named<'a>>>
     let (instance, solution, certificate) = texts_with_names(texts);
     let number = numbers.number;
     match numbers.call {
-        SHOW => Some(Task::Show(instance)),
-        CONVERT if number <= 9 => Some(Task::Convert(instance, layout_of(number))),
-        CHECK if number <= 2 && numbers.has_claim <= 1 => {
-            let claimed = claim_of(numbers.has_claim, numbers.claimed);
-            Some(match certificate_of(number) {
-                None => Task::Check(instance, solution, claimed),
-                Some(by) => Task::CheckBy(by, instance, solution, certificate, claimed),
-            })
-        }
-        BOUND => Some(Task::Bound(certificate_of(number)?, instance, certificate)),
+        SHOW => Some(Task::Show { file: instance }),
+        CONVERT if number <= 9 => Some(Task::Convert {
+            file: instance,
+            layout: layout_of(number),
+        }),
+        CHECK if number <= 2 && numbers.has_claim <= 1 => Some(Task::Check {
+            instance,
+            solution,
+            certificate: match certificate_of(number) {
+                Some(by) => Some((by, certificate)),
+                None => None,
+            },
+            claimed: claim_of(numbers.has_claim, numbers.claimed),
+        }),
+        BOUND => Some(Task::Bound {
+            instance,
+            certificate: (certificate_of(number)?, certificate),
+        }),
         _ => None,
     }
 }
 
 /// Appends the explanation of the result of a task on texts.
-fn explain(alloc: Global, text: &mut Vec<u8>, task: &Task<Named<'_>>) -> Result<(), AllocError> {
-    let mut readers = opened(task);
+fn explain(alloc: Global, text: &mut Vec<u8>, task: Task<Named<'_>>) -> Result<(), AllocError> {
+    let mut readers = task.map(|file| Watched::new(file.bytes));
     let mut report = Watched::new(Vec::new(alloc));
     let ended = perform(alloc, &mut readers, &mut report);
     drop(report);
+    let request = Request::Task(task);
+    let names = request.map(|file| file.name);
     match ended {
-        Ok(outcome) => explain_outcome(alloc, text, names_of(task), &outcome),
-        Err(fault) => explain_ended(alloc, text, task, fault),
+        Ok(outcome) => explain_outcome(alloc, text, &names, &outcome),
+        Err(fault) => {
+            let again = again(&request, fault)?;
+            explain_fault(alloc, text, &names, again, None, fault)
+        }
     }
 }
 
-/// The task, with a reader of each text.
-fn opened<'a>(task: &Task<Named<'a>>) -> Task<Watched<&'a [u8]>> {
-    match task {
-        Task::Show(file) => Task::Show(Watched::new(file.bytes)),
-        Task::Convert(file, to) => Task::Convert(Watched::new(file.bytes), *to),
-        Task::Check(instance, solution, claimed) => Task::Check(
-            Watched::new(instance.bytes),
-            Watched::new(solution.bytes),
-            *claimed,
-        ),
-        Task::CheckBy(by, instance, solution, certificate, claimed) => Task::CheckBy(
-            *by,
-            Watched::new(instance.bytes),
-            Watched::new(solution.bytes),
-            Watched::new(certificate.bytes),
-            *claimed,
-        ),
-        Task::Bound(by, instance, certificate) => Task::Bound(
-            *by,
-            Watched::new(instance.bytes),
-            Watched::new(certificate.bytes),
-        ),
-    }
-}
-
-/// Appends what explains a fault. One for which there was no memory can't be explained.
-fn explain_ended(
-    alloc: Global,
-    text: &mut Vec<u8>,
-    task: &Task<Named<'_>>,
+/// The text that has a fault, where one has it.
+///
+/// # Errors
+///
+/// Out of memory, since a fault for which there was no memory can't be explained.
+fn again<'a>(
+    request: &Request<'_, Named<'a>>,
     fault: RunFault,
-) -> Result<(), AllocError> {
-    let number = match fault {
+) -> Result<Option<&'a [u8]>, AllocError> {
+    match fault {
         RunFault::File {
             file: _,
             fault: ReadFault::OutOfMemory | ReadFault::Device,
         }
         | RunFault::OutOfMemory
-        | RunFault::Write(_) => return Err(AllocError),
-        RunFault::File { file, fault: _ } => file,
-        RunFault::WrongKind | RunFault::Relayout(_) => 1,
-    };
-    match task.file(number) {
-        None => Ok(()),
-        Some((_, file)) => explain_fault(alloc, text, task, file.name, Some(file.bytes), fault),
-    }
-}
-
-/// What the texts of a task are called. The certificate is the last one.
-fn names_of<'a>(task: &Task<Named<'a>>) -> Names<'a> {
-    let second = name_at(task, 2);
-    Names {
-        instance: name_at(task, 1),
-        solution: second,
-        certificate: match task.file(3) {
-            Some((_, certificate)) => certificate.name,
-            None => second,
+        | RunFault::Write(_) => Err(AllocError),
+        RunFault::File { file, fault: _ } => match request.file(file) {
+            Some((_, file)) => Ok(Some(file.bytes)),
+            None => Ok(None),
         },
-    }
-}
-
-/// What the text with this number is called; nothing where a task has fewer.
-fn name_at<'a>(task: &Task<Named<'a>>, number: u32) -> &'a str {
-    match task.file(number) {
-        Some((_, file)) => file.name,
-        None => "",
+        RunFault::WrongKind | RunFault::Relayout(_) => Ok(None),
     }
 }
 

@@ -1,4 +1,4 @@
 pub mod Examples
 pub mod Grammar
-pub mod Task
+pub mod Requests
 pub mod CommandWords

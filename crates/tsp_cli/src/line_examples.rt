@@ -9,12 +9,12 @@ ghost use Rattle.tsp_cli.specs.Grammar.{tsp};
 ghost use Rattle.tsp_format.specs.declared.layout.Layout.{Layout};
 ghost use Rattle.tsp_cli.specs.declared.words.Job.{Job};
 ghost use Rattle.tsp_cli.specs.declared.words.Verb.TheVariants as verbs;
-ghost use Rattle.tsp_cli.specs.declared.task.Place.{Place};
-ghost use Rattle.tsp_task.specs.declared.task.Task.TheVariants as tasks;
-ghost use Rattle.tsp_cli.specs.declared.task.Comparison.{Comparison};
-ghost use Rattle.tsp_cli.specs.declared.task.Work.TheVariants as works;
+ghost use Rattle.tsp_cli.specs.declared.request.Place.{Place};
+ghost use Rattle.tsp_task.specs.declared.request.Task.TheVariants as tasks;
+ghost use Rattle.tsp_task.specs.declared.request.Comparison.{Comparison};
+ghost use Rattle.tsp_task.specs.declared.request.Request.TheVariants as requests;
 ghost use Rattle.tsp_reason.specs.declared.certificate.Certificate.TheVariants as certificates;
-ghost use Rattle.tsp_cli.specs.Task.{IsTask, IsWork};
+ghost use Rattle.tsp_cli.specs.Requests.{IsTask, IsRequest};
 ghost use Rattle.tsp_cli.specs.Examples.{IsWholeLine, found_value, all_values};
 
 /// A whole line of each verb, with each of its options.
@@ -77,29 +77,31 @@ pub fn examples_of_versions()
     ensures help { fault_of tsp (codes "help" ∷ []) ≡ kinds.DisplayHelp ∷ kinds.InvalidSubcommand ∷ [] }
 {}
 
-/// With both certificates a check, a comparison or a bound is no work: with either one it is
+/// With both certificates nothing is checked, compared or bounded: with either one it is
 /// without the other, and the plain check is without both. A bound has one of them.
 pub fn examples_of_two_certificates()
     ensures plain_with_potentials { (job : Job) (a b : Place) (claimed : Option ℤ)
-        → job.potentials ≢ None → ¬ IsTask job (tasks.Check a b claimed) }
+        → job.potentials ≢ None → ¬ IsTask job (tasks.Check a b None claimed) }
     ensures plain_with_branches { (job : Job) (a b : Place) (claimed : Option ℤ)
-        → job.branches ≢ None → ¬ IsTask job (tasks.Check a b claimed) }
+        → job.branches ≢ None → ¬ IsTask job (tasks.Check a b None claimed) }
     ensures potentials_with_branches { (job : Job) (a b c : Place) (claimed : Option ℤ)
-        → job.branches ≢ None → ¬ IsTask job (tasks.CheckBy certificates.Potentials a b c claimed) }
+        → job.branches ≢ None
+        → ¬ IsTask job (tasks.Check a b (Some (certificates.Potentials, c)) claimed) }
     ensures branches_with_potentials { (job : Job) (a b c : Place) (claimed : Option ℤ)
-        → job.potentials ≢ None → ¬ IsTask job (tasks.CheckBy certificates.Branches a b c claimed) }
+        → job.potentials ≢ None
+        → ¬ IsTask job (tasks.Check a b (Some (certificates.Branches, c)) claimed) }
     ensures bound_with_branches { (job : Job) (a b : Place) → job.branches ≢ None
-        → ¬ IsTask job (tasks.Bound certificates.Potentials a b) }
+        → ¬ IsTask job (tasks.Bound a (certificates.Potentials, b)) }
     ensures bound_with_potentials { (job : Job) (a b : Place) → job.potentials ≢ None
-        → ¬ IsTask job (tasks.Bound certificates.Branches a b) }
-    ensures compared_by_potentials { (job : Job) (c : Comparison) (a : Place) → job.branches ≢ None
-        → c.certificate ≡ Some (certificates.Potentials, a) → ¬ IsWork job (works.Compare c) }
-    ensures compared_by_branches { (job : Job) (c : Comparison) (a : Place) → job.potentials ≢ None
-        → c.certificate ≡ Some (certificates.Branches, a) → ¬ IsWork job (works.Compare c) }
-    ensures compared_by_none { (job : Job) (c : Comparison)
-        → job.potentials ≢ None → c.certificate ≡ None → ¬ IsWork job (works.Compare c) }
-    ensures another_verb { (job : Job) (c : Comparison)
-        → job.verb ≡ Some verbs.Check → ¬ IsWork job (works.Compare c) }
+        → ¬ IsTask job (tasks.Bound a (certificates.Branches, b)) }
+    ensures compared_by_potentials { (job : Job) (c : Comparison Place) (a : Place) → job.branches ≢ None
+        → c.certificate ≡ Some (certificates.Potentials, a) → ¬ IsRequest job (requests.Compare c) }
+    ensures compared_by_branches { (job : Job) (c : Comparison Place) (a : Place) → job.potentials ≢ None
+        → c.certificate ≡ Some (certificates.Branches, a) → ¬ IsRequest job (requests.Compare c) }
+    ensures compared_by_none { (job : Job) (c : Comparison Place)
+        → job.potentials ≢ None → c.certificate ≡ None → ¬ IsRequest job (requests.Compare c) }
+    ensures another_verb { (job : Job) (c : Comparison Place)
+        → job.verb ≡ Some verbs.Check → ¬ IsRequest job (requests.Compare c) }
     ensures shown { (job : Job) (a : Place)
         → job.verb ≡ Some verbs.Check → ¬ IsTask job (tasks.Show a) }
     ensures converted { (job : Job) (a : Place) (to : Option Layout) → job.verb ≡ Some verbs.Check

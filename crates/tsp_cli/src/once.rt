@@ -1,13 +1,15 @@
 //! Standard input, which gives its bytes once.
 
 ghost use Rattle.std.specs.Prelude.{◌≡◌};
-ghost use Rattle.tsp_cli.specs.Task.{GivesWork, input, inputs_of, inputs_of_work, inputs_at};
+ghost use Rattle.tsp_cli.specs.Requests.{GivesRequest, input, inputs_in, inputs_of, inputs_of_request, inputs_at};
+ghost use Rattle.tsp_task.specs.Files.{file_named};
 
-use crate::task::{Place, TaskFault, Work, named_work};
+use crate::request::{Place, RequestFault, named_request};
 use crate::words::Job;
-use tsp_task::Task;
+use tsp_reason::Certificate;
+use tsp_task::{Request, Task};
 
-/// The work that a job asks for. A path `-` is standard input, which one file at most can be. With
+/// What a job asks for. A path `-` is standard input, which one file at most can be. With
 /// no verb, standard input is shown.
 ///
 /// # Errors
@@ -17,29 +19,25 @@ use tsp_task::Task;
 /// and branches are named; `NoCertificate` where a bound has neither; `LineEndInPath` where the
 /// path of a solution that is compared contains byte 10; `MissingPath` where a path is missing, as
 /// in no job that words ask for.
-pub fn work_of(job: &Job) -> Result<Work<'_>, TaskFault>
-    ensures { GivesWork job.now result }
+pub fn request_of(job: &Job) -> Result<Request<'_, Place<'_>>, RequestFault>
+    ensures { GivesRequest job.now result }
 {
-    let work = named_work(job)?;
-    if inputs_of_work(&work) > 1 {
-        return Err(TaskFault::InputTwice);
+    let request = named_request(job)?;
+    if inputs_of_request(&request) > 1 {
+        return Err(RequestFault::InputTwice);
     }
-    Ok(work)
+    Ok(request)
 }
 
-/// How many files of a work are standard input.
-fn inputs_of_work(work: &Work<'_>) -> u128
-    ensures { result ≡ inputs_of_work work.now }
+/// How many files of a request are standard input.
+fn inputs_of_request(request: &Request<'_, Place<'_>>) -> u128
+    ensures { result ≡ inputs_of_request request.now }
 {
-    match work {
-        Work::Task(task) => u128::from(inputs_of(task)),
-        Work::Compare(comparison) => {
-            let certificate = match comparison.certificate {
-                None => 0,
-                Some((_, certificate)) => input(certificate),
-            };
+    match request {
+        Request::Task(task) => u128::from(inputs_of(task)),
+        Request::Compare(comparison) => {
             u128::from(input(comparison.instance))
-                + u128::from(certificate)
+                + u128::from(input_of(&comparison.certificate))
                 + u128::from(inputs_at(comparison.solutions))
         }
     }
@@ -50,12 +48,27 @@ fn inputs_of(task: &Task<Place<'_>>) -> u32
     ensures { result ≡ inputs_of task.now }
 {
     match task {
-        Task::Show(file) | Task::Convert(file, _) => input(*file),
-        Task::Check(instance, solution, _) => input(*instance) + input(*solution),
-        Task::CheckBy(_, instance, solution, certificate, _) => {
-            input(*instance) + input(*solution) + input(*certificate)
-        }
-        Task::Bound(_, instance, certificate) => input(*instance) + input(*certificate),
+        Task::Show { file } | Task::Convert { file, .. } => input(*file),
+        Task::Check {
+            instance,
+            solution,
+            certificate,
+            ..
+        } => input(*instance) + input(*solution) + input_of(certificate),
+        Task::Bound {
+            instance,
+            certificate: (_, file),
+        } => input(*instance) + input(*file),
+    }
+}
+
+/// 1 where the file of a certificate is standard input, and else 0.
+fn input_of(certificate: &Option<(Certificate, Place<'_>)>) -> u32
+    ensures { result ≡ inputs_in (file_named certificate.now) }
+{
+    match certificate {
+        Some((_, file)) => input(*file),
+        None => 0,
     }
 }
 

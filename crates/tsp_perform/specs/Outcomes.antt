@@ -1,5 +1,6 @@
--- A task done on its files: what that does to their readers and to the writer, and what it comes to.
+-- A task done on its files, and solutions compared: what that does to readers and to the writer, and what it comes to.
 use Rattle.std.specs.Prelude.{◌≡◌, ℕ, Bool, true, List, Option, None, Some, Result, Ok, Err}
+use Rattle.std.specs.declared.io.Error.{Error}
 use Rattle.tsp_judge.specs.declared.Watched.{Watched}
 use Rattle.tsp_judge.specs.Watched.{turn_of}
 use Rattle.tsp_judge.specs.Turn.{TakesAtMost}
@@ -12,9 +13,14 @@ use Rattle.tsp_judge.specs.ShowRun.{IsShowRun}
 use Rattle.tsp_judge.specs.ConvertRun.{IsConvertRun}
 use Rattle.tsp_judge.specs.Verdicts.{is_yes, is_bound_yes}
 use Rattle.tsp_judge.specs.Yes.{IsRunOf}
+use Rattle.tsp_judge.specs.CheckRun.{Given}
+use Rattle.tsp_judge.specs.CompareRun.{IsCompareRun}
+use Rattle.tsp_judge.specs.declared.compared.Compared.{Compared}
 use Rattle.tsp_judge.specs.BoundRun.{IsBoundRunOf}
-use Rattle.tsp_task.specs.declared.task.Task.{Task}
-use Rattle.tsp_task.specs.declared.task.Task.TheVariants.{Show, Convert, Check, CheckBy, Bound}
+use Rattle.tsp_reason.specs.declared.certificate.Certificate.{Certificate}
+use Rattle.tsp_task.specs.declared.request.Comparison.{Comparison}
+use Rattle.tsp_task.specs.declared.request.Task.{Task}
+use Rattle.tsp_task.specs.declared.request.Task.TheVariants.{Show, Convert, Check, Bound}
 use Rattle.tsp_perform.specs.declared.outcome.Outcome.{Outcome}
 use Rattle.tsp_perform.specs.declared.outcome.Outcome.TheVariants as outcomes
 
@@ -37,6 +43,14 @@ abbrev pub outcome_of_bound : Result Bounded RunFault → Result Outcome RunFaul
 outcome_of_bound (Ok bounded) = Ok (outcomes.Bounded bounded)
 outcome_of_bound (Err fault) = Err fault
 
+-- Q of the certificate that is named and of the turn of its reader, or of none where none is named
+abbrev pub TakesNamed : {R : Type 0} → (R → Option (List ℕ)) → Option (Certificate × Watched R) → Option (Certificate × Watched R)
+    → (Given → Type 0) → Type 0
+TakesNamed remaining None None Q = Q None
+TakesNamed remaining (Some named) (Some left) Q = TakesAtMost most_taken (turn_of remaining named.1 left.1)
+    (λ turn. Q (Some (named.0, turn)))
+TakesNamed remaining _ _ Q = ⊥
+
 -- The task is done on these readers, as they were and as they are left, in the order in which it has them.
 abbrev pub IsDone : {R : Type 0} → (R → Option (List ℕ)) → Task (Watched R) → Task (Watched R) → Sink
     → Result Outcome RunFault → Type 0
@@ -45,19 +59,23 @@ IsDone remaining (Show file) (Show left) sink outcome = TakesAtMost most_taken (
 IsDone remaining (Convert file to) (Convert left same) sink outcome = TakesAtMost most_taken (turn_of remaining file left)
     (λ turn.
     (ended : Result (Unit {0}) RunFault) × (outcome ≡ outcome_of_writing ended) × IsConvertRun to turn sink ended)
-IsDone remaining (Check instance solution claimed) (Check instance_left solution_left same) sink outcome =
+IsDone remaining (Check instance solution certificate claimed) (Check instance_left solution_left certificate_left same)
+    sink outcome =
     TakesAtMost most_taken (turn_of remaining instance instance_left) (λ first.
     TakesAtMost most_taken (turn_of remaining solution solution_left) (λ second.
-    (ended : Result Judged RunFault) × (outcome ≡ outcome_of_check ended) × IsRunOf None claimed first second sink ended))
-IsDone remaining (CheckBy by instance solution certificate claimed)
-    (CheckBy kept instance_left solution_left certificate_left same) sink outcome =
+    TakesNamed remaining certificate certificate_left (λ given.
+    (ended : Result Judged RunFault) × (outcome ≡ outcome_of_check ended) × IsRunOf given claimed first second sink ended)))
+IsDone remaining (Bound instance certificate) (Bound instance_left certificate_left) sink outcome =
     TakesAtMost most_taken (turn_of remaining instance instance_left) (λ first.
-    TakesAtMost most_taken (turn_of remaining solution solution_left) (λ second.
-    TakesAtMost most_taken (turn_of remaining certificate certificate_left) (λ third.
-    (ended : Result Judged RunFault) × (outcome ≡ outcome_of_check ended)
-    × IsRunOf (Some (by, third)) claimed first second sink ended)))
-IsDone remaining (Bound by instance certificate) (Bound kept instance_left certificate_left) sink outcome =
-    TakesAtMost most_taken (turn_of remaining instance instance_left) (λ first.
-    TakesAtMost most_taken (turn_of remaining certificate certificate_left) (λ second.
-    (ended : Result Bounded RunFault) × (outcome ≡ outcome_of_bound ended) × IsBoundRunOf by first second sink ended))
+    TakesAtMost most_taken (turn_of remaining certificate.1 certificate_left.1) (λ second.
+    (ended : Result Bounded RunFault) × (outcome ≡ outcome_of_bound ended)
+    × IsBoundRunOf certificate.0 first second sink ended))
 IsDone remaining _ _ sink outcome = ⊥
+
+-- The solutions are compared by these readers, as they were and as they are left: that of the instance, and that of the
+-- certificate where one is named. Each solution is one that opening it by its index gives.
+abbrev pub IsCompared : {R : Type 0} → (R → Option (List ℕ)) → (R → List ℕ → Result ℕ Error → List ℕ → R → Type 0)
+    → (ℕ → R → Type 0) → List (List ℕ) → Comparison (Watched R) → Comparison (Watched R) → Sink → Result Compared RunFault → Type 0
+IsCompared remaining gives opens names old new sink answer = TakesAtMost most_taken (turn_of remaining old.instance new.instance)
+    (λ first. TakesNamed remaining old.certificate new.certificate (λ given.
+    IsCompareRun remaining gives opens names given first sink answer))

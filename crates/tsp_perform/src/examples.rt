@@ -12,7 +12,7 @@ ghost use Rattle.tsp_judge.specs.Turn.{Turn};
 ghost use Rattle.tsp_judge.specs.Yes.{IsRunOf};
 ghost use Rattle.tsp_reason.specs.declared.certificate.Certificate.{Certificate};
 ghost use Rattle.tsp_perform.specs.declared.outcome.Outcome.{Outcome};
-ghost use Rattle.tsp_task.specs.declared.task.Task.TheVariants as tasks;
+ghost use Rattle.tsp_task.specs.declared.request.Task.TheVariants as tasks;
 ghost use Rattle.tsp_perform.specs.Outcomes.{IsDone, outcome_of_bound, outcome_of_check};
 
 use std::io::Read;
@@ -22,18 +22,19 @@ use std::io::Read;
 pub fn examples_of_done_tasks<R: Read>()
     ensures claimed { (instance solution instance_left solution_left : Watched R) (claimed : Option ℤ) (sink : Sink)
         (outcome : Result Outcome RunFault)
-        → IsDone R.remaining (tasks.Check instance solution claimed) (tasks.Check instance_left solution_left claimed) sink outcome
+        → IsDone R.remaining (tasks.Check instance solution None claimed)
+        (tasks.Check instance_left solution_left None claimed) sink outcome
         → (first second : Turn) × (ended : Result Judged RunFault) × (outcome ≡ outcome_of_check ended)
         × IsRunOf None claimed first second sink ended }
     ensures certified { (by : Certificate) (instance solution certificate instance_left solution_left certificate_left : Watched R)
         (claimed : Option ℤ) (sink : Sink) (outcome : Result Outcome RunFault)
-        → IsDone R.remaining (tasks.CheckBy by instance solution certificate claimed)
-        (tasks.CheckBy by instance_left solution_left certificate_left claimed) sink outcome
+        → IsDone R.remaining (tasks.Check instance solution (Some (by, certificate)) claimed)
+        (tasks.Check instance_left solution_left (Some (by, certificate_left)) claimed) sink outcome
         → (first second third : Turn) × (ended : Result Judged RunFault) × (outcome ≡ outcome_of_check ended)
         × IsRunOf (Some (by, third)) claimed first second sink ended }
     ensures bounded { (by : Certificate) (instance certificate instance_left certificate_left : Watched R) (sink : Sink)
         (outcome : Result Outcome RunFault)
-        → IsDone R.remaining (tasks.Bound by instance certificate) (tasks.Bound by instance_left certificate_left) sink outcome
+        → IsDone R.remaining (tasks.Bound instance (by, certificate)) (tasks.Bound instance_left (by, certificate_left)) sink outcome
         → (first second : Turn) × (ended : Result Bounded RunFault) × (outcome ≡ outcome_of_bound ended)
         × IsBoundRunOf by first second sink ended }
 {}

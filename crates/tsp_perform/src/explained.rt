@@ -1,17 +1,20 @@
-//! What the outcome or the fault of a task means, for a person.
+//! What the outcome or the fault of a request means, for a person. A request of names has what the
+//! user calls each of its files.
 
 ghost use Rattle.std.specs.Io.{StartsWith};
 
 use crate::outcome::Outcome;
 use std::alloc::{AllocError, Global};
+use std::io;
 use std::io::Read;
 use tsp_explain::{
     Files, Names, explain_bound, explain_file, explain_lines, explain_verdict, explain_wrong_kind,
-    relayout_sentence, write_sentence,
+    push_error, relayout_sentence, write_sentence,
 };
-use tsp_judge::{Bounded, Judged, RunFault};
-use tsp_reason::Role;
-use tsp_task::Task;
+use tsp_file::File;
+use tsp_judge::{Basis, BoundVerdict, Common, RunFault, Verdict, WriteFault};
+use tsp_reason::{Certificate, Role};
+use tsp_task::{Request, Task};
 
 /// Appends what explains the line `no`, from the files that were judged, and after `yes` whether a
 /// comment of the solution claims another length.
@@ -19,91 +22,178 @@ use tsp_task::Task;
 /// # Errors
 ///
 /// Out of memory; part of the explanation may be appended then.
-pub fn explain_outcome(
+pub fn explain_outcome<'a>(
     alloc: Global,
     text: &mut Vec<u8>,
-    names: Names<'_>,
-    outcome: &Outcome,
+    names: &Request<'_, &'a str>,
+    outcome: &'a Outcome,
 ) -> Result<(), AllocError>
     ensures { StartsWith text.new.items text.old.items }
 {
     match outcome {
         Outcome::Done => Ok(()),
         Outcome::Judged(judged) => {
-            explain_verdict(alloc, text, judged_files(names, judged), judged.verdict)
+            let files = Files {
+                names: names_of(names, ""),
+                instance: &judged.instance,
+                solution: Some(&judged.solution),
+                certificate: file_of(&judged.certificate),
+            };
+            explain_verdict(alloc, text, files, judged.verdict)
         }
         Outcome::Bounded(bounded) => {
-            explain_bound(alloc, text, bounded_files(names, bounded), bounded.found)
+            let files = Files {
+                names: names_of(names, ""),
+                instance: &bounded.instance,
+                solution: None,
+                certificate: Some(&bounded.certificate),
+            };
+            explain_bound(alloc, text, files, bounded.found)
         }
     }
 }
 
-/// The files of a solution that was judged.
-fn judged_files<'a>(names: Names<'a>, judged: &'a Judged) -> Files<'a> {
-    Files {
-        names,
-        instance: &judged.instance,
-        solution: Some(&judged.solution),
-        certificate: match &judged.certificate {
-            Some((_, certificate)) => Some(certificate),
-            None => None,
-        },
-    }
-}
-
-/// The files of a bound.
-fn bounded_files<'a>(names: Names<'a>, bounded: &'a Bounded) -> Files<'a> {
-    Files {
-        names,
-        instance: &bounded.instance,
-        solution: None,
-        certificate: Some(&bounded.certificate),
-    }
-}
-
-/// Appends what explains the fault of a task. `name` is what the user calls the file that has the
-/// fault, or the first one where none has it; `again` is that file, to be read once more, where it
-/// can be.
+/// Appends what explains why no solution of a comparison was opened, where none was.
 ///
 /// # Errors
 ///
 /// Out of memory; part of the explanation may be appended then.
-pub fn explain_fault<F, R: Read + Drop>(
+pub fn explain_basis<'a>(
     alloc: Global,
     text: &mut Vec<u8>,
-    task: &Task<F>,
-    name: &str,
+    names: &Request<'_, &'a str>,
+    common: &'a Common,
+) -> Result<(), AllocError>
+    ensures { StartsWith text.new.items text.old.items }
+{
+    let Basis::No(reason) = common.basis else {
+        return Ok(());
+    };
+    let files = Files {
+        names: names_of(names, ""),
+        instance: &common.instance,
+        solution: None,
+        certificate: file_of(&common.certificate),
+    };
+    explain_bound(alloc, text, files, BoundVerdict::No(reason))
+}
+
+/// A solution that is compared.
+#[derive(Clone, Copy)]
+pub struct Solution<'a> {
+    /// What the user calls its file.
+    pub name: &'a str,
+    pub file: &'a File,
+    pub verdict: Verdict,
+}
+
+/// Appends what explains the verdict on a solution that is compared, as `explain_outcome` does.
+///
+/// # Errors
+///
+/// Out of memory; part of the explanation may be appended then.
+pub fn explain_solution<'a>(
+    alloc: Global,
+    text: &mut Vec<u8>,
+    names: &Request<'_, &'a str>,
+    common: &'a Common,
+    solution: Solution<'a>,
+) -> Result<(), AllocError>
+    ensures { StartsWith text.new.items text.old.items }
+{
+    let files = Files {
+        names: names_of(names, solution.name),
+        instance: &common.instance,
+        solution: Some(solution.file),
+        certificate: file_of(&common.certificate),
+    };
+    explain_verdict(alloc, text, files, solution.verdict)
+}
+
+/// Appends what explains a fault. `again` is the file that has it, to be read once more, where it
+/// can be; `error` is what the system said of a write that failed.
+///
+/// # Errors
+///
+/// Out of memory; part of the explanation may be appended then.
+pub fn explain_fault<R: Read + Drop>(
+    alloc: Global,
+    text: &mut Vec<u8>,
+    names: &Request<'_, &str>,
     again: Option<R>,
+    error: Option<&io::Error>,
     fault: RunFault,
 ) -> Result<(), AllocError>
     ensures { StartsWith text.new.items text.old.items }
 {
     match fault {
         RunFault::File { file, fault } => {
-            explain_file(alloc, text, name, given_for(task, file), again, fault)
+            let (given, name) = named(names, file);
+            explain_file(alloc, text, name, given, again, fault)
         }
-        RunFault::WrongKind => explain_wrong_kind(alloc, text, name, is_bound(task)),
-        RunFault::Write(fault) => explain_lines(alloc, text, write_sentence(fault)),
-        RunFault::OutOfMemory => explain_lines(
-            alloc,
-            text,
-            "There is no memory for what is to be done.",
-        ),
+        RunFault::WrongKind => {
+            let (_, name) = named(names, 1);
+            explain_wrong_kind(alloc, text, name, is_bound(names))
+        }
+        RunFault::Write(fault) => explain_write(alloc, text, fault, error),
+        RunFault::OutOfMemory => {
+            explain_lines(alloc, text, "There is no memory for what is to be done.")
+        }
         RunFault::Relayout(fault) => explain_lines(alloc, text, relayout_sentence(fault)),
     }
 }
 
-/// What the file with this number is given for, or `None` where it may be any.
-fn given_for<F>(task: &Task<F>, file: u32) -> Option<Role> {
-    let (given, _) = task.file(file)?;
-    given
+/// Appends what explains that a text could not be written, and what the system said of that.
+fn explain_write(
+    alloc: Global,
+    text: &mut Vec<u8>,
+    fault: WriteFault,
+    error: Option<&io::Error>,
+) -> Result<(), AllocError>
+    ensures { StartsWith text.new.items text.old.items }
+{
+    explain_lines(alloc, text, write_sentence(fault))?;
+    match error {
+        None => Ok(()),
+        Some(error) => push_error(alloc, text, error),
+    }
 }
 
-/// Whether the task bounds tours.
-fn is_bound<F>(task: &Task<F>) -> bool {
-    match task {
-        Task::Bound(_, _, _) => true,
-        Task::Show(_) | Task::Convert(_, _) | Task::Check(_, _, _) | Task::CheckBy(_, _, _, _, _) =>
-            { false }
+/// What the file with this number is given for, and what it is called.
+fn named<'a>(names: &Request<'_, &'a str>, number: u32) -> (Option<Role>, &'a str) {
+    match names.file(number) {
+        Some((given, name)) => (given, *name),
+        None => (None, ""),
     }
+}
+
+/// What the files are called by what they are given for. `solution` is the one that is compared.
+fn names_of<'a>(names: &Request<'_, &'a str>, solution: &'a str) -> Names<'a> {
+    let mut all = Names {
+        instance: "",
+        solution,
+        certificate: "",
+    };
+    for number in 1..=3 {
+        match named(names, number) {
+            (Some(Role::Instance), name) => all.instance = name,
+            (Some(Role::Solution), name) => all.solution = name,
+            (Some(Role::Potentials | Role::Branches), name) => all.certificate = name,
+            (None, _) => {}
+        }
+    }
+    all
+}
+
+/// The file of a certificate, where one was read.
+fn file_of(certificate: &Option<(Certificate, File)>) -> Option<&File> {
+    match certificate {
+        Some((_, file)) => Some(file),
+        None => None,
+    }
+}
+
+/// Whether tours are bounded, and no solution is judged.
+fn is_bound<F>(request: &Request<'_, F>) -> bool {
+    matches!(request, Request::Task(Task::Bound { .. }))
 }

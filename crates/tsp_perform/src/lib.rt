@@ -1,8 +1,8 @@
-//! A task on files that are read, done by the call of its verb, and explained to a person.
+//! A request on readers of its files, done by the call of its verb, and explained to a person.
 //!
 //! ```text
 //! let outcome = perform(alloc, &mut task, &mut out)?;
-//! explain_outcome(alloc, &mut text, names, &outcome)?;
+//! explain_outcome(alloc, &mut text, &names, &outcome)?;
 //! ```
 #![tactic(auto)]
 
@@ -11,5 +11,5 @@ mod explained;
 mod outcome;
 
 pub use examples::examples_of_done_tasks;
-pub use explained::{explain_fault, explain_outcome};
-pub use outcome::{Outcome, is_yes_outcome, perform};
+pub use explained::{Solution, explain_basis, explain_fault, explain_outcome, explain_solution};
+pub use outcome::{Outcome, compare, is_yes_outcome, perform};

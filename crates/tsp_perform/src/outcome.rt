@@ -1,15 +1,22 @@
-//! A task done, by the call of its verb.
+//! A task done, and solutions compared, by the call of the verb.
 
-ghost use Rattle.std.specs.Prelude.{◌≡◌};
-ghost use Rattle.tsp_judge.specs.Watched.{sink_of};
-ghost use Rattle.tsp_perform.specs.Outcomes.{IsDone, is_yes_outcome, outcome_of_writing, outcome_of_check, outcome_of_bound};
+ghost use Rattle.std.specs.Prelude.{◌≡◌, length};
+ghost use Rattle.tsp_judge.specs.Following.{IsFollowed};
+ghost use Rattle.tsp_judge.specs.Reads.{most_taken};
+ghost use Rattle.tsp_judge.specs.Turn.{TakesAtMost};
+ghost use Rattle.tsp_judge.specs.Watched.{sink_of, turn_of};
+ghost use Rattle.tsp_judge.specs.Yes.{IsRunOf};
+ghost use Rattle.tsp_perform.specs.Outcomes.{IsCompared, IsDone, TakesNamed, is_yes_outcome, outcome_of_writing, outcome_of_check, outcome_of_bound};
 
 use std::alloc::Global;
 use std::io::{Read, Write};
 use tsp_judge::{
-    Bounded, Judged, RunFault, Watched, run, run_bound, run_convert, run_show, run_uncertified,
+    Bounded, Compared, Follow, Judged, RunFault, Solutions, Watched, run, run_bound, run_compare,
+    run_compare_uncertified, run_convert, run_show, run_uncertified,
 };
-use tsp_task::Task;
+use tsp_reason::Certificate;
+use tsp_stream::Gives;
+use tsp_task::{Comparison, Task};
 
 /// What a task comes to.
 #[derive(Drop)]
@@ -47,18 +54,74 @@ pub fn perform<R: Read, W: Write>(
     ensures { IsDone R.remaining task.old task.new (sink_of W.contents out.old out.new) result }
 {
     match task {
-        Task::Show(file) => done(run_show(alloc, file, out)),
-        Task::Convert(file, to) => done(run_convert(alloc, file, *to, out)),
-        Task::Check(instance, solution, claimed) => {
-            let ended = run_uncertified(alloc, instance, solution, *claimed, out);
+        Task::Show { file } => done(run_show(alloc, file, out)),
+        Task::Convert { file, layout } => done(run_convert(alloc, file, *layout, out)),
+        Task::Check {
+            instance,
+            solution,
+            certificate,
+            claimed,
+        } => {
+            let ended = check(alloc, instance, solution, certificate, *claimed, out);
             judged(ended)
         }
-        Task::CheckBy(by, instance, solution, certificate, claimed) => {
+        Task::Bound {
+            instance,
+            certificate: (by, file),
+        } => bounded(run_bound(alloc, instance, *by, file, out)),
+    }
+}
+
+/// Judges a solution of an instance, and bounds every tour by the certificate where one is named.
+fn check<R: Read, W: Write>(
+    alloc: Global,
+    instance: &mut Watched<R>,
+    solution: &mut Watched<R>,
+    certificate: &mut Option<(Certificate, Watched<R>)>,
+    claimed: Option<i64>,
+    out: &mut Watched<W>,
+) -> Result<Judged, RunFault>
+    ensures { TakesAtMost most_taken (turn_of R.remaining instance.old instance.new) (λ first.
+        TakesAtMost most_taken (turn_of R.remaining solution.old solution.new) (λ second.
+        TakesNamed R.remaining certificate.old certificate.new (λ given.
+        IsRunOf given claimed first second (sink_of W.contents out.old out.new) result))) }
+{
+    match certificate {
+        None => run_uncertified(alloc, instance, solution, claimed, out),
+        Some((by, file)) => {
             let by = Some(*by);
-            judged(run(alloc, instance, solution, by, certificate, *claimed, out))
+            run(alloc, instance, solution, by, file, claimed, out)
         }
-        Task::Bound(by, instance, certificate) => {
-            bounded(run_bound(alloc, instance, *by, certificate, out))
+    }
+}
+
+/// Compares solutions, each opened when it is to be read, by files that are read from these
+/// readers, and writes a line for each, of which the follower of the solutions tells `to`.
+///
+/// # Errors
+///
+/// Those of `run_compare`.
+pub fn compare<R: Gives + Drop, E, S: Solutions<R> + Follow<E>, W: Write>(
+    alloc: Global,
+    comparison: &mut Comparison<'_, Watched<R>>,
+    solutions: &S,
+    out: &mut Watched<W>,
+    to: &mut E,
+) -> Result<Compared, RunFault>
+    ensures text { IsCompared R.remaining R.gives (S.opens solutions.now) (S.names solutions.now)
+        comparison.old comparison.new (sink_of W.contents out.old out.new) result }
+    ensures told { IsFollowed (S.tells solutions.now) (length (S.names solutions.now)) to.old to.new result }
+{
+    let Comparison {
+        instance,
+        certificate,
+        solutions: _,
+    } = comparison;
+    match certificate {
+        None => run_compare_uncertified(alloc, instance, solutions, out, to),
+        Some((by, file)) => {
+            let by = Some(*by);
+            run_compare(alloc, instance, by, file, solutions, out, to)
         }
     }
 }

@@ -1,2 +1,3 @@
 mod OneLines
+mod Openings
 mod Tellings

@@ -6,11 +6,11 @@ use Rattle.tsp_judge.specs.RunFaultText.{run_fault_text}
 use Rattle.tsp_judge.specs.declared.fault.RunFault.TheVariants.{Write}
 use Rattle.tsp_judge.specs.Status.{status_of}
 use Rattle.tsp_cli.specs.declared.words.JobFault.TheVariants as job_faults
-use Rattle.tsp_cli.specs.declared.task.TaskFault.TheVariants.{UnknownLayout, MissingPath, TwoCertificates, NoCertificate, NotALength, InputTwice, LineEndInPath}
+use Rattle.tsp_cli.specs.declared.request.RequestFault.TheVariants.{UnknownLayout, MissingPath, TwoCertificates, NoCertificate, NotALength, InputTwice, LineEndInPath}
 use Rattle.tsp_perform.specs.Outcomes.{is_yes_outcome}
 use Rattle.tsp_run.specs.Telling.{MayTell}
 use Rattle.tsp_run.specs.declared.ending.Ending.{Ending}
-use Rattle.tsp_run.specs.declared.ending.Ending.TheVariants.{NoJob, Printed, NoTask, Ended, Compared}
+use Rattle.tsp_run.specs.declared.ending.Ending.TheVariants.{NoJob, Printed, NoRequest, Ended, Compared}
 use Rattle.tsp_run.specs.declared.ending.Line.{Line}
 use Rattle.tsp_run.specs.declared.ending.Line.TheVariants as lines
 
@@ -21,7 +21,7 @@ status_of_ending (NoJob (job_faults.Refused refusal)) = 4
 status_of_ending (NoJob job_faults.OutOfMemory) = 3
 status_of_ending (Printed (Ok done)) = 0
 status_of_ending (Printed (Err fault)) = status_of (Err (Write fault))
-status_of_ending (NoTask fault) = 4
+status_of_ending (NoRequest fault) = 4
 status_of_ending (Ended (Ok outcome)) = status_of (Ok (is_yes_outcome outcome))
 status_of_ending (Ended (Err fault)) = status_of (Err fault)
 status_of_ending (Compared (Ok compared)) = compared.status
@@ -33,7 +33,7 @@ IsLineOf (NoJob (job_faults.Refused refusal)) (Some (lines.Refusal told)) = told
 IsLineOf (NoJob job_faults.OutOfMemory) line = line ≡ Some lines.OutOfMemory
 IsLineOf (Printed (Ok done)) line = line ≡ None
 IsLineOf (Printed (Err fault)) line = line ≡ Some (lines.Fault (Write fault))
-IsLineOf (NoTask fault) line = line ≡ Some (lines.NoTask fault)
+IsLineOf (NoRequest fault) line = line ≡ Some (lines.NoRequest fault)
 IsLineOf (Ended (Ok answer)) line = line ≡ None
 IsLineOf (Ended (Err fault)) line = line ≡ Some (lines.Fault fault)
 IsLineOf (Compared (Ok compared)) line = line ≡ None
@@ -48,13 +48,13 @@ ended text = Some (text ++ 10 ∷ [])
 abbrev pub line_text : Line → Option (List ℕ)
 line_text (lines.Refusal refusal) = None
 line_text lines.OutOfMemory = ended (codes "out of memory")
-line_text (lines.NoTask UnknownLayout) = ended (codes "unknown layout")
-line_text (lines.NoTask MissingPath) = ended (codes "missing path")
-line_text (lines.NoTask TwoCertificates) = ended (codes "both potentials and branches")
-line_text (lines.NoTask NoCertificate) = ended (codes "neither potentials nor branches")
-line_text (lines.NoTask NotALength) = ended (codes "not a length")
-line_text (lines.NoTask InputTwice) = ended (codes "standard input twice")
-line_text (lines.NoTask LineEndInPath) = ended (codes "line end in a path")
+line_text (lines.NoRequest UnknownLayout) = ended (codes "unknown layout")
+line_text (lines.NoRequest MissingPath) = ended (codes "missing path")
+line_text (lines.NoRequest TwoCertificates) = ended (codes "both potentials and branches")
+line_text (lines.NoRequest NoCertificate) = ended (codes "neither potentials nor branches")
+line_text (lines.NoRequest NotALength) = ended (codes "not a length")
+line_text (lines.NoRequest InputTwice) = ended (codes "standard input twice")
+line_text (lines.NoRequest LineEndInPath) = ended (codes "line end in a path")
 line_text (lines.Fault fault) = ended (run_fault_text fault)
 
 -- no byte ends a line

@@ -10,21 +10,21 @@ use Rattle.clap.specs.declared.error.kind.ErrorKind.TheVariants as kinds
 use Rattle.tsp_judge.specs.declared.Watched.{Watched}
 use Rattle.tsp_judge.specs.Sink.{Sink, IsUnwritten}
 use Rattle.tsp_run.specs.declared.ending.Ending.{Ending}
-use Rattle.tsp_run.specs.declared.ending.Ending.TheVariants.{NoJob, Printed, NoTask, Ended}
+use Rattle.tsp_run.specs.declared.ending.Ending.TheVariants.{NoJob, Printed, NoRequest, Ended}
 use Rattle.tsp_run.specs.declared.ending.Ending.TheVariants as endings
 use Rattle.tsp_perform.specs.declared.outcome.Outcome.{Outcome}
 use Rattle.tsp_judge.specs.declared.compared.Compared.{Compared}
 use Rattle.tsp_judge.specs.declared.fault.RunFault.{RunFault}
 use Rattle.tsp_cli.specs.declared.words.Job.{Job}
 use Rattle.tsp_cli.specs.declared.words.JobFault.{JobFault}
-use Rattle.tsp_cli.specs.declared.task.Place.{Place}
-use Rattle.tsp_task.specs.declared.task.Task.{Task}
-use Rattle.tsp_task.specs.declared.task.Task.TheVariants.{Show, Convert, Check, CheckBy, Bound}
+use Rattle.tsp_cli.specs.declared.request.Place.{Place}
+use Rattle.tsp_task.specs.declared.request.Task.{Task}
+use Rattle.tsp_task.specs.Mapped.{IsMapped}
 use Rattle.tsp_cli.specs.declared.words.JobFault.TheVariants.{OutOfMemory, Refused}
 use Rattle.tsp_cli.specs.CommandWords.{GivesJob, IsOtherRefusal}
-use Rattle.tsp_cli.specs.declared.task.Comparison.{Comparison}
-use Rattle.tsp_cli.specs.declared.task.Work.TheVariants as works
-use Rattle.tsp_cli.specs.Task.{GivesWork}
+use Rattle.tsp_task.specs.declared.request.Comparison.{Comparison}
+use Rattle.tsp_task.specs.declared.request.Request.TheVariants as requests
+use Rattle.tsp_cli.specs.Requests.{GivesRequest}
 use Rattle.tsp_run.specs.ComparisonRun.{IsComparedAs, IsFresh}
 use Rattle.tsp_perform.specs.Outcomes.{IsDone}
 use Rattle.tsp_stream.specs.declared.output.WriteFault.{WriteFault}
@@ -33,13 +33,7 @@ use Rattle.tsp_run.specs.Printing.{Prints, PrintsSome, version_text}
 
 -- the same task, each of its files opened in its place
 abbrev pub AreFresh : {F : Type 0} → (Place → F → Type 0) → Task Place → Task (Watched F) → Type 0
-AreFresh opens (Show a) (Show x) = IsFresh opens a x
-AreFresh opens (Convert a to) (Convert x same) = IsFresh opens a x × (same ≡ to)
-AreFresh opens (Check a b claimed) (Check x y same) = IsFresh opens a x × IsFresh opens b y × (same ≡ claimed)
-AreFresh opens (CheckBy by a b c claimed) (CheckBy kept x y z same) = (kept ≡ by) × IsFresh opens a x × IsFresh opens b y
-    × IsFresh opens c z × (same ≡ claimed)
-AreFresh opens (Bound by a c) (Bound kept x z) = (kept ≡ by) × IsFresh opens a x × IsFresh opens c z
-AreFresh opens _ _ = ⊥
+AreFresh opens = IsMapped (IsFresh opens)
 
 -- the task is done on its files, opened in their places
 abbrev pub IsDoneAs : {F : Type 0} → (F → Option (List ℕ)) → (Place → F → Type 0) → Task Place → Sink
@@ -47,17 +41,17 @@ abbrev pub IsDoneAs : {F : Type 0} → (F → Option (List ℕ)) → (Place → 
 IsDoneAs {F = F} remaining opens task sink answer = (old new : Task (Watched F)) × AreFresh opens task old
     × IsDone remaining old new sink answer
 
--- How a run ends that has this job: it is no work, and then nothing is written; or the task was done on its files, opened in
--- their places; or the solutions were compared.
+-- How a run ends that has this job: it asks for nothing, and then nothing is written; or the task was done on its files,
+-- opened in their places; or the solutions were compared.
 abbrev pub EndsWith : {F : Type 0} → (F → Option (List ℕ)) → (F → List ℕ → Result ℕ Error → List ℕ → F → Type 0)
     → (Place → F → Type 0) → Job → Sink → Ending → Type 0
 EndsWith remaining gives opens job sink (NoJob fault) = ⊥
 EndsWith remaining gives opens job sink (Printed printed) = ⊥
-EndsWith remaining gives opens job sink (NoTask fault) = GivesWork job (Err fault) × IsUnwritten sink
-EndsWith remaining gives opens job sink (Ended answer) = (task : Task Place) × GivesWork job (Ok (works.Task task))
+EndsWith remaining gives opens job sink (NoRequest fault) = GivesRequest job (Err fault) × IsUnwritten sink
+EndsWith remaining gives opens job sink (Ended answer) = (task : Task Place) × GivesRequest job (Ok (requests.Task task))
     × IsDoneAs remaining opens task sink answer
-EndsWith remaining gives opens job sink (endings.Compared answer) = (comparison : Comparison) × GivesWork job
-    (Ok (works.Compare comparison))
+EndsWith remaining gives opens job sink (endings.Compared answer) = (comparison : Comparison Place) × GivesRequest job
+    (Ok (requests.Compare comparison))
     × IsComparedAs remaining gives opens comparison sink answer
 
 -- the words ask for the version
@@ -97,9 +91,9 @@ EndsProgram remaining gives opens on_terminal build words sink explained (NoJob 
 EndsProgram remaining gives opens on_terminal build words sink explained (Printed printed) = (fault : JobFault)
     × GivesJob (drop 1 words) (Err fault)
     × PrintsAsked build (drop 1 words) fault sink printed × (explained ≡ false)
-EndsProgram remaining gives opens on_terminal build words sink explained (NoTask fault) = (job : Job)
+EndsProgram remaining gives opens on_terminal build words sink explained (NoRequest fault) = (job : Job)
     × GivesJob (drop 1 words) (Ok job)
-    × EndsWith remaining gives opens job sink (NoTask fault) × (explained ≡ (job.explain || on_terminal))
+    × EndsWith remaining gives opens job sink (NoRequest fault) × (explained ≡ (job.explain || on_terminal))
 EndsProgram remaining gives opens on_terminal build words sink explained (Ended answer) = (job : Job)
     × GivesJob (drop 1 words) (Ok job)
     × EndsWith remaining gives opens job sink (Ended answer) × (explained ≡ (job.explain || on_terminal))
@@ -113,7 +107,7 @@ abbrev pub HasNoWords : ErrorKind → Bool → Ending → Type 0
 HasNoWords kind explained (NoJob fault) = (kind ≡ io_kinds.OutOfMemory → fault ≡ OutOfMemory)
     × (kind ≢ io_kinds.OutOfMemory → IsOtherRefusal fault) × (explained ≡ false)
 HasNoWords kind explained (Printed printed) = ⊥
-HasNoWords kind explained (NoTask fault) = ⊥
+HasNoWords kind explained (NoRequest fault) = ⊥
 HasNoWords kind explained (Ended answer) = ⊥
 HasNoWords kind explained (endings.Compared answer) = ⊥
 

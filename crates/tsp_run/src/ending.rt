@@ -11,7 +11,7 @@ use clap::Error as Refusal;
 use std::fmt::{Display, Formatter, Write as _};
 use std::io::Write;
 use std::{fmt, io};
-use tsp_cli::{JobFault, TaskFault};
+use tsp_cli::{JobFault, RequestFault};
 use tsp_judge::{Compared, RunFault, Status, WriteFault, status_of};
 use tsp_perform::{Outcome, is_yes_outcome};
 
@@ -26,7 +26,7 @@ pub enum Ending {
     /// They ask for the version, or by the verb `help` for help: that was printed, or couldn't be.
     Printed(Result<(), WriteFault>),
     /// What they ask for can't be begun.
-    NoTask(TaskFault),
+    NoRequest(RequestFault),
     /// A task was done, or ended with a fault.
     Ended(Result<Outcome, RunFault>),
     /// Solutions were compared, or that ended with a fault.
@@ -41,7 +41,7 @@ pub enum Line<'a> {
     /// Out of memory for the words of the command line.
     OutOfMemory,
     /// Why no task was begun.
-    NoTask(TaskFault),
+    NoRequest(RequestFault),
     /// Why a task gave no answer.
     Fault(RunFault),
 }
@@ -55,17 +55,17 @@ impl Display for Line<'_> {
         match self {
             Line::Refusal(refusal) => f.write(*refusal),
             Line::OutOfMemory => f.write_str("out of memory\n"),
-            Line::NoTask(TaskFault::UnknownLayout) => f.write_str("unknown layout\n"),
-            Line::NoTask(TaskFault::MissingPath) => f.write_str("missing path\n"),
-            Line::NoTask(TaskFault::TwoCertificates) => {
+            Line::NoRequest(RequestFault::UnknownLayout) => f.write_str("unknown layout\n"),
+            Line::NoRequest(RequestFault::MissingPath) => f.write_str("missing path\n"),
+            Line::NoRequest(RequestFault::TwoCertificates) => {
                 f.write_str("both potentials and branches\n")
             }
-            Line::NoTask(TaskFault::NoCertificate) => {
+            Line::NoRequest(RequestFault::NoCertificate) => {
                 f.write_str("neither potentials nor branches\n")
             }
-            Line::NoTask(TaskFault::NotALength) => f.write_str("not a length\n"),
-            Line::NoTask(TaskFault::InputTwice) => f.write_str("standard input twice\n"),
-            Line::NoTask(TaskFault::LineEndInPath) => f.write_str("line end in a path\n"),
+            Line::NoRequest(RequestFault::NotALength) => f.write_str("not a length\n"),
+            Line::NoRequest(RequestFault::InputTwice) => f.write_str("standard input twice\n"),
+            Line::NoRequest(RequestFault::LineEndInPath) => f.write_str("line end in a path\n"),
             Line::Fault(fault) => {
                 f.write(fault)?;
                 f.write_str("\n")
@@ -79,7 +79,7 @@ pub fn status_of_ending(ending: &Ending) -> u8
     ensures { result ≡ status_of_ending ending.now }
 {
     match ending {
-        Ending::NoJob(JobFault::Refused(_)) | Ending::NoTask(_) => Status::Refused as u8,
+        Ending::NoJob(JobFault::Refused(_)) | Ending::NoRequest(_) => Status::Refused as u8,
         Ending::NoJob(JobFault::OutOfMemory) => Status::OutOfMemory as u8,
         Ending::Printed(Ok(())) => Status::Yes as u8,
         Ending::Printed(Err(fault)) => status_of(&Err(RunFault::Write(*fault))),
@@ -96,7 +96,7 @@ pub fn line_of(ending: &Ending) -> Option<Line<'_>>
     match ending {
         Ending::NoJob(JobFault::Refused(refusal)) => Some(Line::Refusal(refusal)),
         Ending::NoJob(JobFault::OutOfMemory) => Some(Line::OutOfMemory),
-        Ending::NoTask(fault) => Some(Line::NoTask(*fault)),
+        Ending::NoRequest(fault) => Some(Line::NoRequest(*fault)),
         Ending::Printed(Ok(())) | Ending::Ended(Ok(_)) | Ending::Compared(Ok(_)) => None,
         Ending::Printed(Err(fault)) => Some(Line::Fault(RunFault::Write(*fault))),
         Ending::Ended(Err(fault)) | Ending::Compared(Err(fault)) => Some(Line::Fault(*fault)),

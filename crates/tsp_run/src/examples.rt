@@ -10,7 +10,7 @@ ghost use Rattle.tsp_judge.specs.declared.WriteFault.TheVariants as write_faults
 ghost use Rattle.tsp_judge.specs.declared.RelayoutFault.TheVariants as relayout_faults;
 ghost use Rattle.tsp_judge.specs.declared.fault.RunFault.TheVariants as run_faults;
 ghost use Rattle.tsp_cli.specs.declared.words.JobFault.TheVariants as job_faults;
-ghost use Rattle.tsp_cli.specs.declared.task.TaskFault.TheVariants as task_faults;
+ghost use Rattle.tsp_cli.specs.declared.request.RequestFault.TheVariants as request_faults;
 ghost use Rattle.tsp_run.specs.declared.ending.Ending.TheVariants as endings;
 ghost use Rattle.tsp_run.specs.declared.ending.Line.TheVariants as lines;
 ghost use Rattle.tsp_perform.specs.declared.outcome.Outcome.{Outcome};
@@ -22,8 +22,8 @@ ghost use Rattle.tsp_run.specs.Telling.{MayTell};
 ghost use Rattle.tsp_judge.specs.declared.Watched.{Watched};
 ghost use Rattle.tsp_judge.specs.Watched.{watched};
 ghost use Rattle.tsp_judge.specs.declared.Certificate.{Certificate};
-ghost use Rattle.tsp_cli.specs.declared.task.Place.{Place};
-ghost use Rattle.tsp_task.specs.declared.task.Task.TheVariants as tasks;
+ghost use Rattle.tsp_cli.specs.declared.request.Place.{Place};
+ghost use Rattle.tsp_task.specs.declared.request.Task.TheVariants as tasks;
 ghost use Rattle.tsp_run.specs.Printing.{version_text};
 ghost use Rattle.tsp_run.specs.ProgramRun.{AreFresh, begins_with_help};
 ghost use Rattle.tsp_run.specs.Ending.{status_of_ending, line_text, ended, IsWritten};
@@ -51,13 +51,13 @@ pub fn examples_of_statuses()
     ensures printed { status_of_ending (endings.Printed (Ok tt)) ≡ 0 }
     ensures unprinted { status_of_ending (endings.Printed (Err write_faults.Device)) ≡ 5 }
     ensures no_memory_to_print { status_of_ending (endings.Printed (Err write_faults.OutOfMemory)) ≡ 3 }
-    ensures input_twice { status_of_ending (endings.NoTask task_faults.InputTwice) ≡ 4 }
-    ensures unknown_layout { status_of_ending (endings.NoTask task_faults.UnknownLayout) ≡ 4 }
-    ensures missing_path { status_of_ending (endings.NoTask task_faults.MissingPath) ≡ 4 }
-    ensures no_certificate { status_of_ending (endings.NoTask task_faults.NoCertificate) ≡ 4 }
-    ensures no_length { status_of_ending (endings.NoTask task_faults.NotALength) ≡ 4 }
-    ensures line_end { status_of_ending (endings.NoTask task_faults.LineEndInPath) ≡ 4 }
-    ensures two_certificates { status_of_ending (endings.NoTask task_faults.TwoCertificates) ≡ 4 }
+    ensures input_twice { status_of_ending (endings.NoRequest request_faults.InputTwice) ≡ 4 }
+    ensures unknown_layout { status_of_ending (endings.NoRequest request_faults.UnknownLayout) ≡ 4 }
+    ensures missing_path { status_of_ending (endings.NoRequest request_faults.MissingPath) ≡ 4 }
+    ensures no_certificate { status_of_ending (endings.NoRequest request_faults.NoCertificate) ≡ 4 }
+    ensures no_length { status_of_ending (endings.NoRequest request_faults.NotALength) ≡ 4 }
+    ensures line_end { status_of_ending (endings.NoRequest request_faults.LineEndInPath) ≡ 4 }
+    ensures two_certificates { status_of_ending (endings.NoRequest request_faults.TwoCertificates) ≡ 4 }
     ensures device_in { status_of_fault (run_faults.File 2 read_faults.Device) ≡ 5 }
     ensures device_out { status_of_fault (run_faults.Write write_faults.Device) ≡ 5 }
     ensures of_fault { status_of_ending (endings.Ended (Err run_faults.WrongKind)) ≡ 2 }
@@ -70,15 +70,15 @@ pub fn examples_of_statuses()
 /// The lines of this program's own, and of faults. Digits are as `decimal` writes them.
 pub fn examples_of_lines()
     ensures memory { line_text lines.OutOfMemory ≡ Some (codes "out of memory\n") }
-    ensures unknown_layout { line_text (lines.NoTask task_faults.UnknownLayout) ≡ Some (codes "unknown layout\n") }
-    ensures missing_path { line_text (lines.NoTask task_faults.MissingPath) ≡ Some (codes "missing path\n") }
-    ensures two_certificates { line_text (lines.NoTask task_faults.TwoCertificates)
+    ensures unknown_layout { line_text (lines.NoRequest request_faults.UnknownLayout) ≡ Some (codes "unknown layout\n") }
+    ensures missing_path { line_text (lines.NoRequest request_faults.MissingPath) ≡ Some (codes "missing path\n") }
+    ensures two_certificates { line_text (lines.NoRequest request_faults.TwoCertificates)
         ≡ Some (codes "both potentials and branches\n") }
-    ensures no_certificate { line_text (lines.NoTask task_faults.NoCertificate)
+    ensures no_certificate { line_text (lines.NoRequest request_faults.NoCertificate)
         ≡ Some (codes "neither potentials nor branches\n") }
-    ensures no_length { line_text (lines.NoTask task_faults.NotALength) ≡ Some (codes "not a length\n") }
-    ensures line_end { line_text (lines.NoTask task_faults.LineEndInPath) ≡ Some (codes "line end in a path\n") }
-    ensures input_twice { line_text (lines.NoTask task_faults.InputTwice) ≡ Some (codes "standard input twice\n") }
+    ensures no_length { line_text (lines.NoRequest request_faults.NotALength) ≡ Some (codes "not a length\n") }
+    ensures line_end { line_text (lines.NoRequest request_faults.LineEndInPath) ≡ Some (codes "line end in a path\n") }
+    ensures input_twice { line_text (lines.NoRequest request_faults.InputTwice) ≡ Some (codes "standard input twice\n") }
     ensures version { version_text (codes "a build") ≡ codes "tsp 1.1.0 (a build)\n" }
     ensures file { line_text (lines.Fault (run_faults.File 2 read_faults.TooLong))
         ≡ ended (codes "file " ++ (decimal 2 ++ codes ": too long")) }
@@ -105,14 +105,18 @@ pub fn examples_of_help()
 /// Each file of a task is the one that is opened in its place.
 pub fn examples_of_opened_files()
     ensures check { (a b : Place) (claimed same : Option ℤ) (x y : Watched Place)
-        → AreFresh (λ place file. file ≡ place) (tasks.Check a b claimed) (tasks.Check x y same)
+        → AreFresh (λ place file. file ≡ place) (tasks.Check a b None claimed) (tasks.Check x y None same)
         → (watched x ≡ a) × (watched y ≡ b) × (same ≡ claimed) }
     ensures certified { (by kept : Certificate) (a b c : Place) (claimed same : Option ℤ) (x y z : Watched Place)
-        → AreFresh (λ place file. file ≡ place) (tasks.CheckBy by a b c claimed) (tasks.CheckBy kept x y z same)
+        → AreFresh (λ place file. file ≡ place) (tasks.Check a b (Some (by, c)) claimed)
+        (tasks.Check x y (Some (kept, z)) same)
         → (kept ≡ by) × (watched x ≡ a) × (watched y ≡ b) × (watched z ≡ c) × (same ≡ claimed) }
     ensures bound { (by kept : Certificate) (a c : Place) (x z : Watched Place)
-        → AreFresh (λ place file. file ≡ place) (tasks.Bound by a c) (tasks.Bound kept x z)
+        → AreFresh (λ place file. file ≡ place) (tasks.Bound a (by, c)) (tasks.Bound x (kept, z))
         → (kept ≡ by) × (watched x ≡ a) × (watched z ≡ c) }
     ensures another_task { (by kept : Certificate) (a b c : Place) (claimed : Option ℤ) (x z : Watched Place)
-        → ¬ AreFresh (λ place file. file ≡ place) (tasks.CheckBy by a b c claimed) (tasks.Bound kept x z) }
+        → ¬ AreFresh (λ place file. file ≡ place) (tasks.Check a b (Some (by, c)) claimed)
+        (tasks.Bound x (kept, z)) }
+    ensures certificate_dropped { (by : Certificate) (a b c : Place) (claimed same : Option ℤ) (x y : Watched Place)
+        → ¬ AreFresh (λ place file. file ≡ place) (tasks.Check a b (Some (by, c)) claimed) (tasks.Check x y None same) }
 {}

@@ -2,27 +2,28 @@
 
 use crate::ending::Ending;
 use crate::source::Open;
-use std::alloc::{AllocError, Global};
+use std::alloc::Global;
 use std::io;
 use std::io::Read;
-use tsp_cli::{Place, TaskFault};
-use tsp_explain::{Names, push_error, push_lines, write_sentence};
-use tsp_judge::{RunFault, WriteFault};
-use tsp_perform::{explain_fault, explain_outcome};
-use tsp_task::Task;
+use std::marker::PhantomData;
+use tsp_cli::{Place, RequestFault};
+use tsp_explain::push_lines;
+use tsp_judge::RunFault;
+use tsp_perform::{explain_basis, explain_fault, explain_outcome};
+use tsp_task::Request;
 
-/// What explains why a job is no work, line by line. It is cut short where there is no memory for
-/// more.
-pub(crate) fn task_explanation(alloc: Global, fault: TaskFault) -> Vec<u8> {
+/// What explains why a job asks for nothing, line by line. It is cut short where there is no memory
+/// for more.
+pub(crate) fn fault_explanation(alloc: Global, fault: RequestFault) -> Vec<u8> {
     let mut text = Vec::new(alloc);
     let _ = match fault {
-        TaskFault::MissingPath => Ok(()),
-        TaskFault::UnknownLayout => push_lines(&mut text, LAYOUTS),
-        TaskFault::TwoCertificates => push_lines(&mut text, CERTIFICATES),
-        TaskFault::InputTwice => push_lines(&mut text, INPUT),
-        TaskFault::NoCertificate => push_lines(&mut text, NO_CERTIFICATE),
-        TaskFault::NotALength => push_lines(&mut text, LENGTHS),
-        TaskFault::LineEndInPath => push_lines(&mut text, LINE_ENDS),
+        RequestFault::MissingPath => Ok(()),
+        RequestFault::UnknownLayout => push_lines(&mut text, LAYOUTS),
+        RequestFault::TwoCertificates => push_lines(&mut text, CERTIFICATES),
+        RequestFault::InputTwice => push_lines(&mut text, INPUT),
+        RequestFault::NoCertificate => push_lines(&mut text, NO_CERTIFICATE),
+        RequestFault::NotALength => push_lines(&mut text, LENGTHS),
+        RequestFault::LineEndInPath => push_lines(&mut text, LINE_ENDS),
     };
     text
 }
@@ -53,98 +54,72 @@ const LENGTHS: &str =
     "A length is a whole number that fits 64 bits, as 426 or 12.0. One below 0 is written --length=-34.\n\
     Lengths of TSPLIB are whole. A cost in real numbers, as 524.61, can't be compared with them.";
 
-/// A task that is asked for, and whether its end is explained.
+/// A request, of files that `files` opens, and how its end is reported.
 #[derive(Drop)]
-pub(crate) struct Asked<'a, O> {
-    pub(crate) task: &'a Task<Place<'a>>,
+pub(crate) struct Asked<'a, F, O> {
+    pub(crate) alloc: Global,
+    pub(crate) request: &'a Request<'a, Place<'a>>,
     pub(crate) files: &'a O,
+    /// Whether the end is explained, and each line of a comparison that accepts no solution.
     pub(crate) explain: bool,
+    /// Whether solutions are counted besides, on a terminal.
+    pub(crate) counts: bool,
+    pub(crate) file: PhantomData<F>,
 }
 
-/// What explains how a task ended, line by line. Files that can be are looked at once more for it;
-/// `write_error` is what the system said of a write that failed. It is cut short where there is no
-/// memory for more.
+impl<'a, F: Read + Drop, O: Open<F>> Asked<'a, F, O> {
+    /// What the user calls the files.
+    pub(crate) fn names(&self) -> Request<'a, &'a str> {
+        self.request.map(|place| name_of(*place))
+    }
+
+    /// The file with this number opened once more, where it can be.
+    fn again(&self, number: u32) -> Option<F> {
+        let (_, place) = self.request.file(number)?;
+        again(*place, self.files)
+    }
+}
+
+/// What explains how a request ended, line by line; of a comparison, each solution was explained at
+/// its line. Files that can be are looked at once more for it. `error` is what the system said of a
+/// write that failed. It is cut short where there is no memory for more.
 pub(crate) fn explanation<F: Read + Drop, O: Open<F>>(
-    alloc: Global,
-    asked: &Asked<'_, O>,
+    asked: &Asked<'_, F, O>,
     ending: &Ending,
-    write_error: Option<&io::Error>,
+    error: Option<&io::Error>,
 ) -> Vec<u8> {
+    let alloc = asked.alloc;
+    let names = asked.names();
     let mut text = Vec::new(alloc);
     let _ = match ending {
-        Ending::Ended(Ok(outcome)) => {
-            explain_outcome(alloc, &mut text, names_of(asked.task), outcome)
+        Ending::Ended(Ok(outcome)) => explain_outcome(alloc, &mut text, &names, outcome),
+        Ending::Compared(Ok(compared)) => explain_basis(alloc, &mut text, &names, &compared.common),
+        Ending::Ended(Err(fault)) | Ending::Compared(Err(fault)) => {
+            let again = match *fault {
+                RunFault::File { file, fault: _ } => asked.again(file),
+                RunFault::WrongKind
+                | RunFault::Write(_)
+                | RunFault::OutOfMemory
+                | RunFault::Relayout(_) => None,
+            };
+            explain_fault(alloc, &mut text, &names, again, error, *fault)
         }
-        Ending::Ended(Err(RunFault::Write(fault))) => {
-            push_write_fault(alloc, &mut text, *fault, write_error)
-        }
-        Ending::Ended(Err(fault)) => push_fault(alloc, &mut text, asked, *fault),
-        Ending::NoJob(_) | Ending::Printed(_) | Ending::NoTask(_) | Ending::Compared(_) => Ok(()),
+        Ending::NoJob(_) | Ending::Printed(_) | Ending::NoRequest(_) => Ok(()),
     };
     text
 }
 
-/// Appends what explains that a text could not be written, and what the system said of that.
-pub(crate) fn push_write_fault(
-    alloc: Global,
-    text: &mut Vec<u8>,
-    fault: WriteFault,
-    error: Option<&io::Error>,
-) -> Result<(), AllocError> {
-    push_lines(text, write_sentence(fault))?;
-    match error {
-        None => Ok(()),
-        Some(error) => push_error(alloc, text, error),
-    }
-}
-
-/// Appends what explains a fault of a task.
-fn push_fault<F: Read + Drop, O: Open<F>>(
-    alloc: Global,
-    text: &mut Vec<u8>,
-    asked: &Asked<'_, O>,
-    fault: RunFault,
-) -> Result<(), AllocError> {
-    let number = match fault {
-        RunFault::File { file, fault: _ } => file,
-        RunFault::WrongKind | RunFault::Write(_) | RunFault::OutOfMemory | RunFault::Relayout(_) =>
-            1,
-    };
-    let place = place_of(asked.task, number);
-    let again = again(place, asked.files);
-    explain_fault(alloc, text, asked.task, name_of(place), again, fault)
-}
-
-/// What the files of a task are called. The certificate is the last one.
-fn names_of<'a>(task: &Task<Place<'a>>) -> Names<'a> {
-    let second = name_of(place_of(task, 2));
-    Names {
-        instance: name_of(place_of(task, 1)),
-        solution: second,
-        certificate: match place_of(task, 3) {
-            Some(certificate) => name_of(Some(certificate)),
-            None => second,
-        },
-    }
-}
-
-/// The place of the file with this number.
-fn place_of<'a>(task: &Task<Place<'a>>, number: u32) -> Option<Place<'a>> {
-    let (_, place) = task.file(number)?;
-    Some(*place)
-}
-
 /// What a file is called.
-pub(crate) fn name_of(place: Option<Place<'_>>) -> &str {
+pub(crate) fn name_of(place: Place<'_>) -> &str {
     match place {
-        Some(Place::Path(path)) => path,
-        Some(Place::Input) | None => "standard input",
+        Place::Path(path) => path,
+        Place::Input => "standard input",
     }
 }
 
-/// The file opened once more, where it can be.
-pub(crate) fn again<F: Read, O: Open<F>>(place: Option<Place<'_>>, files: &O) -> Option<F> {
-    match place? {
+/// The file at a place opened once more, where it can be.
+pub(crate) fn again<F: Read, O: Open<F>>(place: Place<'_>, files: &O) -> Option<F> {
+    match place {
         Place::Path(path) => files.open_again(path),
         Place::Input => None,
     }

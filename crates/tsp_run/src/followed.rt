@@ -6,55 +6,50 @@ ghost use Rattle.std.specs.String.{string_bytes};
 ghost use Rattle.tsp_run.specs.ComparisonRun.{IsOpenedAt};
 ghost use Rattle.tsp_run.specs.Telling.{MayTell};
 
-use crate::explained::{again, name_of};
+use crate::explained::{Asked, again, name_of};
 use crate::source::Open;
-use std::alloc::{AllocError, Global};
+use std::alloc::AllocError;
 use std::io::{Read, Write};
-use std::marker::PhantomData;
-use tsp_cli::{Comparison, Place, place_at};
-use tsp_explain::{Files, Names, explain_file, explain_verdict};
+use tsp_cli::{Place, place_at};
+use tsp_explain::explain_file;
 use tsp_judge::{Common, Follow, Found, Solutions};
+use tsp_perform::{Solution, explain_solution};
 use tsp_reason::Role;
 
-/// The solutions of a comparison, and how standard error tells of them.
+/// The solutions of a comparison that is asked for, and how standard error tells of them.
 #[derive(Drop)]
 pub(crate) struct Followed<'a, F, O> {
-    pub(crate) alloc: Global,
-    pub(crate) comparison: Comparison<'a>,
-    pub(crate) files: &'a O,
-    /// Whether each line that accepts no solution is explained.
-    pub(crate) explain: bool,
-    /// Whether they are counted besides, on a terminal.
-    pub(crate) counts: bool,
-    pub(crate) file: PhantomData<F>,
+    pub(crate) asked: &'a Asked<'a, F, O>,
+    /// Their paths.
+    pub(crate) solutions: &'a [String],
 }
 
 impl<F: Read + Drop, O: Open<F>> Solutions<F> for Followed<'_, F, O> {
-    ghost names = { λ followed. map string_bytes followed.comparison.solutions.now };
+    ghost names = { λ followed. map string_bytes followed.solutions.now };
 
-    ghost opens = { λ followed. IsOpenedAt (O.opens followed.files.now) (map string_bytes followed.comparison.solutions.now) };
+    ghost opens = { λ followed. IsOpenedAt (O.opens followed.asked.now.files.now) (map string_bytes followed.solutions.now) };
 
     fn count(&self) -> usize {
-        self.comparison.solutions.len()
+        self.solutions.len()
     }
 
     fn name(&self, index: usize) -> &[u8] {
-        self.comparison.solutions[index].as_bytes()
+        self.solutions[index].as_bytes()
     }
 
     fn open(&self, index: usize) -> F {
-        self.files.open(place_at(&self.comparison.solutions[index]))
+        self.asked.files.open(place_at(&self.solutions[index]))
     }
 }
 
 impl<F: Read + Drop, O: Open<F>, E: Write> Follow<E> for Followed<'_, F, O> {
-    ghost tells = { λ followed _ old new. MayTell followed.explain (E.contents old) (E.contents new) };
+    ghost tells = { λ followed _ old new. MayTell followed.asked.now.explain (E.contents old) (E.contents new) };
 
     fn written(&self, to: &mut E, common: &Common, index: usize, found: &Found) {
-        if !self.explain {
+        if !self.asked.explain {
             return;
         }
-        let mut text = Vec::new(self.alloc);
+        let mut text = Vec::new(self.asked.alloc);
         let _ = self.push_told(&mut text, common, index, found);
         send_what_goes(to, &text);
         drop(text);
@@ -73,77 +68,58 @@ impl<F: Read + Drop, O: Open<F>> Followed<'_, F, O> {
         index: usize,
         found: &Found,
     ) -> Result<(), AllocError> {
-        if !self.counts {
-            return self.push_found(text, common, index, found);
+        let Some(path) = self.solutions.get(index) else {
+            return Ok(());
+        };
+        if !self.asked.counts {
+            return self.push_found(text, common, place_at(path), found);
         }
         text.extend_from_slice(ANEW)?;
-        self.push_found(text, common, index, found)?;
+        self.push_found(text, common, place_at(path), found)?;
         let done = index.saturating_add(1);
-        let _ = write!(text, "{} of {}", done, self.comparison.solutions.len());
+        let _ = write!(text, "{} of {}", done, self.solutions.len());
         Ok(())
     }
 
-    /// Appends what explains why a solution is rejected, or isn't read.
+    /// Appends what explains why the solution at a place is rejected, or isn't read.
     fn push_found(
         &self,
         text: &mut Vec<u8>,
         common: &Common,
-        index: usize,
+        place: Place<'_>,
         found: &Found,
     ) -> Result<(), AllocError> {
-        let place = match self.comparison.solutions.get(index) {
-            Some(path) => Some(place_at(path)),
-            None => None,
-        };
+        let alloc = self.asked.alloc;
+        let name = name_of(place);
         match found {
             Found::Solution {
                 verdict,
                 solution: _,
             } if verdict.is_yes() => Ok(()),
             Found::Solution { verdict, solution } => {
-                let files = Files {
-                    names: names_of(self.comparison, place),
-                    instance: &common.instance,
-                    solution: Some(solution),
-                    certificate: match &common.certificate {
-                        Some((_, certificate)) => Some(certificate),
-                        None => None,
-                    },
+                let solution = Solution {
+                    name,
+                    file: solution,
+                    verdict: *verdict,
                 };
-                explain_verdict(self.alloc, text, files, *verdict)
+                explain_solution(alloc, text, &self.asked.names(), common, solution)
             }
             Found::Fault(fault) => {
-                let again = again(place, self.files);
-                let given = Some(Role::Solution);
-                explain_file(self.alloc, text, name_of(place), given, again, *fault)
+                let again = again(place, self.asked.files);
+                explain_file(alloc, text, name, Some(Role::Solution), again, *fault)
             }
         }
     }
 }
 
-/// What the files of a comparison are called, with the solution at this place.
-pub(crate) fn names_of<'a>(comparison: Comparison<'a>, solution: Option<Place<'a>>) -> Names<'a> {
-    Names {
-        instance: name_of(Some(comparison.instance)),
-        solution: name_of(solution),
-        certificate: match comparison.certificate {
-            Some((_, place)) => name_of(Some(place)),
-            None => name_of(None),
-        },
-    }
-}
-
 /// Ends the line that counts, where there is one.
-pub(crate) fn end_count<F: Read + Drop, O: Open<F>, E: Write>(
-    followed: &Followed<'_, F, O>,
-    to: &mut E,
-)
-    ensures { MayTell followed.now.explain (E.contents to.old) (E.contents to.new) }
+pub(crate) fn end_count<F, O, E: Write>(asked: &Asked<'_, F, O>, to: &mut E)
+    ensures { MayTell asked.now.explain (E.contents to.old) (E.contents to.new) }
 {
-    if !followed.explain {
+    if !asked.explain {
         return;
     }
-    if followed.counts {
+    if asked.counts {
         send_what_goes(to, ANEW);
     } else {
         send_what_goes(to, &[]);

@@ -1,23 +1,22 @@
 //! A run of the program `tsp`, from its words to its exit status.
 //!
 //! The words are a task on files, or solutions to compare (`tsp_cli`). Each file is opened, or is
-//! missing (`source`). The task is done (`tsp_perform`), or the solutions are compared
-//! (`compared`), and the end is reported on standard error and by the exit status (`ending`). Where
-//! the words ask for it, an explanation follows (`explained`, `followed`). The version and help are
-//! printed (`printed`). The calls of the host are tsp_tool's.
+//! missing (`opened`, `source`). The task is done, or the solutions are compared (`tsp_perform`),
+//! and the end is reported on standard error and by the exit status (`ending`). Where the words ask
+//! for it, an explanation follows (`explained`, `followed`). The version and help are printed
+//! (`printed`). The calls of the host are tsp_tool's.
 //!
 //! ```text
 //! let (status, written) = run(alloc, &words, &files, &mut out, &mut errors, setting);
 //! ```
 #![tactic(auto)]
 
-mod compare_explained;
-mod compared;
 mod ending;
 mod examples;
 mod explained;
 mod followed;
 mod laws;
+mod opened;
 mod printed;
 mod running;
 mod source;
@@ -30,7 +29,7 @@ pub use examples::{
 pub use laws::{explained_on_a_terminal, faults_are_told_on_one_line};
 pub use running::{Setting, run, tell_unread};
 pub use source::{Open, Source};
-pub use tsp_cli::{JobFault, Place, TaskFault};
+pub use tsp_cli::{JobFault, Place, RequestFault};
 pub use tsp_judge::{Watched, WriteFault};
 pub use tsp_perform::{Outcome, perform};
 pub use tsp_task::Task;

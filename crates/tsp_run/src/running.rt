@@ -7,13 +7,12 @@ ghost use Rattle.std.specs.Io.KnownBytes.{Appends};
 ghost use Rattle.tsp_judge.specs.Watched.{sink_of};
 ghost use Rattle.tsp_run.specs.ComparisonRun.{IsComparedAs};
 ghost use Rattle.tsp_run.specs.Ending.{status_of_ending, Tells, TellsAfter, TellsAll};
-ghost use Rattle.tsp_run.specs.ProgramRun.{AreFresh, EndsProgram, EndsRefused, EndsWith, HasNoWords, IsDoneAs, Runs, RunsComparison, RunsJob, RunsTask, begins_with_help};
+ghost use Rattle.tsp_run.specs.ProgramRun.{EndsProgram, EndsRefused, EndsWith, HasNoWords, IsDoneAs, Runs, RunsComparison, RunsJob, RunsTask, begins_with_help};
 
-use crate::compare_explained::comparison_explanation;
-use crate::compared::{compare, fresh};
 use crate::ending::{Ending, status_of_ending, tell};
-use crate::explained::{Asked, explanation, task_explanation};
+use crate::explained::{Asked, explanation, fault_explanation};
 use crate::followed::{Followed, end_count};
+use crate::opened::{opened, opened_to_compare};
 use crate::printed::{print_help, print_version};
 use crate::source::Open;
 use clap::Error as Refusal;
@@ -22,11 +21,11 @@ use std::alloc::{AllocError, Global};
 use std::io;
 use std::io::{Read, Write};
 use std::marker::PhantomData;
-use tsp_cli::{Job, JobFault, Place, TaskFault, Work, job_of, unread, work_of};
+use tsp_cli::{Job, JobFault, Place, RequestFault, job_of, request_of, unread};
 use tsp_judge::Watched;
-use tsp_perform::perform;
+use tsp_perform::{compare, perform};
 use tsp_stream::Gives;
-use tsp_task::Task;
+use tsp_task::{Comparison, Request, Task};
 
 /// What a run knows of its surroundings.
 #[derive(Clone, Copy)]
@@ -139,30 +138,24 @@ fn run_job<F: Gives + Drop, O: Open<F>, W: Write, E: Write>(
         (job.now.explain || setting.on_terminal) (E.contents errors.old) (E.contents errors.new) result }
 {
     let explain = is_explained(job, setting);
-    match work_of(job) {
+    let request = match request_of(job) {
+        Ok(request) => request,
         Err(fault) => {
             let told = tell_fault_of_job(alloc, fault, errors, explain);
-            (status_of_ending(&Ending::NoTask(fault)), told)
+            return (status_of_ending(&Ending::NoRequest(fault)), told);
         }
-        Ok(Work::Task(task)) => {
-            let asked = Asked {
-                task: &task,
-                files,
-                explain,
-            };
-            run_task(alloc, &asked, out, errors)
-        }
-        Ok(Work::Compare(comparison)) => {
-            let followed = Followed {
-                alloc,
-                comparison,
-                files,
-                explain,
-                counts: setting.counts,
-                file: PhantomData,
-            };
-            run_comparison(alloc, &followed, out, errors)
-        }
+    };
+    let asked = Asked {
+        alloc,
+        request: &request,
+        files,
+        explain,
+        counts: setting.counts,
+        file: PhantomData,
+    };
+    match &request {
+        Request::Task(task) => run_task(&asked, task, out, errors),
+        Request::Compare(comparison) => run_comparison(&asked, comparison, out, errors),
     }
 }
 
@@ -173,46 +166,65 @@ fn is_explained(job: &Job, setting: Setting) -> bool
     job.explain || setting.on_terminal
 }
 
-/// Tells why a job is no work, and explains it where that is wanted.
+/// Tells why a job asks for nothing, and explains it where that is wanted.
 fn tell_fault_of_job<E: Write>(
     alloc: Global,
-    fault: TaskFault,
+    fault: RequestFault,
     errors: &mut E,
     explain: bool,
 ) -> io::Result<()>
-    ensures { OnOk result (TellsAll explain (Ending.NoTask fault) (E.contents errors.old) (E.contents errors.new)) }
+    ensures { OnOk result (TellsAll explain (Ending.NoRequest fault) (E.contents errors.old) (E.contents errors.new)) }
 {
-    tell(&Ending::NoTask(fault), errors)?;
+    tell(&Ending::NoRequest(fault), errors)?;
     if !explain {
         return Ok(());
     }
-    append(errors, task_explanation(alloc, fault))
+    append(errors, fault_explanation(alloc, fault))
 }
 
 /// Does a task on its files, each opened in its place, and tells how that ended.
 fn run_task<F: Read + Drop, O: Open<F>, W: Write, E: Write>(
-    alloc: Global,
-    asked: &Asked<'_, O>,
+    asked: &Asked<'_, F, O>,
+    task: &Task<Place<'_>>,
     out: &mut Watched<W>,
     errors: &mut E,
 ) -> (u8, io::Result<()>)
-    ensures { RunsTask (IsDoneAs F.remaining (O.opens asked.now.files.now) asked.now.task.now
-        (sink_of W.contents out.old out.new))
+    ensures { RunsTask (IsDoneAs F.remaining (O.opens asked.now.files.now) task.now (sink_of W.contents out.old out.new))
         asked.now.explain (E.contents errors.old) (E.contents errors.new) result }
 {
-    let mut readers = opened(asked.task, asked.files);
-    let ending = Ending::Ended(perform(alloc, &mut readers, out));
-    let told = tell_task(alloc, asked, &ending, out.error(), errors);
+    let mut readers = opened(task, asked.files);
+    let ending = Ending::Ended(perform(asked.alloc, &mut readers, out));
+    let told = tell_end(asked, &ending, out.error(), errors);
     (status_of_ending(&ending), told)
 }
 
-/// Reports how a task ended, and explains it where that is wanted, with the system's words on a
+/// Compares solutions, and tells how that ended. The instance is opened in its place, and the
+/// certificate where one is named, and after them each solution in its own place.
+fn run_comparison<F: Gives + Drop, O: Open<F>, W: Write, E: Write>(
+    asked: &Asked<'_, F, O>,
+    comparison: &Comparison<'_, Place<'_>>,
+    out: &mut Watched<W>,
+    errors: &mut E,
+) -> (u8, io::Result<()>)
+    ensures { RunsComparison (IsComparedAs F.remaining F.gives (O.opens asked.now.files.now) comparison.now
+        (sink_of W.contents out.old out.new)) asked.now.explain (E.contents errors.old) (E.contents errors.new) result }
+{
+    let mut readers = opened_to_compare(comparison, asked.files);
+    let solutions = comparison.solutions;
+    let followed = Followed { asked, solutions };
+    let found = compare(asked.alloc, &mut readers, &followed, out, errors);
+    let ending = Ending::Compared(found);
+    end_count(asked, errors);
+    let told = tell_end(asked, &ending, out.error(), errors);
+    (status_of_ending(&ending), told)
+}
+
+/// Reports how a request ended, and explains it where that is wanted, with the system's words on a
 /// write that failed. Where there is no memory for the explanation, it is left out.
-fn tell_task<F: Read + Drop, O: Open<F>, E: Write>(
-    alloc: Global,
-    asked: &Asked<'_, O>,
+fn tell_end<F: Read + Drop, O: Open<F>, E: Write>(
+    asked: &Asked<'_, F, O>,
     ending: &Ending,
-    write_error: Option<&io::Error>,
+    error: Option<&io::Error>,
     errors: &mut E,
 ) -> io::Result<()>
     ensures { OnOk result (TellsAfter asked.now.explain ending.now (E.contents errors.old) (E.contents errors.new)) }
@@ -221,43 +233,7 @@ fn tell_task<F: Read + Drop, O: Open<F>, E: Write>(
     if !asked.explain {
         return Ok(());
     }
-    append(errors, explanation(alloc, asked, ending, write_error))
-}
-
-/// Compares solutions, and tells how that ended.
-fn run_comparison<F: Gives + Drop, O: Open<F>, W: Write, E: Write>(
-    alloc: Global,
-    followed: &Followed<'_, F, O>,
-    out: &mut Watched<W>,
-    errors: &mut E,
-) -> (u8, io::Result<()>)
-    ensures { RunsComparison (IsComparedAs F.remaining F.gives (O.opens followed.now.files.now) followed.now.comparison
-        (sink_of W.contents out.old out.new)) followed.now.explain (E.contents errors.old) (E.contents errors.new) result }
-{
-    let ending = Ending::Compared(compare(alloc, followed, out, errors));
-    end_count(followed, errors);
-    let told = tell_comparison(alloc, followed, &ending, out.error(), errors);
-    (status_of_ending(&ending), told)
-}
-
-/// Reports how a comparison ended, and explains it where that is wanted, as `tell_task` does.
-fn tell_comparison<F: Read + Drop, O: Open<F>, E: Write>(
-    alloc: Global,
-    followed: &Followed<'_, F, O>,
-    ending: &Ending,
-    write_error: Option<&io::Error>,
-    errors: &mut E,
-) -> io::Result<()>
-    ensures { OnOk result (TellsAfter followed.now.explain ending.now (E.contents errors.old) (E.contents errors.new)) }
-{
-    tell(ending, errors)?;
-    if !followed.explain {
-        return Ok(());
-    }
-    append(
-        errors,
-        comparison_explanation(alloc, followed, ending, write_error),
-    )
+    append(errors, explanation(asked, ending, error))
 }
 
 /// Writes a text.
@@ -288,29 +264,4 @@ fn texts<'a>(alloc: Global, words: &'a [String]) -> Result<Vec<&'a str>, AllocEr
         texts.push(word.as_str())?;
     }
     Ok(texts)
-}
-
-/// The task with each file opened, and nothing read yet.
-fn opened<F: Read + Drop, O: Open<F>>(task: &Task<Place<'_>>, files: &O) -> Task<Watched<F>>
-    ensures { AreFresh (O.opens files.now) task.now result }
-{
-    match task {
-        Task::Show(file) => Task::Show(fresh(*file, files)),
-        Task::Convert(file, to) => Task::Convert(fresh(*file, files), *to),
-        Task::Check(instance, solution, claimed) => Task::Check(
-            fresh(*instance, files),
-            fresh(*solution, files),
-            *claimed,
-        ),
-        Task::CheckBy(by, instance, solution, certificate, claimed) => Task::CheckBy(
-            *by,
-            fresh(*instance, files),
-            fresh(*solution, files),
-            fresh(*certificate, files),
-            *claimed,
-        ),
-        Task::Bound(by, instance, certificate) => {
-            Task::Bound(*by, fresh(*instance, files), fresh(*certificate, files))
-        }
-    }
 }

@@ -3,7 +3,7 @@
 ghost use Rattle.std.specs.Prelude.{◌≡◌, IsTrue, IsErr, MatchResult};
 ghost use Rattle.std.specs.Io.{ReadsAtMost};
 ghost use Rattle.std.specs.Io.KnownBytes.{ReadConsumes};
-ghost use Rattle.tsp_cli.specs.declared.task.Place.{Place};
+ghost use Rattle.tsp_cli.specs.declared.request.Place.{Place};
 ghost use Rattle.tsp_run.specs.states.Source.{remaining_of, is_missing, IsAskedOnce, GivesOnce, IsSameError};
 
 use std::io;

@@ -1,11 +1,15 @@
-//! A task on files: what is done with which. A command line asks for one, and so does a call for C.
+//! Requests: a task on files, or to compare solutions. A command line is one, and so is a call for
+//! C.
 //!
 //! ```text
-//! let task = Task::Check(instance, solution, None);
-//! let (given, solution) = task.file(2)?;
+//! let task = Task::Show { file: path };
+//! let mut opened = task.map(|path| open(path));
+//! let (given, file) = task.file(1)?;
 //! ```
 #![tactic(auto)]
 
-mod task;
+mod examples;
+mod request;
 
-pub use task::Task;
+pub use examples::{examples_of_files, examples_of_mapped_requests};
+pub use request::{Comparison, Request, Task};

@@ -5,8 +5,8 @@ use Rattle.std.specs.declared.io.Error.{Error}
 use denote.Ref.{MutBor}
 use denote.Param.Members.{Once}
 use Rattle.tsp_stream.specs.states.Watched.{Calls}
-use Rattle.tsp_cli.specs.declared.task.Place.{Place}
-use Rattle.tsp_cli.specs.declared.task.Place.TheVariants as places
+use Rattle.tsp_cli.specs.declared.request.Place.{Place}
+use Rattle.tsp_cli.specs.declared.request.Place.TheVariants as places
 use Rattle.tsp_run.specs.declared.source.Source.{Source}
 use Rattle.tsp_run.specs.declared.source.Source.TheVariants.{Input, Opened, Missing}
 

@@ -1,6 +1,6 @@
 -- The loop of `inputs_at` in src/once.rt.
 use Rattle.std.proofs.Common.{◌≡◌, ◌≤◌, take}
-use Rattle.tsp_cli.specs.Task.{inputs_at}
+use Rattle.tsp_cli.specs.Requests.{inputs_at}
 use Rattle.tsp_cli.proofs.once.inputs_at.Given as goal
 
 abbrev pub invariant-paths : goal.invariant-paths

@@ -1,6 +1,6 @@
 -- The goals of `run_comparison` in src/running.rt: what it ensures.
 use Rattle.std.proofs.Common.{Result, Ok, Err, OnOk}
-use Rattle.tsp_run.proofs.Tellings.{tells_more}
+use Rattle.tsp_run.proofs.Tellings.{tells_compared, tells_more}
 use Rattle.tsp_run.proofs.running.run_comparison.Goals as goal
 
 on_ok : {A B : Type 0} (r : Result A B) (P Q : Type 0) → (P → Q) → OnOk r P → OnOk r Q
@@ -9,9 +9,11 @@ on_ok (Err b) P Q f told = told
 
 pub returns : goal.returns
 returns g c =
-    let before = tells_more c.args.followed.now.explain (g.E.Write.contents c.args.errors.now) (g.E.Write.contents c.compare.new.errors)
-    (g.E.Write.contents c.end_count.new.to) c.compare.ensures.told c.end_count.ensures in (
-      c.compare.result,
-      c.compare.ensures.text,
-      (c.status_of_ending.ensures, on_ok c.tell_comparison-told.result _ _ (λ told. (g.E.Write.contents c.end_count.new.to, before, told)) c.tell_comparison-told.ensures),
+    let explain = c.args.asked.now.explain in
+    let contents = g.E.Write.contents in
+    let first = tells_compared explain contents _ c.args.errors.now c.compare-found.new.to c.compare-found.result c.compare-found.ensures.told in
+    let before = tells_more explain (contents c.args.errors.now) (contents c.compare-found.new.to) (contents c.end_count.new.to) first c.end_count.ensures in (
+      c.compare-found.result,
+      (c.opened_to_compare-readers.result, c.compare-found.new.comparison, c.opened_to_compare-readers.ensures, c.compare-found.ensures.text),
+      (c.status_of_ending.ensures, on_ok c.tell_end-told.result _ _ (λ told. (contents c.end_count.new.to, before, told)) c.tell_end-told.ensures),
     )

@@ -1,14 +1,14 @@
-//! What is done with which files.
+//! What a job asks for, of which files.
 
 ghost use Rattle.std.specs.Prelude.{◌≡◌, Some, option_map};
 ghost use Rattle.std.specs.String.{string_bytes};
-ghost use Rattle.tsp_cli.specs.Task.{GivesPlace, GivesLayout, GivesClaim, GivesCertificate, IsPlaceAt, any_line_end, has_line_end, NamesWork, NamesCheck, NamesComparison, NamesBound};
+ghost use Rattle.tsp_cli.specs.Requests.{GivesPlace, GivesLayout, GivesClaim, GivesCertificate, IsPlaceAt, any_line_end, has_line_end, NamesRequest, NamesCheck, NamesComparison, NamesBound};
 
 use crate::words::{Job, Verb};
 use tsp_format::Layout;
 use tsp_number::parse_whole;
 use tsp_reason::Certificate;
-use tsp_task::Task;
+use tsp_task::{Comparison, Request, Task};
 
 /// Where a file is.
 #[derive(Clone, Copy)]
@@ -19,30 +19,9 @@ pub enum Place<'a> {
     Path(&'a str),
 }
 
-/// The solutions that are compared, and by which files. They are opened one after the other, so the
-/// paths stay as they are given: `-` is standard input.
+/// Why a job asks for nothing that can be done.
 #[derive(Clone, Copy)]
-pub struct Comparison<'a> {
-    /// The place of the instance.
-    pub instance: Place<'a>,
-    /// The certificate, and the place of its file, where one is named.
-    pub certificate: Option<(Certificate, Place<'a>)>,
-    /// The paths of the solutions, one at least, in the order in which they are judged.
-    pub solutions: &'a [String],
-}
-
-/// What a job asks for.
-#[derive(Drop)]
-pub enum Work<'a> {
-    /// A task on files.
-    Task(Task<Place<'a>>),
-    /// To compare solutions.
-    Compare(Comparison<'a>),
-}
-
-/// Why a job is no work that can be done.
-#[derive(Clone, Copy)]
-pub enum TaskFault {
+pub enum RequestFault {
     /// No layout has the word.
     UnknownLayout,
     /// A path that the job requires is missing.
@@ -59,8 +38,8 @@ pub enum TaskFault {
     LineEndInPath,
 }
 
-/// The work that a job asks for, whose files may be standard input several times. With no verb,
-/// standard input is shown.
+/// What a job asks for, of files that may be standard input several times. With no verb, standard
+/// input is shown.
 ///
 /// # Errors
 ///
@@ -68,46 +47,54 @@ pub enum TaskFault {
 /// isn't one; `TwoCertificates` where both potentials and branches are named; `NoCertificate` where
 /// a bound has neither; `LineEndInPath` where the path of a solution that is compared contains byte
 /// 10; `MissingPath` where a path is missing, as in no job that words ask for.
-pub(crate) fn named_work(job: &Job) -> Result<Work<'_>, TaskFault>
-    ensures { NamesWork job.now result }
+pub(crate) fn named_request(job: &Job) -> Result<Request<'_, Place<'_>>, RequestFault>
+    ensures { NamesRequest job.now result }
 {
     let Some(verb) = job.verb else {
-        return Ok(Work::Task(Task::Show(Place::Input)));
+        let file = Place::Input;
+        return Ok(Request::Task(Task::Show { file }));
     };
     let file = place_of(job.file.as_ref())?;
     match verb {
-        Verb::Show => Ok(Work::Task(Task::Show(file))),
-        Verb::Convert => Ok(Work::Task(Task::Convert(file, layout_of(&job.layout)?))),
-        Verb::Check => Ok(Work::Task(check_of(job, file)?)),
-        Verb::Compare => Ok(Work::Compare(comparison_of(job, file)?)),
-        Verb::Bound => Ok(Work::Task(bound_of(job, file)?)),
+        Verb::Show => Ok(Request::Task(Task::Show { file })),
+        Verb::Convert => {
+            let layout = layout_of(&job.layout)?;
+            Ok(Request::Task(Task::Convert { file, layout }))
+        }
+        Verb::Check => Ok(Request::Task(check_of(job, file)?)),
+        Verb::Compare => Ok(Request::Compare(comparison_of(job, file)?)),
+        Verb::Bound => Ok(Request::Task(bound_of(job, file)?)),
     }
 }
 
 /// The check of a job with this instance.
-fn check_of<'a>(job: &'a Job, instance: Place<'a>) -> Result<Task<Place<'a>>, TaskFault>
+fn check_of<'a>(job: &'a Job, instance: Place<'a>) -> Result<Task<Place<'a>>, RequestFault>
     ensures { NamesCheck job.now instance.entry result }
 {
     let solution = place_of(job.solution.as_ref())?;
     let claimed = length_of(&job.length)?;
-    match certificate_of(job)? {
-        None => Ok(Task::Check(instance, solution, claimed)),
-        Some((by, certificate)) => {
-            Ok(Task::CheckBy(by, instance, solution, certificate, claimed))
-        }
-    }
+    let certificate = certificate_of(job)?;
+    Ok(Task::Check {
+        instance,
+        solution,
+        certificate,
+        claimed,
+    })
 }
 
 /// The comparison of a job with this instance.
-fn comparison_of<'a>(job: &'a Job, instance: Place<'a>) -> Result<Comparison<'a>, TaskFault>
+fn comparison_of<'a>(
+    job: &'a Job,
+    instance: Place<'a>,
+) -> Result<Comparison<'a, Place<'a>>, RequestFault>
     ensures { NamesComparison job.now instance.entry result }
 {
     if job.solutions.is_empty() {
-        return Err(TaskFault::MissingPath);
+        return Err(RequestFault::MissingPath);
     }
     let certificate = certificate_of(job)?;
     if any_line_end(&job.solutions) {
-        return Err(TaskFault::LineEndInPath);
+        return Err(RequestFault::LineEndInPath);
     }
     Ok(Comparison {
         instance,
@@ -139,22 +126,25 @@ fn has_line_end(path: &[u8]) -> bool
 }
 
 /// The bound of a job with this instance.
-fn bound_of<'a>(job: &'a Job, instance: Place<'a>) -> Result<Task<Place<'a>>, TaskFault>
+fn bound_of<'a>(job: &'a Job, instance: Place<'a>) -> Result<Task<Place<'a>>, RequestFault>
     ensures { NamesBound job.now instance.entry result }
 {
     match certificate_of(job)? {
-        None => Err(TaskFault::NoCertificate),
-        Some((by, certificate)) => Ok(Task::Bound(by, instance, certificate)),
+        None => Err(RequestFault::NoCertificate),
+        Some(certificate) => Ok(Task::Bound {
+            instance,
+            certificate,
+        }),
     }
 }
 
 /// The place of a path that has to be there.
-fn place_of(path: Option<&String>) -> Result<Place<'_>, TaskFault>
+fn place_of(path: Option<&String>) -> Result<Place<'_>, RequestFault>
     ensures { GivesPlace (option_map (λ text. string_bytes text.now) path.entry) result }
 {
     match path {
         Some(path) => Ok(place_at(path)),
-        None => Err(TaskFault::MissingPath),
+        None => Err(RequestFault::MissingPath),
     }
 }
 
@@ -169,7 +159,7 @@ pub fn place_at(path: &str) -> Place<'_>
 }
 
 /// The layout with a word, where there is a word.
-fn layout_of(word: &Option<String>) -> Result<Option<Layout>, TaskFault>
+fn layout_of(word: &Option<String>) -> Result<Option<Layout>, RequestFault>
     ensures { GivesLayout word.now result }
 {
     let Some(word) = word else {
@@ -177,12 +167,12 @@ fn layout_of(word: &Option<String>) -> Result<Option<Layout>, TaskFault>
     };
     match Layout::of_word(word) {
         Some(layout) => Ok(Some(layout)),
-        None => Err(TaskFault::UnknownLayout),
+        None => Err(RequestFault::UnknownLayout),
     }
 }
 
 /// The length that a word is read as, where there is a word.
-fn length_of(word: &Option<String>) -> Result<Option<i64>, TaskFault>
+fn length_of(word: &Option<String>) -> Result<Option<i64>, RequestFault>
     ensures { GivesClaim word.now result }
 {
     let Some(word) = word else {
@@ -190,18 +180,18 @@ fn length_of(word: &Option<String>) -> Result<Option<i64>, TaskFault>
     };
     match parse_whole(word.as_bytes(), i64::MIN, i64::MAX) {
         Ok(length) => Ok(Some(length)),
-        Err(_) => Err(TaskFault::NotALength),
+        Err(_) => Err(RequestFault::NotALength),
     }
 }
 
 /// The certificate that is named, with the place of its file, where one is.
-fn certificate_of(job: &Job) -> Result<Option<(Certificate, Place<'_>)>, TaskFault>
+fn certificate_of(job: &Job) -> Result<Option<(Certificate, Place<'_>)>, RequestFault>
     ensures { GivesCertificate job.now result }
 {
     match (&job.potentials, &job.branches) {
         (None, None) => Ok(None),
         (Some(path), None) => Ok(Some((Certificate::Potentials, place_at(path)))),
         (None, Some(path)) => Ok(Some((Certificate::Branches, place_at(path)))),
-        (Some(_), Some(_)) => Err(TaskFault::TwoCertificates),
+        (Some(_), Some(_)) => Err(RequestFault::TwoCertificates),
     }
 }

@@ -1,7 +1,7 @@
--- The loop of `has_line_end` in src/task.rt.
+-- The loop of `has_line_end` in src/request.rt.
 use Rattle.std.proofs.Common.{◌≡◌, take}
-use Rattle.tsp_cli.specs.Task.{has_line_end}
-use Rattle.tsp_cli.proofs.task.has_line_end.Given as goal
+use Rattle.tsp_cli.specs.Requests.{has_line_end}
+use Rattle.tsp_cli.proofs.request.has_line_end.Given as goal
 
 abbrev pub invariant-bytes : goal.invariant-bytes
 invariant-bytes l = l.found ≡ has_line_end (take l.byte-index l.path)

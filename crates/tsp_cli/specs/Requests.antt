@@ -1,4 +1,4 @@
--- What is done with which files.
+-- What a job asks for, of which files.
 use Rattle.std.specs.Prelude.{◌≡◌, ◌≢◌, ◌⊎◌, ◌≤◌, ◌+◌, ℕ, Bool, true, false, ◌==◌, List, [], Option, None, Some, Result, Ok, Err, String, codes, map, ℤ, pos, negsuc}
 use Rattle.std.specs.List.{count_by, list_any, sum_by}
 use Rattle.std.specs.Str.{bytes_eq}
@@ -10,19 +10,20 @@ use Rattle.tsp_format.specs.declared.layout.Layout.{Layout}
 use Rattle.tsp_format.specs.Layout.{layout_word}
 use Rattle.tsp_reason.specs.declared.certificate.Certificate.{Certificate}
 use Rattle.tsp_reason.specs.declared.certificate.Certificate.TheVariants.{Potentials, Branches}
-use Rattle.tsp_task.specs.Files.{files_of}
+use Rattle.tsp_reason.specs.declared.role.Role.{Role}
+use Rattle.tsp_task.specs.Files.{files_of, files_compared}
 use Rattle.tsp_cli.specs.CommandWords.{text_in}
 use Rattle.tsp_cli.specs.declared.words.Job.{Job}
 use Rattle.tsp_cli.specs.declared.words.Verb.TheVariants as verbs
-use Rattle.tsp_cli.specs.declared.task.Place.{Place}
-use Rattle.tsp_cli.specs.declared.task.Place.TheVariants.{Input, Path}
-use Rattle.tsp_task.specs.declared.task.Task.{Task}
-use Rattle.tsp_task.specs.declared.task.Task.TheVariants.{Show, Convert, Check, CheckBy, Bound}
-use Rattle.tsp_cli.specs.declared.task.Comparison.{Comparison}
-use Rattle.tsp_cli.specs.declared.task.Work.{Work}
-use Rattle.tsp_cli.specs.declared.task.Work.TheVariants as works
-use Rattle.tsp_cli.specs.declared.task.TaskFault.{TaskFault}
-use Rattle.tsp_cli.specs.declared.task.TaskFault.TheVariants.{UnknownLayout, MissingPath, TwoCertificates, NoCertificate, NotALength, InputTwice, LineEndInPath}
+use Rattle.tsp_cli.specs.declared.request.Place.{Place}
+use Rattle.tsp_cli.specs.declared.request.Place.TheVariants.{Input, Path}
+use Rattle.tsp_task.specs.declared.request.Task.{Task}
+use Rattle.tsp_task.specs.declared.request.Task.TheVariants.{Show, Convert, Check, Bound}
+use Rattle.tsp_task.specs.declared.request.Comparison.{Comparison}
+use Rattle.tsp_task.specs.declared.request.Request.{Request}
+use Rattle.tsp_task.specs.declared.request.Request.TheVariants as requests
+use Rattle.tsp_cli.specs.declared.request.RequestFault.{RequestFault}
+use Rattle.tsp_cli.specs.declared.request.RequestFault.TheVariants.{UnknownLayout, MissingPath, TwoCertificates, NoCertificate, NotALength, InputTwice, LineEndInPath}
 
 -- a path names this place: `-` is standard input
 abbrev pub IsPlaceAt : Text → Place → Type 0
@@ -70,19 +71,19 @@ NamesNone job = (job.potentials ≡ None) × (job.branches ≡ None)
 abbrev pub NamesBoth : Job → Type 0
 NamesBoth job = (job.potentials ≢ None) × (job.branches ≢ None)
 
-abbrev pub GivesPlace : Option Text → Result Place TaskFault → Type 0
+abbrev pub GivesPlace : Option Text → Result Place RequestFault → Type 0
 GivesPlace path (Ok place) = IsPlaceOf path place
 GivesPlace path (Err fault) = (fault ≡ MissingPath) × (path ≡ None)
 
-abbrev pub GivesLayout : {Z : Type 0} → Option (String Z) → Result (Option Layout) TaskFault → Type 0
+abbrev pub GivesLayout : {Z : Type 0} → Option (String Z) → Result (Option Layout) RequestFault → Type 0
 GivesLayout word (Ok layout) = IsLayout word layout
 GivesLayout word (Err fault) = (fault ≡ UnknownLayout) × IsNoLayout word
 
-abbrev pub GivesClaim : {Z : Type 0} → Option (String Z) → Result (Option ℤ) TaskFault → Type 0
+abbrev pub GivesClaim : {Z : Type 0} → Option (String Z) → Result (Option ℤ) RequestFault → Type 0
 GivesClaim word (Ok claimed) = IsClaim word claimed
 GivesClaim word (Err fault) = (fault ≡ NotALength) × IsNoLength word
 
-abbrev pub GivesCertificate : Job → Result (Option (Certificate × Place)) TaskFault → Type 0
+abbrev pub GivesCertificate : Job → Result (Option (Certificate × Place)) RequestFault → Type 0
 GivesCertificate job (Ok None) = NamesNone job
 GivesCertificate job (Ok (Some named)) = IsNamed job named.0 named.1
 GivesCertificate job (Err fault) = (fault ≡ TwoCertificates) × NamesBoth job
@@ -92,13 +93,11 @@ abbrev pub IsTask : Job → Task Place → Type 0
 IsTask job (Show Input) = (job.verb ≡ None) ⊎ ((job.verb ≡ Some verbs.Show) × IsPlaceOf (text_in job.file) Input)
 IsTask job (Show (Path path)) = (job.verb ≡ Some verbs.Show) × IsPlaceOf (text_in job.file) (Path path)
 IsTask job (Convert file to) = (job.verb ≡ Some verbs.Convert) × IsPlaceOf (text_in job.file) file × IsLayout job.layout to
-IsTask job (Check instance solution claimed) = (job.verb ≡ Some verbs.Check) × IsPlaceOf (text_in job.file) instance
-    × IsPlaceOf (text_in job.solution) solution × IsClaim job.length claimed × NamesNone job
-IsTask job (CheckBy by instance solution certificate claimed) = (job.verb ≡ Some verbs.Check)
+IsTask job (Check instance solution certificate claimed) = (job.verb ≡ Some verbs.Check)
     × IsPlaceOf (text_in job.file) instance × IsPlaceOf (text_in job.solution) solution × IsClaim job.length claimed
-    × IsNamed job by certificate
-IsTask job (Bound by instance certificate) = (job.verb ≡ Some verbs.Bound) × IsPlaceOf (text_in job.file) instance
-    × IsNamed job by certificate
+    × GivesCertificate job (Ok certificate)
+IsTask job (Bound instance certificate) = (job.verb ≡ Some verbs.Bound) × IsPlaceOf (text_in job.file) instance
+    × IsNamed job certificate.0 certificate.1
 
 -- a path contains byte 10, which ends a line
 abbrev pub has_line_end : Text → Bool
@@ -109,45 +108,43 @@ any_line_end paths = list_any (λ path. has_line_end (string_bytes path)) paths
 
 -- The comparison of these solutions, all those of the job in their order, and one at least. No path has a line end, since the
 -- line of its solution ends with it.
-abbrev pub IsComparisonOf : Job → Comparison → Type 0
+abbrev pub IsComparisonOf : Job → Comparison Place → Type 0
 IsComparisonOf job comparison = (job.verb ≡ Some verbs.Compare) × IsPlaceOf (text_in job.file) comparison.instance
     × GivesCertificate job (Ok comparison.certificate) × (comparison.solutions.now ≡ job.solutions.items)
     × (job.solutions.items ≢ []) × (any_line_end job.solutions.items ≡ false)
 
-abbrev pub IsWork : Job → Work → Type 0
-IsWork job (works.Task task) = IsTask job task
-IsWork job (works.Compare comparison) = IsComparisonOf job comparison
+abbrev pub IsRequest : Job → Request Place → Type 0
+IsRequest job (requests.Task task) = IsTask job task
+IsRequest job (requests.Compare comparison) = IsComparisonOf job comparison
 
 -- the verb takes one certificate at most
 abbrev pub TakesCertificate : Job → Type 0
 TakesCertificate job = (job.verb ≡ Some verbs.Check) ⊎ ((job.verb ≡ Some verbs.Compare) ⊎ (job.verb ≡ Some verbs.Bound))
 
--- the work, whose files may be standard input several times
-abbrev pub NamesWork : Job → Result Work TaskFault → Type 0
-NamesWork job (Ok work) = IsWork job work
-NamesWork job (Err UnknownLayout) = (job.verb ≡ Some verbs.Convert) × IsNoLayout job.layout
-NamesWork job (Err NotALength) = (job.verb ≡ Some verbs.Check) × IsNoLength job.length
-NamesWork job (Err TwoCertificates) = TakesCertificate job × NamesBoth job
-NamesWork job (Err NoCertificate) = (job.verb ≡ Some verbs.Bound) × NamesNone job
-NamesWork job (Err MissingPath) = (job.verb ≢ None) × ((job.file ≡ None)
+-- the request, whose files may be standard input several times
+abbrev pub NamesRequest : Job → Result (Request Place) RequestFault → Type 0
+NamesRequest job (Ok request) = IsRequest job request
+NamesRequest job (Err UnknownLayout) = (job.verb ≡ Some verbs.Convert) × IsNoLayout job.layout
+NamesRequest job (Err NotALength) = (job.verb ≡ Some verbs.Check) × IsNoLength job.length
+NamesRequest job (Err TwoCertificates) = TakesCertificate job × NamesBoth job
+NamesRequest job (Err NoCertificate) = (job.verb ≡ Some verbs.Bound) × NamesNone job
+NamesRequest job (Err MissingPath) = (job.verb ≢ None) × ((job.file ≡ None)
     ⊎ ((job.verb ≡ Some verbs.Check) × (job.solution ≡ None)) ⊎ ((job.verb ≡ Some verbs.Compare) × (job.solutions.items ≡ [])))
-NamesWork job (Err LineEndInPath) = (job.verb ≡ Some verbs.Compare) × (any_line_end job.solutions.items ≡ true)
-NamesWork job (Err InputTwice) = ⊥
+NamesRequest job (Err LineEndInPath) = (job.verb ≡ Some verbs.Compare) × (any_line_end job.solutions.items ≡ true)
+NamesRequest job (Err InputTwice) = ⊥
 
--- ---- the work of one verb, with the instance at this place
+-- ---- what one verb asks for, with the instance at this place
 
-abbrev pub NamesCheck : Job → Place → Result (Task Place) TaskFault → Type 0
-NamesCheck job at (Ok (Check instance solution claimed)) = (instance ≡ at) × IsPlaceOf (text_in job.solution) solution
-    × IsClaim job.length claimed × NamesNone job
-NamesCheck job at (Ok (CheckBy by instance solution certificate claimed)) = (instance ≡ at)
-    × IsPlaceOf (text_in job.solution) solution × IsClaim job.length claimed × IsNamed job by certificate
+abbrev pub NamesCheck : Job → Place → Result (Task Place) RequestFault → Type 0
+NamesCheck job at (Ok (Check instance solution certificate claimed)) = (instance ≡ at)
+    × IsPlaceOf (text_in job.solution) solution × IsClaim job.length claimed × GivesCertificate job (Ok certificate)
 NamesCheck job at (Ok other) = ⊥
 NamesCheck job at (Err MissingPath) = job.solution ≡ None
 NamesCheck job at (Err NotALength) = IsNoLength job.length
 NamesCheck job at (Err TwoCertificates) = NamesBoth job
 NamesCheck job at (Err other) = ⊥
 
-abbrev pub NamesComparison : Job → Place → Result Comparison TaskFault → Type 0
+abbrev pub NamesComparison : Job → Place → Result (Comparison Place) RequestFault → Type 0
 NamesComparison job at (Ok comparison) = (comparison.instance ≡ at) × GivesCertificate job (Ok comparison.certificate)
     × (comparison.solutions.now ≡ job.solutions.items) × (job.solutions.items ≢ []) × (any_line_end job.solutions.items ≡ false)
 NamesComparison job at (Err MissingPath) = job.solutions.items ≡ []
@@ -155,8 +152,8 @@ NamesComparison job at (Err LineEndInPath) = any_line_end job.solutions.items �
 NamesComparison job at (Err TwoCertificates) = NamesBoth job
 NamesComparison job at (Err other) = ⊥
 
-abbrev pub NamesBound : Job → Place → Result (Task Place) TaskFault → Type 0
-NamesBound job at (Ok (Bound by instance certificate)) = (instance ≡ at) × IsNamed job by certificate
+abbrev pub NamesBound : Job → Place → Result (Task Place) RequestFault → Type 0
+NamesBound job at (Ok (Bound instance certificate)) = (instance ≡ at) × IsNamed job certificate.0 certificate.1
 NamesBound job at (Ok other) = ⊥
 NamesBound job at (Err NoCertificate) = NamesNone job
 NamesBound job at (Err TwoCertificates) = NamesBoth job
@@ -169,8 +166,11 @@ abbrev pub input : Place → ℕ
 input Input = 1
 input (Path path) = 0
 
+abbrev pub inputs_in : List (Option Role × Place) → ℕ
+inputs_in files = sum_by (λ file. input file.1) files
+
 abbrev pub inputs_of : Task Place → ℕ
-inputs_of task = sum_by (λ file. input file.1) (files_of task)
+inputs_of task = inputs_in (files_of task)
 
 -- how many of the paths are `-`
 abbrev pub is_dash : Text → Bool
@@ -179,22 +179,17 @@ is_dash path = bytes_eq path (codes "-")
 abbrev pub inputs_at : {Z : Type 0} → List (String Z) → ℕ
 inputs_at paths = count_by (λ path. is_dash (string_bytes path)) paths
 
-abbrev pub input_of : Option (Certificate × Place) → ℕ
-input_of None = 0
-input_of (Some named) = input named.1
+abbrev pub inputs_of_request : Request Place → ℕ
+inputs_of_request (requests.Task task) = inputs_of task
+inputs_of_request (requests.Compare comparison) = inputs_in (files_compared comparison) + inputs_at comparison.solutions.now
 
-abbrev pub inputs_of_work : Work → ℕ
-inputs_of_work (works.Task task) = inputs_of task
-inputs_of_work (works.Compare comparison) = input comparison.instance + input_of comparison.certificate
-    + inputs_at comparison.solutions.now
-
--- the work, of whose files one at most is standard input, since that gives its bytes once
-abbrev pub GivesWork : Job → Result Work TaskFault → Type 0
-GivesWork job (Ok work) = IsWork job work × (inputs_of_work work ≤ 1)
-GivesWork job (Err InputTwice) = (work : Work) × IsWork job work × (2 ≤ inputs_of_work work)
-GivesWork job (Err UnknownLayout) = NamesWork job (Err UnknownLayout)
-GivesWork job (Err NotALength) = NamesWork job (Err NotALength)
-GivesWork job (Err TwoCertificates) = NamesWork job (Err TwoCertificates)
-GivesWork job (Err NoCertificate) = NamesWork job (Err NoCertificate)
-GivesWork job (Err MissingPath) = NamesWork job (Err MissingPath)
-GivesWork job (Err LineEndInPath) = NamesWork job (Err LineEndInPath)
+-- the request, of whose files one at most is standard input, since that gives its bytes once
+abbrev pub GivesRequest : Job → Result (Request Place) RequestFault → Type 0
+GivesRequest job (Ok request) = IsRequest job request × (inputs_of_request request ≤ 1)
+GivesRequest job (Err InputTwice) = (request : Request Place) × IsRequest job request × (2 ≤ inputs_of_request request)
+GivesRequest job (Err UnknownLayout) = NamesRequest job (Err UnknownLayout)
+GivesRequest job (Err NotALength) = NamesRequest job (Err NotALength)
+GivesRequest job (Err TwoCertificates) = NamesRequest job (Err TwoCertificates)
+GivesRequest job (Err NoCertificate) = NamesRequest job (Err NoCertificate)
+GivesRequest job (Err MissingPath) = NamesRequest job (Err MissingPath)
+GivesRequest job (Err LineEndInPath) = NamesRequest job (Err LineEndInPath)

@@ -1,7 +1,7 @@
--- The loop of `any_line_end` in src/task.rt.
+-- The loop of `any_line_end` in src/request.rt.
 use Rattle.std.proofs.Common.{◌≡◌, take}
-use Rattle.tsp_cli.specs.Task.{any_line_end}
-use Rattle.tsp_cli.proofs.task.any_line_end.Given as goal
+use Rattle.tsp_cli.specs.Requests.{any_line_end}
+use Rattle.tsp_cli.proofs.request.any_line_end.Given as goal
 
 abbrev pub invariant-paths : goal.invariant-paths
 invariant-paths l = l.found ≡ any_line_end (take l.path-index l.paths)

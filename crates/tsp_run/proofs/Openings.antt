@@ -1,0 +1,36 @@
+-- The same request of other files, by a relation that another one implies.
+use Rattle.std.proofs.Common.{Option, None, Some}
+use Rattle.tsp_reason.specs.declared.certificate.Certificate.{Certificate}
+use Rattle.tsp_task.specs.Mapped.{IsMapped, IsMappedCertificate, IsMappedComparison}
+use Rattle.tsp_task.specs.declared.request.Comparison.{Comparison}
+use Rattle.tsp_task.specs.declared.request.Task.{Task}
+use Rattle.tsp_task.specs.declared.request.Task.TheVariants.{Show, Convert, Check, Bound}
+
+certificate_by : {F G : Type 0} (P Q : F → G → Type 0) → ((a : F) (x : G) → P a x → Q a x) → (old : Option (Certificate × F)) (new : Option (Certificate × G))
+    → IsMappedCertificate P old new → IsMappedCertificate Q old new
+certificate_by P Q implies None None same = same
+certificate_by P Q implies None (Some x) same = absurd same
+certificate_by P Q implies (Some a) None same = absurd same
+certificate_by P Q implies (Some a) (Some x) same = (same.0, implies a.1 x.1 same.1)
+
+pub task_by : {F G : Type 0} (P Q : F → G → Type 0) → ((a : F) (x : G) → P a x → Q a x) → (old : Task F) (new : Task G) → IsMapped P old new → IsMapped Q old new
+task_by P Q implies (Show a) (Show x) same = implies a x same
+task_by P Q implies (Show a) (Convert x to) same = absurd same
+task_by P Q implies (Show a) (Check x y z claimed) same = absurd same
+task_by P Q implies (Show a) (Bound x z) same = absurd same
+task_by P Q implies (Convert a to) (Show x) same = absurd same
+task_by P Q implies (Convert a to) (Convert x kept) same = (implies a x same.0, same.1)
+task_by P Q implies (Convert a to) (Check x y z claimed) same = absurd same
+task_by P Q implies (Convert a to) (Bound x z) same = absurd same
+task_by P Q implies (Check a b c claimed) (Show x) same = absurd same
+task_by P Q implies (Check a b c claimed) (Convert x to) same = absurd same
+task_by P Q implies (Check a b c claimed) (Check x y z kept) same = (implies a x same.0, implies b y same.1, certificate_by P Q implies c z same.2, same.3)
+task_by P Q implies (Check a b c claimed) (Bound x z) same = absurd same
+task_by P Q implies (Bound a c) (Show x) same = absurd same
+task_by P Q implies (Bound a c) (Convert x to) same = absurd same
+task_by P Q implies (Bound a c) (Check x y z claimed) same = absurd same
+task_by P Q implies (Bound a c) (Bound x z) same = (implies a x same.0, same.1, implies c.1 z.1 same.2)
+
+pub comparison_by : {F G : Type 0} (P Q : F → G → Type 0) → ((a : F) (x : G) → P a x → Q a x) → (old : Comparison F) (new : Comparison G)
+    → IsMappedComparison P old new → IsMappedComparison Q old new
+comparison_by P Q implies old new same = (implies old.instance new.instance same.0, certificate_by P Q implies old.certificate new.certificate same.1, same.2)

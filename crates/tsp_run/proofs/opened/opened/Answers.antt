@@ -1,0 +1,10 @@
+-- The goals of `opened` in src/opened.rt: what it ensures.
+use Rattle.std.proofs.Common.{rules}
+use Rattle.tsp_run.specs.ComparisonRun.{IsFresh}
+use Rattle.tsp_run.proofs.Openings.{task_by}
+use Rattle.tsp_run.proofs.opened.opened.Goals as goal
+
+pub returns : goal.returns
+returns g c =
+    let opens = g.O.Open.opens c.args.files.now in
+    task_by _ (IsFresh opens) (λ place reader given. let shows = given.shows in let met = given.says.met in search rules) c.args.task.now c.map.result c.map.ensures

@@ -1,0 +1,37 @@
+//! The files of a request, each opened in its place.
+
+ghost use Rattle.tsp_run.specs.ComparisonRun.{AreOpened, IsFresh};
+ghost use Rattle.tsp_run.specs.ProgramRun.{AreFresh};
+
+use crate::source::Open;
+use std::io::Read;
+use tsp_cli::Place;
+use tsp_judge::Watched;
+use tsp_task::{Comparison, Task};
+
+/// The task with each file opened, and nothing read yet.
+pub(crate) fn opened<F: Read + Drop, O: Open<F>>(
+    task: &Task<Place<'_>>,
+    files: &O,
+) -> Task<Watched<F>>
+    ensures { AreFresh (O.opens files.now) task.now result }
+{
+    task.map(|place| fresh(*place, files))
+}
+
+/// The comparison with the instance and the certificate opened, and nothing read yet.
+pub(crate) fn opened_to_compare<'a, F: Read + Drop, O: Open<F>>(
+    comparison: &Comparison<'a, Place<'_>>,
+    files: &O,
+) -> Comparison<'a, Watched<F>>
+    ensures { AreOpened (O.opens files.now) comparison.now result }
+{
+    comparison.map(|place| fresh(*place, files))
+}
+
+/// The file at a place, opened, and nothing read yet.
+fn fresh<F: Read + Drop, O: Open<F>>(place: Place<'_>, files: &O) -> Watched<F>
+    ensures { IsFresh (O.opens files.now) place.entry result }
+{
+    Watched::new(files.open(place))
+}

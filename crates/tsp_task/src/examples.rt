@@ -1,0 +1,50 @@
+//! The files of requests, and requests whose files are mapped. No body is looked at here: a
+//! definition that is changed together with its code is refused by its examples.
+
+ghost use Rattle.std.specs.Prelude.{◌≡◌, ◌+◌, ℕ, ℤ, Option, None, Some, pos};
+ghost use Rattle.tsp_format.specs.declared.layout.Layout.{Layout};
+ghost use Rattle.tsp_reason.specs.declared.certificate.Certificate.{Certificate};
+ghost use Rattle.tsp_reason.specs.declared.certificate.Certificate.TheVariants as certificates;
+ghost use Rattle.tsp_reason.specs.declared.role.Role.TheVariants as roles;
+ghost use Rattle.tsp_task.specs.declared.request.Comparison.{Comparison};
+ghost use Rattle.tsp_task.specs.declared.request.Request.TheVariants as requests;
+ghost use Rattle.tsp_task.specs.declared.request.Task.{Task};
+ghost use Rattle.tsp_task.specs.declared.request.Task.TheVariants as tasks;
+ghost use Rattle.tsp_task.specs.Files.{files_of, files_of_request, numbered};
+ghost use Rattle.tsp_task.specs.Mapped.{IsMapped, IsMappedRequest};
+
+/// Which file has which number, and what it is given for. Here files are numbers.
+pub fn examples_of_files()
+    ensures shown { (a : ℕ) → numbered 1 (files_of (tasks.Show a)) ≡ Some (None, a) }
+    ensures converted { (a : ℕ) (to : Option Layout) → numbered 1 (files_of (tasks.Convert a to)) ≡ Some (None, a) }
+    ensures instance { (a b : ℕ) (c : Option (Certificate × ℕ)) (claimed : Option ℤ)
+        → numbered 1 (files_of (tasks.Check a b c claimed)) ≡ Some (Some roles.Instance, a) }
+    ensures solution { (a b : ℕ) (c : Option (Certificate × ℕ)) (claimed : Option ℤ)
+        → numbered 2 (files_of (tasks.Check a b c claimed)) ≡ Some (Some roles.Solution, b) }
+    ensures certificate { (a b c : ℕ) (claimed : Option ℤ)
+        → numbered 3 (files_of (tasks.Check a b (Some (certificates.Branches, c)) claimed)) ≡ Some (Some roles.Branches, c) }
+    ensures no_certificate { (a b : ℕ) (claimed : Option ℤ) → numbered 3 (files_of (tasks.Check a b None claimed)) ≡ None }
+    ensures bound { (a c : ℕ) → numbered 2 (files_of (tasks.Bound a (certificates.Potentials, c)))
+        ≡ Some (Some roles.Potentials, c) }
+    ensures compared { (c : Comparison ℕ) → c.certificate ≡ Some (certificates.Potentials, 9)
+        → numbered 2 (files_of_request (requests.Compare c)) ≡ Some (Some roles.Potentials, 9) }
+    ensures from_one { (task : Task ℕ) → numbered 0 (files_of task) ≡ None }
+{}
+
+/// A request of other files keeps all but its files, and these in their places. Here each file is
+/// mapped to the next number.
+pub fn examples_of_mapped_requests()
+    ensures shown { IsMappedRequest (λ a x. x ≡ a + 1) (requests.Task (tasks.Show 1)) (requests.Task (tasks.Show 2)) }
+    ensures checked { IsMapped (λ a x. x ≡ a + 1) (tasks.Check 1 2 (Some (certificates.Branches, 3)) (Some (pos 14)))
+        (tasks.Check 2 3 (Some (certificates.Branches, 4)) (Some (pos 14))) }
+    ensures exchanged { ¬ IsMapped (λ a x. x ≡ a + 1) (tasks.Check 1 2 None None) (tasks.Check 3 2 None None) }
+    ensures unclaimed { ¬ IsMapped (λ a x. x ≡ a + 1) (tasks.Check 1 2 None (Some (pos 14))) (tasks.Check 2 3 None None) }
+    ensures dropped { ¬ IsMapped (λ a x. x ≡ a + 1) (tasks.Check 1 2 (Some (certificates.Branches, 3)) None)
+        (tasks.Check 2 3 None None) }
+    ensures other_kind { ¬ IsMapped (λ a x. x ≡ a + 1) (tasks.Bound 1 (certificates.Branches, 2))
+        (tasks.Bound 2 (certificates.Potentials, 3)) }
+    ensures compared { (c d : Comparison ℕ) → c.instance ≡ 1
+        → IsMappedRequest (λ a x. x ≡ a + 1) (requests.Compare c) (requests.Compare d) → d.instance ≡ 2 }
+    ensures other_request { (c : Comparison ℕ) (task : Task ℕ)
+        → ¬ IsMappedRequest (λ a x. x ≡ a + 1) (requests.Task task) (requests.Compare c) }
+{}

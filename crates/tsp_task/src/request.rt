@@ -1,0 +1,199 @@
+//! A request, and its files.
+
+ghost use Rattle.std.specs.Prelude.{◌≡◌, option_map};
+ghost use Rattle.std.specs.Fn.{FnReturnsAt};
+ghost use Rattle.tsp_task.specs.Files.{files_of, files_compared, files_of_request, numbered};
+ghost use Rattle.tsp_task.specs.Mapped.{IsMapped, IsMappedCertificate, IsMappedComparison, IsMappedRequest};
+
+use tsp_format::Layout;
+use tsp_reason::{Certificate, Role, role_by};
+
+/// A request. `F` is what is known of a file: its place, a reader, its text, or what a user calls
+/// it.
+#[derive(Drop)]
+pub enum Request<'a, F> {
+    /// A task on files.
+    Task(Task<F>),
+    /// To compare solutions.
+    Compare(Comparison<'a, F>),
+}
+
+/// An action on files that are all known when it begins.
+#[derive(Drop)]
+pub enum Task<F> {
+    /// Show the contents of a file.
+    Show {
+        file: F,
+    },
+    /// Write a file anew, its matrix in this layout where one is named.
+    Convert {
+        file: F,
+        layout: Option<Layout>,
+    },
+    /// Judge the solution of an instance, with this length where one is claimed, and bound every
+    /// tour by the certificate where one is named.
+    Check {
+        instance: F,
+        solution: F,
+        certificate: Option<(Certificate, F)>,
+        claimed: Option<i64>,
+    },
+    /// Bound every tour of an instance by a certificate.
+    Bound {
+        instance: F,
+        certificate: (Certificate, F),
+    },
+}
+
+/// The solutions that are compared, and by which files. They are opened one after the other, so
+/// their paths stay as they are given: `-` is standard input.
+#[derive(Drop)]
+pub struct Comparison<'a, F> {
+    /// The instance.
+    pub instance: F,
+    /// The certificate, where one is named.
+    pub certificate: Option<(Certificate, F)>,
+    /// The paths of the solutions, one at least, in the order in which they are judged.
+    pub solutions: &'a [String],
+}
+
+impl<'a, F> Request<'a, F> {
+    /// The file with this number, counted from 1 in the order in which they are read, and what it
+    /// is given for where that matters; or `None` where fewer are read. Solutions that are compared
+    /// have no number.
+    pub fn file(&self, number: u32) -> Option<(Option<Role>, &F)>
+        ensures { option_map (λ file. (file.0, file.1.now)) result
+            ≡ numbered number (files_of_request self.now) }
+    {
+        match self {
+            Request::Task(task) => task.file(number),
+            Request::Compare(comparison) => comparison.file(number),
+        }
+    }
+
+    /// The same request of what `map` gives for each file.
+    pub fn map<G, M: Fn(&F) -> G>(&self, map: M) -> Request<'a, G>
+        requires { M.IsAlwaysCallable map }
+        ensures { IsMappedRequest (FnReturnsAt M.Fn map) self.now result }
+    {
+        match self {
+            Request::Task(task) => Request::Task(task.map(map)),
+            Request::Compare(comparison) => Request::Compare(comparison.map(map)),
+        }
+    }
+}
+
+impl<F> Task<F> {
+    /// The file with this number, counted from 1 in the order in which they are read, and what it
+    /// is given for where that matters; or `None` where the task reads fewer.
+    pub fn file(&self, number: u32) -> Option<(Option<Role>, &F)>
+        ensures { option_map (λ file. (file.0, file.1.now)) result
+            ≡ numbered number (files_of self.now) }
+    {
+        match (self, number) {
+            (Task::Show { file } | Task::Convert { file, .. }, 1) => Some((None, file)),
+            (Task::Check { instance, .. } | Task::Bound { instance, .. }, 1) => {
+                Some((Some(Role::Instance), instance))
+            }
+            (Task::Check { solution, .. }, 2) => Some((Some(Role::Solution), solution)),
+            (
+                Task::Check {
+                    certificate: Some((by, file)),
+                    ..
+                },
+                3,
+            )
+            | (
+                Task::Bound {
+                    certificate: (by, file),
+                    ..
+                },
+                2,
+            ) => Some((Some(role_by(*by)), file)),
+            _ => None,
+        }
+    }
+
+    /// The same task on what `map` gives for each file.
+    pub fn map<G, M: Fn(&F) -> G>(&self, map: M) -> Task<G>
+        requires { M.IsAlwaysCallable map }
+        ensures { IsMapped (FnReturnsAt M.Fn map) self.now result }
+    {
+        match self {
+            Task::Show { file } => Task::Show {
+                file: applied(&map, file),
+            },
+            Task::Convert { file, layout } => Task::Convert {
+                file: applied(&map, file),
+                layout: *layout,
+            },
+            Task::Check {
+                instance,
+                solution,
+                certificate,
+                claimed,
+            } => Task::Check {
+                instance: applied(&map, instance),
+                solution: applied(&map, solution),
+                certificate: mapped(certificate, map),
+                claimed: *claimed,
+            },
+            Task::Bound {
+                instance,
+                certificate: (by, file),
+            } => Task::Bound {
+                instance: applied(&map, instance),
+                certificate: (*by, applied(&map, file)),
+            },
+        }
+    }
+}
+
+impl<'a, F> Comparison<'a, F> {
+    /// The file with this number, counted from 1, and what it is given for: the instance, or the
+    /// certificate where one is named.
+    pub fn file(&self, number: u32) -> Option<(Option<Role>, &F)>
+        ensures { option_map (λ file. (file.0, file.1.now)) result
+            ≡ numbered number (files_compared self.now) }
+    {
+        match (number, &self.certificate) {
+            (1, _) => Some((Some(Role::Instance), &self.instance)),
+            (2, Some((by, file))) => Some((Some(role_by(*by)), file)),
+            _ => None,
+        }
+    }
+
+    /// The same comparison by what `map` gives for each file.
+    pub fn map<G, M: Fn(&F) -> G>(&self, map: M) -> Comparison<'a, G>
+        requires { M.IsAlwaysCallable map }
+        ensures { IsMappedComparison (FnReturnsAt M.Fn map) self.now result }
+    {
+        Comparison {
+            instance: applied(&map, &self.instance),
+            certificate: mapped(&self.certificate, map),
+            solutions: self.solutions,
+        }
+    }
+}
+
+/// The same certificate, with what `map` gives for its file.
+fn mapped<F, G, M: Fn(&F) -> G>(
+    certificate: &Option<(Certificate, F)>,
+    map: M,
+) -> Option<(Certificate, G)>
+    requires { M.IsAlwaysCallable map }
+    ensures { IsMappedCertificate (FnReturnsAt M.Fn map) certificate.now result }
+{
+    match certificate {
+        Some((by, file)) => Some((*by, applied(&map, file))),
+        None => None,
+    }
+}
+
+/// What `map` gives for a file.
+fn applied<F, G, M: Fn(&F) -> G>(map: &M, file: &F) -> G
+    requires { M.IsAlwaysCallable map.now }
+    ensures { FnReturnsAt M.Fn map.now file.now result }
+{
+    map(file)
+}
