@@ -98,6 +98,7 @@ fn judge_leaves<C: PlacedCosts>(
             TreeStep::Branch(first, second) => case.take((*first, *second))?,
             TreeStep::Leaf(changes) => {
                 leaf += 1;
+                // The setting is lent again, since the case changes before the next leaf.
                 let at = LeafCase {
                     setting: &*setting,
                     case: &case,
