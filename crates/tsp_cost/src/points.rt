@@ -54,25 +54,25 @@ impl<'a, P: InSpace> Points<'a, P> {
         self.points[node as usize - 1].in_space()
     }
 
-    /// The point of a node, and those of a few others behind it.
+    /// Looks up the point of a node, and those of a few others behind it.
     #[inline]
-    fn places(&self, from: u32, nodes: &[u32]) -> [Point; BLOCK + 1]
+    fn look_up(&self, from: u32, nodes: &[u32], places: &mut [Point; BLOCK + 1])
         requires from { IsNode (points_nodes self.now) from }
         requires range { All (IsNode (points_nodes self.now)) nodes.now }
         requires few { length nodes.now ≤ 32 }
-        ensures { ArePlaces (points_place P.place self.now) from nodes.now (length nodes.now) result }
+        ensures { ArePlaces (points_place P.place self.now) from nodes.now (length nodes.now) places.new }
     {
-        let mut places = [self.place(from); BLOCK + 1];
+        places[0] = self.place(from);
         'nodes: for k in 0..nodes.len() {
             places[k + 1] = self.place(nodes[k]);
         }
-        places
     }
 
-    /// The sum of the costs from a node through a few others, and the last of these.
+    /// The sum of the costs from a node through a few others, and the last of these. Their points
+    /// are written over those that are lent.
     // (the processor waits for several points at once, where they are looked up first)
     #[inline]
-    fn through(&self, from: u32, nodes: &[u32]) -> (i64, u32)
+    fn through(&self, from: u32, nodes: &[u32], places: &mut [Point; BLOCK + 1]) -> (i64, u32)
         requires from { IsNode (points_nodes self.now) from }
         requires range { All (IsNode (points_nodes self.now)) nodes.now }
         requires few { length nodes.now ≤ 32 }
@@ -80,7 +80,7 @@ impl<'a, P: InSpace> Points<'a, P> {
         ensures last { IsNode (points_nodes self.now) result.1 }
         ensures size { IsSumOfCosts (length nodes.now) result.0 }
     {
-        let places = self.places(from, nodes);
+        self.look_up(from, nodes, places);
         let mut last = from;
         let mut sum = 0;
         'nodes: for k in 0..nodes.len() {
@@ -130,9 +130,11 @@ impl<P: InSpace> Costs for Points<'_, P> {
         let mut from = *first;
         let mut rest = others;
         let mut length = 0;
+        // (once, and not for each block: to clear and to move it takes time)
+        let mut places = [self.place(from); BLOCK + 1];
         'parts: while !rest.is_empty() {
             let (block, later) = rest.split_at(rest.len().min(BLOCK));
-            let (way, last) = self.through(from, block);
+            let (way, last) = self.through(from, block, &mut places);
             length += way;
             from = last;
             rest = later;

@@ -20,11 +20,11 @@ nodes-preserved g c =
     let paid : ℤ = c.between-sum.result in
     let behind : slice_index_or (c.args.from ∷ c.args.nodes.now) (k + 1) 0 ≡ next =
     ap (λ (i : ℕ). slice_index_or (c.args.from ∷ c.args.nodes.now) i 0) (add-one k) in
-    let here : slice_index_or c.places-places.result k c.index-places-k.result ≡ place c.nodes.last =
-    c.places-places.ensures.each k c.index-places-k.result (omega (arith, c.nodes-test.true))
+    let here : slice_index_or c.look_up.new.places k c.index-places-k.result ≡ place c.nodes.last =
+    c.look_up.ensures.each k c.index-places-k.result (omega (arith, c.nodes-test.true))
     ∙ ap place (sym c.nodes.invariant.here) in
-    let there : slice_index_or c.places-places.result (k + 1) c.index-places-k-in-nodes.result ≡ place next =
-    c.places-places.ensures.each (k + 1) c.index-places-k-in-nodes.result (omega (arith, c.nodes-test.true)) ∙ ap place behind in
+    let there : slice_index_or c.look_up.new.places (k + 1) c.index-places-k-in-nodes.result ≡ place next =
+    c.look_up.ensures.each (k + 1) c.index-places-k-in-nodes.result (omega (arith, c.nodes-test.true)) ∙ ap place behind in
     let is : paid ≡ cost c.nodes.last next = c.between-sum.ensures.value
     ∙ ap₂ (distance (weight_kind_of c.args.self.now.metric)) here there in
     let few : k ≤ 1000000 = omega (arith, c.nodes-test.true, c.requires.few) in

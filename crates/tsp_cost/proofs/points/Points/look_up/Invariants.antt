@@ -1,7 +1,7 @@
--- The loop of `Points::places` in src/points.rt.
+-- The loop of `Points::look_up` in src/points.rt.
 use Rattle.tsp_cost.specs.states.Views.{points_place}
 use Rattle.tsp_cost.specs.states.Ways.{ArePlaces}
-use Rattle.tsp_cost.proofs.points.Points.places.Given as goal
+use Rattle.tsp_cost.proofs.points.Points.look_up.Given as goal
 
 abbrev pub invariant-nodes : goal.invariant-nodes
 invariant-nodes g l = ArePlaces (points_place g.P.InSpace.place l.self) l.from l.nodes l.k l.places
