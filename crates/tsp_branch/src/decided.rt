@@ -82,11 +82,11 @@ fn change(row: &mut [i64], decision: Decision, from: u32)
 {
     let (first, second) = decision.pair;
     let number = if decision.taken { -DECIDED } else { DECIDED };
-    if first == from {
-        add_at(row, second, number);
-    } else if second == from {
-        add_at(row, first, number);
-    }
+    // Nothing is added at the other node where the row is of neither: a branch that is seldom
+    // guessed right would cost more.
+    let other = if first == from { second } else { first };
+    let is_at = first == from || second == from;
+    add_at(row, other, if is_at { number } else { 0 });
 }
 
 /// What a decision adds to the weight between two nodes.
