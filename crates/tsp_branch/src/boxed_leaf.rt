@@ -198,7 +198,7 @@ impl<C: PlacedCosts> BoxedWeights for BoxedLeaf<'_, C> {
 }
 
 /// The bound of a leaf whose weights are those of a case: by rows where they are kept, else by
-/// boxes, if its numbers aren't too large for these. It asks for what
+/// boxes, if these suit its sets and its numbers aren't too large. It asks for what
 /// [`leaf_bound`](crate::leaf_bound) does.
 ///
 /// # Errors
@@ -217,7 +217,7 @@ pub(crate) fn decided_bound<C: PlacedCosts>(
         sum.scale sum.given_back bound) }
     ensures size { IfOk result (λ bound. IsBoundSized bound) }
 {
-    if w.combed.kept.is_empty() && w.combed.are_exact() {
+    if w.combed.kept.is_empty() && w.combed.suit_boxes() && w.combed.are_exact() {
         let boxed = BoxedLeaf { decided: w };
         return leaf_bound_in_space(alloc, &boxed, row, sum.scale, sum.given_back);
     }

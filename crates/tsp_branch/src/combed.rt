@@ -12,6 +12,7 @@ ghost use Rattle.tsp_cases.specs.states.Kept.{AreMoved, AreRowsIfAny, kept_weigh
 
 use crate::both_sets::are_few;
 use crate::case_leaf::CaseLeaf;
+use crate::steps::suit_boxes;
 use tsp_cases::{
     Families, MultipliedFamilies, Multipliers, SetPlace, add_sets, scale_row, shift_row, sum_left,
 };
@@ -87,6 +88,11 @@ impl<'a, C: Costs> CombedWeights<'a, C> {
             moved: leaf.moved,
             kept: leaf.kept,
         }
+    }
+
+    /// Whether boxes seem to take no more steps than rows.
+    pub(crate) fn suit_boxes(&self) -> bool {
+        suit_boxes(self.by_node, self.families.lent)
     }
 
     /// Whether each node's potential less the multipliers of its sets is at most 4 * 10^18 in size.

@@ -23,6 +23,7 @@ mod leaf_case;
 mod leaf_sum;
 mod placed_costs;
 mod rows;
+mod steps;
 mod verdict;
 
 pub use branch::branch_bound;
