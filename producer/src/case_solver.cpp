@@ -53,6 +53,17 @@ Matrix less_duals(const Instance& instance, const Relaxation& relaxation) {
   }
   return costs;
 }
+
+bool is_allowed(const Case& here, const CutPool& pool, int cut) {
+  return !here.allowed || pool[cut].kind == CutKind::kSubtour || is_marked(*here.allowed, cut);
+}
+
+// Whether the warm start is one for this case: a basis is of all its rows.
+bool is_warm(const Case& here, const CutPool& pool) {
+  if (!here.warm) return false;
+  const std::vector<int>& cuts = here.warm->basis.cuts;
+  return std::all_of(cuts.begin(), cuts.end(), [&](int cut) { return is_allowed(here, pool, cut); });
+}
 }  // namespace
 
 Problem::Problem(const Instance& instance, const Start& start)
@@ -276,6 +287,18 @@ bool CaseSolver::settle_whole(Numbers& numbers) {
 
 bool CaseSolver::settle(Numbers& numbers) { return whole_ ? settle_whole(numbers) : tighten(numbers); }
 
+// Without a basis the program has the same edges and cuts, as far as they are allowed.
+void CaseSolver::load_cold(const Case& here) {
+  relaxation_.add_edges(problem_.edges);
+  if (here.warm) {
+    for (const auto* edges : {&here.warm->basis.edges, &here.warm->basis.basic, &here.warm->basis.at_one})
+      relaxation_.add_edges(*edges);
+  }
+  std::vector<int> cuts = here.warm ? here.warm->basis.cuts : here.rows;
+  std::erase_if(cuts, [&](int cut) { return !is_allowed(here, pool_, cut); });
+  relaxation_.add_cuts(cuts);
+}
+
 // Forgets the case before, and brings the linear program to this one.
 void CaseSolver::load(const Case& here) {
   pool_.shrink_to(known_);
@@ -293,14 +316,13 @@ void CaseSolver::load(const Case& here) {
   far_ = !whole_ && is_large(root_gap_);
   choice_.reset();
   branching_.set_history(here.history ? *here.history : History{});
-  separation_.begin(here.warm ? here.warm->experience : Experience{}, here.seed);
+  separation_.begin(here.warm ? here.warm->experience : Experience{}, here.seed, here.allowed);
   separation_.set_best(goal_.tour);
   relaxation_.reset();
-  if (here.warm) {
+  if (is_warm(here, pool_)) {
     relaxation_.restore(here.warm->basis);
   } else {
-    relaxation_.add_edges(problem_.edges);
-    relaxation_.add_cuts(here.rows);
+    load_cold(here);
   }
   for (const Decision& decision : decisions_) relaxation_.decide(decision);
 }
@@ -308,7 +330,7 @@ void CaseSolver::load(const Case& here) {
 Outcome CaseSolver::solve(const Case& here, const Note& note) {
   load(here);
   note_ = note;
-  if (!here.warm) {
+  if (!is_warm(here, pool_)) {
     relaxation_.solve();
     while (!clock_.over() && separation_.add_subtours()) {
       relaxation_.solve();

@@ -61,6 +61,7 @@ struct Case {
   std::uint64_t seed = 1;
   std::vector<std::shared_ptr<const Cut>> cuts{};  // of the pool, those that the solver doesn't know
   int known = 0;                                   // all cuts of the pool with them
+  std::shared_ptr<const Marks> allowed{};          // cuts, where no others but subtours may join
   std::shared_ptr<const History> history{};
   std::optional<Weight> shift{};
   bool whole = false;       // it is the whole problem, for which tours and families are looked for too
@@ -106,6 +107,7 @@ class CaseSolver {
     double least_gain;
   };
   void load(const Case& here);
+  void load_cold(const Case& here);
   bool settle(Numbers& numbers);
   bool settle_whole(Numbers& numbers);
   bool settle_by_families(Numbers& numbers);

@@ -12,7 +12,6 @@
 namespace certify {
 namespace {
 const std::string kNote = "COMMENT : tsp-certify ";
-constexpr std::size_t kMostFamilies = 10000, kMostNodes = 1000000;  // of COMB_SECTION
 
 void read_families(std::istream& words, Certificate& certificate) {
   for (int v = 0; words >> v && v != -1;) {
@@ -81,19 +80,15 @@ std::map<int, int> number_families(const Certificate& certificate, std::vector<i
   return places;
 }
 
-// Adds the other families, as many as a file may have.
-void add_others(const Certificate& certificate, const std::map<int, int>& places, std::vector<int>& order) {
-  const auto size_of = [&](int family) {
-    std::size_t nodes = 0;
-    for (const NodeSet& set : certificate.families[family]) nodes += set.size();
-    return nodes;
-  };
+// Adds the other families. The other half of the limits is for those that are found later.
+void add_others(const Certificate& certificate, const std::map<int, int>& places, const Extent& limits,
+                std::vector<int>& order) {
   std::size_t nodes = 0;
-  for (const int family : order) nodes += size_of(family);
+  for (const int family : order) nodes += nodes_of(certificate.families[family]);
   for (int family = 0; family < static_cast<int>(certificate.families.size()); family++) {
     if (places.contains(family)) continue;
-    nodes += size_of(family);
-    if (order.size() >= kMostFamilies || nodes > kMostNodes) return;
+    nodes += nodes_of(certificate.families[family]);
+    if (order.size() >= limits.families / 2 || nodes > limits.nodes / 2) return;
     order.push_back(family);
   }
 }
@@ -111,6 +106,14 @@ void write_families(std::ostream& text, const Certificate& certificate, const st
   text << "-1\n";
 }
 
+// By how much multipliers differ; some by 0.
+std::map<int, Weight> multiplier_differences(const Numbers& numbers, const Numbers& before) {
+  std::map<int, Weight> differences;
+  for (const auto& [family, multiplier] : numbers.multipliers) differences[family] += multiplier;
+  for (const auto& [family, multiplier] : before.multipliers) differences[family] -= multiplier;
+  return differences;
+}
+
 // A leaf by the differences of its numbers to those of the leaf before.
 void write_leaf(std::ostream& text, const Numbers& numbers, const Numbers& before,
                 const std::map<int, int>& families, Weight divisor) {
@@ -120,10 +123,7 @@ void write_leaf(std::ostream& text, const Numbers& numbers, const Numbers& befor
   };
   const std::size_t nodes = numbers.potentials.size();
   for (std::size_t v = 0; v < nodes; v++) add(v + 1, numbers.potentials[v] - before.potentials[v]);
-  std::map<int, Weight> differences;
-  for (const auto& [family, multiplier] : numbers.multipliers) differences[family] += multiplier;
-  for (const auto& [family, multiplier] : before.multipliers) differences[family] -= multiplier;
-  for (const auto& [family, difference] : differences) {
+  for (const auto& [family, difference] : multiplier_differences(numbers, before)) {
     if (difference != 0) add(nodes + 1 + static_cast<std::size_t>(families.at(family)), difference);
   }
   text << " -1\n";
@@ -167,11 +167,48 @@ double note_of(const Certificate& certificate, const std::string& key, double ot
   return found == certificate.notes.end() ? otherwise : std::strtod(found->second.c_str(), nullptr);
 }
 
-void write_certificate(const std::string& path, const Certificate& certificate, bool all) {
+std::size_t nodes_of(const std::vector<NodeSet>& family) {
+  std::size_t nodes = 0;
+  for (const NodeSet& set : family) nodes += set.size();
+  return nodes;
+}
+
+std::size_t differences(const Numbers& numbers, const Numbers& before) {
+  std::size_t count = 0;
+  for (std::size_t v = 0; v < numbers.potentials.size(); v++) {
+    const Weight last = before.potentials.empty() ? 0 : before.potentials[v];
+    if (numbers.potentials[v] != last) count++;
+  }
+  for (const auto& [family, difference] : multiplier_differences(numbers, before)) {
+    if (difference != 0) count++;
+  }
+  return count;
+}
+
+Extent extent_of(const Certificate& certificate) {
+  std::vector<int> order;
+  number_families(certificate, order);
+  Extent extent{order.size()};
+  for (const int family : order) extent.nodes += nodes_of(certificate.families[family]);
+  const std::vector<const Numbers*> leaves = leaves_of(certificate);
+  extent.branches = certificate.steps.size() - leaves.size();
+  const Numbers none;
+  for (std::size_t k = 0; k < leaves.size(); k++)
+    extent.differences += differences(*leaves[k], k == 0 ? none : *leaves[k - 1]);
+  return extent;
+}
+
+bool is_within(const Extent& extent, const Extent& limits) {
+  return extent.families <= limits.families && extent.nodes <= limits.nodes &&
+         extent.differences <= limits.differences && extent.branches <= limits.branches;
+}
+
+void write_certificate(const std::string& path, const Certificate& certificate, bool all,
+                       const Extent& limits) {
   const Weight divisor = common_divisor(certificate);
   std::vector<int> order;
   const std::map<int, int> places = number_families(certificate, order);
-  if (all) add_others(certificate, places, order);
+  if (all) add_others(certificate, places, limits, order);
   std::ostringstream text;
   text << "TYPE : BRANCHES\n";
   for (const auto& [key, value] : certificate.notes) text << kNote << key << ' ' << value << '\n';
@@ -216,18 +253,54 @@ int add_family(CutPool& pool, const std::vector<NodeSet>& family, int nodes) {
 }
 
 namespace {
+int leaf_number(const Certificate& part) {
+  return static_cast<int>(std::strtol(part.notes.at("leaf").c_str(), nullptr, 10));
+}
+
+void check_parts(const Certificate& tree, const std::vector<Certificate>& parts) {
+  const std::string identity = identity_of(tree);
+  for (const Certificate& part : parts) {
+    const auto of = part.notes.find("tree");
+    if (part.nodes != tree.nodes || of == part.notes.end() || !part.notes.contains("leaf") ||
+        of->second != identity)
+      throw Refusal("--join: a part is of another tree");
+  }
+}
+
+// The largest part of a limit that a part takes.
+double share_of(const Certificate& part, const Extent& limits) {
+  const Extent extent = extent_of(part);
+  const auto share = [](std::size_t count, std::size_t limit) {
+    return static_cast<double>(count) / static_cast<double>(std::max<std::size_t>(limit, 1));
+  };
+  return std::max({share(extent.families, limits.families), share(extent.nodes, limits.nodes),
+                   share(extent.differences, limits.differences), share(extent.branches, limits.branches)});
+}
+
+// The numbers of parts by their shares. Of a leaf's parts it is the last one.
+std::vector<std::size_t> smallest_first(const std::vector<Certificate>& parts, const Extent& limits) {
+  std::map<int, std::size_t> by_leaf;
+  for (std::size_t k = 0; k < parts.size(); k++) by_leaf[leaf_number(parts[k])] = k;
+  std::vector<std::pair<double, std::size_t>> shares;
+  shares.reserve(by_leaf.size());
+  for (const auto& [leaf, part] : by_leaf) shares.emplace_back(share_of(parts[part], limits), part);
+  std::sort(shares.begin(), shares.end());
+  std::vector<std::size_t> order;
+  order.reserve(shares.size());
+  for (const auto& [share, part] : shares) order.push_back(part);
+  return order;
+}
+
 // Parts put into a tree.
 class Joining {
  public:
-  Joining(const Certificate& tree, const std::vector<Certificate>& parts)
+  // The first ones of an order.
+  Joining(const Certificate& tree, const std::vector<Certificate>& parts,
+          const std::vector<std::size_t>& order, std::size_t count)
       : tree_(tree), whole_{tree.nodes, tree.scale} {
-    const std::string identity = identity_of(tree);
-    for (const Certificate& part : parts) {
-      const auto of = part.notes.find("tree"), leaf = part.notes.find("leaf");
-      if (part.nodes != tree.nodes || of == part.notes.end() || leaf == part.notes.end() ||
-          of->second != identity)
-        throw Refusal("--join: a part is of another tree");
-      parts_[static_cast<int>(std::strtol(leaf->second.c_str(), nullptr, 10))] = &part;
+    for (std::size_t k = 0; k < count; k++) {
+      const Certificate& part = parts[order[k]];
+      parts_[leaf_number(part)] = &part;
       whole_.scale = std::lcm(whole_.scale, part.scale);
     }
   }
@@ -277,8 +350,24 @@ class Joining {
 };
 }  // namespace
 
-Certificate joined(const Certificate& tree, const std::vector<Certificate>& parts) {
-  return Joining(tree, parts).whole();
+Joined joined(const Certificate& tree, const std::vector<Certificate>& parts, const Extent& limits) {
+  check_parts(tree, parts);
+  const std::vector<std::size_t> order = smallest_first(parts, limits);
+  const auto first = [&](std::size_t count) { return Joining(tree, parts, order, count).whole(); };
+  Joined joined{first(order.size())};
+  if (is_within(extent_of(joined.whole), limits)) return joined;
+  std::size_t fit = 0, most = order.size();  // as many fit, and no more than these
+  while (fit < most) {
+    const std::size_t middle = (fit + most + 1) / 2;
+    if (is_within(extent_of(first(middle)), limits)) {
+      fit = middle;
+    } else {
+      most = middle - 1;
+    }
+  }
+  joined = {first(fit), {order.begin() + static_cast<std::ptrdiff_t>(fit), order.end()}};
+  std::sort(joined.left_out.begin(), joined.left_out.end());
+  return joined;
 }
 
 std::string identity_of(const Certificate& certificate) {

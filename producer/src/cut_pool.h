@@ -36,6 +36,12 @@ class ViolationMeter {
   int sets_ = 0;  // that were measured
 };
 
+// Marks of cuts by their numbers. A cut beyond them has none.
+using Marks = std::vector<char>;
+inline bool is_marked(const Marks& marks, int cut) {
+  return static_cast<std::size_t>(cut) < marks.size() && marks[cut] != 0;
+}
+
 class CutPool {
  public:
   explicit CutPool(int nodes);

@@ -124,6 +124,43 @@ std::optional<Numbers> Leaves::coarse(const Numbers& numbers, const std::vector<
   return coarse;
 }
 
+// Steps as those of ascend, by numbers that may never reach the goal.
+Numbers Leaves::best_toward(Numbers numbers, const std::vector<Decision>& decisions, Value goal, int steps) {
+  Numbers best = numbers;
+  Value most = ExactBound::nothing();
+  double shrink = 1;
+  for (int k = 0;; k++, shrink *= 0.97) {
+    Value value = bound_.likely_value(numbers, decisions);
+    if (value > most) value = bound_.value(numbers, decisions);
+    if (value > most) {
+      best = numbers;
+      most = value;
+    }
+    const double missing = static_cast<double>(goal - value) + static_cast<double>(bound_.scale()) / 2;
+    if (most >= goal || k == steps || value == ExactBound::nothing()) return best;
+    if (!step(numbers, missing * shrink, 1)) return best;
+  }
+}
+
+// Without a cut the edges that cross its sets cost more. Where potentials become lower instead, those inside
+// its sets cost less. Neither way is always the better one.
+Numbers Leaves::restricted(const Numbers& numbers, const Marks& cuts, const std::vector<Decision>& decisions,
+                           Value goal, int steps) {
+  Numbers same{numbers.potentials, {}};
+  for (const auto& entry : numbers.multipliers) {
+    if (is_marked(cuts, entry.first)) same.multipliers.insert(entry);
+  }
+  Numbers lower = same;
+  for (const auto& [cut, multiplier] : numbers.multipliers) {
+    if (is_marked(cuts, cut)) continue;
+    for (const NodeSet& set : pool_[cut].sets) {
+      for (const int v : set) lower.potentials[v] -= multiplier;
+    }
+  }
+  const bool is_lower = bound_.likely_value(lower, decisions) > bound_.likely_value(same, decisions);
+  return best_toward(is_lower ? lower : same, decisions, goal, steps);
+}
+
 // A place is a node, or behind the nodes a cut.
 Weight Leaves::at(const Numbers& numbers, int place) const {
   const int nodes = static_cast<int>(numbers.potentials.size());

@@ -21,7 +21,12 @@ class Leaves {
   // Numbers near these that reach the target as multiples of a grid. Nothing where none were found.
   std::optional<Numbers> coarse(const Numbers& numbers, const std::vector<Decision>& decisions, Weight target,
                                 Weight grid);
+  // Numbers that name none but the marked cuts. By steps from these toward the goal: the first ones that
+  // reach it, or else the best ones.
+  Numbers restricted(const Numbers& numbers, const Marks& cuts, const std::vector<Decision>& decisions,
+                     Value goal, int steps);
   Value goal(Weight target) const { return static_cast<Value>(bound_.scale()) * (target - 1) + 1; }
+  const Numbers& last() const { return last_; }
   void set_last(const Numbers& numbers) { last_ = numbers; }
 
  private:
@@ -32,6 +37,7 @@ class Leaves {
   };
   bool ascend(Numbers& numbers, const std::vector<Decision>& decisions, Weight target, const Ascent& ascent);
   bool step(Numbers& numbers, double length_times_square, Weight grid) const;
+  Numbers best_toward(Numbers numbers, const std::vector<Decision>& decisions, Value goal, int steps);
   void align(Numbers& numbers) const;
   std::vector<int> differing_places(const Numbers& numbers) const;
   void keep_last(Numbers& numbers, const std::vector<int>& places, std::size_t from, std::size_t to,

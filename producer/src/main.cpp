@@ -100,9 +100,9 @@ int certify_instance(const Options& options) {
   }
   if (options.tree) start.tree = read_tree(tsp, *options.tree, instance);
   start.leaf = options.leaf;
-  Search search(instance, start, clock, progress, {options.window, options.split});
+  Search search(instance, start, clock, progress, {options.window, options.split, options.limits});
   search.run();
-  write_certificate(options.certificate, search.certificate(), options.split > 0);
+  write_certificate(options.certificate, search.certificate(), options.split > 0, options.limits);
   if (options.tour_out) write_tour(*options.tour_out, search.tour());
   progress.end();
   if (options.split > 0) {
@@ -111,6 +111,7 @@ int certify_instance(const Options& options) {
   Ending ending{length_of(instance.weights, search.tour()), search.bound(), search.leaves()};
   if (!given.empty()) ending.given = length_of(instance.weights, given);
   ending.rounded_away = is_rounded_away(instance, search.tour());
+  ending.limited = search.is_limited();
   report(options, ending);
   return Clock::signal() ? 128 + *Clock::signal() : 0;
 }
@@ -120,8 +121,9 @@ int join(const Options& options) {
   const std::string tsp = find_tsp(options.tsp);
   std::vector<Certificate> parts;
   for (const std::string& path : options.parts) parts.push_back(read_certificate(tsp, path));
-  const Certificate whole = joined(read_certificate(tsp, *options.tree), parts);
-  write_certificate(options.certificate, whole, is_open(whole));
+  const Joined joined = certify::joined(read_certificate(tsp, *options.tree), parts, options.limits);
+  write_certificate(options.certificate, joined.whole, is_open(joined.whole), options.limits);
+  report_left_out(options, joined.left_out);
   return 0;
 }
 

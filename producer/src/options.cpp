@@ -62,6 +62,14 @@ void declare(CLI::App& app, Options& options) {
       ->capture_default_str();
   // of tests: an empty group is left out of the help
   app.add_flag("--sparse", options.sparse, "without a matrix, as more than 5,000 points")->group("");
+  app.add_option_function<std::vector<std::size_t>>(
+         "--limits",
+         [&options](const auto& most) {
+           options.limits = {most[0], most[1], most[2], most[3]};
+         },
+         "of families, their nodes, differences and branches, in place of those of a file")
+      ->expected(4)
+      ->group("");
   declare_common(app, options);
   declare_trees(app, options);
   app.footer(kFooter);

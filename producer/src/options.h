@@ -5,6 +5,7 @@
 #include <variant>
 #include <vector>
 
+#include "certificate.h"
 #include "command_line.h"
 #include "parameters.h"
 #include "tour.h"
@@ -22,6 +23,7 @@ struct Options : CommonOptions {
   std::optional<std::string> tree{};  // a certificate that is gone on with
   std::optional<int> leaf{};          // of it alone
   std::vector<std::string> parts{};   // that are joined with it
+  Extent limits = kLimits;            // of the certificate
 };
 
 // Throws Refusal where the words are wrong, or where a file that is written is one that is read.

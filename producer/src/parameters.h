@@ -148,6 +148,7 @@ struct TreeParameters {
   int window = 8;              // cases at once: more know less of each other's cuts
   double part_of_time = 0.95;  // the rest is for short numbers of the leaves
   double trial = 0.1;          // of the time, before the size of the tree is guessed
+  double part_of_file = 0.9;   // of the families that a file may have, from which cases look for no others
 };
 inline constexpr TreeParameters kTree{};
 
@@ -162,6 +163,7 @@ struct LeafParameters {
   double small_surplus = 0.02;
   int trials = 20, checks = 2;  // of bounds for a leaf that is made like the last, and of what they made
   int coarse_steps = 150;       // of a coarser grid, on which the size of the file depends
+  int mending_steps = 30;       // of numbers whose families the file hasn't
 };
 inline constexpr LeafParameters kLeaves{};
 }  // namespace certify

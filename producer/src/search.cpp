@@ -28,6 +28,7 @@ Search::Search(const Instance& instance, const Start& start, const Clock& clock,
       plan_(plan),
       goal_{start.tour, length_of(instance.weights, start.tour), 0},
       pool_(instance.nodes()),
+      named_(pool_, plan.limits),
       bound_(bound_for(instance, pool_, problem_.scale)),
       made_(*bound_, pool_, instance.directed),
       history_(std::make_shared<const History>()),
@@ -71,6 +72,7 @@ void Search::take_step(const TreeStep& step, std::vector<Origin>& rest, const st
   }
   if (const auto* pair = std::get_if<Pair>(&step)) {
     here.branch = Branch{*pair, -1, -1};
+    branches_++;
     for (const bool used : {false, true}) rest.push_back({place, {*pair, used}});
     return;
   }
@@ -95,7 +97,10 @@ Case Search::first_case() {
     const int number = problem_.start.leaf.value_or(1);
     const OpenLeaf leaf = leaf_of(*tree, number);
     above_.insert(above_.end(), leaf.decisions.begin(), leaf.decisions.end());
-    first.numbers = numbers_of(leaf.numbers, take_families(*tree));
+    const std::vector<int> cuts = take_families(*tree);
+    const double leaves = static_cast<double>((tree->steps.size() + 1) / 2);
+    named_.share(cuts, static_cast<std::size_t>(std::max(1.0, note_of(*tree, "open", leaves))));
+    first.numbers = numbers_of(leaf.numbers, cuts);
     first.rows = rows_of(first.numbers);
     first.seed += static_cast<std::uint64_t>(number);
     first.whole = leaf.decisions.empty();
@@ -104,6 +109,7 @@ Case Search::first_case() {
   first.decisions = above_;
   first.cuts = pool_.part(0, pool_.size());
   first.known = pool_.size();
+  if (named_.is_closed()) first.allowed = named_.marks();
   first.large_tree = large_tree_;
   first.root_gap = root_gap_;
   return first;
@@ -161,6 +167,7 @@ void Search::renumber(Outcome& outcome) {
 
 // A case's numbers hold for the cases of its branch too.
 void Search::branch(int place, const Outcome& outcome) {
+  branches_++;
   const int next = static_cast<int>(places_.size());
   places_[place].branch = Branch{*outcome.pair, next + 1, next};
   for (const bool used : {false, true}) {
@@ -181,11 +188,37 @@ int Search::depth_of(int place) const {
   return depth;
 }
 
+// Whether a leaf whose numbers reach the target does so in a file. Where it names too many cuts, the largest
+// multipliers stay as far as cuts fit, and the numbers are mended.
+bool Search::settle(int place) {
+  Place& here = places_[place];
+  if (named_.fit(here.numbers)) return true;
+  named_.close();
+  named_.fill({here.numbers.multipliers.begin(), here.numbers.multipliers.end()});
+  const std::vector<Decision> decisions = decisions_of(place);
+  here.numbers = made_.restricted(here.numbers, *named_.marks(), decisions, aim(), kLeaves.many_steps);
+  here.value = bound_->value(here.numbers, decisions);
+  return here.value >= aim();
+}
+
 void Search::finish(int place) {
   places_[place].done = true;
+  named_.add(places_[place].numbers);
   leaves_++;
   done_ += std::ldexp(1.0, -depth_of(place));
   log("leaf");
+}
+
+// One that a file can't have is solved once more, by the cuts that the file has. Of an ATSP these may not be
+// enough, since sets are named too.
+void Search::take_done(int place) {
+  if (settle(place)) {
+    finish(place);
+  } else if (problem_.instance.directed) {
+    limited_ = true;
+  } else {
+    open_.emplace(places_[place].value, -place);
+  }
 }
 
 // Takes what came of a case.
@@ -203,10 +236,10 @@ void Search::take(int place, Outcome& outcome) {
   places_[place].value = outcome.value;
   places_[place].warm = nullptr;
   if (outcome.done) {
-    finish(place);
+    take_done(place);
     return;
   }
-  if (outcome.pair) branch(place, outcome);
+  if (outcome.pair && branches_ < plan_.limits.branches) branch(place, outcome);
   log("branch");
 }
 
@@ -250,6 +283,7 @@ Case Search::case_of(int place) {
             .goal = goal_,
             .seed = problem_.start.seed + 0x9E3779B97F4A7C15ull * ++begun_cases_,
             .known = pool_.size(),
+            .allowed = named_.is_closed() ? named_.marks() : nullptr,
             .history = history_,
             .shift = shift_,
             .large_tree = large_tree_ || leaves_ >= kCutting.many_leaves,
@@ -284,7 +318,11 @@ void Search::finish_reached() {
   while (!open_.empty() && open_.rbegin()->first >= aim()) {
     const int place = -open_.rbegin()->second;
     open_.erase(std::prev(open_.end()));
-    finish(place);
+    if (settle(place)) {
+      finish(place);
+    } else {
+      open_.emplace(places_[place].value, -place);
+    }
   }
 }
 
@@ -300,6 +338,10 @@ Search::Begun Search::begin_next() {
   finish_reached();
   if ((open_.empty() && waits_for_none()) || clock_.over(kTree.part_of_time)) return nullptr;
   if (plan_.split > 0 && open_.size() + running_.size() >= plan_.split) return nullptr;
+  if (branches_ >= plan_.limits.branches) {
+    limited_ = true;
+    return nullptr;
+  }
   auto job = std::make_shared<Job>();
   const std::lock_guard own(job->access);
   if (!open_.empty()) {
@@ -346,14 +388,56 @@ void Search::grow_tree() {
   while (!running_.empty()) take_oldest();
 }
 
-// A leaf that is done gets numbers near those of the leaf before, which makes a short file.
-void Search::add_leaf(const Place& leaf, const std::vector<Decision>& decisions) {
+// A leaf that is done gets numbers near those of the leaf before, which makes a short file. Where differences
+// are past their limit it gets the same numbers as the leaf before.
+Numbers Search::numbers_for_file(const Place& leaf, const std::vector<Decision>& decisions) {
   const bool time = !clock_.over();
-  const Numbers numbers =
-      leaf.done && time ? made_.near_last(leaf.numbers, decisions, goal_.target) : leaf.numbers;
-  least_ = std::min(least_, bound_->value(numbers, decisions));
+  Numbers numbers = leaf.done && time ? made_.near_last(leaf.numbers, decisions, goal_.target) : leaf.numbers;
+  const Numbers& last = made_.last();
+  const std::size_t count = differences(numbers, last);
+  if (differences_ + count > plan_.limits.differences) {
+    if (!last.potentials.empty()) return last;
+    return {std::vector<Weight>(numbers.potentials.size(), 0), {}};
+  }
+  differences_ += count;
+  return numbers;
+}
+
+// Whether the leaf reaches the target.
+bool Search::add_leaf(const Place& leaf, const std::vector<Decision>& decisions) {
+  const Numbers numbers = numbers_for_file(leaf, decisions);
+  const Value value = bound_->value(numbers, decisions);
+  least_ = std::min(least_, value);
   made_.set_last(numbers);
   steps_.emplace_back(numbers);
+  if (leaf.done && value < aim()) limited_ = true;
+  return leaf.done && value >= aim();
+}
+
+std::vector<int> Search::leaf_places() const {
+  std::vector<int> leaves;
+  for (std::size_t place = 0; place < places_.size(); place++) {
+    if (!places_[place].branch) leaves.push_back(static_cast<int>(place));
+  }
+  return leaves;
+}
+
+// Drops the cuts of open leaves that a file can't have, those with the least multipliers. What leaves that
+// are done name is in the file.
+void Search::drop_surplus() {
+  std::vector<int> open = leaf_places();
+  std::erase_if(open, [&](int place) { return places_[place].done; });
+  std::map<int, Value> sums;
+  for (const int place : open) {
+    for (const auto& [cut, multiplier] : places_[place].numbers.multipliers) sums[cut] += multiplier;
+  }
+  named_.fill(sums);
+  for (const int place : open) {
+    Place& here = places_[place];
+    if (here.numbers.potentials.empty() || named_.fit(here.numbers)) continue;
+    const int steps = clock_.over() ? 0 : kLeaves.mending_steps;
+    here.numbers = made_.restricted(here.numbers, *named_.marks(), decisions_of(place), here.value, steps);
+  }
 }
 
 // Whether each leaf reaches the target by multiples of a grid, which all then have. One that doesn't is the
@@ -376,12 +460,8 @@ bool Search::coarsen_to(Weight grid, std::vector<int>& leaves) {
 // Where all leaves are done, their numbers become multiples of a large divisor of the scale that lets them
 // reach the target. A file has them divided by it, which makes it short.
 void Search::coarsen() {
-  std::vector<int> leaves;
-  for (std::size_t place = 0; place < places_.size(); place++) {
-    if (places_[place].branch) continue;
-    if (!places_[place].done) return;
-    leaves.push_back(static_cast<int>(place));
-  }
+  std::vector<int> leaves = leaf_places();
+  if (std::any_of(leaves.begin(), leaves.end(), [&](int place) { return !places_[place].done; })) return;
   Weight tried = 0;
   for (Weight parts = 1; parts < scale() && !clock_.over(); parts++) {
     if (scale() % parts != 0 || parts < 2 * tried) continue;
@@ -399,9 +479,8 @@ void Search::list_steps() {
     const Place& here = places_[place];
     rest.pop_back();
     if (!here.branch) {
-      add_leaf(here, decisions_of(place));
       leaves_++;
-      if (!here.done) open_leaves_.push_back(leaves_);
+      if (!add_leaf(here, decisions_of(place))) open_leaves_.push_back(leaves_);
       continue;
     }
     steps_.emplace_back(here.branch->pair);
@@ -451,6 +530,7 @@ void Search::run() {
   begun_ = clock_.used();
   grow_tree();
   coarsen();
+  drop_surplus();
   list_steps();
   Standing last = standing();
   last.bound = std::min(bound(), goal_.length);

@@ -14,6 +14,7 @@
 
 #include "case_solver.h"
 #include "certificate.h"
+#include "named_cuts.h"
 #include "parameters.h"
 
 namespace certify {
@@ -25,6 +26,7 @@ bool ends_in_time(double done, double begun, double used);
 struct Plan {
   int window = kTree.window;  // as many are begun and not ended at most
   std::size_t split = 0;      // it ends where as many are open; 0 for never
+  Extent limits = kLimits;    // of the certificate
 };
 
 class Search {
@@ -38,6 +40,8 @@ class Search {
   const std::vector<int>& open_leaves() const { return open_leaves_; }
   const Tour& tour() const { return goal_.tour; }
   Weight scale() const { return problem_.scale; }
+  // Whether leaves are open because of the limits.
+  bool is_limited() const { return limited_; }
   // The least bound of the leaves, as reckoned here.
   Weight bound() const { return bound_->bound_of(least_); }
   int leaves() const { return leaves_; }
@@ -84,8 +88,10 @@ class Search {
   void take_oldest();
   void remember(const History& history);
   void take(int place, Outcome& outcome);
+  void take_done(int place);
   void renumber(Outcome& outcome);
   void branch(int place, const Outcome& outcome);
+  bool settle(int place);
   void finish(int place);
   void finish_reached();
   int next_place();
@@ -94,8 +100,11 @@ class Search {
   bool waits_for_none() const;
   bool coarsen_to(Weight grid, std::vector<int>& leaves);
   void coarsen();
+  std::vector<int> leaf_places() const;
+  void drop_surplus();
   void list_steps();
-  void add_leaf(const Place& leaf, const std::vector<Decision>& decisions);
+  Numbers numbers_for_file(const Place& leaf, const std::vector<Decision>& decisions);
+  bool add_leaf(const Place& leaf, const std::vector<Decision>& decisions);
   Standing standing() const;
   void log(std::string_view event) { progress_.log(event, standing()); }
 
@@ -108,6 +117,7 @@ class Search {
   Goal goal_;
   std::mutex access_;  // to the tree and the pool, which one thread after the other has
   CutPool pool_;
+  NamedCuts named_;  // by leaves that are done
   const std::unique_ptr<ExactBound> bound_;
   std::optional<Weight> shift_;
   Leaves made_;
@@ -121,6 +131,8 @@ class Search {
   std::vector<int> open_leaves_;
   Value least_;
   int leaves_ = 0;
+  std::size_t branches_ = 0, differences_ = 0;
+  bool limited_ = false;
   bool large_tree_ = false;  // the tree seems to be large, so that families are worth their time
   double root_gap_ = 0;
   double begun_ = 0;  // the part of the time before the tree

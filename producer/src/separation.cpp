@@ -23,8 +23,9 @@ void Separation::set_tours(const Tour& best, const std::vector<Tour>& further) {
   further_ = further;
 }
 
-void Separation::begin(Experience experience, std::uint64_t seed) {
+void Separation::begin(Experience experience, std::uint64_t seed, std::shared_ptr<const Marks> allowed) {
   experience_ = std::move(experience);
+  allowed_ = std::move(allowed);
   random_ = Random(seed);
   whole_ = true;
 }
@@ -36,7 +37,7 @@ std::vector<std::pair<double, int>> Separation::missed_in_pool(bool rested) {
   std::vector<signed char>& rest = experience_.rest;
   rest.resize(pool_.size(), 0);
   for (int cut = 0; cut < pool_.size(); cut++) {
-    if (relaxation_.has(cut) || (!rested && rest[cut]-- > 0)) continue;
+    if (relaxation_.has(cut) || !is_allowed(cut) || (!rested && rest[cut]-- > 0)) continue;
     const double by = meter_.violation(pool_[cut]);
     rest[cut] = static_cast<signed char>(std::clamp(static_cast<int>(-2 * by), 0, kSeparation.longest_rest));
     if (by > kSeparation.least_in_pool) missed.emplace_back(-by, cut);
@@ -242,7 +243,7 @@ bool Separation::add_cuts(const Effort& effort) {
   const int sets = subtours(round);
   // the runs of a tour have three nodes outside
   whole_ = sets < kSeparation.many_subtours && pooled < kSeparation.many_from_pool;
-  if (whole_ && scratch_.size() >= 6) {
+  if (whole_ && !allowed_ && scratch_.size() >= 6) {
     if (effort.tighten) tighten_cuts(round, effort);
     combs(round, effort);
     if (effort.atoms > 0) families(round, effort);

@@ -20,8 +20,8 @@ class Separation {
  public:
   Separation(const Matrix& costs, CutPool& pool, Relaxation& relaxation, std::uint64_t seed);
   void set_tours(const Tour& best, const std::vector<Tour>& further);
-  // Begins a case.
-  void begin(Experience experience, std::uint64_t seed);
+  // Begins a case. With marks it adds no other cuts than the marked ones, and subtours.
+  void begin(Experience experience, std::uint64_t seed, std::shared_ptr<const Marks> allowed = nullptr);
   const Experience& experience() const { return experience_; }
   void set_best(const Tour& best) { best_ = best; }
   // Adds subtours and cuts of the pool. Whether any joined.
@@ -38,6 +38,9 @@ class Separation {
     int combs = 0;
   };
   std::vector<std::pair<double, int>> missed_in_pool(bool rested);
+  bool is_allowed(int cut) const {
+    return !allowed_ || pool_[cut].kind == CutKind::kSubtour || is_marked(*allowed_, cut);
+  }
   int from_pool(Round& round);
   int subtours(Round& round);
   void combs(Round& round, const Effort& effort);
@@ -63,6 +66,7 @@ class Separation {
   std::vector<char> scratch_;
   ViolationMeter meter_;  // of the solution at hand
   Experience experience_;
+  std::shared_ptr<const Marks> allowed_;
   bool whole_ = true;
 };
 }  // namespace certify

@@ -518,6 +518,82 @@ def families():
         need(bool(found) == some, f"{words}: the families are {found}")
 
 
+def extent(path):
+    """How many families a certificate has, with how many nodes, and how many differences and branches."""
+    families = sets_of_cuts(path)
+    steps = [line.split() for line in Path(path).read_text().partition("BRANCH_SECTION\n")[2].splitlines()[:-1]]
+    leaves = [step for step in steps if step[0] == "0"]
+    nodes = sum(len(some) for sets in families for some in sets)
+    return [len(families), nodes, sum(len(leaf) // 2 - 1 for leaf in leaves), len(steps) - len(leaves)]
+
+
+def need_within(most, certificate="out.branches"):
+    found = extent(certificate)
+    need(all(count <= limit for count, limit in zip(found, most)), f"{certificate} has {found}, past {most}")
+
+
+def limited(families=10**4, nodes=10**6, differences=10**7, branches=10**6):
+    """Words for other limits than those of a file, and the limits."""
+    most = [families, nodes, differences, branches]
+    return ["--limits", *map(str, most)], most
+
+
+def limits():
+    """No file is past small limits, by any number of threads, and what is printed is its bound."""
+    write_points("a.tsp", "EUC_2D", 120, random.Random(5), side=10**6)
+    certify("a.tsp", "-o", "out.branches", "--tour-out", "out.tour", "--seconds", "0")
+    families, nodes, *_ = extent("out.branches")
+    certify("a.tsp", "out.tour", "-o", "out.branches", "--seconds", "0", *limited(0)[0])
+    differences, branches = extent("out.branches")[2:]  # of a larger tree
+    for words, most, optimal in (
+        (*limited(families // 2), True),
+        (*limited(nodes=nodes // 2), True),
+        (*limited(0), True),
+        (*limited(0, differences=differences // 2), False),
+        (*limited(0, differences=100), False),  # fewer than nodes
+        (*limited(0, branches=branches // 2), False),
+    ):
+        texts = []
+        for threads_used in ("1", "4"):
+            said = certify("a.tsp", "out.tour", "-o", "out.branches", "--seconds", "0", "--threads", threads_used, *words)
+            report = judged("a.tsp")
+            need_within(most)
+            need(("optimal" in report) == optimal == ("are left open" not in said), f"{most}: {report} {said}")
+            need(f"bound {report['bound']} as reckoned" in said, f"{most}: {report}, and not as reckoned: {said}")
+            texts.append(Path("out.branches").read_bytes())
+        need(texts[0] == texts[1], f"{most}: another number of threads gives other bytes")
+    words, most = limited(families // 2)
+    write_points("b.tsp", "EUC_2D", 400, random.Random(5), side=10**6)
+    said = certify("b.tsp", "-o", "out.branches", "--tour-out", "b.tour", "--seconds", "4", *words)
+    need_within(most)
+    need(f"bound {judged('b.tsp', 'b.tour')['bound']} as reckoned" in said, f"open leaves: {said}")
+
+
+def join_limits():
+    """Parts share what a file may have. A part that is too large is left out and named, and --tree goes on with its leaf."""
+    leaves = split_tree()
+    first = extent("tree")
+    for leaf in leaves:
+        certify("a.tsp", "out.tour", "--tree", "tree", "--leaf", leaf, "-o", f"part-{leaf}", "--seconds", "0")
+    parts = [f"part-{leaf}" for leaf in leaves]
+    certify("a.tsp", "--tree", "tree", "-o", "out.branches", "--join", *parts)
+    whole = extent("out.branches")
+    for place, name in enumerate(("families", "nodes", "differences", "branches")):
+        words, most = limited(**{name: whole[place] - 1})
+        said = certify("a.tsp", "--tree", "tree", "-o", "out.branches", "--join", *parts, *words)
+        need_within(most)
+        need("left out" in said and sum(f" {part}" in said for part in parts) > 0, f"{most}: {said}")
+        need("gap" in judged("a.tsp"), f"{most}: {judged('a.tsp')}")
+    certify("a.tsp", "out.tour", "--tree", "out.branches", "-o", "again", "--seconds", "0")
+    need("optimal" in judged("a.tsp", certificate="again"), "the leaf that was left out isn't gone on with")
+    words, most = limited(first[0] + 2 * len(leaves))
+    for leaf in leaves:
+        certify("a.tsp", "out.tour", "--tree", "tree", "--leaf", leaf, "-o", f"part-{leaf}", "--seconds", "0", *words)
+    said = certify("a.tsp", "--tree", "tree", "-o", "out.branches", "--join", *parts, *words)
+    need_within(most)
+    need("left out" not in said and "optimal" in judged("a.tsp"), f"parts that keep their shares: {said}")
+
+
 def log():
     """Each line is of JSON, and no bound is above its length."""
     write_points("a.tsp", "EUC_2D", 120, random.Random(5), side=10**6)  # more than one leaf
@@ -630,7 +706,8 @@ def installing():
 
 CASES = [weights, fixed, small, matrix, atsp_small, atsp, atsp_named_tour, named_tour, upper, time_limit, same_bytes,
          threads, split, resume, parallel, dask,
-         short_numbers, sparse, large, interrupt, rounding, overwriting, families, log, bad_input, finding_tsp, installing]
+         short_numbers, sparse, large, interrupt, rounding, overwriting, families, limits, join_limits, log, bad_input,
+         finding_tsp, installing]
 
 
 def main():

@@ -135,7 +135,7 @@ TEST_CASE("a part takes the place of a leaf") {
   CHECK((open.decisions.size() == 1 && !open.decisions[0].used));
   CHECK(leaf_of(tree, 1).decisions[0].used);
   CHECK_THROWS(leaf_of(tree, 3));
-  const Certificate whole = joined(tree, {part});
+  const Certificate whole = joined(tree, {part}).whole;
   CHECK(whole.scale == 6);
   CHECK(whole.notes == std::map<std::string, std::string>{{"open", "1"}});
   CHECK(whole.families == std::vector<std::vector<NodeSet>>{pair, other});
@@ -145,7 +145,7 @@ TEST_CASE("a part takes the place of a leaf") {
   CHECK((numbers(1).potentials[0] == 3 && numbers(1).multipliers == std::map<int, Weight>{{0, 9}}));
   CHECK((numbers(3).potentials[0] == 6 && numbers(3).multipliers == std::map<int, Weight>{{1, 2}}));
   CHECK((numbers(4).potentials[0] == 8 && numbers(4).multipliers == std::map<int, Weight>{{0, 10}}));
-  CHECK(joined(tree, {}).steps.size() == tree.steps.size());
+  CHECK(joined(tree, {}).whole.steps.size() == tree.steps.size());
   Certificate changed = tree;
   changed.families[0] = other;
   CHECK(identity_of(changed) != identity_of(tree));
