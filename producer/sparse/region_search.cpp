@@ -27,35 +27,47 @@ std::vector<std::size_t> cuts_of(std::size_t count, std::size_t size, double sha
   cuts.push_back(count);
   return cuts;
 }
+
+// The nodes in the order of these values, in parts of about this size.
+std::vector<NodeSet> split(NodeSet nodes, const std::vector<double>& values, std::size_t size, double share) {
+  std::sort(nodes.begin(), nodes.end(),
+            [&](int a, int b) { return values[a] != values[b] ? values[a] < values[b] : a < b; });
+  const std::vector<std::size_t> cuts = cuts_of(nodes.size(), size, share);
+  std::vector<NodeSet> parts;
+  for (std::size_t k = 1; k < cuts.size(); k++) {
+    parts.emplace_back(nodes.begin() + static_cast<std::ptrdiff_t>(cuts[k - 1]),
+                       nodes.begin() + static_cast<std::ptrdiff_t>(cuts[k]));
+  }
+  return parts;
+}
 }  // namespace
 
-std::vector<NodeSet> regions_of(const Problem& problem, int size, int pass) {
+std::vector<NodeSet> regions_of(const Problem& problem, NodeSet nodes, int size, int pass) {
   const potentials::Points& points = problem.points();
   constexpr double kGolden = 0.6180339887;  // its multiples are far from each other
   const double share = std::fmod(pass * kGolden, 1);
   const bool turned = pass % 2 == 1;  // rows first
   const std::vector<double>& first = turned ? points.y : points.x;
   const std::vector<double>& second = turned ? points.x : points.y;
-  const auto by = [](const std::vector<double>& values) {
-    return [&values](int a, int b) { return values[a] != values[b] ? values[a] < values[b] : a < b; };
-  };
-  NodeSet nodes(problem.nodes());
-  std::iota(nodes.begin(), nodes.end(), 0);
-  std::sort(nodes.begin(), nodes.end(), by(first));
   const auto wide = static_cast<std::size_t>(std::sqrt(static_cast<double>(nodes.size()) * size));
   std::vector<NodeSet> regions;
-  const std::vector<std::size_t> columns = cuts_of(nodes.size(), std::max<std::size_t>(1, wide), share);
-  for (std::size_t c = 1; c < columns.size(); c++) {
-    NodeSet column(nodes.begin() + static_cast<std::ptrdiff_t>(columns[c - 1]),
-                   nodes.begin() + static_cast<std::ptrdiff_t>(columns[c]));
-    std::sort(column.begin(), column.end(), by(second));
-    const std::vector<std::size_t> rows = cuts_of(column.size(), static_cast<std::size_t>(size), share);
-    for (std::size_t r = 1; r < rows.size(); r++) {
-      regions.emplace_back(column.begin() + static_cast<std::ptrdiff_t>(rows[r - 1]),
-                           column.begin() + static_cast<std::ptrdiff_t>(rows[r]));
+  for (NodeSet& column : split(std::move(nodes), first, std::max<std::size_t>(1, wide), share)) {
+    for (NodeSet& region : split(std::move(column), second, static_cast<std::size_t>(size), share)) {
+      regions.push_back(std::move(region));
     }
   }
   return regions;
+}
+
+// The places of a region's nodes in the tour, in its order.
+std::vector<int> RegionSearch::places_of(const NodeSet& region) const {
+  std::vector<char> inside(tour_.size(), 0);
+  for (const int v : region) inside[v] = 1;
+  std::vector<int> places;
+  for (std::size_t k = 0; k < tour_.size(); k++) {
+    if (inside[tour_[k]] != 0) places.push_back(static_cast<int>(k));
+  }
+  return places;
 }
 
 // The nodes at these places of the tour, with a fixed edge for each path outside. Fixed edges of the problem
@@ -77,7 +89,16 @@ Instance RegionSearch::part_of(const std::vector<int>& places) const {
   return part;
 }
 
-// The whole tour where the region's nodes are in this order.
+// What edge assembly looks at.
+Matrix RegionSearch::costs_of(const Instance& part, const std::vector<int>& places) const {
+  std::vector<Weight> potentials;
+  potentials.reserve(places.size());
+  for (const int place : places) potentials.push_back(-std::llround(numbers_[tour_[place]]));
+  return certify::with_fixed_lowered(certify::with_potentials(part.weights, potentials), part.fixed);
+}
+
+// The whole tour where the region's nodes are in this order. Between nodes that are neighbours among them the
+// path outside is walked forward or back.
 Tour RegionSearch::whole_of(const Tour& order, const std::vector<int>& places) const {
   const int nodes = static_cast<int>(places.size());
   const int all = problem_.nodes();
@@ -87,30 +108,21 @@ Tour RegionSearch::whole_of(const Tour& order, const std::vector<int>& places) c
     const int i = order[k];
     const int j = order[k + 1 == nodes ? 0 : k + 1];
     whole.push_back(tour_[places[i]]);
-    if (j == (i + 1) % nodes) {
-      for (int at = (places[i] + 1) % all; at != places[j]; at = (at + 1) % all) whole.push_back(tour_[at]);
-    } else if (i == (j + 1) % nodes) {
-      for (int at = (places[i] + all - 1) % all; at != places[j]; at = (at + all - 1) % all)
-        whole.push_back(tour_[at]);
-    }
+    const bool forward = j == (i + 1) % nodes;
+    if (!forward && i != (j + 1) % nodes) continue;
+    const int step = forward ? 1 : all - 1;
+    for (int at = (places[i] + step) % all; at != places[j]; at = (at + step) % all)
+      whole.push_back(tour_[at]);
   }
   return whole;
 }
 
 void RegionSearch::improve(const NodeSet& region, const std::function<bool()>& stop) {
-  std::vector<char> inside(tour_.size(), 0);
-  for (const int v : region) inside[v] = 1;
-  std::vector<int> places;
-  for (std::size_t k = 0; k < tour_.size(); k++) {
-    if (inside[tour_[k]] != 0) places.push_back(static_cast<int>(k));
-  }
+  const std::vector<int> places = places_of(region);
+  if (places.size() < kFewest) return;
   const Instance part = part_of(places);
-  if (places.size() < kFewest || part.fixed.size() + 2 > places.size()) return;
-  std::vector<Weight> potentials;
-  potentials.reserve(places.size());
-  for (const int place : places) potentials.push_back(-std::llround(numbers_[tour_[place]]));
-  const Matrix costs =
-      certify::with_fixed_lowered(certify::with_potentials(part.weights, potentials), part.fixed);
+  if (part.fixed.size() + 2 > places.size()) return;
+  const Matrix costs = costs_of(part, places);
   certify::Eax eax(costs, part, kSparse.population, seed_++);
   const Tour order = eax.run(stop, [](Weight) {});
   if (!part.allows(order)) return;

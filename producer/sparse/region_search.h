@@ -14,9 +14,9 @@ using certify::NodeSet;
 using certify::Tour;
 using potentials::Problem;
 
-// Parts of the nodes of about this size, by columns of equal numbers and by rows in them. Each pass has other
-// borders.
-std::vector<NodeSet> regions_of(const Problem& problem, int size, int pass);
+// Parts of these nodes of about this size, by columns of equal numbers and by rows in them. Each pass has
+// other borders.
+std::vector<NodeSet> regions_of(const Problem& problem, NodeSet nodes, int size, int pass);
 
 class RegionSearch {
  public:
@@ -29,6 +29,8 @@ class RegionSearch {
 
  private:
   void improve(const NodeSet& region, const std::function<bool()>& stop);
+  std::vector<int> places_of(const NodeSet& region) const;
+  certify::Matrix costs_of(const certify::Instance& part, const std::vector<int>& places) const;
   certify::Instance part_of(const std::vector<int>& places) const;
   Tour whole_of(const Tour& order, const std::vector<int>& places) const;
 

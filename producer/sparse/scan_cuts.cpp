@@ -1,6 +1,7 @@
 #include "scan_cuts.h"
 
 #include <algorithm>
+#include <utility>
 
 #include "components.h"
 
@@ -70,45 +71,55 @@ class ScanCuts {
 
   // Contracts what joins, and notes the new nodes that are crossed too little.
   void contract() {
-    potentials::Components joined(static_cast<int>(graph_.size()));
+    const std::vector<int> place = join_members();
+    std::vector<NodeSet> parts(members_.size());
+    for (int v = 0; v < static_cast<int>(graph_.size()); v++) parts[place[v]].push_back(v);
+    Graph graph(parts.size());
+    std::vector<double> values(parts.size(), 0);
+    for (std::size_t node = 0; node < parts.size(); node++) {
+      const double crossing = join_edges(parts[node], place, values, graph[node]);
+      if (parts[node].size() > 1 && crossing < least_) cuts_.push_back(members_[node]);
+    }
+    graph_ = std::move(graph);
+  }
+
+  // Which new node each node becomes a part of. Members are those of the new nodes from here on.
+  std::vector<int> join_members() {
+    const int nodes = static_cast<int>(graph_.size());
+    potentials::Components joined(nodes);
     for (const auto& [a, b] : joins_) joined.join(a, b);
-    std::vector<int> place(graph_.size(), -1);
+    std::vector<int> place(nodes);
     std::vector<NodeSet> members;
-    for (int v = 0; v < static_cast<int>(graph_.size()); v++) {
-      const int root = joined.root(v);
+    for (int v = 0; v < nodes; v++) {
+      const int root = joined.root(v);  // the least node of its component
       if (root == v) {
         place[v] = static_cast<int>(members.size());
         members.push_back(std::move(members_[v]));
-      } else {
-        place[v] = place[root];
-        NodeSet& into = members[place[v]];
-        into.insert(into.end(), members_[v].begin(), members_[v].end());
+        continue;
       }
+      place[v] = place[root];
+      NodeSet& into = members[place[root]];
+      into.insert(into.end(), members_[v].begin(), members_[v].end());
     }
-    Graph graph(members.size());
-    std::vector<double> values(members.size(), 0);
-    std::vector<std::vector<int>> parts(members.size());
-    for (int v = 0; v < static_cast<int>(graph_.size()); v++) parts[place[v]].push_back(v);
-    for (std::size_t node = 0; node < parts.size(); node++) {
-      double crossing = 0;
-      std::vector<int> touched;
-      for (const int v : parts[node]) {
-        for (const auto& [to, value] : graph_[v]) {
-          const int other = place[to];
-          if (other == static_cast<int>(node)) continue;
-          if (values[other] == 0) touched.push_back(other);
-          values[other] += value;
-          crossing += value;
-        }
-      }
-      for (const int other : touched) {
-        graph[node].push_back({other, values[other]});
-        values[other] = 0;
-      }
-      if (parts[node].size() > 1 && crossing < least_) cuts_.push_back(members[node]);
-    }
-    graph_ = std::move(graph);
     members_ = std::move(members);
+    return place;
+  }
+
+  // The edges of a new node with these parts, and their sum. `values` are 0 before and after.
+  double join_edges(const NodeSet& parts, const std::vector<int>& place, std::vector<double>& values,
+                    std::vector<certify::Edge>& edges) const {
+    double sum = 0;
+    for (const int v : parts) {
+      for (const auto& [to, value] : graph_[v]) {
+        const int other = place[to];
+        if (other == place[v]) continue;
+        if (values[other] == 0) edges.push_back({other, 0});
+        values[other] += value;
+        sum += value;
+      }
+    }
+    for (certify::Edge& edge : edges) edge.value = std::exchange(values[edge.to], 0);
+    return sum;
   }
 
   double least_;

@@ -34,32 +34,45 @@ std::vector<std::size_t> SparseLeaf::multiplied_rows(const SparseProgram& progra
   return chosen;
 }
 
+// Subtours with the special node are those of the other nodes, whose sets a tree keeps by itself: their edges
+// are as many less as the degrees inside are. What all potentials would have in common is left out.
+void SparseLeaf::turn_inside_out(const SparseProgram& program, std::vector<double>& potentials) const {
+  for (std::size_t row = 0; row < program.cuts().size(); row++) {
+    const Cut& cut = pool_[program.cuts()[row]];
+    if (cut.kind != CutKind::kSubtour || program.cut_dual(row) == 0) continue;
+    if (!std::binary_search(cut.sets[0].begin(), cut.sets[0].end(), problem_.special())) continue;
+    for (const int v : cut.sets[0]) potentials[v] += program.cut_dual(row);
+  }
+}
+
+// Whole numbers at the scale. Their median is 0, so that they are short: a number that is added to all of
+// them changes no bound.
+std::vector<Weight> SparseLeaf::whole(const std::vector<double>& potentials) const {
+  const auto scale = static_cast<double>(scale_);
+  std::vector<double> sorted = potentials;
+  const auto middle = sorted.begin() + problem_.nodes() / 2;
+  std::nth_element(sorted.begin(), middle, sorted.end());
+  std::vector<Weight> numbers;
+  numbers.reserve(potentials.size());
+  for (const double potential : potentials) numbers.push_back(std::llround((potential - *middle) * scale));
+  return numbers;
+}
+
 Numbers SparseLeaf::extract(const SparseProgram& program) const {
   const auto scale = static_cast<double>(scale_);
-  std::vector<double> potentials(problem_.nodes());
-  for (int v = 0; v < problem_.nodes(); v++) potentials[v] = -program.node_dual(v) * scale;
   Numbers numbers;
+  std::vector<double> potentials(problem_.nodes());
+  for (int v = 0; v < problem_.nodes(); v++) potentials[v] = -program.node_dual(v);
   for (const std::size_t row : multiplied_rows(program)) {
     const Weight multiplier = std::llround(program.cut_dual(row) * scale / 2);
     if (multiplier == 0) continue;
     numbers.multipliers[program.cuts()[row]] = multiplier;
     for (const NodeSet& set : pool_[program.cuts()[row]].sets) {
-      for (const int v : set) potentials[v] += static_cast<double>(multiplier);
+      for (const int v : set) potentials[v] += static_cast<double>(multiplier) / scale;
     }
   }
-  for (std::size_t row = 0; row < program.cuts().size(); row++) {
-    const Cut& cut = pool_[program.cuts()[row]];
-    const double dual = program.cut_dual(row) * scale;
-    if (cut.kind != CutKind::kSubtour || dual == 0) continue;
-    if (!std::binary_search(cut.sets[0].begin(), cut.sets[0].end(), problem_.special())) continue;
-    for (double& potential : potentials) potential -= dual / 2;
-    for (const int v : cut.sets[0]) potentials[v] += dual;
-  }
-  std::vector<double> sorted = potentials;
-  std::nth_element(sorted.begin(), sorted.begin() + problem_.nodes() / 2, sorted.end());
-  for (const double potential : potentials) {
-    numbers.potentials.push_back(std::llround(potential - sorted[problem_.nodes() / 2]));
-  }
+  turn_inside_out(program, potentials);
+  numbers.potentials = whole(potentials);
   return numbers;
 }
 
@@ -88,11 +101,6 @@ Value SparseLeaf::value(const Numbers& numbers, const std::vector<Pair>& likely)
            own[edge.b] + std::llround(surcharges.between(edge.a, edge.b) * scale);
   }
   return sum;
-}
-
-Weight SparseLeaf::bound_of(Value value) const {
-  const Value scale = scale_;
-  return static_cast<Weight>(value >= 0 ? (value + scale - 1) / scale : -(-value / scale));
 }
 
 certify::Certificate SparseLeaf::certificate(const Numbers& numbers) const {

@@ -14,12 +14,13 @@ class SparseLeaf {
  public:
   SparseLeaf(const Problem& problem, const CutPool& pool, double average);
   Weight scale() const { return scale_; }
+  // Potentials alone, as an ascent finds them.
+  Numbers alone(const std::vector<double>& potentials) const { return {whole(potentials), {}}; }
   // The duals of the program. Of more combs than a file may have, those with the largest duals.
   Numbers extract(const SparseProgram& program) const;
   // The bound times the scale. Likely edges limit the searches.
   Value value(const Numbers& numbers, const std::vector<Pair>& likely);
-  // The least bound that a value gives.
-  Weight bound_of(Value value) const;
+  Weight bound_of(Value value) const { return certify::rounded_up(value, scale_); }
   // The edges of the last 1-tree.
   const std::vector<potentials::Edge>& tree() const { return tree_; }
   // A file of one leaf, in the order of the instance's nodes.
@@ -27,6 +28,8 @@ class SparseLeaf {
 
  private:
   std::vector<std::size_t> multiplied_rows(const SparseProgram& program) const;
+  void turn_inside_out(const SparseProgram& program, std::vector<double>& potentials) const;
+  std::vector<Weight> whole(const std::vector<double>& potentials) const;
 
   const Problem& problem_;
   const CutPool& pool_;

@@ -26,8 +26,6 @@ struct SparseParameters {
   std::size_t window = 4;                 // rounds whose gain is looked at
   double least_gain = 0.03;               // a part of the gap; less is a stall
   double least_subtours_of_node = 0.003;  // while there are more, no combs are looked for
-  int longest_rest = 4;                   // rounds that a cut of the pool is left out
-  double least_in_pool = 0.02;            // violation of a cut of the pool
   int trees = 4;                          // exact 1-trees at the end, each of which brings edges
   double average_at_scale = 1e5;          // an average edge times the scale is at least as much
   std::size_t most_families = 10000, most_nodes = 1000000;  // of a file

@@ -2,6 +2,7 @@
 
 #include <algorithm>
 #include <coin/ClpEventHandler.hpp>
+#include <utility>
 
 #include "sparse_parameters.h"
 
@@ -131,37 +132,38 @@ void SparseProgram::add_candidates(const std::vector<Pair>& edges) {
   candidates_.erase(std::unique(candidates_.begin(), candidates_.end()), candidates_.end());
 }
 
+// Counts the edges inside a set, or takes half of those that cross it away, whatever are fewer. Whether it
+// was those that cross it.
+bool SparseProgram::count_edges(const NodeSet& set, std::vector<int>& touched) {
+  inside_.clear();
+  across_.clear();
+  for (const int v : set) mark_[v] = 1;
+  for (const int v : set) {
+    for (const Place& place : adjacent_[v]) {
+      const bool within = mark_[place.node] != 0;
+      if (!within) across_.push_back(place.column);
+      if (within && place.node > v) inside_.push_back(place.column);
+    }
+  }
+  for (const int v : set) mark_[v] = 0;
+  const bool crosses = across_.size() < inside_.size();
+  for (const int column : crosses ? across_ : inside_) {
+    if (counts_[column] == 0) touched.push_back(column);
+    counts_[column] += crosses ? -0.5 : 1;
+  }
+  return crosses;
+}
+
 // The row of a cut: its edges, and whether each set counts those that cross it.
 void SparseProgram::list_row(int cut, std::vector<char>& crossing, std::vector<int>& columns,
                              std::vector<double>& elements) {
-  std::vector<int> touched, inside, across;
-  for (const NodeSet& set : pool_[cut].sets) {
-    for (const int v : set) mark_[v] = 1;
-    inside.clear();
-    across.clear();
-    for (const int v : set) {
-      for (const Place& place : adjacent_[v]) {
-        if (mark_[place.node] == 0) {
-          across.push_back(place.column);
-        } else if (place.node > v) {
-          inside.push_back(place.column);
-        }
-      }
-    }
-    for (const int v : set) mark_[v] = 0;
-    const bool crosses = across.size() < inside.size();
-    crossing.push_back(crosses ? 1 : 0);
-    for (const int column : crosses ? across : inside) {
-      if (counts_[column] == 0) touched.push_back(column);
-      counts_[column] += crosses ? -0.5 : 1;
-    }
-  }
+  std::vector<int> touched;
+  for (const NodeSet& set : pool_[cut].sets) crossing.push_back(count_edges(set, touched) ? 1 : 0);
   for (const int column : touched) {
-    if (counts_[column] != 0) {
-      columns.push_back(column);
-      elements.push_back(counts_[column]);
-    }
-    counts_[column] = 0;
+    const double count = std::exchange(counts_[column], 0);
+    if (count == 0) continue;
+    columns.push_back(column);
+    elements.push_back(count);
   }
 }
 
@@ -253,6 +255,10 @@ void SparseProgram::drop_edges() {
   solution_ = std::move(solution);
   edge_weights_.columns = std::move(weights);
   kept_ = std::move(kept);
+  index_columns();
+}
+
+void SparseProgram::index_columns() {
   column_of_.clear();
   for (std::vector<Place>& adjacent : adjacent_) adjacent.clear();
   for (int column = 0; column < columns(); column++) {
@@ -263,10 +269,19 @@ void SparseProgram::drop_edges() {
   }
 }
 
-bool SparseProgram::optimize() {
+// Whether Clp neither found the best solution nor was stopped.
+bool SparseProgram::failed() const {
   constexpr int kStopped = 5;
+  return program_.status() != 0 && program_.status() != kStopped;
+}
+
+bool SparseProgram::optimize() {
   program_.dual(0);
-  if (program_.status() != 0 && program_.status() != kStopped) program_.primal(0);
+  if (failed()) program_.primal(0);
+  if (failed()) {
+    program_.allSlackBasis();
+    program_.dual(0);
+  }
   value_ = program_.objectiveValue() * unit_;
   return program_.status() == 0;
 }

@@ -27,6 +27,8 @@ class SparseProgram {
  public:
   // The clock ends a solution early. What the program then says of duals is valid, but not the best.
   SparseProgram(const Problem& problem, const CutPool& pool, const Tour& tour, const certify::Clock& clock);
+  SparseProgram(const SparseProgram&) = delete;  // Clp has a pointer to the weights of this one
+  SparseProgram& operator=(const SparseProgram&) = delete;
   void add_edges(const std::vector<Pair>& edges);
   // Edges that pricing looks at from here on, besides those before.
   void add_candidates(const std::vector<Pair>& edges);
@@ -62,6 +64,8 @@ class SparseProgram {
     bool operator<(const Member& other) const { return row != other.row ? row < other.row : set < other.set; }
   };
   void begin();
+  void index_columns();
+  bool failed() const;
   bool optimize();
   int price();
   void read_duals();
@@ -69,6 +73,7 @@ class SparseProgram {
   std::vector<std::vector<Member>> memberships() const;
   void list_entries(const std::vector<Member>& of_one, const std::vector<Member>& of_other,
                     std::vector<int>& rows, std::vector<double>& elements) const;
+  bool count_edges(const NodeSet& set, std::vector<int>& touched);
   void list_row(int cut, std::vector<char>& crossing, std::vector<int>& columns,
                 std::vector<double>& elements);
   double reduced_cost(const Pair& edge, const std::vector<std::vector<Member>>& members) const;
@@ -94,8 +99,9 @@ class SparseProgram {
   std::vector<std::vector<char>> crossing_;  // of each row's sets
   std::unordered_map<int, int> row_of_;
   std::vector<double> solution_, node_duals_, cut_duals_;
-  std::vector<char> mark_;
-  std::vector<double> counts_;  // of the edges in a row that is made
+  std::vector<char> mark_;            // of the nodes of a set that is looked at
+  std::vector<int> inside_, across_;  // the columns of its edges
+  std::vector<double> counts_;        // of the edges in a row that is made
   Graph support_;
   double value_ = 0;
 };

@@ -2,6 +2,8 @@
 
 #include <algorithm>
 #include <cmath>
+#include <numeric>
+#include <utility>
 
 #include "candidates.h"
 #include "sparse_parameters.h"
@@ -19,23 +21,20 @@ std::vector<Pair> pairs_of(const std::vector<potentials::Edge>& edges) {
 
 Weight SparseSearch::length() const { return std::llround(problem_.length(tours_[0])); }
 
-// What the program is worth, before its numbers are whole.
-Weight SparseSearch::bound_so_far() const {
-  return std::max<Weight>(0, std::min(target(), static_cast<Weight>(program_->value())));
+// What the program is worth, before its numbers are whole; 0 while there is none.
+Weight SparseSearch::value_so_far() const {
+  if (!program_) return 0;
+  return static_cast<Weight>(std::max(0.0, std::min(program_->value(), static_cast<double>(target()))));
 }
 
-void SparseSearch::note(std::string_view event) {
-  certify::Standing standing{length(), 0};
-  standing.bound = bound_so_far();
+void SparseSearch::note(std::string_view event, Weight bound) {
+  certify::Standing standing{length(), bound};
   for (const int cut : program_->cuts()) {
     (pool_[cut].kind == certify::CutKind::kSubtour ? standing.subtours : standing.combs)++;
   }
   standing.open = 1;
-  if (event.empty()) {
-    progress_.show(standing);
-  } else {
-    progress_.log(event, standing);
-  }
+  progress_.show(standing);
+  progress_.log(event, standing);
 }
 
 void SparseSearch::ascend() {
@@ -55,10 +54,12 @@ Tour SparseSearch::looked_for() {
 // One pass over all regions. Whether it shortens the tour.
 bool SparseSearch::pass_regions(double part) {
   const Weight before = length();
-  const std::vector<NodeSet> regions = regions_of(problem_, kSparse.region, passes_++);
+  NodeSet nodes(problem_.nodes());
+  std::iota(nodes.begin(), nodes.end(), 0);
+  const std::vector<NodeSet> regions = regions_of(problem_, std::move(nodes), kSparse.region, passes_++);
   regions_->pass_over(regions, [&] { return clock_.over(part); });
   tours_[0] = regions_->tour();
-  progress_.log("tour", length(), program_ ? bound_so_far() : 0, "\"pass\": " + std::to_string(passes_));
+  progress_.log("tour", length(), value_so_far(), "\"pass\": " + std::to_string(passes_));
   return length() < before;
 }
 
@@ -91,16 +92,20 @@ void SparseSearch::begin_program() {
   separation_.emplace(problem_, pool_, *program_, start_.seed);
   separation_->set_tours(tours_);
   leaf_.emplace(problem_, pool_, program_->average());
+  take(leaf_->alone(duals_));  // a program that has little time may be worth less
 }
 
-// Takes the numbers of the last solution where they are better. How many edges of the 1-tree joined.
-int SparseSearch::judge() {
-  Numbers numbers = leaf_->extract(*program_);
+// Takes numbers where they are better.
+void SparseSearch::take(Numbers numbers) {
   const Value value = leaf_->value(numbers, program_->edges());
-  if (value > value_) {
-    numbers_ = std::move(numbers);
-    value_ = value;
-  }
+  if (value <= value_) return;
+  numbers_ = std::move(numbers);
+  value_ = value;
+}
+
+// Takes the numbers of the last solution. How many edges of their 1-tree joined.
+int SparseSearch::judge() {
+  take(leaf_->extract(*program_));
   const int before = program_->columns();
   program_->add_edges(pairs_of(leaf_->tree()));
   return program_->columns() - before;
@@ -114,8 +119,7 @@ bool SparseSearch::stalled() const {
 
 void SparseSearch::cut_subtours() {
   while (program_->solve()) {
-    note("");
-    note("round");
+    note("round", value_so_far());
     if (reaches() || separation_->add_subtours() == 0) return;
   }
 }
@@ -146,8 +150,7 @@ bool SparseSearch::goes_further() {
 // Rounds of cuts until they stop to help.
 void SparseSearch::cut() {
   for (int round = 1; program_->solve(); round++) {
-    note("");
-    note("round");
+    note("round", value_so_far());
     if (reaches()) return;
     values_.push_back(program_->value());
     tidy(round);
@@ -169,6 +172,6 @@ void SparseSearch::run() {
     if (!program_->solve()) break;
   }
   shorten_tour();
-  note("end");
+  note("end", std::max<Weight>(0, bound()));
 }
 }  // namespace sparse

@@ -39,17 +39,18 @@ class SparseSearch {
   Tour looked_for();
   bool pass_regions(double part);
   void shorten_tour();
-  Weight bound_so_far() const;
+  Weight value_so_far() const;
   void begin_program();
   void cut_subtours();
   void tidy(int round);
   bool goes_further();
   void cut();
   bool stalled() const;
+  void take(Numbers numbers);
   int judge();
   bool reaches() const { return program_->value() > static_cast<double>(target()) - 1; }
   Weight target() const { return start_.upper ? std::min(*start_.upper, length()) : length(); }
-  void note(std::string_view event);
+  void note(std::string_view event, Weight bound);
 
   const Problem& problem_;
   const SparseStart start_;

@@ -34,18 +34,11 @@ bool SparseSeparation::take(Round& round, int cut, double least_violation) {
 
 // Known cuts that the solution misses, the worst first. Those that it is far from have to rest.
 void SparseSeparation::from_pool(Round& round) {
-  std::vector<std::pair<double, int>> missed;
-  rest_.resize(pool_.size(), 0);
-  for (int cut = 0; cut < pool_.size(); cut++) {
-    if (program_.has(cut) || rest_[cut]-- > 0) continue;
-    const double by = meter_.violation(pool_[cut]);
-    rest_[cut] = static_cast<signed char>(std::clamp(static_cast<int>(-2 * by), 0, kSparse.longest_rest));
-    if (by > kSparse.least_in_pool) missed.emplace_back(-by, cut);
-  }
-  std::sort(missed.begin(), missed.end());
+  const auto may_join = [&](int cut) { return !program_.has(cut); };
+  std::vector<std::pair<double, int>> missed = certify::missed_in_pool(pool_, meter_, rest_, false, may_join);
   const int most = std::max(100, times(kSparse.pooled_of_node, program_.support()));
   missed.resize(std::min(missed.size(), static_cast<std::size_t>(most)));
-  for (const auto& [by, cut] : missed) take(round, cut, kSparse.least_in_pool);
+  for (const auto& [by, cut] : missed) take(round, cut, certify::kSeparation.least_in_pool);
 }
 
 int SparseSeparation::subtours(Round& round, const std::vector<NodeSet>& sets) {
@@ -56,31 +49,6 @@ int SparseSeparation::subtours(Round& round, const std::vector<NodeSet>& sets) {
     if (take(round, pool_.add_subtour(set), 0.01)) count++;
   }
   return count;
-}
-
-std::vector<NodeSet> SparseSeparation::known_handles() const {
-  std::vector<NodeSet> sets;
-  for (std::size_t row = 0; row < program_.cuts().size(); row++) {
-    if (program_.cut_dual(row) <= 1e-6) continue;
-    for (const NodeSet& set : pool_[program_.cuts()[row]].sets) {
-      if (set.size() > 1) sets.push_back(set);
-    }
-  }
-  return sets;
-}
-
-void SparseSeparation::take_combs(Round& round, const std::vector<FoundComb>& found, int most) {
-  for (const FoundComb& comb : found) {
-    if (round.combs >= most) return;
-    const NodeSet& handle = comb.sets[0];
-    const bool crowded = std::any_of(handle.begin(), handle.end(), [&](int v) {
-      return round.uses[v] >= certify::kSeparation.most_handles_of_node;
-    });
-    if (crowded || !pool_.is_comb(comb.sets)) continue;
-    if (!take(round, pool_.add_comb(comb.sets), certify::kRootEffort.least_violation)) continue;
-    for (const int v : handle) round.uses[v]++;
-    round.combs++;
-  }
 }
 
 // A tour of the heavy edges of the solution, by chance. Its long links are few.
@@ -118,8 +86,11 @@ certify::Effort SparseSeparation::effort_of(int level, bool far) const {
 // All tours at once. What is taken is the same for any number of threads.
 void SparseSeparation::combs(Round& round, const certify::Effort& effort) {
   const Graph& graph = program_.support();
-  const std::vector<NodeSet> known = known_handles();
-  round.uses.assign(graph.size(), 0);
+  const std::vector<NodeSet> known = certify::known_handles(program_, pool_);
+  const auto take_comb = [&](const FoundComb& comb) {
+    return take(round, pool_.add_comb(comb.sets), effort.least_violation);
+  };
+  round.combs.uses.assign(graph.size(), 0);
   std::vector<Tour> tours = tours_;
   for (int k = 0; k < kSparse.guided_tours; k++) tours.push_back(guided_tour());
   std::vector<Trial> trials;
@@ -132,7 +103,7 @@ void SparseSeparation::combs(Round& round, const certify::Effort& effort) {
   });
   for (const Trial& trial : trials) {
     subtours(round, trial.sets);
-    take_combs(round, trial.found, effort.most_cuts);
+    round.combs.take_all(pool_, trial.found, effort.most_cuts, take_comb);
   }
 }
 

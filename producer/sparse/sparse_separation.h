@@ -2,7 +2,7 @@
 // tours as teeth. It needs no matrix.
 // Source: D. Applegate, R. Bixby, V. Chvatal and W. Cook, The Traveling Salesman Problem (2006).
 #pragma once
-#include "combs.h"
+#include "cut_rounds.h"
 #include "sparse_program.h"
 
 namespace sparse {
@@ -22,8 +22,7 @@ class SparseSeparation {
   struct Round {
     std::vector<int> cuts;
     std::vector<char> taken;  // of each cut of the pool
-    std::vector<int> uses;    // of each node in handles
-    int combs = 0;
+    certify::TakenCombs combs;
   };
   struct Trial;
   void begin(Round& round);
@@ -32,8 +31,6 @@ class SparseSeparation {
   bool take(Round& round, int cut, double least_violation);
   void combs(Round& round, const certify::Effort& effort);
   certify::Effort effort_of(int level, bool far) const;
-  void take_combs(Round& round, const std::vector<certify::FoundComb>& found, int most);
-  std::vector<NodeSet> known_handles() const;
   Tour guided_tour();
 
   const Problem& problem_;

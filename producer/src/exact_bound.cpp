@@ -11,8 +11,7 @@ constexpr Value kMostMultipliers = 900000000000000000;  // each as often as two 
 ExactBound::ExactBound(const Matrix& weights, const CutPool& pool, Weight scale)
     : weights_(weights), pool_(pool), scale_(scale), sets_of_(weights.nodes()), extra_(weights.nodes(), 0) {}
 
-Weight ExactBound::bound_of(Value value) const {
-  const Value scale = scale_;
+Weight rounded_up(Value value, Weight scale) {
   return static_cast<Weight>(value >= 0 ? (value + scale - 1) / scale : -(-value / scale));
 }
 

@@ -9,6 +9,9 @@
 namespace certify {
 __extension__ typedef __int128 Value;  // a bound times the scale
 
+// The least bound that a value gives.
+Weight rounded_up(Value value, Weight scale);
+
 // The numbers of a leaf.
 struct Numbers {
   std::vector<Weight> potentials;
@@ -30,8 +33,7 @@ class ExactBound {
   virtual void add_likely(const std::vector<Pair>&) {}
   // Whether value() is at least this.
   bool reaches(const Numbers& numbers, const std::vector<Decision>& decisions, Value goal);
-  // The least bound that this value gives.
-  Weight bound_of(Value value) const;
+  Weight bound_of(Value value) const { return rounded_up(value, scale_); }
   // The links of the last relaxation of a tour, a 1-tree or the least arcs, and how often they cross each cut
   // with a multiplier.
   const std::vector<Pair>& links() const { return links_; }

@@ -30,26 +30,12 @@ void Separation::begin(Experience experience, std::uint64_t seed, std::shared_pt
   whole_ = true;
 }
 
-// Known cuts that the solution misses, the worst first. Those that earlier solutions crossed much more often
-// than a tour has to rest for some rounds, unless that is over for all.
-std::vector<std::pair<double, int>> Separation::missed_in_pool(bool rested) {
-  std::vector<std::pair<double, int>> missed;
-  std::vector<signed char>& rest = experience_.rest;
-  rest.resize(pool_.size(), 0);
-  for (int cut = 0; cut < pool_.size(); cut++) {
-    if (relaxation_.has(cut) || !is_allowed(cut) || (!rested && rest[cut]-- > 0)) continue;
-    const double by = meter_.violation(pool_[cut]);
-    rest[cut] = static_cast<signed char>(std::clamp(static_cast<int>(-2 * by), 0, kSeparation.longest_rest));
-    if (by > kSeparation.least_in_pool) missed.emplace_back(-by, cut);
-  }
-  std::sort(missed.begin(), missed.end());
-  return missed;
-}
-
 // How many known cuts the solution misses.
 int Separation::from_pool(Round& round) {
-  std::vector<std::pair<double, int>> missed = missed_in_pool(false);
-  if (missed.empty()) missed = missed_in_pool(true);
+  const auto may_join = [&](int cut) { return !relaxation_.has(cut) && is_allowed(cut); };
+  std::vector<std::pair<double, int>> missed =
+      missed_in_pool(pool_, meter_, experience_.rest, false, may_join);
+  if (missed.empty()) missed = missed_in_pool(pool_, meter_, experience_.rest, true, may_join);
   for (std::size_t k = 0; k < std::min(missed.size(), kSeparation.most_from_pool); k++)
     round.cuts.push_back(missed[k].second);
   return static_cast<int>(missed.size());
@@ -66,17 +52,6 @@ int Separation::subtours(Round& round) {
     count++;
   }
   return count;
-}
-
-std::vector<NodeSet> Separation::known_handles() const {
-  std::vector<NodeSet> sets;
-  for (std::size_t row = 0; row < relaxation_.cuts().size(); row++) {
-    if (relaxation_.cut_dual(row) <= 1e-6) continue;
-    for (const NodeSet& set : pool_[relaxation_.cuts()[row]].sets) {
-      if (set.size() > 1) sets.push_back(set);
-    }
-  }
-  return sets;
 }
 
 // A tour along the edges of the solution, by chance.
@@ -117,17 +92,9 @@ bool Separation::take(Round& round, int cut, double least_violation) {
 }
 
 void Separation::take_combs(Round& round, const std::vector<FoundComb>& found, const Effort& effort) {
-  for (const FoundComb& comb : found) {
-    if (round.combs >= effort.most_cuts) return;
-    const NodeSet& handle = comb.sets[0];
-    const bool crowded = std::any_of(handle.begin(), handle.end(), [&](int v) {
-      return round.uses[v] >= kSeparation.most_handles_of_node;
-    });
-    if (crowded || !pool_.is_comb(comb.sets)) continue;
-    if (!take(round, pool_.add_comb(comb.sets), effort.least_violation)) continue;
-    for (const int v : handle) round.uses[v]++;
-    round.combs++;
-  }
+  round.combs.take_all(pool_, found, effort.most_cuts, [&](const FoundComb& comb) {
+    return take(round, pool_.add_comb(comb.sets), effort.least_violation);
+  });
 }
 
 // What a tour gives: runs that are crossed too little, and combs.
@@ -146,15 +113,15 @@ void Separation::look(CombTrial& trial, const std::vector<NodeSet>& known, const
 
 // As many tours at once as there are threads. What is taken is the same for any number of them.
 void Separation::combs(Round& round, const Effort& effort) {
-  const std::vector<NodeSet> known = known_handles();
-  round.uses.assign(scratch_.size(), 0);
+  const std::vector<NodeSet> known = known_handles(relaxation_, pool_);
+  round.combs.uses.assign(scratch_.size(), 0);
   std::vector<CombTrial> trials;
   for (int k = 0; k <= effort.further_tours; k++) trials.push_back({k, Random(random_.next())});
   for (std::size_t first = 0; first < trials.size(); first += threads()) {
     const std::size_t count = std::min(threads(), trials.size() - first);
     for_each_at_once(count, [&](std::size_t k) { look(trials[first + k], known, effort); });
     for (std::size_t k = first; k < first + count; k++) {
-      if (k > 0 && round.combs > effort.most_cuts / 2) return;
+      if (k > 0 && round.combs.count > effort.most_cuts / 2) return;
       for (const NodeSet& set : trials[k].sets) {
         const int known_cuts = pool_.size(), cut = pool_.add_subtour(set);
         if (cut == known_cuts) round.cuts.push_back(cut);

@@ -4,8 +4,7 @@
 // search on costs that the solution lowers. Source: D. Applegate, R. Bixby, V. Chvatal and W. Cook, The
 // Traveling Salesman Problem (2006).
 #pragma once
-#include "combs.h"
-#include "parameters.h"
+#include "cut_rounds.h"
 #include "quotients.h"
 #include "relaxation.h"
 
@@ -34,10 +33,8 @@ class Separation {
  private:
   struct Round {
     std::vector<int> cuts;
-    std::vector<int> uses;  // of each node in handles
-    int combs = 0;
+    TakenCombs combs;
   };
-  std::vector<std::pair<double, int>> missed_in_pool(bool rested);
   bool is_allowed(int cut) const {
     return !allowed_ || pool_[cut].kind == CutKind::kSubtour || is_marked(*allowed_, cut);
   }
@@ -50,7 +47,6 @@ class Separation {
   double crossed(const NodeSet& set);
   bool take(Round& round, int cut, double least_violation);
   void take_combs(Round& round, const std::vector<FoundComb>& found, const Effort& effort);
-  std::vector<NodeSet> known_handles() const;
   Tour guided_tour(Random& random) const;
   Tour tour_for(int k, Random& random) const;
   struct CombTrial;

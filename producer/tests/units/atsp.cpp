@@ -12,12 +12,6 @@
 using namespace certify;
 
 namespace {
-Tour in_order(int nodes) {
-  Tour tour(nodes);
-  std::iota(tour.begin(), tour.end(), 0);
-  return tour;
-}
-
 bool has_each_node_once(Tour tour, int nodes) {
   std::sort(tour.begin(), tour.end());
   return tour == in_order(nodes);

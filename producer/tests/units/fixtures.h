@@ -6,7 +6,9 @@
 #include <catch2/catch.hpp>
 #endif
 
+#include "problem.h"
 #include "random.h"
+#include "surcharges.h"
 #include "tour.h"
 
 // Symmetric weights from 0 to 999.
@@ -15,3 +17,12 @@ certify::Matrix random_matrix(int nodes, certify::Random& random);
 certify::Matrix random_arcs(int nodes, certify::Random& random);
 // The length of a shortest tour, by all orders.
 certify::Weight shortest(const certify::Matrix& weights);
+// Points with whole coordinates from 0 on, below the side.
+potentials::Points random_points(int nodes, int axes, potentials::Metric metric, certify::Random& random,
+                                 int side = 1000);
+// The nodes in the order of their numbers.
+certify::Tour in_order(int nodes);
+// The least weight of a 1-tree under cost(i, j) + p(i) + p(j) + the surcharge, with all fixed edges in it, by
+// Prim's method.
+double least_tree(const potentials::Problem& problem, const std::vector<double>& numbers,
+                  const potentials::Surcharges& surcharges);

@@ -7,10 +7,10 @@
 #include "ascent.h"
 #include "assignment.h"
 #include "candidates.h"
-#include "node_potentials.h"
 #include "exact_tree.h"
 #include "fixtures.h"
 #include "kd_tree.h"
+#include "node_potentials.h"
 #include "tours.h"
 #include "tsp_program.h"
 
@@ -25,51 +25,15 @@ namespace {
 constexpr Metric kMetrics[] = {Metric::kEuclid, Metric::kCeil, Metric::kManhattan, Metric::kMaximum,
                                Metric::kAtt};
 
-Points random_points(int nodes, int axes, Metric metric, Random& random, int side = 1000) {
-  Points points;
-  points.metric = metric;
-  points.axes = axes;
-  for (int i = 0; i < nodes; i++) {
-    points.x.push_back(random.below(side));
-    points.y.push_back(random.below(side));
-    points.z.push_back(axes == 3 ? random.below(side) : 0);
-  }
-  return points;
-}
-
 std::vector<double> random_numbers(int count, Random& random) {
   std::vector<double> numbers(count);
   for (double& number : numbers) number = random.below(400) - 200;
   return numbers;
 }
 
-// The bound of the numbers: Prim's tree over the other nodes, and two edges at the special one, with fixed
-// edges first.
 double bound_by_definition(const Problem& problem, const std::vector<double>& numbers) {
-  const int special = problem.special();
-  const auto order_of = [&](int i, int j) {
-    const double weight = problem.cost(i, j) + numbers[i] + numbers[j];
-    return std::pair(problem.is_fixed(i, j) ? 0 : 1, weight);
-  };
-  double sum = -2 * std::accumulate(numbers.begin(), numbers.end(), 0.0);
-  std::set<int> inside{special == 0 ? 1 : 0};
-  while (static_cast<int>(inside.size()) < problem.nodes() - 1) {
-    std::pair best(2, 0.0);
-    int next = -1;
-    for (const int i : inside) {
-      for (int j = 0; j < problem.nodes(); j++) {
-        if (j == special || inside.contains(j) || order_of(i, j) >= best) continue;
-        best = order_of(i, j);
-        next = j;
-      }
-    }
-    inside.insert(next);
-    sum += best.second;
-  }
-  std::vector<std::pair<int, double>> ways;
-  for (const int j : inside) ways.push_back(order_of(special, j));
-  std::sort(ways.begin(), ways.end());
-  return sum + ways[0].second + ways[1].second;
+  return least_tree(problem, numbers, Surcharges(problem.nodes())) -
+         2 * std::accumulate(numbers.begin(), numbers.end(), 0.0);
 }
 
 double bound_by_exact_tree(const Problem& problem, const std::vector<double>& numbers) {

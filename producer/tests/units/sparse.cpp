@@ -1,8 +1,6 @@
 #include <algorithm>
 #include <cmath>
-#include <limits>
 #include <numeric>
-#include <set>
 
 #include "exact_tree.h"
 #include "fixtures.h"
@@ -29,14 +27,8 @@ using potentials::Problem;
 using namespace sparse;
 
 namespace {
-Points random_points(int nodes, Random& random) {
-  Points points;
-  for (int i = 0; i < nodes; i++) {
-    points.x.push_back(random.below(1000));
-    points.y.push_back(random.below(1000));
-    points.z.push_back(0);
-  }
-  return points;
+Points points_in_plane(int nodes, Random& random) {
+  return random_points(nodes, 2, potentials::Metric::kEuclid, random);
 }
 
 // The costs by the numbers of the problem.
@@ -54,41 +46,6 @@ std::vector<Pair> all_pairs(int nodes) {
     for (int j = 0; j < i; j++) pairs.emplace_back(j, i);
   }
   return pairs;
-}
-
-Tour in_order(int nodes) {
-  Tour tour(nodes);
-  std::iota(tour.begin(), tour.end(), 0);
-  return tour;
-}
-
-// The least weight of a 1-tree with fixed edges in it, by Prim's method.
-double least_tree(const Problem& problem, const std::vector<double>& numbers,
-                  const potentials::Surcharges& surcharges) {
-  const int special = problem.special();
-  const auto order_of = [&](int i, int j) {
-    return std::pair(problem.is_fixed(i, j) ? 0 : 1,
-                     problem.cost(i, j) + numbers[i] + numbers[j] + surcharges.between(i, j));
-  };
-  double sum = 0;
-  std::set<int> inside{special == 0 ? 1 : 0};
-  while (static_cast<int>(inside.size()) < problem.nodes() - 1) {
-    std::pair best(2, 0.0);
-    int next = -1;
-    for (const int i : inside) {
-      for (int j = 0; j < problem.nodes(); j++) {
-        if (j == special || inside.contains(j) || order_of(i, j) >= best) continue;
-        best = order_of(i, j);
-        next = j;
-      }
-    }
-    inside.insert(next);
-    sum += best.second;
-  }
-  std::vector<std::pair<int, double>> ways;
-  for (const int j : inside) ways.push_back(order_of(special, j));
-  std::sort(ways.begin(), ways.end());
-  return sum + ways[0].second + ways[1].second;
 }
 
 double crossing_of(const Graph& graph, const NodeSet& set) {
@@ -148,7 +105,7 @@ TEST_CASE("least 1-trees with surcharges are those of all pairs") {
     const int nodes = 12 + random.below(60);
     std::vector<Pair> fixed;
     if (round % 2 == 1) fixed = {{3, 4}, {4, 7}, {9, 0}};
-    const Problem problem(random_points(nodes, random), fixed);
+    const Problem problem(points_in_plane(nodes, random), fixed);
     std::vector<double> numbers(nodes);
     for (double& number : numbers) number = random.below(400) - 300;
     potentials::Surcharges surcharges(nodes);
@@ -198,7 +155,7 @@ TEST_CASE("sparse programs have the values of programs over a matrix") {
   const certify::Clock clock(0);
   for (int round = 0; round < 6; round++) {
     const int nodes = 40;
-    const Problem problem(random_points(nodes, random), {});
+    const Problem problem(points_in_plane(nodes, random), {});
     const Instance instance{matrix_of(problem), {}};
     const Tour tour = potentials::first_tour(problem);
     CutPool pool(nodes);
@@ -231,7 +188,7 @@ TEST_CASE("the bound of a sparse leaf is that of its certificate") {
   Random random(4);
   for (int round = 0; round < 10; round++) {
     const int nodes = 20;
-    const Points points = random_points(nodes, random);
+    const Points points = points_in_plane(nodes, random);
     const Problem problem(points, {});
     Matrix weights(nodes);
     for (const auto& [i, j] : all_pairs(nodes)) weights.set(i, j, std::llround(points.cost(i, j)));
@@ -257,10 +214,10 @@ TEST_CASE("the bound of a sparse leaf is that of its certificate") {
 TEST_CASE("regions have each node once") {
   Random random(5);
   for (const int nodes : {3, 50, 1000}) {
-    const Problem problem(random_points(nodes, random), {});
+    const Problem problem(points_in_plane(nodes, random), {});
     for (int pass = 0; pass < 4; pass++) {
       NodeSet all;
-      for (const NodeSet& region : regions_of(problem, 60, pass)) {
+      for (const NodeSet& region : regions_of(problem, in_order(nodes), 60, pass)) {
         CHECK(region.size() <= 150);
         all.insert(all.end(), region.begin(), region.end());
       }
@@ -273,13 +230,13 @@ TEST_CASE("regions have each node once") {
 TEST_CASE("a search in regions shortens a tour and keeps fixed edges") {
   Random random(6);
   const std::vector<Pair> fixed{{0, 50}, {50, 120}, {200, 3}, {77, 78}};
-  const Problem problem(random_points(300, random), fixed);
+  const Problem problem(points_in_plane(300, random), fixed);
   const Tour tour = potentials::first_tour(problem);
   const std::vector<double> numbers(300, 0);
   RegionSearch search(problem, numbers, tour, 1);
   for (int pass = 0; pass < 2; pass++) {
     const double before = problem.length(search.tour());
-    search.pass_over(regions_of(problem, 100, pass), [] { return false; });
+    search.pass_over(regions_of(problem, in_order(300), 100, pass), [] { return false; });
     CHECK(problem.length(search.tour()) < before);
     CHECK(problem.allows(search.tour()));
     Tour sorted = search.tour();
@@ -291,7 +248,7 @@ TEST_CASE("a search in regions shortens a tour and keeps fixed edges") {
 TEST_CASE("a sparse search bounds all tours") {
   Random random(7);
   for (const int nodes : {9, 12, 60}) {
-    const Problem problem(random_points(nodes, random),
+    const Problem problem(points_in_plane(nodes, random),
                           nodes == 12 ? std::vector<Pair>{{0, 5}} : std::vector<Pair>{});
     const certify::Clock clock(0);
     certify::Progress progress;
@@ -302,4 +259,33 @@ TEST_CASE("a sparse search bounds all tours") {
     CHECK(search.bound() <= search.length());
     CHECK(static_cast<double>(search.bound()) > 0.97 * static_cast<double>(search.length()));
   }
+}
+
+TEST_CASE("a sparse search whose time is over at once bounds as potentials do") {
+  Random random(8);
+  const Problem problem(points_in_plane(500, random), {});
+  const certify::Clock clock(1e-9);
+  certify::Progress progress;
+  SparseSearch search(problem, {}, clock, progress);
+  search.run();
+  CHECK(problem.allows(search.tour()));
+  CHECK(search.bound() <= search.length());
+  CHECK(static_cast<double>(search.bound()) > 0.6 * static_cast<double>(search.length()));
+}
+
+TEST_CASE("the median of a leaf's potentials is 0, which changes no bound") {
+  Random random(9);
+  const int nodes = 31;
+  const Problem problem(points_in_plane(nodes, random), {});
+  CutPool pool(nodes);
+  SparseLeaf leaf(problem, pool, 250);
+  std::vector<double> potentials(nodes);
+  for (double& potential : potentials) potential = 5000 + random.below(100);
+  const Numbers numbers = leaf.alone(potentials);
+  std::vector<Weight> sorted = numbers.potentials;
+  std::sort(sorted.begin(), sorted.end());
+  CHECK(sorted[nodes / 2] == 0);
+  const double sum = 2 * std::accumulate(potentials.begin(), potentials.end(), 0.0);
+  CHECK(static_cast<double>(leaf.value(numbers, {})) / static_cast<double>(leaf.scale()) ==
+        Approx(least_tree(problem, potentials, potentials::Surcharges(nodes)) - sum));
 }
