@@ -40,8 +40,8 @@ def told_path(ends: Times, kept: set[str], lower: dict[str, list[str]]) -> str:
     return f"critical path, {max(proved.values()):.0f} s: " + ", ".join(steps)
 
 
-def prove(say: Callable[[str], None]) -> Outcome:
-    """Runs `rt ci`, and says what it says as it comes."""
+def prove(say: Callable[[str], None], proved: Callable[[str, str], None] = lambda crate, sources: None) -> Outcome:
+    """Runs `rt ci`, and says what it says as it comes. Each crate that is proved is told, with the sum of the sources."""
     # (It would put back what a developer's own checks have left there, in place of the statements that it proves. They
     # are made again over those checks, in seconds each.)
     for folder in ROOT.glob("crates/*/out/rlib"):
@@ -61,6 +61,7 @@ def prove(say: Callable[[str], None]) -> Outcome:
                 ends[found[1]] = time.monotonic() - begun
                 if found[2] != "proved":
                     kept.add(found[1])
+                proved(found[1], sources[0])
     outcome = outcome_of("proofs", "".join(lines), ran.returncode)
     if subprocess.run([ROOT / "scripts/mark", *sources], check=False).returncode:
         outcome.failed += 1

@@ -74,7 +74,9 @@ def make(name: str, root: Path, place: Path) -> str:
         for lower in crate.below():
             lower.rlib = str(place_of(lower.name, root))
         second = module.lay_out_second(scratch, ends=False)
-        words = [rt.rtlib.RATTLE, "build", *crate.words(["--jobs", str(min(4, len(os.sched_getaffinity(0))))], keeps=False)]
+        # (one that gives way to others takes one processor, and the memory of one)
+        jobs = 1 if os.nice(0) > 0 else min(4, len(os.sched_getaffinity(0)))
+        words = [rt.rtlib.RATTLE, "build", *crate.words(["--jobs", str(jobs)], keeps=False)]
         words += ["--toolchain", second / "toolchain", "--backend", "llvm", "-o", scratch / MADE[name]]
         ran = subprocess.run(words, cwd=crate.folder, stdin=subprocess.DEVNULL, capture_output=True, text=True)
         if ran.returncode or not (scratch / MADE[name]).exists():

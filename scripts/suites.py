@@ -1,18 +1,20 @@
 """The suites of tests/suites.toml, and their runs beside each other."""
 from __future__ import annotations
 
+import heapq
 import json
 import os
 import re
 import shutil
 import subprocess
 import tempfile
+import threading
 import time
 import tomllib
-from collections.abc import Callable, Iterator
-from concurrent.futures import Future, ThreadPoolExecutor, as_completed
+from collections.abc import Callable, Iterable, Iterator
 from dataclasses import dataclass, field
 from pathlib import Path
+from queue import SimpleQueue
 
 from sources import ROOT
 
@@ -35,6 +37,9 @@ class Suite:
     proof: bool = False
     needs: dict[str, str] = field(default_factory=dict)
     nice: bool = False
+    made: bool = False
+    ahead: bool = False
+    quiet: bool = False
 
     def command(self) -> list[str]:
         """Its script and words, without a program."""
@@ -87,15 +92,16 @@ def skipped(name: str, needed: str) -> Outcome:
     return Outcome(name, skipped=1, said=f"skipped: {name}: {needed}\n", cases=[told])
 
 
-def run(name: str, suite: Suite, more: list[str]) -> Outcome:
-    """Runs a suite with more words."""
+def run(name: str, suite: Suite, more: list[str], nice: int = 0, built: str = "") -> Outcome:
+    """Runs a suite with more words, with this much less of the processors than others. What it has built ahead is in a
+    folder."""
     if lacking := suite.lacks():
         packages = " ".join(lacking)
         return skipped(name, packages if " " in packages and len(lacking) == 1 else f"apt-get install {packages}")
     begun = time.monotonic()
     with tempfile.NamedTemporaryFile("r", suffix=".jsonl") as record:
-        words = [*(["nice", "-n", "5"] if suite.nice else []), *suite.command(), *more]
-        environment = {**os.environ, "CHECK_RECORD": record.name}
+        words = [*(["nice", "-n", str(nice)] if nice else []), *suite.command(), *more]
+        environment = {**os.environ, "CHECK_RECORD": record.name, "CHECK_BUILD": built}
         with subprocess.Popen(
             words, cwd=ROOT, env=environment, stdin=subprocess.DEVNULL, stdout=subprocess.PIPE,
             stderr=subprocess.STDOUT, text=True, errors="replace",
@@ -112,16 +118,69 @@ def run(name: str, suite: Suite, more: list[str]) -> Outcome:
 Job = tuple[int, Callable[[], Outcome]]
 
 
-def run_all(jobs: list[Job], workers: int) -> Iterator[Outcome]:
-    """The outcomes of jobs that run side by side, as they end. Each has its seconds, and the longest start first."""
-    with ThreadPoolExecutor(workers) as pool:
-        waiting: list[Future[Outcome]] = [pool.submit(job) for _, job in sorted(jobs, key=lambda job: -job[0])]
-        try:
-            for ended in as_completed(waiting):
-                yield ended.result()
-        except BaseException:  # (an interrupt, for example)
-            for job in waiting:
-                job.cancel()
+class Pool:
+    """Runs jobs side by side, those that take longest first. Each has its seconds. Jobs and threads can be added while
+    others run."""
+
+    def __init__(self, workers: int) -> None:
+        self.workers, self.threads, self.added = workers, 0, 0
+        self.waiting: list[tuple[int, int, Callable[[], Outcome]]] = []
+        self.ended: SimpleQueue[Outcome | BaseException] = SimpleQueue()
+        self.lock = threading.Lock()
+
+    def add(self, jobs: Iterable[Job]) -> None:
+        """Adds jobs, which begin as soon as a thread is free."""
+        with self.lock:
+            for seconds, job in jobs:
+                heapq.heappush(self.waiting, (-seconds, self.added, job))
+                self.added += 1
+        self.grow(self.workers)
+
+    def grow(self, workers: int) -> None:
+        """Has this many jobs run side by side."""
+        with self.lock:
+            self.workers = max(self.workers, workers)
+            new = min(self.workers - self.threads, len(self.waiting))
+            self.threads += max(new, 0)
+        for _ in range(new):
+            threading.Thread(target=self.work, daemon=True).start()
+
+    def work(self) -> None:
+        """Runs jobs until none is left."""
+        while True:
+            with self.lock:
+                if not self.waiting:
+                    self.threads -= 1
+                    return
+                job = heapq.heappop(self.waiting)[2]
+            try:
+                self.ended.put(job())
+            except BaseException as error:  # (it is raised where the outcomes are taken)
+                self.ended.put(error)
+
+    def outcomes(self) -> Iterator[Outcome]:
+        """The outcomes of all jobs, as they end."""
+        told = 0
+        while told < self.added:
+            ended = self.ended.get()
+            if isinstance(ended, BaseException):
+                raise ended
+            told += 1
+            yield ended
+
+    def __enter__(self) -> Pool:
+        return self
+
+    def __exit__(self, kind: type[BaseException] | None, *_: object) -> None:
+        if kind is not None:  # (an interrupt, for example)
+            with self.lock:
+                self.waiting.clear()
             for process in list(RUNNING):
                 process.terminate()
-            raise
+
+
+def run_all(jobs: list[Job], workers: int) -> Iterator[Outcome]:
+    """The outcomes of jobs that run side by side, as they end."""
+    with Pool(workers) as pool:
+        pool.add(jobs)
+        yield from pool.outcomes()

@@ -6,7 +6,10 @@ bytes. So only the target's two lines, and the function attributes of the proces
 """
 from __future__ import annotations
 
+import fcntl
+import hashlib
 import re
+import shutil
 import subprocess
 from dataclasses import dataclass
 from pathlib import Path
@@ -88,8 +91,20 @@ class Target:
         return self.compile(b"\n".join([*self.lines(), PAIR.read_bytes()]), made)
 
     def module(self, given: Path, made: Path) -> Path:
-        """The object file of a module that the toolchain made for Linux on x86-64."""
-        return self.compile(self.text(text_of(given, made.with_suffix(".x86.ll"))), made)
+        """The object file of a module that the toolchain made for Linux on x86-64. It takes a minute, so it is kept
+        beside the module, under the sum of the text and of clang's words."""
+        text = self.text(text_of(given, made.with_suffix(".x86.ll")))
+        key = hashlib.sha256(repr((module.kit(), self.words, COMPILE, hashlib.sha256(text).digest())).encode()).hexdigest()
+        kept = given.with_name(f"{given.stem}.{self.name}.{key[:16]}.o")
+        # (one call compiles it, and others wait for it)
+        with open(given.with_name(f"{given.stem}.{self.name}.lock"), "w") as lock:
+            fcntl.flock(lock, fcntl.LOCK_EX)
+            if not kept.exists():
+                # (beside it first, so that a file which is there is whole)
+                shutil.copyfile(self.compile(text, made), new := kept.with_suffix(".new"))
+                new.replace(kept)
+        shutil.copyfile(kept, made)
+        return made
 
 
 PAIR = ROOT / "bindings/systems/pair.ll"
