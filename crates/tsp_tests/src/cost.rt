@@ -39,16 +39,6 @@ fn a_file_that_is_no_instance_comes_back(rt: HostRuntime) -> Result<(), Fail> {
 }
 
 #[test]
-fn an_instance_is_its_file(rt: HostRuntime) -> Result<(), Fail> {
-    let instance = instance_of(rectangle(rt.alloc())?)?;
-    same(&rt, instance.kind(), Kind::Cvrp);
-    assert_eq!(rt; instance.count(), 4);
-    same(&rt, instance.file().dimension(), Some(4));
-    same(&rt, instance.into_file().scale(), Some(7));
-    Ok(())
-}
-
-#[test]
 fn lengths_on_the_rectangle_go_around_each_list(rt: HostRuntime) -> Result<(), Fail> {
     let mut tours = Vec::new(rt.alloc());
     tours.push(Vec::from_slice(rt.alloc(), &[1u32, 2, 3, 4])?)?;

@@ -67,41 +67,6 @@ impl Read for Trickle<'_> {
     }
 }
 
-/// A reader that delivers a head, then a unit many times, then a tail.
-#[derive(Drop)]
-pub struct Repeats<'a> {
-    rest: &'a [u8],
-    unit: &'a [u8],
-    units: u64,
-    tail: &'a [u8],
-}
-
-impl<'a> Repeats<'a> {
-    pub fn new(head: &'a [u8], unit: &'a [u8], units: u64, tail: &'a [u8]) -> Repeats<'a> {
-        Repeats {
-            rest: head,
-            unit,
-            units,
-            tail,
-        }
-    }
-}
-
-impl Read for Repeats<'_> {
-    fn read(&mut self, buf: &mut [u8]) -> io::Result<usize> {
-        if self.rest.is_empty() {
-            if self.units > 0 {
-                self.units -= 1;
-                self.rest = self.unit;
-            } else {
-                self.rest = self.tail;
-                self.tail = &[];
-            }
-        }
-        self.rest.read(buf)
-    }
-}
-
 /// A reader that delivers a head and then fills each buffer with blanks, for ever.
 #[derive(Drop)]
 pub struct Flood<'a> {

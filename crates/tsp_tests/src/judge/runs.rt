@@ -1,6 +1,6 @@
 //! Runs of the verbs, from the bytes read to the bytes written.
 
-use std::alloc::{AllocError, Global};
+use std::alloc::Global;
 use std::io::ErrorKind;
 use tsp_format::Layout;
 use tsp_judge::{RunFault, run_bound_check, run_branch_check, run_check, run_convert, run_show};
@@ -151,9 +151,4 @@ pub(crate) fn run(
         Task::Show => shown(alloc, readers, out).map(|()| true),
         Task::Convert(word) => converted(alloc, readers, word, out).map(|()| true),
     }
-}
-
-/// The printed text of a fault.
-pub(crate) fn printed(alloc: Global, fault: RunFault) -> Result<String, AllocError> {
-    fault.to_string(alloc)
 }
