@@ -217,7 +217,7 @@ pub(crate) fn decided_bound<C: PlacedCosts>(
         sum.scale sum.given_back bound) }
     ensures size { IfOk result (λ bound. IsBoundSized bound) }
 {
-    if w.combed.kept.is_empty() && w.combed.suit_boxes() && w.combed.are_exact() {
+    if w.kept.is_empty() && w.combed.suit_boxes() && w.combed.are_exact() {
         let boxed = BoxedLeaf { decided: w };
         return leaf_bound_in_space(alloc, &boxed, row, sum.scale, sum.given_back);
     }

@@ -8,6 +8,7 @@ ghost use Rattle.tsp_cases.specs.Families.{IsFamily};
 ghost use Rattle.tsp_cases.specs.Decisions.{decided_number};
 ghost use Rattle.tsp_cases.specs.states.Lent.{lent_in, good_in};
 ghost use Rattle.tsp_cases.specs.CaseTrees.{IsFoundAt};
+ghost use Rattle.tsp_cases.specs.states.Decided.{marks_in};
 ghost use Rattle.tsp_cases.specs.states.OpenCases.{decisions_in};
 ghost use Rattle.tsp_branch.specs.JudgedLeaves.{AreJudgedLeaves, BoundsCycles, AreSizedLeaves, IsLowest};
 ghost use Rattle.tsp_cases.specs.states.Kept.{HoldsRows};
@@ -20,7 +21,7 @@ use crate::leaf_case::LeafCase;
 use crate::placed_costs::PlacedCosts;
 use std::alloc::Global;
 use tsp_cases::{
-    Cases, Families, Multipliers, OpenCase, Room, Setting, add_differences,
+    Cases, Decision, Families, Multipliers, OpenCase, Room, Setting, add_differences,
     case_trees_bound_cycles, fill_moved, judge_numbers, sets_by_node,
 };
 use tsp_format::TreeStep;
@@ -95,7 +96,12 @@ fn judge_leaves<C: PlacedCosts>(
     let mut leaf = 0;
     'steps: for step in cases.steps {
         match step {
-            TreeStep::Branch(first, second) => case.take((*first, *second))?,
+            TreeStep::Branch(first, second) => {
+                let pair = (*first, *second);
+                case.take(pair)?;
+                let taken = Decision { pair, taken: true };
+                room.kept.mark(cases.directed, taken);
+            }
             TreeStep::Leaf(changes) => {
                 leaf += 1;
                 // The setting is lent again, since the case changes before the next leaf.
@@ -108,6 +114,7 @@ fn judge_leaves<C: PlacedCosts>(
                     return Ok(JudgedLeaves::BadLeaf(leaf));
                 };
                 lowest = lower(lowest, own);
+                room.kept.leave(cases.directed, &case.stack);
                 case.next()?;
             }
         }
@@ -131,7 +138,8 @@ fn judge_leaf<C: PlacedCosts>(
         (length at.now.setting.now.families.now.crossed.items) room.old }
     requires kept { HoldsRows (C.nodes at.now.setting.now.costs.now)
         (length at.now.setting.now.families.now.crossed.items) at.now.setting.now.cases.now.scale
-        (lent_in at.now.setting.now.families.now) (C.at at.now.setting.now.costs.now) room.old.kept }
+        (lent_in at.now.setting.now.families.now) (C.at at.now.setting.now.costs.now)
+        (marks_in at.now.setting.now.cases.now.directed (decisions_in at.now.case.now)) room.old.kept }
     requires small { AreSmall room.old.numbers.items }
     ensures judged { IfOk result (IsJudgedLeaf (IsFoundAt at.now.setting.now.cases.now.directed
         (C.nodes at.now.setting.now.costs.now)
@@ -144,7 +152,8 @@ fn judge_leaf<C: PlacedCosts>(
         (length at.now.setting.now.families.now.crossed.items) room.new) }
     ensures kept { IfOk result (λ own. HoldsRows (C.nodes at.now.setting.now.costs.now)
         (length at.now.setting.now.families.now.crossed.items) at.now.setting.now.cases.now.scale
-        (lent_in at.now.setting.now.families.now) (C.at at.now.setting.now.costs.now) room.new.kept) }
+        (lent_in at.now.setting.now.families.now) (C.at at.now.setting.now.costs.now)
+        (marks_in at.now.setting.now.cases.now.directed (decisions_in at.now.case.now)) room.new.kept) }
     ensures size { IfOk result IsSizedLeaf }
 {
     if !add_differences(&mut room.numbers, changes) {

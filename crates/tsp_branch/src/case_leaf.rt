@@ -4,6 +4,8 @@ ghost use Rattle.std.specs.Prelude.{◌≡◌, ◌+◌, length};
 ghost use Rattle.tsp_cases.specs.GoodNumbers.{AreGoodNumbers, as_leaf_numbers};
 ghost use Rattle.tsp_cases.specs.states.Lent.{lent_in};
 ghost use Rattle.tsp_cases.specs.states.Combed.{AreFewCrossings};
+ghost use Rattle.tsp_cases.specs.states.Decided.{marks_in};
+ghost use Rattle.tsp_cases.specs.states.OpenCases.{decisions_in};
 ghost use Rattle.tsp_cases.specs.states.Kept.{AreMoved, AreRowsIfAny, kept_weight};
 
 use crate::boxed_leaf::decided_bound;
@@ -20,7 +22,7 @@ use tsp_theory::Costs;
 
 /// A leaf: its case in what it shares with all others, its numbers, which are good, and what its
 /// weights need of them. That is by node its potential less the multipliers of its sets, and the
-/// rows that are kept, if any, at these multipliers.
+/// rows that are kept, if any, at these multipliers and under the decisions of the case.
 #[derive(Drop)]
 pub(crate) struct CaseLeaf<'a, C: Costs> {
     pub(crate) at: &'a LeafCase<'a, C>,
@@ -37,7 +39,8 @@ pub(crate) struct CaseLeaf<'a, C: Costs> {
         (lent_in at.now.setting.now.families.now) moved.now },
     ghost are_kept: { AreRowsIfAny (C.nodes at.now.setting.now.costs.now) (C.at at.now.setting.now.costs.now)
         (kept_weight at.now.setting.now.cases.now.scale (lent_in at.now.setting.now.families.now)
-        (C.at at.now.setting.now.costs.now) multipliers.now) kept.now },
+        (C.at at.now.setting.now.costs.now) (marks_in at.now.setting.now.cases.now.directed (decisions_in at.now.case.now))
+        multipliers.now) kept.now },
 }
 
 impl<C: PlacedCosts> CaseLeaf<'_, C> {
@@ -93,6 +96,7 @@ impl<C: PlacedCosts> CaseLeaf<'_, C> {
         let weights = DecidedWeights {
             combed: &combed,
             case: self.at.case,
+            kept: self.kept,
         };
         let taken = taken_back(&self.at.case.by_node.taken);
         let sum = LeafSum {

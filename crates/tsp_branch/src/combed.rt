@@ -1,6 +1,6 @@
 //! Weights under combs.
 
-ghost use Rattle.std.specs.Prelude.{◌≡◌, ◌+◌, ◌+ℤ◌, ℕ, true, length, pos, neg_ℤ};
+ghost use Rattle.std.specs.Prelude.{◌≡◌, ◌+◌, ◌+ℤ◌, ℕ, true, false, length, pos, neg_ℤ};
 ghost use Rattle.tsp_bound.specs.states.NodeNumbers.{most_number};
 ghost use Rattle.tsp_format.specs.Nodes.{IsNode};
 ghost use Rattle.tsp_theory.specs.CertificateNumbers.{IsFromTo, IsScale, ArePotentials};
@@ -8,25 +8,27 @@ ghost use Rattle.tsp_theory.specs.states.Nearest.{least_at};
 ghost use Rattle.tsp_cases.specs.states.Sets.{IsMoved, IsSetTable};
 ghost use Rattle.tsp_cases.specs.states.Lent.{lent_in};
 ghost use Rattle.tsp_cases.specs.states.Combed.{AreSmallMultipliers, AreFewCrossings, set_weight};
-ghost use Rattle.tsp_cases.specs.states.Kept.{AreMoved, AreRowsIfAny, kept_weight};
+ghost use Rattle.tsp_cases.specs.states.Kept.{AreMoved, AreRowsIfAny, kept_weight, unmarked};
 
 use crate::both_sets::are_few;
 use crate::case_leaf::CaseLeaf;
 use crate::steps::suit_boxes;
 use tsp_cases::{
-    Families, MultipliedFamilies, Multipliers, SetPlace, add_sets, scale_row, shift_row, sum_left,
+    Families, MultipliedFamilies, Multipliers, SetPlace, add_sets, fill_shifted, scale_row,
+    shift_row, sum_left,
 };
 use tsp_theory::Costs;
 use tsp_tree::{Weights, weight_in};
 
 /// The most that a number of a node may be where boxes bound its weights.
-const MOST_NUMBER: i64 = 4_000_000_000_000_000_000;
+pub(crate) const MOST_NUMBER: i64 = 4_000_000_000_000_000_000;
 
 /// Costs, a scale, potentials, and sets of nodes with the multipliers of their combs.
 ///
 /// What two nodes cross of a set is 1 for each of them that it has, less 2 where it has both. So
 /// each multiplier is taken off the potentials of its sets' nodes, and a row needs besides these
-/// only the sets of its own node. Where rows are kept, they have these and the costs.
+/// only the sets of its own node. Where rows without decisions are kept, they have these and the
+/// costs.
 #[derive(Drop)]
 pub(crate) struct CombedWeights<'a, C: Costs> {
     pub(crate) costs: &'a C,
@@ -45,7 +47,7 @@ pub(crate) struct CombedWeights<'a, C: Costs> {
     ghost places: { length moved.now ≡ C.nodes costs.now + 1 },
     ghost are_moved: { AreMoved (C.nodes costs.now) potentials.now multipliers.now (lent_in families.now) moved.now },
     ghost are_kept: { AreRowsIfAny (C.nodes costs.now) (C.at costs.now)
-        (kept_weight scale (lent_in families.now) (C.at costs.now) multipliers.now) kept.now },
+        (kept_weight scale (lent_in families.now) (C.at costs.now) unmarked multipliers.now) kept.now },
     ghost long: { length potentials.now ≡ C.nodes costs.now },
     ghost potentials_are: { ArePotentials potentials.now },
     ghost crossed: { AreFewCrossings (C.nodes costs.now) multipliers.now (lent_in families.now) },
@@ -58,6 +60,14 @@ fn is_number(number: i64) -> bool
     -MOST_NUMBER <= number && number <= MOST_NUMBER
 }
 
+/// Rows, or none.
+fn rows_if(any: bool, rows: &[Vec<i64>]) -> &[Vec<i64>]
+    ensures all { any ≡ true → result.now ≡ rows.now }
+    ensures none { any ≡ false → length result.now ≡ 0 }
+{
+    if any { rows } else { &rows[..0] }
+}
+
 impl<'a, C: Costs> CombedWeights<'a, C> {
     ghost use Rattle.std.specs.Prelude.{◌≡◌, ◌<◌, ◌≤◌, ◌+◌, ◌+ℤ◌, ℕ, length, slice_index, pos, neg_ℤ};
     ghost use Rattle.tsp_format.specs.Nodes.{IsNode};
@@ -67,6 +77,9 @@ impl<'a, C: Costs> CombedWeights<'a, C> {
     ghost use Rattle.tsp_cases.specs.states.Sets.{IsMoved};
     ghost use Rattle.tsp_cases.specs.states.Lent.{lent_in};
     ghost use Rattle.tsp_cases.specs.states.Combed.{AreSmallMultipliers, multipliers_at, AreFewCrossings, IsApart, most_combed, set_weight};
+    ghost use Rattle.tsp_cases.specs.states.Decided.{marks_in};
+    ghost use Rattle.tsp_cases.specs.states.OpenCases.{decisions_in};
+    ghost use Rattle.tsp_cases.specs.states.Kept.{AreRowsIfAny, kept_weight};
     ghost use Rattle.tsp_branch.specs.states.Shared.{AreExact};
     ghost use Rattle.std.specs.Prelude.{true};
 
@@ -77,6 +90,9 @@ impl<'a, C: Costs> CombedWeights<'a, C> {
             (lent_in result.families.now) (C.at result.costs.now) i j
             ≡ set_weight leaf.now.at.now.setting.now.cases.now.scale leaf.now.potentials.now leaf.now.multipliers.now
             (lent_in leaf.now.at.now.setting.now.families.now) (C.at leaf.now.at.now.setting.now.costs.now) i j }
+        ensures kept { AreRowsIfAny (C.nodes result.costs.now) (C.at result.costs.now) (kept_weight result.scale
+            (lent_in result.families.now) (C.at result.costs.now) (marks_in leaf.now.at.now.setting.now.cases.now.directed
+            (decisions_in leaf.now.at.now.case.now)) result.multipliers.now) leaf.now.kept.now }
     {
         CombedWeights {
             costs: leaf.at.setting.costs,
@@ -86,7 +102,7 @@ impl<'a, C: Costs> CombedWeights<'a, C> {
             families: leaf.at.setting.families,
             by_node: leaf.at.setting.by_node,
             moved: leaf.moved,
-            kept: leaf.kept,
+            kept: rows_if(leaf.at.setting.cases.directed, leaf.kept),
         }
     }
 
@@ -179,8 +195,8 @@ impl<'a, C: Costs> CombedWeights<'a, C> {
         ensures sizes { (x : ℕ) → IsNode (C.nodes self.now.costs.now) x
             → IsFromTo (neg_ℤ (pos most_combed)) (pos most_combed) (least_at row.new x) }
     {
-        row.copy_from_slice(&self.kept[from as usize - 1]);
-        shift_row(row, self.moved, weight_in(self.moved, from));
+        let own = weight_in(self.moved, from);
+        fill_shifted(row, &self.kept[from as usize - 1], self.moved, own);
     }
 
     /// Writes a row as `fill_at` does, of weights that are at most 2 * 10^18 in size.
@@ -194,11 +210,6 @@ impl<'a, C: Costs> CombedWeights<'a, C> {
         ensures sizes { (k : ℕ) → k < length to.now
             → IsFromTo (neg_ℤ (pos most_combed)) (pos most_combed) (least_at row.new (slice_index to.now k)) }
     {
-        if !self.kept.is_empty() {
-            // A whole row in order takes less time than half of it by node.
-            self.fill_by_kept(from, row);
-            return;
-        }
         self.fill_apart_at(from, to, row);
         let multiplied = MultipliedFamilies {
             families: self.families,

@@ -16,6 +16,7 @@ mod case_leaf;
 mod closing;
 mod combed;
 mod decided;
+mod examples;
 mod given_back;
 mod judged;
 mod leaf;
@@ -27,6 +28,7 @@ mod steps;
 mod verdict;
 
 pub use branch::branch_bound;
+pub use examples::examples_of_numbers;
 pub use judged::{BranchVerdict, JudgedLeaves};
 pub use leaf::{leaf_bound, leaf_bound_in_space};
 pub use placed_costs::{InSpace, OutOfSpace, PlacedCosts};

@@ -17,7 +17,7 @@ use Rattle.tsp_cases.specs.GoodNumbers.{most_crossed}
 use Rattle.tsp_cases.specs.declared.set_place.SetPlace.{SetPlace}
 use Rattle.tsp_cases.specs.states.Sets.{IsMoved, added, places_with, IsSetTable}
 use Rattle.tsp_cases.specs.states.Combed.{AreSmallMultipliers, summed_from, multipliers_at, set_in, twice_in, inside_both, set_crossings, most_combed, set_weight}
-use Rattle.tsp_cases.specs.states.Kept.{kept_weight, IsKeptRow, AreRows, AreRowsIfAny, AreAdded, AreDifferences, AreEnds}
+use Rattle.tsp_cases.specs.states.Kept.{kept_weight, unmarked, IsKeptRow, AreRows, AreRowsIfAny, AreAdded, AreDifferences, AreEnds}
 use Rattle.tsp_cases.proofs.CombedRows.{added_none}
 use Rattle.tsp_cases.proofs.CombedValues.{combed_at}
 use Rattle.tsp_cases.proofs.MovedSums.{wrapped_by}
@@ -76,7 +76,7 @@ inside_sum old new differences families (place ∷ places) x are =
     let rest = inside_sum old new differences families places x are in
     omega (arith, ints, own, rest)
 
-row_brought : (n : ℕ) (cost was is change : ℕ → ℤ) (old new : List ℤ) → length new ≡ length old → ((x : ℕ) → is x ≡ was x +ℤ change x)
+pub row_brought : (n : ℕ) (cost was is change : ℕ → ℤ) (old new : List ℤ) → length new ≡ length old → ((x : ℕ) → is x ≡ was x +ℤ change x)
     → ((x : ℕ) → IsMoved (change x) (least_at old x) (least_at new x)) → IsKeptRow n cost was old → IsKeptRow n cost is new
 row_brought n cost was is change old new same sum moved kept = record {
   long = same ∙ kept.long;
@@ -89,10 +89,10 @@ some_of : {A : Type 0} (xs : List A) (k : ℕ) → k < length xs → A
 some_of [] k less = absurd (omega (arith, less))
 some_of (x ∷ xs) k less = x
 
-pub rows_brought : (n : ℕ) (scale : ℤ) (families : List (List (List ℕ))) (cost : ℕ → ℕ → ℤ) (old new differences : List ℤ) (by_node : List (Vec SetPlace)) (rows brought : List (Vec ℤ))
-    → AreDifferences old new differences → IsSetTable n families by_node → AreAdded differences families by_node rows brought → AreRowsIfAny n cost (kept_weight scale families cost old) rows
-    → AreRowsIfAny n cost (kept_weight scale families cost new) brought
-rows_brought n scale families cost old new differences by_node rows brought are table more all some =
+pub rows_brought : (n : ℕ) (scale : ℤ) (families : List (List (List ℕ))) (cost marks : ℕ → ℕ → ℤ) (old new differences : List ℤ) (by_node : List (Vec SetPlace)) (rows brought : List (Vec ℤ))
+    → AreDifferences old new differences → IsSetTable n families by_node → AreAdded differences families by_node rows brought → AreRowsIfAny n cost (kept_weight scale families cost marks old) rows
+    → AreRowsIfAny n cost (kept_weight scale families cost marks new) brought
+rows_brought n scale families cost marks old new differences by_node rows brought are table more all some =
     let kept = all (omega (arith, some, more.many)) in
     record {
       many = more.many ∙ kept.many;
@@ -100,7 +100,7 @@ rows_brought n scale families cost old new differences by_node rows brought are 
           let inside : k < length rows = omega (arith, less, kept.many) in
           let list : Vec SetPlace = some_of by_node (k + 1) (omega (arith, less, table.count)) in
           let listed = table.said (k + 1) list (omega (arith, less)) in
-          row_brought n (cost (k + 1)) (kept_weight scale families cost old (k + 1)) (kept_weight scale families cost new (k + 1))
+          row_brought n (cost (k + 1)) (kept_weight scale families cost marks old (k + 1)) (kept_weight scale families cost marks new (k + 1))
           (λ x. inside_both differences families (places_with 0 families (k + 1)) x)
           (get_or rows k default).items (get_or brought k default).items (more.long k default default inside)
           (λ x. let sum = inside_sum old new differences families (places_with 0 families (k + 1)) x are in omega (arith, ints, sum))
@@ -164,9 +164,10 @@ inside_none count families (place ∷ places) x =
     let rest = inside_none count families places x in
     omega (arith, ints, own, rest)
 
-pub kept_at_start : (n combs : ℕ) (scale held : ℤ) (families : List (List (List ℕ))) (cost : ℕ → ℕ → ℤ) (rows : List (Vec ℤ)) → held ≡ scale
-    → AreRowsIfAny n cost (λ i x. held *ℤ cost i x) rows → AreRowsIfAny n cost (kept_weight scale families cost (replicate combs (pos 0))) rows
-kept_at_start n combs scale held families cost rows same all some =
+pub kept_at_start : (n combs : ℕ) (scale held : ℤ) (families : List (List (List ℕ))) (cost marks : ℕ → ℕ → ℤ) (rows : List (Vec ℤ)) → held ≡ scale
+    → ((i x : ℕ) → marks i x ≡ pos 0)
+    → AreRowsIfAny n cost (λ i x. held *ℤ cost i x) rows → AreRowsIfAny n cost (kept_weight scale families cost marks (replicate combs (pos 0))) rows
+kept_at_start n combs scale held families cost marks rows same empty all some =
     let kept = all some in
     record {
       many = kept.many;
@@ -176,7 +177,7 @@ kept_at_start n combs scale held families cost rows same all some =
             long = row.long;
             costs = row.costs;
             weights = λ x x_in. row.weights x x_in ∙ ap (int_wrap w64)
-                (let none = inside_none combs families (places_with 0 families (k + 1)) x in let whole = ap (λ (z : ℤ). z *ℤ cost (k + 1) x) same in omega (arith, ints, none, whole));
+                (let none = inside_none combs families (places_with 0 families (k + 1)) x in let whole = ap (λ (z : ℤ). z *ℤ cost (k + 1) x) same in let mark = empty (k + 1) x in omega (arith, ints, none, whole, mark));
           };
     }
 
@@ -218,7 +219,7 @@ pub kept_at : (scale : ℤ) (potentials multipliers : List ℤ) (families : List
     → IsFromTo (neg_ℤ (pos most_between)) (pos most_between) (weight_between scale potentials cost from x)
     → int_wrap w64 m ≡ int_wrap w64 (entry potentials from +ℤ neg_ℤ (multipliers_at multipliers families from))
     → int_wrap w64 k ≡ int_wrap w64 (entry potentials x +ℤ neg_ℤ (multipliers_at multipliers families x))
-    → int_wrap w64 kept ≡ int_wrap w64 (kept_weight scale families cost multipliers from x) → value ≡ int_wrap w64 (kept +ℤ int_wrap w64 (m +ℤ k))
+    → int_wrap w64 kept ≡ int_wrap w64 (kept_weight scale families cost unmarked multipliers from x) → value ≡ int_wrap w64 (kept +ℤ int_wrap w64 (m +ℤ k))
     → (value ≡ set_weight scale potentials multipliers families cost from x) × IsFromTo (neg_ℤ (pos most_combed)) (pos most_combed) value
 kept_at scale potentials multipliers families cost from x m k kept value once crossed size m_is k_is kept_is value_is =
     let scaled : ℤ = scale *ℤ cost from x in
@@ -226,7 +227,31 @@ kept_at scale potentials multipliers families cost from x m k kept value once cr
     let inside : ℤ = inside_both multipliers families (places_with 0 families from) x in
     let apart : ℤ = int_wrap w64 (scaled +ℤ both) in
     let first = apart_is scaled (entry potentials from) (entry potentials x) (multipliers_at multipliers families from) (multipliers_at multipliers families x) m k both apart m_is k_is refl refl in
-    let order : (scaled +ℤ inside) +ℤ both ≡ (scaled +ℤ both) +ℤ inside = omega (arith, ints) in
+    let order : ((scaled +ℤ inside) +ℤ pos 0) +ℤ both ≡ (scaled +ℤ both) +ℤ inside = omega (arith, ints) in
     let gained : value ≡ int_wrap w64 (apart +ℤ inside) =
-    value_is ∙ int_wrap-add_same w64 kept (scaled +ℤ inside) both kept_is ∙ ap (int_wrap w64) order ∙ sym (int_wrap-add_left w64 (scaled +ℤ both) inside) in
+    value_is ∙ int_wrap-add_same w64 kept ((scaled +ℤ inside) +ℤ pos 0) both kept_is ∙ ap (int_wrap w64) order ∙ sym (int_wrap-add_left w64 (scaled +ℤ both) inside) in
     combed_at scale potentials multipliers families cost from x apart value once crossed (inr first, size) (inr gained)
+
+-- the same with marks
+pub marked_at : (scale : ℤ) (potentials multipliers : List ℤ) (families : List (List (List ℕ))) (cost marks : ℕ → ℕ → ℤ) (from x : ℕ) (m k kept value : ℤ)
+    → All (All HasEachOnce) families → IsFromTo (pos 0) (pos most_crossed) (set_crossings multipliers families from x)
+    → IsFromTo (neg_ℤ (pos most_between)) (pos most_between) (weight_between scale potentials cost from x)
+    → int_wrap w64 m ≡ int_wrap w64 (entry potentials from +ℤ neg_ℤ (multipliers_at multipliers families from))
+    → int_wrap w64 k ≡ int_wrap w64 (entry potentials x +ℤ neg_ℤ (multipliers_at multipliers families x))
+    → int_wrap w64 kept ≡ int_wrap w64 (kept_weight scale families cost marks multipliers from x) → value ≡ int_wrap w64 (kept +ℤ int_wrap w64 (m +ℤ k))
+    → (value ≡ int_wrap w64 (set_weight scale potentials multipliers families cost from x +ℤ marks from x))
+    × IsFromTo (neg_ℤ (pos most_combed)) (pos most_combed) (set_weight scale potentials multipliers families cost from x)
+marked_at scale potentials multipliers families cost marks from x m k kept value once crossed size m_is k_is kept_is value_is =
+    let w : ℤ = set_weight scale potentials multipliers families cost from x in
+    let mark : ℤ = marks from x in
+    let both : ℤ = int_wrap w64 (m +ℤ k) in
+    let without : ℤ = kept_weight scale families cost unmarked multipliers from x in
+    let least : ℤ = int_wrap w64 (without +ℤ both) in
+    let first = kept_at scale potentials multipliers families cost from x m k without least once crossed size m_is k_is refl refl in
+    let order : kept_weight scale families cost marks multipliers from x +ℤ both ≡ (without +ℤ both) +ℤ mark = omega (arith, ints) in
+    let is : value ≡ int_wrap w64 (least +ℤ mark) =
+    value_is ∙ int_wrap-add_same w64 kept (kept_weight scale families cost marks multipliers from x) both kept_is ∙ ap (int_wrap w64) order
+    ∙ sym (int_wrap-add_left w64 (without +ℤ both) mark) in (
+      is ∙ ap (λ (z : ℤ). int_wrap w64 (z +ℤ mark)) first.0,
+      subst (IsFromTo (neg_ℤ (pos most_combed)) (pos most_combed)) first.0 first.1,
+    )

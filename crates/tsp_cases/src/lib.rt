@@ -43,7 +43,7 @@ mod tree_cases;
 mod twice;
 
 pub use case_tree::CaseTree;
-pub use decision::Decision;
+pub use decision::{DECIDED, Decision};
 pub use examples::{
     examples_of_bounds, examples_of_cases, examples_of_crossings, examples_of_trees,
     examples_of_verdicts, examples_of_weights,
@@ -70,7 +70,7 @@ pub use open_case::OpenCase;
 pub use room::Room;
 pub use row_examples::{examples_of_arcs, examples_of_leaves, examples_of_links, examples_of_rows};
 pub use row_sets::{add_sets, sum_left};
-pub use scaled::{scale_row, shift_row};
+pub use scaled::{fill_shifted, scale_row, shift_row};
 pub use set_laws::sets_tell_combs;
 pub use set_place::SetPlace;
 pub use sets::sets_by_node;

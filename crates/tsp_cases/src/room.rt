@@ -22,6 +22,7 @@ impl Room {
     ghost use Rattle.std.specs.Prelude.{◌≡◌, length, IfOk};
     ghost use Rattle.tsp_cases.specs.Listed.{no_numbers_of};
     ghost use Rattle.tsp_cases.specs.states.Lent.{lent_in};
+    ghost use Rattle.tsp_cases.specs.states.Decided.{marks_in};
     ghost use Rattle.tsp_cases.specs.states.Kept.{HoldsRows};
     ghost use Rattle.tsp_cases.specs.states.Rooms.{IsRoom};
 
@@ -34,7 +35,8 @@ impl Room {
         ensures room { IfOk result (IsRoom (C.nodes setting.now.costs.now) (length setting.now.families.now.crossed.items)) }
         ensures kept { IfOk result (λ room. HoldsRows (C.nodes setting.now.costs.now)
             (length setting.now.families.now.crossed.items) setting.now.cases.now.scale
-            (lent_in setting.now.families.now) (C.at setting.now.costs.now) room.kept) }
+            (lent_in setting.now.families.now) (C.at setting.now.costs.now)
+            (marks_in setting.now.cases.now.directed setting.now.cases.now.given.now) room.kept) }
         ensures start { IfOk result (λ room. room.numbers.items
             ≡ no_numbers_of (C.nodes setting.now.costs.now) (length setting.now.families.now.crossed.items)) }
     {

@@ -39,3 +39,19 @@ pub fn shift_row(row: &mut [i64], moved: &[i64], number: i64)
         row[place] = sum_left(row[place], sum_left(number, moved[place]));
     }
 }
+
+/// Writes what is left in 64 bits of the sums of two rows' numbers and one number.
+///
+/// # Requires
+///
+/// Rows of one length.
+pub fn fill_shifted(row: &mut [i64], kept: &[i64], moved: &[i64], number: i64)
+    requires kept { length kept.now ≡ length row.old }
+    requires moved { length moved.now ≡ length row.old }
+    ensures { (x : ℕ) → x < length row.old → least_at row.new x
+        ≡ int_wrap w64 (least_at kept.now x +ℤ int_wrap w64 (number +ℤ least_at moved.now x)) }
+{
+    'places: for place in 0..row.len() {
+        row[place] = sum_left(kept[place], sum_left(number, moved[place]));
+    }
+}

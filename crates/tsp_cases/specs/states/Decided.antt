@@ -31,6 +31,15 @@ change_of decision i j = if is_same_pair decision.pair (i, j) then signed decisi
 abbrev pub changes : List Decision → ℕ → ℕ → ℤ
 changes decisions i j = sum_int_by (λ decision. change_of decision i j) decisions
 
+-- the marks of decisions in the rows that are kept: none where pairs have a direction
+abbrev pub marks_in : Bool → List Decision → ℕ → ℕ → ℤ
+marks_in true decisions i j = pos 0
+marks_in false decisions i j = changes decisions i j
+
+-- how large a weight is under decisions that decide each pair once
+abbrev pub most_decided : ℕ
+most_decided = 6000000000000000000
+
 -- no weight changes by more than one decision does
 abbrev pub AreFewChanges : List Decision → Type 0
 AreFewChanges case = (i j : ℕ) → IsFromTo (neg_ℤ decided_number) decided_number (changes case i j)

@@ -1,20 +1,32 @@
 -- Rows that are kept for all nodes while leaves change: of each two nodes what no potential changes.
-use Rattle.std.specs.Prelude.{◌≡◌, ℕ, ◌+◌, ◌<◌, ◌≤◌, List, length, slice_index_or, ℤ, pos, neg_ℤ, ◌+ℤ◌, ◌*ℤ◌}
+use Rattle.std.specs.Prelude.{◌≡◌, ◌≢◌, ℕ, ◌+◌, ◌<◌, ◌≤◌, if◌then◌else◌, List, length, slice_index_or, ℤ, pos, neg_ℤ, ◌+ℤ◌, ◌*ℤ◌}
 use Rattle.std.specs.Int.{w64, int_wrap}
 use Rattle.std.specs.Global.{Vec}
 use Rattle.tsp_format.specs.Nodes.{IsNode}
 use Rattle.tsp_format.specs.Limits.{most_weight}
 use Rattle.tsp_theory.specs.CertificateNumbers.{IsFromTo, entry}
 use Rattle.tsp_theory.specs.states.Nearest.{least_at}
+use Rattle.tsp_theory.specs.Adjusted.{is_same_pair}
 use Rattle.tsp_cases.specs.declared.set_place.SetPlace.{SetPlace}
 use Rattle.tsp_cases.specs.states.Sets.{IsMoved, places_with}
 use Rattle.tsp_cases.specs.states.Combed.{inside_both, multipliers_at, AreSmallMultipliers}
 use Rattle.tsp_cases.specs.declared.kept.KeptRows.{KeptRows}
 
--- the cost of two nodes at the scale, and what the sets of both add
-abbrev pub kept_weight : ℤ → List (List (List ℕ)) → (ℕ → ℕ → ℤ) → List ℤ → ℕ → ℕ → ℤ
-kept_weight scale families cost multipliers i x =
-    (scale *ℤ cost i x) +ℤ inside_both multipliers families (places_with 0 families i) x
+-- the cost of two nodes at the scale, what the sets of both add, and the mark between the two
+abbrev pub kept_weight : ℤ → List (List (List ℕ)) → (ℕ → ℕ → ℤ) → (ℕ → ℕ → ℤ) → List ℤ → ℕ → ℕ → ℤ
+kept_weight scale families cost marks multipliers i x =
+    ((scale *ℤ cost i x) +ℤ inside_both multipliers families (places_with 0 families i) x) +ℤ marks i x
+
+-- no marks
+abbrev pub unmarked : ℕ → ℕ → ℤ
+unmarked i x = pos 0
+
+-- two different nodes of 1..n; and a number between the nodes of a pair, in either order
+abbrev pub AreTwoNodes : ℕ → ℕ × ℕ → Type 0
+AreTwoNodes n pair = IsNode n pair.0 × IsNode n pair.1 × (pair.0 ≢ pair.1)
+
+abbrev pub added_between : ℕ × ℕ → ℤ → ℕ → ℕ → ℤ
+added_between pair number i x = if is_same_pair pair (i, x) then number else pos 0
 
 -- the row of a node, with a place for 0 and for each node: what is left of each weight in 64 bits; and the costs aren't large
 pub record IsKeptRow (n : ℕ) (cost weight : ℕ → ℤ) (row : List ℤ) : Type 0 where
@@ -42,6 +54,16 @@ pub record AreAdded (multipliers : List ℤ) (families : List (List (List ℕ)))
       → IsMoved (inside_both multipliers families (slice_index_or by_node (k + 1) c).items x)
       (least_at (slice_index_or old k b).items x) (least_at (slice_index_or new k a).items x)
 
+-- rows of which one has a number added at a place
+pub record IsAddedAt (row place : ℕ) (number : ℤ) (old new : List (Vec ℤ)) : Type 0 where
+  pub many : length new ≡ length old
+  pub others : (k : ℕ) (a b : Vec ℤ) → k < length old → k ≢ row → slice_index_or new k a ≡ slice_index_or old k b
+  pub long : (a b : Vec ℤ) → length (slice_index_or new row a).items ≡ length (slice_index_or old row b).items
+  pub here : (a b : Vec ℤ) → least_at (slice_index_or new row a).items place
+      ≡ int_wrap w64 (least_at (slice_index_or old row b).items place +ℤ number)
+  pub beside : (x : ℕ) (a b : Vec ℤ) → x ≢ place
+      → least_at (slice_index_or new row a).items x ≡ least_at (slice_index_or old row b).items x
+
 -- numbers that are each the difference of two others
 abbrev pub AreDifferences : List ℤ → List ℤ → List ℤ → Type 0
 AreDifferences old new differences = (k : ℕ) → least_at new k ≡ least_at old k +ℤ least_at differences k
@@ -52,14 +74,14 @@ pub record AreEnds (n : ℕ) (multipliers : List ℤ) (families : List (List (Li
   pub taken : (x : ℕ) → IsNode n x
       → int_wrap w64 (least_at ends x) ≡ int_wrap w64 (neg_ℤ (multipliers_at multipliers families x))
 
--- rows and ends, and the multipliers that they have been brought to
-pub record HoldsRows (n combs : ℕ) (scale : ℤ) (families : List (List (List ℕ))) (cost : ℕ → ℕ → ℤ)
+-- rows and ends, the multipliers that they have been brought to, and the marks in the rows
+pub record HoldsRows (n combs : ℕ) (scale : ℤ) (families : List (List (List ℕ))) (cost marks : ℕ → ℕ → ℤ)
     (kept : KeptRows) : Type 0 where
   pub multipliers : length kept.multipliers.items ≡ combs
   pub differences : length kept.differences.items ≡ combs
   pub small : AreSmallMultipliers kept.multipliers.items
   pub ends : AreEnds n kept.multipliers.items families kept.ends.items
-  pub rows : AreRowsIfAny n cost (kept_weight scale families cost kept.multipliers.items) kept.rows.items
+  pub rows : AreRowsIfAny n cost (kept_weight scale families cost marks kept.multipliers.items) kept.rows.items
 
 -- what is left in 64 bits of each node's potential less the multipliers of its sets
 abbrev pub AreMoved : ℕ → List ℤ → List ℤ → List (List (List ℕ)) → List ℤ → Type 0

@@ -14,6 +14,7 @@ use Rattle.tsp_cases.specs.Cases.{LeafNumbers}
 use Rattle.tsp_cases.specs.CaseTrees.{IsFoundAt}
 use Rattle.tsp_cases.specs.declared.decision.Decision.{Decision}
 use Rattle.tsp_cases.specs.Decisions.{decided_number}
+use Rattle.tsp_cases.specs.states.Decided.{marks_in}
 use Rattle.tsp_cases.specs.states.OpenCases.{decisions_in}
 use Rattle.tsp_cases.specs.Listed.{all_grown}
 use Rattle.tsp_cases.proofs.CaseWeights.{small_multipliers, few_crossings}
@@ -40,6 +41,7 @@ fill_moved-requires-clause-ends g c =
     let s = c.args.at.now.setting.now in
     let n : ℕ = g.C.Costs.nodes s.costs.now in
     let cost = g.C.Costs.at s.costs.now in
+    let marks : ℕ → ℕ → ℤ = marks_in s.cases.now.directed (decisions_in c.args.at.now.case.now) in
     let room = c.args.room.now in
     let ps_len : length c.deref-3.result.now ≡ n = ap length (c.deref-3.ensures.value
     ∙ written room.potentials.len c.judge_numbers.new.potentials _ (c.judge_numbers.ensures.potentials_len ∙ c.deref_mut-2.ensures.len))
@@ -47,7 +49,7 @@ fill_moved-requires-clause-ends g c =
     let ms_len : length c.deref-2.result.now ≡ length s.families.now.crossed.items =
     ap length (c.deref-2.ensures.value ∙ written room.multipliers.len c.judge_numbers.new.multipliers _ (c.judge_numbers.ensures.multipliers_len ∙ c.deref_mut-3.ensures.len))
     ∙ c.judge_numbers.ensures.multipliers_len ∙ ap length c.deref_mut-3.ensures.value ∙ c.requires.room.multipliers in
-    let brought = c.bring_to.ensures.kept n s.cases.now.scale cost (subst (λ (k : ℕ). HoldsRows n k s.cases.now.scale (lent_in s.families.now) cost room.kept) (sym ms_len) c.requires.kept) s.table in
+    let brought = c.bring_to.ensures.kept n s.cases.now.scale cost marks (subst (λ (k : ℕ). HoldsRows n k s.cases.now.scale (lent_in s.families.now) cost marks room.kept) (sym ms_len) c.requires.kept) s.table in
     let places = ap length c.deref-4.ensures.value ∙ brought.ends.places in
     omega (arith, places, ps_len)
 
@@ -57,6 +59,7 @@ invariant_of-leaf g c =
     let s = c.args.at.now.setting.now in
     let n : ℕ = g.C.Costs.nodes s.costs.now in
     let cost = g.C.Costs.at s.costs.now in
+    let marks : ℕ → ℕ → ℤ = marks_in s.cases.now.directed (decisions_in c.args.at.now.case.now) in
     let room = c.args.room.now in
     let families : List (List (List ℕ)) = lent_in s.families.now in
     let ps_len : length c.deref-3.result.now ≡ n = ap length (c.deref-3.ensures.value
@@ -68,12 +71,12 @@ invariant_of-leaf g c =
     let ps_same : c.deref-3.result.now ≡ c.deref-5.result.now = c.deref-3.ensures.value ∙ sym c.deref-5.ensures.value in
     let ms_same : c.deref-2.result.now ≡ c.deref-6.result.now = c.deref-2.ensures.value ∙ sym c.deref-6.ensures.value in
     let moved_is = c.deref-7.ensures.value ∙ written room.moved.len c.fill_moved.new.row _ (c.fill_moved.auto.row ∙ c.deref_mut-4.ensures.len) in
-    let brought : HoldsRows n (length c.deref-2.result.now) s.cases.now.scale families cost c.bring_to.new.self =
-    c.bring_to.ensures.kept n s.cases.now.scale cost (subst (λ (k : ℕ). HoldsRows n k s.cases.now.scale families cost room.kept) (sym ms_len) c.requires.kept) s.table in
+    let brought : HoldsRows n (length c.deref-2.result.now) s.cases.now.scale families cost marks c.bring_to.new.self =
+    c.bring_to.ensures.kept n s.cases.now.scale cost marks (subst (λ (k : ℕ). HoldsRows n k s.cases.now.scale families cost marks room.kept) (sym ms_len) c.requires.kept) s.table in
     let now_at : c.bring_to.new.self.multipliers.items ≡ c.deref-6.result.now = c.bring_to.ensures.multipliers ∙ ms_same in
     let ends : AreEnds n c.deref-6.result.now families c.bring_to.new.self.ends.items = subst (λ (ms : List ℤ). AreEnds n ms families c.bring_to.new.self.ends.items) now_at brought.ends in
-    let rows : AreRowsIfAny n cost (kept_weight s.cases.now.scale families cost c.deref-6.result.now) c.bring_to.new.self.rows.items =
-    subst (λ (ms : List ℤ). AreRowsIfAny n cost (kept_weight s.cases.now.scale families cost ms) c.bring_to.new.self.rows.items) now_at brought.rows in
+    let rows : AreRowsIfAny n cost (kept_weight s.cases.now.scale families cost marks c.deref-6.result.now) c.bring_to.new.self.rows.items =
+    subst (λ (ms : List ℤ). AreRowsIfAny n cost (kept_weight s.cases.now.scale families cost marks ms) c.bring_to.new.self.rows.items) now_at brought.rows in
     let read : List ℤ = c.deref.result.now in
     let at = ap length c.deref_mut-2.ensures.value ∙ c.requires.room.potentials in
     let of_nodes = c.deref-5.ensures.value ∙ written room.potentials.len c.judge_numbers.new.potentials _ (c.judge_numbers.ensures.potentials_len ∙ c.deref_mut-2.ensures.len)
@@ -92,7 +95,7 @@ invariant_of-leaf g c =
           ∙ moved_from_ends (entry c.deref-3.result.now x) (least_at c.deref-4.result.now x) (least_at c.fill_moved.new.row x) (neg_ℤ (multipliers_at c.deref-6.result.now families x))
           (c.fill_moved.ensures x (x_in.0, omega (arith, x_in.1, ps_len))) (ap (λ (zs : List ℤ). int_wrap w64 (least_at zs x)) c.deref-4.ensures.value ∙ ends.taken x x_in)
           ∙ ap (λ (ps : List ℤ). int_wrap w64 (entry ps x +ℤ neg_ℤ (multipliers_at c.deref-6.result.now families x))) ps_same;
-      are_kept = subst (AreRowsIfAny n cost (kept_weight s.cases.now.scale families cost c.deref-6.result.now)) (sym c.deref-8.ensures.value) rows;
+      are_kept = subst (AreRowsIfAny n cost (kept_weight s.cases.now.scale families cost marks c.deref-6.result.now)) (sym c.deref-8.ensures.value) rows;
     }
 
 pub returns-clause-kept : goal.returns-clause-kept
@@ -100,12 +103,13 @@ returns-clause-kept g c =
     let s = c.args.at.now.setting.now in
     let n : ℕ = g.C.Costs.nodes s.costs.now in
     let cost = g.C.Costs.at s.costs.now in
+    let marks : ℕ → ℕ → ℤ = marks_in s.cases.now.directed (decisions_in c.args.at.now.case.now) in
     let room = c.args.room.now in
     let ms_len : length c.deref-2.result.now ≡ length s.families.now.crossed.items =
     ap length (c.deref-2.ensures.value ∙ written room.multipliers.len c.judge_numbers.new.multipliers _ (c.judge_numbers.ensures.multipliers_len ∙ c.deref_mut-3.ensures.len))
     ∙ c.judge_numbers.ensures.multipliers_len ∙ ap length c.deref_mut-3.ensures.value ∙ c.requires.room.multipliers in
-    let brought = c.bring_to.ensures.kept n s.cases.now.scale cost (subst (λ (k : ℕ). HoldsRows n k s.cases.now.scale (lent_in s.families.now) cost room.kept) (sym ms_len) c.requires.kept) s.table in
-    subst (λ (k : ℕ). HoldsRows n k s.cases.now.scale (lent_in s.families.now) cost c.bring_to.new.self) ms_len brought
+    let brought = c.bring_to.ensures.kept n s.cases.now.scale cost marks (subst (λ (k : ℕ). HoldsRows n k s.cases.now.scale (lent_in s.families.now) cost marks room.kept) (sym ms_len) c.requires.kept) s.table in
+    subst (λ (k : ℕ). HoldsRows n k s.cases.now.scale (lent_in s.families.now) cost marks c.bring_to.new.self) ms_len brought
 
 pub returns-clause-judged : goal.returns-clause-judged
 returns-clause-judged g c =

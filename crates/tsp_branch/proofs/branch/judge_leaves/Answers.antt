@@ -1,6 +1,7 @@
 -- The goals of `judge_leaves` in src/branch.rt: its loop, what its calls require and what it ensures.
-use Rattle.std.proofs.Common.{ℕ, ℤ, true, List, [], Option, None, Some, inl, ◌++◌, ◌+◌, ◌^◌, ◌<◌, length, drop, sym, ap, subst, ◌∙◌, arith}
+use Rattle.std.proofs.Common.{ℕ, ℤ, Bool, true, List, [], Option, None, Some, inl, ◌++◌, ◌+◌, ◌^◌, ◌<◌, length, drop, sym, ap, ap₂, subst, ◌∙◌, arith}
 use Rattle.std.specs.Prelude.{pos}
+use Rattle.std.specs.List.{All}
 use Rattle.std.proofs.Math.Logic.{∥∥₁_elim}
 use Rattle.std.proofs.Props.{props}
 use Rattle.std.proofs.lemmas.Int.{ints}
@@ -9,19 +10,21 @@ use Rattle.tsp_format.specs.declared.steps.TreeStep.{TreeStep}
 use Rattle.tsp_format.specs.declared.steps.TreeStep.TheVariants as code
 use Rattle.tsp_format.specs.Steps as listed
 use Rattle.tsp_format.specs.states.TreeSteps.{steps_of}
-use Rattle.tsp_cases.specs.states.Lent.{good_in}
+use Rattle.tsp_cases.specs.states.Lent.{lent_in, good_in}
 use Rattle.tsp_cases.specs.Cases.{LeafNumbers}
 use Rattle.tsp_cases.specs.CaseTrees.{IsFoundAt}
 use Rattle.tsp_cases.specs.Listed.{no_numbers_of}
 use Rattle.tsp_cases.specs.declared.decision.Decision.{Decision}
 use Rattle.tsp_cases.specs.Decisions.{DecideOnce, decided_number}
-use Rattle.tsp_cases.specs.states.Decided.{IsDecision, stack_of}
-use Rattle.tsp_cases.specs.states.OpenCases.{IsOpenCase}
+use Rattle.tsp_cases.specs.states.Decided.{IsDecision, IsNextStack, marks_in, stack_of}
+use Rattle.tsp_cases.specs.states.OpenCases.{IsOpenCase, decisions_in}
+use Rattle.tsp_cases.specs.states.Kept.{HoldsRows}
 use Rattle.tsp_cases.specs.states.Rooms.{AreSmall}
 use Rattle.tsp_branch.specs.JudgedLeaves.{IsJudgedLeaf}
 use Rattle.tsp_branch.proofs.Passes.{IsAtStep, at_start, at_branch}
 use Rattle.tsp_branch.proofs.Judging.{few_decided, whole_trees, at_next, all_passed, bad_here, after_found, small_found, once_here, low_sized}
 use Rattle.tsp_cases.proofs.ListPlaces.{own_step}
+use Rattle.tsp_cases.proofs.OpenCases.{one_above}
 use Rattle.tsp_branch.proofs.branch.judge_leaves.Goals as goal
 use Rattle.tsp_branch.proofs.branch.judge_leaves.Goals.{in-Branch+in_ok-take-in-Branch, in-Leaf+in_ok-judged-in-Leaf+in-Found+in_ok-next-in-Leaf}
 
@@ -57,7 +60,9 @@ steps-init g c =
           (sym c.in_ok-room.ensures.start)
           (at_start found s.cases.now.directed n s.families.now.crossed.items given told whole (s.cases.now.once n (length s.families.now.crossed.items)))));
       room = c.in_ok-room.ensures.room;
-      kept = c.in_ok-room.ensures.kept;
+      kept = subst (λ (ds : List Decision). HoldsRows n (length s.families.now.crossed.items) s.cases.now.scale (lent_in s.families.now) (g.C.Costs.at s.costs.now)
+          (marks_in s.cases.now.directed ds) c.in_ok-room.room.kept)
+          (sym (ap₂ (λ (a b : List Decision). stack_of a ++ b) c.in_ok-case.ensures.stack c.in_ok-case.ensures.given)) c.in_ok-room.ensures.kept;
       small = subst AreSmall (sym c.in_ok-room.ensures.start) (none_small n (length s.families.now.crossed.items));
       case = subst (λ (k : ℕ). IsOpenCase k case) s.own c.in_ok-case.ensures.case;
       given = c.in_ok-case.ensures.given;
@@ -101,6 +106,44 @@ take-requires g c =
     s.cases.now.nodes s.cases.now.steps.now st.step-index c.step-item.result
     (code.Branch c.in-Branch.first c.in-Branch.second) each c.steps-test.true c.step-item.is c.in-Branch.is) in
     record { case = (n, st.invariant.case, subst (λ (k : ℕ). IsDecision k decision) s.own own) }
+
+pub mark-requires : goal.mark-requires
+mark-requires g c =
+    let s = c.args.setting.now in
+    let n : ℕ = g.C.Costs.nodes s.costs.now in
+    let st = c.steps in
+    let decision : Decision = record { pair = (c.in-Branch.first, c.in-Branch.second); taken = true } in
+    let own : IsDecision s.cases.now.nodes decision = ∥∥₁_elim s.cases.now.steps_are (hlevel props) (λ each. own_step
+    s.cases.now.nodes s.cases.now.steps.now st.step-index c.step-item.result
+    (code.Branch c.in-Branch.first c.in-Branch.second) each c.steps-test.true c.step-item.is c.in-Branch.is) in (
+      n,
+      length s.families.now.crossed.items,
+      s.cases.now.scale,
+      lent_in s.families.now,
+      g.C.Costs.at s.costs.now,
+      decisions_in st.case,
+      st.invariant.kept,
+      subst (λ (k : ℕ). IsDecision k decision) s.own own,
+    )
+
+pub leave-requires : goal.leave-requires
+leave-requires g c =
+    let s = c.args.setting.now in
+    let n : ℕ = g.C.Costs.nodes s.costs.now in
+    let cost = g.C.Costs.at s.costs.now in
+    let combs : ℕ = length s.families.now.crossed.items in
+    let case = c.steps.case in
+    let given : List Decision = case.given.now in (
+      n,
+      combs,
+      s.cases.now.scale,
+      lent_in s.families.now,
+      cost,
+      given,
+      subst (λ (ds : List Decision). HoldsRows n combs s.cases.now.scale (lent_in s.families.now) cost (marks_in s.cases.now.directed (stack_of ds ++ given))
+          c.judge_leaf.new.room.kept) (sym c.deref-in-Leaf.ensures.value) c.in_ok-judged-in-Leaf.ensures.kept,
+      subst (λ (ds : List Decision). All (IsDecision n) (stack_of ds ++ given)) (sym c.deref-in-Leaf.ensures.value) c.steps.invariant.case.pairs,
+    )
 
 pub returns-in_default-clause-judged : goal.returns-in_default-clause-judged
 returns-in_default-clause-judged g c = λ are.
@@ -153,8 +196,17 @@ steps-preserved g c =
                 (Some (stack_of ds)) st.lowest st.leaf (steps_of (drop (st.step-index + 1) all))) (sym items)
                 (at_branch found s.cases.now.directed n s.families.now.crossed.items given told st.room.numbers.items st.case.stack.items st.lowest st.leaf
                 w.in-Branch.first w.in-Branch.second _ at));
-            room = st.invariant.room;
-            kept = st.invariant.kept;
+            room = record {
+              numbers = st.invariant.room.numbers;
+              potentials = st.invariant.room.potentials;
+              multipliers = st.invariant.room.multipliers;
+              row = st.invariant.room.row;
+              moved = st.invariant.room.moved;
+            };
+            kept = subst (λ (ds : List Decision). HoldsRows n (length s.families.now.crossed.items) s.cases.now.scale (lent_in s.families.now) (g.C.Costs.at s.costs.now)
+                (marks_in s.cases.now.directed ds) w.mark.new.self)
+                (sym (one_above w.take.new.self st.case decision items (sym w.in_ok-take-in-Branch.ensures.given)))
+                (w.mark.ensures n (length s.families.now.crossed.items) s.cases.now.scale (lent_in s.families.now) (g.C.Costs.at s.costs.now) (decisions_in st.case) st.invariant.kept own);
             small = st.invariant.small;
             case = w.in_ok-take-in-Branch.ensures.case n st.invariant.case own;
             given = w.in_ok-take-in-Branch.ensures.given ∙ st.invariant.given;
@@ -179,8 +231,21 @@ steps-preserved g c =
                 st.leaf w.in-Leaf.changes.items _ _ w.in_ok-next-in-Leaf.field-0 w.next.new.self.stack.items
                 w.in_ok-judged-in-Leaf.judged w.in-Found.own w.lower-lowest.result at judged w.in-Found.is w.lower-lowest.ensures
                 w.in_ok-next-in-Leaf.ensures.next;
-            room = w.in_ok-judged-in-Leaf.ensures.room;
-            kept = w.in_ok-judged-in-Leaf.ensures.kept;
+            room = record {
+              numbers = w.in_ok-judged-in-Leaf.ensures.room.numbers;
+              potentials = w.in_ok-judged-in-Leaf.ensures.room.potentials;
+              multipliers = w.in_ok-judged-in-Leaf.ensures.room.multipliers;
+              row = w.in_ok-judged-in-Leaf.ensures.room.row;
+              moved = w.in_ok-judged-in-Leaf.ensures.room.moved;
+            };
+            kept = subst (λ (ds : List Decision). HoldsRows n (length s.families.now.crossed.items) s.cases.now.scale (lent_in s.families.now) (g.C.Costs.at s.costs.now)
+                (marks_in s.cases.now.directed (stack_of w.next.new.self.stack.items ++ ds)) w.leave.new.self) (sym w.in_ok-next-in-Leaf.ensures.given)
+                (w.leave.ensures n (length s.families.now.crossed.items) s.cases.now.scale (lent_in s.families.now) (g.C.Costs.at s.costs.now) st.case.given.now
+                w.in_ok-next-in-Leaf.field-0 w.next.new.self.stack.items
+                (subst (λ (ds : List Decision). HoldsRows n (length s.families.now.crossed.items) s.cases.now.scale (lent_in s.families.now) (g.C.Costs.at s.costs.now)
+                (marks_in s.cases.now.directed (stack_of ds ++ st.case.given.now)) w.judge_leaf.new.room.kept) (sym w.deref-in-Leaf.ensures.value) w.in_ok-judged-in-Leaf.ensures.kept)
+                (subst (λ (ds : List Decision). All (IsDecision n) (stack_of ds ++ st.case.given.now)) (sym w.deref-in-Leaf.ensures.value) st.invariant.case.pairs)
+                (subst (λ (ds : List Decision). IsNextStack ds w.in_ok-next-in-Leaf.field-0 w.next.new.self.stack.items) (sym w.deref-in-Leaf.ensures.value) w.in_ok-next-in-Leaf.ensures.next));
             small = small_found found s.cases.now.directed n s.families.now.crossed.items given told st.room.numbers.items st.case.stack.items
                 w.in-Leaf.changes.items _ w.in_ok-judged-in-Leaf.judged w.in-Found.own judged w.in-Found.is;
             case = w.in_ok-next-in-Leaf.ensures.case n st.invariant.case;

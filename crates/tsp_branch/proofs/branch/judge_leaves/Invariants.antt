@@ -5,7 +5,8 @@ use Rattle.tsp_format.specs.states.TreeSteps.{steps_of}
 use Rattle.tsp_theory.specs.CertificateNumbers.{IsBoundSized}
 use Rattle.tsp_cases.specs.states.Lent.{lent_in, good_in}
 use Rattle.tsp_cases.specs.CaseTrees.{IsFoundAt}
-use Rattle.tsp_cases.specs.states.OpenCases.{IsOpenCase}
+use Rattle.tsp_cases.specs.states.Decided.{marks_in}
+use Rattle.tsp_cases.specs.states.OpenCases.{IsOpenCase, decisions_in}
 use Rattle.tsp_cases.specs.Decisions.{decided_number}
 use Rattle.tsp_cases.specs.states.Kept.{HoldsRows}
 use Rattle.tsp_cases.specs.states.Rooms.{IsRoom, AreSmall}
@@ -22,7 +23,8 @@ invariant-steps g l =
           (steps_of s.cases.now.steps.now) l.room.numbers.items l.case.stack.items l.lowest l.leaf
           (steps_of (drop l.step-index s.cases.now.steps.now));
       room : IsRoom n (length s.families.now.crossed.items) l.room;
-      kept : HoldsRows n (length s.families.now.crossed.items) s.cases.now.scale (lent_in s.families.now) (g.C.Costs.at s.costs.now) l.room.kept;
+      kept : HoldsRows n (length s.families.now.crossed.items) s.cases.now.scale (lent_in s.families.now) (g.C.Costs.at s.costs.now)
+          (marks_in s.cases.now.directed (decisions_in l.case)) l.room.kept;
       small : AreSmall l.room.numbers.items;
       case : IsOpenCase n l.case;
       given : l.case.given.now ≡ s.cases.now.given.now;

@@ -14,7 +14,8 @@ use Rattle.tsp_cases.specs.CaseTrees.{multiplied}
 use Rattle.tsp_branch.specs.LeafWeight.{BoundsEachLeaf, given_back_of}
 use Rattle.tsp_cases.specs.states.Lent.{lent_in, good_in}
 use Rattle.tsp_cases.specs.states.Combed.{set_weight}
-use Rattle.tsp_cases.specs.states.Decided.{stack_of, decided}
+use Rattle.tsp_cases.specs.states.Decided.{stack_of, decided, marks_in}
+use Rattle.tsp_cases.specs.states.Kept.{kept_weight, AreRowsIfAny}
 use Rattle.tsp_cases.specs.states.OpenCases.{IsOpenCase, decisions_in}
 use Rattle.tsp_cases.proofs.LeafBounds.{leaf_even}
 use Rattle.tsp_cases.proofs.DecidedOnce.{few_changes}
@@ -48,6 +49,8 @@ invariant_of-weights g c =
       both = leaf.at.now.direction ∙ c.requires.undirected;
       once = few_changes case (subst (λ (d : Bool). DecideOnce d case) c.requires.undirected leaf.at.now.once);
       some = omega (arith, c.of-combed.ensures.nodes, p.some);
+      are_kept = subst (λ (d : Bool). AreRowsIfAny (g.C.Costs.nodes q.costs.now) (g.C.Costs.at q.costs.now) (kept_weight q.scale (lent_in q.families.now)
+          (g.C.Costs.at q.costs.now) (marks_in d case) q.multipliers.now) leaf.kept.now) c.requires.undirected c.of-combed.ensures.kept;
       even = λ i j. agree i j ∙ leaf_even p.cases.now.scale ps (on_taken decided_number case) (on_avoided decided_number case) combs cost (p.even c.requires.undirected) i j ∙ sym (agree j i);
     }
 

@@ -26,6 +26,12 @@ change_row-requires g c =
     both_inside n _ (bears_on p.case.now.by_node.directed c.args.from) (decisions_in p.case.now) c.at.result.now (c.fill_combed.auto.row ∙ c.requires.room)
     (c.at.ensures n p.is_case c.requires.from.1) p.is_case.pairs
 
+pub returns-then-not-is_empty : goal.returns-then-not-is_empty
+returns-then-not-is_empty g c = record {
+  values = c.fill_by_kept.ensures.values;
+  small = λ x h. let size = c.fill_by_kept.ensures.sizes x h in omega (arith, ints, size.1);
+}
+
 -- plan: the row changed by the node's decisions is the decided one (`changes_are`); by the sizes 64 bits are enough (`moved_to`)
 pub returns : goal.returns
 returns g c =

@@ -25,6 +25,12 @@ change_row-requires g c =
     both_inside n _ (bears_on p.case.now.by_node.directed c.args.from) (decisions_in p.case.now) c.at.result.now (c.fill_combed_at.auto.row ∙ c.requires.room)
     (c.at.ensures n p.is_case c.requires.from.1) p.is_case.pairs
 
+pub returns-then-not-is_empty : goal.returns-then-not-is_empty
+returns-then-not-is_empty g c = record {
+  values = λ k h. c.fill_by_kept.ensures.values _ (c.requires.to k h);
+  small = λ k h. let size = c.fill_by_kept.ensures.sizes _ (c.requires.to k h) in omega (arith, ints, size.1);
+}
+
 -- plan: the entries changed by the node's decisions are the decided ones (`changes_are`); 64 bits are enough (`moved_to`)
 pub returns : goal.returns
 returns g c =

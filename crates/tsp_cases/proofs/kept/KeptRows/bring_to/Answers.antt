@@ -24,27 +24,27 @@ returns-then-eq-clause-multipliers c =
 pub add_to_rows-requires-clause-places : goal.add_to_rows-requires-clause-places
 add_to_rows-requires-clause-places c = λ k d less.
     let families = lent_in c.args.multipliers.now.families.now in
-    let table = c.requires.kept.5 in
+    let table = c.requires.kept.6 in
     let listed = table.said k d (omega (arith, less, table.count)) in
     subst (All (IsPlaceIn families)) (sym listed) (places_inside families k)
 
 pub invariant_of-old : goal.invariant_of-old
 invariant_of-old c = record {
-  as_many = ap length c.deref.ensures.value ∙ c.requires.kept.3.multipliers ∙ c.args.multipliers.now.as_many;
-  small = subst AreSmallMultipliers (sym c.deref.ensures.value) c.requires.kept.3.small;
+  as_many = ap length c.deref.ensures.value ∙ c.requires.kept.4.multipliers ∙ c.args.multipliers.now.as_many;
+  small = subst AreSmallMultipliers (sym c.deref.ensures.value) c.requires.kept.4.small;
 }
 
 pub invariant_of-changed : goal.invariant_of-changed
 invariant_of-changed c =
     let differences_are = c.deref-2.ensures.value ∙ written c.args.self.now.differences.len c.write_differences.new.differences _ (c.write_differences.auto.differences ∙ c.deref_mut.ensures.len) in
     record {
-      as_many = ap length differences_are ∙ c.write_differences.auto.differences ∙ ap length c.deref_mut.ensures.value ∙ c.requires.kept.3.differences ∙ c.args.multipliers.now.as_many;
+      as_many = ap length differences_are ∙ c.write_differences.auto.differences ∙ ap length c.deref_mut.ensures.value ∙ c.requires.kept.4.differences ∙ c.args.multipliers.now.as_many;
       small = subst AreSmallDifferences (sym differences_are) c.write_differences.ensures.small;
     }
 
 -- plan: the differences are added to the rows (`rows_brought`) and to the ends (`ends_brought`), as the new ones want
 pub returns-clause-kept : goal.returns-clause-kept
-returns-clause-kept c = λ n scale cost kept table.
+returns-clause-kept c = λ n scale cost marks kept table.
     let old : List ℤ = c.args.self.now.multipliers.items in
     let new : List ℤ = c.args.multipliers.now.numbers.now in
     let is : c.copy_from_slice.new.self.items ≡ new = c.copy_from_slice.ensures.items in
@@ -60,8 +60,8 @@ returns-clause-kept c = λ n scale cost kept table.
     let added : AreAdded differences families by_node c.args.self.now.rows.items rows =
     subst (λ (ds : List ℤ). AreAdded ds families by_node c.args.self.now.rows.items rows) (c.deref-2.ensures.value ∙ differences_are)
     (subst (λ (rs : List (Vec ℤ)). AreAdded c.deref-2.result.now families by_node rs rows) c.deref_mut-3.ensures.value c.add_to_rows.ensures) in
-    let brought : AreRowsIfAny n cost (kept_weight scale families cost new) rows =
-    rows_brought n scale families cost old new differences by_node c.args.self.now.rows.items rows differ table added kept.rows in
+    let brought : AreRowsIfAny n cost (kept_weight scale families cost marks new) rows =
+    rows_brought n scale families cost marks old new differences by_node c.args.self.now.rows.items rows differ table added kept.rows in
     let moved = λ (x : ℕ).
     subst (λ (ds : List ℤ). IsMoved (neg_ℤ (multipliers_at ds families x)) (least_at c.args.self.now.ends.items x) (least_at c.take_multipliers.new.row x)) (c.deref-2.ensures.value ∙ differences_are)
     (subst (λ (zs : List ℤ). IsMoved (neg_ℤ (multipliers_at c.deref-2.result.now families x)) (least_at zs x) (least_at c.take_multipliers.new.row x)) c.deref_mut-2.ensures.value
@@ -73,6 +73,6 @@ returns-clause-kept c = λ n scale cost kept table.
       ends = subst (AreEnds n c.copy_from_slice.new.self.items families) (sym ends_are) (subst (λ (ms : List ℤ). AreEnds n ms families c.take_multipliers.new.row) (sym is) ends);
       differences = ap length differences_are ∙ c.write_differences.auto.differences ∙ ap length c.deref_mut.ensures.value ∙ kept.differences;
       small = subst AreSmallMultipliers (sym is) c.args.multipliers.now.small;
-      rows = subst (AreRowsIfAny n cost (kept_weight scale families cost c.copy_from_slice.new.self.items)) (sym rows_are)
-          (subst (λ (ms : List ℤ). AreRowsIfAny n cost (kept_weight scale families cost ms) rows) (sym is) brought);
+      rows = subst (AreRowsIfAny n cost (kept_weight scale families cost marks c.copy_from_slice.new.self.items)) (sym rows_are)
+          (subst (λ (ms : List ℤ). AreRowsIfAny n cost (kept_weight scale families cost marks ms) rows) (sym is) brought);
     }

@@ -1,0 +1,19 @@
+-- The goals of `KeptRows::unmark` in src/kept.rt: what its calls require and what it ensures.
+use Rattle.std.proofs.Common.{◌∷◌, ◌∙◌, false, rules, FitsSigned, to_z, of_z}
+use Rattle.std.specs.Int.{w64}
+use Rattle.std.proofs.lemmas.Int.{to_z-of_z}
+use Rattle.tsp_cases.specs.states.Decided.{marks_in}
+use Rattle.tsp_cases.proofs.MarkedRows.{same_marks, decision_less}
+use Rattle.tsp_cases.proofs.kept.KeptRows.unmark.Goals as goal
+
+pub add_between-requires : goal.add_between-requires
+add_between-requires c =
+    let r = c.requires in
+    (r.0, r.1, r.2, r.3, r.4, marks_in false (c.args.decision ∷ r.5), r.6, r.7)
+
+pub returns : goal.returns
+returns c = λ n combs scale families cost case held pair.
+    let fits : FitsSigned w64 c.number_back.result = search rules in
+    let is = to_z-of_z w64 c.number_back.result fits ∙ c.number_back.ensures in
+    same_marks n combs scale families cost _ _ _ (λ i x. decision_less c.args.decision case (to_z w64 (of_z w64 c.number_back.result)) i x is)
+    (c.add_between.ensures n combs scale families cost (marks_in false (c.args.decision ∷ case)) held pair)
