@@ -17,6 +17,7 @@ constexpr std::size_t kFewest = 9;  // nodes of a region that edge assembly take
 
 // Where the parts of a sequence begin. The first part is this share of one.
 std::vector<std::size_t> cuts_of(std::size_t count, std::size_t size, double share) {
+  if (count <= size) return {0, count};
   const std::size_t parts = std::max<std::size_t>(1, (count + size / 2) / size);
   const double part = static_cast<double>(count) / static_cast<double>(parts);
   std::vector<std::size_t> cuts{0};
@@ -59,6 +60,47 @@ std::vector<NodeSet> regions_of(const Problem& problem, NodeSet nodes, int size,
   return regions;
 }
 
+namespace {
+// A point in the plane, in counts of 10^-9.
+std::pair<Weight, Weight> point_of(const Problem& problem, int node) {
+  const potentials::Points& points = problem.points();
+  return {std::llround(points.x[node] * 1e9), std::llround(points.y[node] * 1e9)};
+}
+
+// The places of these lengths, the longest first.
+std::vector<int> longest_first(const std::vector<double>& lengths) {
+  std::vector<int> places(lengths.size());
+  std::iota(places.begin(), places.end(), 0);
+  std::stable_sort(places.begin(), places.end(), [&](int a, int b) { return lengths[a] > lengths[b]; });
+  return places;
+}
+}  // namespace
+
+NodeSet nodes_at_long_edges(const Problem& problem, const Tour& tour,
+                            const std::vector<potentials::Edge>& graph, std::size_t count) {
+  NodeSet nodes;
+  std::vector<char> inside(tour.size(), 0);
+  const auto add = [&](int node) {
+    if (inside[node] == 0) nodes.push_back(node);
+    inside[node] = 1;
+  };
+  std::vector<double> of_tour, of_graph;
+  for (const auto& [a, b] : certify::arcs_of(tour)) of_tour.push_back(problem.cost(a, b));
+  for (const potentials::Edge& edge : graph) of_graph.push_back(problem.cost(edge.a, edge.b));
+  const std::size_t all = tour.size();
+  for (const int place : longest_first(of_tour)) {
+    if (nodes.size() >= count / 2) break;
+    for (const std::size_t step : {all - 1, std::size_t{0}, std::size_t{1}, std::size_t{2}})
+      add(tour[(static_cast<std::size_t>(place) + step) % all]);
+  }
+  for (const int place : longest_first(of_graph)) {
+    if (nodes.size() >= count) break;
+    add(graph[place].a);
+    add(graph[place].b);
+  }
+  return nodes;
+}
+
 // The places of a region's nodes in the tour, in its order.
 std::vector<int> RegionSearch::places_of(const NodeSet& region) const {
   std::vector<char> inside(tour_.size(), 0);
@@ -71,7 +113,7 @@ std::vector<int> RegionSearch::places_of(const NodeSet& region) const {
 }
 
 // The nodes at these places of the tour, with a fixed edge for each path outside. Fixed edges of the problem
-// are fixed too.
+// are fixed too. Points in the plane are there so that edge assembly tries edges to each side.
 Instance RegionSearch::part_of(const std::vector<int>& places) const {
   const int nodes = static_cast<int>(places.size());
   Instance part{Matrix(nodes), {}};
@@ -79,6 +121,7 @@ Instance RegionSearch::part_of(const std::vector<int>& places) const {
     for (int j = 0; j < i; j++) {
       part.weights.set(i, j, std::llround(problem_.cost(tour_[places[i]], tour_[places[j]])));
     }
+    if (problem_.points().axes == 2) part.points.push_back(point_of(problem_, tour_[places[i]]));
     const int next = i + 1 == nodes ? 0 : i + 1;
     const bool beside = (places[i] + 1) % problem_.nodes() == places[next];
     if (!beside || problem_.is_fixed(tour_[places[i]], tour_[places[next]])) {
@@ -89,12 +132,13 @@ Instance RegionSearch::part_of(const std::vector<int>& places) const {
   return part;
 }
 
-// What edge assembly looks at.
-Matrix RegionSearch::costs_of(const Instance& part, const std::vector<int>& places) const {
+// What edge assembly looks at. The part's own matrix is used up.
+Matrix RegionSearch::costs_of(Instance& part, const std::vector<int>& places) const {
   std::vector<Weight> potentials;
   potentials.reserve(places.size());
   for (const int place : places) potentials.push_back(-std::llround(numbers_[tour_[place]]));
-  return certify::with_fixed_lowered(certify::with_potentials(part.weights, potentials), part.fixed);
+  part.weights = certify::with_potentials(std::move(part.weights), potentials);
+  return certify::with_fixed_lowered(part.weights, part.fixed);
 }
 
 // The whole tour where the region's nodes are in this order. Between nodes that are neighbours among them the
@@ -117,14 +161,19 @@ Tour RegionSearch::whole_of(const Tour& order, const std::vector<int>& places) c
   return whole;
 }
 
+// The tour isn't in the population, of which it would soon be the whole, but takes what is better in what
+// comes of it.
 void RegionSearch::improve(const NodeSet& region, const std::function<bool()>& stop) {
   const std::vector<int> places = places_of(region);
   if (places.size() < kFewest) return;
-  const Instance part = part_of(places);
+  Instance part = part_of(places);
   if (part.fixed.size() + 2 > places.size()) return;
   const Matrix costs = costs_of(part, places);
+  Tour own(places.size());
+  std::iota(own.begin(), own.end(), 0);
   certify::Eax eax(costs, part, kSparse.population, seed_++);
-  const Tour order = eax.run(stop, [](Weight) {});
+  const Tour found = eax.run(stop, [](Weight) {});
+  const Tour order = eax.merge(own, found, stop);
   if (!part.allows(order)) return;
   Tour whole = whole_of(order, places);
   if (whole.size() == tour_.size() && problem_.length(whole) < problem_.length(tour_))

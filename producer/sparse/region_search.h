@@ -18,6 +18,12 @@ using potentials::Problem;
 // other borders.
 std::vector<NodeSet> regions_of(const Problem& problem, NodeSet nodes, int size, int pass);
 
+// About as many nodes: half of them around the longest edges of a tour, the others at the longest ones of a
+// graph. Where clusters lie far apart these edges are between clusters, and a region of near nodes has too
+// few of them to join others.
+NodeSet nodes_at_long_edges(const Problem& problem, const Tour& tour,
+                            const std::vector<potentials::Edge>& graph, std::size_t count);
+
 class RegionSearch {
  public:
   // Costs are looked at with these numbers of the nodes added, which leads to short tours sooner.
@@ -30,7 +36,7 @@ class RegionSearch {
  private:
   void improve(const NodeSet& region, const std::function<bool()>& stop);
   std::vector<int> places_of(const NodeSet& region) const;
-  certify::Matrix costs_of(const certify::Instance& part, const std::vector<int>& places) const;
+  certify::Matrix costs_of(certify::Instance& part, const std::vector<int>& places) const;
   certify::Instance part_of(const std::vector<int>& places) const;
   Tour whole_of(const Tour& order, const std::vector<int>& places) const;
 

@@ -8,6 +8,8 @@ struct SparseParameters {
   int steps = 400;          // of the ascent: duals to begin with, and candidates
   long kicks_of_node = 10;  // of the tour, before edge assembly in its regions
   int region = 1000, population = 30;
+  double at_long_edges = 0.3;   // of the nodes, in regions of their own at the end of a pass
+  int long_region = 3000;       // most of these nodes are in fixed paths, so that it takes little time
   int passes = 5;               // over all regions, before the linear program
   int passes_between = 2;       // where cuts stop to help
   int most_misses = 2;          // passes in a row that gain nothing

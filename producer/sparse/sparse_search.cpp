@@ -51,13 +51,17 @@ Tour SparseSearch::looked_for() {
   return potentials::shorten(problem_, potentials::first_tour(problem_), duals_, support_, search).tour;
 }
 
-// One pass over all regions. Whether it shortens the tour.
+// One pass over all regions, and one over the nodes at long edges. Whether it shortens the tour.
 bool SparseSearch::pass_regions(double part) {
   const Weight before = length();
-  NodeSet nodes(problem_.nodes());
-  std::iota(nodes.begin(), nodes.end(), 0);
-  const std::vector<NodeSet> regions = regions_of(problem_, std::move(nodes), kSparse.region, passes_++);
-  regions_->pass_over(regions, [&] { return clock_.over(part); });
+  const auto late = [&] { return clock_.over(part); };
+  NodeSet all(problem_.nodes());
+  std::iota(all.begin(), all.end(), 0);
+  regions_->pass_over(regions_of(problem_, std::move(all), kSparse.region, passes_), late);
+  const auto count = static_cast<std::size_t>(kSparse.at_long_edges * problem_.nodes());
+  NodeSet ends = nodes_at_long_edges(problem_, regions_->tour(), support_, count);
+  regions_->pass_over(regions_of(problem_, std::move(ends), kSparse.long_region, passes_), late);
+  passes_++;
   tours_[0] = regions_->tour();
   progress_.log("tour", length(), value_so_far(), "\"pass\": " + std::to_string(passes_));
   return length() < before;

@@ -464,6 +464,16 @@ Tour Eax::run(const std::function<bool()>& stop, const std::function<void(Weight
   return order_of(members_[std::min_element(lengths_.begin(), lengths_.end()) - lengths_.begin()]);
 }
 
+Tour Eax::merge(const Tour& one, const Tour& other, const std::function<bool()>& stop) {
+  members_.clear();
+  lengths_.clear();
+  std::fill(frequency_.begin(), frequency_.end(), static_cast<std::uint16_t>(0));
+  population_ = 2;
+  add_member(one);
+  add_member(other);
+  return run(stop, [](Weight) {});
+}
+
 std::vector<Pair> Eax::edges() const {
   std::vector<Pair> edges;
   for (const Links& links : members_) {

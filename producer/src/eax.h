@@ -68,6 +68,8 @@ class Eax {
   Eax(const Matrix& costs, const Instance& instance, int population, std::uint64_t seed);
   // Ends where nothing gets better, or where stop says so.
   Tour run(const std::function<bool()>& stop, const std::function<void(Weight)>& show);
+  // The same with a population of these two alone, which takes what is better in each of them.
+  Tour merge(const Tour& one, const Tour& other, const std::function<bool()>& stop);
   const std::vector<Tour>& snapshots() const { return snapshots_; }
   std::vector<Pair> edges() const;
 

@@ -2,12 +2,15 @@
 #include <cmath>
 #include <numeric>
 
+#include "ascent.h"
+#include "eax.h"
 #include "exact_tree.h"
 #include "fixtures.h"
 #include "region_search.h"
 #include "scan_cuts.h"
 #include "separation.h"
 #include "sparse_leaf.h"
+#include "sparse_parameters.h"
 #include "sparse_search.h"
 #include "tours.h"
 #include "tree_bound.h"
@@ -227,6 +230,61 @@ TEST_CASE("regions have each node once") {
   }
 }
 
+TEST_CASE("nodes at long edges are those around them") {
+  Points points;
+  for (int k = 0; k < 12; k++) {  // two rows of six, far from each other
+    points.x.push_back(k % 6);
+    points.y.push_back(k < 6 ? 0 : 100);
+    points.z.push_back(0);
+  }
+  const Problem problem(points, {});
+  const Tour tour = problem.inward({0, 1, 2, 3, 4, 5, 11, 10, 9, 8, 7, 6});
+  NodeSet nodes = problem.outward(nodes_at_long_edges(problem, tour, {}, 16));
+  std::sort(nodes.begin(), nodes.end());
+  CHECK(nodes == NodeSet{0, 1, 4, 5, 6, 7, 10, 11});
+  const Tour inner = problem.inward({2, 3});
+  nodes = nodes_at_long_edges(problem, tour, {problem.edge(inner[0], inner[1])}, 9);
+  CHECK(nodes.size() == 6);
+  CHECK(std::count(nodes.begin(), nodes.end(), inner[0]) == 1);
+}
+
+TEST_CASE("a pass over the nodes at long edges visits clusters in a better order") {
+  Random random(10);
+  std::vector<int> clusters = in_order(16);
+  random.shuffle(clusters);
+  Points points;
+  for (const int cluster : clusters) {
+    for (int k = 0; k < 12; k++) {
+      points.x.push_back(1000 * (cluster % 4) + random.below(50));
+      points.y.push_back(1000 * (cluster / 4) + random.below(50));
+      points.z.push_back(0);
+    }
+  }
+  const Problem problem(points, {});
+  const Tour tour = problem.inward(in_order(192));  // one cluster after another, by chance
+  const std::vector<double> numbers(192, 0);
+  RegionSearch search(problem, numbers, tour, 1);
+  search.pass_over({nodes_at_long_edges(problem, tour, {}, 128)}, [] { return false; });
+  CHECK(problem.length(search.tour()) < 0.75 * problem.length(tour));
+  Tour sorted = search.tour();
+  std::sort(sorted.begin(), sorted.end());
+  CHECK(sorted == in_order(192));
+}
+
+TEST_CASE("a merged tour is at most as long as both") {
+  Random random(11);
+  for (int round = 0; round < 5; round++) {
+    const Matrix costs = random_matrix(60, random);
+    const Instance instance{costs, {}};
+    Tour one = in_order(60), other = one;
+    random.shuffle(one);
+    random.shuffle(other);
+    certify::Eax eax(costs, instance, 2, 1);
+    const Weight merged = length_of(costs, eax.merge(one, other, [] { return false; }));
+    CHECK(merged <= std::min(length_of(costs, one), length_of(costs, other)));
+  }
+}
+
 TEST_CASE("a search in regions shortens a tour and keeps fixed edges") {
   Random random(6);
   const std::vector<Pair> fixed{{0, 50}, {50, 120}, {200, 3}, {77, 78}};
@@ -270,7 +328,12 @@ TEST_CASE("a sparse search whose time is over at once bounds as potentials do") 
   search.run();
   CHECK(problem.allows(search.tour()));
   CHECK(search.bound() <= search.length());
-  CHECK(static_cast<double>(search.bound()) > 0.6 * static_cast<double>(search.length()));
+  // as much as the numbers of an ascent that ends at once
+  potentials::Ascent ascent(problem);
+  const std::vector<double> duals = ascent.run(kSparse.steps, [](int, double) { return false; });
+  CutPool pool(500);
+  SparseLeaf leaf(problem, pool, problem.length(search.tour()) / 500);
+  CHECK(search.bound() >= leaf.bound_of(leaf.value(leaf.alone(duals), {})));
 }
 
 TEST_CASE("the median of a leaf's potentials is 0, which changes no bound") {
