@@ -98,8 +98,9 @@ Case Search::first_case() {
     const OpenLeaf leaf = leaf_of(*tree, number);
     above_.insert(above_.end(), leaf.decisions.begin(), leaf.decisions.end());
     const std::vector<int> cuts = take_families(*tree);
-    const double leaves = static_cast<double>((tree->steps.size() + 1) / 2);
-    named_.share(cuts, static_cast<std::size_t>(std::max(1.0, note_of(*tree, "open", leaves))));
+    const std::size_t leaves = (tree->steps.size() + 1) / 2;
+    const double open = note_of(*tree, "open", static_cast<double>(leaves));
+    named_.share(cuts, static_cast<std::size_t>(std::max(1.0, open)));
     first.numbers = numbers_of(leaf.numbers, cuts);
     first.rows = rows_of(first.numbers);
     first.seed += static_cast<std::uint64_t>(number);

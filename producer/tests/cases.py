@@ -540,7 +540,8 @@ def limited(families=10**4, nodes=10**6, differences=10**7, branches=10**6):
 
 def limits():
     """No file is past small limits, by any number of threads, and what is printed is its bound."""
-    write_points("a.tsp", "EUC_2D", 120, random.Random(5), side=10**6)
+    chance = random.Random(5)
+    write_points("a.tsp", "EUC_2D", 100, chance, side=10**6)
     certify("a.tsp", "-o", "out.branches", "--tour-out", "out.tour", "--seconds", "0")
     families, nodes, *_ = extent("out.branches")
     certify("a.tsp", "out.tour", "-o", "out.branches", "--seconds", "0", *limited(0)[0])
@@ -567,6 +568,12 @@ def limits():
     said = certify("b.tsp", "-o", "out.branches", "--tour-out", "b.tour", "--seconds", "4", *words)
     need_within(most)
     need(f"bound {judged('b.tsp', 'b.tour')['bound']} as reckoned" in said, f"open leaves: {said}")
+    words, most = limited(3)
+    points = [(chance.randint(0, 1000), chance.randint(0, 1000)) for _ in range(40)]
+    write_arcs(40, lambda i, j: round(dist(points[i], points[j])) + chance.randint(0, 20))
+    said = certify("a.atsp", "-o", "out.branches", "--tour-out", "out.tour", "--seconds", "0", *words)
+    need_within(most)
+    need(f"bound {judged('a.atsp')['bound']} as reckoned" in said, f"sets of an ATSP: {said}")
 
 
 def join_limits():
