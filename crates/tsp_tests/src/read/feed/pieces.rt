@@ -1,8 +1,8 @@
 //! The result at each piece.
 
-use super::{CANONICAL_TOUR, TOUR, answer_by_bytes, file};
+use super::{CANONICAL_TOUR, TOUR, file};
 use crate::asserts::{same, same_at};
-use crate::read::answers::{answer, answer_of, fault_at_end, fed, long_file};
+use crate::read::answers::{answer, fault_at_end, fed};
 use std::test::Fail;
 use tsp_draft::EndFault;
 use tsp_format::Field;
@@ -189,15 +189,4 @@ fn a_thousand_line_ends_need_no_memory(rt: HostRuntime) {
         same_at(&rt, call, fed(&mut feed, b"\n"), Ok(()));
     }
     same(&rt, fault_at_end(feed), Some(NO_TYPE));
-}
-
-#[test]
-fn a_long_text_byte_by_byte_has_its_answer(rt: HostRuntime) -> Result<(), Fail> {
-    let alloc = rt.alloc();
-    let (text, canonical) = long_file(alloc)?;
-    let found = answer_by_bytes(alloc, text.as_bytes())?;
-    same(&rt, found, file(alloc, &Ok(canonical.as_str()))?);
-    let found = answer_of(alloc, text.as_bytes())?;
-    same(&rt, found, file(alloc, &Ok(canonical.as_str()))?);
-    Ok(())
 }
