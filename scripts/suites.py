@@ -37,7 +37,7 @@ class Suite:
     proof: bool = False
     needs: dict[str, str] = field(default_factory=dict)
     nice: bool = False
-    made: bool = False
+    made: str = ""
     ahead: bool = False
     quiet: bool = False
 
