@@ -1,7 +1,7 @@
 -- Orders on numbers of 64 bits as code shows them, and the weights that a box bounds.
 use Rattle.std.proofs.Common.{◌≡◌, Bool, true, false, ℤ, pos, negsuc, neg_ℤ, ◌+ℤ◌, ◌-ℤ◌, ◌*ℤ◌, ◌≤ℤ◌, ◌<ℤ◌, w64, to_z, of_z, SFits, subst, arith}
 use Rattle.std.specs.Bool.{OnTrue}
-use Rattle.std.specs.Int.Signed.{lt_z}
+use Rattle.std.specs.Int.Signed.{lt_z, le_z}
 use Rattle.std.proofs.lemmas.Int.{ints, to_z-of_z}
 use Rattle.tsp_theory.specs.CertificateNumbers.{IsFromTo, IsScale}
 use Rattle.tsp_bound.specs.states.NodeNumbers.{most_number}
@@ -16,6 +16,11 @@ less_seen a b f h =
 pub not_less_seen : (a b : ℤ) → SFits w64 a → SFits w64 b → lt_z (to_z w64 (of_z w64 a)) (to_z w64 (of_z w64 b)) ≡ false → b ≤ℤ a
 not_less_seen a b f g h =
     let k : lt_z a b ≡ false = simp to_z-of_z at h in
+    grind (arith, ints)
+
+pub no_more_seen : (a b : ℤ) → SFits w64 a → SFits w64 b → le_z (to_z w64 (of_z w64 a)) (to_z w64 (of_z w64 b)) ≡ true → a ≤ℤ b
+no_more_seen a b f g h =
+    let k : le_z a b ≡ true = simp to_z-of_z at h in
     grind (arith, ints)
 
 pub below_seen : (a b : ℤ) → SFits w64 a → SFits w64 b → lt_z (to_z w64 (of_z w64 a)) (to_z w64 (of_z w64 b)) ≡ true → a <ℤ b

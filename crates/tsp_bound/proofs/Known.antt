@@ -1,8 +1,8 @@
 -- The links that are known of nodes, and the best ones of components.
-use Rattle.std.proofs.Common.{◌≡◌, ◌≢◌, ℕ, ◌+◌, ◌<◌, ◌==◌, true, not, List, Option, None, Some, ℤ, ◌≤ℤ◌, inl, inr, arith, ap, sym, ◌∙◌, subst, get_or, set, length, IfSome}
+use Rattle.std.proofs.Common.{◌≡◌, ◌≢◌, ℕ, ◌+◌, ◌<◌, not, List, Option, None, Some, ℤ, ◌≤ℤ◌, inl, inr, arith, ap, sym, ◌∙◌, subst, get_or, set, length, IfSome}
 use Rattle.std.specs.Prelude.{MatchOption}
 use Rattle.std.proofs.Math.ListN.{length-set}
-use Rattle.std.proofs.lemmas.Bool.{cases_eq, false≢true, eq-eqb, ne_eqb}
+use Rattle.std.proofs.lemmas.Bool.{cases_eq, ne_eqb}
 use Rattle.std.proofs.lemmas.Int.{ints}
 use Rattle.std.proofs.lemmas.List.{get_or-set_same, get_or-set_other}
 use Rattle.tsp_bound.specs.declared.link.Link.{Link}
@@ -10,10 +10,7 @@ use Rattle.tsp_bound.specs.states.Components.{IsNearest, is_in_other_component, 
 
 -- ---- the link of one node
 
-out_of : (a b : ℕ) → not (a == b) ≡ true → a ≢ b
-out_of a b h e = false≢true (ap not (sym (eq-eqb a b e)) ∙ h)
-
-pub kept_found : (n : ℕ) (w : ℕ → ℕ → ℤ) (label : ℕ → ℕ) (x : ℕ) (link : Link) → IsNearest n w (is_in_other_component label (label x)) x link → IsKeptLink n w label x link
+kept_found : (n : ℕ) (w : ℕ → ℕ → ℤ) (label : ℕ → ℕ) (x : ℕ) (link : Link) → IsNearest n w (is_in_other_component label (label x)) x link → IsKeptLink n w label x link
 kept_found n w label x link h = record {
   from_is = h.from_is;
   to_in = h.to_in;
@@ -21,15 +18,10 @@ kept_found n w label x link h = record {
   least = λ y y_in out. h.least y y_in (ap not (ne_eqb (label y) (label x) out));
 }
 
-pub leaving_found : (n : ℕ) (w : ℕ → ℕ → ℤ) (label : ℕ → ℕ) (x : ℕ) (link : Link) → x < n → IsNearest n w (is_in_other_component label (label x)) x link
-    → IsLeaving n w label (label x) link
-leaving_found n w label x link x_in h = record {
-  from_in = subst (λ (k : ℕ). k < n) (sym h.from_is) x_in;
-  from_is = ap label h.from_is;
-  to_in = h.to_in;
-  to_out = out_of (label link.to) (label x) h.to_out;
-  weight_is = subst (λ (k : ℕ). link.weight ≡ w k link.to) (sym h.from_is) h.weight_is;
-}
+pub kept_of_nearest : (n : ℕ) (w : ℕ → ℕ → ℤ) (label : ℕ → ℕ) (x : ℕ) (found : Option Link) → IfSome found (IsNearest n w (is_in_other_component label (label x)) x)
+    → IfSome found (IsKeptLink n w label x)
+kept_of_nearest n w label x None h = tt
+kept_of_nearest n w label x (Some link) h = kept_found n w label x link h
 
 pub leaving_kept : (n : ℕ) (w : ℕ → ℕ → ℤ) (label : ℕ → ℕ) (x : ℕ) (link : Link) → x < n → IsKeptLink n w label x link → label link.to ≢ label x
     → IsLeaving n w label (label x) link
@@ -134,6 +126,15 @@ reached_again n label best known node link new node_in label_in h offered x d x_
         | inr apart ↦ subst (λ (o : Option Link). IsReached o (get_or known x d).weight)
             (sym (get_or-set_other best (label node) (label x) (Some new) None apart)) was
       ])
+]
+
+-- one node more, of which another link is known that is no better
+pub reached_set : (label : ℕ → ℕ) (best : List (Option Link)) (known : List Link) (node : ℕ) (link : Link) → node < length known → AreReached label best known node
+    → IsReached (link_of best (label node)) link.weight → AreReached label best (set known node link) (node + 1)
+reached_set label best known node link node_in h own x d x_in = elim (cases_eq x node) [
+  | inl same ↦ subst (λ (k : ℕ). IsReached (link_of best (label k)) (get_or (set known node link) k d).weight) (sym same)
+      (subst (λ (l : Link). IsReached (link_of best (label node)) l.weight) (sym (get_or-set_same known node link d node_in)) own)
+  | inr other ↦ subst (λ (l : Link). IsReached (link_of best (label x)) l.weight) (sym (get_or-set_other known node x link d other)) (h x d (omega (arith, x_in, other)))
 ]
 
 least_of : (n : ℕ) (w : ℕ → ℕ → ℤ) (label : ℕ → ℕ) (c : ℕ) (o : Option Link) → IfSome o (IsLeaving n w label c)

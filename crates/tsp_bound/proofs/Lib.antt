@@ -1,6 +1,7 @@
 pub mod Boxed
 pub mod Joining
 pub mod Known
+pub mod Listing
 pub mod Lowered
 pub mod Lowest
 pub mod Parts

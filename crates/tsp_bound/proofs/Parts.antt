@@ -1,6 +1,7 @@
 -- Least joins over the places of an order are some over its nodes, and their weight.
-use Rattle.std.proofs.Common.{◌≡◌, ℕ, ◌+◌, ◌*◌, ◌^◌, ◌<◌, ◌≤◌, List, [], ◌∷◌, ◌++◌, map, take, length, get_or, ℤ, refl, arith, ap, sym, ◌∙◌, subst, Result, Ok, Err, IfOk}
+use Rattle.std.proofs.Common.{◌≡◌, ℕ, ◌+◌, ◌*◌, ◌^◌, ◌<◌, ◌≤◌, List, [], ◌∷◌, ◌++◌, map, take, length, get_or, ℤ, refl, arith, ap, sym, ◌∙◌, subst, Option, Result, Ok, Err, IfOk, IfSome}
 use Rattle.std.specs.Prelude.{pos, neg_ℤ, ◌-ℤ◌, slice_index_or}
+use Rattle.std.specs.Global.{Vec}
 use Rattle.std.proofs.lemmas.Int.{ints}
 use Rattle.std.proofs.lemmas.List.{take_more, map-append, length-map}
 use Rattle.tsp_format.specs.Limits.{most_nodes}
@@ -44,11 +45,13 @@ forest_of order places last w pairs named sum count num spanning most named_is s
       size = whole_size last w named sum most (omega (arith, pairs_count, spanning.count, count)) size;
     }
 
-pub spanning_seen : (order seen : List ℕ) (w shown : ℕ → ℕ → ℤ) (pairs : List (ℕ × ℕ)) → seen ≡ order → shown ≡ w
-    → IsSpanning (length seen) (λ i j. shown (node_of seen i) (node_of seen j)) pairs → IsSpanning (length order) (λ i j. w (node_of order i) (node_of order j)) pairs
-spanning_seen order seen w shown pairs same_order same_weights g =
-    subst (λ (os : List ℕ). IsSpanning (length os) (λ i j. w (node_of os i) (node_of os j)) pairs) same_order
-    (subst (λ (k : ℕ → ℕ → ℤ). IsSpanning (length seen) (λ i j. k (node_of seen i) (node_of seen j)) pairs) same_weights g)
+-- what is found over the places of nodes that the code names otherwise
+pub spanning_seen : {E : Type 0} (order seen : List ℕ) (w shown : ℕ → ℕ → ℤ) (result : Result (Option (Vec (ℕ × ℕ))) E) → seen ≡ order → shown ≡ w
+    → IfOk result (λ found. IfSome found (λ pairs. IsSpanning (length seen) (λ i j. shown (node_of seen i) (node_of seen j)) pairs.items))
+    → IfOk result (λ found. IfSome found (λ pairs. IsSpanning (length order) (λ i j. w (node_of order i) (node_of order j)) pairs.items))
+spanning_seen order seen w shown result same_order same_weights g =
+    subst (λ (os : List ℕ). IfOk result (λ found. IfSome found (λ pairs. IsSpanning (length os) (λ i j. w (node_of os i) (node_of os j)) pairs.items))) same_order
+    (subst (λ (k : ℕ → ℕ → ℤ). IfOk result (λ found. IfSome found (λ pairs. IsSpanning (length seen) (λ i j. k (node_of seen i) (node_of seen j)) pairs.items))) same_weights g)
 
 -- ---- as the code shows them
 

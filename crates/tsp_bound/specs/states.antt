@@ -2,6 +2,7 @@ pub mod Boxes
 pub mod ByNode
 pub mod Components
 pub mod Duals
+pub mod Lists
 pub mod Multipliers
 pub mod NodeNumbers
 pub mod Numbering

@@ -12,7 +12,7 @@ use tsp_memory::{Refused, filled};
 
 /// The smaller number.
 #[inline]
-fn lesser(a: i64, b: i64) -> i64
+pub(crate) fn lesser(a: i64, b: i64) -> i64
     ensures first { result ≤ℤ a }
     ensures second { result ≤ℤ b }
     ensures one { (result ≡ a) ⊎ (result ≡ b) }

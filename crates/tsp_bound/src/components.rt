@@ -1,7 +1,7 @@
 //! The components of a forest, and the search for the nearest place in another component.
 
 ghost use Rattle.std.specs.Prelude.{◌≡◌, ◌<◌, ℕ, ℤ, length, IfSome};
-ghost use Rattle.tsp_bound.specs.states.Components.{is_in_other_component, label_at, IsNearest};
+ghost use Rattle.tsp_bound.specs.states.Components.{label_at, IsKeptLink};
 
 use crate::link::Link;
 
@@ -23,13 +23,14 @@ pub(crate) trait Components {
         requires { node < count_of self.now }
         ensures { result ≡ label_of self.now node };
 
-    /// The least link from the node to one in another component, or none. It adds to `steps` what
-    /// the search took, which begins at the node `near`.
-    fn nearest(&self, from: u32, near: u32, steps: &mut u64) -> Option<Link>
+    /// A link from the node that weighs no more than any to another component: the least of these,
+    /// but perhaps where none weighs less than `most`. None where there is none. It adds to `steps`
+    /// what the search took, which begins at the node `near`.
+    fn nearest(&self, from: u32, near: u32, most: i64, steps: &mut u64) -> Option<Link>
         requires from { from < count_of self.now }
         requires near { near < count_of self.now }
-        ensures { IfSome result (λ link. IsNearest (count_of self.now) (weight_of self.now)
-            (is_in_other_component (label_of self.now) (label_of self.now from)) from link) };
+        ensures { IfSome result
+            (IsKeptLink (count_of self.now) (weight_of self.now) (label_of self.now) from) };
 
     /// Gives each component a new label: the entry of its old one.
     fn relabel(&mut self, labels: &[u32])

@@ -31,6 +31,15 @@ pub(crate) fn end_of(best: Option<Link>, node: u32) -> u32
     }
 }
 
+/// The weight of the best link, if there is one, else the largest number.
+#[inline]
+pub(crate) fn weight_of(best: Option<Link>) -> i64 {
+    match best {
+        None => i64::MAX,
+        Some(link) => link.weight,
+    }
+}
+
 /// The lighter one of a link and the best one, if there is one.
 #[inline]
 pub(crate) fn better(best: Option<Link>, link: Link) -> Link

@@ -48,7 +48,7 @@ pub(crate) fn own_labels(alloc: Global, count: u32) -> Result<Vec<u32>, Refused>
 }
 
 /// Gives each label its entry in a list.
-fn rename(labels: &mut [u32], list: &[u32])
+pub(crate) fn rename(labels: &mut [u32], list: &[u32])
     requires low { (x : ℕ) → x < length labels.old → label_at labels.old x < length list.now }
     ensures len { length labels.new ≡ length labels.old }
     ensures renamed { (x : ℕ) → x < length labels.old → label_at labels.new x ≡ label_at list.now (label_at labels.old x) }
@@ -142,7 +142,7 @@ impl<W: BoxedWeights> Components for Labelled<'_, W> {
         self.labels[node as usize]
     }
 
-    fn nearest(&self, from: u32, near: u32, steps: &mut u64) -> Option<Link> {
+    fn nearest(&self, from: u32, near: u32, most: i64, steps: &mut u64) -> Option<Link> {
         let apart = Apart {
             labels: &self.labels,
             tags: &self.tags,

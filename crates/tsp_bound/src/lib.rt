@@ -21,6 +21,8 @@ mod joins;
 mod labelled;
 mod least;
 mod link;
+mod listed;
+mod lists;
 mod multipliers;
 mod nearest;
 mod numbering;

@@ -5,7 +5,7 @@ ghost use Rattle.std.specs.Bool.{OnTrue};
 ghost use Rattle.tsp_bound.specs.states.Components.{AreKept, AreLeast, AreLeaving, IsSpanning};
 
 use crate::components::Components;
-use crate::joins::{best_of, better, end_of, is_better, join};
+use crate::joins::{best_of, better, end_of, is_better, join, weight_of};
 use crate::link::Link;
 use std::alloc::Global;
 use tsp_memory::{Refused, push, with_capacity};
@@ -70,7 +70,7 @@ fn first_links<P: Components>(
     let mut known = with_capacity(alloc, nodes.count() as usize)?;
     let mut near = 0;
     'nodes: for node in 0..nodes.count() {
-        let Some(link) = nodes.nearest(node, near, steps) else {
+        let Some(link) = nodes.nearest(node, near, i64::MAX, steps) else {
             return Ok(None);
         };
         if *steps > most_steps {
@@ -101,14 +101,18 @@ fn search_again<P: Components>(
         let label = nodes.label(node) as usize;
         if is_better(known[node as usize], best[label]) {
             let near = end_of(best[label], node);
-            let Some(link) = nodes.nearest(node, near, steps) else {
+            let Some(link) = nodes.nearest(node, near, weight_of(best[label]), steps) else {
                 return false;
             };
             if *steps > most_steps {
                 return false;
             }
             known[node as usize] = link;
-            best[label] = Some(better(best[label], link));
+            if nodes.label(link.to) as usize != label {
+                best[label] = Some(better(best[label], link));
+            } else if is_better(link, best[label]) {
+                return false;
+            }
         }
     }
     true

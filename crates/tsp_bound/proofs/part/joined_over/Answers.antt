@@ -3,22 +3,17 @@ use Rattle.std.proofs.Common.{◌≡◌, ◌∙◌, ℕ, List, length, map, arit
 use Rattle.tsp_bound.specs.states.Boxes.{node_of}
 use Rattle.tsp_bound.specs.states.Components.{IsSpanning, IsWeighedForest}
 use Rattle.tsp_bound.specs.states.Numbering.{on_both}
-use Rattle.tsp_bound.proofs.Parts.{spanning_seen, forest_of}
+use Rattle.tsp_bound.proofs.Parts.{forest_of}
 use Rattle.tsp_bound.proofs.part.joined_over.Goals as goal
 
 pub returns : goal.returns
 returns g c =
     let order : List ℕ = c.args.order.now in
     let places : List ℕ = c.in-Some.places.items in
-    let nodes = c.in-Some-2.nodes.placed in
     let num = rw c.in-Some.is at c.in_ok-places.ensures.numbering in
     let w = g.W.Weights.at c.args.w.now in
-    let same_order : nodes.order.now ≡ order = (rw c.in-Some-2.is at c.in_ok-nodes.ensures.order) ∙ c.new-placed.ensures.order in
-    let pairs = c.in-Some-3.pairs.items in
-    let spanning : IsSpanning (length order) (λ i j. w (node_of order i) (node_of order j)) pairs =
-    spanning_seen order nodes.order.now w (g.W.Weights.at nodes.w.now) pairs same_order
-    (ap (g.W.Weights.at) ((rw c.in-Some-2.is at c.in_ok-nodes.ensures.weights) ∙ c.new-placed.ensures.weights))
-    (rw c.in-Some-3.is at c.in_ok-pairs.ensures) in
+    let pairs = c.in-Some-2.pairs.items in
+    let spanning : IsSpanning (length order) (λ i j. w (node_of order i) (node_of order j)) pairs = rw c.in-Some-2.is at c.in_ok-pairs.ensures in
     let last : ℕ = c.count.result in
     let grown = c.in_ok-grown.grown in
     subst (λ (k : ℕ). IsWeighedForest k w grown.pairs.items grown.weight) c.count.ensures.value

@@ -1,4 +1,4 @@
--- The goals of `least_edges` in src/tree.rt: that no sum overflows and what it ensures.
+-- The goals of `least_edges` in src/tree.rt: what its calls require, that no sum overflows and what it ensures.
 use Rattle.std.proofs.Common.{◌≡◌, ◌∙◌, [], ap, ap₂, sym, arith, rules, FitsSigned}
 use Rattle.std.specs.Prelude.{◌+ℤ◌}
 use Rattle.std.specs.Int.{w64}
@@ -11,6 +11,11 @@ use Rattle.tsp_theory.proofs.Adjustments.{adjusted_even}
 use Rattle.tsp_theory.proofs.OneTrees.{least_from_forest}
 use Rattle.tsp_theory.proofs.Weights.{weight_even, tree_fits, tree_size, tree_computed, weight_of_tree}
 use Rattle.tsp_bound.proofs.tree.least_edges.Goals as goal
+
+pub grow-requires-clause-even : goal.grow-requires-clause-even
+grow-requires-clause-even g c =
+    adjusted_even (triples_in c.args.m.now) [] (weight_under c.args.p.now (g.C.Costs.at c.args.c.now))
+    (weight_even c.args.p.now.scale c.args.p.now.numbers.now (g.C.Costs.at c.args.c.now) (g.met.C.Symmetric.even c.args.c.now))
 
 pub overflow_add-spokes : goal.overflow_add-spokes
 overflow_add-spokes g c =

@@ -1,0 +1,9 @@
+-- The loop of `heaviest` in src/lists.rt.
+use Rattle.std.proofs.Common.{◌≤◌, ◌<◌, ◌+◌}
+use Rattle.tsp_bound.proofs.lists.heaviest.Given as goal
+
+abbrev pub invariant-links : goal.invariant-links
+invariant-links l = record {
+  low : l.first ≤ l.found;
+  high : l.found < l.first + 12;
+}

@@ -1,0 +1,13 @@
+-- The loop of `take_all` in src/lists.rt.
+use Rattle.std.proofs.Common.{◌≤◌, ◌-◌, length}
+use Rattle.tsp_bound.specs.states.Lists.{weight_over, AreOffered}
+use Rattle.tsp_bound.proofs.lists.take_all.Given as goal
+
+abbrev pub invariant-columns : goal.invariant-columns
+invariant-columns g l = record {
+  few : l.first ≤ length l.placed.order.now;
+  listed : AreOffered (length l.placed.order.now) (weight_over (g.W.Weights.at l.placed.w.now) l.placed.order.now) l.first 0 0 0 l.links l.bounds;
+}
+
+abbrev pub decreases-columns : goal.decreases-columns
+decreases-columns g l = length l.placed.order.now - l.first

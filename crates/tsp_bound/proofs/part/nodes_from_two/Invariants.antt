@@ -1,0 +1,6 @@
+-- The loop of `nodes_from_two` in src/part.rt.
+use Rattle.std.proofs.Common.{◌≡◌, ◌+◌, length}
+use Rattle.tsp_bound.proofs.part.nodes_from_two.Given as goal
+
+abbrev pub invariant-nodes : goal.invariant-nodes
+invariant-nodes l = length l.nodes.items + 2 ≡ l.node

@@ -1,0 +1,55 @@
+-- Of each place 0..n-1 twelve links, beside each other in a list, and a number that none of its other links is below.
+use Rattle.std.specs.Prelude.{◌≡◌, ◌≢◌, ℕ, ◌+◌, ◌*◌, ◌<◌, List, slice_index_or, slice_set, ℤ, pos, ◌≤ℤ◌, ◌⊎◌}
+use Rattle.tsp_bound.specs.declared.link.Link.{Link}
+use Rattle.tsp_bound.specs.states.Boxes.{node_of}
+use Rattle.tsp_theory.specs.states.Nearest.{least_at}
+
+-- the weights between the places of an order, by those between its nodes
+abbrev pub weight_over : (ℕ → ℕ → ℤ) → List ℕ → ℕ → ℕ → ℤ
+weight_over w order i j = w (node_of order i) (node_of order j)
+
+-- no link, by its weight
+abbrev pub empty_link : Link
+empty_link = record { weight = pos 9223372036854775807; from = 0; to = 0 }
+
+-- the link k of the place x
+abbrev pub kept_at : List Link → ℕ → ℕ → Link
+kept_at links x k = slice_index_or links (12 * x + k) empty_link
+
+-- a link of x with its own weight, if it is one
+abbrev pub IsOwnLink : ℕ → (ℕ → ℕ → ℤ) → ℕ → Link → Type 0
+IsOwnLink n w x link = link.weight ≢ pos 9223372036854775807 → (link.from ≡ x) × (link.to < n) × (link.weight ≡ w x link.to)
+
+-- the pair of x and y is listed at x, or weighs no less than the number of x
+abbrev pub IsKnown : (ℕ → ℕ → ℤ) → List Link → List ℤ → ℕ → ℕ → Type 0
+IsKnown w links bounds x y = ((k : ℕ) → k < 12 → (kept_at links x k).to ≡ y → (kept_at links x k).weight ≢ w x y)
+    → least_at bounds x ≤ℤ w x y
+
+-- ---- a link is taken into the lists
+
+-- it is put in the place of another one of the same place
+pub record IsPut (link : Link) (old_links : List Link) (old_bounds : List ℤ) (links : List Link) (bounds : List ℤ) : Type 0 where
+  pub slot : ℕ
+  pub few : slot < 12
+  pub bound : ℤ
+  pub links_is : links ≡ slice_set old_links (12 * link.from + slot) link
+  pub bounds_is : bounds ≡ slice_set old_bounds link.from bound
+  pub lower : bound ≤ℤ least_at old_bounds link.from
+  pub below : bound ≤ℤ (kept_at old_links link.from slot).weight
+
+-- so, or it weighs no less than the number of its place
+abbrev pub IsTaken : Link → List Link → List ℤ → List Link → List ℤ → Type 0
+IsTaken link old_links old_bounds links bounds =
+    ((links ≡ old_links) × (bounds ≡ old_bounds) × (least_at old_bounds link.from ≤ℤ link.weight))
+    ⊎ IsPut link old_links old_bounds links bounds
+
+-- ---- the pairs that a pass has seen
+
+-- those with a larger place below `first`; with one below `last`, and a smaller one below `from`; and of `from` those below
+-- `next`
+abbrev pub IsSeen : ℕ → ℕ → ℕ → ℕ → ℕ → ℕ → Type 0
+IsSeen first last from next x y = (y < first) ⊎ (((y < last) × (x < from)) ⊎ ((x ≡ from) × (y < next)))
+
+pub record AreOffered (n : ℕ) (w : ℕ → ℕ → ℤ) (first last from next : ℕ) (links : List Link) (bounds : List ℤ) : Type 0 where
+  pub own : (x k : ℕ) → x < n → k < 12 → IsOwnLink n w x (kept_at links x k)
+  pub known : (x y : ℕ) → x < y → y < n → IsSeen first last from next x y → IsKnown w links bounds x y × IsKnown w links bounds y x
