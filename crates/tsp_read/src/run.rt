@@ -29,7 +29,7 @@ use std::alloc::Global;
 use tsp_distance::Decimal;
 use tsp_format::is_blank;
 use tsp_number::{front_decimal, front_few, front_whole};
-use tsp_section::{Gathered, Part, RunList, WeightList};
+use tsp_section::{Part, RunList, TourList, WeightList};
 
 // ---- a number at the beginning of a text
 
@@ -55,6 +55,18 @@ fn word_end(rest: &[u8]) -> Option<End<'_>>
     }
 }
 
+/// The same, where a byte 10 ends the word.
+#[inline(always)]
+fn line_end(rest: &[u8]) -> Option<End<'_>>
+    ensures left { IfSome result (λ end. LeavesEnd rest.now (left_from end)) }
+    ensures within { IfSome result (λ end. length (left_from end) ≤ length rest.now) }
+{
+    match rest.split_first() {
+        Some((b'\n', later)) => Some(End::Line(later)),
+        _ => None,
+    }
+}
+
 /// The whole number of a few digits that a text begins with, and the end of its word; or nothing
 /// where the text begins with no such word whose end has come.
 #[inline(always)]
@@ -67,6 +79,22 @@ pub(crate) fn few_number(text: &[u8]) -> Option<(i64, End<'_>)>
     };
     let rest = text.split_at(end).1;
     match word_end(rest) {
+        Some(end) => Some((number, end)),
+        None => None,
+    }
+}
+
+/// The same of a word that a byte 10 ends.
+#[inline(always)]
+pub(crate) fn last_number(text: &[u8]) -> Option<(i64, End<'_>)>
+    ensures { IfSome result (λ found.
+        IsFrontWord text.now (IsWhole (front_word text.now) found.0) (left_from found.1)) }
+{
+    let Some((number, end)) = front_few(text) else {
+        return None;
+    };
+    let rest = text.split_at(end).1;
+    match line_end(rest) {
         Some(end) => Some((number, end)),
         None => None,
     }
@@ -216,10 +244,39 @@ fn take_other<'a, L: RunList>(list: &mut L, count: &mut Count, text: &'a [u8]) -
     }
 }
 
+/// Takes the number of a few digits that a text begins with. Where most words end their line
+/// (`by_line`), such a word is tried first.
+// (so that its line is counted without a look at what else may end a word)
+#[inline(always)]
+fn take_few<'a, L: RunList>(
+    list: &mut L,
+    count: &mut Count,
+    text: &'a [u8],
+    by_line: bool,
+) -> Option<&'a [u8]>
+    requires line { count.old.line + length text.now ≤ most_file_bytes + 1 }
+    requires words { count.old.words + length text.now ≤ most_file_bytes }
+    ensures { StepsTo (L.part list.old) count.old text.now (L.part list.new) count.new
+        (option_map (λ rest. rest.now) result) }
+{
+    if !by_line {
+        return take_number(list, count, text, few_number(text));
+    }
+    match take_number(list, count, text, last_number(text)) {
+        Some(rest) => Some(rest),
+        None => take_number(list, count, text, few_number(text)),
+    }
+}
+
 /// Takes the word or the line's end that a text begins with, where the list takes it, and gives
 /// what follows it.
 #[inline(always)]
-fn take_one<'a, L: RunList>(list: &mut L, count: &mut Count, text: &'a [u8]) -> Option<&'a [u8]>
+fn take_one<'a, L: RunList>(
+    list: &mut L,
+    count: &mut Count,
+    text: &'a [u8],
+    by_line: bool,
+) -> Option<&'a [u8]>
     requires line { count.old.line + length text.now ≤ most_file_bytes + 1 }
     requires words { count.old.words + length text.now ≤ most_file_bytes }
     ensures { StepsTo (L.part list.old) count.old text.now (L.part list.new) count.new
@@ -228,7 +285,7 @@ fn take_one<'a, L: RunList>(list: &mut L, count: &mut Count, text: &'a [u8]) -> 
     if list.awaits_coordinate() {
         return take_coordinate(list, count, text);
     }
-    match take_number(list, count, text, few_number(text)) {
+    match take_few(list, count, text, by_line) {
         Some(rest) => Some(rest),
         None => take_other(list, count, text),
     }
@@ -239,38 +296,44 @@ fn take_one<'a, L: RunList>(list: &mut L, count: &mut Count, text: &'a [u8]) -> 
 /// Takes the words and line ends at the beginning of a text, as many as the list takes. The result
 /// is their count and the rest of the text.
 #[inline(always)]
-fn take_all<'a, L: RunList>(list: &mut L, count: Count, text: &'a [u8]) -> (Count, &'a [u8])
+fn take_all<'a, L: RunList>(
+    list: &mut L,
+    count: Count,
+    text: &'a [u8],
+    by_line: bool,
+) -> (Count, &'a [u8])
     requires line { count.line + length text.now ≤ most_file_bytes + 1 }
     requires words { count.words + length text.now ≤ most_file_bytes }
     ensures { RunsTo (L.part list.old) count text.now (L.part list.new) result.0 result.1.now }
 {
     let mut counted = count;
     let mut rest = text;
-    'run: while let Some(after) = take_one(list, &mut counted, rest) {
+    'run: while let Some(after) = take_one(list, &mut counted, rest, by_line) {
         rest = after;
     }
     (counted, rest)
 }
 
-/// The same over the weights of a matrix, which are passed by value.
+/// The same over a list that is passed by value.
 // (so that all that changes in the loop can stay in registers)
 #[inline(never)]
-fn take_gathered<'a>(
-    gathered: Gathered,
+fn take_gathered<'a, L: RunList>(
+    list: L,
     count: Count,
     text: &'a [u8],
-) -> (Gathered, Count, &'a [u8])
+    by_line: bool,
+) -> (L, Count, &'a [u8])
     requires line { count.line + length text.now ≤ most_file_bytes + 1 }
     requires words { count.words + length text.now ≤ most_file_bytes }
-    ensures { RunsTo (parts.Weights gathered.list) count text.now
-        (parts.Weights result.0.list) result.1 result.2.now }
+    ensures { RunsTo (L.part list) count text.now (L.part result.0) result.1 result.2.now }
 {
-    let mut own = gathered;
-    let (counted, rest) = take_all(&mut own, count, text);
+    let mut own = list;
+    let (counted, rest) = take_all(&mut own, count, text, by_line);
     (own, counted, rest)
 }
 
-/// The same, over a list that reserves memory first: a word and its end are two bytes at least.
+/// The same over the weights of a matrix, which reserve memory first: a word and its end are two
+/// bytes at least.
 fn take_weights<'a>(
     list: &mut WeightList,
     alloc: Global,
@@ -283,7 +346,25 @@ fn take_weights<'a>(
         (parts.Weights list.new) result.0 result.1.now }
 {
     let gathered = list.gather(alloc, text.len() / 2);
-    let (gathered, counted, rest) = take_gathered(gathered, count, text);
+    let (gathered, counted, rest) = take_gathered(gathered, count, text, false);
+    list.put_back(gathered);
+    (counted, rest)
+}
+
+/// The same over the nodes of tours, which reserve memory too.
+fn take_tours<'a>(
+    list: &mut TourList,
+    alloc: Global,
+    count: Count,
+    text: &'a [u8],
+) -> (Count, &'a [u8])
+    requires line { count.line + length text.now ≤ most_file_bytes + 1 }
+    requires words { count.words + length text.now ≤ most_file_bytes }
+    ensures { RunsTo (parts.Tours list.old) count text.now
+        (parts.Tours list.new) result.0 result.1.now }
+{
+    let gathered = list.gather(alloc);
+    let (gathered, counted, rest) = take_gathered(gathered, count, text, true);
     list.put_back(gathered);
     (counted, rest)
 }
@@ -295,10 +376,10 @@ fn take_part<'a>(part: &mut Part, alloc: Global, count: Count, text: &'a [u8]) -
     ensures { RunsTo part.old count text.now part.new result.0 result.1.now }
 {
     match part {
-        Part::Numbers(list) => take_all(list, count, text),
+        Part::Numbers(list) => take_all(list, count, text, false),
         Part::Weights(list) => take_weights(list, alloc, count, text),
-        Part::Tours(list) => take_all(list, count, text),
-        Part::Points(list) => take_all(list, count, text),
+        Part::Tours(list) => take_tours(list, alloc, count, text),
+        Part::Points(list) => take_all(list, count, text, false),
         _ => (count, text),
     }
 }

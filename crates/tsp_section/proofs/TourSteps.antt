@@ -1,10 +1,11 @@
 -- One word more of the tours.
-use Rattle.std.proofs.Common.{◌≡◌, ℕ, ℤ, zero, suc, ◌+◌, ◌≤◌, Bool, true, false, cond, List, [], ◌∷◌, ◌++◌, length, map, refl, sym, ap, ◌∙◌, arith, rules, Result, Ok, Err, None}
+use Rattle.std.proofs.Common.{◌≡◌, ℕ, ℤ, zero, suc, ◌+◌, ◌-◌, ◌<◌, ◌≤◌, Bool, true, false, cond, List, [], ◌∷◌, ◌++◌, length, map, refl, sym, ap, ◌∙◌, arith, rules, Result, Ok, Err, None}
 use Rattle.std.specs.Int.{FitsUnsignedBits}
 use Rattle.std.specs.Prelude.{pos, negsuc, nat_abs, nat_le, not, ◌&&◌}
 use Rattle.std.specs.List.{slice_split, filter}
 use Rattle.std.specs.Ordering.{int_eq}
 use Rattle.std.proofs.lemmas.Int.{ints}
+use Rattle.std.proofs.lemmas.Bool.Decides.{nat_tests}
 use Rattle.std.proofs.lemmas.List.{map_push}
 use Rattle.tsp_format.specs.Limits.{most_nodes, most_tour_nodes}
 use Rattle.tsp_section.specs.declared.parts.tours.TourList.{TourList}
@@ -30,6 +31,12 @@ end_clean n count word read = rw (read, and_false (nat_le most_tour_nodes count)
 node_clean : (n count k : ℕ) (word : List ℕ) → node_or_end most_nodes word ≡ Ok (pos k) → nat_le most_tour_nodes count ≡ false
     → word_fault n (TourNode count) word ≡ None
 node_clean n count k word read few = rw (read, few) refl
+
+-- where another node may come, not as many came as may
+pub few_left : (count room : ℕ) → room ≤ most_tour_nodes - count → 1 ≤ room → nat_le most_tour_nodes count ≡ false
+few_left count room within some =
+    let less : count < most_tour_nodes = omega (arith, within, some) in
+    grind (arith, nat_tests)
 
 -- ---- the words
 

@@ -26,7 +26,7 @@ pub use parts::depots::DepotList;
 pub use parts::fixed::FixedList;
 pub use parts::numbers::NumberList;
 pub use parts::points::PointList;
-pub use parts::tours::TourList;
+pub use parts::tours::{GatheredNodes, TourList};
 pub use parts::tree::TreeList;
 pub use parts::triples::TripleList;
 pub use parts::weights::{Gathered, WeightList};

@@ -10,7 +10,7 @@ ghost use Rattle.tsp_section.specs.states.PartRun.{in_group, groups_left, marks_
 
 use crate::parts::numbers::NumberList;
 use crate::parts::points::PointList;
-use crate::parts::tours::TourList;
+use crate::parts::tours::GatheredNodes;
 use crate::parts::weights::Gathered;
 use tsp_distance::Decimal;
 
@@ -63,8 +63,8 @@ impl RunList for Gathered {
     }
 }
 
-impl RunList for TourList {
-    ghost part = { λ list. parts.Tours list };
+impl RunList for GatheredNodes {
+    ghost part = { λ run. parts.Tours run.list };
 
     #[inline(always)]
     fn awaits_coordinate(&self) -> bool {

@@ -1,15 +1,20 @@
 //! The tours.
 
-ghost use Rattle.std.specs.Prelude.{◌≡◌, [], ℕ, List, ◌∷◌, ◌++◌, Ok, OnOk, IfOk, IfErr, map, true, false};
+ghost use Rattle.std.specs.Prelude.{◌≡◌, ◌+◌, ◌-◌, ◌≤◌, [], ℕ, List, ◌∷◌, ◌++◌, Ok, OnOk, IfOk, IfErr, map, vec_len, vec_capacity, true, false};
+ghost use Rattle.tsp_format.specs.Limits.{most_tour_nodes};
 ghost use Rattle.tsp_text.specs.SectionNumbers.{IsWhole};
 
 use crate::fault::StepFault;
 use crate::moved::move_to_end;
 use crate::parts::nodes::read_node_or_end;
 use std::alloc::Global;
+use std::mem;
 use tsp_format::{MOST_NODES, MOST_TOUR_NODES};
 use tsp_memory::{Refused, push};
 use tsp_text::LineFault;
+
+/// The fewest nodes that a run reserves memory for.
+const FEWEST: usize = 8;
 
 /// What was read of the tours: those that are done, the run of nodes that is open, and how many
 /// nodes came in all.
@@ -73,27 +78,24 @@ impl TourList {
         }
     }
 
-    /// Takes the number of a word that was read, where it is a node and the capacity suffices. The
-    /// result says whether it was taken.
+    /// The list for a run of words, with capacity for some nodes more; for none where memory was
+    /// refused, or the tours have as many nodes as a file may have.
     #[inline(always)]
-    pub fn push_read(&mut self, number: i64) -> bool
-        ensures taken { result ≡ true → (n : ℕ) (words : List (List ℕ)) (word : List ℕ)
-            → IsWhole word number → HoldsTours self.old words → Takes n
-            (place_of_tour words) word (HoldsTours self.new (words ++ word ∷ [])) (Ok tt) }
-        ensures kept { result ≡ false → (words : List (List ℕ)) → HoldsTours self.old words
-            → HoldsTours self.new words }
+    pub fn gather(&mut self, alloc: Global) -> GatheredNodes
+        ensures { (words : List (List ℕ)) → HoldsTours self.old words
+            → HoldsTours result.list words }
     {
-        let Ok(node) = u32::try_from(number) else {
-            return false;
-        };
-        if node < 1 || node > MOST_NODES || self.count >= MOST_TOUR_NODES {
-            return false;
-        }
-        if self.run.push(node).is_err() {
-            return false;
-        }
-        self.count += 1;
-        true
+        GatheredNodes::of(mem::replace(self, TourList::open(alloc)))
+    }
+
+    /// Goes on with the list of a run.
+    #[inline(always)]
+    pub fn put_back(&mut self, gathered: GatheredNodes)
+        ensures { self.new ≡ gathered.list }
+    {
+        let GatheredNodes { list, room: _ } = gathered;
+        let before = mem::replace(self, list);
+        drop(before);
     }
 
     /// Ends the run that is open, if one is.
@@ -121,5 +123,64 @@ impl TourList {
     {
         self.end_run(alloc)?;
         Ok(self.done)
+    }
+}
+
+/// The nodes in a run of words, which has reserved memory for some at once.
+///
+/// By value its vector is in no other place, so a push is a store and three counts.
+#[derive(Drop)]
+pub struct GatheredNodes {
+    list: TourList,
+    /// The free capacity for nodes, in memory and among those that tours may have.
+    room: usize,
+    ghost reserved: { vec_len list.run + room ≤ vec_capacity list.run },
+    ghost within: { room ≤ most_tour_nodes - list.count },
+}
+
+impl GatheredNodes {
+    ghost use Rattle.tsp_text.specs.TourSection.{place_of_tour};
+    ghost use Rattle.tsp_section.specs.states.Parts.{Takes};
+    ghost use Rattle.tsp_section.specs.states.HeldParts.{HoldsTours};
+
+    /// A list with capacity for some nodes more; for none where memory was refused.
+    ///
+    /// Where it grows, it doubles, as it does word by word.
+    #[inline(always)]
+    fn of(mut list: TourList) -> GatheredNodes
+        ensures { (words : List (List ℕ)) → HoldsTours list words → HoldsTours result.list words }
+    {
+        let left = MOST_TOUR_NODES.saturating_sub(list.count);
+        let len = list.run.len();
+        if list.run.capacity() == len {
+            let growth = left.min(len.max(FEWEST));
+            if list.run.reserve_exact(growth).is_err() {
+                return GatheredNodes { list, room: 0 };
+            }
+        }
+        let room = left.min(list.run.capacity() - len);
+        GatheredNodes { list, room }
+    }
+
+    /// Takes the number of a word that was read, where it is a node and the capacity suffices. The
+    /// result says whether it was taken.
+    #[inline(always)]
+    pub fn push_read(&mut self, number: i64) -> bool
+        ensures taken { result ≡ true → (n : ℕ) (words : List (List ℕ)) (word : List ℕ)
+            → IsWhole word number → HoldsTours self.old.list words → Takes n
+            (place_of_tour words) word (HoldsTours self.new.list (words ++ word ∷ [])) (Ok tt) }
+        ensures kept { result ≡ false → (words : List (List ℕ)) → HoldsTours self.old.list words
+            → HoldsTours self.new.list words }
+    {
+        let Ok(node) = u32::try_from(number) else {
+            return false;
+        };
+        if node < 1 || node > MOST_NODES || self.room == 0 {
+            return false;
+        }
+        self.room -= 1;
+        self.list.count += 1;
+        self.list.run.push_reserved(node);
+        true
     }
 }

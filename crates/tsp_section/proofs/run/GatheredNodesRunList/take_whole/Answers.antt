@@ -1,7 +1,7 @@
--- The goals of `TourListRunList::take_whole` in src/run.rt: what it ensures.
+-- The goals of `GatheredNodesRunList::take_whole` in src/run.rt: what it ensures.
 use Rattle.std.proofs.Common.{refl, rules, FitsSigned, w64}
 use Rattle.std.proofs.lemmas.Int.{to_z-of_z}
-use Rattle.tsp_section.proofs.run.TourListRunList.take_whole.Goals as goal
+use Rattle.tsp_section.proofs.run.GatheredNodesRunList.take_whole.Goals as goal
 
 pub returns-clause-taken : goal.returns-clause-taken
 returns-clause-taken c = λ taken word read n words h.

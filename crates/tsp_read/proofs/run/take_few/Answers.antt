@@ -1,0 +1,6 @@
+-- The goals of `take_few` in src/run.rt: what it ensures.
+use Rattle.tsp_read.proofs.RunSteps.{step_then}
+use Rattle.tsp_read.proofs.run.take_few.Goals as goal
+
+pub returns-in-None : goal.returns-in-None
+returns-in-None g c = step_then _ _ _ _ _ _ _ _ c.in-None.ensures c.take_number-in-None.ensures

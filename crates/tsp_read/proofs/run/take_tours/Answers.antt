@@ -1,0 +1,11 @@
+-- The goals of `take_tours` in src/run.rt: what it ensures.
+use Rattle.std.proofs.Common.{refl}
+use Rattle.tsp_section.specs.declared.part.Part.TheVariants as parts
+use Rattle.tsp_read.proofs.RunSteps.{keeps_run, run_then}
+use Rattle.tsp_read.proofs.run.take_tours.Goals as goal
+
+pub returns : goal.returns
+returns c =
+    let kept = keeps_run (parts.Tours c.args.list.now) (parts.Tours c.gather-gathered.result.list) c.args.count c.args.text.now
+    (λ n words h. (refl, c.gather-gathered.ensures words h)) in
+    rw c.put_back.ensures (run_then _ _ _ _ _ _ _ _ _ kept c.take_gathered-gathered.ensures)
