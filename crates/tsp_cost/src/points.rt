@@ -30,6 +30,8 @@ pub struct Points<'a, P> {
 impl<'a, P: InSpace> Points<'a, P> {
     ghost use Rattle.std.specs.List.{All};
     ghost use Rattle.tsp_format.specs.Nodes.{IsNode};
+    ghost use Rattle.tsp_format.specs.Limits.{most_tour_nodes};
+    ghost use Rattle.tsp_theory.specs.Length.{length_of};
     ghost use Rattle.tsp_cost.specs.states.Views.{points_nodes, points_cost, points_place};
     ghost use Rattle.tsp_cost.specs.states.Ways.{ArePlaces, IsSumOfCosts, IsWayThrough};
 
@@ -55,7 +57,7 @@ impl<'a, P: InSpace> Points<'a, P> {
     }
 
     /// Looks up the point of a node, and those of a few others behind it.
-    #[inline]
+    #[inline(always)]
     fn look_up(&self, from: u32, nodes: &[u32], places: &mut [Point; BLOCK + 1])
         requires from { IsNode (points_nodes self.now) from }
         requires range { All (IsNode (points_nodes self.now)) nodes.now }
@@ -71,7 +73,7 @@ impl<'a, P: InSpace> Points<'a, P> {
     /// The sum of the costs from a node through a few others, and the last of these. Their points
     /// are written over those that are lent.
     // (the processor waits for several points at once, where they are looked up first)
-    #[inline]
+    #[inline(always)]
     fn through(&self, from: u32, nodes: &[u32], places: &mut [Point; BLOCK + 1]) -> (i64, u32)
         requires from { IsNode (points_nodes self.now) from }
         requires range { All (IsNode (points_nodes self.now)) nodes.now }
@@ -88,6 +90,45 @@ impl<'a, P: InSpace> Points<'a, P> {
             last = nodes[k];
         }
         (sum, last)
+    }
+
+    /// The length of a list of nodes, as [`Costs::length`] gives it.
+    // (in `length`, so that the compiler knows the metric where that does)
+    #[inline(always)]
+    fn along(&self, tour: &[u32]) -> i64
+        requires range { All (IsNode (points_nodes self.now)) tour.now }
+        requires size { length tour.now ≤ most_tour_nodes }
+        ensures { result ≡ length_of (points_cost P.place self.now) tour.now }
+    {
+        let Some((first, others)) = tour.split_first() else {
+            return 0;
+        };
+        let mut from = *first;
+        let mut rest = others;
+        let mut length = 0;
+        // (once, and not for each block: to clear and to move it takes time)
+        let mut places = [self.place(from); BLOCK + 1];
+        'parts: while !rest.is_empty() {
+            let (block, later) = rest.split_at(rest.len().min(BLOCK));
+            let (way, last) = self.through(from, block, &mut places);
+            length += way;
+            from = last;
+            rest = later;
+        }
+        length + self.cost(from, *first)
+    }
+
+    /// The same costs, by the metric that is theirs.
+    #[inline(always)]
+    fn with(&self, metric: Metric) -> Points<'a, P>
+        requires { metric ≡ self.now.metric }
+        ensures nodes { points_nodes result ≡ points_nodes self.now }
+        ensures costs { points_cost P.place result ≡ points_cost P.place self.now }
+    {
+        Points {
+            metric,
+            points: self.points,
+        }
     }
 }
 
@@ -124,22 +165,11 @@ impl<P: InSpace> Costs for Points<'_, P> {
     }
 
     fn length(&self, tour: &[u32]) -> i64 {
-        let Some((first, others)) = tour.split_first() else {
-            return 0;
-        };
-        let mut from = *first;
-        let mut rest = others;
-        let mut length = 0;
-        // (once, and not for each block: to clear and to move it takes time)
-        let mut places = [self.place(from); BLOCK + 1];
-        'parts: while !rest.is_empty() {
-            let (block, later) = rest.split_at(rest.len().min(BLOCK));
-            let (way, last) = self.through(from, block, &mut places);
-            length += way;
-            from = last;
-            rest = later;
+        // (a metric that is looked at for each pair took 16 instructions more)
+        match self.metric {
+            Metric::Euc2d => self.with(Metric::Euc2d).along(tour),
+            _ => self.along(tour),
         }
-        length + self.cost(from, *first)
     }
 }
 

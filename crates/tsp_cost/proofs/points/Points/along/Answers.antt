@@ -1,4 +1,4 @@
--- The goals of `PointsCosts::length` in src/points.rt: its loop, and what it ensures.
+-- The goals of `Points::along` in src/points.rt: its loop, and what it ensures.
 use Rattle.std.proofs.Common.{◌≡◌, ◌≤◌, ℕ, ◌+◌, ◌-◌, List, [], ◌∷◌, ◌++◌, length, sym, ap, subst, ◌∙◌, arith, to_z, take-append-drop}
 use Rattle.std.specs.Prelude.{ℤ, pos, ◌+ℤ◌}
 use Rattle.std.specs.Int.{w64}
@@ -13,7 +13,7 @@ use Rattle.tsp_theory.specs.Length.{length_of}
 use Rattle.tsp_cost.specs.states.Views.{points_nodes, points_cost}
 use Rattle.tsp_cost.specs.states.Ways.{length_to, IsSumOfCosts}
 use Rattle.tsp_cost.proofs.Ways.{sum_none, sum_both, sum_fits, cost_fits}
-use Rattle.tsp_cost.proofs.points.PointsCosts.length.Goals as goal
+use Rattle.tsp_cost.proofs.points.Points.along.Goals as goal
 
 pub parts-init : goal.parts-init
 parts-init g c =

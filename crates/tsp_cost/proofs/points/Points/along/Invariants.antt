@@ -1,4 +1,4 @@
--- The loop of `PointsCosts::length` in src/points.rt.
+-- The loop of `Points::along` in src/points.rt.
 use Rattle.std.proofs.Common.{◌≡◌, ◌+◌, ◌-◌, ◌≤◌, length}
 use Rattle.std.specs.Prelude.{◌+ℤ◌}
 use Rattle.std.specs.List.{All}
@@ -6,7 +6,7 @@ use Rattle.tsp_format.specs.Nodes.{IsNode}
 use Rattle.tsp_theory.specs.Length.{length_of}
 use Rattle.tsp_cost.specs.states.Views.{points_nodes, points_cost}
 use Rattle.tsp_cost.specs.states.Ways.{length_to, IsSumOfCosts}
-use Rattle.tsp_cost.proofs.points.PointsCosts.length.Given as goal
+use Rattle.tsp_cost.proofs.points.Points.along.Given as goal
 
 abbrev pub invariant-parts : goal.invariant-parts
 invariant-parts g l = record {

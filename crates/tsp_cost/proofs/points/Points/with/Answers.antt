@@ -1,0 +1,14 @@
+-- The goals of `Points::with` in src/points.rt: what it ensures.
+use Rattle.std.proofs.Common.{ℕ, List, map, ap}
+use Rattle.std.specs.Prelude.{ℤ}
+use Rattle.tsp_distance.specs.declared.decimal.Point.{Point}
+use Rattle.tsp_file.specs.Cost.{distance, point_of}
+use Rattle.tsp_cost.specs.declared.metric.Metric.{Metric}
+use Rattle.tsp_cost.specs.states.Metrics.{weight_kind_of}
+use Rattle.tsp_cost.proofs.points.Points.with.Goals as goal
+
+pub returns-clause-costs : goal.returns-clause-costs
+returns-clause-costs g c =
+    let places : List Point = map g.P.InSpace.place c.args.self.now.points.now in
+    let cost : Metric → ℕ → ℕ → ℤ = λ metric i j. distance (weight_kind_of metric) (point_of places i) (point_of places j) in
+    ap cost c.requires
