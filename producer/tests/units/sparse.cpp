@@ -165,6 +165,7 @@ TEST_CASE("sparse programs have the values of programs over a matrix") {
     SparseProgram program(problem, pool, tour, clock);
     program.add_candidates(all_pairs(nodes));
     std::vector<int> combs;
+    combs.reserve(kCombs.size());
     for (const auto& comb : kCombs) combs.push_back(pool.add_comb(comb));
     program.add_cuts(combs);
     SparseSeparation separation(problem, pool, program, 1);
@@ -254,9 +255,10 @@ TEST_CASE("a pass over the nodes at long edges visits clusters in a better order
   random.shuffle(clusters);
   Points points;
   for (const int cluster : clusters) {
+    const int left = cluster % 4 * 1000, low = cluster / 4 * 1000;
     for (int k = 0; k < 12; k++) {
-      points.x.push_back(1000 * (cluster % 4) + random.below(50));
-      points.y.push_back(1000 * (cluster / 4) + random.below(50));
+      points.x.push_back(left + random.below(50));
+      points.y.push_back(low + random.below(50));
       points.z.push_back(0);
     }
   }
