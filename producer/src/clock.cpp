@@ -1,29 +1,35 @@
 #include "clock.h"
 
+#include <atomic>
 #include <chrono>
 #include <csignal>
+#include <cstdint>
 #include <ctime>
 
 namespace certify {
 namespace {
-volatile std::sig_atomic_t first_signal = 0;
-timespec first_time{};  // of the signal; written once, before any later signal is looked at
+constexpr std::int64_t kSecond = 1000000000;  // in nanoseconds
+
+// Two threads may have a signal each at once.
+std::atomic<int> first_signal = 0;
+std::atomic<std::int64_t> first_time = 0;  // of a signal; 0 before it
+static_assert(std::atomic<int>::is_always_lock_free && std::atomic<std::int64_t>::is_always_lock_free);
 
 const auto program_start = std::chrono::steady_clock::now();
 
-double seconds_since_first() {
+std::int64_t monotonic_time() {
   timespec now{};
   clock_gettime(CLOCK_MONOTONIC, &now);
-  return static_cast<double>(now.tv_sec - first_time.tv_sec) +
-         static_cast<double>(now.tv_nsec - first_time.tv_nsec) * 1e-9;
+  return now.tv_sec * kSecond + now.tv_nsec;
 }
 
-// Both calls in it may be made by a handler of signals.
+// All calls in it may be made by a handler of signals.
 void note_signal(int signal) {
-  if (first_signal == 0) {
-    clock_gettime(CLOCK_MONOTONIC, &first_time);
+  const std::int64_t now = monotonic_time();
+  std::int64_t first = 0;
+  if (first_time.compare_exchange_strong(first, now)) {
     first_signal = signal;
-  } else if (seconds_since_first() > 1) {
+  } else if (now - first > kSecond) {
     std::signal(signal, SIG_DFL);
     std::raise(signal);
   }
