@@ -27,7 +27,7 @@ pub(crate) const MOST_NUMBER: i64 = 4_000_000_000_000_000_000;
 ///
 /// What two nodes cross of a set is 1 for each of them that it has, less 2 where it has both. So
 /// each multiplier is taken off the potentials of its sets' nodes, and a row needs besides these
-/// only the sets of its own node. Where rows without decisions are kept, they have these and the
+/// only the sets that hold its node. Where rows without decisions are kept, they have these and the
 /// costs.
 #[derive(Drop)]
 pub(crate) struct CombedWeights<'a, C: Costs> {

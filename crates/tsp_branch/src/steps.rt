@@ -12,7 +12,8 @@ const STEPS_OF_PAIR: u64 = 10;
 /// families. The bound is the same.
 ///
 /// By boxes a node meets some others, and each time its sets are compared with those of the other.
-/// By rows all pairs are looked at, and a row takes the nodes of the sets of its own node besides.
+/// By rows all pairs are looked at, and a row takes the nodes of the sets that hold its node
+/// besides.
 pub(crate) fn suit_boxes(by_node: &[Vec<SetPlace>], families: &[Vec<Vec<u32>>]) -> bool {
     let nodes = by_node.len() as u64;
     let rows = (STEPS_OF_PAIR / 2).saturating_mul(squared(nodes));
