@@ -50,6 +50,12 @@ pub trait BoxedWeights: Weights {
     /// Out of memory.
     fn order(&self, alloc: Global) -> Result<Vec<u32>, Refused>;
 
+    /// Whether the costs from a node are next to each other in memory, as a help alone: nothing is
+    /// promised of it.
+    fn has_rows(&self) -> bool {
+        false
+    }
+
     /// A region with the node's place, where it has one.
     fn region(&self, node: u32) -> Option<Region>
         requires { IsNode (Self.nodes self.now) node }

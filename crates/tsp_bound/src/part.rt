@@ -122,7 +122,8 @@ fn joined_over<W: BoxedWeights>(
 }
 
 /// The pairs of places of a least tree: over the boxes of the nodes, or by the least links of each
-/// where a node has no place.
+/// where a node has no place. None where that would take too many steps, or where a node has no
+/// place and rows are next to each other: a growth pair by pair is quicker then.
 fn pairs_over<W: BoxedWeights>(
     alloc: Global,
     w: &W,
@@ -142,6 +143,10 @@ fn pairs_over<W: BoxedWeights>(
 {
     if let Some(mut nodes) = Labelled::new(alloc, Placed::new(w, order, places))? {
         return grow_by_rounds(alloc, &mut nodes, most_boxes(w.count()));
+    }
+    // Where rows are near, the growth pair by pair is quicker than a list for each node.
+    if w.has_rows() {
+        return Ok(None);
     }
     let mut nodes = Listed::new(alloc, Placed::new(w, order, places), row)?;
     grow_by_rounds(alloc, &mut nodes, most_pairs(w.count()))

@@ -25,6 +25,10 @@ impl<C: Symmetric> Costs for Unplaced<'_, C> {
     fn cost(&self, i: u32, j: u32) -> i64 {
         self.costs.cost(i, j)
     }
+
+    fn has_rows(&self) -> bool {
+        self.costs.has_rows()
+    }
 }
 
 impl<C: Symmetric> Symmetric for Unplaced<'_, C> {

@@ -138,6 +138,10 @@ impl<C: Grouped> BoxedWeights for Weights<'_, C> {
         self.c.order(alloc)
     }
 
+    fn has_rows(&self) -> bool {
+        self.c.has_rows()
+    }
+
     #[inline]
     fn region(&self, node: u32) -> Option<Region> {
         self.c.region(node)

@@ -90,6 +90,10 @@ impl Costs for Matrix<'_> {
     fn cost(&self, i: u32, j: u32) -> i64 {
         self.weights[Layout::FullMatrix.place(self.nodes, i, j)]
     }
+
+    fn has_rows(&self) -> bool {
+        true
+    }
 }
 
 impl Costs for EvenMatrix<'_> {
@@ -107,6 +111,10 @@ impl Costs for EvenMatrix<'_> {
     #[inline]
     fn cost(&self, i: u32, j: u32) -> i64 {
         self.matrix.cost(i, j)
+    }
+
+    fn has_rows(&self) -> bool {
+        self.matrix.has_rows()
     }
 }
 

@@ -31,6 +31,12 @@ pub trait Costs {
         ensures low { neg_ℤ (pos most_weight) ≤ℤ result }
         ensures high { result ≤ℤ pos most_weight };
 
+    /// Whether the costs from a node are next to each other in memory, so that a whole row is read
+    /// at little more than the price of one cost. A help alone: nothing is promised of it.
+    fn has_rows(&self) -> bool {
+        false
+    }
+
     /// Writes the costs from a node to each into a row, each at the place of its node.
     ///
     /// # Requires
