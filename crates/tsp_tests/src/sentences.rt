@@ -71,7 +71,8 @@ fn layouts_and_devices_have_their_sentences(rt: HostRuntime) -> Result<(), Fail>
     same(
         &rt,
         relayout_sentence(RelayoutFault::DiagonalLost { i: 1 }),
-        "The layout lists no diagonal, and the weight from this node to itself isn't 0.\nFULL_MATRIX and the layouts with DIAG can hold it.",
+        "The layout lists no diagonal, and the weight from this node to itself isn't 0.\n\
+        FULL_MATRIX and the layouts with DIAG can hold it.",
     );
     same(
         &rt,

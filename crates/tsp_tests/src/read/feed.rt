@@ -47,12 +47,30 @@ const TOUR: &str = "TYPE : TOUR\nTOUR_SECTION\n1 2 3\n-1\nEOF\n";
 const CANONICAL_TOUR: &str = "TYPE : TOUR\nTOUR_SECTION\n1\n2\n3\n-1\nEOF\n";
 
 /// A rectangle.
-const RECTANGLE: &str =
-    "NAME : rectangle\nTYPE : TSP\nDIMENSION : 4\nEDGE_WEIGHT_TYPE : EUC_2D\nNODE_COORD_SECTION\n1 0 0\n2 3 0\n3 3 4\n4 0 4\nEOF\n";
+const RECTANGLE: &str = "\
+NAME : rectangle
+TYPE : TSP
+DIMENSION : 4
+EDGE_WEIGHT_TYPE : EUC_2D
+NODE_COORD_SECTION
+1 0 0
+2 3 0
+3 3 4
+4 0 4
+EOF
+";
 
 /// Three points in space, 3, 2 and 2 apart.
-const IN_SPACE: &str =
-    "TYPE : TSP\nDIMENSION : 3\nEDGE_WEIGHT_TYPE : EUC_3D\nNODE_COORD_SECTION\n1 0 0 0\n2 1 2 2\n3 0 0 2\nEOF\n";
+const IN_SPACE: &str = "\
+TYPE : TSP
+DIMENSION : 3
+EDGE_WEIGHT_TYPE : EUC_3D
+NODE_COORD_SECTION
+1 0 0 0
+2 1 2 2
+3 0 0 2
+EOF
+";
 
 /// Texts of a few lines, with their answers by hand.
 const EXAMPLES: &[Example] = &[
