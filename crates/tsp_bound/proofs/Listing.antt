@@ -75,7 +75,8 @@ known_taken n w link old_links old_bounds links bounds long as_many from_in (inr
           let below = put.below in
           omega (arith, ints, here, gone, below, less)
       | inr other ↦
-          let still : kept_at links x k ≡ kept_at old_links x k = ap (λ (ls : List Link). kept_at ls x k) put.links_is ∙ get_or-set_other old_links (12 * link.from + put.slot) (12 * x + k) link empty_link other in
+          let still : kept_at links x k ≡ kept_at old_links x k =
+          ap (λ (ls : List Link). kept_at ls x k) put.links_is ∙ get_or-set_other old_links (12 * link.from + put.slot) (12 * x + k) link empty_link other in
           unlisted k k_in (ap (λ (l : Link). l.to) still ∙ to_is) (ap (λ (l : Link). l.weight) still ∙ weight_is)
     ]) in
     omega (arith, ints, lower, old, less))
@@ -104,12 +105,14 @@ seen_more first last from next x y (inr (inr own)) = elim (cases_eq y next) [
 ]
 
 -- a pair more, in both directions
-pub listed_more : (n : ℕ) (w : ℕ → ℕ → ℤ) (first last from next : ℕ) (there back : Link) (old_links : List Link) (old_bounds : List ℤ) (some_links : List Link) (some_bounds : List ℤ) (links : List Link) (bounds : List ℤ)
+pub listed_more : (n : ℕ) (w : ℕ → ℕ → ℤ) (first last from next : ℕ) (there back : Link) (old_links : List Link) (old_bounds : List ℤ)
+    (some_links : List Link) (some_bounds : List ℤ) (links : List Link) (bounds : List ℤ)
     → length old_links ≡ 12 * n → length old_bounds ≡ n → length some_links ≡ 12 * n → length some_bounds ≡ n → from < n → next < n
     → there.from ≡ from → there.to ≡ next → there.weight ≡ w from next → back.from ≡ next → back.to ≡ from → back.weight ≡ w next from
     → IsTaken there old_links old_bounds some_links some_bounds → IsTaken back some_links some_bounds links bounds
     → AreOffered n w first last from next old_links old_bounds → AreOffered n w first last from (next + 1) links bounds
-listed_more n w first last from next there back old_links old_bounds some_links some_bounds links bounds long as_many some_long some_many from_in next_in t_from t_to t_weight b_from b_to b_weight taken after h =
+listed_more n w first last from next there back old_links old_bounds some_links some_bounds links bounds
+    long as_many some_long some_many from_in next_in t_from t_to t_weight b_from b_to b_weight taken after h =
     let t_in : there.from < n = subst (λ (i : ℕ). i < n) (sym t_from) from_in in
     let b_in : back.from < n = subst (λ (i : ℕ). i < n) (sym b_from) next_in in
     let t_is : there.weight ≡ w there.from there.to = rw (t_from, t_to) t_weight in

@@ -18,6 +18,13 @@ pub(crate) const KEPT: usize = 12;
 /// are read again by the next ones.
 const COLUMNS: usize = 256;
 
+/// The places of the columns that are passed at a time: those before `last`, from `first` on.
+#[derive(Clone, Copy)]
+struct Columns {
+    first: usize,
+    last: usize,
+}
+
 /// The heaviest of the twelve links from a place in the list on.
 pub(crate) fn heaviest(links: &[Link], first: usize) -> usize
     requires { first + 12 ≤ length links.now }
@@ -63,33 +70,34 @@ fn take(links: &mut [Link], bounds: &mut [i64], link: Link)
     }
 }
 
-/// Takes the links between a place and the later ones from `first` to `last`, in both directions.
+/// Takes the links between a place and the later ones in the columns, in both directions.
 fn take_row<W: BoxedWeights>(
     placed: &Placed<W>,
     row: &mut [i64],
     links: &mut [Link],
     bounds: &mut [i64],
     from: usize,
-    first: usize,
-    last: usize,
+    columns: Columns,
 )
     requires room { length row.old ≡ W.nodes placed.now.w.now + 1 }
     requires long { length links.old ≡ 12 * length bounds.old }
     requires as_many { length bounds.old ≡ length placed.now.order.now }
     requires even { (i j : ℕ) → W.at placed.now.w.now i j ≡ W.at placed.now.w.now j i }
-    requires from { from < last }
-    requires first { first ≤ last }
-    requires last { last ≤ length placed.now.order.now }
+    requires from { from < columns.last }
+    requires first { columns.first ≤ columns.last }
+    requires last { columns.last ≤ length placed.now.order.now }
     requires listed { AreOffered (length placed.now.order.now)
-        (weight_over (W.at placed.now.w.now) placed.now.order.now) first last from 0 links.old bounds.old }
+        (weight_over (W.at placed.now.w.now) placed.now.order.now)
+        columns.first columns.last from 0 links.old bounds.old }
     ensures { AreOffered (length placed.now.order.now)
-        (weight_over (W.at placed.now.w.now) placed.now.order.now) first last (from + 1) 0 links.new bounds.new }
+        (weight_over (W.at placed.now.w.now) placed.now.order.now)
+        columns.first columns.last (from + 1) 0 links.new bounds.new }
 {
-    let start = first.max(from + 1);
-    let (front, _) = placed.order.split_at(last);
+    let start = columns.first.max(from + 1);
+    let (front, _) = placed.order.split_at(columns.last);
     let (_, part) = front.split_at(start);
     placed.w.fill_at(placed.order[from], part, row);
-    'places: for place in start..last {
+    'places: for place in start..columns.last {
         let weight = weight_in(row, placed.order[place]);
         take(
             links,
@@ -112,28 +120,29 @@ fn take_row<W: BoxedWeights>(
     }
 }
 
-/// Takes the links of which the later place is from `first` to `last`.
+/// Takes the links of which the later place is in the columns.
 fn take_columns<W: BoxedWeights>(
     placed: &Placed<W>,
     row: &mut [i64],
     links: &mut [Link],
     bounds: &mut [i64],
-    first: usize,
-    last: usize,
+    columns: Columns,
 )
     requires room { length row.old ≡ W.nodes placed.now.w.now + 1 }
     requires long { length links.old ≡ 12 * length bounds.old }
     requires as_many { length bounds.old ≡ length placed.now.order.now }
     requires even { (i j : ℕ) → W.at placed.now.w.now i j ≡ W.at placed.now.w.now j i }
-    requires first { first ≤ last }
-    requires last { last ≤ length placed.now.order.now }
+    requires first { columns.first ≤ columns.last }
+    requires last { columns.last ≤ length placed.now.order.now }
     requires listed { AreOffered (length placed.now.order.now)
-        (weight_over (W.at placed.now.w.now) placed.now.order.now) first last 0 0 links.old bounds.old }
+        (weight_over (W.at placed.now.w.now) placed.now.order.now)
+        columns.first columns.last 0 0 links.old bounds.old }
     ensures { AreOffered (length placed.now.order.now)
-        (weight_over (W.at placed.now.w.now) placed.now.order.now) first last last 0 links.new bounds.new }
+        (weight_over (W.at placed.now.w.now) placed.now.order.now)
+        columns.first columns.last columns.last 0 links.new bounds.new }
 {
-    'rows: for from in 0..last {
-        take_row(placed, row, links, bounds, from, first, last);
+    'rows: for from in 0..columns.last {
+        take_row(placed, row, links, bounds, from, columns);
     }
 }
 
@@ -156,7 +165,7 @@ pub(crate) fn take_all<W: BoxedWeights>(
     let mut first = 0;
     'columns: while first < placed.order.len() {
         let last = placed.order.len().min(first + COLUMNS);
-        take_columns(placed, row, links, bounds, first, last);
+        take_columns(placed, row, links, bounds, Columns { first, last });
         first = last;
     }
 }

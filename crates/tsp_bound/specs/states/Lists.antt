@@ -52,4 +52,5 @@ IsSeen first last from next x y = (y < first) ⊎ (((y < last) × (x < from)) �
 
 pub record AreOffered (n : ℕ) (w : ℕ → ℕ → ℤ) (first last from next : ℕ) (links : List Link) (bounds : List ℤ) : Type 0 where
   pub own : (x k : ℕ) → x < n → k < 12 → IsOwnLink n w x (kept_at links x k)
-  pub known : (x y : ℕ) → x < y → y < n → IsSeen first last from next x y → IsKnown w links bounds x y × IsKnown w links bounds y x
+  pub known : (x y : ℕ) → x < y → y < n → IsSeen first last from next x y
+      → IsKnown w links bounds x y × IsKnown w links bounds y x

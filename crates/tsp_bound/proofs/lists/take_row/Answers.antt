@@ -24,15 +24,19 @@ places-preserved g c =
     let from_in : from < n = omega (arith, c.requires.from, c.requires.last) in
     let place_in : place < n = omega (arith, c.places-test.true, c.requires.last) in
     let k : ℕ = place - start in
-    let here : slice_index part k ≡ node_of order place = node_in_part order front part start c.args.last k c.split_at.ensures.front c.split_at-2.ensures.back (omega (arith, begun, c.places-test.true))
+    let last : ℕ = c.args.columns.last in
+    let here : slice_index part k ≡ node_of order place =
+    node_in_part order front part start last k c.split_at.ensures.front c.split_at-2.ensures.back (omega (arith, begun, c.places-test.true))
     ∙ ap (node_of order) (omega (arith, begun)) in
     let value : ℤ = to_z w64 (of_z w64 c.weight_in-weight.result) in
     let fits : SFits w64 c.weight_in-weight.result = search rules in
     let weight_is : value ≡ w from place = to_z-of_z w64 c.weight_in-weight.result fits ∙ (c.weight_in-weight.ensures
-    ∙ subst (λ (x : ℕ). least_at row x ≡ at (node_of order from) x) here (c.fill_at.ensures.values k (omega (arith, c.split_at.ensures.front_len, c.split_at-2.ensures.back_len, begun, c.places-test.true, c.requires.last)))) in
+    ∙ subst (λ (x : ℕ). least_at row x ≡ at (node_of order from) x) here (c.fill_at.ensures.values k
+    (omega (arith, c.split_at.ensures.front_len, c.split_at-2.ensures.back_len, begun, c.places-test.true, c.requires.last)))) in
     let there : Link = record { weight = value; from = from; to = place } in
     let back : Link = record { weight = value; from = place; to = from } in
-    listed_more n w c.args.first c.args.last from place there back c.places.links c.places.bounds c.take.new.links c.take.new.bounds c.take-in-places.new.links c.take-in-places.new.bounds
+    listed_more n w c.args.columns.first last from place there back c.places.links c.places.bounds c.take.new.links c.take.new.bounds
+    c.take-in-places.new.links c.take-in-places.new.bounds
     (omega (arith, c.places.auto.links, c.requires.long, c.requires.as_many)) (omega (arith, c.places.auto.bounds, c.requires.as_many))
     (omega (arith, c.take.auto.links, c.places.auto.links, c.requires.long, c.requires.as_many)) (omega (arith, c.take.auto.bounds, c.places.auto.bounds, c.requires.as_many))
     from_in place_in refl refl weight_is refl refl (weight_is ∙ c.requires.even (node_of order from) (node_of order place))
@@ -40,5 +44,6 @@ places-preserved g c =
 
 pub returns : goal.returns
 returns g c =
-    row_ended (length c.args.placed.now.order.now) (weight_over (g.W.Weights.at c.args.placed.now.w.now) c.args.placed.now.order.now) c.args.first c.args.last c.args.from c.places.place
+    row_ended (length c.args.placed.now.order.now) (weight_over (g.W.Weights.at c.args.placed.now.w.now) c.args.placed.now.order.now)
+    c.args.columns.first c.args.columns.last c.args.from c.places.place
     c.places.links c.places.bounds (omega (arith, c.places-test.false)) c.places.invariant

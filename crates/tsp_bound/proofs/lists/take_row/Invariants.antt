@@ -4,4 +4,5 @@ use Rattle.tsp_bound.specs.states.Lists.{weight_over, AreOffered}
 use Rattle.tsp_bound.proofs.lists.take_row.Given as goal
 
 abbrev pub invariant-places : goal.invariant-places
-invariant-places g l = AreOffered (length l.placed.order.now) (weight_over (g.W.Weights.at l.placed.w.now) l.placed.order.now) l.first l.last l.from l.place l.links l.bounds
+invariant-places g l = AreOffered (length l.placed.order.now) (weight_over (g.W.Weights.at l.placed.w.now) l.placed.order.now)
+    l.fn.columns.first l.fn.columns.last l.from l.place l.links l.bounds

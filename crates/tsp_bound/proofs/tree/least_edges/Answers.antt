@@ -40,7 +40,8 @@ returns g c =
     let first : FitsSigned w64 c.two_spokes.result.0.weight = search rules in
     let second : FitsSigned w64 c.two_spokes.result.1.weight = search rules in
     let computed = tree_computed two.result.0.weight two.result.1.weight grown.weight c.from.result c.from-2.result first second c.from.ensures c.from-2.ensures c.in_ok-grown.ensures.size in
-    let edges : c.in_ok-edges.edges.items ≡ tree_of two.result.0.node two.result.1.node grown.pairs.items = c.in_ok-edges.ensures ∙ ap (tree_of two.result.0.node two.result.1.node) c.deref.ensures.value in
+    let edges : c.in_ok-edges.edges.items ≡ tree_of two.result.0.node two.result.1.node grown.pairs.items =
+    c.in_ok-edges.ensures ∙ ap (tree_of two.result.0.node two.result.1.node) c.deref.ensures.value in
     let sums : (two.result.0.weight +ℤ two.result.1.weight) +ℤ grown.weight ≡ (w 1 two.result.0.node +ℤ w 1 two.result.1.node) +ℤ weight_of w grown.pairs.items =
     ap₂ (λ a b. a +ℤ b) (ap₂ (λ a b. a +ℤ b) two.ensures.first two.ensures.second) c.in_ok-grown.ensures.weight in
     record {
