@@ -55,6 +55,10 @@ impl<'a> ByNode<'a> {
         ensures said { result.now ≡ all_said_of node (triples_in self.now) }
         ensures sums { (x : ℕ) → lowered_by result.now x ≡ numbers_on (triples_in self.now) node x }
     {
+        // (a search over points then waits for no node's list)
+        if self.triples.is_empty() {
+            return &[];
+        }
         self.lists[node as usize].as_slice()
     }
 

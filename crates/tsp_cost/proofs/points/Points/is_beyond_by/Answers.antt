@@ -1,17 +1,19 @@
--- The goals of `PointsGrouped::is_beyond` in src/places.rt: what it ensures.
+-- The goals of `Points::is_beyond_by` in src/places.rt: what it ensures.
 use Rattle.std.proofs.Common.{ℤ, ◌≤ℤ◌, subst, w64}
 use Rattle.std.proofs.lemmas.Int.{to_z-of_z}
 use Rattle.tsp_distance.specs.declared.decimal.Point.{Point}
 use Rattle.tsp_file.specs.Cost.{distance}
+use Rattle.tsp_cost.specs.declared.metric.Metric.{Metric}
 use Rattle.tsp_cost.specs.states.Metrics.{weight_kind_of}
 use Rattle.tsp_cost.specs.states.Views.{points_place}
 use Rattle.tsp_cost.proofs.Growing.{distance_grows, at_least_further, known_true}
-use Rattle.tsp_cost.proofs.places.PointsGrouped.is_beyond.Goals as goal
+use Rattle.tsp_cost.proofs.points.Points.is_beyond_by.Goals as goal
 
 pub returns : goal.returns
 returns g c = known_true c.is_at_least.result _ (λ true_is to node inside.
     let laws = c.monotone_laws.ensures in
-    let kind = weight_kind_of c.args.self.now.metric in
+    let kind = weight_kind_of c.args.metric in
+    let own : Point = points_place g.P.InSpace.place c.args.self.now c.args.from in
     let here : Point = c.place-here.result in
     let there : Point = points_place g.P.InSpace.place c.args.self.now to in
     let nearest = c.nearest.result in
@@ -19,7 +21,8 @@ returns g c = known_true c.is_at_least.result _ (λ true_is to node inside.
     distance_grows laws.euc_2d laws.ceil_2d laws.man_2d laws.max_2d laws.att laws.euc_3d laws.man_3d laws.max_3d kind here nearest
     here there
     (c.nearest.ensures.across there inside) (c.nearest.ensures.along there inside) (c.nearest.ensures.above there inside) in
-    subst (λ (p : Point). c.args.least ≤ℤ distance kind p there) c.place-here.ensures
+    subst (λ (metric : Metric). c.args.least ≤ℤ distance (weight_kind_of metric) own there) c.requires.metric
+    (subst (λ (p : Point). c.args.least ≤ℤ distance kind p there) c.place-here.ensures
     (at_least_further c.args.least (distance kind here nearest) (distance kind here there)
     (subst (λ (z : ℤ). z ≤ℤ distance kind here nearest) (to_z-of_z w64 c.args.least c.ranges.least)
-    (c.is_at_least.ensures.0 true_is)) grows))
+    (c.is_at_least.ensures.0 true_is)) grows)))
