@@ -1,4 +1,4 @@
--- EUC_2D of ways that are whole numbers of 512ths.
+-- EUC_2D of ways that are whole numbers of steps, which are 512ths.
 use Rattle.std.proofs.Common.{◌≡◌, ℕ, ◌+◌, ◌*◌, ◌-◌, ◌<◌, ◌≤◌, ◌^◌, ℤ, pos, negsuc, ◌*ℤ◌, ◌-ℤ◌, unsigned_abs, FitsSigned, to_z, of_z, w64, sym, ap, ◌∙◌, Option, None, Some, rules, arith}
 use Rattle.std.specs.Prelude.{IfSome}
 use Rattle.std.proofs.lemmas.Int.{to_z-of_z, unsigned_abs-mul}
@@ -7,7 +7,7 @@ use Rattle.tsp_distance.specs.Decimal.{unit}
 use Rattle.tsp_distance.specs.Distances.{squared, across, along, square_apart, euc_2d_of, IsEuc2d, IsNearestRoot, IsDistance}
 use Rattle.tsp_cost.specs.states.Coarse.{RoundsTo}
 
--- the square of both ways, in counts of 10^-9
+-- the sum of both squares, in counts of 10^-9
 square_is : (w h : ℕ) → squared (w * 1953125) + squared (h * 1953125) ≡ (squared w + squared h) * 3814697265625
 square_is w h = omega arith
 

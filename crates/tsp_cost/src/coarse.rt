@@ -1,8 +1,8 @@
-//! EUC_2D by 64 bits, between points whose ways along the axes are whole numbers of 512ths, as of
-//! whole coordinates.
+//! EUC_2D in 64 bits, where the ways along the axes are whole numbers of 512ths, as those between
+//! whole coordinates are. Such a 512th is a step here.
 //!
-//! A 512th is 5^9 counts of 10^-9. So a way of k of them is k again where its count is multiplied by
-//! the inverse of 5^9, modulo 2^64. Of every other way this is no small number, or it is none.
+//! A step is 5^9 counts of 10^-9. So the count of k steps, multiplied by the inverse of 5^9 modulo
+//! 2^64, is k again. Of every other way the product is large.
 
 ghost use Rattle.std.specs.Prelude.{◌≡◌, ◌<◌, ◌≤◌, ◌≤ℤ◌, ◌*◌, ◌^◌, ◌*ℤ◌, ◌-ℤ◌, pos, IfSome, unsigned_abs};
 ghost use Rattle.tsp_distance.specs.Distances.{squared, euc_2d_of};
@@ -14,10 +14,10 @@ use tsp_distance::{Decimal, Point, distance_laws, euc_2d};
 /// The inverse of 5^9, modulo 2^64.
 const INVERSE: i64 = -8_194_354_213_138_031_507;
 
-/// The most 512ths of a way that is looked at.
+/// The most steps of a way that is measured so.
 const MOST_STEPS: i64 = 0x4000_0000;
 
-/// How many 512ths a way is, where it is a whole number of them, and not too many.
+/// How many steps a way is, where it is a whole number of them, and not too many.
 #[inline(always)]
 fn steps_of(way: i64) -> Option<i64>
     ensures { IfSome result (λ steps. (steps *ℤ pos 1953125 ≡ way) × (unsigned_abs steps ≤ 2 ^ 30)) }
@@ -29,7 +29,7 @@ fn steps_of(way: i64) -> Option<i64>
     Some(steps)
 }
 
-/// How many 512ths the way from one number to another is, in the same cases.
+/// How many steps it is from one number to another, in the same cases.
 #[inline(always)]
 fn steps_between(a: Decimal, b: Decimal) -> Option<i64>
     ensures { IfSome result (λ steps. (steps *ℤ pos 1953125 ≡ a -ℤ b) × (unsigned_abs steps ≤ 2 ^ 30)) }
@@ -58,7 +58,7 @@ fn half_root(square: u64) -> u64
     num::f64_to_bits_with_nan(near + 4_503_599_627_370_496.0) & 0x7fff_ffff
 }
 
-/// The root of a square of 512ths, rounded to the nearest whole number, where the estimate is right.
+/// The root of a square of steps, in whole numbers, to the nearest, where the estimate is right.
 #[inline(always)]
 fn nearest_root(square: u64) -> Option<u32>
     requires { square ≤ 2 ^ 61 }
@@ -75,7 +75,7 @@ fn nearest_root(square: u64) -> Option<u32>
     Some(root as u32)
 }
 
-/// The distance EUC_2D where both ways are whole numbers of 512ths, and not too many.
+/// The distance EUC_2D where each way is a whole number of steps, and not of too many.
 #[inline(always)]
 fn coarse_euc_2d(a: Point, b: Point) -> Option<u32>
     ensures { IfSome result (λ root. root ≡ euc_2d_of a b) }
