@@ -1,3 +1,4 @@
+pub mod CoarseRoots
 pub mod Growing
 pub mod Instances
 pub mod Problems

@@ -1,3 +1,4 @@
+pub mod Coarse
 pub mod Metrics
 pub mod Sources
 pub mod Views

@@ -9,6 +9,7 @@
 //! ```
 #![tactic(auto)]
 
+mod coarse;
 mod examples;
 mod fault;
 mod halves;

@@ -5,6 +5,7 @@ ghost use Rattle.tsp_format.specs.declared.kinds.WeightKind.TheVariants.{Explici
 ghost use Rattle.tsp_file.specs.Cost.{distance};
 ghost use Rattle.tsp_cost.specs.states.Metrics.{weight_kind_of};
 
+use crate::coarse::quick_euc_2d;
 use tsp_distance::{
     Point, att, ceil_2d, euc_2d, euc_3d, is_att_at_least, is_ceil_2d_at_least, is_euc_2d_at_least,
     is_euc_3d_at_least, man_2d, man_3d, max_2d, max_3d,
@@ -68,6 +69,20 @@ impl Metric {
             Metric::Euc3d => euc_3d(a, b),
             Metric::Man3d => man_3d(a, b),
             Metric::Max3d => max_3d(a, b),
+        }
+    }
+
+    /// The same of two points that come one after the other on a tour.
+    #[inline(always)]
+    #[tactic(auto, unfolding(tsp_file::specs::Cost::distance))]
+    pub(crate) fn onward(self, a: Point, b: Point) -> i64
+        ensures value { result ≡ distance (weight_kind_of self) a b }
+        ensures low { pos 0 ≤ℤ result }
+        ensures high { result ≤ℤ pos 6000000000 }
+    {
+        match self {
+            Metric::Euc2d => quick_euc_2d(a, b),
+            _ => self.between(a, b),
         }
     }
 

@@ -86,7 +86,7 @@ impl<'a, P: InSpace> Points<'a, P> {
         let mut last = from;
         let mut sum = 0;
         'nodes: for k in 0..nodes.len() {
-            sum += self.metric.between(places[k], places[k + 1]);
+            sum += self.metric.onward(places[k], places[k + 1]);
             last = nodes[k];
         }
         (sum, last)

@@ -68,6 +68,19 @@ mark_more nodes seen count fits free m = record {
         let wrong : true ≡ false = sym taken ∙ ap (λ k. get_or seen k false) same ∙ free in cc
     once_at place low (inr le) r = m.once place low le r
 
+-- one node more that is at most n
+pub small_next : (nodes : List ℕ) (n count : ℕ) → count < length nodes → get_or nodes count 0 ≤ n
+    → ((k d : ℕ) → k < count → get_or nodes k d ≤ n) → (k d : ℕ) → k < count + 1 → get_or nodes k d ≤ n
+small_next nodes n count inside small before k d below = by_cases (cases_lt k count)
+  where
+    by_cases : (k < count) ⊎ (count ≤ k) → get_or nodes k d ≤ n
+    by_cases (inl lt) = before k d lt
+    by_cases (inr le) =
+        let last : k ≡ count = omega (arith, below, le) in
+        let same : get_or nodes k d ≡ get_or nodes count 0 = ap (λ j. get_or nodes j d) last
+        ∙ get_or_default nodes count d 0 inside in
+        omega (arith, same, small)
+
 -- the next node is marked: it is the first that is repeated
 pub repeated_here : (nodes : List ℕ) (seen : List Bool) (count : ℕ) → count < length nodes
     → get_or seen (get_or nodes count 0) false ≡ true

@@ -94,6 +94,17 @@ none_up_to_fixed inst sol tour only none high once =
     after_repeats inst sol (none_up_to_repeats inst sol tour only none high)
     (λ place first. once_all place first.here.0 first.here.1 first.holds)
 
+-- where each node is at most n, and none repeated, the tour is a cycle, and reasons 1 to 8 are ruled out
+pub cycle_found : (inst sol : Fields) (tour : List ℕ) (n : ℕ) → tours_of sol ≡ tour ∷ [] → length tour ≡ nodes_of inst
+    → All (λ node. 1 ≤ node) tour → NoneOfTourBefore inst sol (NodeOutOfRange 1) → n ≡ nodes_of inst → All (λ node. node ≤ n) tour
+    → HoldsAtNone (IsAtEarlierPlace tour) (length tour)
+    → IsCycle (nodes_of inst) tour × NoneOfTourBefore inst sol (FixedEdgeUnused 1)
+cycle_found inst sol tour n only full low none n_is high once =
+    let high_all : All (λ node. node ≤ nodes_of inst) tour = subst (λ m. All (λ node. node ≤ m) tour) n_is high in (
+      is_cycle (nodes_of inst) tour full low high_all once,
+      none_up_to_fixed inst sol tour only none high_all once,
+    )
+
 -- the first fixed pair that isn't used
 pub unused_first : (inst sol : Fields) (tour : List ℕ) (directed : Bool) (pairs : List (ℕ × ℕ)) (index : ℕ)
     → tours_of sol ≡ tour ∷ [] → directed ≡ is_directed inst.kind → pairs ≡ fixed_of inst

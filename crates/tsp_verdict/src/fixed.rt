@@ -10,12 +10,39 @@ ghost use Rattle.tsp_verdict.specs.states.Next.{AreNext};
 use std::alloc::Global;
 use tsp_memory::{Refused, filled};
 
+/// The first fixed pair, counted from 1, that a cycle of n nodes doesn't use: as neighbours in
+/// either direction, or from its first to its second node alone.
+///
+/// # Errors
+///
+/// Out of memory for a number for each node, where a pair is fixed.
+pub(crate) fn first_unused_by(
+    alloc: Global,
+    cycle: &[u32],
+    n: u32,
+    fixed: &[(u32, u32)],
+    directed: bool,
+) -> Result<Option<u32>, Refused>
+    requires cycle { IsCycle n cycle.now }
+    requires size { length fixed.now < 2 ^ 32 }
+    requires range { All (IsPairOf n) fixed.now }
+    ensures { IfOk result (λ found. MatchOption found
+        (All (Uses directed cycle.now) fixed.now)
+        (λ index. IsFirstPlace (IsUnused directed cycle.now fixed.now) fixed.now index)) }
+{
+    if fixed.is_empty() {
+        return Ok(None);
+    }
+    let next = next_nodes(alloc, cycle, n)?;
+    Ok(first_unused(fixed, next.as_slice(), directed))
+}
+
 /// For each node of a cycle of n nodes the one that comes next, the first one after the last.
 ///
 /// # Errors
 ///
 /// Out of memory for a number for each node.
-pub(crate) fn next_nodes(alloc: Global, cycle: &[u32], n: u32) -> Result<Vec<u32>, Refused>
+fn next_nodes(alloc: Global, cycle: &[u32], n: u32) -> Result<Vec<u32>, Refused>
     requires { IsCycle n cycle.now }
     ensures { IfOk result (λ next. (vec_len next ≡ n + 1) × AreNext cycle.now next.items) }
 {
@@ -32,9 +59,8 @@ pub(crate) fn next_nodes(alloc: Global, cycle: &[u32], n: u32) -> Result<Vec<u32
     Ok(next)
 }
 
-/// The first fixed pair, counted from 1, that a cycle of n nodes doesn't use: as neighbours in
-/// either direction, or from its first to its second node alone.
-pub(crate) fn first_unused(fixed: &[(u32, u32)], next: &[u32], directed: bool) -> Option<u32>
+/// The same, by the node that comes next after each.
+fn first_unused(fixed: &[(u32, u32)], next: &[u32], directed: bool) -> Option<u32>
     requires size { length fixed.now < 2 ^ 32 }
     requires range { All (IsPairOf (length next.now - 1)) fixed.now }
     ensures { (cycle : List ℕ) → AreNext cycle next.now → MatchOption result

@@ -1,12 +1,42 @@
 //! The first places of a list of nodes at which something holds. Places count from 1.
 
 ghost use Rattle.std.specs.Prelude.{◌≡◌, ◌≢◌, ◌+◌, ◌^◌, ◌<◌, ◌≤◌, ℕ, List, length, vec_len, IfOk, MatchOption};
+ghost use Rattle.std.specs.Bool.{OnTrue};
 ghost use Rattle.std.specs.List.{All};
 ghost use Rattle.tsp_verdict.specs.states.Marks.{Marked, StandsAfter};
 ghost use Rattle.tsp_verdict.specs.Places.{IsFirstPlace, IsLarger, IsAt, IsAtEarlierPlace, HoldsAtNone};
 
 use std::alloc::Global;
 use tsp_memory::{Refused, filled};
+
+/// Whether each node is at most n and at one place alone. Where memory was refused, the answer is
+/// `false` too.
+// (one pass with no places: almost every list passes it, and of the others the place is sought)
+pub(crate) fn are_different(alloc: Global, nodes: &[u32], n: u32) -> bool
+    ensures { OnTrue result (All (λ node. node ≤ n) nodes.now
+        × HoldsAtNone (IsAtEarlierPlace nodes.now) (length nodes.now)) }
+{
+    match filled(alloc, false, n as usize + 1) {
+        Ok(mut seen) => mark_different(&mut seen, nodes, n),
+        Err(_) => false,
+    }
+}
+
+/// Marks nodes, and says whether each is at most n and was not marked before.
+fn mark_different(taken: &mut [bool], nodes: &[u32], n: u32) -> bool
+    requires size { length taken.old ≡ n + 1 }
+    requires fresh { Marked nodes.now taken.old 0 }
+    ensures { OnTrue result (All (λ node. node ≤ n) nodes.now
+        × HoldsAtNone (IsAtEarlierPlace nodes.now) (length nodes.now)) }
+{
+    'nodes: for node in nodes {
+        if *node > n || taken[*node as usize] {
+            return false;
+        }
+        taken[*node as usize] = true;
+    }
+    true
+}
 
 /// The first place whose node is larger than n.
 pub(crate) fn first_larger(nodes: &[u32], n: u32) -> Option<u32>

@@ -1,20 +1,21 @@
 //! The verdict on a tour.
 
-ghost use Rattle.std.specs.Prelude.{◌≡◌, ◌⊎◌, ◌<◌, ◌≤◌, [], ◌∷◌, length, Some, MatchResult};
+ghost use Rattle.std.specs.Prelude.{◌≡◌, ◌⊎◌, ◌<◌, ◌≤◌, [], ◌∷◌, length, Some, MatchOption, MatchResult};
 ghost use Rattle.std.specs.List.{All};
 ghost use Rattle.tsp_format.specs.declared.kinds.Kind.TheVariants as kinds;
 ghost use Rattle.tsp_cost.specs.ComputedProblems.{is_directed};
-ghost use Rattle.tsp_reason.specs.declared.verdict.Reason.TheVariants.{TourCount};
+ghost use Rattle.tsp_reason.specs.declared.verdict.Reason.TheVariants.{FixedEdgeUnused, TourCount};
 ghost use Rattle.tsp_draft.specs.Fields.{nodes_of};
 ghost use Rattle.tsp_verdict.specs.Solution.{tours_of};
 ghost use Rattle.tsp_verdict.specs.Tours.{NoneOfTourBefore, NoneOfTourBeforeNodes, IsFirstAgainstTour, NoneOfTourBeforeRepeats};
 ghost use Rattle.tsp_file.specs.Cost.{cost};
 ghost use Rattle.tsp_theory.specs.Costs.{IsFirstAsymmetric};
+ghost use Rattle.tsp_theory.specs.Cycle.{IsCycle};
 ghost use Rattle.tsp_verdict.specs.states.TourCosts.{AreTourCosts, IsLengthOf};
 ghost use Rattle.tsp_verdict.specs.states.RouteLists.{AreToursOf};
 
-use crate::fixed::{first_unused, next_nodes};
-use crate::places::{first_larger, first_repeated};
+use crate::fixed::first_unused_by;
+use crate::places::{are_different, first_larger, first_repeated};
 use std::alloc::Global;
 use tsp_cost::{Costs, EvenView, Instance, View, even_view, tour_length};
 use tsp_file::File;
@@ -53,16 +54,12 @@ pub(crate) fn length_after_files(
         Ok(tour) => tour,
         Err(reason) => return Ok(Err(reason)),
     };
-    let nodes = inst.count();
-    if let Some(place) = first_larger(tour, nodes) {
-        return Ok(Err(Reason::NodeOutOfRange { place }));
+    if let Some(reason) = first_against_nodes(alloc, inst, sol, tour)? {
+        return Ok(Err(reason));
     }
-    if let Some(place) = first_repeated(alloc, tour, nodes)? {
-        return Ok(Err(Reason::RepeatedNode { place }));
-    }
-    let next = next_nodes(alloc, tour, nodes)?;
+    let (nodes, fixed) = (inst.count(), inst.fixed());
     let directed = is_directed(inst.kind());
-    if let Some(index) = first_unused(inst.fixed(), next.as_slice(), directed) {
+    if let Some(index) = first_unused_by(alloc, tour, nodes, fixed, directed)? {
         return Ok(Err(Reason::FixedEdgeUnused { index }));
     }
     Ok(Ok(tour_length(inst, tour)))
@@ -85,6 +82,40 @@ fn the_tour<'a>(inst: &Instance, sol: &File, tours: &'a [Vec<u32>]) -> Result<&'
         return Err(Reason::TourLength);
     }
     Ok(tour.as_slice())
+}
+
+/// The first reason that the nodes of a tour show, whatever is fixed.
+///
+/// # Errors
+///
+/// Out of memory for a mark for each node.
+fn first_against_nodes(
+    alloc: Global,
+    inst: &Instance,
+    sol: &File,
+    tour: &[u32],
+) -> Result<Option<Reason>, Refused>
+    requires only { tours_of sol.now ≡ tour.now ∷ [] }
+    requires each { length tour.now ≡ nodes_of inst.now }
+    requires some { All (λ node. 1 ≤ node) tour.now }
+    requires before { NoneOfTourBeforeNodes inst.now sol.now }
+    ensures { MatchResult result
+        (λ found. MatchOption found (IsCycle (nodes_of inst.now) tour.now
+        × NoneOfTourBefore inst.now sol.now (FixedEdgeUnused 1))
+        (λ reason. IsFirstAgainstTour inst.now sol.now reason))
+        (λ refused. NoneOfTourBeforeRepeats inst.now sol.now) }
+{
+    let nodes = inst.count();
+    if are_different(alloc, tour, nodes) {
+        return Ok(None);
+    }
+    if let Some(place) = first_larger(tour, nodes) {
+        return Ok(Some(Reason::NodeOutOfRange { place }));
+    }
+    match first_repeated(alloc, tour, nodes)? {
+        Some(place) => Ok(Some(Reason::RepeatedNode { place })),
+        None => Ok(None),
+    }
 }
 
 /// The costs of an instance, or under TYPE TSP the first pair of nodes whose two costs differ.

@@ -17,7 +17,7 @@ nodes-preserved g c =
     let k : ℕ = c.nodes.k in
     let next : ℕ = slice_index_or c.args.nodes.now k 0 in
     let so_far : ℤ = to_z w64 c.nodes.sum-bits in
-    let paid : ℤ = c.between-sum.result in
+    let paid : ℤ = c.onward-sum.result in
     let behind : slice_index_or (c.args.from ∷ c.args.nodes.now) (k + 1) 0 ≡ next =
     ap (λ (i : ℕ). slice_index_or (c.args.from ∷ c.args.nodes.now) i 0) (add-one k) in
     let here : slice_index_or c.look_up.new.places k c.index-places-k.result ≡ place c.nodes.last =
@@ -25,11 +25,11 @@ nodes-preserved g c =
     ∙ ap place (sym c.nodes.invariant.here) in
     let there : slice_index_or c.look_up.new.places (k + 1) c.index-places-k-in-nodes.result ≡ place next =
     c.look_up.ensures.each (k + 1) c.index-places-k-in-nodes.result (omega (arith, c.nodes-test.true)) ∙ ap place behind in
-    let is : paid ≡ cost c.nodes.last next = c.between-sum.ensures.value
+    let is : paid ≡ cost c.nodes.last next = c.onward-sum.ensures.value
     ∙ ap₂ (distance (weight_kind_of c.args.self.now.metric)) here there in
     let few : k ≤ 1000000 = omega (arith, c.nodes-test.true, c.requires.few) in
-    let low : neg_ℤ (pos 1000000000000) ≤ℤ paid = omega (arith, ints, c.between-sum.ensures.low) in
-    let high : paid ≤ℤ pos 1000000000000 = omega (arith, ints, c.between-sum.ensures.high) in
+    let low : neg_ℤ (pos 1000000000000) ≤ℤ paid = omega (arith, ints, c.onward-sum.ensures.low) in
+    let high : paid ≤ℤ pos 1000000000000 = omega (arith, ints, c.onward-sum.ensures.high) in
     let fits = cost_fits so_far paid k few c.nodes.invariant.size low high in
     record {
       node = c.requires.range k 0 c.nodes-test.true;
