@@ -187,3 +187,9 @@ pub three_groups : (rest : ℕ) → 0 < rest % 1000
     → decimals 9 rest ≡ three_digits (rest / 1000000) ++ (three_digits (rest / 1000 % 1000) ++ decimals 3 (rest % 1000))
 three_groups rest some =
     decimals-first rest (omega arith) ∙ ap (λ ds. three_digits (rest / 1000000) ++ ds) (decimals-second rest some)
+
+pub nine_decimals : (rest : ℕ) → 0 < rest % 10
+    → decimals 9 rest ≡ three_digits (rest / 1000000) ++ (three_digits (rest / 1000 % 1000) ++ three_digits (rest % 1000))
+nine_decimals rest some =
+    three_groups rest (omega arith)
+    ∙ ap (λ ds. three_digits (rest / 1000000) ++ (three_digits (rest / 1000 % 1000) ++ ds)) (last_three (rest % 1000) (omega arith))

@@ -36,3 +36,22 @@ pub(crate) fn write_group(group: u32, block: &mut [u8], end: usize)
     write_pair(group % 100, block, end - 2);
     block[end - 3] = b'0' + (group / 100) as u8;
 }
+
+/// Writes the nine digits of a number below 10^9 so that they end at a place.
+#[inline(always)]
+pub(crate) fn write_nine(number: u32, block: &mut [u8], end: usize)
+    requires few { number < 1000000000 }
+    requires room { 9 ≤ end }
+    requires within { end ≤ length block.old }
+    ensures { drop (end - 9) block.new
+        ≡ three_digits (number / 1000000) ++ three_digits (number / 1000 % 1000)
+        ++ three_digits (number % 1000) ++ drop end block.old }
+{
+    let (eight, last) = (number / 10, number % 10);
+    let (high, low) = (eight / 10_000, eight % 10_000);
+    block[end - 1] = b'0' + last as u8;
+    write_pair(low % 100, block, end - 3);
+    write_pair(low / 100, block, end - 5);
+    write_pair(high % 100, block, end - 7);
+    write_pair(high / 100, block, end - 9);
+}

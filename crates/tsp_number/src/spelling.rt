@@ -6,7 +6,7 @@ ghost use Rattle.tsp_distance.specs.Decimal.{unit, most_count};
 ghost use Rattle.tsp_number.specs.NumberWord.{StandsFor};
 ghost use Rattle.tsp_number.specs.Spelling.{decimals, fraction_spelling, size_spelling, spelling};
 
-use crate::digits::{write_group, write_pair};
+use crate::digits::{write_group, write_nine, write_pair};
 use arrayvec::ArrayVec;
 use itoa::write_digits;
 use tsp_distance::{Decimal, UNIT};
@@ -52,6 +52,10 @@ fn write_decimals(rest: u32, block: &mut [u8], end: usize) -> usize
 {
     if rest % 1_000_000 == 0 {
         return write_last(rest / 1_000_000, block, end);
+    }
+    if rest % 10 > 0 {
+        write_nine(rest, block, end);
+        return end - 9;
     }
     if rest % 1000 == 0 {
         let start = write_last(rest / 1000 % 1000, block, end);

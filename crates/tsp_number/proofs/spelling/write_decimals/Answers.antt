@@ -1,7 +1,7 @@
 -- The goals of `write_decimals` in src/spelling.rt: where the decimals begin, and what they are.
 use Rattle.std.proofs.Common.{◌≡◌, ◌+◌, ◌-◌, ◌/◌, ◌%◌, ◌++◌, suc, ℕ, List, length, drop, ap, ◌∙◌, arith}
 use Rattle.tsp_number.specs.Spelling.{decimals, three_digits}
-use Rattle.tsp_number.proofs.Spellings.{decimals-zeros, two_groups, three_groups}
+use Rattle.tsp_number.proofs.Spellings.{decimals-zeros, two_groups, three_groups, nine_decimals}
 use Rattle.tsp_number.proofs.spelling.write_decimals.Goals as goal
 
 pub returns-then-rest-eq0-clause-start : goal.returns-then-rest-eq0-clause-start
@@ -11,6 +11,14 @@ returns-then-rest-eq0-clause-start c =
 pub returns-then-rest-eq0-clause-written : goal.returns-then-rest-eq0-clause-written
 returns-then-rest-eq0-clause-written c =
     rw (decimals-zeros c.args.rest c.requires.part (omega arith)) c.write_last.ensures.written
+
+pub returns-then-rest-gt0-clause-start : goal.returns-then-rest-gt0-clause-start
+returns-then-rest-gt0-clause-start c =
+    let long : length (decimals 9 c.args.rest) ≡ 9 = ap length (nine_decimals c.args.rest (omega arith)) in
+    omega (arith, long, c.requires.room)
+
+pub returns-then-rest-gt0-clause-written : goal.returns-then-rest-gt0-clause-written
+returns-then-rest-gt0-clause-written c = rw (nine_decimals c.args.rest (omega arith)) c.write_nine.ensures
 
 pub returns-then-rest-eq0-2-clause-start : goal.returns-then-rest-eq0-2-clause-start
 returns-then-rest-eq0-2-clause-start c =
