@@ -123,9 +123,9 @@ pub fn write_decimal(d: Decimal) -> ArrayVec<u8, 64>
     ensures stands { StandsFor result.items d }
     ensures short { array_vec_len result ≤ 21 }
 {
+    let mut text = ArrayVec::new();
     let mut block = [0; MOST_SPELLING];
     let start = write_spelling(d, &mut block, MOST_SPELLING);
-    let mut text = ArrayVec::new();
     text.try_extend_from_slice(&block[start..]).unwrap();
     text
 }
