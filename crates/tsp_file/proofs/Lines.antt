@@ -37,16 +37,6 @@ three_numbers a b c d e first second third h k l end =
     (carried_then b d e ((32 ∷ second) ++ ((32 ∷ third) ++ [])) line_end
     (carried_then b c d (32 ∷ second) ((32 ∷ third) ++ []) k (carried_then c d d (32 ∷ third) [] l (carried_none d))) end)
 
--- a line of four numbers
-pub four_numbers : (a b c d e f : Way) (first second third fourth : List ℕ) → Carried a b first → Carried b c (32 ∷ second)
-    → Carried c d (32 ∷ third) → Carried d e (32 ∷ fourth)
-    → Carried e f line_end → Carried a f (number_line first (second ∷ third ∷ fourth ∷ []))
-four_numbers a b c d e f first second third fourth h k l m end =
-    carried_then a b f first (((32 ∷ second) ++ ((32 ∷ third) ++ ((32 ∷ fourth) ++ []))) ++ line_end) h
-    (carried_then b e f ((32 ∷ second) ++ ((32 ∷ third) ++ ((32 ∷ fourth) ++ []))) line_end
-    (carried_then b c e (32 ∷ second) ((32 ∷ third) ++ ((32 ∷ fourth) ++ [])) k
-    (carried_then c d e (32 ∷ third) ((32 ∷ fourth) ++ []) l (carried_then d e e (32 ∷ fourth) [] m (carried_none e)))) end)
-
 -- no weights, and no line
 pub no_weights : (a : Way) (weights : List ℤ) → length weights ≡ 0 → Carried a a (weight_line weights)
 no_weights a [] empty = carried_none a

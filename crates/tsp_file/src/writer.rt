@@ -13,6 +13,7 @@ mod block;
 mod digits;
 mod keywords;
 mod matrix;
+mod points;
 mod sections;
 mod tree;
 

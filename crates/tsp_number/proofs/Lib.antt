@@ -9,3 +9,4 @@ pub mod DigitLanes
 pub mod EightDigits
 pub mod FrontNumbers
 pub mod Prefixes
+pub mod DigitPairs

@@ -1,5 +1,5 @@
 -- A text of a number means that number, and so reading it gives the number back.
-use Rattle.std.proofs.Common.{◌≡◌, ℕ, ◌+◌, ◌*◌, ◌/◌, ◌%◌, ◌^◌, ◌<◌, ◌≤◌, ◌==◌, Bool, true, false, List, [], ◌∷◌, ◌++◌, length, Result, Ok, ℤ, pos, negsuc, inl, inr, refl, arith, ap, sym, ◌∙◌, subst, suc, zero, unsigned_abs, pow-add, append-nil, length-append}
+use Rattle.std.proofs.Common.{◌≡◌, ℕ, ◌+◌, ◌-◌, ◌*◌, ◌/◌, ◌%◌, ◌^◌, ◌<◌, ◌≤◌, ◌==◌, Bool, true, false, List, [], ◌∷◌, ◌++◌, length, Result, Ok, ℤ, pos, negsuc, inl, inr, refl, arith, ap, sym, ◌∙◌, subst, suc, zero, unsigned_abs, pow-add, append-nil, length-append}
 use Rattle.std.proofs.Math.Nat.{pow-suc}
 use Rattle.std.proofs.lemmas.Bool.{cases_eq}
 use Rattle.std.proofs.lemmas.Bool.Decides.{nat_tests}
@@ -18,6 +18,7 @@ use Rattle.tsp_number.proofs.Reading.{to_signed}
 use Rattle.tsp_number.proofs.Scaling.{digits_value_after-is, digits_value-append, pow_above_zero}
 use Rattle.tsp_number.proofs.Spellings.{decimals-suc, decimals-none}
 use Rattle.tsp_number.proofs.WordLaws.{decimal_once}
+use lib.Signed.{le_z}
 
 -- ---- decimals
 
@@ -168,3 +169,21 @@ reads_spelling k most = (omega (arith, spelling_short k most), stands_for k most
 
 pub round_trip : (k : ℤ) (r : Result ℤ NumberFault) → unsigned_abs k ≤ most_count → ReadsDecimal (spelling k) r → r ≡ Ok k
 round_trip k r most reads = decimal_once (spelling k) r (Ok k) reads (reads_spelling k most)
+
+-- ---- the text of a negative number
+
+pub negative_text : (k : ℤ) (size : ℕ) → le_z (pos 0) k ≡ false → size ≡ unsigned_abs k
+    → spelling k ≡ minus ∷ (decimal (size / unit) ++ fraction_spelling (size % unit))
+negative_text (pos n) size below is = absurd (omega (arith, ints, below))
+negative_text (negsuc n) size below is = rw is refl
+
+-- where it begins
+pub negative_begins : (k : ℤ) (size start point end : ℕ) → le_z (pos 0) k ≡ false → unsigned_abs k ≤ most_count → size ≡ unsigned_abs k
+    → start + length (decimal (size / unit)) ≡ point → point + length (fraction_spelling (size % unit)) ≡ end → 21 ≤ end
+    → (1 ≤ start) × (start - 1 + length (spelling k) ≡ end)
+negative_begins k size start point end below most is whole fraction room =
+    let long : length (spelling k) ≡ suc (length (decimal (size / unit) ++ fraction_spelling (size % unit))) =
+    ap length (negative_text k size below is) in
+    let parts = length-append (decimal (size / unit)) (fraction_spelling (size % unit)) in
+    let short = spelling_short k most in
+    (omega (arith, long, parts, short), omega (arith, long, parts, short))

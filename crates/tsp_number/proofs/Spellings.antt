@@ -1,5 +1,5 @@
 -- The decimals of a part of a whole, digit by digit.
-use Rattle.std.proofs.Common.{◌≡◌, ℕ, ◌+◌, ◌*◌, ◌/◌, ◌%◌, ◌^◌, ◌<◌, ◌≤◌, [], ◌∷◌, ◌++◌, ◌==◌, ◌≢◌, inl, inr, false, zero, suc, refl, sym, ap, ◌∙◌, arith, append_assoc, pow-add, length}
+use Rattle.std.proofs.Common.{◌≡◌, ℕ, ◌+◌, ◌*◌, ◌/◌, ◌%◌, ◌^◌, ◌<◌, ◌≤◌, [], ◌∷◌, ◌++◌, ◌==◌, ◌≢◌, inl, inr, false, zero, suc, refl, sym, ap, ◌∙◌, arith, pow-add, length}
 use Rattle.std.proofs.Math.Nat.{pow-suc, div-div-eq-div-mul, add-mul-mod_self_right, add-mul-div_right, mod-eq_of_lt, div-one, mul-div-mul_right, mod-le, zero-mod}
 use Rattle.std.proofs.lemmas.Bool.Decides.{nat_tests}
 use Rattle.std.proofs.lemmas.Nat.{mod-mul-add, mul-le, mod_below, div_below, div-add-mod'}
@@ -175,3 +175,21 @@ pub decimals-second_zeros : (rest : ℕ) → rest % 1000 ≡ 0 → decimals 6 (r
 decimals-second_zeros rest none =
     let whole : rest % 1000000 ≡ rest / 1000 % 1000 * 10 ^ 3 = omega arith in
     ap (decimals 6) whole ∙ decimals-shift 3 6 3 (rest / 1000 % 1000) refl (omega arith)
+
+-- ---- where the last three are zeros, and where they aren't
+
+pub two_groups : (rest : ℕ) → rest % 1000 ≡ 0 → 0 < rest % 1000000
+    → decimals 9 rest ≡ three_digits (rest / 1000000) ++ decimals 3 (rest / 1000 % 1000)
+two_groups rest none some =
+    decimals-first rest some ∙ ap (λ ds. three_digits (rest / 1000000) ++ ds) (decimals-second_zeros rest none)
+
+pub three_groups : (rest : ℕ) → 0 < rest % 1000
+    → decimals 9 rest ≡ three_digits (rest / 1000000) ++ (three_digits (rest / 1000 % 1000) ++ decimals 3 (rest % 1000))
+three_groups rest some =
+    decimals-first rest (omega arith) ∙ ap (λ ds. three_digits (rest / 1000000) ++ ds) (decimals-second rest some)
+
+pub nine_decimals : (rest : ℕ) → 0 < rest % 10
+    → decimals 9 rest ≡ three_digits (rest / 1000000) ++ (three_digits (rest / 1000 % 1000) ++ three_digits (rest % 1000))
+nine_decimals rest some =
+    three_groups rest (omega arith)
+    ∙ ap (λ ds. three_digits (rest / 1000000) ++ (three_digits (rest / 1000 % 1000) ++ ds)) (last_three (rest % 1000) (omega arith))

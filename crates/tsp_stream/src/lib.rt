@@ -19,6 +19,6 @@ mod watched;
 pub use asked::{Gives, Takes};
 pub use examples::{examples_of_failed_writes, examples_of_fault_texts};
 pub use output::{WriteFault, send, write_text};
-pub use piece::{PIECE, Piece, hand_over, make_room, put, put_next_number, put_number};
+pub use piece::{PIECE, Piece, hand_over, put, put_next_number, put_number};
 pub use script::{Script, answers_go_through};
 pub use watched::Watched;

@@ -3,8 +3,7 @@
 //! A failure sticks: a writer that has failed gets nothing more, so that whoever adds to a text
 //! need not look at each outcome.
 
-ghost use Rattle.std.specs.Prelude.{◌≡◌, ◌≤◌, ◌+◌, [], ◌∷◌};
-ghost use Rattle.arrayvec.specs.ArrayVec.{array_vec_len};
+ghost use Rattle.std.specs.Prelude.{◌≡◌, [], ◌∷◌};
 ghost use Rattle.tsp_stream.specs.states.WriteProgress.{Puts};
 
 use crate::output::send;
@@ -27,19 +26,6 @@ pub fn hand_over<W: Write>(piece: &mut Piece, out: &mut Watched<W>)
 {
     send(out, piece.as_slice());
     piece.clear();
-}
-
-/// Ensures that the piece has capacity for this many bytes more, which are no more than a whole
-/// piece.
-#[inline(always)]
-pub fn make_room<W: Write>(piece: &mut Piece, out: &mut Watched<W>, count: usize)
-    requires { count ≤ 4096 }
-    ensures carried { Puts W.contents out.old piece.old out.new piece.new [] }
-    ensures room { array_vec_len piece.new + count ≤ 4096 }
-{
-    if piece.remaining_capacity() < count {
-        hand_over(piece, out);
-    }
 }
 
 /// Adds bytes to the text.

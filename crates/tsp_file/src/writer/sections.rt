@@ -4,18 +4,16 @@ ghost use Rattle.std.specs.Prelude.{◌≡◌, ◌+◌, ◌<◌, ◌^◌, [], �
 ghost use Rattle.std.specs.List.{flat_map};
 ghost use Rattle.std.specs.Fmt.{decimal, signed_decimal};
 ghost use Rattle.std.specs.Option.{option_map};
-ghost use Rattle.tsp_number.specs.Spelling.{spelling};
 ghost use Rattle.tsp_format.specs.Words.{field_word};
 ghost use Rattle.tsp_draft.specs.states.Drafts.{points_of};
 ghost use Rattle.tsp_file.specs.CanonicalText.{line_end, number_line, section_text, lines_by_node, node_list, pair_list, triple_list, coordinate_words, whole_number, optional};
 ghost use Rattle.tsp_stream.specs.states.WriteProgress.{Puts};
 
+use crate::writer::points::put_points;
 use std::io::Write;
-use tsp_distance::{Decimal, InSpace, Point};
 use tsp_draft::Coords;
 use tsp_format::{Field, Word};
-use tsp_number::push_decimal;
-use tsp_stream::{Piece, Watched, make_room, put, put_next_number, put_number};
+use tsp_stream::{Piece, Watched, put, put_next_number, put_number};
 
 /// Adds the line that opens a section.
 pub(crate) fn put_opening<W: Write>(piece: &mut Piece, out: &mut Watched<W>, field: Field)
@@ -32,38 +30,6 @@ fn put_number_line<W: Write>(piece: &mut Piece, out: &mut Watched<W>, node: usiz
 {
     put_number(piece, out, node);
     put_next_number(piece, out, number);
-    put(piece, out, b"\n");
-}
-
-/// The most bytes of a coordinate's text.
-const MOST_SPELLING: usize = 21;
-
-/// Adds a blank and a coordinate.
-fn put_coordinate<W: Write>(piece: &mut Piece, out: &mut Watched<W>, coordinate: Decimal)
-    ensures { Puts W.contents out.old piece.old out.new piece.new (32 ∷ spelling coordinate) }
-{
-    put(piece, out, b" ");
-    make_room(piece, out, MOST_SPELLING);
-    push_decimal(piece, coordinate);
-}
-
-/// Adds the line of a node and its coordinates, three in space and two in the plane.
-fn put_point_line<W: Write>(
-    piece: &mut Piece,
-    out: &mut Watched<W>,
-    node: usize,
-    point: Point,
-    spatial: bool,
-)
-    ensures { Puts W.contents out.old piece.old out.new piece.new
-        (number_line (decimal node) (coordinate_words spatial point)) }
-{
-    put_number(piece, out, node);
-    put_coordinate(piece, out, point.x);
-    put_coordinate(piece, out, point.y);
-    if spatial {
-        put_coordinate(piece, out, point.z);
-    }
     put(piece, out, b"\n");
 }
 
@@ -115,21 +81,6 @@ fn put_numbers<W: Write>(piece: &mut Piece, out: &mut Watched<W>, numbers: &[i64
 {
     'nodes: for (index, number) in numbers.iter().enumerate() {
         put_number_line(piece, out, index + 1, *number);
-    }
-}
-
-/// Adds a line for each node, in rising order, with its coordinates.
-fn put_points<W: Write, P: InSpace>(
-    piece: &mut Piece,
-    out: &mut Watched<W>,
-    points: &[P],
-    spatial: bool,
-)
-    ensures { Puts W.contents out.old piece.old out.new piece.new
-        (lines_by_node (coordinate_words spatial) (map P.place points.now)) }
-{
-    'nodes: for (index, point) in points.iter().enumerate() {
-        put_point_line(piece, out, index + 1, point.in_space(), spatial);
     }
 }
 

@@ -1,10 +1,10 @@
--- The loop of `put_points` in src/writer/sections.rt.
+-- The loop of `put_points` in src/writer/points.rt.
 use Rattle.std.proofs.Common.{take, map}
 use Rattle.std.specs.List.{flat_map, enumerate_from}
 use Rattle.std.specs.Fmt.{decimal}
 use Rattle.tsp_file.specs.CanonicalText.{number_line, coordinate_words}
 use Rattle.tsp_stream.specs.states.WriteProgress.{way_of, Carried}
-use Rattle.tsp_file.proofs.writer.sections.put_points.Given as goal
+use Rattle.tsp_file.proofs.writer.points.put_points.Given as goal
 
 abbrev pub invariant-nodes : goal.invariant-nodes
 invariant-nodes g l =

@@ -1,8 +1,8 @@
--- The goals of `write_pair` in src/writer/digits.rt: what it ensures.
+-- The goals of `write_pair` in src/digits.rt: what it ensures.
 use Rattle.std.proofs.Common.{◌≡◌, ◌+◌, ◌%◌, set, arith, length-set}
 use Rattle.std.proofs.lemmas.List.{set_comm, drop-set}
-use Rattle.tsp_file.proofs.Digits.{PAIRS_at}
-use Rattle.tsp_file.proofs.writer.digits.write_pair.Goals as goal
+use Rattle.tsp_number.proofs.DigitPairs.{PAIRS_at}
+use Rattle.tsp_number.proofs.digits.write_pair.Goals as goal
 
 pub returns : goal.returns
 returns c =

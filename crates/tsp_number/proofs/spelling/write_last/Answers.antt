@@ -1,0 +1,43 @@
+-- The goals of `write_last` in src/spelling.rt: where the decimals begin, and what they are.
+use Rattle.std.proofs.Common.{◌≡◌, ◌+◌, ◌-◌, ◌/◌, ◌%◌, ◌∷◌, ℕ, List, length, drop, ap, ◌∙◌, arith}
+use Rattle.std.proofs.lemmas.List.{drop-set}
+use Rattle.tsp_number.specs.Spelling.{decimals}
+use Rattle.tsp_number.proofs.Spellings.{last_three, last_two, last_one}
+use Rattle.tsp_number.proofs.spelling.write_last.Goals as goal
+
+pub returns-then-group-gt0-clause-start : goal.returns-then-group-gt0-clause-start
+returns-then-group-gt0-clause-start c =
+    let long : length (decimals 3 c.args.group) ≡ 3 = ap length (last_three c.args.group (omega arith)) in
+    omega (arith, long, c.requires.room)
+
+pub returns-then-group-gt0-clause-written : goal.returns-then-group-gt0-clause-written
+returns-then-group-gt0-clause-written c = rw (last_three c.args.group (omega arith)) c.write_group.ensures
+
+pub returns-then-group-gt0-2-clause-start : goal.returns-then-group-gt0-2-clause-start
+returns-then-group-gt0-2-clause-start c =
+    let long : length (decimals 3 c.args.group) ≡ 2 = ap length (last_two c.args.group (omega arith) (omega arith)) in
+    omega (arith, long, c.requires.room)
+
+pub returns-then-group-gt0-2-clause-written : goal.returns-then-group-gt0-2-clause-written
+returns-then-group-gt0-2-clause-written c =
+    let group : ℕ = c.args.group in
+    let old : List ℕ = c.args.block.now in
+    let first : group / 10 / 10 ≡ group / 100 = omega arith in
+    let end : c.args.end - 2 + 2 ≡ c.args.end = omega (arith, c.requires.room) in
+    rw (last_two group (omega arith) (omega arith))
+    (c.write_pair.ensures ∙ ap (λ (d : ℕ). (48 + d) ∷ (48 + group / 10 % 10) ∷ drop (c.args.end - 2 + 2) old) first
+    ∙ ap (λ (k : ℕ). (48 + group / 100) ∷ (48 + group / 10 % 10) ∷ drop k old) end)
+
+pub returns-clause-start : goal.returns-clause-start
+returns-clause-start c =
+    let long : length (decimals 3 c.args.group) ≡ 1 = ap length (last_one c.args.group (omega arith) (omega arith)) in
+    omega (arith, long, c.requires.room)
+
+pub returns-clause-written : goal.returns-clause-written
+returns-clause-written c =
+    let group : ℕ = c.args.group in
+    let old : List ℕ = c.args.block.now in
+    let end : c.args.end - 1 + 1 ≡ c.args.end = omega (arith, c.requires.room) in
+    rw (last_one group (omega arith) (omega arith))
+    (drop-set old (c.args.end - 1) (48 + group / 100) (omega (arith, c.requires.room, c.requires.within))
+    ∙ ap (λ (k : ℕ). (48 + group / 100) ∷ drop k old) end)
