@@ -172,7 +172,8 @@ number_nodes low high n [] = refl
 number_nodes low high n (pair ∷ pairs) = ap (λ (nodes : List ℤ). number (node n pair.0) ∷ nodes) (number_nodes low high n pairs)
 
 point_nodes : (n : ℕ) (triples : List (List ℕ × List ℕ × List ℕ))
-    → nodes_of_groups (map (λ (group : List ℕ × List ℕ × List ℕ). (number (node n group.0), point_in_words group.1 group.2)) triples) ≡ nodes_read n (map (λ (group : List ℕ × List ℕ × List ℕ). group.0) triples)
+    → nodes_of_groups (map (λ (group : List ℕ × List ℕ × List ℕ). (number (node n group.0), point_in_words group.1 group.2)) triples)
+    ≡ nodes_read n (map (λ (group : List ℕ × List ℕ × List ℕ). group.0) triples)
 point_nodes n [] = refl
 point_nodes n (triple ∷ triples) = ap (λ (nodes : List ℤ). number (node n triple.0) ∷ nodes) (point_nodes n triples)
 
