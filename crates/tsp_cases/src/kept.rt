@@ -51,12 +51,16 @@ impl KeptRows {
     ghost use Rattle.tsp_cases.specs.states.Decided.{IsDecision, IsNextStack, marks_in, stack_of};
     ghost use Rattle.tsp_cases.specs.states.Kept.{HoldsRows, AreTwoNodes, added_between};
 
-    /// The rows where all multipliers are 0, under the given decisions.
+    /// The rows where all multipliers are 0, under the given decisions, if they are to be kept.
     ///
     /// # Errors
     ///
     /// Out of memory, where there is none for a number of each comb and each node.
-    pub(crate) fn new<C: Costs>(alloc: Global, setting: &Setting<C>) -> Result<KeptRows, Refused>
+    pub(crate) fn new<C: Costs>(
+        alloc: Global,
+        setting: &Setting<C>,
+        are_kept: bool,
+    ) -> Result<KeptRows, Refused>
         ensures { IfOk result (HoldsRows (C.nodes setting.now.costs.now) (length setting.now.families.now.crossed.items)
             setting.now.cases.now.scale (lent_in setting.now.families.now) (C.at setting.now.costs.now)
             (marks_in setting.now.cases.now.directed setting.now.cases.now.given.now)) }
@@ -66,7 +70,7 @@ impl KeptRows {
         let differences = filled(alloc, 0, combs)?;
         let ends = filled(alloc, 0, setting.costs.count() as usize + 1)?;
         let mut kept = KeptRows {
-            rows: rows_if_any(alloc, setting),
+            rows: rows_if_any(alloc, setting, are_kept),
             ends,
             multipliers,
             differences,
@@ -196,13 +200,13 @@ impl KeptRows {
     }
 }
 
-/// The rows of all nodes without combs; none where the tree is a leaf, there are too many nodes, or
-/// no memory is left.
-fn rows_if_any<C: Costs>(alloc: Global, setting: &Setting<C>) -> Vec<Vec<i64>>
+/// The rows of all nodes without combs; none where they aren't to be kept, there are too many
+/// nodes, or no memory is left.
+fn rows_if_any<C: Costs>(alloc: Global, setting: &Setting<C>, are_kept: bool) -> Vec<Vec<i64>>
     ensures { AreRowsIfAny (C.nodes setting.now.costs.now) (C.at setting.now.costs.now)
         (λ i x. setting.now.cases.now.scale *ℤ C.at setting.now.costs.now i x) result.items }
 {
-    if setting.cases.steps.len() <= 1 || setting.costs.count() > MOST_KEPT {
+    if !are_kept || setting.costs.count() > MOST_KEPT {
         return Vec::new(alloc);
     }
     match rows_of(alloc, setting) {
