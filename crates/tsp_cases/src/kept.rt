@@ -5,7 +5,9 @@ ghost use Rattle.std.specs.Int.{w64, int_wrap};
 ghost use Rattle.std.specs.Global.{Vec};
 ghost use Rattle.std.specs.List.{All};
 ghost use Rattle.tsp_format.specs.Nodes.{IsNode};
+ghost use Rattle.tsp_theory.specs.CertificateNumbers.{IsFromTo};
 ghost use Rattle.tsp_theory.specs.states.Nearest.{least_at};
+ghost use Rattle.tsp_cases.specs.Decisions.{decided_number};
 ghost use Rattle.tsp_cases.specs.states.Places.{IsPlaceIn};
 ghost use Rattle.tsp_cases.specs.states.Lent.{lent_in};
 ghost use Rattle.tsp_cases.specs.states.Combed.{AreSmallDifferences};
@@ -120,7 +122,7 @@ impl KeptRows {
             → HoldsRows n combs scale families cost (marks_in false (decision ∷ case)) self.old → IsDecision n decision
             → HoldsRows n combs scale families cost (marks_in false case) self.new }
     {
-        self.add_between(decision.pair, number_back(decision));
+        self.add_between(decision.pair, -number_of(decision));
     }
 
     /// Leaves a leaf for the next open case, as the stack of decisions does: the marks after the
@@ -275,16 +277,10 @@ fn add_to_rows(rows: &mut [Vec<i64>], by_node: &[Vec<SetPlace>], multiplied: &Mu
 
 /// What a decision adds to the weight of its pair.
 fn number_of(decision: Decision) -> i64
-    ensures { result ≡ signed decision.taken }
+    ensures value { result ≡ signed decision.taken }
+    ensures size { IsFromTo (neg_ℤ decided_number) decided_number result }
 {
     if decision.taken { -DECIDED } else { DECIDED }
-}
-
-/// What takes that back.
-fn number_back(decision: Decision) -> i64
-    ensures { result ≡ neg_ℤ (signed decision.taken) }
-{
-    if decision.taken { DECIDED } else { -DECIDED }
 }
 
 /// Adds a number to the row of a node, at the place of another.
