@@ -19,6 +19,7 @@ use crate::case_leaf::CaseLeaf;
 use crate::judged::{JudgedLeaf, JudgedLeaves};
 use crate::leaf_case::LeafCase;
 use crate::placed_costs::PlacedCosts;
+use crate::steps::keeps_rows;
 use std::alloc::Global;
 use tsp_cases::{
     Cases, Decision, Families, Multipliers, OpenCase, Room, Setting, add_differences,
@@ -90,7 +91,7 @@ fn judge_leaves<C: PlacedCosts>(
     ensures size { IfOk result AreSizedLeaves }
 {
     let cases = setting.cases;
-    let mut room = Room::new(alloc, setting)?;
+    let mut room = Room::new(alloc, setting, keeps_rows(setting))?;
     let mut case = OpenCase::new(alloc, cases.nodes, cases.directed, cases.given)?;
     let mut lowest = None;
     let mut leaf = 0;

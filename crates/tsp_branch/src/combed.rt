@@ -106,7 +106,7 @@ impl<'a, C: Costs> CombedWeights<'a, C> {
         }
     }
 
-    /// Whether boxes seem to take no more steps than rows.
+    /// Whether boxes seem to take no more time than rows that aren't kept.
     pub(crate) fn suit_boxes(&self) -> bool {
         suit_boxes(self.by_node, self.families.lent)
     }

@@ -5,7 +5,9 @@ ghost use Rattle.std.specs.Int.{w64, int_wrap};
 ghost use Rattle.std.specs.Global.{Vec};
 ghost use Rattle.std.specs.List.{All};
 ghost use Rattle.tsp_format.specs.Nodes.{IsNode};
+ghost use Rattle.tsp_theory.specs.CertificateNumbers.{IsFromTo};
 ghost use Rattle.tsp_theory.specs.states.Nearest.{least_at};
+ghost use Rattle.tsp_cases.specs.Decisions.{decided_number};
 ghost use Rattle.tsp_cases.specs.states.Places.{IsPlaceIn};
 ghost use Rattle.tsp_cases.specs.states.Lent.{lent_in};
 ghost use Rattle.tsp_cases.specs.states.Combed.{AreSmallDifferences};
@@ -51,12 +53,16 @@ impl KeptRows {
     ghost use Rattle.tsp_cases.specs.states.Decided.{IsDecision, IsNextStack, marks_in, stack_of};
     ghost use Rattle.tsp_cases.specs.states.Kept.{HoldsRows, AreTwoNodes, added_between};
 
-    /// The rows where all multipliers are 0, under the given decisions.
+    /// The rows where all multipliers are 0, under the given decisions, if they are to be kept.
     ///
     /// # Errors
     ///
     /// Out of memory, where there is none for a number of each comb and each node.
-    pub(crate) fn new<C: Costs>(alloc: Global, setting: &Setting<C>) -> Result<KeptRows, Refused>
+    pub(crate) fn new<C: Costs>(
+        alloc: Global,
+        setting: &Setting<C>,
+        are_kept: bool,
+    ) -> Result<KeptRows, Refused>
         ensures { IfOk result (HoldsRows (C.nodes setting.now.costs.now) (length setting.now.families.now.crossed.items)
             setting.now.cases.now.scale (lent_in setting.now.families.now) (C.at setting.now.costs.now)
             (marks_in setting.now.cases.now.directed setting.now.cases.now.given.now)) }
@@ -66,7 +72,7 @@ impl KeptRows {
         let differences = filled(alloc, 0, combs)?;
         let ends = filled(alloc, 0, setting.costs.count() as usize + 1)?;
         let mut kept = KeptRows {
-            rows: rows_if_any(alloc, setting),
+            rows: rows_if_any(alloc, setting, are_kept),
             ends,
             multipliers,
             differences,
@@ -116,7 +122,7 @@ impl KeptRows {
             → HoldsRows n combs scale families cost (marks_in false (decision ∷ case)) self.old → IsDecision n decision
             → HoldsRows n combs scale families cost (marks_in false case) self.new }
     {
-        self.add_between(decision.pair, number_back(decision));
+        self.add_between(decision.pair, -number_of(decision));
     }
 
     /// Leaves a leaf for the next open case, as the stack of decisions does: the marks after the
@@ -196,13 +202,13 @@ impl KeptRows {
     }
 }
 
-/// The rows of all nodes without combs; none where the tree is a leaf, there are too many nodes, or
-/// no memory is left.
-fn rows_if_any<C: Costs>(alloc: Global, setting: &Setting<C>) -> Vec<Vec<i64>>
+/// The rows of all nodes without combs; none where they aren't to be kept, there are too many
+/// nodes, or no memory is left.
+fn rows_if_any<C: Costs>(alloc: Global, setting: &Setting<C>, are_kept: bool) -> Vec<Vec<i64>>
     ensures { AreRowsIfAny (C.nodes setting.now.costs.now) (C.at setting.now.costs.now)
         (λ i x. setting.now.cases.now.scale *ℤ C.at setting.now.costs.now i x) result.items }
 {
-    if setting.cases.steps.len() <= 1 || setting.costs.count() > MOST_KEPT {
+    if !are_kept || setting.costs.count() > MOST_KEPT {
         return Vec::new(alloc);
     }
     match rows_of(alloc, setting) {
@@ -271,16 +277,10 @@ fn add_to_rows(rows: &mut [Vec<i64>], by_node: &[Vec<SetPlace>], multiplied: &Mu
 
 /// What a decision adds to the weight of its pair.
 fn number_of(decision: Decision) -> i64
-    ensures { result ≡ signed decision.taken }
+    ensures value { result ≡ signed decision.taken }
+    ensures size { IsFromTo (neg_ℤ decided_number) decided_number result }
 {
     if decision.taken { -DECIDED } else { DECIDED }
-}
-
-/// What takes that back.
-fn number_back(decision: Decision) -> i64
-    ensures { result ≡ neg_ℤ (signed decision.taken) }
-{
-    if decision.taken { DECIDED } else { -DECIDED }
 }
 
 /// Adds a number to the row of a node, at the place of another.

@@ -26,12 +26,17 @@ impl Room {
     ghost use Rattle.tsp_cases.specs.states.Kept.{HoldsRows};
     ghost use Rattle.tsp_cases.specs.states.Rooms.{IsRoom};
 
-    /// Memory for the leaves of a setting, where all numbers are 0.
+    /// Memory for the leaves of a setting, where all numbers are 0. Rows are in it if they are to
+    /// be kept, and there aren't too many nodes.
     ///
     /// # Errors
     ///
     /// Out of memory.
-    pub fn new<C: Costs>(alloc: Global, setting: &Setting<C>) -> Result<Room, Refused>
+    pub fn new<C: Costs>(
+        alloc: Global,
+        setting: &Setting<C>,
+        are_kept: bool,
+    ) -> Result<Room, Refused>
         ensures room { IfOk result (IsRoom (C.nodes setting.now.costs.now) (length setting.now.families.now.crossed.items)) }
         ensures kept { IfOk result (λ room. HoldsRows (C.nodes setting.now.costs.now)
             (length setting.now.families.now.crossed.items) setting.now.cases.now.scale
@@ -48,7 +53,7 @@ impl Room {
             multipliers: filled(alloc, 0, combs)?,
             row: filled(alloc, 0, nodes + 1)?,
             moved: filled(alloc, 0, nodes + 1)?,
-            kept: KeptRows::new(alloc, setting)?,
+            kept: KeptRows::new(alloc, setting, are_kept)?,
         })
     }
 }

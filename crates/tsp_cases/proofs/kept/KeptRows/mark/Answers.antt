@@ -18,6 +18,6 @@ returns-then-directed c = λ n combs scale families cost case held pair.
 pub returns : goal.returns
 returns c = λ n combs scale families cost case held pair.
     let fits : FitsSigned w64 c.number_of.result = search rules in
-    let is = to_z-of_z w64 c.number_of.result fits ∙ c.number_of.ensures in
+    let is = to_z-of_z w64 c.number_of.result fits ∙ c.number_of.ensures.value in
     same_marks n combs scale families cost _ _ _ (λ i x. decision_more c.args.directed c.args.decision case (to_z w64 (of_z w64 c.number_of.result)) i x c.if-directed.false is)
     (c.add_between.ensures n combs scale families cost (marks_in c.args.directed case) held pair)

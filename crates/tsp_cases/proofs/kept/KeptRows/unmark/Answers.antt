@@ -1,8 +1,9 @@
 -- The goals of `KeptRows::unmark` in src/kept.rt: what its calls require and what it ensures.
-use Rattle.std.proofs.Common.{◌∷◌, ◌∙◌, false, rules, FitsSigned, to_z, of_z}
+use Rattle.std.proofs.Common.{◌≡◌, ◌∷◌, ℤ, false, arith, to_z, of_z}
 use Rattle.std.specs.Int.{w64}
-use Rattle.std.proofs.lemmas.Int.{to_z-of_z}
-use Rattle.tsp_cases.specs.states.Decided.{marks_in}
+use Rattle.std.specs.Prelude.{pos, neg_ℤ, ◌-ℤ◌}
+use Rattle.std.proofs.lemmas.Int.{ints}
+use Rattle.tsp_cases.specs.states.Decided.{marks_in, signed}
 use Rattle.tsp_cases.proofs.MarkedRows.{same_marks, decision_less}
 use Rattle.tsp_cases.proofs.kept.KeptRows.unmark.Goals as goal
 
@@ -13,7 +14,8 @@ add_between-requires c =
 
 pub returns : goal.returns
 returns c = λ n combs scale families cost case held pair.
-    let fits : FitsSigned w64 c.number_back.result = search rules in
-    let is = to_z-of_z w64 c.number_back.result fits ∙ c.number_back.ensures in
-    same_marks n combs scale families cost _ _ _ (λ i x. decision_less c.args.decision case (to_z w64 (of_z w64 c.number_back.result)) i x is)
+    let own = c.number_of.ensures in
+    let number : ℤ = to_z w64 (of_z w64 (pos 0 -ℤ to_z w64 (of_z w64 c.number_of.result))) in
+    let is : number ≡ neg_ℤ (signed c.args.decision.taken) = omega (arith, ints, own.value, own.size.0, own.size.1) in
+    same_marks n combs scale families cost _ _ _ (λ i x. decision_less c.args.decision case number i x is)
     (c.add_between.ensures n combs scale families cost (marks_in false (c.args.decision ∷ case)) held pair)
