@@ -34,8 +34,9 @@ const MOST_KEPT: u32 = 2_000;
 /// For each node a row: its costs at the scale, each with what the sets of both nodes add, and
 /// where pairs have no direction with the number of a decision on both. Leaves share them, since a
 /// leaf mostly changes potentials alone, of which nothing is in the rows. A decision is marked
-/// once, at its branch, and taken back where its case ends. There are none where there are too
-/// many nodes. And by node what the multipliers of its sets take off its potential.
+/// once, at its branch, and taken back where its case ends. There are none where
+/// boxes take less time, or there are too many nodes. And by node what the multipliers of its sets
+/// take off its potential.
 #[derive(Drop)]
 pub struct KeptRows {
     pub rows: Vec<Vec<i64>>,
