@@ -1,2 +1,3 @@
 mod Subcommands
 mod Refusals
+mod Commands

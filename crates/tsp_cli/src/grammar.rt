@@ -1,7 +1,7 @@
 //! The command line as `clap` knows it: five subcommands, what each takes, and the texts of help.
 
 ghost use Rattle.std.specs.Prelude.{◌≡◌, IfOk, false};
-ghost use Rattle.clap.specs.Words.{app_of, new_app, rule_of, shape_of, with_rule, with_subcommand};
+ghost use Rattle.clap.specs.Words.{App, Rule, app_of, new_app, rule_of, shape_of, with_rule, with_subcommand};
 ghost use Rattle.tsp_cli.specs.Grammar.{IsCommandOf, has_globals, path, several_paths, option, flag, explain, show, convert, check_files, check_certified, check, compare_files, compare_certified, compare, bound_files, bound, start, tsp};
 
 use clap::{Arg, ArgAction, Command};
@@ -113,11 +113,11 @@ Examples:
 pub(crate) fn tsp<'a>(alloc: Global) -> Result<Command<'a>, AllocError>
     ensures { IfOk result (IsCommandOf tsp) }
 {
-    let one = with_command(top(alloc)?, show(alloc)?)?;
-    let two = with_command(one, convert(alloc)?)?;
-    let three = with_command(two, check(alloc)?)?;
-    let four = with_command(three, compare(alloc)?)?;
-    with_command(four, bound(alloc)?)
+    let one = then_command(top(alloc), show(alloc));
+    let two = then_command(one, convert(alloc));
+    let three = then_command(two, check(alloc));
+    let four = then_command(three, compare(alloc));
+    then_command(four, bound(alloc))
 }
 
 /// The program's command without its subcommands.
@@ -136,8 +136,8 @@ fn show<'a>(alloc: Global) -> Result<Command<'a>, AllocError>
     ensures { IfOk result (IsCommandOf show) }
 {
     let bare = command(alloc, "show", "Says what a file contains", SHOW_NOTES);
-    let one = with(bare, path(alloc, "F", "The path of a TSPLIB 95 file"))?;
-    with(one, explain(alloc))
+    let one = then(Ok(bare), path(alloc, "F", "The path of a TSPLIB 95 file"));
+    then(one, explain(alloc))
 }
 
 /// `convert F [--layout L] [--explain]`.
@@ -146,34 +146,34 @@ fn convert<'a>(alloc: Global) -> Result<Command<'a>, AllocError>
 {
     let about = "Writes a file anew, on request with its matrix in another layout";
     let bare = command(alloc, "convert", about, CONVERT_NOTES);
-    let one = with(bare, path(alloc, "F", "The path of a TSPLIB 95 file"))?;
+    let one = then(Ok(bare), path(alloc, "F", "The path of a TSPLIB 95 file"));
     let layout = option(alloc, "L", "layout", "The layout that the matrix gets");
-    let two = with(one, layout)?;
-    with(two, explain(alloc))
+    let two = then(one, layout);
+    then(two, explain(alloc))
 }
 
 /// `check F T [--potentials P] [--branches B] [--length N] [--explain]`.
 fn check<'a>(alloc: Global) -> Result<Command<'a>, AllocError>
     ensures { IfOk result (IsCommandOf check) }
 {
-    let one = check_certified(alloc)?;
+    let one = check_certified(alloc);
     let length = option(
         alloc,
         "N",
         "length",
         "The length that the solution has to have",
     );
-    let two = with(one, length)?;
-    with(two, explain(alloc))
+    let two = then(one, length);
+    then(two, explain(alloc))
 }
 
 /// `check F T [--potentials P] [--branches B]`.
 fn check_certified<'a>(alloc: Global) -> Result<Command<'a>, AllocError>
     ensures { IfOk result (IsCommandOf check_certified) }
 {
-    let files = check_files(alloc)?;
-    let one = with(files, option(alloc, "P", "potentials", POTENTIALS))?;
-    with(one, option(alloc, "B", "branches", BRANCHES))
+    let files = check_files(alloc);
+    let one = then(files, option(alloc, "P", "potentials", POTENTIALS));
+    then(one, option(alloc, "B", "branches", BRANCHES))
 }
 
 /// `check F T`, which has the files.
@@ -183,25 +183,24 @@ fn check_files<'a>(alloc: Global) -> Result<Command<'a>, AllocError>
     let about = "Judges a tour or routes, and with a certificate bounds every tour";
     let bare = command(alloc, "check", about, CHECK_NOTES);
     let instance = "The path of the instance: TYPE TSP, ATSP or CVRP";
-    let one = with(bare, path(alloc, "F", instance))?;
-    with(one, path(alloc, "T", "The path of the solution: TYPE TOUR"))
+    let one = then(Ok(bare), path(alloc, "F", instance));
+    then(one, path(alloc, "T", "The path of the solution: TYPE TOUR"))
 }
 
 /// `compare F T.. [--potentials P] [--branches B] [--explain]`.
 fn compare<'a>(alloc: Global) -> Result<Command<'a>, AllocError>
     ensures { IfOk result (IsCommandOf compare) }
 {
-    let one = compare_certified(alloc)?;
-    with(one, explain(alloc))
+    then(compare_certified(alloc), explain(alloc))
 }
 
 /// `compare F T.. [--potentials P] [--branches B]`.
 fn compare_certified<'a>(alloc: Global) -> Result<Command<'a>, AllocError>
     ensures { IfOk result (IsCommandOf compare_certified) }
 {
-    let files = compare_files(alloc)?;
-    let one = with(files, option(alloc, "P", "potentials", POTENTIALS))?;
-    with(one, option(alloc, "B", "branches", BRANCHES))
+    let files = compare_files(alloc);
+    let one = then(files, option(alloc, "P", "potentials", POTENTIALS));
+    then(one, option(alloc, "B", "branches", BRANCHES))
 }
 
 /// `compare F T..`, which has the files.
@@ -211,8 +210,8 @@ fn compare_files<'a>(alloc: Global) -> Result<Command<'a>, AllocError>
     let about = "Judges many solutions of one instance, a line for each";
     let bare = command(alloc, "compare", about, COMPARE_NOTES);
     let instance = "The path of the instance: TYPE TSP, ATSP or CVRP";
-    let one = with(bare, path(alloc, "F", instance))?;
-    with(
+    let one = then(Ok(bare), path(alloc, "F", instance));
+    then(
         one,
         paths(alloc, "S", "The paths of the solutions: TYPE TOUR"),
     )
@@ -222,10 +221,10 @@ fn compare_files<'a>(alloc: Global) -> Result<Command<'a>, AllocError>
 fn bound<'a>(alloc: Global) -> Result<Command<'a>, AllocError>
     ensures { IfOk result (IsCommandOf bound) }
 {
-    let files = bound_files(alloc)?;
-    let one = with(files, option(alloc, "P", "potentials", POTENTIALS))?;
-    let two = with(one, option(alloc, "B", "branches", BRANCHES))?;
-    with(two, explain(alloc))
+    let files = bound_files(alloc);
+    let one = then(files, option(alloc, "P", "potentials", POTENTIALS));
+    let two = then(one, option(alloc, "B", "branches", BRANCHES));
+    then(two, explain(alloc))
 }
 
 /// `bound F`, which has the file.
@@ -267,6 +266,35 @@ fn with_command<'a>(
         (IsCommandOf (with_subcommand (app_of command.entry) (shape_of subcommand.entry))) }
 {
     command.subcommand(subcommand)
+}
+
+/// A command that may be made, with one argument more. So a command is put together without an
+/// early return, of which each costs the prover much time.
+fn then<'a>(
+    command: Result<Command<'a>, AllocError>,
+    arg: Arg<'a>,
+) -> Result<Command<'a>, AllocError>
+    requires local { arg.global ≡ false }
+    requires globals { IfOk command (λ made. has_globals made ≡ false) }
+    ensures { (app : App) (rule : Rule) → IfOk command.entry (IsCommandOf app)
+        → rule_of arg.entry ≡ rule → IfOk result (IsCommandOf (with_rule app rule)) }
+{
+    with(command?, arg)
+}
+
+/// A command that may be made, with one subcommand more that may be made.
+fn then_command<'a>(
+    command: Result<Command<'a>, AllocError>,
+    subcommand: Result<Command<'a>, AllocError>,
+) -> Result<Command<'a>, AllocError>
+    requires globals { IfOk command (λ made. has_globals made ≡ false) }
+    requires sub { IfOk subcommand (λ made. has_globals made ≡ false) }
+    ensures { (app sub : App) → IfOk command.entry (IsCommandOf app)
+        → IfOk subcommand.entry (IsCommandOf sub)
+        → IfOk result (IsCommandOf (with_subcommand app sub.top)) }
+{
+    let subcommand = subcommand?;
+    with_command(command?, subcommand)
 }
 
 /// A path that the words have to contain.

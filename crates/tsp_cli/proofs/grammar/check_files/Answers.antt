@@ -1,0 +1,15 @@
+-- The goals of `check_files` in src/grammar.rt: what the calls require, and what it ensures.
+use Rattle.std.proofs.Common.{codes}
+use Rattle.clap.specs.Words.{new_app, with_rule}
+use Rattle.tsp_cli.specs.Grammar.{path}
+use Rattle.tsp_cli.proofs.Commands.{free}
+use Rattle.tsp_cli.proofs.grammar.check_files.Goals as goal
+
+pub then-requires-clause-globals : goal.then-requires-clause-globals
+then-requires-clause-globals c = free (with_rule (new_app (codes "check")) (path (codes "F"))) c.then-one.result
+    (c.then-one.ensures (new_app (codes "check")) (path (codes "F")) c.command-bare.ensures c.path.ensures.rule)
+
+pub returns : goal.returns
+returns c =
+    c.then.ensures (with_rule (new_app (codes "check")) (path (codes "F"))) (path (codes "T"))
+    (c.then-one.ensures (new_app (codes "check")) (path (codes "F")) c.command-bare.ensures c.path.ensures.rule) c.path-2.ensures.rule

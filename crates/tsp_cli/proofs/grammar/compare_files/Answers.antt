@@ -1,0 +1,15 @@
+-- The goals of `compare_files` in src/grammar.rt: what the calls require, and what it ensures.
+use Rattle.std.proofs.Common.{codes}
+use Rattle.clap.specs.Words.{new_app, with_rule}
+use Rattle.tsp_cli.specs.Grammar.{path, several_paths}
+use Rattle.tsp_cli.proofs.Commands.{free}
+use Rattle.tsp_cli.proofs.grammar.compare_files.Goals as goal
+
+pub then-requires-clause-globals : goal.then-requires-clause-globals
+then-requires-clause-globals c = free (with_rule (new_app (codes "compare")) (path (codes "F"))) c.then-one.result
+    (c.then-one.ensures (new_app (codes "compare")) (path (codes "F")) c.command-bare.ensures c.path.ensures.rule)
+
+pub returns : goal.returns
+returns c =
+    c.then.ensures (with_rule (new_app (codes "compare")) (path (codes "F"))) (several_paths (codes "S"))
+    (c.then-one.ensures (new_app (codes "compare")) (path (codes "F")) c.command-bare.ensures c.path.ensures.rule) c.paths.ensures.rule
