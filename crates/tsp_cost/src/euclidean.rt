@@ -22,11 +22,11 @@ pub struct Euclidean<'a> {
 
 impl<'a> Points<'a, PlanePoint> {
     ghost use Rattle.std.specs.Prelude.{◌≡◌, IfSome};
-    ghost use Rattle.tsp_cost.specs.states.Views.{points_of};
+    ghost use Rattle.tsp_cost.specs.states.Views.{euclidean_points};
 
     /// The same costs, where they are EUC_2D.
     pub fn euclidean(&self) -> Option<Euclidean<'a>>
-        ensures { IfSome result (λ euclidean. points_of euclidean ≡ self.now) }
+        ensures { IfSome result (λ euclidean. euclidean_points euclidean ≡ self.now) }
     {
         match self.metric {
             Metric::Euc2d => Some(Euclidean { points: *self }),

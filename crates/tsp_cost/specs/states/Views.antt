@@ -32,8 +32,8 @@ abbrev pub points_place : {P : Type 0} → (P → Point) → Points P → ℕ �
 points_place place p node = point_of (map place p.points.now) node
 
 -- those under EUC_2D
-abbrev pub points_of : Euclidean → Points PlanePoint
-points_of e = e.points
+abbrev pub euclidean_points : Euclidean → Points PlanePoint
+euclidean_points e = e.points
 
 abbrev pub matrix_nodes : Matrix → ℕ
 matrix_nodes m = m.nodes
