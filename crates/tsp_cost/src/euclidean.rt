@@ -14,7 +14,7 @@ use tsp_theory::{Costs, Grouped, Region, Site, Symmetric};
 ///
 /// Nothing of theirs asks for the metric: a search that chose among all metrics for each box took a
 /// sixth more instructions.
-#[derive(Debug)]
+#[derive(Debug, Drop)]
 pub struct Euclidean<'a> {
     points: Points<'a, PlanePoint>,
     ghost metric: { points.metric ≡ Euc2d },
