@@ -8,6 +8,13 @@ use Rattle.tsp_theory.proofs.Weights.{between_size}
 use Rattle.tsp_theory.proofs.Sizes.{product_fits, product_is, scaled_size}
 use Rattle.tsp_branch.proofs.boxed_leaf.BoxedLeaf.base.Goals as goal
 
+pub overflow_add-both : goal.overflow_add-both
+overflow_add-both g c =
+    let p = c.args.self.now in
+    let first = (p.exact c.args.from c.requires.from).1 in
+    let second = (p.exact c.args.to c.requires.to).1 in
+    omega (arith, ints, first.0, first.1, second.0, second.1, c.weight_in.ensures, c.weight_in-2.ensures)
+
 pub overflow_mul-result : goal.overflow_mul-result
 overflow_mul-result g c = product_fits c.args.self.now.decided.now.combed.now.scale c.args.cost c.args.self.now.decided.now.combed.now.scaled c.requires.low c.requires.high
 
