@@ -7,3 +7,4 @@ pub mod Multipliers
 pub mod NodeNumbers
 pub mod Numbering
 pub mod Potentials
+pub mod Spots

@@ -4,13 +4,15 @@ ghost use Rattle.std.specs.Prelude.{◌≡◌, ◌≢◌, ◌<◌, ◌+ℤ◌, �
 ghost use Rattle.std.specs.Bool.{OnTrue};
 ghost use Rattle.tsp_distance.specs.declared.decimal.Point.{Point};
 ghost use Rattle.tsp_format.specs.Nodes.{IsNode};
-ghost use Rattle.tsp_theory.specs.Regions.{IsIn};
+ghost use Rattle.tsp_theory.specs.Regions.{IsIn, IsSite};
 ghost use Rattle.tsp_theory.specs.CertificateNumbers.{IsFromTo, IsScale};
 ghost use Rattle.tsp_bound.specs.states.NodeNumbers.{most_number, node_in};
+ghost use Rattle.tsp_bound.specs.states.Spots.{IsSpot};
 
+use crate::spot::Spot;
 use std::alloc::Global;
 use tsp_memory::Refused;
-use tsp_theory::Region;
+use tsp_theory::{Region, Site};
 use tsp_tree::Weights;
 
 /// Weights of which each is at least the cost at a scale and the numbers of both nodes, but for
@@ -56,28 +58,31 @@ pub trait BoxedWeights: Weights {
         false
     }
 
-    /// A region with the node's place, where it has one.
-    fn region(&self, node: u32) -> Option<Region>
+    /// The node with its place, where it has one.
+    fn site(&self, node: u32) -> Option<Site>
         requires { IsNode (Self.nodes self.now) node }
-        ensures { IfSome result (λ region. IsIn region (place_of self.now node)) };
+        ensures { IfSome result (λ site. (site.node ≡ node)
+            × IsSite (Self.nodes self.now) (place_of self.now) site) };
 
     /// Whether each node whose place is in the region costs at least `least` from a node, where
     /// that is known.
-    fn is_beyond(&self, from: u32, region: &Region, least: i64) -> bool
-        requires { IsNode (Self.nodes self.now) from }
+    fn is_beyond(&self, from: &Site, region: &Region, least: i64) -> bool
+        requires { IsSite (Self.nodes self.now) (place_of self.now) from.now }
         ensures beyond { OnTrue result ((to : ℕ) → IsNode (Self.nodes self.now) to
-            → IsIn region.now (place_of self.now to) → least ≤ℤ cost_of self.now from to) }
+            → IsIn region.now (place_of self.now to) → least ≤ℤ cost_of self.now from.now.node to) }
         ensures above { (to : ℕ) → IsNode (Self.nodes self.now) to
-            → ((scale_of self.now *ℤ cost_of self.now from to)
-            +ℤ (number_of self.now from +ℤ number_of self.now to)) ≤ℤ unlowered self.now from to };
+            → ((scale_of self.now *ℤ cost_of self.now from.now.node to)
+            +ℤ (number_of self.now from.now.node +ℤ number_of self.now to))
+            ≤ℤ unlowered self.now from.now.node to };
 
     /// The weight between two nodes before it is lowered, where that is less than `most`; else a
     /// number that isn't less.
-    fn weight_within(&self, from: u32, to: u32, most: i64) -> i64
-        requires from { IsNode (Self.nodes self.now) from }
-        requires to { IsNode (Self.nodes self.now) to }
-        ensures less { result <ℤ most → result ≡ unlowered self.now from to }
-        ensures no_less { most ≤ℤ result → most ≤ℤ unlowered self.now from to };
+    fn weight_within(&self, from: &Spot, to: &Spot, most: i64) -> i64
+        requires from { IsSpot (Self.nodes self.now) (place_of self.now) (number_of self.now) from.now }
+        requires to { IsSpot (Self.nodes self.now) (place_of self.now) (number_of self.now) to.now }
+        ensures less { result <ℤ most → result ≡ unlowered self.now from.now.site.node to.now.site.node }
+        ensures no_less { most ≤ℤ result
+            → most ≤ℤ unlowered self.now from.now.site.node to.now.site.node };
 
     /// How many nodes are listed at a node: those to which its weight may be lowered.
     fn count_lowered(&self, from: u32) -> usize

@@ -1,14 +1,19 @@
 //! A tree of boxes over nodes in an order.
 
-ghost use Rattle.std.specs.Prelude.{◌≡◌, ◌⊎◌, ◌≤◌, ◌<◌, ◌+◌, ◌*◌, ◌^◌, ◌≤ℤ◌, ℕ, ℤ, length, List, Bool, None, Some, IfOk, IfSome};
+ghost use Rattle.std.specs.Prelude.{◌≡◌, ◌⊎◌, ◌≤◌, ◌<◌, ◌+◌, ◌*◌, ◌≤ℤ◌, ℕ, ℤ, length, List, Bool, None, Some, IfOk, pos, neg_ℤ};
 ghost use Rattle.tsp_distance.specs.declared.decimal.Point.{Point};
-ghost use Rattle.tsp_format.specs.Nodes.{IsNode};
-ghost use Rattle.tsp_bound.specs.states.Boxes.{HoldsNode, AreHeld, IsRefit, node_of, area_at};
+ghost use Rattle.tsp_theory.specs.CertificateNumbers.{IsFromTo};
+ghost use Rattle.tsp_bound.specs.states.NodeNumbers.{most_number};
+ghost use Rattle.tsp_bound.specs.states.Boxes.{HoldsNode, AreHeld, IsRefit, area_at};
+ghost use Rattle.tsp_bound.specs.states.Spots.{IsSpot, AreSpots};
 
 use crate::area::Area;
 use crate::boxed_weights::BoxedWeights;
+use crate::placed::Placed;
+use crate::spot::Spot;
 use std::alloc::Global;
 use tsp_memory::{Refused, filled};
+use tsp_theory::Region;
 
 /// The smaller number.
 #[inline]
@@ -53,48 +58,45 @@ fn refit(areas: &mut Vec<Option<Area>>, count: usize, v: usize)
     areas[v] = area;
 }
 
-/// The box of a node alone, where it has a place.
-fn area_of<W: BoxedWeights>(w: &W, node: u32) -> Option<Area>
-    requires { IsNode (W.nodes w.now) node }
-    ensures { IfSome result (λ area. HoldsNode (W.place_of w.now) (W.number_of w.now) (Some area) node) }
+/// The box of a node alone.
+fn area_of(spot: Spot) -> Area
+    requires { IsFromTo (neg_ℤ (pos most_number)) (pos most_number) spot.number }
+    ensures { (nodes : ℕ) (place : ℕ → Point) (number : ℕ → ℤ) → IsSpot nodes place number spot
+        → HoldsNode place number (Some result) spot.site.node }
 {
-    match w.region(node) {
-        None => None,
-        Some(region) => Some(Area {
-            region,
-            least: w.number(node),
-        }),
+    Area {
+        region: Region::of(spot.site.place),
+        least: spot.number,
     }
 }
 
-/// The boxes of nodes that are all outside; none where a node has no place.
+/// The boxes of nodes that are all outside.
 ///
 /// # Errors
 ///
 /// Out of memory.
 pub(crate) fn boxes_of<W: BoxedWeights>(
     alloc: Global,
-    w: &W,
-    order: &[u32],
-) -> Result<Option<Vec<Option<Area>>>, Refused>
-    requires nodes { (j : ℕ) → j < length order.now → IsNode (W.nodes w.now) (node_of order.now j) }
-    requires few { length order.now < 2 ^ 31 }
-    ensures len { IfOk result (λ made. IfSome made (λ areas. length areas.items ≡ 2 * length order.now)) }
-    ensures held { IfOk result (λ made. IfSome made (λ areas. (outside : ℕ → Bool)
-        → AreHeld (HoldsNode (W.place_of w.now) (W.number_of w.now)) order.now outside (area_at areas.items))) }
+    placed: &Placed<W>,
+    spots: &[Spot],
+) -> Result<Vec<Option<Area>>, Refused>
+    requires as_many { length spots.now ≡ length placed.now.order.now }
+    requires spots { AreSpots (W.nodes placed.now.w.now) (W.place_of placed.now.w.now)
+        (W.number_of placed.now.w.now) placed.now.order.now spots.now }
+    ensures len { IfOk result (λ areas. length areas.items ≡ 2 * length placed.now.order.now) }
+    ensures held { IfOk result (λ areas. (outside : ℕ → Bool)
+        → AreHeld (HoldsNode (W.place_of placed.now.w.now) (W.number_of placed.now.w.now))
+        placed.now.order.now outside (area_at areas.items)) }
 {
-    let count = order.len();
+    let count = placed.order.len();
     let mut areas: Vec<Option<Area>> = filled(alloc, None, 2 * count)?;
     'leaves: for place in 0..count {
-        let Some(area) = area_of(w, order[place]) else {
-            return Ok(None);
-        };
-        areas[count + place] = Some(area);
+        areas[count + place] = Some(area_of(spots[place]));
     }
     let mut v = count;
     'halves: while v > 1 {
         v -= 1;
         refit(&mut areas, count, v);
     }
-    Ok(Some(areas))
+    Ok(areas)
 }

@@ -28,7 +28,7 @@ pub(crate) fn nearest_from<W: BoxedWeights, S: Seen>(
     requires place { place < length search.now.order.now }
     requires near { near < length search.now.order.now }
     ensures { IsSearched (W.unlowered search.now.w.now)
-        search.now.order.now (S.outside_of search.now.seen.now) search.now.from 1 no_best result }
+        search.now.order.now (S.outside_of search.now.seen.now) search.now.from.site.node 1 no_best result }
 {
     let none = Best {
         weight: i64::MAX,

@@ -5,12 +5,14 @@ ghost use Rattle.tsp_format.specs.Nodes.{IsNode};
 ghost use Rattle.tsp_theory.specs.Tree.{IsInner};
 ghost use Rattle.tsp_bound.specs.states.Boxes.{node_of};
 ghost use Rattle.tsp_bound.specs.states.Numbering.{IsNumbering};
+ghost use Rattle.tsp_bound.specs.states.Spots.{AreSpots};
 
 use crate::boxed_weights::BoxedWeights;
 use crate::link::Link;
 use crate::nearest::{Best, nearest_from};
 use crate::search::{Search, inverse_of};
 use crate::seen::Seen;
+use crate::spot::Spot;
 
 /// An order of the nodes 2..n, the place of each in it, and what gives the weights between them.
 #[derive(Drop)]
@@ -45,9 +47,10 @@ impl<'a, W: BoxedWeights> Placed<'a, W> {
     }
 
     /// The least link from a node to one outside, by places, or none. It adds to `steps` what the
-    /// search took, which begins at the place `near`.
+    /// search took, which begins at the place `near`. The spots are those of the order.
     pub(crate) fn nearest<S: Seen>(
         &self,
+        spots: &[Spot],
         seen: &S,
         from: u32,
         near: u32,
@@ -55,6 +58,9 @@ impl<'a, W: BoxedWeights> Placed<'a, W> {
     ) -> Option<Link>
         requires from { from < length self.now.order.now }
         requires near { near < length self.now.order.now }
+        requires as_many_spots { length spots.now ≡ length self.now.order.now }
+        requires spots { AreSpots (W.nodes self.now.w.now) (W.place_of self.now.w.now)
+            (W.number_of self.now.w.now) self.now.order.now spots.now }
         requires as_many { S.count_of seen.now ≡ length self.now.order.now }
         requires held { AreHeld (HoldsNode (W.place_of self.now.w.now) (W.number_of self.now.w.now))
             self.now.order.now (S.outside_of seen.now) (S.area_of seen.now) }
@@ -63,13 +69,12 @@ impl<'a, W: BoxedWeights> Placed<'a, W> {
             (node_of self.now.order.now i) (node_of self.now.order.now j))
             (S.outside_of seen.now) from link) }
     {
-        let node = self.order[from as usize];
         let search = Search {
             w: self.w,
             order: self.order,
+            spots,
             seen,
-            from: node,
-            own: self.w.number(node),
+            from: spots[from as usize],
             inverse: inverse_of(self.w.scale()),
         };
         let unlowered = nearest_from(&search, from as usize, near as usize, steps);

@@ -1,16 +1,17 @@
 //! A search from one node, over a tree of boxes.
 
-ghost use Rattle.std.specs.Prelude.{◌≡◌, ◌≤◌, ◌<◌, ◌+◌, ◌*◌, ◌^◌, ◌≤ℤ◌, ◌*ℤ◌, ℕ, length, pos, neg_ℤ};
+ghost use Rattle.std.specs.Prelude.{◌≡◌, ◌≤◌, ◌<◌, ◌+◌, ◌*◌, ◌^◌, ◌≤ℤ◌, ◌*ℤ◌, ℕ, length};
 ghost use Rattle.std.specs.Bool.{OnTrue};
 ghost use Rattle.tsp_format.specs.Nodes.{IsNode};
-ghost use Rattle.tsp_theory.specs.CertificateNumbers.{IsFromTo, IsScale};
-ghost use Rattle.tsp_bound.specs.states.NodeNumbers.{most_number};
+ghost use Rattle.tsp_theory.specs.CertificateNumbers.{IsScale};
 ghost use Rattle.tsp_bound.specs.states.Potentials.{IsInverse};
 ghost use Rattle.tsp_bound.specs.states.Boxes.{HoldsNode, AreHeld, AreHeld-prop, IsBelowAll, IsSearched, node_of};
+ghost use Rattle.tsp_bound.specs.states.Spots.{IsSpot, AreSpots};
 
 use crate::boxed_weights::BoxedWeights;
 use crate::nearest::Best;
 use crate::seen::Seen;
+use crate::spot::Spot;
 
 const TWO_TO_64: u128 = 18_446_744_073_709_551_616;
 
@@ -43,24 +44,24 @@ fn cost_of(scale: i64, inverse: u64, weight: i64) -> i64
     (product / TWO_TO_64) as i64 + 1
 }
 
-/// The node that a search is from with its number, and the nodes and boxes that it looks at.
+/// The node that a search is from, and the nodes and boxes that it looks at.
 #[derive(Drop)]
 pub(crate) struct Search<'a, W: BoxedWeights, S: Seen> {
     pub(crate) w: &'a W,
     pub(crate) order: &'a [u32],
+    pub(crate) spots: &'a [Spot],
     pub(crate) seen: &'a S,
-    pub(crate) from: u32,
-    pub(crate) own: i64,
+    pub(crate) from: Spot,
     pub(crate) inverse: u64,
     ghost nodes: { (j : ℕ) → j < length order.now → IsNode (W.nodes w.now) (node_of order.now j) },
     ghost few: { length order.now < 2 ^ 31 },
     ghost as_many: { S.count_of seen.now ≡ length order.now },
+    ghost as_many_spots: { length spots.now ≡ length order.now },
+    ghost spots_are: { AreSpots (W.nodes w.now) (W.place_of w.now) (W.number_of w.now) order.now spots.now },
     ghost held: { AreHeld (HoldsNode (W.place_of w.now) (W.number_of w.now)) order.now (S.outside_of seen.now)
         (S.area_of seen.now) } by { AreHeld-prop (W.place_of w.now) (W.number_of w.now) order.now (S.outside_of seen.now) (S.area_of seen.now) },
-    ghost from_in: { IsNode (W.nodes w.now) from },
+    ghost own: { IsSpot (W.nodes w.now) (W.place_of w.now) (W.number_of w.now) from },
     ghost scaled: { IsScale (W.scale_of w.now) },
-    ghost own_size: { IsFromTo (neg_ℤ (pos most_number)) (pos most_number) own },
-    ghost own_is: { own ≡ W.number_of w.now from },
     ghost inverse_is: { IsInverse (W.scale_of w.now) inverse },
 }
 
@@ -74,16 +75,16 @@ impl<W: BoxedWeights, S: Seen> Search<'_, W, S> {
         requires { v < 2 * length self.now.order.now }
         ensures { OnTrue result (IsBelowAll (IsNode (W.nodes self.now.w.now))
             (HoldsNode (W.place_of self.now.w.now) (W.number_of self.now.w.now) (S.area_of self.now.seen.now v))
-            (W.unlowered self.now.w.now self.now.from) best) }
+            (W.unlowered self.now.w.now self.now.from.site.node) best) }
     {
         let Some(area) = self.seen.area(v) else {
             return true;
         };
-        match best.checked_sub(self.own + area.least) {
+        match best.checked_sub(self.from.number + area.least) {
             None => false,
             Some(left) => {
                 let least = cost_of(self.w.scale(), self.inverse, left);
-                self.w.is_beyond(self.from, &area.region, least)
+                self.w.is_beyond(&self.from.site, &area.region, least)
             }
         }
     }
@@ -93,14 +94,14 @@ impl<W: BoxedWeights, S: Seen> Search<'_, W, S> {
     pub(crate) fn better_of(&self, place: usize, best: Best) -> Best
         requires { place < length self.now.order.now }
         ensures { IsSearched (W.unlowered self.now.w.now) self.now.order.now
-            (S.outside_of self.now.seen.now) self.now.from (length self.now.order.now + place) best result }
+            (S.outside_of self.now.seen.now) self.now.from.site.node (length self.now.order.now + place) best result }
     {
         if !self.seen.is_outside(place) {
             return best;
         }
         let weight = self
             .w
-            .weight_within(self.from, self.order[place], best.weight);
+            .weight_within(&self.from, &self.spots[place], best.weight);
         if weight < best.weight {
             Best { weight, place }
         } else {
@@ -117,7 +118,7 @@ impl<W: BoxedWeights, S: Seen> Search<'_, W, S> {
         requires low { 1 ≤ v }
         requires high { v < 2 * length self.now.order.now }
         ensures { IsSearched (W.unlowered self.now.w.now) self.now.order.now
-            (S.outside_of self.now.seen.now) self.now.from v best result }
+            (S.outside_of self.now.seen.now) self.now.from.site.node v best result }
     {
         if v >= self.order.len() {
             return self.better_of(v - self.order.len(), best);

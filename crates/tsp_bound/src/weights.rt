@@ -15,9 +15,11 @@ ghost use Rattle.tsp_bound.specs.states.Potentials.{numbers_of, weight_under};
 use crate::boxed_weights::BoxedWeights;
 use crate::by_node::ByNode;
 use crate::potentials::Potentials;
+use crate::scaled::scaled;
+use crate::spot::Spot;
 use std::alloc::Global;
 use tsp_memory::Refused;
-use tsp_theory::{Costs, Grouped, Region};
+use tsp_theory::{Costs, Grouped, Region, Site};
 use tsp_tree::add_at;
 
 /// Costs of three or more nodes, and the potentials and the multipliers of these.
@@ -143,18 +145,20 @@ impl<C: Grouped> BoxedWeights for Weights<'_, C> {
     }
 
     #[inline]
-    fn region(&self, node: u32) -> Option<Region> {
-        self.c.region(node)
+    fn site(&self, node: u32) -> Option<Site> {
+        self.c.site(node)
     }
 
     #[inline(always)]
-    fn is_beyond(&self, from: u32, region: &Region, least: i64) -> bool {
+    fn is_beyond(&self, from: &Site, region: &Region, least: i64) -> bool {
         self.c.is_beyond(from, region, least)
     }
 
     #[inline]
-    fn weight_within(&self, from: u32, to: u32, most: i64) -> i64 {
-        self.p.weight(self.c, from, to)
+    fn weight_within(&self, from: &Spot, to: &Spot, most: i64) -> i64 {
+        let cost = scaled(self.p.scale, self.c.cost_between(&from.site, &to.site));
+        let both = from.number + to.number;
+        cost + both
     }
 
     #[inline]

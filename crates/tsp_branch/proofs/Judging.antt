@@ -28,7 +28,8 @@ use Rattle.tsp_cases.specs.CaseTrees.{IsCaseTree, IsLeastFound, AreCostsFor, Bou
 use Rattle.tsp_cases.specs.states.Decided.{stack_of, IsNextStack}
 use Rattle.tsp_cases.specs.GoodNumbers.{AreGoodNumbers, as_leaf_numbers, most_crossed}
 use Rattle.tsp_cases.specs.Listed.{all_grown, split_at, steps_from, listed_steps, AreGoodLeaves, IsFirstBadLeaf}
-use Rattle.tsp_branch.specs.JudgedLeaves.{AreJudgedLeaves, BoundsCycles, IsLowest}
+use Rattle.tsp_branch.specs.JudgedLeaves.{AreJudgedLeaves, BoundsCycles}
+use Rattle.tsp_cases.specs.LeafBounds.{IsLowest}
 use Rattle.tsp_cases.specs.JudgedTrees.{AreCasesOf}
 use Rattle.tsp_cases.specs.declared.tree_cases.Cases.{Cases}
 use Rattle.tsp_cases.specs.states.Rooms.{AreSmall}

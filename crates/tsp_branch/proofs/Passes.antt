@@ -15,7 +15,7 @@ use Rattle.tsp_cases.specs.Cases.{LeafNumbers, are_case_trees, decide, leaves_of
 use Rattle.tsp_cases.specs.CaseTrees.{AreLeafNumbers, IsCaseTree, IsAbove, IsLeastFound}
 use Rattle.tsp_cases.specs.states.Decided.{stack_of}
 use Rattle.tsp_cases.specs.Listed.{all_grown, split_at, steps_from, no_numbers_of, listed_steps, IsGoodLeaf, AreGoodLeaves}
-use Rattle.tsp_branch.specs.JudgedLeaves.{IsLowest}
+use Rattle.tsp_cases.specs.LeafBounds.{IsLowest}
 use Rattle.tsp_cases.proofs.CaseLaws.{stacks_hold_cases}
 use Rattle.tsp_cases.proofs.NextCases.{stack_more}
 use Rattle.tsp_cases.proofs.OnePass.{AreGoodFrom, IsFirstBadFrom, all_good_by_place}

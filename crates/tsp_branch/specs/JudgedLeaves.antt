@@ -1,5 +1,5 @@
 -- The judgement on the leaves of a tree: its bound, or the first leaf that is bad.
-use Rattle.std.specs.Prelude.{◌≡◌, ℕ, ◌≤◌, length, Bool, List, Option, Some, None, IfSome, ◌⊎◌, ℤ, ◌≤ℤ◌}
+use Rattle.std.specs.Prelude.{◌≡◌, ℕ, ◌≤◌, length, Bool, List, Option, IfSome, ℤ}
 use Rattle.tsp_format.specs.Steps as listed
 use Rattle.tsp_theory.specs.CertificateNumbers.{IsBoundSized}
 use Rattle.tsp_branch.specs.declared.judged.JudgedLeaves.{JudgedLeaves}
@@ -34,12 +34,6 @@ BoundsCycles directed n cost given (judged.BadLeaf leaf) = Unit {0}
 abbrev pub AreSizedLeaves : JudgedLeaves → Type 0
 AreSizedLeaves (judged.Bound found) = IfSome found IsBoundSized
 AreSizedLeaves (judged.BadLeaf leaf) = Unit {0}
-
--- the lower one of a bound and the lowest so far, where there are both; else the one that there is
-abbrev pub IsLowest : Option ℤ → Option ℤ → Option ℤ → Type 0
-IsLowest None own lower = lower ≡ own
-IsLowest (Some lowest) None lower = lower ≡ Some lowest
-IsLowest (Some lowest) (Some own) lower = ((lower ≡ Some lowest) × (lowest ≤ℤ own)) ⊎ ((lower ≡ Some own) × (own ≤ℤ lowest))
 
 -- ---- one leaf
 

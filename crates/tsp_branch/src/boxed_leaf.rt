@@ -1,7 +1,8 @@
 //! The weights of a leaf, as boxes bound them.
 
-ghost use Rattle.std.specs.Prelude.{◌≡◌, ◌+◌, ◌+ℤ◌, ◌*ℤ◌, length, pos, neg_ℤ, IfOk};
+ghost use Rattle.std.specs.Prelude.{◌≡◌, ◌+◌, ◌+ℤ◌, ◌*ℤ◌, ◌≤ℤ◌, length, pos, neg_ℤ, IfOk};
 ghost use Rattle.tsp_format.specs.Nodes.{IsNode};
+ghost use Rattle.tsp_format.specs.Limits.{most_weight};
 ghost use Rattle.tsp_theory.specs.CertificateNumbers.{IsFromTo, IsBoundSized};
 ghost use Rattle.tsp_theory.specs.NodeBound.{weight_between, most_between};
 ghost use Rattle.tsp_theory.specs.states.Nearest.{least_at};
@@ -19,10 +20,10 @@ use crate::leaf::{leaf_bound, leaf_bound_in_space};
 use crate::leaf_sum::LeafSum;
 use crate::placed_costs::PlacedCosts;
 use std::alloc::Global;
-use tsp_bound::BoxedWeights;
+use tsp_bound::{BoxedWeights, Spot};
 use tsp_cases::{Multipliers, sum_left};
 use tsp_memory::Refused;
-use tsp_theory::Region;
+use tsp_theory::{Region, Site};
 use tsp_tree::{Weights, weight_in};
 
 /// The weights of a leaf, of which each node's potential less the multipliers of its sets isn't too
@@ -38,11 +39,14 @@ pub(crate) struct BoxedLeaf<'a, C: PlacedCosts> {
 }
 
 impl<C: PlacedCosts> BoxedLeaf<'_, C> {
-    /// The cost at the scale and the numbers of both nodes.
+    /// The cost at the scale and the numbers of both nodes, where the caller passes the cost.
     #[inline]
-    fn base(&self, from: u32, to: u32) -> i64
+    fn base(&self, cost: i64, from: u32, to: u32) -> i64
         requires from { IsNode (C.nodes self.now.decided.now.combed.now.costs.now) from }
         requires to { IsNode (C.nodes self.now.decided.now.combed.now.costs.now) to }
+        requires cost { cost ≡ C.at self.now.decided.now.combed.now.costs.now from to }
+        requires low { neg_ℤ (pos most_weight) ≤ℤ cost }
+        requires high { cost ≤ℤ pos most_weight }
         ensures value { result ≡ (self.now.decided.now.combed.now.scale *ℤ C.at self.now.decided.now.combed.now.costs.now from to)
             +ℤ (least_at self.now.decided.now.combed.now.moved.now from
             +ℤ least_at self.now.decided.now.combed.now.moved.now to) }
@@ -52,7 +56,7 @@ impl<C: PlacedCosts> BoxedLeaf<'_, C> {
     {
         let combed = self.decided.combed;
         let both = weight_in(combed.moved, from) + weight_in(combed.moved, to);
-        combed.scale * combed.costs.cost(from, to) + both
+        combed.scale * cost + both
     }
 
     /// The weight without decisions, where the caller passes what it is without the sets of both
@@ -102,7 +106,8 @@ impl<C: PlacedCosts> BoxedLeaf<'_, C> {
             (C.at self.now.decided.now.combed.now.costs.now) from to
             +ℤ changes (decisions_in self.now.decided.now.case.now) from to }
     {
-        let combed = self.combed(self.base(from, to), from, to);
+        let cost = self.decided.combed.costs.cost(from, to);
+        let combed = self.combed(self.base(cost, from, to), from, to);
         combed + self.change(from, to)
     }
 }
@@ -162,17 +167,19 @@ impl<C: PlacedCosts> BoxedWeights for BoxedLeaf<'_, C> {
     }
 
     #[inline]
-    fn region(&self, node: u32) -> Option<Region> {
-        self.decided.combed.costs.region(node)
+    fn site(&self, node: u32) -> Option<Site> {
+        self.decided.combed.costs.site(node)
     }
 
     #[inline(always)]
-    fn is_beyond(&self, from: u32, region: &Region, least: i64) -> bool {
+    fn is_beyond(&self, from: &Site, region: &Region, least: i64) -> bool {
         self.decided.combed.costs.is_beyond(from, region, least)
     }
 
-    fn weight_within(&self, from: u32, to: u32, most: i64) -> i64 {
-        let base = self.base(from, to);
+    fn weight_within(&self, from: &Spot, to: &Spot, most: i64) -> i64 {
+        let cost = self.decided.combed.costs.cost_between(&from.site, &to.site);
+        let (from, to) = (from.site.node, to.site.node);
+        let base = self.base(cost, from, to);
         if base >= most {
             return base;
         }

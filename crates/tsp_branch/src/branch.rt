@@ -10,7 +10,7 @@ ghost use Rattle.tsp_cases.specs.states.Lent.{lent_in, good_in};
 ghost use Rattle.tsp_cases.specs.CaseTrees.{IsFoundAt};
 ghost use Rattle.tsp_cases.specs.states.Decided.{marks_in};
 ghost use Rattle.tsp_cases.specs.states.OpenCases.{decisions_in};
-ghost use Rattle.tsp_branch.specs.JudgedLeaves.{AreJudgedLeaves, BoundsCycles, AreSizedLeaves, IsLowest};
+ghost use Rattle.tsp_branch.specs.JudgedLeaves.{AreJudgedLeaves, BoundsCycles, AreSizedLeaves};
 ghost use Rattle.tsp_cases.specs.states.Kept.{HoldsRows};
 ghost use Rattle.tsp_cases.specs.states.Rooms.{IsRoom, AreSmall};
 ghost use Rattle.tsp_branch.specs.JudgedLeaves.{IsJudgedLeaf, IsSizedLeaf};
@@ -23,7 +23,7 @@ use crate::steps::keeps_rows;
 use std::alloc::Global;
 use tsp_cases::{
     Cases, Decision, Families, Multipliers, OpenCase, Room, Setting, add_differences,
-    case_trees_bound_cycles, fill_moved, judge_numbers, sets_by_node,
+    case_trees_bound_cycles, fill_moved, judge_numbers, lower, sets_by_node,
 };
 use tsp_format::TreeStep;
 use tsp_memory::Refused;
@@ -183,18 +183,4 @@ fn judge_leaf<C: PlacedCosts>(
     };
     let bound = leaf.bound(alloc, &mut room.row)?;
     Ok(JudgedLeaf::Found(bound))
-}
-
-/// The lower one of a bound and the lowest so far, where there are both; else the one that there
-/// is.
-fn lower(lowest: Option<i128>, own: Option<i128>) -> Option<i128>
-    ensures { IsLowest lowest own result }
-{
-    let Some(low) = lowest else {
-        return own;
-    };
-    let Some(bound) = own else {
-        return lowest;
-    };
-    Some(if low < bound { low } else { bound })
 }

@@ -1,15 +1,16 @@
 //! Costs whose nodes may have places in space.
 
-ghost use Rattle.std.specs.Prelude.{ℕ, pos, ◌≤ℤ◌, IfSome};
+ghost use Rattle.std.specs.Prelude.{◌≡◌, ℕ, pos, neg_ℤ, ◌≤ℤ◌, IfSome};
 ghost use Rattle.std.specs.Bool.{OnTrue};
 ghost use Rattle.tsp_distance.specs.Distances.{on_plane};
 ghost use Rattle.tsp_distance.specs.declared.decimal.Point.{Point};
 ghost use Rattle.tsp_format.specs.Nodes.{IsNode};
-ghost use Rattle.tsp_theory.specs.Regions.{IsIn};
+ghost use Rattle.tsp_format.specs.Limits.{most_weight};
+ghost use Rattle.tsp_theory.specs.Regions.{IsIn, IsSite};
 
 use std::alloc::Global;
 use tsp_memory::Refused;
-use tsp_theory::{Costs, Grouped, Region};
+use tsp_theory::{Costs, Grouped, Region, Site};
 
 /// Costs of which a region may say at once that all nodes in it are far, as [`Grouped`] ones do.
 /// They needn't be symmetric.
@@ -24,17 +25,25 @@ pub trait PlacedCosts: Costs {
     /// Out of memory.
     fn order(&self, alloc: Global) -> Result<Vec<u32>, Refused>;
 
-    /// A region with the node's place, where it has one.
-    fn region(&self, node: u32) -> Option<Region>
+    /// The node with its place, where it has one.
+    fn site(&self, node: u32) -> Option<Site>
         requires { IsNode (Self.nodes self.now) node }
-        ensures { IfSome result (λ region. IsIn region (place self.now node)) };
+        ensures { IfSome result (λ site. (site.node ≡ node) × IsSite (Self.nodes self.now) (place self.now) site) };
+
+    /// The cost from one node to another, which their places may give.
+    fn cost_between(&self, from: &Site, to: &Site) -> i64
+        requires from { IsSite (Self.nodes self.now) (place self.now) from.now }
+        requires to { IsSite (Self.nodes self.now) (place self.now) to.now }
+        ensures value { result ≡ Self.at self.now from.now.node to.now.node }
+        ensures low { neg_ℤ (pos most_weight) ≤ℤ result }
+        ensures high { result ≤ℤ pos most_weight };
 
     /// Whether each node whose place is in the region costs at least `least` from a node, where
     /// that is known.
-    fn is_beyond(&self, from: u32, region: &Region, least: i64) -> bool
-        requires { IsNode (Self.nodes self.now) from }
+    fn is_beyond(&self, from: &Site, region: &Region, least: i64) -> bool
+        requires { IsSite (Self.nodes self.now) (place self.now) from.now }
         ensures { OnTrue result ((to : ℕ) → IsNode (Self.nodes self.now) to
-            → IsIn region.now (place self.now to) → least ≤ℤ Self.at self.now from to) };
+            → IsIn region.now (place self.now to) → least ≤ℤ Self.at self.now from.now.node to) };
 }
 
 /// Costs by places.
@@ -71,12 +80,17 @@ impl<C: Grouped> PlacedCosts for InSpace<'_, C> {
     }
 
     #[inline]
-    fn region(&self, node: u32) -> Option<Region> {
-        self.costs.region(node)
+    fn site(&self, node: u32) -> Option<Site> {
+        self.costs.site(node)
     }
 
     #[inline(always)]
-    fn is_beyond(&self, from: u32, region: &Region, least: i64) -> bool {
+    fn cost_between(&self, from: &Site, to: &Site) -> i64 {
+        self.costs.cost_between(from, to)
+    }
+
+    #[inline(always)]
+    fn is_beyond(&self, from: &Site, region: &Region, least: i64) -> bool {
         self.costs.is_beyond(from, region, least)
     }
 }
@@ -115,12 +129,17 @@ impl<C: Costs> PlacedCosts for OutOfSpace<'_, C> {
     }
 
     #[inline]
-    fn region(&self, node: u32) -> Option<Region> {
+    fn site(&self, node: u32) -> Option<Site> {
         None
     }
 
     #[inline]
-    fn is_beyond(&self, from: u32, region: &Region, least: i64) -> bool {
+    fn cost_between(&self, from: &Site, to: &Site) -> i64 {
+        self.costs.cost(from.node, to.node)
+    }
+
+    #[inline]
+    fn is_beyond(&self, from: &Site, region: &Region, least: i64) -> bool {
         false
     }
 }

@@ -27,7 +27,7 @@ pub(crate) fn keeps_rows<C: PlacedCosts>(setting: &Setting<C>) -> bool {
     if steps <= 1 {
         return false;
     }
-    if setting.cases.directed || setting.costs.region(1).is_none() {
+    if setting.cases.directed || setting.costs.site(1).is_none() {
         return true;
     }
     let leaves = steps / 2 + 1;

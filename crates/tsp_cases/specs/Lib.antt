@@ -5,6 +5,7 @@ pub mod Combs
 pub mod Decisions
 pub mod Examples
 pub mod LeafBound
+pub mod LeafBounds
 pub mod NumberExamples
 pub mod FamiliesOfSets
 pub mod GoodNumbers

@@ -22,6 +22,7 @@ mod judged;
 mod kept;
 mod laws;
 mod lists;
+mod lowest;
 mod marks;
 mod moved;
 mod multiplied;
@@ -60,6 +61,7 @@ pub use laws::{
     fixed_bounds_bound_tours, leaf_bounds_bound_cycles, links_are_allowed, numbers_are_unique,
     row_leaf_bounds_bound_cycles, stacks_hold_cases, steps_leave_cases, sums_are_below_cycles,
 };
+pub use lowest::lower;
 pub use moved::fill_moved;
 pub use multiplied::MultipliedFamilies;
 pub use multipliers::Multipliers;

@@ -10,6 +10,7 @@
 #![tactic(auto)]
 
 mod coarse;
+mod euclidean;
 mod examples;
 mod fault;
 mod halves;
@@ -23,6 +24,7 @@ mod source;
 mod triangle;
 mod view;
 
+pub use euclidean::Euclidean;
 pub use examples::examples_of_tours;
 pub use fault::CostFault;
 pub use instance::{Instance, even_view, symmetric_fault};
@@ -31,6 +33,6 @@ pub use matrix::{EvenMatrix, Matrix};
 pub use points::Points;
 pub use triangle::Triangle;
 pub use tsp_theory::{
-    Costs, Grouped, Region, Symmetric, canonical_length, tour_length, trace_tours,
+    Costs, Grouped, Region, Site, Symmetric, canonical_length, tour_length, trace_tours,
 };
 pub use view::{EvenView, View};

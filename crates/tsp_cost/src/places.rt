@@ -8,7 +8,7 @@ use crate::triangle::Triangle;
 use std::alloc::Global;
 use tsp_distance::{InSpace, monotone_laws};
 use tsp_memory::Refused;
-use tsp_theory::{Grouped, Region};
+use tsp_theory::{Grouped, Region, Site};
 
 impl<P: InSpace> Grouped for Points<'_, P> {
     ghost use Rattle.tsp_cost.specs.states.Views.{points_place};
@@ -20,18 +20,20 @@ impl<P: InSpace> Grouped for Points<'_, P> {
     }
 
     #[inline]
-    fn region(&self, node: u32) -> Option<Region> {
-        Some(Region::of(self.place(node)))
+    fn site(&self, node: u32) -> Option<Site> {
+        let place = self.place(node);
+        Some(Site { node, place })
+    }
+
+    #[inline(always)]
+    fn cost_between(&self, from: &Site, to: &Site) -> i64 {
+        self.metric.between(from.place, to.place)
     }
 
     // (as a separate call it cost a tenth more instructions)
     #[inline(always)]
-    fn is_beyond(&self, from: u32, region: &Region, least: i64) -> bool {
-        // (to choose among all metrics for each box of a search took a sixth more instructions)
-        match self.metric {
-            Metric::Euc2d => self.is_beyond_by(Metric::Euc2d, from, region, least),
-            _ => self.is_beyond_by_any(from, region, least),
-        }
+    fn is_beyond(&self, from: &Site, region: &Region, least: i64) -> bool {
+        self.is_beyond_by(self.metric, from, region, least)
     }
 }
 
@@ -39,30 +41,26 @@ impl<P: InSpace> Points<'_, P> {
     ghost use Rattle.std.specs.Prelude.{◌≡◌, ◌≤ℤ◌, ℕ};
     ghost use Rattle.std.specs.Bool.{OnTrue};
     ghost use Rattle.tsp_format.specs.Nodes.{IsNode};
-    ghost use Rattle.tsp_theory.specs.Regions.{IsIn};
+    ghost use Rattle.tsp_theory.specs.Regions.{IsIn, IsSite};
     ghost use Rattle.tsp_cost.specs.states.Views.{points_nodes, points_cost, points_place};
 
     /// What [`Grouped::is_beyond`] says, by the metric of the points.
     #[inline(always)]
-    fn is_beyond_by(&self, metric: Metric, from: u32, region: &Region, least: i64) -> bool
+    pub(crate) fn is_beyond_by(
+        &self,
+        metric: Metric,
+        from: &Site,
+        region: &Region,
+        least: i64,
+    ) -> bool
         requires metric { metric ≡ self.now.metric }
-        requires from { IsNode (points_nodes self.now) from }
+        requires from { IsSite (points_nodes self.now) (points_place P.place self.now) from.now }
         ensures { OnTrue result ((to : ℕ) → IsNode (points_nodes self.now) to
-            → IsIn region.now (points_place P.place self.now to) → least ≤ℤ points_cost P.place self.now from to) }
+            → IsIn region.now (points_place P.place self.now to)
+            → least ≤ℤ points_cost P.place self.now from.now.node to) }
     {
         monotone_laws();
-        let here = self.place(from);
-        metric.is_at_least(here, region.nearest(&here), least)
-    }
-
-    /// The same, by any metric.
-    #[inline(never)]
-    fn is_beyond_by_any(&self, from: u32, region: &Region, least: i64) -> bool
-        requires { IsNode (points_nodes self.now) from }
-        ensures { OnTrue result ((to : ℕ) → IsNode (points_nodes self.now) to
-            → IsIn region.now (points_place P.place self.now to) → least ≤ℤ points_cost P.place self.now from to) }
-    {
-        self.is_beyond_by(self.metric, from, region, least)
+        metric.is_at_least(from.place, region.nearest(&from.place), least)
     }
 }
 

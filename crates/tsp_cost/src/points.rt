@@ -120,7 +120,7 @@ impl<'a, P: InSpace> Points<'a, P> {
 
     /// The same costs, by the metric that is theirs.
     #[inline(always)]
-    fn with(&self, metric: Metric) -> Points<'a, P>
+    pub(crate) fn with(&self, metric: Metric) -> Points<'a, P>
         requires { metric ≡ self.now.metric }
         ensures nodes { points_nodes result ≡ points_nodes self.now }
         ensures costs { points_cost P.place result ≡ points_cost P.place self.now }

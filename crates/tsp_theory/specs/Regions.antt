@@ -1,7 +1,9 @@
--- Regions of space: boxes along the axes.
-use Rattle.std.specs.Prelude.{◌≤ℤ◌}
+-- Regions of space: boxes along the axes, and nodes with their places.
+use Rattle.std.specs.Prelude.{◌≡◌, ℕ, ◌≤ℤ◌}
 use Rattle.tsp_distance.specs.declared.decimal.Point.{Point}
+use Rattle.tsp_format.specs.Nodes.{IsNode}
 use Rattle.tsp_theory.specs.declared.region.Region.{Region}
+use Rattle.tsp_theory.specs.declared.site.Site.{Site}
 
 -- the point lies in the region
 pub record IsIn (region : Region) (p : Point) : Type 0 where
@@ -11,3 +13,8 @@ pub record IsIn (region : Region) (p : Point) : Type 0 where
   pub high_y : p.y ≤ℤ region.high.y
   pub low_z : region.low.z ≤ℤ p.z
   pub high_z : p.z ≤ℤ region.high.z
+
+-- a node with its place
+pub record IsSite (nodes : ℕ) (place : ℕ → Point) (site : Site) : Type 0 where
+  pub node_in : IsNode nodes site.node
+  pub there : site.place ≡ place site.node

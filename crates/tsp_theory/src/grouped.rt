@@ -1,18 +1,20 @@
 //! Costs that are compared with a number for all nodes of a region at once.
 
-ghost use Rattle.std.specs.Prelude.{ℕ, ◌≤ℤ◌, IfSome};
+ghost use Rattle.std.specs.Prelude.{◌≡◌, ℕ, pos, neg_ℤ, ◌≤ℤ◌, IfSome};
 ghost use Rattle.std.specs.Bool.{OnTrue};
 ghost use Rattle.tsp_distance.specs.declared.decimal.Point.{Point};
 ghost use Rattle.tsp_format.specs.Nodes.{IsNode};
-ghost use Rattle.tsp_theory.specs.Regions.{IsIn};
+ghost use Rattle.tsp_format.specs.Limits.{most_weight};
+ghost use Rattle.tsp_theory.specs.Regions.{IsIn, IsSite};
 
 use crate::costs::Symmetric;
 use crate::region::Region;
+use crate::site::Site;
 use std::alloc::Global;
 use tsp_memory::Refused;
 
 /// Costs whose nodes may have places in space, so that a region says of all nodes in it at once
-/// that they are far. By itself no node has a region, nothing is known of one, and the order is
+/// that they are far. By itself no node has a place, nothing is known of a region, and the order is
 /// empty.
 pub trait Grouped: Symmetric {
     ghost place: { Self → ℕ → Point };
@@ -28,20 +30,31 @@ pub trait Grouped: Symmetric {
         Ok(Vec::new(alloc))
     }
 
-    /// A region with the node's place, where it has one.
-    fn region(&self, node: u32) -> Option<Region>
+    /// The node with its place, where it has one.
+    fn site(&self, node: u32) -> Option<Site>
         requires { IsNode (Self.nodes self.now) node }
-        ensures { IfSome result (λ region. IsIn region (place self.now node)) }
+        ensures { IfSome result (λ site. (site.node ≡ node) × IsSite (Self.nodes self.now) (place self.now) site) }
     {
         None
     }
 
+    /// The cost from one node to another, which their places may give.
+    fn cost_between(&self, from: &Site, to: &Site) -> i64
+        requires from { IsSite (Self.nodes self.now) (place self.now) from.now }
+        requires to { IsSite (Self.nodes self.now) (place self.now) to.now }
+        ensures value { result ≡ Self.at self.now from.now.node to.now.node }
+        ensures low { neg_ℤ (pos most_weight) ≤ℤ result }
+        ensures high { result ≤ℤ pos most_weight }
+    {
+        self.cost(from.node, to.node)
+    }
+
     /// Whether each node whose place is in the region costs at least `least` from a node, where
     /// that is known.
-    fn is_beyond(&self, from: u32, region: &Region, least: i64) -> bool
-        requires { IsNode (Self.nodes self.now) from }
+    fn is_beyond(&self, from: &Site, region: &Region, least: i64) -> bool
+        requires { IsSite (Self.nodes self.now) (place self.now) from.now }
         ensures { OnTrue result ((to : ℕ) → IsNode (Self.nodes self.now) to
-            → IsIn region.now (place self.now to) → least ≤ℤ Self.at self.now from to) }
+            → IsIn region.now (place self.now to) → least ≤ℤ Self.at self.now from.now.node to) }
     {
         false
     }

@@ -17,6 +17,7 @@ mod grouped;
 mod laws;
 mod length;
 mod region;
+mod site;
 
 pub use costs::{Costs, Symmetric};
 pub use cycle_examples::examples_of_cycles;
@@ -32,3 +33,4 @@ pub use laws::{
 };
 pub use length::{canonical_length, tour_length, trace_tours};
 pub use region::Region;
+pub use site::Site;

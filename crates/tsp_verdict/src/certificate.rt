@@ -253,7 +253,10 @@ fn bound_of_potentials(
     ensures { IfOk result (λ bound. IsCertified certificates.Potentials inst.now pot.now bound) }
 {
     match view {
-        EvenView::Plane(points) => tree_bound(alloc, inst, &points, pot, numbers),
+        EvenView::Plane(points) => match points.euclidean() {
+            Some(euclidean) => tree_bound(alloc, inst, &euclidean, pot, numbers),
+            None => tree_bound(alloc, inst, &points, pot, numbers),
+        },
         EvenView::Space(points) => tree_bound(alloc, inst, &points, pot, numbers),
         EvenView::Triangle(triangle) => tree_bound(alloc, inst, &triangle, pot, numbers),
         EvenView::Matrix(matrix) => tree_bound(alloc, inst, &matrix, pot, numbers),

@@ -52,10 +52,16 @@ pub(crate) fn bound_of_tree(
     };
     // A view has found once and for all where the costs are.
     match instance.view() {
-        View::Plane(points) => {
-            let costs = InSpace { costs: &points };
-            judge_tree(alloc, instance, branches, &tree, &costs)
-        }
+        View::Plane(points) => match points.euclidean() {
+            Some(euclidean) => {
+                let costs = InSpace { costs: &euclidean };
+                judge_tree(alloc, instance, branches, &tree, &costs)
+            }
+            None => {
+                let costs = InSpace { costs: &points };
+                judge_tree(alloc, instance, branches, &tree, &costs)
+            }
+        },
         View::Space(points) => {
             let costs = InSpace { costs: &points };
             judge_tree(alloc, instance, branches, &tree, &costs)

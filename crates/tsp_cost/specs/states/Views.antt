@@ -7,7 +7,9 @@ use Rattle.tsp_format.specs.declared.kinds.WeightFormat.TheVariants.{Listed}
 use Rattle.tsp_draft.specs.Fields.{Fields}
 use Rattle.tsp_draft.specs.Rules.{is_explicit}
 use Rattle.tsp_file.specs.Cost.{listed_cost, distance, point_of, cost}
+use Rattle.tsp_distance.specs.declared.decimal.PlanePoint.{PlanePoint}
 use Rattle.tsp_cost.specs.declared.points.Points.{Points}
+use Rattle.tsp_cost.specs.declared.euclidean.Euclidean.{Euclidean}
 use Rattle.tsp_cost.specs.states.Metrics.{weight_kind_of}
 use Rattle.tsp_cost.specs.declared.matrix.Matrix.{Matrix}
 use Rattle.tsp_cost.specs.declared.matrix.EvenMatrix.{EvenMatrix}
@@ -28,6 +30,10 @@ points_cost place p i j =
 
 abbrev pub points_place : {P : Type 0} → (P → Point) → Points P → ℕ → Point
 points_place place p node = point_of (map place p.points.now) node
+
+-- those under EUC_2D
+abbrev pub euclidean_points : Euclidean → Points PlanePoint
+euclidean_points e = e.points
 
 abbrev pub matrix_nodes : Matrix → ℕ
 matrix_nodes m = m.nodes

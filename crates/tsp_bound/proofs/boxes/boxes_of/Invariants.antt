@@ -5,15 +5,15 @@ use Rattle.tsp_bound.proofs.boxes.boxes_of.Given as goal
 
 abbrev pub invariant-leaves : goal.invariant-leaves
 invariant-leaves g l = record {
-  len : length l.areas.items ≡ 2 * length l.order;
-  done : (j : ℕ) → j < l.place → HoldsNode (g.W.BoxedWeights.place_of l.w) (g.W.BoxedWeights.number_of l.w) (area_at l.areas.items (length l.order + j)) (node_of l.order j);
+  len : length l.areas.items ≡ 2 * length l.placed.order.now;
+  done : (j : ℕ) → j < l.place → HoldsNode (g.W.BoxedWeights.place_of l.placed.w.now) (g.W.BoxedWeights.number_of l.placed.w.now) (area_at l.areas.items (length l.placed.order.now + j)) (node_of l.placed.order.now j);
 }
 
 abbrev pub invariant-halves : goal.invariant-halves
 invariant-halves g l = record {
-  len : length l.areas.items ≡ 2 * length l.order;
-  high : l.v ≤ length l.order;
-  held : (outside : ℕ → Bool) → AreHeldFrom (HoldsNode (g.W.BoxedWeights.place_of l.w) (g.W.BoxedWeights.number_of l.w)) l.v l.order outside (area_at l.areas.items);
+  len : length l.areas.items ≡ 2 * length l.placed.order.now;
+  high : l.v ≤ length l.placed.order.now;
+  held : (outside : ℕ → Bool) → AreHeldFrom (HoldsNode (g.W.BoxedWeights.place_of l.placed.w.now) (g.W.BoxedWeights.number_of l.placed.w.now)) l.v l.placed.order.now outside (area_at l.areas.items);
 }
 
 abbrev pub decreases-halves : goal.decreases-halves

@@ -20,15 +20,15 @@ climb-preserved g c =
       | else-v-eq0 u ↦ (omega (arith, u.other-is, u.if-v-eq0.false), λ e. omega (arith, u.other-is, e, u.if-v-eq0.false))
     ] in
     let fits : SFits w64 c.climb.best.weight = search rules in
-    let searched : IsSearched w s.order.now outside s.from other c.climb.best c.if-not-is_left_alone.best = elim c.if-not-is_left_alone.branch [
+    let searched : IsSearched w s.order.now outside s.from.site.node other c.climb.best c.if-not-is_left_alone.best = elim c.if-not-is_left_alone.branch [
       | then-not-is_left_alone u ↦ rw u.best-is u.below-best.ensures
       | else-not-is_left_alone u ↦
           rw u.best-is (searched_alone In (IsNode (g.W.Weights.nodes s.w.now)) w s.order.now outside (g.S.Seen.area_of s.seen.now)
-          s.from other c.climb.best fits (omega (arith, halves.0, c.climb-test.true)) s.held s.nodes u.if-not-is_left_alone.ensures)
+          s.from.site.node other c.climb.best fits (omega (arith, halves.0, c.climb-test.true)) s.held s.nodes u.if-not-is_left_alone.ensures)
     ] in
     record {
       low = omega (arith, c.climb-test.true);
       high = omega (arith, c.climb.invariant.high);
-      searched = searched_both w s.order.now outside s.from (v / 2) v other no_best c.climb.best c.if-not-is_left_alone.best
+      searched = searched_both w s.order.now outside s.from.site.node (v / 2) v other no_best c.climb.best c.if-not-is_left_alone.best
           (omega (arith, c.climb.invariant.high)) (omega arith) halves.0 halves.1 c.climb.invariant.searched searched;
     }

@@ -8,7 +8,7 @@ invariant-climb g l = record {
   low : 1 ≤ l.v;
   high : l.v < 2 * length l.search.order.now;
   searched : IsSearched (g.W.BoxedWeights.unlowered l.search.w.now) l.search.order.now
-      (g.S.Seen.outside_of l.search.seen.now) l.search.from l.v no_best l.best;
+      (g.S.Seen.outside_of l.search.seen.now) l.search.from.site.node l.v no_best l.best;
 }
 
 abbrev pub decreases-climb : goal.decreases-climb

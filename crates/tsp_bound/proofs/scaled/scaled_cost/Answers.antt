@@ -1,16 +1,12 @@
--- The goals of `scaled_cost` in src/scaled.rt: that no sum overflows and what it ensures.
-use Rattle.std.proofs.Common.{ap, ◌∙◌}
+-- The goals of `scaled_cost` in src/scaled.rt: what it ensures.
+use Rattle.std.proofs.Common.{ap₂, ◌∙◌, rules, w64, SFits}
 use Rattle.std.specs.Prelude.{◌*ℤ◌}
-use Rattle.tsp_theory.proofs.Sizes.{product_fits, product_is, scaled_size}
+use Rattle.std.proofs.lemmas.Int.{to_z-of_z}
+use Rattle.tsp_theory.proofs.Sizes.{same_scale}
 use Rattle.tsp_bound.proofs.scaled.scaled_cost.Goals as goal
 
-pub overflow_mul-result : goal.overflow_mul-result
-overflow_mul-result g c = product_fits c.args.scale c.cost.result c.requires.scale c.cost.ensures.low c.cost.ensures.high
-
-pub returns : goal.returns
-returns g c =
-    let is = product_is c.args.scale c.cost.result c.requires.scale c.cost.ensures.low c.cost.ensures.high in
-    record {
-      value = is ∙ ap (λ z. c.args.scale *ℤ z) c.cost.ensures.value;
-      size = rw is (scaled_size c.args.scale c.cost.result c.requires.scale c.cost.ensures.low c.cost.ensures.high);
-    }
+pub returns-clause-value : goal.returns-clause-value
+returns-clause-value g c =
+    let fits : SFits w64 c.cost.result = search rules in
+    let back : SFits w64 c.scaled.result = search rules in
+    to_z-of_z w64 c.scaled.result back ∙ c.scaled.ensures.value ∙ ap₂ (λ a b. a *ℤ b) (same_scale c.args.scale c.requires.scale) (to_z-of_z w64 c.cost.result fits ∙ c.cost.ensures.value)

@@ -1,7 +1,8 @@
 -- The goals of `Placed::nearest` in src/placed.rt: what its calls require and what it ensures.
-use Rattle.std.proofs.Common.{◌≢◌, pos, rules, ap, w64, to_z, of_z, SFits}
+use Rattle.std.proofs.Common.{ℕ, ◌≡◌, ◌≢◌, sym, subst, pos, rules, ap, w64, to_z, of_z, SFits}
 use Rattle.std.proofs.lemmas.Int.{to_z-of_z}
-use Rattle.tsp_bound.specs.states.Boxes.{node_of}
+use Rattle.tsp_bound.specs.declared.spot.Spot.{Spot}
+use Rattle.tsp_bound.specs.states.Boxes.{node_of, IsSearched, no_best}
 use Rattle.tsp_bound.proofs.Lowest.{searched_best}
 use Rattle.tsp_bound.proofs.Trees.{found_some, nearest_is}
 use Rattle.tsp_bound.proofs.placed.Placed.nearest.Goals as goal
@@ -10,7 +11,13 @@ pub lowered-best-requires-clause-best : goal.lowered-best-requires-clause-best
 lowered-best-requires-clause-best g c =
     let s = c.args.self.now in
     let w = g.W.BoxedWeights.unlowered s.w.now in
-    searched_best w s.order.now (g.S.Seen.outside_of c.args.seen.now) (node_of s.order.now c.args.from) c.nearest_from-unlowered.result c.nearest_from-unlowered.ensures
+    let outside = g.S.Seen.outside_of c.args.seen.now in
+    let best = c.nearest_from-unlowered.result in
+    let spot : Spot = c.index-spots-from.result in
+    let node : spot.site.node ≡ node_of s.order.now c.args.from =
+    subst (λ (one : Spot). one.site.node ≡ node_of s.order.now c.args.from) (sym c.index-spots-from.is) (c.requires.spots c.args.from spot c.requires.from).here in
+    searched_best w s.order.now outside (node_of s.order.now c.args.from) best
+    (subst (λ (k : ℕ). IsSearched w s.order.now outside k 1 no_best best) node c.nearest_from-unlowered.ensures)
 
 pub returns : goal.returns
 returns g c =

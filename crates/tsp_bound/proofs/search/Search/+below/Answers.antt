@@ -15,12 +15,12 @@ returns g t c =
     let outside = g.S.Seen.outside_of s.seen.now in
     let half = c.if-is_left_alone.half in
     let fits : SFits w64 c.args.best.weight = search rules in
-    let first : IsSearched w s.order.now outside s.from (2 * c.args.v) c.args.best half = elim c.if-is_left_alone.branch [
-      | then-is_left_alone u ↦ rw u.half-is (searched_alone In (IsNode (g.W.Weights.nodes s.w.now)) w s.order.now outside (g.S.Seen.area_of s.seen.now) s.from (2 * c.args.v) c.args.best
+    let first : IsSearched w s.order.now outside s.from.site.node (2 * c.args.v) c.args.best half = elim c.if-is_left_alone.branch [
+      | then-is_left_alone u ↦ rw u.half-is (searched_alone In (IsNode (g.W.Weights.nodes s.w.now)) w s.order.now outside (g.S.Seen.area_of s.seen.now) s.from.site.node (2 * c.args.v) c.args.best
           fits (omega (arith, c.requires.low)) s.held s.nodes u.if-is_left_alone.ensures)
       | else-is_left_alone u ↦ rw u.half-is u.below-half.ensures
     ] in
-    searched_both w s.order.now outside s.from c.args.v (2 * c.args.v) (2 * c.args.v + 1) c.args.best half c.below.result
+    searched_both w s.order.now outside s.from.site.node c.args.v (2 * c.args.v) (2 * c.args.v + 1) c.args.best half c.below.result
     c.if-v-self.false (omega arith) (omega arith) (λ same. omega (arith, same)) first c.below.ensures
 
 pub returns-then-is_left_alone-2 : goal.returns-then-is_left_alone-2
@@ -32,12 +32,12 @@ returns-then-is_left_alone-2 g t c =
     let half = c.if-is_left_alone.half in
     let fits : SFits w64 c.args.best.weight = search rules in
     let half_fits : SFits w64 half.weight = search rules in
-    let first : IsSearched w s.order.now outside s.from (2 * c.args.v) c.args.best half = elim c.if-is_left_alone.branch [
-      | then-is_left_alone u ↦ rw u.half-is (searched_alone In (IsNode (g.W.Weights.nodes s.w.now)) w s.order.now outside (g.S.Seen.area_of s.seen.now) s.from (2 * c.args.v) c.args.best
+    let first : IsSearched w s.order.now outside s.from.site.node (2 * c.args.v) c.args.best half = elim c.if-is_left_alone.branch [
+      | then-is_left_alone u ↦ rw u.half-is (searched_alone In (IsNode (g.W.Weights.nodes s.w.now)) w s.order.now outside (g.S.Seen.area_of s.seen.now) s.from.site.node (2 * c.args.v) c.args.best
           fits (omega (arith, c.requires.low)) s.held s.nodes u.if-is_left_alone.ensures)
       | else-is_left_alone u ↦ rw u.half-is u.below-half.ensures
     ] in
-    searched_both w s.order.now outside s.from c.args.v (2 * c.args.v) (2 * c.args.v + 1) c.args.best half half
+    searched_both w s.order.now outside s.from.site.node c.args.v (2 * c.args.v) (2 * c.args.v + 1) c.args.best half half
     c.if-v-self.false (omega arith) (omega arith) (λ same. omega (arith, same)) first
-    (searched_alone In (IsNode (g.W.Weights.nodes s.w.now)) w s.order.now outside (g.S.Seen.area_of s.seen.now) s.from (2 * c.args.v + 1) half
+    (searched_alone In (IsNode (g.W.Weights.nodes s.w.now)) w s.order.now outside (g.S.Seen.area_of s.seen.now) s.from.site.node (2 * c.args.v + 1) half
     half_fits (omega arith) s.held s.nodes c.if-is_left_alone-2.ensures)

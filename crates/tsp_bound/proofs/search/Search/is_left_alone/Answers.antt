@@ -22,7 +22,7 @@ returns-in-Some-checked_sub g c = on_true_still c.is_beyond.result _ _ (λ far t
     let area = c.in-Some.area.now in
     let left = c.in-Some-checked_sub.left in
     let cost = c.cost_of-least.result in
-    let other = g.W.BoxedWeights.cost_of s.w.now s.from to in
+    let other = g.W.BoxedWeights.cost_of s.w.now s.from.site.node to in
     let is : g.S.Seen.area_of s.seen.now c.args.v ≡ Some area = c.in-Some.ensures in
     let held : HoldsNode place number (Some area) to = subst (λ (o : Option Area). HoldsNode place number o to) is h in
     let left_fits : SFits w64 left = subst (λ (z : ℤ). SFits w64 z) (sym c.in-Some-checked_sub.ensures.1) c.in-Some-checked_sub.ensures.0 in
@@ -30,6 +30,6 @@ returns-in-Some-checked_sub g c = on_true_still c.is_beyond.result _ _ (λ far t
     let enough : left ≤ℤ (scale *ℤ cost) = subst (λ (z : ℤ). left ≤ℤ (z *ℤ cost)) c.scale.ensures.value
     (enough_is left c.scale.result cost left_fits c.scale.ensures.scale c.cost_of-least.ensures) in
     let further : cost ≤ℤ other = subst (λ (z : ℤ). z ≤ℤ other) (to_z-of_z w64 cost cost_fits) (far to node held.0) in
-    best_below c.args.best left scale cost other s.own area.least (number to) (g.W.BoxedWeights.unlowered s.w.now s.from to) s.scaled
-    (left_is c.args.best s.own area.least left c.ranges.best s.own_size area.size c.in-Some-checked_sub.ensures.1) enough further held.1
-    (subst (λ (z : ℤ). ((scale *ℤ other) +ℤ (z +ℤ number to)) ≤ℤ g.W.BoxedWeights.unlowered s.w.now s.from to) (sym s.own_is) (c.is_beyond.ensures.above to node))) c.is_beyond.ensures.beyond
+    best_below c.args.best left scale cost other s.from.number area.least (number to) (g.W.BoxedWeights.unlowered s.w.now s.from.site.node to) s.scaled
+    (left_is c.args.best s.from.number area.least left c.ranges.best s.own.size area.size c.in-Some-checked_sub.ensures.1) enough further held.1
+    (subst (λ (z : ℤ). ((scale *ℤ other) +ℤ (z +ℤ number to)) ≤ℤ g.W.BoxedWeights.unlowered s.w.now s.from.site.node to) (sym s.own.value) (c.is_beyond.ensures.above to node))) c.is_beyond.ensures.beyond

@@ -21,8 +21,8 @@ returns-then-base-most-clause-no_less g c = λ above.
     let case : List Decision = decisions_in p.decided.now.case.now in
     let fits : FitsSigned w64 c.base-base.result = search rules in
     let back = to_z-of_z w64 c.base-base.result fits in
-    let below = base_below q.scale q.potentials.now q.multipliers.now (lent_in q.families.now) (g.C.Costs.at q.costs.now) c.args.from c.args.to (least_at q.moved.now c.args.from)
-    (least_at q.moved.now c.args.to) c.base-base.result q.families.now.once (p.exact c.args.from c.requires.from).0 (p.exact c.args.to c.requires.to).0 c.base-base.ensures.value case q.small
+    let below = base_below q.scale q.potentials.now q.multipliers.now (lent_in q.families.now) (g.C.Costs.at q.costs.now) c.args.from.now.site.node c.args.to.now.site.node (least_at q.moved.now c.args.from.now.site.node)
+    (least_at q.moved.now c.args.to.now.site.node) c.base-base.result q.families.now.once (p.exact c.args.from.now.site.node c.requires.from.site.node_in).0 (p.exact c.args.to.now.site.node c.requires.to.site.node_in).0 c.base-base.ensures.value case q.small
     q.as_many q.families.now.many q.families.now.as_many in
     omega (arith, ints, above, back, below)
 
@@ -37,8 +37,8 @@ returns-then-change-lt0-clause-less g c = λ low.
     let fits : FitsSigned w64 c.combed-combed.result = search rules in
     let zero_fits : FitsSigned w64 (pos 0) = omega (arith, ints) in
     let less : change <ℤ pos 0 = below_seen change (pos 0) change_fits zero_fits c.if-change-lt0.true in
-    let none : upwards (changes case c.args.from c.args.to) ≡ pos 0 = ap upwards (sym c.change-change.ensures.value) ∙ upwards_less change less in
-    let is : to_z w64 (of_z w64 c.combed-combed.result) ≡ raised case w c.args.from c.args.to =
+    let none : upwards (changes case c.args.from.now.site.node c.args.to.now.site.node) ≡ pos 0 = ap upwards (sym c.change-change.ensures.value) ∙ upwards_less change less in
+    let is : to_z w64 (of_z w64 c.combed-combed.result) ≡ raised case w c.args.from.now.site.node c.args.to.now.site.node =
     to_z-of_z w64 c.combed-combed.result fits ∙ (let value = c.combed-combed.ensures.value in omega (arith, ints, value, none)) in
     is
 
@@ -53,8 +53,8 @@ returns-then-change-lt0-clause-no_less g c = λ above.
     let fits : FitsSigned w64 c.combed-combed.result = search rules in
     let zero_fits : FitsSigned w64 (pos 0) = omega (arith, ints) in
     let less : change <ℤ pos 0 = below_seen change (pos 0) change_fits zero_fits c.if-change-lt0.true in
-    let none : upwards (changes case c.args.from c.args.to) ≡ pos 0 = ap upwards (sym c.change-change.ensures.value) ∙ upwards_less change less in
-    let is : to_z w64 (of_z w64 c.combed-combed.result) ≡ raised case w c.args.from c.args.to =
+    let none : upwards (changes case c.args.from.now.site.node c.args.to.now.site.node) ≡ pos 0 = ap upwards (sym c.change-change.ensures.value) ∙ upwards_less change less in
+    let is : to_z w64 (of_z w64 c.combed-combed.result) ≡ raised case w c.args.from.now.site.node c.args.to.now.site.node =
     to_z-of_z w64 c.combed-combed.result fits ∙ (let value = c.combed-combed.ensures.value in omega (arith, ints, value, none)) in
     subst (λ (z : ℤ). c.args.most ≤ℤ z) is above
 
@@ -68,8 +68,8 @@ returns-else-change-lt0-clause-less g c = λ low.
     let change_fits : FitsSigned w64 c.change-change.result = search rules in
     let zero_fits : FitsSigned w64 (pos 0) = omega (arith, ints) in
     let some : pos 0 ≤ℤ change = not_less_seen change (pos 0) change_fits zero_fits c.if-change-lt0.false in
-    let all : upwards (changes case c.args.from c.args.to) ≡ change = ap upwards (sym c.change-change.ensures.value) ∙ upwards_same change some in
-    let is : to_z w64 (of_z w64 (to_z w64 (of_z w64 c.combed-combed.result) +ℤ to_z w64 (of_z w64 c.change-change.result))) ≡ raised case w c.args.from c.args.to =
+    let all : upwards (changes case c.args.from.now.site.node c.args.to.now.site.node) ≡ change = ap upwards (sym c.change-change.ensures.value) ∙ upwards_same change some in
+    let is : to_z w64 (of_z w64 (to_z w64 (of_z w64 c.combed-combed.result) +ℤ to_z w64 (of_z w64 c.change-change.result))) ≡ raised case w c.args.from.now.site.node c.args.to.now.site.node =
     (let value = c.combed-combed.ensures.value in let a = c.combed-combed.ensures.size in let b = c.change-change.ensures.size in omega (arith, ints, value, all, a.0, a.1, b.0, b.1)) in
     is
 
@@ -83,7 +83,7 @@ returns-else-change-lt0-clause-no_less g c = λ above.
     let change_fits : FitsSigned w64 c.change-change.result = search rules in
     let zero_fits : FitsSigned w64 (pos 0) = omega (arith, ints) in
     let some : pos 0 ≤ℤ change = not_less_seen change (pos 0) change_fits zero_fits c.if-change-lt0.false in
-    let all : upwards (changes case c.args.from c.args.to) ≡ change = ap upwards (sym c.change-change.ensures.value) ∙ upwards_same change some in
-    let is : to_z w64 (of_z w64 (to_z w64 (of_z w64 c.combed-combed.result) +ℤ to_z w64 (of_z w64 c.change-change.result))) ≡ raised case w c.args.from c.args.to =
+    let all : upwards (changes case c.args.from.now.site.node c.args.to.now.site.node) ≡ change = ap upwards (sym c.change-change.ensures.value) ∙ upwards_same change some in
+    let is : to_z w64 (of_z w64 (to_z w64 (of_z w64 c.combed-combed.result) +ℤ to_z w64 (of_z w64 c.change-change.result))) ≡ raised case w c.args.from.now.site.node c.args.to.now.site.node =
     (let value = c.combed-combed.ensures.value in let a = c.combed-combed.ensures.size in let b = c.change-change.ensures.size in omega (arith, ints, value, all, a.0, a.1, b.0, b.1)) in
     subst (λ (z : ℤ). c.args.most ≤ℤ z) is above

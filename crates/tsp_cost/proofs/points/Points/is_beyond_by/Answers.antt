@@ -13,8 +13,8 @@ pub returns : goal.returns
 returns g c = known_true c.is_at_least.result _ (λ true_is to node inside.
     let laws = c.monotone_laws.ensures in
     let kind = weight_kind_of c.args.metric in
-    let own : Point = points_place g.P.InSpace.place c.args.self.now c.args.from in
-    let here : Point = c.place-here.result in
+    let own : Point = points_place g.P.InSpace.place c.args.self.now c.args.from.now.node in
+    let here : Point = c.args.from.now.place in
     let there : Point = points_place g.P.InSpace.place c.args.self.now to in
     let nearest = c.nearest.result in
     let grows : distance kind here nearest ≤ℤ distance kind here there =
@@ -22,7 +22,7 @@ returns g c = known_true c.is_at_least.result _ (λ true_is to node inside.
     here there
     (c.nearest.ensures.across there inside) (c.nearest.ensures.along there inside) (c.nearest.ensures.above there inside) in
     subst (λ (metric : Metric). c.args.least ≤ℤ distance (weight_kind_of metric) own there) c.requires.metric
-    (subst (λ (p : Point). c.args.least ≤ℤ distance kind p there) c.place-here.ensures
+    (subst (λ (p : Point). c.args.least ≤ℤ distance kind p there) c.requires.from.there
     (at_least_further c.args.least (distance kind here nearest) (distance kind here there)
     (subst (λ (z : ℤ). z ≤ℤ distance kind here nearest) (to_z-of_z w64 c.args.least c.ranges.least)
     (c.is_at_least.ensures.0 true_is)) grows)))

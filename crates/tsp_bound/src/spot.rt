@@ -1,0 +1,12 @@
+//! Nodes with their places and their numbers.
+
+use tsp_theory::Site;
+
+/// A node with its place, and its number.
+#[derive(Clone, Copy, Debug)]
+pub struct Spot {
+    /// The node and its place.
+    pub site: Site,
+    /// Its number.
+    pub number: i64,
+}

@@ -1,0 +1,8 @@
+-- The bounds of several leaves.
+use Rattle.std.specs.Prelude.{◌≡◌, Option, Some, None, ◌⊎◌, ℤ, ◌≤ℤ◌}
+
+-- the lower one of a bound and the lowest so far, where there are both; else the one that there is
+abbrev pub IsLowest : Option ℤ → Option ℤ → Option ℤ → Type 0
+IsLowest None own lower = lower ≡ own
+IsLowest (Some lowest) None lower = lower ≡ Some lowest
+IsLowest (Some lowest) (Some own) lower = ((lower ≡ Some lowest) × (lowest ≤ℤ own)) ⊎ ((lower ≡ Some own) × (own ≤ℤ lowest))

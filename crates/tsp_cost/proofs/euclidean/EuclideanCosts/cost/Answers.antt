@@ -1,0 +1,9 @@
+-- The goals of `EuclideanCosts::cost` in src/euclidean.rt: what it ensures.
+use Rattle.std.proofs.Common.{ℕ, ℤ, ap, ◌∙◌, rules, w64, SFits}
+use Rattle.std.proofs.lemmas.Int.{to_z-of_z}
+use Rattle.tsp_cost.proofs.euclidean.EuclideanCosts.cost.Goals as goal
+
+pub returns-clause-value : goal.returns-clause-value
+returns-clause-value c =
+    let fits : SFits w64 c.cost.result = search rules in
+    to_z-of_z w64 c.cost.result fits ∙ c.cost.ensures.value ∙ ap (λ (costs : ℕ → ℕ → ℤ). costs c.args.i c.args.j) c.with.ensures.costs

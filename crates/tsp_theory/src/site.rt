@@ -1,0 +1,12 @@
+//! Nodes with their places.
+
+use tsp_distance::Point;
+
+/// A node, and the point in space that is its place.
+#[derive(Clone, Copy, Debug)]
+pub struct Site {
+    /// The node.
+    pub node: u32,
+    /// Its place.
+    pub place: Point,
+}
