@@ -5,13 +5,8 @@ use Rattle.std.specs.Int.{w64}
 use Rattle.std.proofs.lemmas.Int.{to_z-of_z}
 use Rattle.tsp_draft.specs.Fields.{Fields, nodes_of}
 use Rattle.tsp_verdict.proofs.FilesHold.{as_many}
-use Rattle.tsp_verdict.proofs.RouteVerdicts.{customers_below, customers_in, IsMarked, is_marked, repeated_first, unserved_first, all_served, none_unserved, overload_first, is_planned}
+use Rattle.tsp_verdict.proofs.RouteVerdicts.{customers_in, IsMarked, is_marked, repeated_first, unserved_first, all_served, none_unserved, overload_first, is_planned}
 use Rattle.tsp_verdict.proofs.routes.verdict_on_routes.Goals as goal
-
-pub mark_all-requires-clause-range : goal.mark_all-requires-clause-range
-mark_all-requires-clause-range c =
-    let wide : vec_len c.in_ok-seen.seen ≡ nodes_of c.args.inst.now + 1 = omega (arith, c.in_ok-seen.ensures.len, c.count.ensures.value) in
-    customers_below c.args.inst.now c.args.sol.now _ (vec_len c.in_ok-seen.seen) c.in-Ok.ensures.4.nodes wide c.in_default.ensures.0
 
 pub first_overload-requires-clause-range : goal.first_overload-requires-clause-range
 first_overload-requires-clause-range c =
