@@ -29,13 +29,21 @@ use Rattle.tsp_judge.specs.Yes.{SaysYes, IsCheckOf}
 use Rattle.tsp_judge.specs.BoundRun.{BoundsFiles, EndsUnbounded, SaysBound, IsBoundRunOf}
 use Rattle.tsp_judge.specs.ShowRun.{IsShowRun}
 use Rattle.tsp_judge.specs.ConvertRun.{IsConverted, IsConvertRun}
-use Rattle.tsp_judge.specs.Open.{IsTextFault}
+use Rattle.tsp_judge.specs.Open.{IsTextFault, ReadsText, IsUnopened}
 use Rattle.tsp_c.specs.Ended.{without_devices, done, bound_answer, EndsOnTexts}
 use Rattle.tsp_c.specs.Texts.{IsFileText, StopsShowing, ShowsText, BecomesFile, StopsConverting, ConvertsText, with_certificate, SpellsGiven}
 use Rattle.tsp_c.specs.Texts.{AreSpelled, IsAcceptedText, IsRejected, IsUnchecked, IsReached, StopsCheck, ChecksTexts, IsBoundText, IsUnbounded, StopsBound, BoundsTexts}
 use Rattle.tsp_c.proofs.StatusMeanings.{yes_ends, no_ends, fault_ends}
 
 -- ---- a text
+
+-- the fault of a text is why it is no instance
+pub no_instance : (text : List ℕ) (fault : RunFault) → ReadsText 1 text (Err fault) → IsUnopened text fault
+no_instance text (File file found) stops = stops
+no_instance text WrongKind stops = absurd stops
+no_instance text (Write found) stops = absurd stops
+no_instance text OutOfMemory stops = absurd stops
+no_instance text (Relayout found) stops = absurd stops
 
 pub spelled : (turn : Turn) (text : List ℕ) (file : Fields) → turn.known ≡ Some text → IsFile turn file → Spells text file
 spelled turn text file known is = subst (λ (k : Option (List ℕ)). IfSome k (λ xs. Spells xs file)) known is.3

@@ -30,7 +30,7 @@ const TWO_TO_64: i128 = 18_446_744_073_709_551_616;
 
 /// The result of a call, in numbers. A number that it doesn't have is 0.
 #[repr(C)]
-#[derive(Clone, Copy, Debug, PartialEq, Eq)]
+#[derive(Clone, Copy)]
 pub struct Told {
     /// The TYPE of the instance: 1 TSP, 2 ATSP, 3 CVRP.
     pub kind: u32,

@@ -3,6 +3,7 @@ pub mod Comparing
 pub mod CompareMeaning
 pub mod Converts
 pub mod HandedOn
+pub mod Openings
 pub mod Runs
 pub mod Shows
 pub mod Tellings

@@ -96,12 +96,14 @@ fn bound_read<W: Write>(
     let Ok(instance) = Instance::of(instance) else {
         return Err(Early::wrong_kind());
     };
-    let found = bound_files(alloc, by, &instance, &certificate, out)?;
-    Ok(Bounded {
-        found,
-        instance,
-        certificate,
-    })
+    match bound_files(alloc, by, &instance, &certificate, out) {
+        Ok(found) => Ok(Bounded {
+            found,
+            instance,
+            certificate,
+        }),
+        Err(early) => Err(early),
+    }
 }
 
 /// Bounds the tours of an instance, and writes the report.

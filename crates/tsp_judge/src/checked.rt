@@ -113,11 +113,13 @@ pub(crate) fn judge_read<W: Write>(
     let Ok(instance) = Instance::of(instance) else {
         return Err(Early::wrong_kind());
     };
-    let verdict = judge_files(alloc, &instance, &solution, &certificate, claimed, out)?;
-    Ok(Judged {
-        verdict,
-        instance,
-        solution,
-        certificate,
-    })
+    match judge_files(alloc, &instance, &solution, &certificate, claimed, out) {
+        Ok(verdict) => Ok(Judged {
+            verdict,
+            instance,
+            solution,
+            certificate,
+        }),
+        Err(early) => Err(early),
+    }
 }

@@ -121,8 +121,10 @@ pub(crate) fn compare_read<R: Gives + Drop, E, S: Solutions<R> + Follow<E>, W: W
         return Err(Early::wrong_kind());
     };
     let common = common_of(alloc, instance, certificate)?;
-    let status = compare_with(alloc, &common, solutions, out, to)?;
-    Ok(Compared { common, status })
+    match compare_with(alloc, &common, solutions, out, to) {
+        Ok(status) => Ok(Compared { common, status }),
+        Err(early) => Err(early),
+    }
 }
 
 /// Writes the head, and compares the solutions where no reason applies to all of them.

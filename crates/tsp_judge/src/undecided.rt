@@ -17,7 +17,7 @@ use tsp_verdict::{
 
 /// Memory was refused for a judgement. Only the calls of this file make one, each where that of
 /// tsp_verdict was refused it.
-#[derive(Clone, Copy, Debug, Drop)]
+#[derive(Clone, Copy, Drop)]
 pub(crate) struct Undecided {
     error: AllocError,
 }

@@ -1,4 +1,4 @@
--- The lines of `show` for an instance after its head.
+-- The lines of `show` after the head: for an instance, and for another file.
 use Rattle.std.proofs.Common.{◌≡◌, ℕ, List, ◌++◌, Option, Some, None, refl, sym, ap, subst, ◌∙◌}
 use Rattle.std.specs.Prelude.{IsTrue}
 use Rattle.std.proofs.lemmas.Bool.{false≢true}
@@ -30,3 +30,12 @@ rest_of_instance file instance others a b c same is kept h k =
     let costs : Carried a b (lines_by_type file.kind file) = subst (Carried a b) (ap cost_lines same ∙ sym (lines_of_instance file.kind file is)) h in
     let rest : Carried b c (not_judged file.others) = subst (Carried b c) (ap not_judged (kept ∙ ap (λ (f : Fields). f.others) same)) k in
     carried_then a b c (lines_by_type file.kind file) (not_judged file.others) costs rest
+
+-- those of another file, and then the lines of unknown keywords
+pub rest_of_other : (file other : Fields) (others : List (List ℕ × List ℕ)) (a b c : Way) → other ≡ file → others ≡ other.others
+    → Carried a b (lines_by_type other.kind other) → Carried b c (not_judged others)
+    → Carried a c (lines_by_type file.kind file ++ not_judged file.others)
+rest_of_other file other others a b c same kept h k =
+    let lines : Carried a b (lines_by_type file.kind file) = subst (λ (f : Fields). Carried a b (lines_by_type f.kind f)) same h in
+    let rest : Carried b c (not_judged file.others) = subst (Carried b c) (ap not_judged (kept ∙ ap (λ (f : Fields). f.others) same)) k in
+    carried_then a b c (lines_by_type file.kind file) (not_judged file.others) lines rest

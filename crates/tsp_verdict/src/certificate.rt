@@ -35,7 +35,7 @@ use tsp_memory::Refused;
 use tsp_reason::{BoundVerdict, Reason};
 
 /// The potentials of nodes that a certificate holds, and its multipliers of fixed pairs.
-#[derive(Clone, Copy, Debug)]
+#[derive(Clone, Copy)]
 struct NodeNumbers<'a> {
     potentials: Potentials<'a>,
     multipliers: Multipliers<'a>,

@@ -27,7 +27,7 @@ use tsp_reason::Reason;
 pub(crate) const FEWEST_NODES: u32 = 3;
 
 /// What the costs of an instance are taken from, by its TYPE.
-#[derive(Clone, Copy, Debug)]
+#[derive(Clone, Copy)]
 pub(crate) enum TourCosts<'a> {
     /// TYPE TSP, whose costs are the same in both directions.
     Undirected(EvenView<'a>),

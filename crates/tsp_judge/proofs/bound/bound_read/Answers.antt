@@ -1,8 +1,7 @@
 -- The goals of `bound_read` in src/bound.rt: what it ensures.
-use Rattle.std.proofs.Common.{◌≡◌, Err, refl, sym, subst}
+use Rattle.std.proofs.Common.{refl, sym, subst}
 use Rattle.std.proofs.KnownBytes.{Keeps-refl}
 use Rattle.tsp_read.specs.Reads.{IsFile}
-use Rattle.tsp_judge.proofs.HandedOn.{handed_on}
 use Rattle.tsp_cost.specs.ProblemLaws.{IsProblem}
 use Rattle.tsp_judge.proofs.Runs.{none_bounded}
 use Rattle.tsp_judge.proofs.Bounding.{ends_unbounded, bound_run_of, bound_fault_of}
@@ -13,12 +12,11 @@ returns-in_default g c = λ first second one two.
     rw c.wrong_kind.ensures
     (bound_fault_of _ _ _ _ _ (c.args.instance, c.args.certificate, one, two, (none_bounded c.args.by _ c.in_default.ensures.2, (Keeps-refl _, refl))))
 
-pub returns-in_err-found : goal.returns-in_err-found
-returns-in_err-found g c = λ first second one two.
-    let same : c.from_residual.result ≡ Err c.in_err-found.field-0.0 = handed_on _ _ c.from_residual.ensures.1 in
-    rw same (bound_fault_of _ _ _ _ _
-    (ends_unbounded c.args.by first second c.in-Ok.instance c.args.certificate _ _ (subst (IsFile first) (sym c.in-Ok.ensures.0) one) two c.in_err-found.ensures))
+pub returns-in-Err : goal.returns-in-Err
+returns-in-Err g c = λ first second one two.
+    bound_fault_of _ _ _ _ _
+    (ends_unbounded c.args.by first second c.in-Ok.instance c.args.certificate _ _ (subst (IsFile first) (sym c.in-Ok.ensures.0) one) two c.in-Err.ensures)
 
-pub returns : goal.returns
-returns g c = λ first second one two.
-    bound_run_of _ _ _ _ _ (subst IsProblem (sym c.in-Ok.ensures.0) c.in-Ok.ensures.2) (subst (IsFile first) (sym c.in-Ok.ensures.0) one, two, c.in_ok-found.ensures)
+pub returns-in-Ok-bound_files : goal.returns-in-Ok-bound_files
+returns-in-Ok-bound_files g c = λ first second one two.
+    bound_run_of _ _ _ _ _ (subst IsProblem (sym c.in-Ok.ensures.0) c.in-Ok.ensures.2) (subst (IsFile first) (sym c.in-Ok.ensures.0) one, two, c.in-Ok-bound_files.ensures)

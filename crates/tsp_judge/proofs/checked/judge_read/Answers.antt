@@ -1,8 +1,7 @@
 -- The goals of `judge_read` in src/checked.rt: what it ensures.
-use Rattle.std.proofs.Common.{◌≡◌, Err, refl, sym, subst}
+use Rattle.std.proofs.Common.{refl, sym, subst}
 use Rattle.std.proofs.KnownBytes.{Keeps-refl}
 use Rattle.tsp_read.specs.Reads.{IsFile}
-use Rattle.tsp_judge.proofs.HandedOn.{handed_on}
 use Rattle.tsp_cost.specs.ProblemLaws.{IsProblem}
 use Rattle.tsp_judge.proofs.Runs.{are_read, ends_without, none_judged}
 use Rattle.tsp_judge.proofs.Yeses.{run_of, fault_of_run}
@@ -17,13 +16,12 @@ returns-in_default g c = λ given first second one two three. rw c.wrong_kind.en
   (none_judged c.args.certificate _ c.in_default.ensures.2, (Keeps-refl _, refl)),
 ))
 
-pub returns-in_err-verdict : goal.returns-in_err-verdict
-returns-in_err-verdict g c = λ given first second one two three.
-    let same : c.from_residual.result ≡ Err c.in_err-verdict.field-0.0 = handed_on _ _ c.from_residual.ensures.1 in
-    rw same (fault_of_run given _ first second _ _ (ends_without given _ first second c.in-Ok.instance c.args.solution c.args.certificate _ _
-    (are_read given first second c.in-Ok.instance c.args.solution c.args.certificate (subst (IsFile first) (sym c.in-Ok.ensures.0) one) two three) c.in_err-verdict.ensures))
+pub returns-in-Err : goal.returns-in-Err
+returns-in-Err g c = λ given first second one two three.
+    fault_of_run given _ first second _ _ (ends_without given _ first second c.in-Ok.instance c.args.solution c.args.certificate _ _
+    (are_read given first second c.in-Ok.instance c.args.solution c.args.certificate (subst (IsFile first) (sym c.in-Ok.ensures.0) one) two three) c.in-Err.ensures)
 
-pub returns : goal.returns
-returns g c = λ given first second one two three.
+pub returns-in-Ok-judge_files : goal.returns-in-Ok-judge_files
+returns-in-Ok-judge_files g c = λ given first second one two three.
     run_of given _ first second _ _ (subst IsProblem (sym c.in-Ok.ensures.0) c.in-Ok.ensures.2)
-    (are_read given first second c.in-Ok.instance c.args.solution c.args.certificate (subst (IsFile first) (sym c.in-Ok.ensures.0) one) two three, c.in_ok-verdict.ensures)
+    (are_read given first second c.in-Ok.instance c.args.solution c.args.certificate (subst (IsFile first) (sym c.in-Ok.ensures.0) one) two three, c.in-Ok-judge_files.ensures)

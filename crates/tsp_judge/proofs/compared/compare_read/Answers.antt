@@ -23,15 +23,14 @@ returns-in_err-common-clause-text g c = λ given first one two.
     let same : c.from_residual.result ≡ Err c.in_err-common.field-0.0 = handed_on _ _ c.from_residual.ensures.1 in
     rw same (ends_lacking (IsTurnAt g.R.Read.remaining g.R.Gives.gives (g.S.Solutions.opens c.args.solutions.now)) (g.S.Solutions.names c.args.solutions.now) given first c.in-Ok.instance c.args.certificate _ _ (subst (IsFile first) (sym c.in-Ok.ensures.0) one) two c.in_err-common.ensures (Keeps-refl _, refl))
 
-pub returns-in_err-status-clause-text : goal.returns-in_err-status-clause-text
-returns-in_err-status-clause-text g c = λ given first one two.
-    let same : c.from_residual-in_err-status.result ≡ Err c.in_err-status.field-0.0 = handed_on _ _ c.from_residual-in_err-status.ensures.1 in
+pub returns-in-Err-clause-text : goal.returns-in-Err-clause-text
+returns-in-Err-clause-text g c = λ given first one two.
     let common = c.in_ok-common.ensures in
-    rw same (ends_comparing (IsTurnAt g.R.Read.remaining g.R.Gives.gives (g.S.Solutions.opens c.args.solutions.now)) (g.S.Solutions.names c.args.solutions.now) given first c.in_ok-common.common _ _ (
+    ends_comparing (IsTurnAt g.R.Read.remaining g.R.Gives.gives (g.S.Solutions.opens c.args.solutions.now)) (g.S.Solutions.names c.args.solutions.now) given first c.in_ok-common.common _ _ (
       subst (IsFile first) (sym (common.0 ∙ c.in-Ok.ensures.0)) one,
       subst (IsFileIn given) (sym common.1) two,
       subst IsProblem (sym (common.0 ∙ c.in-Ok.ensures.0)) c.in-Ok.ensures.2,
-    ) (common.2, c.in_err-status.ensures.text))
+    ) (common.2, c.in-Err.ensures.text)
 
 pub returns-in_default-clause-told : goal.returns-in_default-clause-told
 returns-in_default-clause-told g c = (0, omega arith, refl)
@@ -41,7 +40,5 @@ returns-in_err-common-clause-told g c =
     let same : c.from_residual.result ≡ Err c.in_err-common.field-0.0 = handed_on _ _ c.from_residual.ensures.1 in
     rw same (0, omega arith, refl)
 
-pub returns-in_err-status-clause-told : goal.returns-in_err-status-clause-told
-returns-in_err-status-clause-told g c =
-    let same : c.from_residual-in_err-status.result ≡ Err c.in_err-status.field-0.0 = handed_on _ _ c.from_residual-in_err-status.ensures.1 in
-    rw same c.in_err-status.ensures.told
+pub returns-in-Err-clause-told : goal.returns-in-Err-clause-told
+returns-in-Err-clause-told g c = c.in-Err.ensures.told

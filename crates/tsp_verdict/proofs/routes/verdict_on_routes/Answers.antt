@@ -1,12 +1,21 @@
 -- The goals of `judge_routes` in src/routes.rt: what it ensures.
-use Rattle.std.proofs.Common.{◌≡◌, ◌+◌, Bool, List, map, length, sym, arith, rules}
+use Rattle.std.proofs.Common.{◌≡◌, ◌+◌, Bool, List, map, length, refl, sym, arith, rules}
 use Rattle.std.specs.Prelude.{FitsSigned, vec_len}
 use Rattle.std.specs.Int.{w64}
 use Rattle.std.proofs.lemmas.Int.{to_z-of_z}
 use Rattle.tsp_draft.specs.Fields.{Fields, nodes_of}
 use Rattle.tsp_verdict.proofs.FilesHold.{as_many}
-use Rattle.tsp_verdict.proofs.RouteVerdicts.{IsMarked, is_marked, repeated_first, unserved_first, all_served, none_unserved, overload_first, is_planned}
+use Rattle.tsp_verdict.proofs.RouteVerdicts.{customers_in, IsMarked, is_marked, repeated_first, unserved_first, all_served, none_unserved, overload_first, is_planned}
 use Rattle.tsp_verdict.proofs.routes.verdict_on_routes.Goals as goal
+
+pub first_overload-requires-clause-range : goal.first_overload-requires-clause-range
+first_overload-requires-clause-range c =
+    customers_in c.args.inst.now c.args.sol.now _ (length c.routing-routing.result.demands.now) c.in-Ok.ensures.4.nodes
+    c.routing-routing.ensures.each c.in_default.ensures.0
+
+pub plan_length-requires-clause-range : goal.plan_length-requires-clause-range
+plan_length-requires-clause-range c =
+    customers_in c.args.inst.now c.args.sol.now _ (nodes_of c.args.inst.now) c.in-Ok.ensures.4.nodes refl c.in_default.ensures.0
 
 pub returns-in-Some-mark_all : goal.returns-in-Some-mark_all
 returns-in-Some-mark_all c = repeated_first c.args.inst.now c.args.sol.now _ c.in-Some-mark_all.place c.in-Ok.ensures.4.nodes

@@ -1,16 +1,23 @@
 -- The goals of `Opened::bind` in src/opened.rt: that what it keeps is the basis, and what it ensures.
-use Rattle.std.proofs.Common.{ap, refl, rules, subst}
+use Rattle.std.proofs.Common.{◌≡◌, Err, ap, refl, rules, subst}
 use Rattle.std.specs.Prelude.{IsTrue}
 use Rattle.tsp_verdict.specs.Bounded.{IsBoundVerdict}
 use Rattle.tsp_verdict.specs.Certified.{is_bounded}
 use Rattle.tsp_judge.specs.declared.fault.RunFault.TheVariants.{OutOfMemory}
 use Rattle.tsp_judge.specs.Open.{Open, IsUnbound}
+use Rattle.tsp_judge.proofs.HandedOn.{handed_on}
+use Rattle.tsp_judge.proofs.Openings.{unbound}
 use Rattle.tsp_judge.proofs.opened.Opened.bind.Goals as goal
 
 pub invariant_of-self : goal.invariant_of-self
 invariant_of-self c =
     let bounded : IsTrue (is_bounded c.args.by c.self.inside.instance.kind) = search rules in
     (c.self.invariant.0, (bounded, c.basis_of-self-inside.ensures c.args.by c.self.inside.instance c.in_ok-file.file c.in-Ok.ensures))
+
+pub returns-in_err-file : goal.returns-in_err-file
+returns-in_err-file c =
+    let same : c.from_residual.result ≡ Err c.in_err-file.field-0.0 = handed_on _ _ c.from_residual.ensures.1 in
+    rw same (refl, unbound c.args.by c.args.text.now c.args.self.now _ c.in_err-file.ensures)
 
 pub returns-in-Err : goal.returns-in-Err
 returns-in-Err c =

@@ -1,10 +1,17 @@
 -- The goals of `Opened::judge` in src/opened.rt: what its calls require and what it ensures.
-use Rattle.std.proofs.Common.{subst}
+use Rattle.std.proofs.Common.{◌≡◌, Err, subst}
 use Rattle.tsp_judge.specs.Open.{Open, IsHeldVerdict}
+use Rattle.tsp_judge.proofs.HandedOn.{handed_on}
+use Rattle.tsp_judge.proofs.Openings.{not_judged}
 use Rattle.tsp_judge.proofs.opened.Opened.judge.Goals as goal
 
 pub next_verdict-requires : goal.next_verdict-requires
 next_verdict-requires c = (c.self.inside.certificate, c.self.invariant.1)
+
+pub returns-in_err-solution : goal.returns-in_err-solution
+returns-in_err-solution c =
+    let same : c.from_residual.result ≡ Err c.in_err-solution.field-0.0 = handed_on _ _ c.from_residual.ensures.1 in
+    rw same (not_judged c.args.text.now c.args.self.now _ c.in_err-solution.ensures)
 
 pub returns-in-Ok : goal.returns-in-Ok
 returns-in-Ok c =

@@ -1,0 +1,10 @@
+-- The goals of `Opened::of` in src/opened.rt: what it keeps and what it ensures.
+use Rattle.std.proofs.Common.{◌≡◌, Err, refl}
+use Rattle.tsp_judge.proofs.HandedOn.{handed_on}
+use Rattle.tsp_judge.proofs.Openings.{unopened}
+use Rattle.tsp_judge.proofs.opened.Opened.of.Goals as goal
+
+pub returns-in_err-file : goal.returns-in_err-file
+returns-in_err-file c =
+    let same : c.from_residual.result ≡ Err c.in_err-file.field-0.0 = handed_on _ _ c.from_residual.ensures.1 in
+    rw same (unopened c.args.text.now _ c.in_err-file.ensures)
