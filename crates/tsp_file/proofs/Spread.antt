@@ -353,3 +353,15 @@ column_more above cost n row first j place value old items even side here there 
           (pair_path row j i k (sym kind.0) column) written.1)
           (cases_lt k j),
     )
+
+-- what a part fills is more of the whole
+pub fills_more : (above : Bool) (cost : ℕ → ℕ → ℤ) (n : ℕ) (old middle new : List ℤ) (Done Part All : ℕ → ℕ → Type 0)
+    → HasSide above cost n old → Fills cost n old middle Done → (HasSide above cost n middle → Fills cost n middle new Part)
+    → ((i j : ℕ) → IsNode n i → IsNode n j → All i j → Done i j ⊎ Part i j)
+    → Fills cost n old new All
+fills_more above cost n old middle new Done Part All side so_far part split =
+    let more = part (λ i j li lj on. so_far.0 i j li lj (side i j li lj on)) in (
+      λ i j li lj had. more.0 i j li lj (so_far.0 i j li lj had),
+      λ i j li lj all. ⊎_elim (λ done. more.0 i j li lj (so_far.1 i j li lj done)) (λ here. more.1 i j li lj here)
+          (split i j li lj all),
+    )

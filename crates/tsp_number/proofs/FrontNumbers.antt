@@ -1,9 +1,10 @@
 -- Numbers at the beginning of some bytes.
-use Rattle.std.proofs.Common.{◌≡◌, ℕ, ◌+◌, ◌*◌, ◌-◌, ◌^◌, ◌<◌, ◌≤◌, Bool, true, false, None, Some, List, [], ◌∷◌, ◌++◌, length, take, drop, get_or, ℤ, pos, ◌*ℤ◌, ◌≤ℤ◌, ◌<ℤ◌, ◌⊎◌, Ok, Err, unsigned_abs, inl, inr, refl, arith, ap, sym, ◌∙◌, subst, pow-add, add-one, append_assoc, append-nil, length-drop}
+use Rattle.std.proofs.Common.{◌≡◌, ℕ, ◌+◌, ◌*◌, ◌-◌, ◌^◌, ◌<◌, ◌≤◌, ◌≢◌, Bool, true, false, None, Some, List, [], ◌∷◌, ◌++◌, length, take, drop, get_or, ℤ, pos, ◌*ℤ◌, ◌≤ℤ◌, ◌<ℤ◌, ◌⊎◌, Ok, Err, unsigned_abs, inl, inr, ⊎_elim, refl, arith, ap, sym, ◌∙◌, subst, pow-add, add-one, append_assoc, append-nil, length-drop}
 use Rattle.std.specs.Prelude.{nat_le, nat_lt, ◌&&◌}
 use Rattle.std.proofs.Math.Nat.{pow-suc, pow-le-pow_right, mul-le-mul}
 use Rattle.std.proofs.Math.Seq.{take-add, take-suc, take-length}
 use Rattle.std.proofs.lemmas.Bool.Decides.{nat_tests}
+use Rattle.std.proofs.lemmas.Grind.{common_steps}
 use Rattle.std.proofs.lemmas.Int.{ints}
 use Rattle.std.proofs.lemmas.Int.Digits.{digits_value_more, digits_value-lt}
 use Rattle.std.proofs.lemmas.List.{length-take-le, take-take}
@@ -15,7 +16,7 @@ use Rattle.std.specs.Str.Parse.{AllDigits, digits_value}
 use Rattle.tsp_distance.specs.Decimal.{unit, most_count}
 use Rattle.tsp_number.specs.NumberWord.{IsShort, ReadsDecimal, ReadsWhole, point, IsSign, IsFraction, Numeral, StandsFor, IsShifted, with_sign, mantissa, digits_of, shift_of}
 use Rattle.tsp_number.specs.declared.fault.NumberFault.TheVariants.{OutOfRange}
-use Rattle.tsp_number.specs.states.NumberFront.{BeginsWithNumber, digit_count, few_end}
+use Rattle.tsp_number.specs.states.NumberFront.{BeginsWithNumber, sign_count, digit_count, end_of_digits, end_with_point, few_end, decimal_end}
 use Rattle.tsp_number.proofs.Prefixes.{prefix_of_front, prefix_goes_on}
 use Rattle.tsp_number.proofs.Reading.{to_signed}
 use Rattle.tsp_number.proofs.Scaling.{digits_value-append}
@@ -137,6 +138,10 @@ small_digits count most value small few =
 
 pub small_whole : (count value : ℕ) → value < 10 ^ count → count ≤ 18 → value ≤ most_count
 small_whole count value small few = omega (arith, small_digits count 18 value small few)
+
+-- a whole number of at most nine digits, counted in 10^-9
+pub small_unit : (count whole : ℕ) → whole < 10 ^ count → count ≤ 9 → whole * 1000000000 ≤ most_count
+small_unit count whole small few = omega (arith, small_digits count 9 whole small few)
 
 pub small_decimal : (count whole parts part power : ℕ) → whole < 10 ^ count → count ≤ 9 → part < 10 ^ parts → parts ≤ 9
     → power ≡ 10 ^ (9 - parts)
@@ -299,3 +304,42 @@ pub whole_outside : (word : List ℕ) (count : ℕ) (k low high : ℤ) → Begin
 whole_outside word count k low high front same out =
     let parts = all_of word count (k *ℤ pos unit) front same in
     (parts.0, (k, parts.1, out))
+
+-- ---- where a decimal ends
+
+-- by its sign and the digits after it
+pub decimal_ends : (bytes : List ℕ) (sign whole : ℕ) → sign ≡ sign_count bytes → whole ≡ digit_count 9 (drop sign bytes)
+    → end_with_point bytes sign whole ≡ decimal_end bytes
+decimal_ends bytes sign whole sign_is whole_is =
+    ap (λ n. end_with_point bytes sign n) whole_is
+    ∙ ap (λ n. end_with_point bytes n (digit_count 9 (drop n bytes))) sign_is
+
+-- past a point
+pub ends_past_point : (bytes : List ℕ) (sign whole places : ℕ) → sign + whole < length bytes
+    → get_or bytes (sign + whole) 0 ≡ 46 → places ≡ digit_count 9 (drop (sign + whole + 1) bytes) → 0 < whole + places
+    → Some (sign + whole + 1 + places) ≡ end_with_point bytes sign whole
+ends_past_point bytes sign whole places before on is some = grind (arith, nat_tests, common_steps)
+
+-- no digit on either side of it
+pub no_end_at_point : (bytes : List ℕ) (sign whole places : ℕ) → sign + whole < length bytes
+    → get_or bytes (sign + whole) 0 ≡ 46 → places ≡ digit_count 9 (drop (sign + whole + 1) bytes) → whole ≡ 0 → places ≡ 0
+    → None ≡ end_with_point bytes sign whole
+no_end_at_point bytes sign whole places before on is none no_places = grind (arith, nat_tests, common_steps)
+
+-- some digits
+pub some_end : (sign digits : ℕ) → digits ≢ 0 → Some (sign + digits) ≡ end_of_digits sign digits
+some_end sign digits some = grind (arith, nat_tests, common_steps)
+
+past_the_end : (bytes : List ℕ) (sign whole : ℕ) → length bytes ≤ sign + whole
+    → end_of_digits sign whole ≡ end_with_point bytes sign whole
+past_the_end bytes sign whole past = grind (arith, nat_tests, common_steps)
+
+at_another_byte : (bytes : List ℕ) (sign whole : ℕ) → get_or bytes (sign + whole) 0 ≢ 46
+    → end_of_digits sign whole ≡ end_with_point bytes sign whole
+at_another_byte bytes sign whole other = grind (arith, nat_tests, common_steps)
+
+-- no point follows
+pub ends_without_point : (bytes : List ℕ) (sign whole : ℕ)
+    → (length bytes ≤ sign + whole) ⊎ (get_or bytes (sign + whole) 0 ≢ 46)
+    → end_of_digits sign whole ≡ end_with_point bytes sign whole
+ends_without_point bytes sign whole no_point = ⊎_elim (past_the_end bytes sign whole) (at_another_byte bytes sign whole) no_point

@@ -1,6 +1,6 @@
 -- What the next item of a text is.
 use Rattle.std.proofs.Common.{◌≡◌, ℕ, Bool, true, false, cond, List, [], ◌∷◌, length, refl, sym, ap, subst, ◌∙◌}
-use Rattle.std.specs.Prelude.{not, ◌&&◌}
+use Rattle.std.specs.Prelude.{not, ◌&&◌, ◌==◌}
 use Rattle.std.proofs.lemmas.Bool.{ne_eqb}
 use Rattle.std.proofs.lemmas.List.{nil_from_length}
 use Rattle.tsp_format.specs.Bytes.{is_blank, is_letter}
@@ -19,7 +19,7 @@ at_start : (goes_on inside : Bool) (text filled : List ℕ) → filled ≡ witho
     → items_left goes_on inside text ≡ items_left goes_on inside filled
 at_start goes_on inside text filled e = sym (left_start goes_on inside text) ∙ ap (items_left goes_on inside) (sym e)
 
-filled_first : (text : List ℕ) (first : ℕ) (after : List ℕ) → first ∷ after ≡ without_start text → is_blank first ≡ false
+pub filled_first : (text : List ℕ) (first : ℕ) (after : List ℕ) → first ∷ after ≡ without_start text → is_blank first ≡ false
 filled_first text first after e = subst Filled (sym e) (start_is_filled text)
 
 pub none_next : (goes_on inside : Bool) (text filled : List ℕ) → filled ≡ without_start text → length filled ≡ 0
@@ -100,6 +100,12 @@ line_begins false is = absurd cc
 pub word_begins : (letter : Bool) → Word ≡ cond letter Line Word → letter ≡ false
 word_begins true is = absurd cc
 word_begins false is = refl
+
+-- the first byte of a line or a word doesn't end it
+pub goes_on_past : (inside : Bool) (first : ℕ) (token : Token) → is_blank first ≡ false → (first == 10) ≡ false
+    → token ≡ token_at inside first → ends_token token first ≡ false
+goes_on_past inside first Line filled more is = more
+goes_on_past inside first Word filled more is = rw filled more
 
 pub token_next : (goes_on inside : Bool) (text filled : List ℕ) (first : ℕ) (after : List ℕ) (token : Token) (piece rest : List ℕ)
     → filled ≡ without_start text → filled ≡ first ∷ after → (first ≡ 10 → ⊥) → token ≡ token_at inside first

@@ -1,0 +1,12 @@
+-- The goals of `put_point_line` in src/writer/points.rt: what it ensures.
+use Rattle.std.proofs.Common.{◌≡◌, ◌∙◌, ◌-◌, take, drop, arith}
+use Rattle.std.proofs.lemmas.List.{take_all, length-drop}
+use Rattle.tsp_file.proofs.writer.points.put_point_line.Goals as goal
+
+pub returns : goal.returns
+returns g c =
+    let start = c.write_point_line-start.result in
+    let rest = drop start c.write_point_line-start.new.line in
+    let all : take (87 - start) rest ≡ rest = take_all (87 - start) rest
+    (omega (arith, length-drop start c.write_point_line-start.new.line, c.write_point_line-start.array_long)) in
+    rw (all ∙ c.write_point_line-start.ensures.written) at c.put.ensures
