@@ -7,7 +7,7 @@ use crate::sentences::reason_sentence;
 use crate::solution::{
     count_at_place, first_place_of, first_repeated, least_missing, node_at, sum_of,
 };
-use crate::text::{append, begin, end, push, push_lines, push_number};
+use crate::text::{Part, append, begin, push, push_line, push_lines, push_parts};
 use std::alloc::{AllocError, Global};
 use tsp_cost::{Costs, Instance};
 use tsp_file::File;
@@ -37,10 +37,7 @@ pub fn explain_reason(
 
 /// Appends the file that is to blame, and the rule of the reason.
 fn push_reason(text: &mut Vec<u8>, name: &str, reason: Reason) -> Result<(), AllocError> {
-    begin(text)?;
-    push(text, name)?;
-    push(text, ":")?;
-    end(text)?;
+    push_line(text, &[Part::Words(name), Part::Words(":")])?;
     push_lines(text, reason_sentence(reason))
 }
 
@@ -161,11 +158,9 @@ fn is_converted(comments: &[Vec<u8>]) -> bool {
 pub(crate) fn say(text: &mut Vec<u8>, parts: &[(&str, i64)]) -> Result<(), AllocError> {
     begin(text)?;
     'parts: for (words, number) in parts {
-        push(text, words)?;
-        push_number(text, *number)?;
+        push_parts(text, &[Part::Words(words), Part::Number(*number)])?;
     }
-    push(text, ".")?;
-    end(text)
+    push(text, ".\n")
 }
 
 /// Appends the cost from a node to another.
@@ -191,11 +186,14 @@ fn push_cost(
 
 /// Appends the TYPE of a file that isn't of the right one.
 pub(crate) fn push_type(text: &mut Vec<u8>, file: &File) -> Result<(), AllocError> {
-    begin(text)?;
-    push(text, "It is of TYPE ")?;
-    push(text, file.kind().word())?;
-    push(text, ".")?;
-    end(text)
+    push_line(
+        text,
+        &[
+            Part::Words("It is of TYPE "),
+            Part::Words(file.kind().word()),
+            Part::Words("."),
+        ],
+    )
 }
 
 /// The value of DIMENSION, and 0 where it is missing.
@@ -225,14 +223,17 @@ pub(crate) fn push_dimensions(
     role: &str,
     other: &File,
 ) -> Result<(), AllocError> {
-    begin(text)?;
-    push(text, "In the instance it is ")?;
-    push_number(text, nodes_of(instance))?;
-    push(text, ", and in the ")?;
-    push(text, role)?;
-    push_number(text, nodes_of(other))?;
-    push(text, ".")?;
-    end(text)
+    push_line(
+        text,
+        &[
+            Part::Words("In the instance it is "),
+            Part::Number(nodes_of(instance)),
+            Part::Words(", and in the "),
+            Part::Words(role),
+            Part::Number(nodes_of(other)),
+            Part::Words("."),
+        ],
+    )
 }
 
 /// Appends how many nodes the tour has and how many the instance, and which are missing or
@@ -287,11 +288,14 @@ fn depot_of(instance: &File) -> Option<u32> {
 
 /// Appends a line with a node and what is so of it.
 fn push_of_node(text: &mut Vec<u8>, node: u32, words: &str) -> Result<(), AllocError> {
-    begin(text)?;
-    push(text, "Node ")?;
-    push_number(text, node)?;
-    push(text, words)?;
-    end(text)
+    push_line(
+        text,
+        &[
+            Part::Words("Node "),
+            Part::Number(i64::from(node)),
+            Part::Words(words),
+        ],
+    )
 }
 
 /// Appends the place of a route that has the depot, and that customers may be counted from 1. No
