@@ -79,23 +79,43 @@ fn explain_seen(
     push_place(alloc, text, name, fault)?;
     push_excerpt(text, seen, fault)?;
     if let (ReadFault::End(_), None) = (fault, seen.head.first()) {
-        push_lines(text, "The file is empty.")?;
-        return push_lines(text, begins(given));
+        return push_beginning(text, "The file is empty.", given);
     }
-    let cause = cause(seen, fault);
-    if cause.is_none()
-        && let Some(form) = foreign_form(seen, given, fault)
-    {
-        push_lines(text, short_rule(fault))?;
-        return push_foreign(text, form, given);
+    match (cause(seen, fault), foreign_form(seen, given, fault)) {
+        (None, Some(form)) => {
+            push_lines(text, short_rule(fault))?;
+            push_foreign(text, form, given)
+        }
+        (cause, _) => push_meaning(
+            text,
+            given,
+            seen,
+            fault,
+            cause.or(cause_of_first_byte(seen, fault)),
+        ),
     }
-    let cause = cause.or(cause_of_first_byte(seen, fault));
-    let guess = guess_at(seen, fault);
-    if cause.is_none() && guess.is_none() && is_unknown_beginning(fault) {
-        push_lines(text, UNKNOWN)?;
-        return push_lines(text, begins(given));
-    }
-    match (cause, guess, fault) {
+}
+
+/// Appends a sentence, and what a file begins with that is given for this.
+fn push_beginning(
+    text: &mut Vec<u8>,
+    sentence: &str,
+    given: Option<Role>,
+) -> Result<(), AllocError> {
+    push_lines(text, sentence)?;
+    push_lines(text, begins(given))
+}
+
+/// Appends the rule, or what explains the fault better than that.
+fn push_meaning(
+    text: &mut Vec<u8>,
+    given: Option<Role>,
+    seen: &Look,
+    fault: ReadFault,
+    cause: Option<&'static str>,
+) -> Result<(), AllocError> {
+    match (cause, guess_at(seen, fault), fault) {
+        (None, None, _) if is_unknown_beginning(fault) => push_beginning(text, UNKNOWN, given),
         (
             None,
             Some(guess),

@@ -249,23 +249,35 @@ fn push_lengths(text: &mut Vec<u8>, instance: &File, solution: &File) -> Result<
             (" nodes, and DIMENSION is ", nodes_of(instance)),
         ],
     )?;
+    push_of_length(text, tour, instance, solution)
+}
+
+/// Appends which node is missing in a tour that is too short, or repeated in one that is too long.
+fn push_of_length(
+    text: &mut Vec<u8>,
+    tour: &[u32],
+    instance: &File,
+    solution: &File,
+) -> Result<(), AllocError> {
     let nodes = nodes_of(instance);
     if count_of(tour.len()) < nodes {
-        push_missing(text, instance, solution)
-    } else if tour.len() > 1
-        && count_of(tour.len()) == nodes.saturating_add(1)
-        && tour.first() == tour.last()
-    {
-        push_lines(
+        return push_missing(text, instance, solution);
+    }
+    if is_closed(tour, nodes) {
+        return push_lines(
             text,
             "Its first node is at its end again: leave it out there.",
-        )
-    } else {
-        match first_repeated(tour) {
-            Some(place) => push_repeated(text, place, solution),
-            None => Ok(()),
-        }
+        );
     }
+    match first_repeated(tour) {
+        Some(place) => push_repeated(text, place, solution),
+        None => Ok(()),
+    }
+}
+
+/// Whether a tour of one node too many ends with its first node.
+fn is_closed(tour: &[u32], nodes: i64) -> bool {
+    tour.len() > 1 && count_of(tour.len()) == nodes.saturating_add(1) && tour.first() == tour.last()
 }
 
 /// Appends the least node of the instance that the tours don't have. The depot isn't missing.
