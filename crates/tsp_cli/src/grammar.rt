@@ -233,10 +233,8 @@ fn bound_files<'a>(alloc: Global) -> Result<Command<'a>, AllocError>
 {
     let about = "Bounds every tour of an instance by a certificate, without a tour";
     let bare = command(alloc, "bound", about, BOUND_NOTES);
-    with(
-        bare,
-        path(alloc, "F", "The path of the instance: TYPE TSP or ATSP"),
-    )
+    let instance = "The path of the instance: TYPE TSP or ATSP";
+    then(Ok(bare), path(alloc, "F", instance))
 }
 
 /// A command without arguments, with the texts of its help.
@@ -244,28 +242,6 @@ fn command<'a>(alloc: Global, name: &'a str, about: &'a str, notes: &'a str) -> 
     ensures { IsCommandOf (new_app name.now) result }
 {
     Command::new(alloc, name).about(about).after_help(notes)
-}
-
-/// A command with one argument more.
-fn with<'a>(command: Command<'a>, arg: Arg<'a>) -> Result<Command<'a>, AllocError>
-    requires local { arg.global ≡ false }
-    requires globals { has_globals command ≡ false }
-    ensures { IfOk result (IsCommandOf (with_rule (app_of command.entry) (rule_of arg.entry))) }
-{
-    command.arg(arg)
-}
-
-/// A command with one subcommand more.
-fn with_command<'a>(
-    command: Command<'a>,
-    subcommand: Command<'a>,
-) -> Result<Command<'a>, AllocError>
-    requires globals { has_globals command ≡ false }
-    requires sub { has_globals subcommand ≡ false }
-    ensures { IfOk result
-        (IsCommandOf (with_subcommand (app_of command.entry) (shape_of subcommand.entry))) }
-{
-    command.subcommand(subcommand)
 }
 
 /// A command that may be made, with one argument more. So a command is put together without an
@@ -279,7 +255,7 @@ fn then<'a>(
     ensures { (app : App) (rule : Rule) → IfOk command.entry (IsCommandOf app)
         → rule_of arg.entry ≡ rule → IfOk result (IsCommandOf (with_rule app rule)) }
 {
-    with(command?, arg)
+    command?.arg(arg)
 }
 
 /// A command that may be made, with one subcommand more that may be made.
@@ -294,7 +270,7 @@ fn then_command<'a>(
         → IfOk result (IsCommandOf (with_subcommand app sub.top)) }
 {
     let subcommand = subcommand?;
-    with_command(command?, subcommand)
+    command?.subcommand(subcommand)
 }
 
 /// A path that the words have to contain.

@@ -97,33 +97,31 @@ fn cause_of_returns(look: &Look) -> Option<&'static str> {
 
 /// The likely cause of a line fault.
 fn cause_of_line(look: &Look, fault: LineFault) -> Option<&'static str> {
-    match fault {
-        LineFault::Number(NumberFault::BadNumber) if look.excerpt.marked().starts_with(b"#") => {
+    let marked = look.excerpt.marked();
+    match (fault, look.field) {
+        (LineFault::Number(NumberFault::BadNumber), _) if marked.starts_with(b"#") => {
             Some("TSPLIB has no comments with #. Write a line COMMENT : .. instead.")
         }
-        LineFault::Number(NumberFault::OutOfRange)
-            if look.excerpt.marked() == b"0".as_slice() && look.field == Some(Field::TourPart) => {
+        (LineFault::Number(NumberFault::OutOfRange), Some(Field::TourPart))
+            if marked == b"0".as_slice() => {
             Some("Nodes count from 1. Some programs count them from 0: add 1 to each node then.")
         }
-        LineFault::Outside
-            if look.field == Some(Field::EdgeWeightTypeKey)
-                && look.excerpt.marked().ends_with(b"GEO") => {
+        (LineFault::Outside, Some(Field::EdgeWeightTypeKey)) if marked.ends_with(b"GEO") => {
             Some(
                 "The script geo.py converts GEO: see the guide \"Certificates from solvers\", which is published with tsp.",
             )
         }
-        LineFault::Surplus if look.excerpt.marked() == b"EOF".as_slice() => {
+        (LineFault::Surplus, _) if marked == b"EOF".as_slice() => {
             Some("EOF is on a line of its own. The recipe tidy.awk writes it so.")
         }
-        LineFault::Number(NumberFault::TooFine) if look.field == Some(Field::NodeCoordPart) => Some(
+        (LineFault::Number(NumberFault::TooFine), Some(Field::NodeCoordPart)) => Some(
             "Write the coordinates with 9 decimals, or multiply all of them by a power of 10.\n\
              Both change the instance, so say so in a COMMENT. The script scale.py does it: --decimals 9, or --by 1000.",
         ),
-        LineFault::Number(NumberFault::NotWhole) if look.field == Some(Field::EdgeWeightPart) =>
-            Some(
-                "Round the weights, or multiply all of them by a power of 10.\n\
+        (LineFault::Number(NumberFault::NotWhole), Some(Field::EdgeWeightPart)) => Some(
+            "Round the weights, or multiply all of them by a power of 10.\n\
              Both change the instance, so say so in a COMMENT.",
-            ),
+        ),
         _ => None,
     }
 }

@@ -2,7 +2,7 @@
 
 use crate::refusal::{push_dimensions, push_type, say};
 use crate::solution::{count_at_place, first_repeated};
-use crate::text::{begin, end, push, push_lines};
+use crate::text::{Part, push_line, push_lines};
 use std::alloc::AllocError;
 use tsp_file::File;
 use tsp_format::{Kind, TreeStep, Word};
@@ -52,14 +52,18 @@ fn push_sections(
     instance: &File,
     certificate: &File,
 ) -> Result<(), AllocError> {
-    begin(text)?;
-    push(text, "The instance is of TYPE ")?;
-    push(text, instance.kind().word())?;
-    match certificate.node_potentials() {
-        Some(_) => push(text, ", and the potentials are those of nodes.")?,
-        None => push(text, ", and the potentials are those of rows and columns.")?,
-    }
-    end(text)
+    let potentials = match certificate.node_potentials() {
+        Some(_) => ", and the potentials are those of nodes.",
+        None => ", and the potentials are those of rows and columns.",
+    };
+    push_line(
+        text,
+        &[
+            Part::Words("The instance is of TYPE "),
+            Part::Words(instance.kind().word()),
+            Part::Words(potentials),
+        ],
+    )
 }
 
 /// Appends a pair with a multiplier, counted from 1.

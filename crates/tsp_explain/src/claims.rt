@@ -3,7 +3,7 @@
 ghost use Rattle.std.specs.Prelude.{◌≡◌};
 ghost use Rattle.std.specs.Io.{StartsWith};
 
-use crate::text::{append, push, push_number, push_shown};
+use crate::text::{Part, append, push_parts};
 use std::alloc::{AllocError, Global};
 use tsp_number::{NumberFault, parse_whole};
 
@@ -47,22 +47,31 @@ fn push_sentence(
     claim: i64,
     length: i64,
 ) -> Result<(), AllocError> {
-    push(text, name)?;
-    push(text, ": a COMMENT claims the length ")?;
-    push_number(text, claim)?;
-    push(text, ", and the length is ")?;
-    push_number(text, length)?;
-    push(text, ".\n")
+    push_parts(
+        text,
+        &[
+            Part::Words(name),
+            Part::Words(": a COMMENT claims the length "),
+            Part::Number(claim),
+            Part::Words(", and the length is "),
+            Part::Number(length),
+            Part::Words(".\n"),
+        ],
+    )
 }
 
 /// Appends that a comment claims a length that isn't whole.
-fn push_real(text: &mut Vec<u8>, name: &str, claim: &[u8]) -> Result<(), AllocError> {
-    push(text, name)?;
-    push(text, ": a COMMENT claims the length ")?;
-    push_shown(text, claim)?;
-    push(
+fn push_real<'a>(text: &mut Vec<u8>, name: &'a str, claim: &'a [u8]) -> Result<(), AllocError> {
+    push_parts(
         text,
-        ". Lengths of TSPLIB are whole, and one in real numbers can't be compared with them.\n",
+        &[
+            Part::Words(name),
+            Part::Words(": a COMMENT claims the length "),
+            Part::Shown(claim),
+            Part::Words(
+                ". Lengths of TSPLIB are whole, and one in real numbers can't be compared with them.\n",
+            ),
+        ],
     )
 }
 

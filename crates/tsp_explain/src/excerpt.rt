@@ -1,6 +1,6 @@
 //! The part of a line that is shown.
 
-use crate::text::{begin, end, push, push_shown};
+use crate::text::{Part, begin, end, push, push_line};
 use arrayvec::ArrayVec;
 use std::alloc::AllocError;
 
@@ -58,15 +58,18 @@ impl Excerpt {
 
     /// Appends the line's text, and below it marks under a word.
     pub(crate) fn push_to(&self, text: &mut Vec<u8>, is_word: bool) -> Result<(), AllocError> {
-        begin(text)?;
-        push(text, "  ")?;
-        push_cut(text, self.cuts.0)?;
-        push_shown(text, self.before.as_slice())?;
-        push_shown(text, self.marked.as_slice())?;
-        push_cut(text, self.cuts.1)?;
-        push_shown(text, self.after.as_slice())?;
-        push_cut(text, self.cuts.2)?;
-        end(text)?;
+        push_line(
+            text,
+            &[
+                Part::Words("  "),
+                Part::Words(dots(self.cuts.0)),
+                Part::Shown(self.before.as_slice()),
+                Part::Shown(self.marked.as_slice()),
+                Part::Words(dots(self.cuts.1)),
+                Part::Shown(self.after.as_slice()),
+                Part::Words(dots(self.cuts.2)),
+            ],
+        )?;
         if is_word {
             self.push_marks(text)
         } else {
@@ -77,19 +80,16 @@ impl Excerpt {
     /// Appends a line of marks below the marked bytes.
     fn push_marks(&self, text: &mut Vec<u8>) -> Result<(), AllocError> {
         begin(text)?;
-        push(text, "  ")?;
-        if self.cuts.0 {
-            push(text, "   ")?;
-        }
+        push(text, if self.cuts.0 { "     " } else { "  " })?;
         push_blanks(text, self.before.as_slice())?;
         push_carets(text, self.marked.as_slice())?;
         end(text)
     }
 }
 
-/// Appends three dots where bytes are left out.
-fn push_cut(text: &mut Vec<u8>, is_cut: bool) -> Result<(), AllocError> {
-    if is_cut { push(text, "...") } else { Ok(()) }
+/// Three dots where bytes are left out.
+fn dots(is_cut: bool) -> &'static str {
+    if is_cut { "..." } else { "" }
 }
 
 /// Appends as many blanks as the bytes take columns when shown. A tab stays one, so that the text

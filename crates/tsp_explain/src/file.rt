@@ -7,7 +7,7 @@ use crate::foreign::{begins, foreign_form, push_foreign};
 use crate::guess::{UNKNOWN, guess_at, push_guess};
 use crate::look::{Look, Sought, look_for};
 use crate::sentences::{end_sentence, line_sentence};
-use crate::text::{append, begin, end, push, push_lines, push_number, push_shown};
+use crate::text::{Part, append, push_line, push_lines, push_parts};
 use crate::wanted::{asked, group, wanted};
 use std::alloc::{AllocError, Global};
 use std::io;
@@ -79,23 +79,43 @@ fn explain_seen(
     push_place(alloc, text, name, fault)?;
     push_excerpt(text, seen, fault)?;
     if let (ReadFault::End(_), None) = (fault, seen.head.first()) {
-        push_lines(text, "The file is empty.")?;
-        return push_lines(text, begins(given));
+        return push_beginning(text, "The file is empty.", given);
     }
-    let cause = cause(seen, fault);
-    if cause.is_none()
-        && let Some(form) = foreign_form(seen, given, fault)
-    {
-        push_lines(text, short_rule(fault))?;
-        return push_foreign(text, form, given);
+    match (cause(seen, fault), foreign_form(seen, given, fault)) {
+        (None, Some(form)) => {
+            push_lines(text, short_rule(fault))?;
+            push_foreign(text, form, given)
+        }
+        (cause, _) => push_meaning(
+            text,
+            given,
+            seen,
+            fault,
+            cause.or(cause_of_first_byte(seen, fault)),
+        ),
     }
-    let cause = cause.or(cause_of_first_byte(seen, fault));
-    let guess = guess_at(seen, fault);
-    if cause.is_none() && guess.is_none() && is_unknown_beginning(fault) {
-        push_lines(text, UNKNOWN)?;
-        return push_lines(text, begins(given));
-    }
-    match (cause, guess, fault) {
+}
+
+/// Appends a sentence, and what a file begins with that is given for this.
+fn push_beginning(
+    text: &mut Vec<u8>,
+    sentence: &str,
+    given: Option<Role>,
+) -> Result<(), AllocError> {
+    push_lines(text, sentence)?;
+    push_lines(text, begins(given))
+}
+
+/// Appends the rule, or what explains the fault better than that.
+fn push_meaning(
+    text: &mut Vec<u8>,
+    given: Option<Role>,
+    seen: &Look,
+    fault: ReadFault,
+    cause: Option<&'static str>,
+) -> Result<(), AllocError> {
+    match (cause, guess_at(seen, fault), fault) {
+        (None, None, _) if is_unknown_beginning(fault) => push_beginning(text, UNKNOWN, given),
         (
             None,
             Some(guess),
@@ -176,15 +196,18 @@ fn push_near(text: &mut Vec<u8>, seen: &Look, fault: ReadFault) -> Result<(), Al
     if seen.near.is_empty() {
         return Ok(());
     }
-    begin(text)?;
-    push(text, "Line ")?;
-    push_number(text, seen.near_line)?;
-    push(text, " has ")?;
-    push_shown(text, seen.near.as_slice())?;
-    push(text, ": did you mean ")?;
-    push(text, field.word())?;
-    push(text, "?")?;
-    end(text)
+    push_line(
+        text,
+        &[
+            Part::Words("Line "),
+            Part::Number(i64::from(seen.near_line)),
+            Part::Words(" has "),
+            Part::Shown(seen.near.as_slice()),
+            Part::Words(": did you mean "),
+            Part::Words(field.word()),
+            Part::Words("?"),
+        ],
+    )
 }
 
 /// Appends the explanation of a file that can't be read a second time, with what the system says.
@@ -198,10 +221,8 @@ fn explain_failed(
 ) -> Result<(), AllocError> {
     match fault {
         ReadFault::Device => {
-            push(text, name)?;
-            push(text, ": ")?;
-            push_words_of(alloc, text, error)?;
-            end(text)?;
+            let words = words_of(alloc, error)?;
+            push_after(text, name, ": ", words.as_str())?;
             push_rule(text, fault, None)
         }
         _ => {
@@ -226,16 +247,37 @@ pub fn push_error(alloc: Global, text: &mut Vec<u8>, error: &io::Error) -> Resul
 
 /// Appends what the system says of a failure, as a line.
 fn push_system(alloc: Global, text: &mut Vec<u8>, error: &io::Error) -> Result<(), AllocError> {
-    begin(text)?;
-    push(text, "The system says: ")?;
-    push_words_of(alloc, text, error)?;
-    end(text)
+    let words = words_of(alloc, error)?;
+    push_line(
+        text,
+        &[
+            Part::Words("The system says: "),
+            Part::Words(words.as_str()),
+        ],
+    )
 }
 
-/// Appends the system's words for a failure.
-fn push_words_of(alloc: Global, text: &mut Vec<u8>, error: &io::Error) -> Result<(), AllocError> {
-    let words = format!(in alloc; "{error}")?;
-    push(text, words.as_str())
+/// The system's words for a failure.
+fn words_of(alloc: Global, error: &io::Error) -> Result<String, AllocError> {
+    format!(in alloc; "{error}")
+}
+
+/// Appends a line that isn't indented: the file's name, a mark, and words.
+fn push_after<'a>(
+    text: &mut Vec<u8>,
+    name: &'a str,
+    mark: &'a str,
+    words: &'a str,
+) -> Result<(), AllocError> {
+    push_parts(
+        text,
+        &[
+            Part::Words(name),
+            Part::Words(mark),
+            Part::Words(words),
+            Part::Words("\n"),
+        ],
+    )
 }
 
 /// Appends the explanation of a file of which nothing is seen.
@@ -257,29 +299,26 @@ fn push_place(
     name: &str,
     fault: ReadFault,
 ) -> Result<(), AllocError> {
-    push(text, name)?;
-    push(text, ":")?;
+    let place = place_of(alloc, fault)?;
+    push_after(text, name, ":", place.as_str())
+}
+
+/// The line, the word and the fault, as they follow the path.
+fn place_of(alloc: Global, fault: ReadFault) -> Result<String, AllocError> {
     match fault {
+        ReadFault::Line {
+            line,
+            word: 0,
+            fault,
+        } => format!(in alloc; "{line}: {fault}"),
         ReadFault::Line { line, word, fault } => {
-            push_number(text, line)?;
-            push(text, ": ")?;
-            if word > 0 {
-                push(text, "word ")?;
-                push_number(text, word)?;
-                push(text, ": ")?;
-            }
-            let words = format!(in alloc; "{fault}")?;
-            push(text, words.as_str())?;
+            format!(in alloc; "{line}: word {word}: {fault}")
         }
-        ReadFault::End(fault) => {
-            let words = format!(in alloc; " {fault}")?;
-            push(text, words.as_str())?;
+        ReadFault::End(fault) => format!(in alloc; " {fault}"),
+        ReadFault::OutOfMemory | ReadFault::Device | ReadFault::TooLong => {
+            format!(in alloc; " {fault}")
         }
-        ReadFault::OutOfMemory => push(text, " out of memory")?,
-        ReadFault::Device => push(text, " device")?,
-        ReadFault::TooLong => push(text, " too long")?,
     }
-    end(text)
 }
 
 /// Appends the rule that is broken. `field` is the keyword or the section that the line is of.
@@ -344,19 +383,30 @@ fn push_counts(text: &mut Vec<u8>, seen: &Look, fault: ReadFault) -> Result<(), 
             push_groups(text, seen.words, group(field, seen.is_spatial), nodes)
         }
         (ReadFault::End(EndFault::WrongCount), Some(nodes)) => {
-            begin(text)?;
-            push(text, "There are ")?;
-            push_number(text, seen.words)?;
-            push_nodes(text, " weights, and n is ", nodes)?;
-            push_layouts(text, seen.words, nodes)
+            push_weights(text, count_of(seen.words), nodes)
         }
         _ => Ok(()),
     }
 }
 
-/// Appends which layouts list this number of weights for this number of nodes.
-fn push_layouts(text: &mut Vec<u8>, weights: u64, nodes: i64) -> Result<(), AllocError> {
-    match layouts_with(i64::try_from(weights).unwrap_or(i64::MAX), nodes) {
+/// A count as a number to be printed.
+fn count_of(count: u64) -> i64 {
+    i64::try_from(count).unwrap_or(i64::MAX)
+}
+
+/// Appends how many weights there are, and which layouts list as many for this number of nodes.
+fn push_weights(text: &mut Vec<u8>, weights: i64, nodes: i64) -> Result<(), AllocError> {
+    push_line(
+        text,
+        &[
+            Part::Words("There are "),
+            Part::Number(weights),
+            Part::Words(" weights, and n is "),
+            Part::Number(nodes),
+            Part::Words("."),
+        ],
+    )?;
+    match layouts_with(weights, nodes) {
         Some(layouts) => push_lines(text, layouts),
         None => Ok(()),
     }
@@ -390,16 +440,14 @@ fn push_groups(
         Some(2) => words / 2,
         Some(_) | None => return Ok(()),
     };
-    begin(text)?;
-    push(text, "The section has ")?;
-    push_number(text, groups)?;
-    push_nodes(text, " whole groups, and DIMENSION is ", nodes)
-}
-
-/// Appends words and the number of nodes, and ends the line.
-fn push_nodes(text: &mut Vec<u8>, words: &str, nodes: i64) -> Result<(), AllocError> {
-    push(text, words)?;
-    push_number(text, nodes)?;
-    push(text, ".")?;
-    end(text)
+    push_line(
+        text,
+        &[
+            Part::Words("The section has "),
+            Part::Number(count_of(groups)),
+            Part::Words(" whole groups, and DIMENSION is "),
+            Part::Number(nodes),
+            Part::Words("."),
+        ],
+    )
 }

@@ -2,7 +2,7 @@
 //! place.
 
 use crate::look::Look;
-use crate::text::{begin, end, push, push_lines};
+use crate::text::{Part, push_line, push_lines};
 use std::alloc::AllocError;
 use tsp_format::is_blank;
 use tsp_reason::Role;
@@ -182,14 +182,16 @@ pub(crate) fn push_foreign(
 
 /// Appends where the recipe with a name is.
 fn push_recipe(text: &mut Vec<u8>, name: &str) -> Result<(), AllocError> {
-    begin(text)?;
-    push(text, "The recipe ")?;
-    push(text, name)?;
-    push(
+    push_line(
         text,
-        " converts it: see the guide \"Certificates from solvers\", which is published with tsp.",
-    )?;
-    end(text)
+        &[
+            Part::Words("The recipe "),
+            Part::Words(name),
+            Part::Words(
+                " converts it: see the guide \"Certificates from solvers\", which is published with tsp.",
+            ),
+        ],
+    )
 }
 
 /// What a form looks like.

@@ -3,7 +3,7 @@
 use crate::look::{Look, first_run};
 use crate::near::{in_capitals, keyword_in_capitals, nearest, nearest_keyword};
 use crate::sentences::line_sentence;
-use crate::text::{begin, end, push, push_lines, push_number, push_shown};
+use crate::text::{Part, push_line, push_lines};
 use crate::wanted::{group, wanted};
 use std::alloc::AllocError;
 use tsp_format::{CoordKind, DisplayKind, Field, Kind, WeightFormat, WeightKind, Word, is_blank};
@@ -51,19 +51,16 @@ pub(crate) fn guess_at(look: &Look, fault: ReadFault) -> Option<Guess> {
 
 /// What explains a line fault better than its rule does.
 fn guess_of_line(look: &Look, fault: LineFault) -> Option<Guess> {
+    let marked = look.excerpt.marked();
     match fault {
         LineFault::UnknownLine => guess_of_word(look),
-        LineFault::BadValue => Some(guess_of_value(
-            look.excerpt.marked(),
-            look.field.unwrap_or(Field::OtherKey),
-        )),
+        LineFault::BadValue => Some(guess_of_value(marked, look.field.unwrap_or(Field::OtherKey))),
         LineFault::Number(NumberFault::OutOfRange)
-            if look.excerpt.marked() == b"0".as_slice() && is_by_node(look.field) => {
-            Some(Guess::Zero(look.dimension?))
+            if marked == b"0".as_slice() && is_by_node(look.field) => {
+            look.dimension.map(Guess::Zero)
         }
-        LineFault::Surplus
-            if is_by_node(look.field) && !(look.excerpt.marked() == b"EOF".as_slice()) => {
-            Some(Guess::Surplus(look.dimension?))
+        LineFault::Surplus if is_by_node(look.field) && !(marked == b"EOF".as_slice()) => {
+            look.dimension.map(Guess::Surplus)
         }
         _ => None,
     }
@@ -99,13 +96,9 @@ fn guess_of_word(look: &Look) -> Option<Guess> {
 fn guess_of_value(line: &[u8], field: Field) -> Guess {
     let (_, rest) = first_run(line);
     let value = first_word(after_marks(rest));
-    if field == Field::NameKey || field == Field::CommentKey || field == Field::OtherKey {
-        return Guess::LongValue(field);
-    }
-    if value.is_empty() {
-        return Guess::NoValue(field);
-    }
     match field {
+        Field::NameKey | Field::CommentKey | Field::OtherKey => Guess::LongValue(field),
+        _ if value.is_empty() => Guess::NoValue(field),
         Field::TypeKey => guess_of::<Kind>(field, value),
         Field::EdgeWeightTypeKey => guess_of::<WeightKind>(field, value),
         Field::EdgeWeightFormatKey => guess_of::<WeightFormat>(field, value),
@@ -202,69 +195,83 @@ pub(crate) const UNKNOWN: &str =
     "The line begins with a word that is no keyword of TSPLIB 95, and no colon follows that word.";
 
 /// Appends a line with a word between others.
-fn push_with(text: &mut Vec<u8>, before: &str, word: &str, after: &str) -> Result<(), AllocError> {
-    begin(text)?;
-    push(text, before)?;
-    push(text, word)?;
-    push(text, after)?;
-    end(text)
+fn push_with<'a>(
+    text: &mut Vec<u8>,
+    before: &'a str,
+    word: &'a str,
+    after: &'a str,
+) -> Result<(), AllocError> {
+    push_line(
+        text,
+        &[Part::Words(before), Part::Words(word), Part::Words(after)],
+    )
 }
 
 /// Appends a line with a number between words.
-fn push_number_in(
+fn push_number_in<'a>(
     text: &mut Vec<u8>,
-    before: &str,
+    before: &'a str,
     number: i64,
-    after: &str,
+    after: &'a str,
 ) -> Result<(), AllocError> {
-    begin(text)?;
-    push(text, before)?;
-    push_number(text, number)?;
-    push(text, after)?;
-    end(text)
+    push_line(
+        text,
+        &[
+            Part::Words(before),
+            Part::Number(number),
+            Part::Words(after),
+        ],
+    )
 }
 
 /// Appends that the section of a line isn't read.
 fn push_unread(text: &mut Vec<u8>, look: &Look) -> Result<(), AllocError> {
     let (word, _) = first_run(look.excerpt.marked());
-    begin(text)?;
-    push_shown(text, word)?;
-    push(text, " is a section that isn't read.")?;
-    end(text)
+    push_line(
+        text,
+        &[
+            Part::Shown(word),
+            Part::Words(" is a section that isn't read."),
+        ],
+    )
 }
+
+/// What a section of nodes wants that is open.
+const OPEN_FOR_NODES: &str = " is open: a node is a whole number from 1 to DIMENSION";
 
 /// Appends what a section that is open wants in place of a word.
 fn push_open(text: &mut Vec<u8>, field: Field, nodes: Option<i64>) -> Result<(), AllocError> {
-    begin(text)?;
-    push(text, field.word())?;
+    let section = field.word();
     match (field, nodes) {
-        (Field::EdgeWeightPart, _) => push(text, " is open: a weight is a whole number")?,
-        (_, None) => push(
-            text,
-            " is open: a node is a whole number from 1 to DIMENSION",
-        )?,
-        (_, Some(nodes)) => {
-            push(
-                text,
-                " is open: a node is a whole number from 1 to DIMENSION (",
-            )?;
-            push_number(text, nodes)?;
-            push(text, ")")?;
+        (Field::EdgeWeightPart, _) => {
+            push_with(text, section, " is open: a weight is a whole number", ".")
         }
+        (_, None) => push_with(text, section, OPEN_FOR_NODES, "."),
+        (_, Some(nodes)) => push_line(
+            text,
+            &[
+                Part::Words(section),
+                Part::Words(OPEN_FOR_NODES),
+                Part::Words(" ("),
+                Part::Number(nodes),
+                Part::Words(")."),
+            ],
+        ),
     }
-    push(text, ".")?;
-    end(text)
 }
 
 /// Appends that a group is one more than the file has nodes.
 fn push_surplus(text: &mut Vec<u8>, nodes: i64) -> Result<(), AllocError> {
-    begin(text)?;
-    push(text, "DIMENSION is ")?;
-    push_number(text, nodes)?;
-    push(text, ", and this begins group ")?;
-    push_number(text, nodes.saturating_add(1))?;
-    push(text, ".")?;
-    end(text)
+    push_line(
+        text,
+        &[
+            Part::Words("DIMENSION is "),
+            Part::Number(nodes),
+            Part::Words(", and this begins group "),
+            Part::Number(nodes.saturating_add(1)),
+            Part::Words("."),
+        ],
+    )
 }
 
 /// Appends what is wrong with a value, and which ones the keyword takes.

@@ -5,7 +5,7 @@ ghost use Rattle.std.specs.Io.{StartsWith};
 use crate::claims::push_claim;
 use crate::refusal::{explain_reason, push_details};
 use crate::rounding::push_rounding;
-use crate::text::{append, end, push, push_lines};
+use crate::text::{Part, append, push_lines, push_parts};
 use std::alloc::{AllocError, Global};
 use tsp_cost::Instance;
 use tsp_file::File;
@@ -135,9 +135,7 @@ pub fn explain_wrong_kind(
 
 /// Appends that a file is of the wrong kind, and what the files are.
 fn push_wrong_kind(text: &mut Vec<u8>, name: &str, kinds: &str) -> Result<(), AllocError> {
-    push(text, name)?;
-    push(text, ": wrong kind")?;
-    end(text)?;
+    push_parts(text, &[Part::Words(name), Part::Words(": wrong kind\n")])?;
     push_lines(text, kinds)
 }
 

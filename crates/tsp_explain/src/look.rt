@@ -217,19 +217,14 @@ impl Look {
                 self.field = None;
                 self.other.clear();
                 let _ = self.other.try_extend_from_slice(keyword);
-                let word = sought_word(self.sought);
-                let is_meant = is_near(keyword, word) || is_in_other_letters(keyword, word);
-                if self.near.is_empty() && is_meant {
+                if self.near.is_empty() && may_be_meant(self.sought, keyword) {
                     self.near_line = self.line.number;
                     let _ = self.near.try_extend_from_slice(keyword);
                 }
             }
         }
-        if let Sought::Field(field) = self.sought {
-            let word = field.word().as_bytes();
-            self.has_small_letters = self.has_small_letters
-                || (keyword != word && is_in_other_letters(keyword, word));
-        }
+        self.has_small_letters = self.has_small_letters
+            || is_in_small_letters(self.sought, keyword);
     }
 }
 
@@ -292,6 +287,23 @@ fn sought_word(sought: Sought) -> &'static [u8] {
         Sought::Field(field) => field.word().as_bytes(),
         Sought::Place { line: _, word: _ } => b"DIMENSION",
         Sought::Nothing => &[],
+    }
+}
+
+/// Whether an unknown keyword may have been meant as the one that may be missing.
+fn may_be_meant(sought: Sought, keyword: &[u8]) -> bool {
+    let word = sought_word(sought);
+    is_near(keyword, word) || is_in_other_letters(keyword, word)
+}
+
+/// Whether a keyword is the sought one in other letters.
+fn is_in_small_letters(sought: Sought, keyword: &[u8]) -> bool {
+    match sought {
+        Sought::Field(field) => {
+            let word = field.word().as_bytes();
+            keyword != word && is_in_other_letters(keyword, word)
+        }
+        Sought::Place { .. } | Sought::Nothing => false,
     }
 }
 

@@ -7,7 +7,7 @@ use crate::sentences::reason_sentence;
 use crate::solution::{
     count_at_place, first_place_of, first_repeated, least_missing, node_at, sum_of,
 };
-use crate::text::{append, begin, end, push, push_lines, push_number};
+use crate::text::{Part, append, begin, push, push_line, push_lines, push_parts};
 use std::alloc::{AllocError, Global};
 use tsp_cost::{Costs, Instance};
 use tsp_file::File;
@@ -37,10 +37,7 @@ pub fn explain_reason(
 
 /// Appends the file that is to blame, and the rule of the reason.
 fn push_reason(text: &mut Vec<u8>, name: &str, reason: Reason) -> Result<(), AllocError> {
-    begin(text)?;
-    push(text, name)?;
-    push(text, ":")?;
-    end(text)?;
+    push_line(text, &[Part::Words(name), Part::Words(":")])?;
     push_lines(text, reason_sentence(reason))
 }
 
@@ -161,11 +158,9 @@ fn is_converted(comments: &[Vec<u8>]) -> bool {
 pub(crate) fn say(text: &mut Vec<u8>, parts: &[(&str, i64)]) -> Result<(), AllocError> {
     begin(text)?;
     'parts: for (words, number) in parts {
-        push(text, words)?;
-        push_number(text, *number)?;
+        push_parts(text, &[Part::Words(words), Part::Number(*number)])?;
     }
-    push(text, ".")?;
-    end(text)
+    push(text, ".\n")
 }
 
 /// Appends the cost from a node to another.
@@ -191,11 +186,14 @@ fn push_cost(
 
 /// Appends the TYPE of a file that isn't of the right one.
 pub(crate) fn push_type(text: &mut Vec<u8>, file: &File) -> Result<(), AllocError> {
-    begin(text)?;
-    push(text, "It is of TYPE ")?;
-    push(text, file.kind().word())?;
-    push(text, ".")?;
-    end(text)
+    push_line(
+        text,
+        &[
+            Part::Words("It is of TYPE "),
+            Part::Words(file.kind().word()),
+            Part::Words("."),
+        ],
+    )
 }
 
 /// The value of DIMENSION, and 0 where it is missing.
@@ -225,14 +223,17 @@ pub(crate) fn push_dimensions(
     role: &str,
     other: &File,
 ) -> Result<(), AllocError> {
-    begin(text)?;
-    push(text, "In the instance it is ")?;
-    push_number(text, nodes_of(instance))?;
-    push(text, ", and in the ")?;
-    push(text, role)?;
-    push_number(text, nodes_of(other))?;
-    push(text, ".")?;
-    end(text)
+    push_line(
+        text,
+        &[
+            Part::Words("In the instance it is "),
+            Part::Number(nodes_of(instance)),
+            Part::Words(", and in the "),
+            Part::Words(role),
+            Part::Number(nodes_of(other)),
+            Part::Words("."),
+        ],
+    )
 }
 
 /// Appends how many nodes the tour has and how many the instance, and which are missing or
@@ -248,23 +249,35 @@ fn push_lengths(text: &mut Vec<u8>, instance: &File, solution: &File) -> Result<
             (" nodes, and DIMENSION is ", nodes_of(instance)),
         ],
     )?;
+    push_of_length(text, tour, instance, solution)
+}
+
+/// Appends which node is missing in a tour that is too short, or repeated in one that is too long.
+fn push_of_length(
+    text: &mut Vec<u8>,
+    tour: &[u32],
+    instance: &File,
+    solution: &File,
+) -> Result<(), AllocError> {
     let nodes = nodes_of(instance);
     if count_of(tour.len()) < nodes {
-        push_missing(text, instance, solution)
-    } else if tour.len() > 1
-        && count_of(tour.len()) == nodes.saturating_add(1)
-        && tour.first() == tour.last()
-    {
-        push_lines(
+        return push_missing(text, instance, solution);
+    }
+    if is_closed(tour, nodes) {
+        return push_lines(
             text,
             "Its first node is at its end again: leave it out there.",
-        )
-    } else {
-        match first_repeated(tour) {
-            Some(place) => push_repeated(text, place, solution),
-            None => Ok(()),
-        }
+        );
     }
+    match first_repeated(tour) {
+        Some(place) => push_repeated(text, place, solution),
+        None => Ok(()),
+    }
+}
+
+/// Whether a tour of one node too many ends with its first node.
+fn is_closed(tour: &[u32], nodes: i64) -> bool {
+    tour.len() > 1 && count_of(tour.len()) == nodes.saturating_add(1) && tour.first() == tour.last()
 }
 
 /// Appends the least node of the instance that the tours don't have. The depot isn't missing.
@@ -287,11 +300,14 @@ fn depot_of(instance: &File) -> Option<u32> {
 
 /// Appends a line with a node and what is so of it.
 fn push_of_node(text: &mut Vec<u8>, node: u32, words: &str) -> Result<(), AllocError> {
-    begin(text)?;
-    push(text, "Node ")?;
-    push_number(text, node)?;
-    push(text, words)?;
-    end(text)
+    push_line(
+        text,
+        &[
+            Part::Words("Node "),
+            Part::Number(i64::from(node)),
+            Part::Words(words),
+        ],
+    )
 }
 
 /// Appends the place of a route that has the depot, and that customers may be counted from 1. No

@@ -55,21 +55,24 @@ fn are_rounded(instance: &Instance, points: &Coords, tours: &[Vec<u32>]) -> bool
 /// and ends at the depot.
 fn step_of_tour(instance: &Instance, points: &Coords, tour: &[u32]) -> Option<bool> {
     let (first, last) = (*tour.first()?, *tour.last()?);
-    let begun = match depot_of(instance) {
-        Some(depot) => {
-            let from_depot = step(instance, points, depot, first)?;
-            let to_depot = step(instance, points, last, depot)?;
-            from_depot || to_depot
-        }
-        None => step(instance, points, last, first)?,
-    };
-    let mut some_differ = begun;
+    let mut some_differ = closing_step(instance, points, first, last)?;
     let mut before = first;
     'nodes: for node in tour {
         some_differ = step(instance, points, before, *node)? || some_differ;
         before = *node;
     }
     Some(some_differ)
+}
+
+/// The same of the way from the last node to the first one, through the depot where there is one.
+fn closing_step(instance: &Instance, points: &Coords, first: u32, last: u32) -> Option<bool> {
+    match depot_of(instance) {
+        Some(depot) => {
+            let from_depot = step(instance, points, depot, first)?;
+            Some(step(instance, points, last, depot)? || from_depot)
+        }
+        None => step(instance, points, last, first),
+    }
 }
 
 /// The depot of an instance of TYPE CVRP.

@@ -41,6 +41,41 @@ pub(crate) fn end(text: &mut Vec<u8>) -> Result<(), AllocError>
     text.extend_from_slice(b"\n")
 }
 
+/// A part of a line.
+#[derive(Clone, Copy)]
+pub(crate) enum Part<'a> {
+    /// Words as they are.
+    Words(&'a str),
+    /// The digits of a number.
+    Number(i64),
+    /// Bytes of a file as they are shown.
+    Shown(&'a [u8]),
+}
+
+/// Appends a line of these parts.
+pub(crate) fn push_line(text: &mut Vec<u8>, parts: &[Part<'_>]) -> Result<(), AllocError> {
+    begin(text)?;
+    push_parts(text, parts)?;
+    end(text)
+}
+
+/// Appends parts one after the other.
+pub(crate) fn push_parts(text: &mut Vec<u8>, parts: &[Part<'_>]) -> Result<(), AllocError> {
+    'parts: for part in parts {
+        push_part(text, *part)?;
+    }
+    Ok(())
+}
+
+/// Appends a part.
+fn push_part(text: &mut Vec<u8>, part: Part<'_>) -> Result<(), AllocError> {
+    match part {
+        Part::Words(words) => push(text, words),
+        Part::Number(number) => push_number(text, number),
+        Part::Shown(bytes) => push_shown(text, bytes),
+    }
+}
+
 /// Appends sentences, which are lines of their own where byte 10 parts them.
 pub fn push_lines(text: &mut Vec<u8>, sentences: &str) -> Result<(), AllocError>
     ensures { OnOk result (text.new.items ≡ text.old.items ++ indented sentences.now) }

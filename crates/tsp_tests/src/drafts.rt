@@ -2,6 +2,7 @@
 
 use crate::asserts::same;
 use std::alloc::{AllocError, Global};
+use std::process::Abort;
 use std::test::Fail;
 use tsp_file::{Draft, DraftFault, Field, File, Kind};
 use tsp_tests_support::drafts::tours;
@@ -23,25 +24,32 @@ fn tour_of_zero(alloc: Global, kind: Option<Kind>) -> Result<Draft, AllocError> 
 
 /// A file without tours that keeps NAME as an unknown keyword.
 fn name_as_unknown(alloc: Global) -> Result<Draft, AllocError> {
-    let other = (
-        Vec::from_slice(alloc, b"NAME")?,
-        Vec::from_slice(alloc, b"x")?,
-    );
     let mut others = Vec::new(alloc);
-    others.push(other)?;
-    let mut draft = tours(alloc, &[])?;
+    others.push(name(alloc)?)?;
+    let mut draft = Draft::new(alloc);
+    draft.kind = Some(Kind::Tour);
+    draft.tours = Some(Vec::new(alloc));
     draft.others = others;
     Ok(draft)
+}
+
+/// The keyword NAME and a value.
+fn name(alloc: Global) -> Result<(Vec<u8>, Vec<u8>), AllocError> {
+    let keyword = Vec::from_slice(alloc, b"NAME")?;
+    let value = Vec::from_slice(alloc, b"x")?;
+    Ok((keyword, value))
+}
+
+/// Asserts that a draft is refused for this field.
+fn is_named(rt: &impl Abort, draft: Draft, field: Field) {
+    same(rt, fault_of(draft), Some(DraftFault::BadField(field)));
 }
 
 #[test]
 fn a_field_that_is_not_valid_is_named_first(rt: HostRuntime) -> Result<(), Fail> {
     let alloc = rt.alloc();
-    let found = fault_of(tour_of_zero(alloc, Some(Kind::Tour))?);
-    same(&rt, found, Some(DraftFault::BadField(Field::TourPart)));
-    let found = fault_of(tour_of_zero(alloc, None)?);
-    same(&rt, found, Some(DraftFault::BadField(Field::TourPart)));
-    let found = fault_of(name_as_unknown(alloc)?);
-    same(&rt, found, Some(DraftFault::BadField(Field::OtherKey)));
+    is_named(&rt, tour_of_zero(alloc, Some(Kind::Tour))?, Field::TourPart);
+    is_named(&rt, tour_of_zero(alloc, None)?, Field::TourPart);
+    is_named(&rt, name_as_unknown(alloc)?, Field::OtherKey);
     Ok(())
 }

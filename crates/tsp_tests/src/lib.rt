@@ -12,8 +12,6 @@ mod asserts;
 #[cfg(test)]
 mod bound;
 #[cfg(test)]
-mod cost;
-#[cfg(test)]
 mod drafts;
 #[cfg(test)]
 mod file_names;

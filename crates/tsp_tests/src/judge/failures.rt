@@ -1,6 +1,6 @@
 //! Readers and writers that fail, or had failed before.
 
-use crate::asserts::{holds_at, same_at};
+use crate::asserts::{holds_at, same, same_at};
 use crate::judge::files::{
     AROUND, AROUND_REPORT, BOUND_REPORT, CASES, DUALS, POTENTIALS, RECTANGLE, RECTANGLE_SHOWN,
     REPORT, ROUTES, STAR, THREE_NODES, TOUR, WHOLE_STAR, ZEROS,
@@ -12,7 +12,7 @@ use std::process::Abort;
 use tsp_format::Field;
 use tsp_judge::{EndFault, ReadFault, RelayoutFault, RunFault};
 use tsp_stream::{Watched, WriteFault};
-use tsp_tests_support::devices::{Drip, NEVER, Refusal, outcome};
+use tsp_tests_support::devices::{Drip, NEVER, Refusal, Trickle, outcome};
 
 /// A task and the texts of its files. What it doesn't read is empty.
 pub(crate) type Job = (Task<'static>, [&'static str; 3]);
@@ -79,51 +79,92 @@ pub(crate) fn look_at(
     }
 }
 
+/// The row of a table, and the call that fails.
+type Row = (usize, usize);
+
+/// Asserts what a run returned, how often its writer was asked, and whether that failed.
+fn ends(
+    rt: &impl Abort,
+    row: Row,
+    found: &Seen,
+    answer: Result<bool, RunFault>,
+    calls: usize,
+    failed: bool,
+) {
+    same_at(rt, row, found.answer, answer);
+    same_at(rt, row, found.writer.calls(), calls);
+    same_at(rt, row, found.writer_failed, failed);
+}
+
+/// Asserts how often the readers were asked, and which of them failed.
+fn were_asked(rt: &impl Abort, row: Row, found: &Seen, asked: [usize; 3], failed: [bool; 3]) {
+    same_at(rt, row, found.asked, asked);
+    same_at(rt, row, found.failed, failed);
+}
+
+/// How many bytes each of the texts has.
+fn lengths([first, second, third]: &[&str; 3]) -> [usize; 3] {
+    [first.len(), second.len(), third.len()]
+}
+
 /// Asserts that a reader that fails at a call is the last that is asked, and that nothing is
 /// written.
-fn a_read_fails(rt: &(impl AllocGlobal + Abort), job: &Job, file: u32, fails_at: usize) {
+fn a_read_fails(
+    rt: &(impl AllocGlobal + Abort),
+    row: usize,
+    job: &Job,
+    file: u32,
+    fails_at: usize,
+) {
     let (task, texts) = job;
-    let [first, second, _] = texts;
+    let [first, second, _] = lengths(texts);
     let asked_here = fails_at.saturating_add(1);
     // (the readers behind it would fail at once)
     let (calls, asked, failed) = match file {
         1 => ([fails_at, 0, 0], [asked_here, 0, 0], [true, false, false]),
         2 => (
             [NEVER, fails_at, 0],
-            [first.len(), asked_here, 0],
+            [first, asked_here, 0],
             [false, true, false],
         ),
         _ => (
             [NEVER, NEVER, fails_at],
-            [first.len(), second.len(), asked_here],
+            [first, second, asked_here],
             [false, false, true],
         ),
     };
-    let readers = Readers::failing(*texts, calls);
     let found = look_at(
         rt.alloc(),
         *task,
-        readers,
-        Watched::new(Drip::sound(rt.alloc())),
+        Readers::failing(*texts, calls),
+        sound(rt),
     );
+    ends(rt, (row, fails_at), &found, Err(device_of(file)), 0, false);
+    were_asked(rt, (row, fails_at), &found, asked, failed);
+}
+
+/// A writer that takes all that it is given.
+fn sound(rt: &impl AllocGlobal) -> Watched<Drip> {
+    Watched::new(Drip::sound(rt.alloc()))
+}
+
+/// The result where a read of a file failed.
+fn device_of(file: u32) -> RunFault {
     let fault = ReadFault::Device;
-    let row = (*task, file, fails_at);
-    same_at(rt, row, found.answer, Err(RunFault::File { file, fault }));
-    same_at(rt, row, (found.asked, found.failed), (asked, failed));
-    same_at(rt, row, found.writer.calls(), 0);
+    RunFault::File { file, fault }
 }
 
 #[test]
 fn each_read_may_fail(rt: HostRuntime) {
-    for (job, file) in FILES {
-        let [first, second, third] = job.1;
+    for (row, (job, file)) in FILES.iter().enumerate() {
+        let [first, second, third] = lengths(&job.1);
         let calls = match *file {
-            1 => first.len(),
-            2 => second.len(),
-            _ => third.len(),
+            1 => first,
+            2 => second,
+            _ => third,
         };
         for fails_at in 0..calls {
-            a_read_fails(&rt, job, *file, fails_at);
+            a_read_fails(&rt, row, job, *file, fails_at);
         }
     }
 }
@@ -141,21 +182,19 @@ pub(crate) const WRITTEN: &[(Job, bool, &str)] = &[
 
 #[test]
 fn after_a_line_eof_nothing_is_asked_for(rt: HostRuntime) {
-    for (job, yes, text) in WRITTEN {
-        let (task, texts) = job;
-        let [first, second, third] = texts;
+    for (row, ((task, texts), yes, text)) in WRITTEN.iter().enumerate() {
         // one call for each byte, and the next would fail
-        let calls = [first.len(), second.len(), third.len()];
-        let readers = Readers::failing(*texts, calls);
+        let calls = lengths(texts);
         let found = look_at(
             rt.alloc(),
             *task,
-            readers,
-            Watched::new(Drip::sound(rt.alloc())),
+            Readers::failing(*texts, calls),
+            sound(&rt),
         );
-        same_at(&rt, *task, found.answer, Ok(*yes));
-        same_at(&rt, *task, (found.asked, found.failed), (calls, [false; 3]));
-        same_at(&rt, *task, found.writer.held(), text.as_bytes());
+        // (and all that is written is one piece)
+        ends(&rt, (row, 0), &found, Ok(*yes), 1, false);
+        were_asked(&rt, (row, 0), &found, calls, [false; 3]);
+        same_at(&rt, row, found.writer.held(), text.as_bytes());
     }
 }
 
@@ -171,42 +210,30 @@ const REFUSALS: [Refusal; 4] = [
 /// isn't asked again, and that the run returns no verdict then.
 fn a_write_fails(
     rt: &(impl AllocGlobal + Abort),
-    row: &(Job, bool, &'static str),
+    row: usize,
+    written: &(Job, bool, &'static str),
     refusal: Refusal,
     fails_at: usize,
 ) {
-    let ((task, texts), yes, text) = row;
+    let ((task, texts), yes, text) = written;
     let readers = Readers::failing(*texts, [NEVER; 3]);
     let out = Watched::new(Drip::new(rt.alloc(), 1, fails_at, refusal));
     let found = look_at(rt.alloc(), *task, readers, out);
-    let fails = fails_at < text.len();
-    let (answer, calls) = if fails {
-        (Err(RunFault::Write(WriteFault::Device)), fails_at + 1)
+    if fails_at < text.len() {
+        ends(rt, (row, fails_at), &found, Err(OUTPUT), fails_at + 1, true);
     } else {
-        (Ok(*yes), text.len())
-    };
-    let row = (*task, refusal, fails_at);
-    same_at(rt, row, found.answer, answer);
-    same_at(
-        rt,
-        row,
-        (found.writer_failed, found.writer.calls()),
-        (fails, calls),
-    );
-    same_at(
-        rt,
-        row,
-        Some(found.writer.held()),
-        text.as_bytes().get(..fails_at),
-    );
+        ends(rt, (row, fails_at), &found, Ok(*yes), text.len(), false);
+    }
+    let front = text.as_bytes().get(..fails_at);
+    same_at(rt, (row, fails_at), Some(found.writer.held()), front);
 }
 
 #[test]
 fn each_write_may_fail(rt: HostRuntime) {
-    for row in WRITTEN {
+    for (row, written) in WRITTEN.iter().enumerate() {
         for refusal in REFUSALS {
-            for fails_at in 0..row.2.len() + 1 {
-                a_write_fails(&rt, row, refusal, fails_at);
+            for fails_at in 0..written.2.len() + 1 {
+                a_write_fails(&rt, row, written, refusal, fails_at);
             }
         }
     }
@@ -241,35 +268,35 @@ const NO_FILES: &[(Job, u32, ReadFault)] = &[
     ),
 ];
 
+/// Asserts that a run over these readers ends in a fault, and that nothing is written.
+fn writes_nothing(
+    rt: &(impl AllocGlobal + Abort),
+    row: usize,
+    job: &Job,
+    readers: Readers<'_>,
+    fault: RunFault,
+) -> Seen {
+    let found = look_at(rt.alloc(), job.0, readers, sound(rt));
+    ends(rt, (row, 0), &found, Err(fault), 0, false);
+    found
+}
+
 #[test]
 fn nothing_is_asked_of_later_devices_where_an_earlier_file_is_none(rt: HostRuntime) {
-    for (job, file, fault) in NO_FILES {
-        let (task, texts) = job;
+    for (row, (job, file, fault)) in NO_FILES.iter().enumerate() {
         // (the readers behind it would fail at once)
         let fails_at = match *file {
             1 => [NEVER, 0, 0],
             2 => [NEVER, NEVER, 0],
             _ => [NEVER; 3],
         };
-        let readers = Readers::failing(*texts, fails_at);
-        let found = look_at(
-            rt.alloc(),
-            *task,
-            readers,
-            Watched::new(Drip::sound(rt.alloc())),
-        );
+        let readers = Readers::failing(job.1, fails_at);
         let fault = RunFault::File {
             file: *file,
             fault: *fault,
         };
-        same_at(&rt, job, found.answer, Err(fault));
-        same_at(&rt, job, found.failed, [false; 3]);
-        same_at(
-            &rt,
-            job,
-            (found.writer.calls(), found.writer_failed),
-            (0, false),
-        );
+        let found = writes_nothing(&rt, row, job, readers, fault);
+        same_at(&rt, row, found.failed, [false; 3]);
     }
 }
 
@@ -281,30 +308,29 @@ const NOT_EXPLICIT: RunFault = RunFault::Relayout(RelayoutFault::NotExplicit);
 /// Reads once from each of the readers that are to have failed before.
 fn fail_before(rt: &impl Abort, readers: &mut Readers<'_>, which: [bool; 3]) {
     let [first, second, third] = which;
-    if first {
-        same_at(
-            rt,
-            1,
-            outcome(readers.first.read(&mut [0u8; 1])),
-            INTERRUPTED,
-        );
+    fail_if(rt, &mut readers.first, first);
+    fail_if(rt, &mut readers.second, second);
+    fail_if(rt, &mut readers.third, third);
+}
+
+/// Reads once from a reader that is to have failed before.
+fn fail_if(rt: &impl Abort, reader: &mut Watched<Trickle<'_>>, fails: bool) {
+    if fails {
+        same(rt, outcome(reader.read(&mut [0u8; 1])), INTERRUPTED);
     }
-    if second {
-        same_at(
-            rt,
-            2,
-            outcome(readers.second.read(&mut [0u8; 1])),
-            INTERRUPTED,
-        );
-    }
-    if third {
-        same_at(
-            rt,
-            3,
-            outcome(readers.third.read(&mut [0u8; 1])),
-            INTERRUPTED,
-        );
-    }
+}
+
+/// Asserts that the readers that had failed before were asked for nothing since.
+fn were_not_asked_again(rt: &impl Abort, row: usize, found: &Seen, which: [bool; 3]) {
+    let [first, second, third] = found.asked;
+    holds_at(rt, (row, 1), !which[0] || first == 1);
+    holds_at(rt, (row, 2), !which[1] || second == 1);
+    holds_at(rt, (row, 3), !which[2] || third == 1);
+}
+
+/// The call at which a reader fails that is to have failed before.
+fn at_once(fails: bool) -> usize {
+    if fails { 0 } else { NEVER }
 }
 
 const INTERRUPTED: Result<usize, ErrorKind> = Err(ErrorKind::Interrupted);
@@ -383,26 +409,17 @@ const READERS_HAD_FAILED: &[(Job, [bool; 3], u32, ReadFault)] = &[
 
 #[test]
 fn a_reader_that_had_failed_counts_in_its_turn_and_is_not_asked(rt: HostRuntime) {
-    for (job, which, file, fault) in READERS_HAD_FAILED {
-        let (task, texts) = job;
-        let fails_at = which.map(|failed| if failed { 0 } else { NEVER });
-        let mut readers = Readers::failing(*texts, fails_at);
+    for (row, (job, which, file, fault)) in READERS_HAD_FAILED.iter().enumerate() {
+        let [first, second, third] = *which;
+        let fails_at = [at_once(first), at_once(second), at_once(third)];
+        let mut readers = Readers::failing(job.1, fails_at);
         fail_before(&rt, &mut readers, *which);
-        let found = look_at(
-            rt.alloc(),
-            *task,
-            readers,
-            Watched::new(Drip::sound(rt.alloc())),
-        );
         let fault = RunFault::File {
             file: *file,
             fault: *fault,
         };
-        same_at(&rt, job, found.answer, Err(fault));
-        for (asked, failed) in found.asked.iter().zip(which) {
-            holds_at(&rt, job, !*failed || *asked == 1);
-        }
-        same_at(&rt, job, found.writer.calls(), 0);
+        let found = writes_nothing(&rt, row, job, readers, fault);
+        were_not_asked_again(&rt, row, &found, *which);
     }
 }
 
@@ -458,12 +475,10 @@ const WRITERS_HAD_FAILED: &[(Job, [usize; 3], RunFault)] = &[
 
 #[test]
 fn a_writer_that_had_failed_counts_in_its_turn_and_is_not_asked(rt: HostRuntime) {
-    for (job, fails_at, fault) in WRITERS_HAD_FAILED {
-        let (task, texts) = job;
+    for (row, (job, fails_at, fault)) in WRITERS_HAD_FAILED.iter().enumerate() {
         let mut out = Watched::new(Drip::new(rt.alloc(), 1, 0, Refusal::Nothing));
-        same_at(&rt, job, outcome(out.write(b"x")), Ok(0));
-        let found = look_at(rt.alloc(), *task, Readers::failing(*texts, *fails_at), out);
-        same_at(&rt, job, found.answer, Err(*fault));
-        same_at(&rt, job, found.writer.calls(), 1);
+        same_at(&rt, row, outcome(out.write(b"x")), Ok(0));
+        let found = look_at(rt.alloc(), job.0, Readers::failing(job.1, *fails_at), out);
+        ends(&rt, (row, 0), &found, Err(*fault), 1, true);
     }
 }

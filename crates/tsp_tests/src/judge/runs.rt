@@ -8,7 +8,7 @@ use tsp_stream::Watched;
 use tsp_tests_support::devices::{Drip, Trickle};
 
 /// What is done with the files.
-#[derive(Clone, Copy, Debug)]
+#[derive(Clone, Copy)]
 pub(crate) enum Task<'a> {
     /// The first is an instance, the second its solution.
     Check,
@@ -69,12 +69,13 @@ impl<'a> Readers<'a> {
             second,
             third,
         } = self;
-        [
-            first.into_inner().calls(),
-            second.into_inner().calls(),
-            third.into_inner().calls(),
-        ]
+        [asked(first), asked(second), asked(third)]
     }
+}
+
+/// How often a reader was asked.
+fn asked(reader: Watched<Trickle<'_>>) -> usize {
+    reader.into_inner().calls()
 }
 
 /// A reader of a text that delivers one byte a call, and fails at one call.

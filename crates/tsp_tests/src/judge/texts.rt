@@ -4,7 +4,7 @@ use crate::asserts::same_at;
 use std::alloc::AllocError;
 use std::fmt::Display;
 use std::process::Abort;
-use std::test::Fail;
+use tsp_cost::CostFault;
 use tsp_draft::{DraftFault, EndFault};
 use tsp_file::RelayoutFault;
 use tsp_format::Field;
@@ -75,6 +75,8 @@ const DRAFT_FAULTS: &[(DraftFault, &str)] = &[
     (DraftFault::Rule(EndFault::WrongFormat), "WrongFormat"),
     (DraftFault::Rule(EndFault::WrongCount), "WrongCount"),
 ];
+
+const COST_FAULTS: &[(CostFault, &str)] = &[(CostFault::NotInstance, "NotInstance")];
 
 const WRITE_FAULTS: &[(WriteFault, &str)] = &[
     (WriteFault::Device, "device"),
@@ -150,11 +152,12 @@ const RUN_FAULTS: &[(RunFault, &str)] = &[
 ];
 
 #[test]
-fn faults_print_their_names_with_the_file_or_the_field(rt: HostRuntime) -> Result<(), Fail> {
+fn faults_print_their_names_with_the_file_or_the_field(rt: HostRuntime) -> Result<(), AllocError> {
     print(&rt, NUMBER_FAULTS)?;
     print(&rt, FIELDS)?;
     print(&rt, END_FAULTS)?;
     print(&rt, DRAFT_FAULTS)?;
+    print(&rt, COST_FAULTS)?;
     print(&rt, WRITE_FAULTS)?;
     print(&rt, READ_FAULTS)?;
     print(&rt, RUN_FAULTS)?;

@@ -1,39 +1,62 @@
 //! What reading returns, with the file as its canonical text.
 
-use std::alloc::Global;
+use crate::asserts::{same, same_at};
+use std::alloc::{AllocError, Global};
+use std::fmt::Debug;
 use std::io::Read;
-use std::test::Fail;
+use std::process::Abort;
 use tsp_file::{File, write_file};
 use tsp_read::{Feed, ReadFault, read_bytes, read_from};
 use tsp_stream::Watched;
 use tsp_tests_support::devices::Drip;
 
-/// What a reading returns: the canonical text of its file, or its fault.
-pub(crate) type Answer = Result<Vec<u8>, ReadFault>;
+/// What a reading returns: a writer that holds the canonical text of its file, or its fault.
+pub(crate) type Answer = Result<Drip, ReadFault>;
+
+/// Asserts an answer: the canonical text of the file, or the fault.
+pub(crate) fn answers(
+    rt: &impl Abort,
+    row: impl Debug + Drop,
+    found: &Answer,
+    wanted: &Result<&str, ReadFault>,
+) {
+    let found = match found {
+        Ok(writer) => Ok(writer.held()),
+        Err(fault) => Err(*fault),
+    };
+    let wanted = match wanted {
+        Ok(text) => Ok(text.as_bytes()),
+        Err(fault) => Err(*fault),
+    };
+    same_at(rt, row, found, wanted);
+}
 
 /// The answer of a reading.
-pub(crate) fn answer(alloc: Global, read: Result<File, ReadFault>) -> Result<Answer, Fail> {
-    let file = match read {
-        Ok(file) => file,
-        Err(fault) => return Ok(Err(fault)),
-    };
-    let mut out = Watched::new(Drip::sound(alloc));
-    let written = write_file(alloc, &file, &mut out);
-    drop(file);
-    if written.is_err() {
-        return Err(Fail::from("not written"));
+pub(crate) fn answer(rt: &(impl AllocGlobal + Abort), read: Result<File, ReadFault>) -> Answer {
+    match read {
+        Ok(file) => Ok(written(rt, &file)),
+        Err(fault) => Err(fault),
     }
-    Ok(Ok(Vec::from_slice(alloc, out.into_inner().held())?))
+}
+
+/// A writer that took a file.
+fn written(rt: &(impl AllocGlobal + Abort), file: &File) -> Drip {
+    let mut out = Watched::new(Drip::sound(rt.alloc()));
+    same(rt, write_file(rt.alloc(), file, &mut out), Ok(()));
+    out.into_inner()
 }
 
 /// The answer for a text as a whole.
-pub(crate) fn answer_of(alloc: Global, text: &[u8]) -> Result<Answer, Fail> {
-    answer(alloc, read_bytes(alloc, text))
+pub(crate) fn answer_of(rt: &(impl AllocGlobal + Abort), text: &[u8]) -> Answer {
+    answer(rt, read_bytes(rt.alloc(), text))
 }
 
 /// The answer for a text from a reader.
-pub(crate) fn answer_from<R: Read>(alloc: Global, reader: &mut Watched<R>) -> Result<Answer, Fail> {
-    answer(alloc, read_from(alloc, reader))
+pub(crate) fn answer_from<R: Read>(
+    rt: &(impl AllocGlobal + Abort),
+    reader: &mut Watched<R>,
+) -> Answer {
+    answer(rt, read_from(rt.alloc(), reader))
 }
 
 /// The result for a piece. (It has no contract, which the proofs of the tests would go through; nor
@@ -56,19 +79,16 @@ pub(crate) fn feed_all(feed: &mut Feed, pieces: &[&[u8]]) -> Result<(), ReadFaul
 }
 
 /// The answer for a text in these pieces: the first refusal, or what the end says.
-pub(crate) fn answer_in(alloc: Global, pieces: &[&[u8]]) -> Result<Answer, Fail> {
-    let mut feed = Feed::new(alloc);
+pub(crate) fn answer_in(rt: &(impl AllocGlobal + Abort), pieces: &[&[u8]]) -> Answer {
+    let mut feed = Feed::new(rt.alloc());
     match feed_all(&mut feed, pieces) {
-        Ok(()) => answer(alloc, feed.finish()),
-        Err(fault) => {
-            drop(feed);
-            Ok(Err(fault))
-        }
+        Ok(()) => answer(rt, feed.finish()),
+        Err(fault) => Err(fault),
     }
 }
 
 /// A file of tours in more than 4,096 bytes, with its canonical text.
-pub(crate) fn long_file(alloc: Global) -> Result<(String, String), Fail> {
+pub(crate) fn long_file(alloc: Global) -> Result<(String, String), AllocError> {
     let words = "1 22 \t 333\r\n 4444 -1\n".repeat(alloc, 300)?;
     let lines = "1\n22\n333\n4444\n-1\n".repeat(alloc, 300)?;
     let text = format!(in alloc; "NAME: x\r\nTYPE: TOUR\r\nTOUR_SECTION\r\n{words}")?;

@@ -6,35 +6,26 @@ mod pieces;
 mod readers;
 
 use crate::read::answers::{Answer, answer, fed};
-use std::alloc::Global;
-use std::test::Fail;
+use std::process::Abort;
 use tsp_draft::EndFault;
 use tsp_format::Field;
 use tsp_number::NumberFault;
 use tsp_read::{Feed, LineFault, ReadFault};
 
 /// The answer for a text in pieces of one byte.
-fn answer_by_bytes(alloc: Global, text: &[u8]) -> Result<Answer, Fail> {
-    let mut feed = Feed::new(alloc);
+fn answer_by_bytes(rt: &(impl AllocGlobal + Abort), text: &[u8]) -> Answer {
+    let mut feed = Feed::new(rt.alloc());
     for byte in text {
         if let Err(fault) = fed(&mut feed, &[*byte]) {
-            return Ok(Err(fault));
+            return Err(fault);
         }
     }
-    answer(alloc, feed.finish())
+    answer(rt, feed.finish())
 }
 
 /// The fault of a line.
 fn at(line: u32, word: u32, fault: LineFault) -> ReadFault {
     ReadFault::Line { line, word, fault }
-}
-
-/// An answer whose canonical text is this one, or this fault.
-fn file(alloc: Global, wanted: &Result<&str, ReadFault>) -> Result<Answer, Fail> {
-    match wanted {
-        Ok(canonical) => Ok(Ok(Vec::from_slice(alloc, canonical.as_bytes())?)),
-        Err(fault) => Ok(Err(*fault)),
-    }
 }
 
 /// A text, and its answer: the canonical text of its file, or its fault.

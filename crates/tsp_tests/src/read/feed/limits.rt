@@ -1,8 +1,8 @@
 //! Texts at the limit, in pieces. (Lines and words at theirs are in the tables, and on pipes.)
 
-use crate::asserts::same;
+use crate::asserts::same_at;
 use crate::read::answers::{fault_at_end, fed};
-use std::test::Fail;
+use std::alloc::AllocError;
 use tsp_draft::EndFault;
 use tsp_format::Field;
 use tsp_read::{Feed, ReadFault};
@@ -22,51 +22,48 @@ fn feed_blanks_but(feed: &mut Feed, blanks: &[u8], fewer: usize) -> Result<(), R
     fed(feed, last)
 }
 
-#[test]
-fn a_byte_past_the_limit_is_refused(rt: HostRuntime) -> Result<(), Fail> {
-    let blanks = " ".repeat(rt.alloc(), UNIT)?;
-    let mut feed = Feed::new(rt.alloc());
-    same(
-        &rt,
-        feed_blanks_but(&mut feed, blanks.as_bytes(), 1),
-        Ok(()),
-    );
-    same(&rt, fed(&mut feed, b"\n"), Ok(()));
-    same(&rt, fed(&mut feed, b""), Ok(()));
-    same(&rt, fed(&mut feed, b" "), Err(ReadFault::TooLong));
-    same(&rt, fed(&mut feed, b"EOF\n"), Err(ReadFault::TooLong));
-    same(&rt, fault_at_end(feed), Some(ReadFault::TooLong));
-    Ok(())
-}
+/// The fault of a text without a line TYPE.
+const NO_TYPE: ReadFault = ReadFault::End(EndFault::Missing(Field::TypeKey));
+
+/// How many bytes are left when pieces follow, the pieces and their results, and the fault at the
+/// end.
+const LIMITS: &[(usize, &[(&str, Result<(), ReadFault>)], ReadFault)] = &[
+    // a byte past the limit is refused, and so is all that follows
+    (
+        1,
+        &[
+            ("\n", Ok(())),
+            ("", Ok(())),
+            (" ", Err(ReadFault::TooLong)),
+            ("EOF\n", Err(ReadFault::TooLong)),
+        ],
+        ReadFault::TooLong,
+    ),
+    // a line EOF that ends at the limit counts
+    (
+        4,
+        &[("EO", Ok(())), ("F\n### ", Ok(())), ("1 x\n", Ok(()))],
+        NO_TYPE,
+    ),
+    // one that ends past it doesn't
+    (
+        3,
+        &[("EOF", Ok(())), ("\n", Err(ReadFault::TooLong))],
+        ReadFault::TooLong,
+    ),
+];
 
 #[test]
-fn a_line_eof_that_ends_at_the_limit_counts(rt: HostRuntime) -> Result<(), Fail> {
+fn a_text_at_the_limit_has_its_answer(rt: HostRuntime) -> Result<(), AllocError> {
     let blanks = " ".repeat(rt.alloc(), UNIT)?;
-    let mut feed = Feed::new(rt.alloc());
-    same(
-        &rt,
-        feed_blanks_but(&mut feed, blanks.as_bytes(), 4),
-        Ok(()),
-    );
-    same(&rt, fed(&mut feed, b"EO"), Ok(()));
-    same(&rt, fed(&mut feed, b"F\n### "), Ok(()));
-    same(&rt, fed(&mut feed, b"1 x\n"), Ok(()));
-    let missing = EndFault::Missing(Field::TypeKey);
-    same(&rt, fault_at_end(feed), Some(ReadFault::End(missing)));
-    Ok(())
-}
-
-#[test]
-fn a_line_eof_that_ends_past_the_limit_does_not_count(rt: HostRuntime) -> Result<(), Fail> {
-    let blanks = " ".repeat(rt.alloc(), UNIT)?;
-    let mut feed = Feed::new(rt.alloc());
-    same(
-        &rt,
-        feed_blanks_but(&mut feed, blanks.as_bytes(), 3),
-        Ok(()),
-    );
-    same(&rt, fed(&mut feed, b"EOF"), Ok(()));
-    same(&rt, fed(&mut feed, b"\n"), Err(ReadFault::TooLong));
-    same(&rt, fault_at_end(feed), Some(ReadFault::TooLong));
+    for (fewer, pieces, fault) in LIMITS {
+        let mut feed = Feed::new(rt.alloc());
+        let fed_blanks = feed_blanks_but(&mut feed, blanks.as_bytes(), *fewer);
+        same_at(&rt, *fewer, fed_blanks, Ok(()));
+        for (piece, wanted) in *pieces {
+            same_at(&rt, *fewer, fed(&mut feed, piece.as_bytes()), *wanted);
+        }
+        same_at(&rt, *fewer, fault_at_end(feed), Some(*fault));
+    }
     Ok(())
 }

@@ -1,9 +1,10 @@
 //! The result at each piece.
 
-use super::{CANONICAL_TOUR, TOUR, file};
+use super::{CANONICAL_TOUR, TOUR, at};
 use crate::asserts::{same, same_at};
-use crate::read::answers::{answer, fault_at_end, fed};
-use std::test::Fail;
+use crate::read::answers::{answer, answer_in, answers, fault_at_end, fed};
+use std::alloc::AllocError;
+use std::process::Abort;
 use tsp_draft::EndFault;
 use tsp_format::Field;
 use tsp_number::NumberFault::{BadNumber, LongWord};
@@ -67,26 +68,31 @@ const REFUSALS: &[(&[&str], &str, u32, u32, LineFault)] = &[
     ),
 ];
 
+/// Asserts that pieces are taken, and that the next piece and all later ones are refused.
+fn refuses(
+    rt: &(impl AllocGlobal + Abort),
+    before: &[&'static str],
+    piece: &'static str,
+    fault: ReadFault,
+) {
+    let mut feed = Feed::new(rt.alloc());
+    same_at(rt, piece, feed_texts(&mut feed, before), Ok(()));
+    is_refused(rt, &mut feed, piece, fault);
+    for later in LATER {
+        is_refused(rt, &mut feed, later, fault);
+    }
+    same_at(rt, piece, fault_at_end(feed), Some(fault));
+}
+
+/// Asserts that a piece is refused.
+fn is_refused(rt: &impl Abort, feed: &mut Feed, piece: &'static str, fault: ReadFault) {
+    same_at(rt, piece, fed(feed, piece.as_bytes()), Err(fault));
+}
+
 #[test]
 fn a_refusal_comes_as_soon_as_it_is_settled_and_stays(rt: HostRuntime) {
     for (before, piece, line, word, fault) in REFUSALS {
-        let fault = ReadFault::Line {
-            line: *line,
-            word: *word,
-            fault: *fault,
-        };
-        let mut feed = Feed::new(rt.alloc());
-        same_at(&rt, piece, feed_texts(&mut feed, before), Ok(()));
-        same_at(&rt, piece, fed(&mut feed, piece.as_bytes()), Err(fault));
-        for later in LATER {
-            same_at(
-                &rt,
-                (piece, later),
-                fed(&mut feed, later.as_bytes()),
-                Err(fault),
-            );
-        }
-        same_at(&rt, piece, fault_at_end(feed), Some(fault));
+        refuses(&rt, before, piece, at(*line, *word, *fault));
     }
 }
 
@@ -157,28 +163,23 @@ const TAKEN: &[(&[&str], Result<&str, ReadFault>)] = &[
 ];
 
 #[test]
-fn pieces_that_are_taken_have_their_answer_at_the_end(rt: HostRuntime) -> Result<(), Fail> {
-    let alloc = rt.alloc();
+fn pieces_that_are_taken_have_their_answer_at_the_end(rt: HostRuntime) {
     for (pieces, wanted) in TAKEN {
-        let mut feed = Feed::new(alloc);
+        let mut feed = Feed::new(rt.alloc());
         same_at(&rt, pieces, feed_texts(&mut feed, pieces), Ok(()));
-        let found = answer(alloc, feed.finish())?;
-        same_at(&rt, pieces, found, file(alloc, wanted)?);
+        let found = answer(&rt, feed.finish());
+        answers(&rt, pieces, &found, wanted);
     }
-    Ok(())
 }
 
 #[test]
 fn after_the_line_eof_words_and_lines_of_any_length_are_accepted(
     rt: HostRuntime,
-) -> Result<(), Fail> {
-    let alloc = rt.alloc();
-    let mut feed = Feed::new(alloc);
-    same(&rt, fed(&mut feed, TOUR.as_bytes()), Ok(()));
-    same(&rt, fed(&mut feed, &[b'1'; 5_000]), Ok(()));
-    same(&rt, fed(&mut feed, &[b'K'; 5_000]), Ok(()));
-    let found = answer(alloc, feed.finish())?;
-    same(&rt, found, file(alloc, &Ok(CANONICAL_TOUR))?);
+) -> Result<(), AllocError> {
+    let word = "1".repeat(rt.alloc(), 5_000)?;
+    let line = "K".repeat(rt.alloc(), 5_000)?;
+    let found = answer_in(&rt, &[TOUR.as_bytes(), word.as_bytes(), line.as_bytes()]);
+    answers(&rt, "after EOF", &found, &Ok(CANONICAL_TOUR));
     Ok(())
 }
 

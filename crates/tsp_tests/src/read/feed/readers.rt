@@ -1,10 +1,9 @@
 //! Readers that must not be asked once more.
 
-use super::{CANONICAL_TOUR, RECTANGLE, TOUR, at, file};
+use super::{CANONICAL_TOUR, Example, RECTANGLE, TOUR};
 use crate::asserts::{holds_at, same_at};
-use crate::read::answers::answer_from;
+use crate::read::answers::{answer_from, answers};
 use std::io::{Error, ErrorKind, Read, Result as IoResult};
-use std::test::Fail;
 use tsp_number::NumberFault::BadNumber;
 use tsp_read::LineFault::{Number, Outside, UnknownLine};
 use tsp_read::ReadFault;
@@ -36,34 +35,62 @@ impl Read for Once<'_> {
 }
 
 /// Texts that are settled at their end, so that no more is asked for, with their answers.
-fn settled() -> [(&'static str, Result<&'static str, ReadFault>); 8] {
-    [
-        (RECTANGLE, Ok(RECTANGLE)),
-        (TOUR, Ok(CANONICAL_TOUR)),
-        (
-            "TYPE : TOUR\nTOUR_SECTION\n1 2 3\n EOF : x\r\n###",
-            Ok(CANONICAL_TOUR),
-        ),
-        ("TYPE : HCP\n", Err(at(1, 0, Outside))),
-        ("TYPE : HCP\n1 2", Err(at(1, 0, Outside))),
-        ("FOO\n", Err(at(1, 0, UnknownLine))),
-        ("TOUR_SECTION\n1 x ", Err(at(2, 2, Number(BadNumber)))),
-        (
-            "TOUR_SECTION\n1\n2 x\nEOF\n",
-            Err(at(3, 2, Number(BadNumber))),
-        ),
-    ]
-}
+const SETTLED: &[Example] = &[
+    (RECTANGLE, Ok(RECTANGLE)),
+    (TOUR, Ok(CANONICAL_TOUR)),
+    (
+        "TYPE : TOUR\nTOUR_SECTION\n1 2 3\n EOF : x\r\n###",
+        Ok(CANONICAL_TOUR),
+    ),
+    (
+        "TYPE : HCP\n",
+        Err(ReadFault::Line {
+            line: 1,
+            word: 0,
+            fault: Outside,
+        }),
+    ),
+    (
+        "TYPE : HCP\n1 2",
+        Err(ReadFault::Line {
+            line: 1,
+            word: 0,
+            fault: Outside,
+        }),
+    ),
+    (
+        "FOO\n",
+        Err(ReadFault::Line {
+            line: 1,
+            word: 0,
+            fault: UnknownLine,
+        }),
+    ),
+    (
+        "TOUR_SECTION\n1 x ",
+        Err(ReadFault::Line {
+            line: 2,
+            word: 2,
+            fault: Number(BadNumber),
+        }),
+    ),
+    (
+        "TOUR_SECTION\n1\n2 x\nEOF\n",
+        Err(ReadFault::Line {
+            line: 3,
+            word: 2,
+            fault: Number(BadNumber),
+        }),
+    ),
+];
 
 #[test]
-fn a_reader_is_not_asked_again_once_its_answer_is_settled(rt: HostRuntime) -> Result<(), Fail> {
-    let alloc = rt.alloc();
-    for example in settled() {
+fn a_reader_is_not_asked_again_once_its_answer_is_settled(rt: HostRuntime) {
+    for example in SETTLED {
         let mut reader = Once::new(example.0);
-        let found = answer_from(alloc, &mut reader)?;
-        same_at(&rt, example.0, found, file(alloc, &example.1)?);
+        let found = answer_from(&rt, &mut reader);
+        answers(&rt, example.0, &found, &example.1);
         holds_at(&rt, example.0, !reader.failed());
         same_at(&rt, example.0, reader.into_inner().calls, 1);
     }
-    Ok(())
 }

@@ -1,0 +1,8 @@
+-- The goal of `bound_files` in src/grammar.rt: what it ensures.
+use Rattle.std.proofs.Common.{codes}
+use Rattle.clap.specs.Words.{new_app}
+use Rattle.tsp_cli.specs.Grammar.{path}
+use Rattle.tsp_cli.proofs.grammar.bound_files.Goals as goal
+
+pub returns : goal.returns
+returns c = c.then.ensures (new_app (codes "bound")) (path (codes "F")) c.command-bare.ensures c.path.ensures.rule
