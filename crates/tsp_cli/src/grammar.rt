@@ -1,7 +1,7 @@
 //! The command line as `clap` knows it: five subcommands, what each takes, and the texts of help.
 
 ghost use Rattle.std.specs.Prelude.{◌≡◌, IfOk, false};
-ghost use Rattle.clap.specs.Words.{App, Rule, app_of, new_app, rule_of, shape_of, with_rule, with_subcommand};
+ghost use Rattle.clap.specs.Words.{App, Rule, new_app, rule_of, with_rule, with_subcommand};
 ghost use Rattle.tsp_cli.specs.Grammar.{IsCommandOf, has_globals, path, several_paths, option, flag, explain, show, convert, check_files, check_certified, check, compare_files, compare_certified, compare, bound_files, bound, start, tsp};
 
 use clap::{Arg, ArgAction, Command};

@@ -1,6 +1,6 @@
 //! The texts of faults, which no contract states.
 
-use crate::asserts::same_at;
+use crate::asserts::{holds_at, same_at};
 use std::alloc::AllocError;
 use std::fmt::Display;
 use std::process::Abort;
@@ -13,15 +13,13 @@ use tsp_number::NumberFault;
 use tsp_stream::WriteFault;
 
 /// Asserts what faults print.
-fn print<F: Display>(
-    rt: &(impl AllocGlobal + Abort),
-    faults: &[(F, &'static str)],
-) -> Result<(), AllocError> {
+fn print<F: Display>(rt: &(impl AllocGlobal + Abort), faults: &[(F, &'static str)]) {
     for (fault, text) in faults {
-        let printed = fault.to_string(rt.alloc())?;
-        same_at(rt, text, printed.as_str(), text);
+        match fault.to_string(rt.alloc()) {
+            Ok(printed) => same_at(rt, text, printed.as_str(), text),
+            Err(AllocError) => holds_at(rt, text, false),
+        }
     }
-    Ok(())
 }
 
 const NUMBER_FAULTS: &[(NumberFault, &str)] = &[
@@ -152,14 +150,13 @@ const RUN_FAULTS: &[(RunFault, &str)] = &[
 ];
 
 #[test]
-fn faults_print_their_names_with_the_file_or_the_field(rt: HostRuntime) -> Result<(), AllocError> {
-    print(&rt, NUMBER_FAULTS)?;
-    print(&rt, FIELDS)?;
-    print(&rt, END_FAULTS)?;
-    print(&rt, DRAFT_FAULTS)?;
-    print(&rt, COST_FAULTS)?;
-    print(&rt, WRITE_FAULTS)?;
-    print(&rt, READ_FAULTS)?;
-    print(&rt, RUN_FAULTS)?;
-    Ok(())
+fn faults_print_their_names_with_the_file_or_the_field(rt: HostRuntime) {
+    print(&rt, NUMBER_FAULTS);
+    print(&rt, FIELDS);
+    print(&rt, END_FAULTS);
+    print(&rt, DRAFT_FAULTS);
+    print(&rt, COST_FAULTS);
+    print(&rt, WRITE_FAULTS);
+    print(&rt, READ_FAULTS);
+    print(&rt, RUN_FAULTS);
 }

@@ -3,6 +3,7 @@
 use crate::asserts::same_at;
 use crate::read::answers::{fault_at_end, fed};
 use std::alloc::AllocError;
+use std::process::Abort;
 use tsp_draft::EndFault;
 use tsp_format::Field;
 use tsp_read::{Feed, ReadFault};
@@ -53,17 +54,28 @@ const LIMITS: &[(usize, &[(&str, Result<(), ReadFault>)], ReadFault)] = &[
     ),
 ];
 
+/// Asserts the results of pieces that come when this many bytes are left, and the fault at the end.
+fn ends_in(
+    rt: &(impl AllocGlobal + Abort),
+    blanks: &str,
+    fewer: usize,
+    pieces: &[(&str, Result<(), ReadFault>)],
+    fault: ReadFault,
+) {
+    let mut feed = Feed::new(rt.alloc());
+    let begun = feed_blanks_but(&mut feed, blanks.as_bytes(), fewer);
+    same_at(rt, fewer, begun, Ok(()));
+    for (piece, wanted) in pieces {
+        same_at(rt, fewer, fed(&mut feed, piece.as_bytes()), *wanted);
+    }
+    same_at(rt, fewer, fault_at_end(feed), Some(fault));
+}
+
 #[test]
 fn a_text_at_the_limit_has_its_answer(rt: HostRuntime) -> Result<(), AllocError> {
     let blanks = " ".repeat(rt.alloc(), UNIT)?;
     for (fewer, pieces, fault) in LIMITS {
-        let mut feed = Feed::new(rt.alloc());
-        let fed_blanks = feed_blanks_but(&mut feed, blanks.as_bytes(), *fewer);
-        same_at(&rt, *fewer, fed_blanks, Ok(()));
-        for (piece, wanted) in *pieces {
-            same_at(&rt, *fewer, fed(&mut feed, piece.as_bytes()), *wanted);
-        }
-        same_at(&rt, *fewer, fault_at_end(feed), Some(*fault));
+        ends_in(&rt, blanks.as_str(), *fewer, pieces, *fault);
     }
     Ok(())
 }
