@@ -7,7 +7,7 @@ use crate::refused::{certificate_of, claim_of, layout_of};
 use std::alloc::{AllocError, Global};
 use std::str;
 use tsp_judge::{ReadFault, RunFault, Status, Watched};
-use tsp_perform::{Outcome, explain_fault, explain_outcome, perform};
+use tsp_perform::{explain_fault, explain_outcome, perform};
 use tsp_task::{Request, Task};
 
 /// The calls that are explained, by their numbers.
@@ -93,7 +93,10 @@ fn task_of<'a>(numbers: Numbers, texts: Texts<'a>) -> Option<Task<Named<'a>>>
 
 /// Appends the explanation of the result of a task on texts.
 fn explain(alloc: Global, text: &mut Vec<u8>, task: Task<Named<'_>>) -> Result<(), AllocError> {
-    let ended = performed(alloc, &task);
+    let mut readers = task.map(|file| Watched::new(file.bytes));
+    let mut report = Watched::new(Vec::new(alloc));
+    let ended = perform(alloc, &mut readers, &mut report);
+    drop(report);
     let request = Request::Task(task);
     let names = request.map(|file| file.name);
     match ended {
@@ -103,15 +106,6 @@ fn explain(alloc: Global, text: &mut Vec<u8>, task: Task<Named<'_>>) -> Result<(
             explain_fault(alloc, text, &names, again, None, fault)
         }
     }
-}
-
-/// Does a task on texts. Its report goes nowhere.
-fn performed(alloc: Global, task: &Task<Named<'_>>) -> Result<Outcome, RunFault> {
-    let mut readers = task.map(|file| Watched::new(file.bytes));
-    let mut report = Watched::new(Vec::new(alloc));
-    let ended = perform(alloc, &mut readers, &mut report);
-    drop(report);
-    ended
 }
 
 /// The text that has a fault, where one has it.
