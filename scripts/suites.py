@@ -4,9 +4,9 @@ from __future__ import annotations
 import heapq
 import json
 import os
-import re
 import shutil
 import subprocess
+import sys
 import tempfile
 import threading
 import time
@@ -18,10 +18,13 @@ from queue import SimpleQueue
 
 from sources import ROOT
 
+sys.path.append(str(ROOT / "tests/support"))
+
+from counts import SKIPPED, Counted, counts_in  # noqa: E402
+
 MANIFEST = ROOT / "tests/suites.toml"
 FIRST = "repository"  # the folder of the suites that come first
 RUNNING: set[subprocess.Popen[str]] = set()
-LAST_LINE = re.compile(r"(\d+) passed, (\d+) failed(?:, (\d+) skipped)?$")
 
 
 @dataclass(frozen=True)
@@ -64,7 +67,7 @@ class Outcome:
 
     def counts(self) -> str:
         """The counts, as the last line of a suite has them."""
-        return f"{self.passed} passed, {self.failed} failed" + (f", {self.skipped} skipped" if self.skipped else "")
+        return str(Counted(self.passed, self.failed, self.skipped))
 
 
 def manifest(path: Path = MANIFEST) -> list[Suite]:
@@ -77,10 +80,10 @@ def manifest(path: Path = MANIFEST) -> list[Suite]:
 def outcome_of(name: str, said: str, status: int) -> Outcome:
     """The counts of a suite that wrote this and ended with this status. One that ends in another way than its last line
     says has failed once more."""
-    found = LAST_LINE.match(said.rstrip("\n").rpartition("\n")[2])
-    if found is None:
+    counted = counts_in(said)
+    if counted is None:
         return Outcome(name, failed=1, said=f"{said}{name}: it ended with status {status}, without its counts\n")
-    passed, failed, skipped = (int(count or 0) for count in found.groups())
+    passed, failed, skipped = counted
     if status and not failed:
         failed, said = 1, f"{said}{name}: it ended with status {status}\n"
     return Outcome(name, passed, failed, skipped, said=said)
@@ -89,7 +92,7 @@ def outcome_of(name: str, said: str, status: int) -> Outcome:
 def skipped(name: str, needed: str) -> Outcome:
     """The outcome of a suite that isn't run."""
     told = {"name": name, "outcome": "skipped", "told": needed}
-    return Outcome(name, skipped=1, said=f"skipped: {name}: {needed}\n", cases=[told])
+    return Outcome(name, skipped=1, said=f"{SKIPPED}{name}: {needed}\n", cases=[told])
 
 
 def run(name: str, suite: Suite, more: list[str], nice: int = 0, built: str = "") -> Outcome:

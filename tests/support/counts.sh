@@ -43,7 +43,7 @@ skip() {
 add_counts() {
     # (the three numbers are words)
     # shellcheck disable=SC2046
-    set -- $(sed -n '$s/^\([0-9]*\) passed, \([0-9]*\) failed\(, \([0-9]*\) skipped\)*$/\1 \2 \4/p' "$1")
+    set -- $(python3 "$here/../support/counts.py" "$1")
     passed=$((passed + ${1:-0}))
     failed=$((failed + ${2:-1}))
     skipped=$((skipped + ${3:-0}))

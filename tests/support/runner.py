@@ -4,10 +4,13 @@ from __future__ import annotations
 import argparse
 import json
 import os
+import re
 import sys
 from collections.abc import Callable
 from pathlib import Path
 from typing import NoReturn
+
+from counts import SKIPPED, Counted, counts_in, skips_in
 
 TESTS = Path(__file__).resolve().parents[1]
 ROOT = TESTS.parent
@@ -53,6 +56,12 @@ def stop(why: str) -> NoReturn:
     sys.exit(counts.end())
 
 
+def counts_of_tap(said: str) -> Counted | None:
+    """The counts of tests that wrote them as TAP, as Node does."""
+    found = dict(re.findall(r"^# (pass|fail|skipped) (\d+)$", said, re.M))
+    return Counted(*(int(found.get(word, 0)) for word in ("pass", "fail", "skipped"))) if "fail" in found else None
+
+
 class Counts:
     """How many cases have passed, failed and been skipped. Where the variable CHECK_RECORD names a file, each case is
     written there, a line of JSON each, for the report of ./check."""
@@ -83,7 +92,22 @@ class Counts:
         """Counts what isn't run, and tells what it needs: the packages to install."""
         self.skipped += 1
         self.cases.append({"name": what, "outcome": "skipped", "told": needed})
-        print(f"skipped: {what}: {needed}", flush=True)
+        print(f"{SKIPPED}{what}: {needed}", flush=True)
+
+    def counted(self, what: str, said: str, status: int) -> None:
+        """Adds the counts of a test that wrote this and ended with this status. Its cases are in its own record, and what it
+        skipped is told again."""
+        found = counts_in(said)
+        if found is None or (status and not found.failed):
+            self.add(False, f"{what} ended with status {status}: {said[-2000:]}", what)
+            return
+        self.passed += found.passed
+        self.failed += found.failed
+        self.skipped += found.skipped
+        if found.failed:
+            print(f"{what}:\n{said}", flush=True)
+        else:
+            print(*skips_in(said), sep="\n", end="\n" * bool(found.skipped), flush=True)
 
     def end(self) -> int:
         """Prints the last line of a test, 'N passed, M failed', with ', K skipped' where something was; its exit
@@ -91,6 +115,5 @@ class Counts:
         if record := os.environ.get("CHECK_RECORD"):
             with open(record, "a", encoding="utf-8") as file:
                 file.writelines(json.dumps(case) + "\n" for case in self.cases)
-        skipped = f", {self.skipped} skipped" if self.skipped else ""
-        print(f"{self.passed} passed, {self.failed} failed{skipped}", flush=True)
+        print(Counted(self.passed, self.failed, self.skipped), flush=True)
         return 0 if self.passed + self.skipped and not self.failed else 1

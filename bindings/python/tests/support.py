@@ -79,13 +79,15 @@ def python_with(*modules):
 def needs_python_with(*modules):
     """Skips a test where no Python has these modules."""
     missing = python_with(*modules) is None
-    return unittest.skipIf(missing, f"no Python has {' and '.join(modules)}")
+    packages = " ".join(f"python3-{module}" for module in modules)
+    return unittest.skipIf(missing, f"no Python has {' and '.join(modules)}: apt-get install {packages}")
 
 
-def needs(module):
-    """Skips a test where a module isn't installed."""
+def needs(module, in_debian=True):
+    """Skips a test where a module isn't installed, which Debian has as a package or hasn't."""
     try:
         __import__(module)
     except ImportError:
-        return unittest.skip(f"pip install {module}, or apt-get install python3-{module}")
+        package = f", or apt-get install python3-{module}" if in_debian else ""
+        return unittest.skip(f"{sys.executable} has no {module}: pip install {module}{package}")
     return lambda test: test

@@ -8,7 +8,7 @@ from support import EXAMPLES, RECTANGLE, needs
 FILES = ["rectangle.tsp", "star.tsp", "harbour.tsp", "villages.tsp", "three-node.atsp", "dairy.vrp"]
 
 
-@needs("tsplib95")
+@needs("tsplib95", in_debian=False)
 class SameAnswers(unittest.TestCase):
     def pairs(self):
         import tsplib95

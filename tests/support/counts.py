@@ -1,0 +1,48 @@
+"""The last line with which every test ends: 'N passed, M failed', with ', K skipped' where something was skipped.
+
+usage: python3 tests/support/counts.py FILE
+
+As a program it prints the three numbers of a file's last line. Where that has none, the exit status is 1.
+"""
+from __future__ import annotations
+
+import re
+import sys
+from pathlib import Path
+from typing import NamedTuple
+
+LAST_LINE = re.compile(r"(\d+) passed, (\d+) failed(?:, (\d+) skipped)?")
+SKIPPED = "skipped: "  # so begins the line of what is skipped, which says what to install
+
+
+class Counted(NamedTuple):
+    """How many tests passed, failed and were skipped."""
+
+    passed: int = 0
+    failed: int = 0
+    skipped: int = 0
+
+    def __str__(self) -> str:
+        """The last line."""
+        return f"{self.passed} passed, {self.failed} failed" + (f", {self.skipped} skipped" if self.skipped else "")
+
+
+def counts_in(said: str) -> Counted | None:
+    """The counts in the last line of what a test wrote, or none."""
+    found = LAST_LINE.fullmatch(said.rstrip().rpartition("\n")[2])
+    return Counted(*(int(count or 0) for count in found.groups())) if found else None
+
+
+def skips_in(said: str) -> list[str]:
+    """The lines of what was skipped."""
+    return [line for line in said.splitlines() if line.startswith(SKIPPED)]
+
+
+def main() -> int:
+    counted = counts_in(Path(sys.argv[1]).read_text(errors="replace"))
+    print(*counted or ())
+    return int(counted is None)
+
+
+if __name__ == "__main__":
+    sys.exit(main())
