@@ -41,8 +41,13 @@ BEGIN {
 { sub(/\r$/, "") } # lines of Windows end in bytes 13 and 10
 {
     gsub(/[],;[]/, " ") # lists of other programs have commas and brackets
-    if (NF == 0 || (!rows && !named++ && is_names(NF)))
+    if (NF == 0)
         next
+    if (!rows && !named++ && is_names(NF)) {
+        if (NF > 2)
+            fail("line " NR ": a table has a column of nodes, and at most one more, of their order; these are " NF)
+        next
+    }
     rows++
     if (NF != 2)
         plain = 1

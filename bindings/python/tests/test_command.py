@@ -134,7 +134,17 @@ class Command(unittest.TestCase):
         self.assertEqual(run("solution", "-", stdin=sol.read_bytes()), (0, text, b""))
         report = b"type CVRP\nnodes 8\nroutes 2\nleast 2\nlength 231\nyes\n"
         self.assertEqual(run("check", "--foreign", EXAMPLES / "dairy.vrp", sol), (0, report, b""))
-        self.assertEqual(run("check", EXAMPLES / "dairy.vrp", sol)[0], 2)
+        self.assertEqual(run("check", EXAMPLES / "dairy.vrp", sol), (0, report, b""))
+        self.assertEqual(run("check", "--no-foreign", EXAMPLES / "dairy.vrp", sol)[0], 2)
+        false = sol.read_bytes().replace(b"231", b"230")
+        rejected = b"type CVRP\nnodes 8\nno LengthClaimed 231\n"
+        self.assertEqual(run("check", EXAMPLES / "dairy.vrp", "-", stdin=false), (1, rejected, b""))
+        self.assertEqual(run("check", "--no-claims", EXAMPLES / "dairy.vrp", "-", stdin=false), (0, report, b""))
+        self.assertTrue(run("check", "--explain", EXAMPLES / "dairy.vrp", "-", stdin=false)[2].endswith(
+            b"  The file itself claims 230. --no-claims leaves that.\n"))
+        routes = b"[[4, 5, 3, 6], [1, 7, 2]]"
+        self.assertEqual(run("check", "--first", "0", EXAMPLES / "dairy.vrp", "-", stdin=routes), (0, report, b""))
+        self.assertEqual(run("check", "--first", "1", EXAMPLES / "dairy.vrp", "-", stdin=routes)[0], 1)
         copies = b"TYPE : TOUR\nTOUR_SECTION\n1 5 6 4 7 9 2 8 3 -1\nEOF\n"
         self.assertEqual(run("check", "--foreign", EXAMPLES / "dairy.vrp", "-", stdin=copies), (0, report, b""))
         # Without a depot there is no copy of it.

@@ -1,16 +1,82 @@
 """Solutions of other programs, and files of best-known lengths."""
 
+import json
+import pickle
 import tempfile
 import unittest
 from pathlib import Path
 
 import yokecairn
-from support import EXAMPLES, RECTANGLE
+from support import EXAMPLES, RECTANGLE, ROOT
 from yokecairn import SolutionError, best_known, check, read_solution
+from yokecairn._claims import claim_of
+from yokecairn._forms import is_marked
 
+FORMS = json.loads((ROOT / "tests/support/forms.json").read_text())
 SOLVERS = EXAMPLES / "solvers"
 COUNTED = "Customer k of CVRPLIB is node k + 1"
 HARBOUR = [1, 2, 3, 4, 8, 5, 6, 7]
+
+
+class Shared(unittest.TestCase):
+    """The forms that recipes, scripts and the page read by the same rules."""
+
+    def read(self, form):
+        options = {name: form[name] for name in ("first", "routes") if name in form}
+        return read_solution(form["text"].encode(), dimension=form.get("nodes"), **options)
+
+    def test_forms(self):
+        for form in FORMS:
+            with self.subTest(form["name"]):
+                if form.get("claimed"):
+                    self.assertEqual(read_solution(form["text"].encode()).claimed_length if "TOUR_SECTION" in form["text"]
+                                     else claim_of(form["text"].encode()), form["claim"])
+                elif form["wanted"] is None:
+                    with self.assertRaises(SolutionError):
+                        self.read(form)
+                else:
+                    read = self.read(form)
+                    said = [f"Cost {form['cost']}"] if form["cost"] else []
+                    said += [f"Customer k of {form['customers']} is node k + 1"] if form["customers"] else []
+                    self.assertEqual((read.tours, read.claimed_length), (form["wanted"], form["claim"]))
+                    self.assertEqual(read.comment, "\n".join(said) or None)
+
+    def test_marked_forms_are_read_directly(self):
+        for form in FORMS:
+            if form["name"].startswith(("CVRPLIB", "OR-Tools", "JSON", "VRPLIB", "a JSON")):
+                self.assertTrue(is_marked(form["text"].encode()), form["name"])
+            else:
+                self.assertFalse(is_marked(form["text"].encode()), form["name"])
+
+
+class Claims(unittest.TestCase):
+    ROUTES = "Route #1: 4 5 3 6\nRoute #2: 1 7 2\nCost {}\n"
+
+    def test_the_own_claim_of_a_file_is_its_length(self):
+        dairy = EXAMPLES / "dairy.vrp"
+        true, false = (self.ROUTES.format(cost).encode() for cost in (231, 230))
+        self.assertTrue(check(dairy, true))
+        report = check(dairy, false)
+        self.assertEqual((report.yes, report.reason, report.numbers), (False, "LengthClaimed", (231,)))
+        self.assertTrue(check(dairy, false, claims=False))
+        self.assertTrue(check(dairy, false, length=231))
+        with self.assertRaises(yokecairn.Fault):
+            check(dairy, true, foreign=False)
+        for read, yes in ((read_solution(false), False), (read_solution(false, claims=False), True)):
+            self.assertEqual(check(dairy, read).yes, yes)
+            self.assertEqual(check(dairy, pickle.loads(pickle.dumps(read))).yes, yes)
+        found = yokecairn.compare(dairy, [true, false])
+        self.assertEqual([report.reason for report in found], [None, "LengthClaimed"])
+        self.assertTrue(all(yokecairn.compare(dairy, [true, false], claims=False)))
+
+    def test_a_comment_of_a_tour_is_taken_on_request(self):
+        tour = b"COMMENT : Length = 15\nTYPE : TOUR\nTOUR_SECTION\n1 2 3 4 -1\nEOF\n"
+        self.assertTrue(check(RECTANGLE.encode(), tour))
+        self.assertEqual(check(RECTANGLE.encode(), tour, foreign=True).reason, "LengthClaimed")
+        self.assertTrue(check(RECTANGLE.encode(), tour, foreign=True, claims=False))
+
+    def test_real_costs_are_not_compared(self):
+        self.assertTrue(check(EXAMPLES / "dairy.vrp", self.ROUTES.format("231.5").encode()))
 
 
 class Forms(unittest.TestCase):

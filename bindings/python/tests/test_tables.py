@@ -26,11 +26,16 @@ def by_the_command(program_and_words, cwd, **_):
     folder = os.getcwd()
     os.chdir(cwd)
     try:
-        status = Run(stdin, out, err).run(program_and_words[1:])
+        status = Run(stdin, out, err).run(as_the_program(program_and_words[1:]))
     finally:
         os.chdir(folder)
     told = program_said(err.getvalue(), program_and_words[1:])
     return types.SimpleNamespace(returncode=status, stdout=out.getvalue(), stderr=told)
+
+
+def as_the_program(words):
+    """The words by which the command takes files of TYPE TOUR alone, as the program does."""
+    return [words[0], "--no-foreign", *words[1:]] if words[:1] in (["check"], ["compare"]) else words
 
 
 def program_said(told, words):
@@ -87,7 +92,9 @@ def called(verb, texts, options, names):
             problem = yokecairn.parse(*texts)
             return 0, (problem.relayout(layout) if layout else problem).render(), ""
         if verb == "compare":
-            return compared(texts, options, names)
+            return compared(texts, {"foreign": False, **options}, names)
+        if verb == "check":
+            options["foreign"] = False
         report = (yokecairn.bound if verb == "bound" else yokecairn.check)(*texts, **options)
         return int(not report), report.text, ""
     except yokecairn.Fault as fault:

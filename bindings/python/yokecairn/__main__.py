@@ -1,7 +1,8 @@
 """The program's verbs: python -m yokecairn show, convert, check, bound and compare, and one of its own: solution.
 
-`solution` writes a solution of another program as a file of TYPE TOUR, and `--foreign` reads one. `compare`
-also writes tables and JSON. The others write what the program `tsp` writes, and end with its statuses. What
+`solution` writes a solution of another program as a file of TYPE TOUR. `check` and `compare` read routes of CVRPLIB and
+OR-Tools and JSON directly, and with `--foreign` each form of another program; `--no-foreign` reads none, as the program
+`tsp` does. `compare` also writes tables and JSON. The others write what the program `tsp` writes, and end with its statuses. What
 differs: each file is read whole before it is judged, the texts for a refused command line, for help and for the
 version are Python's, what is explained of standard input has its text, and the line of a fault, where it isn't
 explained, goes on with the path and the word that is wrong, or with what the system says of the file.
@@ -12,11 +13,11 @@ import sys
 from typing import IO, List, Sequence, Tuple
 
 from . import _library
+from ._claims import length_of
 from ._comparing import Lines
-from ._grammar import Asked, Refused, Task, length_of, task_of
+from ._grammar import Asked, Refused, Task, task_of
 from .compare import Judge
 from .faults import Fault, OutOfMemory, SolutionError, error_of, located
-from .solution import solution_text
 
 __all__ = ["Run", "length_of", "main"]
 
@@ -77,15 +78,10 @@ class Run:
         if task.verb == "compare":
             return self.compare(task, texts)
         try:
-            if task.is_foreign:
-                status, nodes = _library.count(texts[0])
-                if status == _library.OUT_OF_MEMORY:
-                    return self.tell(status, b"file 1: out of memory\n")
-                has_depot = b"type CVRP" in _library.show(texts[0])[1].split(b"\n")
-                texts[1] = solution_text(texts[1], nodes, has_depot=has_depot)
+            task.read(texts)
             done = task.done(texts)
         except SolutionError as fault:
-            self.say(f"{task.paths[1 if task.is_foreign else 0]}: {fault}\n".encode("utf-8", "surrogateescape"))
+            self.say(f"{task.paths[int(task.verb == 'check')]}: {fault}\n".encode("utf-8", "surrogateescape"))
             return _library.FAULT
         ended = self.refuse(task, done[1], texts) if done[0] == _library.FAULT else self.tell(*done)
         if self.explains and task.verb != "solution" and ended in (_library.DONE, _library.NO, _library.FAULT):
@@ -95,7 +91,7 @@ class Run:
     def compare(self, task: Task, texts: Sequence[bytes]) -> int:
         """Judges each solution, and writes what comes of it when that is known; the exit status."""
         names = ["standard input" if path == "-" else path for path in task.paths]
-        judge = Judge((texts[0], texts[1] if task.by else b""), (names[0], names[-1]), task.by, task.is_foreign)
+        judge = Judge((texts[0], texts[1] if task.by else b""), (names[0], names[-1]), task.by, task.foreign, task.claims)
         try:
             return Lines(self, judge, task).written()
         except (Fault, OutOfMemory) as fault:

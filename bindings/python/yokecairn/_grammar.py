@@ -1,15 +1,12 @@
 """The words of the command line: one table of verbs, files and options, and what they ask for."""
 
 import argparse
-import re
-from decimal import Decimal
 from typing import Any, Dict, List, NoReturn, Optional, Sequence, Tuple
 
 from . import LAYOUTS, __version__, _library
+from ._claims import length_of
+from ._forms import shape_of, solution_text, told_by
 from .faults import explained
-from .solution import solution_text
-
-_NUMBER = re.compile(r"[+-]?(?=\.?[0-9])([0-9]*)\.?([0-9]*)(?:[eE][+-]?[0-9]+)?")
 
 # What is said of each verb, its files, and its options.
 _VERBS: Dict[str, Tuple[str, Tuple[str, ...], Tuple[str, ...]]] = {
@@ -18,15 +15,15 @@ _VERBS: Dict[str, Tuple[str, Tuple[str, ...], Tuple[str, ...]]] = {
     "check": (
         "judge a tour, or routes, of an instance",
         ("file", "solution"),
-        ("--potentials", "--branches", "--length", "--foreign"),
+        ("--potentials", "--branches", "--length", "--foreign", "--no-foreign", "--first", "--no-claims"),
     ),
     "bound": ("bound all tours of an instance by a certificate", ("file",), ("--potentials", "--branches")),
     "compare": (
         "judge many solutions of an instance, a line for each",
         ("file", "solutions"),
-        ("--potentials", "--branches", "--best", "--tsv", "--json", "--summary", "--foreign"),
+        ("--potentials", "--branches", "--best", "--tsv", "--json", "--summary", "--foreign", "--no-foreign", "--no-claims"),
     ),
-    "solution": ("write a solution of another program as a file of TYPE TOUR", ("file",), ("--dimension",)),
+    "solution": ("write a solution of another program as a file of TYPE TOUR", ("file",), ("--dimension", "--first", "--routes")),
 }
 _FILES: Dict[str, Dict[str, Any]] = {
     "file": {"metavar": "F", "help": "the file, or the instance; - is standard input"},
@@ -39,7 +36,11 @@ _OPTIONS: Dict[str, Dict[str, Any]] = {
     "--potentials": {"metavar": "P", "help": "a file of potentials"},
     "--branches": {"metavar": "B", "help": "a file of branches"},
     "--length": {"metavar": "L", "help": "a no where the length isn't L"},
-    "--foreign": {"action": "store_true", "help": "T may have another program's form"},
+    "--no-foreign": {"dest": "foreign", "action": "store_false", "help": "T has to be of TYPE TOUR, as for tsp"},
+    "--foreign": {"action": "store_true", "default": None, "help": "T may have any form of another program, as a list of nodes"},
+    "--first": {"metavar": "0|1", "type": int, "choices": (0, 1), "help": "the number of a list's first node; of routes in JSON 0 reads customers"},
+    "--routes": {"action": "store_true", "default": None, "help": "a single route leaves the depot out"},
+    "--no-claims": {"action": "store_true", "help": "leave the length that another program's file claims"},
     "--best": {"metavar": "BEST", "help": "the best-known length, or a file of lines NAME LENGTH"},
     "--tsv": {"action": "store_true", "help": "write a table with a tab between its columns"},
     "--json": {"action": "store_true", "help": "write JSON, when all are judged"},
@@ -86,23 +87,6 @@ def _parser() -> argparse.ArgumentParser:
     return parser
 
 
-def length_of(word: str) -> int:
-    """The whole number that a word means, in 64 bits.
-
-    Raises:
-        ValueError: it means none.
-    """
-    match = _NUMBER.fullmatch(word)
-    if match is None or len(word) > 64:
-        raise ValueError(word)
-    if not (match[1] + match[2]).strip("0"):
-        return 0
-    number = Decimal(word)
-    if number.adjusted() > 20 or number != number.to_integral_value() or not -(2**63) <= number < 2**63:
-        raise ValueError(word)
-    return int(number)
-
-
 class Task:
     """What the words of the command line ask for."""
 
@@ -122,14 +106,18 @@ class Task:
         elif branches is not None:
             self.by = _library.BRANCHES
         self.claimed: Optional[int] = None
+        self.is_own_claim = False
         if getattr(given, "length", None) is not None:
             try:
                 self.claimed = length_of(given.length)
             except (ValueError, ArithmeticError):
                 raise Refused("not a length\n") from None
         certificate = potentials if branches is None else branches
-        self.is_foreign: bool = getattr(given, "foreign", False)
+        self.foreign: Optional[bool] = getattr(given, "foreign", None)
+        self.claims: bool = not getattr(given, "no_claims", False)
         self.dimension: Optional[int] = getattr(given, "dimension", None)
+        self.first: Optional[int] = getattr(given, "first", None)
+        self.routes: Optional[bool] = getattr(given, "routes", None)
         paths = [given.file, getattr(given, "solution", None), certificate]
         self.paths: List[str] = [path for path in paths if path is not None]
         self.solutions: List[str] = getattr(given, "solutions", [])
@@ -143,10 +131,24 @@ class Task:
         if [*self.paths, *self.solutions, self.best].count("-") > 1:
             raise Refused("standard input is read once\n")
 
+    def read(self, texts: List[bytes]) -> None:
+        """Puts a text of TYPE TOUR in the place of another program's, and takes the length that it claims.
+
+        Raises:
+            SolutionError: it isn't read.
+        """
+        if self.verb != "check":
+            return
+        texts[1], claim = told_by(
+            texts[1], lambda: shape_of(texts[0]), foreign=self.foreign, first=self.first, claims=self.claims
+        )
+        if self.claimed is None:
+            self.claimed, self.is_own_claim = claim, claim is not None
+
     def done(self, texts: Sequence[bytes]) -> Tuple[int, bytes]:
         """The status of the verb on these texts, and what it writes."""
         if self.verb == "solution":
-            return _library.DONE, solution_text(texts[0], self.dimension)
+            return _library.DONE, solution_text(texts[0], self.dimension, self.routes, self.first)
         if self.verb == "check":
             certificate = texts[2] if self.by else b""
             return _library.check(texts[0], texts[1], certificate, self.by, self.claimed)
@@ -163,7 +165,10 @@ class Task:
             texts, names = (texts[0], b"", texts[1]), [names[0], "", names[1]]
         call = getattr(_library, self.verb.upper()) if self.verb else _library.SHOW
         layout = _library.LAYOUTS[self.layout] if self.layout else 0
-        return explained(call, texts, names, self.by or layout, self.claimed)
+        told = explained(call, texts, names, self.by or layout, self.claimed)
+        if self.is_own_claim and "--length" in told:
+            return f"{told}\n  The file itself claims {self.claimed}. --no-claims leaves that."
+        return told
 
 
 def task_of(words: Sequence[str]) -> Tuple[Task, bool]:

@@ -11,6 +11,7 @@ from functools import cached_property
 from typing import Any, Callable, Dict, Iterable, Iterator, List, Mapping, NoReturn, Optional, Sequence, Tuple, Union, overload
 
 from . import _library, _plots
+from ._forms import Shape
 from ._reasons import REASONS
 from .faults import Error, Fault, OutOfMemory, text_of
 from .many import Outcome
@@ -22,10 +23,10 @@ from .report import (
     bound_of,
     certificate_of,
     report_of,
-    solution_and_path,
+    solution_of,
     text_and_path,
 )
-from .solution import best_known, solution_text
+from .solution import best_known
 
 # The best-known length: itself, lengths by names, or a file of lines `NAME LENGTH`.
 Best = Union[int, Mapping[str, int], Source]
@@ -100,22 +101,32 @@ class Judge:
     """What judges all solutions: the texts of the instance and the certificate, which are read once, and their paths."""
 
     def __init__(
-        self, texts: Tuple[bytes, bytes], paths: Tuple[Optional[str], Optional[str]], by: int, foreign: bool = False
+        self,
+        texts: Tuple[bytes, bytes],
+        paths: Tuple[Optional[str], Optional[str]],
+        by: int,
+        foreign: Optional[bool] = None,
+        claims: bool = True,
     ) -> None:
         self.instance, self.certificate = texts
         self.paths = paths
         self.by = by
-        self.is_foreign = foreign
+        self.is_foreign, self.claims = foreign, claims
         self._bound: Optional[_library.Result] = None
 
     @classmethod
     def of(
-        cls, instance: Source, potentials: Optional[Source], branches: Optional[Source], foreign: bool = False
+        cls,
+        instance: Source,
+        potentials: Optional[Source],
+        branches: Optional[Source],
+        foreign: Optional[bool] = None,
+        claims: bool = True,
     ) -> "Judge":
         """What judges the solutions of these files."""
         first, path = text_and_path(instance)
         by, certificate, certificate_path = certificate_of(potentials, branches)
-        return cls((first, certificate), (path, certificate_path), by, foreign)
+        return cls((first, certificate), (path, certificate_path), by, foreign, claims)
 
     @cached_property
     def name(self) -> str:
@@ -172,24 +183,26 @@ class Judge:
         """What comes of a solution: its report, or the exception that says why it has none. `path` is where it
         was, where it is a text."""
         try:
-            text, own_path = solution_and_path(solution)
-            return self.report(text, path or own_path, explain)
+            return self.report(*solution_of(solution, self._shape, self.is_foreign, self.claims, path), explain)
         except OutOfMemory:
             raise
         except (Error, OSError) as fault:  # one bad solution doesn't stop the others
             return fault
 
-    def report(self, solution: bytes, path: Optional[str], explain: bool = False) -> Report:
-        """The report of a solution's text.
+    def report(
+        self, solution: bytes, path: Optional[str], claim: Optional[int] = None, explain: bool = False
+    ) -> Report:
+        """The report of a solution's text of TYPE TOUR, which claims a length.
 
         Raises:
             Error: it has none.
         """
-        if self.is_foreign:
-            solution = solution_text(solution, self.basis.nodes, has_depot=self.basis.type == "CVRP")
         paths = (self.paths[0], path, self.paths[1])
         texts = (self.instance, solution, self.certificate)
-        return report_of(texts, paths, self.by, explain=explain, handle=self._handle)
+        return report_of(texts, paths, self.by, claim, explain=explain, handle=self._handle)
+
+    def _shape(self) -> Shape:
+        return Shape(self.basis.nodes, self.basis.type == "CVRP")
 
     def best(self, best: Optional[Best]) -> Optional[int]:
         """The best-known length of the instance.
@@ -476,7 +489,8 @@ def compare(
     branches: Optional[Source] = None,
     *,
     best: Optional[Best] = None,
-    foreign: bool = False,
+    foreign: Optional[bool] = None,
+    claims: bool = True,
     explain: bool = False,
     progress: Optional[Progress] = None,
 ) -> Comparison:
@@ -485,8 +499,7 @@ def compare(
     Each solution is what `check` takes: a path, the bytes of its text, a `Problem`, or a list of nodes, for
     routes a list of such lists. `solutions` may map names to them. The instance and the certificate,
     `potentials` or `branches`, are read once. `best` is the best-known length, or where it is found: lengths
-    by the NAME of instances, or a file of lines `NAME LENGTH`. With `foreign`, a solution may have the form of
-    another program, as `read_solution` reads it.
+    by the NAME of instances, or a file of lines `NAME LENGTH`. `foreign` and `claims` are as in `check`.
 
     `progress(done, name, outcome)` is called after each solution, in order.
 
@@ -497,7 +510,7 @@ def compare(
         ValueError: there is no best-known length of the instance.
         MemoryError: out of memory.
     """
-    judge = Judge.of(instance, potentials, branches, foreign)
+    judge = Judge.of(instance, potentials, branches, foreign, claims)
     found = Comparison(judge.basis, judge.paths[0] or judge.name, judge.best(best))
     if judge.basis.reason is not None:
         return found

@@ -65,6 +65,8 @@ class Problem:
         branches: the steps of a tree. A branch is a pair of nodes, a leaf a list of pairs of an index and
             a difference.
         others: the lines of unknown keywords, as pairs of the keyword and its value.
+        claimed_length: the length that a solution claims of itself, as `read_solution` found it; a check takes it
+            as `length`.
     """
 
     name: Optional[str]
@@ -91,6 +93,7 @@ class Problem:
     combs: List[List[List[int]]]
     branches: List[_canonical.Step]
     others: List[Tuple[str, str]]
+    claimed_length: Optional[int]
 
     def __init__(self, *, floats: bool = False, **fields: Any) -> None:
         """A file with these fields, which have the names of the attributes.
@@ -182,17 +185,17 @@ class Problem:
         return cls(**mine, edge_weights=rows)
 
     @classmethod
-    def _of(cls, text: bytes, floats: bool) -> "Problem":
+    def _of(cls, text: bytes, floats: bool, claimed_length: Optional[int] = None) -> "Problem":
         """The file with this canonical text."""
         problem = cls.__new__(cls)
-        problem._fill(text, floats)
+        problem._fill(text, floats, claimed_length)
         return problem
 
-    def _fill(self, text: bytes, floats: bool) -> None:
+    def _fill(self, text: bytes, floats: bool, claimed_length: Optional[int] = None) -> None:
         fields, others, start = _canonical.head_of(text)
         mine: Dict[str, Any] = self.__dict__
         mine.update(dict.fromkeys(_canonical.KEYWORDS))
-        mine.update(fields, others=others, _text=text, _floats=floats, _start=start)
+        mine.update(fields, others=others, claimed_length=claimed_length, _text=text, _floats=floats, _start=start)
 
     _text: bytes
     _floats: bool
@@ -232,7 +235,7 @@ class Problem:
         return hash(self._text)
 
     def __reduce__(self) -> Tuple[Any, ...]:
-        return Problem._of, (self._text, self._floats)
+        return Problem._of, (self._text, self._floats, self.claimed_length)
 
     def __repr__(self) -> str:
         name = "" if self.name is None else f" {self.name}"
@@ -308,6 +311,10 @@ class Problem:
         mine: Dict[str, Any] = {**exact.as_name_dict(), "others": self.others, "floats": self._floats}
         mine.update(fields)
         return Problem(**mine)
+
+    def claiming(self, length: Optional[int]) -> "Problem":
+        """The same file, as a solution that claims this length; None claims none."""
+        return self._of(self._text, self._floats, length)
 
     # ---- writing
 

@@ -5,11 +5,12 @@ import operator
 import os
 from dataclasses import dataclass
 from decimal import ROUND_CEILING, ROUND_FLOOR, Context, Decimal
-from typing import Any, Dict, Iterable, List, Optional, Sequence, Tuple, Union
+from typing import Any, Callable, Dict, Iterable, List, Optional, Sequence, Tuple, Union
 
 from . import _library
+from ._forms import Shape, shape_of, told_by, tour_text
 from ._reasons import REASONS
-from .faults import error_of, explained, text_of
+from .faults import SolutionError, error_of, explained, text_of
 from .problem import Path, Problem
 
 # A path, the text itself, or a file that was read.
@@ -183,17 +184,6 @@ def _type(value: object) -> str:
     return type(value).__name__
 
 
-def tour_text(tours: Iterable[Iterable[int]]) -> bytes:
-    """A text of TYPE TOUR with these tours, or routes."""
-    lines = ["TYPE : TOUR", "TOUR_SECTION"]
-    for tour in tours:
-        try:
-            lines += [*map(str, map(operator.index, tour)), "-1"]
-        except TypeError:
-            raise TypeError(f"a tour is a list of nodes, whole numbers, and this is none: {tour!r:.60}") from None
-    return "\n".join([*lines, "EOF", ""]).encode()
-
-
 def solution_and_path(solution: Solution) -> Tuple[bytes, Optional[str]]:
     """The text of a solution, and its path where it is one."""
     if isinstance(solution, (Problem, bytes, bytearray, str, os.PathLike)):
@@ -234,6 +224,8 @@ def check(
     length: Optional[int] = None,
     *,
     explain: bool = False,
+    foreign: Optional[bool] = None,
+    claims: bool = True,
 ) -> Report:
     """Judges a tour, or routes, of an instance.
 
@@ -242,16 +234,41 @@ def check(
     bound. With `length`, another length than this is a no. With `explain`, a no is explained, and a
     yes whose solution has a comment with another length.
 
+    A solution of CVRPLIB (`.sol`), OR-Tools or in JSON is read as `read_solution` reads it; with `foreign` each form
+    is, and with `foreign=False` none. Then the length that it claims is taken as `length`, where none is named;
+    `claims=False` leaves it.
+
     Raises:
         Fault: a text is no file, or the first is of the wrong kind.
+        SolutionError: the solution is of another program, and isn't read.
         OSError: a path can't be read.
         MemoryError: out of memory.
     """
     first, path = text_and_path(instance)
-    second, solution_path = solution_and_path(solution)
+    second, solution_path, claim = solution_of(solution, lambda: shape_of(first), foreign, claims)
     by, third, certificate_path = certificate_of(potentials, branches)
     paths = (path, solution_path, certificate_path)
-    return report_of((first, second, third), paths, by, _length(length), explain)
+    return report_of((first, second, third), paths, by, claim if length is None else _length(length), explain)
+
+
+def solution_of(
+    solution: Solution, shape: Callable[[], Shape], foreign: Optional[bool], claims: bool, path: Optional[str] = None
+) -> Tuple[bytes, Optional[str], Optional[int]]:
+    """The text of a solution that is judged, its path where it has one, and the length that it claims. `path` is where
+    it was, where it is a text.
+
+    Raises:
+        SolutionError: it is of another program, and isn't read.
+    """
+    text, own_path = solution_and_path(solution)
+    path = path or own_path
+    if isinstance(solution, Problem):
+        return text, path, solution.claimed_length if claims else None
+    try:
+        told, claim = told_by(text, shape, foreign=foreign, claims=claims)
+    except SolutionError as fault:
+        raise SolutionError(fault.told, fault.line, path) from None
+    return told, path, claim
 
 
 def report_of(
