@@ -23,6 +23,7 @@ second_moved kind a result x y z x' y' z' ex ey ez gives =
     (subst (λ (v : ℤ). GivesDistance kind a (point x' v z) result) ey
     (subst (λ (v : ℤ). GivesDistance kind a (point v y z) result) ex gives))
 
+-- plan: the coordinates as words of 64 bits are those that were passed (`first_moved`, `second_moved`)
 pub returns : goal.returns
 returns c =
     let fits : FitsSigned w64 c.distance_of.result = search rules in

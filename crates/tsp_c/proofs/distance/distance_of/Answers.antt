@@ -9,6 +9,7 @@ use Rattle.tsp_c.specs.NumberCalls.{distance_kinds}
 use Rattle.tsp_c.proofs.Distances.{kind_found}
 use Rattle.tsp_c.proofs.distance.distance_of.Goals as goal
 
+-- plan: by the number: it is that of a kind, whose distance is returned (`kind_found`), or of none
 pub returns-in-Some-between : goal.returns-in-Some-between
 returns-in-Some-between c =
     let a : Point = record { x = c.args.from.x; y = c.args.from.y; z = c.args.from.z } in

@@ -4,6 +4,7 @@ use Rattle.tsp_stream.specs.states.Watched.{watched}
 use Rattle.tsp_c.proofs.StatusMeanings.{printed_ends, unprinted_ends}
 use Rattle.tsp_c.proofs.ended.ended.Goals as goal
 
+-- plan: by whether there is memory for the fault's line (`printed_ends`, `unprinted_ends`)
 pub returns-in-Ok : goal.returns-in-Ok
 returns-in-Ok c = printed_ends c.args.answer (watched c.args.report).items c.in-Ok.printed.0 c.in-Ok.printed.1 c.in-Ok.ensures
 

@@ -10,6 +10,7 @@ use Rattle.tsp_c.specs.Told.{told_of_verdict}
 use Rattle.tsp_c.proofs.OnHandles.{fault_as_texts, fault_told, reported_as_texts, reported_told}
 use Rattle.tsp_c.proofs.opened.check_opened.Goals as goal
 
+-- plan: by how the check ends: a fault (`fault_as_texts`, `fault_told`), or a verdict (`reported_as_texts`, `reported_told`)
 pub returns-in-Err-clause-texts : goal.returns-in-Err-clause-texts
 returns-in-Err-clause-texts c = fault_as_texts c.args.opened.now c.args.claimed c.args.solution.now c.in-Err.early []
     c.ended-answer.result.0 c.ended-answer.result.1 c.in-Err.ensures c.ended-answer.ensures

@@ -8,6 +8,7 @@ use Rattle.tsp_c.specs.Opened.{Held, OfHeld}
 use Rattle.tsp_c.proofs.Counted.{some_count}
 use Rattle.tsp_c.proofs.opened.count_held.Goals as goal
 
+-- plan: the handle is there, and holds an instance with this many nodes (`some_count`)
 pub returns-in-Some-clause-fills : goal.returns-in-Some-clause-fills
 returns-in-Some-clause-fills c =
     let held : Open = c.in-Some.opened.value in

@@ -5,6 +5,7 @@ use Rattle.tsp_judge.specs.Open.{Open}
 use Rattle.tsp_c.specs.Told.{told_of_instance}
 use Rattle.tsp_c.proofs.opened.open_text.Goals as goal
 
+-- plan: by whether there is memory for the box: the instance is put into the handle, or nothing is
 pub returns-in-Ok-Err : goal.returns-in-Ok-Err
 returns-in-Ok-Err c = inr (
   OutOfMemory,

@@ -7,6 +7,7 @@ use Rattle.tsp_c.specs.Texts.{ChecksTexts, claim_of, with_certificate}
 use Rattle.tsp_c.specs.Told.{TellsTexts}
 use Rattle.tsp_c.proofs.refused.check_by.Goals as goal
 
+-- plan: the numbers name a certificate and a claim, as the code has tested, so the answer is that of the call
 pub returns-clause-texts : goal.returns-clause-texts
 returns-clause-texts c =
     let one = c.args.instance.now in

@@ -8,6 +8,7 @@ use Rattle.tsp_c.proofs.InNumbers.{sized_bound_run, tells_bound}
 use Rattle.tsp_c.proofs.OnTexts.{bounds_texts}
 use Rattle.tsp_c.proofs.texts.bounded.Goals as goal
 
+-- plan: the run is over readers of the texts (`sized_bound_run`), so its end is the call's (`tells_bound`, `bounds_texts`)
 pub of_bound_run-numbers-requires : goal.of_bound_run-numbers-requires
 of_bound_run-numbers-requires c = let first = c.run_bound_with_cause-found.ensures in let second = first.2 in
     let one : Turn = turn_of (λ s. Some s.now) c.new-first.result c.run_bound_with_cause-found.new.inst first.0 in

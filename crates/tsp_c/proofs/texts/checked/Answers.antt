@@ -6,6 +6,7 @@ use Rattle.tsp_c.proofs.InNumbers.{sized_run, tells_texts}
 use Rattle.tsp_c.proofs.OnTexts.{checks}
 use Rattle.tsp_c.proofs.texts.checked.Goals as goal
 
+-- plan: the run is over readers of the texts (`sized_run`), so its end is the call's (`tells_texts`, `checks`)
 pub of_run-numbers-requires : goal.of_run-numbers-requires
 of_run-numbers-requires c = let first = c.run_with_cause-judged.ensures in let second = first.2 in let third = second.2 in let says = third.2 in
     sized_run _ c.args.claimed _ _ (sink_of (λ v. Some v.items) c.new-report.result c.run_with_cause-judged.new.out) c.run_with_cause-judged.result c.verdicts_mean_reports.ensures.sized says.1.0

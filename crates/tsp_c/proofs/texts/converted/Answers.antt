@@ -4,6 +4,7 @@ use Rattle.std.specs.Prelude.{Some}
 use Rattle.tsp_c.proofs.OnTexts.{converts}
 use Rattle.tsp_c.proofs.texts.converted.Goals as goal
 
+-- plan: the run is over a reader of the text, so its end is the call's (`converts`)
 pub returns : goal.returns
 returns c = let run = c.run_convert_with_cause.ensures in
     converts _ _ _ c.run_convert_with_cause.result _ _ _ _ (ap (λ s. Some s.now) c.new-reader.ensures.inner)

@@ -4,6 +4,7 @@ use Rattle.tsp_cli.specs.Grammar.{bound_files, explain, of_branches, of_potentia
 use Rattle.tsp_cli.proofs.Commands.{free}
 use Rattle.tsp_cli.proofs.grammar.bound.Goals as goal
 
+-- plan: the command is built argument by argument, and none of them is global (`free`)
 pub then-one-requires-clause-globals : goal.then-one-requires-clause-globals
 then-one-requires-clause-globals c = free bound_files c.bound_files-files.result
     c.bound_files-files.ensures

@@ -5,6 +5,7 @@ use Rattle.tsp_cli.specs.Grammar.{check_certified, explain, option}
 use Rattle.tsp_cli.proofs.Commands.{free}
 use Rattle.tsp_cli.proofs.grammar.check.Goals as goal
 
+-- plan: the command is built argument by argument, and none of them is global (`free`)
 pub then-two-requires-clause-globals : goal.then-two-requires-clause-globals
 then-two-requires-clause-globals c = free check_certified c.check_certified-one.result
     c.check_certified-one.ensures

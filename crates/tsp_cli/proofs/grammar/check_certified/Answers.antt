@@ -4,6 +4,7 @@ use Rattle.tsp_cli.specs.Grammar.{check_files, of_branches, of_potentials}
 use Rattle.tsp_cli.proofs.Commands.{free}
 use Rattle.tsp_cli.proofs.grammar.check_certified.Goals as goal
 
+-- plan: the command is built argument by argument, and none of them is global (`free`)
 pub then-one-requires-clause-globals : goal.then-one-requires-clause-globals
 then-one-requires-clause-globals c = free check_files c.check_files-files.result
     c.check_files-files.ensures

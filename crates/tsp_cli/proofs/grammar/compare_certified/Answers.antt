@@ -4,6 +4,7 @@ use Rattle.tsp_cli.specs.Grammar.{compare_files, of_branches, of_potentials}
 use Rattle.tsp_cli.proofs.Commands.{free}
 use Rattle.tsp_cli.proofs.grammar.compare_certified.Goals as goal
 
+-- plan: the command is built argument by argument, and none of them is global (`free`)
 pub then-one-requires-clause-globals : goal.then-one-requires-clause-globals
 then-one-requires-clause-globals c = free compare_files c.compare_files-files.result
     c.compare_files-files.ensures

@@ -5,6 +5,7 @@ use Rattle.tsp_cli.specs.Grammar.{explain, option, path}
 use Rattle.tsp_cli.proofs.Commands.{free}
 use Rattle.tsp_cli.proofs.grammar.convert.Goals as goal
 
+-- plan: the command is built argument by argument, and none of them is global (`free`)
 pub then-two-requires-clause-globals : goal.then-two-requires-clause-globals
 then-two-requires-clause-globals c = free (with_rule (new_app (codes "convert")) (path (codes "F"))) c.then-one.result
     (c.then-one.ensures (new_app (codes "convert")) (path (codes "F")) c.command-bare.ensures c.path.ensures.rule)

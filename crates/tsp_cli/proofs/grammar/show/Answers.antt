@@ -9,6 +9,7 @@ pub then-requires-clause-globals : goal.then-requires-clause-globals
 then-requires-clause-globals c = free (with_rule (new_app (codes "show")) (path (codes "F"))) c.then-one.result
     (c.then-one.ensures (new_app (codes "show")) (path (codes "F")) c.command-bare.ensures c.path.ensures.rule)
 
+-- plan: the command is built argument by argument, and none of them is global (`free`)
 pub returns : goal.returns
 returns c =
     c.then.ensures (with_rule (new_app (codes "show")) (path (codes "F"))) explain

@@ -16,6 +16,7 @@ checked = with_subcommand converted check.top
 abbrev compared : App
 compared = with_subcommand checked compare.top
 
+-- plan: the commands are added one by one, and none has a global argument (`free`)
 pub then_command-one-requires-clause-globals : goal.then_command-one-requires-clause-globals
 then_command-one-requires-clause-globals c = free start c.top.result
     c.top.ensures

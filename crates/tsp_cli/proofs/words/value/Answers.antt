@@ -4,6 +4,7 @@ use Rattle.clap.specs.Words.{found_of}
 use Rattle.clap.proofs.WalkLemmas.{first_value-rows}
 use Rattle.tsp_cli.proofs.words.value.Goals as goal
 
+-- plan: by whether the option was given
 pub returns-in-None : goal.returns-in-None
 returns-in-None c =
     let rows = first_value-rows (found_of c.args.found.now) c.args.id.now in

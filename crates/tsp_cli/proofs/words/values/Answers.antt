@@ -4,6 +4,7 @@ use Rattle.clap.specs.Words.{found_of}
 use Rattle.clap.proofs.WalkLemmas.{raw_values-rows}
 use Rattle.tsp_cli.proofs.words.values.Goals as goal
 
+-- plan: by whether paths were given
 pub returns-in-Some : goal.returns-in-Some
 returns-in-Some c =
     let rows = raw_values-rows (found_of c.args.found.now) c.args.id.now in

@@ -6,6 +6,7 @@ use Rattle.tsp_draft.specs.Rules.{is_routing}
 use Rattle.tsp_cost.proofs.Problems.{AreDefined, AreUnique, some_problem, one_problem, one_routing}
 use Rattle.tsp_cost.proofs.laws.instances_are_problems.Goals as goal
 
+-- plan: a valid instance has a problem (`some_problem`), and no other (`one_problem`, `one_routing`)
 pub returns : goal.returns
 returns c =
     let defined : AreDefined = c.costs_are_by_inequalities.ensures.defined in

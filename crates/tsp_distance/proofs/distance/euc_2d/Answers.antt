@@ -6,6 +6,7 @@ use Rattle.tsp_distance.proofs.Roots.{is_euc_2d}
 use Rattle.tsp_distance.proofs.DistanceLaws.{euc_2d-is, signed_is}
 use Rattle.tsp_distance.proofs.distance.euc_2d.Goals as goal
 
+-- plan: the root that is found is the distance (`is_euc_2d`), and there is one such number (`euc_2d-is`)
 pub returns-clause-value : goal.returns-clause-value
 returns-clause-value c =
     let same : unsigned_abs (to_z w64 (of_z w64 c.straight.result)) ≡ unsigned_abs c.straight.result = search (arith, ints) in

@@ -3,6 +3,7 @@ use Rattle.tsp_distance.proofs.DistanceLaws.{euc_2d_laws, ceil_2d_laws, man_2d_l
 use Rattle.tsp_distance.proofs.SpaceLaws.{euc_3d_laws, man_3d_laws, max_3d_laws}
 use Rattle.tsp_distance.proofs.laws.distance_laws.Goals as goal
 
+-- plan: one lemma for each distance
 pub returns-clause-euc_2d : goal.returns-clause-euc_2d
 returns-clause-euc_2d c = euc_2d_laws
 

@@ -4,6 +4,7 @@ use Rattle.std.proofs.lemmas.Int.{to_z-of_z}
 use Rattle.tsp_distance.proofs.Roots.{square-most, wide_square}
 use Rattle.tsp_distance.proofs.root.square_of.Goals as goal
 
+-- plan: the square in the code's width is that of the whole number (`wide_square`), and `square-most` bounds it
 pub overflow_cast-result : goal.overflow_cast-result
 overflow_cast-result c =
     let wide : c.from-wide.result ≡ c.args.way = c.from-wide.ensures ∙ to_z-of_z w64 c.args.way c.ranges.way in

@@ -19,6 +19,7 @@ add_bit-requires-clause-bit c =
     let below = pow_below c.sets.set 63 lt in
     omega (arith, power, below)
 
+-- plan: one set more adds its bit to its nodes, and to no other (`so_far_more`)
 pub sets-preserved : goal.sets-preserved
 sets-preserved c =
     let h = c.sets.invariant in

@@ -51,6 +51,7 @@ pushed_kept memberships firsts node h place new room = record {
   few = let long = length-append firsts (node ∷ []) in omega (arith, long, room);
 }
 
+-- plan: a node alike to an earlier one adds no part (`any_more`); another is the first of its part (`differ_more`)
 pub nodes-preserved : goal.nodes-preserved
 nodes-preserved c =
     let memberships : List ℕ = c.args.memberships.now in

@@ -4,6 +4,7 @@ use Rattle.std.proofs.lemmas.List.{drop-set}
 use Rattle.tsp_number.proofs.DigitPairs.{pair, nine_digits}
 use Rattle.tsp_number.proofs.digits.write_nine.Goals as goal
 
+-- plan: from the end: a digit, then four pairs, each before what the last call left; `nine_digits` puts them together
 pub returns : goal.returns
 returns c =
     let n : ℕ = c.args.number in

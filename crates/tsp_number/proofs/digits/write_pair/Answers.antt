@@ -4,6 +4,7 @@ use Rattle.std.proofs.lemmas.List.{set_comm, drop-set}
 use Rattle.tsp_number.proofs.DigitPairs.{PAIRS_at}
 use Rattle.tsp_number.proofs.digits.write_pair.Goals as goal
 
+-- plan: both bytes are the table's (`PAIRS_at`), and what follows them is as it was (`drop-set`)
 pub returns : goal.returns
 returns c =
     let p = PAIRS_at c.args.pair c.requires.few in

@@ -5,6 +5,7 @@ use Rattle.std.specs.Char.{is_ascii_digit}
 use Rattle.tsp_number.proofs.EightDigits.{front_is_digits}
 use Rattle.tsp_number.proofs.eight.front_of_eight.Goals as goal
 
+-- plan: the bytes that were counted are digits (`front_is_digits`)
 pub value_in-requires-clause-within : goal.value_in-requires-clause-within
 value_in-requires-clause-within c =
     omega (arith, prefix_len-le-length is_ascii_digit c.args.eight.now, c.count_in-count.ensures, c.told-eight)

@@ -4,6 +4,7 @@ use Rattle.std.specs.Fmt.{digits}
 use Rattle.tsp_number.specs.Spelling.{decimals}
 use Rattle.tsp_number.proofs.examples.examples_of_spellings.Goals as goal
 
+-- plan: each example is computed from the definition
 pub returns-clause-zero : goal.returns-clause-zero
 unfolding digits decimals
 returns-clause-zero c = search rules

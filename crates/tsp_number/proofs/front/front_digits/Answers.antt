@@ -4,6 +4,7 @@ use Rattle.std.proofs.lemmas.List.{take_rest}
 use Rattle.tsp_number.proofs.FrontNumbers.{ReadsFront, counts_on, eight_more, eight_and_more, few_fit}
 use Rattle.tsp_number.proofs.front.front_digits.Goals as goal
 
+-- plan: by the digits of the first eight bytes: fewer are all (`eight_more`), or others are counted on (`eight_and_more`)
 pub returns-then-count-lt-EIGHT-clause-digits : goal.returns-then-count-lt-EIGHT-clause-digits
 returns-then-count-lt-EIGHT-clause-digits c =
     let eight = c.front_of_eight-value.ensures in

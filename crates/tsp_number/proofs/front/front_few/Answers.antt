@@ -5,6 +5,7 @@ use Rattle.tsp_number.proofs.FrontNumbers.{eight_more, few_front, few_digits, no
 use Rattle.tsp_number.proofs.front.front_few.Goals as goal
 use Rattle.tsp_number.proofs.front.front_few.Goals.{then-count-eq0-via-then-count-eq0, then-count-eq0-via-else-count-eq0+then-count-eq-EIGHT}
 
+-- plan: fewer than eight digits are the whole number (`few_front`); none, or more, is no short word (`not_few`)
 pub returns-then-count-eq0-clause-end : goal.returns-then-count-eq0-clause-end
 returns-then-count-eq0-clause-end c =
     sym (not_few c.args.bytes.now c.in-Some.eight.now c.front_of_eight-size.result.1 c.in-Some.ensures.cases c.front_of_eight-size.ensures.count

@@ -11,6 +11,7 @@ use Rattle.tsp_number.proofs.front.front_whole.Goals as goal
 pub signed-requires : goal.signed-requires
 signed-requires c = small_whole _ _ c.front_digits-size.ensures.size c.front_digits-size.ensures.few
 
+-- plan: the digits and the sign are the number (`whole_front`), which fits 64 bits (`small_whole`)
 pub returns-clause-number : goal.returns-clause-number
 returns-clause-number c =
     let has : HasWhole c.args.bytes.now c.front_sign-negative.result.1 c.front_digits-size.result.1 c.front_digits-size.result.0 c.front_sign-negative.result.0 =

@@ -6,6 +6,7 @@ use Rattle.tsp_number.proofs.FrontNumbers.{one_more, room_for_one}
 use Rattle.tsp_number.proofs.Prefixes.{prefix_one_more, prefix_ends}
 use Rattle.tsp_number.proofs.front.single_digits.Goals as goal
 
+-- plan: one digit more extends the value (`one_more`), which fits (`room_for_one`); at another byte they end (`prefix_ends`)
 pub overflow_mul-value : goal.overflow_mul-value
 overflow_mul-value c =
     let room = room_for_one _ _ _ c.loop-count.invariant.1 (omega (arith, c.min-end.ensures)) in

@@ -9,6 +9,7 @@ use Rattle.tsp_number.specs.states.Written.{clamped, saturated}
 use Rattle.tsp_number.proofs.Scanning.{holds}
 use Rattle.tsp_number.proofs.scan.split_word.Goals as goal
 
+-- plan: the parts that the calls found are those of the definition, one after the other
 pub returns : goal.returns
 returns c =
     let whole : c.split_digits-whole.result.digits.now ≡ whole_in c.args.word.now = cc in

@@ -4,6 +4,7 @@ use Rattle.tsp_number.proofs.Scaling.{CutsWhole, CutsFraction, all_dropped, whol
 use Rattle.tsp_number.proofs.shift.drop_long_zeros.Goals as goal
 use Rattle.tsp_number.proofs.shift.drop_long_zeros.Goals.{else-are_zeros-via-then-are_zeros+else-are_zeros-2, else-are_zeros-via-else-are_zeros}
 
+-- plan: by where the digits are cut, before the point or after it: all that is dropped is 0, or something isn't (`not_both`)
 pub returns-then-count-digits : goal.returns-then-count-digits
 returns-then-count-digits c =
     all_dropped (c.args.whole.now ++ c.args.fraction.now) c.args.count c.requires.all_digits

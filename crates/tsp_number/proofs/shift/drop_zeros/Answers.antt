@@ -3,6 +3,7 @@ use Rattle.std.proofs.Common.{arith}
 use Rattle.tsp_number.proofs.Scaling.{pow_above_zero, too_few_zeros, rest_left, no_rest}
 use Rattle.tsp_number.proofs.shift.drop_zeros.Goals as goal
 
+-- plan: by the power of ten: it is too large (`too_few_zeros`), divides the number (`no_rest`), or doesn't (`rest_left`)
 pub returns-then-count-ge20 : goal.returns-then-count-ge20
 returns-then-count-ge20 c = too_few_zeros c.args.size c.args.count (omega arith) (omega arith) c.if-count-ge20.true
 

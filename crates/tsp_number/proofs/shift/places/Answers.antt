@@ -28,6 +28,7 @@ sums scale exponent count small low high few =
     let all = fits (pos scale +ℤ exponent -ℤ pos count) (omega (arith, ints, low, few)) (omega (arith, ints, small, high)) in
     (rw (first, second, third, sum) all, rw (first, second, third, sum, to_z-of_z w64 (pos scale +ℤ exponent -ℤ pos count) all) refl)
 
+-- plan: all sums are small, so that 64 bits count them as whole numbers (`sums`)
 pub overflow_add-result : goal.overflow_add-result
 overflow_add-result c =
     let between = clamped_between c.requires.parts.0.exponent in

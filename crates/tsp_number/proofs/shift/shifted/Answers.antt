@@ -7,6 +7,7 @@ use Rattle.tsp_number.specs.states.Written.{clamped, DropsZeros}
 use Rattle.tsp_number.proofs.Scaling.{near_places, few_in_fraction, digits_of-lt, shifts_up, shifts_down}
 use Rattle.tsp_number.proofs.shift.shifted.Goals as goal
 
+-- plan: by the sign of the places: zeros are added (`shifts_up`) or dropped (`shifts_down`)
 pub returns-then-places-ge0 : goal.returns-then-places-ge0
 returns-then-places-ge0 c = λ n keeps.
     let near = near_places c.args.scale (length n.fraction) n.exponent c.requires.scale (few_in_fraction c.args.written.now n keeps) in

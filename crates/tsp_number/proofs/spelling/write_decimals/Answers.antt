@@ -4,6 +4,7 @@ use Rattle.tsp_number.specs.Spelling.{decimals, three_digits}
 use Rattle.tsp_number.proofs.Spellings.{decimals-zeros, two_groups, three_groups, nine_decimals}
 use Rattle.tsp_number.proofs.spelling.write_decimals.Goals as goal
 
+-- plan: by which groups of three digits are 0: the last that isn't ends the text (`three_groups`, `two_groups`)
 pub returns-then-rest-eq0-clause-start : goal.returns-then-rest-eq0-clause-start
 returns-then-rest-eq0-clause-start c =
     rw (decimals-zeros c.args.rest c.requires.part (omega arith)) c.write_last.ensures.start

@@ -5,6 +5,7 @@ use Rattle.tsp_number.specs.Spelling.{decimals}
 use Rattle.tsp_number.proofs.Spellings.{last_three, last_two, last_one}
 use Rattle.tsp_number.proofs.spelling.write_last.Goals as goal
 
+-- plan: by which digits of the group are 0: one, two or three of them are written (`last_one`, `last_two`, `last_three`)
 pub returns-then-group-gt0-clause-start : goal.returns-then-group-gt0-clause-start
 returns-then-group-gt0-clause-start c =
     let long : length (decimals 3 c.args.group) ≡ 3 = ap length (last_three c.args.group (omega arith)) in

@@ -31,6 +31,7 @@ begins : (c : Else-count-ge0) → (1 ≤ c.write_digits-start.result) × (c.writ
 begins c = negative_begins c.args.d c.unsigned_abs-size.result c.write_digits-start.result c.write_fraction-point.result c.args.end
     (is_negative c) (most c) (size_is c) c.write_digits-start.ensures.start c.write_fraction-point.ensures.start c.requires.room
 
+-- plan: the fraction, the whole part and the sign, each before what the last call left; `spelling_short` for their length
 pub write_digits-start-requires : goal.write_digits-start-requires
 write_digits-start-requires c =
     let fits : FitsSigned w64 c.nanos-count.result = search rules in

@@ -10,6 +10,7 @@ use Rattle.tsp_number.specs.declared.fault.NumberFault.TheVariants.{LongWord, Ba
 use Rattle.tsp_number.proofs.WordLaws.{decimal_once, decimal_of-reads}
 use Rattle.tsp_number.proofs.word.any_decimal.Goals as goal
 
+-- plan: by the first thing that is wrong: each branch gives `ReadsDecimal`, and `decimal_once` that it is the computed answer
 pub returns-then-word-gt-MOST_BYTES : goal.returns-then-word-gt-MOST_BYTES
 returns-then-word-gt-MOST_BYTES c =
     let reads : ReadsDecimal c.args.word.now (Err LongWord) = λ short. omega arith in

@@ -10,6 +10,7 @@ use Rattle.tsp_number.specs.declared.fault.NumberFault.TheVariants.{LongWord, Ba
 use Rattle.tsp_number.proofs.WordLaws.{whole_once, whole_of-reads}
 use Rattle.tsp_number.proofs.word.any_whole.Goals as goal
 
+-- plan: by the first thing that is wrong: each branch gives `ReadsWhole`, and `whole_once` that it is the computed answer
 pub returns-then-word-gt-MOST_BYTES : goal.returns-then-word-gt-MOST_BYTES
 returns-then-word-gt-MOST_BYTES c =
     let reads : ReadsWhole c.args.word.now c.args.low c.args.high (Err LongWord) = λ short. omega arith in

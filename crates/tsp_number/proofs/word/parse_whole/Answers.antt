@@ -6,6 +6,7 @@ use Rattle.tsp_number.proofs.WordLaws.{whole_once, whole_of-reads}
 use Rattle.tsp_number.proofs.word.parse_whole.Goals as goal
 use Rattle.tsp_number.proofs.word.parse_whole.Goals.{then-whole-low-via-then-whole-low, then-whole-low-via-else-whole-low+then-whole-high}
 
+-- plan: by the range: the front's number is the word's (`whole_word`), or it is outside (`whole_outside`)
 pub returns-then-whole-low : goal.returns-then-whole-low
 returns-then-whole-low c =
     let out : (c.in-Some.whole <ℤ c.args.low) ⊎ (c.args.high <ℤ c.in-Some.whole) = elim c.then-whole-low.branch [

@@ -5,6 +5,7 @@ use Rattle.tsp_stream.specs.states.Watched.{watched}
 use Rattle.tsp_stream.proofs.Sinks.{sent_more, sent_front, sent_all, some_left}
 use Rattle.tsp_stream.proofs.output.send.Goals as goal
 
+-- plan: the parts that were sent are a prefix of the text (`sent_more`); at the end nothing is left (`sent_all`)
 pub parts-init : goal.parts-init
 parts-init g c = record {
   sound = cc;

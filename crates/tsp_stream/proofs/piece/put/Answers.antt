@@ -21,6 +21,7 @@ ok_is : {T E : Type 0} (r : Result T E) → false ≡ is_err r → true ≡ is_o
 ok_is (Ok x) e = refl
 ok_is (Err x) e = absurd (cc)
 
+-- plan: by whether the bytes fit: they wait in the piece (`carried_waits`), or it is sent and they come after it (`carried_sent`)
 pub returns-then-is_ok : goal.returns-then-is_ok
 returns-then-is_ok g c =
     carried_waits (way_of g.W.Write.contents c.args.out.now c.args.piece.now.items) (way_of g.W.Write.contents c.args.out.now c.try_extend_from_slice.new.self.items)

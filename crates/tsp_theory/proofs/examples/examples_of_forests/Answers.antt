@@ -32,6 +32,7 @@ both_ends = record {
   count = refl;
 }
 
+-- plan: each step is a least join (`join_so`, `nearest_so`), and `least_from_forest` says that the whole is least
 pub returns-clause-from_both_ends : goal.returns-clause-from_both_ends
 returns-clause-from_both_ends c = both_ends
 

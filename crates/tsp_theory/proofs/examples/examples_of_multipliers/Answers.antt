@@ -7,6 +7,7 @@ use Rattle.tsp_theory.specs.Adjusted.{pair_of, UsesNone}
 use Rattle.tsp_theory.specs.Examples.{on_diagonals}
 use Rattle.tsp_theory.proofs.examples.examples_of_multipliers.Goals as goal
 
+-- plan: each example is computed from the definition
 -- 1 and 3 are the first link, 2 and 4 the third
 pub returns-clause-used : goal.returns-clause-used
 returns-clause-used c =

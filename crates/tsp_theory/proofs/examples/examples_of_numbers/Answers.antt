@@ -4,6 +4,7 @@ use Rattle.std.specs.Prelude.{pos, ◌≤ℤ◌}
 use Rattle.std.proofs.lemmas.Int.{ints}
 use Rattle.tsp_theory.proofs.examples.examples_of_numbers.Goals as goal
 
+-- plan: the example is computed from the definition
 -- 2 at the scale 2 is no less than 4
 pub returns-clause-not_above : goal.returns-clause-not_above
 returns-clause-not_above c = λ bound. (

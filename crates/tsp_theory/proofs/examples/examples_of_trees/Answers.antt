@@ -11,6 +11,7 @@ use Rattle.tsp_theory.proofs.examples.examples_of_trees.Goals as goal
 rectangle_tree : IsLeastOneTree 4 rectangle (pairs_of 2 4 (2, 3) (3, 4))
 rectangle_tree = tree_so rectangle 4 3 (costs_even rectangle_costs) (search rules)
 
+-- plan: each tree is least by its joins (`tree_so`), and its weight gives the bound (`bound_so`)
 pub returns-clause-tree : goal.returns-clause-tree
 returns-clause-tree c = rectangle_tree.tree
 

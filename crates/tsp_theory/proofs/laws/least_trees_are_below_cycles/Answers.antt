@@ -3,6 +3,7 @@ use Rattle.tsp_theory.proofs.CostLaws.{Laws}
 use Rattle.tsp_theory.proofs.Cycles.{least_tree_below}
 use Rattle.tsp_theory.proofs.laws.least_trees_are_below_cycles.Goals as goal
 
+-- plan: the lemma `least_tree_below`, given the laws of the crate's own calls as a record (`Laws`)
 pub returns : goal.returns
 returns c =
     let laws : Laws = record {

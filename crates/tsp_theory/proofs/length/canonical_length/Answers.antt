@@ -8,6 +8,7 @@ use Rattle.tsp_theory.specs.Length.{length_of}
 use Rattle.tsp_theory.proofs.Lengths.{sum_fits, sum_more, length_more, length_last, run_parts, canonical}
 use Rattle.tsp_theory.proofs.length.canonical_length.Goals as goal
 
+-- plan: one node more is one cost more (`length_more`); the last one goes back to node 1 (`length_last`)
 pub nodes-preserved : goal.nodes-preserved
 nodes-preserved g c =
     let node : ℕ = c.nodes.node in

@@ -6,6 +6,7 @@ use Rattle.std.proofs.lemmas.Int.{wrapping_add_is}
 use Rattle.std.proofs.lemmas.List.{get_or-set_same}
 use Rattle.tsp_tree.proofs.row.add_at.Goals as goal
 
+-- plan: at the node's own place the entry is the sum, and elsewhere it is as it was
 pub returns-clause-here : goal.returns-clause-here
 returns-clause-here c =
     let first : FitsSigned w64 c.weight_in-old.result = search rules in

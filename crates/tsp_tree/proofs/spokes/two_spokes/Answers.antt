@@ -13,6 +13,7 @@ nearest_two-requires-clause-some g c = omega (arith, c.fill.auto.row, c.requires
 pub nearest_two-requires-clause-few : goal.nearest_two-requires-clause-few
 nearest_two-requires-clause-few g c = omega (arith, c.fill.auto.row, c.requires.room, c.requires.few)
 
+-- plan: the row of node 1 is filled in, and its two lightest entries are found (`nearest_by_row`)
 pub returns : goal.returns
 returns g c =
     let n = g.W.Weights.nodes c.args.w.now in

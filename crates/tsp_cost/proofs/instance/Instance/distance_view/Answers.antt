@@ -13,6 +13,7 @@ use Rattle.tsp_cost.specs.states.Sources.{HasFound}
 use Rattle.tsp_cost.proofs.Sources.{AreOfPoints, of_points}
 use Rattle.tsp_cost.proofs.instance.Instance.distance_view.Goals as goal
 
+-- plan: by the coordinates, of the plane or of space: the costs are the distances of the points (`of_points`)
 pub returns-in-Plane : goal.returns-in-Plane
 returns-in-Plane c =
     let f : Fields = c.args.self.now in

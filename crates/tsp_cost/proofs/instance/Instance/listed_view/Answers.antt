@@ -10,6 +10,7 @@ use Rattle.tsp_cost.specs.states.Sources.{HasFound}
 use Rattle.tsp_cost.proofs.Sources.{of_weights}
 use Rattle.tsp_cost.proofs.instance.Instance.listed_view.Goals as goal
 
+-- plan: by the layout, full or half: the costs are those of the listed weights (`of_weights`)
 pub of-requires-clause-most : goal.of-requires-clause-most
 of-requires-clause-most c =
     let found = subst (λ (g : Fields). HasFound g c.self.inside.nodes c.self.inside.source) c.self.view_is c.self.invariant in

@@ -5,6 +5,7 @@ use Rattle.tsp_format.specs.declared.layout.Layout.TheVariants.{FullMatrix}
 use Rattle.tsp_file.proofs.Listed.{cost_of_cell, weight_read}
 use Rattle.tsp_cost.proofs.matrix.MatrixCosts.cost.Goals as goal
 
+-- plan: the weight at the cell's place is its cost (`cost_of_cell`)
 pub returns-clause-value : goal.returns-clause-value
 returns-clause-value c =
     let m = c.args.self.now in

@@ -10,6 +10,7 @@ use Rattle.tsp_cost.specs.states.Views.{points_cost, points_place}
 use Rattle.tsp_cost.proofs.Ways.{way_more, cost_fits, sum_more}
 use Rattle.tsp_cost.proofs.points.Points.through.Goals as goal
 
+-- plan: one node more is one way more (`way_more`), and the sum fits 64 bits (`cost_fits`)
 pub nodes-preserved : goal.nodes-preserved
 nodes-preserved g c =
     let place : ℕ → Point = points_place g.P.InSpace.place c.args.self.now in

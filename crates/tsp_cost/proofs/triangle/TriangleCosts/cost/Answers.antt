@@ -6,6 +6,7 @@ use Rattle.tsp_file.specs.Cost.{listed_cost}
 use Rattle.tsp_file.proofs.Listed.{cost_of_cell, cost_unlisted, diagonal_unlisted, either_way, weight_read}
 use Rattle.tsp_cost.proofs.triangle.TriangleCosts.cost.Goals as goal
 
+-- plan: an unlisted diagonal costs 0 (`cost_unlisted`); else the weight at the place is the cell's (`cost_of_cell`)
 pub returns-then-not-self-clause-value : goal.returns-then-not-self-clause-value
 returns-then-not-self-clause-value c =
     let t = c.args.self.now in

@@ -2,6 +2,7 @@
 use Rattle.std.proofs.Common.{rules, refl}
 use Rattle.tsp_stream.proofs.watched.Watched.ask.Goals as goal
 
+-- plan: the outer call is one call of the inner value, whose outcome is returned as it is
 pub returns : goal.returns
 returns g c = record {
   asked = (

@@ -16,6 +16,7 @@ cost-length-requires-clause-to g c =
     All-tail IsIn first others (subst (λ (xs : List ℕ). All IsIn xs) c.in-Some.ensures.cases.0 c.requires.range)
     c.nodes.node-index 0 c.nodes-test.true
 
+-- plan: one step more is one cost more (`length_more`), and the sum fits 64 bits (`sum_fits`)
 pub nodes-preserved : goal.nodes-preserved
 nodes-preserved g c =
     let IsIn : ℕ → Type 0 = IsNode (g.Self.Costs.nodes c.args.self.now) in

@@ -3,6 +3,7 @@ use Rattle.std.proofs.Common.{arith}
 use Rattle.std.proofs.lemmas.Int.{ints}
 use Rattle.tsp_theory.proofs.region.Region.joined.Goals as goal
 
+-- plan: along each axis the lower end is the lower of both, and the higher end the higher
 pub returns-clause-left : goal.returns-clause-left
 returns-clause-left c = λ p h. record {
   low_x = omega (arith, ints, c.lower.ensures.first, h.low_x);

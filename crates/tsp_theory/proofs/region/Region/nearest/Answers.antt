@@ -3,6 +3,7 @@ use Rattle.std.proofs.Common.{arith}
 use Rattle.std.proofs.lemmas.Int.{ints}
 use Rattle.tsp_theory.proofs.region.Region.nearest.Goals as goal
 
+-- plan: along each axis the place is brought between the ends
 pub returns-clause-inside : goal.returns-clause-inside
 returns-clause-inside c = λ p h.
     let x = c.clamped.ensures.inside (omega (arith, ints, h.low_x, h.high_x)) in
