@@ -33,6 +33,8 @@ class Faults(unittest.TestCase):
         self.assertTrue(str(fault).startswith("file 1: line 2 word 0: Outside: GEO"))
         self.assertEqual(pickle.loads(pickle.dumps(fault)).found, "GEO")
         self.assertIsNone(fault_of("").found)
+        # of a line with an unknown keyword it is the line, which a colon doesn't cut
+        self.assertEqual(fault_of("Route #1: 1 2\n").found, "Route #1: 1 2")
         with self.assertRaises(yokecairn.LineFault) as caught:
             yokecairn.check(RECTANGLE.encode(), b"TYPE : TOUR\nTOUR_SECTION\n1 zwei\n")
         self.assertEqual(caught.exception.found, "zwei")

@@ -41,8 +41,18 @@ assert is_inside(ax)
 ax.figure.savefig(folder / "tours.png")
 dairy = yokecairn.load(examples / "dairy.vrp")
 ax = dairy.plot([[5, 6, 4, 7], [2, 8, 3]])
-assert [it[0] for it in drawn(ax)] == [9] and len(ax.collections[1].get_offsets()) == 1
+assert [it[0] for it in drawn(ax)] == [4, 5] and len(ax.collections[1].get_offsets()) == 1
+assert len({{line.get_color() for line in ax.lines}}) == 2
 ax.figure.savefig(folder / "routes.png")
+for given in examples / "solvers/dairy.cvrplib.sol", str(examples / "solvers/dairy.cvrplib.sol"):
+    assert [it[0] for it in drawn(dairy.plot(given))] == [4, 5]
+assert [it[0] for it in drawn(problem.plot(examples / "harbour.tour"))] == [8]
+long = problem.replace(name="a name of an instance that is as long as a line of a page, and is told whole")
+ax = long.plot(tour)
+ax.figure.canvas.draw()
+box = ax.title.get_window_extent()
+assert 0 <= box.x0 and box.x1 <= ax.figure.bbox.x1 and box.y1 <= ax.figure.bbox.y1, box
+ax.figure.savefig(folder / "long.png")
 for wrong, given in ((yokecairn.NodeError, (problem, [1, 9])), (ValueError, (yokecairn.load(examples / "three-node.atsp"), None))):
     try:
         given[0].plot(given[1])

@@ -43,6 +43,17 @@ class Examples(unittest.TestCase):
         self.assertEqual(problem.matrix()[0, 1], 1)
         self.assertEqual(problem.weights([(1, 2), (2, 1), (3, 2)]).tolist(), [1, 10, 10])
 
+    def test_a_few_costs_need_no_matrix(self):
+        problem = yokecairn.load(EXAMPLES / "three-node.atsp")
+        for _ in range(3):
+            self.assertEqual(problem.get_weight(2, 1), 10)
+            self.assertNotIn("_matrix", vars(problem))
+        self.assertEqual((problem.get_weight(1, 2), problem.get_weight(3, 2)), (1, 10))
+        self.assertIn("_matrix", vars(problem))
+        for wrong in ((0, 1), (1, 4)):
+            with self.assertRaises(yokecairn.NodeError):
+                yokecairn.load(EXAMPLES / "three-node.atsp").get_weight(*wrong)
+
     def test_layouts(self):
         costs = {"UPPER_ROW": 3, "LOWER_ROW": 4, "UPPER_COL": 4, "LOWER_COL": 3}
         for layout, cost in costs.items():

@@ -2,6 +2,7 @@
 
 import importlib
 import os
+import textwrap
 from typing import Any, Iterable, List, Sequence, Set, Tuple
 
 from .faults import NodeError
@@ -9,9 +10,12 @@ from .faults import NodeError
 Pair = Tuple[int, int]
 
 _BOTH, _FIRST, _SECOND, _NODE = "#555555", "#1f77b4", "#d95f02", "#222222"
+# The colours of routes, one after the other: each differs from those beside it in light too.
+_ROUTES = ["#1f77b4", "#e69f00", "#117733", "#cc3377", "#56b4e9", "#7a5c00", "#882255", "#44aa99", "#999933", "#332288"]
 _MOST_LABELS = 60  # nodes whose numbers are drawn
 _MOST_NAMES = 40  # solutions whose names are drawn
 _LONGEST = 24  # characters of a name
+_WIDEST, _MOST_LINES = 44, 3  # characters of a line of a title, and its lines
 
 
 def _axes(ax: Any) -> Any:
@@ -21,6 +25,9 @@ def _axes(ax: Any) -> Any:
 
 def _routes(problem: Any, tour: Any) -> List[Sequence[int]]:
     """The tours of what is given as one, each with the nodes in their order. Routes begin at the depot."""
+    if isinstance(tour, (str, os.PathLike, bytes, bytearray)):
+        read = importlib.import_module(".solution", __package__).read_solution  # (which imports this module)
+        tour = read(tour, dimension=problem.dimension, routes=problem.type == "CVRP")
     given = getattr(tour, "tours", tour)
     parts: List[Any] = list(given)
     if not (parts and isinstance(parts[0], Iterable)):
@@ -44,17 +51,21 @@ def plot_problem(problem: Any, tour: Any, other: Any, ax: Any) -> Any:
     if not problem.is_depictable():
         raise ValueError("the nodes have no places: there is neither NODE_COORD_SECTION nor DISPLAY_DATA_SECTION")
     places = {node: tuple(map(float, problem.get_display(node)[:2])) for node in problem.get_nodes()}
-    first = _pairs(_routes(problem, tour)) if tour is not None else set()
+    routes = _routes(problem, tour) if tour is not None else []
+    first = _pairs(routes)
     second = _pairs(_routes(problem, other)) if other is not None else set()
     ax = _axes(ax)
-    kinds = [(first & second, _BOTH, "both", "-"), (first - second, _FIRST, "the first tour alone" if other is not None else "", "-")]
+    kinds = [(first & second, _BOTH, "both", "-"), (first - second, _FIRST, "the first tour alone", "-")]
     kinds += [(second - first, _SECOND, "the second tour alone", "--")]
+    if other is None:
+        colours = _ROUTES if len(routes) > 1 else [_FIRST]
+        kinds = [(_pairs([route]), colours[at % len(colours)], "", "-") for at, route in enumerate(routes)]
     for pairs, colour, label, style in kinds:
         if pairs:
             _draw_pairs(ax, places, sorted(pairs), colour, label, style)
     _draw_nodes(ax, places, set(problem.depots) if problem.type == "CVRP" else set())
     ax.set_aspect("equal")
-    ax.set_title(problem.name or "")
+    ax.set_title(_title(problem.name or ""))
     if other is not None:
         ax.legend(loc="upper center", bbox_to_anchor=(0.5, -0.1), ncol=3, frameon=False)
     return ax
@@ -90,6 +101,12 @@ def _name(name: str) -> str:
     """The end of a name, which tells paths apart."""
     plain = name.encode("utf-8", "surrogateescape").decode("utf-8", "replace")
     return plain if len(plain) <= _LONGEST else f"..{plain[2 - _LONGEST:]}"
+
+
+def _title(text: str) -> str:
+    """A title in lines that a picture has width for."""
+    plain = text.encode("utf-8", "surrogateescape").decode("utf-8", "replace")
+    return "\n".join(textwrap.wrap(plain, _WIDEST)[:_MOST_LINES])
 
 
 def _labels(names: Sequence[str]) -> List[str]:

@@ -75,8 +75,8 @@ class Fault(Error, ValueError):
         details: what follows the name there: a number's fault, a field, or nodes.
         explanation: what `tsp --explain` tells of it, for a person; it may be empty.
         path: the path of the text, where it was read from one.
-        found: the word that has the fault; of a line as a whole its value, or all of it; None where the
-            fault is none of a line.
+        found: the word that has the fault; of a line as a whole its value, or all of it where its keyword is
+            unknown; None where the fault is none of a line.
     """
 
     def __init__(
@@ -141,8 +141,9 @@ def _class_of(told: str) -> Type[Fault]:
     return {"too long": TooLong, "wrong kind": WrongKind}.get(match[6], Fault)
 
 
-def _found(text: bytes, line: int, word: int) -> Optional[str]:
-    """The word of a text at this place; of a line as a whole the value behind its colon, or all of it."""
+def _found(text: bytes, line: int, word: int, is_unknown: bool) -> Optional[str]:
+    """The word of a text at this place; of a line as a whole the value behind its colon, or all of it where that has
+    none, or its keyword is unknown."""
     lines = text.split(b"\n", line)
     if len(lines) < line:
         return None
@@ -150,7 +151,8 @@ def _found(text: bytes, line: int, word: int) -> Optional[str]:
     parts = whole.split()
     if word:
         return parts[word - 1][:_MOST_SHOWN] if word <= len(parts) else None
-    return (whole.partition(":")[2].strip() or whole)[:_MOST_SHOWN] or None
+    value = "" if is_unknown else whole.partition(":")[2].strip()
+    return (value or whole)[:_MOST_SHOWN] or None
 
 
 def text_of(told: bytes) -> str:
@@ -200,6 +202,6 @@ def error_of(
         at = (file or 1) - 1
         found = None
         if match and match[2] and at < len(texts):
-            found = _found(texts[at], int(match[2]), int(match[3]))
+            found = _found(texts[at], int(match[2]), int(match[3]), match[6] == "UnknownLine")
         return _class_of(line)(line, explain(), path, found)
     raise AssertionError(f"libtsp answered the status {status}: {line}")

@@ -390,12 +390,15 @@ class Problem:
         """Draws the nodes, a tour and another one below it, by matplotlib, which has to be installed. Returns the
         axes: `ax`, or new ones.
 
-        A tour is a list of nodes, for routes a list of such lists, or a `Problem` of TYPE TOUR. Edges of one tour
-        alone differ in colour from those of both. Nodes are drawn at their first two coordinates, or at those of
+        A tour is a list of nodes, for routes a list of such lists, a `Problem` of TYPE TOUR, or what
+        `read_solution` takes: a path or a text. Each route has its colour. With another tour, edges of one alone
+        differ in colour from those of both. Nodes are drawn at their first two coordinates, or at those of
         DISPLAY_DATA_SECTION, and the depot as a square.
 
         Raises:
             ImportError: matplotlib isn't installed.
+            Error: a text is no solution.
+            OSError: a path can't be read.
             ValueError: the nodes have no places.
             NodeError: a tour has a node that isn't there.
         """
@@ -470,7 +473,7 @@ class Problem:
     def get_weight(self, start: int, end: int) -> int:
         """The cost from a node to a node.
 
-        Where the weights are listed, the whole matrix is worked out at the first call.
+        Where the weights are listed, the whole matrix is worked out when as many costs as nodes were asked for.
 
         Raises:
             NodeError: there is no such node.
@@ -484,9 +487,16 @@ class Problem:
                 points = self._points
                 weight: int = _library.distance(kind, *points[start], *points[end])
                 return weight
+            if "_matrix" not in self.__dict__ and self._is_one_of_few():
+                return self.weights([(start, end)])[0]
             return self._matrix[(int(start) - 1) * count + end - 1]
         except TypeError:
             raise TypeError(f"nodes are whole numbers, and the pair is {start!r}, {end!r}") from None
+
+    def _is_one_of_few(self) -> bool:
+        """Counts a cost that is asked for, and whether the matrix isn't worth its memory yet."""
+        asked = self.__dict__["_asked"] = self.__dict__.get("_asked", 0) + 1
+        return bool(asked <= self._nodes())
 
     def weights(self, pairs: Any) -> "array[int]":
         """The costs of many pairs of nodes in one call: an array of 64-bit numbers.
