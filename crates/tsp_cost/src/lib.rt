@@ -3,9 +3,12 @@
 //! An [`Instance`] is a file with costs. A view of it says where they come from: a matrix, a
 //! triangle or points. It judges no tours. The names of tsp_theory are re-exported.
 //!
+//! As example_check does it, with a file that was read:
+//!
 //! ```text
-//! let instance = Instance::of(file)?;
-//! let length = tour_length(&instance, &[1, 2, 3, 4]);
+//! let Ok(instance) = Instance::of(file) else {
+//!     return Err(NoVerdict::WrongKind);
+//! };
 //! ```
 #![tactic(auto)]
 

@@ -2,7 +2,7 @@
 //! for all sets that divide the nodes into few parts.
 //!
 //! ```text
-//! let crossings = family_crossings(alloc, nodes, &sets)?;
+//! let crossings = family_crossings(alloc, &family)?;
 //! ```
 #![tactic(auto)]
 

@@ -3,10 +3,12 @@
 //! A check reads an instance, a solution and a certificate, and writes a report. Its contract says
 //! what the line `yes` means. It opens no files, and knows no command line: that is tsp_run's.
 //!
+//! As tsp_perform and tsp_c do it: a check with a certificate, over readers, and an instance that
+//! is read once:
+//!
 //! ```text
-//! let accepted = run_bound_check(alloc, &mut instance, &mut tour, &mut potentials, &mut out)?;
-//! let judged = run(alloc, &mut instance, &mut tour, by, &mut certificate, claimed, &mut out)?;
-//! let opened = Opened::of(alloc, instance)?;
+//! run(alloc, instance, solution, by, file, claimed, out)
+//! let opened = Opened::of(alloc, text)?;
 //! ```
 #![tactic(auto)]
 

@@ -3,8 +3,10 @@
 //! It reads a text, a reader, or pieces ([`Feed`]), with one answer. It judges nothing, and opens
 //! no files.
 //!
+//! As example_check does it, with a text in memory:
+//!
 //! ```text
-//! let file = read_bytes(alloc, b"TYPE : TOUR\nTOUR_SECTION\n1 2 3 -1\nEOF\n")?;
+//! let file = read_bytes(alloc, instance)?;
 //! ```
 #![tactic(auto)]
 

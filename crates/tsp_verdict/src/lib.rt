@@ -3,10 +3,11 @@
 //!
 //! It judges files in memory. It reads and writes nothing: that is tsp_judge's.
 //!
+//! As example_check does it, with an instance of TYPE TSP or ATSP:
+//!
 //! ```text
-//! let by = Some((Certificate::Potentials, &potentials));
-//! let verdict = judge(alloc, &instance, &solution, by, claimed)?;
-//! let bound = judge_bound(alloc, Certificate::Potentials, &instance, &potentials)?;
+//! let solution = read_bytes(alloc, solution)?;
+//! Ok(judge_tour(alloc, &instance, &solution)?)
 //! ```
 #![tactic(auto)]
 
