@@ -37,7 +37,7 @@ impl Ending {
         self.number
     }
 
-    /// Done.
+    /// The ending of a call that succeeded: status 0.
     pub(crate) fn done() -> Ending
         ensures { result ≡ 0 }
     {

@@ -92,7 +92,7 @@ impl Told {
         }
     }
 
-    /// An instance.
+    /// The numbers of an instance without a verdict: its TYPE, and how many nodes it has.
     pub(crate) fn of_instance(instance: &Instance) -> Told
         ensures { result ≡ told_of_instance instance.now }
     {

@@ -29,7 +29,7 @@ pub fn examples_of_lines()
     ensures missing { text_of_field blank_fields fields.NameKey ≡ [] }
 {}
 
-/// Sections.
+/// The canonical text of each section, on small files.
 pub fn examples_of_sections()
     ensures coords { IsSmallText fields.NodeCoordPart
         (codes "NODE_COORD_SECTION\n1 1.5 0\n2 -0.000000001 4\n") }

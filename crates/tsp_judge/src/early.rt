@@ -31,7 +31,7 @@ impl Model for Early {
 }
 
 impl Early {
-    /// The fault.
+    /// Why the run ended, without the token of a refusal.
     pub fn fault(self) -> RunFault
         ensures { result ≡ self }
     {

@@ -62,7 +62,7 @@ impl Opened {
         }
     }
 
-    /// The instance.
+    /// What was read and judged once.
     pub fn instance(&self) -> &Instance
         ensures { result.now ≡ self.now.instance }
     {

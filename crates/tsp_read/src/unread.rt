@@ -38,7 +38,7 @@ impl Model for Unread {
 }
 
 impl Unread {
-    /// The fault.
+    /// Why nothing was read, without the token of a refusal.
     pub fn fault(self) -> ReadFault
         ensures { result ≡ self }
     {

@@ -78,7 +78,7 @@ pub fn set_name(
     }
 }
 
-/// Adds a comment.
+/// Puts the value of a line COMMENT behind those before it.
 ///
 /// # Errors
 ///

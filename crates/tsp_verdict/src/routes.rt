@@ -26,7 +26,8 @@ use tsp_reason::{Reason, Verdict};
 /// The fewest nodes of an instance whose routes are judged.
 pub(crate) const FEWEST_NODES: u32 = 2;
 
-/// The verdict on routes.
+/// The first reason against the routes of a CVRP; or their number, the least number, and their
+/// length.
 ///
 /// # Errors
 ///
