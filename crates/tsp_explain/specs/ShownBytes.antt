@@ -14,6 +14,13 @@ shown_high low = codes "M-" ++ cond (low == 9) (codes "^I") (shown_low low)
 abbrev pub shown_byte : ℕ → List ℕ
 shown_byte byte = cond (nat_lt byte 128) (shown_low byte) (shown_high (byte - 128))
 
+-- In a file's name only control bytes are shown so, that it stays in its line. Others are as they are: names are UTF-8.
+abbrev pub named_byte : ℕ → List ℕ
+named_byte byte = cond (nat_lt byte 128) (shown_low byte) (byte ∷ [])
+
+abbrev pub name_shown : List ℕ → List ℕ
+name_shown name = concat (map named_byte name)
+
 -- the bytes one after the other
 abbrev pub all_shown : List ℕ → List ℕ
 all_shown bytes = concat (map shown_byte bytes)

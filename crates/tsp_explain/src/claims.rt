@@ -50,7 +50,7 @@ fn push_sentence(
     push_parts(
         text,
         &[
-            Part::Words(name),
+            Part::Name(name),
             Part::Words(": a COMMENT claims the length "),
             Part::Number(claim),
             Part::Words(", and the length is "),
@@ -65,7 +65,7 @@ fn push_real<'a>(text: &mut Vec<u8>, name: &'a str, claim: &'a [u8]) -> Result<(
     push_parts(
         text,
         &[
-            Part::Words(name),
+            Part::Name(name),
             Part::Words(": a COMMENT claims the length "),
             Part::Shown(claim),
             Part::Words(

@@ -2,7 +2,7 @@
 //! together with its code is refused by its examples.
 
 ghost use Rattle.std.specs.Prelude.{◌≡◌, [], ◌∷◌, codes};
-ghost use Rattle.tsp_explain.specs.ShownBytes.{shown_byte, all_shown};
+ghost use Rattle.tsp_explain.specs.ShownBytes.{shown_byte, all_shown, name_shown};
 
 /// How bytes of each sort are shown.
 pub fn examples_of_shown_bytes()
@@ -25,4 +25,13 @@ pub fn examples_of_shown_bytes()
     ensures last { shown_byte 255 ≡ codes "M-^?" }
     ensures in_order { all_shown (65 ∷ 9 ∷ 195 ∷ 164 ∷ []) ≡ 65 ∷ 9 ∷ codes "M-CM-$" }
     ensures nothing { all_shown [] ≡ [] }
+{}
+
+/// A file's name stays in one line, and is as it is where it has no control byte.
+pub fn examples_of_shown_names()
+    ensures plain { name_shown (codes "a b.tsp") ≡ codes "a b.tsp" }
+    ensures line_end { name_shown (97 ∷ 10 ∷ codes "b.tsp:1") ≡ codes "a^Jb.tsp:1" }
+    ensures escape { name_shown (27 ∷ codes "[2J") ≡ codes "^[[2J" }
+    ensures delete { name_shown (127 ∷ []) ≡ codes "^?" }
+    ensures letter { name_shown (195 ∷ 164 ∷ []) ≡ 195 ∷ 164 ∷ [] }
 {}

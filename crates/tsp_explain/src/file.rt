@@ -272,7 +272,7 @@ fn push_after<'a>(
     push_parts(
         text,
         &[
-            Part::Words(name),
+            Part::Name(name),
             Part::Words(mark),
             Part::Words(words),
             Part::Words("\n"),

@@ -135,7 +135,7 @@ pub fn explain_wrong_kind(
 
 /// Appends that a file is of the wrong kind, and what the files are.
 fn push_wrong_kind(text: &mut Vec<u8>, name: &str, kinds: &str) -> Result<(), AllocError> {
-    push_parts(text, &[Part::Words(name), Part::Words(": wrong kind\n")])?;
+    push_parts(text, &[Part::Name(name), Part::Words(": wrong kind\n")])?;
     push_lines(text, kinds)
 }
 

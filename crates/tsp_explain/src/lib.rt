@@ -26,7 +26,7 @@ mod solution;
 mod text;
 mod wanted;
 
-pub use examples::examples_of_shown_bytes;
+pub use examples::{examples_of_shown_bytes, examples_of_shown_names};
 pub use file::{explain_file, push_error};
 pub use judged::{Files, Names, explain_bound, explain_verdict, explain_wrong_kind};
 pub use sentences::{relayout_sentence, write_sentence};

@@ -37,7 +37,7 @@ pub fn explain_reason(
 
 /// Appends the file that is to blame, and the rule of the reason.
 fn push_reason(text: &mut Vec<u8>, name: &str, reason: Reason) -> Result<(), AllocError> {
-    push_line(text, &[Part::Words(name), Part::Words(":")])?;
+    push_line(text, &[Part::Name(name), Part::Words(":")])?;
     push_lines(text, reason_sentence(reason))
 }
 

@@ -1,6 +1,6 @@
 //! Tours whose distances are all rounded to 0 or 1.
 
-use crate::text::push;
+use crate::text::{push, push_name};
 use std::alloc::AllocError;
 use tsp_cost::{Costs, Instance};
 use tsp_draft::Coords;
@@ -24,7 +24,7 @@ pub(crate) fn push_rounding(
         return Ok(());
     };
     if are_rounded(instance, points, tours) {
-        push(text, name)?;
+        push_name(text, name)?;
         push(text, ROUNDED)?;
     }
     Ok(())

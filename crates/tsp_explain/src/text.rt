@@ -3,7 +3,7 @@
 ghost use Rattle.std.specs.Prelude.{◌≡◌, ◌++◌, ◌≤◌, ◌<◌, OnOk, [], ◌∷◌, codes, map};
 ghost use Rattle.std.specs.List.{concat};
 ghost use Rattle.std.specs.Io.{StartsWith};
-ghost use Rattle.tsp_explain.specs.ShownBytes.{shown_byte, shown_low, shown_high, all_shown};
+ghost use Rattle.tsp_explain.specs.ShownBytes.{shown_byte, shown_low, shown_high, all_shown, named_byte, name_shown};
 ghost use Rattle.tsp_explain.specs.Indented.{indented, indented_byte};
 
 use itoa::{Buffer, Integer};
@@ -50,6 +50,8 @@ pub(crate) enum Part<'a> {
     Number(i64),
     /// Bytes of a file as they are shown.
     Shown(&'a [u8]),
+    /// The name of a file, in one line.
+    Name(&'a str),
 }
 
 /// Appends a line of these parts.
@@ -73,6 +75,7 @@ fn push_part(text: &mut Vec<u8>, part: Part<'_>) -> Result<(), AllocError> {
         Part::Words(words) => push(text, words),
         Part::Number(number) => push_number(text, number),
         Part::Shown(bytes) => push_shown(text, bytes),
+        Part::Name(name) => push_name(text, name),
     }
 }
 
@@ -140,6 +143,35 @@ pub(crate) fn push_shown(text: &mut Vec<u8>, bytes: &[u8]) -> Result<(), AllocEr
         push_byte(text, *byte)?;
     }
     Ok(())
+}
+
+/// Appends the name of a file: control bytes as `cat -v` shows them, so that a name with a byte 10
+/// can't begin another line, and all others as they are.
+pub(crate) fn push_name(text: &mut Vec<u8>, name: &str) -> Result<(), AllocError>
+    ensures { OnOk result (text.new.items ≡ text.old.items ++ name_shown name.now) }
+{
+    push_named(text, name.as_bytes())
+}
+
+/// The same of the name's bytes.
+fn push_named(text: &mut Vec<u8>, bytes: &[u8]) -> Result<(), AllocError>
+    ensures { OnOk result (text.new.items ≡ text.old.items ++ name_shown bytes.now) }
+{
+    'bytes: for byte in bytes {
+        push_named_byte(text, *byte)?;
+    }
+    Ok(())
+}
+
+/// Appends a byte of a name.
+fn push_named_byte(text: &mut Vec<u8>, byte: u8) -> Result<(), AllocError>
+    ensures { OnOk result (text.new.items ≡ text.old.items ++ named_byte byte) }
+{
+    if byte < 128 {
+        push_low(text, byte)
+    } else {
+        text.extend_from_slice(&[byte])
+    }
 }
 
 /// Appends a byte as it is shown.

@@ -1,0 +1,8 @@
+-- The loop of `push_named` in src/text.rt.
+use Rattle.std.proofs.Common.{◌≡◌, ◌++◌, drop}
+use Rattle.tsp_explain.specs.ShownBytes.{name_shown}
+use Rattle.tsp_explain.proofs.text.push_named.Given as goal
+
+-- the text so far, and the other bytes as they are in a name
+abbrev pub invariant-bytes : goal.invariant-bytes
+invariant-bytes l = l.text.items ++ name_shown (drop l.byte-index l.bytes) ≡ l.initial.text.items ++ name_shown l.bytes
