@@ -3,6 +3,7 @@
 
 ghost use Rattle.std.specs.Prelude.{◌≡◌, ◌+◌, ℕ, ℤ, Option, None, Some, pos};
 ghost use Rattle.tsp_format.specs.declared.layout.Layout.{Layout};
+ghost use Rattle.tsp_format.specs.declared.layout.Layout.TheVariants as layouts;
 ghost use Rattle.tsp_reason.specs.declared.certificate.Certificate.{Certificate};
 ghost use Rattle.tsp_reason.specs.declared.certificate.Certificate.TheVariants as certificates;
 ghost use Rattle.tsp_reason.specs.declared.role.Role.TheVariants as roles;
@@ -35,6 +36,9 @@ pub fn examples_of_files()
 /// mapped to the next number.
 pub fn examples_of_mapped_requests()
     ensures shown { IsMappedRequest (λ a x. x ≡ a + 1) (requests.Task (tasks.Show 1)) (requests.Task (tasks.Show 2)) }
+    ensures converted { IsMapped (λ a x. x ≡ a + 1) (tasks.Convert 1 (Some layouts.UpperRow))
+        (tasks.Convert 2 (Some layouts.UpperRow)) }
+    ensures other_layout { ¬ IsMapped (λ a x. x ≡ a + 1) (tasks.Convert 1 (Some layouts.UpperRow)) (tasks.Convert 2 None) }
     ensures checked { IsMapped (λ a x. x ≡ a + 1) (tasks.Check 1 2 (Some (certificates.Branches, 3)) (Some (pos 14)))
         (tasks.Check 2 3 (Some (certificates.Branches, 4)) (Some (pos 14))) }
     ensures exchanged { ¬ IsMapped (λ a x. x ≡ a + 1) (tasks.Check 1 2 None None) (tasks.Check 3 2 None None) }
@@ -45,6 +49,9 @@ pub fn examples_of_mapped_requests()
         (tasks.Bound 2 (certificates.Potentials, 3)) }
     ensures compared { (c d : Comparison ℕ) → c.instance ≡ 1
         → IsMappedRequest (λ a x. x ≡ a + 1) (requests.Compare c) (requests.Compare d) → d.instance ≡ 2 }
+    ensures compared_by { (c d : Comparison ℕ) → c.certificate ≡ Some (certificates.Branches, 3)
+        → IsMappedRequest (λ a x. x ≡ a + 1) (requests.Compare c) (requests.Compare d)
+        → d.certificate ≡ Some (certificates.Branches, 4) }
     ensures other_request { (c : Comparison ℕ) (task : Task ℕ)
         → ¬ IsMappedRequest (λ a x. x ≡ a + 1) (requests.Task task) (requests.Compare c) }
 {}
