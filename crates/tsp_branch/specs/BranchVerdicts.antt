@@ -12,25 +12,29 @@ use Rattle.tsp_cases.specs.FamiliesOfSets.{families_with}
 use Rattle.tsp_cases.specs.declared.decision.Decision.{Decision}
 use Rattle.tsp_cases.specs.GoodFamilies.{AreFamilies, IsFirstBadFamily}
 use Rattle.tsp_branch.specs.JudgedLeaves.{AreJudgedLeaves}
+use Rattle.tsp_cases.specs.BadBranches.{AreBranchesWithin}
 use Rattle.tsp_cases.specs.Twice.{AreBranchesJudged}
 
--- the judgement on the leaves, where all families are good and no branch comes twice
+-- the judgement on the leaves, where all families are good, each branch is on two nodes, and none comes twice
 pub record AreLeavesJudged (directed : Bool) (n : ℕ) (cost : ℕ → ℕ → ℤ) (scale : ℤ)
     (families : List (List (List ℕ))) (given : List Decision) (steps : List listed.Step) (found : JudgedLeaves) : Type 0 where
   pub crossed : List Crossings
   pub are_families : AreFamilies n families crossed
+  pub on_nodes : AreBranchesWithin 1 n steps None
   pub are_once : AreBranchesJudged directed given steps None
   pub leaves : AreJudgedLeaves directed n cost scale (families_with crossed families) crossed given steps found
 
--- the first bad family; where all are good, the first branch that comes twice; where none does, the first bad leaf; and where all
--- leaves are good, the bound
+-- the first bad family; where all are good, the first branch that isn't on two nodes; where all are, the first one that comes
+-- twice; where none does, the first bad leaf; and where all leaves are good, the bound
 abbrev pub IsBranchVerdict : Bool → ℕ → (ℕ → ℕ → ℤ) → ℤ → List (List (List ℕ)) → List Decision → List listed.Step → BranchVerdict
     → Type 0
 IsBranchVerdict directed n cost scale families given steps (verdict.Bound found) =
     AreLeavesJudged directed n cost scale families given steps (judged.Bound found)
 IsBranchVerdict directed n cost scale families given steps (verdict.BadFamily family) = IsFirstBadFamily n families family
-IsBranchVerdict directed n cost scale families given steps (verdict.BranchTwice branch) =
-    (crossed : List Crossings) × AreFamilies n families crossed × AreBranchesJudged directed given steps (Some branch)
+IsBranchVerdict directed n cost scale families given steps (verdict.BadBranch branch) =
+    (crossed : List Crossings) × AreFamilies n families crossed × AreBranchesWithin 1 n steps (Some branch)
+IsBranchVerdict directed n cost scale families given steps (verdict.BranchTwice branch) = (crossed : List Crossings)
+    × AreFamilies n families crossed × AreBranchesWithin 1 n steps None × AreBranchesJudged directed given steps (Some branch)
 IsBranchVerdict directed n cost scale families given steps (verdict.BadLeaf leaf) =
     AreLeavesJudged directed n cost scale families given steps (judged.BadLeaf leaf)
 
@@ -38,6 +42,7 @@ IsBranchVerdict directed n cost scale families given steps (verdict.BadLeaf leaf
 abbrev pub VerdictBoundsCycles : Bool → ℕ → (ℕ → ℕ → ℤ) → List Decision → BranchVerdict → Type 0
 VerdictBoundsCycles directed n cost given (verdict.Bound found) = BoundsIfAny directed n cost given found
 VerdictBoundsCycles directed n cost given (verdict.BadFamily family) = Unit {0}
+VerdictBoundsCycles directed n cost given (verdict.BadBranch branch) = Unit {0}
 VerdictBoundsCycles directed n cost given (verdict.BranchTwice branch) = Unit {0}
 VerdictBoundsCycles directed n cost given (verdict.BadLeaf leaf) = Unit {0}
 
@@ -45,5 +50,6 @@ VerdictBoundsCycles directed n cost given (verdict.BadLeaf leaf) = Unit {0}
 abbrev pub IsSizedVerdict : BranchVerdict → Type 0
 IsSizedVerdict (verdict.Bound found) = IfSome found IsBoundSized
 IsSizedVerdict (verdict.BadFamily family) = Unit {0}
+IsSizedVerdict (verdict.BadBranch branch) = Unit {0}
 IsSizedVerdict (verdict.BranchTwice branch) = Unit {0}
 IsSizedVerdict (verdict.BadLeaf leaf) = Unit {0}

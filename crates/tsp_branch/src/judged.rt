@@ -28,6 +28,8 @@ pub enum BranchVerdict {
     Bound(Option<i128>),
     /// The first family that isn't good, counted from 1.
     BadFamily(usize),
+    /// The first branch that isn't on two nodes, counted from 1.
+    BadBranch(usize),
     /// The first branch on a pair that is decided above it or given, counted from 1.
     BranchTwice(usize),
     /// The first leaf that isn't good, counted from 1.

@@ -22,6 +22,7 @@ pub mod NodeMarks
 pub mod Teeth
 pub mod FirstBad
 pub mod BranchesOnce
+pub mod BranchesWithin
 pub mod SmallVerdicts
 pub mod SmallCases
 pub mod SmallFamilies

@@ -1,8 +1,10 @@
--- The judgement on the cases of a tree: where no branch comes twice, they are lent on; else the first one that does is reported.
+-- The judgement on the cases of a tree: where each branch is on two nodes and none comes twice, they are lent on; else the first one
+-- that isn't is reported, or the first one that does.
 use Rattle.std.specs.Prelude.{◌≡◌, ℕ, Bool, List, ℤ, Some, None}
 use Rattle.tsp_format.specs.declared.steps.TreeStep.{TreeStep}
 use Rattle.tsp_format.specs.states.TreeSteps.{steps_of}
 use Rattle.tsp_cases.specs.declared.decision.Decision.{Decision}
+use Rattle.tsp_cases.specs.BadBranches.{AreBranchesWithin}
 use Rattle.tsp_cases.specs.Twice.{AreBranchesJudged}
 use Rattle.tsp_cases.specs.declared.tree_cases.Cases.{Cases}
 use Rattle.tsp_cases.specs.declared.judged.JudgedCases.{JudgedCases}
@@ -18,7 +20,8 @@ pub record AreCasesOf (n : ℕ) (directed : Bool) (scale : ℤ) (given : List De
   pub steps_are : cases.steps.now ≡ steps
 
 abbrev pub AreCasesJudged : ℕ → Bool → ℤ → List Decision → List TreeStep → JudgedCases → Type 0
-AreCasesJudged n directed scale given steps (judged.Good cases) =
-    AreCasesOf n directed scale given steps cases × AreBranchesJudged directed given (steps_of steps) None
+AreCasesJudged n directed scale given steps (judged.Good cases) = AreCasesOf n directed scale given steps cases
+    × AreBranchesWithin 1 n (steps_of steps) None × AreBranchesJudged directed given (steps_of steps) None
+AreCasesJudged n directed scale given steps (judged.BadBranch branch) = AreBranchesWithin 1 n (steps_of steps) (Some branch)
 AreCasesJudged n directed scale given steps (judged.Twice branch) =
-    AreBranchesJudged directed given (steps_of steps) (Some branch)
+    AreBranchesWithin 1 n (steps_of steps) None × AreBranchesJudged directed given (steps_of steps) (Some branch)

@@ -13,6 +13,7 @@ pub mod GoodFamilies
 pub mod JudgedSets
 pub mod JudgedTrees
 pub mod Twice
+pub mod BadBranches
 pub mod Listed
 pub mod VerdictExamples
 pub mod CaseExamples

@@ -43,6 +43,11 @@ abbrev pub IsStepOf : ℕ → listed.Step → Type 0
 IsStepOf n (listed.Branch a b) = IsNode n a × IsNode n b × (a ≢ b)
 IsStepOf n (listed.Leaf changes) = length changes < 2 ^ 32
 
+-- the same of steps as a file has them, whose branches may also begin with the number of a family, above the nodes
+abbrev pub IsListedStep : ℕ → listed.Step → Type 0
+IsListedStep n (listed.Branch a b) = IsNode n a → IsNode n b × (a ≢ b)
+IsListedStep n (listed.Leaf changes) = length changes < 2 ^ 32
+
 -- ---- good leaves
 
 -- each index is that of a node or of a comb, and the numbers are good

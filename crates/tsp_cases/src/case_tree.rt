@@ -8,7 +8,7 @@ ghost use Rattle.tsp_theory.specs.Costs.{IsSymmetric};
 ghost use Rattle.tsp_theory.specs.CertificateNumbers.{IsScale};
 ghost use Rattle.tsp_families.specs.FamilySets.{AreFamiliesOf};
 ghost use Rattle.tsp_cases.specs.Decisions.{DecideOnce};
-ghost use Rattle.tsp_cases.specs.Listed.{IsStepOf};
+ghost use Rattle.tsp_cases.specs.Listed.{IsListedStep};
 ghost use Rattle.tsp_cases.specs.states.Decided.{IsDecision};
 
 use crate::decision::Decision;
@@ -18,8 +18,8 @@ use tsp_theory::Costs;
 /// A tree of cases and the costs that it is for.
 ///
 /// There are three or more nodes, and where pairs have no direction the costs are the same in both.
-/// Sets, decisions and branches are of these nodes, no pair is given twice, and the steps are one
-/// whole tree.
+/// Sets and decisions are of these nodes, and so are the branches that begin at a node. No pair is
+/// given twice, and the steps are one whole tree.
 #[derive(Drop)]
 pub struct CaseTree<'a, C: Costs> {
     pub costs: &'a C,
@@ -43,6 +43,6 @@ pub struct CaseTree<'a, C: Costs> {
     pub ghost sets_are: { AreFamiliesOf (C.nodes costs.now) families.now },
     pub ghost given_are: { All (IsDecision (C.nodes costs.now)) given.now },
     pub ghost given_once: { DecideOnce directed given.now },
-    pub ghost steps_are: { ∥ All (IsStepOf (C.nodes costs.now)) (steps_of steps.now) ∥₁ },
+    pub ghost steps_are: { ∥ All (IsListedStep (C.nodes costs.now)) (steps_of steps.now) ∥₁ },
     pub ghost whole: { are_whole 1 (steps_of steps.now) ≡ true },
 }

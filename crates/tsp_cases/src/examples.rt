@@ -6,6 +6,7 @@ ghost use Rattle.tsp_cases.specs.Decisions.{decided_number};
 ghost use Rattle.tsp_cases.specs.Families.{least_crossings_of};
 ghost use Rattle.tsp_cases.specs.Cases.{Branch, Leaf};
 ghost use Rattle.tsp_cases.specs.Examples.{small_comb, PairCrosses, CrossesInAll, large, no_numbers, one_at_two, WeighsAt, WeighsUnderComb, four_rows, six_rows, LengthIs, FourHave, SixHave, IsTreeOf, IsNoTree, with_pair, without_pair};
+ghost use Rattle.tsp_cases.specs.BadBranches.{IsFirstBadBranch};
 ghost use Rattle.tsp_cases.specs.CaseExamples.{AreOnce, AreNotOnce, branched};
 ghost use Rattle.tsp_cases.specs.VerdictExamples.{IsNotGood, IsGood, three_teeth, TwiceAt, branches, branches_apart, on_both_sides};
 
@@ -86,6 +87,18 @@ pub fn examples_of_verdicts()
     ensures other_arc { (branch : ℕ) → ¬ TwiceAt true [] (branches 1 2 2 1) branch }
     ensures without_it { (changes : List (ℕ × ℤ)) → TwiceAt false [] (branches_apart 1 2 1 2 changes) 2 }
     ensures sides { (changes : List (ℕ × ℤ)) → TwiceAt false [] (on_both_sides changes) 4 }
+{}
+
+/// Branches that are bad, where they may be on a pair of four nodes, and where they may be on one of
+/// two families of them.
+pub fn examples_of_bad_branches()
+    ensures family { IsFirstBadBranch 1 4 (branches 1 2 5 1) 2 }
+    ensures family_first { IsFirstBadBranch 1 4 (branches 5 1 6 1) 1 }
+    ensures after_a_leaf { (changes : List (ℕ × ℤ)) → IsFirstBadBranch 1 4 (branches_apart 1 2 5 1 changes) 2 }
+    ensures last_node { (branch : ℕ) → ¬ IsFirstBadBranch 1 4 (branches 4 1 1 2) branch }
+    ensures pair { IsFirstBadBranch 5 6 (branches 6 1 1 2) 2 }
+    ensures third_family { IsFirstBadBranch 5 6 (branches 7 1 5 1) 1 }
+    ensures both_families { (branch : ℕ) → ¬ IsFirstBadBranch 5 6 (branches 5 4 6 1) branch }
 {}
 
 /// Cases that decide each pair once, and some that don't.

@@ -15,8 +15,10 @@ pub enum JudgedFamilies<'a> {
 /// The judgement on the cases of a tree.
 #[derive(Drop)]
 pub enum JudgedCases<'a> {
-    /// None decides a pair twice.
+    /// Each branch is on two nodes, and no case decides a pair twice.
     Good(Cases<'a>),
+    /// The first branch that isn't on two nodes, counted from 1.
+    BadBranch(usize),
     /// The first branch on a pair that is decided above it or given, counted from 1.
     Twice(usize),
 }

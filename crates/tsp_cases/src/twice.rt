@@ -1,10 +1,13 @@
 //! Which branch comes twice.
 
 ghost use Rattle.std.specs.Prelude.{IfOk};
+ghost use Rattle.std.specs.List.{All};
 ghost use Rattle.tsp_format.specs.states.TreeSteps.{steps_of};
+ghost use Rattle.tsp_cases.specs.Listed.{IsStepOf};
 ghost use Rattle.tsp_cases.specs.Twice.{AreBranchesJudged};
 ghost use Rattle.tsp_cases.specs.JudgedTrees.{AreCasesJudged};
 
+use crate::bad_branch::first_bad_branch;
 use crate::case_tree::CaseTree;
 use crate::judged::JudgedCases;
 use crate::open_case::OpenCase;
@@ -14,8 +17,8 @@ use tsp_format::TreeStep;
 use tsp_memory::Refused;
 use tsp_theory::Costs;
 
-/// The cases of a tree, or the first branch on a pair that is decided above it or given, counted
-/// from 1.
+/// The cases of a tree, or the first branch that isn't on two nodes, or, where there is none, the
+/// first branch on a pair that is decided above it or given, both counted from 1.
 ///
 /// # Errors
 ///
@@ -28,6 +31,9 @@ pub fn judge_cases<'a, C: Costs>(
         tree.now.steps.now) }
 {
     let nodes = tree.costs.count();
+    if let Some(branch) = first_bad_branch(tree.steps, 1, nodes) {
+        return Ok(JudgedCases::BadBranch(branch));
+    }
     if let Some(branch) = first_twice(alloc, tree)? {
         return Ok(JudgedCases::Twice(branch));
     }
@@ -48,6 +54,7 @@ pub fn judge_cases<'a, C: Costs>(
 ///
 /// Out of memory.
 fn first_twice<C: Costs>(alloc: Global, tree: &CaseTree<C>) -> Result<Option<usize>, Refused>
+    requires { ∥ All (IsStepOf (C.nodes tree.now.costs.now)) (steps_of tree.now.steps.now) ∥₁ }
     ensures { IfOk result (AreBranchesJudged tree.now.directed tree.now.given.now (steps_of tree.now.steps.now)) }
 {
     let nodes = tree.costs.count();

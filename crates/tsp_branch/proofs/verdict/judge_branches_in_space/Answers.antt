@@ -44,7 +44,8 @@ returns-in-Bound-clause-verdict g c =
     record {
       crossed = families.crossed.items;
       are_families = is.2;
-      are_once = told.1;
+      on_nodes = told.1;
+      are_once = told.2;
       leaves = subst (λ (lent : List (Vec (Vec ℕ))). AreJudgedLeaves tree.directed n cost tree.scale (families_with families.crossed.items (families_in lent)) families.crossed.items tree.given.now
           (steps_of tree.steps.now)
           (judged.Bound c.in-Bound.bound)) is.1
@@ -76,7 +77,8 @@ returns-clause-verdict g c =
     record {
       crossed = families.crossed.items;
       are_families = is.2;
-      are_once = told.1;
+      on_nodes = told.1;
+      are_once = told.2;
       leaves = subst (λ (lent : List (Vec (Vec ℕ))). AreJudgedLeaves tree.directed n cost tree.scale (families_with families.crossed.items (families_in lent)) families.crossed.items tree.given.now
           (steps_of tree.steps.now)
           (judged.BadLeaf c.in-BadLeaf.leaf)) is.1

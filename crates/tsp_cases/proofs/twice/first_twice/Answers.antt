@@ -35,7 +35,7 @@ pub decides-requires : goal.decides-requires
 decides-requires g c =
     let tree = c.args.tree.now in
     let n : ℕ = g.C.Costs.nodes tree.costs.now in
-    let own : IsDecision n (record { pair = (c.in-Branch.first, c.in-Branch.second); taken = true }) = ∥∥₁_elim tree.steps_are (hlevel props) (λ each. own_step
+    let own : IsDecision n (record { pair = (c.in-Branch.first, c.in-Branch.second); taken = true }) = ∥∥₁_elim c.requires (hlevel props) (λ each. own_step
     n tree.steps.now c.steps.step-index c.step-item.result (code.Branch c.in-Branch.first c.in-Branch.second) each c.steps-test.true c.step-item.is c.in-Branch.is) in
     (n, c.steps.invariant.case, own.0.1)
 
@@ -43,7 +43,7 @@ pub take-requires : goal.take-requires
 take-requires g c =
     let tree = c.args.tree.now in
     let n : ℕ = g.C.Costs.nodes tree.costs.now in
-    let own : IsDecision n (record { pair = (c.in-Branch.first, c.in-Branch.second); taken = true }) = ∥∥₁_elim tree.steps_are (hlevel props) (λ each. own_step
+    let own : IsDecision n (record { pair = (c.in-Branch.first, c.in-Branch.second); taken = true }) = ∥∥₁_elim c.requires (hlevel props) (λ each. own_step
     n tree.steps.now c.steps.step-index c.step-item.result (code.Branch c.in-Branch.first c.in-Branch.second) each c.steps-test.true c.step-item.is c.in-Branch.is) in
     record { case = (n, c.steps.invariant.case, own) }
 
@@ -82,7 +82,7 @@ steps-preserved g c =
       | in-Branch+else-decides+in_ok-take-in-Branch w ↦
           let at = once_next tree.directed given all (stack_of items) st.count st.step-index c.step-item.result (code.Branch w.in-Branch.first w.in-Branch.second)
           c.steps-test.true c.step-item.is w.in-Branch.is st.invariant.so_far in
-          let own : IsDecision n (record { pair = (w.in-Branch.first, w.in-Branch.second); taken = true }) = ∥∥₁_elim tree.steps_are (hlevel props) (λ each. own_step
+          let own : IsDecision n (record { pair = (w.in-Branch.first, w.in-Branch.second); taken = true }) = ∥∥₁_elim c.requires (hlevel props) (λ each. own_step
           n all st.step-index c.step-item.result (code.Branch w.in-Branch.first w.in-Branch.second) each c.steps-test.true c.step-item.is w.in-Branch.is) in
           let is = decided_here tree.directed given st.case (w.in-Branch.first, w.in-Branch.second) false st.invariant.given st.invariant.direction (sym w.if-decides.false ∙ w.decides.ensures) in
           rw (w.case-is, w.count-is) (record {

@@ -1,0 +1,11 @@
+-- The loop of `first_bad_branch` in src/bad_branch.rt.
+use Rattle.std.proofs.Common.{◌≤◌, drop}
+use Rattle.tsp_format.specs.states.TreeSteps.{steps_of}
+use Rattle.tsp_cases.proofs.BranchesWithin.{AreWithinSoFar}
+use Rattle.tsp_cases.proofs.bad_branch.first_bad_branch.Given as goal
+
+abbrev pub invariant-branches : goal.invariant-branches
+invariant-branches l = record {
+  so_far : AreWithinSoFar l.least l.most (steps_of l.steps) l.count (steps_of (drop l.step-index l.steps));
+  few : l.count ≤ l.step-index;
+}
