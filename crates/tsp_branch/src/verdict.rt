@@ -15,9 +15,9 @@ use tsp_theory::Costs;
 
 /// The verdict on a certificate by branching: the first family that isn't good, or the first branch
 /// that isn't on two nodes, or the first branch on a pair that is decided above it or given, or the
-/// first leaf that isn't good, or, where there is none of these, the bound. It is at most the length
-/// of every cycle that keeps the given decisions, and sums with it fit 128 bits. Where no leaf has a
-/// bound, no cycle keeps them.
+/// first leaf that isn't good, or, where there is none of these, the bound. It is at most the
+/// length of every cycle that keeps the given decisions, and sums with it fit 128 bits. Where no
+/// leaf has a bound, no cycle keeps them.
 ///
 /// Where pairs have no direction the bound of a leaf is that of a least 1-tree, else that of the
 /// least link from each node.

@@ -1,5 +1,5 @@
--- Which branch is bad: one that doesn't begin where the branches of its tree may. A cycle is divided by a pair of nodes, which begins
--- with one of 1 to n; a branch on a family begins above n.
+-- Which branch is bad: one that doesn't begin where the branches of its tree may. A branch on a pair of nodes begins with one of
+-- 1 to n, and a branch on a family above n.
 use Rattle.std.specs.Prelude.{ℕ, ◌-◌, ◌<◌, ◌≤◌, List, [], ◌∷◌, length, slice_index_or, Option, None, Some}
 use Rattle.std.specs.List.{All}
 use Rattle.tsp_format.specs.Steps as listed
@@ -14,15 +14,15 @@ abbrev pub BeginsWithin : ℕ → ℕ → ℕ × ℕ → Type 0
 BeginsWithin least most pair = (least ≤ pair.0) × (pair.0 ≤ most)
 
 -- the numbers of the branch at a place, from 1 on
-abbrev pub pair_at : List listed.Step → ℕ → ℕ × ℕ
-pair_at steps place = slice_index_or (branch_pairs steps) (place - 1) (0, 0)
+abbrev pub branch_at : List listed.Step → ℕ → ℕ × ℕ
+branch_at steps place = slice_index_or (branch_pairs steps) (place - 1) (0, 0)
 
 -- the first branch whose first number isn't from a least to a most one, counted from 1
 pub record IsFirstBadBranch (least most : ℕ) (steps : List listed.Step) (first : ℕ) : Type 0 where
   pub from_one : 1 ≤ first
   pub inside : first ≤ length (branch_pairs steps)
-  pub bad : BeginsWithin least most (pair_at steps first) → ⊥
-  pub before : (earlier : ℕ) → 1 ≤ earlier → earlier < first → BeginsWithin least most (pair_at steps earlier)
+  pub bad : BeginsWithin least most (branch_at steps first) → ⊥
+  pub before : (earlier : ℕ) → 1 ≤ earlier → earlier < first → BeginsWithin least most (branch_at steps earlier)
 
 -- Where none is bad all begin there; else the first bad one is reported.
 abbrev pub AreBranchesWithin : ℕ → ℕ → List listed.Step → Option ℕ → Type 0

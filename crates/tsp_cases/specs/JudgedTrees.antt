@@ -1,5 +1,5 @@
--- The judgement on the cases of a tree: where each branch is on two nodes and none comes twice, they are lent on; else the first one
--- that isn't is reported, or the first one that does.
+-- The judgement on the cases of a tree: where each branch is on two nodes and none comes twice, they are lent on; else the first
+-- one that isn't is reported, or the first one that does.
 use Rattle.std.specs.Prelude.{◌≡◌, ℕ, Bool, List, ℤ, Some, None}
 use Rattle.tsp_format.specs.declared.steps.TreeStep.{TreeStep}
 use Rattle.tsp_format.specs.states.TreeSteps.{steps_of}

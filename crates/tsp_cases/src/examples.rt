@@ -89,8 +89,8 @@ pub fn examples_of_verdicts()
     ensures sides { (changes : List (ℕ × ℤ)) → TwiceAt false [] (on_both_sides changes) 4 }
 {}
 
-/// Branches that are bad, where they may be on a pair of four nodes, and where they may be on one of
-/// two families of them.
+/// Branches that are bad, where they may be on a pair of four nodes, and where they may be on one
+/// of two families of them.
 pub fn examples_of_bad_branches()
     ensures family { IsFirstBadBranch 1 4 (branches 1 2 5 1) 2 }
     ensures family_first { IsFirstBadBranch 1 4 (branches 5 1 6 1) 1 }

@@ -2,8 +2,8 @@
 //! There are two relaxations: least 1-trees, and the least arc from each node.
 //!
 //! [`judge_families`] finds the first family of a certificate that isn't good, [`judge_cases`] the
-//! first branch that is bad or comes twice, and [`judge_numbers`] whether the numbers of a leaf are good. A
-//! [`Setting`] and a [`Room`] have what all leaves share. The bound itself is tsp_branch's.
+//! first branch that is bad or comes twice, and [`judge_numbers`] whether the numbers of a leaf are
+//! good. A [`Setting`] and a [`Room`] have what all leaves share. The bound itself is tsp_branch's.
 //!
 //! ```text
 //! let families = judge_families(alloc, &tree)?;
@@ -48,8 +48,8 @@ pub use bad_branch::first_bad_branch;
 pub use case_tree::CaseTree;
 pub use decision::{DECIDED, Decision};
 pub use examples::{
-    examples_of_bad_branches, examples_of_bounds, examples_of_cases, examples_of_crossings, examples_of_trees,
-    examples_of_verdicts, examples_of_weights,
+    examples_of_bad_branches, examples_of_bounds, examples_of_cases, examples_of_crossings,
+    examples_of_trees, examples_of_verdicts, examples_of_weights,
 };
 pub use families::Families;
 pub use family_examples::examples_of_families;

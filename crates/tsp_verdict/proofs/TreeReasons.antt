@@ -213,7 +213,7 @@ pub twice_first : (inst tree : Fields) (costs : ℕ → ℕ → ℤ) (index : �
     → IsTold inst tree costs (found.BranchTwice index)
     → IsFirstReason (StandsAgainstBranches inst tree) (BranchTwice index)
 twice_first inst tree costs index sort size is = record {
-  stands = (is.steps, is.steps_are, is.by_steps.2);
+  stands = (is.steps, is.steps_are, is.by_steps.3);
   none_before = none_before inst tree (rank_of (BranchTwice 1)) (λ low. sort) (λ low. size)
       (λ low. no_bad_comb inst tree is.by_steps.1.good) (λ low. absurd (omega (arith, low))) (λ low. absurd (omega (arith, low)));
 }

@@ -135,6 +135,8 @@ fn judge_tree<C: PlacedCosts>(
         BranchVerdict::BadFamily(index) => Ok(BoundVerdict::No(Reason::BadComb {
             index: index as u32,
         })),
+        // Each branch that a file has is on two nodes.
+        BranchVerdict::BadBranch(_) => unreachable!(),
         BranchVerdict::BranchTwice(index) => Ok(BoundVerdict::No(Reason::BranchTwice {
             index: index as u32,
         })),

@@ -13,10 +13,10 @@ use Rattle.tsp_draft.specs.Valid.{IsPairOf}
 use Rattle.tsp_theory.specs.CertificateNumbers.{IsScale}
 use Rattle.tsp_branch.specs.declared.judged.BranchVerdict.TheVariants as found
 use Rattle.tsp_branch.specs.BranchVerdicts.{IsBranchVerdict, IsSizedVerdict}
-use Rattle.tsp_cases.specs.Listed.{IsStepOf}
+use Rattle.tsp_cases.specs.Listed.{IsListedStep}
 use Rattle.tsp_families.specs.FamilySets.{AreFamiliesOf, lists_of}
 use Rattle.tsp_draft.specs.Fields.{nodes_of}
-use Rattle.tsp_verdict.proofs.FilesHold.{steps_hold, steps_few}
+use Rattle.tsp_verdict.proofs.FilesHold.{steps_hold, steps_few, none_on_families}
 use Rattle.tsp_verdict.proofs.GivenPairs.{given_once, given_are, given_few}
 use Rattle.tsp_verdict.proofs.FamiliesHold.{families_hold, families_few}
 use Rattle.tsp_verdict.proofs.TreeReasons.{directed_is, even_view, no_tour, are_of, told, twice_within, bad_within, comb_first, twice_first, leaf_first, none_stands, certified}
@@ -49,7 +49,7 @@ invariant_of-cases g c =
       given_are = given_are directed n c.deref.result.now c.fixed.result.now given_is
           (subst (λ (m : ℕ). All (IsPairOf m) c.fixed.result.now) own c.fixed.ensures.range);
       given_once = given_once directed c.deref.result.now c.fixed.result.now given_is;
-      steps_are = ∣ subst (λ (m : ℕ). All (IsStepOf m) (steps_of tree.steps.now)) same
+      steps_are = ∣ subst (λ (m : ℕ). All (IsListedStep m) (steps_of tree.steps.now)) same
           (steps_hold c.args.branches.now (steps_of tree.steps.now) held.each_step) ∣₁;
       whole = held.each_step.whole;
     }
@@ -132,6 +132,15 @@ returns-in-BadFamily g c =
     comb_first inst tree costs c.in-BadFamily.index c.requires.sort c.requires.count
     (told inst tree c.is_directed-directed.result n costs _ families given steps (found.BadFamily c.in-BadFamily.index) are is)
 
+pub unreachable-requires : goal.unreachable-requires
+unreachable-requires g c =
+    let n : ℕ = g.C.Costs.nodes c.args.costs.now in
+    let steps = steps_of c.args.tree.now.steps.now in
+    let is = subst (IsBranchVerdict c.is_directed-directed.result n _ _ _ _ steps) c.in-BadBranch.is
+    c.in_ok-bound.ensures.verdict in
+    none_on_families c.args.branches.now n steps c.requires.held.each_step
+    (c.requires.count ∙ ap (λ (d : Option ℕ). unwrap_or d 0) c.requires.keeps.count) c.in-BadBranch.field-0 is.2
+
 pub overflow_cast-result-in-BranchTwice : goal.overflow_cast-result-in-BranchTwice
 overflow_cast-result-in-BranchTwice g c =
     let steps = steps_of c.args.tree.now.steps.now in
@@ -140,7 +149,7 @@ overflow_cast-result-in-BranchTwice g c =
     c.in_ok-bound.ensures.verdict in
     omega (
       arith,
-      twice_within c.is_directed-directed.result given steps c.in-BranchTwice.index is.2,
+      twice_within c.is_directed-directed.result given steps c.in-BranchTwice.index is.3,
       length-map c.args.tree.now.steps.now step_of,
       steps_few c.args.branches.now c.args.tree.now.steps.now c.requires.held.each_step,
     )
