@@ -1,6 +1,6 @@
-// Solutions in the forms of other programs, as files of TYPE TOUR: Concorde's tour and edges, CVRPLIB's routes,
-// LKH-3's routes, a tour that R prints, lists and tables of nodes, JSON. Nothing here has to be trusted: what comes of
-// it is judged.
+// Solutions in the forms of other programs, as files of TYPE TOUR: Concorde's tour and edges, CVRPLIB's routes, routes
+// of OR-Tools, LKH-3's routes, a tour that R prints, lists and tables of nodes, JSON. Nothing here has to be trusted: what
+// comes of it is judged.
 
 /** A solution that has no known form, or breaks it. */
 export class NoSolution extends Error {}
@@ -9,14 +9,18 @@ export class NoSolution extends Error {}
  * @typedef {object} Found
  * @property {number[][]} tours whose nodes count from 1
  * @property {string} form in words
- * @property {string[]} [comments]
+ * @property {string} [cost] the length that the text claims, as it is written
+ * @property {string} [customers] the program whose customer k is node k + 1
  */
 
 /** The largest number that is taken for a node. */
 const MOST = 999_999_999;
 
-/** What explanations of the library look for. */
-const COUNTED = "Customer k of CVRPLIB is node k + 1";
+/** A line of OR-Tools: 0 Load(0) -> 4 Load(3) -> .. */
+const WALK = /^[ \t]*\d+\b[^\n>]*->/m;
+
+/** The end of a COMMENT that claims a length, where explanations of the library look for it. */
+const CLAIM = /(?:\(([-.\d]+)\)|(?:Length[ \t]*=|Cost[ \t]*:?)[ \t]*([-.\d]+))[ \t\r\f]*$/;
 
 /** A number as numpy writes it, with a point or a power of ten. */
 const DECIMAL = /^(\d{1,30})(?:\.(\d{0,30}))?(?:e([+-]?\d{1,2}))?$/i;
@@ -39,28 +43,53 @@ export function converted(bytes, nodes, hasDepot) {
         return null;
     }
     const isTsplib = /^[ \t]*(?:TOUR_SECTION|TYPE[ \t]*:)/m.test(text);
-    const read = isTsplib ? copiesOf(text, hasDepot ? nodes : 0) : found(text, nodes);
+    const read = isTsplib ? copiesOf(text, hasDepot ? nodes : 0) : found(text, nodes, hasDepot);
     if (read === null) {
         return null;
     }
-    const head = (read.comments ?? []).map((comment) => `COMMENT : ${comment}`);
+    const said = [...(read.cost ? [`Cost ${read.cost}`] : [])];
+    if (read.customers) {
+        said.push(`Customer k of ${read.customers} is node k + 1`); // which explanations look for
+    }
+    const head = said.map((comment) => `COMMENT : ${comment}`);
     const lines = [...head, "TYPE : TOUR", "TOUR_SECTION", ...read.tours.flatMap((tour) => [...tour, -1]), "EOF", ""];
     return { bytes: new TextEncoder().encode(lines.join("\n")), form: read.form };
 }
 
 /**
+ * The length that a text of TYPE TOUR claims in a COMMENT; null where none is whole.
+ *
+ * @param {Uint8Array} bytes
+ * @returns {bigint | null}
+ */
+export function claimOf(bytes) {
+    for (const [, comment] of new TextDecoder().decode(bytes).matchAll(/^[ \t]*COMMENT[ \t]*:(.*)$/gm)) {
+        const [, inner, last] = CLAIM.exec(comment) ?? [];
+        const [, whole] = /^(-?\d{1,18})(?:\.0*)?$/.exec(inner ?? last ?? "") ?? [];
+        if (whole !== undefined) {
+            return BigInt(whole);
+        }
+    }
+    return null;
+}
+
+/**
  * @param {string} text
  * @param {number} nodes
+ * @param {boolean} hasDepot
  * @returns {Found}
  */
-function found(text, nodes) {
+function found(text, nodes, hasDepot) {
     const lines = text.split(/\r?\n/);
     const isPrinted = /^[ \t]*\[\d+\]/.test(text) && !text.includes(",") && !/^\s*\[\d+\]\s*$/.test(text);
     if (/^\s*[[{]/.test(text) && !isPrinted) {
-        const list = listInJson(text);
+        const list = listInJson(text, nodes, hasDepot);
         if (list !== null) {
             return list;
         }
+    }
+    if (WALK.test(text)) {
+        return walksOf(lines, hasDepot);
     }
     if (lines.some((line) => /^[ \t]*route[^:]*:/i.test(line))) {
         return routesOf(lines);
@@ -98,19 +127,20 @@ function nodeOf(word, least) {
  */
 function routesOf(lines) {
     const tours = [];
-    const costs = [];
+    /** @type {string | undefined} */
+    let claimed;
     for (const line of lines) {
         const [, route] = /^[ \t]*route[^:]*:(.*)/i.exec(line) ?? [];
         const [, cost] = /^[ \t]*cost[ \t]*[:=]?[ \t]*(\S*)/i.exec(line) ?? [];
         if (route !== undefined) {
             tours.push(customersOf(wordsOf(route)));
         } else if (cost !== undefined) {
-            costs.push(`Cost ${cost}`);
+            claimed = cost;
         } else if (line.trim() !== "") {
             throw new NoSolution(`This is neither a route nor the cost: ${line.slice(0, 60)}`);
         }
     }
-    return { tours, form: "routes of CVRPLIB, whose customer 1 is node 2", comments: [...costs.slice(-1), COUNTED] };
+    return { tours, form: "routes of CVRPLIB, whose customer 1 is node 2", cost: claimed, customers: "CVRPLIB" };
 }
 
 /**
@@ -122,6 +152,45 @@ function routesOf(lines) {
 function customersOf(words) {
     const hasDepot = words.length > 2 && words[0] === "0" && words.at(-1) === "0";
     return (hasDepot ? words.slice(1, -1) : words).map((word) => nodeOf(word, 1) + 1);
+}
+
+/**
+ * What OR-Tools' examples print: a walk from the depot to it for each vehicle, nodes from 0. A single one is a tour, where
+ * the instance isn't of routes.
+ *
+ * @param {string[]} lines
+ * @param {boolean} hasDepot
+ * @returns {Found}
+ */
+function walksOf(lines, hasDepot) {
+    const walks = lines.filter((line) => line.includes("->")).map(walkOf);
+    if (walks.some((walk) => walk[0] !== walks[0][0])) {
+        throw new NoSolution("Routes begin and end at one depot.");
+    }
+    const numbers = (/** @type {RegExp} */ words) => lines.flatMap((line) => words.exec(line)?.[1] ?? []);
+    const lengths = numbers(/^[ \t]*(?:distance of the route|route distance):[ \t]*(\d+)/i);
+    const [whole] = numbers(/^[ \t]*total distance of all routes:[ \t]*(\d+)/i);
+    const sum = lengths.length === walks.length ? String(lengths.reduce((all, length) => all + BigInt(length), 0n)) : undefined;
+    const cost = whole ?? sum;
+    if (walks.length === 1 && !hasDepot) {
+        return { tours: [walks[0].slice(0, -1)], form: "a tour of OR-Tools, whose nodes count from 0", cost };
+    }
+    const tours = walks.map((walk) => walk.slice(1, -1)).filter((tour) => tour.length > 0);
+    return { tours, form: "routes of OR-Tools, whose customer 1 is node 2", cost, customers: "OR-Tools" };
+}
+
+/**
+ * The nodes of a line of OR-Tools.
+ *
+ * @param {string} line
+ * @returns {number[]}
+ */
+function walkOf(line) {
+    const stops = line.split("->").map((part) => /^[ \t]*(\d{1,9})\b/.exec(part)?.[1]);
+    if (stops.includes(undefined) || stops[0] !== stops.at(-1)) {
+        throw new NoSolution(`A route of OR-Tools has nodes between ->, and the depot at both ends: ${line.trim().slice(0, 60)}`);
+    }
+    return stops.map((stop) => Number(stop) + 1);
 }
 
 /**
@@ -204,6 +273,9 @@ function wordsOf(line) {
 function rowsIn(lines) {
     const filled = lines.map(wordsOf).filter((words) => words.length > 0);
     const hasNames = filled.length > 1 && filled[0].every((word) => COLUMN.test(word));
+    if (hasNames && filled[0].length > 2) {
+        throw new NoSolution(`A table has a column of nodes, and at most one more, of their order; these are ${filled[0].length}.`);
+    }
     return (hasNames ? filled.slice(1) : filled).map((words) => words.map((word) => nodeOf(word, 0)));
 }
 
@@ -211,24 +283,50 @@ function rowsIn(lines) {
  * A list in JSON, or the only one of an object; null where the text is no JSON.
  *
  * @param {string} text
+ * @param {number} nodes
+ * @param {boolean} hasDepot
  * @returns {Found | null}
  */
-function listInJson(text) {
+function listInJson(text, nodes, hasDepot) {
     let value;
     try {
         value = JSON.parse(text);
     } catch {
         return null;
     }
-    const lists = [value, ...(value !== null && typeof value === "object" && !Array.isArray(value) ? Object.values(value) : [])].filter(Array.isArray);
+    const isObject = value !== null && typeof value === "object" && !Array.isArray(value);
+    const lists = [value, ...(isObject ? Object.values(value) : [])].filter(Array.isArray);
     if (lists.length !== 1) {
         throw new NoSolution("Of JSON a list of nodes is wanted, or an object with one list.");
     }
     const [list] = lists;
-    if (list.every(Array.isArray) && list.length > 0) {
-        return { tours: list.map((tour) => tour.map((node) => nodeOf(String(node), 1))), form: "lists of nodes in JSON" };
+    const [cost] = isObject ? [value.cost, value.length, value.distance].filter((it) => typeof it === "number").map(String) : [];
+    const isRoutes = list.length > 0 && list.every(Array.isArray);
+    if (isRoutes && (hasDepot || list.length > 1)) {
+        return { ...routesInJson(list.map((tour) => tour.map((node) => nodeOf(String(node), 0))), nodes), cost };
     }
-    return listOf(list.map((node) => nodeOf(String(node), 0)));
+    return { ...listOf((isRoutes ? list[0] : list).map((node) => nodeOf(String(node), 0))), cost };
+}
+
+/**
+ * Routes that list customers from 1 without the depot, or nodes: by the reading by which each can be served.
+ *
+ * @param {number[][]} parts
+ * @param {number} nodes of the instance; 0 where that isn't known
+ * @returns {Found}
+ */
+function routesInJson(parts, nodes) {
+    const depot = [0, 1].find((node) => parts.every((part) => part.length > 1 && part[0] === node && part.at(-1) === node));
+    const inside = depot === undefined ? parts : parts.map((part) => part.slice(1, -1));
+    const listed = new Set(inside.flat());
+    const hasLast = nodes > 0 ? listed.has(nodes) : listed.has(2) && !listed.has(1);
+    if (listed.has(0) || (depot === undefined && listed.has(1) === hasLast)) {
+        const [customers, last] = nodes > 0 ? [nodes - 1, nodes] : ["n - 1", "n"];
+        throw new NoSolution(`By these routes each is served neither as customer 1 to ${customers} nor as node 2 to ${last}.`);
+    }
+    const first = depot ?? (hasLast ? 1 : 0);
+    const tours = inside.filter((part) => part.length > 0).map((part) => part.map((node) => node + 1 - first));
+    return first === 1 ? { tours, form: "routes of nodes in JSON" } : { tours, form: "routes in JSON, whose customer 1 is node 2", customers: "the file" };
 }
 
 /**

@@ -161,17 +161,22 @@ function claimed() {
     return number !== null && number >= LEAST_LENGTH && number <= MOST_LENGTH ? number : undefined;
 }
 
+/** Whether a box is ticked. */
+function isOn(/** @type {string} */ id) {
+    return /** @type {HTMLInputElement} */ (find(id)).checked;
+}
+
 /** Has the files judged, where they are enough. */
 function judge() {
     stop();
     const length = claimed();
     find("claimed").setAttribute("aria-invalid", String(length === undefined));
     find("claimed-fault").hidden = length !== undefined;
-    const isBranches = /** @type {HTMLInputElement} */ (find("by-branches")).checked;
+    const isBranches = isOn("by-branches");
     if (length === undefined) {
         return;
     }
-    const job = { ...given, by: isBranches ? By.BRANCHES : By.POTENTIALS, claimed: length, tours, foreign: true };
+    const job = { ...given, by: isBranches ? By.BRANCHES : By.POTENTIALS, claimed: length, tours, foreign: true, claims: isOn("claims") };
     if (verbOf(job) === null) {
         const isEmpty = SLOTS.every((slot) => given[slot] === null);
         tell("none", isEmpty ? "" : "No instance", isEmpty ? "" : "Choose the instance too.");
@@ -197,7 +202,7 @@ function tell(kind, word, meaning) {
     find("verdict").className = kind;
     find("verdict").textContent = word;
     find("meaning").textContent = meaning;
-    for (const id of ["explanation", "not-judged", "no-drawing", "details", "figure", "bar", "converted", "rows", "save-rows"]) {
+    for (const id of ["explanation", "not-judged", "no-drawing", "details", "figure", "bar", "converted", "own-claim", "rows", "save-rows"]) {
         find(id).setAttribute("hidden", "");
     }
 }
@@ -210,6 +215,7 @@ function show(answered) {
     fill("explanation", explanation.replace(/^  /gm, "").trimEnd());
     find("converted").hidden = answered.converted === null;
     find("form").textContent = answered.converted ? `${answered.converted.from} was read as ${answered.converted.form}.` : "";
+    fill("own-claim", answered.claim === null ? "" : `The file claims the length ${answered.claim}.`);
     showRows(answered.rows);
     fill("not-judged", unknown && `Not judged: ${unknown}. The verdict says nothing about these lines.`);
     find("details").hidden = false;
@@ -433,7 +439,7 @@ function listenToPage() {
         document.body.classList.add("over");
     });
     document.addEventListener("dragleave", () => document.body.classList.remove("over"));
-    for (const id of ["by-potentials", "by-branches", "claimed"]) {
+    for (const id of ["by-potentials", "by-branches", "claimed", "claims"]) {
         find(id).addEventListener("change", judge);
     }
     for (const button of document.querySelectorAll("button[data-example]")) {

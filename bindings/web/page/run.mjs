@@ -4,7 +4,7 @@ import { Judge } from "../../javascript/judge.mjs";
 import { By, Call, Status } from "../../javascript/library.mjs";
 import { percentOf, reportOf, verdictOf } from "../../javascript/report.mjs";
 import { sceneOf } from "./scene.mjs";
-import { NoSolution, converted } from "../../javascript/solutions.mjs";
+import { NoSolution, claimOf, converted } from "../../javascript/solutions.mjs";
 
 /**
  * @typedef {object} Given
@@ -19,6 +19,7 @@ import { NoSolution, converted } from "../../javascript/solutions.mjs";
  * @property {bigint | null} claimed the length that the solution is said to have
  * @property {Given[]} [tours] all solutions, where there are several
  * @property {boolean} [foreign] whether a solution may have the form of another program
+ * @property {boolean} [claims] whether the length that a solution claims itself counts, where none is claimed otherwise
  *
  * @typedef {object} Row what comes of one of several solutions
  * @property {string} name
@@ -36,6 +37,7 @@ import { NoSolution, converted } from "../../javascript/solutions.mjs";
  * @property {import("../../javascript/report.mjs").Report | null} report of a check or a bound
  * @property {import("./scene.mjs").Scene | null} scene
  * @property {{ given: Given, form: string, from: string } | null} converted a solution of another program as it was read
+ * @property {bigint | null} claim the length that the solution claims itself, where that counts
  * @property {Row[]} rows
  */
 
@@ -66,7 +68,20 @@ export function verbOf({ instance, solution, certificate }) {
  */
 export function run(library, job) {
     const read = readOf(library, job);
-    return { ...judged(library, read ? { ...job, solution: read.given } : job), converted: read, rows: rowsOfTours(library, job) };
+    const claim = job.solution && job.instance ? ownClaimOf(job, (read?.given ?? job.solution).bytes) : null;
+    const whole = { ...job, solution: read?.given ?? job.solution, claimed: job.claimed ?? claim };
+    return { ...judged(library, whole), converted: read, claim, rows: rowsOfTours(library, job) };
+}
+
+/**
+ * The length that a solution claims itself; null where that doesn't count.
+ *
+ * @param {Job} job
+ * @param {Uint8Array} solution
+ * @returns {bigint | null}
+ */
+function ownClaimOf({ claimed, claims }, solution) {
+    return claims && claimed === null ? claimOf(solution) : null;
 }
 
 /**
@@ -107,8 +122,8 @@ function rowsOfTours(library, job) {
     }
     const judge = new Judge(library, job.instance.bytes, job.certificate?.bytes ?? NOTHING, byOf(job));
     const rows = tours.map((solution) => {
-        const read = readOf(library, { ...job, solution });
-        return rowOf(solution.name, judge.check((read?.given ?? solution).bytes, job.claimed));
+        const { bytes } = readOf(library, { ...job, solution })?.given ?? solution;
+        return rowOf(solution.name, judge.check(bytes, job.claimed ?? ownClaimOf(job, bytes)));
     });
     judge.close();
     return rows;
@@ -147,7 +162,7 @@ export function tableOf(rows) {
  *
  * @param {import("../../javascript/library.mjs").Library} library
  * @param {Job} job
- * @returns {Omit<Outcome, "converted" | "rows">}
+ * @returns {Omit<Outcome, "converted" | "claim" | "rows">}
  */
 function judged(library, job) {
     const verb = verbOf(job);

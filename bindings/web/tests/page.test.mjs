@@ -10,7 +10,7 @@ import { percentOf, reportOf, verdictOf } from "../../javascript/report.mjs";
 import { roleOf } from "../page/roles.mjs";
 import { run, tableOf, verbOf } from "../page/run.mjs";
 import { marksOf, missingOf, rowsOf, toursOf } from "../page/scene.mjs";
-import { NoSolution, converted } from "../../javascript/solutions.mjs";
+import { NoSolution, claimOf, converted } from "../../javascript/solutions.mjs";
 import { libraryOf } from "./module.mjs";
 
 const PAGE = process.env.PAGE ?? "";
@@ -109,6 +109,42 @@ test("solutions of other programs", () => {
         '{"tour": 1}', '{"tour": [1, 2], "other": [2, 1]}']) {
         assert.throws(() => read(words), NoSolution, words);
     }
+});
+
+const FORMS = JSON.parse(readFileSync(new URL("../../../tests/support/forms.json", import.meta.url), "utf8"));
+
+test("the forms that Python and recipes read by the same rules", () => {
+    for (const form of FORMS.filter(({ first }) => first === undefined)) {
+        if (form.claimed) {
+            assert.equal(claimOf(bytesOf(form.text)), form.claim === null ? null : BigInt(form.claim), form.name);
+            continue;
+        }
+        const read = () => converted(bytesOf(form.text), form.nodes, form.routes);
+        if (form.wanted === null) {
+            assert.throws(read, NoSolution, form.name);
+            continue;
+        }
+        const { bytes } = read();
+        const words = new TextDecoder().decode(bytes);
+        assert.deepEqual(toursOf(words), form.wanted, form.name);
+        const said = [form.cost && `Cost ${form.cost}`, form.customers && `Customer k of ${form.customers} is node k + 1`];
+        assert.deepEqual([...words.matchAll(/^COMMENT : (.*)$/gm)].map(([, it]) => it), said.filter(Boolean), form.name);
+        assert.equal(claimOf(bytes), form.claim === null ? null : BigInt(form.claim), form.name);
+    }
+});
+
+test("the length that a file claims", async () => {
+    const library = await libraryOf(PAGE);
+    const dairy = { ...alone, instance: example("dairy.vrp"), foreign: true };
+    const solution = (cost) => text(`Route #1: 4 5 3 6\nRoute #2: 1 7 2\nCost ${cost}\n`);
+    const outcome = (more) => run(library, { ...dairy, ...more });
+    assert.deepEqual(outcome({ solution: solution(230), claims: true }).text, "type CVRP\nnodes 8\nno LengthClaimed 231\n");
+    assert.equal(outcome({ solution: solution(231), claims: true }).claim, 231n);
+    assert.match(outcome({ solution: solution(231), claims: true }).command, / --length=231$/);
+    assert.equal(outcome({ solution: solution(230) }).report.yes, true, "without claims");
+    assert.equal(outcome({ solution: solution(230), claims: true, claimed: 231n }).report.yes, true, "another claim");
+    const tours = [solution(231), solution(230)];
+    assert.deepEqual(outcome({ solution: tours[0], tours, claims: true }).rows.map(({ word }) => word), ["Yes", "No: LengthClaimed 231"]);
 });
 
 test("tables, and numbers of numpy", () => {
