@@ -1,3 +1,4 @@
+-- The goals of `bind_text` in src/opened.rt: what it ensures.
 use Rattle.std.proofs.Common.{◌≡◌, subst, rules}
 use Rattle.std.specs.Prelude.{Option, Some}
 use Rattle.tsp_reason.specs.declared.certificate.Certificate.{Certificate}

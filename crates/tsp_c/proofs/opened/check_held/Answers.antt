@@ -1,3 +1,4 @@
+-- The goals of `check_held` in src/opened.rt: what it ensures.
 use Rattle.std.proofs.Common.{◌≡◌, ◌∙◌, ap, subst, arith, rules, FitsSigned, w64}
 use Rattle.std.specs.Prelude.{Option, Some, ℤ}
 use Rattle.std.proofs.lemmas.Int.{to_z-of_z}

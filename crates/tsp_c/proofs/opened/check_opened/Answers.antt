@@ -1,3 +1,4 @@
+-- The goals of `check_opened` in src/opened.rt: what it ensures.
 use Rattle.std.proofs.Common.{◌≡◌, ◌∙◌, [], ap, refl, subst}
 use Rattle.std.specs.Prelude.{Some}
 use Rattle.tsp_stream.specs.Sink.{Sink}
