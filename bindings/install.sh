@@ -95,7 +95,7 @@ mkdir -p "$prefix/lib/pkgconfig"
 version=$(cat "$here/VERSION")
 while IFS= read -r line; do
     case $line in
-        prefix=*) echo "prefix=$prefix" ;;
+        prefix=*) printf 'prefix=%s\n' "$(printf '%s' "$prefix" | sed 's/[\\" ]/\\&/g')" ;; # (as pkg-config reads it)
         Version:*) echo "Version: $version" ;;
         *) printf '%s\n' "$line" ;;
     esac

@@ -153,6 +153,18 @@ class Tables(unittest.TestCase):
         many = yokecairn.compare(RECT, [[1, 2, 3, 4]] * 33)._repr_html_()
         self.assertEqual((many.count("<tr>"), many.count("<p>and 13 more</p>"), many.count("33 of 33 accepted")), (21, 1, 1))
         self.assertEqual(yokecairn.compare(RECT, [])._repr_html_(), "<p>0 of 0 accepted</p>")
+        # those that aren't accepted are all named, above the table, which has the shortest first
+        many = yokecairn.compare(RECT, [TWICE, [1, 3, 2, 4]] * 30 + [[1, 2, 3, 4]])._repr_html_()
+        self.assertEqual((many.count("<li>"), many.count("<tr>"), many.count("<p>and 11 more</p>")), (30, 21, 1))
+        self.assertLess(many.index("#1: RepeatedNode 3"), many.index("<table>"))
+        self.assertLess(many.index(">#61<"), many.index(">#2<"))
+
+    def test_by_length(self):
+        found = yokecairn.compare(RECT, {"c": TWICE, "b": [1, 3, 2, 4], "a": [1, 2, 3, 4], "d": b"x"})
+        self.assertEqual(found.by_length().names, ["a", "b", "c", "d"])
+        self.assertEqual(found.rejected(), [("c", "RepeatedNode 3"), ("d", "line 1 word 0: UnknownLine: x")])
+        self.assertEqual(str(found.by_length()).splitlines()[1].split()[:3], ["a", "yes", "14"])
+        self.assertEqual(found.names, ["c", "b", "a", "d"])
 
     def test_csv(self):
         text = (

@@ -283,6 +283,12 @@ def named(solutions: Union[Mapping[str, Solution], Iterable[Solution]]) -> Itera
         yield os.fsdecode(solution) if isinstance(solution, (str, os.PathLike)) else f"#{place}", solution
 
 
+def _rank(outcome: Outcome) -> Tuple[bool, int]:
+    """What outcomes are sorted by: accepted ones by their lengths, before the others."""
+    is_accepted = isinstance(outcome, Report) and outcome.yes
+    return not is_accepted, (outcome.length or 0) if is_accepted and isinstance(outcome, Report) else 0
+
+
 class Comparison(Sequence[Outcome]):
     """What comes of each solution of one instance, in order: its report, or the exception that its check raised.
 
@@ -338,6 +344,19 @@ class Comparison(Sequence[Outcome]):
         """The solutions that are accepted, by their names, in order."""
         pairs = zip(self.names, self._outcomes)
         return [(name, it) for name, it in pairs if isinstance(it, Report) and it.yes]
+
+    def by_length(self) -> "Comparison":
+        """The same with the shortest first: the accepted solutions by their lengths, then the others in order."""
+        pairs = list(zip(self.names, self._outcomes))
+        found = Comparison(self.basis, self.instance, self.best)
+        for name, outcome in sorted(pairs, key=lambda pair: _rank(pair[1])):
+            found.add(name, outcome)
+        return found
+
+    def rejected(self) -> List[Tuple[str, str]]:
+        """The solutions that aren't accepted, by their names, each with its reason or its fault, in order."""
+        rows = ((name, it, self.row(name, it)) for name, it in zip(self.names, self._outcomes))
+        return [(name, row["detail"]) for name, it, row in rows if not (isinstance(it, Report) and it.yes)]
 
     def shortest(self) -> Optional[Tuple[str, Report]]:
         """The first shortest solution of those that are accepted; None where none is."""
@@ -438,18 +457,24 @@ class Comparison(Sequence[Outcome]):
         return "\n".join([*lines, self.summary()])
 
     def _repr_html_(self) -> str:
-        """The table in a notebook, with its first rows."""
-        head, *rows = self._table() or [[]]
+        """The table in a notebook: all that aren't accepted with their reasons, then the first of the accepted ones, by
+        length."""
+        found = self.by_length()
+        head, *rows = found._table() or [[]]
+        rows = rows[: len(self.accepted())]
         sides = ["left" if name in ("solution", "verdict", "detail") else "right" for name in head]
 
         def line(tag: str, row: List[str]) -> str:
             cells = (f'<{tag} style="text-align: {side}">{html.escape(_shown(it))}</{tag}>' for it, side in zip(row, sides))
             return f"<tr>{''.join(cells)}</tr>"
 
+        parts = (f"<li>{html.escape(_shown(f'{name}: {why}'))}</li>" for name, why in self.rejected())
+        rejected = "".join(parts)
+        above = f"<p>Not accepted:</p><ul>{rejected}</ul>" if rejected else ""
         body = "".join(line("td", row) for row in rows[:_MOST_ROWS])
         table = f"<table><thead>{line('th', head)}</thead><tbody>{body}</tbody></table>" if rows else ""
         rest = f"<p>and {len(rows) - _MOST_ROWS} more</p>" if len(rows) > _MOST_ROWS else ""
-        return f"{table}{rest}<p>{html.escape(_shown(self.summary()))}</p>"
+        return f"{above}{table}{rest}<p>{html.escape(_shown(self.summary()))}</p>"
 
     def plot(self, ax: Any = None) -> Any:
         """Draws the length of each accepted solution beside the bound and the best-known length, by matplotlib,
