@@ -4,6 +4,7 @@ ghost use Rattle.std.specs.Io.{StartsWith};
 
 use crate::cause::{cause, cause_of_first_byte};
 use crate::foreign::{begins, foreign_form, push_foreign};
+use crate::groups::push_uneven;
 use crate::guess::{UNKNOWN, guess_at, push_guess};
 use crate::look::{Look, Sought, look_for};
 use crate::sentences::{end_sentence, line_sentence};
@@ -84,7 +85,7 @@ fn explain_seen(
     match (cause(seen, fault), foreign_form(seen, given, fault)) {
         (None, Some(form)) => {
             push_lines(text, short_rule(fault))?;
-            push_foreign(text, form, given)
+            push_foreign(text, name, form, given)
         }
         (cause, _) => push_meaning(
             text,
@@ -380,7 +381,11 @@ fn push_end_rule(text: &mut Vec<u8>, fault: EndFault) -> Result<(), AllocError> 
 fn push_counts(text: &mut Vec<u8>, seen: &Look, fault: ReadFault) -> Result<(), AllocError> {
     match (fault, seen.dimension) {
         (ReadFault::End(EndFault::Incomplete(field)), Some(nodes)) => {
-            push_groups(text, seen.words, group(field, seen.is_spatial), nodes)
+            push_groups(text, seen.words, group(field, seen.is_spatial), nodes)?;
+            match seen.groups.shift() {
+                Some(shift) => push_uneven(text, field, shift),
+                None => Ok(()),
+            }
         }
         (ReadFault::End(EndFault::WrongCount), Some(nodes)) => {
             push_weights(text, count_of(seen.words), nodes)

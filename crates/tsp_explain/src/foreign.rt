@@ -167,15 +167,17 @@ fn has_mark(text: &[u8]) -> bool {
 }
 
 /// Appends what a file looks like, which one is required in its place, and the recipe that converts
-/// it.
+/// it. `name` is what the user calls the file.
 pub(crate) fn push_foreign(
     text: &mut Vec<u8>,
+    name: &str,
     form: Form,
     given: Option<Role>,
 ) -> Result<(), AllocError> {
     push_lines(text, looks_like(form))?;
-    if let Some(name) = recipe(form, given) {
-        push_recipe(text, name)?;
+    if let Some(recipe) = recipe(form, given) {
+        push_recipe(text, recipe)?;
+        push_command(text, recipe, form, name)?;
     }
     push_lines(text, begins(given))
 }
@@ -192,6 +194,42 @@ fn push_recipe(text: &mut Vec<u8>, name: &str) -> Result<(), AllocError> {
             ),
         ],
     )
+}
+
+/// Appends the command that converts a file by a recipe and checks it, or writes potentials.
+fn push_command<'a>(
+    text: &mut Vec<u8>,
+    recipe: &'a str,
+    form: Form,
+    name: &'a str,
+) -> Result<(), AllocError> {
+    let (program, rest) = match form {
+        Form::JsonList | Form::Json => ("  jq -r -f ", " | tsp check INSTANCE -"),
+        Form::LkhPotentials => ("  awk -f ", " > NEW.potentials"),
+        _ => ("  awk -f ", " | tsp check INSTANCE -"),
+    };
+    push_line(
+        text,
+        &[
+            Part::Words(program),
+            Part::Words("examples/recipes/"),
+            Part::Words(recipe),
+            Part::Words(" "),
+            Part::Words(if is_plain(name) { name } else { "FILE" }),
+            Part::Words(rest),
+        ],
+    )
+}
+
+/// Whether a shell takes a name as it is.
+fn is_plain(name: &str) -> bool {
+    'bytes: for byte in name.as_bytes() {
+        match *byte {
+            b'0'..=b'9' | b'A'..=b'Z' | b'a'..=b'z' | b'_' | b'.' | b'/' | b'-' => {}
+            _ => return false,
+        }
+    }
+    !name.is_empty() && !name.as_bytes().starts_with(b"-")
 }
 
 /// What a form looks like.
@@ -230,6 +268,7 @@ fn recipe(form: Form, given: Option<Role>) -> Option<&'static str> {
         (Some(Role::Solution) | None, Form::ConcordeEdges) => Some("concorde-edges.awk"),
         (Some(Role::Solution) | None, Form::RTour) => Some("r-tour.awk"),
         (Some(Role::Solution) | None, Form::Routes) => Some("cvrplib-sol.awk"),
+        (Some(Role::Solution) | None, Form::OrTools) => Some("ortools-routes.awk"),
         _ => None,
     }
 }

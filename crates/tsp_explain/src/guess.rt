@@ -1,5 +1,6 @@
 //! The likely meaning of a line or a word, as far as the file shows it.
 
+use crate::groups::{Shift, push_shift};
 use crate::look::{Look, first_run};
 use crate::near::{in_capitals, keyword_in_capitals, nearest, nearest_keyword};
 use crate::sentences::line_sentence;
@@ -25,6 +26,10 @@ pub(crate) enum Guess {
     Zero(i64),
     /// A group more than the file has nodes.
     Surplus(i64),
+    /// A word of this section in the place of another one.
+    Shifted(Field, Shift),
+    /// A sign = in the place of the colon.
+    Equals(Field),
     /// A keyword without a value.
     NoValue(Field),
     /// A value that is too long.
@@ -49,8 +54,21 @@ pub(crate) fn guess_at(look: &Look, fault: ReadFault) -> Option<Guess> {
     }
 }
 
-/// What explains a line fault better than its rule does.
+/// What explains a line fault better than its rule does: first, that another line has others than
+/// whole groups.
 fn guess_of_line(look: &Look, fault: LineFault) -> Option<Guess> {
+    match (fault, look.field, look.shift) {
+        (
+            LineFault::Number(_) | LineFault::RepeatedNode | LineFault::Surplus,
+            Some(field),
+            Some(shift),
+        ) => Some(Guess::Shifted(field, shift)),
+        _ => guess_of_place(look, fault),
+    }
+}
+
+/// What explains a line fault where each word is in its place.
+fn guess_of_place(look: &Look, fault: LineFault) -> Option<Guess> {
     let marked = look.excerpt.marked();
     match fault {
         LineFault::UnknownLine => guess_of_word(look),
@@ -62,6 +80,7 @@ fn guess_of_line(look: &Look, fault: LineFault) -> Option<Guess> {
         LineFault::Surplus if is_by_node(look.field) && !(marked == b"EOF".as_slice()) => {
             look.dimension.map(Guess::Surplus)
         }
+        LineFault::Number(_) if has_equals(marked) => look.field.map(Guess::Equals),
         _ => None,
     }
 }
@@ -92,6 +111,12 @@ fn guess_of_word(look: &Look) -> Option<Guess> {
     }
 }
 
+/// Whether a line has a sign = in the place of the colon.
+fn has_equals(line: &[u8]) -> bool {
+    let (keyword, rest) = first_run(line);
+    !keyword.is_empty() && after_marks(rest).starts_with(b"=")
+}
+
 /// What is wrong with the value of a keyword.
 fn guess_of_value(line: &[u8], field: Field) -> Guess {
     let (_, rest) = first_run(line);
@@ -99,6 +124,7 @@ fn guess_of_value(line: &[u8], field: Field) -> Guess {
     match field {
         Field::NameKey | Field::CommentKey | Field::OtherKey => Guess::LongValue(field),
         _ if value.is_empty() => Guess::NoValue(field),
+        _ if has_equals(line) => Guess::Equals(field),
         Field::TypeKey => guess_of::<Kind>(field, value),
         Field::EdgeWeightTypeKey => guess_of::<WeightKind>(field, value),
         Field::EdgeWeightFormatKey => guess_of::<WeightFormat>(field, value),
@@ -166,6 +192,8 @@ pub(crate) fn push_guess(
             "). Nodes count from 1.",
         ),
         Guess::Surplus(nodes) => push_surplus(text, nodes),
+        Guess::Shifted(field, shift) => push_shift(text, field, shift),
+        Guess::Equals(_) => push_lines(text, "Put a colon in the place of the =."),
         Guess::ValueLetters(_, known) => push_with(text, VALUE_IN_CAPITALS, known, "."),
         Guess::NoValue(_) | Guess::LongValue(_) | Guess::Value(_) => Ok(()),
     }
@@ -177,10 +205,15 @@ fn push_rule(text: &mut Vec<u8>, guess: Guess, fault: LineFault) -> Result<(), A
         Guess::Letters(_) | Guess::Near(_) | Guess::Section | Guess::Numbers(_) => {
             push_lines(text, UNKNOWN)
         }
-        Guess::Zero(_) | Guess::Surplus(_) => push_lines(text, line_sentence(fault)),
+        Guess::Zero(_) | Guess::Surplus(_) | Guess::Shifted(..) => {
+            push_lines(text, line_sentence(fault))
+        }
         Guess::NoValue(field) => push_value(text, "The keyword has no value here.", field),
         Guess::LongValue(field) => push_value(text, "The value has too many bytes.", field),
-        Guess::Value(field) | Guess::ValueLetters(field, _) | Guess::ValueNear(field, _) => {
+        Guess::Value(field)
+        | Guess::Equals(field)
+        | Guess::ValueLetters(field, _)
+        | Guess::ValueNear(field, _) => {
             push_value(text, "The keyword doesn't take this value.", field)
         }
     }

@@ -15,6 +15,7 @@ mod examples;
 mod excerpt;
 mod file;
 mod foreign;
+mod groups;
 mod guess;
 mod judged;
 mod look;

@@ -3,6 +3,7 @@
 ghost use Rattle.std.specs.Prelude.{◌≤◌, length};
 
 use crate::excerpt::Excerpt;
+use crate::groups::{Groups, Shift};
 use crate::near::{is_in_other_letters, is_near};
 use arrayvec::ArrayVec;
 use std::io;
@@ -55,6 +56,10 @@ pub(crate) struct Look {
     pub(crate) open: Option<Field>,
     /// The unknown keyword of the last line that has one.
     pub(crate) other: ArrayVec<u8, 40>,
+    /// The groups of the open section, or of the one that is sought.
+    pub(crate) groups: Groups,
+    /// The line that puts the sought word into the place of another one.
+    pub(crate) shift: Option<Shift>,
     /// How many words the line after the one that was looked for has, as far as they are counted.
     pub(crate) next_words: u32,
     /// The value of DIMENSION, where such a line was seen.
@@ -121,6 +126,8 @@ impl Look {
             field: None,
             open: None,
             other: ArrayVec::new(),
+            groups: Groups::none(),
+            shift: None,
             next_words: 0,
             dimension: None,
             is_spatial: false,
@@ -185,8 +192,23 @@ impl Look {
         }
         if self.line.is_of_words() {
             self.take_keyword();
+        } else if self.line.words > 0 {
+            self.take_numbers();
         }
         self.line.begin_next();
+    }
+
+    /// Takes the words of a line of the open section.
+    fn take_numbers(&mut self) {
+        let Line { number, words, .. } = self.line;
+        match self.sought {
+            Sought::Place { line, word } if line == number => {
+                self.shift = self.groups.shift_of(number, words, word);
+            }
+            Sought::Field(field) if self.field != Some(field) => return,
+            Sought::Place { .. } | Sought::Field(_) | Sought::Nothing => {}
+        }
+        self.groups.take(number, words);
     }
 
     /// Whether the line comes after the one that was looked for.
@@ -206,6 +228,7 @@ impl Look {
             Keyword::Eof => self.is_done = true,
             Keyword::Known(field) => {
                 self.field = Some(field);
+                self.groups = groups_in(self.sought, field, self.is_spatial).unwrap_or(self.groups);
                 let (value, _) = first_run(after_colon(rest));
                 self.is_spatial = self.is_spatial || says_space(field, value);
                 if field == Field::DimensionKey {
@@ -277,6 +300,16 @@ fn is_control(byte: u8) -> bool {
     match byte {
         9..=13 | 26 | 27 | 32..=126 | 128..=255 => false,
         _ => true,
+    }
+}
+
+/// The groups of a section that begins; none where another section is sought, whose groups stay.
+fn groups_in(sought: Sought, field: Field, is_spatial: bool) -> Option<Groups> {
+    match sought {
+        Sought::Field(wanted) if wanted != field => None,
+        Sought::Place { .. } | Sought::Field(_) | Sought::Nothing => {
+            Some(Groups::of(field, is_spatial))
+        }
     }
 }
 

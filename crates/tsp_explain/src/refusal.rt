@@ -14,8 +14,8 @@ use tsp_file::File;
 use tsp_format::{Kind, Word};
 use tsp_reason::Reason;
 
-/// The end of the comment that the recipe for CVRPLIB writes.
-const CONVERTED: &[u8] = b"Customer k of CVRPLIB is node k + 1";
+/// The end of the comment that recipes write whose customers count from 1 without the depot.
+const CONVERTED: &[u8] = b" is node k + 1";
 
 /// Appends why a solution is refused. `name` is what the user calls the file that is to blame.
 ///
@@ -132,13 +132,18 @@ fn push_of_solution(
 /// Appends a node that is in no route, and which customer it was where the solution was converted.
 fn push_unserved(text: &mut Vec<u8>, node: u32, solution: &File) -> Result<(), AllocError> {
     say(text, &[("No route has node ", i64::from(node))])?;
+    push_customer(text, node, solution)
+}
+
+/// Appends which customer a node was, where the solution was converted.
+fn push_customer(text: &mut Vec<u8>, node: u32, solution: &File) -> Result<(), AllocError> {
     if !is_converted(solution.comments()) {
         return Ok(());
     }
     say(
         text,
         &[(
-            "In the file of CVRPLIB it is customer ",
+            "In the other program's file it is customer ",
             i64::from(node).saturating_sub(1),
         )],
     )
@@ -286,7 +291,10 @@ fn push_missing(text: &mut Vec<u8>, instance: &File, solution: &File) -> Result<
     let nodes = instance.dimension().unwrap_or(0);
     match least_missing(tours, nodes, depot_of(instance)) {
         None => Ok(()),
-        Some(node) => push_of_node(text, node, " is missing."),
+        Some(node) => {
+            push_of_node(text, node, " is missing.")?;
+            push_customer(text, node, solution)
+        }
     }
 }
 
@@ -355,7 +363,8 @@ fn push_node(
             (" is node ", i64::from(node)),
             (", and DIMENSION is ", nodes_of(instance)),
         ],
-    )
+    )?;
+    push_customer(text, node, solution)
 }
 
 /// Appends the node at a place of the tours, and the first place that has it.
@@ -374,7 +383,8 @@ fn push_repeated(text: &mut Vec<u8>, place: u32, solution: &File) -> Result<(), 
             (" is node ", i64::from(node)),
             (", which is also at place ", first),
         ],
-    )
+    )?;
+    push_customer(text, node, solution)
 }
 
 /// Appends a fixed pair, counted from 1.
