@@ -10,80 +10,21 @@
 //! set by a pair are 1 at each end inside, less 2 where both are, so the ends go to the potentials.
 //! A leaf takes a least 1-tree under TYPE TSP, and the least open arc of each row under TYPE ATSP.
 
-use std::collections::{HashMap, HashSet};
+#[path = "native_trees/files.rs"]
+mod files;
+
+use files::{Fields, Pair, combs_of, costs_of, fail, whole};
+use std::collections::HashSet;
 use std::env;
-use std::fs;
 use std::hint::black_box;
 use std::process::exit;
 use std::time::Instant;
 
-const UNIT: i128 = 1_000_000_000;
 const MARK: i64 = 4_000_000_000_000_000_000;
 const MOST_POTENTIAL: i128 = 1_000_000_000_000_000;
 const MOST_CROSSED: i128 = 900_000_000_000_000_000;
 const MOST_SETS: usize = 63;
 const MOST_PARTS: usize = 14;
-
-type Pair = (usize, usize);
-
-// ---- files
-
-/// The words of each keyword and section.
-struct Fields(HashMap<String, Vec<String>>);
-
-fn fail(text: &str) -> ! {
-    eprintln!("native_branches: {text}");
-    exit(2)
-}
-
-impl Fields {
-    fn read(path: &str) -> Fields {
-        let Ok(text) = fs::read_to_string(path) else { fail(path) };
-        let mut fields = HashMap::new();
-        let mut open = String::new();
-        for line in text.lines() {
-            if line.starts_with(|first: char| first.is_ascii_alphabetic()) {
-                let (keyword, value) = line.split_once(':').unwrap_or((line, ""));
-                open = keyword.trim().to_string();
-                if open == "EOF" {
-                    break;
-                }
-                fields.insert(open.clone(), value.split_whitespace().map(String::from).collect());
-            } else {
-                let words: &mut Vec<String> = fields.entry(open.clone()).or_default();
-                words.extend(line.split_whitespace().map(String::from));
-            }
-        }
-        Fields(fields)
-    }
-
-    fn words(&self, keyword: &str) -> &[String] {
-        self.0.get(keyword).map_or(&[], Vec::as_slice)
-    }
-
-    fn first(&self, keyword: &str) -> &str {
-        self.words(keyword).first().map_or("", String::as_str)
-    }
-
-    fn number(&self, keyword: &str) -> Option<i64> {
-        self.first(keyword).parse().ok()
-    }
-
-    fn numbers(&self, keyword: &str) -> Vec<i64> {
-        self.words(keyword).iter().map(|word| whole(word)).collect()
-    }
-}
-
-fn whole(word: &str) -> i64 {
-    word.parse().unwrap_or_else(|_| fail(word))
-}
-
-/// A decimal in counts of 10^-9.
-fn count_of(word: &str) -> i128 {
-    let (front, back) = word.split_once('.').unwrap_or((word, ""));
-    let digits = format!("{front}{back:0<9}");
-    digits.parse().unwrap_or_else(|_| fail(word))
-}
 
 // ---- instances
 
@@ -92,88 +33,6 @@ struct Instance {
     count: usize,
     costs: Vec<i64>,
     fixed: Vec<Pair>,
-}
-
-/// The least whole number from a guess on or below it that covers.
-fn least_from(guess: f64, covers: impl Fn(i128) -> bool) -> i64 {
-    let mut whole = (guess as i128).max(0);
-    while !covers(whole) {
-        whole += 1;
-    }
-    while whole > 0 && covers(whole - 1) {
-        whole -= 1;
-    }
-    whole as i64
-}
-
-fn distance(kind: &str, apart: [i128; 3]) -> i64 {
-    let [x, y, z] = apart.map(i128::abs);
-    let square = x * x + y * y + z * z;
-    let root = (square as f64).sqrt() * 1e-9;
-    let near = |length: i128| ((2 * length + UNIT) / (2 * UNIT)) as i64;
-    match kind {
-        "EUC_2D" | "EUC_3D" => least_from(root, |whole| {
-            let edge = (2 * whole + 1) * UNIT;
-            4 * square < edge * edge
-        }),
-        "CEIL_2D" => least_from(root, |whole| square <= whole * whole * UNIT * UNIT),
-        "ATT" => least_from(root / 10f64.sqrt(), |whole| square <= 10 * whole * whole * UNIT * UNIT),
-        "MAN_2D" | "MAN_3D" => near(x + y + z),
-        "MAX_2D" | "MAX_3D" => near(x.max(y).max(z)),
-        _ => fail(kind),
-    }
-}
-
-fn distances(fields: &Fields, kind: &str, count: usize) -> Vec<i64> {
-    let words = fields.words("NODE_COORD_SECTION");
-    let group = words.len() / count;
-    let axes = if kind.ends_with("_3D") { 3 } else { 2 };
-    let mut points = vec![[0i128; 3]; count];
-    for entry in words.chunks_exact(group) {
-        let node = whole(&entry[0]) as usize;
-        for axis in 0..axes {
-            points[node - 1][axis] = count_of(&entry[axis + 1]);
-        }
-    }
-    let mut costs = vec![0; count * count];
-    for i in 0..count {
-        for j in 0..i {
-            let (a, b) = (points[i], points[j]);
-            let cost = distance(kind, [a[0] - b[0], a[1] - b[1], a[2] - b[2]]);
-            costs[i * count + j] = cost;
-            costs[j * count + i] = cost;
-        }
-    }
-    costs
-}
-
-/// The cells of a layout, in its order.
-fn cells(layout: &str, count: usize) -> Vec<Pair> {
-    let full = layout == "FULL_MATRIX";
-    let diagonal = full || layout.contains("DIAG");
-    let lists = |i: usize, j: usize| full || (i != j && (i < j) == layout.starts_with("UPPER")) || i == j && diagonal;
-    let mut cells = Vec::new();
-    for outer in 0..count {
-        for inner in 0..count {
-            let cell = if layout.ends_with("COL") { (inner, outer) } else { (outer, inner) };
-            if lists(cell.0, cell.1) {
-                cells.push(cell);
-            }
-        }
-    }
-    cells
-}
-
-fn matrix(fields: &Fields, count: usize) -> Vec<i64> {
-    let layout = fields.first("EDGE_WEIGHT_FORMAT");
-    let mut costs = vec![0; count * count];
-    for ((i, j), weight) in cells(layout, count).into_iter().zip(fields.numbers("EDGE_WEIGHT_SECTION")) {
-        costs[i * count + j] = weight;
-        if layout != "FULL_MATRIX" {
-            costs[j * count + i] = weight;
-        }
-    }
-    costs
 }
 
 /// The pair of two nodes: an arc, or without a direction the smaller node first.
@@ -192,8 +51,7 @@ impl Instance {
             _ => fail("wrong kind"),
         };
         let count = fields.number("DIMENSION").unwrap_or(0) as usize;
-        let kind = fields.first("EDGE_WEIGHT_TYPE");
-        let costs = if kind == "EXPLICIT" { matrix(&fields, count) } else { distances(&fields, kind, count) };
+        let costs = costs_of(&fields, count);
         let listed = fields.numbers("FIXED_EDGES_SECTION");
         let fixed = listed.chunks_exact(2).take_while(|pair| pair[0] != -1);
         let fixed = fixed.map(|pair| pair_of(directed, pair[0], pair[1])).collect();
@@ -257,23 +115,6 @@ struct Certificate {
     combs: Vec<Vec<Vec<usize>>>,
     crossed: Vec<(i128, i128)>,
     steps: Vec<Step>,
-}
-
-/// The combs in the words of a section: runs of nodes that -1 ends, and a second -1 ends a comb.
-fn combs_of(words: &[i64]) -> Vec<Vec<Vec<usize>>> {
-    let (mut combs, mut comb, mut set) = (Vec::new(), Vec::new(), Vec::new());
-    for word in words {
-        if *word != -1 {
-            set.push(*word as usize - 1);
-        } else if !set.is_empty() {
-            comb.push(std::mem::take(&mut set));
-        } else if !comb.is_empty() {
-            combs.push(std::mem::take(&mut comb));
-        } else {
-            break;
-        }
-    }
-    combs
 }
 
 /// The steps in the words of a section, up to the end of the tree.
