@@ -1,7 +1,6 @@
 pub mod Leaves
 pub mod BoxedValues
 pub mod SharedSets
-pub mod Passes
 pub mod Judging
 pub mod GivenBack
 pub mod Closed

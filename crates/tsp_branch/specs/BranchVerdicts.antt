@@ -2,8 +2,8 @@
 use Rattle.std.specs.Prelude.{ℕ, Bool, None, Some, IfSome, List, ℤ}
 use Rattle.tsp_format.specs.Steps as listed
 use Rattle.tsp_theory.specs.CertificateNumbers.{IsBoundSized}
-use Rattle.tsp_branch.specs.declared.judged.JudgedLeaves.{JudgedLeaves}
-use Rattle.tsp_branch.specs.declared.judged.JudgedLeaves.TheVariants as judged
+use Rattle.tsp_cases.specs.declared.judged.JudgedLeaves.{JudgedLeaves}
+use Rattle.tsp_cases.specs.declared.judged.JudgedLeaves.TheVariants as judged
 use Rattle.tsp_branch.specs.declared.judged.BranchVerdict.{BranchVerdict}
 use Rattle.tsp_branch.specs.declared.judged.BranchVerdict.TheVariants as verdict
 use Rattle.tsp_families.specs.declared.family.Crossings.{Crossings}

@@ -5,27 +5,18 @@ ghost use Rattle.std.specs.List.{All};
 ghost use Rattle.tsp_format.specs.states.TreeSteps.{steps_of};
 ghost use Rattle.tsp_theory.specs.Costs.{IsSymmetric};
 ghost use Rattle.tsp_cases.specs.Families.{IsFamily};
-ghost use Rattle.tsp_cases.specs.Decisions.{decided_number};
-ghost use Rattle.tsp_cases.specs.states.Lent.{lent_in, good_in};
-ghost use Rattle.tsp_cases.specs.CaseTrees.{IsFoundAt};
-ghost use Rattle.tsp_cases.specs.states.Decided.{marks_in};
-ghost use Rattle.tsp_cases.specs.states.OpenCases.{decisions_in};
-ghost use Rattle.tsp_branch.specs.JudgedLeaves.{AreJudgedLeaves, BoundsCycles, AreSizedLeaves};
-ghost use Rattle.tsp_cases.specs.states.Kept.{HoldsRows};
-ghost use Rattle.tsp_cases.specs.states.Rooms.{IsRoom, AreSmall};
-ghost use Rattle.tsp_branch.specs.JudgedLeaves.{IsJudgedLeaf, IsSizedLeaf};
+ghost use Rattle.tsp_cases.specs.JudgedLeaves.{AreSizedLeaves};
+ghost use Rattle.tsp_cases.specs.states.Lent.{good_in};
+ghost use Rattle.tsp_branch.specs.JudgedLeaves.{AreJudgedLeaves, BoundsCycles};
 
-use crate::case_leaf::CaseLeaf;
-use crate::judged::{JudgedLeaf, JudgedLeaves};
-use crate::leaf_case::LeafCase;
+use crate::cycle_judge::CycleJudge;
 use crate::placed_costs::PlacedCosts;
 use crate::steps::keeps_rows;
 use std::alloc::Global;
 use tsp_cases::{
-    Cases, Decision, Families, Multipliers, OpenCase, Room, Setting, add_differences,
-    case_trees_bound_cycles, fill_moved, judge_numbers, lower, sets_by_node,
+    CaseSteps, Cases, Families, JudgedLeaves, Room, Setting, case_trees_bound_cycles, judge_leaves,
+    sets_by_node,
 };
-use tsp_format::TreeStep;
 use tsp_memory::Refused;
 
 /// The bound of cases: the least of the bounds of the leaves, which is at most the length of every
@@ -72,7 +63,7 @@ pub fn branch_bound<C: PlacedCosts>(
         families,
         by_node: &by_node,
     };
-    judge_leaves(alloc, &setting)
+    judge_setting(alloc, &setting)
 }
 
 /// The least of the bounds of the leaves, or the first leaf that isn't good.
@@ -80,7 +71,7 @@ pub fn branch_bound<C: PlacedCosts>(
 /// # Errors
 ///
 /// Out of memory.
-fn judge_leaves<C: PlacedCosts>(
+fn judge_setting<C: PlacedCosts>(
     alloc: Global,
     setting: &Setting<C>,
 ) -> Result<JudgedLeaves, Refused>
@@ -90,97 +81,14 @@ fn judge_leaves<C: PlacedCosts>(
         setting.now.cases.now.given.now (steps_of setting.now.cases.now.steps.now) judged) }
     ensures size { IfOk result AreSizedLeaves }
 {
-    let cases = setting.cases;
     let mut room = Room::new(alloc, setting, keeps_rows(setting))?;
-    let mut case = OpenCase::new(alloc, cases.nodes, cases.directed, cases.given)?;
-    let mut lowest = None;
-    let mut leaf = 0;
-    'steps: for step in cases.steps {
-        match step {
-            TreeStep::Branch(first, second) => {
-                let pair = (*first, *second);
-                case.take(pair)?;
-                let taken = Decision { pair, taken: true };
-                room.kept.mark(cases.directed, taken);
-            }
-            TreeStep::Leaf(changes) => {
-                leaf += 1;
-                // The setting is lent again, since the case changes before the next leaf.
-                let at = LeafCase {
-                    setting: &*setting,
-                    case: &case,
-                };
-                let judged = judge_leaf(alloc, &at, changes, &mut room)?;
-                let JudgedLeaf::Found(own) = judged else {
-                    return Ok(JudgedLeaves::BadLeaf(leaf));
-                };
-                lowest = lower(lowest, own);
-                room.kept.leave(cases.directed, &case.stack);
-                case.next()?;
-            }
-        }
-    }
-    Ok(JudgedLeaves::Bound(lowest))
-}
-
-/// The judgement on a leaf, whose numbers are kept where they are good.
-///
-/// # Errors
-///
-/// Out of memory.
-fn judge_leaf<C: PlacedCosts>(
-    alloc: Global,
-    at: &LeafCase<C>,
-    changes: &[(u32, i64)],
-    room: &mut Room,
-) -> Result<JudgedLeaf, Refused>
-    requires few_changes { length changes.now < 2 ^ 32 }
-    requires room { IsRoom (C.nodes at.now.setting.now.costs.now)
-        (length at.now.setting.now.families.now.crossed.items) room.old }
-    requires kept { HoldsRows (C.nodes at.now.setting.now.costs.now)
-        (length at.now.setting.now.families.now.crossed.items) at.now.setting.now.cases.now.scale
-        (lent_in at.now.setting.now.families.now) (C.at at.now.setting.now.costs.now)
-        (marks_in at.now.setting.now.cases.now.directed (decisions_in at.now.case.now)) room.old.kept }
-    requires small { AreSmall room.old.numbers.items }
-    ensures judged { IfOk result (IsJudgedLeaf (IsFoundAt at.now.setting.now.cases.now.directed
-        (C.nodes at.now.setting.now.costs.now)
-        (C.at at.now.setting.now.costs.now) at.now.setting.now.cases.now.scale decided_number
-        (good_in at.now.setting.now.families.now))
-        (C.nodes at.now.setting.now.costs.now) at.now.setting.now.families.now.crossed.items
-        (decisions_in at.now.case.now) room.old.numbers.items changes.now
-        room.new.numbers.items) }
-    ensures room { IfOk result (λ own. IsRoom (C.nodes at.now.setting.now.costs.now)
-        (length at.now.setting.now.families.now.crossed.items) room.new) }
-    ensures kept { IfOk result (λ own. HoldsRows (C.nodes at.now.setting.now.costs.now)
-        (length at.now.setting.now.families.now.crossed.items) at.now.setting.now.cases.now.scale
-        (lent_in at.now.setting.now.families.now) (C.at at.now.setting.now.costs.now)
-        (marks_in at.now.setting.now.cases.now.directed (decisions_in at.now.case.now)) room.new.kept) }
-    ensures size { IfOk result IsSizedLeaf }
-{
-    if !add_differences(&mut room.numbers, changes) {
-        return Ok(JudgedLeaf::Bad);
-    }
-    if !judge_numbers(
-        &room.numbers,
-        at.setting.families,
-        &mut room.potentials,
-        &mut room.multipliers,
-    ) {
-        return Ok(JudgedLeaf::Bad);
-    }
-    let multipliers = Multipliers {
-        families: at.setting.families,
-        numbers: &room.multipliers,
+    let steps = CaseSteps {
+        places: setting.cases.nodes,
+        directed: setting.cases.directed,
+        given: setting.cases.given,
+        steps: setting.cases.steps,
     };
-    room.kept.bring_to(&multipliers, at.setting.by_node);
-    fill_moved(&mut room.moved, &room.potentials, &room.kept.ends);
-    let leaf = CaseLeaf {
-        at,
-        potentials: &room.potentials,
-        multipliers: &room.multipliers,
-        moved: &room.moved,
-        kept: &room.kept.rows,
-    };
-    let bound = leaf.bound(alloc, &mut room.row)?;
-    Ok(JudgedLeaf::Found(bound))
+    let count = setting.costs.count() as usize + setting.families.crossed.len();
+    let judge = CycleJudge { setting };
+    judge_leaves(alloc, &judge, &steps, &mut room, count)
 }

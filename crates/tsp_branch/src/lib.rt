@@ -15,6 +15,7 @@ mod branch;
 mod case_leaf;
 mod closing;
 mod combed;
+mod cycle_judge;
 mod decided;
 mod examples;
 mod given_back;
@@ -29,11 +30,11 @@ mod verdict;
 
 pub use branch::branch_bound;
 pub use examples::examples_of_numbers;
-pub use judged::{BranchVerdict, JudgedLeaves};
+pub use judged::BranchVerdict;
 pub use leaf::{leaf_bound, leaf_bound_in_space};
 pub use placed_costs::{InSpace, OutOfSpace, PlacedCosts};
 pub use tsp_cases::{
-    CaseTree, Cases, Crossings, Decision, Families, JudgedCases, JudgedFamilies,
+    CaseTree, Cases, Crossings, Decision, Families, JudgedCases, JudgedFamilies, JudgedLeaves,
     case_tree_bounds_are_unique, case_trees_bound_cycles, cases_bound_cycles, cases_have_no_cycle,
     cycles_cross_combs, cycles_cross_families, cycles_keep_leaves, decided_bounds_bound_cycles,
     fixed_bounds_bound_tours, judge_cases, judge_families, leaf_bounds_bound_cycles,

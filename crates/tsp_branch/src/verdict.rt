@@ -6,10 +6,10 @@ ghost use Rattle.tsp_families.specs.FamilySets.{families_in};
 ghost use Rattle.tsp_branch.specs.BranchVerdicts.{IsBranchVerdict, VerdictBoundsCycles, IsSizedVerdict};
 
 use crate::branch::branch_bound;
-use crate::judged::{BranchVerdict, JudgedLeaves};
+use crate::judged::BranchVerdict;
 use crate::placed_costs::{OutOfSpace, PlacedCosts};
 use std::alloc::Global;
-use tsp_cases::{CaseTree, JudgedCases, JudgedFamilies, judge_cases, judge_families};
+use tsp_cases::{CaseTree, JudgedCases, JudgedFamilies, JudgedLeaves, judge_cases, judge_families};
 use tsp_memory::Refused;
 use tsp_theory::Costs;
 

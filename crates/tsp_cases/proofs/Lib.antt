@@ -16,6 +16,8 @@ pub mod CombSizes
 pub mod DecidedOnce
 pub mod MovedSums
 pub mod OnePass
+pub mod Passes
+pub mod LeafPasses
 pub mod Grown
 pub mod CaseWeights
 pub mod NodeMarks

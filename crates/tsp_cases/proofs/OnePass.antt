@@ -3,56 +3,55 @@
 use Rattle.std.proofs.Common.{◌≡◌, ℕ, zero, suc, ◌+◌, ◌-◌, ◌<◌, Bool, true, false, List, [], ◌∷◌, get_or, take, length, ℤ, inl, inr, subst, arith}
 use Rattle.std.specs.Prelude.{◌⊎◌}
 use Rattle.tsp_format.specs.Steps as listed
-use Rattle.tsp_families.specs.declared.family.Crossings.{Crossings}
 use Rattle.tsp_cases.specs.declared.decision.Decision.{Decision}
-use Rattle.tsp_cases.specs.Cases.{decide}
-use Rattle.tsp_cases.specs.Listed.{all_grown, no_numbers_of, leaf_changes, after_leaves, IsGoodLeaf, AreGoodLeaves, IsFirstBadLeaf}
+use Rattle.tsp_cases.specs.Cases.{LeafNumbers, decide}
+use Rattle.tsp_cases.specs.Listed.{all_grown, no_numbers_of, leaf_changes, after_leaves, IsGoodLeafBy, AreGoodLeavesBy, IsFirstBadLeafBy}
 use Rattle.tsp_cases.specs.Twice.{is_decided, Divided, branches_of_cases, IsFirstTwice}
 
 -- ---- leaves
 
 -- all leaves are good, where the leaf before had these numbers
-abbrev pub AreGoodFrom : ℕ → List Crossings → List ℤ → List listed.Step → Type 0
-AreGoodFrom n crossed numbers [] = Unit {0}
-AreGoodFrom n crossed numbers (listed.Branch a b ∷ steps) = AreGoodFrom n crossed numbers steps
-AreGoodFrom n crossed numbers (listed.Leaf changes ∷ steps) =
-    IsGoodLeaf n crossed numbers changes × AreGoodFrom n crossed (all_grown changes numbers) steps
+abbrev pub AreGoodFrom : (LeafNumbers → Type 0) → ℕ → ℕ → List ℤ → List listed.Step → Type 0
+AreGoodFrom Good n combs numbers [] = Unit {0}
+AreGoodFrom Good n combs numbers (listed.Branch a b ∷ steps) = AreGoodFrom Good n combs numbers steps
+AreGoodFrom Good n combs numbers (listed.Leaf changes ∷ steps) =
+    IsGoodLeafBy Good n combs numbers changes × AreGoodFrom Good n combs (all_grown changes numbers) steps
 
 -- the first leaf that isn't good, counted on from the leaf before
-abbrev pub IsFirstBadFrom : ℕ → List Crossings → List ℤ → ℕ → List listed.Step → ℕ → Type 0
-IsFirstBadFrom n crossed numbers leaf [] bad = ⊥
-IsFirstBadFrom n crossed numbers leaf (listed.Branch a b ∷ steps) bad = IsFirstBadFrom n crossed numbers leaf steps bad
-IsFirstBadFrom n crossed numbers leaf (listed.Leaf changes ∷ steps) bad =
-    ((bad ≡ suc leaf) × (IsGoodLeaf n crossed numbers changes → ⊥))
-    ⊎ (IsGoodLeaf n crossed numbers changes × IsFirstBadFrom n crossed (all_grown changes numbers) (suc leaf) steps bad)
+abbrev pub IsFirstBadFrom : (LeafNumbers → Type 0) → ℕ → ℕ → List ℤ → ℕ → List listed.Step → ℕ → Type 0
+IsFirstBadFrom Good n combs numbers leaf [] bad = ⊥
+IsFirstBadFrom Good n combs numbers leaf (listed.Branch a b ∷ steps) bad = IsFirstBadFrom Good n combs numbers leaf steps bad
+IsFirstBadFrom Good n combs numbers leaf (listed.Leaf changes ∷ steps) bad =
+    ((bad ≡ suc leaf) × (IsGoodLeafBy Good n combs numbers changes → ⊥))
+    ⊎ (IsGoodLeafBy Good n combs numbers changes × IsFirstBadFrom Good n combs (all_grown changes numbers) (suc leaf) steps bad)
 
 -- the leaf after k others is good
-abbrev GoodAfter : ℕ → List Crossings → List ℤ → List (List (ℕ × ℤ)) → ℕ → Type 0
-GoodAfter n crossed numbers leaves k = IsGoodLeaf n crossed (after_leaves (take k leaves) numbers) (get_or leaves k [])
+abbrev GoodAfter : (LeafNumbers → Type 0) → ℕ → ℕ → List ℤ → List (List (ℕ × ℤ)) → ℕ → Type 0
+GoodAfter Good n combs numbers leaves k = IsGoodLeafBy Good n combs (after_leaves (take k leaves) numbers) (get_or leaves k [])
 
 -- the first bad one is after k others
-record IsBadAfter (n : ℕ) (crossed : List Crossings) (numbers : List ℤ) (leaves : List (List (ℕ × ℤ))) (k : ℕ) : Type 0 where
+record IsBadAfter (Good : LeafNumbers → Type 0) (n combs : ℕ) (numbers : List ℤ) (leaves : List (List (ℕ × ℤ))) (k : ℕ) : Type 0 where
   inside : k < length leaves
-  bad : GoodAfter n crossed numbers leaves k → ⊥
-  before : (j : ℕ) → j < k → GoodAfter n crossed numbers leaves j
+  bad : GoodAfter Good n combs numbers leaves k → ⊥
+  before : (j : ℕ) → j < k → GoodAfter Good n combs numbers leaves j
 
-bad_by_place : (n : ℕ) (crossed : List Crossings) (numbers : List ℤ) (leaf : ℕ) (steps : List listed.Step) (bad : ℕ) → IsFirstBadFrom n crossed numbers leaf steps bad
-    → (k : ℕ) × (bad ≡ leaf + suc k) × IsBadAfter n crossed numbers (leaf_changes steps) k
-bad_by_place n crossed numbers leaf [] bad h = absurd h
-bad_by_place n crossed numbers leaf (listed.Branch a b ∷ steps) bad h = bad_by_place n crossed numbers leaf steps bad h
-bad_by_place n crossed numbers leaf (listed.Leaf changes ∷ steps) bad (inl here) = (
+bad_by_place : (Good : LeafNumbers → Type 0) (n combs : ℕ) (numbers : List ℤ) (leaf : ℕ) (steps : List listed.Step) (bad : ℕ) → IsFirstBadFrom Good n combs numbers leaf steps bad
+    → (k : ℕ) × (bad ≡ leaf + suc k) × IsBadAfter Good n combs numbers (leaf_changes steps) k
+bad_by_place Good n combs numbers leaf [] bad h = absurd h
+bad_by_place Good n combs numbers leaf (listed.Branch a b ∷ steps) bad h = bad_by_place Good n combs numbers leaf steps bad h
+bad_by_place Good n combs numbers leaf (listed.Leaf changes ∷ steps) bad (inl here) = (
   0,
   omega (arith, here.0),
   record { inside = omega arith; bad = here.1; before = λ j lt. absurd (omega (arith, lt)) },
 )
-bad_by_place n crossed numbers leaf (listed.Leaf changes ∷ steps) bad (inr later) =
-    let rest = bad_by_place n crossed (all_grown changes numbers) (suc leaf) steps bad later.1 in (
+bad_by_place Good n combs numbers leaf (listed.Leaf changes ∷ steps) bad (inr later) =
+    let rest = bad_by_place Good n combs (all_grown changes numbers) (suc leaf) steps bad later.1 in (
       suc rest.0,
       omega (arith, rest.1),
       record {
         inside = omega (arith, rest.2.inside);
         bad = rest.2.bad;
-        before = one_more (GoodAfter n crossed numbers (changes ∷ leaf_changes steps)) rest.0 later.0 rest.2.before;
+        before = one_more (GoodAfter Good n combs numbers (changes ∷ leaf_changes steps)) rest.0 later.0 rest.2.before;
       },
     )
   where
@@ -60,28 +59,28 @@ bad_by_place n crossed numbers leaf (listed.Leaf changes ∷ steps) bad (inr lat
     one_more P k first more zero lt = first
     one_more P k first more (suc j) lt = more j (omega (arith, lt))
 
-good_by_place : (n : ℕ) (crossed : List Crossings) (numbers : List ℤ) (steps : List listed.Step) → AreGoodFrom n crossed numbers steps → (k : ℕ) → k < length (leaf_changes steps)
-    → GoodAfter n crossed numbers (leaf_changes steps) k
-good_by_place n crossed numbers [] h k lt = absurd (omega (arith, lt))
-good_by_place n crossed numbers (listed.Branch a b ∷ steps) h k lt = good_by_place n crossed numbers steps h k lt
-good_by_place n crossed numbers (listed.Leaf changes ∷ steps) h zero lt = h.0
-good_by_place n crossed numbers (listed.Leaf changes ∷ steps) h (suc k) lt = good_by_place n crossed (all_grown changes numbers) steps h.1 k (omega (arith, lt))
+good_by_place : (Good : LeafNumbers → Type 0) (n combs : ℕ) (numbers : List ℤ) (steps : List listed.Step) → AreGoodFrom Good n combs numbers steps → (k : ℕ) → k < length (leaf_changes steps)
+    → GoodAfter Good n combs numbers (leaf_changes steps) k
+good_by_place Good n combs numbers [] h k lt = absurd (omega (arith, lt))
+good_by_place Good n combs numbers (listed.Branch a b ∷ steps) h k lt = good_by_place Good n combs numbers steps h k lt
+good_by_place Good n combs numbers (listed.Leaf changes ∷ steps) h zero lt = h.0
+good_by_place Good n combs numbers (listed.Leaf changes ∷ steps) h (suc k) lt = good_by_place Good n combs (all_grown changes numbers) steps h.1 k (omega (arith, lt))
 
 -- of a whole tree, before whose first leaf all numbers are 0
-pub first_bad_by_place : (n : ℕ) (crossed : List Crossings) (steps : List listed.Step) (bad : ℕ) → IsFirstBadFrom n crossed (no_numbers_of n (length crossed)) 0 steps bad
-    → IsFirstBadLeaf n crossed steps bad
-first_bad_by_place n crossed steps bad h =
-    let found = bad_by_place n crossed (no_numbers_of n (length crossed)) 0 steps bad h in
+pub first_bad_by_place : (Good : LeafNumbers → Type 0) (n combs : ℕ) (steps : List listed.Step) (bad : ℕ) → IsFirstBadFrom Good n combs (no_numbers_of n combs) 0 steps bad
+    → IsFirstBadLeafBy Good n combs steps bad
+first_bad_by_place Good n combs steps bad h =
+    let found = bad_by_place Good n combs (no_numbers_of n combs) 0 steps bad h in
     let place : found.0 ≡ bad - 1 = omega (arith, found.1) in
     record {
       least = omega (arith, found.1);
       most = omega (arith, found.1, found.2.inside);
-      bad = subst (λ (k : ℕ). GoodAfter n crossed (no_numbers_of n (length crossed)) (leaf_changes steps) k → ⊥) place found.2.bad;
+      bad = subst (λ (k : ℕ). GoodAfter Good n combs (no_numbers_of n combs) (leaf_changes steps) k → ⊥) place found.2.bad;
       before = λ earlier from lt. found.2.before (earlier - 1) (omega (arith, from, lt, found.1));
     }
 
-pub all_good_by_place : (n : ℕ) (crossed : List Crossings) (steps : List listed.Step) → AreGoodFrom n crossed (no_numbers_of n (length crossed)) steps → AreGoodLeaves n crossed steps
-all_good_by_place n crossed steps h place from within = good_by_place n crossed (no_numbers_of n (length crossed)) steps h (place - 1) (omega (arith, from, within))
+pub all_good_by_place : (Good : LeafNumbers → Type 0) (n combs : ℕ) (steps : List listed.Step) → AreGoodFrom Good n combs (no_numbers_of n combs) steps → AreGoodLeavesBy Good n combs steps
+all_good_by_place Good n combs steps h place from within = good_by_place Good n combs (no_numbers_of n combs) steps h (place - 1) (omega (arith, from, within))
 
 -- ---- branches
 

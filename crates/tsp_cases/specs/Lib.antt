@@ -15,6 +15,7 @@ pub mod JudgedTrees
 pub mod Twice
 pub mod BadBranches
 pub mod Listed
+pub mod JudgedLeaves
 pub mod VerdictExamples
 pub mod CaseExamples
 pub mod FamilyExamples

@@ -48,12 +48,12 @@ abbrev pub IsListedStep : ℕ → listed.Step → Type 0
 IsListedStep n (listed.Branch a b) = IsNode n a → IsNode n b × (a ≢ b)
 IsListedStep n (listed.Leaf changes) = length changes < 2 ^ 32
 
--- ---- good leaves
+-- ---- good leaves, where it is given which numbers of a leaf are good
 
 -- each index is that of a node or of a comb, and the numbers are good
-pub record IsGoodLeaf (n : ℕ) (crossed : List Crossings) (numbers : List ℤ) (changes : List (ℕ × ℤ)) : Type 0 where
-  pub indexes : All (λ change. IsNode (n + length crossed) change.0) changes
-  pub numbers_are : AreGoodNumbers n crossed (split_at n (all_grown changes numbers))
+pub record IsGoodLeafBy (Good : LeafNumbers → Type 0) (n combs : ℕ) (numbers : List ℤ) (changes : List (ℕ × ℤ)) : Type 0 where
+  pub indexes : All (λ change. IsNode (n + combs) change.0) changes
+  pub numbers_are : Good (split_at n (all_grown changes numbers))
 
 -- the leaves, each by its differences
 abbrev pub leaf_changes : List listed.Step → List (List (ℕ × ℤ))
@@ -67,18 +67,31 @@ after_leaves [] numbers = numbers
 after_leaves (changes ∷ leaves) numbers = after_leaves leaves (all_grown changes numbers)
 
 -- the leaf at a place, from 1 on, is good: its differences are added to what all leaves before it give
-abbrev pub IsGoodAt : ℕ → List Crossings → List (List (ℕ × ℤ)) → ℕ → Type 0
-IsGoodAt n crossed leaves place =
-    IsGoodLeaf n crossed (after_leaves (take (place - 1) leaves) (no_numbers_of n (length crossed)))
-    (slice_index_or leaves (place - 1) [])
+abbrev pub IsGoodAtBy : (LeafNumbers → Type 0) → ℕ → ℕ → List (List (ℕ × ℤ)) → ℕ → Type 0
+IsGoodAtBy Good n combs leaves place = IsGoodLeafBy Good n combs
+    (after_leaves (take (place - 1) leaves) (no_numbers_of n combs)) (slice_index_or leaves (place - 1) [])
 
-abbrev pub AreGoodLeaves : ℕ → List Crossings → List listed.Step → Type 0
-AreGoodLeaves n crossed steps =
-    (place : ℕ) → 1 ≤ place → place ≤ length (leaf_changes steps) → IsGoodAt n crossed (leaf_changes steps) place
+abbrev pub AreGoodLeavesBy : (LeafNumbers → Type 0) → ℕ → ℕ → List listed.Step → Type 0
+AreGoodLeavesBy Good n combs steps = (place : ℕ) → 1 ≤ place → place ≤ length (leaf_changes steps)
+    → IsGoodAtBy Good n combs (leaf_changes steps) place
 
 -- the first leaf that isn't good, counted from 1
-pub record IsFirstBadLeaf (n : ℕ) (crossed : List Crossings) (steps : List listed.Step) (leaf : ℕ) : Type 0 where
+pub record IsFirstBadLeafBy (Good : LeafNumbers → Type 0) (n combs : ℕ) (steps : List listed.Step) (leaf : ℕ) : Type 0 where
   pub least : 1 ≤ leaf
   pub most : leaf ≤ length (leaf_changes steps)
-  pub bad : IsGoodAt n crossed (leaf_changes steps) leaf → ⊥
-  pub before : (earlier : ℕ) → 1 ≤ earlier → earlier < leaf → IsGoodAt n crossed (leaf_changes steps) earlier
+  pub bad : IsGoodAtBy Good n combs (leaf_changes steps) leaf → ⊥
+  pub before : (earlier : ℕ) → 1 ≤ earlier → earlier < leaf → IsGoodAtBy Good n combs (leaf_changes steps) earlier
+
+-- ---- those of cycles
+
+abbrev pub IsGoodLeaf : ℕ → List Crossings → List ℤ → List (ℕ × ℤ) → Type 0
+IsGoodLeaf n crossed numbers changes = IsGoodLeafBy (AreGoodNumbers n crossed) n (length crossed) numbers changes
+
+abbrev pub IsGoodAt : ℕ → List Crossings → List (List (ℕ × ℤ)) → ℕ → Type 0
+IsGoodAt n crossed leaves place = IsGoodAtBy (AreGoodNumbers n crossed) n (length crossed) leaves place
+
+abbrev pub AreGoodLeaves : ℕ → List Crossings → List listed.Step → Type 0
+AreGoodLeaves n crossed steps = AreGoodLeavesBy (AreGoodNumbers n crossed) n (length crossed) steps
+
+abbrev pub IsFirstBadLeaf : ℕ → List Crossings → List listed.Step → ℕ → Type 0
+IsFirstBadLeaf n crossed steps leaf = IsFirstBadLeafBy (AreGoodNumbers n crossed) n (length crossed) steps leaf

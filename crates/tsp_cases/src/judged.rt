@@ -1,4 +1,4 @@
-//! What is found of the families and of the cases of a certificate.
+//! What is found of the families, of the cases and of the leaves of a certificate.
 
 use crate::families::Families;
 use crate::tree_cases::Cases;
@@ -21,4 +21,24 @@ pub enum JudgedCases<'a> {
     BadBranch(usize),
     /// The first branch on a pair that is decided above it or given, counted from 1.
     Twice(usize),
+}
+
+/// The judgement on the leaves of a tree.
+#[derive(Drop)]
+pub enum JudgedLeaves {
+    /// The least bound of a leaf: no solution that keeps the given decisions is shorter. `None`
+    /// where no leaf has one: then no solution keeps them.
+    Bound(Option<i128>),
+    /// The first leaf that isn't good, counted from 1.
+    BadLeaf(usize),
+}
+
+/// The judgement on a leaf.
+#[derive(Drop)]
+pub enum JudgedLeaf {
+    /// Its numbers are good, and this is its bound. `None` where it has none: then no solution
+    /// keeps its decisions.
+    Found(Option<i128>),
+    /// It has a number that isn't good.
+    Bad,
 }

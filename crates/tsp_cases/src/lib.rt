@@ -12,6 +12,7 @@
 #![tactic(auto)]
 
 mod bad_branch;
+mod case_steps;
 mod case_tree;
 mod decision;
 mod examples;
@@ -22,6 +23,7 @@ mod good_numbers;
 mod judged;
 mod kept;
 mod laws;
+mod leaf_judge;
 mod lists;
 mod lowest;
 mod marks;
@@ -33,6 +35,7 @@ mod number_examples;
 mod numbers;
 mod open_case;
 mod other_families;
+mod pass;
 mod room;
 mod row_examples;
 mod row_sets;
@@ -45,6 +48,7 @@ mod tree_cases;
 mod twice;
 
 pub use bad_branch::first_bad_branch;
+pub use case_steps::CaseSteps;
 pub use case_tree::CaseTree;
 pub use decision::{DECIDED, Decision};
 pub use examples::{
@@ -55,7 +59,7 @@ pub use families::Families;
 pub use family_examples::examples_of_families;
 pub use good_families::judge_families;
 pub use good_numbers::{judge_numbers, sum_with};
-pub use judged::{JudgedCases, JudgedFamilies};
+pub use judged::{JudgedCases, JudgedFamilies, JudgedLeaf, JudgedLeaves};
 pub use kept::KeptRows;
 pub use laws::{
     case_tree_bounds_are_unique, case_trees_bound_cycles, cases_bound_cycles, cases_have_no_cycle,
@@ -63,6 +67,7 @@ pub use laws::{
     fixed_bounds_bound_tours, leaf_bounds_bound_cycles, links_are_allowed, numbers_are_unique,
     row_leaf_bounds_bound_cycles, stacks_hold_cases, steps_leave_cases, sums_are_below_cycles,
 };
+pub use leaf_judge::LeafJudge;
 pub use lowest::lower;
 pub use moved::fill_moved;
 pub use multiplied::MultipliedFamilies;
@@ -71,6 +76,7 @@ pub use node_decisions::NodeDecisions;
 pub use number_examples::{examples_of_differences, examples_of_good_numbers};
 pub use numbers::add_differences;
 pub use open_case::OpenCase;
+pub use pass::judge_leaves;
 pub use room::Room;
 pub use row_examples::{examples_of_arcs, examples_of_leaves, examples_of_links, examples_of_rows};
 pub use row_sets::{add_sets, sum_left};

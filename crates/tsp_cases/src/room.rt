@@ -1,4 +1,4 @@
-//! What a pass over the steps of a tree of cases writes over.
+//! What a pass over the leaves of a tree of cases writes over.
 
 use crate::kept::KeptRows;
 use crate::setting::Setting;
@@ -6,11 +6,10 @@ use std::alloc::Global;
 use tsp_memory::{Refused, filled};
 use tsp_theory::Costs;
 
-/// The numbers of the leaf before and the rows that are kept at its multipliers, and memory for the
-/// numbers of a leaf and for two rows of its weights.
+/// The rows that are kept at the multipliers of the leaf before, and memory for the numbers of a
+/// leaf and for two rows of its weights.
 #[derive(Drop)]
 pub struct Room {
-    pub numbers: Vec<i128>,
     pub potentials: Vec<i64>,
     pub multipliers: Vec<i64>,
     pub row: Vec<i64>,
@@ -20,14 +19,13 @@ pub struct Room {
 
 impl Room {
     ghost use Rattle.std.specs.Prelude.{◌≡◌, length, IfOk};
-    ghost use Rattle.tsp_cases.specs.Listed.{no_numbers_of};
     ghost use Rattle.tsp_cases.specs.states.Lent.{lent_in};
     ghost use Rattle.tsp_cases.specs.states.Decided.{marks_in};
     ghost use Rattle.tsp_cases.specs.states.Kept.{HoldsRows};
     ghost use Rattle.tsp_cases.specs.states.Rooms.{IsRoom};
 
-    /// Memory for the leaves of a setting, where all numbers are 0. Rows are in it if they are to
-    /// be kept, and there aren't too many nodes.
+    /// Memory for the leaves of a setting. Rows are in it if they are to be kept, and there aren't
+    /// too many nodes.
     ///
     /// # Errors
     ///
@@ -42,13 +40,10 @@ impl Room {
             (length setting.now.families.now.crossed.items) setting.now.cases.now.scale
             (lent_in setting.now.families.now) (C.at setting.now.costs.now)
             (marks_in setting.now.cases.now.directed setting.now.cases.now.given.now) room.kept) }
-        ensures start { IfOk result (λ room. room.numbers.items
-            ≡ no_numbers_of (C.nodes setting.now.costs.now) (length setting.now.families.now.crossed.items)) }
     {
         let nodes = setting.costs.count() as usize;
         let combs = setting.families.crossed.len();
         Ok(Room {
-            numbers: filled(alloc, 0, nodes + combs)?,
             potentials: filled(alloc, 0, nodes)?,
             multipliers: filled(alloc, 0, combs)?,
             row: filled(alloc, 0, nodes + 1)?,

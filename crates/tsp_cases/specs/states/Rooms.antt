@@ -1,12 +1,11 @@
--- What a pass over the steps writes over, and what it finds of a leaf.
+-- What a pass over the leaves writes over.
 use Rattle.std.specs.Prelude.{◌≡◌, ℕ, ◌+◌, ◌^◌, List, length, ℤ, pos, neg_ℤ}
 use Rattle.std.specs.List.{All}
 use Rattle.tsp_theory.specs.CertificateNumbers.{IsFromTo}
 use Rattle.tsp_cases.specs.declared.room.Room.{Room}
 
--- a number for each node and each comb, and a row has a place more than there are nodes
+-- a potential for each node and a multiplier for each comb, and a row has a place more than there are nodes
 pub record IsRoom (n combs : ℕ) (room : Room) : Type 0 where
-  pub numbers : length room.numbers.items ≡ n + combs
   pub potentials : length room.potentials.items ≡ n
   pub multipliers : length room.multipliers.items ≡ combs
   pub row : length room.row.items ≡ n + 1

@@ -10,7 +10,7 @@ use Rattle.tsp_cases.specs.JudgedSets.{AreFamiliesJudged}
 use Rattle.tsp_branch.specs.JudgedLeaves.{AreJudgedLeaves, BoundsCycles}
 use Rattle.tsp_cases.specs.JudgedTrees.{AreCasesJudged}
 use Rattle.tsp_cases.specs.states.Lent.{good_in}
-use Rattle.tsp_branch.specs.declared.judged.JudgedLeaves.TheVariants as judged
+use Rattle.tsp_cases.specs.declared.judged.JudgedLeaves.TheVariants as judged
 use Rattle.tsp_branch.proofs.Judging.{judged_of, cycles_of_cases}
 use Rattle.tsp_branch.proofs.verdict.judge_branches_in_space.Goals as goal
 

@@ -24,6 +24,6 @@ returns-clause-past_the_nodes c = (
   refl,
   [],
   record { many = refl; are = All-nil (IsFamily 4) },
-  first_bad_by_place _ _ _ 1
+  first_bad_by_place _ _ _ _ 1
       (inl (refl, λ good. let inside = (good.indexes 0 (0, pos 0) (omega arith)).1 in omega (arith, inside))),
 )

@@ -7,15 +7,14 @@ use Rattle.std.proofs.lemmas.Bool.{both_ways}
 use Rattle.std.proofs.lemmas.Int.{ints}
 use Rattle.std.proofs.lemmas.List.Elements.{recursion_from_All, All-from_recursion}
 use Rattle.tsp_format.specs.Steps as listed
-use Rattle.tsp_families.specs.declared.family.Crossings.{Crossings}
-use Rattle.tsp_cases.specs.Families.{Family, IsFamily}
 use Rattle.tsp_cases.specs.declared.decision.Decision.{Decision}
-use Rattle.tsp_cases.specs.Decisions.{DecideOnce}
 use Rattle.tsp_cases.specs.Cases.{LeafNumbers, are_case_trees, decide, leaves_of, cases_of, later_cases, open_cases, next_stack}
-use Rattle.tsp_cases.specs.CaseTrees.{AreLeafNumbers, IsCaseTree, IsAbove, IsLeastFound}
+use Rattle.tsp_cases.specs.CaseTrees.{IsAbove, IsLeastFound}
 use Rattle.tsp_cases.specs.states.Decided.{stack_of}
-use Rattle.tsp_cases.specs.Listed.{all_grown, split_at, steps_from, no_numbers_of, listed_steps, IsGoodLeaf, AreGoodLeaves}
+use Rattle.tsp_cases.specs.Listed.{all_grown, split_at, steps_from, no_numbers_of, listed_steps, IsGoodLeafBy, AreGoodLeavesBy}
 use Rattle.tsp_cases.specs.LeafBounds.{IsLowest}
+use Rattle.tsp_cases.specs.JudgedLeaves.{AreJudgedBy}
+use Rattle.tsp_cases.specs.declared.judged.JudgedLeaves.TheVariants as judged
 use Rattle.tsp_cases.proofs.CaseLaws.{stacks_hold_cases}
 use Rattle.tsp_cases.proofs.NextCases.{stack_more}
 use Rattle.tsp_cases.proofs.OnePass.{AreGoodFrom, IsFirstBadFrom, all_good_by_place}
@@ -122,67 +121,67 @@ no_leaves : (cases : List (List Decision)) → leaves_of cases [] ≡ []
 no_leaves [] = refl
 no_leaves (case ∷ cases) = refl
 
-leaf_numbers : (n : ℕ) (crossed : List Crossings) (numbers : List ℤ) (steps : List listed.Step) (cases : List (List Decision))
-    → AreGoodFrom n crossed numbers steps
-    → AllByRecursion (λ leaf. AreLeafNumbers n leaf.1) (leaves_of cases (steps_from n numbers steps))
-leaf_numbers n crossed numbers steps [] good = tt
-leaf_numbers n crossed numbers [] (case ∷ cases) good = tt
-leaf_numbers n crossed numbers (listed.Branch a b ∷ steps) (case ∷ cases) good =
-    leaf_numbers n crossed numbers steps (decide (a, b) true case ∷ decide (a, b) false case ∷ cases) good
-leaf_numbers n crossed numbers (listed.Leaf changes ∷ steps) (case ∷ cases) good = (
-  record { each_node = good.0.numbers_are.each_node; signs = good.0.numbers_are.signs },
-  leaf_numbers n crossed (all_grown changes numbers) steps cases good.1,
+leaf_numbers : (Good : LeafNumbers → Type 0) (n combs : ℕ) (numbers : List ℤ) (steps : List listed.Step) (cases : List (List Decision))
+    → AreGoodFrom Good n combs numbers steps
+    → AllByRecursion (λ leaf. Good leaf.1) (leaves_of cases (steps_from n numbers steps))
+leaf_numbers Good n combs numbers steps [] good = tt
+leaf_numbers Good n combs numbers [] (case ∷ cases) good = tt
+leaf_numbers Good n combs numbers (listed.Branch a b ∷ steps) (case ∷ cases) good =
+    leaf_numbers Good n combs numbers steps (decide (a, b) true case ∷ decide (a, b) false case ∷ cases) good
+leaf_numbers Good n combs numbers (listed.Leaf changes ∷ steps) (case ∷ cases) good = (
+  good.0.numbers_are,
+  leaf_numbers Good n combs (all_grown changes numbers) steps cases good.1,
 )
 
 -- what is left to do from a step on, with the stack of the open case or none, and that it settles the whole
-pub record IsAtStep (Found : List Decision × LeafNumbers → Option ℤ → Type 0) (directed : Bool) (n : ℕ) (crossed : List Crossings)
+pub record IsAtStep (Found : List Decision × LeafNumbers → Option ℤ → Type 0) (Good : LeafNumbers → Type 0) (Fits : List Decision → Type 0) (n combs : ℕ)
     (given : List Decision) (all : List listed.Step) (numbers : List ℤ)
     (stack : Option (List Decision)) (lowest : Option ℤ) (leaf : ℕ) (steps : List listed.Step) : Type 0 where
   pub least : (final : Option ℤ) → ComesTo Found lowest (open_leaves n numbers given stack steps) final → ComesTo Found None
-      (leaves_of (given ∷ []) (listed_steps n (length crossed) all)) final
+      (leaves_of (given ∷ []) (listed_steps n combs all)) final
   pub whole : are_case_trees (length (open_cases given stack)) (steps_from n numbers steps) ≡ true
-  pub good : AreGoodFrom n crossed numbers steps → AreGoodFrom n crossed (no_numbers_of n (length crossed)) all
-  pub bad : (first : ℕ) → IsFirstBadFrom n crossed numbers leaf steps first → IsFirstBadFrom n crossed
-      (no_numbers_of n (length crossed)) 0 all first
-  pub once : AllByRecursion (DecideOnce directed) (cases_of (open_leaves n numbers given stack steps))
+  pub good : AreGoodFrom Good n combs numbers steps → AreGoodFrom Good n combs (no_numbers_of n combs) all
+  pub bad : (first : ℕ) → IsFirstBadFrom Good n combs numbers leaf steps first → IsFirstBadFrom Good n combs
+      (no_numbers_of n combs) 0 all first
+  pub once : AllByRecursion Fits (cases_of (open_leaves n numbers given stack steps))
 
-module _ (Found : List Decision × LeafNumbers → Option ℤ → Type 0) (directed : Bool) (n : ℕ) (crossed : List Crossings)
+module _ (Found : List Decision × LeafNumbers → Option ℤ → Type 0) (Good : LeafNumbers → Type 0) (Fits : List Decision → Type 0) (n combs : ℕ)
     (given : List Decision) (all : List listed.Step) where
-  pub at_start : are_case_trees 1 (listed_steps n (length crossed) all) ≡ true → All (DecideOnce directed)
-      (cases_of (leaves_of (given ∷ []) (listed_steps n (length crossed) all)))
-      → IsAtStep Found directed n crossed given all (no_numbers_of n (length crossed)) (Some []) None 0 all
+  pub at_start : are_case_trees 1 (listed_steps n combs all) ≡ true → All Fits
+      (cases_of (leaves_of (given ∷ []) (listed_steps n combs all)))
+      → IsAtStep Found Good Fits n combs given all (no_numbers_of n combs) (Some []) None 0 all
   at_start whole once = record {
     least = λ final h. h;
     whole = whole;
     good = λ h. h;
     bad = λ first h. h;
-    once = recursion_from_All (DecideOnce directed) (cases_of (leaves_of (given ∷ []) (listed_steps n (length crossed) all)))
+    once = recursion_from_All Fits (cases_of (leaves_of (given ∷ []) (listed_steps n combs all)))
         once;
   }
 
   pub at_branch : (numbers : List ℤ) (stack : List Decision) (lowest : Option ℤ) (leaf a b : ℕ) (steps : List listed.Step)
-      → IsAtStep Found directed n crossed given all numbers (Some (stack_of stack)) lowest leaf (listed.Branch a b ∷ steps)
-      → IsAtStep Found directed n crossed given all numbers (Some (stack_of (stack ++ decide (a, b) true []))) lowest leaf steps
+      → IsAtStep Found Good Fits n combs given all numbers (Some (stack_of stack)) lowest leaf (listed.Branch a b ∷ steps)
+      → IsAtStep Found Good Fits n combs given all numbers (Some (stack_of (stack ++ decide (a, b) true []))) lowest leaf steps
   at_branch numbers stack lowest leaf a b steps h =
       let same = sym (stack_more stack (record { pair = (a, b); taken = true })) in
       record {
         least = λ final. subst (λ (st : List Decision). ComesTo Found lowest
             (leaves_of (open_cases given (Some st)) (steps_from n numbers steps)) final
-            → ComesTo Found None (leaves_of (given ∷ []) (listed_steps n (length crossed) all)) final) same (h.least final);
+            → ComesTo Found None (leaves_of (given ∷ []) (listed_steps n combs all)) final) same (h.least final);
         whole = subst (λ (st : List Decision). are_case_trees (length (open_cases given (Some st)))
             (steps_from n numbers steps) ≡ true) same h.whole;
         good = h.good;
         bad = h.bad;
-        once = subst (λ (st : List Decision). AllByRecursion (DecideOnce directed)
+        once = subst (λ (st : List Decision). AllByRecursion Fits
             (cases_of (leaves_of (open_cases given (Some st)) (steps_from n numbers steps)))) same h.once;
       }
 
   pub at_leaf : (numbers : List ℤ) (stack : List Decision) (lowest : Option ℤ) (leaf : ℕ) (changes : List (ℕ × ℤ))
       (steps : List listed.Step) (next : Option (List Decision)) (own lower : Option ℤ)
-      → IsAtStep Found directed n crossed given all numbers (Some (stack_of stack)) lowest leaf (listed.Leaf changes ∷ steps)
-      → IsGoodLeaf n crossed numbers changes → Found (stack_of stack ++ given, split_at n (all_grown changes numbers)) own
+      → IsAtStep Found Good Fits n combs given all numbers (Some (stack_of stack)) lowest leaf (listed.Leaf changes ∷ steps)
+      → IsGoodLeafBy Good n combs numbers changes → Found (stack_of stack ++ given, split_at n (all_grown changes numbers)) own
       → IsLowest lowest own lower
-      → next_stack (stack_of stack) ≡ next → IsAtStep Found directed n crossed given all (all_grown changes numbers) next lower
+      → next_stack (stack_of stack) ≡ next → IsAtStep Found Good Fits n combs given all (all_grown changes numbers) next lower
       (suc leaf) steps
   at_leaf numbers stack lowest leaf changes steps next own lower h good is low turned =
       let later_are : later_cases given (stack_of stack) ≡ open_cases given next = sym (stacks_hold_cases given (stack_of stack))
@@ -197,56 +196,43 @@ module _ (Found : List Decision × LeafNumbers → Option ℤ → Type 0) (direc
         whole = subst (λ (cs : List (List Decision)). are_case_trees (length cs) (steps_from n ns steps) ≡ true) later_are h.whole;
         good = λ rest. h.good (good, rest);
         bad = λ first rest. h.bad first (inr (good, rest));
-        once = subst (λ (cs : List (List Decision)). AllByRecursion (DecideOnce directed)
+        once = subst (λ (cs : List (List Decision)). AllByRecursion Fits
             (cases_of (leaves_of cs (steps_from n ns steps)))) later_are h.once.1;
       }
 
   -- where no case is open, no step is left
   none_open : (numbers : List ℤ) (lowest : Option ℤ) (leaf : ℕ) (step : listed.Step) (steps : List listed.Step)
-      → IsAtStep Found directed n crossed given all numbers None lowest leaf (step ∷ steps) → ⊥
+      → IsAtStep Found Good Fits n combs given all numbers None lowest leaf (step ∷ steps) → ⊥
   none_open numbers lowest leaf (listed.Branch a b) steps h = both_ways false refl h.whole
   none_open numbers lowest leaf (listed.Leaf changes) steps h = both_ways false refl h.whole
 
-  at_end : (families : List Family) (numbers : List ℤ) (stack : Option (List Decision)) (lowest : Option ℤ) (leaf : ℕ)
-      → IsAtStep Found directed n crossed given all numbers stack lowest leaf []
-      → All (IsFamily n) families → are_case_trees 1 (listed_steps n (length crossed) all) ≡ true
-      → IsCaseTree n families given (listed_steps n (length crossed) all) × IsLeastFound Found
-      (leaves_of (given ∷ []) (listed_steps n (length crossed) all)) lowest
-      × AreGoodLeaves n crossed all
-  at_end families numbers stack lowest leaf h are whole =
+  at_end : (numbers : List ℤ) (stack : Option (List Decision)) (lowest : Option ℤ) (leaf : ℕ)
+      → IsAtStep Found Good Fits n combs given all numbers stack lowest leaf []
+      → AreJudgedBy Found Good n combs given all (judged.Bound lowest)
+  at_end numbers stack lowest leaf h =
       let all_good = h.good tt in
-      let leaves = leaves_of (given ∷ []) (listed_steps n (length crossed) all) in
+      let leaves = leaves_of (given ∷ []) (listed_steps n combs all) in
       let none : open_leaves n numbers given stack [] ≡ [] = no_leaves (open_cases given stack) in
       let least = h.least lowest (subst (λ (left : List (List Decision × LeafNumbers)). ComesTo Found lowest left lowest)
       (sym none) (done Found lowest)) in (
-        record {
-          families_are = are;
-          whole = whole;
-          numbers_are = All-from_recursion (λ leaf. AreLeafNumbers n leaf.1) leaves
-              (leaf_numbers n crossed (no_numbers_of n (length crossed)) all (given ∷ []) all_good);
-        },
+        All-from_recursion (λ leaf. Good leaf.1) leaves (leaf_numbers Good n combs (no_numbers_of n combs) all (given ∷ []) all_good),
         least_of Found leaves lowest least,
-        all_good_by_place n crossed all all_good,
+        all_good_by_place Good n combs all all_good,
       )
 
   -- the same with the stack of code, whether its case is open or none is
   abbrev pub IsPassing : List ℤ → List Decision → Option ℤ → ℕ → List listed.Step → Type 0
-  IsPassing numbers stack lowest leaf steps = IsAtStep Found directed n crossed given all numbers
+  IsPassing numbers stack lowest leaf steps = IsAtStep Found Good Fits n combs given all numbers
       (Some (stack_of stack)) lowest leaf steps
-      ⊎ IsAtStep Found directed n crossed given all numbers None lowest leaf steps
+      ⊎ IsAtStep Found Good Fits n combs given all numbers None lowest leaf steps
 
   pub at_step : (numbers : List ℤ) (stack : List Decision) (lowest : Option ℤ) (leaf : ℕ) (step : listed.Step)
       (steps : List listed.Step) → IsPassing numbers stack lowest leaf (step ∷ steps)
-      → IsAtStep Found directed n crossed given all numbers (Some (stack_of stack)) lowest leaf (step ∷ steps)
+      → IsAtStep Found Good Fits n combs given all numbers (Some (stack_of stack)) lowest leaf (step ∷ steps)
   at_step numbers stack lowest leaf step steps (inl h) = h
   at_step numbers stack lowest leaf step steps (inr h) = absurd (none_open numbers lowest leaf step steps h)
 
-  pub passed : (families : List Family) (numbers : List ℤ) (stack : List Decision) (lowest : Option ℤ) (leaf : ℕ)
-      → IsPassing numbers stack lowest leaf []
-      → All (IsFamily n) families → are_case_trees 1 (listed_steps n (length crossed) all) ≡ true
-      → IsCaseTree n families given (listed_steps n (length crossed) all) × IsLeastFound Found
-      (leaves_of (given ∷ []) (listed_steps n (length crossed) all)) lowest
-      × AreGoodLeaves n crossed all
-  passed families numbers stack lowest leaf (inl h) are whole = at_end families numbers
-      (Some (stack_of stack)) lowest leaf h are whole
-  passed families numbers stack lowest leaf (inr h) are whole = at_end families numbers None lowest leaf h are whole
+  pub passed : (numbers : List ℤ) (stack : List Decision) (lowest : Option ℤ) (leaf : ℕ)
+      → IsPassing numbers stack lowest leaf [] → AreJudgedBy Found Good n combs given all (judged.Bound lowest)
+  passed numbers stack lowest leaf (inl h) = at_end numbers (Some (stack_of stack)) lowest leaf h
+  passed numbers stack lowest leaf (inr h) = at_end numbers None lowest leaf h

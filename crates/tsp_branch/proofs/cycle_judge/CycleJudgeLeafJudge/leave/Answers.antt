@@ -1,0 +1,17 @@
+-- The goals of `leave` in src/cycle_judge.rt: what it ensures.
+use Rattle.std.proofs.Common.{ℕ, length}
+use Rattle.tsp_cases.specs.states.Lent.{lent_in}
+use Rattle.tsp_branch.proofs.cycle_judge.CycleJudgeLeafJudge.leave.Goals as goal
+
+pub returns : goal.returns
+returns g c = λ given is_open next is pairs turned.
+    let s = c.args.self.now.setting.now in (
+      record {
+        potentials = is.0.potentials;
+        multipliers = is.0.multipliers;
+        row = is.0.row;
+        moved = is.0.moved;
+      },
+      c.leave.ensures (g.C.Costs.nodes s.costs.now) (length s.families.now.crossed.items) s.cases.now.scale (lent_in s.families.now)
+          (g.C.Costs.at s.costs.now) given is_open next is.1 pairs turned,
+    )

@@ -1,0 +1,25 @@
+-- The loop of `judge_leaves` in src/pass.rt.
+use Rattle.std.proofs.Common.{◌≡◌, ◌≤◌, ◌+◌, ℕ, length, drop}
+use Rattle.std.specs.Prelude.{IfSome}
+use Rattle.tsp_format.specs.states.TreeSteps.{steps_of}
+use Rattle.tsp_theory.specs.CertificateNumbers.{IsBoundSized}
+use Rattle.tsp_cases.specs.states.OpenCases.{IsOpenCase, decisions_in}
+use Rattle.tsp_cases.specs.states.Rooms.{AreSmall}
+use Rattle.tsp_cases.proofs.Passes.{IsPassing}
+use Rattle.tsp_cases.proofs.pass.judge_leaves.Given as goal
+
+abbrev pub invariant-steps : goal.invariant-steps
+invariant-steps g l = record {
+  at : IsPassing (g.J.LeafJudge.found l.judge) (g.J.LeafJudge.good l.judge) (g.J.LeafJudge.fits l.judge) (g.J.LeafJudge.nodes l.judge)
+      (g.J.LeafJudge.combs l.judge) l.tree.given.now (steps_of l.tree.steps.now) l.numbers.items l.case.stack.items l.lowest l.leaf
+      (steps_of (drop l.step-index l.tree.steps.now));
+  memory : g.J.LeafJudge.holds l.judge l.memory (decisions_in l.case);
+  long : length l.numbers.items ≡ g.J.LeafJudge.nodes l.judge + g.J.LeafJudge.combs l.judge;
+  small : AreSmall l.numbers.items;
+  case : IsOpenCase (g.J.LeafJudge.places l.judge) l.case;
+  given : l.case.given.now ≡ l.tree.given.now;
+  direction : l.case.by_node.directed ≡ g.J.LeafJudge.directed l.judge;
+  few : length l.case.stack.items ≤ l.step-index;
+  leaves : l.leaf ≤ l.step-index;
+  sized : IfSome l.lowest IsBoundSized;
+}

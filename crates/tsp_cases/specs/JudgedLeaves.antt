@@ -1,0 +1,50 @@
+-- The judgement on the leaves of a tree, whatever a leaf is worth: the least of what is found of them, or the first bad leaf.
+use Rattle.std.specs.Prelude.{◌≡◌, ℕ, List, [], ◌∷◌, Option, IfSome, ℤ}
+use Rattle.std.specs.List.{All}
+use Rattle.tsp_format.specs.Steps as listed
+use Rattle.tsp_theory.specs.CertificateNumbers.{IsBoundSized}
+use Rattle.tsp_cases.specs.declared.decision.Decision.{Decision}
+use Rattle.tsp_cases.specs.declared.judged.JudgedLeaves.{JudgedLeaves}
+use Rattle.tsp_cases.specs.declared.judged.JudgedLeaves.TheVariants as judged
+use Rattle.tsp_cases.specs.declared.judged.JudgedLeaf.{JudgedLeaf}
+use Rattle.tsp_cases.specs.declared.judged.JudgedLeaf.TheVariants as leaves
+use Rattle.tsp_cases.specs.Cases.{LeafNumbers, leaves_of}
+use Rattle.tsp_cases.specs.CaseTrees.{IsLeastFound}
+use Rattle.tsp_cases.specs.Listed.{listed_steps, all_grown, split_at, IsGoodLeafBy, AreGoodLeavesBy, IsFirstBadLeafBy}
+use Rattle.tsp_cases.specs.states.Rooms.{AreSmall}
+
+-- Where the numbers of all leaves are good, the least of what is found of the leaves, or none where nothing is found of any; else
+-- the first leaf that isn't good.
+abbrev pub AreJudgedBy : (List Decision × LeafNumbers → Option ℤ → Type 0) → (LeafNumbers → Type 0) → ℕ → ℕ → List Decision
+    → List listed.Step → JudgedLeaves → Type 0
+AreJudgedBy found good n combs given steps (judged.Bound least) =
+    All (λ leaf. good leaf.1) (leaves_of (given ∷ []) (listed_steps n combs steps))
+    × IsLeastFound found (leaves_of (given ∷ []) (listed_steps n combs steps)) least
+    × AreGoodLeavesBy good n combs steps
+AreJudgedBy found good n combs given steps (judged.BadLeaf leaf) = IsFirstBadLeafBy good n combs steps leaf
+
+-- Sums with it fit 128 bits.
+abbrev pub AreSizedLeaves : JudgedLeaves → Type 0
+AreSizedLeaves (judged.Bound found) = IfSome found IsBoundSized
+AreSizedLeaves (judged.BadLeaf leaf) = Unit {0}
+
+-- ---- one leaf
+
+-- What is found of a case by numbers that are good, to which differences can be added; nothing by others.
+abbrev pub IsFoundOfCase : (List Decision × LeafNumbers → Option ℤ → Type 0) → (LeafNumbers → Type 0) → ℕ → List Decision → List ℤ
+    → JudgedLeaf → Type 0
+IsFoundOfCase found good n case numbers leaves.Bad = good (split_at n numbers) → ⊥
+IsFoundOfCase found good n case numbers (leaves.Found own) =
+    good (split_at n numbers) × AreSmall numbers × found (case, split_at n numbers) own
+
+-- What is found of a leaf that is good, whose numbers are kept for the next one; nothing of one that isn't.
+abbrev pub IsJudgedLeaf : (List Decision × LeafNumbers → Option ℤ → Type 0) → (LeafNumbers → Type 0) → ℕ → ℕ → List Decision
+    → List ℤ → List (ℕ × ℤ) → List ℤ → JudgedLeaf → Type 0
+IsJudgedLeaf found good n combs case old changes new leaves.Bad = IsGoodLeafBy good n combs old changes → ⊥
+IsJudgedLeaf found good n combs case old changes new (leaves.Found own) = IsGoodLeafBy good n combs old changes
+    × (new ≡ all_grown changes old) × AreSmall new × found (case, split_at n (all_grown changes old)) own
+
+-- Sums with the bound fit 128 bits.
+abbrev pub IsSizedLeaf : JudgedLeaf → Type 0
+IsSizedLeaf leaves.Bad = Unit {0}
+IsSizedLeaf (leaves.Found own) = IfSome own IsBoundSized
