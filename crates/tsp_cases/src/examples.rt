@@ -7,6 +7,8 @@ ghost use Rattle.tsp_cases.specs.Families.{least_crossings_of};
 ghost use Rattle.tsp_cases.specs.Cases.{Branch, Leaf};
 ghost use Rattle.tsp_cases.specs.Examples.{small_comb, PairCrosses, CrossesInAll, large, no_numbers, one_at_two, WeighsAt, WeighsUnderComb, four_rows, six_rows, LengthIs, FourHave, SixHave, IsTreeOf, IsNoTree, with_pair, without_pair};
 ghost use Rattle.tsp_cases.specs.BadBranches.{IsFirstBadBranch};
+ghost use Rattle.tsp_format.specs.Steps as listed;
+ghost use Rattle.tsp_cases.specs.Listed.{IsListedStep};
 ghost use Rattle.tsp_cases.specs.CaseExamples.{AreOnce, AreNotOnce, branched};
 ghost use Rattle.tsp_cases.specs.VerdictExamples.{IsNotGood, IsGood, three_teeth, TwiceAt, branches, branches_apart, on_both_sides};
 
@@ -90,7 +92,7 @@ pub fn examples_of_verdicts()
 {}
 
 /// Branches that are bad, where they may be on a pair of four nodes, and where they may be on one
-/// of two families of them.
+/// of two families of them; and which branches a file may have.
 pub fn examples_of_bad_branches()
     ensures family { IsFirstBadBranch 1 4 (branches 1 2 5 1) 2 }
     ensures family_first { IsFirstBadBranch 1 4 (branches 5 1 6 1) 1 }
@@ -99,6 +101,9 @@ pub fn examples_of_bad_branches()
     ensures pair { IsFirstBadBranch 5 6 (branches 6 1 1 2) 2 }
     ensures third_family { IsFirstBadBranch 5 6 (branches 7 1 5 1) 1 }
     ensures both_families { (branch : ℕ) → ¬ IsFirstBadBranch 5 6 (branches 5 4 6 1) branch }
+    ensures listed_pair { IsListedStep 4 (listed.Branch 4 3) }
+    ensures listed_node_twice { ¬ IsListedStep 4 (listed.Branch 4 4) }
+    ensures listed_family { IsListedStep 4 (listed.Branch 5 5) }
 {}
 
 /// Cases that decide each pair once, and some that don't.

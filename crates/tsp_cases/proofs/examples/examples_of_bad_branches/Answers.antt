@@ -20,4 +20,7 @@ returns c = record {
   third_family = bad_at_branch 5 6 (branches 7 1 5 1) 0 7 1 _ (within_at_start 5 6 (branches 7 1 5 1)) (λ h. omega (arith, h.1));
   both_families = (none_bad 5 6 (branches 5 4 6 1) (All-from_recursion (BeginsWithin 5 6) ((5, 4) ∷ (6, 1) ∷ [])
       ((omega arith, omega arith), ((omega arith, omega arith), tt)))).0;
+  listed_pair = λ node. ((omega arith, omega arith), λ e. omega (arith, e));
+  listed_node_twice = λ is. (is (omega arith, omega arith)).1 refl;
+  listed_family = λ node. omega (arith, node.1);
 }
