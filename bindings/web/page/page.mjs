@@ -145,15 +145,32 @@ function takeExample(name) {
         const role = roleOf(file, bytes);
         put(role.slot, { name: file, bytes }, role.by);
     }
-    /** @type {HTMLInputElement} */ (find("claimed")).value = "";
+    for (const id of ["claimed", "best"]) {
+        /** @type {HTMLInputElement} */ (find(id)).value = "";
+    }
     judge();
 }
 
 // ---- the job
 
-/** The claimed length; null where none is claimed, undefined where it is no length. */
-function claimed() {
-    const words = /** @type {HTMLInputElement} */ (find("claimed")).value.trim();
+/**
+ * A length that is put in; null where none is, undefined where it is no length. The page says so then.
+ *
+ * @param {string} id
+ * @returns {bigint | null | undefined}
+ */
+function lengthIn(id) {
+    const length = lengthOf(/** @type {HTMLInputElement} */ (find(id)).value.trim());
+    find(id).setAttribute("aria-invalid", String(length === undefined));
+    find(`${id}-fault`).hidden = length !== undefined;
+    return length;
+}
+
+/**
+ * @param {string} words
+ * @returns {bigint | null | undefined}
+ */
+function lengthOf(words) {
     if (words === "") {
         return null;
     }
@@ -169,14 +186,12 @@ function isOn(/** @type {string} */ id) {
 /** Has the files judged, where they are enough. */
 function judge() {
     stop();
-    const length = claimed();
-    find("claimed").setAttribute("aria-invalid", String(length === undefined));
-    find("claimed-fault").hidden = length !== undefined;
+    const [length, best] = ["claimed", "best"].map(lengthIn);
     const isBranches = isOn("by-branches");
-    if (length === undefined) {
+    if (length === undefined || best === undefined) {
         return;
     }
-    const job = { ...given, by: isBranches ? By.BRANCHES : By.POTENTIALS, claimed: length, tours, foreign: true, claims: isOn("claims") };
+    const job = { ...given, by: isBranches ? By.BRANCHES : By.POTENTIALS, claimed: length, best, tours, foreign: true, claims: isOn("claims") };
     if (verbOf(job) === null) {
         const isEmpty = SLOTS.every((slot) => given[slot] === null);
         tell("none", isEmpty ? "" : "No instance", isEmpty ? "" : "Choose the instance too.");
@@ -202,7 +217,7 @@ function tell(kind, word, meaning) {
     find("verdict").className = kind;
     find("verdict").textContent = word;
     find("meaning").textContent = meaning;
-    for (const id of ["explanation", "not-judged", "no-drawing", "details", "figure", "bar", "converted", "own-claim", "rows", "save-rows"]) {
+    for (const id of ["explanation", "not-judged", "no-drawing", "details", "figure", "bar", "converted", "own-claim", "geo", "rows", "save-rows"]) {
         find(id).setAttribute("hidden", "");
     }
 }
@@ -211,8 +226,11 @@ function tell(kind, word, meaning) {
 function show(answered) {
     const { status, text, report, explanation, command, scene } = answered;
     const unknown = report?.notJudged.join(", ") ?? "";
-    tell(...headlineOf(answered));
-    fill("explanation", explanation.replace(/^  /gm, "").trimEnd());
+    const { meaning, rest: place } = partsOf(explanation);
+    const [kind, word, means] = headlineOf(answered, meaning);
+    tell(kind, word, answered.rows.length > 0 && given.solution ? `${given.solution.name}: ${means}` : means);
+    fill("explanation", (status === Status.FAULT ? place : explanation).replace(/^  /gm, "").trimEnd());
+    find("geo").hidden = !answered.isGeo;
     find("converted").hidden = answered.converted === null;
     find("form").textContent = answered.converted ? `${answered.converted.from} was read as ${answered.converted.form}.` : "";
     fill("own-claim", answered.claim === null ? "" : `The file claims the length ${answered.claim}.`);
@@ -228,25 +246,61 @@ function show(answered) {
 }
 
 /**
+ * What an explanation says the fault means, without its place, and the rest of it.
+ *
+ * @param {string} explanation
+ * @returns {{ meaning: string, rest: string }}
+ */
+function partsOf(explanation) {
+    const lines = explanation.split("\n");
+    const start = lines.findIndex((line) => /^  \S/.test(line));
+    const count = lines.slice(start).findIndex((line) => !/^  \S/.test(line));
+    const meant = start < 0 ? [] : lines.splice(start, count < 0 ? lines.length : count);
+    return { meaning: meant.map((line) => line.trim()).join(" "), rest: lines.join("\n") };
+}
+
+/** The columns of several tours: the title, and the cell of a row. Those that are empty in all rows aren't shown. */
+const COLUMNS = /** @type {const} */ ([
+    ["Tour", "name"],
+    ["Verdict", "word"],
+    ["Length", "length"],
+    ["Routes", "routes"],
+    ["Gap", "gap"],
+    ["Gap in %", "percent"],
+    ["Above the best known in %", "over"],
+]);
+
+/**
  * Shows what comes of several tours. The button of one shows it.
  *
  * @param {import("./run.mjs").Row[]} rows
  */
 function showRows(rows) {
     find("rows").hidden = find("save-rows").hidden = rows.length === 0;
+    const shown = COLUMNS.filter(([, part]) => rows.some((row) => row[part] !== ""));
+    find("rows-head").replaceChildren(
+        ...shown.map(([title]) => {
+            const cell = document.createElement("th");
+            cell.textContent = title;
+            return cell;
+        }),
+    );
     find("rows-body").replaceChildren(
-        ...rows.map(({ name, word, length, gap, percent }, at) => {
+        ...rows.map((found, at) => {
             const row = document.createElement("tr");
+            if (tours[at] === given.solution) {
+                row.setAttribute("aria-current", "true");
+            }
             const button = document.createElement("button");
             button.type = "button";
-            button.textContent = name;
+            button.textContent = found.name;
             button.addEventListener("click", () => {
                 given.solution = tours[at];
                 judge();
             });
-            row.append(...[button, word, length, gap, percent].map((part) => {
+            row.append(...shown.map(([, part]) => {
                 const cell = document.createElement("td");
-                cell.append(part);
+                cell.append(part === "name" ? button : found[part]);
                 return cell;
             }));
             return row;
@@ -288,9 +342,10 @@ function drawing() {
  * The kind of an outcome, its verdict in large letters, and what it means.
  *
  * @param {import("./run.mjs").Outcome} outcome
+ * @param {string} explained what a fault means
  * @returns {[string, string, string]}
  */
-function headlineOf({ status, report, text }) {
+function headlineOf({ status, report, text }, explained) {
     if (report) {
         const { word, meaning } = verdictOf(report);
         return [kindOf(report), word, meaning];
@@ -299,7 +354,7 @@ function headlineOf({ status, report, text }) {
         return ["fault", "Out of memory", "The browser has no memory for it. Use the program tsp."];
     }
     if (status === Status.FAULT) {
-        return ["fault", "Fault", text.trim()];
+        return ["fault", "Fault", explained || text.trim()];
     }
     return ["none", "A valid file", "Give an instance with a tour, or with a certificate, to have them judged."];
 }
@@ -439,7 +494,7 @@ function listenToPage() {
         document.body.classList.add("over");
     });
     document.addEventListener("dragleave", () => document.body.classList.remove("over"));
-    for (const id of ["by-potentials", "by-branches", "claimed", "claims"]) {
+    for (const id of ["by-potentials", "by-branches", "claimed", "claims", "best"]) {
         find(id).addEventListener("change", judge);
     }
     for (const button of document.querySelectorAll("button[data-example]")) {

@@ -20,6 +20,9 @@ const MOST_LABELS = 60;
 /** So many colours routes have. */
 const COLOURS = 6;
 
+/** Tours of more nodes are drawn in parts of so many, since a browser paints one long line very slowly. */
+const PART = 1000;
+
 /** What is left free at each side. */
 const MARGIN = 24;
 
@@ -40,7 +43,7 @@ export function pictureOf(scene, room, kind) {
     const { place, height } = layOut(scene.points, width);
     const all = Array.from({ length: nodes }, (_, at) => at + 1);
     const shapes = [
-        ...scene.tours.map((tour, at) => tourShape(tour, place, tourClass(scene, at, kind))),
+        ...scene.tours.flatMap((tour, at) => tourShapes(tour, place, tourClass(scene, at, kind))),
         ...scene.fixed.map((pair) => lineShape(pair, place, "fixed")),
         path(all.map((node) => dot(node, place)).join(""), `nodes ${sizeOf(nodes)}`),
         path(scene.missing.map((node) => dot(node, place)).join(""), `missing ${sizeOf(nodes)}`),
@@ -135,10 +138,17 @@ function dot(node, place) {
  * @param {number[]} tour
  * @param {Place} place
  * @param {string} words
- * @returns {Shape}
+ * @returns {Shape[]}
  */
-function tourShape(tour, place, words) {
-    return path(tour.length === 0 ? "" : `M${tour.map((node) => place(node).join(" ")).join("L")}Z`, words);
+function tourShapes(tour, place, words) {
+    const points = tour.map((node) => place(node).join(" "));
+    if (tour.length <= 2 * PART) {
+        return [path(tour.length === 0 ? "" : `M${points.join("L")}Z`, words)];
+    }
+    const starts = Array.from({ length: Math.ceil(tour.length / PART) }, (_, at) => at * PART);
+    const parts = starts.map((start) => [...points.slice(start, start + PART), points[(start + PART) % points.length]]);
+    parts[parts.length - 1] = [...points.slice(starts[starts.length - 1]), points[0]];
+    return parts.map((part) => path(`M${part.join("L")}`, `${words} part`));
 }
 
 /**

@@ -3,6 +3,7 @@
 import { Judge } from "../../javascript/judge.mjs";
 import { By, Call, Status } from "../../javascript/library.mjs";
 import { percentOf, reportOf, verdictOf } from "../../javascript/report.mjs";
+import { withoutGeo } from "./geo.mjs";
 import { sceneOf } from "./scene.mjs";
 import { NoSolution, claimOf, converted } from "../../javascript/solutions.mjs";
 
@@ -17,6 +18,7 @@ import { NoSolution, claimOf, converted } from "../../javascript/solutions.mjs";
  * @property {Given | null} certificate
  * @property {number} by how the certificate gives a bound
  * @property {bigint | null} claimed the length that the solution is said to have
+ * @property {bigint | null} [best] the best-known length
  * @property {Given[]} [tours] all solutions, where there are several
  * @property {boolean} [foreign] whether a solution may have the form of another program
  * @property {boolean} [claims] whether the length that a solution claims itself counts, where none is claimed otherwise
@@ -27,6 +29,8 @@ import { NoSolution, claimOf, converted } from "../../javascript/solutions.mjs";
  * @property {string} length empty where there is none
  * @property {string} gap
  * @property {string} percent the gap in percent of the bound
+ * @property {string} routes how many there are
+ * @property {string} over by how many percent the length is above the best-known one
  *
  * @typedef {object} Outcome
  * @property {string} command the same call of the program
@@ -37,6 +41,7 @@ import { NoSolution, claimOf, converted } from "../../javascript/solutions.mjs";
  * @property {import("../../javascript/report.mjs").Report | null} report of a check or a bound
  * @property {import("./scene.mjs").Scene | null} scene
  * @property {{ given: Given, form: string, from: string } | null} converted a solution of another program as it was read
+ * @property {boolean} isGeo whether the instance's distances were computed as weights
  * @property {bigint | null} claim the length that the solution claims itself, where that counts
  * @property {Row[]} rows
  */
@@ -63,14 +68,16 @@ export function verbOf({ instance, solution, certificate }) {
  * Does what the files ask for.
  *
  * @param {import("../../javascript/library.mjs").Library} library
- * @param {Job} job whose verb isn't null
+ * @param {Job} given whose verb isn't null
  * @returns {Outcome}
  */
-export function run(library, job) {
+export function run(library, given) {
+    const weights = given.instance ? withoutGeo(given.instance.bytes) : null;
+    const job = given.instance && weights ? { ...given, instance: { ...given.instance, bytes: weights } } : given;
     const read = readOf(library, job);
     const claim = job.solution && job.instance ? ownClaimOf(job, (read?.given ?? job.solution).bytes) : null;
     const whole = { ...job, solution: read?.given ?? job.solution, claimed: job.claimed ?? claim };
-    return { ...judged(library, whole), converted: read, claim, rows: rowsOfTours(library, job) };
+    return { ...judged(library, whole), converted: read, claim, isGeo: weights !== null, rows: rowsOfTours(library, job) };
 }
 
 /**
@@ -123,7 +130,7 @@ function rowsOfTours(library, job) {
     const judge = new Judge(library, job.instance.bytes, job.certificate?.bytes ?? NOTHING, byOf(job));
     const rows = tours.map((solution) => {
         const { bytes } = readOf(library, { ...job, solution })?.given ?? solution;
-        return rowOf(solution.name, judge.check(bytes, job.claimed ?? ownClaimOf(job, bytes)));
+        return rowOf(solution.name, judge.check(bytes, job.claimed ?? ownClaimOf(job, bytes)), job.best ?? null);
     });
     judge.close();
     return rows;
@@ -134,16 +141,18 @@ function rowsOfTours(library, job) {
  *
  * @param {string} name
  * @param {import("../../javascript/library.mjs").Judged} judged
+ * @param {bigint | null} best the best-known length
  * @returns {Row}
  */
-function rowOf(name, { status, bytes, result }) {
+function rowOf(name, { status, bytes, result }, best) {
     const text = new TextDecoder().decode(bytes);
     if (status !== Status.YES && status !== Status.NO) {
-        return { name, word: text.trim() || "Out of memory", length: "", gap: "", percent: "" };
+        return { name, word: text.trim() || "Out of memory", length: "", gap: "", percent: "", routes: "", over: "" };
     }
     const report = reportOf(result, text);
     const word = report.yes ? verdictOf(report).word : [`No: ${report.reason}`, ...report.numbers].join(" ");
-    return { name, word, length: String(report.length ?? ""), gap: String(report.gap ?? ""), percent: percentOf(report) };
+    const [length, gap, routes] = [report.length, report.gap, report.routes].map((number) => String(number ?? ""));
+    return { name, word, length, gap, percent: percentOf(report), routes, over: percentOf({ length: report.length, bound: best }) };
 }
 
 /**
@@ -153,8 +162,8 @@ function rowOf(name, { status, bytes, result }) {
  * @returns {string}
  */
 export function tableOf(rows) {
-    const lines = rows.map(({ name, word, length, gap, percent }) => [name, word, length, gap, percent]);
-    return [["solution", "verdict", "length", "gap", "gap_percent"], ...lines].map((line) => `${line.join("\t")}\n`).join("");
+    const lines = rows.map(({ name, word, length, gap, percent, routes, over }) => [name, word, length, gap, percent, routes, over]);
+    return [["solution", "verdict", "length", "gap", "gap_percent", "routes", "best_percent"], ...lines].map((line) => `${line.join("\t")}\n`).join("");
 }
 
 /**
@@ -162,7 +171,7 @@ export function tableOf(rows) {
  *
  * @param {import("../../javascript/library.mjs").Library} library
  * @param {Job} job
- * @returns {Omit<Outcome, "converted" | "claim" | "rows">}
+ * @returns {Omit<Outcome, "converted" | "claim" | "isGeo" | "rows">}
  */
 function judged(library, job) {
     const verb = verbOf(job);

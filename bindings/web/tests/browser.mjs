@@ -217,8 +217,35 @@ const TESTS = {
         const rows = `[...document.querySelectorAll("#rows-body tr")].map((row) => row.innerText.split(/\\s*\\t\\s*/).slice(0, 2).join("|"))`;
         assert.deepEqual(await browser.value(rows), ["harbour.tour|Yes: a tour", "rectangle-1-2-3-4.tour|No: TourLength"]);
         await browser.value(`document.querySelectorAll("#rows-body button")[1].click()`);
-        await browser.until(`document.getElementById("meaning").textContent === "The reason is TourLength."`);
+        await browser.until(`document.getElementById("meaning").textContent === "rectangle-1-2-3-4.tour: The reason is TourLength."`);
         assert.equal(await browser.value(`document.querySelectorAll("#rows-body tr").length`), 2);
+        assert.match(await browser.value(`document.querySelector("tr[aria-current]").innerText`), /^rectangle-1-2-3-4\.tour/);
+        const heads = `[...document.querySelectorAll("#rows-head th")].map((it) => it.textContent).join("|")`;
+        assert.equal(await browser.value(heads), "Tour|Verdict|Length");
+        await browser.value(`document.getElementById("best").value = "200"`);
+        await browser.value(`document.getElementById("best").dispatchEvent(new Event("change"))`);
+        await browser.until(`${heads} === "Tour|Verdict|Length|Above the best known in %"`);
+    },
+    "a fault has its meaning above its line": async (browser) => {
+        await browser.open("zero");
+        assert.equal(await browser.verdict(), "Fault");
+        assert.match(await browser.value(`document.getElementById("meaning").textContent`), /^The number is out of its range\. TOUR_SECTION lists/);
+        assert.match(await browser.value(`document.getElementById("explanation").textContent`), /^zero\.tour:\d+: word \d+: Number OutOfRange\n/);
+    },
+    "a random tour of 100,000 nodes is drawn while the page answers": async (browser) => {
+        await browser.open("");
+        await browser.value(`(() => { const all = new DataTransfer();
+            const nodes = Array.from({ length: 100000 }, (_, at) => at + 1);
+            const lines = nodes.map((node) => node + " " + (node * 7919) % 99991 + " " + (node * 104729) % 99989);
+            const head = ["TYPE : TSP", "DIMENSION : 100000", "EDGE_WEIGHT_TYPE : EUC_2D", "NODE_COORD_SECTION"];
+            all.items.add(new File([[...head, ...lines, "EOF", ""].join("\\n")], "large.tsp"));
+            all.items.add(new File([["TYPE : TOUR", "TOUR_SECTION", ...nodes, -1, "EOF", ""].join("\\n")], "large.tour"));
+            document.dispatchEvent(new DragEvent("drop", { dataTransfer: all })); })()`);
+        await browser.until(`document.getElementById("verdict").textContent === "Yes: a tour"`);
+        const began = Date.now();
+        await browser.ask("Page.captureScreenshot", { format: "png" });
+        assert.ok(Date.now() - began < 30_000, `painted in ${Date.now() - began} ms`);
+        console.log(`bindings/web/tests: a random tour of 100,000 nodes is painted in ${Date.now() - began} ms`);
     },
     "a page that isn't shown draws without a fault": async (browser) => {
         await browser.open("");

@@ -5,6 +5,7 @@ import { readFileSync } from "node:fs";
 import { test } from "node:test";
 
 import { By, Section, Status, Verdict } from "../../javascript/library.mjs";
+import { withoutGeo } from "../page/geo.mjs";
 import { barOf, pictureOf } from "../page/picture.mjs";
 import { percentOf, reportOf, verdictOf } from "../../javascript/report.mjs";
 import { roleOf } from "../page/roles.mjs";
@@ -194,12 +195,14 @@ test("a gap in percent", () => {
     assert.equal(percent(14n, 14n), "0.0000");
     assert.equal(percent(3n, 2n), "50.0000");
     assert.equal(percent(200003n, 200000n), "0.0015");
+    assert.equal(percent(14n, 16n), "-12.5000");
     assert.deepEqual([percent(5n, -1n), percent(5n, 0n), percent(5n)], ["", "", ""]);
 });
 
 test("a table that is saved", () => {
-    const row = { name: "a b", word: "Yes: gap 2", length: "16", gap: "2", percent: "14.2857" };
-    assert.equal(tableOf([row]), "solution\tverdict\tlength\tgap\tgap_percent\na b\tYes: gap 2\t16\t2\t14.2857\n");
+    const row = { name: "a b", word: "Yes: gap 2", length: "16", gap: "2", percent: "14.2857", routes: "", over: "60.0000" };
+    const head = "solution\tverdict\tlength\tgap\tgap_percent\troutes\tbest_percent\n";
+    assert.equal(tableOf([row]), `${head}a b\tYes: gap 2\t16\t2\t14.2857\t\t60.0000\n`);
 });
 
 test("a bar of length, bound and gap", () => {
@@ -266,6 +269,37 @@ test("several tours are a table", async () => {
     assert.deepEqual(rows.map(({ word, length }) => [word, length]),
         [["Yes: a tour", "226"], ["No: TourLength", ""], ["file 2: end: Missing TOUR_SECTION", ""]]);
     assert.deepEqual(run(library, HARBOUR).rows, []);
+    const over = (best) => run(library, { ...HARBOUR, tours: [HARBOUR.solution, bad], best }).rows.map((row) => row.over);
+    assert.deepEqual([over(200n), over(null)], [["13.0000", ""], ["", ""]]);
+    const dairy = { ...alone, instance: example("dairy.vrp"), solution: example("solvers/dairy.cvrplib.sol"), foreign: true };
+    const { rows: routes } = run(library, { ...dairy, tours: [dairy.solution, dairy.solution] });
+    assert.deepEqual(routes.map((row) => [row.routes, row.gap, row.percent]), [["2", "", ""], ["2", "", ""]]);
+});
+
+test("an instance of type GEO is one of weights", async () => {
+    // a quarter of a great circle is 6378.388 * 3.141592 / 2 = 10019.14, and one is added
+    const geo = (points) => `NAME : a quarter\nTYPE : TSP\nDIMENSION : 3\nEDGE_WEIGHT_TYPE : GEO\nNODE_COORD_SECTION\n${points}EOF\n`;
+    const points = "1 0 0\n2 0.0 9e1\n3 90.00 0\n";
+    const weights = new TextDecoder().decode(withoutGeo(bytesOf(geo(points))));
+    assert.match(weights, /^NAME : a quarter$[^]*^EDGE_WEIGHT_SECTION\n10020 10020\n10020\nEOF$/m);
+    const library = await libraryOf(PAGE);
+    const outcome = run(library, { ...alone, instance: text(geo(points)), solution: text("TYPE : TOUR\nTOUR_SECTION\n1 2 3 -1\nEOF\n") });
+    assert.deepEqual([outcome.isGeo, outcome.report.length, outcome.scene.points.length], [true, 30060n, 6]);
+    for (const other of [geo("1 0 0\n2 0 90\n"), geo("1 0 0\n2 0 90\n2 90 0\n"), geo(points).replace("GEO", "EUC_2D")]) {
+        assert.equal(withoutGeo(bytesOf(other)), null, other);
+    }
+    assert.equal(run(library, HARBOUR).isGeo, false);
+});
+
+test("a long tour is drawn in parts", () => {
+    const nodes = 2500;
+    const tour = Array.from({ length: nodes }, (_, at) => at + 1);
+    const scene = { points: new Float64Array(2 * nodes).map((_, at) => at), note: "", tours: [tour], fixed: [], depot: null, missing: [],
+        marks: { nodes: [], pair: null, route: null } };
+    const parts = pictureOf(scene, 600, "yes").shapes.filter(({ attributes }) => String(attributes.class).startsWith("tour"));
+    const lines = parts.map(({ attributes }) => attributes.d.slice(1).split("L"));
+    assert.deepEqual(lines.map(({ length }) => length), [1001, 1001, 501], "edges and one");
+    assert.deepEqual(lines.map((line) => line.at(-1)), [lines[1][0], lines[2][0], lines[0][0]], "each begins where another ends");
 });
 
 test("rounded distances are told", async () => {
