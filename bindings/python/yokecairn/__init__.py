@@ -15,6 +15,7 @@ and ctypes aren't, and so not how a canonical text becomes Python's values.
 from . import _library
 from ._reasons import Reason
 from .compare import Basis, BestUnknown, Comparison, compare
+from .contest import Entry, Table, table
 from .faults import (
     EndFault,
     Error,
@@ -37,6 +38,7 @@ __all__ = [
     "BestUnknown",
     "Comparison",
     "EndFault",
+    "Entry",
     "Error",
     "Fault",
     "Job",
@@ -48,6 +50,7 @@ __all__ = [
     "RelayoutFault",
     "Report",
     "SolutionError",
+    "Table",
     "TooLong",
     "WrongKind",
     "best_known",
@@ -60,6 +63,7 @@ __all__ = [
     "read",
     "read_solution",
     "show",
+    "table",
 ]
 
 LAYOUTS = tuple(_library.LAYOUTS)

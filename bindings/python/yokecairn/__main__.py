@@ -1,8 +1,9 @@
-"""The program's verbs: python -m yokecairn show, convert, check, bound and compare, and one of its own: solution.
+"""The program's verbs: python -m yokecairn show, convert, check, bound and compare, and two of its own: solution and
+table.
 
 `solution` writes a solution of another program as a file of TYPE TOUR. `check` and `compare` read routes of CVRPLIB and
 OR-Tools and JSON directly, and with `--foreign` each form of another program; `--no-foreign` reads none, as the program
-`tsp` does. `compare` also writes tables and JSON. The others write what the program `tsp` writes, and end with its statuses. What
+`tsp` does. `compare` also writes tables and JSON, `table` has several solvers and instances. The others write what the program `tsp` writes, and end with its statuses. What
 differs: each file is read whole before it is judged, the texts for a refused command line, for help and for the
 version are Python's, what is explained of standard input has its text, and the line of a fault, where it isn't
 explained, goes on with the path and the word that is wrong, or with what the system says of the file.
@@ -16,6 +17,7 @@ from . import _library
 from ._claims import length_of
 from ._comparing import Lines
 from ._grammar import Asked, Refused, Task, task_of
+from ._tabling import tabled
 from .compare import Judge
 from .faults import Fault, OutOfMemory, SolutionError, error_of, located
 
@@ -69,6 +71,8 @@ class Run:
 
     def perform(self, task: Task) -> int:
         """Reads the files, and does the verb."""
+        if task.verb == "table":
+            return self.tabled(task)
         texts: List[bytes] = []
         try:
             for path in task.paths:
@@ -87,6 +91,14 @@ class Run:
         if self.explains and task.verb != "solution" and ended in (_library.DONE, _library.NO, _library.FAULT):
             self.explain(task.explained(texts))
         return ended
+
+    def tabled(self, task: Task) -> int:
+        """Judges the solutions in folders, and writes their table; the exit status."""
+        try:
+            return tabled(self, task)
+        except NotWritten:
+            self.say(b"output: device\n")
+            return DEVICE
 
     def compare(self, task: Task, texts: Sequence[bytes]) -> int:
         """Judges each solution, and writes what comes of it when that is known; the exit status."""

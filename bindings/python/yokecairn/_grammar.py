@@ -23,11 +23,17 @@ _VERBS: Dict[str, Tuple[str, Tuple[str, ...], Tuple[str, ...]]] = {
         ("file", "solutions"),
         ("--potentials", "--branches", "--best", "--tsv", "--json", "--summary", "--foreign", "--no-foreign", "--no-claims"),
     ),
+    "table": (
+        "judge solvers on many instances, and put them beside each other",
+        ("folders",),
+        ("--best", "--csv", "--latex", "--html", "--jobs", "--no-claims"),
+    ),
     "solution": ("write a solution of another program as a file of TYPE TOUR", ("file",), ("--dimension", "--first", "--routes")),
 }
 _FILES: Dict[str, Dict[str, Any]] = {
     "file": {"metavar": "F", "help": "the file, or the instance; - is standard input"},
     "solution": {"metavar": "T", "help": "the solution"},
+    "folders": {"metavar": "FOLDER", "nargs": "+", "help": "instances, and a folder of solutions for each solver"},
     "solutions": {"metavar": "T", "nargs": "+", "help": "the solutions"},
 }
 _OPTIONS: Dict[str, Dict[str, Any]] = {
@@ -44,6 +50,10 @@ _OPTIONS: Dict[str, Dict[str, Any]] = {
     "--best": {"metavar": "BEST", "help": "the best-known length, or a file of lines NAME LENGTH"},
     "--tsv": {"action": "store_true", "help": "write a table with a tab between its columns"},
     "--json": {"action": "store_true", "help": "write JSON, when all are judged"},
+    "--csv": {"action": "store_true", "help": "write a row for each instance and solver"},
+    "--latex": {"action": "store_true", "help": "write a tabular of LaTeX"},
+    "--html": {"action": "store_true", "help": "write HTML"},
+    "--jobs": {"metavar": "N", "type": int, "help": "how many processes judge side by side"},
     "--summary": {"action": "store_true", "help": "write what came of all to standard error, in one line"},
     "--dimension": {"metavar": "N", "type": int, "help": "the instance's, for routes of LKH-3"},
 }
@@ -118,14 +128,19 @@ class Task:
         self.dimension: Optional[int] = getattr(given, "dimension", None)
         self.first: Optional[int] = getattr(given, "first", None)
         self.routes: Optional[bool] = getattr(given, "routes", None)
-        paths = [given.file, getattr(given, "solution", None), certificate]
+        self.folders: List[str] = getattr(given, "folders", [])
+        self.jobs: Optional[int] = getattr(given, "jobs", None)
+        if self.jobs is not None and self.jobs < 1:
+            raise Refused("--jobs is 1 or more\n")
+        paths = [getattr(given, "file", None), getattr(given, "solution", None), certificate]
         self.paths: List[str] = [path for path in paths if path is not None]
         self.solutions: List[str] = getattr(given, "solutions", [])
         self.best: Optional[str] = getattr(given, "best", None)
-        self.form = "tsv" if getattr(given, "tsv", False) else "json" if getattr(given, "json", False) else "text"
+        forms = [form for form in ("tsv", "json", "csv", "latex", "html") if getattr(given, form, False)]
+        self.form = forms[0] if forms else "text"
         self.sums: bool = getattr(given, "summary", False)
-        if self.form == "tsv" and given.json:
-            raise Refused("both --tsv and --json\n")
+        if len(forms) > 1:
+            raise Refused(f"both --{forms[0]} and --{forms[1]}\n")
         if any("\n" in path for path in self.solutions):
             raise Refused("line end in a path\n")
         if [*self.paths, *self.solutions, self.best].count("-") > 1:

@@ -502,9 +502,9 @@ def cells(row: Mapping[str, Any]) -> Dict[str, str]:
     return {name: cell(name, value) for name, value in row.items()}
 
 
-def rows_to(file: Any, separator: str) -> "csv.DictWriter[str]":
-    """A writer of rows, each with the columns of `COLUMNS`."""
-    return csv.DictWriter(file, COLUMNS, delimiter=separator, lineterminator="\n")
+def rows_to(file: Any, separator: str, columns: Sequence[str] = COLUMNS) -> "csv.DictWriter[str]":
+    """A writer of rows with these columns."""
+    return csv.DictWriter(file, columns, delimiter=separator, lineterminator="\n")
 
 
 def compare(

@@ -80,11 +80,12 @@ def check_many(
     """
     waiting = [job_of(job) for job in jobs]
     count = workers or os.cpu_count() or 1
-    with _executor(count, processes) as executor:
+    with executor_of(count, processes) as executor:
         return _spread(executor, waiting, 4 * count, progress)
 
 
-def _executor(count: int, processes: bool) -> Executor:
+def executor_of(count: int, processes: bool) -> Executor:
+    """So many threads, or processes."""
     if processes:
         # a forked child of a program with threads may not call malloc
         return ProcessPoolExecutor(count, mp_context=multiprocessing.get_context("spawn"))
