@@ -235,7 +235,7 @@ enum {
 /* What is wrong with a number. */
 enum { TSP_LONG_WORD = 1, TSP_BAD_NUMBER = 2, TSP_TOO_FINE = 3, TSP_OUT_OF_RANGE = 4, TSP_NOT_WHOLE = 5 };
 
-/* Keywords and sections, in canonical order. */
+/* Keywords and sections, in canonical order, but for the last, which came later. */
 enum {
     TSP_FIELD_NAME = 1,
     TSP_FIELD_TYPE = 2,
@@ -260,7 +260,8 @@ enum {
     TSP_FIELD_COLUMN_POTENTIAL_SECTION = 21,
     TSP_FIELD_FIXED_EDGE_POTENTIAL_SECTION = 22,
     TSP_FIELD_COMB_SECTION = 23,
-    TSP_FIELD_BRANCH_SECTION = 24
+    TSP_FIELD_BRANCH_SECTION = 24,
+    TSP_FIELD_LOAD_UNIT = 25
 };
 
 /* tsp_check and tsp_bound, with the result in numbers too: the verdict, if the status is TSP_YES or TSP_NO, and

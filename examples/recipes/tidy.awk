@@ -22,7 +22,7 @@ function put_depot(k, found) {
 function is_node(word) { return word ~ /^[1-9][0-9]*$/ && (!nodes || word + 0 <= nodes) }
 function put(text) { out[++lines] = text } # nothing is written of an instance that is refused
 BEGIN {
-    split("NAME TYPE COMMENT DIMENSION CAPACITY SCALE EDGE_WEIGHT_TYPE EDGE_WEIGHT_FORMAT NODE_COORD_TYPE DISPLAY_DATA_TYPE " \
+    split("NAME TYPE COMMENT DIMENSION CAPACITY SCALE LOAD_UNIT EDGE_WEIGHT_TYPE EDGE_WEIGHT_FORMAT NODE_COORD_TYPE DISPLAY_DATA_TYPE " \
         "NODE_COORD_SECTION DISPLAY_DATA_SECTION DEMAND_SECTION DEPOT_SECTION FIXED_EDGES_SECTION EDGE_WEIGHT_SECTION TOUR_SECTION EOF", list)
     for (k in list)
         known[list[k]] = 1

@@ -54,7 +54,7 @@ HEADS = {
     "CVRP": ["TYPE : CVRP", "DIMENSION : 4", "CAPACITY : 8", "EDGE_WEIGHT_TYPE : EUC_2D"],
     "TOUR": ["TYPE : TOUR", "DIMENSION : 4"],
     "POTENTIALS": ["TYPE : POTENTIALS", "DIMENSION : 4", "SCALE : 2"],
-    "BRANCHES": ["TYPE : BRANCHES", "DIMENSION : 6"],
+    "BRANCHES": ["TYPE : BRANCHES", "DIMENSION : 6", "LOAD_UNIT : 4"],
 }
 BODIES = {
     "NODE_COORD_SECTION": "1 0 0 2 3 0 3 3 4 4 0 4",
@@ -140,7 +140,7 @@ def end(pick: random.Random, number: int) -> Case:
     lines = [f"TYPE : {kind}"] if kind else []
     lines += [f"EDGE_WEIGHT_TYPE : {weights}"] if weights else []
     lines += [f"EDGE_WEIGHT_FORMAT : {layout}"] if layout else []
-    lines += pick.choice([[], ["CAPACITY : 8"]]) + pick.choice([[], [], ["SCALE : 3"]])
+    lines += pick.choice([[], ["CAPACITY : 8"]]) + pick.choice([[], [], ["SCALE : 3"], ["LOAD_UNIT : 3"]])
     likely = set(OF_TYPE.get(kind, [])) | ({"EDGE_WEIGHT_SECTION"} if weights == "EXPLICIT" else set())
     bodies = []
     for name in SECTIONS:
@@ -176,7 +176,7 @@ def number_word(pick: random.Random) -> str:
 def numbers(pick: random.Random, number: int) -> Case:
     """Number words at places of each kind."""
     word = number_word(pick)
-    kind = choice_of(number, ["point", "weight", "demand", "potential", "DIMENSION", "CAPACITY", "SCALE", "multiplier", "claim"])[0]
+    kind = choice_of(number, ["point", "weight", "demand", "potential", "DIMENSION", "CAPACITY", "SCALE", "LOAD_UNIT", "multiplier", "claim"])[0]
     if kind == "claim":
         return Case("check", (joined(*whole_lines("TSP")), joined(*whole_lines("TOUR"))), claim=word.replace("\0", "").encode() or b"0")
     if kind == "point":
@@ -191,7 +191,7 @@ def numbers(pick: random.Random, number: int) -> Case:
     if kind == "multiplier":
         more = ["FIXED_EDGE_POTENTIAL_SECTION", f"1 2 {word} -1"]
         return Case("convert", (joined(*whole_lines("POTENTIALS"), *more),))
-    lines = whole_lines("CVRP") + ["SCALE : 1"]
+    lines = whole_lines("CVRP") + ["SCALE : 1", "LOAD_UNIT : 1"]
     return Case("convert", (joined(*(f"{kind} : {word}" if line.startswith(kind) else line for line in lines)),))
 
 

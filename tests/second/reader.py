@@ -26,7 +26,7 @@ WORDS = {
     "DISPLAY_DATA_TYPE": ["COORD_DISPLAY", "TWOD_DISPLAY", "NO_DISPLAY"],
 }
 LEFT_OUT = {"TYPE": ["SOP", "HCP"], "EDGE_WEIGHT_TYPE": ["GEO", "XRAY1", "XRAY2", "SPECIAL"]}
-NUMBERS = {"DIMENSION": (1, 100_000), "CAPACITY": (1, 10**12), "SCALE": (1, 1_000_000)}
+NUMBERS = {"DIMENSION": (1, 100_000), "CAPACITY": (1, 10**12), "SCALE": (1, 1_000_000), "LOAD_UNIT": (1, 10**12)}
 TEXTS = ["NAME", "COMMENT"]
 OUTSIDE = ["EDGE_DATA_FORMAT", "EDGE_DATA_SECTION"]
 # In the order of the table, which is that of incomplete sections.

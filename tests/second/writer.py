@@ -5,7 +5,8 @@ from math import isqrt
 
 from reader import FINE, INSTANCES, LAYOUTS, SECTIONS, File, cells, lines_of
 
-KEYWORDS = ["DIMENSION", "CAPACITY", "SCALE", "EDGE_WEIGHT_TYPE", "EDGE_WEIGHT_FORMAT", "NODE_COORD_TYPE", "DISPLAY_DATA_TYPE"]
+KEYWORDS = ["DIMENSION", "CAPACITY", "SCALE", "LOAD_UNIT", "EDGE_WEIGHT_TYPE", "EDGE_WEIGHT_FORMAT", "NODE_COORD_TYPE",
+            "DISPLAY_DATA_TYPE"]
 
 
 class Refused(Exception):
@@ -179,6 +180,8 @@ def shown(file: File) -> bytes:
     if file.type in ("POTENTIALS", "BRANCHES"):
         lines.append(f"scale {values.get('SCALE', 1)}")
     if file.type == "BRANCHES":
+        if "LOAD_UNIT" in values:
+            lines.append(f"load unit {values['LOAD_UNIT']}")
         if "COMB_SECTION" in sections:
             lines.append(f"combs {len(sections['COMB_SECTION'].families)}")
         lines.append(f"leaves {sum(kind == 'leaf' for kind, _ in sections['BRANCH_SECTION'].steps)}")

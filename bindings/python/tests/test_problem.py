@@ -12,7 +12,7 @@ from support import EXAMPLES, GALLERY, RECTANGLE
 
 EVERY_KEYWORD = (
     "NAME: all\nTYPE : CVRP\nCOMMENT : one\nCOMMENT : two\nFOO : 1\nBAR :\nDIMENSION : 3\nCAPACITY : 9\n"
-    "SCALE : 2\nEDGE_WEIGHT_TYPE : EUC_2D\nNODE_COORD_TYPE : TWOD_COORDS\nDISPLAY_DATA_TYPE : TWOD_DISPLAY\n"
+    "SCALE : 2\nLOAD_UNIT : 4\nEDGE_WEIGHT_TYPE : EUC_2D\nNODE_COORD_TYPE : TWOD_COORDS\nDISPLAY_DATA_TYPE : TWOD_DISPLAY\n"
     "NODE_COORD_SECTION\n1 1.50e+01 -.5\n2 0.000000001 5.\n3 -1000000000 7\n"
     "DISPLAY_DATA_SECTION\n3 1 2\n2 3 4\n1 5 6\nDEMAND_SECTION\n1 0 2 4 3 5\nDEPOT_SECTION\n1 -1\n"
     "FIXED_EDGES_SECTION\n1 2 3 1 -1\nTOUR_SECTION\n1 2 -1 3\n"
@@ -33,7 +33,8 @@ class Fields(unittest.TestCase):
         self.assertEqual(problem.type, "CVRP")
         self.assertEqual(problem.comment, "one\ntwo")
         self.assertEqual(problem.others, [("FOO", "1"), ("BAR", "")])
-        self.assertEqual((problem.dimension, problem.capacity, problem.scale), (3, 9, 2))
+        numbers = (problem.dimension, problem.capacity, problem.scale, problem.load_unit)
+        self.assertEqual(numbers, (3, 9, 2, 4))
         self.assertEqual(problem.edge_weight_type, "EUC_2D")
         self.assertIsNone(problem.edge_weight_format)
         self.assertEqual(problem.node_coord_type, "TWOD_COORDS")

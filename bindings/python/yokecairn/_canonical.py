@@ -23,6 +23,7 @@ KEYWORDS = {
     "dimension": "DIMENSION",
     "capacity": "CAPACITY",
     "scale": "SCALE",
+    "load_unit": "LOAD_UNIT",
     "edge_weight_type": "EDGE_WEIGHT_TYPE",
     "edge_weight_format": "EDGE_WEIGHT_FORMAT",
     "node_coord_type": "NODE_COORD_TYPE",
@@ -43,7 +44,7 @@ SECTIONS = {
     "combs": "COMB_SECTION",
     "branches": "BRANCH_SECTION",
 }
-WHOLE = ("dimension", "capacity", "scale")
+WHOLE = ("dimension", "capacity", "scale", "load_unit")
 
 _NAMES = {keyword: name for name, keyword in KEYWORDS.items()}
 _LETTER = re.compile(rb"\n(?=[A-Za-z])")

@@ -50,7 +50,7 @@ class Problem:
 
     Attributes:
         name, type, comment: texts. Several lines COMMENT are joined by line ends.
-        dimension, capacity, scale: whole numbers.
+        dimension, capacity, scale, load_unit: whole numbers.
         edge_weight_type, edge_weight_format, node_coord_type, display_data_type: words.
         node_coords, display_data: for each node the list of its coordinates, as `Decimal`, or as float
             where the file was loaded with `floats=True`.
@@ -75,6 +75,7 @@ class Problem:
     dimension: Optional[int]
     capacity: Optional[int]
     scale: Optional[int]
+    load_unit: Optional[int]
     edge_weight_type: Optional[str]
     edge_weight_format: Optional[str]
     node_coord_type: Optional[str]

@@ -178,7 +178,7 @@ abbrev pub told_number : LineFault → ℕ
 told_number (line_faults.Number found) = number_fault_number found
 told_number found = 0
 
--- its place in canonical order
+-- its place in canonical order, but of LOAD_UNIT, which came later and has the next number
 abbrev pub field_number : Field → ℕ
 field_number fields.NameKey = 1
 field_number fields.TypeKey = 2
@@ -204,6 +204,7 @@ field_number fields.ColumnPotentialPart = 21
 field_number fields.FixedEdgePotentialPart = 22
 field_number fields.CombPart = 23
 field_number fields.BranchPart = 24
+field_number fields.LoadUnitKey = 25
 
 -- of a text at whose end a field is missing, or has too few places
 abbrev pub told_field : ReadFault → ℕ

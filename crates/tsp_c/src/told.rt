@@ -414,7 +414,7 @@ fn told_field(fault: ReadFault) -> u32
     }
 }
 
-/// The number of a field: its place in canonical order.
+/// The number of a field, which no later version changes.
 fn field_number(field: Field) -> u32
     ensures { result ≡ field_number field }
 {
@@ -443,5 +443,6 @@ fn field_number(field: Field) -> u32
         Field::FixedEdgePotentialPart => 22,
         Field::CombPart => 23,
         Field::BranchPart => 24,
+        Field::LoadUnitKey => 25,
     }
 }

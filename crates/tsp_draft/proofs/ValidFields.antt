@@ -21,7 +21,7 @@ use Rattle.tsp_format.specs.declared.kinds.WeightFormat.{WeightFormat}
 use Rattle.tsp_format.specs.declared.kinds.WeightFormat.TheVariants.{ByFunction, Listed}
 use Rattle.tsp_format.specs.Nodes.{IsNode}
 use Rattle.tsp_format.specs.Cells.{cells}
-use Rattle.tsp_format.specs.Limits.{most_nodes, most_matrix_nodes, most_coordinate, most_weight, most_demand, most_capacity, most_scale, most_potential, most_depots, most_fixed, most_triples, most_multiplier, most_tour_nodes, most_combs, most_comb_nodes, most_branches, most_changes, most_difference}
+use Rattle.tsp_format.specs.Limits.{most_nodes, most_matrix_nodes, most_coordinate, most_weight, most_demand, most_capacity, most_scale, most_load_unit, most_potential, most_depots, most_fixed, most_triples, most_multiplier, most_tour_nodes, most_combs, most_comb_nodes, most_branches, most_changes, most_difference}
 use Rattle.tsp_format.specs.Words.{field_word}
 use Rattle.tsp_format.specs.Words.{fields_in_order, field_found}
 use Rattle.tsp_format.specs.declared.field.Shape.TheVariants.{Points, SpacePoints}
@@ -321,6 +321,7 @@ in_range f valid = record {
   dimension = λ n stands. node most_nodes n (given (is_node most_nodes) f.dimension n (each_fits f valid fields.DimensionKey) stands);
   capacity = λ z stands. from_to (pos 1) (pos most_capacity) z (given (is_from_to (pos 1) (pos most_capacity)) f.capacity z (each_fits f valid fields.CapacityKey) stands);
   scale = λ z stands. from_to (pos 1) (pos most_scale) z (given (is_from_to (pos 1) (pos most_scale)) f.scale z (each_fits f valid fields.ScaleKey) stands);
+  load_unit = λ z stands. from_to (pos 1) (pos most_load_unit) z (given (is_from_to (pos 1) (pos most_load_unit)) f.load_unit z (each_fits f valid fields.LoadUnitKey) stands);
   coords = λ points. by_node f (is_point (spatial f)) (IsPoint (spatial f)) (point (spatial f)) f.coords points
       (sym (nodes_fit f (spatial f)) ∙ each_fits f valid fields.NodeCoordPart);
   display = λ points. by_node f (is_point false) (IsPoint false) (point false) f.display points (each_fits f valid fields.DisplayDataPart);

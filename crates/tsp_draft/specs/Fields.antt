@@ -3,7 +3,7 @@ use Rattle.std.specs.Prelude.{ℕ, Bool, true, List, [], Option, None, Some, unw
 use Rattle.std.specs.Option.{option_map}
 use Rattle.tsp_distance.specs.declared.decimal.Point.{Point}
 use Rattle.tsp_format.specs.declared.field.Field.{Field}
-use Rattle.tsp_format.specs.declared.field.Field.TheVariants.{NameKey, TypeKey, CommentKey, OtherKey, DimensionKey, CapacityKey, ScaleKey, EdgeWeightTypeKey, EdgeWeightFormatKey, NodeCoordTypeKey, DisplayDataTypeKey, NodeCoordPart, DisplayDataPart, DemandPart, DepotPart, FixedEdgesPart, EdgeWeightPart, TourPart, NodePotentialPart, RowPotentialPart, ColumnPotentialPart, FixedEdgePotentialPart, CombPart, BranchPart}
+use Rattle.tsp_format.specs.declared.field.Field.TheVariants.{NameKey, TypeKey, CommentKey, OtherKey, DimensionKey, CapacityKey, ScaleKey, LoadUnitKey, EdgeWeightTypeKey, EdgeWeightFormatKey, NodeCoordTypeKey, DisplayDataTypeKey, NodeCoordPart, DisplayDataPart, DemandPart, DepotPart, FixedEdgesPart, EdgeWeightPart, TourPart, NodePotentialPart, RowPotentialPart, ColumnPotentialPart, FixedEdgePotentialPart, CombPart, BranchPart}
 use Rattle.tsp_format.specs.declared.kinds.Kind.{Kind}
 use Rattle.tsp_format.specs.Space.{is_spatial}
 use Rattle.tsp_format.specs.declared.kinds.WeightKind.{WeightKind}
@@ -21,6 +21,7 @@ pub record Fields : Type 0 where
   pub dimension : Option ℕ
   pub capacity : Option ℤ
   pub scale : Option ℤ
+  pub load_unit : Option ℤ
   pub weight_kind : Option WeightKind
   pub weight_format : Option WeightFormat
   pub coord_kind : Option CoordKind
@@ -49,6 +50,7 @@ blank_fields = record {
   dimension = None;
   capacity = None;
   scale = None;
+  load_unit = None;
   weight_kind = None;
   weight_format = None;
   coord_kind = None;
@@ -85,6 +87,7 @@ stands_in f OtherKey = true
 stands_in f DimensionKey = is_some f.dimension
 stands_in f CapacityKey = is_some f.capacity
 stands_in f ScaleKey = is_some f.scale
+stands_in f LoadUnitKey = is_some f.load_unit
 stands_in f EdgeWeightTypeKey = is_some f.weight_kind
 stands_in f EdgeWeightFormatKey = is_some f.weight_format
 stands_in f NodeCoordTypeKey = is_some f.coord_kind
@@ -109,12 +112,14 @@ abbrev pub one_number_in : Fields → Field → Option ℤ
 one_number_in f DimensionKey = option_map pos f.dimension
 one_number_in f CapacityKey = f.capacity
 one_number_in f ScaleKey = f.scale
+one_number_in f LoadUnitKey = f.load_unit
 one_number_in f field = None
 
 abbrev pub with_one_number : Field → ℤ → Fields → Fields
 with_one_number DimensionKey number f = record f { dimension = Some (nat_abs number) }
 with_one_number CapacityKey number f = record f { capacity = Some number }
 with_one_number ScaleKey number f = record f { scale = Some number }
+with_one_number LoadUnitKey number f = record f { load_unit = Some number }
 with_one_number field number f = f
 
 -- ---- sections by node, by their field

@@ -7,7 +7,7 @@ use Rattle.tsp_format.specs.declared.kinds.WeightFormat.TheVariants.{Listed}
 pub use Rattle.tsp_format.specs.Ranges.{IsFromTo}
 use Rattle.tsp_format.specs.Nodes.{IsNode}
 use Rattle.tsp_format.specs.Cells.{cells}
-use Rattle.tsp_format.specs.Limits.{most_nodes, most_matrix_nodes, most_coordinate, most_weight, most_demand, most_capacity, most_scale, most_potential, most_depots, most_fixed, most_triples, most_multiplier, most_tour_nodes, most_combs, most_comb_nodes, most_branches, most_changes, most_difference}
+use Rattle.tsp_format.specs.Limits.{most_nodes, most_matrix_nodes, most_coordinate, most_weight, most_demand, most_capacity, most_scale, most_load_unit, most_potential, most_depots, most_fixed, most_triples, most_multiplier, most_tour_nodes, most_combs, most_comb_nodes, most_branches, most_changes, most_difference}
 use Rattle.tsp_format.specs.Steps.{Step, Branch, Leaf, are_whole, branch_count, change_count}
 use Rattle.tsp_draft.specs.Fields.{Fields, spatial}
 use Rattle.tsp_draft.specs.Rules.{is_explicit}
@@ -113,6 +113,7 @@ pub record IsInRange (f : Fields) : Type 0 where
   pub dimension : (n : ℕ) → f.dimension ≡ Some n → IsNode most_nodes n
   pub capacity : (capacity : ℤ) → f.capacity ≡ Some capacity → IsFromTo (pos 1) (pos most_capacity) capacity
   pub scale : (scale : ℤ) → f.scale ≡ Some scale → IsFromTo (pos 1) (pos most_scale) scale
+  pub load_unit : (unit : ℤ) → f.load_unit ≡ Some unit → IsFromTo (pos 1) (pos most_load_unit) unit
   pub coords : (points : List Point) → f.coords ≡ Some points → IsByNode (IsPoint (spatial f)) f points
   pub display : (points : List Point) → f.display ≡ Some points → IsByNode (IsPoint false) f points
   pub demands : (demands : List ℤ) → f.demands ≡ Some demands → IsByNode IsDemand f demands

@@ -23,6 +23,8 @@ pub struct Draft {
     pub capacity: Option<i64>,
     /// SCALE of the potentials.
     pub scale: Option<i64>,
+    /// LOAD_UNIT of a certificate for routes.
+    pub load_unit: Option<i64>,
     /// EDGE_WEIGHT_TYPE.
     pub weight_kind: Option<WeightKind>,
     /// EDGE_WEIGHT_FORMAT.
@@ -71,6 +73,7 @@ impl Drop for Draft {
             dimension: _,
             capacity: _,
             scale: _,
+            load_unit: _,
             weight_kind: _,
             weight_format: _,
             coord_kind: _,
@@ -111,6 +114,7 @@ impl Draft {
             dimension: None,
             capacity: None,
             scale: None,
+            load_unit: None,
             weight_kind: None,
             weight_format: None,
             coord_kind: None,
@@ -150,6 +154,7 @@ impl Draft {
             Field::DimensionKey => self.dimension.is_some(),
             Field::CapacityKey => self.capacity.is_some(),
             Field::ScaleKey => self.scale.is_some(),
+            Field::LoadUnitKey => self.load_unit.is_some(),
             Field::EdgeWeightTypeKey => self.weight_kind.is_some(),
             Field::EdgeWeightFormatKey => self.weight_format.is_some(),
             Field::NodeCoordTypeKey => self.coord_kind.is_some(),
@@ -178,6 +183,7 @@ impl Draft {
             Field::DimensionKey => self.dimension.map(i64::from),
             Field::CapacityKey => self.capacity,
             Field::ScaleKey => self.scale,
+            Field::LoadUnitKey => self.load_unit,
             _ => None,
         }
     }
@@ -192,6 +198,7 @@ impl Draft {
             Field::DimensionKey => self.dimension = Some(number as u32),
             Field::CapacityKey => self.capacity = Some(number),
             Field::ScaleKey => self.scale = Some(number),
+            Field::LoadUnitKey => self.load_unit = Some(number),
             _ => {}
         }
     }

@@ -12,6 +12,7 @@ pub(crate) fn wanted(field: Field) -> &'static str {
         Field::DimensionKey => DIMENSION,
         Field::CapacityKey => CAPACITY,
         Field::ScaleKey => SCALE,
+        Field::LoadUnitKey => LOAD_UNIT,
         Field::EdgeWeightTypeKey => EDGE_WEIGHT_TYPE,
         Field::EdgeWeightFormatKey => EDGE_WEIGHT_FORMAT,
         Field::NodeCoordTypeKey => NODE_COORD_TYPE,
@@ -48,6 +49,8 @@ const DIMENSION: &str = "DIMENSION is the number of nodes: a whole number from 1
 const CAPACITY: &str = "CAPACITY is a whole number from 1 to 1,000,000,000,000.";
 
 const SCALE: &str = "SCALE is a whole number from 1 to 1,000,000.";
+
+const LOAD_UNIT: &str = "LOAD_UNIT is a whole number from 1 to 1,000,000,000,000.";
 
 const EDGE_WEIGHT_TYPE: &str =
     "EDGE_WEIGHT_TYPE is EXPLICIT, EUC_2D, CEIL_2D, MAN_2D, MAX_2D, ATT, EUC_3D, MAN_3D or MAX_3D.\n\
@@ -146,6 +149,7 @@ pub(crate) fn asked(field: Field) -> &'static str {
         | Field::CommentKey
         | Field::OtherKey
         | Field::ScaleKey
+        | Field::LoadUnitKey
         | Field::NodeCoordTypeKey
         | Field::DisplayDataTypeKey
         | Field::DisplayDataPart

@@ -17,8 +17,8 @@ use Rattle.tsp_format.specs.declared.field.Field.{Field}
 use Rattle.tsp_format.specs.declared.field.Shape.{Shape}
 use Rattle.tsp_format.specs.declared.field.Shape.TheVariants.{Numbers, Points, SpacePoints, Depots, Pairs, Weights, Tours, Triples, Combs, Steps}
 use Rattle.tsp_format.specs.Shapes.{shape_of}
-use Rattle.tsp_format.specs.declared.field.Field.TheVariants.{NameKey, TypeKey, CommentKey, OtherKey, DimensionKey, CapacityKey, ScaleKey, EdgeWeightTypeKey, EdgeWeightFormatKey, NodeCoordTypeKey, DisplayDataTypeKey, NodeCoordPart, DisplayDataPart, DemandPart, DepotPart, FixedEdgesPart, EdgeWeightPart, TourPart, NodePotentialPart, RowPotentialPart, ColumnPotentialPart, FixedEdgePotentialPart, CombPart, BranchPart}
-use Rattle.tsp_format.specs.Limits.{most_nodes, most_matrix_nodes, most_coordinate, most_weight, most_demand, most_capacity, most_scale, most_potential, most_comments, most_others, most_depots, most_fixed, most_triples, most_multiplier, most_tour_nodes}
+use Rattle.tsp_format.specs.declared.field.Field.TheVariants.{NameKey, TypeKey, CommentKey, OtherKey, DimensionKey, CapacityKey, ScaleKey, LoadUnitKey, EdgeWeightTypeKey, EdgeWeightFormatKey, NodeCoordTypeKey, DisplayDataTypeKey, NodeCoordPart, DisplayDataPart, DemandPart, DepotPart, FixedEdgesPart, EdgeWeightPart, TourPart, NodePotentialPart, RowPotentialPart, ColumnPotentialPart, FixedEdgePotentialPart, CombPart, BranchPart}
+use Rattle.tsp_format.specs.Limits.{most_nodes, most_matrix_nodes, most_coordinate, most_weight, most_demand, most_capacity, most_scale, most_load_unit, most_potential, most_comments, most_others, most_depots, most_fixed, most_triples, most_multiplier, most_tour_nodes}
 use Rattle.tsp_format.specs.Words.{field_word, kind_word, weight_kind_word, weight_format_word, coord_kind_word, display_kind_word, fields_in_order}
 use Rattle.tsp_draft.specs.Fields.{Fields, spatial, numbers_in, points_in}
 use Rattle.tsp_draft.specs.Validity.{if_there, with_dimension, is_kept, is_other, is_node, is_pair_of, is_triple_of, is_from_to, is_within, is_point, is_by_node, are_comments, are_others, are_depots, are_fixed, are_triples, fit_matrix, is_node_list, are_tours, are_combs, are_tree_steps, section_fits, fits}
@@ -280,6 +280,7 @@ field_short f fit DimensionKey =
     (fit DimensionKey)
 field_short f fit CapacityKey = whole_line_short CapacityKey most_capacity (omega arith) f.capacity (fit CapacityKey)
 field_short f fit ScaleKey = whole_line_short ScaleKey most_scale (omega arith) f.scale (fit ScaleKey)
+field_short f fit LoadUnitKey = whole_line_short LoadUnitKey most_load_unit (omega arith) f.load_unit (fit LoadUnitKey)
 field_short f fit EdgeWeightTypeKey = word_line_short EdgeWeightTypeKey weight_kind_word weight_kind_short f.weight_kind
 field_short f fit EdgeWeightFormatKey = word_line_short EdgeWeightFormatKey weight_format_word weight_format_short f.weight_format
 field_short f fit NodeCoordTypeKey = word_line_short NodeCoordTypeKey coord_kind_word coord_kind_short f.coord_kind
@@ -350,6 +351,7 @@ field_short_without_trees f fit combs branches OtherKey = field_short f fit Othe
 field_short_without_trees f fit combs branches DimensionKey = field_short f fit DimensionKey
 field_short_without_trees f fit combs branches CapacityKey = field_short f fit CapacityKey
 field_short_without_trees f fit combs branches ScaleKey = field_short f fit ScaleKey
+field_short_without_trees f fit combs branches LoadUnitKey = field_short f fit LoadUnitKey
 field_short_without_trees f fit combs branches EdgeWeightTypeKey = field_short f fit EdgeWeightTypeKey
 field_short_without_trees f fit combs branches EdgeWeightFormatKey = field_short f fit EdgeWeightFormatKey
 field_short_without_trees f fit combs branches NodeCoordTypeKey = field_short f fit NodeCoordTypeKey

@@ -7,7 +7,7 @@ use Rattle.std.proofs.lemmas.Bool.{false≢true, le-leb, eq-eqb}
 use Rattle.std.proofs.lemmas.Int.{ints}
 use Rattle.std.proofs.lemmas.List.Sums.{list_all-from_AllPass}
 use Rattle.tsp_format.specs.declared.field.Field.{Field}
-use Rattle.tsp_format.specs.declared.field.Field.TheVariants.{NameKey, TypeKey, CommentKey, OtherKey, DimensionKey, CapacityKey, ScaleKey, EdgeWeightTypeKey, EdgeWeightFormatKey, NodeCoordTypeKey, DisplayDataTypeKey, NodeCoordPart, DisplayDataPart, DemandPart, DepotPart, FixedEdgesPart, EdgeWeightPart, TourPart, NodePotentialPart, RowPotentialPart, ColumnPotentialPart, FixedEdgePotentialPart, CombPart, BranchPart}
+use Rattle.tsp_format.specs.declared.field.Field.TheVariants.{NameKey, TypeKey, CommentKey, OtherKey, DimensionKey, CapacityKey, ScaleKey, LoadUnitKey, EdgeWeightTypeKey, EdgeWeightFormatKey, NodeCoordTypeKey, DisplayDataTypeKey, NodeCoordPart, DisplayDataPart, DemandPart, DepotPart, FixedEdgesPart, EdgeWeightPart, TourPart, NodePotentialPart, RowPotentialPart, ColumnPotentialPart, FixedEdgePotentialPart, CombPart, BranchPart}
 use Rattle.tsp_format.specs.declared.layout.Layout.{Layout}
 use Rattle.tsp_format.specs.declared.layout.Layout.TheVariants.{FullMatrix, UpperRow, LowerRow, UpperDiagRow, LowerDiagRow, UpperCol, LowerCol, UpperDiagCol, LowerDiagCol}
 use Rattle.tsp_format.specs.declared.kinds.WeightFormat.{WeightFormat}
@@ -90,6 +90,7 @@ each_fits_with f to weights valid fit OtherKey = each_fits f valid OtherKey
 each_fits_with f to weights valid fit DimensionKey = each_fits f valid DimensionKey
 each_fits_with f to weights valid fit CapacityKey = each_fits f valid CapacityKey
 each_fits_with f to weights valid fit ScaleKey = each_fits f valid ScaleKey
+each_fits_with f to weights valid fit LoadUnitKey = each_fits f valid LoadUnitKey
 each_fits_with f to weights valid fit EdgeWeightTypeKey = each_fits f valid EdgeWeightTypeKey
 each_fits_with f to weights valid fit EdgeWeightFormatKey = each_fits f valid EdgeWeightFormatKey
 each_fits_with f to weights valid fit NodeCoordTypeKey = each_fits f valid NodeCoordTypeKey

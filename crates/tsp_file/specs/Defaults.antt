@@ -9,6 +9,10 @@ meant_scale scale = unwrap_or scale (pos 1)
 abbrev pub scale_in : Fields → ℤ
 scale_in f = meant_scale f.scale
 
+-- LOAD_UNIT: 1 is meant where it is missing
+abbrev pub load_unit_in : Fields → ℤ
+load_unit_in f = unwrap_or f.load_unit (pos 1)
+
 -- the fixed pairs; there are none where no section lists them
 abbrev pub fixed_of : Fields → List (ℕ × ℕ)
 fixed_of f = unwrap_or f.fixed []

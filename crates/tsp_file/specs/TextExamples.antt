@@ -21,6 +21,7 @@ small = record blank_fields {
   dimension = Some 2;
   capacity = Some (pos 8);
   scale = Some (pos 3);
+  load_unit = Some (pos 5);
   weight_kind = Some weight_kinds.Explicit;
   weight_format = Some (Listed LowerDiagRow);
   coord_kind = Some coord_kinds.TwoD;
@@ -43,7 +44,8 @@ small = record blank_fields {
 -- its whole text
 abbrev pub small_text : List ℕ
 small_text = codes "NAME : x y\n" ++ codes "TYPE : TSP\n" ++ codes "COMMENT : a\nCOMMENT :\n" ++ codes "FOO : BAR\n"
-    ++ codes "DIMENSION : 2\n" ++ codes "CAPACITY : 8\n" ++ codes "SCALE : 3\n" ++ codes "EDGE_WEIGHT_TYPE : EXPLICIT\n"
+    ++ codes "DIMENSION : 2\n" ++ codes "CAPACITY : 8\n" ++ codes "SCALE : 3\n" ++ codes "LOAD_UNIT : 5\n"
+    ++ codes "EDGE_WEIGHT_TYPE : EXPLICIT\n"
     ++ codes "EDGE_WEIGHT_FORMAT : LOWER_DIAG_ROW\n" ++ codes "NODE_COORD_TYPE : TWOD_COORDS\n"
     ++ codes "DISPLAY_DATA_TYPE : TWOD_DISPLAY\n" ++ codes "NODE_COORD_SECTION\n1 1.5 0\n2 -0.000000001 4\n"
     ++ codes "DISPLAY_DATA_SECTION\n1 0 0\n2 0 1\n" ++ codes "DEMAND_SECTION\n1 0\n2 5\n" ++ codes "DEPOT_SECTION\n1\n-1\n"

@@ -2,12 +2,12 @@
 use Rattle.std.specs.Prelude.{◌≡◌, ℕ, ◌≤◌, List, length, Some, IsSome, IsTrue, ℤ, pos}
 use Rattle.std.specs.List.{All, sum_by}
 use Rattle.tsp_format.specs.declared.kinds.Kind.TheVariants as kinds
-use Rattle.tsp_format.specs.Limits.{most_capacity, most_scale, most_potential, most_triples, most_combs, most_comb_nodes}
+use Rattle.tsp_format.specs.Limits.{most_capacity, most_scale, most_load_unit, most_potential, most_triples, most_combs, most_comb_nodes}
 use Rattle.tsp_format.specs.Steps.{Step}
 use Rattle.tsp_draft.specs.Fields.{Fields, nodes_of}
 use Rattle.tsp_draft.specs.Rules.{is_instance}
 use Rattle.tsp_draft.specs.Valid.{IsInRange, HasInstance, HasRouting, HasPotentials, HasBranches, IsFromTo, IsWithin, IsByNode, IsDemand, IsTripleOf, AreDepots, AreSets, AreTreeSteps}
-use Rattle.tsp_file.specs.Defaults.{scale_in, multipliers_in, families_listed}
+use Rattle.tsp_file.specs.Defaults.{scale_in, load_unit_in, multipliers_in, families_listed}
 
 -- what every valid file holds: the fields that its TYPE asks for, and each in its range
 pub record HoldsItsType (f : Fields) : Type 0 where
@@ -61,11 +61,13 @@ pub record AreSomeSets (n : ℕ) (combs : List (List (List ℕ))) : Type 0 where
   pub few_nodes : sum_by (sum_by length) combs ≤ most_comb_nodes
 
 -- a tree of cases, with combs, which are none where no section lists them
-pub record HoldsCases (f : Fields) (scale : ℤ) (combs : List (List (List ℕ))) (steps : List Step) : Type 0 where
+pub record HoldsCases (f : Fields) (scale load_unit : ℤ) (combs : List (List (List ℕ))) (steps : List Step) : Type 0 where
   pub kind : f.kind ≡ Some kinds.Branches
   pub scale_is : scale ≡ scale_in f
+  pub load_unit_is : load_unit ≡ load_unit_in f
   pub combs_are : combs ≡ families_listed f
   pub steps_are : f.branches ≡ Some steps
   pub scaled : IsFromTo (pos 1) (pos most_scale) scale
+  pub united : IsFromTo (pos 1) (pos most_load_unit) load_unit
   pub each_comb : AreSomeSets (nodes_of f) combs
   pub each_step : AreTreeSteps f steps

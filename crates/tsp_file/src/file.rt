@@ -193,6 +193,14 @@ impl File {
         self.draft.scale
     }
 
+    /// LOAD_UNIT of a certificate for routes, 1 to 1,000,000,000,000; where it is missing 1 is
+    /// meant.
+    pub fn load_unit(&self) -> Option<i64>
+        ensures { result ≡ self.now.load_unit }
+    {
+        self.draft.load_unit
+    }
+
     /// EDGE_WEIGHT_TYPE.
     pub fn weight_kind(&self) -> Option<WeightKind>
         ensures { result ≡ self.now.weight_kind }

@@ -18,6 +18,7 @@ pub fn examples_of_lines()
     ensures dimension { IsSmallText fields.DimensionKey (codes "DIMENSION : 2\n") }
     ensures capacity { IsSmallText fields.CapacityKey (codes "CAPACITY : 8\n") }
     ensures scale { IsSmallText fields.ScaleKey (codes "SCALE : 3\n") }
+    ensures load_unit { IsSmallText fields.LoadUnitKey (codes "LOAD_UNIT : 5\n") }
     ensures weight_type { IsSmallText fields.EdgeWeightTypeKey
         (codes "EDGE_WEIGHT_TYPE : EXPLICIT\n") }
     ensures weight_format { IsSmallText fields.EdgeWeightFormatKey

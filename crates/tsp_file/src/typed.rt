@@ -42,6 +42,8 @@ pub struct DualData<'a> {
 pub struct TreeData<'a> {
     /// SCALE, which is 1 where it is missing.
     pub scale: i64,
+    /// LOAD_UNIT, which is 1 where it is missing.
+    pub load_unit: i64,
     /// COMB_SECTION: combs, each as its sets of nodes; none where it is missing.
     pub combs: &'a [Vec<Vec<u32>>],
     /// BRANCH_SECTION: the steps of one tree of cases.
@@ -52,7 +54,7 @@ impl File {
     ghost use Rattle.std.specs.Prelude.{◌≡◌, ◌≢◌, [], Some, IsSome, unwrap_or, pos, map, MatchOption};
     ghost use Rattle.tsp_format.specs.declared.kinds.Kind.TheVariants as kinds;
     ghost use Rattle.tsp_format.specs.declared.kinds.WeightKind.TheVariants.{Explicit};
-    ghost use Rattle.tsp_format.specs.Limits.{most_scale};
+    ghost use Rattle.tsp_format.specs.Limits.{most_scale, most_load_unit};
     ghost use Rattle.tsp_format.specs.states.TreeSteps.{steps_of};
     ghost use Rattle.tsp_draft.specs.states.Drafts.{combs_of};
     ghost use Rattle.tsp_draft.specs.Valid.{IsFromTo, AreTours};
@@ -147,13 +149,14 @@ impl File {
     /// What a file of TYPE BRANCHES holds; none of every other file.
     pub fn as_tree(&self) -> Option<TreeData<'_>>
         ensures { MatchOption result (self.now.kind ≢ Some kinds.Branches) (λ held. HoldsCases
-            self.now held.scale (combs_of held.combs.now) (steps_of held.steps.now)) }
+            self.now held.scale held.load_unit (combs_of held.combs.now) (steps_of held.steps.now)) }
     {
         let Some(Kind::Branches) = self.fields().kind else {
             return None;
         };
         Some(TreeData {
             scale: self.scale_or_one(),
+            load_unit: self.load_unit_or_one(),
             combs: self.combs_or_none(),
             steps: self.branches()?,
         })
@@ -165,6 +168,14 @@ impl File {
         ensures range { IsFromTo (pos 1) (pos most_scale) result }
     {
         self.fields().scale.unwrap_or(1)
+    }
+
+    /// LOAD_UNIT, which is 1 where it is missing.
+    fn load_unit_or_one(&self) -> i64
+        ensures value { result ≡ unwrap_or self.now.load_unit (pos 1) }
+        ensures range { IsFromTo (pos 1) (pos most_load_unit) result }
+    {
+        self.fields().load_unit.unwrap_or(1)
     }
 
     /// The multipliers of fixed edges, none where no section lists them.

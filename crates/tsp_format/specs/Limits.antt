@@ -25,6 +25,9 @@ most_capacity = 1000000000000
 abbrev pub most_scale : ℕ
 most_scale = 1000000
 
+abbrev pub most_load_unit : ℕ
+most_load_unit = 1000000000000
+
 -- a potential's size
 abbrev pub most_potential : ℕ
 most_potential = 1000000000000000

@@ -2,10 +2,10 @@
 -- for the sections and keywords; the ranges are this project's profile.
 use Rattle.std.specs.Prelude.{Bool, false, cond, Option, None, Some, is_some, ℤ, pos, neg_ℤ, ◌≤ℤ◌}
 use Rattle.tsp_format.specs.declared.field.Field.{Field}
-use Rattle.tsp_format.specs.declared.field.Field.TheVariants.{NameKey, TypeKey, CommentKey, DimensionKey, CapacityKey, ScaleKey}
+use Rattle.tsp_format.specs.declared.field.Field.TheVariants.{NameKey, TypeKey, CommentKey, DimensionKey, CapacityKey, ScaleKey, LoadUnitKey}
 use Rattle.tsp_format.specs.declared.field.Field.TheVariants.{EdgeWeightTypeKey, EdgeWeightFormatKey, NodeCoordTypeKey, DisplayDataTypeKey}
 use Rattle.tsp_format.specs.declared.field.Field.TheVariants.{NodeCoordPart, DisplayDataPart, DemandPart, DepotPart, FixedEdgesPart, EdgeWeightPart, TourPart, NodePotentialPart, RowPotentialPart, ColumnPotentialPart, FixedEdgePotentialPart, CombPart, BranchPart}
-use Rattle.tsp_format.specs.Limits.{most_nodes, most_capacity, most_scale, most_demand, most_potential}
+use Rattle.tsp_format.specs.Limits.{most_nodes, most_capacity, most_scale, most_load_unit, most_demand, most_potential}
 use Rattle.tsp_format.specs.declared.field.Shape.{Shape}
 use Rattle.tsp_format.specs.declared.field.Shape.TheVariants.{Numbers, Points, SpacePoints, Depots, Pairs, Weights, Tours, Triples, Combs, Steps}
 use Rattle.tsp_format.specs.declared.field.ValueShape.{ValueShape}
@@ -39,6 +39,7 @@ value_shape_of CommentKey = Some KeptEach
 value_shape_of DimensionKey = Some (Number (pos 1) (pos most_nodes))
 value_shape_of CapacityKey = Some (Number (pos 1) (pos most_capacity))
 value_shape_of ScaleKey = Some (Number (pos 1) (pos most_scale))
+value_shape_of LoadUnitKey = Some (Number (pos 1) (pos most_load_unit))
 value_shape_of EdgeWeightTypeKey = Some Word
 value_shape_of EdgeWeightFormatKey = Some Word
 value_shape_of NodeCoordTypeKey = Some Word

@@ -61,6 +61,7 @@ field_word field.OtherKey = codes "others"
 field_word field.DimensionKey = codes "DIMENSION"
 field_word field.CapacityKey = codes "CAPACITY"
 field_word field.ScaleKey = codes "SCALE"
+field_word field.LoadUnitKey = codes "LOAD_UNIT"
 field_word field.EdgeWeightTypeKey = codes "EDGE_WEIGHT_TYPE"
 field_word field.EdgeWeightFormatKey = codes "EDGE_WEIGHT_FORMAT"
 field_word field.NodeCoordTypeKey = codes "NODE_COORD_TYPE"
@@ -169,7 +170,8 @@ display_kind_found display_kind.NoDisplay = refl
 -- the fields in canonical order
 abbrev pub fields_in_order : List Field
 fields_in_order = field.NameKey ∷ field.TypeKey ∷ field.CommentKey ∷ field.OtherKey ∷ field.DimensionKey ∷ field.CapacityKey
-    ∷ field.ScaleKey ∷ field.EdgeWeightTypeKey ∷ field.EdgeWeightFormatKey ∷ field.NodeCoordTypeKey ∷ field.DisplayDataTypeKey
+    ∷ field.ScaleKey ∷ field.LoadUnitKey ∷ field.EdgeWeightTypeKey ∷ field.EdgeWeightFormatKey ∷ field.NodeCoordTypeKey
+    ∷ field.DisplayDataTypeKey
     ∷ field.NodeCoordPart ∷ field.DisplayDataPart ∷ field.DemandPart ∷ field.DepotPart ∷ field.FixedEdgesPart
     ∷ field.EdgeWeightPart ∷ field.TourPart ∷ field.NodePotentialPart ∷ field.RowPotentialPart ∷ field.ColumnPotentialPart
     ∷ field.FixedEdgePotentialPart ∷ field.CombPart ∷ field.BranchPart ∷ []
@@ -182,6 +184,7 @@ field_found field.OtherKey = refl
 field_found field.DimensionKey = refl
 field_found field.CapacityKey = refl
 field_found field.ScaleKey = refl
+field_found field.LoadUnitKey = refl
 field_found field.EdgeWeightTypeKey = refl
 field_found field.EdgeWeightFormatKey = refl
 field_found field.NodeCoordTypeKey = refl

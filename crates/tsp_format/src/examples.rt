@@ -31,27 +31,28 @@ pub fn examples_of_fields()
     ensures dimension { StandsAt 5 fields.DimensionKey (codes "DIMENSION") }
     ensures capacity { StandsAt 6 fields.CapacityKey (codes "CAPACITY") }
     ensures scale { StandsAt 7 fields.ScaleKey (codes "SCALE") }
-    ensures weight_type { StandsAt 8 fields.EdgeWeightTypeKey (codes "EDGE_WEIGHT_TYPE") }
-    ensures weight_format { StandsAt 9 fields.EdgeWeightFormatKey (codes "EDGE_WEIGHT_FORMAT") }
-    ensures coord_type { StandsAt 10 fields.NodeCoordTypeKey (codes "NODE_COORD_TYPE") }
-    ensures display_type { StandsAt 11 fields.DisplayDataTypeKey (codes "DISPLAY_DATA_TYPE") }
-    ensures coords { StandsAt 12 fields.NodeCoordPart (codes "NODE_COORD_SECTION") }
-    ensures display { StandsAt 13 fields.DisplayDataPart (codes "DISPLAY_DATA_SECTION") }
-    ensures demands { StandsAt 14 fields.DemandPart (codes "DEMAND_SECTION") }
-    ensures depots { StandsAt 15 fields.DepotPart (codes "DEPOT_SECTION") }
-    ensures fixed { StandsAt 16 fields.FixedEdgesPart (codes "FIXED_EDGES_SECTION") }
-    ensures weights { StandsAt 17 fields.EdgeWeightPart (codes "EDGE_WEIGHT_SECTION") }
-    ensures tours { StandsAt 18 fields.TourPart (codes "TOUR_SECTION") }
-    ensures node_potentials { StandsAt 19 fields.NodePotentialPart
+    ensures load_unit { StandsAt 8 fields.LoadUnitKey (codes "LOAD_UNIT") }
+    ensures weight_type { StandsAt 9 fields.EdgeWeightTypeKey (codes "EDGE_WEIGHT_TYPE") }
+    ensures weight_format { StandsAt 10 fields.EdgeWeightFormatKey (codes "EDGE_WEIGHT_FORMAT") }
+    ensures coord_type { StandsAt 11 fields.NodeCoordTypeKey (codes "NODE_COORD_TYPE") }
+    ensures display_type { StandsAt 12 fields.DisplayDataTypeKey (codes "DISPLAY_DATA_TYPE") }
+    ensures coords { StandsAt 13 fields.NodeCoordPart (codes "NODE_COORD_SECTION") }
+    ensures display { StandsAt 14 fields.DisplayDataPart (codes "DISPLAY_DATA_SECTION") }
+    ensures demands { StandsAt 15 fields.DemandPart (codes "DEMAND_SECTION") }
+    ensures depots { StandsAt 16 fields.DepotPart (codes "DEPOT_SECTION") }
+    ensures fixed { StandsAt 17 fields.FixedEdgesPart (codes "FIXED_EDGES_SECTION") }
+    ensures weights { StandsAt 18 fields.EdgeWeightPart (codes "EDGE_WEIGHT_SECTION") }
+    ensures tours { StandsAt 19 fields.TourPart (codes "TOUR_SECTION") }
+    ensures node_potentials { StandsAt 20 fields.NodePotentialPart
         (codes "NODE_POTENTIAL_SECTION") }
-    ensures row_potentials { StandsAt 20 fields.RowPotentialPart (codes "ROW_POTENTIAL_SECTION") }
-    ensures column_potentials { StandsAt 21 fields.ColumnPotentialPart
+    ensures row_potentials { StandsAt 21 fields.RowPotentialPart (codes "ROW_POTENTIAL_SECTION") }
+    ensures column_potentials { StandsAt 22 fields.ColumnPotentialPart
         (codes "COLUMN_POTENTIAL_SECTION") }
-    ensures fixed_potentials { StandsAt 22 fields.FixedEdgePotentialPart
+    ensures fixed_potentials { StandsAt 23 fields.FixedEdgePotentialPart
         (codes "FIXED_EDGE_POTENTIAL_SECTION") }
-    ensures combs { StandsAt 23 fields.CombPart (codes "COMB_SECTION") }
-    ensures branches { StandsAt 24 fields.BranchPart (codes "BRANCH_SECTION") }
-    ensures no_more { length fields_in_order ≡ 24 }
+    ensures combs { StandsAt 24 fields.CombPart (codes "COMB_SECTION") }
+    ensures branches { StandsAt 25 fields.BranchPart (codes "BRANCH_SECTION") }
+    ensures no_more { length fields_in_order ≡ 25 }
 {}
 
 /// What keywords are that are no field's word, and what bytes are.
@@ -143,6 +144,7 @@ pub fn examples_of_limits()
     ensures demand { limits.most_demand ≡ 10 ^ 9 }
     ensures capacity { limits.most_capacity ≡ 10 ^ 12 }
     ensures scale { limits.most_scale ≡ 10 ^ 6 }
+    ensures load_unit { limits.most_load_unit ≡ 10 ^ 12 }
     ensures potential { limits.most_potential ≡ 10 ^ 15 }
     ensures word_bytes { limits.most_word_bytes ≡ 2 ^ 6 }
     ensures line_bytes { limits.most_line_bytes ≡ 2 ^ 12 }
@@ -175,6 +177,8 @@ pub fn examples_of_limits()
         ≡ Some (values.Number (pos 1) (pos (10 ^ 12))) }
     ensures scale_from_one { value_shape_of fields.ScaleKey
         ≡ Some (values.Number (pos 1) (pos (10 ^ 6))) }
+    ensures load_unit_from_one { value_shape_of fields.LoadUnitKey
+        ≡ Some (values.Number (pos 1) (pos (10 ^ 12))) }
     ensures one_name { value_shape_of fields.NameKey ≡ Some values.Kept }
     ensures each_comment { value_shape_of fields.CommentKey ≡ Some values.KeptEach }
     ensures type_by_word { value_shape_of fields.TypeKey ≡ Some values.Word }

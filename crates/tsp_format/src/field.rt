@@ -5,7 +5,9 @@ ghost use Rattle.tsp_format.specs.Words.{field_word};
 ghost use Rattle.tsp_format.specs.Words.{fields_in_order, field_found};
 ghost use Rattle.tsp_format.specs.Shapes.{shape_of, value_shape_of};
 
-use crate::limits::{MOST_CAPACITY, MOST_DEMAND, MOST_NODES, MOST_POTENTIAL, MOST_SCALE};
+use crate::limits::{
+    MOST_CAPACITY, MOST_DEMAND, MOST_LOAD_UNIT, MOST_NODES, MOST_POTENTIAL, MOST_SCALE,
+};
 use crate::word::Word;
 use std::fmt;
 
@@ -20,6 +22,7 @@ pub enum Field {
     DimensionKey,
     CapacityKey,
     ScaleKey,
+    LoadUnitKey,
     EdgeWeightTypeKey,
     EdgeWeightFormatKey,
     NodeCoordTypeKey,
@@ -79,7 +82,7 @@ pub enum ValueShape {
 
 impl Field {
     /// Each field, in canonical order.
-    pub const ALL: [Field; 24] = [
+    pub const ALL: [Field; 25] = [
         Field::NameKey,
         Field::TypeKey,
         Field::CommentKey,
@@ -87,6 +90,7 @@ impl Field {
         Field::DimensionKey,
         Field::CapacityKey,
         Field::ScaleKey,
+        Field::LoadUnitKey,
         Field::EdgeWeightTypeKey,
         Field::EdgeWeightFormatKey,
         Field::NodeCoordTypeKey,
@@ -153,6 +157,10 @@ impl Field {
                 low: 1,
                 high: MOST_SCALE,
             }),
+            Field::LoadUnitKey => Some(ValueShape::Number {
+                low: 1,
+                high: MOST_LOAD_UNIT,
+            }),
             Field::TypeKey
             | Field::EdgeWeightTypeKey
             | Field::EdgeWeightFormatKey
@@ -183,6 +191,7 @@ impl Word for Field {
             Field::DimensionKey => "DIMENSION",
             Field::CapacityKey => "CAPACITY",
             Field::ScaleKey => "SCALE",
+            Field::LoadUnitKey => "LOAD_UNIT",
             Field::EdgeWeightTypeKey => "EDGE_WEIGHT_TYPE",
             Field::EdgeWeightFormatKey => "EDGE_WEIGHT_FORMAT",
             Field::NodeCoordTypeKey => "NODE_COORD_TYPE",

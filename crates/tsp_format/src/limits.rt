@@ -1,8 +1,8 @@
 //! The limits of this project's profile of TSPLIB 95, each in this one place.
 
 ghost use Rattle.std.specs.Prelude.{◌≡◌, pos};
-ghost use Rattle.tsp_format.specs.declared.limits.TheConstants.{MOST_NODES, MOST_MATRIX_NODES, MOST_COORDINATE, MOST_WEIGHT, MOST_DEMAND, MOST_CAPACITY, MOST_SCALE, MOST_POTENTIAL, MOST_WORD_BYTES, MOST_LINE_BYTES, MOST_KEPT_BYTES, MOST_COMMENTS, MOST_OTHERS, MOST_DEPOTS, MOST_FIXED, MOST_MULTIPLIERS, MOST_MULTIPLIER, MOST_TOUR_NODES, MOST_COMBS, MOST_COMB_NODES, MOST_BRANCHES, MOST_CHANGES, MOST_DIFFERENCE, MOST_FILE_BYTES};
-ghost use Rattle.tsp_format.specs.Limits.{most_nodes, most_matrix_nodes, most_coordinate, most_weight, most_demand, most_capacity, most_scale, most_potential, most_word_bytes, most_line_bytes, most_kept_bytes, most_comments, most_others, most_depots, most_fixed, most_triples, most_multiplier, most_tour_nodes, most_combs, most_comb_nodes, most_branches, most_changes, most_difference, most_file_bytes};
+ghost use Rattle.tsp_format.specs.declared.limits.TheConstants.{MOST_NODES, MOST_MATRIX_NODES, MOST_COORDINATE, MOST_WEIGHT, MOST_DEMAND, MOST_CAPACITY, MOST_SCALE, MOST_LOAD_UNIT, MOST_POTENTIAL, MOST_WORD_BYTES, MOST_LINE_BYTES, MOST_KEPT_BYTES, MOST_COMMENTS, MOST_OTHERS, MOST_DEPOTS, MOST_FIXED, MOST_MULTIPLIERS, MOST_MULTIPLIER, MOST_TOUR_NODES, MOST_COMBS, MOST_COMB_NODES, MOST_BRANCHES, MOST_CHANGES, MOST_DIFFERENCE, MOST_FILE_BYTES};
+ghost use Rattle.tsp_format.specs.Limits.{most_nodes, most_matrix_nodes, most_coordinate, most_weight, most_demand, most_capacity, most_scale, most_load_unit, most_potential, most_word_bytes, most_line_bytes, most_kept_bytes, most_comments, most_others, most_depots, most_fixed, most_triples, most_multiplier, most_tour_nodes, most_combs, most_comb_nodes, most_branches, most_changes, most_difference, most_file_bytes};
 
 /// The most nodes of a file: DIMENSION is from 1 to this.
 pub const MOST_NODES: u32 = 100_000;
@@ -24,6 +24,9 @@ pub const MOST_CAPACITY: i64 = 1_000_000_000_000;
 
 /// The largest SCALE; the smallest is 1.
 pub const MOST_SCALE: i64 = 1_000_000;
+
+/// The largest LOAD_UNIT; the smallest is 1.
+pub const MOST_LOAD_UNIT: i64 = 1_000_000_000_000;
 
 /// The largest size of a potential.
 pub const MOST_POTENTIAL: i64 = 1_000_000_000_000_000;
@@ -85,6 +88,7 @@ pub fn limits_are_those_of_the_profile()
     ensures demand { MOST_DEMAND ≡ pos most_demand }
     ensures capacity { MOST_CAPACITY ≡ pos most_capacity }
     ensures scale { MOST_SCALE ≡ pos most_scale }
+    ensures load_unit { MOST_LOAD_UNIT ≡ pos most_load_unit }
     ensures potential { MOST_POTENTIAL ≡ pos most_potential }
     ensures word_bytes { MOST_WORD_BYTES ≡ most_word_bytes }
     ensures line_bytes { MOST_LINE_BYTES ≡ most_line_bytes }

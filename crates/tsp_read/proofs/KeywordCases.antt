@@ -2,10 +2,10 @@
 use Rattle.std.proofs.Common.{◌≡◌, ◌≢◌, Bool, refl, subst, Some, None}
 use Rattle.std.specs.Prelude.{ℤ, pos}
 use Rattle.tsp_format.specs.declared.field.Field.{Field}
-use Rattle.tsp_format.specs.declared.field.Field.TheVariants.{NameKey, TypeKey, CommentKey, OtherKey, DimensionKey, CapacityKey, ScaleKey, EdgeWeightTypeKey, EdgeWeightFormatKey, NodeCoordTypeKey, DisplayDataTypeKey, NodeCoordPart, DisplayDataPart, DemandPart, DepotPart, FixedEdgesPart, EdgeWeightPart, TourPart, NodePotentialPart, RowPotentialPart, ColumnPotentialPart, FixedEdgePotentialPart, CombPart, BranchPart}
+use Rattle.tsp_format.specs.declared.field.Field.TheVariants.{NameKey, TypeKey, CommentKey, OtherKey, DimensionKey, CapacityKey, ScaleKey, LoadUnitKey, EdgeWeightTypeKey, EdgeWeightFormatKey, NodeCoordTypeKey, DisplayDataTypeKey, NodeCoordPart, DisplayDataPart, DemandPart, DepotPart, FixedEdgesPart, EdgeWeightPart, TourPart, NodePotentialPart, RowPotentialPart, ColumnPotentialPart, FixedEdgePotentialPart, CombPart, BranchPart}
 use Rattle.tsp_format.specs.declared.field.ValueShape.{ValueShape}
 use Rattle.tsp_format.specs.declared.field.ValueShape.TheVariants.{Kept, KeptEach, Number, Word}
-use Rattle.tsp_format.specs.Limits.{most_nodes, most_capacity, most_scale}
+use Rattle.tsp_format.specs.Limits.{most_nodes, most_capacity, most_scale, most_load_unit}
 use Rattle.tsp_format.specs.Shapes.{shape_of, value_shape_of}
 
 shaped : (P : ValueShape → Type 0) (a b : ValueShape) → P a → Some a ≡ Some b → P b
@@ -15,33 +15,35 @@ shaped P a b p is = let same : a ≡ b = cc in subst P same p
 -- plan: by the field: a keyword has one shape (`shaped`), and a section has none
 pub by_keyword : (P : Field → ValueShape → Type 0) → P NameKey Kept → P TypeKey Word → P CommentKey KeptEach
     → P DimensionKey (Number (pos 1) (pos most_nodes)) → P CapacityKey (Number (pos 1) (pos most_capacity))
-    → P ScaleKey (Number (pos 1) (pos most_scale)) → P EdgeWeightTypeKey Word → P EdgeWeightFormatKey Word
+    → P ScaleKey (Number (pos 1) (pos most_scale)) → P LoadUnitKey (Number (pos 1) (pos most_load_unit))
+    → P EdgeWeightTypeKey Word → P EdgeWeightFormatKey Word
     → P NodeCoordTypeKey Word → P DisplayDataTypeKey Word
     → (f : Field) (shape : ValueShape) → value_shape_of f ≡ Some shape → P f shape
-by_keyword P p0 p1 p2 p3 p4 p5 p6 p7 p8 p9 NameKey shape e = shaped (P NameKey) _ shape p0 e
-by_keyword P p0 p1 p2 p3 p4 p5 p6 p7 p8 p9 TypeKey shape e = shaped (P TypeKey) _ shape p1 e
-by_keyword P p0 p1 p2 p3 p4 p5 p6 p7 p8 p9 CommentKey shape e = shaped (P CommentKey) _ shape p2 e
-by_keyword P p0 p1 p2 p3 p4 p5 p6 p7 p8 p9 OtherKey shape e = absurd cc
-by_keyword P p0 p1 p2 p3 p4 p5 p6 p7 p8 p9 DimensionKey shape e = shaped (P DimensionKey) _ shape p3 e
-by_keyword P p0 p1 p2 p3 p4 p5 p6 p7 p8 p9 CapacityKey shape e = shaped (P CapacityKey) _ shape p4 e
-by_keyword P p0 p1 p2 p3 p4 p5 p6 p7 p8 p9 ScaleKey shape e = shaped (P ScaleKey) _ shape p5 e
-by_keyword P p0 p1 p2 p3 p4 p5 p6 p7 p8 p9 EdgeWeightTypeKey shape e = shaped (P EdgeWeightTypeKey) _ shape p6 e
-by_keyword P p0 p1 p2 p3 p4 p5 p6 p7 p8 p9 EdgeWeightFormatKey shape e = shaped (P EdgeWeightFormatKey) _ shape p7 e
-by_keyword P p0 p1 p2 p3 p4 p5 p6 p7 p8 p9 NodeCoordTypeKey shape e = shaped (P NodeCoordTypeKey) _ shape p8 e
-by_keyword P p0 p1 p2 p3 p4 p5 p6 p7 p8 p9 DisplayDataTypeKey shape e = shaped (P DisplayDataTypeKey) _ shape p9 e
-by_keyword P p0 p1 p2 p3 p4 p5 p6 p7 p8 p9 NodeCoordPart shape e = absurd cc
-by_keyword P p0 p1 p2 p3 p4 p5 p6 p7 p8 p9 DisplayDataPart shape e = absurd cc
-by_keyword P p0 p1 p2 p3 p4 p5 p6 p7 p8 p9 DemandPart shape e = absurd cc
-by_keyword P p0 p1 p2 p3 p4 p5 p6 p7 p8 p9 DepotPart shape e = absurd cc
-by_keyword P p0 p1 p2 p3 p4 p5 p6 p7 p8 p9 FixedEdgesPart shape e = absurd cc
-by_keyword P p0 p1 p2 p3 p4 p5 p6 p7 p8 p9 EdgeWeightPart shape e = absurd cc
-by_keyword P p0 p1 p2 p3 p4 p5 p6 p7 p8 p9 TourPart shape e = absurd cc
-by_keyword P p0 p1 p2 p3 p4 p5 p6 p7 p8 p9 NodePotentialPart shape e = absurd cc
-by_keyword P p0 p1 p2 p3 p4 p5 p6 p7 p8 p9 RowPotentialPart shape e = absurd cc
-by_keyword P p0 p1 p2 p3 p4 p5 p6 p7 p8 p9 ColumnPotentialPart shape e = absurd cc
-by_keyword P p0 p1 p2 p3 p4 p5 p6 p7 p8 p9 FixedEdgePotentialPart shape e = absurd cc
-by_keyword P p0 p1 p2 p3 p4 p5 p6 p7 p8 p9 CombPart shape e = absurd cc
-by_keyword P p0 p1 p2 p3 p4 p5 p6 p7 p8 p9 BranchPart shape e = absurd cc
+by_keyword P p0 p1 p2 p3 p4 p5 p6 p7 p8 p9 p10 NameKey shape e = shaped (P NameKey) _ shape p0 e
+by_keyword P p0 p1 p2 p3 p4 p5 p6 p7 p8 p9 p10 TypeKey shape e = shaped (P TypeKey) _ shape p1 e
+by_keyword P p0 p1 p2 p3 p4 p5 p6 p7 p8 p9 p10 CommentKey shape e = shaped (P CommentKey) _ shape p2 e
+by_keyword P p0 p1 p2 p3 p4 p5 p6 p7 p8 p9 p10 OtherKey shape e = absurd cc
+by_keyword P p0 p1 p2 p3 p4 p5 p6 p7 p8 p9 p10 DimensionKey shape e = shaped (P DimensionKey) _ shape p3 e
+by_keyword P p0 p1 p2 p3 p4 p5 p6 p7 p8 p9 p10 CapacityKey shape e = shaped (P CapacityKey) _ shape p4 e
+by_keyword P p0 p1 p2 p3 p4 p5 p6 p7 p8 p9 p10 ScaleKey shape e = shaped (P ScaleKey) _ shape p5 e
+by_keyword P p0 p1 p2 p3 p4 p5 p6 p7 p8 p9 p10 LoadUnitKey shape e = shaped (P LoadUnitKey) _ shape p6 e
+by_keyword P p0 p1 p2 p3 p4 p5 p6 p7 p8 p9 p10 EdgeWeightTypeKey shape e = shaped (P EdgeWeightTypeKey) _ shape p7 e
+by_keyword P p0 p1 p2 p3 p4 p5 p6 p7 p8 p9 p10 EdgeWeightFormatKey shape e = shaped (P EdgeWeightFormatKey) _ shape p8 e
+by_keyword P p0 p1 p2 p3 p4 p5 p6 p7 p8 p9 p10 NodeCoordTypeKey shape e = shaped (P NodeCoordTypeKey) _ shape p9 e
+by_keyword P p0 p1 p2 p3 p4 p5 p6 p7 p8 p9 p10 DisplayDataTypeKey shape e = shaped (P DisplayDataTypeKey) _ shape p10 e
+by_keyword P p0 p1 p2 p3 p4 p5 p6 p7 p8 p9 p10 NodeCoordPart shape e = absurd cc
+by_keyword P p0 p1 p2 p3 p4 p5 p6 p7 p8 p9 p10 DisplayDataPart shape e = absurd cc
+by_keyword P p0 p1 p2 p3 p4 p5 p6 p7 p8 p9 p10 DemandPart shape e = absurd cc
+by_keyword P p0 p1 p2 p3 p4 p5 p6 p7 p8 p9 p10 DepotPart shape e = absurd cc
+by_keyword P p0 p1 p2 p3 p4 p5 p6 p7 p8 p9 p10 FixedEdgesPart shape e = absurd cc
+by_keyword P p0 p1 p2 p3 p4 p5 p6 p7 p8 p9 p10 EdgeWeightPart shape e = absurd cc
+by_keyword P p0 p1 p2 p3 p4 p5 p6 p7 p8 p9 p10 TourPart shape e = absurd cc
+by_keyword P p0 p1 p2 p3 p4 p5 p6 p7 p8 p9 p10 NodePotentialPart shape e = absurd cc
+by_keyword P p0 p1 p2 p3 p4 p5 p6 p7 p8 p9 p10 RowPotentialPart shape e = absurd cc
+by_keyword P p0 p1 p2 p3 p4 p5 p6 p7 p8 p9 p10 ColumnPotentialPart shape e = absurd cc
+by_keyword P p0 p1 p2 p3 p4 p5 p6 p7 p8 p9 p10 FixedEdgePotentialPart shape e = absurd cc
+by_keyword P p0 p1 p2 p3 p4 p5 p6 p7 p8 p9 p10 CombPart shape e = absurd cc
+by_keyword P p0 p1 p2 p3 p4 p5 p6 p7 p8 p9 p10 BranchPart shape e = absurd cc
 
 ranged : (P : ℤ → ℤ → Type 0) (l h low high : ℤ) → P l h → Number l h ≡ Number low high → P low high
 ranged P l h low high p is =
@@ -51,11 +53,12 @@ ranged P l h low high p is =
 
 -- and of those with a number
 pub by_number : (P : Field → ℤ → ℤ → Type 0) → P DimensionKey (pos 1) (pos most_nodes) → P CapacityKey (pos 1) (pos most_capacity)
-    → P ScaleKey (pos 1) (pos most_scale)
+    → P ScaleKey (pos 1) (pos most_scale) → P LoadUnitKey (pos 1) (pos most_load_unit)
     → (f : Field) (low high : ℤ) → value_shape_of f ≡ Some (Number low high) → P f low high
-by_number P p0 p1 p2 f low high e = by_keyword (λ field shape. shape ≡ Number low high → P field low high)
+by_number P p0 p1 p2 p3 f low high e = by_keyword (λ field shape. shape ≡ Number low high → P field low high)
     (λ is. absurd cc) (λ is. absurd cc) (λ is. absurd cc) (ranged (P DimensionKey) _ _ low high p0)
-    (ranged (P CapacityKey) _ _ low high p1) (ranged (P ScaleKey) _ _ low high p2) (λ is. absurd cc) (λ is. absurd cc)
+    (ranged (P CapacityKey) _ _ low high p1) (ranged (P ScaleKey) _ _ low high p2)
+    (ranged (P LoadUnitKey) _ _ low high p3) (λ is. absurd cc) (λ is. absurd cc)
     (λ is. absurd cc) (λ is. absurd cc) f (Number low high) e refl
 
 -- a field that is no section, no keyword with a number, and none with its own place
@@ -70,6 +73,7 @@ other_alone in_space OtherKey shape k0 k1 k2 k3 k4 k5 k6 numbered = refl
 other_alone in_space DimensionKey shape k0 k1 k2 k3 k4 k5 k6 numbered = absurd (numbered (pos 1) (pos most_nodes) refl)
 other_alone in_space CapacityKey shape k0 k1 k2 k3 k4 k5 k6 numbered = absurd (numbered (pos 1) (pos most_capacity) refl)
 other_alone in_space ScaleKey shape k0 k1 k2 k3 k4 k5 k6 numbered = absurd (numbered (pos 1) (pos most_scale) refl)
+other_alone in_space LoadUnitKey shape k0 k1 k2 k3 k4 k5 k6 numbered = absurd (numbered (pos 1) (pos most_load_unit) refl)
 other_alone in_space EdgeWeightTypeKey shape k0 k1 k2 k3 k4 k5 k6 numbered = absurd (k3 refl)
 other_alone in_space EdgeWeightFormatKey shape k0 k1 k2 k3 k4 k5 k6 numbered = absurd (k4 refl)
 other_alone in_space NodeCoordTypeKey shape k0 k1 k2 k3 k4 k5 k6 numbered = absurd (k5 refl)

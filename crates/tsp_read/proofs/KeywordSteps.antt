@@ -12,9 +12,9 @@ use Rattle.tsp_format.specs.declared.kinds.WeightFormat.{WeightFormat}
 use Rattle.tsp_format.specs.declared.kinds.CoordKind.{CoordKind}
 use Rattle.tsp_format.specs.declared.kinds.DisplayKind.{DisplayKind}
 use Rattle.tsp_format.specs.declared.field.Field.{Field}
-use Rattle.tsp_format.specs.declared.field.Field.TheVariants.{TypeKey, DimensionKey, CapacityKey, ScaleKey, EdgeWeightTypeKey, EdgeWeightFormatKey, NodeCoordTypeKey, DisplayDataTypeKey, NodeCoordPart, DisplayDataPart, DemandPart, DepotPart, FixedEdgesPart, EdgeWeightPart, TourPart, NodePotentialPart, RowPotentialPart, ColumnPotentialPart, FixedEdgePotentialPart, CombPart, BranchPart}
+use Rattle.tsp_format.specs.declared.field.Field.TheVariants.{TypeKey, DimensionKey, CapacityKey, ScaleKey, LoadUnitKey, EdgeWeightTypeKey, EdgeWeightFormatKey, NodeCoordTypeKey, DisplayDataTypeKey, NodeCoordPart, DisplayDataPart, DemandPart, DepotPart, FixedEdgesPart, EdgeWeightPart, TourPart, NodePotentialPart, RowPotentialPart, ColumnPotentialPart, FixedEdgePotentialPart, CombPart, BranchPart}
 use Rattle.tsp_format.specs.declared.keyword.Keyword.TheVariants.{Known}
-use Rattle.tsp_format.specs.Limits.{most_nodes, most_capacity, most_scale, most_line_bytes}
+use Rattle.tsp_format.specs.Limits.{most_nodes, most_capacity, most_scale, most_load_unit, most_line_bytes}
 use Rattle.tsp_format.specs.Words.{kind_word, weight_kind_word, weight_format_word, coord_kind_word, display_kind_word, kinds, weight_kinds, weight_formats, coord_kinds, display_kinds}
 use Rattle.tsp_distance.specs.declared.decimal.Point.{Point}
 use Rattle.tsp_draft.specs.Fields.{Fields, spatial, stands_in, with_one_number}
@@ -126,7 +126,7 @@ pub weight_kind_line : (old new : Reading) (line : WordLine) (slot : Option Weig
     → fields_of new.draft ≡ (let fields = fields_of old.draft in record fields { weight_kind = slot }) → new.incomplete ≡ old.incomplete → new.opened ≡ old.opened
     → LineAnswers old EdgeWeightTypeKey line new r
 weight_kind_line old new line slot (Ok done) sets is same_first same_part earlier h short =
-    let there : is_some old.draft.weight_kind ≡ has_line EdgeWeightTypeKey earlier = ap (λ (xs : List Bool). get_or xs 5 false) h.stand in
+    let there : is_some old.draft.weight_kind ≡ has_line EdgeWeightTypeKey earlier = ap (λ (xs : List Bool). get_or xs 6 false) h.stand in
     let late : is_late earlier (Line (Known EdgeWeightTypeKey) line) ≡ false = sym (late_by old EdgeWeightTypeKey line earlier h) ∙ sets.4 in
     let found : is_some (weight_kind_named (first_word line.value)) ≡ true = ap (λ (o : Option WeightKind). is_some o) sets.2 ∙ sets.3 in
     let row : row_of earlier (Line (Known EdgeWeightTypeKey) line) ≡ None = weight_kind_rows earlier line short
@@ -136,7 +136,7 @@ weight_kind_line old new line slot (Ok done) sets is same_first same_part earlie
     space_kept earlier (Line (Known EdgeWeightTypeKey) line) known row in
     record {
       clean = clean_more earlier (Line (Known EdgeWeightTypeKey) line) h.clean row;
-      stand = ap fields_there is ∙ ap (λ (b : Bool). set (fields_there (fields_of old.draft)) 5 b) sets.3 ∙ ap (λ (xs : List Bool). set xs 5 true) h.stand;
+      stand = ap fields_there is ∙ ap (λ (b : Bool). set (fields_there (fields_of old.draft)) 6 b) sets.3 ∙ ap (λ (xs : List Bool). set xs 6 true) h.stand;
       spelled = is ∙ ap (λ (fields : Fields). record fields { weight_kind = slot }) h.spelled
           ∙ ap (λ (k : Option WeightKind). let fields = fields_by (λ field. has_line field earlier) earlier in record fields { weight_kind = k }) (sym sets.2)
           ∙ ap (λ (points : Option (List Point)). let fields = fields_by (λ field. has_line field earlier) earlier in
@@ -148,7 +148,7 @@ weight_kind_line old new line slot (Ok done) sets is same_first same_part earlie
     }
 weight_kind_line old new line slot (Err (steps.Memory refused)) sets is same_first same_part earlier h short = tt
 weight_kind_line old new line slot (Err (steps.Fault fault)) sets is same_first same_part earlier h short =
-    let there : is_some old.draft.weight_kind ≡ has_line EdgeWeightTypeKey earlier = ap (λ (xs : List Bool). get_or xs 5 false) h.stand in
+    let there : is_some old.draft.weight_kind ≡ has_line EdgeWeightTypeKey earlier = ap (λ (xs : List Bool). get_or xs 6 false) h.stand in
     weight_kind_rows earlier line short ∙ ap (λ (b : Bool). named_rows b (is_left_out EdgeWeightTypeKey (first_word line.value))
     (weight_kind_named (first_word line.value)) (is_late earlier (Line (Known EdgeWeightTypeKey) line))) (sym there)
     ∙ ap (λ (b : Bool). named_rows (is_some old.draft.weight_kind) (is_left_out EdgeWeightTypeKey (first_word line.value))
@@ -166,13 +166,13 @@ pub weight_format_line : (old new : Reading) (line : WordLine) (slot : Option We
     → fields_of new.draft ≡ (let fields = fields_of old.draft in record fields { weight_format = slot }) → new.incomplete ≡ old.incomplete → new.opened ≡ old.opened
     → LineAnswers old EdgeWeightFormatKey line new r
 weight_format_line old new line slot (Ok done) sets is same_first same_part earlier h short =
-    let there : is_some old.draft.weight_format ≡ has_line EdgeWeightFormatKey earlier = ap (λ (xs : List Bool). get_or xs 6 false) h.stand in
+    let there : is_some old.draft.weight_format ≡ has_line EdgeWeightFormatKey earlier = ap (λ (xs : List Bool). get_or xs 7 false) h.stand in
     let found : is_some (weight_format_named (first_word line.value)) ≡ true = ap (λ (o : Option WeightFormat). is_some o) sets.2 ∙ sets.3 in
     record {
       clean = clean_more earlier (Line (Known EdgeWeightFormatKey) line) h.clean
           (weight_format_rows earlier line short ∙ named_none (has_line EdgeWeightFormatKey earlier) (is_left_out EdgeWeightFormatKey (first_word line.value))
           (weight_format_named (first_word line.value)) false (sym there ∙ sets.0) sets.1 found refl);
-      stand = ap fields_there is ∙ ap (λ (b : Bool). set (fields_there (fields_of old.draft)) 6 b) sets.3 ∙ ap (λ (xs : List Bool). set xs 6 true) h.stand;
+      stand = ap fields_there is ∙ ap (λ (b : Bool). set (fields_there (fields_of old.draft)) 7 b) sets.3 ∙ ap (λ (xs : List Bool). set xs 7 true) h.stand;
       spelled = is ∙ ap (λ (fields : Fields). record fields { weight_format = slot }) h.spelled
           ∙ ap (λ (k : Option WeightFormat). let fields = fields_by (λ field. has_line field earlier) earlier in record fields { weight_format = k }) (sym sets.2);
       incomplete = same_first ∙ h.incomplete;
@@ -180,7 +180,7 @@ weight_format_line old new line slot (Ok done) sets is same_first same_part earl
     }
 weight_format_line old new line slot (Err (steps.Memory refused)) sets is same_first same_part earlier h short = tt
 weight_format_line old new line slot (Err (steps.Fault fault)) sets is same_first same_part earlier h short =
-    let there : is_some old.draft.weight_format ≡ has_line EdgeWeightFormatKey earlier = ap (λ (xs : List Bool). get_or xs 6 false) h.stand in
+    let there : is_some old.draft.weight_format ≡ has_line EdgeWeightFormatKey earlier = ap (λ (xs : List Bool). get_or xs 7 false) h.stand in
     weight_format_rows earlier line short ∙ ap (λ (b : Bool). named_rows b (is_left_out EdgeWeightFormatKey (first_word line.value))
     (weight_format_named (first_word line.value)) false) (sym there) ∙ sets.1
 
@@ -197,7 +197,7 @@ pub coord_kind_line : (old new : Reading) (line : WordLine) (slot : Option Coord
     → fields_of new.draft ≡ (let fields = fields_of old.draft in record fields { coord_kind = slot }) → new.incomplete ≡ old.incomplete → new.opened ≡ old.opened
     → LineAnswers old NodeCoordTypeKey line new r
 coord_kind_line old new line slot (Ok done) sets is same_first same_part earlier h short =
-    let there : is_some old.draft.coord_kind ≡ has_line NodeCoordTypeKey earlier = ap (λ (xs : List Bool). get_or xs 7 false) h.stand in
+    let there : is_some old.draft.coord_kind ≡ has_line NodeCoordTypeKey earlier = ap (λ (xs : List Bool). get_or xs 8 false) h.stand in
     let late : is_late earlier (Line (Known NodeCoordTypeKey) line) ≡ false = sym (late_by old NodeCoordTypeKey line earlier h) ∙ sets.4 in
     let found : is_some (coord_kind_named (first_word line.value)) ≡ true = ap (λ (o : Option CoordKind). is_some o) sets.2 ∙ sets.3 in
     let row : row_of earlier (Line (Known NodeCoordTypeKey) line) ≡ None = coord_kind_rows earlier line short
@@ -207,7 +207,7 @@ coord_kind_line old new line slot (Ok done) sets is same_first same_part earlier
     space_kept earlier (Line (Known NodeCoordTypeKey) line) known row in
     record {
       clean = clean_more earlier (Line (Known NodeCoordTypeKey) line) h.clean row;
-      stand = ap fields_there is ∙ ap (λ (b : Bool). set (fields_there (fields_of old.draft)) 7 b) sets.3 ∙ ap (λ (xs : List Bool). set xs 7 true) h.stand;
+      stand = ap fields_there is ∙ ap (λ (b : Bool). set (fields_there (fields_of old.draft)) 8 b) sets.3 ∙ ap (λ (xs : List Bool). set xs 8 true) h.stand;
       spelled = is ∙ ap (λ (fields : Fields). record fields { coord_kind = slot }) h.spelled
           ∙ ap (λ (k : Option CoordKind). let fields = fields_by (λ field. has_line field earlier) earlier in record fields { coord_kind = k }) (sym sets.2)
           ∙ ap (λ (points : Option (List Point)). let fields = fields_by (λ field. has_line field earlier) earlier in
@@ -219,7 +219,7 @@ coord_kind_line old new line slot (Ok done) sets is same_first same_part earlier
     }
 coord_kind_line old new line slot (Err (steps.Memory refused)) sets is same_first same_part earlier h short = tt
 coord_kind_line old new line slot (Err (steps.Fault fault)) sets is same_first same_part earlier h short =
-    let there : is_some old.draft.coord_kind ≡ has_line NodeCoordTypeKey earlier = ap (λ (xs : List Bool). get_or xs 7 false) h.stand in
+    let there : is_some old.draft.coord_kind ≡ has_line NodeCoordTypeKey earlier = ap (λ (xs : List Bool). get_or xs 8 false) h.stand in
     coord_kind_rows earlier line short ∙ ap (λ (b : Bool). named_rows b (is_left_out NodeCoordTypeKey (first_word line.value))
     (coord_kind_named (first_word line.value)) (is_late earlier (Line (Known NodeCoordTypeKey) line))) (sym there)
     ∙ ap (λ (b : Bool). named_rows (is_some old.draft.coord_kind) (is_left_out NodeCoordTypeKey (first_word line.value))
@@ -237,13 +237,13 @@ pub display_kind_line : (old new : Reading) (line : WordLine) (slot : Option Dis
     → fields_of new.draft ≡ (let fields = fields_of old.draft in record fields { display_kind = slot }) → new.incomplete ≡ old.incomplete → new.opened ≡ old.opened
     → LineAnswers old DisplayDataTypeKey line new r
 display_kind_line old new line slot (Ok done) sets is same_first same_part earlier h short =
-    let there : is_some old.draft.display_kind ≡ has_line DisplayDataTypeKey earlier = ap (λ (xs : List Bool). get_or xs 8 false) h.stand in
+    let there : is_some old.draft.display_kind ≡ has_line DisplayDataTypeKey earlier = ap (λ (xs : List Bool). get_or xs 9 false) h.stand in
     let found : is_some (display_kind_named (first_word line.value)) ≡ true = ap (λ (o : Option DisplayKind). is_some o) sets.2 ∙ sets.3 in
     record {
       clean = clean_more earlier (Line (Known DisplayDataTypeKey) line) h.clean
           (display_kind_rows earlier line short ∙ named_none (has_line DisplayDataTypeKey earlier) (is_left_out DisplayDataTypeKey (first_word line.value))
           (display_kind_named (first_word line.value)) false (sym there ∙ sets.0) sets.1 found refl);
-      stand = ap fields_there is ∙ ap (λ (b : Bool). set (fields_there (fields_of old.draft)) 8 b) sets.3 ∙ ap (λ (xs : List Bool). set xs 8 true) h.stand;
+      stand = ap fields_there is ∙ ap (λ (b : Bool). set (fields_there (fields_of old.draft)) 9 b) sets.3 ∙ ap (λ (xs : List Bool). set xs 9 true) h.stand;
       spelled = is ∙ ap (λ (fields : Fields). record fields { display_kind = slot }) h.spelled
           ∙ ap (λ (k : Option DisplayKind). let fields = fields_by (λ field. has_line field earlier) earlier in record fields { display_kind = k }) (sym sets.2);
       incomplete = same_first ∙ h.incomplete;
@@ -251,7 +251,7 @@ display_kind_line old new line slot (Ok done) sets is same_first same_part earli
     }
 display_kind_line old new line slot (Err (steps.Memory refused)) sets is same_first same_part earlier h short = tt
 display_kind_line old new line slot (Err (steps.Fault fault)) sets is same_first same_part earlier h short =
-    let there : is_some old.draft.display_kind ≡ has_line DisplayDataTypeKey earlier = ap (λ (xs : List Bool). get_or xs 8 false) h.stand in
+    let there : is_some old.draft.display_kind ≡ has_line DisplayDataTypeKey earlier = ap (λ (xs : List Bool). get_or xs 9 false) h.stand in
     display_kind_rows earlier line short ∙ ap (λ (b : Bool). named_rows b (is_left_out DisplayDataTypeKey (first_word line.value))
     (display_kind_named (first_word line.value)) false) (sym there) ∙ sets.1
 
@@ -264,7 +264,7 @@ number_rows : (earlier : List Item) (line : WordLine) → nat_lt most_line_bytes
     ≡ numbered_rows (has_line field earlier) line.value (whole_of (first_word line.value) low high)
 number_rows earlier line short = by_number (λ field low high. row_of earlier (Line (Known field) line)
     ≡ numbered_rows (has_line field earlier) line.value (whole_of (first_word line.value) low high))
-    (rw short refl) (rw short refl) (rw short refl)
+    (rw short refl) (rw short refl) (rw short refl) (rw short refl)
 
 -- it has come where an earlier line has it
 number_stands : (reading : Reading) (earlier : List Item) → Closed reading earlier
@@ -272,7 +272,7 @@ number_stands : (reading : Reading) (earlier : List Item) → Closed reading ear
     → stands_in (fields_of reading.draft) field ≡ has_line field earlier
 number_stands reading earlier h = by_number (λ field low high. stands_in (fields_of reading.draft) field ≡ has_line field earlier)
     (ap (λ (xs : List Bool). get_or xs 2 false) h.stand) (ap (λ (xs : List Bool). get_or xs 3 false) h.stand)
-    (ap (λ (xs : List Bool). get_or xs 4 false) h.stand)
+    (ap (λ (xs : List Bool). get_or xs 4 false) h.stand) (ap (λ (xs : List Bool). get_or xs 5 false) h.stand)
 
 pub number_refused : (old : Reading) (field : Field) (line : WordLine) (low high : ℤ) (fault : LineFault)
     → value_shape_of field ≡ Some (Number low high)
@@ -321,6 +321,17 @@ scale_taken old new line z gives is same_first same_part earlier h short = recor
       (sym (ap (λ (r : Result ℤ NumberFault). result_ok r) gives.2));
   incomplete = same_first ∙ h.incomplete;
   part = still_none old new (Line (Known ScaleKey) line ∷ earlier) refl same_part h.part;
+}
+
+load_unit_taken : (old new : Reading) (line : WordLine) → TakesNumber old new line LoadUnitKey (pos 1) (pos most_load_unit)
+load_unit_taken old new line z gives is same_first same_part earlier h short = record {
+  clean = number_clean old LoadUnitKey line (pos 1) (pos most_load_unit) z refl gives earlier h short;
+  stand = ap fields_there is ∙ ap (λ (xs : List Bool). set xs 5 true) h.stand;
+  spelled = is ∙ ap (λ (fields : Fields). record fields { load_unit = Some z }) h.spelled
+      ∙ ap (λ (k : Option ℤ). let fields = fields_by (λ field. has_line field earlier) earlier in record fields { load_unit = k })
+      (sym (ap (λ (r : Result ℤ NumberFault). result_ok r) gives.2));
+  incomplete = same_first ∙ h.incomplete;
+  part = still_none old new (Line (Known LoadUnitKey) line ∷ earlier) refl same_part h.part;
 }
 
 -- ---- DimensionKey: no section has come yet but the tours, which don't look at it
@@ -379,10 +390,10 @@ dimension_taken old new line z gives is same_first same_part earlier h short =
       part = still_none old new (Line (Known DimensionKey) line ∷ earlier) refl same_part h.part;
     }
 
--- ---- all three
+-- ---- all four
 
 pub number_taken : (old new : Reading) (line : WordLine) (field : Field) (low high : ℤ)
     → value_shape_of field ≡ Some (Number low high)
     → TakesNumber old new line field low high
 number_taken old new line = by_number (TakesNumber old new line) (dimension_taken old new line) (capacity_taken old new line)
-    (scale_taken old new line)
+    (scale_taken old new line) (load_unit_taken old new line)

@@ -42,6 +42,7 @@ abbrev pub shown_tree : Fields
 shown_tree = record blank_fields {
   kind = Some Branches;
   dimension = Some 2;
+  load_unit = Some (pos 4);
   combs = Some (((1 ∷ []) ∷ []) ∷ []);
   branches = Some (Leaf [] ∷ []);
   others = foo;

@@ -67,6 +67,11 @@ all_tour_lines tours = codes "tours " ++ decimal (length tours) ++ codes "\n" ++
 abbrev pub scale_line : Option ℤ → List ℕ
 scale_line scale = codes "scale " ++ signed_decimal (meant_scale scale) ++ codes "\n"
 
+-- the load unit, where LOAD_UNIT is present
+abbrev pub load_unit_line : Option ℤ → List ℕ
+load_unit_line None = []
+load_unit_line (Some unit) = codes "load unit " ++ signed_decimal unit ++ codes "\n"
+
 -- how many combs there are, where a section lists them
 abbrev pub combs_line : Option (List (List (List ℕ))) → List ℕ
 combs_line None = []
@@ -77,7 +82,7 @@ abbrev pub leaves_line : List Step → List ℕ
 leaves_line steps = codes "leaves " ++ decimal (leaf_count steps) ++ codes "\n"
 
 abbrev pub tree_lines : Fields → List ℕ
-tree_lines f = scale_line f.scale ++ (combs_line f.combs ++ leaves_line (unwrap_or f.branches []))
+tree_lines f = scale_line f.scale ++ (load_unit_line f.load_unit ++ (combs_line f.combs ++ leaves_line (unwrap_or f.branches [])))
 
 -- ---- the whole
 

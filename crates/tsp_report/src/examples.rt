@@ -12,7 +12,7 @@ ghost use Rattle.tsp_reason.specs.declared.verdict.BoundVerdict.TheVariants as b
 ghost use Rattle.tsp_reason.specs.declared.verdict.Reason.TheVariants as reasons;
 ghost use Rattle.tsp_reason.specs.declared.verdict.Verdict.TheVariants as verdicts;
 ghost use Rattle.tsp_report.specs.Report.{not_judged, type_line, nodes_line, gap_lines, bound_lines, reason_text, verdict_lines, bound_found_lines};
-ghost use Rattle.tsp_report.specs.Show.{name_line, weights_line, canonical_line, fixed_line, all_tour_lines, scale_line, combs_line, leaves_line};
+ghost use Rattle.tsp_report.specs.Show.{name_line, weights_line, canonical_line, fixed_line, all_tour_lines, scale_line, load_unit_line, combs_line, leaves_line};
 
 /// The lines of a report.
 pub fn examples_of_reports()
@@ -104,6 +104,9 @@ pub fn examples_of_shown_lines()
     ensures no_scale { scale_line None ≡ codes "scale " ++ signed_decimal (pos 1) ++ codes "\n" }
     ensures scale { scale_line (Some (pos 2))
         ≡ codes "scale " ++ signed_decimal (pos 2) ++ codes "\n" }
+    ensures no_load_unit { load_unit_line None ≡ [] }
+    ensures load_unit { load_unit_line (Some (pos 1))
+        ≡ codes "load unit " ++ signed_decimal (pos 1) ++ codes "\n" }
     ensures no_combs { combs_line None ≡ [] }
     ensures combs { combs_line (Some (((1 ∷ []) ∷ []) ∷ []))
         ≡ codes "combs " ++ decimal 1 ++ codes "\n" }

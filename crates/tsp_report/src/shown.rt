@@ -10,7 +10,7 @@ ghost use Rattle.tsp_stream.specs.states.Watched.{sink_of};
 ghost use Rattle.tsp_stream.specs.Sink.{Writes};
 ghost use Rattle.tsp_stream.specs.states.WriteProgress.{Puts};
 ghost use Rattle.tsp_report.specs.Report.{nodes_line, not_judged};
-ghost use Rattle.tsp_report.specs.Show.{shown, head_lines, name_line, lines_by_type, cost_lines, weights_line, layout_part, canonical_line, fixed_line, all_tour_lines, tour_line, scale_line, combs_line, leaves_line, tree_lines};
+ghost use Rattle.tsp_report.specs.Show.{shown, head_lines, name_line, lines_by_type, cost_lines, weights_line, layout_part, canonical_line, fixed_line, all_tour_lines, tour_line, scale_line, load_unit_line, combs_line, leaves_line, tree_lines};
 
 use crate::leaves::leaves_of;
 use crate::report::{put_named, put_nodes, put_others, put_type};
@@ -218,11 +218,23 @@ fn put_scale<W: Write>(piece: &mut Piece, out: &mut Watched<W>, scale: Option<i6
     put(piece, out, b"\n");
 }
 
-/// Adds the lines of a tree of cases: its scale, and how many combs and leaves it has.
+/// Adds the line of LOAD_UNIT, where it is present.
+fn put_load_unit<W: Write>(piece: &mut Piece, out: &mut Watched<W>, unit: Option<i64>)
+    ensures { Puts W.contents out.old piece.old out.new piece.new (load_unit_line unit) }
+{
+    if let Some(unit) = unit {
+        put_named(piece, out, b"load unit ", unit);
+        put(piece, out, b"\n");
+    }
+}
+
+/// Adds the lines of a tree of cases: its scale, its load unit, and how many combs and leaves it
+/// has.
 fn put_tree<W: Write>(piece: &mut Piece, out: &mut Watched<W>, file: &File)
     ensures { Puts W.contents out.old piece.old out.new piece.new (tree_lines file.now) }
 {
     put_scale(piece, out, file.scale());
+    put_load_unit(piece, out, file.load_unit());
     put_combs(piece, out, file.combs());
     put_leaves(piece, out, file.branches().unwrap_or(&[]));
 }

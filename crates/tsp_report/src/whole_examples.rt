@@ -41,6 +41,6 @@ pub fn examples_of_shown_files()
     ensures potentials { shown shown_potentials
         ≡ codes "type POTENTIALS\nnodes 2\nscale 3\nnot judged FOO\n" }
     ensures branching { shown shown_tree
-        ≡ codes "type BRANCHES\nnodes 2\nscale 1\ncombs 1\nleaves 1\nnot judged FOO\n" }
+        ≡ codes "type BRANCHES\nnodes 2\nscale 1\nload unit 4\ncombs 1\nleaves 1\nnot judged FOO\n" }
     ensures untyped { shown untyped ≡ codes "type \nnot judged FOO\n" }
 {}

@@ -1,14 +1,14 @@
 -- The text of each field of a valid file, read after the texts of the fields before it.
 use Rattle.std.proofs.Common.{◌≡◌, true, cond, List, refl}
 use Rattle.tsp_format.specs.declared.field.Field.{Field}
-use Rattle.tsp_format.specs.declared.field.Field.TheVariants.{NameKey, TypeKey, CommentKey, OtherKey, DimensionKey, CapacityKey, ScaleKey, EdgeWeightTypeKey, EdgeWeightFormatKey, NodeCoordTypeKey, DisplayDataTypeKey, NodeCoordPart, DisplayDataPart, DemandPart, DepotPart, FixedEdgesPart, EdgeWeightPart, TourPart, NodePotentialPart, RowPotentialPart, ColumnPotentialPart, FixedEdgePotentialPart, CombPart, BranchPart}
+use Rattle.tsp_format.specs.declared.field.Field.TheVariants.{NameKey, TypeKey, CommentKey, OtherKey, DimensionKey, CapacityKey, ScaleKey, LoadUnitKey, EdgeWeightTypeKey, EdgeWeightFormatKey, NodeCoordTypeKey, DisplayDataTypeKey, NodeCoordPart, DisplayDataPart, DemandPart, DepotPart, FixedEdgesPart, EdgeWeightPart, TourPart, NodePotentialPart, RowPotentialPart, ColumnPotentialPart, FixedEdgePotentialPart, CombPart, BranchPart}
 use Rattle.tsp_format.specs.declared.field.Shape.TheVariants.{Points, SpacePoints, Depots, Pairs, Weights, Tours, Triples, Combs, Steps}
 use Rattle.tsp_draft.specs.Fields.{Fields, spatial}
 use Rattle.tsp_draft.specs.Validity.{fits}
 use Rattle.tsp_file.specs.CanonicalText.{text_of_field}
 use Rattle.tsp_text.specs.Items.{Item}
 use Rattle.tsp_round.proofs.NumbersReadBack.{NumberLaws}
-use Rattle.tsp_round.proofs.KeyFields.{name_step, kind_step, comment_step, other_step, dimension_step, capacity_step, scale_step, weight_kind_step, weight_format_step, coord_kind_step, display_kind_step}
+use Rattle.tsp_round.proofs.KeyFields.{name_step, kind_step, comment_step, other_step, dimension_step, capacity_step, scale_step, load_unit_step, weight_kind_step, weight_format_step, coord_kind_step, display_kind_step}
 use Rattle.tsp_round.proofs.SectionFields.{section_step}
 use Rattle.tsp_round.proofs.Stages.{Ready, Step}
 
@@ -22,6 +22,7 @@ field_step laws f valid OtherKey earlier ready = other_step f earlier (valid Oth
 field_step laws f valid DimensionKey earlier ready = dimension_step laws f earlier (valid DimensionKey) ready
 field_step laws f valid CapacityKey earlier ready = capacity_step laws f earlier (valid CapacityKey) ready
 field_step laws f valid ScaleKey earlier ready = scale_step laws f earlier (valid ScaleKey) ready
+field_step laws f valid LoadUnitKey earlier ready = load_unit_step laws f earlier (valid LoadUnitKey) ready
 field_step laws f valid EdgeWeightTypeKey earlier ready = weight_kind_step f earlier ready
 field_step laws f valid EdgeWeightFormatKey earlier ready = weight_format_step f earlier ready
 field_step laws f valid NodeCoordTypeKey earlier ready = coord_kind_step f earlier ready

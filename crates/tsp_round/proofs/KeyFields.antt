@@ -10,12 +10,12 @@ use Rattle.std.proofs.lemmas.Bool.{false≢true, true≢false, and_parts, leb-tr
 use Rattle.tsp_number.specs.declared.fault.NumberFault.{NumberFault}
 use Rattle.tsp_number.specs.Reading.{whole_of}
 use Rattle.tsp_format.specs.declared.field.Field.{Field}
-use Rattle.tsp_format.specs.declared.field.Field.TheVariants.{NameKey, TypeKey, CommentKey, OtherKey, DimensionKey, CapacityKey, ScaleKey, EdgeWeightTypeKey, EdgeWeightFormatKey, NodeCoordTypeKey, DisplayDataTypeKey, NodeCoordPart}
+use Rattle.tsp_format.specs.declared.field.Field.TheVariants.{NameKey, TypeKey, CommentKey, OtherKey, DimensionKey, CapacityKey, ScaleKey, LoadUnitKey, EdgeWeightTypeKey, EdgeWeightFormatKey, NodeCoordTypeKey, DisplayDataTypeKey, NodeCoordPart}
 use Rattle.tsp_format.specs.declared.keyword.Keyword.TheVariants.{Known}
 use Rattle.tsp_format.specs.Bytes.{is_blank}
 use Rattle.tsp_format.specs.Words.{field_word, kind_word, weight_kind_word, weight_format_word, coord_kind_word, display_kind_word}
 use Rattle.tsp_format.specs.Keywords.{keyword_of}
-use Rattle.tsp_format.specs.Limits.{most_nodes, most_capacity, most_scale, most_line_bytes, most_kept_bytes, most_comments, most_others}
+use Rattle.tsp_format.specs.Limits.{most_nodes, most_capacity, most_scale, most_load_unit, most_line_bytes, most_kept_bytes, most_comments, most_others}
 use Rattle.tsp_draft.specs.Fields.{Fields}
 use Rattle.tsp_draft.specs.Validity.{if_there, is_kept, is_from_to, is_node, is_other, fits}
 use Rattle.tsp_file.specs.CanonicalText.{keyword_line, optional, text_of_field}
@@ -28,7 +28,7 @@ use Rattle.tsp_round.proofs.Text.{is_plain, is_plain_word, no_blank, one_line_wo
 use Rattle.tsp_round.proofs.Lines.{IsWhole, IsKeyword, written_line, value_text}
 use Rattle.tsp_round.proofs.NumbersReadBack.{NumberLaws, signed_plain, short_signed, size_from}
 use Rattle.tsp_round.proofs.Words.{kind_row, kind_whole, weight_kind_row, weight_kind_whole, weight_format_row, weight_format_whole, coord_kind_row, coord_kind_whole, display_kind_row, display_kind_whole}
-use Rattle.tsp_round.proofs.Keys.{text_length, kept, name_row, dimension_row, capacity_row, scale_row, no_comment, comments_run}
+use Rattle.tsp_round.proofs.Keys.{text_length, kept, name_row, dimension_row, capacity_row, scale_row, load_unit_row, no_comment, comments_run}
 use Rattle.tsp_round.proofs.Others.{others_run}
 use Rattle.tsp_round.proofs.Sections.{only_word, no_line_yet}
 use Rattle.tsp_round.proofs.Stages.{value_of, words_written, Ready, Step}
@@ -183,6 +183,16 @@ scale_step laws f earlier fit ready =
     (λ z is. let few = size_from 1 most_scale z is in
     let line = line_of_number laws (field_word ScaleKey) (omega arith) (pos 1) (pos most_scale) z (omega arith) is in
     (line.whole, scale_row earlier (written_line (field_word ScaleKey) (signed_decimal z)) (no_line_yet f ScaleKey earlier ready refl) line.short line.filled line.read)) ready
+
+pub load_unit_step : NumberLaws → (f : Fields) (earlier : List Item) → fits f LoadUnitKey ≡ true → Ready f LoadUnitKey earlier
+    → Step f (text_of_field f) LoadUnitKey earlier
+load_unit_step laws f earlier fit ready =
+    line_step f LoadUnitKey signed_decimal f.load_unit earlier refl refl
+    (record { known = refl; keyword = record { letter_first = refl; bytes = refl }; once = refl; no_words = refl; no_comment = refl; no_other = refl })
+    (is_from_to (pos 1) (pos most_load_unit)) fit
+    (λ z is. let few = size_from 1 most_load_unit z is in
+    let line = line_of_number laws (field_word LoadUnitKey) (omega arith) (pos 1) (pos most_load_unit) z (omega arith) is in
+    (line.whole, load_unit_row earlier (written_line (field_word LoadUnitKey) (signed_decimal z)) (no_line_yet f LoadUnitKey earlier ready refl) line.short line.filled line.read)) ready
 
 -- ---- lines that may repeat
 

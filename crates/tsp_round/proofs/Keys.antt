@@ -6,7 +6,7 @@ use Rattle.std.specs.Result.{result_err}
 use Rattle.std.specs.List.{list_all, flat_map}
 use Rattle.std.proofs.lemmas.Bool.{true≢false, and_parts, leb-true, le-ltb, lt-leb, not-true, false_from_ne_true}
 use Rattle.tsp_format.specs.declared.field.Field.{Field}
-use Rattle.tsp_format.specs.declared.field.Field.TheVariants.{NameKey, CommentKey, DimensionKey, CapacityKey, ScaleKey}
+use Rattle.tsp_format.specs.declared.field.Field.TheVariants.{NameKey, CommentKey, DimensionKey, CapacityKey, ScaleKey, LoadUnitKey}
 use Rattle.tsp_format.specs.declared.keyword.Keyword.TheVariants.{Known}
 use Rattle.tsp_format.specs.Bytes.{is_blank}
 use Rattle.tsp_format.specs.Words.{field_word}
@@ -85,6 +85,11 @@ pub scale_row : (earlier : List Item) (line : WordLine) → has_line ScaleKey ea
     → nat_lt most_line_bytes line.size ≡ false → is_not_empty line.value ≡ true
     → option_and_then result_err (read_as ScaleKey line.value) ≡ None → row_of earlier (Line (Known ScaleKey) line) ≡ None
 scale_row earlier line unseen short filled read = rw (short, unseen, filled, read) refl
+
+pub load_unit_row : (earlier : List Item) (line : WordLine) → has_line LoadUnitKey earlier ≡ false
+    → nat_lt most_line_bytes line.size ≡ false → is_not_empty line.value ≡ true
+    → option_and_then result_err (read_as LoadUnitKey line.value) ≡ None → row_of earlier (Line (Known LoadUnitKey) line) ≡ None
+load_unit_row earlier line unseen short filled read = rw (short, unseen, filled, read) refl
 
 -- ---- comments
 

@@ -6,8 +6,8 @@ use Rattle.std.specs.Result.{result_ok}
 use Rattle.std.specs.Fmt.{decimal, signed_decimal}
 use Rattle.tsp_number.specs.declared.fault.NumberFault.{NumberFault}
 use Rattle.tsp_number.specs.Reading.{whole_of}
-use Rattle.tsp_format.specs.declared.field.Field.TheVariants.{DimensionKey, CapacityKey, ScaleKey}
-use Rattle.tsp_format.specs.Limits.{most_nodes, most_capacity, most_scale}
+use Rattle.tsp_format.specs.declared.field.Field.TheVariants.{DimensionKey, CapacityKey, ScaleKey, LoadUnitKey}
+use Rattle.tsp_format.specs.Limits.{most_nodes, most_capacity, most_scale, most_load_unit}
 use Rattle.tsp_draft.specs.Validity.{if_there, is_from_to, is_node}
 use Rattle.tsp_text.specs.Lines.{first_word}
 use Rattle.tsp_text.specs.Values.{read_as}
@@ -43,3 +43,8 @@ pub scale_whole : NumberLaws → (o : Option ℤ) → if_there (is_from_to (pos 
     → option_and_then (λ value. option_and_then result_ok (read_as ScaleKey value)) (option_map signed_decimal o) ≡ o
 scale_whole laws None is = refl
 scale_whole laws (Some z) is = number_from laws most_scale z is (omega arith)
+
+pub load_unit_whole : NumberLaws → (o : Option ℤ) → if_there (is_from_to (pos 1) (pos most_load_unit)) o ≡ true
+    → option_and_then (λ value. option_and_then result_ok (read_as LoadUnitKey value)) (option_map signed_decimal o) ≡ o
+load_unit_whole laws None is = refl
+load_unit_whole laws (Some z) is = number_from laws most_load_unit z is (omega arith)

@@ -7,7 +7,7 @@ use Rattle.std.specs.Fmt.{decimal, signed_decimal}
 use Rattle.std.proofs.lemmas.Option.{none-some}
 use Rattle.std.proofs.lemmas.Bool.{and_parts, or_parts, or_from, not-true, true≢false}
 use Rattle.tsp_format.specs.declared.field.Field.{Field}
-use Rattle.tsp_format.specs.declared.field.Field.TheVariants.{NameKey, TypeKey, CommentKey, OtherKey, DimensionKey, CapacityKey, ScaleKey, EdgeWeightTypeKey, EdgeWeightFormatKey, NodeCoordTypeKey, DisplayDataTypeKey, NodeCoordPart}
+use Rattle.tsp_format.specs.declared.field.Field.TheVariants.{NameKey, TypeKey, CommentKey, OtherKey, DimensionKey, CapacityKey, ScaleKey, LoadUnitKey, EdgeWeightTypeKey, EdgeWeightFormatKey, NodeCoordTypeKey, DisplayDataTypeKey, NodeCoordPart}
 use Rattle.tsp_format.specs.Words.{kind_word, weight_kind_word, weight_format_word, coord_kind_word, display_kind_word, fields_in_order, field_found}
 use Rattle.tsp_draft.specs.Fields.{Fields, spatial, stands_in}
 use Rattle.tsp_text.specs.Items.{Item, has_end_line, is_end_line}
@@ -36,6 +36,7 @@ value_of f OtherKey = None
 value_of f DimensionKey = option_map decimal f.dimension
 value_of f CapacityKey = option_map signed_decimal f.capacity
 value_of f ScaleKey = option_map signed_decimal f.scale
+value_of f LoadUnitKey = option_map signed_decimal f.load_unit
 value_of f EdgeWeightTypeKey = option_map weight_kind_word f.weight_kind
 value_of f EdgeWeightFormatKey = option_map weight_format_word f.weight_format
 value_of f NodeCoordTypeKey = option_map coord_kind_word f.coord_kind

@@ -4,7 +4,7 @@ use Rattle.std.specs.Prelude.{ℤ, nat_abs, is_some}
 use Rattle.std.specs.Option.{option_map, option_and_then}
 use Rattle.std.specs.Result.{result_ok}
 use Rattle.tsp_format.specs.declared.field.Field.{Field}
-use Rattle.tsp_format.specs.declared.field.Field.TheVariants.{NameKey, TypeKey, DimensionKey, CapacityKey, ScaleKey, EdgeWeightTypeKey, EdgeWeightFormatKey, NodeCoordTypeKey, DisplayDataTypeKey, NodeCoordPart, DisplayDataPart, DemandPart, DepotPart, FixedEdgesPart, EdgeWeightPart, TourPart, NodePotentialPart, RowPotentialPart, ColumnPotentialPart, FixedEdgePotentialPart, CombPart, BranchPart}
+use Rattle.tsp_format.specs.declared.field.Field.TheVariants.{NameKey, TypeKey, DimensionKey, CapacityKey, ScaleKey, LoadUnitKey, EdgeWeightTypeKey, EdgeWeightFormatKey, NodeCoordTypeKey, DisplayDataTypeKey, NodeCoordPart, DisplayDataPart, DemandPart, DepotPart, FixedEdgesPart, EdgeWeightPart, TourPart, NodePotentialPart, RowPotentialPart, ColumnPotentialPart, FixedEdgePotentialPart, CombPart, BranchPart}
 use Rattle.tsp_format.specs.declared.field.Shape.{Shape}
 use Rattle.tsp_format.specs.declared.field.Shape.TheVariants.{Points, SpacePoints, Depots, Pairs, Weights, Tours, Triples, Combs, Steps}
 use Rattle.tsp_format.specs.Shapes.{shape_of}
@@ -26,7 +26,7 @@ use Rattle.tsp_round.proofs.Space.{space_written}
 use Rattle.tsp_round.proofs.SectionFields.{IsSection, is_section, are_right}
 use Rattle.tsp_round.proofs.Words.{kind_back, weight_kind_back, weight_format_back, coord_kind_back, display_kind_back}
 use Rattle.tsp_round.proofs.Stages.{Stage, value_of}
-use Rattle.tsp_round.proofs.Spelled.{named_back, dimension_whole, capacity_whole, scale_whole}
+use Rattle.tsp_round.proofs.Spelled.{named_back, dimension_whole, capacity_whole, scale_whole, load_unit_whole}
 
 -- what the words of a section give is what the file holds
 section_is : NumberLaws → (f : Fields) (items : List Item) → Stage f [] items → fits f DimensionKey ≡ true
@@ -83,6 +83,7 @@ spelled_is laws f items valid stage =
       dimension = (ap (λ (v : Option (List ℕ)). option_map nat_abs (number_from DimensionKey v)) (stage.values DimensionKey refl) ∙ dimension_whole laws f.dimension one) i;
       capacity = (ap (λ (v : Option (List ℕ)). number_from CapacityKey v) (stage.values CapacityKey refl) ∙ capacity_whole laws f.capacity (valid CapacityKey)) i;
       scale = (ap (λ (v : Option (List ℕ)). number_from ScaleKey v) (stage.values ScaleKey refl) ∙ scale_whole laws f.scale (valid ScaleKey)) i;
+      load_unit = (ap (λ (v : Option (List ℕ)). number_from LoadUnitKey v) (stage.values LoadUnitKey refl) ∙ load_unit_whole laws f.load_unit (valid LoadUnitKey)) i;
       weight_kind = named_is f items stage EdgeWeightTypeKey refl weight_kind_word weight_kind_named weight_kind_back f.weight_kind refl i;
       weight_format = named_is f items stage EdgeWeightFormatKey refl weight_format_word weight_format_named weight_format_back f.weight_format refl i;
       coord_kind = named_is f items stage NodeCoordTypeKey refl coord_kind_word coord_kind_named coord_kind_back f.coord_kind refl i;

@@ -68,6 +68,7 @@ fn has_no_keywords(file: &File) -> bool {
         && file.dimension().is_none()
         && file.capacity().is_none()
         && file.scale().is_none()
+        && file.load_unit().is_none()
         && file.weight_kind().is_none()
         && file.weight_format().is_none()
         && file.coord_kind().is_none()

@@ -68,6 +68,7 @@ pub fn rectangle(alloc: Global) -> Result<Draft, Fail> {
     draft.dimension = Some(4);
     draft.capacity = Some(8);
     draft.scale = Some(7);
+    draft.load_unit = Some(3);
     draft.weight_kind = Some(WeightKind::Euc2d);
     draft.weight_format = Some(WeightFormat::Listed(Layout::UpperRow));
     draft.coord_kind = Some(CoordKind::TwoD);

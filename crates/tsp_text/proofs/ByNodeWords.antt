@@ -8,7 +8,7 @@ use Rattle.std.proofs.lemmas.Bool.{true≢false, false≢true, le-leb, leb-true,
 use Rattle.std.proofs.lemmas.List.{length_push, length-map, length-take-le, take_all, take-append-le, map_push}
 use Rattle.tsp_number.specs.Reading.{whole_of}
 use Rattle.tsp_format.specs.declared.field.Field.{Field}
-use Rattle.tsp_format.specs.declared.field.Field.TheVariants.{NameKey, TypeKey, CommentKey, OtherKey, DimensionKey, CapacityKey, ScaleKey, EdgeWeightTypeKey, EdgeWeightFormatKey, NodeCoordTypeKey, DisplayDataTypeKey, NodeCoordPart, DisplayDataPart, DemandPart, DepotPart, FixedEdgesPart, EdgeWeightPart, TourPart, NodePotentialPart, RowPotentialPart, ColumnPotentialPart, FixedEdgePotentialPart, CombPart, BranchPart}
+use Rattle.tsp_format.specs.declared.field.Field.TheVariants.{NameKey, TypeKey, CommentKey, OtherKey, DimensionKey, CapacityKey, ScaleKey, LoadUnitKey, EdgeWeightTypeKey, EdgeWeightFormatKey, NodeCoordTypeKey, DisplayDataTypeKey, NodeCoordPart, DisplayDataPart, DemandPart, DepotPart, FixedEdgesPart, EdgeWeightPart, TourPart, NodePotentialPart, RowPotentialPart, ColumnPotentialPart, FixedEdgePotentialPart, CombPart, BranchPart}
 use Rattle.tsp_format.specs.Limits.{most_demand, most_potential}
 use Rattle.tsp_text.specs.declared.fault.LineFault.TheVariants as row
 use Rattle.tsp_text.specs.SectionNumbers.{number, node}
@@ -309,6 +309,7 @@ each_once items OtherKey clean by_node = absurd (false≢true by_node)
 each_once items DimensionKey clean by_node = absurd (false≢true by_node)
 each_once items CapacityKey clean by_node = absurd (false≢true by_node)
 each_once items ScaleKey clean by_node = absurd (false≢true by_node)
+each_once items LoadUnitKey clean by_node = absurd (false≢true by_node)
 each_once items EdgeWeightTypeKey clean by_node = absurd (false≢true by_node)
 each_once items EdgeWeightFormatKey clean by_node = absurd (false≢true by_node)
 each_once items NodeCoordTypeKey clean by_node = absurd (false≢true by_node)

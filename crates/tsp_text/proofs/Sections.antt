@@ -3,7 +3,7 @@ use Rattle.std.proofs.Common.{◌≡◌, Bool, true, false, cond, List, ◌∷�
 use Rattle.std.specs.Prelude.{ℕ, nat_lt, is_some}
 use Rattle.std.specs.Option.{option_map_or}
 use Rattle.tsp_format.specs.declared.field.Field.{Field}
-use Rattle.tsp_format.specs.declared.field.Field.TheVariants.{NameKey, TypeKey, CommentKey, OtherKey, DimensionKey, CapacityKey, ScaleKey, EdgeWeightTypeKey, EdgeWeightFormatKey, NodeCoordTypeKey, DisplayDataTypeKey, NodeCoordPart, DisplayDataPart, DemandPart, DepotPart, FixedEdgesPart, EdgeWeightPart, TourPart, NodePotentialPart, RowPotentialPart, ColumnPotentialPart, FixedEdgePotentialPart, CombPart, BranchPart}
+use Rattle.tsp_format.specs.declared.field.Field.TheVariants.{NameKey, TypeKey, CommentKey, OtherKey, DimensionKey, CapacityKey, ScaleKey, LoadUnitKey, EdgeWeightTypeKey, EdgeWeightFormatKey, NodeCoordTypeKey, DisplayDataTypeKey, NodeCoordPart, DisplayDataPart, DemandPart, DepotPart, FixedEdgesPart, EdgeWeightPart, TourPart, NodePotentialPart, RowPotentialPart, ColumnPotentialPart, FixedEdgePotentialPart, CombPart, BranchPart}
 use Rattle.tsp_format.specs.declared.keyword.Keyword.TheVariants.{Known}
 use Rattle.tsp_format.specs.declared.field.Shape.{Shape}
 use Rattle.tsp_format.specs.declared.field.Shape.TheVariants.{Points, SpacePoints}
@@ -31,6 +31,7 @@ by_section P p0 p1 p2 p3 p4 p5 p6 p7 p8 p9 p10 p11 p12 OtherKey e = cc
 by_section P p0 p1 p2 p3 p4 p5 p6 p7 p8 p9 p10 p11 p12 DimensionKey e = cc
 by_section P p0 p1 p2 p3 p4 p5 p6 p7 p8 p9 p10 p11 p12 CapacityKey e = cc
 by_section P p0 p1 p2 p3 p4 p5 p6 p7 p8 p9 p10 p11 p12 ScaleKey e = cc
+by_section P p0 p1 p2 p3 p4 p5 p6 p7 p8 p9 p10 p11 p12 LoadUnitKey e = cc
 by_section P p0 p1 p2 p3 p4 p5 p6 p7 p8 p9 p10 p11 p12 EdgeWeightTypeKey e = cc
 by_section P p0 p1 p2 p3 p4 p5 p6 p7 p8 p9 p10 p11 p12 EdgeWeightFormatKey e = cc
 by_section P p0 p1 p2 p3 p4 p5 p6 p7 p8 p9 p10 p11 p12 NodeCoordTypeKey e = cc
@@ -58,6 +59,7 @@ section_of in_space OtherKey shape e = cc
 section_of in_space DimensionKey shape e = cc
 section_of in_space CapacityKey shape e = cc
 section_of in_space ScaleKey shape e = cc
+section_of in_space LoadUnitKey shape e = cc
 section_of in_space EdgeWeightTypeKey shape e = cc
 section_of in_space EdgeWeightFormatKey shape e = cc
 section_of in_space NodeCoordTypeKey shape e = cc

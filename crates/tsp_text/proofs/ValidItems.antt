@@ -2,7 +2,7 @@
 use Rattle.std.proofs.Common.{◌≡◌, ℕ, Bool, true, false, cond, List, [], ◌∷◌, refl, ap, ◌∙◌, Option, Some, None}
 use Rattle.std.specs.Prelude.{not, ◌&&◌, ◌||◌, pos, neg_ℤ}
 use Rattle.tsp_format.specs.declared.field.Field.{Field}
-use Rattle.tsp_format.specs.declared.field.Field.TheVariants.{NameKey, TypeKey, CommentKey, OtherKey, DimensionKey, CapacityKey, ScaleKey, EdgeWeightTypeKey, EdgeWeightFormatKey, NodeCoordTypeKey, DisplayDataTypeKey, NodeCoordPart, DisplayDataPart, DemandPart, DepotPart, FixedEdgesPart, EdgeWeightPart, TourPart, NodePotentialPart, RowPotentialPart, ColumnPotentialPart, FixedEdgePotentialPart, CombPart, BranchPart}
+use Rattle.tsp_format.specs.declared.field.Field.TheVariants.{NameKey, TypeKey, CommentKey, OtherKey, DimensionKey, CapacityKey, ScaleKey, LoadUnitKey, EdgeWeightTypeKey, EdgeWeightFormatKey, NodeCoordTypeKey, DisplayDataTypeKey, NodeCoordPart, DisplayDataPart, DemandPart, DepotPart, FixedEdgesPart, EdgeWeightPart, TourPart, NodePotentialPart, RowPotentialPart, ColumnPotentialPart, FixedEdgePotentialPart, CombPart, BranchPart}
 use Rattle.tsp_format.specs.Limits.{most_demand, most_potential}
 use Rattle.tsp_format.specs.Words.{fields_in_order}
 use Rattle.std.specs.Option.{option_or, option_map}
@@ -33,7 +33,7 @@ use Rattle.tsp_text.specs.Spells.{potentials_by_node, demands_in, spelled, wants
 use Rattle.tsp_text.specs.Text.{is_too_long, part, Spells}
 use Rattle.tsp_text.proofs.ValidRows.{none_applies, map_none}
 use Rattle.tsp_text.proofs.ValidCuts.{part_cut}
-use Rattle.tsp_text.proofs.ValidKeywords.{name_fits, comments_fit, others_fit, dimension_fits, capacity_fits, scale_fits}
+use Rattle.tsp_text.proofs.ValidKeywords.{name_fits, comments_fit, others_fit, dimension_fits, capacity_fits, scale_fits, load_unit_fits}
 use Rattle.tsp_text.proofs.ValidNumbers.{numbers_fit, points_fit, coords_fit}
 use Rattle.tsp_text.proofs.ValidStanding.{section_fits}
 use Rattle.tsp_text.proofs.ValidWeights.{weights_fit}
@@ -69,6 +69,7 @@ each_fits items cut clean whole OtherKey = others_fit items cut clean
 each_fits items cut clean whole DimensionKey = dimension_fits items
 each_fits items cut clean whole CapacityKey = capacity_fits items
 each_fits items cut clean whole ScaleKey = scale_fits items
+each_fits items cut clean whole LoadUnitKey = load_unit_fits items
 each_fits items cut clean whole EdgeWeightTypeKey = refl
 each_fits items cut clean whole EdgeWeightFormatKey = refl
 each_fits items cut clean whole NodeCoordTypeKey = refl

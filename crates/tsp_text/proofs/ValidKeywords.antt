@@ -11,13 +11,13 @@ use Rattle.std.proofs.lemmas.Slice.Eq.{bytes_eq-Decides}
 use Rattle.tsp_number.specs.declared.fault.NumberFault.{NumberFault}
 use Rattle.tsp_number.specs.Reading.{whole_of}
 use Rattle.tsp_format.specs.declared.field.Field.{Field}
-use Rattle.tsp_format.specs.declared.field.Field.TheVariants.{NameKey, CommentKey, DimensionKey, CapacityKey, ScaleKey, FixedEdgesPart}
+use Rattle.tsp_format.specs.declared.field.Field.TheVariants.{NameKey, CommentKey, DimensionKey, CapacityKey, ScaleKey, LoadUnitKey, FixedEdgesPart}
 use Rattle.tsp_format.specs.declared.keyword.Keyword.{Keyword}
 use Rattle.tsp_format.specs.declared.keyword.Keyword.TheVariants.{Known, EdgeDataFormat, EdgeDataSection, Eof, Unknown}
 use Rattle.tsp_format.specs.Bytes.{is_blank, is_letter, is_keyword_byte}
 use Rattle.tsp_format.specs.Words.{field_word, fields_in_order}
 use Rattle.tsp_format.specs.Keywords.{is_other_key, field_of, known_or_not, keyword_of, is_unknown}
-use Rattle.tsp_format.specs.Limits.{most_nodes, most_capacity, most_scale, most_kept_bytes, most_comments, most_others}
+use Rattle.tsp_format.specs.Limits.{most_nodes, most_capacity, most_scale, most_load_unit, most_kept_bytes, most_comments, most_others}
 use Rattle.tsp_draft.specs.Validity.{if_there, is_kept, is_unknown_keyword, is_other, are_comments, are_others, is_from_to, is_node}
 use Rattle.tsp_text.specs.Lines.{first_word}
 use Rattle.tsp_text.specs.Items.{WordLine, Item, Line, NumberWord, LineEnd}
@@ -186,6 +186,9 @@ capacity_fits items = number_fits (pos 1) (pos most_capacity) (value_at Capacity
 
 pub scale_fits : (items : List Item) → if_there (is_from_to (pos 1) (pos most_scale)) (number_at ScaleKey items) ≡ true
 scale_fits items = number_fits (pos 1) (pos most_scale) (value_at ScaleKey items)
+
+pub load_unit_fits : (items : List Item) → if_there (is_from_to (pos 1) (pos most_load_unit)) (number_at LoadUnitKey items) ≡ true
+load_unit_fits items = number_fits (pos 1) (pos most_load_unit) (value_at LoadUnitKey items)
 
 nodes_fit : (o : Option ℤ) → if_there (is_from_to (pos 1) (pos most_nodes)) o ≡ true
     → if_there (is_node most_nodes) (option_map nat_abs o) ≡ true

@@ -177,6 +177,10 @@ pub fn limits_of_lines()
     ensures larger_capacity { IsNumberFault (codes "CAPACITY : 1000000000001") 1 0 numbers.OutOfRange }
     ensures largest_scale { MissingAtEnd (codes "SCALE : 1000000") fields.TypeKey }
     ensures larger_scale { IsNumberFault (codes "SCALE : 1000001") 1 0 numbers.OutOfRange }
+    ensures largest_load_unit { MissingAtEnd (codes "LOAD_UNIT : 1000000000000") fields.TypeKey }
+    ensures larger_load_unit { IsNumberFault
+        (codes "LOAD_UNIT : 1000000000001") 1 0 numbers.OutOfRange }
+    ensures no_load_unit { IsNumberFault (codes "LOAD_UNIT : 0") 1 0 numbers.OutOfRange }
     ensures largest_coordinates { MissingAtEnd
         (codes "DIMENSION : 1/NODE_COORD_SECTION/1 1000000000 -1000000000") fields.TypeKey }
     ensures larger_coordinate { IsNumberFault

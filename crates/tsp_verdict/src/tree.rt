@@ -81,7 +81,8 @@ pub(crate) fn bound_of_tree(
 fn tree_of<'a>(instance: &Instance, branches: &'a File) -> Result<TreeData<'a>, Reason>
     ensures { MatchResult result (λ tree. (is_branches_file branches.now.kind ≡ true)
         × (nodes_of branches.now ≡ nodes_of instance.now)
-        × HoldsCases branches.now tree.scale (combs_of tree.combs.now) (steps_of tree.steps.now))
+        × HoldsCases branches.now tree.scale tree.load_unit (combs_of tree.combs.now)
+        (steps_of tree.steps.now))
         (λ reason. IsFirstReason (StandsAgainstBranches instance.now branches.now) reason) }
 {
     let Some(tree) = branches.as_tree() else {
@@ -112,7 +113,7 @@ fn judge_tree<C: PlacedCosts>(
     requires even { IsSymmetricTsp instance.now }
     requires sort { is_branches_file branches.now.kind ≡ true }
     requires count { nodes_of branches.now ≡ nodes_of instance.now }
-    requires held { HoldsCases branches.now tree.now.scale
+    requires held { HoldsCases branches.now tree.now.scale tree.now.load_unit
         (combs_of tree.now.combs.now) (steps_of tree.now.steps.now) }
     ensures { IfOk result
         (λ found. FindsBound certificates.Branches instance.now branches.now found) }

@@ -29,6 +29,7 @@ fields_of d = record {
   dimension = d.dimension;
   capacity = d.capacity;
   scale = d.scale;
+  load_unit = d.load_unit;
   weight_kind = d.weight_kind;
   weight_format = d.weight_format;
   coord_kind = d.coord_kind;

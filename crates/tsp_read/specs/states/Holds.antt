@@ -2,7 +2,7 @@
 use Rattle.std.specs.Prelude.{◌≡◌, Bool, false, not, ◌&&◌, List, [], ◌∷◌, Option, None, Some, is_some, Result, Ok, Err, nat_lt}
 use Rattle.std.specs.List.{find}
 use Rattle.tsp_format.specs.declared.field.Field.{Field}
-use Rattle.tsp_format.specs.declared.field.Field.TheVariants.{NameKey, TypeKey, DimensionKey, CapacityKey, ScaleKey, EdgeWeightTypeKey, EdgeWeightFormatKey, NodeCoordTypeKey, DisplayDataTypeKey}
+use Rattle.tsp_format.specs.declared.field.Field.TheVariants.{NameKey, TypeKey, DimensionKey, CapacityKey, ScaleKey, LoadUnitKey, EdgeWeightTypeKey, EdgeWeightFormatKey, NodeCoordTypeKey, DisplayDataTypeKey}
 use Rattle.tsp_draft.specs.Fields.{Fields}
 use Rattle.tsp_draft.specs.states.Drafts.{fields_of}
 use Rattle.tsp_section.specs.declared.fault.StepFault.{StepFault}
@@ -31,12 +31,12 @@ is_closed_incomplete earlier field = not (is_open field (open_section earlier)) 
 -- a keyword has come exactly where its field is present
 abbrev pub fields_there : Fields → List Bool
 fields_there fields = is_some fields.name ∷ is_some fields.kind ∷ is_some fields.dimension ∷ is_some fields.capacity
-    ∷ is_some fields.scale
+    ∷ is_some fields.scale ∷ is_some fields.load_unit
     ∷ is_some fields.weight_kind ∷ is_some fields.weight_format ∷ is_some fields.coord_kind ∷ is_some fields.display_kind ∷ []
 
 abbrev pub keywords_there : List Item → List Bool
 keywords_there earlier = has_line NameKey earlier ∷ has_line TypeKey earlier ∷ has_line DimensionKey earlier
-    ∷ has_line CapacityKey earlier ∷ has_line ScaleKey earlier
+    ∷ has_line CapacityKey earlier ∷ has_line ScaleKey earlier ∷ has_line LoadUnitKey earlier
     ∷ has_line EdgeWeightTypeKey earlier ∷ has_line EdgeWeightFormatKey earlier ∷ has_line NodeCoordTypeKey earlier
     ∷ has_line DisplayDataTypeKey earlier ∷ []
 

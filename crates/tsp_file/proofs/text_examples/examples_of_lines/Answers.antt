@@ -14,3 +14,7 @@ returns-clause-capacity c = search rules
 pub returns-clause-scale : goal.returns-clause-scale
 unfolding digits
 returns-clause-scale c = search rules
+
+pub returns-clause-load_unit : goal.returns-clause-load_unit
+unfolding digits
+returns-clause-load_unit c = search rules
