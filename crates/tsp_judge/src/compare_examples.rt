@@ -14,7 +14,7 @@ ghost use Rattle.tsp_read.specs.Reads.{StopsAt};
 ghost use Rattle.tsp_stream.specs.Sink.{Sink, HasWritten};
 ghost use Rattle.tsp_stream.specs.Turn.{Turn};
 ghost use Rattle.tsp_judge.specs.CheckRun.{Given, IsUnreadIn, IsSomeFile};
-ghost use Rattle.tsp_judge.specs.CompareRun.{ComparesNone, IsFaultOfCompare, largest_status, all_solution_lines};
+ghost use Rattle.tsp_judge.specs.CompareRun.{ComparesNone, IsFaultOfCompare, IsTurnAt, largest_status, all_solution_lines};
 
 /// The largest status of the solutions, whichever comes first.
 pub fn examples_of_largest_statuses()
@@ -61,4 +61,15 @@ pub fn examples_of_faulty_files_of_comparisons()
         → StopsAt fault second → IsFaultOfCompare (Some (by, second)) first 2 fault }
     ensures no_second { (fault : ReadFault) (first : Turn) → ¬ IsFaultOfCompare None first 2 fault }
     ensures no_third { (given : Given) (fault : ReadFault) (first : Turn) → ¬ IsFaultOfCompare given first 3 fault }
+{}
+
+/// Each solution is read from the reader that is opened for its place. Here that of place k holds
+/// the byte k.
+pub fn examples_of_opened_solutions()
+    ensures first { (turn : Turn)
+        → IsTurnAt (λ reader. Some (reader ∷ [])) (λ reader room given left after. reader ≡ after)
+        (λ place reader. reader ≡ place) 0 turn → turn.known ≡ Some (0 ∷ []) }
+    ensures second { (turn : Turn)
+        → IsTurnAt (λ reader. Some (reader ∷ [])) (λ reader room given left after. reader ≡ after)
+        (λ place reader. reader ≡ place) 1 turn → turn.known ≡ Some (1 ∷ []) }
 {}

@@ -40,7 +40,7 @@ pub use checked::{run, run_with_cause};
 pub use common::{Common, Found};
 pub use compare_examples::{
     examples_of_bases, examples_of_faulty_files_of_comparisons, examples_of_largest_statuses,
-    examples_of_lines_of_solutions,
+    examples_of_lines_of_solutions, examples_of_opened_solutions,
 };
 pub use compare_laws::{lines_of_bounded_tours, lines_of_checks, solutions_without_a_basis};
 pub use compared::{Compared, run_compare};

@@ -1,21 +1,50 @@
-//! What a task that is done says of the length that is claimed and of the certificate. No body is
-//! looked at here: a definition that is changed together with its code is refused by its examples.
+//! Which outcomes are accepted, and what a task that is done says of its files, of the length that
+//! is claimed and of the certificate. No body is looked at here: a definition that is changed
+//! together with its code is refused by its examples.
 
-ghost use Rattle.std.specs.Prelude.{◌≡◌, Option, None, Some, Result, ℤ};
+ghost use Rattle.std.specs.Prelude.{◌≡◌, ℕ, ℤ, List, true, false, Option, None, Some, Result, Err};
+ghost use Rattle.tsp_file.specs.declared.fault.RelayoutFault.{RelayoutFault};
+ghost use Rattle.tsp_format.specs.declared.layout.Layout.{Layout};
 ghost use Rattle.tsp_judge.specs.declared.Watched.{Watched};
 ghost use Rattle.tsp_judge.specs.declared.bound.Bounded.{Bounded};
 ghost use Rattle.tsp_judge.specs.declared.fault.RunFault.{RunFault};
+ghost use Rattle.tsp_judge.specs.declared.fault.RunFault.TheVariants as run_faults;
 ghost use Rattle.tsp_judge.specs.declared.judging.Judged.{Judged};
 ghost use Rattle.tsp_judge.specs.BoundRun.{IsBoundRunOf};
-ghost use Rattle.tsp_judge.specs.Sink.{Sink};
-ghost use Rattle.tsp_judge.specs.Turn.{Turn};
+ghost use Rattle.tsp_judge.specs.CheckRun.{IsSomeFile};
+ghost use Rattle.tsp_judge.specs.ConvertRun.{IsConvertRun};
+ghost use Rattle.tsp_judge.specs.Reads.{most_taken};
+ghost use Rattle.tsp_judge.specs.Sink.{Sink, IsUnwritten};
+ghost use Rattle.tsp_judge.specs.Turn.{Turn, IsUnread, TakesAtMost};
+ghost use Rattle.tsp_judge.specs.Watched.{turn_of};
 ghost use Rattle.tsp_judge.specs.Yes.{IsRunOf};
+ghost use Rattle.tsp_read.specs.declared.ReadFault.{ReadFault};
+ghost use Rattle.tsp_read.specs.Reads.{StopsAt};
 ghost use Rattle.tsp_reason.specs.declared.certificate.Certificate.{Certificate};
+ghost use Rattle.tsp_reason.specs.declared.verdict.BoundVerdict.TheVariants as bounds;
+ghost use Rattle.tsp_reason.specs.declared.verdict.Reason.{Reason};
+ghost use Rattle.tsp_reason.specs.declared.verdict.Verdict.TheVariants as verdicts;
 ghost use Rattle.tsp_perform.specs.declared.outcome.Outcome.{Outcome};
+ghost use Rattle.tsp_perform.specs.declared.outcome.Outcome.TheVariants as outcomes;
+ghost use Rattle.tsp_task.specs.declared.request.Comparison.{Comparison};
 ghost use Rattle.tsp_task.specs.declared.request.Task.TheVariants as tasks;
-ghost use Rattle.tsp_perform.specs.Outcomes.{IsDone, outcome_of_bound, outcome_of_check};
+ghost use Rattle.tsp_perform.specs.Outcomes.{IsCompared, IsDone, is_yes_outcome, outcome_of_bound, outcome_of_check};
 
 use std::io::Read;
+use tsp_stream::Gives;
+
+/// A solution that is rejected, or an instance or certificate without a bound, is no accepted one.
+pub fn examples_of_outcomes()
+    ensures done { is_yes_outcome outcomes.Done ≡ true }
+    ensures accepted { (judged : Judged) (length : ℤ) → judged.verdict ≡ verdicts.Tour length None
+        → is_yes_outcome (outcomes.Judged judged) ≡ true }
+    ensures rejected { (judged : Judged) (reason : Reason) → judged.verdict ≡ verdicts.No reason
+        → is_yes_outcome (outcomes.Judged judged) ≡ false }
+    ensures bounded { (bounded : Bounded) (bound : ℤ) → bounded.found ≡ bounds.Bound bound
+        → is_yes_outcome (outcomes.Bounded bounded) ≡ true }
+    ensures refused { (bounded : Bounded) (reason : Reason) → bounded.found ≡ bounds.No reason
+        → is_yes_outcome (outcomes.Bounded bounded) ≡ false }
+{}
 
 /// A check that is done is a run with the claim and the certificate of its task, and a bound one by
 /// its certificate.
@@ -37,4 +66,25 @@ pub fn examples_of_done_tasks<R: Read>()
         → IsDone R.remaining (tasks.Bound instance (by, certificate)) (tasks.Bound instance_left (by, certificate_left)) sink outcome
         → (first second : Turn) × (ended : Result Bounded RunFault) × (outcome ≡ outcome_of_bound ended)
         × IsBoundRunOf by first second sink ended }
+{}
+
+/// Which reader has which file: a fault of the instance's is one of file 1, and of the certificate
+/// of a comparison one of file 2; and a file is put into the layout of its task.
+pub fn examples_of_readers<R: Gives>()
+    ensures instance { (instance solution instance_left solution_left : Watched R) (sink : Sink) (fault : ReadFault)
+        → TakesAtMost most_taken (turn_of R.remaining instance instance_left) (StopsAt fault)
+        → TakesAtMost most_taken (turn_of R.remaining solution solution_left) IsUnread → IsUnwritten sink
+        → IsDone R.remaining (tasks.Check instance solution None None) (tasks.Check instance_left solution_left None None)
+        sink (Err (run_faults.File 1 fault)) }
+    ensures layout { (file left : Watched R) (to : Layout) (sink : Sink) (fault : RelayoutFault)
+        → TakesAtMost most_taken (turn_of R.remaining file left) (λ turn.
+        IsConvertRun (Some to) turn sink (Err (run_faults.Relayout fault)))
+        → IsDone R.remaining (tasks.Convert file (Some to)) (tasks.Convert left (Some to)) sink
+        (Err (run_faults.Relayout fault)) }
+    ensures compared { (by : Certificate) (old new : Comparison (Watched R)) (certificate left : Watched R)
+        (names : List (List ℕ)) (sink : Sink) (fault : ReadFault)
+        → old.certificate ≡ Some (by, certificate) → new.certificate ≡ Some (by, left)
+        → TakesAtMost most_taken (turn_of R.remaining old.instance new.instance) IsSomeFile
+        → TakesAtMost most_taken (turn_of R.remaining certificate left) (StopsAt fault) → IsUnwritten sink
+        → IsCompared R.remaining R.gives (λ index reader. index ≡ index) names old new sink (Err (run_faults.File 2 fault)) }
 {}

@@ -1,7 +1,7 @@
 //! The exit status of each ending, each line, and the files of a task. No body is looked at here: a
 //! definition that is changed together with its code is refused by its examples.
 
-ghost use Rattle.std.specs.Prelude.{◌≡◌, ◌++◌, ◌∷◌, ℤ, [], true, false, Option, None, Some, Ok, Err, codes, decimal};
+ghost use Rattle.std.specs.Prelude.{◌≡◌, ◌++◌, ◌∷◌, ℤ, [], length, true, false, Option, None, Some, Ok, Err, codes, decimal};
 ghost use Rattle.clap.specs.declared.error.Error.{Error};
 ghost use Rattle.tsp_judge.specs.declared.EndFault.TheVariants as end_faults;
 ghost use Rattle.tsp_judge.specs.declared.LineFault.TheVariants as line_faults;
@@ -23,7 +23,10 @@ ghost use Rattle.tsp_judge.specs.declared.Watched.{Watched};
 ghost use Rattle.tsp_judge.specs.Watched.{watched};
 ghost use Rattle.tsp_judge.specs.declared.Certificate.{Certificate};
 ghost use Rattle.tsp_cli.specs.declared.request.Place.{Place};
+ghost use Rattle.tsp_cli.specs.Requests.{IsPlaceAt};
+ghost use Rattle.tsp_task.specs.declared.request.Comparison.{Comparison};
 ghost use Rattle.tsp_task.specs.declared.request.Task.TheVariants as tasks;
+ghost use Rattle.tsp_run.specs.ComparisonRun.{IsOpenedAt, paths_of};
 ghost use Rattle.tsp_run.specs.Printing.{version_text};
 ghost use Rattle.tsp_run.specs.ProgramRun.{AreFresh, begins_with_help};
 ghost use Rattle.tsp_run.specs.Ending.{status_of_ending, line_text, ended, IsWritten};
@@ -117,6 +120,12 @@ pub fn examples_of_opened_files()
     ensures another_task { (by kept : Certificate) (a b c : Place) (claimed : Option ℤ) (x z : Watched Place)
         → ¬ AreFresh (λ place file. file ≡ place) (tasks.Check a b (Some (by, c)) claimed)
         (tasks.Bound x (kept, z)) }
+    ensures first_solution { (file : Place) → IsOpenedAt (λ place file. file ≡ place) (codes "a" ∷ codes "b" ∷ []) 0 file
+        → (place : Place) × IsPlaceAt (codes "a") place × (file ≡ place) }
+    ensures second_solution { (file : Place) → IsOpenedAt (λ place file. file ≡ place) (codes "a" ∷ codes "b" ∷ []) 1 file
+        → (place : Place) × IsPlaceAt (codes "b") place × (file ≡ place) }
+    ensures each_solution { (comparison : Comparison Place)
+        → length (paths_of comparison) ≡ length comparison.solutions.now }
     ensures certificate_dropped { (by : Certificate) (a b c : Place) (claimed same : Option ℤ) (x y : Watched Place)
         → ¬ AreFresh (λ place file. file ≡ place) (tasks.Check a b (Some (by, c)) claimed) (tasks.Check x y None same) }
 {}
