@@ -1,5 +1,6 @@
 """Builds the wheel, with the library inside: YOKECAIRN_LIBRARY=PATH python3 setup.py bdist_wheel
 
+The script recheck.py is put beside it: YOKECAIRN_RECHECK names it, where this folder isn't in its repository.
 YOKECAIRN_SYSTEM names the system of the library, one of SYSTEMS, where it isn't Linux on x86-64; then YOKECAIRN_VERSION
 is the library's version, which else the library is asked for. Any Python 3 calls the library over ctypes. For Linux it
 needs no glibc above 2.17.
@@ -19,6 +20,7 @@ LIBRARY = os.environ.get("YOKECAIRN_LIBRARY")
 if not LIBRARY:
     raise SystemExit("setup.py: YOKECAIRN_LIBRARY has to be the path of libtsp.so")
 
+RECHECK = os.environ.get("YOKECAIRN_RECHECK") or Path(__file__).resolve().parents[2] / "examples/recheck.py"
 
 # The tag of each system, and what the library is called in the package there.
 SYSTEMS = {
@@ -50,9 +52,10 @@ class WithLibrary(build_py):
 
     def run(self):
         super().run()
-        place = Path(self.build_lib, "yokecairn", NAME)
-        shutil.copyfile(LIBRARY, place)
-        place.chmod(0o644)
+        for source in (LIBRARY, RECHECK):
+            place = Path(self.build_lib, "yokecairn", NAME if source is LIBRARY else "recheck.py")
+            shutil.copyfile(source, place)
+            place.chmod(0o644)
 
 
 class AnyPython(bdist_wheel):

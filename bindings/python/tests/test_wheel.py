@@ -26,7 +26,8 @@ class Wheel(unittest.TestCase):
         subprocess.run(
             [python_with("setuptools", "wheel"), "setup.py", "-q", "bdist_wheel", "--dist-dir", str(Path(folder, "dist"))],
             cwd=source,
-            env={**os.environ, "SOURCE_DATE_EPOCH": "1700000000", "YOKECAIRN_LIBRARY": _library.path()},
+            env={**os.environ, "SOURCE_DATE_EPOCH": "1700000000", "YOKECAIRN_LIBRARY": _library.path(),
+                 "YOKECAIRN_RECHECK": str(EXAMPLES / "recheck.py")},
             check=True,
             capture_output=True,
         )
@@ -42,7 +43,7 @@ class Wheel(unittest.TestCase):
             sums = {hashlib.sha256(path.read_bytes()).hexdigest() for path in (wheel, other)}
             self.assertEqual(len(sums), 1)
             names = zipfile.ZipFile(wheel).namelist()
-            for name in ("libtsp.so", "py.typed", "__main__.py"):
+            for name in ("libtsp.so", "py.typed", "__main__.py", "recheck.py"):
                 self.assertIn(f"yokecairn/{name}", names)
             self.use(wheel, Path(two, "environment"))
 

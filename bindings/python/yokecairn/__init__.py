@@ -30,6 +30,7 @@ from .faults import (
 )
 from .many import Job, check_many
 from .problem import Problem, load, parse, read
+from .publishing import Verification, publish, verify
 from .report import Report, bound, check, show
 from .solution import best_known, read_solution
 
@@ -52,6 +53,7 @@ __all__ = [
     "SolutionError",
     "Table",
     "TooLong",
+    "Verification",
     "WrongKind",
     "best_known",
     "bound",
@@ -60,10 +62,12 @@ __all__ = [
     "compare",
     "load",
     "parse",
+    "publish",
     "read",
     "read_solution",
     "show",
     "table",
+    "verify",
 ]
 
 LAYOUTS = tuple(_library.LAYOUTS)

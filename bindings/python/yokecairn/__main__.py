@@ -1,5 +1,5 @@
-"""The program's verbs: python -m yokecairn show, convert, check, bound and compare, and two of its own: solution and
-table.
+"""The program's verbs: python -m yokecairn show, convert, check, bound and compare, and some of its own: solution,
+table, publish and verify.
 
 `solution` writes a solution of another program as a file of TYPE TOUR. `check` and `compare` read routes of CVRPLIB and
 OR-Tools and JSON directly, and with `--foreign` each form of another program; `--no-foreign` reads none, as the program
@@ -11,12 +11,13 @@ explained, goes on with the path and the word that is wrong, or with what the sy
 
 import os
 import sys
-from typing import IO, List, Sequence, Tuple
+from typing import IO, Callable, List, Sequence, Tuple
 
 from . import _library
 from ._claims import length_of
 from ._comparing import Lines
 from ._grammar import Asked, Refused, Task, task_of
+from ._publishing import published
 from ._tabling import tabled
 from .compare import Judge
 from .faults import Fault, OutOfMemory, SolutionError, error_of, located
@@ -71,8 +72,8 @@ class Run:
 
     def perform(self, task: Task) -> int:
         """Reads the files, and does the verb."""
-        if task.verb == "table":
-            return self.tabled(task)
+        if task.verb in ("table", "publish", "verify"):
+            return self.written(tabled if task.verb == "table" else published, task)
         texts: List[bytes] = []
         try:
             for path in task.paths:
@@ -92,10 +93,10 @@ class Run:
             self.explain(task.explained(texts))
         return ended
 
-    def tabled(self, task: Task) -> int:
-        """Judges the solutions in folders, and writes their table; the exit status."""
+    def written(self, verb: Callable[["Run", Task], int], task: Task) -> int:
+        """Does a verb on folders, which writes; the exit status."""
         try:
-            return tabled(self, task)
+            return verb(self, task)
         except NotWritten:
             self.say(b"output: device\n")
             return DEVICE

@@ -28,11 +28,18 @@ _VERBS: Dict[str, Tuple[str, Tuple[str, ...], Tuple[str, ...]]] = {
         ("folders",),
         ("--best", "--csv", "--latex", "--html", "--jobs", "--no-claims"),
     ),
+    "publish": (
+        "put a result into a new folder, with all that a reader needs to check it",
+        ("folder", "file", "solution"),
+        ("--potentials", "--branches", "--length", "--no-claims"),
+    ),
+    "verify": ("check a published folder by its files alone", ("folder",), ()),
     "solution": ("write a solution of another program as a file of TYPE TOUR", ("file",), ("--dimension", "--first", "--routes")),
 }
 _FILES: Dict[str, Dict[str, Any]] = {
     "file": {"metavar": "F", "help": "the file, or the instance; - is standard input"},
     "solution": {"metavar": "T", "help": "the solution"},
+    "folder": {"metavar": "FOLDER", "help": "the folder of the result"},
     "folders": {"metavar": "FOLDER", "nargs": "+", "help": "instances, and a folder of solutions for each solver"},
     "solutions": {"metavar": "T", "nargs": "+", "help": "the solutions"},
 }
@@ -128,7 +135,9 @@ class Task:
         self.dimension: Optional[int] = getattr(given, "dimension", None)
         self.first: Optional[int] = getattr(given, "first", None)
         self.routes: Optional[bool] = getattr(given, "routes", None)
-        self.folders: List[str] = getattr(given, "folders", [])
+        self.folders: List[str] = getattr(given, "folders", [getattr(given, "folder", "")])
+        self.potentials: Optional[str] = potentials
+        self.branches: Optional[str] = branches
         self.jobs: Optional[int] = getattr(given, "jobs", None)
         if self.jobs is not None and self.jobs < 1:
             raise Refused("--jobs is 1 or more\n")
