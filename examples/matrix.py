@@ -1,41 +1,71 @@
 #!/usr/bin/env python3
-"""Writes an instance with points as a full matrix, for programs that read only these: matrix.py F > OUT
+"""Writes an instance with points as a full matrix: matrix.py F [--rounding trunc|dimacs] > OUT
 
-The distances are whole numbers, exact over the decimals of F. It isn't proved. It needs Python 3.9 and
-its standard library alone.
+The distances are whole numbers, exact over the decimals of F. With --rounding distances of EUC_2D are rounded down, and
+not to the nearest: trunc takes whole units, and dimacs tenths, so its weights are ten times as large. It isn't proved. It
+needs Python 3.9 and its standard library alone.
 """
 from __future__ import annotations
 
+import argparse
 import sys
+from math import isqrt
+from typing import Callable, Optional
 
-from recheck import Faulty, costs_of, fields_of, whole
+from recheck import BILLION, Faulty, Fields, costs_of, fields_of, points_of, whole
 
 KINDS = ("EUC_2D", "CEIL_2D", "MAN_2D", "MAX_2D", "ATT", "EUC_3D", "MAN_3D", "MAX_3D")
+PARTS = {"trunc": 1, "dimacs": 10}  # of a unit
+SECTIONS = ("FIXED_EDGES_SECTION", "DEMAND_SECTION", "DEPOT_SECTION")
+
+
+def rounded_down(fields: Fields, count: int, parts: int) -> Callable[[int, int], int]:
+    """The distances in so many parts of a unit, rounded down."""
+    points = points_of(fields, "EUC_2D", count)
+
+    def distance(i: int, j: int) -> int:
+        return isqrt(parts**2 * sum((a - b) ** 2 for a, b in zip(points[i], points[j]))) // BILLION
+
+    return distance
+
+
+def text_of(path: str, rounding: Optional[str]) -> str:
+    """The instance as a full matrix."""
+    fields = fields_of(path)
+    kind = (fields.get("EDGE_WEIGHT_TYPE") or ["none"])[0]
+    if kind not in KINDS:
+        sys.exit(f"matrix: {path}: its EDGE_WEIGHT_TYPE is {kind}, and no distance of points that is read here")
+    if rounding and kind != "EUC_2D":
+        sys.exit(f"matrix: {path}: only distances of EUC_2D are rounded down, and its EDGE_WEIGHT_TYPE is {kind}")
+    count = whole(fields["DIMENSION"][0])
+    cost = rounded_down(fields, count, PARTS[rounding]) if rounding else costs_of(fields, count)
+    nodes = range(1, count + 1)
+    lines = [f"NAME : {' '.join(fields['NAME'])}"] if "NAME" in fields else []
+    lines += [f"TYPE : {fields['TYPE'][0]}"]
+    if rounding:
+        lines += [f"COMMENT : Weights are {'ten times ' * (rounding == 'dimacs')}the distances, rounded down"]
+    lines += [f"DIMENSION : {count}"]
+    lines += [f"CAPACITY : {fields['CAPACITY'][0]}"] if "CAPACITY" in fields else []
+    lines += ["EDGE_WEIGHT_TYPE : EXPLICIT", "EDGE_WEIGHT_FORMAT : FULL_MATRIX", "EDGE_WEIGHT_SECTION"]
+    lines += [" ".join(str(cost(i, j)) for j in nodes) for i in nodes]
+    for section in SECTIONS:
+        lines += [section, " ".join(fields[section])] if fields.get(section) else []
+    return "\n".join([*lines, "EOF", ""])
 
 
 def main() -> None:
-    if len(sys.argv) != 2 or sys.argv[1].startswith("-"):
-        sys.exit("matrix: usage: matrix.py F > OUT")
-    path = sys.argv[1]
+    words = argparse.ArgumentParser(prog="matrix", description="Writes an instance with points as a full matrix.")
+    words.add_argument("path", metavar="F")
+    words.add_argument("--rounding", choices=sorted(PARTS), help="round distances down, to units or to tenths")
+    given = words.parse_args()
     try:
-        fields = fields_of(path)
-        kind = (fields.get("EDGE_WEIGHT_TYPE") or ["none"])[0]
-        if kind not in KINDS:
-            sys.exit(f"matrix: {path}: its EDGE_WEIGHT_TYPE is {kind}, and no distance of points that is read here")
-        count = whole(fields["DIMENSION"][0])
-        cost, nodes = costs_of(fields, count), range(1, count + 1)
-        rows = [" ".join(str(cost(i, j)) for j in nodes) for i in nodes]
-        head = [f"NAME : {' '.join(fields['NAME'])}"] if "NAME" in fields else []
-        head += [f"TYPE : {fields['TYPE'][0]}", f"DIMENSION : {count}"]
+        sys.stdout.write(text_of(given.path, given.rounding))
     except OSError as fault:
-        sys.exit(f"matrix: {path}: {fault.strerror}")
+        sys.exit(f"matrix: {given.path}: {fault.strerror}")
     except Faulty as fault:
         sys.exit(f"matrix: {fault}")
     except (LookupError, ValueError):
-        sys.exit(f"matrix: {path}: this isn't an instance with points")
-    head += ["EDGE_WEIGHT_TYPE : EXPLICIT", "EDGE_WEIGHT_FORMAT : FULL_MATRIX", "EDGE_WEIGHT_SECTION"]
-    fixed = fields.get("FIXED_EDGES_SECTION")
-    print("\n".join([*head, *rows, *(["FIXED_EDGES_SECTION", " ".join(fixed)] if fixed else []), "EOF"]))
+        sys.exit(f"matrix: {given.path}: this isn't an instance with points")
 
 
 if __name__ == "__main__":

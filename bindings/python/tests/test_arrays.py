@@ -35,6 +35,24 @@ class Points(unittest.TestCase):
         # half to even
         self.assertEqual(Problem.from_points([[0.25, 0.75]], decimals=1).node_coords[1], [Decimal("0.2"), Decimal("0.8")])
 
+    def test_distances_that_are_rounded_down(self):
+        near = [[0, 0], [1, 1], [2, 0], [0.3, 0.3]]  # 1.41.., 2, and 0.42.. from the first
+        problem = Problem.from_points(near, rounding="dimacs", name="near", comment="mine")
+        self.assertEqual([problem.get_weight(1, node) for node in (2, 3, 4)], [14, 20, 4])
+        self.assertEqual(problem.comment, "mine\nWeights are ten times the distances, rounded down")
+        self.assertEqual(problem.get_display(4), [Decimal("0.3"), Decimal("0.3")])
+        self.assertEqual([Problem.from_points(near, rounding="trunc").get_weight(1, node) for node in (2, 3, 4)], [1, 2, 0])
+        # exactly on a tenth, where floats are below: 0.1 * 3 and 0.4 have the distance 0.5
+        exact = Problem.from_points([[0, 0], [0.3, 0.4], [1, 1]], rounding="dimacs")
+        self.assertEqual(exact.get_weight(1, 2), 5)
+        routes = Problem.from_points(near, rounding="dimacs", type="CVRP", capacity=5, demands={1: 0, 2: 1, 3: 1, 4: 1}, depots=[1])
+        report = check(routes, [[2, 3, 4]])
+        self.assertEqual(report.length, 14 + 14 + 17 + 4)  # the third is 1.72..
+        self.assertEqual(report.real_length(10, "down"), (Decimal("4.9"), Decimal("5.3")))
+        for words, told in (({"rounding": "up"}, "a rounding is one of"), ({"rounding": "trunc", "edge_weight_type": "ATT"}, "only distances of EUC_2D")):
+            with self.assertRaisesRegex(ValueError, told):
+                Problem.from_points(near, **words)
+
     def test_wrong_points(self):
         for points, kind, words in (
             ([[0, "1"]], TypeError, "coordinate of point 1 is no number, but of type str: '1'"),

@@ -98,7 +98,7 @@ class Tours(unittest.TestCase):
             with self.assertRaises(wrong):
                 report.real_length(scale)
         with self.assertRaises(ValueError):
-            report.real_length(10, "down")
+            report.real_length(10, "away")
 
     def test_reports_are_values(self):
         report = yokecairn.check(RECTANGLE.encode(), [1, 2, 3, 4], ZEROS)

@@ -1,6 +1,7 @@
 """Rows of numbers, as lists or numpy's arrays, as exact numbers."""
 
 from decimal import ROUND_HALF_EVEN, Context, Decimal
+from math import isqrt
 from typing import Any, Iterable, List, Optional, Sequence
 
 _EXACT = Context(prec=400, rounding=ROUND_HALF_EVEN)
@@ -59,6 +60,17 @@ def points(table: Any, axes: int, scale: int, decimals: Optional[int]) -> List[L
         if decimals is not None:
             exact = [it.quantize(Decimal(1).scaleb(-decimals), context=_EXACT) for it in exact]
         found.append([_EXACT.plus(it.normalize(_EXACT)) for it in exact])
+    return found
+
+
+def rounded_down(rows: Sequence[Sequence[Decimal]], parts: int) -> List[List[int]]:
+    """The distances of points in the plane, in so many parts of a unit, rounded down."""
+    places = max(-min(int(value.as_tuple().exponent), 0) for row in rows for value in row)
+    exact = [[int(_EXACT.scaleb(value, places)) for value in row] for row in rows]
+    found = [[0] * len(rows) for _ in rows]
+    for i, (x, y) in enumerate(exact):
+        for j, (a, b) in enumerate(exact[:i]):
+            found[i][j] = found[j][i] = isqrt(parts**2 * ((x - a) ** 2 + (y - b) ** 2)) // 10**places
     return found
 
 

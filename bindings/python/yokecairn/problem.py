@@ -13,6 +13,9 @@ from .faults import LineFault, NodeError, WrongKind, error_of, explained, text_o
 
 Path = Union[str, "os.PathLike[str]"]
 
+# The parts of a unit to which distances are rounded down.
+_PARTS = {"trunc": 1, "dimacs": 10}
+
 # The types of files that have weights.
 _WEIGHTED = ("TSP", "ATSP", "CVRP")
 
@@ -132,6 +135,7 @@ class Problem:
         edge_weight_type: str = "EUC_2D",
         scale: int = 1,
         decimals: Optional[int] = None,
+        rounding: str = "nearest",
         floats: bool = False,
         **fields: Any,
     ) -> "Problem":
@@ -143,11 +147,17 @@ class Problem:
         many, half to even. Distances are rounded to whole numbers: give points of a unit square a scale,
         as 10000, which a COMMENT tells. More `fields` are those of a `Problem`, as `name`.
 
+        With `rounding="dimacs"` distances are rounded down to tenths, and with "trunc" to units, as the DIMACS challenges
+        and some programs do. TSPLIB has no such distance, so the instance has a matrix then, in tenths or in units, and
+        the points for a picture. At most 5,000 points have one.
+
         Raises:
             Fault: the points make no file.
             TypeError: a coordinate is no number.
-            ValueError: the points aren't rows of two or three numbers.
+            ValueError: the points aren't rows of two or three numbers, or there is no such rounding.
         """
+        if rounding != "nearest":
+            return cls._rounded_down(points, edge_weight_type, scale, decimals, rounding, floats, fields)
         rows = _arrays.points(points, 3 if edge_weight_type.endswith("_3D") else 2, scale, decimals)
         notes = [fields.pop("comment", None), _arrays.note("Coordinates", scale, decimals)]
         mine: Dict[str, Any] = {"type": "TSP", "comment": "\n".join(filter(None, notes)) or None, **fields}
@@ -160,6 +170,30 @@ class Problem:
                 raise
             advice = "  from_points(.., decimals=9) rounds coordinates to nine decimals."
             raise LineFault(fault.told, f"{fault.explanation}\n{advice}", found=fault.found) from None
+
+    @classmethod
+    def _rounded_down(
+        cls,
+        points: Any,
+        kind: str,
+        scale: int,
+        decimals: Optional[int],
+        rounding: str,
+        floats: bool,
+        fields: Dict[str, Any],
+    ) -> "Problem":
+        """An instance whose weights are the distances of these points, rounded down."""
+        if rounding not in _PARTS:
+            raise ValueError(f"a rounding is one of nearest, {', '.join(_PARTS)}, and this is {rounding!r:.60}")
+        if kind != "EUC_2D":
+            raise ValueError(f"only distances of EUC_2D are rounded down, and this is {kind}")
+        rows = _arrays.points(points, 2, scale, decimals)
+        told = f"Weights are {'ten times ' * (rounding == 'dimacs')}the distances, rounded down"
+        notes = [fields.pop("comment", None), _arrays.note("Coordinates", scale, decimals), told]
+        mine: Dict[str, Any] = {"type": "TSP", **fields, "comment": "\n".join(filter(None, notes)), "dimension": len(rows)}
+        mine.update(edge_weight_type="EXPLICIT", edge_weight_format="FULL_MATRIX", display_data_type="TWOD_DISPLAY")
+        mine.update(edge_weights=_arrays.rounded_down(rows, _PARTS[rounding]), display_data=dict(enumerate(rows, 1)))
+        return cls(**mine, floats=floats)
 
     @classmethod
     def from_matrix(

@@ -23,7 +23,7 @@ Solution = Union[Source, Sequence[int], Sequence[Sequence[int]]]
 _ROUNDED = ": every distance along the solution is 0 or 1, "
 
 # By how many halves a whole distance may be above the real one, and below it.
-_ROUNDINGS = {"nearest": (1, 1), "up": (2, 0)}
+_ROUNDINGS = {"nearest": (1, 1), "up": (2, 0), "down": (0, 2)}
 _DOWN, _UP = (Context(prec=30, rounding=rounding) for rounding in (ROUND_FLOOR, ROUND_CEILING))
 
 # The words of a report's lines with a number.
@@ -105,7 +105,8 @@ class Report:
         multiplied by `scale` and then rounded to whole numbers: `(least, most)`; None where there is no length.
 
         Each distance is rounded by at most a half, so a tour of n edges is within n/2 units of 1/scale. With
-        `rounding="up"`, as of CEIL_2D and ATT, each is above the real one by less than 1. The limits are exact
+        `rounding="up"`, as of CEIL_2D and ATT, each is above the real one by less than 1, and with "down", as
+        `from_points(.., rounding="dimacs")` has them, below it by less than 1. The limits are exact
         where they have at most 30 digits, and else the next number outside.
 
         Raises:
