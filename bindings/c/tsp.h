@@ -203,8 +203,10 @@ enum {
     TSP_NOT_BRANCHES = 23,
     TSP_BRANCHES_DIMENSION = 24,
     TSP_BAD_COMB = 25,
-    TSP_BRANCH_TWICE = 26,
-    TSP_BAD_LEAF = 27
+    TSP_BAD_BRANCH = 26,
+    TSP_BRANCH_TWICE = 27,
+    TSP_BAD_LEAF = 28,
+    TSP_TOO_MANY_LOADS = 29
 };
 
 /* Faults. Those up to TSP_LATE_SPACE are of a line, those up to TSP_WRONG_COUNT of the end of a text. */

@@ -29,8 +29,10 @@ REASONS = (
     ("NotBranches", 0),
     ("BranchesDimension", 0),
     ("BadComb", 1),
+    ("BadBranch", 1),
     ("BranchTwice", 1),
     ("BadLeaf", 1),
+    ("TooManyLoads", 0),
 )
 
 
@@ -63,5 +65,7 @@ class Reason(str, Enum):
     NOT_BRANCHES = "NotBranches"
     BRANCHES_DIMENSION = "BranchesDimension"
     BAD_COMB = "BadComb"
+    BAD_BRANCH = "BadBranch"
     BRANCH_TWICE = "BranchTwice"
     BAD_LEAF = "BadLeaf"
+    TOO_MANY_LOADS = "TooManyLoads"

@@ -18,7 +18,7 @@ use Rattle.tsp_reason.specs.declared.certificate.Certificate.{Certificate}
 use Rattle.tsp_reason.specs.declared.verdict.BoundVerdict.{BoundVerdict}
 use Rattle.tsp_reason.specs.declared.verdict.BoundVerdict.TheVariants as bounds
 use Rattle.tsp_reason.specs.declared.verdict.Reason.{Reason}
-use Rattle.tsp_reason.specs.declared.verdict.Reason.TheVariants.{NotSymmetric, DepotInRoute, NodeOutOfRange, RepeatedNode, FixedEdgeUnused, Unserved, Overload, LengthClaimed, MultiplierNotFixed, MultiplierRepeated, DualInfeasible, BadComb, BranchTwice, BadLeaf}
+use Rattle.tsp_reason.specs.declared.verdict.Reason.TheVariants.{NotSymmetric, DepotInRoute, NodeOutOfRange, RepeatedNode, FixedEdgeUnused, Unserved, Overload, LengthClaimed, MultiplierNotFixed, MultiplierRepeated, DualInfeasible, BadComb, BadBranch, BranchTwice, BadLeaf}
 use Rattle.tsp_reason.specs.declared.verdict.Verdict.{Verdict}
 use Rattle.tsp_reason.specs.declared.verdict.Verdict.TheVariants as verdicts
 use Rattle.tsp_reason.specs.Verdicts.{is_yes, is_bound_yes}
@@ -98,6 +98,7 @@ first_number (MultiplierNotFixed index) = pos index
 first_number (MultiplierRepeated index) = pos index
 first_number (DualInfeasible i j) = pos i
 first_number (BadComb index) = pos index
+first_number (BadBranch index) = pos index
 first_number (BranchTwice index) = pos index
 first_number (BadLeaf index) = pos index
 first_number reason = pos 0

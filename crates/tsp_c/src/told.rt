@@ -304,8 +304,10 @@ fn reason_number(reason: Reason) -> u32
         Reason::NotBranches => 23,
         Reason::BranchesDimension => 24,
         Reason::BadComb { .. } => 25,
-        Reason::BranchTwice { .. } => 26,
-        Reason::BadLeaf { .. } => 27,
+        Reason::BadBranch { .. } => 26,
+        Reason::BranchTwice { .. } => 27,
+        Reason::BadLeaf { .. } => 28,
+        Reason::TooManyLoads => 29,
     }
 }
 
@@ -322,6 +324,7 @@ fn first_number(reason: Reason) -> i64
         | Reason::MultiplierNotFixed { index }
         | Reason::MultiplierRepeated { index }
         | Reason::BadComb { index }
+        | Reason::BadBranch { index }
         | Reason::BranchTwice { index }
         | Reason::BadLeaf { index } => i64::from(index),
         Reason::Unserved { node } => i64::from(node),

@@ -32,7 +32,9 @@ pub(crate) fn push_certificate(
         }
         Reason::DualInfeasible { i, j } => push_sum(text, i, j, certificate),
         Reason::BadComb { index } => push_comb(text, index, certificate),
-        Reason::BranchTwice { index } => push_branch(text, index, certificate),
+        Reason::BadBranch { index } | Reason::BranchTwice { index } => {
+            push_branch(text, index, certificate)
+        }
         _ => Ok(()),
     }
 }

@@ -147,8 +147,10 @@ pub(crate) fn reason_sentence(reason: Reason) -> &'static str {
         Reason::NotBranches => NOT_BRANCHES,
         Reason::BranchesDimension => BRANCHES_DIMENSION,
         Reason::BadComb { .. } => BAD_COMB,
+        Reason::BadBranch { .. } => BAD_BRANCH,
         Reason::BranchTwice { .. } => BRANCH_TWICE,
         Reason::BadLeaf { .. } => BAD_LEAF,
+        Reason::TooManyLoads => TOO_MANY_LOADS,
     }
 }
 
@@ -219,6 +221,10 @@ const BAD_COMB: &str =
     each with a node inside the handle and one outside; or any other sets, at most 63, whose nodes make 2 to 14 parts.\n\
     Two nodes are in one part if they are in the same sets. The nodes in no set are a part too.";
 
+const BAD_BRANCH: &str =
+    "A branch of BRANCH_SECTION is on a pair of nodes for a TSP or an ATSP. For a CVRP it is on a family of COMB_SECTION:\n\
+    its first number is DIMENSION plus the number of the family.";
+
 const BRANCH_TWICE: &str =
     "This branch of BRANCH_SECTION is on a pair that a branch above it decides, or that is a fixed edge of the instance,\n\
     whichever node comes first. For an ATSP it is the arc from the first node to the second one.";
@@ -230,3 +236,7 @@ const BAD_LEAF: &str =
     and sum to at most 300,000,000,000,000,000, where there are lone sets and combs alone. In general the sum of each\n\
     times 3, or for other sets times the most of them that two nodes cross, is at most 900,000,000,000,000,000.\n\
     Numbers are written as their differences to those of the leaf before.";
+
+const TOO_MANY_LOADS: &str =
+    "DIMENSION times one more than the capacity, counted in loads, is more than 10,000,000.\n\
+    A larger LOAD_UNIT makes fewer loads. The bound may be lower then.";

@@ -4,7 +4,7 @@ use Rattle.tsp_reason.specs.declared.certificate.Certificate.TheVariants as cert
 use Rattle.tsp_reason.specs.declared.role.Role.{Role}
 use Rattle.tsp_reason.specs.declared.role.Role.TheVariants.{Instance, Solution, Potentials, Branches}
 use Rattle.tsp_reason.specs.declared.verdict.Reason.{Reason}
-use Rattle.tsp_reason.specs.declared.verdict.Reason.TheVariants.{NotASolution, TooFewNodes, NotSymmetric, Dimension, TourCount, TourLength, NodeOutOfRange, RepeatedNode, FixedEdgeUnused, NotPotentials, PotentialsDimension, PotentialsKind, MultiplierNotFixed, MultiplierRepeated, DualInfeasible, DepotCount, DepotDemand, FixedEdgesInRoutes, DepotInRoute, Unserved, Overload, NotBranches, BranchesDimension, BadComb, BranchTwice, BadLeaf, LengthClaimed}
+use Rattle.tsp_reason.specs.declared.verdict.Reason.TheVariants.{NotASolution, TooFewNodes, NotSymmetric, Dimension, TourCount, TourLength, NodeOutOfRange, RepeatedNode, FixedEdgeUnused, NotPotentials, PotentialsDimension, PotentialsKind, MultiplierNotFixed, MultiplierRepeated, DualInfeasible, DepotCount, DepotDemand, FixedEdgesInRoutes, DepotInRoute, Unserved, Overload, NotBranches, BranchesDimension, BadComb, BadBranch, BranchTwice, BadLeaf, TooManyLoads, LengthClaimed}
 
 -- what the file of a certificate is given for
 abbrev pub role_by : Certificate → Role
@@ -38,5 +38,7 @@ role_of (DualInfeasible i j) = Potentials
 role_of NotBranches = Branches
 role_of BranchesDimension = Branches
 role_of (BadComb index) = Branches
+role_of (BadBranch index) = Branches
 role_of (BranchTwice index) = Branches
 role_of (BadLeaf index) = Branches
+role_of TooManyLoads = Branches

@@ -59,7 +59,9 @@ pub fn blamed(reason: Reason) -> Role
         Reason::NotBranches
         | Reason::BranchesDimension
         | Reason::BadComb { .. }
+        | Reason::BadBranch { .. }
         | Reason::BranchTwice { .. }
-        | Reason::BadLeaf { .. } => Role::Branches,
+        | Reason::BadLeaf { .. }
+        | Reason::TooManyLoads => Role::Branches,
     }
 }

@@ -67,6 +67,9 @@ pub enum Reason {
     /// lone set nor a comb and has more than 63 sets, or sets that divide the nodes into more than
     /// 14 parts, or into one.
     BadComb { index: u32 },
+    /// This branch is the first one of the wrong kind: on a family where tours are judged, or where
+    /// routes are judged on something else than one of the certificate's families.
+    BadBranch { index: u32 },
     /// This branch is the first one whose pair is decided above it or fixed: for a TSP in either
     /// direction, for an ATSP the same arc.
     BranchTwice { index: u32 },
@@ -74,6 +77,9 @@ pub enum Reason {
     /// families, a potential above 10^15 in size, a negative multiplier, or multipliers that sum to
     /// more than 9 * 10^17, each times the most sets of its family that two nodes cross.
     BadLeaf { index: u32 },
+    /// Routes are judged, and the number of nodes times one more than the capacity, which is
+    /// counted in loads, is more than 10^7.
+    TooManyLoads,
     /// No other reason applies to the solution, and its length, which is this one, isn't the
     /// length that is claimed.
     LengthClaimed { length: i64 },

@@ -10,7 +10,7 @@ use Rattle.tsp_draft.specs.Fields.{Fields, nodes_of}
 use Rattle.tsp_reason.specs.declared.verdict.BoundVerdict.{BoundVerdict}
 use Rattle.tsp_reason.specs.declared.verdict.BoundVerdict.TheVariants as bounds
 use Rattle.tsp_reason.specs.declared.verdict.Reason.{Reason}
-use Rattle.tsp_reason.specs.declared.verdict.Reason.TheVariants.{NotASolution, TooFewNodes, NotSymmetric, Dimension, TourCount, TourLength, NodeOutOfRange, RepeatedNode, FixedEdgeUnused, NotPotentials, PotentialsDimension, PotentialsKind, MultiplierNotFixed, MultiplierRepeated, DualInfeasible, DepotCount, DepotDemand, FixedEdgesInRoutes, DepotInRoute, Unserved, Overload, NotBranches, BranchesDimension, BadComb, BranchTwice, BadLeaf, LengthClaimed}
+use Rattle.tsp_reason.specs.declared.verdict.Reason.TheVariants.{NotASolution, TooFewNodes, NotSymmetric, Dimension, TourCount, TourLength, NodeOutOfRange, RepeatedNode, FixedEdgeUnused, NotPotentials, PotentialsDimension, PotentialsKind, MultiplierNotFixed, MultiplierRepeated, DualInfeasible, DepotCount, DepotDemand, FixedEdgesInRoutes, DepotInRoute, Unserved, Overload, NotBranches, BranchesDimension, BadComb, BadBranch, BranchTwice, BadLeaf, TooManyLoads, LengthClaimed}
 use Rattle.tsp_reason.specs.declared.verdict.Verdict.{Verdict}
 use Rattle.tsp_reason.specs.declared.verdict.Verdict.TheVariants.{Tour, Routes, No}
 
@@ -56,8 +56,10 @@ reason_name (Overload route) = codes "Overload"
 reason_name NotBranches = codes "NotBranches"
 reason_name BranchesDimension = codes "BranchesDimension"
 reason_name (BadComb index) = codes "BadComb"
+reason_name (BadBranch index) = codes "BadBranch"
 reason_name (BranchTwice index) = codes "BranchTwice"
 reason_name (BadLeaf index) = codes "BadLeaf"
+reason_name TooManyLoads = codes "TooManyLoads"
 reason_name (LengthClaimed length) = codes "LengthClaimed"
 
 -- its numbers, of which it has two at most
@@ -86,8 +88,10 @@ reason_numbers (Overload route) = (Some route, None)
 reason_numbers NotBranches = (None, None)
 reason_numbers BranchesDimension = (None, None)
 reason_numbers (BadComb index) = (Some index, None)
+reason_numbers (BadBranch index) = (Some index, None)
 reason_numbers (BranchTwice index) = (Some index, None)
 reason_numbers (BadLeaf index) = (Some index, None)
+reason_numbers TooManyLoads = (None, None)
 reason_numbers (LengthClaimed length) = (None, None)
 
 -- the length that it states, which may be below 0

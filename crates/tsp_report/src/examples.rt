@@ -75,8 +75,10 @@ pub fn examples_of_reasons()
     ensures no_tree { reason_text reasons.NotBranches ≡ codes "NotBranches" }
     ensures its_dimension { reason_text reasons.BranchesDimension ≡ codes "BranchesDimension" }
     ensures comb { reason_text (reasons.BadComb 1) ≡ codes "BadComb " ++ decimal 1 }
+    ensures of_a_family { reason_text (reasons.BadBranch 3) ≡ codes "BadBranch " ++ decimal 3 }
     ensures twice { reason_text (reasons.BranchTwice 2) ≡ codes "BranchTwice " ++ decimal 2 }
     ensures leaf { reason_text (reasons.BadLeaf 1) ≡ codes "BadLeaf " ++ decimal 1 }
+    ensures loads { reason_text reasons.TooManyLoads ≡ codes "TooManyLoads" }
     ensures claimed { reason_text (reasons.LengthClaimed (pos 14))
         ≡ codes "LengthClaimed " ++ signed_decimal (pos 14) }
     ensures claimed_below_zero { reason_text (reasons.LengthClaimed (negsuc 33))

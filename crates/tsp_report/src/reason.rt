@@ -77,8 +77,10 @@ fn name_of(reason: Reason) -> &'static str
         Reason::NotBranches => "NotBranches",
         Reason::BranchesDimension => "BranchesDimension",
         Reason::BadComb { .. } => "BadComb",
+        Reason::BadBranch { .. } => "BadBranch",
         Reason::BranchTwice { .. } => "BranchTwice",
         Reason::BadLeaf { .. } => "BadLeaf",
+        Reason::TooManyLoads => "TooManyLoads",
         Reason::LengthClaimed { .. } => "LengthClaimed",
     }
 }
@@ -96,6 +98,7 @@ fn numbers_of(reason: Reason) -> (Option<u32>, Option<u32>)
         | Reason::MultiplierNotFixed { index }
         | Reason::MultiplierRepeated { index }
         | Reason::BadComb { index }
+        | Reason::BadBranch { index }
         | Reason::BranchTwice { index }
         | Reason::BadLeaf { index } => (Some(index), None),
         Reason::Unserved { node } => (Some(node), None),
@@ -113,6 +116,7 @@ fn numbers_of(reason: Reason) -> (Option<u32>, Option<u32>)
         | Reason::FixedEdgesInRoutes
         | Reason::NotBranches
         | Reason::BranchesDimension
+        | Reason::TooManyLoads
         | Reason::LengthClaimed { .. } => (None, None),
     }
 }

@@ -11,7 +11,7 @@ use Rattle.tsp_draft.specs.Fields.{Fields, nodes_of}
 use Rattle.tsp_draft.specs.Rules.{is_potentials_file}
 use Rattle.tsp_theory.specs.Adjusted.{pair_of, is_same_pair, AreOnPairs}
 use Rattle.tsp_reason.specs.declared.verdict.Reason.{Reason}
-use Rattle.tsp_reason.specs.declared.verdict.Reason.TheVariants.{TooFewNodes, NotPotentials, PotentialsDimension, PotentialsKind, MultiplierNotFixed, MultiplierRepeated, DualInfeasible, DepotCount, DepotDemand, FixedEdgesInRoutes, DepotInRoute, Unserved, Overload, NotBranches, BranchesDimension, BadComb, BranchTwice, BadLeaf, LengthClaimed}
+use Rattle.tsp_reason.specs.declared.verdict.Reason.TheVariants.{TooFewNodes, NotPotentials, PotentialsDimension, PotentialsKind, MultiplierNotFixed, MultiplierRepeated, DualInfeasible, DepotCount, DepotDemand, FixedEdgesInRoutes, DepotInRoute, Unserved, Overload, NotBranches, BranchesDimension, BadComb, BadBranch, BranchTwice, BadLeaf, TooManyLoads, LengthClaimed}
 use Rattle.tsp_verdict.specs.Multiplied.{AreListed, IsUnlisted, IsPairRepeated, pair_at}
 use Rattle.tsp_verdict.specs.Places.{IsFirstPlace}
 use Rattle.tsp_verdict.specs.Reasons.{rank_of, NoneBefore, IsFirstReason}
@@ -207,8 +207,10 @@ tour_rank inst sol (Overload route) stands = absurd stands
 tour_rank inst sol NotBranches stands = absurd stands
 tour_rank inst sol BranchesDimension stands = absurd stands
 tour_rank inst sol (BadComb index) stands = absurd stands
+tour_rank inst sol (BadBranch index) stands = absurd stands
 tour_rank inst sol (BranchTwice index) stands = absurd stands
 tour_rank inst sol (BadLeaf index) stands = absurd stands
+tour_rank inst sol TooManyLoads stands = absurd stands
 tour_rank inst sol (LengthClaimed length) stands = absurd stands
 tour_rank inst sol reason stands = omega arith
 
@@ -224,6 +226,7 @@ certificate_rank Potentials inst cert reason stands = absurd stands
 certificate_rank Branches inst cert NotBranches stands = omega arith
 certificate_rank Branches inst cert BranchesDimension stands = omega arith
 certificate_rank Branches inst cert (BadComb index) stands = omega arith
+certificate_rank Branches inst cert (BadBranch index) stands = omega arith
 certificate_rank Branches inst cert (BranchTwice index) stands = omega arith
 certificate_rank Branches inst cert (BadLeaf index) stands = omega arith
 certificate_rank Branches inst cert reason stands = absurd stands

@@ -1,5 +1,5 @@
 -- What valid files hold.
-use Rattle.std.proofs.Common.{◌≡◌, ◌≢◌, ℕ, zero, suc, ◌+◌, ◌-◌, ◌<◌, ◌≤◌, true, false, List, [], ◌∷◌, ◌++◌, length, map, Option, None, Some, refl, sym, ap, subst, ◌∙◌, arith, length-append}
+use Rattle.std.proofs.Common.{◌≡◌, ◌≢◌, ℕ, zero, suc, ◌+◌, ◌<◌, ◌≤◌, true, false, List, [], ◌∷◌, ◌++◌, length, map, Option, None, Some, refl, sym, ap, subst, ◌∙◌, arith, length-append}
 use Rattle.std.specs.Prelude.{unwrap_or, ◌^◌}
 use Rattle.std.specs.Global.{Vec}
 use Rattle.std.specs.List.{All, AllByRecursion, concat, sum_by}
@@ -17,7 +17,6 @@ use Rattle.tsp_format.specs.declared.kinds.Kind.TheVariants as kinds
 use Rattle.tsp_draft.specs.Fields.{Fields, nodes_of}
 use Rattle.tsp_draft.specs.Rules.{is_tour_file}
 use Rattle.tsp_draft.specs.Valid.{AreTours, AreDepots, IsNodeList, IsStep, AreTreeSteps}
-use Rattle.tsp_cases.specs.BadBranches.{branch_pairs, BeginsWithin, IsFirstBadBranch}
 use Rattle.tsp_cases.specs.Listed.{IsListedStep}
 use Rattle.tsp_verdict.specs.Solution.{visited, tours_of}
 use Rattle.tsp_verdict.specs.states.RouteLists.{nodes_in, AreToursOf}
@@ -117,21 +116,6 @@ steps_hold f steps held =
     (few_changes (nodes_of f) most_changes steps (omega arith)
     (subst (λ (n : ℕ). AllByRecursion (IsStep n) steps) same (recursion_from_All (IsStep held.n) steps held.each))
     held.few_changes)
-
--- each branch is on two nodes, so none is on a family
-all_on_nodes : (n : ℕ) (steps : List Step) → AllByRecursion (IsStep n) steps → AllByRecursion (BeginsWithin 1 n) (branch_pairs steps)
-all_on_nodes n [] each = tt
-all_on_nodes n (Branch a b ∷ steps) each = (each.0.0, all_on_nodes n steps each.1)
-all_on_nodes n (Leaf changes ∷ steps) each = all_on_nodes n steps each.1
-
-pub none_on_families : (f : Fields) (n : ℕ) (steps : List Step) → AreTreeSteps f steps → nodes_of f ≡ n → (first : ℕ)
-    → IsFirstBadBranch 1 n steps first → ⊥
-none_on_families f n steps held count first bad =
-    let same : held.n ≡ n = sym (ap (λ (d : Option ℕ). unwrap_or d 0) held.dimension) ∙ count in
-    bad.bad (All-from_recursion (BeginsWithin 1 n) (branch_pairs steps)
-    (all_on_nodes n steps (subst (λ (m : ℕ). AllByRecursion (IsStep m) steps) same
-    (recursion_from_All (IsStep held.n) steps held.each)))
-    (first - 1) (0, 0) (omega (arith, bad.from_one, bad.inside)))
 
 -- n trees have n leaves more than branches
 leaves_of_trees : (count : ℕ) (steps : List Step) → are_whole count steps ≡ true → leaf_count steps ≡ branch_count steps + count

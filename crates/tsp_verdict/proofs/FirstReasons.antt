@@ -4,7 +4,7 @@ use Rattle.std.specs.Prelude.{ℤ, pos}
 use Rattle.std.proofs.lemmas.Bool.{cases_order}
 use Rattle.tsp_theory.specs.Costs.{IsBefore}
 use Rattle.tsp_reason.specs.declared.verdict.Reason.{Reason}
-use Rattle.tsp_reason.specs.declared.verdict.Reason.TheVariants.{NotASolution, TooFewNodes, NotSymmetric, Dimension, TourCount, TourLength, DepotCount, DepotDemand, FixedEdgesInRoutes, DepotInRoute, NodeOutOfRange, RepeatedNode, FixedEdgeUnused, Unserved, Overload, LengthClaimed, NotPotentials, PotentialsDimension, PotentialsKind, MultiplierNotFixed, MultiplierRepeated, DualInfeasible, NotBranches, BranchesDimension, BadComb, BranchTwice, BadLeaf}
+use Rattle.tsp_reason.specs.declared.verdict.Reason.TheVariants.{NotASolution, TooFewNodes, NotSymmetric, Dimension, TourCount, TourLength, DepotCount, DepotDemand, FixedEdgesInRoutes, DepotInRoute, NodeOutOfRange, RepeatedNode, FixedEdgeUnused, Unserved, Overload, LengthClaimed, NotPotentials, PotentialsDimension, PotentialsKind, MultiplierNotFixed, MultiplierRepeated, DualInfeasible, NotBranches, BranchesDimension, BadComb, BadBranch, BranchTwice, BadLeaf, TooManyLoads}
 use Rattle.tsp_verdict.specs.Places.{IsFirstPlace}
 use Rattle.tsp_verdict.specs.Reasons.{rank_of, IsFirstReason}
 
@@ -38,8 +38,10 @@ carried_of (DualInfeasible i j) = (i, j, pos 0)
 carried_of NotBranches = (0, 0, pos 0)
 carried_of BranchesDimension = (0, 0, pos 0)
 carried_of (BadComb i) = (i, 0, pos 0)
+carried_of (BadBranch i) = (i, 0, pos 0)
 carried_of (BranchTwice i) = (i, 0, pos 0)
 carried_of (BadLeaf i) = (i, 0, pos 0)
+carried_of TooManyLoads = (0, 0, pos 0)
 
 -- the reasons by their ranks
 abbrev reasons : List (Carried → Reason)
@@ -69,8 +71,10 @@ reasons =
     (λ carried. NotBranches) ∷
     (λ carried. BranchesDimension) ∷
     (λ carried. BadComb carried.0) ∷
+    (λ carried. BadBranch carried.0) ∷
     (λ carried. BranchTwice carried.0) ∷
     (λ carried. BadLeaf carried.0) ∷
+    (λ carried. TooManyLoads) ∷
     []
 
 -- the one of a rank, from 1 on
@@ -110,8 +114,10 @@ is_of_rank (DualInfeasible i j) = refl
 is_of_rank NotBranches = refl
 is_of_rank BranchesDimension = refl
 is_of_rank (BadComb i) = refl
+is_of_rank (BadBranch i) = refl
 is_of_rank (BranchTwice i) = refl
 is_of_rank (BadLeaf i) = refl
+is_of_rank TooManyLoads = refl
 
 -- of two reasons of one rank that apply the numbers are the same
 abbrev pub IsOneByRank : (Reason → Type 0) → Type 0

@@ -10,6 +10,7 @@ use Rattle.tsp_file.specs.Cost.{cost}
 use Rattle.tsp_theory.specs.Costs.{IsFirstAsymmetric}
 use Rattle.tsp_theory.specs.Assignment.{IsFirstBroken}
 use Rattle.tsp_families.specs.declared.family.Crossings.{Crossings}
+use Rattle.tsp_cases.specs.BadBranches.{IsFirstBadBranch}
 use Rattle.tsp_cases.specs.Families.{IsFamily, NumbersAreUnique}
 use Rattle.tsp_cases.specs.declared.decision.Decision.{Decision}
 use Rattle.tsp_cases.specs.Listed.{IsFirstBadLeaf}
@@ -19,7 +20,7 @@ use Rattle.tsp_file.specs.Defaults.{scale_in, families_listed}
 use Rattle.tsp_reason.specs.declared.certificate.Certificate.{Certificate}
 use Rattle.tsp_reason.specs.declared.certificate.Certificate.TheVariants.{Potentials, Branches}
 use Rattle.tsp_reason.specs.declared.verdict.Reason.{Reason}
-use Rattle.tsp_reason.specs.declared.verdict.Reason.TheVariants.{NotASolution, TooFewNodes, NotSymmetric, Dimension, TourCount, TourLength, DepotCount, DepotDemand, FixedEdgesInRoutes, DepotInRoute, NodeOutOfRange, RepeatedNode, FixedEdgeUnused, Unserved, Overload, LengthClaimed, NotPotentials, PotentialsDimension, PotentialsKind, MultiplierNotFixed, MultiplierRepeated, DualInfeasible, NotBranches, BranchesDimension, BadComb, BranchTwice, BadLeaf}
+use Rattle.tsp_reason.specs.declared.verdict.Reason.TheVariants.{NotASolution, TooFewNodes, NotSymmetric, Dimension, TourCount, TourLength, DepotCount, DepotDemand, FixedEdgesInRoutes, DepotInRoute, NodeOutOfRange, RepeatedNode, FixedEdgeUnused, Unserved, Overload, LengthClaimed, NotPotentials, PotentialsDimension, PotentialsKind, MultiplierNotFixed, MultiplierRepeated, DualInfeasible, NotBranches, BranchesDimension, BadComb, BadBranch, BranchTwice, BadLeaf, TooManyLoads}
 use Rattle.tsp_verdict.specs.Basis.{StandsAgainstRouting}
 use Rattle.tsp_verdict.specs.Bounded.{StandsAgainstInstance, StandsAgainstBounded}
 use Rattle.tsp_verdict.specs.BranchesCertificate.{given_in, AreNumbersOf, StandsAgainstBranches, families_with_numbers}
@@ -79,8 +80,10 @@ tours_by_rank inst sol (DualInfeasible i j) carried one other = absurd one
 tours_by_rank inst sol NotBranches carried one other = absurd one
 tours_by_rank inst sol BranchesDimension carried one other = absurd one
 tours_by_rank inst sol (BadComb i) carried one other = absurd one
+tours_by_rank inst sol (BadBranch i) carried one other = absurd one
 tours_by_rank inst sol (BranchTwice i) carried one other = absurd one
 tours_by_rank inst sol (BadLeaf i) carried one other = absurd one
+tours_by_rank inst sol TooManyLoads carried one other = absurd one
 
 -- ---- against an instance, whatever the solution
 
@@ -112,8 +115,10 @@ instances_by_rank inst (DualInfeasible i j) carried one other = absurd one
 instances_by_rank inst NotBranches carried one other = absurd one
 instances_by_rank inst BranchesDimension carried one other = absurd one
 instances_by_rank inst (BadComb i) carried one other = absurd one
+instances_by_rank inst (BadBranch i) carried one other = absurd one
 instances_by_rank inst (BranchTwice i) carried one other = absurd one
 instances_by_rank inst (BadLeaf i) carried one other = absurd one
+instances_by_rank inst TooManyLoads carried one other = absurd one
 
 -- plan: by the reason: one without numbers is equal to itself, and of one with numbers the files have one first place or pair
 pub routings_by_rank : (inst : Fields) → IsOneByRank (StandsAgainstRouting inst)
@@ -142,8 +147,10 @@ routings_by_rank inst (DualInfeasible i j) carried one other = absurd one
 routings_by_rank inst NotBranches carried one other = absurd one
 routings_by_rank inst BranchesDimension carried one other = absurd one
 routings_by_rank inst (BadComb i) carried one other = absurd one
+routings_by_rank inst (BadBranch i) carried one other = absurd one
 routings_by_rank inst (BranchTwice i) carried one other = absurd one
 routings_by_rank inst (BadLeaf i) carried one other = absurd one
+routings_by_rank inst TooManyLoads carried one other = absurd one
 
 -- ---- against routes
 
@@ -182,8 +189,10 @@ routes_by_rank inst sol (DualInfeasible i j) carried one other = absurd one
 routes_by_rank inst sol NotBranches carried one other = absurd one
 routes_by_rank inst sol BranchesDimension carried one other = absurd one
 routes_by_rank inst sol (BadComb i) carried one other = absurd one
+routes_by_rank inst sol (BadBranch i) carried one other = absurd one
 routes_by_rank inst sol (BranchTwice i) carried one other = absurd one
 routes_by_rank inst sol (BadLeaf i) carried one other = absurd one
+routes_by_rank inst sol TooManyLoads carried one other = absurd one
 
 -- ---- against a certificate by potentials
 
@@ -239,8 +248,10 @@ potentials_by_rank inst pot (DualInfeasible i j) carried one other = broken_by_r
 potentials_by_rank inst pot NotBranches carried one other = absurd one
 potentials_by_rank inst pot BranchesDimension carried one other = absurd one
 potentials_by_rank inst pot (BadComb i) carried one other = absurd one
+potentials_by_rank inst pot (BadBranch i) carried one other = absurd one
 potentials_by_rank inst pot (BranchTwice i) carried one other = absurd one
 potentials_by_rank inst pot (BadLeaf i) carried one other = absurd one
+potentials_by_rank inst pot TooManyLoads carried one other = absurd one
 
 -- ---- against a certificate by branching
 
@@ -273,6 +284,21 @@ twice_by_rank inst tree a b one other =
     let steps = one_value tree.branches other.0 one.0 other.1 one.1 in
     let moved = subst (λ steps. IsFirstTwice (is_directed inst.kind) (given_in inst) steps b) steps other.2 in
     one_twice (is_directed inst.kind) (given_in inst) one.0 a b one.2 moved
+
+one_bad_pair : (least most : ℕ) (steps : List listed.Step) (a b : ℕ) → IsFirstBadBranch least most steps a
+    → IsFirstBadBranch least most steps b → a ≡ b
+one_bad_pair least most steps a b one other = elim (cases_order a b) [
+  | inl same ↦ same
+  | inr (inl less) ↦ absurd (one.bad (other.before a one.from_one less))
+  | inr (inr more) ↦ absurd (other.bad (one.before b other.from_one more))
+]
+
+bad_pair_by_rank : (inst tree : Fields) (a b : ℕ) → StandsAgainstBranches inst tree (BadBranch a)
+    → StandsAgainstBranches inst tree (BadBranch b) → a ≡ b
+bad_pair_by_rank inst tree a b one other =
+    let steps = one_value tree.branches other.0 one.0 other.1 one.1 in
+    let moved = subst (λ steps. IsFirstBadBranch 1 (nodes_of inst) steps b) steps other.2 in
+    one_bad_pair 1 (nodes_of inst) one.0 a b one.2 moved
 
 bad_leaf_by_rank : NumbersAreUnique → (inst tree : Fields) (a b : ℕ) → StandsAgainstBranches inst tree (BadLeaf a)
     → StandsAgainstBranches inst tree (BadLeaf b) → a ≡ b
@@ -310,9 +336,11 @@ trees_by_rank unique inst tree (DualInfeasible i j) carried one other = absurd o
 trees_by_rank unique inst tree NotBranches carried one other = refl
 trees_by_rank unique inst tree BranchesDimension carried one other = refl
 trees_by_rank unique inst tree (BadComb i) carried one other = ap BadComb (one_place _ _ i carried.0 one other)
+trees_by_rank unique inst tree (BadBranch i) carried one other = ap BadBranch (bad_pair_by_rank inst tree i carried.0 one other)
 trees_by_rank unique inst tree (BranchTwice i) carried one other = ap BranchTwice (twice_by_rank inst tree i carried.0 one other)
 trees_by_rank unique inst tree (BadLeaf i) carried one other =
     ap BadLeaf (bad_leaf_by_rank unique inst tree i carried.0 one other)
+trees_by_rank unique inst tree TooManyLoads carried one other = absurd one
 
 -- ---- against either of two: a reason of one rank applies to one of them alone
 
@@ -359,8 +387,10 @@ tour_apart Potentials inst sol cert (DualInfeasible i j) carried one other = abs
 tour_apart Potentials inst sol cert NotBranches carried one other = absurd one
 tour_apart Potentials inst sol cert BranchesDimension carried one other = absurd one
 tour_apart Potentials inst sol cert (BadComb i) carried one other = absurd one
+tour_apart Potentials inst sol cert (BadBranch i) carried one other = absurd one
 tour_apart Potentials inst sol cert (BranchTwice i) carried one other = absurd one
 tour_apart Potentials inst sol cert (BadLeaf i) carried one other = absurd one
+tour_apart Potentials inst sol cert TooManyLoads carried one other = absurd one
 tour_apart Branches inst sol cert NotASolution carried one other = absurd other
 tour_apart Branches inst sol cert TooFewNodes carried one other = absurd other
 tour_apart Branches inst sol cert (NotSymmetric i j) carried one other = absurd other
@@ -386,8 +416,10 @@ tour_apart Branches inst sol cert (DualInfeasible i j) carried one other = absur
 tour_apart Branches inst sol cert NotBranches carried one other = absurd one
 tour_apart Branches inst sol cert BranchesDimension carried one other = absurd one
 tour_apart Branches inst sol cert (BadComb i) carried one other = absurd one
+tour_apart Branches inst sol cert (BadBranch i) carried one other = absurd one
 tour_apart Branches inst sol cert (BranchTwice i) carried one other = absurd one
 tour_apart Branches inst sol cert (BadLeaf i) carried one other = absurd one
+tour_apart Branches inst sol cert TooManyLoads carried one other = absurd one
 
 -- plan: by the certificate and the reason: none is one of certificates and of tours
 certificate_apart : (by : Certificate) (inst sol cert : Fields)
@@ -417,8 +449,10 @@ certificate_apart Potentials inst sol cert (DualInfeasible i j) carried one othe
 certificate_apart Potentials inst sol cert NotBranches carried one other = absurd one
 certificate_apart Potentials inst sol cert BranchesDimension carried one other = absurd one
 certificate_apart Potentials inst sol cert (BadComb i) carried one other = absurd one
+certificate_apart Potentials inst sol cert (BadBranch i) carried one other = absurd one
 certificate_apart Potentials inst sol cert (BranchTwice i) carried one other = absurd one
 certificate_apart Potentials inst sol cert (BadLeaf i) carried one other = absurd one
+certificate_apart Potentials inst sol cert TooManyLoads carried one other = absurd one
 certificate_apart Branches inst sol cert NotASolution carried one other = absurd one
 certificate_apart Branches inst sol cert TooFewNodes carried one other = absurd one
 certificate_apart Branches inst sol cert (NotSymmetric i j) carried one other = absurd one
@@ -444,8 +478,10 @@ certificate_apart Branches inst sol cert (DualInfeasible i j) carried one other 
 certificate_apart Branches inst sol cert NotBranches carried one other = absurd other
 certificate_apart Branches inst sol cert BranchesDimension carried one other = absurd other
 certificate_apart Branches inst sol cert (BadComb i) carried one other = absurd other
+certificate_apart Branches inst sol cert (BadBranch i) carried one other = absurd other
 certificate_apart Branches inst sol cert (BranchTwice i) carried one other = absurd other
 certificate_apart Branches inst sol cert (BadLeaf i) carried one other = absurd other
+certificate_apart Branches inst sol cert TooManyLoads carried one other = absurd other
 
 -- reasons against an instance are reasons against its tours
 -- plan: by the reason: each that is judged of the instance is judged of its tours too
@@ -475,8 +511,10 @@ against_tours inst sol (DualInfeasible i j) one = absurd one
 against_tours inst sol NotBranches one = absurd one
 against_tours inst sol BranchesDimension one = absurd one
 against_tours inst sol (BadComb i) one = absurd one
+against_tours inst sol (BadBranch i) one = absurd one
 against_tours inst sol (BranchTwice i) one = absurd one
 against_tours inst sol (BadLeaf i) one = absurd one
+against_tours inst sol TooManyLoads one = absurd one
 
 pub certified_by_rank : NumbersAreUnique → (by : Certificate) (inst sol cert : Fields)
     → IsOneByRank (StandsAgainstCertified by inst sol cert)

@@ -21,6 +21,7 @@ use Rattle.tsp_theory.specs.CertificateNumbers.{IsScale, IsBoundSized}
 use Rattle.tsp_branch.specs.declared.judged.BranchVerdict.{BranchVerdict}
 use Rattle.tsp_branch.specs.declared.judged.BranchVerdict.TheVariants as found
 use Rattle.tsp_branch.specs.BranchVerdicts.{IsBranchVerdict}
+use Rattle.tsp_cases.specs.BadBranches.{branch_pairs, IsFirstBadBranch}
 use Rattle.tsp_cases.specs.Cases.{decide}
 use Rattle.tsp_cases.specs.CaseTrees.{IsCaseTree, IsCaseTreeBound, AreCostsFor, BoundsIfAny, CaseTreesBoundCycles}
 use Rattle.tsp_families.specs.declared.family.Crossings.{Crossings}
@@ -31,7 +32,7 @@ use Rattle.tsp_cases.specs.GoodFamilies.{IsGoodFamily, IsFirstBadFamily, AreFami
 use Rattle.tsp_cases.specs.Listed.{leaf_changes, listed_steps, AreGoodLeaves, IsFirstBadLeaf}
 use Rattle.tsp_cases.specs.Twice.{branches_of_cases, IsFirstTwice}
 use Rattle.tsp_reason.specs.declared.verdict.Reason.{Reason}
-use Rattle.tsp_reason.specs.declared.verdict.Reason.TheVariants.{NotBranches, BranchesDimension, BadComb, BranchTwice, BadLeaf}
+use Rattle.tsp_reason.specs.declared.verdict.Reason.TheVariants.{NotBranches, BranchesDimension, BadComb, BadBranch, BranchTwice, BadLeaf}
 use Rattle.tsp_file.specs.Defaults.{scale_in, fixed_of, families_listed}
 use Rattle.tsp_verdict.specs.Places.{IsFirstPlace}
 use Rattle.tsp_verdict.specs.Reasons.{NoneBefore, IsFirstReason, rank_of}
@@ -177,26 +178,42 @@ no_twice inst tree steps steps_are none index stands =
     none index (subst (λ (ss : List listed.Step). IsFirstTwice (is_directed inst.kind) (given_in inst) ss index)
     (one_list tree.branches stands.0 steps stands.1 steps_are) stands.2)
 
+-- where each branch is on two nodes, none is bad, as the file lists its steps
+no_bad_pair : (inst tree : Fields) (steps : List listed.Step) → tree.branches ≡ Some steps
+    → ((index : ℕ) → IsFirstBadBranch 1 (nodes_of inst) steps index → ⊥) → (index : ℕ)
+    → StandsAgainstBranches inst tree (BadBranch index) → ⊥
+no_bad_pair inst tree steps steps_are none index stands =
+    none index (subst (λ (ss : List listed.Step). IsFirstBadBranch 1 (nodes_of inst) ss index)
+    (one_list tree.branches stands.0 steps stands.1 steps_are) stands.2)
+
+-- there are no more branches than steps
+pub pairs_few : (steps : List listed.Step) → length (branch_pairs steps) ≤ length steps
+pairs_few [] = omega arith
+pairs_few (listed.Branch a b ∷ steps) = let rest = pairs_few steps in omega (arith, rest)
+pairs_few (listed.Leaf changes ∷ steps) = let rest = pairs_few steps in omega (arith, rest)
+
 -- the facts before a rank rule out the reasons before it
 none_before : (inst tree : Fields) (rank : ℕ) → (rank_of NotBranches < rank → is_branches_file tree.kind ≡ true)
     → (rank_of BranchesDimension < rank → nodes_of tree ≡ nodes_of inst)
     → (rank_of (BadComb 1) < rank → (index : ℕ) → StandsAgainstBranches inst tree (BadComb index) → ⊥)
+    → (rank_of (BadBranch 1) < rank → (index : ℕ) → StandsAgainstBranches inst tree (BadBranch index) → ⊥)
     → (rank_of (BranchTwice 1) < rank → (index : ℕ) → StandsAgainstBranches inst tree (BranchTwice index) → ⊥)
     → (rank_of (BadLeaf 1) < rank → (index : ℕ) → StandsAgainstBranches inst tree (BadLeaf index) → ⊥)
     → NoneBefore (StandsAgainstBranches inst tree) rank
-none_before inst tree rank sort size combs once leaves NotBranches low stands = false≢true (sym stands ∙ sort low)
-none_before inst tree rank sort size combs once leaves BranchesDimension low stands = stands (size low)
-none_before inst tree rank sort size combs once leaves (BadComb index) low stands = combs low index stands
-none_before inst tree rank sort size combs once leaves (BranchTwice index) low stands = once low index stands
-none_before inst tree rank sort size combs once leaves (BadLeaf index) low stands = leaves low index stands
-none_before inst tree rank sort size combs once leaves reason low stands = stands
+none_before inst tree rank sort size combs pairs once leaves NotBranches low stands = false≢true (sym stands ∙ sort low)
+none_before inst tree rank sort size combs pairs once leaves BranchesDimension low stands = stands (size low)
+none_before inst tree rank sort size combs pairs once leaves (BadComb index) low stands = combs low index stands
+none_before inst tree rank sort size combs pairs once leaves (BadBranch index) low stands = pairs low index stands
+none_before inst tree rank sort size combs pairs once leaves (BranchTwice index) low stands = once low index stands
+none_before inst tree rank sort size combs pairs once leaves (BadLeaf index) low stands = leaves low index stands
+none_before inst tree rank sort size combs pairs once leaves reason low stands = stands
 
 -- out of memory, those are ruled out that need none
 pub none_of_tree : (inst tree : Fields) → is_branches_file tree.kind ≡ true → nodes_of tree ≡ nodes_of inst
     → NoneWithoutMemory Branches inst tree
 none_of_tree inst tree sort size =
     none_before inst tree (rank_of (BadComb 1)) (λ low. sort) (λ low. size) (λ low. absurd (omega (arith, low)))
-    (λ low. absurd (omega (arith, low))) (λ low. absurd (omega (arith, low)))
+    (λ low. absurd (omega (arith, low))) (λ low. absurd (omega (arith, low))) (λ low. absurd (omega (arith, low)))
 
 pub comb_first : (inst tree : Fields) (costs : ℕ → ℕ → ℤ) (index : ℕ) → is_branches_file tree.kind ≡ true
     → nodes_of tree ≡ nodes_of inst
@@ -205,6 +222,17 @@ pub comb_first : (inst tree : Fields) (costs : ℕ → ℕ → ℤ) (index : ℕ
 comb_first inst tree costs index sort size is = record {
   stands = bad_comb inst tree index is.by_steps;
   none_before = none_before inst tree (rank_of (BadComb 1)) (λ low. sort) (λ low. size) (λ low. absurd (omega (arith, low)))
+      (λ low. absurd (omega (arith, low))) (λ low. absurd (omega (arith, low))) (λ low. absurd (omega (arith, low)));
+}
+
+pub pair_first : (inst tree : Fields) (costs : ℕ → ℕ → ℤ) (index : ℕ) → is_branches_file tree.kind ≡ true
+    → nodes_of tree ≡ nodes_of inst
+    → IsTold inst tree costs (found.BadBranch index)
+    → IsFirstReason (StandsAgainstBranches inst tree) (BadBranch index)
+pair_first inst tree costs index sort size is = record {
+  stands = (is.steps, is.steps_are, is.by_steps.2);
+  none_before = none_before inst tree (rank_of (BadBranch 1)) (λ low. sort) (λ low. size)
+      (λ low. no_bad_comb inst tree is.by_steps.1.good) (λ low. absurd (omega (arith, low)))
       (λ low. absurd (omega (arith, low))) (λ low. absurd (omega (arith, low)));
 }
 
@@ -215,7 +243,8 @@ pub twice_first : (inst tree : Fields) (costs : ℕ → ℕ → ℤ) (index : �
 twice_first inst tree costs index sort size is = record {
   stands = (is.steps, is.steps_are, is.by_steps.3);
   none_before = none_before inst tree (rank_of (BranchTwice 1)) (λ low. sort) (λ low. size)
-      (λ low. no_bad_comb inst tree is.by_steps.1.good) (λ low. absurd (omega (arith, low))) (λ low. absurd (omega (arith, low)));
+      (λ low. no_bad_comb inst tree is.by_steps.1.good) (λ low. no_bad_pair inst tree is.steps is.steps_are is.by_steps.2.0)
+      (λ low. absurd (omega (arith, low))) (λ low. absurd (omega (arith, low)));
 }
 
 pub leaf_first : (inst tree : Fields) (costs : ℕ → ℕ → ℤ) (index : ℕ) → is_branches_file tree.kind ≡ true
@@ -232,6 +261,7 @@ leaf_first inst tree costs index sort size is = record {
   );
   none_before = none_before inst tree (rank_of (BadLeaf 1)) (λ low. sort) (λ low. size)
       (λ low. no_bad_comb inst tree is.by_steps.are_families.good)
+      (λ low. no_bad_pair inst tree is.steps is.steps_are is.by_steps.on_nodes.0)
       (λ low. no_twice inst tree is.steps is.steps_are is.by_steps.are_once.0) (λ low. absurd (omega (arith, low)));
 }
 
@@ -243,6 +273,8 @@ none_stands unique inst tree costs bound sort size is NotBranches stands = false
 none_stands unique inst tree costs bound sort size is BranchesDimension stands = stands size
 none_stands unique inst tree costs bound sort size is (BadComb index) stands =
     no_bad_comb inst tree is.by_steps.are_families.good index stands
+none_stands unique inst tree costs bound sort size is (BadBranch index) stands =
+    no_bad_pair inst tree is.steps is.steps_are is.by_steps.on_nodes.0 index stands
 none_stands unique inst tree costs bound sort size is (BranchTwice index) stands =
     no_twice inst tree is.steps is.steps_are is.by_steps.are_once.0 index stands
 none_stands unique inst tree costs bound sort size is (BadLeaf index) stands =

@@ -8,6 +8,7 @@ use Rattle.tsp_file.specs.Defaults.{fixed_of, scale_in, families_listed}
 use Rattle.tsp_file.specs.Cost.{cost}
 use Rattle.tsp_cost.specs.ComputedProblems.{is_directed}
 use Rattle.tsp_families.specs.declared.family.Crossings.{Crossings}
+use Rattle.tsp_cases.specs.BadBranches.{IsFirstBadBranch}
 use Rattle.tsp_cases.specs.Families.{Family, IsFamily}
 use Rattle.tsp_cases.specs.FamiliesOfSets.{families_with}
 use Rattle.tsp_cases.specs.Cases.{CaseStep}
@@ -18,7 +19,7 @@ use Rattle.tsp_cases.specs.GoodFamilies.{IsGoodFamily}
 use Rattle.tsp_cases.specs.Listed.{listed_steps, IsFirstBadLeaf}
 use Rattle.tsp_cases.specs.Twice.{IsFirstTwice}
 use Rattle.tsp_reason.specs.declared.verdict.Reason.{Reason}
-use Rattle.tsp_reason.specs.declared.verdict.Reason.TheVariants.{NotBranches, BranchesDimension, BadComb, BranchTwice, BadLeaf}
+use Rattle.tsp_reason.specs.declared.verdict.Reason.TheVariants.{NotBranches, BranchesDimension, BadComb, BadBranch, BranchTwice, BadLeaf}
 use Rattle.tsp_verdict.specs.Places.{IsFirstPlace}
 
 -- ---- what is read of it, and of the instance
@@ -56,6 +57,8 @@ StandsAgainstBranches instance tree NotBranches = is_branches_file tree.kind ≡
 StandsAgainstBranches instance tree BranchesDimension = nodes_of tree ≢ nodes_of instance
 StandsAgainstBranches instance tree (BadComb index) = IsFirstPlace (IsBadFamily (nodes_of instance) (families_listed tree))
     (families_listed tree) index
+StandsAgainstBranches instance tree (BadBranch index) = (steps : List listed.Step) × (tree.branches ≡ Some steps)
+    × IsFirstBadBranch 1 (nodes_of instance) steps index
 StandsAgainstBranches instance tree (BranchTwice index) = (steps : List listed.Step) × (tree.branches ≡ Some steps)
     × IsFirstTwice (is_directed instance.kind) (given_in instance) steps index
 StandsAgainstBranches instance tree (BadLeaf index) = (steps : List listed.Step) × (tree.branches ≡ Some steps)

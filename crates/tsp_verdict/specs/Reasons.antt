@@ -1,7 +1,7 @@
 -- The first of several reasons, by the order in which they are judged.
 use Rattle.std.specs.Prelude.{ℕ, ◌<◌}
 use Rattle.tsp_reason.specs.declared.verdict.Reason.{Reason}
-use Rattle.tsp_reason.specs.declared.verdict.Reason.TheVariants.{NotASolution, TooFewNodes, NotSymmetric, Dimension, TourCount, TourLength, DepotCount, DepotDemand, FixedEdgesInRoutes, DepotInRoute, NodeOutOfRange, RepeatedNode, FixedEdgeUnused, Unserved, Overload, NotPotentials, PotentialsDimension, PotentialsKind, MultiplierNotFixed, MultiplierRepeated, DualInfeasible, NotBranches, BranchesDimension, BadComb, BranchTwice, BadLeaf, LengthClaimed}
+use Rattle.tsp_reason.specs.declared.verdict.Reason.TheVariants.{NotASolution, TooFewNodes, NotSymmetric, Dimension, TourCount, TourLength, DepotCount, DepotDemand, FixedEdgesInRoutes, DepotInRoute, NodeOutOfRange, RepeatedNode, FixedEdgeUnused, Unserved, Overload, NotPotentials, PotentialsDimension, PotentialsKind, MultiplierNotFixed, MultiplierRepeated, DualInfeasible, NotBranches, BranchesDimension, BadComb, BadBranch, BranchTwice, BadLeaf, TooManyLoads, LengthClaimed}
 
 -- The order in which reasons are judged: those against the files, the tours, their nodes and what these use or carry, then that
 -- of a claimed length, then those against a certificate. Which of them can apply is said where they are defined, against tours,
@@ -32,8 +32,10 @@ rank_of (DualInfeasible i j) = 22
 rank_of NotBranches = 23
 rank_of BranchesDimension = 24
 rank_of (BadComb index) = 25
-rank_of (BranchTwice index) = 26
-rank_of (BadLeaf index) = 27
+rank_of (BadBranch index) = 26
+rank_of (BranchTwice index) = 27
+rank_of (BadLeaf index) = 28
+rank_of TooManyLoads = 29
 
 -- none of the reasons applies that are judged before this rank
 abbrev pub NoneBefore : (Reason → Type 0) → ℕ → Type 0

@@ -42,8 +42,10 @@ pub fn examples_of_order()
     ensures branches { IsJudgedBefore (reasons.LengthClaimed (pos 9)) reasons.NotBranches }
     ensures number_of_nodes { IsJudgedBefore reasons.NotBranches reasons.BranchesDimension }
     ensures combs { IsJudgedBefore reasons.BranchesDimension (reasons.BadComb 1) }
-    ensures decided_twice { IsJudgedBefore (reasons.BadComb 9) (reasons.BranchTwice 1) }
+    ensures on_a_family { IsJudgedBefore (reasons.BadComb 9) (reasons.BadBranch 1) }
+    ensures decided_twice { IsJudgedBefore (reasons.BadBranch 9) (reasons.BranchTwice 1) }
     ensures leaves { IsJudgedBefore (reasons.BranchTwice 9) (reasons.BadLeaf 1) }
+    ensures loads { IsJudgedBefore (reasons.BadLeaf 9) reasons.TooManyLoads }
 {}
 
 /// The order in which reasons against routes are judged: each pair of neighbours.

@@ -136,8 +136,9 @@ fn judge_tree<C: PlacedCosts>(
         BranchVerdict::BadFamily(index) => Ok(BoundVerdict::No(Reason::BadComb {
             index: index as u32,
         })),
-        // Each branch that a file has is on two nodes.
-        BranchVerdict::BadBranch(_) => unreachable!(),
+        BranchVerdict::BadBranch(index) => Ok(BoundVerdict::No(Reason::BadBranch {
+            index: index as u32,
+        })),
         BranchVerdict::BranchTwice(index) => Ok(BoundVerdict::No(Reason::BranchTwice {
             index: index as u32,
         })),

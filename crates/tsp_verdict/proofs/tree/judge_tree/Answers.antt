@@ -16,10 +16,10 @@ use Rattle.tsp_branch.specs.BranchVerdicts.{IsBranchVerdict, IsSizedVerdict}
 use Rattle.tsp_cases.specs.Listed.{IsListedStep}
 use Rattle.tsp_families.specs.FamilySets.{AreFamiliesOf, lists_of}
 use Rattle.tsp_draft.specs.Fields.{nodes_of}
-use Rattle.tsp_verdict.proofs.FilesHold.{steps_hold, steps_few, none_on_families}
+use Rattle.tsp_verdict.proofs.FilesHold.{steps_hold, steps_few}
 use Rattle.tsp_verdict.proofs.GivenPairs.{given_once, given_are, given_few}
 use Rattle.tsp_verdict.proofs.FamiliesHold.{families_hold, families_few}
-use Rattle.tsp_verdict.proofs.TreeReasons.{directed_is, even_view, no_tour, are_of, told, twice_within, bad_within, comb_first, twice_first, leaf_first, none_stands, certified}
+use Rattle.tsp_verdict.proofs.TreeReasons.{directed_is, even_view, no_tour, are_of, told, twice_within, bad_within, comb_first, pairs_few, pair_first, twice_first, leaf_first, none_stands, certified}
 use Rattle.tsp_verdict.proofs.tree.judge_tree.Goals as goal
 
 pub invariant_of-cases : goal.invariant_of-cases
@@ -132,14 +132,42 @@ returns-in-BadFamily g c =
     comb_first inst tree costs c.in-BadFamily.index c.requires.sort c.requires.count
     (told inst tree c.is_directed-directed.result n costs _ families given steps (found.BadFamily c.in-BadFamily.index) are is)
 
-pub unreachable-requires : goal.unreachable-requires
-unreachable-requires g c =
+pub overflow_cast-result-in-BadBranch : goal.overflow_cast-result-in-BadBranch
+overflow_cast-result-in-BadBranch g c =
     let n : ℕ = g.C.Costs.nodes c.args.costs.now in
     let steps = steps_of c.args.tree.now.steps.now in
     let is = subst (IsBranchVerdict c.is_directed-directed.result n _ _ _ _ steps) c.in-BadBranch.is
     c.in_ok-bound.ensures.verdict in
-    none_on_families c.args.branches.now n steps c.requires.held.each_step
-    (c.requires.count ∙ ap (λ (d : Option ℕ). unwrap_or d 0) c.requires.keeps.count) c.in-BadBranch.field-0 is.2
+    omega (
+      arith,
+      is.2.inside,
+      pairs_few steps,
+      length-map c.args.tree.now.steps.now step_of,
+      steps_few c.args.branches.now c.args.tree.now.steps.now c.requires.held.each_step,
+    )
+
+pub returns-in-BadBranch : goal.returns-in-BadBranch
+returns-in-BadBranch g c =
+    let inst = c.args.instance.now in
+    let tree = c.args.branches.now in
+    let n : ℕ = g.C.Costs.nodes c.args.costs.now in
+    let costs = g.C.Costs.at c.args.costs.now in
+    let combs = c.args.tree.now.combs.now in
+    let families : List (List (List ℕ)) = combs_of combs in
+    let given = c.deref.result.now in
+    let steps = steps_of c.args.tree.now.steps.now in
+    let scaled : FitsSigned w64 c.args.tree.now.scale = search rules in
+    let are = are_of inst tree c.is_directed-directed.result n (to_z w64 (of_z w64 c.args.tree.now.scale)) combs
+    c.fixed.result.now given steps
+    (directed_is c.is_directed-directed.result inst c.kind.result c.is_directed-directed.ensures c.kind.ensures.value)
+    c.requires.keeps.count
+    (to_z-of_z w64 c.args.tree.now.scale scaled ∙ c.requires.held.scale_is) c.requires.held.combs_are c.fixed.ensures.value
+    (c.deref.ensures.value ∙ c.in_ok-given.ensures) c.requires.held.steps_are in
+    let is = subst (IsBranchVerdict c.is_directed-directed.result n costs (to_z w64 (of_z w64 c.args.tree.now.scale)) families
+    given steps) c.in-BadBranch.is c.in_ok-bound.ensures.verdict in
+    pair_first inst tree costs c.in-BadBranch.index c.requires.sort c.requires.count
+    (told inst tree c.is_directed-directed.result n costs _ families given steps (found.BadBranch c.in-BadBranch.index) are
+    is)
 
 pub overflow_cast-result-in-BranchTwice : goal.overflow_cast-result-in-BranchTwice
 overflow_cast-result-in-BranchTwice g c =
