@@ -1,9 +1,13 @@
-//! How the libraries are used: a tour of an instance is judged, both from bytes in memory.
+//! How the libraries are used: a tour of an instance is judged, both from bytes in memory, and a
+//! check writes its report.
 #![tactic(auto)]
+
+mod report;
 
 ghost use Rattle.std.specs.Prelude.{IfOk};
 ghost use Rattle.example_check.specs.Texts.{IsVerdictOnTexts};
 
+pub use report::report_on;
 use std::alloc::{AllocError, Global};
 use thiserror::Error;
 use tsp_cost::Instance;
@@ -47,7 +51,7 @@ pub fn verdict_on(alloc: Global, instance: &[u8], solution: &[u8]) -> Result<Ver
 
 #[cfg(test)]
 mod tests {
-    use super::verdict_on;
+    use super::{report_on, verdict_on};
     use std::test::Fail;
     use tsp_verdict::{Reason, Verdict};
 
@@ -67,6 +71,18 @@ mod tests {
                 })
         );
         drop(verdict);
+        Ok(())
+    }
+
+    #[test]
+    fn the_report_on_this_tour_ends_in_yes(rt: HostRuntime) -> Result<(), Fail> {
+        let tour = b"TYPE : TOUR\nTOUR_SECTION\n1 2 3 4 -1\nEOF\n";
+        let Ok((accepted, report)) = report_on(rt.alloc(), RECTANGLE, tour) else {
+            return Err(Fail::from("no report"));
+        };
+        assert!(rt; accepted);
+        assert!(rt; report.as_slice() == b"type TSP\nnodes 4\nlength 14\nyes\n".as_slice());
+        drop(report);
         Ok(())
     }
 

@@ -3,12 +3,13 @@
 //! A check reads an instance, a solution and a certificate, and writes a report. Its contract says
 //! what the line `yes` means. It opens no files, and knows no command line: that is tsp_run's.
 //!
-//! As tsp_perform and tsp_c do it: a check with a certificate, over readers, and an instance that
-//! is read once:
+//! As example_check does it, with two texts in memory:
 //!
 //! ```text
-//! run(alloc, instance, solution, by, file, claimed, out)
-//! let opened = Opened::of(alloc, text)?;
+//! let mut first = Watched::new(instance);
+//! let mut second = Watched::new(solution);
+//! let mut report = Watched::new(Vec::new(alloc));
+//! let accepted = run_check(alloc, &mut first, &mut second, &mut report)?;
 //! ```
 #![tactic(auto)]
 

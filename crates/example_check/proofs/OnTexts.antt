@@ -1,0 +1,45 @@
+-- What `yes` of a run on readers means for the texts that they read.
+use Rattle.std.proofs.Common.{◌≡◌, ℕ, List, [], ◌⊎◌, subst, sym}
+use Rattle.std.specs.Prelude.{Option, None, Some, IfSome}
+use Rattle.std.specs.Io.KnownBytes.{Appends}
+use Rattle.tsp_stream.specs.Turn.{Turn}
+use Rattle.tsp_stream.specs.Sink.{Sink, HasWritten}
+use Rattle.tsp_draft.specs.Fields.{Fields}
+use Rattle.tsp_text.specs.Text.{Spells}
+use Rattle.tsp_read.specs.Reads.{IsFile}
+use Rattle.tsp_reason.specs.declared.certificate.Certificate.{Certificate}
+use Rattle.tsp_judge.specs.CheckRun.{IsFileIn}
+use Rattle.tsp_judge.specs.Accepted.{IsAccepted, IsAcceptedTour, AreAcceptedRoutes}
+use Rattle.tsp_judge.specs.Yes.{SaysYes}
+use Rattle.example_check.specs.Texts.{IsAcceptedOnTexts}
+
+-- the file of a reader whose bytes are known is that of its text
+spelled : (turn : Turn) (text : List ℕ) (file : Fields) → turn.known ≡ Some text → IsFile turn file → Spells text file
+spelled turn text file known is = subst (λ (k : Option (List ℕ)). IfSome k (λ xs. Spells xs file)) known is.3
+
+-- a writer that held nothing holds the report
+printed : (sink : Sink) (written report : List ℕ) → sink.held ≡ Some [] → sink.holds ≡ Some written → HasWritten sink report
+    → written ≡ report
+printed sink written report held holds has =
+    let a : Appends (Some []) sink.holds report = subst (λ (k : Option (List ℕ)). Appends k sink.holds report) held has.2 in
+    subst (λ (k : Option (List ℕ)). Appends (Some []) k report) holds a
+
+-- without a certificate `yes` is of a tour or of routes
+alone : (certificate : Option (Certificate × Fields)) (instance solution : Fields) (report : List ℕ) → IsFileIn None certificate
+    → IsAccepted certificate None instance solution report
+    → IsAcceptedTour None instance solution report ⊎ AreAcceptedRoutes None instance solution report
+alone None instance solution report is accepted = accepted
+alone (Some given) instance solution report is accepted = absurd is
+
+-- plan: both files are those of the texts (`spelled`), and the report is the one that was written (`printed`)
+pub accepted_on : (first second : Turn) (sink : Sink) (one two written : List ℕ) → first.known ≡ Some one → second.known ≡ Some two
+    → sink.held ≡ Some [] → sink.holds ≡ Some written → SaysYes None None first second sink → IsAcceptedOnTexts one two written
+accepted_on first second sink one two written first_is second_is held holds says = record {
+  instance = says.instance;
+  solution = says.solution;
+  first_file = spelled first one says.instance first_is says.read.first_file;
+  second_file = spelled second two says.solution second_is says.read.second_file;
+  accepted = subst (λ (r : List ℕ). IsAcceptedTour None says.instance says.solution r ⊎ AreAcceptedRoutes None says.instance says.solution r)
+      (sym (printed sink written says.report held holds says.written))
+      (alone says.certificate says.instance says.solution says.report says.read.third_file says.meaning);
+}
