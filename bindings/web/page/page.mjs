@@ -1,7 +1,8 @@
 // The page: files come in, a worker judges them, and what it answers is shown.
 
 import { By, Status } from "../../javascript/library.mjs";
-import { barOf, pictureOf } from "./picture.mjs";
+import { canRise } from "./ascent.mjs";
+import { barOf, curveOf, pictureOf, treeOf } from "./picture.mjs";
 import { verdictOf } from "../../javascript/report.mjs";
 import { roleOf } from "./roles.mjs";
 import { tableOf, verbOf } from "./run.mjs";
@@ -28,6 +29,15 @@ let outcome = null;
 
 /** How wide it was drawn. */
 let drawn = 0;
+
+/** @type {import("./run.mjs").Rising | null} how potentials rise, where that is shown */
+let rising = null;
+
+/** The timer that shows one step after the other. */
+let playing = 0;
+
+/** How long a step is shown, in milliseconds. */
+const STEP_TIME = 120;
 
 // ---- the worker
 
@@ -70,10 +80,20 @@ function stop() {
     }
 }
 
-/** @param {{ version?: string, outcome?: import("./run.mjs").Outcome, failed?: string }} message of the worker */
+/**
+ * @param {object} message of the worker
+ * @param {string} [message.version]
+ * @param {import("./run.mjs").Outcome} [message.outcome]
+ * @param {import("./run.mjs").Rising | null} [message.rising]
+ * @param {string} [message.failed]
+ */
 function hear(message) {
     if (message.version !== undefined) {
         find("version").textContent = message.version;
+        return;
+    }
+    if (message.rising !== undefined) {
+        showRising(message.rising);
         return;
     }
     if (message.outcome) {
@@ -217,9 +237,11 @@ function tell(kind, word, meaning) {
     find("verdict").className = kind;
     find("verdict").textContent = word;
     find("meaning").textContent = meaning;
-    for (const id of ["explanation", "not-judged", "no-drawing", "details", "figure", "bar", "converted", "own-claim", "geo", "rows", "save-rows"]) {
+    for (const id of ["explanation", "not-judged", "no-drawing", "details", "figure", "bar", "converted", "own-claim", "geo", "rows", "save-rows", "rise", "rising"]) {
         find(id).setAttribute("hidden", "");
     }
+    rising = null;
+    clearInterval(playing);
 }
 
 /** @param {import("./run.mjs").Outcome} answered */
@@ -241,8 +263,78 @@ function show(answered) {
     find("command").textContent = command;
     find("no-drawing").hidden = scene !== null || given.instance === null || status !== Status.YES;
     outcome = answered;
+    find("rise").hidden = scene === null || scene.depot !== null || !rises(scene);
     draw();
     find("verdict").scrollIntoView({ block: "nearest" });
+}
+
+// ---- potentials that rise
+
+/** @param {import("./scene.mjs").Scene} scene */
+function rises({ points, weights }) {
+    return canRise(weights, points.length / 2);
+}
+
+/** Asks for the steps of an ascent. */
+function rise() {
+    if (given.instance && outcome?.scene) {
+        worker?.postMessage({ instance: given.instance, scene: outcome.scene, length: outcome.report?.length ?? null });
+    }
+}
+
+/** @param {import("./run.mjs").Rising | null} found */
+function showRising(found) {
+    rising = found;
+    find("rising").hidden = found === null;
+    find("rise").hidden = true;
+    if (found !== null) {
+        const { steps, best } = found.ascent;
+        /** @type {HTMLInputElement} */ (find("step")).max = String(steps.length - 1);
+        const told = `The library, whose code is proved, says of the potentials of step ${best}: every tour is at least ${found.bound} long.`;
+        find("rising-bound").textContent = told;
+        showStep(0);
+        play();
+    }
+}
+
+/** Shows one step. */
+function showStep(/** @type {number} */ at) {
+    if (rising === null || !outcome?.scene) {
+        return;
+    }
+    const { steps } = rising.ascent;
+    const step = steps[at];
+    const length = outcome.report?.length ?? null;
+    const others = step.degrees.filter((degree) => degree !== 2).length;
+    /** @type {HTMLInputElement} */ (find("step")).value = String(at);
+    fillPicture("tree", treeOf(outcome.scene, step, find("result").clientWidth));
+    fillPicture("curve", curveOf(steps, at, length === null ? null : Number(length), find("result").clientWidth));
+    const rest = others === 0 ? "Each node has two edges: the 1-tree is a tour." : `${others} nodes, marked, don't have two edges: their potentials rise or fall.`;
+    find("step-words").textContent = `Step ${at}: the least 1-tree gives the bound ${step.bound.toFixed(2)}. ${rest} The dashed edges are those of node 1.`;
+}
+
+/** Shows one step after the other, or stops that. */
+function play() {
+    clearInterval(playing);
+    const input = /** @type {HTMLInputElement} */ (find("step"));
+    const last = Number(input.max);
+    showStep(Number(input.value) === last ? 0 : Number(input.value));
+    playing = setInterval(() => {
+        const next = Number(input.value) + 1;
+        if (next > last) {
+            clearInterval(playing);
+        } else {
+            showStep(next);
+        }
+    }, STEP_TIME);
+}
+
+/** Takes the potentials of the best step as the certificate. */
+function takePotentials() {
+    if (rising) {
+        put("certificate", { name: nameWith("potentials"), bytes: new TextEncoder().encode(rising.ascent.potentials) }, By.POTENTIALS);
+        judge();
+    }
 }
 
 /**
@@ -500,6 +592,13 @@ function listenToPage() {
     for (const button of document.querySelectorAll("button[data-example]")) {
         button.addEventListener("click", () => takeExample(/** @type {HTMLElement} */ (button).dataset.example ?? ""));
     }
+    find("rise").addEventListener("click", rise);
+    find("play").addEventListener("click", play);
+    find("use-potentials").addEventListener("click", takePotentials);
+    find("step").addEventListener("input", () => {
+        clearInterval(playing);
+        showStep(Number(/** @type {HTMLInputElement} */ (find("step")).value));
+    });
     find("stop").addEventListener("click", () => {
         stop();
         tell("none", "Stopped", "");

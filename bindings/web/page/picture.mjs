@@ -55,6 +55,48 @@ export function pictureOf(scene, room, kind) {
 }
 
 /**
+ * The 1-tree of a step of an ascent. Nodes with two edges are as in a tour; others are marked.
+ *
+ * @param {import("./scene.mjs").Scene} scene
+ * @param {import("./ascent.mjs").Step} step
+ * @param {number} room
+ * @returns {Picture}
+ */
+export function treeOf(scene, { edges, degrees }, room) {
+    const width = Math.max(room, LEAST_WIDTH);
+    const { place, height } = layOut(scene.points, width);
+    const all = degrees.map((_, at) => at + 1);
+    const [tour, others] = [true, false].map((isTwo) => all.filter((node) => (degrees[node - 1] === 2) === isTwo));
+    const shapes = [
+        ...edges.map((edge, at) => lineShape(edge, place, at < 2 ? "tree first" : "tree")),
+        path(tour.map((node) => dot(node, place)).join(""), `nodes ${sizeOf(all.length)}`),
+        path(others.map((node) => dot(node, place)).join(""), `missing ${sizeOf(all.length)}`),
+    ];
+    return { width, height, shapes };
+}
+
+/**
+ * The bounds of an ascent as a line, with the step that is shown, and the length of a tour above them.
+ *
+ * @param {import("./ascent.mjs").Step[]} steps
+ * @param {number} at
+ * @param {number | null} length
+ * @param {number} room
+ * @returns {Picture}
+ */
+export function curveOf(steps, at, length, room) {
+    const [width, height] = [Math.max(room, LEAST_WIDTH), 180];
+    const bounds = steps.map(({ bound }) => bound);
+    const [low, high] = [Math.min(...bounds), Math.max(...bounds, length ?? -Infinity)];
+    const x = (/** @type {number} */ step) => round(MARGIN + ((width - 2 * MARGIN) * step) / Math.max(1, steps.length - 1));
+    const y = (/** @type {number} */ bound) => round(height - MARGIN - ((height - 2 * MARGIN) * (bound - low)) / (high - low || 1));
+    const line = `M${bounds.map((bound, step) => `${x(step)} ${y(bound)}`).join("L")}`;
+    const above = length === null ? [] : [path(`M${MARGIN} ${y(length)}H${width - MARGIN}`, "upper")];
+    const told = length === null ? [] : [{ name: "text", attributes: { x: MARGIN, y: y(length) - 6, class: "scale" }, text: `length ${length}` }];
+    return { width, height, shapes: [...above, ...told, path(line, "rise"), { name: "circle", attributes: { cx: x(at), cy: y(bounds[at]), r: 5, class: "here" } }] };
+}
+
+/**
  * Where nodes are drawn: as large as fits, with y upwards.
  *
  * @param {Float64Array} points

@@ -3,6 +3,7 @@
 import { Judge } from "../../javascript/judge.mjs";
 import { By, Call, Status } from "../../javascript/library.mjs";
 import { percentOf, reportOf, verdictOf } from "../../javascript/report.mjs";
+import { ascentOf, canRise } from "./ascent.mjs";
 import { withoutGeo } from "./geo.mjs";
 import { sceneOf } from "./scene.mjs";
 import { NoSolution, claimOf, converted } from "../../javascript/solutions.mjs";
@@ -47,6 +48,35 @@ import { NoSolution, claimOf, converted } from "../../javascript/solutions.mjs";
  */
 
 const NOTHING = new Uint8Array();
+
+/**
+ * @typedef {object} Rising how potentials of an instance rise
+ * @property {import("./ascent.mjs").Ascent} ascent
+ * @property {bigint | null} bound what the library says of the potentials of the best step
+ *
+ * @typedef {object} Request
+ * @property {Given} instance
+ * @property {import("./scene.mjs").Scene} scene
+ * @property {bigint | null} length of a tour
+ */
+
+/**
+ * How potentials of an instance rise; null where that isn't shown.
+ *
+ * @param {import("../../javascript/library.mjs").Library} library
+ * @param {Request} request
+ * @returns {Rising | null}
+ */
+export function risingOf(library, { instance, scene, length }) {
+    const shown = new TextDecoder().decode(library.show(instance.bytes).bytes);
+    const weights = /^weights (\w+)/m.exec(shown)?.[1] ?? "";
+    if (!/^type TSP$/m.test(shown) || !canRise(weights, scene.points.length / 2)) {
+        return null;
+    }
+    const ascent = ascentOf(scene.points, weights, length === null ? null : Number(length));
+    const { result } = library.bound(instance.bytes, new TextEncoder().encode(ascent.potentials), By.POTENTIALS);
+    return { ascent, bound: result.bound };
+}
 
 /**
  * The verb that these files ask for; null where they ask for none.

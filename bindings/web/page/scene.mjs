@@ -12,6 +12,7 @@ import { Section, Status } from "../../javascript/library.mjs";
  *
  * @typedef {object} Scene
  * @property {Float64Array} points x and y of node 1, of node 2 and so on
+ * @property {string} weights the weight type
  * @property {string} note what the points are, where they aren't plain ones of the plane
  * @property {number[][]} tours the nodes of each tour, or of each route with the depot first
  * @property {Pair[]} fixed the fixed edges
@@ -50,6 +51,7 @@ export function sceneOf(library, instance, solution, report) {
     const fixed = rowsOf(text, "FIXED_EDGES_SECTION").filter((row) => row.length === 2).slice(0, MOST_EXTRAS);
     return {
         points: flat(found),
+        weights,
         note: noteOf(coords !== null, weights),
         tours: listed.map((tour) => (depot === null ? tour : [depot, ...tour])).map((tour) => within(tour, nodes)),
         fixed: /** @type {Pair[]} */ (fixed),

@@ -1,7 +1,7 @@
 // Runs jobs outside of the page's own thread. The first message is the module, each later one a job.
 
 import { Library } from "../../javascript/library.mjs";
-import { run } from "./run.mjs";
+import { risingOf, run } from "./run.mjs";
 
 /** @type {Promise<WebAssembly.Module> | null} */
 let module = null;
@@ -11,6 +11,8 @@ addEventListener("message", async ({ data }) => {
         if (module === null) {
             module = WebAssembly.compile(data);
             postMessage({ version: (await Library.of(await module)).version() });
+        } else if (data.scene) {
+            postMessage({ rising: risingOf(await Library.of(await module), data) });
         } else {
             // (a new memory for each job)
             postMessage({ outcome: run(await Library.of(await module), data) });

@@ -226,6 +226,22 @@ const TESTS = {
         await browser.value(`document.getElementById("best").dispatchEvent(new Event("change"))`);
         await browser.until(`${heads} === "Tour|Verdict|Length|Above the best known in %"`);
     },
+    "potentials rise step by step, and are taken as the certificate": async (browser) => {
+        await browser.open("");
+        await browser.choose("all", ["harbour.tsp", "harbour.tour"]);
+        await browser.until(`document.getElementById("verdict").textContent === "Yes: a tour"`);
+        await browser.value(`document.getElementById("rise").click()`);
+        await browser.until(`document.getElementById("rising").hidden === false`);
+        await browser.until(`document.querySelectorAll("#tree .tree").length === 8`);
+        await browser.value(`(() => { const step = document.getElementById("step"); step.value = step.max; step.dispatchEvent(new Event("input")); })()`);
+        assert.match(await browser.value(`document.getElementById("step-words").textContent`), /^Step [1-9]\d*: the least 1-tree gives the bound 22\d/);
+        if (pictures) {
+            await browser.picture("rising");
+        }
+        await browser.value(`document.getElementById("use-potentials").click()`);
+        await browser.until(`/^Yes: (optimal|gap \\d)$/.test(document.getElementById("verdict").textContent)`);
+        assert.equal(await browser.value(`document.getElementById("rising").hidden`), true);
+    },
     "a fault has its meaning above its line": async (browser) => {
         await browser.open("zero");
         assert.equal(await browser.verdict(), "Fault");

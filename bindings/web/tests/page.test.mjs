@@ -5,11 +5,12 @@ import { readFileSync } from "node:fs";
 import { test } from "node:test";
 
 import { By, Section, Status, Verdict } from "../../javascript/library.mjs";
+import { ascentOf, canRise } from "../page/ascent.mjs";
 import { withoutGeo } from "../page/geo.mjs";
 import { barOf, pictureOf } from "../page/picture.mjs";
 import { percentOf, reportOf, verdictOf } from "../../javascript/report.mjs";
 import { roleOf } from "../page/roles.mjs";
-import { run, tableOf, verbOf } from "../page/run.mjs";
+import { risingOf, run, tableOf, verbOf } from "../page/run.mjs";
 import { marksOf, missingOf, rowsOf, toursOf } from "../page/scene.mjs";
 import { NoSolution, claimOf, converted } from "../../javascript/solutions.mjs";
 import { libraryOf } from "./module.mjs";
@@ -289,6 +290,31 @@ test("an instance of type GEO is one of weights", async () => {
         assert.equal(withoutGeo(bytesOf(other)), null, other);
     }
     assert.equal(run(library, HARBOUR).isGeo, false);
+});
+
+test("potentials rise, and the library says what they are worth", async () => {
+    const library = await libraryOf(PAGE);
+    const outcome = run(library, HARBOUR);
+    const { ascent, bound } = risingOf(library, { instance: HARBOUR.instance, scene: outcome.scene, length: 226n });
+    // potentials 0 give 222 for the harbour, whose shortest tour is 226 long
+    assert.equal(Math.ceil(ascent.steps[0].bound), 222);
+    assert.ok(bound >= 224n && bound <= 226n, String(bound));
+    assert.equal(BigInt(Math.ceil(ascent.steps[ascent.best].bound)), bound, "the bound of the best step");
+    for (const { bound: other, edges, degrees } of ascent.steps) {
+        assert.ok(other <= 226 && other <= ascent.steps[ascent.best].bound, "no bound is above the shortest tour, or the best one");
+        assert.deepEqual([edges.length, degrees.reduce((sum, degree) => sum + degree)], [8, 16], "as many edges as nodes");
+        assert.deepEqual([edges[0][0], edges[1][0], edges.slice(2).flat().includes(1)], [1, 1, false], "node 1 has two of them");
+    }
+    const dairy = { ...alone, instance: example("dairy.vrp") };
+    assert.equal(risingOf(library, { instance: dairy.instance, scene: run(library, dairy).scene, length: null }), null, "routes");
+    assert.deepEqual([canRise("EUC_2D", 2), canRise("EUC_2D", 300), canRise("EUC_2D", 301), canRise("EUC_3D", 8)], [false, true, false, false]);
+});
+
+test("the least 1-tree of four nodes", () => {
+    // the sides are 3 and 4, the diagonals 5: a tree of 3 + 4 over nodes 2, 3 and 4, and 3 + 4 at node 1
+    const { steps } = ascentOf(Float64Array.from([0, 0, 3, 0, 3, 4, 0, 4]), "EUC_2D", null);
+    assert.equal(steps[0].bound, 14);
+    assert.deepEqual([steps[0].degrees, steps.length], [[2, 2, 2, 2], 1], "a tour: there is no further step");
 });
 
 test("a long tour is drawn in parts", () => {
