@@ -133,6 +133,20 @@ class Contests(unittest.TestCase):
         with self.assertRaisesRegex(ValueError, "there is no solution"):
             yokecairn.table([self.top / "instances"])
 
+    def test_a_list(self):
+        lines = ["# a comment", "", "instances/harbour.tsp\tme\tant/harbour.tour\tpotentials=instances/harbour.potentials",
+                 "instances/rectangle.tsp\tme\tbee/rectangle.txt", "instances/rectangle.tsp\tyou\tant/rectangle.tour"]
+        path = self.top / "list.tsv"
+        path.write_text("\n".join(lines) + "\n")
+        found = yokecairn.table(path, workers=1)
+        self.assertEqual((found.instances, found.solvers), (["harbour", "rectangle"], ["me", "you"]))
+        self.assertEqual((found.length("rectangle", "me"), found.length("rectangle", "you")), (14, 18))
+        self.assertTrue(found["harbour", "me"].optimal)
+        for line in ("a\tb", "a\tb\tc\td", "a\tb\tc\tbranches=", "a\tb\tc\tbranches=d\te"):
+            path.write_text(f"\n{line}\n")
+            with self.assertRaisesRegex(ValueError, "list.tsv:2: an instance, a solver"):
+                yokecairn.table(path)
+
     def test_the_command(self):
         (self.top / "cat/other.tour").unlink()
         words = ("table", self.top, "--best", self.top / "best.txt", "--jobs", "2")

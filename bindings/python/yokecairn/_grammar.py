@@ -40,7 +40,7 @@ _FILES: Dict[str, Dict[str, Any]] = {
     "file": {"metavar": "F", "help": "the file, or the instance; - is standard input"},
     "solution": {"metavar": "T", "help": "the solution"},
     "folder": {"metavar": "FOLDER", "help": "the folder of the result"},
-    "folders": {"metavar": "FOLDER", "nargs": "+", "help": "instances, and a folder of solutions for each solver"},
+    "folders": {"metavar": "FOLDER", "nargs": "+", "help": "instances, and a folder of solutions for each solver; or a list"},
     "solutions": {"metavar": "T", "nargs": "+", "help": "the solutions"},
 }
 _OPTIONS: Dict[str, Dict[str, Any]] = {

@@ -43,17 +43,13 @@ def tabled(run: Any, task: Task) -> int:
     if task.best is not None and task.best.isdigit() and not os.path.exists(task.best):
         run.explain(f"{task.best}: for several instances best-known lengths are in a file of lines NAME LENGTH")
         return _library.FAULT
-    for folder in task.folders:
-        if not os.path.isdir(folder):
-            run.explain(f"{folder}: this is no folder")
-            return 5
     try:
         found = table(task.folders, best=best, workers=task.jobs, processes=True, claims=task.claims, progress=Bar(run))
     except ValueError as fault:
         run.explain(str(fault))
         return _library.FAULT
     except OSError as fault:
-        run.explain(f"{task.best}: {fault.strerror}")
+        run.explain(f"{fault.filename}: {fault.strerror}")
         return 5
     forms = {"csv": found.to_csv, "latex": found.to_latex, "html": found.to_html}
     written = forms[task.form]() if task.form in forms else f"{found}\n"

@@ -81,6 +81,30 @@ def find(folders: Iterable[Path]) -> Tuple[List[Entry], List[str]]:
     return entries, others
 
 
+def listed_in(path: Path) -> List[Entry]:
+    """The entries of a list. A line has, with tabs between them: the instance, the solver, the solution, and where there
+    is one the certificate as `potentials=PATH` or `branches=PATH`. Empty lines, and those that begin with #, are skipped.
+    Paths are relative to the folder of the list.
+
+    Raises:
+        ValueError: a line has another form.
+        OSError: the list can't be read.
+    """
+    base = _Path(path).parent
+    entries = []
+    for number, line in enumerate(_Path(path).read_bytes().decode("utf-8", "surrogateescape").splitlines(), 1):
+        fields = line.split("\t")
+        if not line.strip() or line.startswith("#"):
+            continue
+        kind, _, certificate = fields[3].partition("=") if len(fields) == 4 else ("", "", "")
+        if len(fields) not in (3, 4) or not all(fields) or (len(fields) == 4 and (kind not in ("potentials", "branches") or not certificate)):
+            told = "an instance, a solver, a solution, and potentials=PATH or branches=PATH are wanted, with tabs between them"
+            raise ValueError(f"{path}:{number}: {told}")
+        given = {kind: str(base / certificate)} if kind else {}
+        entries.append(Entry(str(base / fields[0]), fields[1], str(base / fields[2]), **given))
+    return entries
+
+
 class Table:
     """What comes of each solver on each instance. As a text, and in a notebook, it is a table of lengths.
 
@@ -314,7 +338,8 @@ def table(
 ) -> Table:
     """Judges the solutions of several solvers of many instances, some of them at once.
 
-    `entries` are folders, in which instances and solutions are found as `find` says, or each an `Entry`. Solutions may
+    `entries` are folders, in which instances and solutions are found as `find` says, lists as `listed_in` reads them, or
+    each an `Entry`. Solutions may
     have the form of another program, and the length that one claims is taken; `claims=False` leaves it. `best` has
     best-known lengths: by the NAME of instances, or a file of lines `NAME LENGTH`. `workers` are as many as there are
     processors where they aren't named: threads, or with `processes` processes of their own, as in `check_many`.
@@ -322,12 +347,15 @@ def table(
     `progress(done, all, instance)` is called when an instance is done.
 
     Raises:
-        ValueError: a solver has two solutions of an instance, or two instances have one name; or there is no solution.
-        OSError: the file of best-known lengths can't be read.
+        ValueError: a solver has two solutions of an instance, or two instances have one name; there is no solution; or a
+            line of a list has another form.
+        OSError: a list, or the file of best-known lengths, can't be read.
     """
     given: List[Any] = [entries] if isinstance(entries, (str, os.PathLike)) else list(entries)
+    places = [it for it in given if not isinstance(it, Entry)]
     listed = [it for it in given if isinstance(it, Entry)]
-    placed, others = find(it for it in given if not isinstance(it, Entry))
+    listed += [entry for place in places if not os.path.isdir(place) for entry in listed_in(place)]
+    placed, others = find(place for place in places if os.path.isdir(place))
     unused = [path for path in others if not (isinstance(best, (str, os.PathLike)) and _Path(path) == _Path(best))]
     jobs = _jobs([*listed, *placed], best, claims)
     if not jobs:
