@@ -2,6 +2,7 @@
 use Rattle.std.proofs.Common.{refl}
 use Rattle.tsp_draft.proofs.examples.examples_of_validity.Goals as goal
 
+-- plan: each example on a long list is computed
 pub returns-clause-longest_name : goal.returns-clause-longest_name
 returns-clause-longest_name c = refl
 

@@ -8,6 +8,7 @@ use Rattle.std.specs.List.{All}
 use Rattle.tsp_draft.proofs.Ranges.{own_bits}
 use Rattle.tsp_draft.proofs.range.all_bits.Goals as goal
 
+-- plan: one number more has only these bits, and a number without the highest bit is its bits (`own_bits`)
 pub numbers-preserved : goal.numbers-preserved
 numbers-preserved c = λ small.
     let number : ℤ = slice_index_or c.args.numbers.now c.numbers.number-index (pos 0) in

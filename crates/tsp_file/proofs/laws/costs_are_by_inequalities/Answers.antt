@@ -2,6 +2,7 @@
 use Rattle.tsp_file.proofs.Distances.{DistanceLaws, cost_defined, cost_unique}
 use Rattle.tsp_file.proofs.laws.costs_are_by_inequalities.Goals as goal
 
+-- plan: the cost has the inequalities of its distance (`cost_defined`), and no other number does (`cost_unique`)
 pub returns : goal.returns
 returns c =
     let known = c.distance_laws.ensures in

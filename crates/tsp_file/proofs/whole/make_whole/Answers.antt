@@ -10,6 +10,7 @@ use Rattle.tsp_file.proofs.WithWeights.{few_cells}
 use Rattle.tsp_file.proofs.Spread.{whole_is}
 use Rattle.tsp_file.proofs.whole.make_whole.Goals as goal
 
+-- plan: the lines are spread, the diagonal is cleared and the mirrored cells are filled: that is the whole (`whole_is`)
 pub returns-clause-ok : goal.returns-clause-ok
 returns-clause-ok c =
     let half = c.args.weights.now.items in

@@ -9,6 +9,7 @@ use Rattle.tsp_read.proofs.NextSteps.{filled_first, goes_on_past, none_next, end
 use Rattle.tsp_read.proofs.Onwards.{end_follows, token_follows, token_short}
 use Rattle.tsp_read.proofs.cut.next_item.Goals as goal
 
+-- plan: by the first byte that is no blank: none (`none_next`), a line's end (`end_next`), or a token (`token_next`)
 pub returns-in_default-clause-items : goal.returns-in_default-clause-items
 returns-in_default-clause-items c =
     none_next c.args.goes_on c.args.inside c.args.text.now c.without_start-filled.result.now

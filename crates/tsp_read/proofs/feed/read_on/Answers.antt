@@ -5,6 +5,7 @@ use Rattle.tsp_read.proofs.PausedSteps.{paused_joined, joined_read, paused_kept,
 use Rattle.tsp_read.proofs.HandedOn.{handed_on}
 use Rattle.tsp_read.proofs.feed.read_on.Goals as goal
 
+-- plan: the begun item is joined (`joined_read`), the whole items are read, and what is left is kept (`paused_kept`)
 pub returns-in_err-rest-clause-read : goal.returns-in_err-rest-clause-read
 returns-in_err-rest-clause-read c = λ bytes h.
     let same : c.from_residual.result ≡ Err c.in_err-rest.field-0.0 = handed_on _ _ c.from_residual.ensures.1 in

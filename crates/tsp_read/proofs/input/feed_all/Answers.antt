@@ -8,6 +8,7 @@ use Rattle.tsp_read.proofs.PieceSteps.{gathered_start, gathered_more, gathered_n
 use Rattle.tsp_read.proofs.HandedOn.{handed_on}
 use Rattle.tsp_read.proofs.input.feed_all.Goals as goal
 
+-- plan: one read more is one piece more (`read_more`, `gathered_more`), until one gives nothing, fails or is the last
 pub returns-in_default-clause-fed : goal.returns-in_default-clause-fed
 returns-in_default-clause-fed g c =
     let way = gathered_kept _ _ _ c.pieces.feed c.pieces.taken c.pieces.invariant.gathered c.in_default.ensures.bytes in

@@ -10,6 +10,7 @@ returns-in-Blank c = rw c.in-Blank.is (λ old new text word takes gives shorter.
   shorter,
 ))
 
+-- plan: by what follows the word: a blank (`word_runs`), or the line's end too (`line_runs`, `run_then`)
 pub returns-in-Line : goal.returns-in-Line
 returns-in-Line c = rw c.in-Line.is (λ old new text word takes gives shorter.
     let before : Count = c.args.count.now in

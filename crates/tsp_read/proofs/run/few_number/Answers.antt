@@ -18,6 +18,7 @@ number_at_front c = record {
   leaves = c.in-Some-word_end.ensures.left;
 }
 
+-- plan: the number at the front ends where its word does (`number_at_front`), so it is the word's (`front_reads`)
 pub returns-in-Some-word_end : goal.returns-in-Some-word_end
 returns-in-Some-word_end c =
     let fits : FitsSigned w64 c.in-Some.number = search rules in

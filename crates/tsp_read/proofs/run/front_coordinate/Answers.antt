@@ -14,6 +14,7 @@ number_at_front c = record {
   leaves = c.in-Some-word_end.ensures.left;
 }
 
+-- plan: the decimal at the front ends where its word does (`number_at_front`), so it is the word's (`front_reads_decimal`)
 pub returns-in-Some-word_end : goal.returns-in-Some-word_end
 returns-in-Some-word_end c = record {
   word = front_gives _ _ _ _ _ _ (number_at_front c);

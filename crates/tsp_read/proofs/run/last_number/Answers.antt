@@ -18,6 +18,7 @@ number_at_front c = record {
   leaves = c.in-Some-line_end.ensures.left;
 }
 
+-- plan: the number at the front ends where its line does (`number_at_front`), so it is the word's (`front_reads`)
 pub returns-in-Some-line_end : goal.returns-in-Some-line_end
 returns-in-Some-line_end c =
     let fits : FitsSigned w64 c.in-Some.number = search rules in

@@ -4,6 +4,7 @@ use Rattle.tsp_read.specs.states.ReadingRun.{RunsTo}
 use Rattle.tsp_read.proofs.RunSteps.{same_run, run_then}
 use Rattle.tsp_read.proofs.run.take_all.Goals as goal
 
+-- plan: one step more of the run (`run_then`), which leaves fewer bytes
 pub run-init : goal.run-init
 run-init g c = same_run (g.L.RunList.part c.args.list.now) c.args.count c.args.text.now
 

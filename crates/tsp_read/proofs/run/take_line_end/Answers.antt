@@ -3,6 +3,7 @@ use Rattle.std.proofs.Common.{refl, ap, ◌∙◌, ◌∷◌, arith, length}
 use Rattle.tsp_read.proofs.RunSteps.{line_runs}
 use Rattle.tsp_read.proofs.run.take_line_end.Goals as goal
 
+-- plan: a byte 10 alone is a line's end (`line_runs`)
 pub returns-in-Some-eq10-default : goal.returns-in-Some-eq10-default
 returns-in-Some-eq10-default c = λ part.
     let parts = c.in-Some-eq10-default.ensures.cases.0 in (

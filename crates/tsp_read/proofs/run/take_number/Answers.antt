@@ -5,6 +5,7 @@ use Rattle.tsp_text.specs.SectionNumbers.{IsWhole}
 use Rattle.tsp_read.specs.states.WordFront.{front_word, left_from, IsFrontWord}
 use Rattle.tsp_read.proofs.run.take_number.Goals as goal
 
+-- plan: the number is taken, and its word is counted
 pub returns : goal.returns
 returns g c =
     let fits : FitsSigned w64 c.in-Some.number = search rules in

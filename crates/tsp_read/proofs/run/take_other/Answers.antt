@@ -3,6 +3,7 @@ use Rattle.std.proofs.Common.{arith}
 use Rattle.tsp_read.proofs.RunSteps.{step_then}
 use Rattle.tsp_read.proofs.run.take_other.Goals as goal
 
+-- plan: a number that isn't plain leaves the run to the next step (`step_then`)
 pub take_number-requires-clause-line : goal.take_number-requires-clause-line
 take_number-requires-clause-line g c = let none = c.in-None.ensures (g.L.RunList.part c.args.list.now) in omega (arith, none.line, c.requires.line)
 

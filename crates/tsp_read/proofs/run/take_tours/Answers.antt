@@ -4,6 +4,7 @@ use Rattle.tsp_section.specs.declared.part.Part.TheVariants as parts
 use Rattle.tsp_read.proofs.RunSteps.{keeps_run, run_then}
 use Rattle.tsp_read.proofs.run.take_tours.Goals as goal
 
+-- plan: the nodes are gathered apart and put back, which keeps the run (`keeps_run`)
 pub returns : goal.returns
 returns c =
     let kept = keeps_run (parts.Tours c.args.list.now) (parts.Tours c.gather-gathered.result.list) c.args.count c.args.text.now

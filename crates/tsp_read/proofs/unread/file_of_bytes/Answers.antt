@@ -3,6 +3,7 @@ use Rattle.std.proofs.Common.{[], refl}
 use Rattle.tsp_read.proofs.InTime.{bytes_fault, bytes_memory}
 use Rattle.tsp_read.proofs.unread.file_of_bytes.Goals as goal
 
+-- plan: the bytes are one piece: a fault of it (`bytes_fault`), or the file at its end
 pub returns-in-Err-clause-answer : goal.returns-in-Err-clause-answer
 returns-in-Err-clause-answer c =
     bytes_fault c.args.bytes.now c.take.new.self c.in-Err.fault (c.in-Err.ensures.taken [] c.new-feed.ensures)

@@ -4,6 +4,7 @@ use Rattle.tsp_read.proofs.Asking.{read_none}
 use Rattle.tsp_read.proofs.InTime.{in_time, answer_of}
 use Rattle.tsp_read.proofs.unread.file_of_reader.Goals as goal
 
+-- plan: the pieces are the bytes that were given, so the answer is that of all of them (`answer_of`)
 pub returns-in-Ok-clause-in_time : goal.returns-in-Ok-clause-in_time
 returns-in-Ok-clause-in_time g c =
     in_time (turn_of g.R.Read.remaining c.args.reader.now c.feed_all.new.reader) c.feed_all.new.feed c.into_file.result

@@ -2,6 +2,7 @@
 use Rattle.tsp_round.proofs.NumbersReadBack.{WordLaws, number_laws}
 use Rattle.tsp_round.proofs.round_trip.written_numbers_are_read_back.Goals as goal
 
+-- plan: the laws of tsp_number give it, as a record (`WordLaws`)
 pub returns-clause-whole : goal.returns-clause-whole
 returns-clause-whole c =
     let words = c.number_word_laws.ensures in

@@ -4,6 +4,7 @@ use Rattle.std.specs.Prelude.{slice_set}
 use Rattle.std.proofs.Math.Seq.{set-append_seam}
 use Rattle.tsp_section.proofs.moved.move_to_end.Goals as goal
 
+-- plan: the list that was gathered is the last one, and the gathered one is empty
 pub returns-clause-lists : goal.returns-clause-lists
 returns-clause-lists g c =
     let lists = c.args.lists.now.items in

@@ -10,6 +10,7 @@ returns-then-line-gt-MOST_KEPT_BYTES c =
     let more = (Decides-ltb 4000 both).1 (omega (arith, c.if-line-gt-MOST_KEPT_BYTES.true)) in
     rw ((Decides-ltb 4000 keyword).1 c.if-line-gt-MOST_KEPT_BYTES.true, more) refl
 
+-- plan: the line is short enough, or its keyword and value are counted
 pub returns-else-line-gt-MOST_KEPT_BYTES : goal.returns-else-line-gt-MOST_KEPT_BYTES
 returns-else-line-gt-MOST_KEPT_BYTES c =
     let keyword = length c.args.line.now.keyword.now in

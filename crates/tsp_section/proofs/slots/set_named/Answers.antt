@@ -6,6 +6,7 @@ use Rattle.tsp_text.specs.Values.{is_left_out}
 use Rattle.tsp_section.proofs.NamedRows.{fault_of_value}
 use Rattle.tsp_section.proofs.slots.set_named.Goals as goal
 
+-- plan: by the value: it is named, or has the fault of its row (`fault_of_value`)
 pub returns-in-Err : goal.returns-in-Err
 returns-in-Err g c =
     let word = first_word c.args.value.now in (

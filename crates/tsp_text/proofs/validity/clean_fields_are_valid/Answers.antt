@@ -4,6 +4,7 @@ use Rattle.tsp_text.proofs.ValidCuts.{part_cut}
 use Rattle.tsp_text.proofs.ValidItems.{none_bad}
 use Rattle.tsp_text.proofs.validity.clean_fields_are_valid.Goals as goal
 
+-- plan: no row applies, so no field is bad (`none_bad`); a text's fields are those of its items (`part_cut`)
 pub returns-clause-of_items : goal.returns-clause-of_items
 returns-clause-of_items c = λ items cut clean whole. none_bad items cut clean whole
 

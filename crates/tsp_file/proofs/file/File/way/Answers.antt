@@ -8,6 +8,7 @@ use Rattle.tsp_file.proofs.Listed.{same_layout}
 use Rattle.tsp_file.proofs.Relaid.{of_file, has_weights, pairs_held, can_go, own_layout}
 use Rattle.tsp_file.proofs.file.File.way.Goals as goal
 
+-- plan: by the first reason against it: no weights, a pair or a diagonal that would be lost; else it can go (`can_go`)
 pub returns-then-are_in : goal.returns-then-are_in
 returns-then-are_in c =
     let w = c.in-Some.listed in

@@ -28,6 +28,7 @@ held f g n weights same valid full dimension stand =
     lists f FullMatrix n weights (in_range f valid)
     (subst (λ (h : Fields). h.weight_format ≡ Some (Listed FullMatrix)) (sym same) full) dimension stand
 
+-- plan: the half that is kept has the costs of the whole (`laid_of`), so the file stays valid
 pub unwrap-nodes-requires : goal.unwrap-nodes-requires
 unwrap-nodes-requires c =
     let f : Fields = fields_of c.self.inside.draft in

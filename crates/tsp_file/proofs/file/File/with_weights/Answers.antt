@@ -6,6 +6,7 @@ use Rattle.tsp_file.specs.Relayout.{with_weights}
 use Rattle.tsp_file.proofs.WithWeights.{stays_valid}
 use Rattle.tsp_file.proofs.file.File.with_weights.Goals as goal
 
+-- plan: other weights of the same number leave the file valid (`stays_valid`)
 pub invariant_of-result : goal.invariant_of-result
 invariant_of-result c =
     let f : Fields = c.args.self in

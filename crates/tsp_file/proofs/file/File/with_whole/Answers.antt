@@ -22,6 +22,7 @@ made : {A E : Type 0} (r : Result A E) (P : Type 0) → is_err r ≡ false → O
 made (Ok x) P ok h = h
 made (Err e) P ok h = absurd cc
 
+-- plan: the matrix that is made has the costs of the half (`laid_of`), so the file stays valid
 pub unwrap-nodes-requires : goal.unwrap-nodes-requires
 unwrap-nodes-requires c =
     let f : Fields = fields_of c.self.inside.draft in

@@ -6,6 +6,7 @@ use Rattle.tsp_file.proofs.Listed.{cost_of_cell, cost_mirrored, cost_unlisted, w
 use Rattle.tsp_file.proofs.Relaid.{no_cell}
 use Rattle.tsp_file.proofs.weights.ListedWeights.cost.Goals as goal
 
+-- plan: by the layout: it lists the cell (`cost_of_cell`), the mirrored one (`cost_mirrored`), or neither (`cost_unlisted`)
 pub returns-then-lists : goal.returns-then-lists
 returns-then-lists c =
     let w = c.args.self.now in

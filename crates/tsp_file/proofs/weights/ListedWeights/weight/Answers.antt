@@ -6,6 +6,7 @@ use Rattle.tsp_format.specs.Cells.{cells}
 use Rattle.tsp_file.proofs.Listed.{cost_of_cell, weight_read}
 use Rattle.tsp_file.proofs.weights.ListedWeights.weight.Goals as goal
 
+-- plan: the weight at the cell's place is its cost (`cost_of_cell`)
 pub returns : goal.returns
 returns c =
     let w = c.args.self.now in

@@ -8,6 +8,7 @@ use Rattle.tsp_file.proofs.writer.points.write_line_end.Goals as goal
 last : (line : List ℕ) → length line ≡ 87 → drop 86 (set line 86 10) ≡ line_end
 last line long = drop-set line 86 10 (omega (arith, long)) ∙ ap (λ (t : List ℕ). 10 ∷ t) (drop_all 87 line (omega (arith, long)))
 
+-- plan: by whether the file is spatial: the third coordinate is written, or only the line's end
 pub returns-then-spatial-clause-written : goal.returns-then-spatial-clause-written
 returns-then-spatial-clause-written c =
     let long : length c.args.line.now ≡ 87 = search rules in

@@ -8,6 +8,7 @@ use Rattle.std.proofs.lemmas.Int.{to_z-of_z}
 use Rattle.std.specs.Prelude.{FitsSigned}
 use Rattle.tsp_file.proofs.writer.sections.put_number_line.Goals as goal
 
+-- plan: two numbers in a line (`two_numbers`)
 pub returns : goal.returns
 returns g c =
     let fits : FitsSigned w64 c.args.number = search rules in

@@ -4,6 +4,7 @@ use Rattle.tsp_stream.specs.states.WriteProgress.{way_of}
 use Rattle.tsp_file.proofs.Lines.{two_numbers}
 use Rattle.tsp_file.proofs.writer.sections.put_pair_line.Goals as goal
 
+-- plan: two numbers in a line (`two_numbers`)
 pub returns : goal.returns
 returns g c =
     let start = way_of g.W.Write.contents c.args.out.now c.args.piece.now.items in

@@ -8,6 +8,7 @@ use Rattle.tsp_stream.proofs.Carrying.{carried_none, carried_then, carried_all, 
 use Rattle.tsp_file.specs.CanonicalText.{number_line}
 use Rattle.tsp_file.proofs.writer.sections.put_pairs.Goals as goal
 
+-- plan: one pair's line more (`carried_next_or`), and the -1 at the end (`carried_then`)
 pub pairs-init : goal.pairs-init
 pairs-init g c = carried_none (way_of g.W.Write.contents c.args.out.now c.args.piece.now.items)
 

@@ -10,6 +10,7 @@ use Rattle.std.specs.Int.{w64}
 use Rattle.std.proofs.lemmas.Int.{to_z-of_z}
 use Rattle.tsp_file.proofs.writer.sections.put_triples.Goals as goal
 
+-- plan: one triple's line more (`carried_next_or`), and the -1 at the end (`carried_then`)
 pub triples-init : goal.triples-init
 triples-init g c = carried_none (way_of g.W.Write.contents c.args.out.now c.args.piece.now.items)
 

@@ -9,6 +9,7 @@ use Rattle.std.proofs.lemmas.Int.{to_z-of_z}
 use Rattle.std.specs.Prelude.{FitsSigned}
 use Rattle.tsp_file.proofs.writer.tree.put_change.Goals as goal
 
+-- plan: the index and the difference, each before a blank (`carried_then`)
 pub returns : goal.returns
 returns g c =
     let fits : FitsSigned w64 c.args.difference = search rules in

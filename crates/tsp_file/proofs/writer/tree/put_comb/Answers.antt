@@ -7,6 +7,7 @@ use Rattle.tsp_stream.specs.states.WriteProgress.{way_of}
 use Rattle.tsp_stream.proofs.Carrying.{carried_then, carried_mapped, carried_none, carried_next}
 use Rattle.tsp_file.proofs.writer.tree.put_comb.Goals as goal
 
+-- plan: one set more (`carried_next`), and the -1 at the end (`carried_then`)
 pub sets-init : goal.sets-init
 sets-init g c = carried_none (way_of g.W.Write.contents c.args.out.now c.args.piece.now.items)
 

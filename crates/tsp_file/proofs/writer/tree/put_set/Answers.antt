@@ -8,6 +8,7 @@ use Rattle.tsp_stream.specs.states.WriteProgress.{way_of}
 use Rattle.tsp_stream.proofs.Carrying.{carried_then, carried_mapped, carried_none, carried_next_or}
 use Rattle.tsp_file.proofs.writer.tree.put_set.Goals as goal
 
+-- plan: one node more (`carried_next_or`), and the -1 at the end (`carried_then`)
 pub nodes-init : goal.nodes-init
 nodes-init g c = carried_none (way_of g.W.Write.contents c.args.out.now c.args.piece.now.items)
 

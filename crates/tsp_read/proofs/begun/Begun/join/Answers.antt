@@ -11,6 +11,7 @@ use Rattle.tsp_read.proofs.Onwards.{token_long}
 use Rattle.tsp_read.proofs.HandedOn.{handed_on}
 use Rattle.tsp_read.proofs.begun.Begun.join.Goals as goal
 
+-- plan: by where the begun item ends: not yet, in the new piece (`token_joins`), or past its limit (`settled_long`)
 pub returns-then-is_empty-clause-joined : goal.returns-then-is_empty-clause-joined
 returns-then-is_empty-clause-joined c = λ bytes h.
     joined_none c.args.intake.now c.args.self.now bytes c.args.piece.now h (sym c.is_empty.ensures ∙ c.if-is_empty.true)

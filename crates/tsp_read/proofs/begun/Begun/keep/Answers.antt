@@ -18,6 +18,7 @@ kept_all c =
 pub returns-clause-kept : goal.returns-clause-kept
 returns-clause-kept c = kept_all c
 
+-- plan: the kept bytes begin the next item (`begun_token`), without the blanks before it (`kept_all`)
 pub returns-clause-begins : goal.returns-clause-begins
 returns-clause-begins c =
     let filled : List ℕ = c.without_start-filled.result.now in

@@ -9,6 +9,7 @@ pub returns-then-is_empty : goal.returns-then-is_empty
 returns-then-is_empty c = λ bytes h.
     last_none c.args.intake.now c.args.self.now bytes h (sym c.is_empty.ensures ∙ c.if-is_empty.true)
 
+-- plan: at the end of the text the begun item is whole (`last_token`), or nothing has begun (`last_none`)
 pub returns : goal.returns
 returns c = λ bytes h.
     last_token c.args.intake.now c.take_next.new.self c.args.self.now bytes c.as_slice.result.now c.take_next.result h

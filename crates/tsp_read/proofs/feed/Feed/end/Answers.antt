@@ -11,6 +11,7 @@ use Rattle.tsp_read.specs.states.Holds.{IsReadFrom}
 use Rattle.tsp_read.proofs.LastSteps.{ended_read, going_read, ended_whole, taken_whole, taken_fault, refused_fault}
 use Rattle.tsp_read.proofs.feed.Feed.end.Goals as goal
 
+-- plan: by the stage: refused, ended, or going on; the last item is read, and what was read is the file or a fault
 pub returns-in-Refused-clause-ends : goal.returns-in-Refused-clause-ends
 returns-in-Refused-clause-ends c = λ bytes h. refused_fault c.args.self bytes c.in-Refused.fault c.in-Refused.is h
 

@@ -4,6 +4,7 @@ use Rattle.std.proofs.lemmas.Bool.{false≢true}
 use Rattle.tsp_read.proofs.LastSteps.{whole_answer, open_not_bare}
 use Rattle.tsp_read.proofs.feed.Feed.into_file.Goals as goal
 
+-- plan: the draft of all bytes is the file, or has the first fault (`whole_answer`)
 pub returns-clause-read : goal.returns-clause-read
 returns-clause-read c = λ bytes h. whole_answer bytes c.in_ok-reading.reading c.completed.result (c.in_ok-reading.ensures.ends bytes h) c.completed.ensures.file
 

@@ -4,6 +4,7 @@ use Rattle.tsp_text.specs.Items.{NumberWord}
 use Rattle.tsp_read.proofs.IntakeSteps.{same_long, never_long}
 use Rattle.tsp_read.proofs.intake.Intake.long_word.Goals as goal
 
+-- plan: what a long word gives doesn't depend on its bytes (`same_long`), and it is never taken (`never_long`)
 pub returns-in-Err : goal.returns-in-Err
 returns-in-Err c = λ earlier h word long. same_long earlier _ word c.take_next.new.self c.in-Err.fault refl long (c.in-Err.ensures.item earlier h)
 

@@ -5,6 +5,7 @@ use Rattle.tsp_read.proofs.IntakeSteps.{read_further, read_to_end, read_to_fault
 use Rattle.tsp_read.proofs.HandedOn.{handed_on}
 use Rattle.tsp_read.proofs.intake.Intake.take_items.Goals as goal
 
+-- plan: one item more is read (`read_further`), until a fault (`read_to_fault`) or the line EOF (`read_to_end`)
 pub returns-then-branch-clause-items : goal.returns-then-branch-clause-items
 returns-then-branch-clause-items c = λ bytes h.
     read_to_end c.items.self c.take_next.new.self bytes c.items.rest.now (item_next c.in-Some.next) (items_left true (is_in_line c.in-Some.next) c.in-Some.after.now) c.in_ok-take_next.field-0

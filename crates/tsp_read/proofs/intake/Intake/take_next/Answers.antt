@@ -4,6 +4,7 @@ use Rattle.tsp_read.specs.states.Left.{item_next}
 use Rattle.tsp_read.proofs.ReadSteps.{words_next}
 use Rattle.tsp_read.proofs.intake.Intake.take_next.Goals as goal
 
+-- plan: the item is counted: a word more of its line, or a line more (`words_next`)
 pub returns-in-Ok-clause-item : goal.returns-in-Ok-clause-item
 returns-in-Ok-clause-item c = λ earlier h.
     let got = c.in-Ok.ensures.item earlier h.holds in (

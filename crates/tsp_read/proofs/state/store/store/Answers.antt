@@ -5,6 +5,7 @@ use Rattle.tsp_draft.specs.states.Drafts.{points_of, combs_of, fields_of}
 use Rattle.tsp_read.proofs.SectionSteps as steps
 use Rattle.tsp_read.proofs.state.store.store.Goals as goal
 
+-- plan: by the section: its list is the field of the draft
 pub returns-in-Numbers : goal.returns-in-Numbers
 returns-in-Numbers c =
     steps.numbers_stored c.args.section c.in-Numbers.part c.finish-numbers.result.0.items c.finish-numbers.result.1 (fields_of c.args.draft.now)

@@ -4,6 +4,7 @@ use Rattle.std.proofs.lemmas.Int.{to_z-of_z}
 use Rattle.tsp_section.proofs.NodeGroups.{unmarked}
 use Rattle.tsp_section.proofs.parts.nodes.unmarked_node.Goals as goal
 
+-- plan: the node isn't marked, so it is a new one (`unmarked`)
 pub returns-clause-new : goal.returns-clause-new
 returns-clause-new c = λ word whole.
     let fits : FitsSigned w64 c.args.number = search rules in

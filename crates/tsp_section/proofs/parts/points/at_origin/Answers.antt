@@ -7,6 +7,7 @@ use Rattle.tsp_distance.specs.Distances.{on_plane}
 use Rattle.tsp_draft.proofs.Mapped.{map_replicate}
 use Rattle.tsp_section.proofs.parts.points.at_origin.Goals as goal
 
+-- plan: the coordinates are 0, so each point is the origin (`map_replicate`)
 pub returns : goal.returns
 returns c =
     let place : PlanePoint → Point = λ point. on_plane point.x point.y in

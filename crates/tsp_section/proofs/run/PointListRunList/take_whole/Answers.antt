@@ -5,6 +5,7 @@ use Rattle.tsp_section.specs.declared.part.Part.TheVariants as parts
 use Rattle.tsp_section.proofs.PartSteps as steps
 use Rattle.tsp_section.proofs.run.PointListRunList.take_whole.Goals as goal
 
+-- plan: a number that was read is taken as its word is
 pub returns-clause-taken : goal.returns-clause-taken
 returns-clause-taken c = λ taken word read n words h.
     let fits : FitsSigned w64 c.args.number = search rules in

@@ -5,6 +5,7 @@ use Rattle.tsp_read.specs.states.Incomplete.{first_of}
 use Rattle.tsp_read.proofs.SectionSteps as steps
 use Rattle.tsp_read.proofs.state.reading.Reading.close.Goals as goal
 
+-- plan: by whether a section is open: its list is stored in the draft
 pub returns-then-branch-clause-closed : goal.returns-then-branch-clause-closed
 returns-then-branch-clause-closed c =
     let before = c.args.self.now.incomplete in

@@ -7,6 +7,7 @@ use Rattle.tsp_format.specs.declared.field.Field.{Field}
 use Rattle.tsp_read.proofs.FinishSteps.{valid_draft}
 use Rattle.tsp_read.proofs.state.reading.Reading.finish.Goals as goal
 
+-- plan: the draft of a text without a fault is valid (`valid_draft`)
 pub file_of-requires : goal.file_of-requires
 file_of-requires c =
     subst (λ (it : Draft × Option Field). end_fault (standing_of (fields_of it.0)) it.1 ≡ None → fault_of (fields_of it.0) ≡ None) (sym c.into_draft-draft.ensures)

@@ -9,6 +9,7 @@ use Rattle.tsp_read.proofs.KeywordSteps as keywords
 use Rattle.tsp_read.proofs.TextSteps as texts
 use Rattle.tsp_read.proofs.state.reading.Reading.known.Goals as goal
 
+-- plan: by the keyword: its value is kept, or has the fault of its row
 pub returns-in-NameKey : goal.returns-in-NameKey
 returns-in-NameKey c = λ earlier h short.
     rw c.in-NameKey.is (texts.name_line c.args.self.now _ (seen c.args.line.now)

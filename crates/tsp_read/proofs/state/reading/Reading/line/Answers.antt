@@ -6,6 +6,7 @@ use Rattle.tsp_section.specs.states.CutLine.{seen}
 use Rattle.tsp_read.proofs.TextSteps as texts
 use Rattle.tsp_read.proofs.state.reading.Reading.line.Goals as goal
 
+-- plan: by the keyword of the line: the end, a section, a known keyword or another
 pub returns-in-Eof : goal.returns-in-Eof
 returns-in-Eof c = λ earlier h.
     let short = le-ltb most_line_bytes c.args.line.now.size c.if-line-gt-MOST_LINE_BYTES.false in

@@ -5,6 +5,7 @@ use Rattle.tsp_section.specs.states.CutLine.{seen}
 use Rattle.tsp_read.proofs.KeywordSteps.{number_taken, number_refused}
 use Rattle.tsp_read.proofs.state.reading.Reading.number.Goals as goal
 
+-- plan: by the value: a number in its range (`number_taken`), or a fault (`number_refused`)
 pub returns-in-Ok : goal.returns-in-Ok
 returns-in-Ok c =
     let low : FitsSigned w64 c.args.low = search rules in

@@ -4,6 +4,7 @@ use Rattle.tsp_section.specs.states.CutLine.{seen}
 use Rattle.tsp_read.proofs.SectionSteps as steps
 use Rattle.tsp_read.proofs.state.reading.Reading.open.Goals as goal
 
+-- plan: the open section is stored, and the new one begins
 pub returns-in-Ok-open : goal.returns-in-Ok-open
 returns-in-Ok-open c = λ earlier h short.
     steps.opens c.args.self.now _ c.args.field c.args.shape (seen c.args.line.now) c.in-Ok.n _ c.requires (rw c.stands-stands.ensures at c.in-Ok.ensures) refl

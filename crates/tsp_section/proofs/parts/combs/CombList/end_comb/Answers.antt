@@ -5,6 +5,7 @@ use Rattle.tsp_draft.specs.states.Drafts.{combs_of}
 use Rattle.tsp_section.proofs.HandedOver.{where_moved}
 use Rattle.tsp_section.proofs.parts.combs.CombList.end_comb.Goals as goal
 
+-- plan: the gathered comb is moved to the end of the list (`where_moved`)
 pub returns-clause-done : goal.returns-clause-done
 returns-clause-done c =
     let s = c.args.self.now in

@@ -4,6 +4,7 @@ use Rattle.std.proofs.lemmas.List.{map_push}
 use Rattle.tsp_section.proofs.HandedOver.{where_moved}
 use Rattle.tsp_section.proofs.parts.combs.CombList.end_set.Goals as goal
 
+-- plan: the gathered set is moved to the end of the comb (`where_moved`)
 pub returns-clause-done : goal.returns-clause-done
 returns-clause-done c =
     let s = c.args.self.now in

@@ -6,6 +6,7 @@ use Rattle.tsp_section.specs.states.Parts.{as_node_or_end}
 use Rattle.tsp_section.proofs.DepotSteps.{depot_past_end, depot_end, depot_more}
 use Rattle.tsp_section.proofs.parts.depots.DepotList.push.Goals as goal
 
+-- plan: by the word: past the end (`depot_past_end`), the end (`depot_end`), or a depot more (`depot_more`)
 pub returns-then-is_minus_one-clause-takes : goal.returns-then-is_minus_one-clause-takes
 returns-then-is_minus_one-clause-takes c = λ n words h.
     let s = c.args.self.now in

@@ -3,6 +3,7 @@ use Rattle.std.proofs.Common.{◌∙◌, sym}
 use Rattle.tsp_section.proofs.FixedSteps.{pair_past_end}
 use Rattle.tsp_section.proofs.parts.fixed.FixedList.push.Goals as goal
 
+-- plan: past the end a -1 is left out (`pair_past_end`); else it is the first or the second word of a pair
 pub returns-then-is_minus_one-clause-takes : goal.returns-then-is_minus_one-clause-takes
 returns-then-is_minus_one-clause-takes c = λ n words h.
     let s = c.args.self.now in

@@ -6,6 +6,7 @@ use Rattle.tsp_section.specs.states.Parts.{as_node_or_end}
 use Rattle.tsp_section.proofs.FixedSteps.{first_bad, first_surplus, pairs_ended, pair_begins}
 use Rattle.tsp_section.proofs.parts.fixed.FixedList.push_first.Goals as goal
 
+-- plan: by the word: bad, one too many (`first_surplus`), the end (`pairs_ended`), or a pair begins (`pair_begins`)
 pub returns-in-Err-clause-takes : goal.returns-in-Err-clause-takes
 returns-in-Err-clause-takes c = λ n words h open_ended is.
     let s = c.args.self.now in

@@ -6,6 +6,7 @@ use Rattle.tsp_section.specs.states.Parts.{as_number}
 use Rattle.tsp_section.proofs.FixedSteps.{second_bad, second_same, pair_ends}
 use Rattle.tsp_section.proofs.parts.fixed.FixedList.push_second.Goals as goal
 
+-- plan: by the word: bad, the same node again (`second_same`), or the pair ends (`pair_ends`)
 pub returns-in-Err-clause-takes : goal.returns-in-Err-clause-takes
 returns-in-Err-clause-takes c = λ n words h open_ended is.
     let s = c.args.self.now in

@@ -5,6 +5,7 @@ use Rattle.std.proofs.lemmas.Int.{to_z-of_z}
 use Rattle.tsp_section.proofs.NumberSteps.{no_numbers}
 use Rattle.tsp_section.proofs.parts.numbers.NumberList.open.Goals as goal
 
+-- plan: no words have come (`no_numbers`)
 pub returns : goal.returns
 returns c =
     let low_fits : SFits w64 c.args.low = search rules in

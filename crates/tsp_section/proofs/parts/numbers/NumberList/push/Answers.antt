@@ -7,6 +7,7 @@ use Rattle.tsp_section.specs.states.Parts.{IsNewNode}
 use Rattle.tsp_section.proofs.NumberSteps.{numbers_ended, numbers_surplus, number_node_faulty, number_bad, number_node, number_more}
 use Rattle.tsp_section.proofs.parts.numbers.NumberList.push.Goals as goal
 
+-- plan: by the word's place: past the groups, a node (`number_node`), or the node's number (`number_more`)
 pub returns-then-is_minus_one-clause-takes : goal.returns-then-is_minus_one-clause-takes
 returns-then-is_minus_one-clause-takes c = λ low high n words h.
     let s = c.args.self.now in

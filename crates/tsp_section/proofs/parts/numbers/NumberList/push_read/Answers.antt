@@ -15,6 +15,7 @@ returns-in-Some-unmarked_node-clause-taken c = λ taken low high n words word wh
     let next = number_node s.seen.items s.entries.items s.left s.begun low high n words word c.in-Some-unmarked_node.node (omega arith) c.in-None.is new h.read in
     (next.0, record { from = h.from; to = h.to; read = next.1 })
 
+-- plan: by the word's place: a node (`number_node`), or the node's number (`number_more`)
 pub returns-else-number-self-2-clause-taken : goal.returns-else-number-self-2-clause-taken
 returns-else-number-self-2-clause-taken c = λ taken low high n words word whole h.
     let s = c.args.self.now in

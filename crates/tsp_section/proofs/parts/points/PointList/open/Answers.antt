@@ -3,6 +3,7 @@ use Rattle.tsp_draft.specs.states.Drafts.{points_of}
 use Rattle.tsp_section.proofs.CoordSteps.{none_so_far}
 use Rattle.tsp_section.proofs.parts.points.PointList.open.Goals as goal
 
+-- plan: no words have come (`none_so_far`)
 pub returns : goal.returns
 returns c = record {
   kind = c.in_ok-at_origin.ensures.0;

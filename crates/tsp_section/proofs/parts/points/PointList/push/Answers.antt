@@ -5,6 +5,7 @@ use Rattle.tsp_section.specs.states.Parts.{IsNewNode}
 use Rattle.tsp_section.proofs.CoordSteps.{end_taken, one_too_many, node_faulty, coordinate_bad, node_taken}
 use Rattle.tsp_section.proofs.parts.points.PointList.push.Goals as goal
 
+-- plan: by the word's place: past the groups, a node (`node_taken`), or a coordinate that is put to it
 pub returns-then-is_minus_one-clause-takes : goal.returns-then-is_minus_one-clause-takes
 returns-then-is_minus_one-clause-takes c = λ in_space n words h.
     let s = c.args.self.now in

@@ -5,6 +5,7 @@ use Rattle.tsp_draft.specs.states.Drafts.{points_of}
 use Rattle.tsp_section.proofs.CoordSteps.{node_taken}
 use Rattle.tsp_section.proofs.parts.points.PointList.push_read.Goals as goal
 
+-- plan: by the word's place: a node (`node_taken`), or a coordinate that is put to it
 pub returns-in-Some-clause-taken : goal.returns-in-Some-clause-taken
 returns-in-Some-clause-taken c = λ taken in_space n words word whole h.
     let s = c.args.self.now in

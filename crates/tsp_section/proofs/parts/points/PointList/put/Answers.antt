@@ -27,6 +27,7 @@ returns-in_default-y c = λ in_space n words word h read.
     c.requires.to_come c.requires.begun c.in-Some.is c.in_default-y.is read held in
     (next.0, record { kind = kind; read = next.1 })
 
+-- plan: by the coordinate: the first (`first_taken`), the second of the plane (`plane_taken`), or those in space
 pub returns : goal.returns
 returns c = λ in_space n words word h read.
     let s = c.args.self.now in

@@ -7,6 +7,7 @@ use Rattle.tsp_section.specs.declared.parts.tours.TourList.{TourList}
 use Rattle.tsp_section.proofs.TourSteps.{whole_node, after_node, few_left}
 use Rattle.tsp_section.proofs.parts.tours.GatheredNodes.push_read.Goals as goal
 
+-- plan: the number is a node (`whole_node`) that has a place (`few_left`), and comes after the others (`after_node`)
 pub returns-clause-taken : goal.returns-clause-taken
 returns-clause-taken c = λ taken n words word whole h.
     let fits : FitsSigned w64 c.args.number = search rules in

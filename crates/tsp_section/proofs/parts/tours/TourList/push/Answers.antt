@@ -12,6 +12,7 @@ returns-in-Ok-clause-takes c = λ n words h.
     let read : node_or_end 100000 c.args.word.now ≡ Ok (negsuc 0) = c.read_node_or_end.ensures.read ∙ ap as_node_or_end (c.in-Ok-None.is ∙ ap (λ o. Ok o) c.in-Ok-None.field-0-is) in
     after_end n words c.args.word.now c.args.self.now c.end_run.new.self read c.in-Ok.ensures.done c.end_run.ensures.count h
 
+-- plan: by the word: a -1 ends a tour (`after_end`), a node comes after the others (`after_node`)
 pub returns-in-Ok-push-clause-takes : goal.returns-in-Ok-push-clause-takes
 returns-in-Ok-push-clause-takes c = λ n words h.
     let read : node_or_end 100000 c.args.word.now ≡ Ok (pos c.in-Ok-Some.node) = rw c.in-Ok-Some.field-0-is at c.in-Ok-Some.ensures.read in

@@ -8,6 +8,7 @@ use Rattle.tsp_format.specs.Steps.{Leaf}
 use Rattle.tsp_format.specs.states.TreeSteps.{step_of, steps_of}
 use Rattle.tsp_section.proofs.parts.tree.TreeList.end_leaf.Goals as goal
 
+-- plan: the gathered differences are the last leaf's, and one tree less is to come
 pub returns-clause-done : goal.returns-clause-done
 returns-clause-done c =
     let s = c.args.self.now in

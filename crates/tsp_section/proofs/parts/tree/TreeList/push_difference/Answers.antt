@@ -8,6 +8,7 @@ use Rattle.tsp_section.specs.states.HeldParts.{tree_held}
 use Rattle.tsp_section.proofs.TreeSteps.{difference_taken}
 use Rattle.tsp_section.proofs.parts.tree.TreeList.push_difference.Goals as goal
 
+-- plan: the pair of index and number is one difference more (`difference_taken`)
 pub returns-in-Ok-push-clause-takes : goal.returns-in-Ok-push-clause-takes
 returns-in-Ok-push-clause-takes c = λ n words h more inside begun.
     let read : whole_of c.args.word.now (neg_ℤ (pos most_difference)) (pos most_difference) ≡ Ok c.in-Ok.difference = sym c.parse_whole.ensures.computed ∙ c.in-Ok.is in

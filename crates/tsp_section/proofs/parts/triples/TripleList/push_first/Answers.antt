@@ -6,6 +6,7 @@ use Rattle.tsp_section.specs.states.Parts.{as_node_or_end}
 use Rattle.tsp_section.proofs.TripleSteps.{first_bad, first_surplus, triples_ended, triple_begins}
 use Rattle.tsp_section.proofs.parts.triples.TripleList.push_first.Goals as goal
 
+-- plan: by the word: bad, one too many (`first_surplus`), the end (`triples_ended`), or a triple begins (`triple_begins`)
 pub returns-in-Err-clause-takes : goal.returns-in-Err-clause-takes
 returns-in-Err-clause-takes c = λ n words h open_ended is.
     let s = c.args.self.now in

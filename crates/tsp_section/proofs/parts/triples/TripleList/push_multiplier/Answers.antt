@@ -13,6 +13,7 @@ returns-in-Err-clause-takes c = λ n words h open_ended is also.
     let read : whole_of c.args.word.now (pos 0) (pos most_multiplier) ≡ Err c.in-Err.fault = sym c.parse_whole.ensures.computed ∙ c.in-Err.is in
     multiplier_bad s.triples.items s.first s.second s.ended n words c.args.word.now c.args.first c.args.second c.in-Err.fault open_ended is also read h.read
 
+-- plan: by the word: bad (`multiplier_bad`), or the triple ends (`triple_ends`)
 pub returns-in-Ok-push-clause-takes : goal.returns-in-Ok-push-clause-takes
 returns-in-Ok-push-clause-takes c = λ n words h open_ended is also.
     let s = c.args.self.now in

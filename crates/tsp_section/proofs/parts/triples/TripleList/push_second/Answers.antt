@@ -6,6 +6,7 @@ use Rattle.tsp_section.specs.states.Parts.{as_number}
 use Rattle.tsp_section.proofs.TripleSteps.{second_bad, second_same, triple_goes_on}
 use Rattle.tsp_section.proofs.parts.triples.TripleList.push_second.Goals as goal
 
+-- plan: by the word: bad, the same node again (`second_same`), or the triple goes on (`triple_goes_on`)
 pub returns-in-Err-clause-takes : goal.returns-in-Err-clause-takes
 returns-in-Err-clause-takes c = λ n words h open_ended is also.
     let s = c.args.self.now in

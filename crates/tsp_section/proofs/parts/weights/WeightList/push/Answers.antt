@@ -7,6 +7,7 @@ use Rattle.tsp_text.specs.SectionNumbers.{whole_of_size}
 use Rattle.tsp_section.proofs.WeightSteps.{weight_more}
 use Rattle.tsp_section.proofs.parts.weights.WeightList.push.Goals as goal
 
+-- plan: the word is one weight more (`weight_more`)
 pub returns-in-Ok-push-clause-takes : goal.returns-in-Ok-push-clause-takes
 returns-in-Ok-push-clause-takes c = λ n words h.
     let s = c.args.self.now in
