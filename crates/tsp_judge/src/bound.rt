@@ -3,6 +3,7 @@
 
 ghost use Rattle.tsp_stream.specs.states.Watched.{sink_of, turn_of};
 ghost use Rattle.tsp_stream.specs.Turn.{Turn, TakesAtMost};
+ghost use Rattle.tsp_read.specs.Asked.{IsReadOn};
 ghost use Rattle.tsp_read.specs.Reads.{IsFile, most_taken};
 ghost use Rattle.tsp_judge.specs.BoundRun.{BoundsFiles, IsBoundRunOf};
 
@@ -11,11 +12,11 @@ use crate::fault::RunFault;
 use crate::file::read_file;
 use crate::undecided::bound_of;
 use std::alloc::Global;
-use std::io::{Read, Write};
+use std::io::Write;
 use tsp_cost::Instance;
 use tsp_file::File;
 use tsp_report::write_bound;
-use tsp_stream::Watched;
+use tsp_stream::{Gives, Watched};
 use tsp_verdict::{BoundVerdict, Certificate, is_bounded};
 
 /// The files that a run has read, and the bound that it found.
@@ -47,16 +48,17 @@ pub struct Bounded {
 /// memory, and then no reason applies to the instance, nor one to the certificate that is found
 /// without memory; `Write` where the writer fails. Of each file at most 4,096 bytes past
 /// `MOST_FILE_BYTES` are read.
-pub fn run_bound<I: Read, C: Read, W: Write>(
+pub fn run_bound<I: Gives, C: Gives, W: Write>(
     alloc: Global,
     inst: &mut Watched<I>,
     by: Certificate,
     cert: &mut Watched<C>,
     out: &mut Watched<W>,
 ) -> Result<Bounded, RunFault>
-    ensures { TakesAtMost most_taken (turn_of I.remaining inst.old inst.new) (λ first.
+    ensures answer { TakesAtMost most_taken (turn_of I.remaining inst.old inst.new) (λ first.
         TakesAtMost most_taken (turn_of C.remaining cert.old cert.new) (λ second.
         IsBoundRunOf by first second (sink_of W.contents out.old out.new) result)) }
+    ensures asked { IsReadOn I.gives inst.old inst.new × IsReadOn C.gives cert.old cert.new }
 {
     promised(run_bound_with_cause(alloc, inst, by, cert, out))
 }
@@ -66,16 +68,17 @@ pub fn run_bound<I: Read, C: Read, W: Write>(
 /// # Errors
 ///
 /// Those of [`run_bound`].
-pub fn run_bound_with_cause<I: Read, C: Read, W: Write>(
+pub fn run_bound_with_cause<I: Gives, C: Gives, W: Write>(
     alloc: Global,
     inst: &mut Watched<I>,
     by: Certificate,
     cert: &mut Watched<C>,
     out: &mut Watched<W>,
 ) -> Result<Bounded, Early>
-    ensures { TakesAtMost most_taken (turn_of I.remaining inst.old inst.new) (λ first.
+    ensures answer { TakesAtMost most_taken (turn_of I.remaining inst.old inst.new) (λ first.
         TakesAtMost most_taken (turn_of C.remaining cert.old cert.new) (λ second.
         IsBoundRunOf by first second (sink_of W.contents out.old out.new) result)) }
+    ensures asked { IsReadOn I.gives inst.old inst.new × IsReadOn C.gives cert.old cert.new }
 {
     let instance = read_file(alloc, 1, inst)?;
     let certificate = read_file(alloc, 2, cert)?;

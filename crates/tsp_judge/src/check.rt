@@ -3,6 +3,7 @@
 
 ghost use Rattle.tsp_stream.specs.states.Watched.{sink_of, turn_of};
 ghost use Rattle.tsp_stream.specs.Turn.{TakesAtMost};
+ghost use Rattle.tsp_read.specs.Asked.{IsReadOn};
 ghost use Rattle.tsp_read.specs.Reads.{most_taken};
 ghost use Rattle.tsp_reason.specs.declared.certificate.Certificate.TheVariants as certificates;
 ghost use Rattle.tsp_judge.specs.Yes.{IsCheck, IsCheckBy};
@@ -12,8 +13,8 @@ use crate::fault::RunFault;
 use crate::judging::told;
 use crate::uncertified::run_uncertified;
 use std::alloc::Global;
-use std::io::{Read, Write};
-use tsp_stream::Watched;
+use std::io::Write;
+use tsp_stream::{Gives, Watched};
 use tsp_verdict::Certificate;
 
 /// Judges a solution of an instance, and writes the report.
@@ -29,15 +30,16 @@ use tsp_verdict::Certificate;
 /// of TYPE TOUR, POTENTIALS or BRANCHES; `OutOfMemory` where the judgement runs out of memory, and
 /// then no reason up to `NodeOutOfRange`, in the order of its TYPE, applies to the second; `Write`
 /// where the writer fails. Of each file at most 4,096 bytes past `MOST_FILE_BYTES` are read.
-pub fn run_check<I: Read, S: Read, W: Write>(
+pub fn run_check<I: Gives, S: Gives, W: Write>(
     alloc: Global,
     inst: &mut Watched<I>,
     sol: &mut Watched<S>,
     out: &mut Watched<W>,
 ) -> Result<bool, RunFault>
-    ensures { TakesAtMost most_taken (turn_of I.remaining inst.old inst.new) (λ first.
+    ensures answer { TakesAtMost most_taken (turn_of I.remaining inst.old inst.new) (λ first.
         TakesAtMost most_taken (turn_of S.remaining sol.old sol.new) (λ second.
         IsCheck first second (sink_of W.contents out.old out.new) result)) }
+    ensures asked { IsReadOn I.gives inst.old inst.new × IsReadOn S.gives sol.old sol.new }
 {
     told(run_uncertified(alloc, inst, sol, None, out))
 }
@@ -62,17 +64,19 @@ pub fn run_check<I: Read, S: Read, W: Write>(
 /// first is of TYPE CVRP, TOUR, POTENTIALS or BRANCHES; `OutOfMemory` where the judgement runs out
 /// of memory, and then no reason up to `NodeOutOfRange` applies to the tour; `Write` where the
 /// writer fails. Of each file at most 4,096 bytes past `MOST_FILE_BYTES` are read.
-pub fn run_bound_check<I: Read, S: Read, P: Read, W: Write>(
+pub fn run_bound_check<I: Gives, S: Gives, P: Gives, W: Write>(
     alloc: Global,
     inst: &mut Watched<I>,
     sol: &mut Watched<S>,
     pot: &mut Watched<P>,
     out: &mut Watched<W>,
 ) -> Result<bool, RunFault>
-    ensures { TakesAtMost most_taken (turn_of I.remaining inst.old inst.new) (λ first.
+    ensures answer { TakesAtMost most_taken (turn_of I.remaining inst.old inst.new) (λ first.
         TakesAtMost most_taken (turn_of S.remaining sol.old sol.new) (λ second.
         TakesAtMost most_taken (turn_of P.remaining pot.old pot.new) (λ third.
         IsCheckBy certificates.Potentials first second third (sink_of W.contents out.old out.new) result))) }
+    ensures asked { IsReadOn I.gives inst.old inst.new × IsReadOn S.gives sol.old sol.new
+        × IsReadOn P.gives pot.old pot.new }
 {
     let by = Some(Certificate::Potentials);
     told(run(alloc, inst, sol, by, pot, None, out))
@@ -98,17 +102,19 @@ pub fn run_bound_check<I: Read, S: Read, P: Read, W: Write>(
 /// first isn't of TYPE TSP or ATSP; `OutOfMemory` where the judgement runs out of memory, and then
 /// no reason up to `NodeOutOfRange` applies to the tour; `Write` where the writer fails. Of each
 /// file at most 4,096 bytes past `MOST_FILE_BYTES` are read.
-pub fn run_branch_check<I: Read, S: Read, B: Read, W: Write>(
+pub fn run_branch_check<I: Gives, S: Gives, B: Gives, W: Write>(
     alloc: Global,
     inst: &mut Watched<I>,
     sol: &mut Watched<S>,
     tree: &mut Watched<B>,
     out: &mut Watched<W>,
 ) -> Result<bool, RunFault>
-    ensures { TakesAtMost most_taken (turn_of I.remaining inst.old inst.new) (λ first.
+    ensures answer { TakesAtMost most_taken (turn_of I.remaining inst.old inst.new) (λ first.
         TakesAtMost most_taken (turn_of S.remaining sol.old sol.new) (λ second.
         TakesAtMost most_taken (turn_of B.remaining tree.old tree.new) (λ third.
         IsCheckBy certificates.Branches first second third (sink_of W.contents out.old out.new) result))) }
+    ensures asked { IsReadOn I.gives inst.old inst.new × IsReadOn S.gives sol.old sol.new
+        × IsReadOn B.gives tree.old tree.new }
 {
     let by = Some(Certificate::Branches);
     told(run(alloc, inst, sol, by, tree, None, out))

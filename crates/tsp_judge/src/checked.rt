@@ -3,6 +3,7 @@
 ghost use Rattle.std.specs.Prelude.{◌≡◌, None};
 ghost use Rattle.tsp_stream.specs.states.Watched.{sink_of, turn_of};
 ghost use Rattle.tsp_stream.specs.Turn.{Turn, IsUnread, TakesAtMost};
+ghost use Rattle.tsp_read.specs.Asked.{IsReadOn};
 ghost use Rattle.tsp_read.specs.Reads.{IsFile, most_taken};
 ghost use Rattle.tsp_judge.specs.CheckRun.{Given, given_by, IsFileIn, ReadsGiven};
 ghost use Rattle.tsp_judge.specs.Yes.{IsRunOf};
@@ -12,10 +13,10 @@ use crate::fault::RunFault;
 use crate::file::read_file;
 use crate::judging::{Judged, judge_files};
 use std::alloc::Global;
-use std::io::{Read, Write};
+use std::io::Write;
 use tsp_cost::Instance;
 use tsp_file::File;
-use tsp_stream::Watched;
+use tsp_stream::{Gives, Watched};
 use tsp_verdict::Certificate;
 
 /// Judges a solution of an instance, writes the report, and returns the verdict, with the files
@@ -36,7 +37,7 @@ use tsp_verdict::Certificate;
 /// CVRP too; `OutOfMemory` where the judgement runs out of memory, and then no reason up to
 /// `NodeOutOfRange`, in the order of its TYPE, applies to the second; `Write` where the writer
 /// fails. Of each file at most 4,096 bytes past `MOST_FILE_BYTES` are read.
-pub fn run<I: Read, S: Read, C: Read, W: Write>(
+pub fn run<I: Gives, S: Gives, C: Gives, W: Write>(
     alloc: Global,
     inst: &mut Watched<I>,
     sol: &mut Watched<S>,
@@ -45,11 +46,13 @@ pub fn run<I: Read, S: Read, C: Read, W: Write>(
     claimed: Option<i64>,
     out: &mut Watched<W>,
 ) -> Result<Judged, RunFault>
-    ensures { TakesAtMost most_taken (turn_of I.remaining inst.old inst.new) (λ first.
+    ensures answer { TakesAtMost most_taken (turn_of I.remaining inst.old inst.new) (λ first.
         TakesAtMost most_taken (turn_of S.remaining sol.old sol.new) (λ second.
         TakesAtMost most_taken (turn_of C.remaining cert.old cert.new) (λ third.
         (by ≡ None → IsUnread third)
         × IsRunOf (given_by by third) claimed first second (sink_of W.contents out.old out.new) result))) }
+    ensures asked { IsReadOn I.gives inst.old inst.new × IsReadOn S.gives sol.old sol.new
+        × IsReadOn C.gives cert.old cert.new }
 {
     promised(run_with_cause(alloc, inst, sol, by, cert, claimed, out))
 }
@@ -59,7 +62,7 @@ pub fn run<I: Read, S: Read, C: Read, W: Write>(
 /// # Errors
 ///
 /// Those of [`run`].
-pub fn run_with_cause<I: Read, S: Read, C: Read, W: Write>(
+pub fn run_with_cause<I: Gives, S: Gives, C: Gives, W: Write>(
     alloc: Global,
     inst: &mut Watched<I>,
     sol: &mut Watched<S>,
@@ -68,11 +71,13 @@ pub fn run_with_cause<I: Read, S: Read, C: Read, W: Write>(
     claimed: Option<i64>,
     out: &mut Watched<W>,
 ) -> Result<Judged, Early>
-    ensures { TakesAtMost most_taken (turn_of I.remaining inst.old inst.new) (λ first.
+    ensures answer { TakesAtMost most_taken (turn_of I.remaining inst.old inst.new) (λ first.
         TakesAtMost most_taken (turn_of S.remaining sol.old sol.new) (λ second.
         TakesAtMost most_taken (turn_of C.remaining cert.old cert.new) (λ third.
         (by ≡ None → IsUnread third)
         × IsRunOf (given_by by third) claimed first second (sink_of W.contents out.old out.new) result))) }
+    ensures asked { IsReadOn I.gives inst.old inst.new × IsReadOn S.gives sol.old sol.new
+        × IsReadOn C.gives cert.old cert.new }
 {
     let instance = read_file(alloc, 1, inst)?;
     let solution = read_file(alloc, 2, sol)?;
@@ -81,14 +86,15 @@ pub fn run_with_cause<I: Read, S: Read, C: Read, W: Write>(
 }
 
 /// Reads the file of the certificate that is asked for, where one is, which has this number.
-pub(crate) fn read_certificate<C: Read>(
+pub(crate) fn read_certificate<C: Gives>(
     alloc: Global,
     number: u32,
     by: Option<Certificate>,
     cert: &mut Watched<C>,
 ) -> Result<Option<(Certificate, File)>, Early>
-    ensures { TakesAtMost most_taken (turn_of C.remaining cert.old cert.new) (λ third.
+    ensures answer { TakesAtMost most_taken (turn_of C.remaining cert.old cert.new) (λ third.
         (by ≡ None → IsUnread third) × ReadsGiven number (given_by by third) result) }
+    ensures asked { IsReadOn C.gives cert.old cert.new }
 {
     let Some(by) = by else {
         return Ok(None);

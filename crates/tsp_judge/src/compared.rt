@@ -4,6 +4,7 @@
 ghost use Rattle.std.specs.Prelude.{◌≡◌, ◌<◌, max, false, true, [], length, None};
 ghost use Rattle.tsp_stream.specs.states.Watched.{has_failed, sink_of, turn_of};
 ghost use Rattle.tsp_stream.specs.Turn.{Turn, IsUnread, TakesAtMost};
+ghost use Rattle.tsp_read.specs.Asked.{IsReadOn};
 ghost use Rattle.tsp_read.specs.Reads.{IsFile, most_taken};
 ghost use Rattle.tsp_cost.specs.ProblemLaws.{IsProblem};
 ghost use Rattle.tsp_reason.specs.Verdicts.{is_clear};
@@ -20,7 +21,7 @@ use crate::file::read_file;
 use crate::solutions::{Follow, Solutions};
 use crate::status::Status;
 use std::alloc::Global;
-use std::io::{Read, Write};
+use std::io::Write;
 use tsp_cost::Instance;
 use tsp_file::File;
 use tsp_report::{write_head, write_line};
@@ -55,7 +56,7 @@ pub struct Compared {
 /// does: the head and the lines of the solutions before were written. `Write` where the writer
 /// fails, after a prefix of the text. Of each file at most 4,096 bytes past `MOST_FILE_BYTES` are
 /// read.
-pub fn run_compare<I: Read, C: Read, R: Gives + Drop, E, S: Solutions<R> + Follow<E>, W: Write>(
+pub fn run_compare<I: Gives, C: Gives, R: Gives + Drop, E, S: Solutions<R> + Follow<E>, W: Write>(
     alloc: Global,
     inst: &mut Watched<I>,
     by: Option<Certificate>,
@@ -69,6 +70,7 @@ pub fn run_compare<I: Read, C: Read, R: Gives + Drop, E, S: Solutions<R> + Follo
         (by ≡ None → IsUnread second)
         × IsCompareRun R.remaining R.gives (S.opens solutions.now) (S.names solutions.now) (given_by by second) first
         (sink_of W.contents out.old out.new) result)) }
+    ensures asked { IsReadOn I.gives inst.old inst.new × IsReadOn C.gives cert.old cert.new }
     ensures told { IsFollowed (S.tells solutions.now) (length (S.names solutions.now)) to.old to.new result }
 {
     promised(run_compare_with_cause(alloc, inst, by, cert, solutions, out, to))
@@ -76,8 +78,8 @@ pub fn run_compare<I: Read, C: Read, R: Gives + Drop, E, S: Solutions<R> + Follo
 
 /// [`run_compare`] with a cause where memory is refused.
 fn run_compare_with_cause<
-    I: Read,
-    C: Read,
+    I: Gives,
+    C: Gives,
     R: Gives + Drop,
     E,
     S: Solutions<R> + Follow<E>,
@@ -96,6 +98,7 @@ fn run_compare_with_cause<
         (by ≡ None → IsUnread second)
         × IsCompareRun R.remaining R.gives (S.opens solutions.now) (S.names solutions.now) (given_by by second) first
         (sink_of W.contents out.old out.new) result)) }
+    ensures asked { IsReadOn I.gives inst.old inst.new × IsReadOn C.gives cert.old cert.new }
     ensures told { IsFollowed (S.tells solutions.now) (length (S.names solutions.now)) to.old to.new result }
 {
     let instance = read_file(alloc, 1, inst)?;

@@ -2,6 +2,7 @@
 
 ghost use Rattle.tsp_stream.specs.states.Watched.{sink_of, turn_of};
 ghost use Rattle.tsp_stream.specs.Turn.{TakesAtMost};
+ghost use Rattle.tsp_read.specs.Asked.{IsReadOn};
 ghost use Rattle.tsp_read.specs.Reads.{most_taken};
 ghost use Rattle.tsp_judge.specs.ConvertRun.{Becomes, IsConvertRun};
 
@@ -9,10 +10,10 @@ use crate::early::{Early, promised};
 use crate::fault::RunFault;
 use crate::file::read_file;
 use std::alloc::Global;
-use std::io::{Read, Write};
+use std::io::Write;
 use tsp_file::{File, RelayoutFault, write_file};
 use tsp_format::Layout;
-use tsp_stream::Watched;
+use tsp_stream::{Gives, Watched};
 
 /// Writes the canonical text of a file, with its weights in the layout `to` where one is given.
 ///
@@ -25,14 +26,15 @@ use tsp_stream::Watched;
 /// go into the layout, or there is no memory for that; `Write` where the writer fails.
 /// `OutOfMemory` is never returned. Nothing is written but at `Write`. At most 4,096 bytes past
 /// `MOST_FILE_BYTES` are read.
-pub fn run_convert<R: Read, W: Write>(
+pub fn run_convert<R: Gives, W: Write>(
     alloc: Global,
     r: &mut Watched<R>,
     to: Option<Layout>,
     out: &mut Watched<W>,
 ) -> Result<(), RunFault>
-    ensures { TakesAtMost most_taken (turn_of R.remaining r.old r.new) (λ turn.
+    ensures answer { TakesAtMost most_taken (turn_of R.remaining r.old r.new) (λ turn.
         IsConvertRun to turn (sink_of W.contents out.old out.new) result) }
+    ensures asked { IsReadOn R.gives r.old r.new }
 {
     promised(run_convert_with_cause(alloc, r, to, out))
 }
@@ -42,14 +44,15 @@ pub fn run_convert<R: Read, W: Write>(
 /// # Errors
 ///
 /// Those of [`run_convert`].
-pub fn run_convert_with_cause<R: Read, W: Write>(
+pub fn run_convert_with_cause<R: Gives, W: Write>(
     alloc: Global,
     r: &mut Watched<R>,
     to: Option<Layout>,
     out: &mut Watched<W>,
 ) -> Result<(), Early>
-    ensures { TakesAtMost most_taken (turn_of R.remaining r.old r.new) (λ turn.
+    ensures answer { TakesAtMost most_taken (turn_of R.remaining r.old r.new) (λ turn.
         IsConvertRun to turn (sink_of W.contents out.old out.new) result) }
+    ensures asked { IsReadOn R.gives r.old r.new }
 {
     let file = read_file(alloc, 1, r)?;
     let converted = match in_layout(alloc, file, to) {

@@ -3,6 +3,7 @@
 ghost use Rattle.std.specs.Prelude.{None, length};
 ghost use Rattle.tsp_stream.specs.states.Watched.{sink_of, turn_of};
 ghost use Rattle.tsp_stream.specs.Turn.{TakesAtMost};
+ghost use Rattle.tsp_read.specs.Asked.{IsReadOn};
 ghost use Rattle.tsp_read.specs.Reads.{most_taken};
 ghost use Rattle.tsp_judge.specs.CompareRun.{IsCompareRun};
 ghost use Rattle.tsp_judge.specs.Following.{IsFollowed};
@@ -16,7 +17,7 @@ use crate::file::read_file;
 use crate::judging::Judged;
 use crate::solutions::{Follow, Solutions};
 use std::alloc::Global;
-use std::io::{Read, Write};
+use std::io::Write;
 use tsp_stream::{Gives, Watched};
 
 /// Judges a solution of an instance, writes the report, and returns the verdict, with the files
@@ -25,31 +26,33 @@ use tsp_stream::{Gives, Watched};
 /// # Errors
 ///
 /// Those of `run`.
-pub fn run_uncertified<I: Read, S: Read, W: Write>(
+pub fn run_uncertified<I: Gives, S: Gives, W: Write>(
     alloc: Global,
     inst: &mut Watched<I>,
     sol: &mut Watched<S>,
     claimed: Option<i64>,
     out: &mut Watched<W>,
 ) -> Result<Judged, RunFault>
-    ensures { TakesAtMost most_taken (turn_of I.remaining inst.old inst.new) (λ first.
+    ensures answer { TakesAtMost most_taken (turn_of I.remaining inst.old inst.new) (λ first.
         TakesAtMost most_taken (turn_of S.remaining sol.old sol.new) (λ second.
         IsRunOf None claimed first second (sink_of W.contents out.old out.new) result)) }
+    ensures asked { IsReadOn I.gives inst.old inst.new × IsReadOn S.gives sol.old sol.new }
 {
     promised(run_uncertified_with_cause(alloc, inst, sol, claimed, out))
 }
 
 /// [`run_uncertified`] with a cause where memory is refused.
-fn run_uncertified_with_cause<I: Read, S: Read, W: Write>(
+fn run_uncertified_with_cause<I: Gives, S: Gives, W: Write>(
     alloc: Global,
     inst: &mut Watched<I>,
     sol: &mut Watched<S>,
     claimed: Option<i64>,
     out: &mut Watched<W>,
 ) -> Result<Judged, Early>
-    ensures { TakesAtMost most_taken (turn_of I.remaining inst.old inst.new) (λ first.
+    ensures answer { TakesAtMost most_taken (turn_of I.remaining inst.old inst.new) (λ first.
         TakesAtMost most_taken (turn_of S.remaining sol.old sol.new) (λ second.
         IsRunOf None claimed first second (sink_of W.contents out.old out.new) result)) }
+    ensures asked { IsReadOn I.gives inst.old inst.new × IsReadOn S.gives sol.old sol.new }
 {
     let instance = read_file(alloc, 1, inst)?;
     let solution = read_file(alloc, 2, sol)?;
@@ -62,7 +65,7 @@ fn run_uncertified_with_cause<I: Read, S: Read, W: Write>(
 /// # Errors
 ///
 /// Those of `run_compare`.
-pub fn run_compare_uncertified<I: Read, R: Gives + Drop, E, S: Solutions<R> + Follow<E>, W: Write>(
+pub fn run_compare_uncertified<I: Gives, R: Gives + Drop, E, S: Solutions<R> + Follow<E>, W: Write>(
     alloc: Global,
     inst: &mut Watched<I>,
     solutions: &S,
@@ -72,6 +75,7 @@ pub fn run_compare_uncertified<I: Read, R: Gives + Drop, E, S: Solutions<R> + Fo
     ensures text { TakesAtMost most_taken (turn_of I.remaining inst.old inst.new) (λ first.
         IsCompareRun R.remaining R.gives (S.opens solutions.now) (S.names solutions.now) None first
         (sink_of W.contents out.old out.new) result) }
+    ensures asked { IsReadOn I.gives inst.old inst.new }
     ensures told { IsFollowed (S.tells solutions.now) (length (S.names solutions.now)) to.old to.new result }
 {
     promised(run_compare_uncertified_with_cause(alloc, inst, solutions, out, to))
@@ -79,7 +83,7 @@ pub fn run_compare_uncertified<I: Read, R: Gives + Drop, E, S: Solutions<R> + Fo
 
 /// [`run_compare_uncertified`] with a cause where memory is refused.
 fn run_compare_uncertified_with_cause<
-    I: Read,
+    I: Gives,
     R: Gives + Drop,
     E,
     S: Solutions<R> + Follow<E>,
@@ -94,6 +98,7 @@ fn run_compare_uncertified_with_cause<
     ensures text { TakesAtMost most_taken (turn_of I.remaining inst.old inst.new) (λ first.
         IsCompareRun R.remaining R.gives (S.opens solutions.now) (S.names solutions.now) None first
         (sink_of W.contents out.old out.new) result) }
+    ensures asked { IsReadOn I.gives inst.old inst.new }
     ensures told { IsFollowed (S.tells solutions.now) (length (S.names solutions.now)) to.old to.new result }
 {
     let instance = read_file(alloc, 1, inst)?;

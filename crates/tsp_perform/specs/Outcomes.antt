@@ -17,6 +17,7 @@ use Rattle.tsp_judge.specs.CheckRun.{Given}
 use Rattle.tsp_judge.specs.CompareRun.{IsCompareRun}
 use Rattle.tsp_judge.specs.declared.compared.Compared.{Compared}
 use Rattle.tsp_judge.specs.BoundRun.{IsBoundRunOf}
+use Rattle.tsp_read.specs.Asked.{IsReadOn}
 use Rattle.tsp_reason.specs.declared.certificate.Certificate.{Certificate}
 use Rattle.tsp_task.specs.declared.request.Comparison.{Comparison}
 use Rattle.tsp_task.specs.declared.request.Task.{Task}
@@ -71,6 +72,29 @@ IsDone remaining (Bound instance certificate) (Bound instance_left certificate_l
     (ended : Result Bounded RunFault) × (outcome ≡ outcome_of_bound ended)
     × IsBoundRunOf certificate.0 first second sink ended))
 IsDone remaining _ _ sink outcome = ⊥
+
+-- The named file's reader was asked so, as it was and as it is left, where one is named: it has failed where its last read has.
+abbrev pub IsNamedReadOn : {R : Type 0} → (R → List ℕ → Result ℕ Error → List ℕ → R → Type 0) → Option (Certificate × Watched R)
+    → Option (Certificate × Watched R) → Type 0
+IsNamedReadOn gives None None = Unit {0}
+IsNamedReadOn gives (Some named) (Some left) = IsReadOn gives named.1 left.1
+IsNamedReadOn gives _ _ = ⊥
+
+-- the same of each reader of a task
+abbrev pub AreReadOn : {R : Type 0} → (R → List ℕ → Result ℕ Error → List ℕ → R → Type 0) → Task (Watched R) → Task (Watched R) → Type 0
+AreReadOn gives (Show file) (Show left) = IsReadOn gives file left
+AreReadOn gives (Convert file to) (Convert left same) = IsReadOn gives file left
+AreReadOn gives (Check instance solution certificate claimed) (Check instance_left solution_left certificate_left same) =
+    IsReadOn gives instance instance_left × IsReadOn gives solution solution_left
+    × IsNamedReadOn gives certificate certificate_left
+AreReadOn gives (Bound instance certificate) (Bound instance_left certificate_left) = IsReadOn gives instance instance_left
+    × IsReadOn gives certificate.1 certificate_left.1
+AreReadOn gives _ _ = ⊥
+
+-- and of those of a comparison
+abbrev pub AreComparedOn : {R : Type 0} → (R → List ℕ → Result ℕ Error → List ℕ → R → Type 0) → Comparison (Watched R)
+    → Comparison (Watched R) → Type 0
+AreComparedOn gives old new = IsReadOn gives old.instance new.instance × IsNamedReadOn gives old.certificate new.certificate
 
 -- The solutions are compared by these readers, as they were and as they are left: that of the instance, and that of the
 -- certificate where one is named. Each solution is one that opening it by its index gives.

@@ -18,6 +18,7 @@ ghost use Rattle.tsp_judge.specs.Sink.{Sink, IsUnwritten};
 ghost use Rattle.tsp_judge.specs.Turn.{Turn, IsUnread, TakesAtMost};
 ghost use Rattle.tsp_judge.specs.Watched.{turn_of};
 ghost use Rattle.tsp_judge.specs.Yes.{IsRunOf};
+ghost use Rattle.tsp_read.specs.Asked.{IsReadOn};
 ghost use Rattle.tsp_read.specs.declared.ReadFault.{ReadFault};
 ghost use Rattle.tsp_read.specs.Reads.{StopsAt};
 ghost use Rattle.tsp_reason.specs.declared.certificate.Certificate.{Certificate};
@@ -28,7 +29,7 @@ ghost use Rattle.tsp_perform.specs.declared.outcome.Outcome.{Outcome};
 ghost use Rattle.tsp_perform.specs.declared.outcome.Outcome.TheVariants as outcomes;
 ghost use Rattle.tsp_task.specs.declared.request.Comparison.{Comparison};
 ghost use Rattle.tsp_task.specs.declared.request.Task.TheVariants as tasks;
-ghost use Rattle.tsp_perform.specs.Outcomes.{IsCompared, IsDone, is_yes_outcome, outcome_of_bound, outcome_of_check};
+ghost use Rattle.tsp_perform.specs.Outcomes.{AreComparedOn, AreReadOn, IsCompared, IsDone, is_yes_outcome, outcome_of_bound, outcome_of_check};
 
 use std::io::Read;
 use tsp_stream::Gives;
@@ -87,4 +88,20 @@ pub fn examples_of_readers<R: Gives>()
         → TakesAtMost most_taken (turn_of R.remaining old.instance new.instance) IsSomeFile
         → TakesAtMost most_taken (turn_of R.remaining certificate left) (StopsAt fault) → IsUnwritten sink
         → IsCompared R.remaining R.gives (λ index reader. index ≡ index) names old new sink (Err (run_faults.File 2 fault)) }
+{}
+
+/// Each reader of a task or a comparison is asked, that of the certificate too. Files aren't taken
+/// for each other's.
+pub fn examples_of_asked_readers<R: Gives>()
+    ensures solution { (instance solution instance_left solution_left : Watched R) (claimed same : Option ℤ)
+        → AreReadOn R.gives (tasks.Check instance solution None claimed) (tasks.Check instance_left solution_left None same)
+        → IsReadOn R.gives solution solution_left }
+    ensures certificate { (by kept : Certificate) (a b c x y z : Watched R) (claimed same : Option ℤ)
+        → AreReadOn R.gives (tasks.Check a b (Some (by, c)) claimed) (tasks.Check x y (Some (kept, z)) same)
+        → IsReadOn R.gives c z }
+    ensures bound { (by kept : Certificate) (a c x z : Watched R)
+        → AreReadOn R.gives (tasks.Bound a (by, c)) (tasks.Bound x (kept, z)) → IsReadOn R.gives c z }
+    ensures compared { (by : Certificate) (old new : Comparison (Watched R)) (c z : Watched R)
+        → old.certificate ≡ Some (by, c) → new.certificate ≡ Some (by, z) → AreComparedOn R.gives old new
+        → IsReadOn R.gives c z }
 {}

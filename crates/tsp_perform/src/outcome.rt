@@ -6,10 +6,11 @@ ghost use Rattle.tsp_judge.specs.Reads.{most_taken};
 ghost use Rattle.tsp_judge.specs.Turn.{TakesAtMost};
 ghost use Rattle.tsp_judge.specs.Watched.{sink_of, turn_of};
 ghost use Rattle.tsp_judge.specs.Yes.{IsRunOf};
-ghost use Rattle.tsp_perform.specs.Outcomes.{IsCompared, IsDone, TakesNamed, is_yes_outcome, outcome_of_writing, outcome_of_check, outcome_of_bound};
+ghost use Rattle.tsp_read.specs.Asked.{IsReadOn};
+ghost use Rattle.tsp_perform.specs.Outcomes.{AreComparedOn, AreReadOn, IsCompared, IsDone, IsNamedReadOn, TakesNamed, is_yes_outcome, outcome_of_writing, outcome_of_check, outcome_of_bound};
 
 use std::alloc::Global;
-use std::io::{Read, Write};
+use std::io::Write;
 use tsp_judge::{
     Bounded, Compared, Follow, Judged, RunFault, Solutions, Watched, run, run_bound, run_compare,
     run_compare_uncertified, run_convert, run_show, run_uncertified,
@@ -46,12 +47,13 @@ pub fn is_yes_outcome(outcome: &Outcome) -> bool
 /// # Errors
 ///
 /// Those of the call of the task's verb.
-pub fn perform<R: Read, W: Write>(
+pub fn perform<R: Gives, W: Write>(
     alloc: Global,
     task: &mut Task<Watched<R>>,
     out: &mut Watched<W>,
 ) -> Result<Outcome, RunFault>
-    ensures { IsDone R.remaining task.old task.new (sink_of W.contents out.old out.new) result }
+    ensures done { IsDone R.remaining task.old task.new (sink_of W.contents out.old out.new) result }
+    ensures asked { AreReadOn R.gives task.old task.new }
 {
     match task {
         Task::Show { file } => done(run_show(alloc, file, out)),
@@ -73,7 +75,7 @@ pub fn perform<R: Read, W: Write>(
 }
 
 /// Judges a solution of an instance, and bounds every tour by the certificate where one is named.
-fn check<R: Read, W: Write>(
+fn check<R: Gives, W: Write>(
     alloc: Global,
     instance: &mut Watched<R>,
     solution: &mut Watched<R>,
@@ -81,10 +83,12 @@ fn check<R: Read, W: Write>(
     claimed: Option<i64>,
     out: &mut Watched<W>,
 ) -> Result<Judged, RunFault>
-    ensures { TakesAtMost most_taken (turn_of R.remaining instance.old instance.new) (λ first.
+    ensures answer { TakesAtMost most_taken (turn_of R.remaining instance.old instance.new) (λ first.
         TakesAtMost most_taken (turn_of R.remaining solution.old solution.new) (λ second.
         TakesNamed R.remaining certificate.old certificate.new (λ given.
         IsRunOf given claimed first second (sink_of W.contents out.old out.new) result))) }
+    ensures asked { IsReadOn R.gives instance.old instance.new × IsReadOn R.gives solution.old solution.new
+        × IsNamedReadOn R.gives certificate.old certificate.new }
 {
     match certificate {
         None => run_uncertified(alloc, instance, solution, claimed, out),
@@ -110,6 +114,7 @@ pub fn compare<R: Gives + Drop, E, S: Solutions<R> + Follow<E>, W: Write>(
 ) -> Result<Compared, RunFault>
     ensures text { IsCompared R.remaining R.gives (S.opens solutions.now) (S.names solutions.now)
         comparison.old comparison.new (sink_of W.contents out.old out.new) result }
+    ensures asked { AreComparedOn R.gives comparison.old comparison.new }
     ensures told { IsFollowed (S.tells solutions.now) (length (S.names solutions.now)) to.old to.new result }
 {
     let Comparison {

@@ -11,7 +11,7 @@ use Rattle.tsp_judge.specs.declared.fault.RunFault.{RunFault}
 use Rattle.tsp_cli.specs.declared.request.Place.{Place}
 use Rattle.tsp_task.specs.declared.request.Comparison.{Comparison}
 use Rattle.tsp_cli.specs.Requests.{IsPlaceAt}
-use Rattle.tsp_perform.specs.Outcomes.{IsCompared}
+use Rattle.tsp_perform.specs.Outcomes.{AreComparedOn, IsCompared}
 use Rattle.tsp_task.specs.Mapped.{IsMappedComparison}
 
 -- the reader is that of the opened place, and hasn't failed
@@ -31,8 +31,10 @@ abbrev pub AreOpened : {F : Type 0} → (Place → F → Type 0) → Comparison 
 AreOpened opens = IsMappedComparison (IsFresh opens)
 
 -- The instance is opened in its place, and the certificate in its own, and after them each solution, when it is to be read.
+-- Each has failed where its last read has.
 abbrev pub IsComparedAs : {F : Type 0} → (F → Option (List ℕ)) → (F → List ℕ → Result ℕ Error → List ℕ → F → Type 0)
     → (Place → F → Type 0) → Comparison Place → Sink → Result Compared RunFault → Type 0
 IsComparedAs {F = F} remaining gives opens comparison sink answer = (old new : Comparison (Watched F))
     × AreOpened opens comparison old
     × IsCompared remaining gives (IsOpenedAt opens (paths_of comparison)) (paths_of comparison) old new sink answer
+    × AreComparedOn gives old new

@@ -26,7 +26,7 @@ use Rattle.tsp_task.specs.declared.request.Comparison.{Comparison}
 use Rattle.tsp_task.specs.declared.request.Request.TheVariants as requests
 use Rattle.tsp_cli.specs.Requests.{GivesRequest}
 use Rattle.tsp_run.specs.ComparisonRun.{IsComparedAs, IsFresh}
-use Rattle.tsp_perform.specs.Outcomes.{IsDone}
+use Rattle.tsp_perform.specs.Outcomes.{AreReadOn, IsDone}
 use Rattle.tsp_stream.specs.declared.output.WriteFault.{WriteFault}
 use Rattle.tsp_run.specs.Ending.{status_of_ending, TellsAll}
 use Rattle.tsp_run.specs.Printing.{Prints, PrintsSome, version_text}
@@ -35,11 +35,11 @@ use Rattle.tsp_run.specs.Printing.{Prints, PrintsSome, version_text}
 abbrev pub AreFresh : {F : Type 0} → (Place → F → Type 0) → Task Place → Task (Watched F) → Type 0
 AreFresh opens = IsMapped (IsFresh opens)
 
--- the task is done on its files, opened in their places
-abbrev pub IsDoneAs : {F : Type 0} → (F → Option (List ℕ)) → (Place → F → Type 0) → Task Place → Sink
-    → Result Outcome RunFault → Type 0
-IsDoneAs {F = F} remaining opens task sink answer = (old new : Task (Watched F)) × AreFresh opens task old
-    × IsDone remaining old new sink answer
+-- the task is done on its files, opened in their places; each has failed where its last read has
+abbrev pub IsDoneAs : {F : Type 0} → (F → Option (List ℕ)) → (F → List ℕ → Result ℕ Error → List ℕ → F → Type 0)
+    → (Place → F → Type 0) → Task Place → Sink → Result Outcome RunFault → Type 0
+IsDoneAs {F = F} remaining gives opens task sink answer = (old new : Task (Watched F)) × AreFresh opens task old
+    × IsDone remaining old new sink answer × AreReadOn gives old new
 
 -- How a run ends that has this job: it asks for nothing, and then nothing is written; or the task was done on its files,
 -- opened in their places; or the solutions were compared.
@@ -49,7 +49,7 @@ EndsWith remaining gives opens job sink (NoJob fault) = ⊥
 EndsWith remaining gives opens job sink (Printed printed) = ⊥
 EndsWith remaining gives opens job sink (NoRequest fault) = GivesRequest job (Err fault) × IsUnwritten sink
 EndsWith remaining gives opens job sink (Ended answer) = (task : Task Place) × GivesRequest job (Ok (requests.Task task))
-    × IsDoneAs remaining opens task sink answer
+    × IsDoneAs remaining gives opens task sink answer
 EndsWith remaining gives opens job sink (endings.Compared answer) = (comparison : Comparison Place) × GivesRequest job
     (Ok (requests.Compare comparison))
     × IsComparedAs remaining gives opens comparison sink answer

@@ -183,13 +183,13 @@ fn tell_fault_of_job<E: Write>(
 }
 
 /// Does a task on its files, each opened in its place, and tells how that ended.
-fn run_task<F: Read + Drop, O: Open<F>, W: Write, E: Write>(
+fn run_task<F: Gives + Drop, O: Open<F>, W: Write, E: Write>(
     asked: &Asked<'_, F, O>,
     task: &Task<Place<'_>>,
     out: &mut Watched<W>,
     errors: &mut E,
 ) -> (u8, io::Result<()>)
-    ensures { RunsTask (IsDoneAs F.remaining (O.opens asked.now.files.now) task.now (sink_of W.contents out.old out.new))
+    ensures { RunsTask (IsDoneAs F.remaining F.gives (O.opens asked.now.files.now) task.now (sink_of W.contents out.old out.new))
         asked.now.explain (E.contents errors.old) (E.contents errors.new) result }
 {
     let mut readers = opened(task, asked.files);

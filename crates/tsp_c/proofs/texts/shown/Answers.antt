@@ -10,7 +10,7 @@ use Rattle.tsp_c.proofs.texts.shown.Goals as goal
 -- plan: the run is over a reader of the text, so its end is the call's (`shows`)
 pub returns : goal.returns
 returns c =
-    let run = c.run_show_with_cause.ensures in
+    let run = c.run_show_with_cause.ensures.answer in
     let turn : Turn = turn_of (λ s. Some s.now) c.new-reader.result c.run_show_with_cause.new.r run.0 in
     let sink : Sink = sink_of (λ v. Some v.items) c.new-report.result c.run_show_with_cause.new.out in
     shows turn sink c.run_show_with_cause.result _ _ _ _ run.2 (ap (λ s. Some s.now) c.new-reader.ensures.inner)

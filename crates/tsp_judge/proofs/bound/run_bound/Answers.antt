@@ -1,5 +1,8 @@
 -- The goals of `run_bound` in src/bound.rt: what it ensures.
 use Rattle.tsp_judge.proofs.bound.run_bound.Goals as goal
 
-pub returns : goal.returns
-returns g c = rw c.promised.ensures c.run_bound_with_cause.ensures
+pub returns-clause-answer : goal.returns-clause-answer
+returns-clause-answer g c = rw c.promised.ensures c.run_bound_with_cause.ensures.answer
+
+pub returns-clause-asked : goal.returns-clause-asked
+returns-clause-asked g c = c.run_bound_with_cause.ensures.asked

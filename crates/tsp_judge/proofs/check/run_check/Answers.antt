@@ -3,6 +3,9 @@ use Rattle.std.proofs.Common.{sym, subst}
 use Rattle.tsp_judge.specs.Yes.{IsCheck}
 use Rattle.tsp_judge.proofs.check.run_check.Goals as goal
 
-pub returns : goal.returns
-returns g c = let one = c.run_uncertified.ensures in let two = one.2 in
+pub returns-clause-answer : goal.returns-clause-answer
+returns-clause-answer g c = let one = c.run_uncertified.ensures.answer in let two = one.2 in
     (one.0, one.1, (two.0, two.1, subst (IsCheck _ _ _) (sym c.told.ensures) two.2.1))
+
+pub returns-clause-asked : goal.returns-clause-asked
+returns-clause-asked g c = c.run_uncertified.ensures.asked

@@ -1,18 +1,22 @@
 -- The goals of `read_certificate` in src/checked.rt: what it ensures.
 use Rattle.std.proofs.Common.{◌≡◌, Err, [], refl}
 use Rattle.std.proofs.KnownBytes.{Keeps-refl}
+use Rattle.tsp_read.proofs.Asking.{read_none}
 use Rattle.tsp_judge.proofs.HandedOn.{handed_on}
 use Rattle.tsp_judge.proofs.Runs.{none_taken, not_none}
 use Rattle.tsp_judge.proofs.checked.read_certificate.Goals as goal
 
-pub returns-in_default : goal.returns-in_default
-returns-in_default g c = rw c.in_default.is ([], none_taken, (λ none. (Keeps-refl _, refl), tt))
+pub returns-in_default-clause-answer : goal.returns-in_default-clause-answer
+returns-in_default-clause-answer g c = rw c.in_default.is ([], none_taken, (λ none. (Keeps-refl _, refl), tt))
 
-pub returns-in_err-file : goal.returns-in_err-file
-returns-in_err-file g c =
+pub returns-in_err-file-clause-answer : goal.returns-in_err-file-clause-answer
+returns-in_err-file-clause-answer g c =
     let same : c.from_residual.result ≡ Err c.in_err-file.field-0.0 = handed_on _ _ c.from_residual.ensures.1 in
-    let three = c.in_err-file.ensures in
+    let three = c.in_err-file.ensures.answer in
     rw (same, c.in-Some.is) (three.0, three.1, (λ none. not_none none, three.2))
 
-pub returns : goal.returns
-returns g c = let three = c.in_ok-file.ensures in rw c.in-Some.is (three.0, three.1, (λ none. not_none none, (refl, three.2)))
+pub returns-clause-answer : goal.returns-clause-answer
+returns-clause-answer g c = let three = c.in_ok-file.ensures.answer in rw c.in-Some.is (three.0, three.1, (λ none. not_none none, (refl, three.2)))
+
+pub returns-in_default-clause-asked : goal.returns-in_default-clause-asked
+returns-in_default-clause-asked g c = read_none g.C.Gives.gives c.args.cert.now

@@ -2,6 +2,7 @@
 use Rattle.std.proofs.Common.{◌≡◌, Err, [], arith, refl}
 use Rattle.std.proofs.KnownBytes.{Keeps-refl}
 use Rattle.tsp_stream.specs.states.Watched.{turn_of}
+use Rattle.tsp_read.proofs.Asking.{read_none}
 use Rattle.tsp_judge.proofs.HandedOn.{handed_on}
 use Rattle.tsp_judge.proofs.Runs.{none_taken, unread_in}
 use Rattle.tsp_judge.proofs.Comparing.{compare_first_stops, compare_second_stops}
@@ -10,7 +11,7 @@ use Rattle.tsp_judge.proofs.compared.run_compare_with_cause.Goals as goal
 pub returns-in_err-instance-clause-text : goal.returns-in_err-instance-clause-text
 returns-in_err-instance-clause-text g c =
     let same : c.from_residual.result ≡ Err c.in_err-instance.field-0.0 = handed_on _ _ c.from_residual.ensures.1 in
-    let one = c.in_err-instance.ensures in
+    let one = c.in_err-instance.ensures.answer in
     rw same (
       one.0,
       one.1,
@@ -28,8 +29,8 @@ returns-in_err-instance-clause-text g c =
 pub returns-in_err-certificate-clause-text : goal.returns-in_err-certificate-clause-text
 returns-in_err-certificate-clause-text g c =
     let same : c.from_residual-in_err-certificate.result ≡ Err c.in_err-certificate.field-0.0 = handed_on _ _ c.from_residual-in_err-certificate.ensures.1 in
-    let one = c.in_ok-instance.ensures in
-    let two = c.in_err-certificate.ensures in
+    let one = c.in_ok-instance.ensures.answer in
+    let two = c.in_err-certificate.ensures.answer in
     rw same (
       one.0,
       one.1,
@@ -38,8 +39,8 @@ returns-in_err-certificate-clause-text g c =
 
 pub returns-clause-text : goal.returns-clause-text
 returns-clause-text g c =
-    let one = c.in_ok-instance.ensures in
-    let two = c.in_ok-certificate.ensures in
+    let one = c.in_ok-instance.ensures.answer in
+    let two = c.in_ok-certificate.ensures.answer in
     (one.0, one.1, (two.0, two.1, (two.2.0, c.compare_read.ensures.text _ _ one.2 two.2.1)))
 
 pub returns-in_err-instance-clause-told : goal.returns-in_err-instance-clause-told
@@ -51,3 +52,12 @@ pub returns-in_err-certificate-clause-told : goal.returns-in_err-certificate-cla
 returns-in_err-certificate-clause-told g c =
     let same : c.from_residual-in_err-certificate.result ≡ Err c.in_err-certificate.field-0.0 = handed_on _ _ c.from_residual-in_err-certificate.ensures.1 in
     rw same (0, omega arith, refl)
+
+pub returns-in_err-instance-clause-asked : goal.returns-in_err-instance-clause-asked
+returns-in_err-instance-clause-asked g c = (c.in_err-instance.ensures.asked, read_none g.C.Gives.gives c.args.cert.now)
+
+pub returns-in_err-certificate-clause-asked : goal.returns-in_err-certificate-clause-asked
+returns-in_err-certificate-clause-asked g c = (c.in_ok-instance.ensures.asked, c.in_err-certificate.ensures.asked)
+
+pub returns-clause-asked : goal.returns-clause-asked
+returns-clause-asked g c = (c.in_ok-instance.ensures.asked, c.in_ok-certificate.ensures.asked)

@@ -6,17 +6,17 @@ use Rattle.tsp_judge.proofs.HandedOn.{handed_on}
 use Rattle.tsp_judge.proofs.Converts.{converted, convert_stopped, convert_stops}
 use Rattle.tsp_judge.proofs.convert.run_convert_with_cause.Goals as goal
 
-pub returns-in_err-file : goal.returns-in_err-file
-returns-in_err-file g c =
+pub returns-in_err-file-clause-answer : goal.returns-in_err-file-clause-answer
+returns-in_err-file-clause-answer g c =
     let same : c.from_residual.result ≡ Err c.in_err-file.field-0.0 = handed_on _ _ c.from_residual.ensures.1 in
-    let read = c.in_err-file.ensures in rw same (read.0, read.1, convert_stops c.args.to (turn_of g.R.Read.remaining c.args.r.now c.read_file.new.reader read.0) _ _ read.2 (Keeps-refl _, refl))
+    let read = c.in_err-file.ensures.answer in rw same (read.0, read.1, convert_stops c.args.to (turn_of g.R.Read.remaining c.args.r.now c.read_file.new.reader read.0) _ _ read.2 (Keeps-refl _, refl))
 
-pub returns-in-Err : goal.returns-in-Err
-returns-in-Err g c = let read = c.in_ok-file.ensures in
+pub returns-in-Err-clause-answer : goal.returns-in-Err-clause-answer
+returns-in-Err-clause-answer g c = let read = c.in_ok-file.ensures.answer in
     rw c.not_relaid.ensures (read.0, read.1, (c.in_ok-file.file, read.2, c.in-Err.ensures, (Keeps-refl _, refl)))
 
-pub returns-in-Err-written : goal.returns-in-Err-written
-returns-in-Err-written g c = let read = c.in_ok-file.ensures in
+pub returns-in-Err-written-clause-answer : goal.returns-in-Err-written-clause-answer
+returns-in-Err-written-clause-answer g c = let read = c.in_ok-file.ensures.answer in
     let turn = turn_of g.R.Read.remaining c.args.r.now c.read_file.new.reader read.0 in rw c.unwritten.ensures (
       read.0,
       read.1,

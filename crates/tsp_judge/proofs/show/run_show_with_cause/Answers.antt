@@ -6,18 +6,18 @@ use Rattle.tsp_judge.proofs.HandedOn.{handed_on}
 use Rattle.tsp_judge.proofs.Shows.{show_stopped, show_stops}
 use Rattle.tsp_judge.proofs.show.run_show_with_cause.Goals as goal
 
-pub returns-in_err-file : goal.returns-in_err-file
-returns-in_err-file g c =
+pub returns-in_err-file-clause-answer : goal.returns-in_err-file-clause-answer
+returns-in_err-file-clause-answer g c =
     let same : c.from_residual.result ≡ Err c.in_err-file.field-0.0 = handed_on _ _ c.from_residual.ensures.1 in
-    let read = c.in_err-file.ensures in rw same (read.0, read.1, show_stops (turn_of g.R.Read.remaining c.args.r.now c.read_file.new.reader read.0) _ _ read.2 (Keeps-refl _, refl))
+    let read = c.in_err-file.ensures.answer in rw same (read.0, read.1, show_stops (turn_of g.R.Read.remaining c.args.r.now c.read_file.new.reader read.0) _ _ read.2 (Keeps-refl _, refl))
 
-pub returns-in-Err : goal.returns-in-Err
-returns-in-Err g c = let read = c.in_ok-file.ensures in rw c.unwritten.ensures (
+pub returns-in-Err-clause-answer : goal.returns-in-Err-clause-answer
+returns-in-Err-clause-answer g c = let read = c.in_ok-file.ensures.answer in rw c.unwritten.ensures (
   read.0,
   read.1,
   show_stopped (turn_of g.R.Read.remaining c.args.r.now c.read_file.new.reader read.0) (sink_of g.W.Write.contents c.args.out.now c.write_shown.new.out)
       c.in_ok-file.file c.in-Err.fault read.2 c.in-Err.ensures,
 )
 
-pub returns-in-Ok : goal.returns-in-Ok
-returns-in-Ok g c = let read = c.in_ok-file.ensures in (read.0, read.1, (c.in_ok-file.file, read.2, c.in-Ok.ensures))
+pub returns-in-Ok-clause-answer : goal.returns-in-Ok-clause-answer
+returns-in-Ok-clause-answer g c = let read = c.in_ok-file.ensures.answer in (read.0, read.1, (c.in_ok-file.file, read.2, c.in-Ok.ensures))

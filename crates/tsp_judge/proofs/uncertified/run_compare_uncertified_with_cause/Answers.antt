@@ -9,7 +9,7 @@ use Rattle.tsp_judge.proofs.uncertified.run_compare_uncertified_with_cause.Goals
 pub returns-in_err-instance-clause-text : goal.returns-in_err-instance-clause-text
 returns-in_err-instance-clause-text g c =
     let same : c.from_residual.result ≡ Err c.in_err-instance.field-0.0 = handed_on _ _ c.from_residual.ensures.1 in
-    let one = c.in_err-instance.ensures in
+    let one = c.in_err-instance.ensures.answer in
     rw same (
       one.0,
       one.1,
@@ -19,7 +19,7 @@ returns-in_err-instance-clause-text g c =
 
 pub returns-clause-text : goal.returns-clause-text
 returns-clause-text g c =
-    let one = c.in_ok-instance.ensures in
+    let one = c.in_ok-instance.ensures.answer in
     (one.0, one.1, c.compare_read.ensures.text None _ one.2 tt)
 
 pub returns-in_err-instance-clause-told : goal.returns-in_err-instance-clause-told

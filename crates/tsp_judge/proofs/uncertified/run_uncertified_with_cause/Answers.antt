@@ -2,15 +2,16 @@
 use Rattle.std.proofs.Common.{◌≡◌, None, Err, [], refl}
 use Rattle.std.proofs.KnownBytes.{Keeps-refl}
 use Rattle.tsp_stream.specs.states.Watched.{turn_of}
+use Rattle.tsp_read.proofs.Asking.{read_none}
 use Rattle.tsp_judge.proofs.HandedOn.{handed_on}
 use Rattle.tsp_judge.proofs.Runs.{none_taken, first_stops, second_stops}
 use Rattle.tsp_judge.proofs.Yeses.{fault_of_run}
 use Rattle.tsp_judge.proofs.uncertified.run_uncertified_with_cause.Goals as goal
 
-pub returns-in_err-instance : goal.returns-in_err-instance
-returns-in_err-instance g c =
+pub returns-in_err-instance-clause-answer : goal.returns-in_err-instance-clause-answer
+returns-in_err-instance-clause-answer g c =
     let same : c.from_residual.result ≡ Err c.in_err-instance.field-0.0 = handed_on _ _ c.from_residual.ensures.1 in
-    let one = c.in_err-instance.ensures in
+    let one = c.in_err-instance.ensures.answer in
     rw same (
       one.0,
       one.1,
@@ -23,11 +24,11 @@ returns-in_err-instance g c =
       ),
     )
 
-pub returns-in_err-solution : goal.returns-in_err-solution
-returns-in_err-solution g c =
+pub returns-in_err-solution-clause-answer : goal.returns-in_err-solution-clause-answer
+returns-in_err-solution-clause-answer g c =
     let same : c.from_residual-in_err-solution.result ≡ Err c.in_err-solution.field-0.0 = handed_on _ _ c.from_residual-in_err-solution.ensures.1 in
-    let one = c.in_ok-instance.ensures in
-    let two = c.in_err-solution.ensures in
+    let one = c.in_ok-instance.ensures.answer in
+    let two = c.in_err-solution.ensures.answer in
     rw same (
       one.0,
       one.1,
@@ -40,8 +41,17 @@ returns-in_err-solution g c =
       ),
     )
 
-pub returns : goal.returns
-returns g c =
-    let one = c.in_ok-instance.ensures in
-    let two = c.in_ok-solution.ensures in
+pub returns-clause-answer : goal.returns-clause-answer
+returns-clause-answer g c =
+    let one = c.in_ok-instance.ensures.answer in
+    let two = c.in_ok-solution.ensures.answer in
     (one.0, one.1, (two.0, two.1, c.judge_read.ensures None _ _ one.2 two.2 tt))
+
+pub returns-in_err-instance-clause-asked : goal.returns-in_err-instance-clause-asked
+returns-in_err-instance-clause-asked g c = (c.in_err-instance.ensures.asked, read_none g.S.Gives.gives c.args.sol.now)
+
+pub returns-in_err-solution-clause-asked : goal.returns-in_err-solution-clause-asked
+returns-in_err-solution-clause-asked g c = (c.in_ok-instance.ensures.asked, c.in_err-solution.ensures.asked)
+
+pub returns-clause-asked : goal.returns-clause-asked
+returns-clause-asked g c = (c.in_ok-instance.ensures.asked, c.in_ok-solution.ensures.asked)

@@ -4,6 +4,6 @@ use Rattle.tsp_run.proofs.running.run_task.Goals as goal
 pub returns : goal.returns
 returns g c = (
   c.perform.result,
-  (c.opened-readers.result, c.perform.new.task, c.opened-readers.ensures, c.perform.ensures),
+  (c.opened-readers.result, c.perform.new.task, c.opened-readers.ensures, c.perform.ensures.done, c.perform.ensures.asked),
   (c.status_of_ending.ensures, c.tell_end-told.ensures),
 )
