@@ -7,7 +7,7 @@ use Rattle.example_check.proofs.report.report_on.Goals as goal
 -- plan: both readers are over the texts and the writer held nothing, so what `yes` means is of the texts (`accepted_on`)
 pub returns : goal.returns
 returns c = λ yes.
-    let check = c.run_check.ensures.2.2 in
+    let check = c.run_check.ensures.answer.2.2 in
     let accepted : c.run_check.result ≡ Ok true = search (rules, yes) in
     accepted_on _ _ _ _ _ _ (ap (λ s. Some s.now) c.new-first.ensures.inner) (ap (λ s. Some s.now) c.new-second.ensures.inner)
     (ap (λ v. Some v.items) c.new-report.ensures.inner ∙ ap Some c.new.ensures.items) (ap (λ v. Some v.items) (sym c.into_inner.ensures))
