@@ -1,5 +1,5 @@
 -- Weights that agree have the same least 1-trees, so the bound of a leaf's weights is that of the leaf.
-use Rattle.std.proofs.Common.{◌≡◌, ℕ, ◌+◌, ◌*◌, ◌^◌, List, [], ◌∷◌, ap₂, refl, arith, ◌∙◌, to_z, of_z, subst}
+use Rattle.std.proofs.Common.{◌≡◌, ℕ, ◌+◌, ◌*◌, ◌^◌, List, [], ◌∷◌, length, ap₂, refl, sym, arith, ◌∙◌, to_z, of_z, subst}
 use Rattle.std.specs.Int.{w128}
 use Rattle.std.specs.Prelude.{ℤ, pos, neg_ℤ, ◌+ℤ◌, ◌-ℤ◌, ◌*ℤ◌}
 use Rattle.std.proofs.lemmas.Int.{ints}
@@ -7,7 +7,17 @@ use Rattle.tsp_format.specs.Limits.{most_nodes}
 use Rattle.tsp_theory.specs.CertificateNumbers.{IsFromTo, total, IsLeastBound}
 use Rattle.tsp_theory.specs.Tree.{weight_of, IsLeastOneTree}
 use Rattle.tsp_theory.specs.Adjusted.{triples_total}
+use Rattle.tsp_theory.specs.Costs.{IsSymmetric}
+use Rattle.tsp_families.specs.declared.family.Crossings.{Crossings}
+use Rattle.tsp_cases.specs.declared.decision.Decision.{Decision}
+use Rattle.tsp_cases.specs.Decisions.{on_taken, on_avoided, decided_number}
+use Rattle.tsp_cases.specs.FamiliesOfSets.{families_with}
+use Rattle.tsp_cases.specs.CaseTrees.{multiplied}
 use Rattle.tsp_cases.specs.LeafBound.{least_of, leaf_weight}
+use Rattle.tsp_cases.specs.states.Combed.{set_weight}
+use Rattle.tsp_cases.specs.states.Decided.{decided}
+use Rattle.tsp_cases.proofs.LeafBounds.{leaf_even}
+use Rattle.tsp_cases.proofs.CaseWeights.{case_weight}
 use Rattle.tsp_branch.specs.LeafWeight.{IsBoundOfWeights, BoundsEachLeaf}
 
 agreed_weight : (w v : ℕ → ℕ → ℤ) → ((i j : ℕ) → w i j ≡ v i j) → (pairs : List (ℕ × ℕ)) → weight_of w pairs ≡ weight_of v pairs
@@ -38,6 +48,18 @@ bounds_each_leaf n w scale given_back bound b cost potentials taken avoided comb
       bound_is = subst (λ (z : ℤ). IsLeastBound scale (((z -ℤ (pos 2 *ℤ total potentials)) +ℤ triples_total taken) +ℤ least_of combs) bound) weight_is
           (subst (λ (z : ℤ). IsLeastBound scale z bound) sum b.bound_is);
     }
+
+-- where the costs are symmetric, so are the weights of a leaf
+pub decided_even : (scale : ℤ) (crossed : List Crossings) (potentials multipliers : List ℤ) (families : List (List (List ℕ)))
+    (case : List Decision) (cost : ℕ → ℕ → ℤ) → length crossed ≡ length families → length multipliers ≡ length families
+    → IsSymmetric cost → (i j : ℕ) → decided case (set_weight scale potentials multipliers families cost) i j
+    ≡ decided case (set_weight scale potentials multipliers families cost) j i
+decided_even scale crossed potentials multipliers families case cost many long even i j =
+    let w : ℕ → ℕ → ℤ = set_weight scale potentials multipliers families cost in
+    case_weight w scale crossed potentials multipliers families case cost i j many long refl
+    ∙ leaf_even scale potentials (on_taken decided_number case) (on_avoided decided_number case)
+    (multiplied (families_with crossed families) multipliers) cost even i j
+    ∙ sym (case_weight w scale crossed potentials multipliers families case cost j i many long refl)
 
 -- ---- what the code adds
 

@@ -1,4 +1,5 @@
 pub mod Leaves
+pub mod DecidedLeaves
 pub mod BoxedValues
 pub mod SharedSets
 pub mod Judging

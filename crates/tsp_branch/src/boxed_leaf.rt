@@ -1,6 +1,6 @@
 //! The weights of a leaf, as boxes bound them.
 
-ghost use Rattle.std.specs.Prelude.{◌≡◌, ◌+◌, ◌+ℤ◌, ◌*ℤ◌, ◌≤ℤ◌, length, pos, neg_ℤ, IfOk};
+ghost use Rattle.std.specs.Prelude.{◌≡◌, ◌+◌, false, ◌+ℤ◌, ◌*ℤ◌, ◌≤ℤ◌, length, pos, neg_ℤ, IfOk};
 ghost use Rattle.tsp_format.specs.Nodes.{IsNode};
 ghost use Rattle.tsp_format.specs.Limits.{most_weight};
 ghost use Rattle.tsp_theory.specs.CertificateNumbers.{IsFromTo, IsBoundSized};
@@ -10,12 +10,13 @@ ghost use Rattle.tsp_branch.specs.LeafWeight.{BoundsEachLeaf};
 ghost use Rattle.tsp_cases.specs.Decisions.{decided_number};
 ghost use Rattle.tsp_cases.specs.states.Lent.{lent_in};
 ghost use Rattle.tsp_cases.specs.states.Combed.{most_combed, set_weight};
-ghost use Rattle.tsp_cases.specs.states.Decided.{changes, decided};
+ghost use Rattle.tsp_cases.specs.states.Decided.{AreFewChanges, changes, decided};
 ghost use Rattle.tsp_cases.specs.states.OpenCases.{decisions_in};
 ghost use Rattle.tsp_branch.specs.states.Shared.{AreExact};
 
 use crate::both_sets::shared_by;
-use crate::decided::{DecidedWeights, change_between};
+use crate::case_leaf::CaseLeaf;
+use crate::decided::change_between;
 use crate::leaf::{leaf_bound, leaf_bound_in_space};
 use crate::leaf_sum::LeafSum;
 use crate::placed_costs::PlacedCosts;
@@ -33,151 +34,153 @@ use tsp_tree::{Weights, weight_in};
 /// at least the cost at the scale and the numbers of both nodes, but for those of taken pairs.
 #[derive(Drop)]
 pub(crate) struct BoxedLeaf<'a, C: PlacedCosts> {
-    pub(crate) decided: &'a DecidedWeights<'a, C>,
-    ghost exact: { AreExact (C.nodes decided.now.combed.now.costs.now) decided.now.combed.now.potentials.now
-        decided.now.combed.now.multipliers.now (lent_in decided.now.combed.now.families.now) decided.now.combed.now.moved.now },
+    pub(crate) leaf: &'a CaseLeaf<'a, C>,
+    ghost undirected: { leaf.now.setting.now.cases.now.directed ≡ false },
+    ghost once: { AreFewChanges (decisions_in leaf.now.case.now) },
+    ghost exact: { AreExact (C.nodes leaf.now.setting.now.costs.now) leaf.now.potentials.now
+        leaf.now.multipliers.now (lent_in leaf.now.setting.now.families.now) leaf.now.moved.now },
 }
 
 impl<C: PlacedCosts> BoxedLeaf<'_, C> {
     /// The cost at the scale and the numbers of both nodes, where the caller passes the cost.
     #[inline]
     fn base(&self, cost: i64, from: u32, to: u32) -> i64
-        requires from { IsNode (C.nodes self.now.decided.now.combed.now.costs.now) from }
-        requires to { IsNode (C.nodes self.now.decided.now.combed.now.costs.now) to }
-        requires cost { cost ≡ C.at self.now.decided.now.combed.now.costs.now from to }
+        requires from { IsNode (C.nodes self.now.leaf.now.setting.now.costs.now) from }
+        requires to { IsNode (C.nodes self.now.leaf.now.setting.now.costs.now) to }
+        requires cost { cost ≡ C.at self.now.leaf.now.setting.now.costs.now from to }
         requires low { neg_ℤ (pos most_weight) ≤ℤ cost }
         requires high { cost ≤ℤ pos most_weight }
-        ensures value { result ≡ (self.now.decided.now.combed.now.scale *ℤ C.at self.now.decided.now.combed.now.costs.now from to)
-            +ℤ (least_at self.now.decided.now.combed.now.moved.now from
-            +ℤ least_at self.now.decided.now.combed.now.moved.now to) }
+        ensures value { result ≡ (self.now.leaf.now.setting.now.cases.now.scale *ℤ C.at self.now.leaf.now.setting.now.costs.now from to)
+            +ℤ (least_at self.now.leaf.now.moved.now from
+            +ℤ least_at self.now.leaf.now.moved.now to) }
         ensures size { IsFromTo (neg_ℤ (pos most_between)) (pos most_between)
-            (weight_between self.now.decided.now.combed.now.scale
-            self.now.decided.now.combed.now.potentials.now (C.at self.now.decided.now.combed.now.costs.now) from to) }
+            (weight_between self.now.leaf.now.setting.now.cases.now.scale
+            self.now.leaf.now.potentials.now (C.at self.now.leaf.now.setting.now.costs.now) from to) }
     {
-        let combed = self.decided.combed;
-        let both = weight_in(combed.moved, from) + weight_in(combed.moved, to);
-        combed.scale * cost + both
+        let leaf = self.leaf;
+        let both = weight_in(leaf.moved, from) + weight_in(leaf.moved, to);
+        leaf.setting.cases.scale * cost + both
     }
 
     /// The weight without decisions, where the caller passes what it is without the sets of both
     /// nodes.
     fn combed(&self, base: i64, from: u32, to: u32) -> i64
-        requires from { IsNode (C.nodes self.now.decided.now.combed.now.costs.now) from }
-        requires to { IsNode (C.nodes self.now.decided.now.combed.now.costs.now) to }
-        requires base { base ≡ (self.now.decided.now.combed.now.scale *ℤ C.at self.now.decided.now.combed.now.costs.now from to)
-            +ℤ (least_at self.now.decided.now.combed.now.moved.now from
-            +ℤ least_at self.now.decided.now.combed.now.moved.now to) }
+        requires from { IsNode (C.nodes self.now.leaf.now.setting.now.costs.now) from }
+        requires to { IsNode (C.nodes self.now.leaf.now.setting.now.costs.now) to }
+        requires base { base ≡ (self.now.leaf.now.setting.now.cases.now.scale *ℤ C.at self.now.leaf.now.setting.now.costs.now from to)
+            +ℤ (least_at self.now.leaf.now.moved.now from
+            +ℤ least_at self.now.leaf.now.moved.now to) }
         requires size { IsFromTo (neg_ℤ (pos most_between)) (pos most_between)
-            (weight_between self.now.decided.now.combed.now.scale
-            self.now.decided.now.combed.now.potentials.now (C.at self.now.decided.now.combed.now.costs.now) from to) }
-        ensures value { result ≡ set_weight self.now.decided.now.combed.now.scale self.now.decided.now.combed.now.potentials.now
-            self.now.decided.now.combed.now.multipliers.now (lent_in self.now.decided.now.combed.now.families.now)
-            (C.at self.now.decided.now.combed.now.costs.now) from to }
+            (weight_between self.now.leaf.now.setting.now.cases.now.scale
+            self.now.leaf.now.potentials.now (C.at self.now.leaf.now.setting.now.costs.now) from to) }
+        ensures value { result ≡ set_weight self.now.leaf.now.setting.now.cases.now.scale self.now.leaf.now.potentials.now
+            self.now.leaf.now.multipliers.now (lent_in self.now.leaf.now.setting.now.families.now)
+            (C.at self.now.leaf.now.setting.now.costs.now) from to }
         ensures size { IsFromTo (neg_ℤ (pos most_combed)) (pos most_combed) result }
     {
-        let combed = self.decided.combed;
+        let setting = self.leaf.setting;
         let multipliers = Multipliers {
-            families: combed.families,
-            numbers: combed.multipliers,
+            families: setting.families,
+            numbers: self.leaf.multipliers,
         };
         let shared = shared_by(
             &multipliers,
-            &combed.by_node[to as usize],
-            &combed.by_node[from as usize],
+            &setting.by_node[to as usize],
+            &setting.by_node[from as usize],
         );
         sum_left(base, shared)
     }
 
     /// What the decisions of the case add to a weight.
     fn change(&self, from: u32, to: u32) -> i64
-        requires { IsNode (C.nodes self.now.decided.now.combed.now.costs.now) from }
-        ensures value { result ≡ changes (decisions_in self.now.decided.now.case.now) from to }
+        requires { IsNode (C.nodes self.now.leaf.now.setting.now.costs.now) from }
+        ensures value { result ≡ changes (decisions_in self.now.leaf.now.case.now) from to }
         ensures size { IsFromTo (neg_ℤ decided_number) decided_number result }
     {
-        change_between(self.decided.case.at(from), from, to)
+        change_between(self.leaf.case.at(from), from, to)
     }
 
     /// The weight between two nodes.
     fn decided(&self, from: u32, to: u32) -> i64
-        requires from { IsNode (C.nodes self.now.decided.now.combed.now.costs.now) from }
-        requires to { IsNode (C.nodes self.now.decided.now.combed.now.costs.now) to }
-        ensures { result ≡ set_weight self.now.decided.now.combed.now.scale self.now.decided.now.combed.now.potentials.now
-            self.now.decided.now.combed.now.multipliers.now (lent_in self.now.decided.now.combed.now.families.now)
-            (C.at self.now.decided.now.combed.now.costs.now) from to
-            +ℤ changes (decisions_in self.now.decided.now.case.now) from to }
+        requires from { IsNode (C.nodes self.now.leaf.now.setting.now.costs.now) from }
+        requires to { IsNode (C.nodes self.now.leaf.now.setting.now.costs.now) to }
+        ensures { result ≡ set_weight self.now.leaf.now.setting.now.cases.now.scale self.now.leaf.now.potentials.now
+            self.now.leaf.now.multipliers.now (lent_in self.now.leaf.now.setting.now.families.now)
+            (C.at self.now.leaf.now.setting.now.costs.now) from to
+            +ℤ changes (decisions_in self.now.leaf.now.case.now) from to }
     {
-        let cost = self.decided.combed.costs.cost(from, to);
+        let cost = self.leaf.setting.costs.cost(from, to);
         let combed = self.combed(self.base(cost, from, to), from, to);
         combed + self.change(from, to)
     }
 }
 
 impl<C: PlacedCosts> Weights for BoxedLeaf<'_, C> {
-    ghost nodes = { λ w. C.nodes w.decided.now.combed.now.costs.now };
+    ghost nodes = { λ w. C.nodes w.leaf.now.setting.now.costs.now };
 
-    ghost at = { λ w. decided (decisions_in w.decided.now.case.now) (set_weight w.decided.now.combed.now.scale
-        w.decided.now.combed.now.potentials.now w.decided.now.combed.now.multipliers.now
-        (lent_in w.decided.now.combed.now.families.now)
-        (C.at w.decided.now.combed.now.costs.now)) };
+    ghost at = { λ w. decided (decisions_in w.leaf.now.case.now) (set_weight w.leaf.now.setting.now.cases.now.scale
+        w.leaf.now.potentials.now w.leaf.now.multipliers.now
+        (lent_in w.leaf.now.setting.now.families.now)
+        (C.at w.leaf.now.setting.now.costs.now)) };
 
     #[inline]
     fn count(&self) -> u32 {
-        self.decided.count()
+        self.leaf.count()
     }
 
     fn fill(&self, from: u32, row: &mut [i64]) {
-        self.decided.fill(from, row);
+        self.leaf.fill(from, row);
     }
 
     fn fill_at(&self, from: u32, to: &[u32], row: &mut [i64]) {
-        self.decided.fill_at(from, to, row);
+        self.leaf.fill_at(from, to, row);
     }
 }
 
 impl<C: PlacedCosts> BoxedWeights for BoxedLeaf<'_, C> {
     ghost use Rattle.tsp_branch.specs.states.Shared.{raised, others_of};
 
-    ghost place_of = { λ w. C.place w.decided.now.combed.now.costs.now };
+    ghost place_of = { λ w. C.place w.leaf.now.setting.now.costs.now };
 
-    ghost scale_of = { λ w. w.decided.now.combed.now.scale };
+    ghost scale_of = { λ w. w.leaf.now.setting.now.cases.now.scale };
 
-    ghost cost_of = { λ w. C.at w.decided.now.combed.now.costs.now };
+    ghost cost_of = { λ w. C.at w.leaf.now.setting.now.costs.now };
 
-    ghost number_of = { λ w. least_at w.decided.now.combed.now.moved.now };
+    ghost number_of = { λ w. least_at w.leaf.now.moved.now };
 
-    ghost unlowered = { λ w. raised (decisions_in w.decided.now.case.now) (set_weight w.decided.now.combed.now.scale
-        w.decided.now.combed.now.potentials.now w.decided.now.combed.now.multipliers.now
-        (lent_in w.decided.now.combed.now.families.now)
-        (C.at w.decided.now.combed.now.costs.now)) };
+    ghost unlowered = { λ w. raised (decisions_in w.leaf.now.case.now) (set_weight w.leaf.now.setting.now.cases.now.scale
+        w.leaf.now.potentials.now w.leaf.now.multipliers.now
+        (lent_in w.leaf.now.setting.now.families.now)
+        (C.at w.leaf.now.setting.now.costs.now)) };
 
-    ghost lowered_of = { λ w. others_of (decisions_in w.decided.now.case.now) };
+    ghost lowered_of = { λ w. others_of (decisions_in w.leaf.now.case.now) };
 
     #[inline]
     fn scale(&self) -> i64 {
-        self.decided.combed.scale
+        self.leaf.setting.cases.scale
     }
 
     #[inline]
     fn number(&self, node: u32) -> i64 {
-        weight_in(self.decided.combed.moved, node)
+        weight_in(self.leaf.moved, node)
     }
 
     fn order(&self, alloc: Global) -> Result<Vec<u32>, Refused> {
-        self.decided.combed.costs.order(alloc)
+        self.leaf.setting.costs.order(alloc)
     }
 
     #[inline]
     fn site(&self, node: u32) -> Option<Site> {
-        self.decided.combed.costs.site(node)
+        self.leaf.setting.costs.site(node)
     }
 
     #[inline(always)]
     fn is_beyond(&self, from: &Site, region: &Region, least: i64) -> bool {
-        self.decided.combed.costs.is_beyond(from, region, least)
+        self.leaf.setting.costs.is_beyond(from, region, least)
     }
 
     fn weight_within(&self, from: &Spot, to: &Spot, most: i64) -> i64 {
-        let cost = self.decided.combed.costs.cost_between(&from.site, &to.site);
+        let cost = self.leaf.setting.costs.cost_between(&from.site, &to.site);
         let (from, to) = (from.site.node, to.site.node);
         let base = self.base(cost, from, to);
         if base >= most {
@@ -190,11 +193,11 @@ impl<C: PlacedCosts> BoxedWeights for BoxedLeaf<'_, C> {
 
     #[inline]
     fn count_lowered(&self, from: u32) -> usize {
-        self.decided.case.at(from).len()
+        self.leaf.case.at(from).len()
     }
 
     fn lowered(&self, from: u32, index: usize) -> (u32, i64) {
-        let (first, second) = self.decided.case.at(from)[index].pair;
+        let (first, second) = self.leaf.case.at(from)[index].pair;
         let to = if first == from { second } else { first };
         (to, self.decided(from, to))
     }
@@ -204,29 +207,30 @@ impl<C: PlacedCosts> BoxedWeights for BoxedLeaf<'_, C> {
     }
 }
 
-/// The bound of a leaf whose weights are those of a case: by rows where they are kept, else by
-/// boxes, if these suit its sets and its numbers aren't too large. It asks for what
-/// [`leaf_bound`](crate::leaf_bound) does.
+/// The bound of a leaf by least 1-trees: by rows where they are kept, else by boxes, if these suit
+/// its sets and its numbers aren't too large. It asks for what [`leaf_bound`](crate::leaf_bound)
+/// does.
 ///
 /// # Errors
 ///
 /// Out of memory.
-pub(crate) fn decided_bound<C: PlacedCosts>(
+pub(crate) fn bound_of_trees<C: PlacedCosts>(
     alloc: Global,
-    w: &DecidedWeights<C>,
+    leaf: &CaseLeaf<C>,
     row: &mut [i64],
     sum: LeafSum,
 ) -> Result<i128, Refused>
-    requires room { length row.old ≡ C.nodes w.now.combed.now.costs.now + 1 }
-    ensures leaf { IfOk result (λ bound. BoundsEachLeaf (C.nodes w.now.combed.now.costs.now)
-        (decided (decisions_in w.now.case.now) (set_weight w.now.combed.now.scale w.now.combed.now.potentials.now
-        w.now.combed.now.multipliers.now (lent_in w.now.combed.now.families.now) (C.at w.now.combed.now.costs.now)))
-        sum.scale sum.given_back bound) }
+    requires undirected { leaf.now.setting.now.cases.now.directed ≡ false }
+    requires room { length row.old ≡ C.nodes leaf.now.setting.now.costs.now + 1 }
+    ensures leaf { IfOk result (λ bound. BoundsEachLeaf (C.nodes leaf.now.setting.now.costs.now)
+        (decided (decisions_in leaf.now.case.now) (set_weight leaf.now.setting.now.cases.now.scale
+        leaf.now.potentials.now leaf.now.multipliers.now (lent_in leaf.now.setting.now.families.now)
+        (C.at leaf.now.setting.now.costs.now))) sum.scale sum.given_back bound) }
     ensures size { IfOk result (λ bound. IsBoundSized bound) }
 {
-    if w.kept.is_empty() && w.combed.suit_boxes() && w.combed.are_exact() {
-        let boxed = BoxedLeaf { decided: w };
+    if leaf.kept.is_empty() && leaf.suit_boxes() && leaf.are_exact() {
+        let boxed = BoxedLeaf { leaf: &*leaf };
         return leaf_bound_in_space(alloc, &boxed, row, sum.scale, sum.given_back);
     }
-    leaf_bound(alloc, w, row, sum.scale, sum.given_back)
+    leaf_bound(alloc, leaf, row, sum.scale, sum.given_back)
 }

@@ -1,22 +1,21 @@
 //! A leaf of a tree of cases, and its bound.
 
-ghost use Rattle.std.specs.Prelude.{◌≡◌, ◌+◌, length};
+ghost use Rattle.std.specs.Prelude.{◌≡◌, ◌+◌, ◌<◌, ◌^◌, length};
+ghost use Rattle.tsp_cases.specs.Decisions.{DecideOnce};
 ghost use Rattle.tsp_cases.specs.GoodNumbers.{AreGoodNumbers, as_leaf_numbers};
 ghost use Rattle.tsp_cases.specs.states.Lent.{lent_in};
 ghost use Rattle.tsp_cases.specs.states.Combed.{AreFewCrossings};
 ghost use Rattle.tsp_cases.specs.states.Decided.{marks_in};
-ghost use Rattle.tsp_cases.specs.states.OpenCases.{decisions_in};
+ghost use Rattle.tsp_cases.specs.states.OpenCases.{IsOpenCase, decisions_in};
 ghost use Rattle.tsp_cases.specs.states.Kept.{AreMoved, AreRowsIfAny, kept_weight};
 
-use crate::boxed_leaf::decided_bound;
-use crate::combed::CombedWeights;
-use crate::decided::DecidedWeights;
+use crate::boxed_leaf::bound_of_trees;
 use crate::given_back::{given_back, taken_back};
-use crate::leaf_case::LeafCase;
 use crate::leaf_sum::LeafSum;
 use crate::placed_costs::PlacedCosts;
 use crate::rows::AllowedRows;
 use std::alloc::Global;
+use tsp_cases::{OpenCase, Setting};
 use tsp_memory::Refused;
 use tsp_theory::Costs;
 
@@ -25,22 +24,25 @@ use tsp_theory::Costs;
 /// rows that are kept, if any, at these multipliers and under the decisions of the case.
 #[derive(Drop)]
 pub(crate) struct CaseLeaf<'a, C: Costs> {
-    pub(crate) at: &'a LeafCase<'a, C>,
+    pub(crate) setting: &'a Setting<'a, C>,
+    pub(crate) case: &'a OpenCase<'a>,
     pub(crate) potentials: &'a [i64],
     pub(crate) multipliers: &'a [i64],
     pub(crate) moved: &'a [i64],
     pub(crate) kept: &'a [Vec<i64>],
-    ghost numbers: { AreGoodNumbers (C.nodes at.now.setting.now.costs.now) at.now.setting.now.families.now.crossed.items
+    ghost is_case: { IsOpenCase (C.nodes setting.now.costs.now) case.now },
+    ghost direction: { case.now.by_node.directed ≡ setting.now.cases.now.directed },
+    ghost once: { DecideOnce setting.now.cases.now.directed (decisions_in case.now) },
+    ghost few: { length (decisions_in case.now) < 2 ^ 33 },
+    ghost numbers: { AreGoodNumbers (C.nodes setting.now.costs.now) setting.now.families.now.crossed.items
         (as_leaf_numbers potentials.now multipliers.now) },
-    ghost crossed: { AreFewCrossings (C.nodes at.now.setting.now.costs.now) multipliers.now
-        (lent_in at.now.setting.now.families.now) },
-    ghost places: { length moved.now ≡ C.nodes at.now.setting.now.costs.now + 1 },
-    ghost are_moved: { AreMoved (C.nodes at.now.setting.now.costs.now) potentials.now multipliers.now
-        (lent_in at.now.setting.now.families.now) moved.now },
-    ghost are_kept: { AreRowsIfAny (C.nodes at.now.setting.now.costs.now) (C.at at.now.setting.now.costs.now)
-        (kept_weight at.now.setting.now.cases.now.scale (lent_in at.now.setting.now.families.now)
-        (C.at at.now.setting.now.costs.now) (marks_in at.now.setting.now.cases.now.directed (decisions_in at.now.case.now))
-        multipliers.now) kept.now },
+    ghost crossed: { AreFewCrossings (C.nodes setting.now.costs.now) multipliers.now (lent_in setting.now.families.now) },
+    ghost places: { length moved.now ≡ C.nodes setting.now.costs.now + 1 },
+    ghost are_moved: { AreMoved (C.nodes setting.now.costs.now) potentials.now multipliers.now
+        (lent_in setting.now.families.now) moved.now },
+    ghost are_kept: { AreRowsIfAny (C.nodes setting.now.costs.now) (C.at setting.now.costs.now)
+        (kept_weight setting.now.cases.now.scale (lent_in setting.now.families.now) (C.at setting.now.costs.now)
+        (marks_in setting.now.cases.now.directed (decisions_in case.now)) multipliers.now) kept.now },
 }
 
 impl<C: PlacedCosts> CaseLeaf<'_, C> {
@@ -59,15 +61,15 @@ impl<C: PlacedCosts> CaseLeaf<'_, C> {
     ///
     /// Out of memory.
     pub(crate) fn bound(&self, alloc: Global, row: &mut [i64]) -> Result<Option<i128>, Refused>
-        requires { length row.old ≡ C.nodes self.now.at.now.setting.now.costs.now + 1 }
-        ensures bound { IfOk result (IsFoundAt self.now.at.now.setting.now.cases.now.directed
-            (C.nodes self.now.at.now.setting.now.costs.now)
-            (C.at self.now.at.now.setting.now.costs.now) self.now.at.now.setting.now.cases.now.scale decided_number
-            (good_in self.now.at.now.setting.now.families.now)
-            (decisions_in self.now.at.now.case.now, as_leaf_numbers self.now.potentials.now self.now.multipliers.now)) }
+        requires { length row.old ≡ C.nodes self.now.setting.now.costs.now + 1 }
+        ensures bound { IfOk result (IsFoundAt self.now.setting.now.cases.now.directed
+            (C.nodes self.now.setting.now.costs.now)
+            (C.at self.now.setting.now.costs.now) self.now.setting.now.cases.now.scale decided_number
+            (good_in self.now.setting.now.families.now)
+            (decisions_in self.now.case.now, as_leaf_numbers self.now.potentials.now self.now.multipliers.now)) }
         ensures size { IfOk result (λ bound. IfSome bound IsBoundSized) }
     {
-        if self.at.setting.cases.directed {
+        if self.setting.cases.directed {
             return Ok(self.bound_by_rows(row));
         }
         let bound = self.bound_by_trees(alloc, row)?;
@@ -81,52 +83,45 @@ impl<C: PlacedCosts> CaseLeaf<'_, C> {
     ///
     /// Out of memory.
     fn bound_by_trees(&self, alloc: Global, row: &mut [i64]) -> Result<i128, Refused>
-        requires undirected { self.now.at.now.setting.now.cases.now.directed ≡ false }
-        requires row { length row.old ≡ C.nodes self.now.at.now.setting.now.costs.now + 1 }
-        ensures bound { IfOk result (λ bound. IsFoundAt false (C.nodes self.now.at.now.setting.now.costs.now)
-            (C.at self.now.at.now.setting.now.costs.now) self.now.at.now.setting.now.cases.now.scale decided_number
-            (good_in self.now.at.now.setting.now.families.now)
-            (decisions_in self.now.at.now.case.now, as_leaf_numbers self.now.potentials.now self.now.multipliers.now)
+        requires undirected { self.now.setting.now.cases.now.directed ≡ false }
+        requires row { length row.old ≡ C.nodes self.now.setting.now.costs.now + 1 }
+        ensures bound { IfOk result (λ bound. IsFoundAt false (C.nodes self.now.setting.now.costs.now)
+            (C.at self.now.setting.now.costs.now) self.now.setting.now.cases.now.scale decided_number
+            (good_in self.now.setting.now.families.now)
+            (decisions_in self.now.case.now, as_leaf_numbers self.now.potentials.now self.now.multipliers.now)
             (Some bound)) }
         ensures size { IfOk result (λ bound. IsBoundSized bound) }
     {
         // The count shows that there are at most 100,000 nodes.
-        self.at.setting.costs.count();
-        let combed = CombedWeights::of(self);
-        let weights = DecidedWeights {
-            combed: &combed,
-            case: self.at.case,
-            kept: self.kept,
-        };
-        let taken = taken_back(&self.at.case.by_node.taken);
+        self.setting.costs.count();
+        let taken = taken_back(&self.case.by_node.taken);
         let sum = LeafSum {
-            scale: self.at.setting.cases.scale,
+            scale: self.setting.cases.scale,
             given_back: taken + given_back(self),
         };
-        decided_bound(alloc, &weights, row, sum)
+        bound_of_trees(alloc, self, row, sum)
     }
 
     /// The bound of the least link from each node; `None` where some node has no link that the
     /// decisions allow.
     fn bound_by_rows(&self, row: &mut [i64]) -> Option<i128>
-        requires directed { self.now.at.now.setting.now.cases.now.directed ≡ true }
-        requires row { length row.old ≡ C.nodes self.now.at.now.setting.now.costs.now + 1 }
-        ensures bound { IsFoundAt true (C.nodes self.now.at.now.setting.now.costs.now)
-            (C.at self.now.at.now.setting.now.costs.now) self.now.at.now.setting.now.cases.now.scale decided_number
-            (good_in self.now.at.now.setting.now.families.now)
-            (decisions_in self.now.at.now.case.now, as_leaf_numbers self.now.potentials.now self.now.multipliers.now)
+        requires directed { self.now.setting.now.cases.now.directed ≡ true }
+        requires row { length row.old ≡ C.nodes self.now.setting.now.costs.now + 1 }
+        ensures bound { IsFoundAt true (C.nodes self.now.setting.now.costs.now)
+            (C.at self.now.setting.now.costs.now) self.now.setting.now.cases.now.scale decided_number
+            (good_in self.now.setting.now.families.now)
+            (decisions_in self.now.case.now, as_leaf_numbers self.now.potentials.now self.now.multipliers.now)
             result }
         ensures size { IfSome result IsBoundSized }
     {
         // The contract of `count` says that there are at most 100,000 nodes.
-        self.at.setting.costs.count();
-        let combed = CombedWeights::of(self);
+        self.setting.costs.count();
         let rows = AllowedRows {
-            weights: &combed,
-            case: self.at.case,
+            weights: self,
+            case: self.case,
         };
         let sum = LeafSum {
-            scale: self.at.setting.cases.scale,
+            scale: self.setting.cases.scale,
             given_back: given_back(self),
         };
         rows.bound(row, sum)

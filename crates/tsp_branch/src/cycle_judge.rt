@@ -1,18 +1,17 @@
 //! The judge of the leaves of a certificate.
 
-ghost use Rattle.std.specs.Prelude.{◌≡◌, ◌+◌, length, IfOk};
-ghost use Rattle.tsp_cases.specs.Decisions.{decided_number};
+ghost use Rattle.std.specs.Prelude.{◌≡◌, ◌+◌, ◌<◌, ◌^◌, length, IfOk};
+ghost use Rattle.tsp_cases.specs.Decisions.{DecideOnce, decided_number};
 ghost use Rattle.tsp_cases.specs.GoodNumbers.{AreGoodNumbers};
 ghost use Rattle.tsp_cases.specs.CaseTrees.{IsFoundAt};
 ghost use Rattle.tsp_cases.specs.JudgedLeaves.{IsFoundOfCase, IsSizedLeaf};
 ghost use Rattle.tsp_cases.specs.states.Lent.{lent_in, good_in};
 ghost use Rattle.tsp_cases.specs.states.Decided.{marks_in};
-ghost use Rattle.tsp_cases.specs.states.OpenCases.{decisions_in};
+ghost use Rattle.tsp_cases.specs.states.OpenCases.{IsOpenCase, decisions_in};
 ghost use Rattle.tsp_cases.specs.states.Kept.{HoldsRows};
 ghost use Rattle.tsp_cases.specs.states.Rooms.{IsRoom};
 
 use crate::case_leaf::CaseLeaf;
-use crate::leaf_case::LeafCase;
 use crate::placed_costs::PlacedCosts;
 use std::alloc::Global;
 use tsp_cases::{
@@ -78,11 +77,7 @@ impl<C: PlacedCosts> LeafJudge for CycleJudge<'_, C> {
         memory: &mut Room,
     ) -> Result<JudgedLeaf, Refused> {
         // The setting is lent again, since the case changes before the next leaf.
-        let at = LeafCase {
-            setting: &*self.setting,
-            case,
-        };
-        judge_leaf(alloc, &at, numbers, memory)
+        judge_leaf(alloc, &*self.setting, case, numbers, memory)
     }
 }
 
@@ -93,47 +88,53 @@ impl<C: PlacedCosts> LeafJudge for CycleJudge<'_, C> {
 /// Out of memory.
 fn judge_leaf<C: PlacedCosts>(
     alloc: Global,
-    at: &LeafCase<C>,
+    setting: &Setting<C>,
+    case: &OpenCase,
     numbers: &[i128],
     room: &mut Room,
 ) -> Result<JudgedLeaf, Refused>
+    requires case { IsOpenCase (C.nodes setting.now.costs.now) case.now }
+    requires direction { case.now.by_node.directed ≡ setting.now.cases.now.directed }
+    requires once { DecideOnce setting.now.cases.now.directed (decisions_in case.now) }
+    requires few { length (decisions_in case.now) < 2 ^ 33 }
     requires numbers { length numbers.now
-        ≡ C.nodes at.now.setting.now.costs.now + length at.now.setting.now.families.now.crossed.items }
-    requires room { IsRoom (C.nodes at.now.setting.now.costs.now)
-        (length at.now.setting.now.families.now.crossed.items) room.old }
-    requires kept { HoldsRows (C.nodes at.now.setting.now.costs.now)
-        (length at.now.setting.now.families.now.crossed.items) at.now.setting.now.cases.now.scale
-        (lent_in at.now.setting.now.families.now) (C.at at.now.setting.now.costs.now)
-        (marks_in at.now.setting.now.cases.now.directed (decisions_in at.now.case.now)) room.old.kept }
-    ensures judged { IfOk result (IsFoundOfCase (IsFoundAt at.now.setting.now.cases.now.directed
-        (C.nodes at.now.setting.now.costs.now) (C.at at.now.setting.now.costs.now)
-        at.now.setting.now.cases.now.scale decided_number (good_in at.now.setting.now.families.now))
-        (AreGoodNumbers (C.nodes at.now.setting.now.costs.now) at.now.setting.now.families.now.crossed.items)
-        (C.nodes at.now.setting.now.costs.now) (decisions_in at.now.case.now) numbers.now) }
-    ensures room { IfOk result (λ own. IsRoom (C.nodes at.now.setting.now.costs.now)
-        (length at.now.setting.now.families.now.crossed.items) room.new) }
-    ensures kept { IfOk result (λ own. HoldsRows (C.nodes at.now.setting.now.costs.now)
-        (length at.now.setting.now.families.now.crossed.items) at.now.setting.now.cases.now.scale
-        (lent_in at.now.setting.now.families.now) (C.at at.now.setting.now.costs.now)
-        (marks_in at.now.setting.now.cases.now.directed (decisions_in at.now.case.now)) room.new.kept) }
+        ≡ C.nodes setting.now.costs.now + length setting.now.families.now.crossed.items }
+    requires room { IsRoom (C.nodes setting.now.costs.now)
+        (length setting.now.families.now.crossed.items) room.old }
+    requires kept { HoldsRows (C.nodes setting.now.costs.now)
+        (length setting.now.families.now.crossed.items) setting.now.cases.now.scale
+        (lent_in setting.now.families.now) (C.at setting.now.costs.now)
+        (marks_in setting.now.cases.now.directed (decisions_in case.now)) room.old.kept }
+    ensures judged { IfOk result (IsFoundOfCase (IsFoundAt setting.now.cases.now.directed
+        (C.nodes setting.now.costs.now) (C.at setting.now.costs.now)
+        setting.now.cases.now.scale decided_number (good_in setting.now.families.now))
+        (AreGoodNumbers (C.nodes setting.now.costs.now) setting.now.families.now.crossed.items)
+        (C.nodes setting.now.costs.now) (decisions_in case.now) numbers.now) }
+    ensures room { IfOk result (λ own. IsRoom (C.nodes setting.now.costs.now)
+        (length setting.now.families.now.crossed.items) room.new) }
+    ensures kept { IfOk result (λ own. HoldsRows (C.nodes setting.now.costs.now)
+        (length setting.now.families.now.crossed.items) setting.now.cases.now.scale
+        (lent_in setting.now.families.now) (C.at setting.now.costs.now)
+        (marks_in setting.now.cases.now.directed (decisions_in case.now)) room.new.kept) }
     ensures size { IfOk result IsSizedLeaf }
 {
     if !judge_numbers(
         numbers,
-        at.setting.families,
+        setting.families,
         &mut room.potentials,
         &mut room.multipliers,
     ) {
         return Ok(JudgedLeaf::Bad);
     }
     let multipliers = Multipliers {
-        families: at.setting.families,
+        families: setting.families,
         numbers: &room.multipliers,
     };
-    room.kept.bring_to(&multipliers, at.setting.by_node);
+    room.kept.bring_to(&multipliers, setting.by_node);
     fill_moved(&mut room.moved, &room.potentials, &room.kept.ends);
     let leaf = CaseLeaf {
-        at,
+        setting: &*setting,
+        case,
         potentials: &room.potentials,
         multipliers: &room.multipliers,
         moved: &room.moved,

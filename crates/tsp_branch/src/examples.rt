@@ -4,7 +4,7 @@ ghost use Rattle.std.specs.Prelude.{◌≡◌, pos};
 ghost use Rattle.tsp_bound.specs.states.NodeNumbers.{most_number};
 ghost use Rattle.tsp_cases.specs.Decisions.{decided_number};
 
-use crate::combed::MOST_NUMBER;
+use crate::leaf_rows::MOST_NUMBER;
 use tsp_cases::DECIDED;
 
 /// The number on each decided pair is the most that a number of a node may be where boxes bound its

@@ -15,12 +15,12 @@ use tsp_theory::Costs;
 /// The least crossings of a leaf's families, each times its multiplier, less each potential twice:
 /// at most 2^98 in size.
 pub(crate) fn given_back<C: Costs>(leaf: &CaseLeaf<C>) -> i128
-    ensures value { result ≡ least_of (multiplied (good_in leaf.now.at.now.setting.now.families.now) leaf.now.multipliers.now)
+    ensures value { result ≡ least_of (multiplied (good_in leaf.now.setting.now.families.now) leaf.now.multipliers.now)
         -ℤ (pos 2 *ℤ total leaf.now.potentials.now) }
     ensures size { IsFromTo (neg_ℤ (pos (2 ^ 98))) (pos (2 ^ 98)) result }
 {
     let multipliers = Multipliers {
-        families: leaf.at.setting.families,
+        families: leaf.setting.families,
         numbers: leaf.multipliers,
     };
     sum_with(false, &multipliers) - 2 * total(leaf)

@@ -1,5 +1,5 @@
 -- What two nodes have in common: the sets of both, by the places of each node's sets; and what decisions do to a weight.
-use Rattle.std.specs.Prelude.{◌≡◌, ℕ, ◌==◌, ◌&&◌, Bool, false, if◌then◌else◌, List, map, reverse, slice_index_or, ℤ, pos, negsuc, neg_ℤ, ◌+ℤ◌, ◌*ℤ◌}
+use Rattle.std.specs.Prelude.{◌≡◌, ℕ, ◌==◌, ◌&&◌, Bool, true, false, if◌then◌else◌, List, map, reverse, slice_index_or, ℤ, pos, negsuc, neg_ℤ, ◌+ℤ◌, ◌*ℤ◌}
 use Rattle.std.specs.List.{list_any, filter}
 use Rattle.tsp_format.specs.Nodes.{IsNode}
 use Rattle.tsp_theory.specs.Length.{sum_int_by}
@@ -9,7 +9,7 @@ use Rattle.tsp_bound.specs.states.NodeNumbers.{most_number}
 use Rattle.tsp_cases.specs.declared.decision.Decision.{Decision}
 use Rattle.tsp_cases.specs.declared.set_place.SetPlace.{SetPlace}
 use Rattle.tsp_cases.specs.states.Combed.{multipliers_at}
-use Rattle.tsp_cases.specs.states.Decided.{changes}
+use Rattle.tsp_cases.specs.states.Decided.{changes, decided}
 use Rattle.tsp_cases.specs.states.OpenCases.{bears_on}
 
 abbrev pub is_same_place : SetPlace → SetPlace → Bool
@@ -40,6 +40,11 @@ AreExact n potentials multipliers families moved = (x : ℕ) → IsNode n x
 abbrev pub upwards : ℤ → ℤ
 upwards (pos k) = pos k
 upwards (negsuc k) = pos 0
+
+-- the weights of a leaf: where pairs have no direction, under the decisions of its case
+abbrev pub decided_by : Bool → List Decision → (ℕ → ℕ → ℤ) → ℕ → ℕ → ℤ
+decided_by true case w = w
+decided_by false case w = decided case w
 
 -- weights under the decisions that make them more
 abbrev pub raised : List Decision → (ℕ → ℕ → ℤ) → ℕ → ℕ → ℤ

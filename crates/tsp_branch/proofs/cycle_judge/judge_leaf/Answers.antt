@@ -23,7 +23,7 @@ use Rattle.tsp_branch.proofs.cycle_judge.judge_leaf.Goals as goal
 
 pub invariant_of-multipliers : goal.invariant_of-multipliers
 invariant_of-multipliers g c =
-    let s = c.args.at.now.setting.now in
+    let s = c.args.setting.now in
     let is = c.deref.ensures.value ∙ written c.args.room.now.multipliers.len c.judge_numbers.new.multipliers _ (c.judge_numbers.ensures.multipliers_len ∙ c.deref_mut-2.ensures.len)
     ∙ c.if-not-judge_numbers.ensures.multipliers refl in
     let good = c.if-not-judge_numbers.ensures.good.0 refl in
@@ -36,10 +36,10 @@ invariant_of-multipliers g c =
 
 pub fill_moved-requires-clause-ends : goal.fill_moved-requires-clause-ends
 fill_moved-requires-clause-ends g c =
-    let s = c.args.at.now.setting.now in
+    let s = c.args.setting.now in
     let n : ℕ = g.C.Costs.nodes s.costs.now in
     let cost = g.C.Costs.at s.costs.now in
-    let marks : ℕ → ℕ → ℤ = marks_in s.cases.now.directed (decisions_in c.args.at.now.case.now) in
+    let marks : ℕ → ℕ → ℤ = marks_in s.cases.now.directed (decisions_in c.args.case.now) in
     let room = c.args.room.now in
     let ps_len : length c.deref-2.result.now ≡ n = ap length (c.deref-2.ensures.value
     ∙ written room.potentials.len c.judge_numbers.new.potentials _ (c.judge_numbers.ensures.potentials_len ∙ c.deref_mut.ensures.len))
@@ -54,10 +54,10 @@ fill_moved-requires-clause-ends g c =
 -- plan: the judged numbers are a leaf's (`numbers_are`), and the moved ends are those of its numbers (`moved_from_ends`)
 pub invariant_of-leaf : goal.invariant_of-leaf
 invariant_of-leaf g c =
-    let s = c.args.at.now.setting.now in
+    let s = c.args.setting.now in
     let n : ℕ = g.C.Costs.nodes s.costs.now in
     let cost = g.C.Costs.at s.costs.now in
-    let marks : ℕ → ℕ → ℤ = marks_in s.cases.now.directed (decisions_in c.args.at.now.case.now) in
+    let marks : ℕ → ℕ → ℤ = marks_in s.cases.now.directed (decisions_in c.args.case.now) in
     let room = c.args.room.now in
     let families : List (List (List ℕ)) = lent_in s.families.now in
     let ps_len : length c.deref-2.result.now ≡ n = ap length (c.deref-2.ensures.value
@@ -84,6 +84,10 @@ invariant_of-leaf g c =
     let crossed = s.families.now.crossed.items in
     let numbers = numbers_are n _ crossed read c.deref-4.result.now c.deref-5.result.now at of_nodes of_combs (c.if-not-judge_numbers.ensures.good.0 refl) in
     record {
+      is_case = c.requires.case;
+      direction = c.requires.direction;
+      once = c.requires.once;
+      few = c.requires.few;
       numbers = numbers;
       crossed = few_crossings n crossed c.deref-4.result.now c.deref-5.result.now families numbers s.families.now.many
           (subst (λ (m : ℕ). ∥ All (IsFamily m) (good_in s.families.now) ∥₁) s.same s.families.now.are);
@@ -98,10 +102,10 @@ invariant_of-leaf g c =
 
 pub returns-clause-kept : goal.returns-clause-kept
 returns-clause-kept g c =
-    let s = c.args.at.now.setting.now in
+    let s = c.args.setting.now in
     let n : ℕ = g.C.Costs.nodes s.costs.now in
     let cost = g.C.Costs.at s.costs.now in
-    let marks : ℕ → ℕ → ℤ = marks_in s.cases.now.directed (decisions_in c.args.at.now.case.now) in
+    let marks : ℕ → ℕ → ℤ = marks_in s.cases.now.directed (decisions_in c.args.case.now) in
     let room = c.args.room.now in
     let ms_len : length c.deref.result.now ≡ length s.families.now.crossed.items =
     ap length (c.deref.ensures.value ∙ written room.multipliers.len c.judge_numbers.new.multipliers _ (c.judge_numbers.ensures.multipliers_len ∙ c.deref_mut-2.ensures.len))
@@ -111,7 +115,7 @@ returns-clause-kept g c =
 
 pub returns-clause-judged : goal.returns-clause-judged
 returns-clause-judged g c =
-    let s = c.args.at.now.setting.now in
+    let s = c.args.setting.now in
     let n : ℕ = g.C.Costs.nodes s.costs.now in
     let room = c.args.room.now in
     let read : List ℤ = c.args.numbers.now in
@@ -123,6 +127,6 @@ returns-clause-judged g c =
     ∙ c.if-not-judge_numbers.ensures.multipliers refl in
     let found : List Decision × LeafNumbers → Option ℤ → Type 0 = IsFoundAt s.cases.now.directed n (g.C.Costs.at s.costs.now) s.cases.now.scale decided_number
     (good_in s.families.now) in
-    found_of_case found n s.families.now.crossed.items (decisions_in c.args.at.now.case.now) read c.deref-4.result.now c.deref-5.result.now c.in_ok-bound.bound
+    found_of_case found n s.families.now.crossed.items (decisions_in c.args.case.now) read c.deref-4.result.now c.deref-5.result.now c.in_ok-bound.bound
     s.families.now.some good (of_nodes ∙ ap (λ (k : ℕ). take k read) at) (of_combs ∙ ap (λ (k : ℕ). drop k read) at)
     c.in_ok-bound.ensures.bound

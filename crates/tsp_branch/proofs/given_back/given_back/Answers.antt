@@ -13,7 +13,7 @@ use Rattle.tsp_branch.proofs.given_back.given_back.Goals as goal
 pub invariant_of-multipliers : goal.invariant_of-multipliers
 invariant_of-multipliers g c =
     let leaf = c.args.leaf.now in
-    let setting = leaf.at.now.setting.now in
+    let setting = leaf.setting.now in
     let families = setting.families.now in
     record {
       as_many = leaf.numbers.each_comb ∙ families.as_many;
@@ -24,7 +24,7 @@ invariant_of-multipliers g c =
 pub overflow_sub-result : goal.overflow_sub-result
 overflow_sub-result g c =
     let leaf = c.args.leaf.now in
-    let families = leaf.at.now.setting.now.families.now in
+    let families = leaf.setting.now.families.now in
     let ms : List ℤ = leaf.multipliers.now in
     let sum = few_multipliers families.crossed.items ms leaf.numbers.each_comb families.some leaf.numbers.signs leaf.numbers.sum in
     let size = least_fits families.crossed.items ms c.sum_with.result families.small leaf.numbers.signs sum c.sum_with.ensures in
@@ -33,7 +33,7 @@ overflow_sub-result g c =
 pub returns : goal.returns
 returns g c =
     let leaf = c.args.leaf.now in
-    let families = leaf.at.now.setting.now.families.now in
+    let families = leaf.setting.now.families.now in
     let crossed : ℤ = c.sum_with.result in
     let ps : ℤ = c.total.result in
     let ms : List ℤ = leaf.multipliers.now in

@@ -11,7 +11,7 @@ use Rattle.tsp_branch.proofs.given_back.total.Goals as goal
 pub numbers-preserved : goal.numbers-preserved
 numbers-preserved g c =
     let leaf = c.args.leaf.now in
-    let setting = leaf.at.now.setting.now in
+    let setting = leaf.setting.now in
     let xs : List ℤ = leaf.potentials.now in
     let index : ℕ = c.numbers.number-index in
     let number : ℤ = get_or xs index (pos 0) in

@@ -15,14 +15,15 @@ use Rattle.tsp_branch.proofs.boxed_leaf.BoxedLeaf.change.Goals as goal
 
 pub returns : goal.returns
 returns g c =
-    let p = c.args.self.now.decided.now in
-    let n = g.C.Costs.nodes p.combed.now.costs.now in
+    let boxed = c.args.self.now in
+    let p = boxed.leaf.now in
+    let n = g.C.Costs.nodes p.setting.now.costs.now in
     let from = c.args.from in
     let to = c.args.to in
     let case : List Decision = decisions_in p.case.now in
-    let own_is = subst (λ (d : Bool). stack_of c.at.result.now ≡ filter (bears_on d from) case) p.both (c.at.ensures n p.is_case c.requires.1) in
+    let own_is = subst (λ (d : Bool). stack_of c.at.result.now ≡ filter (bears_on d from) case) (p.direction ∙ boxed.undirected) (c.at.ensures n p.is_case c.requires.1) in
     let fits : FitsSigned w64 c.change_between.result = search rules in
-    let size = p.once from to in
+    let size = boxed.once from to in
     let change : ℤ = changes case from to in
     let whole : FitsSigned w64 change = within change (omega (arith, ints, size.0), omega (arith, ints, size.1)) in
     let is : to_z w64 (of_z w64 c.change_between.result) ≡ change =

@@ -21,48 +21,52 @@ use Rattle.tsp_branch.proofs.boxed_leaf.BoxedLeafBoxedWeights.lowered.Goals.{the
 
 pub offset_bounds-at-index : goal.offset_bounds-at-index
 offset_bounds-at-index g c =
-    let p = c.args.self.now.decided.now in
-    let n = g.C.Costs.nodes p.combed.now.costs.now in
+    let boxed = c.args.self.now in
+    let p = boxed.leaf.now in
+    let n = g.C.Costs.nodes p.setting.now.costs.now in
     let from = c.args.from in
     let case : List Decision = decisions_in p.case.now in
     let own : List Decision = c.at.result.now in
-    let own_is = subst (λ (d : Bool). stack_of c.at.result.now ≡ filter (bears_on d from) case) p.both (c.at.ensures n p.is_case c.requires.from.1) in
+    let own_is = subst (λ (d : Bool). stack_of c.at.result.now ≡ filter (bears_on d from) case) (p.direction ∙ boxed.undirected) (c.at.ensures n p.is_case c.requires.from.1) in
     let long : length own ≡ length (others_of case from) = sym (length-map own (other_of from)) ∙ ap length (listed_is case own from own_is) in
     let inside : c.args.index < length own = omega (arith, c.requires.index, long) in
     omega (arith, inside, c.at.type_inv.1)
 
 pub bounds-at-index : goal.bounds-at-index
 bounds-at-index g c =
-    let p = c.args.self.now.decided.now in
-    let n = g.C.Costs.nodes p.combed.now.costs.now in
+    let boxed = c.args.self.now in
+    let p = boxed.leaf.now in
+    let n = g.C.Costs.nodes p.setting.now.costs.now in
     let from = c.args.from in
     let case : List Decision = decisions_in p.case.now in
     let own : List Decision = c.at.result.now in
-    let own_is = subst (λ (d : Bool). stack_of c.at.result.now ≡ filter (bears_on d from) case) p.both (c.at.ensures n p.is_case c.requires.from.1) in
+    let own_is = subst (λ (d : Bool). stack_of c.at.result.now ≡ filter (bears_on d from) case) (p.direction ∙ boxed.undirected) (c.at.ensures n p.is_case c.requires.from.1) in
     let long : length own ≡ length (others_of case from) = sym (length-map own (other_of from)) ∙ ap length (listed_is case own from own_is) in
     let inside : c.args.index < length own = omega (arith, c.requires.index, long) in
     inside
 
 pub bounds-at-index-2 : goal.bounds-at-index-2
 bounds-at-index-2 g c =
-    let p = c.args.self.now.decided.now in
-    let n = g.C.Costs.nodes p.combed.now.costs.now in
+    let boxed = c.args.self.now in
+    let p = boxed.leaf.now in
+    let n = g.C.Costs.nodes p.setting.now.costs.now in
     let from = c.args.from in
     let case : List Decision = decisions_in p.case.now in
     let own : List Decision = c.at.result.now in
-    let own_is = subst (λ (d : Bool). stack_of c.at.result.now ≡ filter (bears_on d from) case) p.both (c.at.ensures n p.is_case c.requires.from.1) in
+    let own_is = subst (λ (d : Bool). stack_of c.at.result.now ≡ filter (bears_on d from) case) (p.direction ∙ boxed.undirected) (c.at.ensures n p.is_case c.requires.from.1) in
     let long : length own ≡ length (others_of case from) = sym (length-map own (other_of from)) ∙ ap length (listed_is case own from own_is) in
     let inside : c.args.index < length own = omega (arith, c.requires.index, long) in
     inside
 
 pub decided-requires-clause-to : goal.decided-requires-clause-to
 decided-requires-clause-to g c =
-    let p = c.args.self.now.decided.now in
-    let n = g.C.Costs.nodes p.combed.now.costs.now in
+    let boxed = c.args.self.now in
+    let p = boxed.leaf.now in
+    let n = g.C.Costs.nodes p.setting.now.costs.now in
     let from = c.args.from in
     let case : List Decision = decisions_in p.case.now in
     let own : List Decision = c.at.result.now in
-    let own_is = subst (λ (d : Bool). stack_of c.at.result.now ≡ filter (bears_on d from) case) p.both (c.at.ensures n p.is_case c.requires.from.1) in
+    let own_is = subst (λ (d : Bool). stack_of c.at.result.now ≡ filter (bears_on d from) case) (p.direction ∙ boxed.undirected) (c.at.ensures n p.is_case c.requires.from.1) in
     let long : length own ≡ length (others_of case from) = sym (length-map own (other_of from)) ∙ ap length (listed_is case own from own_is) in
     let inside : c.args.index < length own = omega (arith, c.requires.index, long) in
     let decision = (all_passed (IsDecision n) (bears_on false from) case own own_is p.is_case.pairs) c.args.index (record { pair = (0, 0); taken = false }) inside in
@@ -73,12 +77,13 @@ decided-requires-clause-to g c =
 
 pub returns-clause-node : goal.returns-clause-node
 returns-clause-node g c =
-    let p = c.args.self.now.decided.now in
-    let n = g.C.Costs.nodes p.combed.now.costs.now in
+    let boxed = c.args.self.now in
+    let p = boxed.leaf.now in
+    let n = g.C.Costs.nodes p.setting.now.costs.now in
     let from = c.args.from in
     let case : List Decision = decisions_in p.case.now in
     let own : List Decision = c.at.result.now in
-    let own_is = subst (λ (d : Bool). stack_of c.at.result.now ≡ filter (bears_on d from) case) p.both (c.at.ensures n p.is_case c.requires.from.1) in
+    let own_is = subst (λ (d : Bool). stack_of c.at.result.now ≡ filter (bears_on d from) case) (p.direction ∙ boxed.undirected) (c.at.ensures n p.is_case c.requires.from.1) in
     let long : length own ≡ length (others_of case from) = sym (length-map own (other_of from)) ∙ ap length (listed_is case own from own_is) in
     let inside : c.args.index < length own = omega (arith, c.requires.index, long) in
     let decision = (all_passed (IsDecision n) (bears_on false from) case own own_is p.is_case.pairs) c.args.index (record { pair = (0, 0); taken = false }) inside in
@@ -89,12 +94,13 @@ returns-clause-node g c =
 
 pub returns-clause-listed : goal.returns-clause-listed
 returns-clause-listed g c =
-    let p = c.args.self.now.decided.now in
-    let n = g.C.Costs.nodes p.combed.now.costs.now in
+    let boxed = c.args.self.now in
+    let p = boxed.leaf.now in
+    let n = g.C.Costs.nodes p.setting.now.costs.now in
     let from = c.args.from in
     let case : List Decision = decisions_in p.case.now in
     let own : List Decision = c.at.result.now in
-    let own_is = subst (λ (d : Bool). stack_of c.at.result.now ≡ filter (bears_on d from) case) p.both (c.at.ensures n p.is_case c.requires.from.1) in
+    let own_is = subst (λ (d : Bool). stack_of c.at.result.now ≡ filter (bears_on d from) case) (p.direction ∙ boxed.undirected) (c.at.ensures n p.is_case c.requires.from.1) in
     let entry : Decision = get_or own c.args.index (record { pair = (0, 0); taken = false }) in
     let to_is : c.if-first-from.to ≡ other_of from entry = elim c.if-first-from.branch [
       | then-first-from u ↦ u.to-is ∙ sym (ap (λ b. if b then entry.pair.1 else entry.pair.0) (eq-eqb entry.pair.0 from u.if-first-from.true))
@@ -108,7 +114,7 @@ returns-clause-listed g c =
 
 pub returns-clause-weight : goal.returns-clause-weight
 returns-clause-weight g c =
-    let q = c.args.self.now.decided.now.combed.now in
-    let w = set_weight q.scale q.potentials.now q.multipliers.now (lent_in q.families.now) (g.C.Costs.at q.costs.now) in
+    let q = c.args.self.now.leaf.now in
+    let w = set_weight q.setting.now.cases.now.scale q.potentials.now q.multipliers.now (lent_in q.setting.now.families.now) (g.C.Costs.at q.setting.now.costs.now) in
     let fits : FitsSigned w64 c.decided.result = search rules in
-    to_z-of_z w64 c.decided.result fits ∙ c.decided.ensures ∙ sym (changes_are (decisions_in c.args.self.now.decided.now.case.now) w c.args.from c.if-first-from.to)
+    to_z-of_z w64 c.decided.result fits ∙ c.decided.ensures ∙ sym (changes_are (decisions_in c.args.self.now.leaf.now.case.now) w c.args.from c.if-first-from.to)

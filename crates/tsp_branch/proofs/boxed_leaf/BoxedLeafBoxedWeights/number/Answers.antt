@@ -12,5 +12,5 @@ pub returns : goal.returns
 returns g c =
     let p = c.args.self.now in
     let fits : FitsSigned w64 c.weight_in.result = search rules in
-    let is : to_z w64 (of_z w64 c.weight_in.result) ≡ least_at p.decided.now.combed.now.moved.now c.args.node = to_z-of_z w64 c.weight_in.result fits ∙ c.weight_in.ensures in
+    let is : to_z w64 (of_z w64 c.weight_in.result) ≡ least_at p.leaf.now.moved.now c.args.node = to_z-of_z w64 c.weight_in.result fits ∙ c.weight_in.ensures in
     record { value = is; size = subst (λ (z : ℤ). IsFromTo (neg_ℤ (pos most_number)) (pos most_number) z) (sym is) (p.exact c.args.node c.requires).1 }

@@ -11,27 +11,28 @@ use Rattle.tsp_cases.specs.states.Combed.{set_weight}
 use Rattle.tsp_cases.specs.states.Decided.{changes}
 use Rattle.tsp_cases.specs.states.OpenCases.{decisions_in}
 use Rattle.tsp_branch.specs.states.Shared.{upwards, raised}
+use Rattle.tsp_cases.proofs.CaseWeights.{small_multipliers}
 use Rattle.tsp_branch.proofs.BoxedValues.{base_below, upwards_less, upwards_same}
 use Rattle.tsp_branch.proofs.boxed_leaf.BoxedLeafBoxedWeights.weight_within.Goals as goal
 
 pub returns-then-base-most-clause-no_less : goal.returns-then-base-most-clause-no_less
 returns-then-base-most-clause-no_less g c = λ above.
     let p = c.args.self.now in
-    let q = p.decided.now.combed.now in
-    let case : List Decision = decisions_in p.decided.now.case.now in
+    let q = p.leaf.now in
+    let case : List Decision = decisions_in p.leaf.now.case.now in
     let fits : FitsSigned w64 c.base-base.result = search rules in
     let back = to_z-of_z w64 c.base-base.result fits in
-    let below = base_below q.scale q.potentials.now q.multipliers.now (lent_in q.families.now) (g.C.Costs.at q.costs.now) c.args.from.now.site.node c.args.to.now.site.node (least_at q.moved.now c.args.from.now.site.node)
-    (least_at q.moved.now c.args.to.now.site.node) c.base-base.result q.families.now.once (p.exact c.args.from.now.site.node c.requires.from.site.node_in).0 (p.exact c.args.to.now.site.node c.requires.to.site.node_in).0 c.base-base.ensures.value case q.small
-    q.as_many q.families.now.many q.families.now.as_many in
+    let below = base_below q.setting.now.cases.now.scale q.potentials.now q.multipliers.now (lent_in q.setting.now.families.now) (g.C.Costs.at q.setting.now.costs.now) c.args.from.now.site.node c.args.to.now.site.node (least_at q.moved.now c.args.from.now.site.node)
+    (least_at q.moved.now c.args.to.now.site.node) c.base-base.result q.setting.now.families.now.once (p.exact c.args.from.now.site.node c.requires.from.site.node_in).0 (p.exact c.args.to.now.site.node c.requires.to.site.node_in).0 c.base-base.ensures.value case (small_multipliers _ q.setting.now.families.now.crossed.items _ _ q.setting.now.families.now.some q.numbers)
+    (q.numbers.each_comb ∙ q.setting.now.families.now.as_many) q.setting.now.families.now.many q.setting.now.families.now.as_many in
     omega (arith, ints, above, back, below)
 
 pub returns-then-change-lt0-clause-less : goal.returns-then-change-lt0-clause-less
 returns-then-change-lt0-clause-less g c = λ low.
     let p = c.args.self.now in
-    let q = p.decided.now.combed.now in
-    let case : List Decision = decisions_in p.decided.now.case.now in
-    let w = set_weight q.scale q.potentials.now q.multipliers.now (lent_in q.families.now) (g.C.Costs.at q.costs.now) in
+    let q = p.leaf.now in
+    let case : List Decision = decisions_in p.leaf.now.case.now in
+    let w = set_weight q.setting.now.cases.now.scale q.potentials.now q.multipliers.now (lent_in q.setting.now.families.now) (g.C.Costs.at q.setting.now.costs.now) in
     let change : ℤ = c.change-change.result in
     let change_fits : FitsSigned w64 c.change-change.result = search rules in
     let fits : FitsSigned w64 c.combed-combed.result = search rules in
@@ -45,9 +46,9 @@ returns-then-change-lt0-clause-less g c = λ low.
 pub returns-then-change-lt0-clause-no_less : goal.returns-then-change-lt0-clause-no_less
 returns-then-change-lt0-clause-no_less g c = λ above.
     let p = c.args.self.now in
-    let q = p.decided.now.combed.now in
-    let case : List Decision = decisions_in p.decided.now.case.now in
-    let w = set_weight q.scale q.potentials.now q.multipliers.now (lent_in q.families.now) (g.C.Costs.at q.costs.now) in
+    let q = p.leaf.now in
+    let case : List Decision = decisions_in p.leaf.now.case.now in
+    let w = set_weight q.setting.now.cases.now.scale q.potentials.now q.multipliers.now (lent_in q.setting.now.families.now) (g.C.Costs.at q.setting.now.costs.now) in
     let change : ℤ = c.change-change.result in
     let change_fits : FitsSigned w64 c.change-change.result = search rules in
     let fits : FitsSigned w64 c.combed-combed.result = search rules in
@@ -61,9 +62,9 @@ returns-then-change-lt0-clause-no_less g c = λ above.
 pub returns-else-change-lt0-clause-less : goal.returns-else-change-lt0-clause-less
 returns-else-change-lt0-clause-less g c = λ low.
     let p = c.args.self.now in
-    let q = p.decided.now.combed.now in
-    let case : List Decision = decisions_in p.decided.now.case.now in
-    let w = set_weight q.scale q.potentials.now q.multipliers.now (lent_in q.families.now) (g.C.Costs.at q.costs.now) in
+    let q = p.leaf.now in
+    let case : List Decision = decisions_in p.leaf.now.case.now in
+    let w = set_weight q.setting.now.cases.now.scale q.potentials.now q.multipliers.now (lent_in q.setting.now.families.now) (g.C.Costs.at q.setting.now.costs.now) in
     let change : ℤ = c.change-change.result in
     let change_fits : FitsSigned w64 c.change-change.result = search rules in
     let zero_fits : FitsSigned w64 (pos 0) = omega (arith, ints) in
@@ -76,9 +77,9 @@ returns-else-change-lt0-clause-less g c = λ low.
 pub returns-else-change-lt0-clause-no_less : goal.returns-else-change-lt0-clause-no_less
 returns-else-change-lt0-clause-no_less g c = λ above.
     let p = c.args.self.now in
-    let q = p.decided.now.combed.now in
-    let case : List Decision = decisions_in p.decided.now.case.now in
-    let w = set_weight q.scale q.potentials.now q.multipliers.now (lent_in q.families.now) (g.C.Costs.at q.costs.now) in
+    let q = p.leaf.now in
+    let case : List Decision = decisions_in p.leaf.now.case.now in
+    let w = set_weight q.setting.now.cases.now.scale q.potentials.now q.multipliers.now (lent_in q.setting.now.families.now) (g.C.Costs.at q.setting.now.costs.now) in
     let change : ℤ = c.change-change.result in
     let change_fits : FitsSigned w64 c.change-change.result = search rules in
     let zero_fits : FitsSigned w64 (pos 0) = omega (arith, ints) in

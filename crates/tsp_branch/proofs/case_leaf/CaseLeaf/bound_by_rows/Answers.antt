@@ -1,5 +1,5 @@
 -- The goals of `CaseLeaf::bound_by_rows` in src/case_leaf.rt: what its calls require and what it ensures.
-use Rattle.std.proofs.Common.{◌≡◌, ◌∙◌, ◌^◌, ℕ, ℤ, List, sym, subst, arith, rules, FitsSigned, to_z, of_z}
+use Rattle.std.proofs.Common.{◌≡◌, ◌∙◌, ◌^◌, ℕ, ℤ, Bool, List, refl, ap, sym, subst, arith, rules, FitsSigned, to_z, of_z}
 use Rattle.std.specs.Prelude.{pos, neg_ℤ, ◌-ℤ◌, ◌*ℤ◌}
 use Rattle.std.specs.Int.{w128}
 use Rattle.std.proofs.lemmas.Int.{ints, to_z-of_z}
@@ -13,7 +13,8 @@ use Rattle.tsp_cases.specs.LeafBound.{combed, least_of}
 use Rattle.tsp_cases.specs.CaseTrees.{multiplied}
 use Rattle.tsp_cases.specs.states.Lent.{lent_in, good_in}
 use Rattle.tsp_cases.specs.states.Combed.{set_weight}
-use Rattle.tsp_cases.specs.states.OpenCases.{IsOpenCase, decisions_in}
+use Rattle.tsp_cases.specs.states.OpenCases.{decisions_in}
+use Rattle.tsp_branch.specs.states.Shared.{decided_by}
 use Rattle.tsp_cases.proofs.CaseWeights.{row_weight, found_by_rows}
 use Rattle.tsp_branch.proofs.case_leaf.CaseLeaf.bound_by_rows.Goals as goal
 
@@ -21,13 +22,13 @@ pub invariant_of-rows : goal.invariant_of-rows
 invariant_of-rows g c =
     let leaf = c.args.self.now in
     record {
-      is_case = subst (λ (n : ℕ). IsOpenCase n leaf.at.now.case.now) (sym c.of-combed.ensures.nodes) leaf.at.now.is_case;
-      direction = leaf.at.now.direction ∙ c.requires.directed;
+      is_case = leaf.is_case;
+      direction = leaf.direction ∙ c.requires.directed;
     }
 
 pub invariant_of-sum : goal.invariant_of-sum
 invariant_of-sum g c =
-    let cases = c.args.self.now.at.now.setting.now.cases.now in
+    let cases = c.args.self.now.setting.now.cases.now in
     let size = c.given_back.ensures.size in
     let fits : FitsSigned w128 c.given_back.result = search rules in
     record {
@@ -39,22 +40,22 @@ invariant_of-sum g c =
 pub returns-clause-bound : goal.returns-clause-bound
 returns-clause-bound g c =
     let leaf = c.args.self.now in
-    let p = leaf.at.now.setting.now in
+    let p = leaf.setting.now in
     let n : ℕ = g.C.Costs.nodes p.costs.now in
     let cost = g.C.Costs.at p.costs.now in
     let families = p.families.now in
     let ps : List ℤ = leaf.potentials.now in
     let ms : List ℤ = leaf.multipliers.now in
-    let case : List Decision = decisions_in leaf.at.now.case.now in
+    let case : List Decision = decisions_in leaf.case.now in
     let good = leaf.numbers in
     let combs : List (Family × ℤ) = multiplied (good_in families) ms in
-    let q = c.of-combed.result in
-    let w : ℕ → ℕ → ℤ = set_weight q.scale q.potentials.now q.multipliers.now (lent_in q.families.now) (g.C.Costs.at q.costs.now) in
+    let sets : ℕ → ℕ → ℤ = set_weight p.cases.now.scale ps ms (lent_in families) cost in
+    let w : ℕ → ℕ → ℤ = decided_by p.cases.now.directed case sets in
     let agree : (i j : ℕ) → w i j ≡ combed combs (weight_between p.cases.now.scale ps cost) i j = λ i j.
-    c.of-combed.ensures.weights i j ∙ row_weight families.crossed.items p.cases.now.scale ps ms (lent_in families) cost i j families.many (good.each_comb ∙ families.many) in
+    ap (λ (d : Bool). decided_by d case sets i j) c.requires.directed ∙ row_weight families.crossed.items p.cases.now.scale ps ms (lent_in families) cost i j families.many (good.each_comb ∙ families.many) in
     let back : ℤ = c.given_back.result in
     let fits : FitsSigned w128 c.given_back.result = search rules in
     let back_is : to_z w128 (of_z w128 back) ≡ least_of combs -ℤ (pos 2 *ℤ total ps) =
     to_z-of_z w128 back fits ∙ c.given_back.ensures.value in
-    found_by_rows n (g.C.Costs.nodes q.costs.now) cost p.cases.now.scale _ decided_number (good_in families) case ps ms w _ c.bound.result c.of-combed.ensures.nodes
+    found_by_rows n n cost p.cases.now.scale _ decided_number (good_in families) case ps ms w _ c.bound.result refl
     (same_scale p.cases.now.scale p.cases.now.scaled) agree back_is c.bound.ensures.bound

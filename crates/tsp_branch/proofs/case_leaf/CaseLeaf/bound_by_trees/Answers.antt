@@ -1,5 +1,5 @@
 -- The goals of `CaseLeaf::bound_by_trees` in src/case_leaf.rt: what its calls require and what it ensures.
-use Rattle.std.proofs.Common.{◌≡◌, ◌∙◌, ◌^◌, ℕ, ℤ, Bool, List, ap, sym, subst, arith, to_z, of_z}
+use Rattle.std.proofs.Common.{◌≡◌, ◌∙◌, ◌^◌, ℕ, ℤ, List, refl, ap, sym, subst, arith, to_z, of_z}
 use Rattle.std.specs.Prelude.{pos, neg_ℤ, ◌+ℤ◌}
 use Rattle.std.specs.Int.{w128}
 use Rattle.std.proofs.lemmas.Int.{ints}
@@ -26,37 +26,11 @@ use Rattle.tsp_branch.proofs.case_leaf.CaseLeaf.bound_by_trees.Goals as goal
 pub taken_back-taken-requires : goal.taken_back-taken-requires
 taken_back-taken-requires g c =
     let leaf = c.args.self.now in
-    taken_few (decisions_in leaf.at.now.case.now) c.deref.result.now (2 ^ 33) (ap stack_of c.deref.ensures.value ∙ leaf.at.now.is_case.by_node.taken) leaf.at.now.few
-
-pub invariant_of-weights : goal.invariant_of-weights
-invariant_of-weights g c =
-    let leaf = c.args.self.now in
-    let case : List Decision = decisions_in leaf.at.now.case.now in
-    let p = leaf.at.now.setting.now in
-    let cost = g.C.Costs.at p.costs.now in
-    let families = p.families.now in
-    let ps : List ℤ = leaf.potentials.now in
-    let ms : List ℤ = leaf.multipliers.now in
-    let q = c.of-combed.result in
-    let w : ℕ → ℕ → ℤ = set_weight q.scale q.potentials.now q.multipliers.now (lent_in q.families.now) (g.C.Costs.at q.costs.now) in
-    let many = families.many in
-    let long = leaf.numbers.each_comb ∙ many in
-    let combs : List (Family × ℤ) = multiplied (good_in families) ms in
-    let agree = λ (i j : ℕ). case_weight w p.cases.now.scale families.crossed.items ps ms (lent_in families) case cost i j many long
-    (c.of-combed.ensures.weights i j) in
-    record {
-      is_case = subst (λ (n : ℕ). IsOpenCase n leaf.at.now.case.now) (sym c.of-combed.ensures.nodes) leaf.at.now.is_case;
-      both = leaf.at.now.direction ∙ c.requires.undirected;
-      once = few_changes case (subst (λ (d : Bool). DecideOnce d case) c.requires.undirected leaf.at.now.once);
-      some = omega (arith, c.of-combed.ensures.nodes, p.some);
-      are_kept = subst (λ (d : Bool). AreRowsIfAny (g.C.Costs.nodes q.costs.now) (g.C.Costs.at q.costs.now) (kept_weight q.scale (lent_in q.families.now)
-          (g.C.Costs.at q.costs.now) (marks_in d case) q.multipliers.now) leaf.kept.now) c.requires.undirected c.of-combed.ensures.kept;
-      even = λ i j. agree i j ∙ leaf_even p.cases.now.scale ps (on_taken decided_number case) (on_avoided decided_number case) combs cost (p.even c.requires.undirected) i j ∙ sym (agree j i);
-    }
+    taken_few (decisions_in leaf.case.now) c.deref.result.now (2 ^ 33) (ap stack_of c.deref.ensures.value ∙ leaf.is_case.by_node.taken) leaf.few
 
 pub invariant_of-sum : goal.invariant_of-sum
 invariant_of-sum g c =
-    let cases = c.args.self.now.at.now.setting.now.cases.now in
+    let cases = c.args.self.now.setting.now.cases.now in
     let taken = c.taken_back-taken.ensures.size in
     let less = c.given_back.ensures.size in
     record {
@@ -69,32 +43,29 @@ invariant_of-sum g c =
 pub returns-clause-bound : goal.returns-clause-bound
 returns-clause-bound g c =
     let leaf = c.args.self.now in
-    let p = leaf.at.now.setting.now in
+    let p = leaf.setting.now in
     let n : ℕ = g.C.Costs.nodes p.costs.now in
     let cost = g.C.Costs.at p.costs.now in
     let families = p.families.now in
     let ps : List ℤ = leaf.potentials.now in
     let ms : List ℤ = leaf.multipliers.now in
-    let case : List Decision = decisions_in leaf.at.now.case.now in
-    let q = c.of-combed.result in
-    let w : ℕ → ℕ → ℤ = set_weight q.scale q.potentials.now q.multipliers.now (lent_in q.families.now) (g.C.Costs.at q.costs.now) in
+    let case : List Decision = decisions_in leaf.case.now in
+    let w : ℕ → ℕ → ℤ = set_weight p.cases.now.scale ps ms (lent_in families) cost in
     let many = families.many in
     let long = leaf.numbers.each_comb ∙ many in
     let combs : List (Family × ℤ) = multiplied (good_in families) ms in
     let agree = λ (i j : ℕ). case_weight w p.cases.now.scale families.crossed.items ps ms (lent_in families) case cost i j many long
-    (c.of-combed.ensures.weights i j) in
-    let k : ℕ = g.C.Costs.nodes q.costs.now in
+    refl in
     let v : ℕ → ℕ → ℤ = decided case w in
     let taken : ℤ = c.taken_back-taken.result in
     let less : ℤ = c.given_back.result in
     let back : ℤ = to_z w128 (of_z w128 (to_z w128 (of_z w128 taken) +ℤ to_z w128 (of_z w128 less))) in
     let sum_is : back ≡ taken +ℤ less = back_held taken less c.taken_back-taken.ensures.size c.given_back.ensures.size in
     let least = c.given_back.ensures.value in
-    let taken_is = c.taken_back-taken.ensures.value ∙ taken_listed case c.deref.result.now (ap stack_of c.deref.ensures.value ∙ leaf.at.now.is_case.by_node.taken) in
+    let taken_is = c.taken_back-taken.ensures.value ∙ taken_listed case c.deref.result.now (ap stack_of c.deref.ensures.value ∙ leaf.is_case.by_node.taken) in
     let back_is : back ≡ given_back_of ps (on_taken decided_number case) combs = sum_is ∙ back_of taken less _ _ _ taken_is least in
-    IfOk-weaker c.decided_bound.result _ _
+    IfOk-weaker c.bound_of_trees.result _ _
     (λ (bound : ℤ) bounds.
-    let whole : BoundsEachLeaf k v p.cases.now.scale back bound = subst (λ (z : ℤ). BoundsEachLeaf k v z back bound) (same_scale p.cases.now.scale p.cases.now.scaled) bounds in
-    let own = whole cost ps (on_taken decided_number case) (on_avoided decided_number case) combs agree back_is in
-    subst (λ (m : ℕ). IsLeafBound m cost p.cases.now.scale ps (on_taken decided_number case) (on_avoided decided_number case) combs bound) c.of-combed.ensures.nodes own)
-    c.decided_bound.ensures.leaf
+    let whole : BoundsEachLeaf n v p.cases.now.scale back bound = subst (λ (z : ℤ). BoundsEachLeaf n v z back bound) (same_scale p.cases.now.scale p.cases.now.scaled) bounds in
+    whole cost ps (on_taken decided_number case) (on_avoided decided_number case) combs agree back_is)
+    c.bound_of_trees.ensures.leaf

@@ -1,4 +1,4 @@
--- The goals of `CombedWeights::are_exact` in src/combed.rt: its loop and what its calls require.
+-- The goals of `CaseLeaf::are_exact` in src/leaf_rows.rt: its loop and what its calls require.
 use Rattle.std.proofs.Common.{◌≡◌, ◌∙◌, ◌-◌, ℕ, ℤ, List, inl, inr, ap, sym, subst, arith, rules, FitsSigned}
 use Rattle.std.specs.Int.{w64, int_wrap}
 use Rattle.std.specs.Prelude.{pos, neg_ℤ, ◌+ℤ◌}
@@ -16,17 +16,27 @@ use Rattle.tsp_cases.specs.states.Combed.{multipliers_at}
 use Rattle.tsp_branch.specs.states.Shared.{sum_at_places}
 use Rattle.tsp_cases.proofs.Changes.{within}
 use Rattle.tsp_cases.proofs.SetAlgebra.{places_inside}
+use Rattle.tsp_cases.proofs.CaseWeights.{small_multipliers}
 use Rattle.tsp_branch.proofs.SharedSets.{number_is}
-use Rattle.tsp_branch.proofs.combed.CombedWeights.are_exact.Goals as goal
+use Rattle.tsp_branch.proofs.case_leaf.CaseLeaf.are_exact.Goals as goal
+
+pub invariant_of-multipliers : goal.invariant_of-multipliers
+invariant_of-multipliers g c =
+    let leaf = c.args.self.now in
+    let families = leaf.setting.now.families.now in
+    record {
+      as_many = leaf.numbers.each_comb ∙ families.as_many;
+      small = small_multipliers _ families.crossed.items _ _ families.some leaf.numbers;
+    }
 
 pub are_few-requires : goal.are_few-requires
 are_few-requires g c = λ k d lt.
     let q = c.args.self.now in
-    let families : List (List (List ℕ)) = lent_in q.families.now in
-    let node_in : IsNode (g.C.Costs.nodes q.costs.now) c.nodes.node = (omega (arith, c.nodes.auto.node), omega (arith, c.nodes-test.true, c.count-node-end.ensures.value)) in
-    let places_are : c.deref.result.now ≡ places_with 0 families c.nodes.node = c.deref.ensures.value ∙ q.table.said c.nodes.node c.index-self-node.result node_in.1 in
+    let families : List (List (List ℕ)) = lent_in q.setting.now.families.now in
+    let node_in : IsNode (g.C.Costs.nodes q.setting.now.costs.now) c.nodes.node = (omega (arith, c.nodes.auto.node), omega (arith, c.nodes-test.true, c.count-node-end.ensures.value)) in
+    let places_are : c.deref.result.now ≡ places_with 0 families c.nodes.node = c.deref.ensures.value ∙ q.setting.now.table.said c.nodes.node c.index-self-node.result node_in.1 in
     let own = (subst (All (IsPlaceIn families)) (sym places_are) (places_inside families c.nodes.node)) k d lt in
-    omega (arith, own.0, q.as_many, q.families.now.many, q.families.now.as_many)
+    omega (arith, own.0, (q.numbers.each_comb ∙ q.setting.now.families.now.as_many), q.setting.now.families.now.many, q.setting.now.families.now.as_many)
 
 -- plan: of the node itself the sum is small, so that what is left in 64 bits is the whole number
 pub nodes-preserved : goal.nodes-preserved
@@ -34,14 +44,14 @@ nodes-preserved g c = λ x low below. elim (cases_eq x c.nodes.node) [
   | inl same ↦
       let q = c.args.self.now in
       let node = c.nodes.node in
-      let families : List (List (List ℕ)) = lent_in q.families.now in
-      let node_in : IsNode (g.C.Costs.nodes q.costs.now) c.nodes.node = (omega (arith, c.nodes.auto.node), omega (arith, c.nodes-test.true, c.count-node-end.ensures.value)) in
-      let places_are : c.deref.result.now ≡ places_with 0 families node = c.deref.ensures.value ∙ q.table.said node c.index-self-node.result node_in.1 in
+      let families : List (List (List ℕ)) = lent_in q.setting.now.families.now in
+      let node_in : IsNode (g.C.Costs.nodes q.setting.now.costs.now) c.nodes.node = (omega (arith, c.nodes.auto.node), omega (arith, c.nodes-test.true, c.count-node-end.ensures.value)) in
+      let places_are : c.deref.result.now ≡ places_with 0 families node = c.deref.ensures.value ∙ q.setting.now.table.said node c.index-self-node.result node_in.1 in
       let taken : ℤ = multipliers_at q.multipliers.now families node in
       let few : IsFromTo (pos 0) (pos 3000000000000000000) taken =
       subst (λ (z : ℤ). IsFromTo (pos 0) (pos 3000000000000000000) z) (ap (sum_at_places q.multipliers.now) places_are ∙ number_is q.multipliers.now families node)
       (c.are_few.ensures c.if-not-are_few.false) in
-      let potential = q.potentials_are (node - 1) (pos 0) (omega (arith, node_in, q.long)) in
+      let potential = q.numbers.potentials_are (node - 1) (pos 0) (omega (arith, node_in, q.numbers.each_node)) in
       let whole : ℤ = entry q.potentials.now node +ℤ neg_ℤ taken in
       let whole_fits : FitsSigned w64 whole = within whole (omega (arith, ints, few.0, few.1, potential.0, potential.1), omega (arith, ints, few.0, few.1, potential.0, potential.1)) in
       let fits : FitsSigned w64 c.weight_in.result = search rules in

@@ -1,4 +1,4 @@
--- The goals of `CombedWeights::fill_apart_at` in src/combed.rt: its loop.
+-- The goals of `CaseLeaf::fill_apart_at` in src/leaf_rows.rt: its loop.
 use Rattle.std.proofs.Common.{◌≡◌, ◌∙◌, ◌<◌, ℕ, ℤ, List, length, slice_index, inl, inr, ap, sym, subst, arith, rules, FitsSigned, to_z, of_z}
 use Rattle.std.specs.Int.{w64}
 use Rattle.std.specs.Prelude.{pos}
@@ -9,7 +9,7 @@ use Rattle.std.proofs.lemmas.List.{get_or-set_same, get_or-set_other}
 use Rattle.tsp_theory.specs.states.Nearest.{least_at}
 use Rattle.tsp_cases.specs.states.Lent.{lent_in}
 use Rattle.tsp_cases.specs.states.Combed.{IsApart}
-use Rattle.tsp_branch.proofs.combed.CombedWeights.fill_apart_at.Goals as goal
+use Rattle.tsp_branch.proofs.case_leaf.CaseLeaf.fill_apart_at.Goals as goal
 
 pub places-preserved : goal.places-preserved
 places-preserved g c = λ k lt below.
@@ -21,7 +21,7 @@ places-preserved g c = λ k lt below.
     let fits : FitsSigned w64 c.weight_apart.result = search rules in
     let is : value ≡ c.weight_apart.result = to_z-of_z w64 c.weight_apart.result fits in
     let inside : node < length row = omega (arith, c.places.auto.row, c.requires.room, (c.requires.to c.places.place (omega (arith, c.places-test.true))).1) in
-    let Holds : ℕ → ℤ → Type 0 = IsApart p.scale p.potentials.now p.multipliers.now (lent_in p.families.now) (g.C.Costs.at p.costs.now) c.args.from in
+    let Holds : ℕ → ℤ → Type 0 = IsApart p.setting.now.cases.now.scale p.potentials.now p.multipliers.now (lent_in p.setting.now.families.now) (g.C.Costs.at p.setting.now.costs.now) c.args.from in
     elim (cases_eq (slice_index to k) node) [
       | inl same ↦
           let here : least_at (set row node value) node ≡ c.weight_apart.result = get_or-set_same row node value (pos 0) inside ∙ is in

@@ -1,4 +1,4 @@
--- The loop of `CombedWeights::are_exact` in src/combed.rt.
+-- The loop of `CaseLeaf::are_exact` in src/leaf_rows.rt.
 use Rattle.std.proofs.Common.{◌≡◌, ◌≤◌, ◌<◌, ℕ}
 use Rattle.std.specs.Prelude.{pos, neg_ℤ, ◌+ℤ◌}
 use Rattle.tsp_theory.specs.CertificateNumbers.{IsFromTo, entry}
@@ -6,9 +6,9 @@ use Rattle.tsp_theory.specs.states.Nearest.{least_at}
 use Rattle.tsp_bound.specs.states.NodeNumbers.{most_number}
 use Rattle.tsp_cases.specs.states.Lent.{lent_in}
 use Rattle.tsp_cases.specs.states.Combed.{multipliers_at}
-use Rattle.tsp_branch.proofs.combed.CombedWeights.are_exact.Given as goal
+use Rattle.tsp_branch.proofs.case_leaf.CaseLeaf.are_exact.Given as goal
 
 abbrev pub invariant-nodes : goal.invariant-nodes
 invariant-nodes g l = (x : ℕ) → 1 ≤ x → x < l.node
-    → (least_at l.self.moved.now x ≡ entry l.self.potentials.now x +ℤ neg_ℤ (multipliers_at l.self.multipliers.now (lent_in l.self.families.now) x))
+    → (least_at l.self.moved.now x ≡ entry l.self.potentials.now x +ℤ neg_ℤ (multipliers_at l.self.multipliers.now (lent_in l.self.setting.now.families.now) x))
     × IsFromTo (neg_ℤ (pos most_number)) (pos most_number) (least_at l.self.moved.now x)

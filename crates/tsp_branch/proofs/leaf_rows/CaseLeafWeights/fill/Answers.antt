@@ -1,0 +1,49 @@
+-- The goals of `CaseLeafWeights::fill` in src/leaf_rows.rt: what its calls require and what it ensures.
+use Rattle.std.proofs.Common.{◌≡◌, ◌∙◌, ℕ, ℤ, Bool, List, arith, subst}
+use Rattle.std.specs.List.{filter}
+use Rattle.std.proofs.lemmas.Int.{ints}
+use Rattle.tsp_theory.specs.states.Nearest.{least_at}
+use Rattle.tsp_cases.specs.states.Lent.{lent_in}
+use Rattle.tsp_cases.specs.states.Combed.{set_weight}
+use Rattle.tsp_cases.specs.declared.decision.Decision.{Decision}
+use Rattle.tsp_cases.specs.states.Decided.{stack_of}
+use Rattle.tsp_cases.specs.states.OpenCases.{bears_on, decisions_in}
+use Rattle.tsp_branch.proofs.OpenRows.{both_inside}
+use Rattle.tsp_branch.proofs.DecidedLeaves.{changed_is}
+use Rattle.tsp_branch.proofs.leaf_rows.CaseLeafWeights.fill.Goals as goal
+
+pub change_row-requires : goal.change_row-requires
+change_row-requires g c =
+    let p = c.args.self.now in
+    let n : ℕ = g.C.Costs.nodes p.setting.now.costs.now in
+    both_inside n _ (bears_on p.case.now.by_node.directed c.args.from) (decisions_in p.case.now) c.at.result.now (c.fill_combed.auto.row ∙ c.requires.room)
+    (c.at.ensures n p.is_case c.requires.from.1) p.is_case.pairs
+
+pub returns-then-not-is_empty : goal.returns-then-not-is_empty
+returns-then-not-is_empty g c = record {
+  values = c.fill_by_kept.ensures.values;
+  small = λ x h. let size = c.fill_by_kept.ensures.sizes x h in omega (arith, ints, size.1);
+}
+
+-- plan: each entry has moved by the decisions at its node (`changed_is`)
+pub returns-then-not-self-clause-values : goal.returns-then-not-self-clause-values
+returns-then-not-self-clause-values g c = λ x h.
+    let q = c.args.self.now in
+    let from : ℕ = c.args.from in
+    let case : List Decision = decisions_in q.case.now in
+    let w : ℕ → ℕ → ℤ = set_weight q.setting.now.cases.now.scale q.potentials.now q.multipliers.now (lent_in q.setting.now.families.now) (g.C.Costs.at q.setting.now.costs.now) in
+    let own_is = subst (λ (d : Bool). stack_of c.at.result.now ≡ filter (bears_on d from) case) (q.direction ∙ c.if-not-self.true)
+    (c.at.ensures (g.C.Costs.nodes q.setting.now.costs.now) q.is_case c.requires.from.1) in
+    (changed_is case w from x q.setting.now.cases.now.directed c.at.result.now (least_at c.fill_combed.new.row x) (least_at c.change_row.new.row x)
+    c.if-not-self.true q.once own_is (c.fill_combed.ensures.values x h) (c.fill_combed.ensures.sizes x h) (c.change_row.ensures x)).0
+
+pub returns-then-not-self-clause-small : goal.returns-then-not-self-clause-small
+returns-then-not-self-clause-small g c = λ x h.
+    let q = c.args.self.now in
+    let from : ℕ = c.args.from in
+    let case : List Decision = decisions_in q.case.now in
+    let w : ℕ → ℕ → ℤ = set_weight q.setting.now.cases.now.scale q.potentials.now q.multipliers.now (lent_in q.setting.now.families.now) (g.C.Costs.at q.setting.now.costs.now) in
+    let own_is = subst (λ (d : Bool). stack_of c.at.result.now ≡ filter (bears_on d from) case) (q.direction ∙ c.if-not-self.true)
+    (c.at.ensures (g.C.Costs.nodes q.setting.now.costs.now) q.is_case c.requires.from.1) in
+    (changed_is case w from x q.setting.now.cases.now.directed c.at.result.now (least_at c.fill_combed.new.row x) (least_at c.change_row.new.row x)
+    c.if-not-self.true q.once own_is (c.fill_combed.ensures.values x h) (c.fill_combed.ensures.sizes x h) (c.change_row.ensures x)).1

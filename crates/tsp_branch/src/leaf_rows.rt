@@ -1,0 +1,216 @@
+//! The weights of a leaf by rows.
+//!
+//! The nodes of a pair cross a set once for each of them that it has, less twice where it has both.
+//! So each multiplier is taken off the potentials of its sets' nodes, and a row needs besides these
+//! only the sets that hold its node.
+
+ghost use Rattle.std.specs.Prelude.{◌≡◌, true, pos, neg_ℤ};
+ghost use Rattle.tsp_bound.specs.states.NodeNumbers.{most_number};
+ghost use Rattle.tsp_theory.specs.CertificateNumbers.{IsFromTo};
+
+use crate::both_sets::are_few;
+use crate::case_leaf::CaseLeaf;
+use crate::decided::change_row;
+use crate::steps::suit_boxes;
+use tsp_cases::{
+    MultipliedFamilies, Multipliers, add_sets, fill_shifted, scale_row, shift_row, sum_left,
+};
+use tsp_theory::Costs;
+use tsp_tree::{Weights, weight_in};
+
+/// The most that a number of a node may be where boxes bound its weights.
+pub(crate) const MOST_NUMBER: i64 = 4_000_000_000_000_000_000;
+
+/// Whether a number is at most 4 * 10^18 in size.
+fn is_number(number: i64) -> bool
+    ensures { result ≡ true → IsFromTo (neg_ℤ (pos most_number)) (pos most_number) number }
+{
+    -MOST_NUMBER <= number && number <= MOST_NUMBER
+}
+
+impl<C: Costs> CaseLeaf<'_, C> {
+    ghost use Rattle.std.specs.Prelude.{◌≡◌, ◌<◌, ◌≤◌, ◌+◌, ◌+ℤ◌, ℕ, length, slice_index, pos, neg_ℤ};
+    ghost use Rattle.tsp_format.specs.Nodes.{IsNode};
+    ghost use Rattle.tsp_theory.specs.CertificateNumbers.{IsFromTo, IsScale, ArePotentials};
+    ghost use Rattle.tsp_theory.specs.states.Nearest.{least_at};
+    ghost use Rattle.tsp_theory.specs.NodeBound.{weight_between, most_between};
+    ghost use Rattle.tsp_cases.specs.states.Sets.{IsMoved};
+    ghost use Rattle.tsp_cases.specs.states.Lent.{lent_in};
+    ghost use Rattle.tsp_cases.specs.states.Combed.{AreSmallMultipliers, multipliers_at, AreFewCrossings, IsApart, most_combed, set_weight};
+    ghost use Rattle.tsp_cases.specs.states.Decided.{most_decided};
+    ghost use Rattle.tsp_cases.specs.states.OpenCases.{decisions_in};
+    ghost use Rattle.tsp_branch.specs.states.Shared.{AreExact, decided_by};
+    ghost use Rattle.std.specs.Prelude.{true};
+
+    /// Whether boxes seem to take no more time than rows that aren't kept.
+    pub(crate) fn suit_boxes(&self) -> bool {
+        suit_boxes(self.setting.by_node, self.setting.families.lent)
+    }
+
+    /// Whether each node's potential less the multipliers of its sets is at most 4 * 10^18 in size.
+    pub(crate) fn are_exact(&self) -> bool
+        ensures { result ≡ true → AreExact (C.nodes self.now.setting.now.costs.now) self.now.potentials.now self.now.multipliers.now
+            (lent_in self.now.setting.now.families.now) self.now.moved.now }
+    {
+        let multipliers = Multipliers {
+            families: self.setting.families,
+            numbers: self.multipliers,
+        };
+        'nodes: for node in 1..self.setting.costs.count() + 1 {
+            if !are_few(&multipliers, &self.setting.by_node[node as usize])
+                || !is_number(weight_in(self.moved, node))
+            {
+                return false;
+            }
+        }
+        true
+    }
+
+    /// A row of these as if no set had two nodes; and how large the weights between the node and
+    /// others are without combs.
+    fn fill_apart(&self, from: u32, row: &mut [i64])
+        requires from { IsNode (C.nodes self.now.setting.now.costs.now) from }
+        requires room { length row.old ≡ C.nodes self.now.setting.now.costs.now + 1 }
+        ensures values { (x : ℕ) → IsNode (C.nodes self.now.setting.now.costs.now) x
+            → IsMoved (neg_ℤ (multipliers_at self.now.multipliers.now (lent_in self.now.setting.now.families.now) from)
+            +ℤ neg_ℤ (multipliers_at self.now.multipliers.now (lent_in self.now.setting.now.families.now) x))
+            (weight_between self.now.setting.now.cases.now.scale self.now.potentials.now (C.at self.now.setting.now.costs.now) from x)
+            (least_at row.new x) }
+        ensures sizes { (x : ℕ) → IsNode (C.nodes self.now.setting.now.costs.now) x
+            → IsFromTo (neg_ℤ (pos most_between)) (pos most_between)
+            (weight_between self.now.setting.now.cases.now.scale self.now.potentials.now (C.at self.now.setting.now.costs.now) from x) }
+    {
+        self.setting.costs.costs_from(from, row);
+        scale_row(row, self.setting.cases.scale);
+        shift_row(row, self.moved, weight_in(self.moved, from));
+    }
+
+    /// What is left in 64 bits of a weight from a node as if no set had two nodes, where the caller
+    /// passes what is left of the node's potential; and how large the weight is without combs.
+    #[inline]
+    fn weight_apart(&self, own: i64, from: u32, to: u32) -> i64
+        requires own { own ≡ least_at self.now.moved.now from }
+        requires from { IsNode (C.nodes self.now.setting.now.costs.now) from }
+        requires to { IsNode (C.nodes self.now.setting.now.costs.now) to }
+        ensures value { IsMoved (neg_ℤ (multipliers_at self.now.multipliers.now (lent_in self.now.setting.now.families.now) from)
+            +ℤ neg_ℤ (multipliers_at self.now.multipliers.now (lent_in self.now.setting.now.families.now) to))
+            (weight_between self.now.setting.now.cases.now.scale self.now.potentials.now (C.at self.now.setting.now.costs.now) from to) result }
+        ensures size { IsFromTo (neg_ℤ (pos most_between)) (pos most_between)
+            (weight_between self.now.setting.now.cases.now.scale self.now.potentials.now (C.at self.now.setting.now.costs.now) from to) }
+    {
+        sum_left(
+            self.setting.cases.scale * self.setting.costs.cost(from, to),
+            sum_left(own, weight_in(self.moved, to)),
+        )
+    }
+
+    /// The same as `fill_apart` at some nodes.
+    fn fill_apart_at(&self, from: u32, to: &[u32], row: &mut [i64])
+        requires from { IsNode (C.nodes self.now.setting.now.costs.now) from }
+        requires to { (k : ℕ) → k < length to.now → IsNode (C.nodes self.now.setting.now.costs.now) (slice_index to.now k) }
+        requires room { length row.old ≡ C.nodes self.now.setting.now.costs.now + 1 }
+        ensures { (k : ℕ) → k < length to.now → IsApart self.now.setting.now.cases.now.scale self.now.potentials.now self.now.multipliers.now
+            (lent_in self.now.setting.now.families.now) (C.at self.now.setting.now.costs.now) from (slice_index to.now k)
+            (least_at row.new (slice_index to.now k)) }
+    {
+        let own = weight_in(self.moved, from);
+        'places: for place in 0..to.len() {
+            let node = to[place];
+            row[node as usize] = self.weight_apart(own, from, node);
+        }
+    }
+
+    /// Writes a row as `fill_at` does, of weights that are at most 2 * 10^18 in size.
+    pub(crate) fn fill_combed_at(&self, from: u32, to: &[u32], row: &mut [i64])
+        requires from { IsNode (C.nodes self.now.setting.now.costs.now) from }
+        requires to { (k : ℕ) → k < length to.now → IsNode (C.nodes self.now.setting.now.costs.now) (slice_index to.now k) }
+        requires room { length row.old ≡ C.nodes self.now.setting.now.costs.now + 1 }
+        ensures values { (k : ℕ) → k < length to.now → least_at row.new (slice_index to.now k)
+            ≡ set_weight self.now.setting.now.cases.now.scale self.now.potentials.now self.now.multipliers.now
+            (lent_in self.now.setting.now.families.now) (C.at self.now.setting.now.costs.now) from (slice_index to.now k) }
+        ensures sizes { (k : ℕ) → k < length to.now
+            → IsFromTo (neg_ℤ (pos most_combed)) (pos most_combed) (least_at row.new (slice_index to.now k)) }
+    {
+        self.fill_apart_at(from, to, row);
+        let multiplied = MultipliedFamilies {
+            families: self.setting.families,
+            numbers: self.multipliers,
+        };
+        add_sets(row, &self.setting.by_node[from as usize], &multiplied);
+    }
+
+    /// Writes a row as `fill` does, of weights that are at most 2 * 10^18 in size.
+    pub(crate) fn fill_combed(&self, from: u32, row: &mut [i64])
+        requires from { IsNode (C.nodes self.now.setting.now.costs.now) from }
+        requires room { length row.old ≡ C.nodes self.now.setting.now.costs.now + 1 }
+        ensures values { (x : ℕ) → IsNode (C.nodes self.now.setting.now.costs.now) x → least_at row.new x
+            ≡ set_weight self.now.setting.now.cases.now.scale self.now.potentials.now self.now.multipliers.now
+            (lent_in self.now.setting.now.families.now) (C.at self.now.setting.now.costs.now) from x }
+        ensures sizes { (x : ℕ) → IsNode (C.nodes self.now.setting.now.costs.now) x
+            → IsFromTo (neg_ℤ (pos most_combed)) (pos most_combed) (least_at row.new x) }
+    {
+        self.fill_apart(from, row);
+        let multiplied = MultipliedFamilies {
+            families: self.setting.families,
+            numbers: self.multipliers,
+        };
+        add_sets(row, &self.setting.by_node[from as usize], &multiplied);
+    }
+
+    /// A row of these by the one that is kept.
+    fn fill_by_kept(&self, from: u32, row: &mut [i64])
+        requires kept { 1 ≤ length self.now.kept.now }
+        requires from { IsNode (C.nodes self.now.setting.now.costs.now) from }
+        requires room { length row.old ≡ C.nodes self.now.setting.now.costs.now + 1 }
+        ensures values { (x : ℕ) → IsNode (C.nodes self.now.setting.now.costs.now) x → least_at row.new x
+            ≡ decided_by self.now.setting.now.cases.now.directed (decisions_in self.now.case.now)
+            (set_weight self.now.setting.now.cases.now.scale self.now.potentials.now self.now.multipliers.now
+            (lent_in self.now.setting.now.families.now) (C.at self.now.setting.now.costs.now)) from x }
+        ensures sizes { (x : ℕ) → IsNode (C.nodes self.now.setting.now.costs.now) x
+            → IsFromTo (neg_ℤ (pos most_decided)) (pos most_decided) (least_at row.new x) }
+    {
+        let own = weight_in(self.moved, from);
+        fill_shifted(row, &self.kept[from as usize - 1], self.moved, own);
+    }
+}
+
+impl<C: Costs> Weights for CaseLeaf<'_, C> {
+    ghost use Rattle.tsp_cases.specs.states.Lent.{lent_in};
+    ghost use Rattle.tsp_cases.specs.states.Combed.{set_weight};
+    ghost use Rattle.tsp_cases.specs.states.OpenCases.{decisions_in};
+    ghost use Rattle.tsp_branch.specs.states.Shared.{decided_by};
+
+    ghost nodes = { λ leaf. C.nodes leaf.setting.now.costs.now };
+
+    ghost at = { λ leaf. decided_by leaf.setting.now.cases.now.directed (decisions_in leaf.case.now)
+        (set_weight leaf.setting.now.cases.now.scale leaf.potentials.now leaf.multipliers.now
+        (lent_in leaf.setting.now.families.now) (C.at leaf.setting.now.costs.now)) };
+
+    #[inline]
+    fn count(&self) -> u32 {
+        self.setting.costs.count()
+    }
+
+    fn fill(&self, from: u32, row: &mut [i64]) {
+        if !self.kept.is_empty() {
+            self.fill_by_kept(from, row);
+            return;
+        }
+        self.fill_combed(from, row);
+        if !self.setting.cases.directed {
+            change_row(row, self.case.at(from), from);
+        }
+    }
+
+    fn fill_at(&self, from: u32, to: &[u32], row: &mut [i64]) {
+        if !self.kept.is_empty() {
+            // A whole row in order takes less time than half of it by node.
+            self.fill_by_kept(from, row);
+            return;
+        }
+        self.fill_combed_at(from, to, row);
+        if !self.setting.cases.directed {
+            change_row(row, self.case.at(from), from);
+        }
+    }
+}
