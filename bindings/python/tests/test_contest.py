@@ -96,6 +96,11 @@ class Contests(unittest.TestCase):
         self.assertEqual(lines[10].split(), ["shortest", "2", "1", "0"])
         self.assertEqual(lines[11].split(), ["mean", "rank", "1.33", "2.00", "3.00"])
 
+    def test_what_is_not_judged(self):
+        path = self.top / "instances/rectangle.tsp"
+        path.write_text(path.read_text().replace("NODE_COORD", "DISTANCE : 5\nNODE_COORD"))
+        self.assertIn("\nnot judged of rectangle: DISTANCE\n", str(self.table()))
+
     def test_other_forms(self):
         found = self.table()
         rows = list(csv.DictReader(io.StringIO(found.to_csv())))

@@ -213,8 +213,11 @@ class Table:
         return f"{row['length']}" + ("" if over is None else f" {over:+.2f} %") + ("*" if row["verdict"] == "optimal" else "")
 
     def _above(self) -> List[str]:
-        """What is said above the table: each that isn't accepted, with its reason, and each unused file."""
+        """What is said above the table: each that isn't accepted, with its reason, what isn't judged of an instance, and each
+        unused file."""
         told = [f"not accepted: {instance}, {solver}: {why}" for instance, solver, why in self.rejected()]
+        bases = ((instance, found.basis) for instance, found in self._found.items())
+        told += [f"not judged of {instance}: {', '.join(it.not_judged)}" for instance, it in bases if it and it.not_judged]
         return told + [f"of no instance: {path}" for path in self.unused]
 
     def __str__(self) -> str:
