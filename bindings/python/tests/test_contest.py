@@ -67,10 +67,10 @@ class Contests(unittest.TestCase):
         self.assertEqual((rows["rectangle", "cat"]["verdict"], rows["rectangle", "cat"]["rank"]), ("no", 3))
         self.assertEqual((rows["dairy", "cat"]["verdict"], rows["dairy", "cat"]["length"]), ("missing", None))
         # the file's own claim is 230
-        self.assertEqual((rows["dairy", "ant"]["verdict"], rows["dairy", "ant"]["detail"]), ("no", "LengthClaimed 231"))
+        self.assertEqual((rows["dairy", "ant"]["verdict"], rows["dairy", "ant"]["detail"]), ("no", "LengthClaimed 231: it claims 230"))
         self.assertEqual(self.table(claims=False).length("dairy", "ant"), 231)
         self.assertEqual(found.rejected(), [
-            ("dairy", "ant", "LengthClaimed 231"), ("dairy", "cat", "missing"), ("harbour", "cat", "missing"),
+            ("dairy", "ant", "LengthClaimed 231: it claims 230"), ("dairy", "cat", "missing"), ("harbour", "cat", "missing"),
             ("rectangle", "cat", "RepeatedNode 3"),
         ])
         self.assertEqual(found["dairy", "bee"].length, 231)
@@ -87,7 +87,7 @@ class Contests(unittest.TestCase):
     def test_text(self):
         lines = str(self.table()).splitlines()
         self.assertEqual(lines[:4], [
-            "not accepted: dairy, ant: LengthClaimed 231", "not accepted: dairy, cat: missing",
+            "not accepted: dairy, ant: LengthClaimed 231: it claims 230", "not accepted: dairy, cat: missing",
             "not accepted: harbour, cat: missing", "not accepted: rectangle, cat: RepeatedNode 3",
         ])
         self.assertEqual(lines[4], f"of no instance: {self.top / 'cat/other.tour'}")
@@ -107,7 +107,7 @@ class Contests(unittest.TestCase):
         self.assertEqual((len(rows), rows[3]["solver"], rows[3]["length"], rows[3]["best_percent"]), (9, "ant", "226", "0.0000"))
         latex = found.to_latex()
         self.assertIn("\\begin{tabular}{lrrrrr}\n\\hline\ninstance & best & bound & bee & ant & cat \\\\", latex)
-        self.assertIn("% not accepted: dairy, ant: LengthClaimed 231\n", latex)
+        self.assertIn("% not accepted: dairy, ant: LengthClaimed 231: it claims 230\n", latex)
         self.assertIn("226 +0.00 \\%*", latex)
         text = found.to_html()
         self.assertEqual((text.count("<li>"), text.count("<tr>"), text.count("<th>")), (5, 9, 6))

@@ -86,7 +86,7 @@ class Published(unittest.TestCase):
             yokecairn.verify(self.folder)
 
     def test_what_is_not_published(self):
-        with self.assertRaisesRegex(ValueError, "nothing is published: no LengthClaimed 226"):
+        with self.assertRaisesRegex(ValueError, "nothing is published: no LengthClaimed 226: it claims 225"):
             yokecairn.publish(self.folder, EXAMPLES / "harbour.tsp", EXAMPLES / "harbour.tour", length=225)
         self.assertFalse(self.folder.exists())
         self.publish()
@@ -103,7 +103,7 @@ class Published(unittest.TestCase):
         self.assertEqual(run("verify", self.folder / "none")[0], 5)
         self.assertEqual(run(*words)[0], 2)
         status, out, err = run("publish", self.folder / "x", EXAMPLES / "harbour.tsp", EXAMPLES / "harbour.tour", "--length", "1")
-        self.assertEqual((status, out, err), (1, b"", b"nothing is published: no LengthClaimed 226\n"))
+        self.assertEqual((status, out, err), (1, b"", b"nothing is published: no LengthClaimed 226: it claims 1\n"))
 
 
 if __name__ == "__main__":

@@ -405,7 +405,7 @@ class Comparison(Sequence[Outcome]):
             row["best_percent"] = outcome.percent_over(self.best)
         if outcome.yes:
             return {**row, "verdict": "optimal" if outcome.optimal else "yes"}
-        return {**row, "verdict": "no", "detail": _words(outcome.reason, *outcome.numbers)}
+        return {**row, "verdict": "no", "detail": outcome.detail}
 
     def as_dict(self) -> Dict[str, Any]:
         """All of it as numbers, texts and lists that `json.dumps` takes."""

@@ -158,7 +158,7 @@ class Table:
         if not isinstance(outcome, Report):
             return {**row, "verdict": "unread" if isinstance(outcome, OSError) else "fault", "detail": said_of(outcome)}
         if not outcome.yes:
-            return {**row, "verdict": "no", "detail": " ".join(map(str, (outcome.reason, *outcome.numbers)))}
+            return {**row, "verdict": "no", "detail": outcome.detail}
         row.update(length=outcome.length, gap=outcome.gap, gap_percent=outcome.gap_percent, routes=outcome.routes)
         row["best_percent"] = None if best is None else outcome.percent_over(best)
         return {**row, "verdict": "optimal" if outcome.optimal else "yes"}

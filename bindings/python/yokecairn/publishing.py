@@ -132,7 +132,7 @@ def publish(
     sources = {role: _Path(path) for role, path in given.items() if path is not None}
     report = check(instance, solution, potentials, branches, length, explain=True, foreign=None, claims=claims)
     if not report.yes:
-        raise ValueError(f"nothing is published: {' '.join(map(str, ('no', report.reason, *report.numbers)))}")
+        raise ValueError(f"nothing is published: no {report.detail}")
     top = _Path(folder)
     if top.exists() and (not top.is_dir() or any(top.iterdir())):
         raise ValueError(f"the folder isn't empty: {top}")
@@ -231,7 +231,7 @@ def _of_library(top: _Path, names: Dict[str, str], report: str) -> Step:
     except Error as fault:
         return Step(_by(), False, str(fault).splitlines()[0])
     if not found.yes:
-        return Step(_by(), False, " ".join(map(str, ("no", found.reason, *found.numbers))))
+        return Step(_by(), False, f"no {found.detail}")
     if found.text != report:
         return Step(_by(), False, f"its report isn't the one in {REPORT}")
     return Step(_by(), True, _claims(found))

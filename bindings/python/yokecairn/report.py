@@ -53,6 +53,7 @@ class Report:
         rounded: whether every distance along an accepted solution is 0 or 1, though its points differ.
             TSPLIB rounds distances to whole numbers, so of points in a unit square such a report says
             little: multiply the coordinates, as `Problem.from_points` does by `scale`.
+        claimed: the length that was claimed: by `length`, or by the file of the solution itself.
 
     Each is None where the report doesn't have it.
     """
@@ -73,6 +74,7 @@ class Report:
     text: str
     explanation: str = ""
     rounded: bool = False
+    claimed: Optional[int] = dataclasses.field(default=None, compare=False)
 
     def __bool__(self) -> bool:
         return self.yes
@@ -135,7 +137,9 @@ class Report:
         return _DOWN.divide(least, halves), _UP.divide(most, halves)
 
     @classmethod
-    def of_result(cls, result: _library.Result, text: str, explanation: str = "") -> "Report":
+    def of_result(
+        cls, result: _library.Result, text: str, explanation: str = "", claimed: Optional[int] = None
+    ) -> "Report":
         """The report of a result in numbers, whose text this is."""
         reason, numbers = REASONS[result.reason - 1] if result.reason else (None, 0)
         is_routes = result.verdict == _library.ROUTES
@@ -157,7 +161,16 @@ class Report:
             numbers=(result.first, result.second)[:numbers],
             text=text,
             explanation=explanation,
+            claimed=claimed,
         )
+
+    @property
+    def detail(self) -> str:
+        """The reason with its numbers, and of `LengthClaimed` the length that was claimed; empty without a reason."""
+        if self.reason is None:
+            return ""
+        claim = f": it claims {self.claimed}" if self.reason == "LengthClaimed" and self.claimed is not None else ""
+        return " ".join(map(str, (self.reason, *self.numbers))) + claim
 
 
 def _not_judged(lines: Sequence[str]) -> Tuple[str, ...]:
@@ -292,7 +305,7 @@ def report_of(
 
     if status not in (_library.DONE, _library.NO):
         raise error_of(status, told, more, paths, texts)
-    report = Report.of_result(result, text_of(told), more() if explain else "")
+    report = Report.of_result(result, text_of(told), more() if explain else "", length)
     # such a solution is at most as long as it has edges, so others aren't looked at again
     if report.yes and 0 <= (report.length or 0) <= report.nodes + (report.routes or 0):
         told_more = report.explanation or more()
