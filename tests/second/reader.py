@@ -249,7 +249,8 @@ class Combs(Section):
 
 
 class Tree(Section):
-    """The steps of a tree of cases: a branch is a pair, a leaf a list of pairs of index and difference."""
+    """The steps of a tree of cases: a branch is a pair of nodes or a family and its limit, a leaf a list of pairs of index
+    and difference."""
 
     def __init__(self, nodes: int) -> None:
         super().__init__(nodes)
@@ -282,7 +283,7 @@ class Tree(Section):
             self.steps[-1][1].append([index])
             self.inside = "index"
         else:
-            self.begin(whole(word, 0, self.nodes))
+            self.begin(whole(word, 0, self.nodes + 10_000))
 
     def begin(self, word: int) -> None:
         """A step begins with this word."""

@@ -65,8 +65,8 @@ class Problem:
         node_potentials, row_potentials, column_potentials: for each node a whole number.
         fixed_edge_potentials: a list of triples, two nodes and a number.
         combs: a list of combs, each a list of sets of nodes, its handle first.
-        branches: the steps of a tree. A branch is a pair of nodes, a leaf a list of pairs of an index and
-            a difference.
+        branches: the steps of a tree. A branch is a pair of nodes, or of the index of a family and a limit;
+            a leaf is a list of pairs of an index and a difference.
         others: the lines of unknown keywords, as pairs of the keyword and its value.
         claimed_length: the length that a solution claims of itself, as `read_solution` found it; a check takes it
             as `length`.

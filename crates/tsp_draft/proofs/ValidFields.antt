@@ -27,9 +27,9 @@ use Rattle.tsp_format.specs.Words.{fields_in_order, field_found}
 use Rattle.tsp_format.specs.declared.field.Shape.TheVariants.{Points, SpacePoints}
 use Rattle.tsp_format.specs.Steps.{Step, Branch, Leaf, are_whole, branch_count, change_count}
 use Rattle.tsp_draft.specs.Fields.{Fields, spatial}
-use Rattle.tsp_draft.specs.Validity.{if_there, is_from_to, is_within, is_node, with_dimension, is_by_node, is_third, is_point, is_demand, section_fits, are_depots, is_pair_of, are_fixed, is_triple_of, are_triples, fit_matrix, is_node_list, are_tours, is_set_of, are_sets, are_combs, is_change, is_step, are_tree_steps, fits, first_failing, bad_field}
+use Rattle.tsp_draft.specs.Validity.{if_there, is_from_to, is_within, is_node, with_dimension, is_by_node, is_third, is_point, is_demand, section_fits, are_depots, is_pair_of, are_fixed, is_triple_of, are_triples, fit_matrix, is_node_list, are_tours, is_set_of, are_sets, are_combs, is_change, is_branch_of, is_step, are_tree_steps, fits, first_failing, bad_field}
 use Rattle.tsp_draft.specs.Rules.{standing_of, count_of, is_instance, is_routing, is_tour_file, is_potentials_file, is_branches_file, is_explicit, is_function, has_explicit_weights, is_there, asked_in_order, has_wrong_format, is_count, has_wrong_count, has_row_or_column, has_node_or_multiplier, end_fault, format_or_count, fault_of}
-use Rattle.tsp_draft.specs.Valid.{IsFromTo, IsWithin, IsByNode, IsThird, IsPoint, IsDemand, IsPairOf, IsNodeList, AreDepots, AreFixed, IsTripleOf, AreTriples, AreWeights, AreTours, IsInRange, HasInstance, HasRouting, HasPotentials, IsSetOf, AreSets, AreCombs, IsChange, IsStep, AreTreeSteps, HasBranches}
+use Rattle.tsp_draft.specs.Valid.{IsFromTo, IsWithin, IsByNode, IsThird, IsPoint, IsDemand, IsPairOf, IsNodeList, AreDepots, AreFixed, IsTripleOf, AreTriples, AreWeights, AreTours, IsInRange, HasInstance, HasRouting, HasPotentials, IsSetOf, AreSets, AreCombs, IsChange, IsBranchOf, IsStep, AreTreeSteps, HasBranches}
 
 -- ---- tests that hold
 
@@ -254,8 +254,14 @@ change n entry e =
     let two = both (is_node (n + most_combs) entry.0) (is_within most_difference entry.1) e in
     (node (n + most_combs) entry.0 two.0, within most_difference entry.1 two.1)
 
+branch : (n : ℕ) (entry : ℕ × ℕ) → is_branch_of n entry ≡ true → IsBranchOf n entry
+branch n entry e =
+    let first = both (is_node (n + most_combs) entry.0 && is_node n entry.1) (not (entry.0 == entry.1)) e in
+    let nodes = both (is_node (n + most_combs) entry.0) (is_node n entry.1) first.0 in
+    (node (n + most_combs) entry.0 nodes.0, node n entry.1 nodes.1, λ same. grind (arith, nat_tests, first.1, same))
+
 step : (n : ℕ) (s : Step) → is_step n s ≡ true → IsStep n s
-step n (Branch first second) e = pair_of_nodes n (first, second) e
+step n (Branch first second) e = branch n (first, second) e
 step n (Leaf changes) e = all_so (is_change n) (IsChange n) (change n) changes e
 
 steps_in : (f : Fields) (steps : List Step) → fits f fields.BranchPart ≡ true → f.branches ≡ Some steps → AreTreeSteps f steps

@@ -94,9 +94,12 @@ pub record AreCombs (f : Fields) (combs : List (List (List ℕ))) : Type 0 where
 abbrev pub IsChange : ℕ → ℕ × ℤ → Type 0
 IsChange n change = IsNode (n + most_combs) change.0 × IsWithin most_difference change.1
 
--- a branch is on two different nodes
+-- a branch is on two different nodes, or on some comb and a limit of 1..n
+abbrev pub IsBranchOf : ℕ → ℕ × ℕ → Type 0
+IsBranchOf n branch = IsNode (n + most_combs) branch.0 × IsNode n branch.1 × (branch.0 ≢ branch.1)
+
 abbrev pub IsStep : ℕ → Step → Type 0
-IsStep n (Branch first second) = IsPairOf n (first, second)
+IsStep n (Branch first second) = IsBranchOf n (first, second)
 IsStep n (Leaf changes) = All (IsChange n) changes
 
 -- the steps of one whole tree

@@ -123,9 +123,12 @@ are_combs n combs = nat_le (length combs) most_combs && list_all (are_sets n) co
 abbrev pub is_change : ℕ → ℕ × ℤ → Bool
 is_change n change = is_node (n + most_combs) change.0 && is_within most_difference change.1
 
--- a branch is on two different nodes
+-- a branch is on two different nodes, or on some comb and a limit of 1..n
+abbrev pub is_branch_of : ℕ → ℕ × ℕ → Bool
+is_branch_of n branch = is_node (n + most_combs) branch.0 && is_node n branch.1 && not (branch.0 == branch.1)
+
 abbrev pub is_step : ℕ → Step → Bool
-is_step n (Branch first second) = is_pair_of n (first, second)
+is_step n (Branch first second) = is_branch_of n (first, second)
 is_step n (Leaf changes) = list_all (is_change n) changes
 
 -- the steps of one whole tree

@@ -1,15 +1,15 @@
 //! When a value of a field is valid on its own.
 
-ghost use Rattle.std.specs.Prelude.{◌≡◌, ◌-◌, ◌==◌, ◌||◌, not, ◌&&◌, cond, Some, None, length, slice_index, nat_le, map};
+ghost use Rattle.std.specs.Prelude.{◌≡◌, ◌+◌, ◌-◌, ◌==◌, ◌||◌, not, ◌&&◌, cond, Some, None, length, slice_index, nat_le, map};
 ghost use Rattle.std.specs.List.{list_all, sum_by};
 ghost use Rattle.tsp_format.specs.Words.{field_word};
 ghost use Rattle.tsp_format.specs.Bytes.{is_blank, is_keyword_byte};
-ghost use Rattle.tsp_format.specs.Limits.{most_coordinate, most_tour_nodes, most_comb_nodes, most_branches, most_changes};
+ghost use Rattle.tsp_format.specs.Limits.{most_coordinate, most_tour_nodes, most_combs, most_comb_nodes, most_branches, most_changes};
 ghost use Rattle.tsp_distance.specs.Distances.{on_plane};
 ghost use Rattle.tsp_format.specs.states.TreeSteps.{step_of, steps_of};
 ghost use Rattle.tsp_format.specs.Steps.{are_whole, branch_count, change_count};
 ghost use Rattle.tsp_draft.specs.states.Drafts.{points_of, combs_of};
-ghost use Rattle.tsp_draft.specs.Validity.{is_kept, is_unknown_keyword, is_other, is_within, is_node, is_third, is_point, are_depots, is_pair_of, are_fixed, is_triple_of, are_triples, fit_matrix, is_node_list, is_set_of, are_sets, are_combs, is_change, is_step, are_tree_steps};
+ghost use Rattle.tsp_draft.specs.Validity.{is_kept, is_unknown_keyword, is_other, is_within, is_node, is_third, is_point, are_depots, is_pair_of, are_fixed, is_triple_of, are_triples, fit_matrix, is_node_list, is_set_of, are_sets, are_combs, is_change, is_branch_of, is_step, are_tree_steps};
 
 use crate::coords::Coords;
 use crate::range::{are_from_to, is_from_to};
@@ -313,14 +313,19 @@ pub(crate) fn are_combs(n: u32, combs: &[Vec<Vec<u32>>]) -> bool
     combs.len() <= MOST_COMBS && is_each_comb(n, combs) && have_few_comb_nodes(combs)
 }
 
+/// Whether an index is that of a node or of some comb.
+fn is_index(n: u32, index: u32) -> bool
+    ensures { result ≡ is_node (n + most_combs) index }
+{
+    1 <= index && u64::from(index) <= u64::from(n) + MOST_COMBS as u64
+}
+
 /// Whether an index is that of a node or of some comb, and a difference is of a size of at most
 /// `MOST_DIFFERENCE`.
 fn is_change(n: u32, change: (u32, i64)) -> bool
     ensures { result ≡ is_change n change }
 {
-    1 <= change.0
-        && u64::from(change.0) <= u64::from(n) + MOST_COMBS as u64
-        && is_from_to(change.1, -MOST_DIFFERENCE, MOST_DIFFERENCE)
+    is_index(n, change.0) && is_from_to(change.1, -MOST_DIFFERENCE, MOST_DIFFERENCE)
 }
 
 /// Whether every difference is one.
@@ -330,12 +335,19 @@ fn are_changes(n: u32, changes: &[(u32, i64)]) -> bool
     changes.iter().all(|change| is_change(n, *change))
 }
 
-/// Whether a branch is on two different nodes of 1..n, or a leaf has differences.
+/// Whether a branch is on two different nodes of 1..n, or on some comb and a limit of 1..n.
+fn is_branch_of(n: u32, branch: (u32, u32)) -> bool
+    ensures { result ≡ is_branch_of n branch }
+{
+    is_index(n, branch.0) && is_node(n, branch.1) && branch.0 != branch.1
+}
+
+/// Whether a branch is on two different nodes or on some comb, or a leaf has differences.
 fn is_step(n: u32, step: &TreeStep) -> bool
     ensures { result ≡ is_step n (step_of step.now) }
 {
     match step {
-        TreeStep::Branch(first, second) => is_pair_of(n, (*first, *second)),
+        TreeStep::Branch(first, second) => is_branch_of(n, (*first, *second)),
         TreeStep::Leaf(changes) => are_changes(n, changes),
     }
 }
@@ -401,7 +413,7 @@ fn is_whole_tree(steps: &[TreeStep]) -> bool
     left == 0
 }
 
-/// Whether the steps are those of one whole tree of branches on two different nodes of 1..n, and of
+/// Whether the steps are those of one whole tree of branches on two nodes or on a comb, and of
 /// leaves, with at most `MOST_BRANCHES` branches and `MOST_CHANGES` differences.
 pub(crate) fn are_tree_steps(n: u32, steps: &[TreeStep]) -> bool
     ensures { result ≡ are_tree_steps n (steps_of steps.now) }

@@ -113,8 +113,10 @@ const COMB: &str =
 
 const BRANCH: &str =
     "BRANCH_SECTION has one tree. Two different nodes from 1 to DIMENSION are a branch, before the tree of the tours\n\
-    that use the pair and that of the tours that don't. 0 begins a leaf: pairs of an index from 1 to DIMENSION + 10,000\n\
-    and a whole difference from -2,000,000,000,000,000 to 2,000,000,000,000,000, and -1 at its end.\n\
+    that use the pair and that of the tours that don't. For routes it is DIMENSION + k, with k from 1 to 10,000, and t\n\
+    from 1 to DIMENSION, before the tree of those that cross family k at most 2 * t times and that of the others.\n\
+    0 begins a leaf: pairs of an index from 1 to DIMENSION + 10,000 and a whole difference from -2,000,000,000,000,000\n\
+    to 2,000,000,000,000,000, and -1 at its end.\n\
     There are at most 1,000,000 branches, and 10,000,000 differences.";
 
 /// Which files have to have a keyword or a section.

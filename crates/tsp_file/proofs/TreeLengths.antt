@@ -130,8 +130,8 @@ leaf_short n most changes all =
 branch_short : (n first second : ℕ) → n ≤ most_nodes → is_step n (Branch first second) ≡ true
     → length (step_line (Branch first second)) ≤ 14
 branch_short n first second most fits =
-    let parts = three_parts (is_node n first) (is_node n second) (not (first == second)) fits in
-    line_of_two_short (decimal first) (decimal second) (node_short n first most parts.0, node_short n second most parts.1)
+    let parts = three_parts (is_node (n + most_combs) first) (is_node n second) (not (first == second)) fits in
+    line_of_two_short (decimal first) (decimal second) (index_short n first most parts.0, node_short n second most parts.1)
 
 -- a tree has one leaf more than branches, so that the line of a leaf is paid for by a branch
 all_steps_short : (n : ℕ) → n ≤ most_nodes → (count : ℕ) (steps : List Step) → list_all (is_step n) steps ≡ true

@@ -99,7 +99,7 @@ comb_list combs = ended_by_mark (flat_map comb_lines combs)
 abbrev pub change_words : ℕ × ℤ → List (List ℕ)
 change_words change = decimal change.0 ∷ signed_decimal change.1 ∷ []
 
--- the pair of a branch; of a leaf 0, its differences and -1
+-- the two numbers of a branch; of a leaf 0, its differences and -1
 abbrev pub step_line : Step → List ℕ
 step_line (Branch first second) = number_line (decimal first) (decimal second ∷ [])
 step_line (Leaf changes) = ended_line (codes "0" ∷ flat_map change_words changes)

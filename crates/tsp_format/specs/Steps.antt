@@ -1,9 +1,9 @@
 -- The steps of a tree of cases, as lists. Trees of cases are this project's own: a branch divides the first open case by a pair
--- of nodes, and a leaf closes it by numbers.
+-- of nodes, or by how often a family of sets is crossed, and a leaf closes it by numbers.
 use Rattle.std.specs.Prelude.{ℕ, zero, suc, ◌+◌, Bool, true, false, List, [], ◌∷◌, length, ℤ}
 
 pub data Step : Type 0 where
-  -- a pair of nodes
+  -- a pair of nodes; or the index of a family, which comes after those of the nodes, and half of a number of crossings
   Branch : (first second : ℕ) → Step
   -- each number that changes since the leaf before: its index, and its difference
   Leaf : (changes : List (ℕ × ℤ)) → Step

@@ -10,8 +10,8 @@ use Rattle.std.proofs.lemmas.Bool.{true≢false, and_parts, lt-leb, eq-eqb, or_r
 use Rattle.std.proofs.lemmas.Bool.Decides.{Decides-int_eq}
 use Rattle.std.proofs.lemmas.List.{length_push}
 use Rattle.tsp_number.specs.declared.fault.NumberFault.{NumberFault}
-use Rattle.tsp_format.specs.Limits.{most_weight, most_depots, most_fixed}
-use Rattle.tsp_draft.specs.Validity.{is_within, is_node, is_pair_of}
+use Rattle.tsp_format.specs.Limits.{most_combs, most_weight, most_depots, most_fixed}
+use Rattle.tsp_draft.specs.Validity.{is_within, is_node, is_pair_of, is_branch_of}
 use Rattle.tsp_text.specs.declared.fault.LineFault.TheVariants as row
 use Rattle.tsp_text.specs.SectionNumbers.{number, node, node_or_end, is_end, whole_of_size, reads_as}
 use Rattle.tsp_text.specs.WordPlaces.{DepotAfter, FirstAfter, SecondOf, PastEnd, Weight, PastWeights}
@@ -114,6 +114,18 @@ are_pair n pair fits =
     let parts = and_parts (is_node n pair.0 && is_node n pair.1) (not (pair.0 == pair.1)) fits in
     let each = and_parts (is_node n pair.0) (is_node n pair.1) parts.0 in
     record { first = each.0; second = each.1; differ = not-true (pair.0 == pair.1) parts.1 }
+
+-- the index of a node or of some comb, and another number of 1..n
+pub record AreBranch (n a b : ℕ) : Type 0 where
+  pub first : is_node (n + most_combs) a ≡ true
+  pub second : is_node n b ≡ true
+  pub differ : (a == b) ≡ false
+
+pub are_branch : (n : ℕ) (branch : ℕ × ℕ) → is_branch_of n branch ≡ true → AreBranch n branch.0 branch.1
+are_branch n branch fits =
+    let parts = and_parts (is_node (n + most_combs) branch.0 && is_node n branch.1) (not (branch.0 == branch.1)) fits in
+    let each = and_parts (is_node (n + most_combs) branch.0) (is_node n branch.1) parts.0 in
+    record { first = each.0; second = each.1; differ = not-true (branch.0 == branch.1) parts.1 }
 
 -- the first node of a list doesn't end it
 pub still_open : NumberLaws → (n k : ℕ) (firsts : List (List ℕ)) → n < 2 ^ 32 → is_node n k ≡ true

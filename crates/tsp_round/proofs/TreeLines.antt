@@ -11,8 +11,9 @@ use Rattle.tsp_draft.specs.Validity.{is_within, is_node, is_set_of, are_sets, ar
 use Rattle.tsp_file.specs.CanonicalText.{line_end, number_line, before_blank, ended_line, set_line, comb_lines, comb_list, change_words, step_line, case_tree_lines}
 use Rattle.tsp_round.proofs.Text.{is_plain_word, WritesWords, number_line_written}
 use Rattle.tsp_round.proofs.NumbersReadBack.{signed_plain, size_in}
-use Rattle.tsp_round.proofs.Bodies.{node_plain, end_written, lines_written, list_written, pair_written}
+use Rattle.tsp_round.proofs.Bodies.{node_plain, end_written, lines_written, list_written}
 use Rattle.tsp_round.proofs.CombWords.{set_words, comb_words, combs_words}
+use Rattle.tsp_round.proofs.Lists.{are_branch}
 use Rattle.tsp_round.proofs.TreeWords.{step_words}
 
 -- ---- a line that -1 ends
@@ -89,7 +90,10 @@ changes_plain n few (change ∷ changes) all =
 
 step_written : (n : ℕ) → n + most_combs < 2 ^ 32 → (step : Step) → is_step n step ≡ true
     → WritesWords (step_line step) (step_words step)
-step_written n few (Branch a b) fits = pair_written n (omega arith) (a, b) fits
+step_written n few (Branch a b) fits =
+    let are = are_branch n (a, b) fits in
+    number_line_written (decimal a) (decimal b ∷ []) (node_plain (n + most_combs) a few are.first)
+    (and_from (is_plain_word (decimal b)) true (node_plain n b (omega (arith, few)) are.second) refl)
 step_written n few (Leaf changes) fits =
     let words = flat_map change_words changes in
     ended_written (codes "0" ∷ words) (and_from (is_plain_word (codes "0")) (list_all is_plain_word words) refl (changes_plain n few changes fits))

@@ -10,16 +10,16 @@ use Rattle.tsp_number.specs.declared.fault.NumberFault.{NumberFault}
 use Rattle.tsp_number.specs.Reading.{whole_of}
 use Rattle.tsp_format.specs.Limits.{most_combs, most_branches, most_changes, most_difference}
 use Rattle.tsp_format.specs.Steps.{Step, Branch, Leaf, are_whole, branch_count, change_count}
-use Rattle.tsp_draft.specs.Validity.{is_within, is_node, is_pair_of, is_change, is_step, are_tree_steps}
+use Rattle.tsp_draft.specs.Validity.{is_within, is_node, is_branch_of, is_change, is_step, are_tree_steps}
 use Rattle.tsp_file.specs.CanonicalText.{change_words}
 use Rattle.tsp_text.specs.SectionNumbers.{number, reads_as, whole_of_size}
 use Rattle.tsp_text.specs.WordPlaces.{StepAfter, IndexAfter, Amount, PastGroups}
 use Rattle.tsp_text.specs.FaultRows.{word_fault}
 use Rattle.tsp_text.specs.Spells.{wants_more}
-use Rattle.tsp_text.specs.BranchSection.{TreeSoFar, no_steps, node_or_leaf, begins_leaf, index_or_end, ends_leaf, with_leaf, with_word_of, with_tree_word, whole_steps, place_in_step, place_in_tree, place_of_step}
+use Rattle.tsp_text.specs.BranchSection.{TreeSoFar, no_steps, index_or_leaf, begins_leaf, index_or_end, ends_leaf, with_leaf, with_word_of, with_tree_word, whole_steps, place_in_step, place_in_tree, place_of_step}
 use Rattle.tsp_round.proofs.NumbersReadBack.{NumberLaws, node_back, listed_back, node_goes_on, end_read, end_ends, no_zero, size_in}
 use Rattle.tsp_round.proofs.Taken.{AllTaken, Runs, runs_none, runs_one, runs_then, all_taken}
-use Rattle.tsp_round.proofs.Lists.{no_rows, has_room, second_taken, are_pair}
+use Rattle.tsp_round.proofs.Lists.{no_rows, has_room, second_taken, are_branch}
 
 -- ---- the words of the lines
 
@@ -66,50 +66,56 @@ one n start word last still taken gives =
 
 -- ---- a branch
 
-first_back : NumberLaws → (n k : ℕ) → n < 2 ^ 32 → is_node n k ≡ true → node_or_leaf n (decimal k) ≡ Ok (pos k)
+first_back : NumberLaws → (n k : ℕ) → n + most_combs < 2 ^ 32 → is_node (n + most_combs) k ≡ true
+    → index_or_leaf n (decimal k) ≡ Ok (pos k)
 first_back laws n k few is =
-    let both = and_parts (nat_le 1 k) (nat_le k n) is in
-    laws.whole_back (pos k) (pos 0) (pos n) (omega (arith, leb-true k n both.1)) (and_from (nat_le 0 k) (nat_le k n) (le-leb 0 k (omega arith)) both.1)
+    let last = n + most_combs in
+    let both = and_parts (nat_le 1 k) (nat_le k last) is in
+    laws.whole_back (pos k) (pos 0) (pos last) (omega (arith, leb-true k last both.1)) (and_from (nat_le 0 k) (nat_le k last) (le-leb 0 k (omega arith)) both.1)
 
-no_leaf : NumberLaws → (n k : ℕ) → n < 2 ^ 32 → is_node n k ≡ true → begins_leaf n (decimal k) ≡ false
+no_leaf : NumberLaws → (n k : ℕ) → n + most_combs < 2 ^ 32 → is_node (n + most_combs) k ≡ true → begins_leaf n (decimal k) ≡ false
 no_leaf laws n k few is =
-    ap (reads_as (pos 0)) (first_back laws n k few is) ∙ no_zero k (leb-true 1 k (and_parts (nat_le 1 k) (nat_le k n) is).0)
+    ap (reads_as (pos 0)) (first_back laws n k few is)
+    ∙ no_zero k (leb-true 1 k (and_parts (nat_le 1 k) (nat_le k (n + most_combs)) is).0)
 
-first_taken : NumberLaws → (n branches k : ℕ) → n < 2 ^ 32 → nat_le most_branches branches ≡ false → is_node n k ≡ true
+first_taken : NumberLaws → (n branches k : ℕ) → n + most_combs < 2 ^ 32 → nat_le most_branches branches ≡ false
+    → is_node (n + most_combs) k ≡ true
     → word_fault n (StepAfter branches) (decimal k) ≡ None
 first_taken laws n branches k few room is =
-    no_rows (result_err (node_or_leaf n (decimal k))) false false (nat_le most_branches branches && not (begins_leaf n (decimal k))) false
+    no_rows (result_err (index_or_leaf n (decimal k))) false false (nat_le most_branches branches && not (begins_leaf n (decimal k))) false
     (ap (λ (r : Result ℤ NumberFault). result_err r) (first_back laws n k few is)) refl refl
     (and_left (nat_le most_branches branches) (not (begins_leaf n (decimal k))) room) refl
 
-branch_runs : NumberLaws → (n : ℕ) → n < 2 ^ 32 → (steps : List Step) (a b to_come branches changes : ℕ) → (to_come == 0) ≡ false
-    → nat_le most_branches branches ≡ false → is_pair_of n (a, b) ≡ true
+branch_runs : NumberLaws → (n : ℕ) → n + most_combs < 2 ^ 32 → (steps : List Step) (a b to_come branches changes : ℕ) → (to_come == 0) ≡ false
+    → nat_le most_branches branches ≡ false → is_branch_of n (a, b) ≡ true
     → TreeRuns n (between steps to_come branches changes) (step_words (Branch a b)) (between (steps ++ Branch a b ∷ []) (to_come + 1) (branches + 1) changes)
 branch_runs laws n few steps a b to_come branches changes still room fits =
-    let are = are_pair n (a, b) fits in
+    let are = are_branch n (a, b) fits in
     let start = between steps to_come branches changes in
     let middle = begun steps a to_come (branches + 1) changes in
     let last = between (steps ++ Branch a b ∷ []) (to_come + 1) (branches + 1) changes in
     onward n start middle last (decimal a ∷ []) (decimal b ∷ [])
     (one n start (decimal a) middle still (first_taken laws n branches a few room are.first)
-    (ap (λ t. cond t (record start { in_leaf = true }) (record start { first = Some (nat_abs (number (node_or_leaf n (decimal a)))); branches = branches + 1 })) (no_leaf laws n a few are.first)
+    (ap (λ t. cond t (record start { in_leaf = true }) (record start { first = Some (nat_abs (number (index_or_leaf n (decimal a)))); branches = branches + 1 })) (no_leaf laws n a few are.first)
     ∙ ap (λ (r : Result ℤ NumberFault). begun steps (nat_abs (number r)) to_come (branches + 1) changes) (first_back laws n a few are.first)))
-    (one n middle (decimal b) last still (second_taken laws n a b few are.second are.differ)
-    (ap (λ (r : Result ℤ NumberFault). between (steps ++ Branch a (nat_abs (number r)) ∷ []) (to_come + 1) (branches + 1) changes) (node_back laws n b few are.second)))
+    (one n middle (decimal b) last still (second_taken laws n a b (omega (arith, few)) are.second are.differ)
+    (ap (λ (r : Result ℤ NumberFault). between (steps ++ Branch a (nat_abs (number r)) ∷ []) (to_come + 1) (branches + 1) changes) (node_back laws n b (omega (arith, few)) are.second)))
 
 -- ---- a leaf
 
-zero_read : NumberLaws → (n : ℕ) → node_or_leaf n (codes "0") ≡ Ok (pos 0)
+zero_read : NumberLaws → (n : ℕ) → index_or_leaf n (codes "0") ≡ Ok (pos 0)
 zero_read laws n =
     let word : signed_decimal (pos 0) ≡ codes "0" = decimal_digit 0 (omega arith) in
-    ap (λ w. whole_of w (pos 0) (pos n)) (sym word) ∙ laws.whole_back (pos 0) (pos 0) (pos n) (omega arith) (and_from (nat_le 0 0) (nat_le 0 n) refl (le-leb 0 n (omega arith)))
+    let last = n + most_combs in
+    ap (λ w. whole_of w (pos 0) (pos last)) (sym word)
+    ∙ laws.whole_back (pos 0) (pos 0) (pos last) (omega arith) (and_from (nat_le 0 0) (nat_le 0 last) refl (le-leb 0 last (omega arith)))
 
 leaf_begins : NumberLaws → (n : ℕ) → begins_leaf n (codes "0") ≡ true
 leaf_begins laws n = ap (reads_as (pos 0)) (zero_read laws n)
 
 zero_taken : NumberLaws → (n branches : ℕ) → word_fault n (StepAfter branches) (codes "0") ≡ None
 zero_taken laws n branches =
-    no_rows (result_err (node_or_leaf n (codes "0"))) false false (nat_le most_branches branches && not (begins_leaf n (codes "0"))) false
+    no_rows (result_err (index_or_leaf n (codes "0"))) false false (nat_le most_branches branches && not (begins_leaf n (codes "0"))) false
     (ap (λ (r : Result ℤ NumberFault). result_err r) (zero_read laws n)) refl refl
     (and_right (nat_le most_branches branches) (not (begins_leaf n (codes "0"))) (not_from_true (begins_leaf n (codes "0")) (leaf_begins laws n))) refl
 
@@ -191,7 +197,7 @@ leaf_runs laws n few steps leaf to_come branches changes still room all =
     let more = flat_map change_words leaf ++ codes "-1" ∷ [] in
     onward n start entered last (codes "0" ∷ []) more
     (one n start (codes "0") entered still (zero_taken laws n branches)
-    (ap (λ t. cond t entered (record start { first = Some (nat_abs (number (node_or_leaf n (codes "0")))); branches = branches + 1 })) (leaf_begins laws n)))
+    (ap (λ t. cond t entered (record start { first = Some (nat_abs (number (index_or_leaf n (codes "0")))); branches = branches + 1 })) (leaf_begins laws n)))
     (onward n entered filled last (flat_map change_words leaf) (codes "-1" ∷ []) (changes_run laws n few steps [] leaf to_come branches changes still room all)
     (one n filled (codes "-1") last still (end_taken laws n (changes + length leaf))
     (ap (λ t. cond t (with_leaf filled) (record filled { first = Some (nat_abs (number (index_or_end n (codes "-1")))); changes = changes + length leaf + 1 })) (end_ends laws (n + most_combs)))))
@@ -228,7 +234,7 @@ each_step_runs laws n few before (Branch a b ∷ steps) (suc to_come) branches c
     subst (λ (s : TreeSoFar). TreeRuns n start (flat_map step_words (Branch a b ∷ steps)) s) ends
     (onward n start middle last (step_words (Branch a b)) (flat_map step_words steps)
     (subst (λ (s : TreeSoFar). TreeRuns n start (step_words (Branch a b)) s) next
-    (branch_runs laws n (omega arith) before a b (suc to_come) branches changes (not_zero to_come) (has_room most_branches branches (branch_count steps) room) both.0))
+    (branch_runs laws n few before a b (suc to_come) branches changes (not_zero to_come) (has_room most_branches branches (branch_count steps) room) both.0))
     (each_step_runs laws n few (before ++ Branch a b ∷ []) steps (suc (suc to_come)) (branches + 1) changes (omega arith) changes_room both.1 whole))
 each_step_runs laws n few before (Leaf leaf ∷ steps) (suc to_come) branches changes room changes_room all whole =
     let both = and_parts (is_step n (Leaf leaf)) (list_all (is_step n) steps) all in

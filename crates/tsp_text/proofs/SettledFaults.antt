@@ -85,7 +85,7 @@ long_fault n Weight word long = rw (whole_long word (neg_ℤ (pos most_weight)) 
 long_fault n PastWeights word long = refl
 long_fault n (TourNode count) word long = rw (whole_long word (negsuc 0) (pos most_nodes) long) refl
 long_fault n (SetNode begun combs count) word long = rw (whole_long word (negsuc 0) (pos n) long) refl
-long_fault n (StepAfter branches) word long = rw (whole_long word (pos 0) (pos n) long) refl
+long_fault n (StepAfter branches) word long = rw (whole_long word (pos 0) (pos (n + most_combs)) long) refl
 long_fault n (IndexAfter count) word long = rw (whole_long word (negsuc 0) (pos (n + most_combs)) long) refl
 
 same_word_row : (earlier : List Item) (word next : List ℕ) (opened : Option Field) → IsLong word → IsLong next

@@ -14,12 +14,12 @@ use Rattle.tsp_number.specs.declared.fault.NumberFault.{NumberFault}
 use Rattle.tsp_format.specs.declared.field.Field.TheVariants.{BranchPart}
 use Rattle.tsp_format.specs.Limits.{most_combs, most_branches, most_changes, most_difference}
 use Rattle.tsp_format.specs.Steps.{Step, Branch, Leaf, are_whole, branch_count, change_count}
-use Rattle.tsp_draft.specs.Validity.{is_from_to, is_within, is_node, is_pair_of, is_change, is_step, are_tree_steps}
+use Rattle.tsp_draft.specs.Validity.{is_from_to, is_within, is_node, is_branch_of, is_change, is_step, are_tree_steps}
 use Rattle.tsp_text.specs.Items.{Item}
 use Rattle.tsp_text.specs.Earlier.{words_of}
 use Rattle.tsp_text.specs.SectionNumbers.{number, reads_as, node, whole_of_size}
 use Rattle.tsp_text.specs.WordPlaces.{StepAfter, SecondOf, IndexAfter, PastGroups}
-use Rattle.tsp_text.specs.BranchSection.{TreeSoFar, no_steps, node_or_leaf, begins_leaf, index_or_end, ends_leaf, with_word_of, with_tree_word, tree_after, whole_steps, place_in_step, place_in_tree, place_of_step}
+use Rattle.tsp_text.specs.BranchSection.{TreeSoFar, no_steps, index_or_leaf, begins_leaf, index_or_end, ends_leaf, with_word_of, with_tree_word, tree_after, whole_steps, place_in_step, place_in_tree, place_of_step}
 use Rattle.tsp_text.specs.Sections.{dimension_in}
 use Rattle.tsp_text.specs.FirstFault.{IsClean}
 use Rattle.tsp_text.specs.FaultRows.{word_fault}
@@ -34,7 +34,7 @@ use Rattle.tsp_text.proofs.ValidLists.{first_of_both}
 -- the first number of a branch that has begun, or of a difference
 abbrev IsBegun : ℕ → Bool → Option ℕ → Type 0
 IsBegun n false None = Unit {0}
-IsBegun n false (Some first) = is_node n first ≡ true
+IsBegun n false (Some first) = is_node (n + most_combs) first ≡ true
 IsBegun n true None = Unit {0}
 IsBegun n true (Some index) = is_node (n + most_combs) index ≡ true
 
@@ -88,7 +88,7 @@ whole_push steps step to_come h rest = ap (are_whole 1) (append_assoc steps (ste
 
 -- ---- what is read
 
--- a node where a step begins
+-- an index where a step begins
 first_node : (n : ℕ) (z : ℤ) → is_from_to (pos 0) (pos n) z ≡ true → int_eq z (pos 0) ≡ false
     → (k : ℕ) × (z ≡ pos k) × (is_node n k ≡ true)
 first_node n (pos zero) e other = absurd (true≢false other)
@@ -96,18 +96,18 @@ first_node n (pos (suc k)) e other =
     (suc k, refl, and_from (nat_le 1 (suc k)) (nat_le (suc k) n) (le-leb 1 (suc k) (omega arith)) (and_parts (int_le (pos 0) (pos (suc k))) (int_le (pos (suc k)) (pos n)) e).1)
 first_node n (negsuc k) e other = absurd (false≢true e)
 
-read_first : (n : ℕ) (word : List ℕ) → result_err (node_or_leaf n word) ≡ None → begins_leaf n word ≡ false
-    → (k : ℕ) × (node_or_leaf n word ≡ Ok (pos k)) × (is_node n k ≡ true)
-read_first n word = by_result (node_or_leaf n word) (λ z read. whole_in_range word (pos 0) (pos n) z read)
+read_first : (n : ℕ) (word : List ℕ) → result_err (index_or_leaf n word) ≡ None → begins_leaf n word ≡ false
+    → (k : ℕ) × (index_or_leaf n word ≡ Ok (pos k)) × (is_node (n + most_combs) k ≡ true)
+read_first n word = by_result (index_or_leaf n word) (λ z read. whole_in_range word (pos 0) (pos (n + most_combs)) z read)
   where
-    by_result : (r : Result ℤ NumberFault) → ((z : ℤ) → r ≡ Ok z → is_from_to (pos 0) (pos n) z ≡ true) → result_err r ≡ None → reads_as (pos 0) r ≡ false
-        → (k : ℕ) × (r ≡ Ok (pos k)) × (is_node n k ≡ true)
-    by_result (Ok z) each e other = let found = first_node n z (each z refl) other in (found.0, ap (λ y. Ok y) found.1, found.2)
+    by_result : (r : Result ℤ NumberFault) → ((z : ℤ) → r ≡ Ok z → is_from_to (pos 0) (pos (n + most_combs)) z ≡ true) → result_err r ≡ None → reads_as (pos 0) r ≡ false
+        → (k : ℕ) × (r ≡ Ok (pos k)) × (is_node (n + most_combs) k ≡ true)
+    by_result (Ok z) each e other = let found = first_node (n + most_combs) z (each z refl) other in (found.0, ap (λ y. Ok y) found.1, found.2)
     by_result (Err fault) each e other = absurd cc
 
 -- ---- one word more, where the tree isn't whole
 
--- plan: by whether the word begins a leaf; else it is the first node of a branch (`read_first`), within the limit
+-- plan: by whether the word begins a leaf; else it is the first number of a branch (`read_first`), within the limit
 first_holds : (n : ℕ) (s : TreeSoFar) (word : List ℕ) (leaf : Bool) → begins_leaf n word ≡ leaf
     → word_fault n (StepAfter s.branches) word ≡ None
     → StepsHold n s.steps None false s.leaf s.to_come s.branches s.changes → s.first ≡ None → s.in_leaf ≡ false
@@ -125,12 +125,12 @@ first_holds n s word true is row h none out = rw (is, none) (let held : StepsHol
 first_holds n s word false is row h none out =
     let t = is_taken n (StepAfter s.branches) word row in
     let found = read_first n word t.is_read is in
-    let node : is_node n (nat_abs (number (node_or_leaf n word))) ≡ true = ap (λ r. is_node n (nat_abs (number r))) found.1 ∙ found.2 in
+    let index : is_node (n + most_combs) (nat_abs (number (index_or_leaf n word))) ≡ true = ap (λ r. is_node (n + most_combs) (nat_abs (number r))) found.1 ∙ found.2 in
     let room = leb-false most_branches s.branches (first_of_both (nat_le most_branches s.branches) (begins_leaf n word) t.has_room is) in
-    let held : StepsHold n s.steps (Some (nat_abs (number (node_or_leaf n word)))) false s.leaf s.to_come (s.branches + 1) s.changes = record {
+    let held : StepsHold n s.steps (Some (nat_abs (number (index_or_leaf n word)))) false s.leaf s.to_come (s.branches + 1) s.changes = record {
       all_steps = h.all_steps;
       all_changes = h.all_changes;
-      begun = node;
+      begun = index;
       counted = omega (arith, h.counted);
       few = omega (arith, room);
       counted_changes = h.counted_changes;
@@ -149,11 +149,11 @@ second_holds n s word first left some row h out =
     let apart = differ first found.0 (rw found.1 at t.other_node) in
     let second = nat_abs (number (node n word)) in
     let is : second ≡ found.0 = ap (λ r. nat_abs (number r)) found.1 in
-    let pair : is_pair_of n (first, second) ≡ true = rw is (and_from (is_node n first && is_node n found.0) (not (first == found.0))
-    (and_from (is_node n first) (is_node n found.0) h.begun found.2) (not_from_false (first == found.0) apart)) in
+    let branch : is_branch_of n (first, second) ≡ true = rw is (and_from (is_node (n + most_combs) first && is_node n found.0) (not (first == found.0))
+    (and_from (is_node (n + most_combs) first) (is_node n found.0) h.begun found.2) (not_from_false (first == found.0) apart)) in
     let one_more : s.to_come + 1 ≡ suc (suc left) = omega (arith, some) in
     let held : StepsHold n (s.steps ++ Branch first second ∷ []) None false s.leaf (s.to_come + 1) s.branches s.changes = record {
-      all_steps = all_push (is_step n) s.steps (Branch first second) h.all_steps pair;
+      all_steps = all_push (is_step n) s.steps (Branch first second) h.all_steps branch;
       all_changes = h.all_changes;
       begun = tt;
       counted = omega (arith, h.counted, branches_push s.steps (Branch first second));

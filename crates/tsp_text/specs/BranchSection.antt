@@ -1,6 +1,6 @@
 -- A tree of cases. BRANCH_SECTION is this project's own: it lists the steps of one tree. A node and a second one are a branch,
--- which comes before its two trees. A 0 begins a leaf: an index and a difference for each number that changes, and a -1 in place
--- of an index ends it.
+-- and so are the index of some comb and a limit. A branch comes before its two trees. A 0 begins a leaf: an index and a
+-- difference for each number that changes, and a -1 in place of an index ends it.
 use Rattle.std.specs.Prelude.{ℕ, ◌+◌, ◌-◌, ◌==◌, Bool, true, false, cond, List, [], ◌∷◌, ◌++◌, Option, None, Some, Result, ℤ, pos, neg_ℤ, nat_abs}
 use Rattle.std.specs.List.{fold}
 use Rattle.tsp_number.specs.declared.fault.NumberFault.{NumberFault}
@@ -14,7 +14,7 @@ use Rattle.tsp_text.specs.WordPlaces.{Place, StepAfter, SecondOf, IndexAfter, Am
 pub record TreeSoFar : Type 0 where
   -- the whole steps
   pub steps : List Step
-  -- the first node of a branch that has begun; in a leaf the index of a difference that has begun
+  -- the first number of a branch that has begun; in a leaf the index of a difference that has begun
   pub first : Option ℕ
   -- whether a leaf has begun, and its whole differences
   pub in_leaf : Bool
@@ -30,12 +30,12 @@ no_steps = record { steps = []; first = None; in_leaf = false; leaf = []; to_com
 
 -- ---- what a word is read as
 
--- the first node of a branch, or the 0 that begins a leaf
-abbrev pub node_or_leaf : ℕ → List ℕ → Result ℤ NumberFault
-node_or_leaf n word = whole_of word (pos 0) (pos n)
+-- the first number of a branch, which is the index of a node or of some comb, or the 0 that begins a leaf
+abbrev pub index_or_leaf : ℕ → List ℕ → Result ℤ NumberFault
+index_or_leaf n word = whole_of word (pos 0) (pos (n + most_combs))
 
 abbrev pub begins_leaf : ℕ → List ℕ → Bool
-begins_leaf n word = reads_as (pos 0) (node_or_leaf n word)
+begins_leaf n word = reads_as (pos 0) (index_or_leaf n word)
 
 -- the index of a node or of some comb, or the -1 that ends a leaf
 abbrev pub index_or_end : ℕ → List ℕ → Result ℤ NumberFault
@@ -46,12 +46,12 @@ ends_leaf n word = is_end (n + most_combs) word
 
 -- ---- one word more
 
--- where a step begins: a leaf, or a branch with its first node
+-- where a step begins: a leaf, or a branch with its first number
 abbrev pub with_first : ℕ → TreeSoFar → List ℕ → TreeSoFar
 with_first n so_far word = cond (begins_leaf n word) (record so_far { in_leaf = true })
-    (record so_far { first = Some (nat_abs (number (node_or_leaf n word))); branches = so_far.branches + 1 })
+    (record so_far { first = Some (nat_abs (number (index_or_leaf n word))); branches = so_far.branches + 1 })
 
--- the second node of a branch: in the place of its tree two are to come
+-- the second number of a branch: in the place of its tree two are to come
 abbrev pub with_second : ℕ → TreeSoFar → ℕ → List ℕ → TreeSoFar
 with_second n so_far first word = record so_far {
   steps = so_far.steps ++ Branch first (nat_abs (number (node n word))) ∷ [];

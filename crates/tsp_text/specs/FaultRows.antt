@@ -20,7 +20,7 @@ use Rattle.tsp_text.specs.Earlier.{same_field, has_line, values_at, others_in, o
 use Rattle.tsp_text.specs.Values.{is_unknown_word, is_left_out, has_number, read_as, is_kept_as_is, says_space, spatial_after}
 use Rattle.tsp_text.specs.SectionNumbers.{reads_as, node, whole_of_size, node_or_end, is_end, is_minus_one}
 use Rattle.tsp_text.specs.WordPlaces.{Place, NodeAfter, Coordinate, Amount, PastGroups, DepotAfter, FirstAfter, SecondOf, PastEnd, Weight, PastWeights, TourNode, SetNode, StepAfter, IndexAfter}
-use Rattle.tsp_text.specs.BranchSection.{node_or_leaf, begins_leaf, index_or_end, ends_leaf}
+use Rattle.tsp_text.specs.BranchSection.{index_or_leaf, begins_leaf, index_or_end, ends_leaf}
 use Rattle.tsp_text.specs.Sections.{dimension_in, next_place}
 
 -- a word, where a section is open, at its place and with n nodes
@@ -147,7 +147,7 @@ number_fault_at n Weight word = result_err (whole_of_size most_weight word)
 number_fault_at n PastWeights word = None
 number_fault_at n (TourNode count) word = result_err (node_or_end most_nodes word)
 number_fault_at n (SetNode begun combs count) word = result_err (node_or_end n word)
-number_fault_at n (StepAfter branches) word = result_err (node_or_leaf n word)
+number_fault_at n (StepAfter branches) word = result_err (index_or_leaf n word)
 number_fault_at n (IndexAfter count) word = result_err (index_or_end n word)
 
 abbrev pub number_fault : List Item → Item → Option NumberFault

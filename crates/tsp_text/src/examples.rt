@@ -77,6 +77,12 @@ pub fn faults_of_words()
         (codes "DIMENSION : 3/COMB_SECTION/-1 -1.0") 3 2 faults.AfterEnd }
     ensures branch_of_a_node_with_itself { FaultAt
         (codes "DIMENSION : 4/BRANCH_SECTION/2 2") 3 2 faults.SelfEdge }
+    ensures first_number_past_all_combs { IsNumberFault
+        (codes "DIMENSION : 4/BRANCH_SECTION/10004 4 10005") 3 3 numbers.OutOfRange }
+    ensures limit_past_the_nodes { IsNumberFault
+        (codes "DIMENSION : 4/BRANCH_SECTION/5 5") 3 2 numbers.OutOfRange }
+    ensures limit_zero { IsNumberFault
+        (codes "DIMENSION : 4/BRANCH_SECTION/5 0") 3 2 numbers.OutOfRange }
     ensures end_in_the_second_place { IsNumberFault (codes "DIMENSION : 4/BRANCH_SECTION/2 -1")
         3 2 numbers.OutOfRange }
     ensures end_before_the_tree { IsNumberFault (codes "DIMENSION : 4/BRANCH_SECTION/1 2 0 -1 -1")

@@ -41,11 +41,11 @@ as_node_or_end (Ok (Some k)) = Ok (pos k)
 as_node_or_end (Ok None) = Ok (negsuc 0)
 as_node_or_end (Err fault) = Err fault
 
--- a node, or none for the 0 that begins a leaf
-abbrev pub as_node_or_leaf : Result (Option ℕ) NumberFault → Result ℤ NumberFault
-as_node_or_leaf (Ok (Some k)) = Ok (pos k)
-as_node_or_leaf (Ok None) = Ok (pos 0)
-as_node_or_leaf (Err fault) = Err fault
+-- an index, or none for the 0 that begins a leaf
+abbrev pub as_index_or_leaf : Result (Option ℕ) NumberFault → Result ℤ NumberFault
+as_index_or_leaf (Ok (Some k)) = Ok (pos k)
+as_index_or_leaf (Ok None) = Ok (pos 0)
+as_index_or_leaf (Err fault) = Err fault
 
 -- the readings of the node of a group or pair that has begun
 abbrev pub readings : Option ℕ → List (Result ℤ NumberFault)

@@ -3,8 +3,8 @@
 ghost use Rattle.std.specs.Prelude.{◌≡◌, ◌<◌, ◌-◌, ◌^◌, ℕ, pos, true, false, List, length, slice_index_or, Ok, None, IfOk, IfSome};
 ghost use Rattle.std.specs.Option.{ForSome};
 ghost use Rattle.tsp_text.specs.SectionNumbers.{node, node_or_end, is_minus_one, IsWhole};
-ghost use Rattle.tsp_text.specs.BranchSection.{node_or_leaf};
-ghost use Rattle.tsp_section.specs.states.Parts.{as_number, as_node_or_end, as_node_or_leaf, IsNodeOf, IsNewNode};
+ghost use Rattle.tsp_number.specs.Reading.{whole_of};
+ghost use Rattle.tsp_section.specs.states.Parts.{as_number, as_node_or_end, as_index_or_leaf, IsNodeOf, IsNewNode};
 
 use tsp_number::{NumberFault, parse_whole};
 use tsp_text::LineFault;
@@ -30,14 +30,14 @@ pub(crate) fn read_node_or_end(word: &[u8], n: u32) -> Result<Option<u32>, Numbe
     }
 }
 
-/// A node of 1..n, or `None` for the 0 that begins a leaf.
-pub(crate) fn read_node_or_leaf(word: &[u8], n: u32) -> Result<Option<u32>, NumberFault>
-    ensures read { node_or_leaf n word.now ≡ as_node_or_leaf result }
-    ensures within { IfOk result (λ found. ForSome found (λ k. IsNodeOf n k)) }
+/// An index of 1..last, or `None` for the 0 that begins a leaf.
+pub(crate) fn read_index_or_leaf(word: &[u8], last: u32) -> Result<Option<u32>, NumberFault>
+    ensures read { whole_of word.now (pos 0) (pos last) ≡ as_index_or_leaf result }
+    ensures within { IfOk result (λ found. ForSome found (λ k. IsNodeOf last k)) }
 {
-    match parse_whole(word, 0, i64::from(n))? {
+    match parse_whole(word, 0, i64::from(last))? {
         0 => Ok(None),
-        node => Ok(Some(node as u32)),
+        index => Ok(Some(index as u32)),
     }
 }
 

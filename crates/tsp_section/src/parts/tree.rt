@@ -3,7 +3,7 @@
 ghost use Rattle.std.specs.Prelude.{◌≡◌, ◌≢◌, [], ℕ, List, ◌∷◌, ◌++◌, ◌+◌, ◌≤◌, length, OnOk, IfErr, None, Some, true, false};
 
 use crate::fault::StepFault;
-use crate::parts::nodes::{is_minus_one, read_node, read_node_or_end, read_node_or_leaf};
+use crate::parts::nodes::{is_minus_one, read_index_or_leaf, read_node, read_node_or_end};
 use std::alloc::Global;
 use std::mem;
 use tsp_format::{MOST_BRANCHES, MOST_CHANGES, MOST_COMBS, MOST_DIFFERENCE, MOST_NODES, TreeStep};
@@ -83,7 +83,7 @@ impl TreeList {
         }
     }
 
-    /// Takes the first node of a branch, or the 0 that begins a leaf.
+    /// Takes the first number of a branch, or the 0 that begins a leaf.
     fn push_first(&mut self, word: &[u8]) -> Result<(), StepFault>
         ensures takes { (n : ℕ) (words : List (List ℕ)) → HoldsTree self.old n words
             → self.old.to_come ≢ 0 → self.old.in_leaf ≡ false → self.old.first ≡ None
@@ -92,7 +92,7 @@ impl TreeList {
         ensures kept { IfErr result (λ _. (n : ℕ) (words : List (List ℕ))
             → HoldsTree self.old n words → HoldsTree self.new n words) }
     {
-        match read_node_or_leaf(word, self.n) {
+        match read_index_or_leaf(word, self.last_index) {
             Err(fault) => Err(StepFault::Fault(LineFault::Number(fault))),
             Ok(None) => {
                 self.in_leaf = true;
@@ -101,15 +101,15 @@ impl TreeList {
             Ok(Some(_)) if self.branches >= MOST_BRANCHES => {
                 Err(StepFault::Fault(LineFault::Surplus))
             }
-            Ok(Some(node)) => {
-                self.first = Some(node);
+            Ok(Some(first)) => {
+                self.first = Some(first);
                 self.branches += 1;
                 Ok(())
             }
         }
     }
 
-    /// Takes the second node of a branch.
+    /// Takes the second number of a branch: a node, or the limit of a family.
     fn push_second(&mut self, first: u32, word: &[u8]) -> Result<(), StepFault>
         ensures takes { (n : ℕ) (words : List (List ℕ)) → HoldsTree self.old n words
             → self.old.to_come ≢ 0 → self.old.in_leaf ≡ false → self.old.first ≡ Some first
