@@ -538,6 +538,16 @@ def least_links(count: int, row: Row, case: Case) -> Optional[int]:
     return total
 
 
+def on_nodes(file: Fields, count: int, branches: list[list[int]]) -> None:
+    """Sees that each branch is on two nodes. One on a family, whose number comes after those of the nodes, is for routes."""
+    for number, (first, second) in enumerate(branches, 1):
+        if first == second or not (1 <= first <= count + 10_000 and 1 <= second <= count):
+            raise file.faulty("BRANCH_SECTION", f"branch {number} has to be on two nodes from 1 to {count}")
+    for number, (first, _) in enumerate(branches, 1):
+        if first > count:
+            raise No(f"BadBranch {number}")
+
+
 def bound_by_branches(instance: Fields, file: Fields, cost: Costs, count: int) -> int:
     """The least of the bounds of the leaves, if no reason is against the tree."""
     if file.get("TYPE", [""])[0] != "BRANCHES":
@@ -557,15 +567,15 @@ def bound_by_branches(instance: Fields, file: Fields, cost: Costs, count: int) -
     fixed = ended(wholes(instance, "FIXED_EDGES_SECTION"), 2)
     open_cases: list[Case] = [{pair_of(directed, i, j): True for i, j in fixed}]
     leaves: list[tuple[list[int], Case]] = []
+    steps = list(steps_of(file))
+    on_nodes(file, count, [step for step in steps if step[0] != 0])
     branches = 0
-    for step in steps_of(file):
+    for step in steps:
         case = open_cases.pop()
         if step[0] == 0:
             leaves.append((step, case))
             continue
         branches += 1
-        if step[0] == step[1] or min(step) < 1 or max(step) > count:
-            raise file.faulty("BRANCH_SECTION", f"branch {branches} has to be on two nodes from 1 to {count}")
         pair = pair_of(directed, *step)
         if pair in case:
             raise No(f"BranchTwice {branches}")

@@ -185,6 +185,10 @@ class Tree:
         for number, found in enumerate(self.crossings, 1):
             if found is None:
                 return f"BadComb {number}"
+        branches = [words for kind, words in self.steps if kind == "branch"]
+        for number, (first, _) in enumerate(branches, 1):
+            if first > self.nodes:
+                return f"BadBranch {number}"
         for kind, number, used, unused, words in self.cases():
             if kind == "branch" and self.key(words) in used + unused:
                 return f"BranchTwice {number}"

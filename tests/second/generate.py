@@ -344,6 +344,8 @@ def tree_lines(pick: random.Random, nodes: int) -> list[str]:
         if depth == 0:
             return [leaf()]
         pair = " ".join(map(str, pick.sample(range(1, nodes + 1), 2)))
+        if families and pick.randrange(30) == 0:
+            pair = f"{nodes + 1} {pick.randint(1, nodes)}"
         return [pair, *steps(pick.randrange(depth)), *steps(pick.randrange(depth))]
 
     lines = ["TYPE : BRANCHES", f"DIMENSION : {nodes}", *pick.choice([[], ["SCALE : 2"], ["SCALE : 1000"]])]

@@ -31,6 +31,7 @@ BUGS = [
     ("reader", "self.ended = not self.in_family\n", "self.ended = not self.in_set\n", "the -1 after a comb ends the list of combs"),
     ("reader", "if pair[0] == pair[1]:", "if pair[0] == pair[1] == 1:", "a branch may be one node twice"),
     ("reader", "index = whole(word, -1, self.nodes + 10_000, but=0)", "index = whole(word, -1, self.nodes + 9_999, but=0)", "the largest index is refused"),
+    ("reader", "self.begin(whole(word, 0, self.nodes + 10_000))", "self.begin(whole(word, 0, self.nodes + 9_999))", "no branch is on family 10,000"),
     ("reader", 'if value:\n            raise Wrong("SectionValue")\n        if "DIMENSION" not in', 'if "DIMENSION" not in', "the line of a section may have a value"),
     ("reader", 'if "DIMENSION" not in file.values and name != "TOUR_SECTION":', 'if "DIMENSION" not in file.values and name not in ("TOUR_SECTION", "DEPOT_SECTION"):', "depots may come before DIMENSION"),
     ("reader", "if not known and not has_colon:", "if not known and not has_colon and not value:", "an unknown keyword needs no colon before a value"),
@@ -55,6 +56,7 @@ BUGS = [
     ("bounds", "tuple(pair) if self.instance.type == \"ATSP\" else", "", "an arc has no direction"),
     ("bounds", "return min(by, default=0) < 0 or", "return min(by, default=0) < -1 or", "a multiplier may be -1"),
     ("bounds", "all((i == a) == (j == b) for a, b in leaf.used)", "all(i != a or j == b for a, b in leaf.used)", "a taken arc lets others enter its end"),
+    ("bounds", "if first > self.nodes:", "if False:", "a tour may be branched on by a family"),
 ]
 
 
