@@ -32,7 +32,11 @@ void read_tree(std::istream& words, Certificate& certificate) {
     if (first > 0) {
       int second = 0;
       words >> second;
-      certificate.steps.emplace_back(Pair(first - 1, second - 1));
+      if (first > certificate.nodes) {
+        certificate.steps.emplace_back(FamilyBranch{first - certificate.nodes - 1, second});
+      } else {
+        certificate.steps.emplace_back(Pair(first - 1, second - 1));
+      }
       open++;
       continue;
     }
@@ -69,12 +73,19 @@ Weight common_divisor(const Certificate& certificate) {
   return divisor;
 }
 
-// The families with multipliers, in the order of their first leaf, and their numbers from 0 on.
+// The families of branches and with multipliers, in the order of their first step, and their numbers from 0
+// on.
 std::map<int, int> number_families(const Certificate& certificate, std::vector<int>& order) {
   std::map<int, int> places;
-  for (const Numbers* numbers : leaves_of(certificate)) {
+  const auto add = [&](int family) {
+    if (places.emplace(family, order.size()).second) order.push_back(family);
+  };
+  for (const TreeStep& step : certificate.steps) {
+    if (const auto* branch = std::get_if<FamilyBranch>(&step)) add(branch->family);
+    const auto* numbers = std::get_if<Numbers>(&step);
+    if (numbers == nullptr) continue;
     for (const auto& [family, multiplier] : numbers->multipliers) {
-      if (multiplier != 0 && places.emplace(family, order.size()).second) order.push_back(family);
+      if (multiplier != 0) add(family);
     }
   }
   return places;
@@ -151,6 +162,7 @@ Certificate read_certificate(const std::string& tsp, const std::string& path) {
     if (keyword == "TYPE" && line != "TYPE : BRANCHES") break;
     if (keyword == "DIMENSION") words >> certificate.nodes;
     if (keyword == "SCALE") words >> certificate.scale;
+    if (keyword == "LOAD_UNIT") words >> certificate.load_unit;
     if (line.rfind(kNote, 0) == 0) {
       std::string maker, key;
       words >> maker >> key >> certificate.notes[key];
@@ -213,6 +225,7 @@ void write_certificate(const std::string& path, const Certificate& certificate, 
   text << "TYPE : BRANCHES\n";
   for (const auto& [key, value] : certificate.notes) text << kNote << key << ' ' << value << '\n';
   text << "DIMENSION : " << certificate.nodes << "\nSCALE : " << certificate.scale / divisor << "\n";
+  if (certificate.load_unit != 1) text << "LOAD_UNIT : " << certificate.load_unit << "\n";
   write_families(text, certificate, order);
   text << "BRANCH_SECTION\n";
   Numbers before;
@@ -220,6 +233,8 @@ void write_certificate(const std::string& path, const Certificate& certificate, 
   for (const TreeStep& step : certificate.steps) {
     if (const auto* branch = std::get_if<Pair>(&step)) {
       text << branch->first + 1 << ' ' << branch->second + 1 << '\n';
+    } else if (const auto* set = std::get_if<FamilyBranch>(&step)) {
+      text << certificate.nodes + 1 + places.at(set->family) << ' ' << set->t << '\n';
     } else {
       write_leaf(text, std::get<Numbers>(step), before, places, divisor);
       before = std::get<Numbers>(step);
@@ -229,19 +244,42 @@ void write_certificate(const std::string& path, const Certificate& certificate, 
   write_text(path, text.str());
 }
 
+namespace {
+// A case that the leaf at hand is in.
+struct Side {
+  const TreeStep* branch;
+  bool first;
+};
+
+OpenLeaf leaf_below(const std::vector<Side>& above, const Numbers& numbers) {
+  OpenLeaf leaf{{}, {}, numbers};
+  for (const auto& [branch, first] : above) {
+    if (const auto* pair = std::get_if<Pair>(branch)) leaf.decisions.push_back({*pair, first});
+    if (const auto* set = std::get_if<FamilyBranch>(branch)) leaf.family_decisions.push_back({*set, first});
+  }
+  return leaf;
+}
+}  // namespace
+
 OpenLeaf leaf_of(const Certificate& certificate, int number) {
-  std::vector<Decision> above;
+  std::vector<Side> above;
   int leaves = 0;
   for (const TreeStep& step : certificate.steps) {
-    if (const auto* pair = std::get_if<Pair>(&step)) {
-      above.push_back({*pair, true});
+    const auto* numbers = std::get_if<Numbers>(&step);
+    if (numbers == nullptr) {
+      above.push_back({&step, true});
       continue;
     }
-    if (++leaves == number) return {above, std::get<Numbers>(step)};
-    while (!above.empty() && !above.back().used) above.pop_back();
-    if (!above.empty()) above.back().used = false;
+    if (++leaves == number) return leaf_below(above, *numbers);
+    while (!above.empty() && !above.back().first) above.pop_back();
+    if (!above.empty()) above.back().first = false;
   }
   throw Refusal("--leaf " + std::to_string(number) + ": the tree has no such leaf");
+}
+
+bool has_family_branches(const Certificate& certificate) {
+  return std::any_of(certificate.steps.begin(), certificate.steps.end(),
+                     [](const TreeStep& step) { return std::holds_alternative<FamilyBranch>(step); });
 }
 
 int add_family(CutPool& pool, const std::vector<NodeSet>& family, int nodes) {
@@ -261,8 +299,8 @@ void check_parts(const Certificate& tree, const std::vector<Certificate>& parts)
   const std::string identity = identity_of(tree);
   for (const Certificate& part : parts) {
     const auto of = part.notes.find("tree");
-    if (part.nodes != tree.nodes || of == part.notes.end() || !part.notes.contains("leaf") ||
-        of->second != identity)
+    if (part.nodes != tree.nodes || part.load_unit != tree.load_unit || of == part.notes.end() ||
+        !part.notes.contains("leaf") || of->second != identity)
       throw Refusal("--join: a part is of another tree");
   }
 }
@@ -298,6 +336,7 @@ class Joining {
   Joining(const Certificate& tree, const std::vector<Certificate>& parts,
           const std::vector<std::size_t>& order, std::size_t count)
       : tree_(tree), whole_{tree.nodes, tree.scale} {
+    whole_.load_unit = tree.load_unit;
     for (std::size_t k = 0; k < count; k++) {
       const Certificate& part = parts[order[k]];
       parts_[leaf_number(part)] = &part;
@@ -339,8 +378,13 @@ class Joining {
     return places;
   }
   void add(const Certificate& part, const std::vector<int>& places, const TreeStep& step) {
-    const auto* numbers = std::get_if<Numbers>(&step);
-    whole_.steps.push_back(numbers ? TreeStep(moved(*numbers, whole_.scale / part.scale, places)) : step);
+    if (const auto* numbers = std::get_if<Numbers>(&step)) {
+      whole_.steps.emplace_back(moved(*numbers, whole_.scale / part.scale, places));
+    } else if (const auto* branch = std::get_if<FamilyBranch>(&step)) {
+      whole_.steps.emplace_back(FamilyBranch{places.at(branch->family), branch->t});
+    } else {
+      whole_.steps.push_back(step);
+    }
   }
 
   const Certificate& tree_;
@@ -388,6 +432,11 @@ std::string identity_of(const Certificate& certificate) {
     if (const auto* pair = std::get_if<Pair>(&step)) {
       add(pair->first);
       add(pair->second);
+      continue;
+    }
+    if (const auto* branch = std::get_if<FamilyBranch>(&step)) {
+      add(certificate.nodes + branch->family);
+      add(branch->t);
       continue;
     }
     for (const Weight potential : std::get<Numbers>(step).potentials) add(potential);

@@ -9,8 +9,14 @@
 #include "exact_bound.h"
 
 namespace certify {
-// A branch on a pair, or a leaf with its numbers.
-using TreeStep = std::variant<Pair, Numbers>;
+// A branch on a family, of a CVRP: first the solutions that cross it at most 2 t times, then those that cross
+// it more often.
+struct FamilyBranch {
+  int family;
+  int t;
+};
+// A branch on a pair or on a family, or a leaf with its numbers.
+using TreeStep = std::variant<Pair, FamilyBranch, Numbers>;
 
 struct Certificate {
   int nodes = 0;
@@ -18,6 +24,7 @@ struct Certificate {
   std::map<std::string, std::string> notes{};    // of lines COMMENT : tsp-certify KEY VALUE
   std::vector<std::vector<NodeSet>> families{};  // as many as multipliers name, and more
   std::vector<TreeStep> steps{};                 // from the root on, a branch before its cases
+  Weight load_unit = 1;                          // of a CVRP
 };
 
 // How much a certificate has of all that docs/format.md limits.
@@ -27,9 +34,16 @@ struct Extent {
 };
 inline constexpr Extent kLimits{10000, 1000000, 10000000, 1000000};  // of a file
 
+// The case of a branch on a family that a leaf is in.
+struct FamilyDecision {
+  FamilyBranch branch;
+  bool first;
+};
+
 // A leaf with what is decided above it.
 struct OpenLeaf {
   std::vector<Decision> decisions;
+  std::vector<FamilyDecision> family_decisions;
   Numbers numbers;  // the multipliers by the place of a family
 };
 
@@ -51,6 +65,7 @@ int add_family(CutPool& pool, const std::vector<NodeSet>& family, int nodes);
 OpenLeaf leaf_of(const Certificate& certificate, int number);
 // The value of a note, or another one where there is no such note.
 double note_of(const Certificate& certificate, const std::string& key, double otherwise);
+bool has_family_branches(const Certificate& certificate);
 // Whether leaves are open, by a note of whoever made it.
 inline bool is_open(const Certificate& certificate) { return certificate.notes.contains("open"); }
 // A tree with parts in the places of leaves, and the numbers of those that are left out.

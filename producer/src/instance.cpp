@@ -6,6 +6,7 @@
 #include <set>
 
 #include "canonical.h"
+#include "distances.h"
 #include "tsp_program.h"
 
 namespace certify {
@@ -23,16 +24,9 @@ Wide square_root(Wide square) {
 
 // Takes the distances of points.
 void measure(const Canonical& file, Instance& instance) {
-  const std::string kind(file.value("EDGE_WEIGHT_TYPE"));
   const std::vector<Point> points = points_of(file);
-  for (int i = 0; i < instance.nodes(); i++) {
-    for (int j = i + 1; j < instance.nodes(); j++) {
-      const auto& a = points[i];
-      const auto& b = points[j];
-      instance.weights.set(i, j, distance_of(kind, a[0] - b[0], a[1] - b[1], a[2] - b[2]));
-    }
-  }
-  if (!kind.ends_with("_3D")) {
+  instance.weights = distances_of(file);
+  if (!file.value("EDGE_WEIGHT_TYPE").ends_with("_3D")) {
     for (const auto& point : points) instance.points.emplace_back(point[0], point[1]);
   }
   instance.rounded =
@@ -74,7 +68,7 @@ Weight distance_of(const std::string& kind, Weight x, Weight y, Weight z) {
 void refuse_other_kinds(const Canonical& file, const std::string& path) {
   const std::string kind(file.value("TYPE"));
   if (kind != "TSP" && kind != "ATSP") {
-    throw Refusal(path + ": the file is of TYPE " + kind + ", and certificates are for TYPE TSP and ATSP");
+    throw Refusal(path + ": the file is of TYPE " + kind + ", of which no such certificate is made");
   }
   if (file.nodes() < 3) throw Refusal(path + ": there are no tours of fewer than three nodes");
 }

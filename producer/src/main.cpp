@@ -16,6 +16,7 @@
 #include "options.h"
 #include "parameters.h"
 #include "report.h"
+#include "routes/certify_routes.h"
 #include "search.h"
 #include "tsp_program.h"
 #include "writing.h"
@@ -78,13 +79,16 @@ bool is_rounded_away(const Instance& instance, const Tour& tour) {
 
 Certificate read_tree(const std::string& tsp, const std::string& path, const Instance& instance) {
   Certificate tree = read_certificate(tsp, path);
-  if (tree.nodes != instance.nodes()) throw Refusal(path + ": this is of another instance");
+  if (tree.nodes != instance.nodes() || has_family_branches(tree)) {
+    throw Refusal(path + ": this is of another instance");
+  }
   return tree;
 }
 
 int certify_instance(const Options& options) {
   const std::string tsp = find_tsp(options.tsp);
   auto file = std::make_unique<Canonical>(canonical_text(tsp, options.instance, {}));
+  if (file->value("TYPE") == "CVRP") return routes::certify_routes(options, tsp, std::move(file));
   refuse_other_kinds(*file, options.instance);
   if (is_large(options, *file)) return certify_large(options, tsp, std::move(file));
   const Instance instance = read_instance(tsp, options.instance, *file);

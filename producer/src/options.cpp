@@ -39,7 +39,8 @@ void declare_trees(CLI::App& app, Options& options) {
 }
 
 void declare(CLI::App& app, Options& options) {
-  declare_files(app, options, "a tour to begin with");
+  declare_files(app, options, "a tour to begin with, or routes");
+  app.get_option("INSTANCE")->description("a file of TYPE TSP, ATSP or CVRP");
   app.add_option("-o", options.certificate, "where the certificate is written")
       ->required()
       ->type_name("CERTIFICATE");
@@ -78,8 +79,10 @@ void declare(CLI::App& app, Options& options) {
 
 std::variant<Options, Help> parse_options(int count, const char* const* words) {
   Options options;
-  CLI::App app("Makes a certificate of TYPE BRANCHES for a TSP or an ATSP, and a tour where none is named",
-               "tsp-certify");
+  CLI::App app(
+      "Makes a certificate of TYPE BRANCHES for a TSP, an ATSP or a CVRP, and a tour or routes where none "
+      "are named",
+      "tsp-certify");
   declare(app, options);
   if (const std::optional<Help> help = take_words(app, count, words)) return *help;
   if (!options.tour && !options.tour_out && !options.upper && options.parts.empty()) {

@@ -1,13 +1,10 @@
 #include "search.h"
 
-#include <oneapi/tbb/parallel_pipeline.h>
-
 #include <algorithm>
 #include <cmath>
 #include <utility>
 
 #include "bound_for.h"
-#include "threads.h"
 
 namespace certify {
 namespace {
@@ -31,6 +28,7 @@ Search::Search(const Instance& instance, const Start& start, const Clock& clock,
       named_(pool_, plan.limits),
       bound_(bound_for(instance, pool_, problem_.scale)),
       made_(*bound_, pool_, instance.directed),
+      window_(plan.window),
       history_(std::make_shared<const History>()),
       least_(-ExactBound::nothing()) {
   goal_.target = start.upper ? std::min(*start.upper, goal_.length) : goal_.length;
@@ -118,13 +116,14 @@ Case Search::first_case() {
 
 Standing Search::standing() const {
   Value least = open_.empty() ? -ExactBound::nothing() : open_.begin()->first;
-  for (const Begun& job : running_) {
-    if (job->place >= 0) least = std::min(least, places_[job->place].value);
+  std::size_t running = 0;
+  for (const Window::Begun& slot : window_.running()) {
+    if (slot->job.place < 0) continue;
+    least = std::min(least, places_[slot->job.place].value);
+    running++;
   }
   const Weight reached = least == -ExactBound::nothing() ? goal_.target : bound_->bound_of(least);
-  const auto open =
-      open_.size() + static_cast<std::size_t>(std::count_if(running_.begin(), running_.end(),
-                                                            [](auto& job) { return job->place >= 0; }));
+  const auto open = open_.size() + running;
   return {goal_.length,   std::min(reached, goal_.target),
           leaves_,        static_cast<int>(open),
           rows_.subtours, rows_.combs,
@@ -305,13 +304,10 @@ void Search::remember(const History& fresh) {
 }
 
 // Takes what came of the case that was begun first.
-void Search::take_oldest() {
-  const Begun oldest = running_.front();
-  running_.pop_front();
-  const std::lock_guard lock(oldest->access);
-  if (oldest->place < 0) return;
-  remember(oldest->outcome.history);
-  take(oldest->place, oldest->outcome);
+void Search::take(Job& job) {
+  if (job.place < 0) return;
+  remember(job.outcome.history);
+  take(job.place, job.outcome);
 }
 
 // Finishes the open cases that reach the target: where a shorter tour was found meanwhile.
@@ -328,65 +324,44 @@ void Search::finish_reached() {
 }
 
 bool Search::waits_for_none() const {
-  return std::all_of(running_.begin(), running_.end(), [](const Begun& job) { return job->place < 0; });
+  return std::all_of(window_.running().begin(), window_.running().end(),
+                     [](const Window::Begun& slot) { return slot->job.place < 0; });
 }
 
-// Begins the next case. A null pointer where all are done or the time is over; a job without a case where
-// none is open until another one has ended.
-Search::Begun Search::begin_next() {
-  const std::lock_guard lock(access_);
-  while (static_cast<int>(running_.size()) >= plan_.window) take_oldest();
+// Begins the next case, or none until another one has ended. False where all are done or the time is over.
+bool Search::begin(Job& job) {
   finish_reached();
-  if ((open_.empty() && waits_for_none()) || clock_.over(kTree.part_of_time)) return nullptr;
-  if (plan_.split > 0 && open_.size() + running_.size() >= plan_.split) return nullptr;
+  if ((open_.empty() && waits_for_none()) || clock_.over(kTree.part_of_time)) return false;
+  const std::size_t running = window_.running().size() - 1;  // (without this one)
+  if (plan_.split > 0 && open_.size() + running >= plan_.split) return false;
   if (branches_ >= plan_.limits.branches) {
     limited_ = true;
-    return nullptr;
+    return false;
   }
-  auto job = std::make_shared<Job>();
-  const std::lock_guard own(job->access);
   if (!open_.empty()) {
-    job->place = next_place();
-    job->here = case_of(job->place);
+    job.place = next_place();
+    job.here = case_of(job.place);
   }
-  running_.push_back(job);
   progress_.show(standing());
-  return job;
+  return true;
 }
 
-void Search::solve(Job& job) {
+void Search::solve(Window::Slot& slot) {
   CaseSolver& solver = own_solver();
+  Job& job = slot.job;
   {
-    const std::lock_guard lock(access_);
+    const std::lock_guard lock(window_.access());
     if (job.place < 0) return;
     job.here.cuts = pool_.part(solver.known(), job.here.known);
   }
-  const std::lock_guard own(job.access);
+  const std::lock_guard own(slot.access);
   job.outcome = solver.solve(job.here);
   job.here = {};
 }
 
-// A pipeline keeps the order: its first filter begins cases one by one, and its last one lets as many be on
-// the way as the window has places.
 void Search::grow_tree() {
-  using oneapi::tbb::filter_mode;
-  using oneapi::tbb::make_filter;
-  const auto begin = make_filter<void, Begun>(filter_mode::serial_in_order, [&](auto& flow) {
-    show_step_begins();
-    Begun job = begin_next();
-    if (!job) flow.stop();
-    return job;
-  });
-  const auto work = make_filter<Begun, Begun>(filter_mode::parallel, [&](const Begun& job) {
-    show_step_begins();
-    if (job) solve(*job);
-    return job;
-  });
-  const auto end = make_filter<Begun, void>(filter_mode::serial_in_order, [](const Begun&) {});
-  show_loop_begins();
-  oneapi::tbb::parallel_pipeline(static_cast<std::size_t>(plan_.window), begin & work & end);
-  const std::lock_guard lock(access_);
-  while (!running_.empty()) take_oldest();
+  window_.run([this](Job& job) { return begin(job); }, [this](Window::Slot& slot) { solve(slot); },
+              [this](Job& job) { take(job); });
 }
 
 // A leaf that is done gets numbers near those of the leaf before, which makes a short file. Where differences

@@ -8,12 +8,11 @@
 #pragma once
 #include <oneapi/tbb/enumerable_thread_specific.h>
 
-#include <deque>
-#include <mutex>
 #include <set>
 
 #include "case_solver.h"
 #include "certificate.h"
+#include "job_window.h"
 #include "named_cuts.h"
 #include "parameters.h"
 
@@ -68,11 +67,10 @@ class Search {
   // A case that is solved, or was; nothing where there was none to begin.
   struct Job {
     int place = -1;
-    Case here;
-    Outcome outcome;
-    std::mutex access{};  // (whoever has the job next sees what the one before wrote)
+    Case here{};
+    Outcome outcome{};
   };
-  using Begun = std::shared_ptr<Job>;
+  using Window = JobWindow<Job>;
   Value aim() const { return static_cast<Value>(problem_.scale) * (goal_.target - 1) + 1; }
   std::vector<Decision> decisions_of(int place) const;
   Numbers numbers_of(const Numbers& numbers, const std::vector<int>& cuts) const;
@@ -83,9 +81,9 @@ class Search {
   void solve_first();
   int depth_of(int place) const;
   void grow_tree();
-  Begun begin_next();
-  void solve(Job& job);
-  void take_oldest();
+  bool begin(Job& job);
+  void solve(Window::Slot& slot);
+  void take(Job& job);
   void remember(const History& history);
   void take(int place, Outcome& outcome);
   void take_done(int place);
@@ -115,8 +113,7 @@ class Search {
   std::vector<Decision> above_;  // what is decided at the root
   std::map<std::string, std::string> notes_;
   Goal goal_;
-  std::mutex access_;  // to the tree and the pool, which one thread after the other has
-  CutPool pool_;
+  CutPool pool_;     // one thread after the other has it and the tree: that with access to the window
   NamedCuts named_;  // by leaves that are done
   const std::unique_ptr<ExactBound> bound_;
   std::optional<Weight> shift_;
@@ -124,7 +121,7 @@ class Search {
   std::vector<Place> places_;
   std::set<std::pair<Value, int>> open_;  // places by value, and of the same value the newest first
   oneapi::tbb::enumerable_thread_specific<std::unique_ptr<CaseSolver>> solvers_;
-  std::deque<Begun> running_;  // begun and not taken, in order
+  Window window_;
   std::uint64_t begun_cases_ = 0;
   std::shared_ptr<const History> history_;
   std::vector<TreeStep> steps_;

@@ -627,8 +627,6 @@ def bad_input():
     Path("odd.tsp").write_text(rows.replace("ATSP", "TSP") + "EOF\n")
     Path("back.atsp").write_text(rows + "FIXED_EDGES_SECTION\n1 2\n2 1\n-1\nEOF\n")
     Path("one.atsp").write_text("TYPE:ATSP\nDIMENSION:1\n" + rows.partition("3\n")[2].replace("0 1 2 3 0 4 5 6 0", "0"))
-    Path("routes.vrp").write_text(text.replace(": TSP", ": CVRP").replace("EOF", "CAPACITY : 9\nDEMAND_SECTION\n")
-        + "".join(f"{v} {min(v - 1, 1)}\n" for v in range(1, 13)) + "DEPOT_SECTION\n1\n-1\nEOF\n")
     Path("cut.tsp").write_text(text[: len(text) // 2])
     Path("star.tsp").write_text(text.replace("EOF", "FIXED_EDGES_SECTION\n1 2\n1 3\n1 4\n-1\nEOF"))
     Path("ring.tsp").write_text(text.replace("EOF", "FIXED_EDGES_SECTION\n1 2\n2 3\n3 1\n-1\nEOF"))
@@ -638,7 +636,7 @@ def bad_input():
     out = ["-o", "out.branches"]
     both = [*out, "--tour-out", "out.tour"]
     faults = [
-        (["routes.vrp", *both], "TYPE CVRP"),
+        (["short.tour", *both], "TYPE TOUR"),
         (["geo.tsp", *both], "the script examples/geo.py converts GEO"),
         (["back.atsp", *both], "no tour uses all fixed edges"),
         (["one.atsp", *both], "three nodes"),

@@ -1,0 +1,52 @@
+#include "routes/certify_routes.h"
+
+#include <iostream>
+#include <utility>
+
+#include "report.h"
+#include "routes/route_search.h"
+#include "routes/string_removals.h"
+#include "tsp_program.h"
+
+namespace certify::routes {
+namespace {
+// The loads of the certificate that is gone on with, or the finest ones.
+Loads loads_for(const CvrpInstance& instance, const std::optional<Certificate>& tree) {
+  if (!tree) return finest_loads(instance, kRouteTree.most_loads);
+  if (auto loads = loads_in(instance, tree->load_unit)) return *loads;
+  throw Refusal("the certificate's LOAD_UNIT gives too many loads");
+}
+}  // namespace
+
+int certify_routes(const Options& options, const std::string& tsp, std::unique_ptr<Canonical> file) {
+  const CvrpInstance instance = read_cvrp(tsp, options.instance, *file);
+  file.reset();
+  std::optional<Routes> given;
+  if (options.tour) given = read_routes(tsp, *options.tour, instance);
+  RouteBegin begin{.routes = {}, .upper = options.upper, .seed = options.seed, .leaf = options.leaf};
+  if (options.tree) {
+    begin.tree = read_certificate(tsp, *options.tree);
+    RouteCertificates(instance).check(*begin.tree, *options.tree);
+  }
+  const Loads loads = loads_for(instance, begin.tree);
+  Progress progress(options.log);
+  Clock::catch_signals();
+  const Clock clock(options.seconds);
+  begin.routes = find_routes(instance, given, options.seed,
+                             [&] { return Clock::signal() ? 1.0 : clock.used() / kRemovals.part_of_time; });
+  RouteSearch search(instance, loads, begin, clock, progress,
+                     {options.window, options.split, options.limits});
+  search.run();
+  write_certificate(options.certificate, search.certificate(), options.split > 0, options.limits);
+  if (options.tour_out) write_routes(*options.tour_out, instance, search.routes());
+  progress.end();
+  if (options.split > 0) {
+    for (const int leaf : search.open_leaves()) std::cout << leaf << "\n";
+  }
+  Ending ending{length_of(instance, search.routes()), search.bound(), search.leaves()};
+  if (given) ending.given = length_of(instance, *given);
+  ending.limited = search.is_limited();
+  report(options, ending);
+  return Clock::signal() ? 128 + *Clock::signal() : 0;
+}
+}  // namespace certify::routes

@@ -1,0 +1,117 @@
+#include "routes/column_generation.h"
+
+#include <algorithm>
+#include <cmath>
+
+#include "routes/route_parameters.h"
+
+namespace certify::routes {
+namespace {
+double weight_of(const Route& walk, const Links<double>& links, int nodes) {
+  double sum = 0;
+  int last = 0;
+  for (const int v : walk) {
+    sum += links[static_cast<std::size_t>(last) * nodes + v];
+    last = v;
+  }
+  return sum + links[static_cast<std::size_t>(last) * nodes];
+}
+}  // namespace
+
+ColumnGeneration::ColumnGeneration(const CvrpInstance& instance, const Loads& loads, WalkProgram& program,
+                                   const std::vector<Limit>& limits)
+    : instance_(instance),
+      program_(program),
+      table_(loads),
+      limited_(limited_crossings(instance, limits)),
+      large_(static_cast<double>(loads.cells()) * instance.nodes() > kColumns.small_table),
+      bound_(kNoBound) {}
+
+// The multiplier of all customers takes what the least walk weighs. Then the bound is what duals give back.
+double ColumnGeneration::bound_of(Duals& duals, double least_walk) const {
+  duals.multipliers[instance_.customers()] += least_walk / 2;
+  double sum = 0;
+  for (const double potential : duals.potentials) sum -= 2 * potential;
+  for (const auto& [set, multiplier] : duals.multipliers) {
+    const auto found = limited_.find(set);
+    const Crossings own = found == limited_.end() ? free_crossings(instance_, set) : found->second;
+    sum += multiplier * (multiplier > 0 ? own.low : own.high);
+  }
+  return sum;
+}
+
+// A part of the best duals, and the rest of these.
+Duals ColumnGeneration::mixed(const Duals& duals, double part) const {
+  if (part <= 0) return duals;
+  Duals mixed = best_;
+  for (std::size_t v = 0; v < mixed.potentials.size(); v++) {
+    mixed.potentials[v] = part * best_.potentials[v] + (1 - part) * duals.potentials[v];
+  }
+  for (auto& [set, multiplier] : mixed.multipliers) multiplier *= part;
+  for (const auto& [set, multiplier] : duals.multipliers) {
+    mixed.multipliers[set] += (1 - part) * multiplier;
+  }
+  return mixed;
+}
+
+// Those of the table that weigh less than 0 under the duals of the program join it. How many.
+int ColumnGeneration::add_walks(const Duals& duals) {
+  const auto most =
+      std::clamp<std::size_t>(instance_.nodes(), kColumns.fewest_at_once, kColumns.most_at_once);
+  const Links<double> links = links_under(instance_, duals, 1 / program_.unit());
+  std::vector<Route> light;
+  for (const Walk<double>& walk : table_.walks(most)) {
+    if (weight_of(walk.customers, links, instance_.nodes()) < -1e-7) light.push_back(walk.customers);
+  }
+  return program_.add_walks(light);
+}
+
+// Walks over few links, which says nothing of the bound.
+bool ColumnGeneration::price_few(const Duals& duals, const Duals& mixed) {
+  table_.least_of_few(links_under(instance_, mixed, 1 / program_.unit()), kColumns.few_links);
+  return add_walks(duals) >= kColumns.enough_of_few;
+}
+
+// All walks. The mixed duals become the best ones where their bound is better. How many walks joined.
+int ColumnGeneration::price(const Duals& duals, Duals mixed) {
+  const double least = table_.least(links_under(instance_, mixed, 1 / program_.unit()));
+  const int added = add_walks(duals);
+  const double bound = bound_of(mixed, least);
+  if (bound > bound_) {
+    bound_ = bound;
+    best_ = std::move(mixed);
+  }
+  return added;
+}
+
+double ColumnGeneration::run(const Ending& ending) {
+  program_.solve();
+  bool first = bound_ == kNoBound && !best_.potentials.empty();
+  for (int failures = 0, few = 0;;) {
+    const Duals duals = program_.duals();
+    const double part = first                ? 1
+                        : bound_ == kNoBound ? 0
+                                             : std::max(0.0, 1 - (failures + 1) * kColumns.step);
+    const Duals mix = mixed(duals, part);
+    if (large_ && !first && few < kColumns.few_in_a_row && price_few(duals, mix)) {
+      few++;
+      program_.solve();
+      if (ending.late()) break;
+      continue;
+    }
+    few = 0;
+    first = false;
+    const int added = price(duals, mix);
+    const bool near = program_.value() - bound_ < ending.tolerance;
+    if (bound_ > ending.goal || ending.late()) break;
+    if (near && !(ending.strict && program_.value() > ending.goal)) break;
+    if (added == 0 && part <= 0) break;
+    failures = added == 0 ? failures + 1 : 0;
+    if (added == 0) continue;
+    program_.solve();
+    program_.drop_walks(kColumns.far * std::abs(program_.value()) / instance_.nodes());
+  }
+  program_.solve();
+  return bound_;
+}
+}  // namespace certify::routes

@@ -1,0 +1,43 @@
+// Sets of customers, what decisions say of their crossings, and the numbers of leaves over them.
+#pragma once
+#include <map>
+#include <optional>
+
+#include "certificate.h"
+#include "routes/cvrp.h"
+
+namespace certify::routes {
+// Sorted sets by their numbers. Number 0 is the set of all customers.
+class SetPool {
+ public:
+  explicit SetPool(const CvrpInstance& instance) { add(instance.customers()); }
+  // The number of the set, which joins where it isn't known.
+  int add(const NodeSet& set);
+  const NodeSet& operator[](int number) const { return sets_[number]; }
+  int size() const { return static_cast<int>(sets_.size()); }
+
+ private:
+  std::vector<NodeSet> sets_;
+  std::map<NodeSet, int> numbers_;
+};
+
+// A set is crossed at least and at most as often.
+struct Crossings {
+  int low, high;
+  bool operator==(const Crossings&) const = default;
+};
+
+// At most 2 t crossings of a set, or at least 2 t + 2.
+struct Limit {
+  NodeSet set;
+  bool most;
+  int t;
+};
+
+// What a plan says of a set without decisions: at least the routes that its demand needs, at most all
+// customers'.
+Crossings free_crossings(const CvrpInstance& instance, const NodeSet& set);
+// The crossings that decisions leave to their sets.
+std::map<NodeSet, Crossings> limited_crossings(const CvrpInstance& instance,
+                                               const std::vector<Limit>& limits);
+}  // namespace certify::routes

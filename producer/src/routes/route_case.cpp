@@ -1,0 +1,182 @@
+#include "routes/route_case.h"
+
+#include <algorithm>
+#include <cmath>
+
+#include "routes/route_parameters.h"
+
+namespace certify::routes {
+namespace {
+// The routes of a solution that uses each link wholly or not at all, each in its cheaper direction. Nothing
+// where it isn't such a one.
+std::optional<Routes> routes_along(const CvrpInstance& instance, const Graph& support) {
+  for (int v = 1; v < instance.nodes(); v++) {
+    double degree = 0;
+    for (const Edge& edge : support[v]) {
+      if (std::abs(edge.value - std::round(edge.value)) > 1e-5) return std::nullopt;
+      degree += edge.value;
+    }
+    if (std::abs(degree - 2) > 1e-4) return std::nullopt;
+  }
+  Routes routes;
+  std::vector<char> served(instance.nodes(), 0);
+  for (const Edge& begin : support[0]) {
+    if (served[begin.to] != 0) continue;
+    Route route;
+    for (int v = begin.to, last = 0; v != 0;) {
+      if (served[v] != 0) return std::nullopt;
+      served[v] = 1;
+      route.push_back(v);
+      const auto on = std::find_if(support[v].begin(), support[v].end(),
+                                   [&](const Edge& edge) { return edge.to != last; });
+      last = v;
+      v = on == support[v].end() ? 0 : on->to;
+    }
+    const Route back(route.rbegin(), route.rend());
+    routes.push_back(length_of(instance, back) < length_of(instance, route) ? back : route);
+  }
+  return routes;
+}
+}  // namespace
+
+// A case at hand.
+struct RouteCaseSolver::Rounds {
+  WalkProgram& program;
+  ColumnGeneration generation;
+  CapacityCuts cuts;
+  RouteGoal goal;
+  const Note& note;
+  bool whole;
+  bool shorter = false;  // the goal's plan is a new one
+  double margin = kRouteLeaves.margin;
+  void tell() const {
+    if (!note || !generation.has_bound()) return;
+    const auto bound = static_cast<Weight>(std::floor(generation.bound() * program.unit()));
+    note(goal.length, bound, static_cast<int>(program.sets().size()), program.walks());
+  }
+  double goal_value() const { return (static_cast<double>(goal.target) - 1 + margin) / program.unit(); }
+};
+
+RouteCaseSolver::RouteCaseSolver(const RouteProblem& problem, const Clock& clock)
+    : problem_(problem), clock_(clock), bound_(problem.instance, problem.loads, problem.scale) {}
+
+void RouteCaseSolver::load(const RouteCase& here, WalkProgram& program) const {
+  std::vector<NodeSet> sets;
+  if (here.start) sets = here.start->sets;
+  for (const auto& [set, multiplier] : here.numbers.multipliers) sets.push_back(set);
+  program.add_sets(sets);
+  for (const auto& [set, crossings] : limited_crossings(problem_.instance, here.limits)) {
+    program.limit(set, crossings);
+  }
+  if (here.start) program.add_walks(here.start->walks);
+  program.add_walks(here.goal.routes);
+}
+
+void RouteCaseSolver::look_for_plan(Rounds& rounds) const {
+  const auto routes = routes_along(problem_.instance, rounds.program.support());
+  if (!routes || !is_plan(problem_.instance, *routes)) return;
+  const Weight length = length_of(problem_.instance, *routes);
+  if (length >= rounds.goal.length) return;
+  rounds.goal = {*routes, length, std::min(rounds.goal.target, length)};
+  rounds.shorter = true;
+}
+
+// False where the solution misses none.
+bool RouteCaseSolver::add_cuts(Rounds& rounds, bool thorough) {
+  std::vector<NodeSet> sets;
+  for (const CapacityCut& cut :
+       rounds.cuts.violated(rounds.program.support(), thorough, kCapacityCuts.least_violation)) {
+    if (sets.size() >= kCapacityCuts.most_at_once) break;
+    sets.push_back(cut.set);
+  }
+  return rounds.program.add_sets(sets) > 0;
+}
+
+// Walks and cuts in turn. First the duals need not be near the best ones; where that finds no cut, or the
+// bound stalls, they have to be nearer.
+void RouteCaseSolver::cut(Rounds& rounds) {
+  const double length = (static_cast<double>(std::abs(rounds.goal.length)) + 1) / rounds.program.unit();
+  const CutRounds& plan = rounds.whole ? kRootRounds : kTreeRounds;
+  double tolerance = plan.first_tolerance * length;
+  const double last_tolerance = std::max(plan.last_tolerance * length, 1e-6);
+  std::vector<double> past;
+  const std::function<bool()> late = [&] { return clock_.over(kRouteTree.part_of_time); };
+  for (int round = 1, raises = 0;; round++) {
+    const bool last = tolerance <= last_tolerance;
+    const double bound = rounds.generation.run({rounds.goal_value(), tolerance, last, late});
+    look_for_plan(rounds);
+    rounds.tell();
+    if (bound > rounds.goal_value() || late()) return;
+    past.push_back(bound);
+    const bool stalls =
+        past.size() > plan.window && bound - past[past.size() - 1 - plan.window] < plan.least_gain * length;
+    if (stalls && last) return;
+    if (!stalls && (add_cuts(rounds, false) || add_cuts(rounds, true))) {
+      if (round % 4 == 0) rounds.program.drop_sets(kCapacityCuts.slack_solutions);
+      continue;
+    }
+    if (last && rounds.program.is_broken() && raises++ < 4) {
+      rounds.program.raise_penalty();
+    } else if (last) {
+      return;
+    }
+    tolerance = std::max(last_tolerance, tolerance / 5);
+    past.clear();
+  }
+}
+
+void RouteCaseSolver::branch(Rounds& rounds, RouteOutcome& outcome) const {
+  rounds.cuts.violated(rounds.program.support(), true, kCapacityCuts.least_violation);
+  outcome.branch =
+      choose_branch(problem_.instance, rounds.program, rounds.cuts.between(), rounds.goal_value());
+  if (!outcome.branch) return;
+  RouteStart start{rounds.program.sets(), rounds.program.best_walks(kRouteTree.walks),
+                   rounds.generation.best()};
+  outcome.start = std::make_shared<const RouteStart>(std::move(start));
+}
+
+// The best numbers from above, or the duals as whole numbers where their bound is better.
+RouteOutcome RouteCaseSolver::settled(const RouteCase& here, const Duals& duals) {
+  RouteOutcome outcome;
+  outcome.numbers = here.numbers;
+  if (!here.numbers.potentials.empty()) outcome.value = bound_.value(here.numbers, here.limits);
+  if (duals.potentials.empty()) return outcome;
+  LeafNumbers numbers = bound_.rounded(duals, 1);
+  const Value value = bound_.value(numbers, here.limits);
+  if (value <= outcome.value) return outcome;
+  outcome.value = value;
+  outcome.numbers = std::move(numbers);
+  return outcome;
+}
+
+RouteOutcome RouteCaseSolver::solve(const RouteCase& here, const Note& note) {
+  WalkProgram program(problem_.instance, here.goal.length);
+  load(here, program);
+  Rounds rounds{program,
+                ColumnGeneration(problem_.instance, problem_.loads, program, here.limits),
+                CapacityCuts(problem_.instance, here.seed),
+                here.goal,
+                note,
+                here.whole};
+  if (here.start) {
+    rounds.generation.set_best(here.start->duals);
+  } else if (!here.numbers.potentials.empty()) {
+    rounds.generation.set_best(duals_of(problem_.instance, here.numbers, problem_.scale));
+  }
+  cut(rounds);
+  RouteOutcome outcome = settled(here, rounds.generation.best());
+  // Rounding may lose what the bound has above the target. Then it has to have more.
+  while (outcome.value < aim(rounds.goal) && rounds.generation.bound() > rounds.goal_value() &&
+         rounds.margin < 1 && !clock_.over(kRouteTree.part_of_time)) {
+    rounds.margin *= 4;
+    cut(rounds);
+    outcome = settled(here, rounds.generation.best());
+  }
+  if (rounds.shorter) outcome.routes = rounds.goal.routes;
+  outcome.sets = static_cast<int>(program.sets().size());
+  outcome.walks = program.walks();
+  outcome.done = outcome.value >= aim(rounds.goal);
+  if (!outcome.done && !clock_.over(kRouteTree.part_of_time)) branch(rounds, outcome);
+  return outcome;
+}
+}  // namespace certify::routes

@@ -1,0 +1,344 @@
+#include "routes/route_search.h"
+
+#include <algorithm>
+#include <numeric>
+#include <sstream>
+#include <utility>
+
+#include "routes/route_parameters.h"
+
+namespace certify::routes {
+namespace {
+// A multiple of the scale of a certificate that is gone on with, so that its numbers are whole.
+Weight common_scale(const CvrpInstance& instance, const RouteBegin& begin) {
+  const Weight scale = scale_for(instance);
+  if (!begin.tree) return scale;
+  const Weight common = std::lcm(scale, begin.tree->scale);
+  return common <= kRouteLeaves.most_common_scale ? common : begin.tree->scale;
+}
+}  // namespace
+
+RouteSearch::RouteSearch(const CvrpInstance& instance, const Loads& loads, const RouteBegin& begin,
+                         const Clock& clock, Progress& progress, const Plan& plan)
+    : instance_(instance),
+      problem_{instance, loads, common_scale(instance, begin)},
+      begin_(begin),
+      clock_(clock),
+      progress_(progress),
+      plan_(plan),
+      certificates_(instance),
+      goal_{begin.routes, length_of(instance, begin.routes), 0},
+      bound_(instance, loads, problem_.scale),
+      window_(plan.window),
+      made_(instance, problem_.scale, loads.unit) {
+  goal_.target = begin.upper ? std::min(*begin.upper, goal_.length) : goal_.length;
+}
+
+std::vector<Limit> RouteSearch::limits_of(int place) const {
+  std::vector<Limit> limits = above_;
+  for (auto origin = places_[place].origin; origin; origin = places_[origin->parent].origin) {
+    const SetBranch& branch = places_[origin->parent].branch->set;
+    limits.push_back({branch.set, origin->first, branch.t});
+  }
+  return limits;
+}
+
+// Takes the next step: a branch, or a leaf, which is open where its numbers don't reach the target.
+void RouteSearch::take_step(const Certificate& tree, const TreeStep& step, std::vector<Origin>& rest) {
+  const int place = static_cast<int>(places_.size());
+  Place& here = places_.emplace_back();
+  if (place > 0) {
+    here.origin = rest.back();
+    rest.pop_back();
+    places_[here.origin->parent].branch->cases[here.origin->first ? 0 : 1] = place;
+  }
+  if (const auto* branch = std::get_if<FamilyBranch>(&step)) {
+    here.branch = Branch{{certificates_.customers_of(tree, branch->family), branch->t}, {-1, -1}};
+    branches_++;
+    for (const bool first : {false, true}) rest.push_back({place, first});
+    return;
+  }
+  here.numbers = certificates_.numbers_of(tree, std::get<Numbers>(step), problem_.scale / tree.scale);
+  here.value = bound_.value(here.numbers, limits_of(place));
+  open_.emplace(here.value, -place);
+}
+
+void RouteSearch::take_tree(const Certificate& tree) {
+  std::vector<Origin> rest;
+  for (const TreeStep& step : tree.steps) take_step(tree, step, rest);
+  finish_reached();
+}
+
+RouteCase RouteSearch::case_of(int place) {
+  return {.limits = limits_of(place),
+          .start = std::exchange(places_[place].start, nullptr),
+          .numbers = places_[place].numbers,
+          .goal = goal_,
+          .seed = begin_.seed + 0x9E3779B97F4A7C15ull * ++begun_cases_};
+}
+
+RouteCaseSolver& RouteSearch::own_solver() {
+  std::unique_ptr<RouteCaseSolver>& solver = solvers_.local();
+  if (!solver) solver = std::make_unique<RouteCaseSolver>(problem_, clock_);
+  return *solver;
+}
+
+Weight RouteSearch::least_bound() const {
+  Value least = open_.empty() ? -WalkBound::nothing() : open_.begin()->first;
+  for (const Window::Begun& slot : window_.running()) {
+    if (slot->job.place >= 0) least = std::min(least, places_[slot->job.place].value);
+  }
+  return least == -WalkBound::nothing() ? goal_.target : std::min(bound_.bound_of(least), goal_.target);
+}
+
+std::size_t RouteSearch::open_cases() const {
+  return open_.size() +
+         static_cast<std::size_t>(std::count_if(window_.running().begin(), window_.running().end(),
+                                                [](auto& slot) { return slot->job.place >= 0; }));
+}
+
+void RouteSearch::log(std::string_view event, Weight bound) {
+  std::ostringstream more;
+  more << R"("leaves": )" << leaves_ << R"(, "open": )" << open_cases() << R"(, "cuts": {"sets": )" << sets_
+       << R"(}, "walks": )" << walks_;
+  progress_.log(event, goal_.length, bound, more.str());
+}
+
+// The root: the whole problem, or one leaf of a certificate.
+void RouteSearch::solve_first() {
+  places_.emplace_back();
+  if (begin_.tree) {
+    const int number = begin_.leaf.value_or(1);
+    const OpenLeaf leaf = leaf_of(*begin_.tree, number);
+    above_ = certificates_.limits_of(*begin_.tree, leaf);
+    places_[0].numbers =
+        certificates_.numbers_of(*begin_.tree, leaf.numbers, problem_.scale / begin_.tree->scale);
+    made_.certificate().notes = {{"tree", identity_of(*begin_.tree)}, {"leaf", std::to_string(number)}};
+  }
+  RouteCase first = case_of(0);
+  first.whole = true;
+  const auto note = [&](Weight length, Weight bound, int sets, int walks) {
+    sets_ = sets;
+    walks_ = walks;
+    progress_.show(Standing{length, std::min(bound, length), 0, 1});
+    std::ostringstream more;
+    more << R"("leaves": 0, "open": 1, "cuts": {"sets": )" << sets << R"(}, "walks": )" << walks;
+    progress_.log("round", length, std::min(bound, length), more.str());
+  };
+  RouteOutcome outcome = own_solver().solve(first, note);
+  take(0, outcome);
+}
+
+// Sets that a file has to have are named. Where it can't have all, the numbers lose those that aren't named
+// yet.
+void RouteSearch::name_sets(LeafNumbers& numbers) {
+  std::vector<NodeSet> fresh;
+  std::size_t nodes = named_nodes_;
+  for (const auto& [set, multiplier] : numbers.multipliers) {
+    if (named_.contains(set)) continue;
+    fresh.push_back(set);
+    nodes += set.size();
+  }
+  if (named_.size() + fresh.size() > plan_.limits.families || nodes > plan_.limits.nodes) {
+    limited_ = true;
+    for (const NodeSet& set : fresh) numbers.multipliers.erase(set);
+    return;
+  }
+  named_.insert(fresh.begin(), fresh.end());
+  named_nodes_ = nodes;
+}
+
+void RouteSearch::branch(int place, const RouteOutcome& outcome) {
+  branches_++;
+  const int next = static_cast<int>(places_.size());
+  places_[place].branch = Branch{*outcome.branch, {next + 1, next}};
+  for (const bool first : {false, true}) {
+    Place below;
+    below.origin = Origin{place, first};
+    below.start = outcome.start;
+    below.numbers = places_[place].numbers;
+    below.value = places_[place].value;
+    open_.emplace(below.value, -static_cast<int>(places_.size()));
+    places_.push_back(std::move(below));
+  }
+  places_[place].numbers = {};
+}
+
+void RouteSearch::finish(int place) {
+  places_[place].done = true;
+  places_[place].start = nullptr;
+  leaves_++;
+  log("leaf", least_bound());
+}
+
+// Takes what came of a case.
+void RouteSearch::take(int place, RouteOutcome& outcome) {
+  sets_ = outcome.sets;
+  walks_ = outcome.walks;
+  if (outcome.routes) {
+    const Weight length = length_of(instance_, *outcome.routes);
+    if (length < goal_.length) {
+      goal_ = {*outcome.routes, length, std::min(goal_.target, length)};
+      log("tour", least_bound());
+    }
+  }
+  Place& here = places_[place];
+  const std::size_t before = outcome.numbers.multipliers.size();
+  name_sets(outcome.numbers);
+  here.numbers = std::move(outcome.numbers);
+  here.value = here.numbers.multipliers.size() == before ? outcome.value
+                                                         : bound_.value(here.numbers, limits_of(place));
+  if (here.value >= aim()) return finish(place);
+  LeafNumbers named;
+  if (outcome.branch) named.multipliers[outcome.branch->set] = 1;
+  name_sets(named);
+  if (!named.multipliers.empty() && branches_ < plan_.limits.branches) branch(place, outcome);
+  log("branch", least_bound());
+}
+
+void RouteSearch::take(Job& job) {
+  if (job.place >= 0) take(job.place, job.outcome);
+}
+
+// Finishes the open cases that reach the target: where a shorter plan was found meanwhile.
+void RouteSearch::finish_reached() {
+  while (!open_.empty() && open_.rbegin()->first >= aim()) {
+    const int place = -open_.rbegin()->second;
+    open_.erase(std::prev(open_.end()));
+    finish(place);
+  }
+}
+
+bool RouteSearch::waits_for_none() const {
+  return std::all_of(window_.running().begin(), window_.running().end(),
+                     [](const Window::Begun& slot) { return slot->job.place < 0; });
+}
+
+// Begins the next case, or none until another one has ended. False where all are done or the time is over.
+bool RouteSearch::begin(Job& job) {
+  finish_reached();
+  if ((open_.empty() && waits_for_none()) || clock_.over(kRouteTree.part_of_time)) return false;
+  const std::size_t running = window_.running().size() - 1;  // (without this one)
+  if (plan_.split > 0 && open_.size() + running >= plan_.split) return false;
+  if (branches_ >= plan_.limits.branches) {
+    limited_ = true;
+    return false;
+  }
+  if (!open_.empty()) {
+    job.place = -open_.begin()->second;
+    open_.erase(open_.begin());
+    job.here = case_of(job.place);
+  }
+  progress_.show(Standing{goal_.length, least_bound(), leaves_, static_cast<int>(open_cases())});
+  return true;
+}
+
+void RouteSearch::solve(Window::Slot& slot) {
+  const std::lock_guard own(slot.access);
+  if (slot.job.place < 0) return;
+  slot.job.outcome = own_solver().solve(slot.job.here);
+  slot.job.here = {};
+}
+
+std::vector<int> RouteSearch::leaf_places() const {
+  std::vector<int> leaves;
+  for (std::size_t place = 0; place < places_.size(); place++) {
+    if (!places_[place].branch) leaves.push_back(static_cast<int>(place));
+  }
+  return leaves;
+}
+
+// Whether each leaf reaches the target by multiples of a grid, which all then have. One that doesn't is the
+// first that is tried next time.
+bool RouteSearch::coarsen_to(Weight grid, std::vector<int>& leaves) {
+  std::vector<LeafNumbers> coarse;
+  coarse.reserve(leaves.size());
+  for (auto leaf = leaves.begin(); leaf != leaves.end(); ++leaf) {
+    coarse.push_back(bound_.rounded(duals_of(instance_, places_[*leaf].numbers, problem_.scale), grid));
+    if (clock_.over() || bound_.value(coarse.back(), limits_of(*leaf)) < aim()) {
+      std::rotate(leaves.begin(), leaf, leaf + 1);
+      return false;
+    }
+  }
+  for (std::size_t k = 0; k < leaves.size(); k++) places_[leaves[k]].numbers = std::move(coarse[k]);
+  return true;
+}
+
+// Where all leaves are done, their numbers become multiples of a large divisor of the scale that lets them
+// reach the target. A file has them divided by it, which makes it short.
+void RouteSearch::coarsen() {
+  std::vector<int> leaves = leaf_places();
+  if (std::any_of(leaves.begin(), leaves.end(), [&](int place) { return !places_[place].done; })) return;
+  Weight tried = 0;
+  for (Weight parts = 1; parts < problem_.scale && !clock_.over(); parts++) {
+    if (problem_.scale % parts != 0 || parts < 2 * tried) continue;
+    if (coarsen_to(problem_.scale / parts, leaves)) return;
+    tried = parts;
+  }
+}
+
+// A leaf whose differences are past their limit gets the numbers of the leaf before.
+void RouteSearch::add_leaf(const Place& leaf, const std::vector<Limit>& limits) {
+  LeafNumbers numbers = leaf.numbers;
+  if (numbers.potentials.empty()) numbers.potentials.assign(instance_.nodes(), 0);
+  made_.add_leaf(numbers);
+  TreeStep& step = made_.certificate().steps.back();
+  const std::size_t count = differences(std::get<Numbers>(step), last_);
+  if (differences_ + count > plan_.limits.differences) {
+    limited_ = true;
+    if (last_.potentials.empty()) last_.potentials.assign(instance_.nodes(), 0);
+    step = last_;
+    numbers = certificates_.numbers_of(made_.certificate(), last_, 1);
+  } else {
+    differences_ += count;
+    last_ = std::get<Numbers>(step);
+  }
+  const Value value = bound_.value(numbers, limits);
+  least_ = std::min(least_, value);
+  if (!leaf.done || value < aim()) open_leaves_.push_back(leaves_);
+}
+
+// The tree from the root on, a branch before its cases.
+void RouteSearch::list_steps() {
+  leaves_ = 0;
+  std::vector<int> rest{0};
+  while (!rest.empty()) {
+    const int place = rest.back();
+    const Place& here = places_[place];
+    rest.pop_back();
+    if (!here.branch) {
+      leaves_++;
+      add_leaf(here, limits_of(place));
+      continue;
+    }
+    made_.add_branch(here.branch->set.set, here.branch->set.t);
+    rest.push_back(here.branch->cases[1]);
+    rest.push_back(here.branch->cases[0]);
+  }
+}
+
+Certificate RouteSearch::certificate() {
+  if (!open_leaves_.empty()) made_.certificate().notes["open"] = std::to_string(open_leaves_.size());
+  if (plan_.split > 0) {
+    for (const auto& [value, place] : open_) {
+      if (!places_[-place].start) continue;
+      for (const NodeSet& set : places_[-place].start->sets) made_.add_set(set);
+    }
+  }
+  return made_.certificate();
+}
+
+void RouteSearch::run() {
+  if (begin_.tree && !begin_.leaf) {
+    take_tree(*begin_.tree);
+  } else {
+    solve_first();
+  }
+  window_.run([this](Job& job) { return begin(job); }, [this](Window::Slot& slot) { solve(slot); },
+              [this](Job& job) { take(job); });
+  coarsen();
+  list_steps();
+  log("end", std::min(bound(), goal_.length));
+  progress_.clear();
+}
+}  // namespace certify::routes

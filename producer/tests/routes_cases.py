@@ -1,0 +1,331 @@
+#!/usr/bin/env python3
+"""Runs one case of the tests of tsp-certify for routes: routes_cases.py CASE TSP_CERTIFY TSP
+
+Where the program TSP judges certificates of routes it does, else judge_routes.py. A wrong answer ends the case with
+status 1.
+"""
+
+import json
+import os
+import random
+import re
+import signal
+import subprocess
+import sys
+import tempfile
+import time
+from functools import cache
+from itertools import combinations, permutations
+from pathlib import Path
+
+import judge_routes
+from cases import CERTIFY, TSP, certify, need, write_points
+
+BOTH = ["-o", "out.branches", "--tour-out", "out.routes"]
+
+RECTANGLE = {"points": [(0, 0), (3, 0), (3, 4), (0, 4)], "demands": [0, 4, 4, 4], "capacity": 8}
+# Families, the tree, more keywords, routes, and what the report has to end with. Worked out by hand: the plans of the
+# rectangle have the lengths 18, 20, 22 and 24.
+WORKED = [
+    ("", "0 -1", "", "2 -1 3 4 -1", "length 18 / bound 12 / gap 6 / yes"),
+    ("", "0 2 -3 3 -3 4 -3 -1", "", "2 -1 3 4 -1", "length 18 / bound 18 / optimal / yes"),
+    ("", "0 2 -3 3 -3 4 -3 -1", "", "2 3 -1 4 -1", "length 20 / bound 18 / gap 2 / yes"),
+    ("", "0 2 -3 3 -3 4 -3 -1", "LOAD_UNIT : 4", "2 -1 3 4 -1", "length 18 / bound 18 / optimal / yes"),
+    ("", "0 2 -3 3 -3 4 -3 -1", "LOAD_UNIT : 5", "2 -1 3 4 -1", "length 18 / bound -18 / gap 36 / yes"),
+    ("3 4 -1 -1 -1", "0 2 -3 3 -3 4 -3 5 1 -1", "", "2 -1 3 4 -1", "length 18 / bound 14 / gap 4 / yes"),
+    ("2 3 4 -1 -1 -1", "0 2 -2 3 -2 4 -2 5 1 -1", "", "2 -1 3 4 -1", "length 18 / bound 16 / gap 2 / yes"),
+    ("3 4 -1 -1 -1", "5 1 0 2 -3 3 -3 4 -3 -1 0 -1", "", "2 -1 3 4 -1", "length 18 / bound 18 / optimal / yes"),
+    ("3 4 -1 -1 -1", "0 5 -1 -1", "", "2 -1 3 4 -1", "length 18 / bound 6 / gap 12 / yes"),
+    ("3 4 -1 -1 -1", "0 6 1 -1", "", "2 -1 3 4 -1", "no BadLeaf 1"),
+    ("3 4 -1 -1 -1", "5 1 0 5 -1 -1 0 5 3 -1", "", "2 -1 3 4 -1", "length 18 / bound 10 / gap 8 / yes"),
+    ("3 4 -1 -1 -1", "2 3 0 -1 0 -1", "", "2 -1 3 4 -1", "no BadBranch 1"),
+    ("1 2 -1 -1 -1", "0 -1", "", "2 -1 3 4 -1", "no BadComb 1"),
+]
+
+
+def write_vrp(name, demands, capacity, points=None, costs=None, depot=1):
+    nodes = len(demands)
+    lines = ["TYPE : CVRP", f"DIMENSION : {nodes}", f"CAPACITY : {capacity}"]
+    if points:
+        lines += ["EDGE_WEIGHT_TYPE : EUC_2D", "NODE_COORD_SECTION"]
+        lines += [f"{v} {x} {y}" for v, (x, y) in enumerate(points, 1)]
+    else:
+        lines += ["EDGE_WEIGHT_TYPE : EXPLICIT", "EDGE_WEIGHT_FORMAT : FULL_MATRIX", "EDGE_WEIGHT_SECTION"]
+        lines += [" ".join(map(str, row)) for row in costs]
+    lines += ["DEMAND_SECTION", *(f"{v} {demand}" for v, demand in enumerate(demands, 1))]
+    Path(name).write_text("\n".join([*lines, "DEPOT_SECTION", str(depot), "-1", "EOF"]) + "\n")
+
+
+def write_uniform(name, nodes, chance, capacity=100, side=100):
+    """As instances A of Augerat (1995): uniform points, demands from 1 to 30."""
+    points = [(chance.randint(0, side), chance.randint(0, side)) for _ in range(nodes)]
+    write_vrp(name, [0] + [chance.randint(1, 30) for _ in range(nodes - 1)], capacity, points)
+
+
+def write_routes(text, name="out.routes"):
+    Path(name).write_text(f"TYPE : TOUR\nTOUR_SECTION\n{text}\nEOF\n")
+
+
+def write_certificate(nodes, families, tree, more="", name="out.branches"):
+    sets = f"COMB_SECTION\n{families}\n" if families else ""
+    Path(name).write_text(f"TYPE : BRANCHES\nDIMENSION : {nodes}\n{more}\n{sets}BRANCH_SECTION\n{tree}\nEOF\n")
+
+
+def lines_by_program(instance, routes, certificate):
+    words = [TSP, "check", instance, routes, "--branches", certificate]
+    return subprocess.run(words, capture_output=True, text=True, timeout=200).stdout.splitlines()
+
+
+@cache
+def program_judges():
+    """Whether the program knows certificates of routes: it has to say the worked answer."""
+    with tempfile.TemporaryDirectory() as folder:
+        before = os.getcwd()
+        os.chdir(folder)
+        write_vrp("a.vrp", **RECTANGLE)
+        write_routes("2 -1 3 4 -1")
+        write_certificate(4, "", "0 2 -3 3 -3 4 -3 -1")
+        lines = lines_by_program("a.vrp", "out.routes", "out.branches")
+        os.chdir(before)
+    return lines[-3:] == ["bound 18", "optimal", "yes"]
+
+
+def judged(instance, routes="out.routes", certificate="out.branches"):
+    """The lines of the report as a dictionary."""
+    judge = lines_by_program if program_judges() else judge_routes.report
+    lines = judge(instance, routes, certificate)
+    need(lines and lines[-1] == "yes", f"{instance}: {lines}")
+    return {line.partition(" ")[0]: line.partition(" ")[2] for line in lines}
+
+
+def need_optimal(instance, *words):
+    said = certify(instance, *BOTH, *words)
+    report = judged(instance)
+    need("optimal" in report, f"{instance}: not optimal: {report} {said}")
+    need(f"bound {report['bound']} as reckoned" in said, f"{instance}: another bound was reckoned: {said}")
+    return int(report["length"])
+
+
+def judge():
+    """The judge gives what was worked out by hand, as the program does where it judges."""
+    write_vrp("a.vrp", **RECTANGLE)
+    judges = [judge_routes.report] + [lines_by_program] * program_judges()
+    for families, tree, more, routes, expected in WORKED:
+        write_routes(routes)
+        write_certificate(4, families, tree, more)
+        for judge_of in judges:
+            lines = judge_of("a.vrp", "out.routes", "out.branches")
+            need(" / ".join(lines).endswith(expected), f"{families}, {tree}, {more}: {lines} and not {expected}")
+    write_vrp("a.vrp", RECTANGLE["demands"], 7, RECTANGLE["points"])
+    write_routes("2 -1 3 -1 4 -1")
+    write_certificate(4, "", "0 2 -3 3 -5 4 -4 -1")
+    for judge_of in judges:
+        lines = judge_of("a.vrp", "out.routes", "out.branches")
+        need(" / ".join(lines).endswith("length 24 / bound 24 / optimal / yes"), f"capacity 7: {lines}")
+    write_vrp("a.vrp", [0, 4, 0, 4], 8, RECTANGLE["points"])
+    write_routes("2 3 4 -1")
+    write_certificate(4, "", "0 -1")
+    for judge_of in judges:
+        lines = judge_of("a.vrp", "out.routes", "out.branches")
+        need(" / ".join(lines).endswith("routes 1 / least 1 / length 14 / bound 6 / gap 8 / yes"), f"demand 0: {lines}")
+
+
+def least_plan(costs, demands, capacity, depot):
+    """The length of a shortest plan: of each set of customers by all orders, then by the sets of routes."""
+    customers = [v for v in range(len(demands)) if v != depot]
+    route = {}
+    for size in range(1, len(customers) + 1):
+        for chosen in combinations(customers, size):
+            if sum(demands[v] for v in chosen) <= capacity:
+                stops = ([depot, *order, depot] for order in permutations(chosen))
+                route[frozenset(chosen)] = min(sum(costs[a][b] for a, b in zip(stop, stop[1:])) for stop in stops)
+
+    @cache
+    def least(rest):
+        if not rest:
+            return 0
+        first = min(rest)
+        return min(route[own] + least(rest - own) for own in route if first in own and own <= rest)
+
+    return least(frozenset(customers))
+
+
+def small():
+    """Against all plans: of one customer on, with costs of each direction, costs below 0, demands 0, any depot."""
+    for nodes in range(2, 8):
+        chance = random.Random(nodes)
+        for low, high in ((0, 30), (-15, 30), (5, 5)):
+            costs = [[chance.randint(low, high) if i != j else 0 for j in range(nodes)] for i in range(nodes)]
+            depot, capacity = chance.randrange(nodes), chance.choice([5, 8, 10])
+            demands = [0 if v == depot else chance.randint(0, 5) for v in range(nodes)]
+            write_vrp("a.vrp", demands, capacity, costs=costs, depot=depot + 1)
+            least = least_plan(costs, demands, capacity, depot)
+            need(need_optimal("a.vrp") == least, f"{nodes} nodes: another length than {least}")
+
+
+def optimal():
+    """A tree of points, and costs of each direction."""
+    write_uniform("a.vrp", 25, random.Random(4))
+    need_optimal("a.vrp")
+    chance = random.Random(5)
+    costs = [[chance.randint(1, 10**6) if i != j else 0 for j in range(14)] for i in range(14)]
+    write_vrp("a.vrp", [0] + [chance.randint(1, 9) for _ in range(13)], 20, costs=costs)
+    need_optimal("a.vrp")
+
+
+def large_numbers():
+    """Costs and a capacity at the limits of the format. Loads are then in a unit."""
+    chance = random.Random(6)
+    points = [(chance.randint(0, 10**3), chance.randint(0, 10**3)) for _ in range(9)]
+    write_vrp("a.vrp", [0] + [chance.randint(1, 10**9) for _ in range(8)], 3 * 10**9, points)
+    need_optimal("a.vrp")
+    unit = re.search(r"^LOAD_UNIT : (\d+)$", Path("out.branches").read_text(), re.MULTILINE)
+    need(unit and int(unit[1]) > 1, "loads are in no unit")
+    for low, high in ((10**12 - 1000, 10**12), (-(10**12), 10**12)):
+        costs = [[chance.randint(low, high) if i != j else 0 for j in range(7)] for i in range(7)]
+        write_vrp("a.vrp", [0] + [chance.randint(1, 9) for _ in range(6)], 12, costs=costs)
+        need_optimal("a.vrp")
+
+
+def plan():
+    """A bad plan that is named is made shorter, and without --tour-out it is bounded."""
+    write_uniform("a.vrp", 16, random.Random(8))
+    write_routes(" ".join(f"{v} -1" for v in range(2, 17)), "bad.routes")
+    said = certify("a.vrp", "bad.routes", "-o", "out.branches")
+    need("a shorter tour" in said, f"nothing is said of the shorter plan: {said}")
+    need(int(judged("a.vrp", "bad.routes")["gap"]) > 0, "no bound of the bad plan")
+    length = need_optimal("a.vrp")
+    certify("a.vrp", "out.routes", "-o", "out.branches", "--upper", str(length - 5))
+    need(length - 5 <= int(judged("a.vrp")["bound"]) <= length, "the bound that was asked for isn't reached")
+
+
+def threads():
+    """Any number of threads gives the same bytes, of a tree too."""
+    write_uniform("a.vrp", 30, random.Random(9))
+    texts = []
+    for count in ("1", "2", "4"):
+        certify("a.vrp", *BOTH, "--seconds", "0", "--threads", count)
+        texts.append((Path("out.branches").read_bytes(), Path("out.routes").read_bytes()))
+    need("optimal" in judged("a.vrp"), "not optimal")
+    need(texts[0] == texts[1] == texts[2], "another number of threads gives other bytes")
+
+
+def time_limit():
+    """Two seconds are too short, and the file has a bound all the same, which is the reckoned one."""
+    write_uniform("a.vrp", 150, random.Random(10), side=1000)
+    begun = time.monotonic()
+    said = certify("a.vrp", *BOTH, "--seconds", "2")
+    need(time.monotonic() - begun < 100, "the limit isn't kept")
+    report = judged("a.vrp")
+    need("a gap of" in said and report.get("gap", "0") in said, f"the gap isn't told: {said}")
+    need(f"bound {report['bound']} as reckoned" in said, f"another bound was reckoned: {said}")
+
+
+def interrupt():
+    """SIGINT and SIGTERM end a search, and the files are written."""
+    write_uniform("a.vrp", 150, random.Random(11), side=1000)
+    for stop, status in ((signal.SIGINT, 130), (signal.SIGTERM, 143)):
+        words = [CERTIFY, "a.vrp", *BOTH, "--seconds", "0", "--tsp", TSP]
+        with subprocess.Popen(words, stderr=subprocess.PIPE, text=True) as running:
+            time.sleep(2)
+            running.send_signal(stop)
+            said = running.communicate(timeout=200)[1]
+            need(running.returncode == status, f"status {running.returncode} after {stop}: {said}")
+        need(f"bound {judged('a.vrp')['bound']} as reckoned" in said, f"another bound was reckoned: {said}")
+
+
+def split():
+    """Leaves of a tree are gone on with alone, and parts are joined. A part that is missing leaves a gap."""
+    write_uniform("a.vrp", 30, random.Random(9))
+    words = ["a.vrp", "-o", "tree", "--tour-out", "out.routes", "--split", "3", "--seconds", "0", "--tsp", TSP]
+    done = subprocess.run([CERTIFY, *words], capture_output=True, text=True, timeout=250)
+    leaves = done.stdout.split()
+    need(done.returncode == 0 and len(leaves) >= 2, f"no split: {leaves} {done.stderr}")
+    need("gap" in judged("a.vrp", certificate="tree"), "the tree has no gap")
+    for leaf in leaves:
+        certify("a.vrp", "out.routes", "--tree", "tree", "--leaf", leaf, "-o", f"part-{leaf}", "--seconds", "0")
+    parts = [f"part-{leaf}" for leaf in leaves]
+    for given, whole in ((parts, True), (parts[1:], False), (parts[::-1], True)):
+        certify("a.vrp", "--tree", "tree", "-o", "out.branches", "--join", *given)
+        need(("optimal" in judged("a.vrp")) == whole, f"{given}: {judged('a.vrp')}")
+    certify("a.vrp", "--tree", "tree", "-o", "again", "--join", *parts[1:])
+    certify("a.vrp", "out.routes", "--tree", "again", "-o", "out.branches", "--seconds", "0")
+    need("optimal" in judged("a.vrp"), "what was joined isn't gone on with")
+    need("another tree" in certify("a.vrp", "--tree", "again", "--join", parts[0], "-o", "b", status=2), "a part")
+    write_points("a.tsp", "EUC_2D", 30, random.Random(9))
+    need("another instance" in certify("a.tsp", *BOTH, "--tree", "tree", status=2), "a tree of a CVRP for a TSP")
+
+
+def limits():
+    """No file is past small limits, and what is printed is its bound."""
+    write_uniform("a.vrp", 30, random.Random(9))
+    for most in ((3, 10**6, 10**7, 10**6), (10**4, 60, 10**7, 10**6), (10**4, 10**6, 40, 10**6), (10**4, 10**6, 10**7, 1)):
+        said = certify("a.vrp", *BOTH, "--seconds", "0", "--limits", *map(str, most))
+        text = Path("out.branches").read_text()
+        families = text.partition("COMB_SECTION\n")[2].partition("BRANCH_SECTION")[0].splitlines()[:-1]
+        steps = [line.split() for line in text.partition("BRANCH_SECTION\n")[2].splitlines()[:-1]]
+        found = (
+            sum(line == "-1" for line in families),
+            sum(len(line.split()) - 1 for line in families if line != "-1"),
+            sum(len(step) // 2 - 1 for step in steps if step[0] == "0"),
+            sum(step[0] != "0" for step in steps),
+        )
+        need(all(count <= limit for count, limit in zip(found, most)), f"{found}, past {most}")
+        report = judged("a.vrp")
+        need(f"bound {report['bound']} as reckoned" in said, f"{most}: another bound was reckoned: {said}")
+        need("optimal" in report or "are left open" in said, f"{most}: {report} {said}")
+
+
+def log():
+    """Each line is of JSON, and no bound is above its length."""
+    write_uniform("a.vrp", 20, random.Random(12))
+    certify("a.vrp", *BOTH, "--log", "out.log")
+    events = [json.loads(line) for line in Path("out.log").read_text().splitlines()]
+    need(events[-1]["event"] == "end" and events[-1]["gap"] == 0, f"the last event: {events[-1]}")
+    need(events[-1]["length"] == int(judged("a.vrp")["length"]), f"another length: {events[-1]}")
+    need(all(event["bound"] <= event["length"] and event["cuts"]["sets"] >= 1 for event in events), "a bound is above")
+
+
+def bad_input():
+    points, demands = RECTANGLE["points"], RECTANGLE["demands"]
+    write_vrp("a.vrp", **RECTANGLE)
+    write_vrp("heavy.vrp", demands, 3, points)
+    write_vrp("depot.vrp", [1, 4, 4, 4], 8, points)
+    write_vrp("alone.vrp", [0], 8, [(0, 0)])
+    write_vrp("two.vrp", demands, 8, points, depot="1\n2")
+    Path("fixed.vrp").write_text(Path("a.vrp").read_text().replace("EOF", "FIXED_EDGES_SECTION\n1 2\n-1\nEOF"))
+    write_routes("2 -1 3 -1", "few.routes")
+    write_routes("2 3 4 -1", "heavy.routes")
+    write_certificate(5, "", "0 -1", name="other")
+    write_certificate(4, "1 2 -1 -1 -1", "0 -1", name="depot")
+    write_certificate(4, "", "2 3 0 -1 0 -1", name="pair")
+    faults = [
+        (["heavy.vrp", *BOTH], "more than the capacity"),
+        (["depot.vrp", *BOTH], "the depot's demand"),
+        (["alone.vrp", *BOTH], "no customer"),
+        (["two.vrp", *BOTH], "one depot"),
+        (["fixed.vrp", *BOTH], "fixed edges"),
+        (["a.vrp", "few.routes", "-o", "b"], "no routes of the instance"),
+        (["a.vrp", "heavy.routes", "-o", "b"], "no routes of the instance"),
+        (["a.vrp", "a.vrp", "-o", "b"], "TYPE TOUR"),
+        (["a.vrp", *BOTH, "--tree", "other"], "another instance"),
+        (["a.vrp", *BOTH, "--tree", "depot"], "one set of customers"),
+        (["a.vrp", *BOTH, "--tree", "pair"], "on a pair"),
+    ]
+    for words, part in faults:
+        said = certify(*words, status=2)
+        need(part in said, f"{words}: the fault doesn't tell of {part}: {said}")
+
+
+CASES = [judge, small, optimal, large_numbers, plan, threads, time_limit, interrupt, split, limits, log, bad_input]
+
+
+def main():
+    cases = {case.__name__: case for case in CASES}
+    with tempfile.TemporaryDirectory() as folder:
+        os.chdir(folder)
+        cases[sys.argv[1]]()
+
+
+if __name__ == "__main__":
+    main()
