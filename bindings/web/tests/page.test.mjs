@@ -37,8 +37,10 @@ test("a report of a result in numbers", () => {
     assert.deepEqual([refused.yes, refused.reason, refused.numbers], [false, "NotSymmetric", [1, 2]]);
     assert.deepEqual([refused.length, refused.bound, refused.gap, refused.optimal], [null, null, null, false]);
     assert.deepEqual([tourReport(5n, 5n).gap, tourReport(5n).gap], [0n, null], "a gap of 0, and none");
-    const last = refusedReport(27, 4n);
-    assert.deepEqual([last.reason, last.numbers], ["BadLeaf", [4]]);
+    const table = readFileSync(new URL("../../reasons.tsv", import.meta.url), "utf8");
+    const [, number, name, numbers] = table.split("\n").filter((line) => line.startsWith("reason\t")).at(-1).split("\t");
+    const last = refusedReport(Number(number), 4n);
+    assert.deepEqual([last.reason, last.numbers], [name, numbers.split(" ").filter(Boolean).map((_, at) => (at === 0 ? 4 : 0))]);
     assert.equal(reportWith({ kind: 3 }).type, "CVRP");
 });
 
