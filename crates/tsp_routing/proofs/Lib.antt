@@ -1,0 +1,10 @@
+pub mod Plans
+pub mod FewRoutes
+pub mod LeftCuts
+pub mod EvenCrossings
+pub mod Surplus
+pub mod PlanBounds
+pub mod UnitLoads
+pub mod RouteWalks
+pub mod OneBound
+pub mod PlanTrees

@@ -1,0 +1,6 @@
+-- The goals of `plan_bounds_bound_plans` in src/laws.rt: what it ensures.
+use Rattle.tsp_routing.proofs.PlanBounds.{plan_bounds_bound_plans}
+use Rattle.tsp_routing.proofs.laws.plan_bounds_bound_plans.Goals as goal
+
+pub returns : goal.returns
+returns c = plan_bounds_bound_plans

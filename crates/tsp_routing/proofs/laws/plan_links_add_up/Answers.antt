@@ -1,0 +1,7 @@
+-- The goals of `plan_links_add_up` in src/laws.rt: what it ensures.
+use Rattle.tsp_routing.proofs.Plans.{lengths_are_weights, plan_sums}
+use Rattle.tsp_routing.proofs.FewRoutes.{plans_have_few_routes}
+use Rattle.tsp_routing.proofs.laws.plan_links_add_up.Goals as goal
+
+pub returns : goal.returns
+returns c = record { weights = lengths_are_weights; sums = plan_sums; few = plans_have_few_routes }

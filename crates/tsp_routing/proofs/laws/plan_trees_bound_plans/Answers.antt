@@ -1,0 +1,6 @@
+-- The goals of `plan_trees_bound_plans` in src/laws.rt: what it ensures.
+use Rattle.tsp_routing.proofs.PlanTrees.{plan_trees_bound_plans, plan_tree_bounds_are_unique}
+use Rattle.tsp_routing.proofs.laws.plan_trees_bound_plans.Goals as goal
+
+pub returns : goal.returns
+returns c = record { plans = plan_trees_bound_plans; one = plan_tree_bounds_are_unique }

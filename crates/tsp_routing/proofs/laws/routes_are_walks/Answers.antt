@@ -1,0 +1,7 @@
+-- The goals of `routes_are_walks` in src/laws.rt: what it ensures.
+use Rattle.tsp_routing.proofs.UnitLoads.{routes_have_room, loads_are_some}
+use Rattle.tsp_routing.proofs.RouteWalks.{routes_are_walks}
+use Rattle.tsp_routing.proofs.laws.routes_are_walks.Goals as goal
+
+pub returns : goal.returns
+returns c = record { room = routes_have_room; some = loads_are_some; walks = routes_are_walks }

@@ -1,0 +1,59 @@
+-- Cuts: parts of the customers, and how often a plan leaves and enters them, by what they demand.
+-- Source: G. Laporte, Y. Nobert and M. Desrochers, Optimal routing under capacity and distance restrictions, 1985: rounded
+-- capacity inequalities.
+use Rattle.std.specs.Prelude.{◌≡◌, ℕ, max, ◌&&◌, Bool, true, false, not, if◌then◌else◌, List, [], ◌*◌, ℤ, pos, ◌≤ℤ◌}
+use Rattle.tsp_format.specs.Nodes.{nodes_to}
+use Rattle.tsp_theory.specs.Length.{sum_int_by}
+use Rattle.tsp_theory.specs.Routing.{RoutingProblem, IsCustomer, IsPlan, plan_length, IsLeastRoutes}
+use Rattle.tsp_cases.specs.Combs.{family_crossings}
+use Rattle.tsp_cases.specs.Families.{Family}
+use Rattle.tsp_routing.specs.PlanLinks.{IsRoutable, sum_of_customers}
+
+-- 1 for a link from inside the part to outside, else 0
+abbrev pub leaving : (ℕ → Bool) → ℕ → ℕ → ℤ
+leaving part i j = if part i && not (part j) then pos 1 else pos 0
+
+abbrev pub entering : (ℕ → Bool) → ℕ → ℕ → ℤ
+entering part i j = leaving part j i
+
+-- what the nodes in a part demand
+abbrev pub demand_in : RoutingProblem → (ℕ → Bool) → ℤ
+demand_in problem part = sum_int_by (λ node. if part node then problem.demand node else pos 0) (nodes_to problem.nodes)
+
+-- A part that has a customer and not the depot, and how many routes it needs: as many as carry its demand, and one at least.
+pub record IsCapacityCut (problem : RoutingProblem) (part : ℕ → Bool) (need : ℕ) : Type 0 where
+  pub inside : ℕ
+  pub customer : IsCustomer problem.nodes problem.depot inside
+  pub has_inside : part inside ≡ true
+  pub lacks_depot : part problem.depot ≡ false
+  pub least : ℕ
+  pub least_is : IsLeastRoutes (demand_in problem part) problem.capacity least
+  pub need_is : need ≡ max least 1
+
+-- a cut as a family of one set: it is crossed on the way in and on the way out
+pub record IsCutFamily (problem : RoutingProblem) (family : Family) : Type 0 where
+  pub alone : family.sets.teeth ≡ []
+  pub need : ℕ
+  pub cut : IsCapacityCut problem family.sets.handle need
+  pub least_is : family.numbers.least ≡ 2 * need
+
+-- how many routes a plan has at least: as many as carry what all customers demand, and one at least
+pub record IsFewest (problem : RoutingProblem) (fewest : ℕ) : Type 0 where
+  pub least : ℕ
+  pub least_is : IsLeastRoutes (sum_of_customers problem.nodes problem.depot problem.demand) problem.capacity least
+  pub fewest_is : fewest ≡ max least 1
+
+-- ---- the theorems
+
+-- A plan leaves a cut as often as it needs routes at least, and enters it as often.
+abbrev pub PlansLeaveCuts : Type 0
+PlansLeaveCuts = (problem : RoutingProblem) (part : ℕ → Bool) (need : ℕ) (routes : List (List ℕ))
+    → IsRoutable problem → IsCapacityCut problem part need → IsPlan problem routes
+    → (pos need ≤ℤ plan_length (leaving part) problem.depot routes)
+    × (pos need ≤ℤ plan_length (entering part) problem.depot routes)
+
+-- So it crosses a cut's family as often as that says.
+abbrev pub PlansCrossCuts : Type 0
+PlansCrossCuts = (problem : RoutingProblem) (family : Family) (routes : List (List ℕ))
+    → IsRoutable problem → IsCutFamily problem family → IsPlan problem routes
+    → pos family.numbers.least ≤ℤ plan_length (family_crossings family.sets) problem.depot routes

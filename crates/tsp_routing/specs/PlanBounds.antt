@@ -1,0 +1,75 @@
+-- The bound of a leaf whose case is limits on sets: the multipliers of the sets may have any sign.
+use Rattle.std.specs.Prelude.{ℕ, negsuc, int_lt, ◌+◌, ◌*◌, ◌-◌, max, min, ◌==◌, ◌&&◌, not, if◌then◌else◌, List, [], ◌∷◌, length, ℤ, pos, ◌+ℤ◌, ◌-ℤ◌, ◌*ℤ◌, ◌≤ℤ◌}
+use Rattle.std.specs.List.{All}
+use Rattle.tsp_theory.specs.Routing.{RoutingProblem, plan_length}
+use Rattle.tsp_theory.specs.CertificateNumbers.{IsScale, entry, IsLeastBound}
+use Rattle.tsp_theory.specs.NodeBound.{weight_between}
+use Rattle.tsp_cases.specs.Families.{Family}
+use Rattle.tsp_cases.specs.declared.decision.Decision.{Decision}
+use Rattle.tsp_cases.specs.CaseTrees.{multiplied}
+use Rattle.tsp_cases.specs.LeafBound.{combed}
+use Rattle.tsp_routing.specs.PlanLinks.{IsRoutable, IsFilledPlan, sum_of_customers}
+use Rattle.tsp_routing.specs.Cuts.{IsCutFamily, IsFewest}
+use Rattle.tsp_routing.specs.Limits.{KeepsEachLimit}
+
+-- what a plan has for each of its routes
+abbrev pub surplus : RoutingProblem → List ℤ → ℤ → ℤ
+surplus problem potentials each = each -ℤ (pos 2 *ℤ entry potentials problem.depot)
+
+-- the lower one of a number times each of two counts
+abbrev pub least_product : ℕ → ℕ → ℤ → ℤ
+least_product fewest most z = if int_lt (pos most *ℤ z) (pos fewest *ℤ z) then (pos most *ℤ z) else (pos fewest *ℤ z)
+
+-- a number of at least 0 times the first count, one below 0 times the second
+abbrev pub least_times : ℕ → ℕ → ℤ → ℤ
+least_times low high (pos m) = pos low *ℤ pos m
+least_times low high (negsuc m) = pos high *ℤ negsuc m
+
+-- how often a plan of a case crosses the set with this name at the least, and at the most, from a number that holds of all plans
+abbrev pub low_of : ℕ → List Decision → ℕ → ℕ
+low_of place [] own = own
+low_of place (limit ∷ case) own =
+    if not limit.taken && (limit.pair.0 == place) then max (2 * limit.pair.1 + 2) (low_of place case own)
+    else low_of place case own
+
+abbrev pub high_of : ℕ → List Decision → ℕ → ℕ
+high_of place [] own = own
+high_of place (limit ∷ case) own =
+    if limit.taken && (limit.pair.0 == place) then min (2 * limit.pair.1) (high_of place case own) else high_of place case own
+
+-- The sum that the multipliers of the sets give back, the first of which has this name: a multiplier of at least 0 times the
+-- least number of crossings, one below 0 times the most. Without a limit above, the most is twice the number of customers.
+abbrev pub limits_total : List Decision → ℕ → ℕ → List Family → List ℤ → ℤ
+limits_total case own place [] multipliers = pos 0
+limits_total case own place (family ∷ families) [] = pos 0
+limits_total case own place (family ∷ families) (multiplier ∷ multipliers) =
+    least_times (low_of place case family.numbers.least) (high_of place case own) multiplier
+    +ℤ limits_total case own (place + 1) families multipliers
+
+-- the weight between two nodes: the cost at the scale, the potentials of both, and less the multipliers of the sets that have one
+-- of them
+abbrev pub walk_weight : ℤ → List ℤ → List Family → List ℤ → (ℕ → ℕ → ℤ) → ℕ → ℕ → ℤ
+walk_weight scale potentials families multipliers cost =
+    combed (multiplied families multipliers) (weight_between scale potentials cost)
+
+-- the bound where each route weighs `each` at the least: there are at least `fewest` routes, and at most as many as customers
+pub record IsPlanBound (problem : RoutingProblem) (scale : ℤ) (potentials : List ℤ) (families : List Family) (multipliers : List ℤ)
+    (case : List Decision) (each bound : ℤ) : Type 0 where
+  pub fewest : ℕ
+  pub fewest_is : IsFewest problem fewest
+  pub bound_is : IsLeastBound scale ((limits_total case (2 * (problem.nodes - 1)) (problem.nodes + 1) families multipliers
+      -ℤ (pos 2 *ℤ sum_of_customers problem.nodes problem.depot (entry potentials)))
+      +ℤ least_product fewest (problem.nodes - 1) (surplus problem potentials each)) bound
+
+-- ---- the theorem
+
+-- A plan of the case that weighs as much as that is no shorter than the bound.
+abbrev pub PlanBoundsBoundPlans : Type 0
+PlanBoundsBoundPlans = (problem : RoutingProblem) (scale : ℤ) (potentials : List ℤ) (families : List Family) (multipliers : List ℤ)
+    (case : List Decision) (each bound : ℤ) (routes : List (List ℕ))
+    → IsRoutable problem → IsScale scale → All (IsCutFamily problem) families
+    → IsPlanBound problem scale potentials families multipliers case each bound
+    → IsFilledPlan problem routes → KeepsEachLimit problem.nodes families problem.depot routes case
+    → (pos (length routes) *ℤ each)
+    ≤ℤ plan_length (walk_weight scale potentials families multipliers problem.cost) problem.depot routes
+    → bound ≤ℤ plan_length problem.cost problem.depot routes

@@ -1,0 +1,54 @@
+//! What always holds of plans and of bounds on their lengths, as contracts of functions that do
+//! nothing.
+
+ghost use Rattle.tsp_routing.specs.PlanLinks.{LengthsAreWeights, PlanSums, PlansHaveFewRoutes};
+ghost use Rattle.tsp_routing.specs.Cuts.{PlansLeaveCuts, PlansCrossCuts};
+ghost use Rattle.tsp_routing.specs.Limits.{PlansCrossEvenly, PlansKeepEitherLimit, PlansKeepLeaves};
+ghost use Rattle.tsp_routing.specs.Loads.{RoutesHaveRoom, LoadsAreSome};
+ghost use Rattle.tsp_routing.specs.Walks.{RoutesAreWalks};
+ghost use Rattle.tsp_routing.specs.PlanBounds.{PlanBoundsBoundPlans};
+ghost use Rattle.tsp_routing.specs.PlanTrees.{PlanTreesBoundPlans, PlanTreeBoundsAreUnique};
+
+/// The length of a plan is the weight of its links; each customer begins one and ends one, and the
+/// depot as many as there are routes. There are at most as many of these as customers.
+pub fn plan_links_add_up()
+    ensures weights { LengthsAreWeights }
+    ensures sums { PlanSums }
+    ensures few { PlansHaveFewRoutes }
+{}
+
+/// A plan leaves a cut at least as often as that needs routes, and enters it as often; it crosses
+/// the cut's family as often as that says.
+pub fn plans_leave_cuts()
+    ensures cuts { PlansLeaveCuts }
+    ensures families { PlansCrossCuts }
+{}
+
+/// A plan crosses each set an even number of times, so it keeps the limits of a leaf of each whole
+/// tree of cases.
+pub fn plans_keep_limits()
+    ensures even { PlansCrossEvenly }
+    ensures either { PlansKeepEitherLimit }
+    ensures leaves { PlansKeepLeaves }
+{}
+
+/// The loads of a route's customers in units, each of which is at least 1, are within the capacity
+/// in units; so each route is a walk.
+pub fn routes_are_walks()
+    ensures room { RoutesHaveRoom }
+    ensures some { LoadsAreSome }
+    ensures walks { RoutesAreWalks }
+{}
+
+/// A plan that keeps limits on sets, and whose weight is bounded, is no shorter than the bound that
+/// this gives.
+pub fn plan_bounds_bound_plans()
+    ensures { PlanBoundsBoundPlans }
+{}
+
+/// The bound of a tree of cases is at most the length of every plan whose routes each have a
+/// customer, and a tree has one bound, or none.
+pub fn plan_trees_bound_plans()
+    ensures plans { PlanTreesBoundPlans }
+    ensures one { PlanTreeBoundsAreUnique }
+{}

@@ -1,0 +1,14 @@
+//! Lower bounds on the lengths of plans of routes, as theorems.
+//!
+//! A plan leaves a set of customers as often as that needs routes, crosses it an even number of
+//! times, and each of its routes is a walk within the capacity. So the bound of a tree of cases,
+//! with least walks at its leaves, holds of every plan. The crate knows no files, and its functions
+//! do nothing: each contract is a theorem.
+#![tactic(auto)]
+
+mod laws;
+
+pub use laws::{
+    plan_bounds_bound_plans, plan_links_add_up, plan_trees_bound_plans, plans_keep_limits,
+    plans_leave_cuts, routes_are_walks,
+};
