@@ -57,7 +57,7 @@ class Instance:
     def customers(self) -> list[int]:
         return [v for v in range(self.nodes) if v != self.depot]
 
-    def need(self, customers) -> int:
+    def need(self, customers: list[int]) -> int:
         """As many routes at least have one of these customers."""
         return max(1, -(-sum(self.demands[v] for v in customers) // self.capacity))
 
@@ -182,7 +182,7 @@ def loads_of(instance: Instance, unit: int) -> tuple[dict[int, int], int]:
 Ways = dict[int, int]  # the least weight by the customer before, of the two lightest
 
 
-def offer(ways: Ways, before: int, weight: int):
+def offer(ways: Ways, before: int, weight: int) -> None:
     ways[before] = min(weight, ways.get(before, weight))
     if len(ways) > 2:
         del ways[max(ways, key=lambda other: ways[other])]
@@ -213,7 +213,7 @@ Limits = dict[int, tuple[int, int]]  # least and most crossings, by family
 
 
 class Judge:
-    def __init__(self, instance: Instance, certificate: Certificate):
+    def __init__(self, instance: Instance, certificate: Certificate) -> None:
         self.instance, self.certificate = instance, certificate
         if certificate.nodes != instance.nodes:
             raise Rejected("BranchesDimension")
@@ -227,12 +227,12 @@ class Judge:
         bounds = [self.leaf_bound(*leaf) for leaf in leaves]
         self.bound = min((bound for bound in bounds if bound is not None), default=None)
 
-    def check_families(self):
+    def check_families(self) -> None:
         for k, family in enumerate(self.certificate.families, 1):
             if len(family) != 1 or len(set(family[0])) != len(family[0]) or self.instance.depot in family[0]:
                 raise Rejected(f"BadComb {k}")
 
-    def check_branches(self):
+    def check_branches(self) -> None:
         branches = [step for step in self.certificate.steps if isinstance(step, Branch)]
         for k, branch in enumerate(branches, 1):
             if not 0 <= branch.family < len(self.certificate.families):
@@ -259,7 +259,7 @@ class Judge:
         need = self.instance.need(self.certificate.families[family][0])
         return limits.get(family, (2 * need, 2 * (self.instance.nodes - 1)))
 
-    def check_leaves(self, leaves: list[tuple[Leaf, Limits]]):
+    def check_leaves(self, leaves: list[tuple[Leaf, Limits]]) -> None:
         nodes, families = self.instance.nodes, len(self.certificate.families)
         for k, (numbers, _) in enumerate(leaves, 1):
             potentials = [number for index, number in numbers.items() if index <= nodes]
