@@ -3,6 +3,7 @@ use Rattle.std.proofs.Common.{sym, subst}
 use Rattle.tsp_text.specs.Text.{Spells}
 use Rattle.example_check.proofs.verdict_on.Goals as goal
 
+-- plan: both texts are files by the reader, and the verdict is that on them
 pub returns : goal.returns
 returns c = record {
   instance = c.in-Ok.instance;

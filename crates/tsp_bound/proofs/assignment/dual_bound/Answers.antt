@@ -24,6 +24,7 @@ sum_size first second p q = (omega (arith, ints, p.0, q.0), omega (arith, ints, 
 sum_fits : (first second : ℤ) → IsTotalSized first → IsTotalSized second → FitsSigned w128 (first +ℤ second)
 sum_fits first second p q = fits_signed_from_abs w128 (first +ℤ second) (let size = size_of (2 ^ 100) (first +ℤ second) (sum_size first second p q) in omega (arith, size))
 
+-- plan: row by row no link breaks the duals (`rows_passed`), so their sums give the bound (`bound_of_sums`)
 pub overflow_add-rows : goal.overflow_add-rows
 overflow_add-rows g c =
     rw (sum_same c.total-rows.result c.total-columns.result c.total-rows.ensures.size c.total-columns.ensures.size)

@@ -9,6 +9,7 @@ use Rattle.tsp_bound.proofs.Passed.{columns_passed, above_where_not}
 use Rattle.tsp_bound.proofs.assignment.first_broken_of_row.Goals as goal
 use Rattle.tsp_bound.proofs.assignment.first_broken_of_row.Goals.{else-not-fits-via-then-not-fits+else-i-j, else-not-fits-via-else-not-fits}
 
+-- plan: column by column: the first that doesn't fit (`above_where_not`), or all do (`columns_passed`)
 pub columns-init : goal.columns-init
 columns-init g c = λ b low below other. absurd (omega (arith, low, below))
 

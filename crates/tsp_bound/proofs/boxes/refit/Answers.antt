@@ -5,6 +5,7 @@ use Rattle.tsp_bound.specs.declared.area.Area.{Area}
 use Rattle.tsp_bound.specs.states.Boxes.{HoldsNode, area_at}
 use Rattle.tsp_bound.proofs.boxes.refit.Goals as goal
 
+-- plan: a place of either half is within the joined area
 pub returns-clause-refit : goal.returns-clause-refit
 returns-clause-refit c = λ place number.
     let left : c.index.result.now ≡ area_at c.args.areas.now.items (2 * c.args.v) = get_or_read c.args.areas.now.items (2 * c.args.v) c.index.result.now (omega arith) c.index.ensures _ in

@@ -7,6 +7,7 @@ use Rattle.tsp_theory.specs.CertificateNumbers.{IsMultiplier}
 use Rattle.tsp_bound.proofs.Tables.{table_pushed}
 use Rattle.tsp_bound.proofs.by_node.lists_of.Goals as goal
 
+-- plan: one pair more is in the lists of both of its nodes (`table_pushed`)
 pub triples-preserved : goal.triples-preserved
 triples-preserved c =
     let index : ℕ = c.triples.triple-index in

@@ -7,6 +7,7 @@ use Rattle.std.proofs.lemmas.List.Elements.{recursion_from_All}
 use Rattle.tsp_bound.proofs.Lowered.{one_lowered, none_lowered}
 use Rattle.tsp_bound.proofs.by_node.lowered_by.Goals as goal
 
+-- plan: by whether the lowering is the node's (`one_lowered`) or another's (`none_lowered`)
 pub returns-then-lowering-node-clause-value : goal.returns-then-lowering-node-clause-value
 returns-then-lowering-node-clause-value c =
     let index : ℕ = c.lowerings.lowering-index in

@@ -8,6 +8,7 @@ use Rattle.tsp_theory.specs.states.Nearest.{least_at}
 use Rattle.tsp_bound.proofs.Listing.{listed_more, row_ended, node_in_part}
 use Rattle.tsp_bound.proofs.lists.take_row.Goals as goal
 
+-- plan: one pair more, for both of its nodes (`listed_more`); at the end the row is listed (`row_ended`)
 pub places-preserved : goal.places-preserved
 places-preserved g c =
     let order : List ℕ = c.args.placed.now.order.now in

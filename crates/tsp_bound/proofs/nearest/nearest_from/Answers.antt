@@ -7,6 +7,7 @@ use Rattle.tsp_bound.proofs.Trees.{searched_alone, searched_both}
 use Rattle.tsp_bound.proofs.nearest.nearest_from.Goals as goal
 use Rattle.tsp_bound.proofs.nearest.nearest_from.Goals.{then-v-eq0, else-v-eq0, then-not-is_left_alone, else-not-is_left_alone}
 
+-- plan: climbing, the other half is searched (`searched_both`) or left alone (`searched_alone`)
 pub climb-preserved : goal.climb-preserved
 climb-preserved g c =
     let s = c.args.search.now in

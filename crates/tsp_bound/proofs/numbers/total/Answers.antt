@@ -7,6 +7,7 @@ use Rattle.tsp_theory.specs.CertificateNumbers.{total}
 use Rattle.tsp_theory.proofs.Sizes.{sum_more, sum_computed}
 use Rattle.tsp_bound.proofs.numbers.total.Goals as goal
 
+-- plan: one number more (`sum_more`), which fits 64 bits (`sum_computed`)
 pub numbers-preserved : goal.numbers-preserved
 numbers-preserved c =
     let xs : List ℤ = c.args.numbers.now in

@@ -37,6 +37,7 @@ overflow_add-sum c =
     rw (own_number number c.from-sum.result size c.from-sum.ensures)
     (sum_fits (to_z w128 c.triples.sum-bits) number index few c.triples.invariant.size size)
 
+-- plan: one triple's number more (`sum_more`), which fits 64 bits (`sum_fits`)
 pub triples-preserved : goal.triples-preserved
 triples-preserved c =
     let xs : List (ℕ × ℕ × ℤ) = c.args.triples.now in

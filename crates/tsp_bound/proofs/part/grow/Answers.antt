@@ -7,6 +7,7 @@ use Rattle.tsp_tree.specs.declared.growth.Grown.{Grown}
 use Rattle.tsp_bound.proofs.Parts.{if_ok_more}
 use Rattle.tsp_bound.proofs.part.grow.Goals as goal
 
+-- plan: the tree that grows is a forest of least joins (`growth_is_forest`)
 pub returns-clause-whole : goal.returns-clause-whole
 returns-clause-whole g c =
     let n = g.W.Weights.nodes c.args.w.now in

@@ -6,6 +6,7 @@ use Rattle.tsp_bound.specs.states.Numbering.{on_both}
 use Rattle.tsp_bound.proofs.Parts.{forest_of}
 use Rattle.tsp_bound.proofs.part.joined_over.Goals as goal
 
+-- plan: the pairs over the places are the forest over their nodes (`forest_of`)
 pub returns : goal.returns
 returns g c =
     let order : List ℕ = c.args.order.now in

@@ -3,6 +3,7 @@ use Rattle.std.proofs.Common.{◌∙◌, ap}
 use Rattle.tsp_bound.proofs.Parts.{spanning_seen}
 use Rattle.tsp_bound.proofs.part.pairs_over.Goals as goal
 
+-- plan: over the boxes or by the kept links: what spans the places spans their nodes (`spanning_seen`)
 pub returns-in-Some : goal.returns-in-Some
 returns-in-Some g c =
     let nodes = c.in-Some.nodes.placed in

@@ -10,6 +10,7 @@ use Rattle.tsp_bound.proofs.Parts.{map_more}
 use Rattle.tsp_theory.proofs.Weights.{sum_more, sum_fits, sum_computed, weight_added}
 use Rattle.tsp_bound.proofs.part.weighed.Goals as goal
 
+-- plan: one pair more (`weight_added`), whose weight fits 128 bits (`sum_fits`)
 pub pairs-preserved : goal.pairs-preserved
 pairs-preserved g c =
     let w = g.W.Weights.at c.args.w.now in

@@ -5,6 +5,7 @@ use Rattle.tsp_bound.proofs.scaled.scaled.Goals as goal
 pub overflow_mul-result : goal.overflow_mul-result
 overflow_mul-result c = product_fits c.args.scale c.args.cost c.requires.scale c.requires.low c.requires.high
 
+-- plan: the product fits 64 bits (`product_fits`), so it is the whole one (`product_is`)
 pub returns : goal.returns
 returns c =
     let is = product_is c.args.scale c.args.cost c.requires.scale c.requires.low c.requires.high in

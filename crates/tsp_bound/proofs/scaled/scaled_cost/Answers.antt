@@ -5,6 +5,7 @@ use Rattle.std.proofs.lemmas.Int.{to_z-of_z}
 use Rattle.tsp_theory.proofs.Sizes.{same_scale}
 use Rattle.tsp_bound.proofs.scaled.scaled_cost.Goals as goal
 
+-- plan: the scale in 64 bits is the whole one (`same_scale`)
 pub returns-clause-value : goal.returns-clause-value
 returns-clause-value g c =
     let fits : SFits w64 c.cost.result = search rules in

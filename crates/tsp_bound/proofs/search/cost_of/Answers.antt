@@ -4,6 +4,7 @@ use Rattle.std.proofs.lemmas.Int.{ints}
 use Rattle.tsp_bound.proofs.Inverses.{cost_enough}
 use Rattle.tsp_bound.proofs.search.cost_of.Goals as goal
 
+-- plan: the inverse of the scale gives a cost that is enough (`cost_enough`)
 pub returns : goal.returns
 returns c =
     let fits : SFits w64 c.args.weight = search rules in

@@ -5,6 +5,7 @@ use Rattle.tsp_bound.specs.states.Boxes.{box_at}
 use Rattle.tsp_bound.specs.states.Components.{IsTagOf}
 use Rattle.tsp_bound.proofs.tags.retag.Goals as goal
 
+-- plan: a place of either half has the tag that both halves share
 pub returns-clause-refit : goal.returns-clause-refit
 returns-clause-refit c =
     let left : c.index.result.now ≡ box_at 0 c.args.tags.now.items (2 * c.args.v) = get_or_read c.args.tags.now.items (2 * c.args.v) c.index.result.now (omega arith) c.index.ensures _ in

@@ -6,6 +6,7 @@ use Rattle.tsp_bound.specs.states.Components.{IsTagOf}
 use Rattle.tsp_bound.proofs.Trees.{leaf_more, held_leaves, refit_more}
 use Rattle.tsp_bound.proofs.tags.tag_boxes.Goals as goal
 
+-- plan: each leaf has the tag of its place (`leaf_more`), then each box that of both halves (`refit_more`)
 pub leaves-preserved : goal.leaves-preserved
 leaves-preserved c = record {
   len = length-set c.leaves.tags.items (length c.args.labels.now + c.leaves.place) _ ∙ c.leaves.invariant.len;

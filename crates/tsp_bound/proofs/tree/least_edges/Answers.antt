@@ -29,6 +29,7 @@ overflow_add-result g c =
     let second : FitsSigned w64 c.two_spokes.result.1.weight = search rules in
     tree_fits c.two_spokes.result.0.weight c.two_spokes.result.1.weight c.in_ok-grown.grown.weight c.from.result c.from-2.result first second c.from.ensures c.from-2.ensures c.in_ok-grown.ensures.size
 
+-- plan: the joined pairs with both spokes are a least 1-tree under the lessened weights (`least_from_forest`)
 pub returns : goal.returns
 returns g c =
     let n = g.C.Costs.nodes c.args.c.now in

@@ -11,6 +11,7 @@ use Rattle.tsp_bound.specs.states.ByNode.{lowered_by}
 use Rattle.tsp_bound.proofs.Lowered.{lowered_left}
 use Rattle.tsp_bound.proofs.weights.lower.Goals as goal
 
+-- plan: one pair more lowers the entry of its other node (`node_moved`), and no other
 pub lowerings-preserved : goal.lowerings-preserved
 lowerings-preserved c = λ x last rest.
     let index : ℕ = c.lowerings.lowering-index in

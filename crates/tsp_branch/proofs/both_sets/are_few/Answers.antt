@@ -15,6 +15,7 @@ overflow_add-sum c =
     let size = c.places.invariant.size in
     omega (arith, ints, own.0, own.1, size.0, size.1)
 
+-- plan: one place more is counted, and the sum fits 64 bits
 pub places-preserved : goal.places-preserved
 places-preserved c =
     let ns : List ℤ = c.args.multipliers.now.numbers.now in

@@ -9,6 +9,7 @@ use Rattle.tsp_cases.specs.states.Decided.{changes}
 use Rattle.tsp_cases.proofs.Changes.{changes_left}
 use Rattle.tsp_branch.proofs.decided.change_between.Goals as goal
 
+-- plan: one decision more of the node changes the pair or doesn't (`changes_left`)
 pub decisions-preserved : goal.decisions-preserved
 decisions-preserved c =
     let ds : List Decision = c.args.decisions.now in

@@ -8,6 +8,7 @@ use Rattle.tsp_cases.proofs.Changes.{changes_left}
 use Rattle.tsp_cases.proofs.SetSums.{moved_on}
 use Rattle.tsp_branch.proofs.decided.change_row.Goals as goal
 
+-- plan: one decision more changes its own entry (`changes_left`), and no other (`moved_on`)
 pub decisions-preserved : goal.decisions-preserved
 decisions-preserved c = λ x last rest.
     let ds : List Decision = c.args.decisions.now in

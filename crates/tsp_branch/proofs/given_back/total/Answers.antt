@@ -8,6 +8,7 @@ use Rattle.tsp_theory.specs.CertificateNumbers.{total}
 use Rattle.tsp_branch.proofs.GivenBack.{more_of_64, computed_of_64, total_left}
 use Rattle.tsp_branch.proofs.given_back.total.Goals as goal
 
+-- plan: one number more (`total_left`), which fits 128 bits (`computed_of_64`)
 pub numbers-preserved : goal.numbers-preserved
 numbers-preserved g c =
     let leaf = c.args.leaf.now in

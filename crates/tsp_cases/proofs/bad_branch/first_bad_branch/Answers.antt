@@ -8,6 +8,7 @@ use Rattle.tsp_cases.proofs.BranchesWithin.{within_next, within_at_branch, withi
 use Rattle.tsp_cases.proofs.bad_branch.first_bad_branch.Goals as goal
 use Rattle.tsp_cases.proofs.bad_branch.first_bad_branch.Goals.{in-Branch+else-first-least+else-most-first, in_default}
 
+-- plan: step by step: a branch within the limits (`within_at_branch`), or a leaf (`within_at_leaf`); at the end none is bad
 pub branches-preserved : goal.branches-preserved
 branches-preserved c =
     let all : List TreeStep = c.args.steps.now in

@@ -3,6 +3,7 @@ use Rattle.std.proofs.Common.{arith}
 use Rattle.tsp_cases.proofs.SmallFamilies.{lone_set, set_twice, set_beside_all, not_others, all_nodes, node_twice}
 use Rattle.tsp_cases.proofs.family_examples.examples_of_families.Goals as goal
 
+-- plan: one lemma for each example, by the laws of the crates below
 pub returns : goal.returns
 returns c =
     let cross = c.cycles_cross_families.ensures in

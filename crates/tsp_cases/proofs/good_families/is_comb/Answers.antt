@@ -12,6 +12,7 @@ use Rattle.std.specs.Global.{Vec}
 use Rattle.tsp_cases.proofs.Teeth.{rest_all, first_all, counted, handle_new, comb_found, teeth_found, own_marks, lone_found, lone_in, no_sets}
 use Rattle.tsp_cases.proofs.good_families.is_comb.Goals as goal
 
+-- plan: by the sets: a handle, an odd number of teeth that don't meet (`comb_found`), or a lone set (`lone_found`)
 pub mark_nodes-requires : goal.mark_nodes-requires
 mark_nodes-requires c = first_all 0 c.args.sets.now c.in-Some.handle.now c.in-Some.teeth.now c.deref.result.now c.in-Some.ensures.cases.0 c.deref.ensures.value
     (λ node. node < length c.args.handles.now) c.requires.handle_places

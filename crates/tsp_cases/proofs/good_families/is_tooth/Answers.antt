@@ -4,6 +4,7 @@ use Rattle.tsp_cases.specs.states.Marked.{is_marked}
 use Rattle.tsp_cases.proofs.Teeth.{tooth_found, tooth_inside, tooth_outside}
 use Rattle.tsp_cases.proofs.good_families.is_tooth.Goals as goal
 
+-- plan: the marks of the handle say whether a node is inside (`tooth_inside`) and one outside (`tooth_outside`)
 pub returns-then-has_node : goal.returns-then-has_node
 returns-then-has_node c = λ n are. (
   λ outside. tooth_found n (is_marked c.args.handles.now c.args.mark) c.args.nodes.now are (c.has_node.ensures.0 c.if-has_node.true) (c.has_node-then-has_node.ensures.0 outside),

@@ -30,6 +30,7 @@ added c =
 pub overflow_add-sum : goal.overflow_add-sum
 overflow_add-sum c = let step = added c in rw step.product step.fits
 
+-- plan: one family more adds its multiplier as often as it is crossed (`adds_family`)
 pub families-preserved : goal.families-preserved
 families-preserved c =
     let step = added c in

@@ -2,6 +2,7 @@
 use Rattle.tsp_cases.proofs.Certificates.{LeafLaws, case_trees_bound_cycles, certificates_bound_tours, no_bound_no_tour}
 use Rattle.tsp_cases.proofs.laws.case_trees_bound_cycles.Goals as goal
 
+-- plan: the lemmas of the same subject, given the laws on a leaf as a record (`LeafLaws`)
 pub returns : goal.returns
 returns c =
     let laws : LeafLaws = record {

@@ -3,6 +3,7 @@ use Rattle.tsp_theory.proofs.CostLaws.{Laws}
 use Rattle.tsp_cases.proofs.Combs.{cycles_cross_combs}
 use Rattle.tsp_cases.proofs.laws.cycles_cross_combs.Goals as goal
 
+-- plan: the lemma of the same name, given the laws of the crates below as a record (`Laws`)
 pub returns : goal.returns
 returns c =
     let laws : Laws = record {

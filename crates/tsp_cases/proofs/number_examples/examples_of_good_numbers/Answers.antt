@@ -3,6 +3,7 @@ use Rattle.std.proofs.Common.{arith}
 use Rattle.std.specs.Prelude.{pos, negsuc, ◌≤ℤ◌}
 use Rattle.tsp_cases.proofs.number_examples.examples_of_good_numbers.Goals as goal
 
+-- plan: each example is computed
 pub returns-clause-below_zero : goal.returns-clause-below_zero
 returns-clause-below_zero c = λ good. let sign : pos 0 ≤ℤ negsuc 0 = good.signs 1 (pos 0) (omega arith) in omega (arith, sign)
 

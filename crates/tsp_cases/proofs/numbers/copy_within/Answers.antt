@@ -8,6 +8,7 @@ use Rattle.std.proofs.lemmas.Int.{ints}
 use Rattle.std.proofs.lemmas.List.{take_more, take_more_set, get_or_default}
 use Rattle.tsp_cases.proofs.numbers.copy_within.Goals as goal
 
+-- plan: one number more is copied, if it is within the limit
 pub numbers-preserved : goal.numbers-preserved
 numbers-preserved c =
     let xs : List ℤ = c.args.numbers.now in

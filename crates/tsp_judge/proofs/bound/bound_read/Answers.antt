@@ -7,6 +7,7 @@ use Rattle.tsp_judge.proofs.Runs.{none_bounded}
 use Rattle.tsp_judge.proofs.Bounding.{ends_unbounded, bound_run_of, bound_fault_of}
 use Rattle.tsp_judge.proofs.bound.bound_read.Goals as goal
 
+-- plan: by how it ends: of the wrong kind, out of memory, or with a report (`bound_run_of`)
 pub returns-in_default : goal.returns-in_default
 returns-in_default g c = λ first second one two.
     rw c.wrong_kind.ensures

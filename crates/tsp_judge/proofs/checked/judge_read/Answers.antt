@@ -7,6 +7,7 @@ use Rattle.tsp_judge.proofs.Runs.{are_read, ends_without, none_judged}
 use Rattle.tsp_judge.proofs.Yeses.{run_of, fault_of_run}
 use Rattle.tsp_judge.proofs.checked.judge_read.Goals as goal
 
+-- plan: by how it ends: of the wrong kind, out of memory, or with a report (`run_of`)
 pub returns-in_default : goal.returns-in_default
 returns-in_default g c = λ given first second one two three. rw c.wrong_kind.ensures (fault_of_run given _ first second _ _ (
   c.args.instance,

@@ -6,6 +6,7 @@ use Rattle.tsp_judge.proofs.HandedOn.{handed_on}
 use Rattle.tsp_judge.proofs.Runs.{none_taken, not_none}
 use Rattle.tsp_judge.proofs.checked.read_certificate.Goals as goal
 
+-- plan: by whether a certificate is asked for; then its file is read or is none
 pub returns-in_default-clause-answer : goal.returns-in_default-clause-answer
 returns-in_default-clause-answer g c = rw c.in_default.is ([], none_taken, (λ none. (Keeps-refl _, refl), tt))
 

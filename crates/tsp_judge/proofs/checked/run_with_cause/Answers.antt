@@ -8,6 +8,7 @@ use Rattle.tsp_judge.proofs.Runs.{none_taken, unread_in, first_stops, second_sto
 use Rattle.tsp_judge.proofs.Yeses.{fault_of_run}
 use Rattle.tsp_judge.proofs.checked.run_with_cause.Goals as goal
 
+-- plan: by the first file that is none (`first_stops`, `second_stops`, `third_stops`); else all are files
 pub returns-in_err-instance-clause-answer : goal.returns-in_err-instance-clause-answer
 returns-in_err-instance-clause-answer g c =
     let same : c.from_residual.result ≡ Err c.in_err-instance.field-0.0 = handed_on _ _ c.from_residual.ensures.1 in

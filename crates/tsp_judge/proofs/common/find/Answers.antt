@@ -4,6 +4,7 @@ use Rattle.tsp_stream.specs.states.Watched.{turn_of}
 use Rattle.tsp_judge.proofs.Comparing.{found_judged}
 use Rattle.tsp_judge.proofs.common.find.Goals as goal
 
+-- plan: the verdict by what is known of all is that of a check of the files (`found_judged`)
 pub returns-in-Ok-next_verdict-clause-found : goal.returns-in-Ok-next_verdict-clause-found
 returns-in-Ok-next_verdict-clause-found g c =
     let read = c.in-Ok.ensures.answer in (

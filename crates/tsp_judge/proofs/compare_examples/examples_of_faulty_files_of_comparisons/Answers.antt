@@ -7,6 +7,7 @@ use Rattle.tsp_reason.specs.declared.certificate.Certificate.{Certificate}
 use Rattle.tsp_judge.specs.CheckRun.{Given, IsUnreadIn, IsSomeFile}
 use Rattle.tsp_judge.proofs.compare_examples.examples_of_faulty_files_of_comparisons.Goals as goal
 
+-- plan: each example by cases of which file it is (`no_second`, `no_third`)
 pub returns-clause-first : goal.returns-clause-first
 returns-clause-first c = λ given fault first stops unread. inl (refl, stops, unread)
 

@@ -9,6 +9,7 @@ use Rattle.tsp_judge.specs.CompareRun.{IsTurnAt, status_of_found}
 use Rattle.tsp_judge.specs.Following.{AreTold}
 use Rattle.tsp_judge.proofs.compared.compare_all.Goals as goal
 
+-- plan: one solution more is compared (`compared_next`), or ends the comparison (`compared_ends`)
 pub returns-in_err-found-clause-text : goal.returns-in_err-found-clause-text
 returns-in_err-found-clause-text g c =
     let same : c.from_residual.result ≡ Err c.in_err-found.field-0.0 = handed_on _ _ c.from_residual.ensures.1 in

@@ -11,6 +11,7 @@ use Rattle.tsp_report.specs.Report.{IsSized}
 use Rattle.tsp_judge.proofs.HandedOn.{handed_on}
 use Rattle.tsp_judge.proofs.compared.compare_one.Goals as goal
 
+-- plan: by the solution: memory is refused (`one_refused`), the writer fails (`one_stopped`), or its line is written
 pub write_line-requires : goal.write_line-requires
 write_line-requires g c =
     let found = c.in_ok-found.ensures.found in

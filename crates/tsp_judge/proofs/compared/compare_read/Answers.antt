@@ -12,6 +12,7 @@ use Rattle.tsp_judge.proofs.Runs.{none_judged}
 use Rattle.tsp_judge.proofs.Comparing.{ends_lacking, ends_comparing}
 use Rattle.tsp_judge.proofs.compared.compare_read.Goals as goal
 
+-- plan: by how it ends: of the wrong kind, without a basis (`ends_lacking`), or with the comparison (`ends_comparing`)
 pub returns-in_default-clause-text : goal.returns-in_default-clause-text
 returns-in_default-clause-text g c = λ given first one two.
     rw c.wrong_kind.ensures

@@ -10,6 +10,7 @@ use Rattle.tsp_judge.specs.Following.{AreAllTold, IsFollowedBy}
 use Rattle.tsp_report.specs.ComparisonText.{head_of}
 use Rattle.tsp_judge.proofs.compared.compare_with.Goals as goal
 
+-- plan: the head is written, then the line of each solution (`after_head`)
 pub returns-clause-text : goal.returns-clause-text
 returns-clause-text g c =
     let written = subst (λ (f : Fields). HasWritten (sink_of g.W.Write.contents c.args.out.now c.write_head.new.out) (head_of f c.args.common.now.basis)) c.file.ensures.value c.in-Ok.ensures in

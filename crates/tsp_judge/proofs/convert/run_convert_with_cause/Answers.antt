@@ -15,6 +15,7 @@ pub returns-in-Err-clause-answer : goal.returns-in-Err-clause-answer
 returns-in-Err-clause-answer g c = let read = c.in_ok-file.ensures.answer in
     rw c.not_relaid.ensures (read.0, read.1, (c.in_ok-file.file, read.2, c.in-Err.ensures, (Keeps-refl _, refl)))
 
+-- plan: by how it ends: no file, a layout that can't be, a failed write, or the text (`converted`)
 pub returns-in-Err-written-clause-answer : goal.returns-in-Err-written-clause-answer
 returns-in-Err-written-clause-answer g c = let read = c.in_ok-file.ensures.answer in
     let turn = turn_of g.R.Read.remaining c.args.r.now c.read_file.new.reader read.0 in rw c.unwritten.ensures (

@@ -7,6 +7,7 @@ use Rattle.tsp_reason.specs.declared.certificate.Certificate.{Certificate}
 use Rattle.tsp_judge.specs.CheckRun.{Given, IsUnreadIn, IsFaultOfRun}
 use Rattle.tsp_judge.proofs.examples.examples_of_faulty_files.Goals as goal
 
+-- plan: each example by cases of which file it is (`no_third`, `no_other`)
 pub returns-clause-first : goal.returns-clause-first
 returns-clause-first c = λ given claimed fault first second sink unwritten stops unread left. (unwritten, inl (refl, stops, unread, left))
 

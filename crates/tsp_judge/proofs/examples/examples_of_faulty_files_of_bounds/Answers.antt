@@ -6,6 +6,7 @@ use Rattle.tsp_read.specs.declared.ReadFault.{ReadFault}
 use Rattle.tsp_judge.specs.CheckRun.{IsSomeFile}
 use Rattle.tsp_judge.proofs.examples.examples_of_faulty_files_of_bounds.Goals as goal
 
+-- plan: each example by cases of which file it is (`no_third`)
 pub returns-clause-first : goal.returns-clause-first
 returns-clause-first c = λ by fault first second sink unwritten stops unread. (unwritten, inl (refl, stops, unread))
 

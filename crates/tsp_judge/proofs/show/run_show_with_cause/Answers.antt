@@ -11,6 +11,7 @@ returns-in_err-file-clause-answer g c =
     let same : c.from_residual.result ≡ Err c.in_err-file.field-0.0 = handed_on _ _ c.from_residual.ensures.1 in
     let read = c.in_err-file.ensures.answer in rw same (read.0, read.1, show_stops (turn_of g.R.Read.remaining c.args.r.now c.read_file.new.reader read.0) _ _ read.2 (Keeps-refl _, refl))
 
+-- plan: by how it ends: no file (`show_stops`), a failed write (`show_stopped`), or the text
 pub returns-in-Err-clause-answer : goal.returns-in-Err-clause-answer
 returns-in-Err-clause-answer g c = let read = c.in_ok-file.ensures.answer in rw c.unwritten.ensures (
   read.0,

@@ -6,6 +6,7 @@ use Rattle.tsp_judge.proofs.HandedOn.{handed_on}
 use Rattle.tsp_judge.proofs.Comparing.{compare_first_stops}
 use Rattle.tsp_judge.proofs.uncertified.run_compare_uncertified_with_cause.Goals as goal
 
+-- plan: by whether the instance is a file (`compare_first_stops`)
 pub returns-in_err-instance-clause-text : goal.returns-in_err-instance-clause-text
 returns-in_err-instance-clause-text g c =
     let same : c.from_residual.result ≡ Err c.in_err-instance.field-0.0 = handed_on _ _ c.from_residual.ensures.1 in

@@ -8,6 +8,7 @@ use Rattle.tsp_judge.proofs.Runs.{none_taken, first_stops, second_stops}
 use Rattle.tsp_judge.proofs.Yeses.{fault_of_run}
 use Rattle.tsp_judge.proofs.uncertified.run_uncertified_with_cause.Goals as goal
 
+-- plan: by the first file that is none (`first_stops`, `second_stops`); else both are files
 pub returns-in_err-instance-clause-answer : goal.returns-in_err-instance-clause-answer
 returns-in_err-instance-clause-answer g c =
     let same : c.from_residual.result ≡ Err c.in_err-instance.field-0.0 = handed_on _ _ c.from_residual.ensures.1 in

@@ -2,6 +2,7 @@
 use Rattle.tsp_judge.specs.Watched.{turn_of}
 use Rattle.tsp_perform.proofs.examples.examples_of_done_tasks.Goals as goal
 
+-- plan: each example is computed
 pub returns-clause-claimed : goal.returns-clause-claimed
 returns-clause-claimed g c = λ instance solution instance_left solution_left claimed sink outcome done. (
   turn_of g.R.Read.remaining instance instance_left done.0,

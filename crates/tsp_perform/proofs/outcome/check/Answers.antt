@@ -1,6 +1,7 @@
 -- The goals of `check` in src/outcome.rt: what it ensures.
 use Rattle.tsp_perform.proofs.outcome.check.Goals as goal
 
+-- plan: by whether a certificate is named: the clauses are those of the call
 pub returns-in-None-clause-answer : goal.returns-in-None-clause-answer
 returns-in-None-clause-answer g c = let one = c.run_uncertified.ensures.answer in let two = one.2 in
     (one.0, one.1, (two.0, two.1, rw c.in-None.is two.2))

@@ -1,6 +1,7 @@
 -- The goals of `compare` in src/outcome.rt: what it ensures.
 use Rattle.tsp_perform.proofs.outcome.compare.Goals as goal
 
+-- plan: by whether a certificate is named: the clauses are those of the call
 pub returns-in-Some-clause-text : goal.returns-in-Some-clause-text
 returns-in-Some-clause-text g c = let one = c.run_compare.ensures.text in let two = one.2 in
     (one.0, one.1, rw c.in-Some.is (two.0, two.1, two.2.1))

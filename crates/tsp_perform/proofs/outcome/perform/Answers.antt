@@ -16,6 +16,7 @@ named_by remaining None (Some left) P Q implies taken = absurd taken
 named_by remaining (Some named) None P Q implies taken = absurd taken
 named_by remaining (Some named) (Some left) P Q implies taken = (taken.0, taken.1, implies _ taken.2)
 
+-- plan: by the task: what the call of its verb gives is what the task comes to (`named_by`)
 pub returns-in-Check-clause-done : goal.returns-in-Check-clause-done
 returns-in-Check-clause-done g c = let one = c.check-ended.ensures.answer in let two = one.2 in let left = c.check-ended.new in
     subst (λ task. IsDone g.R.Read.remaining task (Check left.instance left.solution left.certificate c.in-Check.claimed)

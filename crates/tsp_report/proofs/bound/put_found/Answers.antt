@@ -8,6 +8,7 @@ use Rattle.tsp_stream.specs.states.WriteProgress.{way_of}
 use Rattle.tsp_stream.proofs.Carrying.{carried_then}
 use Rattle.tsp_report.proofs.bound.put_found.Goals as goal
 
+-- plan: by what was found: a bound, no tour, or a reason (`carried_then`)
 pub returns-in-Bound : goal.returns-in-Bound
 returns-in-Bound g c =
     let start = way_of g.W.Write.contents c.args.out.now c.args.piece.now.items in

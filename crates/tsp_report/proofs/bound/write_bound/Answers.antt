@@ -6,6 +6,7 @@ use Rattle.tsp_report.proofs.Texts.{two_parts}
 use Rattle.tsp_report.specs.Report.{bound_report_of, instance_lines, bound_found_lines}
 use Rattle.tsp_report.proofs.bound.write_bound.Goals as goal
 
+-- plan: by whether the writer fails: the whole report was written (`text_written`), or a prefix (`text_stopped`)
 pub returns-then-failed-2 : goal.returns-then-failed-2
 returns-then-failed-2 g c =
     let start = way_of g.W.Write.contents c.args.out.now c.new-piece.result.items in

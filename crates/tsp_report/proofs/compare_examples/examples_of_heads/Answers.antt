@@ -3,6 +3,7 @@ use Rattle.std.proofs.Common.{refl}
 use Rattle.std.specs.Fmt.{digits}
 use Rattle.tsp_report.proofs.compare_examples.examples_of_heads.Goals as goal
 
+-- plan: each example is computed
 pub returns-clause-alone : goal.returns-clause-alone
 unfolding digits
 returns-clause-alone c = refl

@@ -9,6 +9,7 @@ use Rattle.tsp_stream.proofs.Carrying.{carried_none, carried_then}
 use Rattle.tsp_reason.specs.declared.basis.Basis.TheVariants.{Tours}
 use Rattle.tsp_report.proofs.compared.put_basis.Goals as goal
 
+-- plan: by the basis: its line, or none (`carried_none`)
 pub returns-in-Tours-None : goal.returns-in-Tours-None
 returns-in-Tours-None g c =
     let is : c.args.basis ≡ Tours None = search rules in

@@ -11,6 +11,7 @@ use Rattle.tsp_report.specs.Report.{reason_text}
 use Rattle.tsp_report.proofs.Texts.{then_named}
 use Rattle.tsp_report.proofs.compared.put_words.Goals as goal
 
+-- plan: by the verdict: a length with its gap or its routes, or a reason (`then_named`)
 pub returns-in-Tour : goal.returns-in-Tour
 returns-in-Tour g c =
     let start = way_of g.W.Write.contents c.args.out.now c.args.piece.now.items in

@@ -7,6 +7,7 @@ use Rattle.tsp_report.specs.Report.{instance_lines}
 use Rattle.tsp_report.specs.ComparisonText.{head_of, basis_lines}
 use Rattle.tsp_report.proofs.compared.write_head.Goals as goal
 
+-- plan: by whether the writer fails: the whole head was written (`text_written`), or a prefix (`text_stopped`)
 pub returns-then-failed-2 : goal.returns-then-failed-2
 returns-then-failed-2 g c =
     let start = way_of g.W.Write.contents c.args.out.now c.new-piece.result.items in

@@ -5,6 +5,7 @@ use Rattle.tsp_stream.specs.states.WriteProgress.{Carried, way_of}
 use Rattle.tsp_stream.proofs.Carrying.{carried_then}
 use Rattle.tsp_report.proofs.fault.put_name.Goals as goal
 
+-- plan: the words of the fault, one after the other (`carried_then`)
 pub returns : goal.returns
 returns g c =
     let start = way_of g.W.Write.contents c.args.out.now c.args.piece.now.items in

@@ -6,6 +6,7 @@ use Rattle.tsp_stream.specs.states.WriteProgress.{way_of}
 use Rattle.tsp_stream.proofs.Carrying.{carried_then}
 use Rattle.tsp_report.proofs.fault.put_place.Goals as goal
 
+-- plan: the line, the word and the fault's name (`carried_then`)
 pub returns : goal.returns
 returns g c =
     let start = way_of g.W.Write.contents c.args.out.now c.args.piece.now.items in

@@ -7,6 +7,7 @@ use Rattle.tsp_stream.specs.states.WriteProgress.{way_of}
 use Rattle.tsp_stream.proofs.Carrying.{carried_none}
 use Rattle.tsp_report.proofs.reason.put_length.Goals as goal
 
+-- plan: by whether the reason has a length (`carried_none`)
 pub returns-in-Some : goal.returns-in-Some
 returns-in-Some g c =
     let fits : FitsSigned w64 c.in-Some.length = search rules in

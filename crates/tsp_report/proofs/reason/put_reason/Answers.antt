@@ -6,6 +6,7 @@ use Rattle.tsp_stream.proofs.Carrying.{carried_then}
 use Rattle.tsp_report.specs.Report.{reason_name, reason_numbers, reason_length, after_blank, length_after_blank}
 use Rattle.tsp_report.proofs.reason.put_reason.Goals as goal
 
+-- plan: the name, then each number after a blank (`carried_then`)
 pub returns : goal.returns
 returns g c =
     let start = way_of g.W.Write.contents c.args.out.now c.args.piece.now.items in

@@ -9,6 +9,7 @@ use Rattle.tsp_stream.proofs.Carrying.{carried_none, carried_then}
 use Rattle.tsp_report.specs.Report.{gap_lines}
 use Rattle.tsp_report.proofs.report.put_bound.Goals as goal
 
+-- plan: by whether there is a bound: its line, then the word for optimal or the gap (`carried_then`)
 pub returns-in-Some : goal.returns-in-Some
 returns-in-Some g c =
     let start = way_of g.W.Write.contents c.args.out.now c.args.piece.now.items in

@@ -7,6 +7,7 @@ use Rattle.tsp_report.specs.Report.{type_line, nodes_line, not_judged}
 use Rattle.tsp_format.specs.declared.kinds.Kind.{Kind}
 use Rattle.tsp_report.proofs.report.put_instance.Goals as goal
 
+-- plan: the type, the nodes and the unknown keywords (`carried_then`)
 pub returns : goal.returns
 returns g c =
     let f = c.args.instance.now in

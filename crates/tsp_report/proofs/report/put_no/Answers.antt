@@ -6,6 +6,7 @@ use Rattle.tsp_stream.proofs.Carrying.{carried_then}
 use Rattle.tsp_report.specs.Report.{reason_text}
 use Rattle.tsp_report.proofs.report.put_no.Goals as goal
 
+-- plan: `no`, the reason and the line's end (`carried_then`)
 pub returns : goal.returns
 returns g c =
     let start = way_of g.W.Write.contents c.args.out.now c.args.piece.now.items in

@@ -6,6 +6,7 @@ use Rattle.tsp_stream.proofs.Carrying.{carried_then}
 use Rattle.std.specs.Fmt.{decimal}
 use Rattle.tsp_report.proofs.report.put_nodes.Goals as goal
 
+-- plan: the word and the number (`carried_then`)
 pub returns : goal.returns
 returns g c =
     let start = way_of g.W.Write.contents c.args.out.now c.args.piece.now.items in

@@ -5,6 +5,7 @@ use Rattle.tsp_stream.proofs.Carrying.{carried_mapped, carried_next}
 use Rattle.tsp_report.proofs.Texts.{unknown_line, not_judged_each}
 use Rattle.tsp_report.proofs.report.put_others.Goals as goal
 
+-- plan: one line of an unknown keyword more (`carried_next`)
 pub lines-preserved : goal.lines-preserved
 lines-preserved g c =
     let line = rw c.deref.ensures.value at c.put_other.ensures in

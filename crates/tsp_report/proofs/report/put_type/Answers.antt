@@ -6,6 +6,7 @@ use Rattle.tsp_stream.proofs.Carrying.{carried_then}
 use Rattle.tsp_format.specs.Words.{kind_word}
 use Rattle.tsp_report.proofs.report.put_type.Goals as goal
 
+-- plan: the word, the TYPE and the line's end (`carried_then`)
 pub returns : goal.returns
 returns g c =
     let start = way_of g.W.Write.contents c.args.out.now c.args.piece.now.items in

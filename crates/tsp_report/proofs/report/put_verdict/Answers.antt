@@ -10,6 +10,7 @@ use Rattle.tsp_report.proofs.Texts.{then_named}
 use Rattle.tsp_report.specs.Report.{bound_lines}
 use Rattle.tsp_report.proofs.report.put_verdict.Goals as goal
 
+-- plan: by the verdict: the lines of a tour, of routes, or of a reason (`then_named`)
 pub returns-in-Tour : goal.returns-in-Tour
 returns-in-Tour g c =
     let start = way_of g.W.Write.contents c.args.out.now c.args.piece.now.items in

@@ -6,6 +6,7 @@ use Rattle.tsp_report.proofs.Texts.{two_parts}
 use Rattle.tsp_report.specs.Report.{report_of, instance_lines, verdict_lines}
 use Rattle.tsp_report.proofs.report.write_report.Goals as goal
 
+-- plan: by whether the writer fails: the whole report was written (`text_written`), or a prefix (`text_stopped`)
 pub returns-then-failed-2 : goal.returns-then-failed-2
 returns-then-failed-2 g c =
     let start = way_of g.W.Write.contents c.args.out.now c.new-piece.result.items in

@@ -8,6 +8,7 @@ use Rattle.std.proofs.lemmas.List.{length-map}
 use Rattle.tsp_draft.specs.states.Drafts.{combs_of}
 use Rattle.tsp_report.proofs.shown.put_combs.Goals as goal
 
+-- plan: by whether the section is present (`carried_none`)
 pub returns-in-Some : goal.returns-in-Some
 returns-in-Some g c =
     let start = way_of g.W.Write.contents c.args.out.now c.args.piece.now.items in

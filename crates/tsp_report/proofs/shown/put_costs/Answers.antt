@@ -9,6 +9,7 @@ use Rattle.tsp_draft.specs.Fields.{Fields}
 use Rattle.tsp_report.specs.Show.{weights_line, canonical_line, canonical_of, fixed_line}
 use Rattle.tsp_report.proofs.shown.put_costs.Goals as goal
 
+-- plan: the weights, the canonical length and the fixed pairs (`carried_then`)
 pub returns : goal.returns
 returns g c =
     let f = c.args.instance.now in

@@ -7,6 +7,7 @@ use Rattle.tsp_report.specs.Show.{tour_line}
 use Rattle.tsp_report.proofs.Texts.{next_mapped}
 use Rattle.tsp_report.proofs.shown.put_each_tour.Goals as goal
 
+-- plan: one tour's line more (`next_mapped`)
 pub tours-preserved : goal.tours-preserved
 tours-preserved g c =
     let line = rw c.deref.ensures.value at c.put_tour.ensures in

@@ -6,6 +6,7 @@ use Rattle.tsp_stream.proofs.Carrying.{carried_then, carried_none}
 use Rattle.std.specs.Fmt.{decimal}
 use Rattle.tsp_report.proofs.shown.put_fixed.Goals as goal
 
+-- plan: by whether the section is present (`carried_none`)
 pub returns-in-Some : goal.returns-in-Some
 returns-in-Some g c =
     let start = way_of g.W.Write.contents c.args.out.now c.args.piece.now.items in

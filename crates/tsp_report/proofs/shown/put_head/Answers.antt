@@ -8,6 +8,7 @@ use Rattle.tsp_report.specs.Show.{name_line}
 use Rattle.tsp_format.specs.declared.kinds.Kind.{Kind}
 use Rattle.tsp_report.proofs.shown.put_head.Goals as goal
 
+-- plan: the name, the type and the nodes (`carried_then`)
 pub returns : goal.returns
 returns g c =
     let f = c.args.file.now in

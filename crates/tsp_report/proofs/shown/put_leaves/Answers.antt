@@ -8,6 +8,7 @@ use Rattle.tsp_format.specs.Steps.{leaf_count}
 use Rattle.tsp_format.specs.states.TreeSteps.{steps_of}
 use Rattle.tsp_report.proofs.shown.put_leaves.Goals as goal
 
+-- plan: the word and the number (`carried_then`)
 pub returns : goal.returns
 returns g c =
     let start = way_of g.W.Write.contents c.args.out.now c.args.piece.now.items in

@@ -6,6 +6,7 @@ use Rattle.tsp_stream.proofs.Carrying.{carried_then}
 use Rattle.tsp_report.proofs.Texts.{named}
 use Rattle.tsp_report.proofs.shown.put_name.Goals as goal
 
+-- plan: by whether there is a name: its line, or none
 pub returns : goal.returns
 returns g c =
     let start = way_of g.W.Write.contents c.args.out.now c.args.piece.now.items in

@@ -7,6 +7,7 @@ use Rattle.tsp_stream.proofs.Carrying.{carried_then}
 use Rattle.tsp_report.proofs.Texts.{then_named}
 use Rattle.tsp_report.proofs.shown.put_tour.Goals as goal
 
+-- plan: the number of the tour, and how many nodes it has (`then_named`)
 pub returns : goal.returns
 returns g c =
     let start = way_of g.W.Write.contents c.args.out.now c.args.piece.now.items in

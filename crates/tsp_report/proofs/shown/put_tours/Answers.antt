@@ -9,6 +9,7 @@ use Rattle.tsp_stream.proofs.Carrying.{carried_then}
 use Rattle.tsp_report.specs.Show.{tour_line}
 use Rattle.tsp_report.proofs.shown.put_tours.Goals as goal
 
+-- plan: how many tours there are, then a line for each (`carried_then`)
 pub returns : goal.returns
 returns g c =
     let start = way_of g.W.Write.contents c.args.out.now c.args.piece.now.items in

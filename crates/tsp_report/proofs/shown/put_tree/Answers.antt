@@ -8,6 +8,7 @@ use Rattle.tsp_format.specs.states.TreeSteps.{steps_of}
 use Rattle.tsp_report.specs.Show.{scale_line, load_unit_line, combs_line, leaves_line}
 use Rattle.tsp_report.proofs.shown.put_tree.Goals as goal
 
+-- plan: the scale, the combs and the leaves (`carried_then`)
 pub returns : goal.returns
 returns g c =
     let f = c.args.file.now in

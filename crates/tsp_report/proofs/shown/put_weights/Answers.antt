@@ -8,6 +8,7 @@ use Rattle.tsp_stream.proofs.Carrying.{carried_then}
 use Rattle.tsp_report.specs.Show.{layout_part}
 use Rattle.tsp_report.proofs.shown.put_weights.Goals as goal
 
+-- plan: the weight type, and the layout of a matrix (`carried_then`)
 pub returns : goal.returns
 returns g c =
     let start = way_of g.W.Write.contents c.args.out.now c.args.piece.now.items in

@@ -7,6 +7,7 @@ use Rattle.tsp_report.specs.Report.{not_judged}
 use Rattle.tsp_report.specs.Show.{shown, head_lines, lines_by_type}
 use Rattle.tsp_report.proofs.shown.write_shown.Goals as goal
 
+-- plan: by whether the writer fails: the whole text was written (`text_written`), or a prefix (`text_stopped`)
 pub returns-then-failed-2 : goal.returns-then-failed-2
 returns-then-failed-2 g c =
     let start = way_of g.W.Write.contents c.args.out.now c.new-piece.result.items in

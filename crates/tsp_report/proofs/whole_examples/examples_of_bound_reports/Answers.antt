@@ -3,6 +3,7 @@ use Rattle.std.proofs.Common.{refl}
 use Rattle.std.specs.Fmt.{digits}
 use Rattle.tsp_report.proofs.whole_examples.examples_of_bound_reports.Goals as goal
 
+-- plan: each example is computed
 pub returns-clause-bound : goal.returns-clause-bound
 unfolding digits
 returns-clause-bound c = refl

@@ -7,6 +7,7 @@ use Rattle.tsp_format.specs.Nodes.{nodes_to}
 use Rattle.tsp_format.specs.Cells.{cells}
 use Rattle.tsp_report.proofs.whole_examples.examples_of_shown_files.Goals as goal
 
+-- plan: each example is computed
 pub returns-clause-matrix : goal.returns-clause-matrix
 unfolding digits cost listed_cost place_of cells nodes_to
 returns-clause-matrix c = refl

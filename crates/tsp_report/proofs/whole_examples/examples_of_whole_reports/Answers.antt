@@ -3,6 +3,7 @@ use Rattle.std.proofs.Common.{refl}
 use Rattle.std.specs.Fmt.{digits}
 use Rattle.tsp_report.proofs.whole_examples.examples_of_whole_reports.Goals as goal
 
+-- plan: each example is computed
 pub returns-clause-yes : goal.returns-clause-yes
 unfolding digits
 returns-clause-yes c = refl

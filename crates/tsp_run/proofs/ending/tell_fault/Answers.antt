@@ -6,6 +6,7 @@ use Rattle.std.proofs.lemmas.Fmt.{contents_after_writes}
 use Rattle.tsp_judge.specs.RunFaultText.{run_fault_text}
 use Rattle.tsp_run.proofs.ending.tell_fault.Goals as goal
 
+-- plan: the text fits the buffer, which is written with its end
 pub returns-in-Ok : goal.returns-in-Ok
 returns-in-Ok g c =
     let line : List ℕ = run_fault_text c.args.fault ++ 10 ∷ [] in

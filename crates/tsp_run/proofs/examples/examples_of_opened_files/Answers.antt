@@ -3,6 +3,7 @@ use Rattle.std.proofs.lemmas.List.{length-map}
 use Rattle.std.specs.String.{string_bytes}
 use Rattle.tsp_run.proofs.examples.examples_of_opened_files.Goals as goal
 
+-- plan: each example is computed
 pub returns-clause-first_solution : goal.returns-clause-first_solution
 returns-clause-first_solution c = λ file opened. opened
 

@@ -11,6 +11,7 @@ or_false : (asked : Bool) → (asked || false) ≡ asked
 or_false true = refl
 or_false false = refl
 
+-- plan: by how the run ends: on a terminal all is explained (`or_true`), elsewhere what the job says (`or_false`)
 pub returns-clause-answer : goal.returns-clause-answer
 returns-clause-answer g c = λ build words sink explained answer ends. ends.3 ∙ or_true ends.0.explain
 

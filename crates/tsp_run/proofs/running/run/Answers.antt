@@ -52,6 +52,7 @@ on_ok : {A B : Type 0} (r : Result A B) (P Q : Type 0) → (P → Q) → OnOk r 
 on_ok (Ok a) P Q f told = f told
 on_ok (Err b) P Q f told = told
 
+-- plan: by the words: refused (`ends_refused`), or a job, whose end is the run's (`ends_as_its_job`)
 pub returns-in-Err-Refused : goal.returns-in-Err-Refused
 returns-in-Err-Refused g c =
     let words : List Text = map string_bytes c.args.line.now in

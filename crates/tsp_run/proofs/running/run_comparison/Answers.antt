@@ -7,6 +7,7 @@ on_ok : {A B : Type 0} (r : Result A B) (P Q : Type 0) → (P → Q) → OnOk r 
 on_ok (Ok a) P Q f told = f told
 on_ok (Err b) P Q f told = told
 
+-- plan: the status is that of the comparison, and standard error has a line for each that it follows (`tells_compared`)
 pub returns : goal.returns
 returns g c =
     let explain = c.args.asked.now.explain in

@@ -6,6 +6,7 @@ use Rattle.tsp_verdict.proofs.CarriedBounds.{assigned, broken_stands}
 use Rattle.tsp_verdict.proofs.HeldNumbers.{duals_are, rows_counted, columns_counted}
 use Rattle.tsp_verdict.proofs.certificate.assignment_bound.Goals as goal
 
+-- plan: by the duals: a pair that breaks them is the first reason (`broken_stands`), else their bound (`assigned`)
 pub returns-in-Ok : goal.returns-in-Ok
 returns-in-Ok g c =
     let pot = c.args.pot.now in

@@ -6,6 +6,7 @@ use Rattle.tsp_verdict.specs.PotentialsCertificate.{has_wanted}
 use Rattle.tsp_verdict.proofs.Certificates.{kind_first, broken_first, none_of_atsp}
 use Rattle.tsp_verdict.proofs.certificate.bound_by_duals.Goals as goal
 
+-- plan: by what is there: other potentials (`kind_first`), duals that break (`broken_first`), or a bound
 pub returns-in-Some : goal.returns-in-Some
 returns-in-Some c = c.in-Some.ensures
 

@@ -8,6 +8,7 @@ use Rattle.tsp_verdict.specs.Places.{IsFirstPlace}
 use Rattle.tsp_verdict.proofs.Certificates.{not_fixed, repeats, multiplied}
 use Rattle.tsp_verdict.proofs.certificate.first_against_multipliers.Goals as goal
 
+-- plan: by the triples: one not on a fixed pair (`not_fixed`), one repeated (`repeats`), or neither (`multiplied`)
 pub returns-in-Some : goal.returns-in-Some
 returns-in-Some c =
     let fixed = c.fixed.result.now in

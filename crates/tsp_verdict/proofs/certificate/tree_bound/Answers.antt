@@ -8,6 +8,7 @@ use Rattle.tsp_verdict.proofs.CarriedBounds.{certified}
 use Rattle.tsp_verdict.proofs.HeldNumbers.{numbers_counted}
 use Rattle.tsp_verdict.proofs.certificate.tree_bound.Goals as goal
 
+-- plan: the bound that the costs give is the certificate's (`certified`)
 pub returns-in-Ok : goal.returns-in-Ok
 returns-in-Ok g c =
     let pot = c.args.pot.now in

@@ -9,6 +9,7 @@ use Rattle.tsp_verdict.proofs.GivenPairs.{taken_known, taken_new, taken_all}
 use Rattle.tsp_verdict.proofs.decided.taken_once.Goals as goal
 use Rattle.tsp_verdict.proofs.decided.taken_once.Goals.{then-is_new+in_ok-push, else-is_new}
 
+-- plan: by the next pair: the set has it (`taken_known`), or it is a decision more (`taken_new`)
 pub pairs-preserved : goal.pairs-preserved
 pairs-preserved c =
     let st = c.pairs in

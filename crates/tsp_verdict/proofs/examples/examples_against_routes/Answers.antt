@@ -4,6 +4,7 @@ use Rattle.std.specs.List.{Contains}
 use Rattle.tsp_verdict.proofs.SmallPlans.{customer}
 use Rattle.tsp_verdict.proofs.examples.examples_against_routes.Goals as goal
 
+-- plan: the example is computed, customer by customer (`customer`)
 pub returns-clause-unserved : goal.returns-clause-unserved
 returns-clause-unserved c = record {
   customer = search rules;

@@ -5,6 +5,7 @@ use Rattle.tsp_cases.specs.Families.{IsFamily}
 use Rattle.tsp_cases.proofs.OnePass.{first_bad_by_place, first_twice_by_place}
 use Rattle.tsp_verdict.proofs.examples.examples_against_trees.Goals as goal
 
+-- plan: each example by its place (`first_bad_by_place`, `first_twice_by_place`)
 pub returns-clause-node_twice : goal.returns-clause-node_twice
 returns-clause-node_twice c = record {
   here = (omega arith, omega arith);

@@ -2,6 +2,7 @@
 use Rattle.std.proofs.Common.{inl, inr, refl, arith, rules}
 use Rattle.tsp_verdict.proofs.examples.examples_of_multipliers.Goals as goal
 
+-- plan: each example is computed
 pub returns-clause-fixed : goal.returns-clause-fixed
 returns-clause-fixed c = λ stands. stands.1.holds (inl (0, omega arith, refl))
 

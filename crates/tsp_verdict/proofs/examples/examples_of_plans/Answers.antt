@@ -4,6 +4,7 @@ use Rattle.std.specs.List.{Contains}
 use Rattle.tsp_verdict.proofs.SmallPlans.{customer}
 use Rattle.tsp_verdict.proofs.examples.examples_of_plans.Goals as goal
 
+-- plan: each example is computed, customer by customer (`customer`)
 pub returns-clause-at_capacity : goal.returns-clause-at_capacity
 returns-clause-at_capacity c = record {
   customers = search rules;

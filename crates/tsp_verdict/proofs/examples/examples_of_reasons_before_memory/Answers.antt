@@ -3,6 +3,7 @@ use Rattle.std.proofs.Common.{arith}
 use Rattle.tsp_reason.specs.declared.verdict.Reason.TheVariants as reasons
 use Rattle.tsp_verdict.proofs.examples.examples_of_reasons_before_memory.Goals as goal
 
+-- plan: each example is computed
 pub returns-clause-length : goal.returns-clause-length
 returns-clause-length c = λ inst sol stands none. none 1 reasons.TourLength (omega arith) stands
 

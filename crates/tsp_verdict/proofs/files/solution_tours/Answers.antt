@@ -9,6 +9,7 @@ both : {A : Type 0} (found : Option A) (P R : Type 0) (Q S : A → Type 0) → M
 both None P R Q S held none some = none held
 both (Some x) P R Q S held none some = some x held
 
+-- plan: by whether the solution has tours (`tours_held`, `no_tours`)
 pub returns : goal.returns
 returns c =
     both c.as_tours.result _ _ _ _ c.as_tours.ensures (no_tours c.args.sol.now)

@@ -3,6 +3,7 @@ use Rattle.std.proofs.Common.{refl}
 use Rattle.tsp_verdict.proofs.FixedPairs.{uses_other, uses_none}
 use Rattle.tsp_verdict.proofs.fixed.is_used.Goals as goal
 
+-- plan: the table says what comes after a node, so the pair is used or isn't (`uses_other`, `uses_none`)
 pub returns-then-directed : goal.returns-then-directed
 returns-then-directed c =
     λ cycle m. uses_none c.args.directed cycle c.args.next.now c.args.pair m c.if-next-pair.false c.if-directed.true

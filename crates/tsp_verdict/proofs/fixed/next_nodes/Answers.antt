@@ -6,6 +6,7 @@ use Rattle.tsp_verdict.specs.states.Next.{AreNext}
 use Rattle.tsp_verdict.proofs.Links.{SetUpTo, set_next, are_next, from_in, further, next_at, last_at}
 use Rattle.tsp_verdict.proofs.fixed.next_nodes.Goals as goal
 
+-- plan: one link more is in the table (`set_next`); with all of them it says what comes next (`are_next`)
 pub index_mut-requires : goal.index_mut-requires
 index_mut-requires c =
     let first : ℕ = c.in-Some.first.now in

@@ -44,6 +44,7 @@ overflow_add-length c =
     let other : IsSumOf (length nodes + 1) c.route_length-length.result = c.route_length-length.ensures.size in
     omega (arith, ints, few, c.routes.invariant.size.low, c.routes.invariant.size.high, other.low, other.high)
 
+-- plan: one route more is its length more (`plan_more`), which fits 64 bits (`sum_fits`)
 pub routes-preserved : goal.routes-preserved
 routes-preserved c =
     let index : ℕ = c.routes.route-index in

@@ -11,6 +11,7 @@ use Rattle.tsp_verdict.specs.states.Sums.{IsSumOf}
 use Rattle.tsp_verdict.proofs.RouteLengths.{length_to, length_more, length_last, sum_more, sum_one, sum_fits}
 use Rattle.tsp_verdict.proofs.lengths.route_length.Goals as goal
 
+-- plan: one step more is one cost more (`length_more`), and the last goes back to the depot (`length_last`)
 pub overflow_add-length : goal.overflow_add-length
 overflow_add-length c =
     let few : c.nodes.node-index ≤ 1000000 = omega (arith, c.nodes-test.true, c.requires.size) in

@@ -11,6 +11,7 @@ use Rattle.tsp_verdict.proofs.Pieces.{stands_here, all_here}
 use Rattle.tsp_verdict.proofs.RouteLoads.{carried_more, not_over}
 use Rattle.tsp_verdict.proofs.loads.first_overload.Goals as goal
 
+-- plan: route by route: the first whose load is too much, or none so far (`not_over`)
 pub load-requires-clause-range : goal.load-requires-clause-range
 load-requires-clause-range c =
     let before : ℕ = length (nodes_in (take c.routes.route-index c.args.routes.now)) in

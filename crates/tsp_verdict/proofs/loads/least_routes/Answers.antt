@@ -7,6 +7,7 @@ use Rattle.tsp_verdict.specs.Plan.{IsLeastRoutes}
 use Rattle.tsp_verdict.proofs.RouteLoads.{least_of}
 use Rattle.tsp_verdict.proofs.loads.least_routes.Goals as goal
 
+-- plan: the sum of all demands, divided and rounded up (`least_of`)
 pub returns : goal.returns
 returns c =
     let total : ℤ = c.total-total.result in

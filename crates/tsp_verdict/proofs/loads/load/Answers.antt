@@ -19,6 +19,7 @@ overflow_add-sum c =
     let few : index ≤ 1000000 = omega (arith, c.nodes-test.true, c.requires.size) in
     omega (arith, ints, few, c.nodes.invariant.size.low, c.nodes.invariant.size.high, own.0, own.1)
 
+-- plan: one customer's demand more (`load_more`), which fits 64 bits (`load_fits`)
 pub nodes-preserved : goal.nodes-preserved
 nodes-preserved c =
     let route : List ℕ = c.args.route.now in

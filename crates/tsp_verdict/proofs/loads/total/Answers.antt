@@ -7,6 +7,7 @@ use Rattle.tsp_draft.specs.Valid.{IsDemand}
 use Rattle.tsp_verdict.proofs.RouteLoads.{load_fits, load_more, total_more, total_end}
 use Rattle.tsp_verdict.proofs.loads.total.Goals as goal
 
+-- plan: one node's demand more (`total_more`), to the last (`total_end`)
 pub demands-preserved : goal.demands-preserved
 demands-preserved c =
     let so_far : ℤ = to_z w64 c.demands.sum-bits in

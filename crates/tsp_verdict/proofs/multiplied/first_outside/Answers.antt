@@ -9,6 +9,7 @@ use Rattle.tsp_verdict.specs.Places.{IsFirstPlace}
 use Rattle.tsp_verdict.proofs.PairSets.{has_listed, inside_more, outside_here}
 use Rattle.tsp_verdict.proofs.multiplied.first_outside.Goals as goal
 
+-- plan: triple by triple: the first that isn't in the set (`outside_here`), or all are (`inside_more`)
 pub returns-then-not-contains : goal.returns-then-not-contains
 returns-then-not-contains c = λ pairs has.
     let lacks : contains pair_cmp c.args.set.now

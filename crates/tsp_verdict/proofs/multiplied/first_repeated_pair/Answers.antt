@@ -20,6 +20,7 @@ returns-then-not-is_new c =
     (repeated_pair c.args.triples.now c.triples.seen c.triples.triple-index c.triples-test.true c.triples.invariant.has
     c.triples.invariant.apart there)
 
+-- plan: triple by triple: the set has its pair (`repeated_pair`), or it is one more (`apart_more`)
 pub triples-preserved : goal.triples-preserved
 triples-preserved c =
     let lacks : contains pair_cmp c.triples.seen

@@ -6,6 +6,7 @@ use Rattle.tsp_verdict.specs.states.PairSets.{pair_cmp, HasPairs}
 use Rattle.tsp_verdict.proofs.PairSets.{has_more}
 use Rattle.tsp_verdict.proofs.multiplied.set_of.Goals as goal
 
+-- plan: one pair more is in the set (`has_more`)
 pub pairs-preserved : goal.pairs-preserved
 pairs-preserved c =
     has_more (λ pair. pair) c.pairs.set c.insert.new.set c.args.pairs.now c.pairs.pair-index (0, 0) c.pairs-test.true

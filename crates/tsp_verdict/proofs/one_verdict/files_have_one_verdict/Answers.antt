@@ -2,6 +2,7 @@
 use Rattle.tsp_verdict.proofs.OneVerdict.{Laws, one_verdict, one_bound, one_basis, one_of_solution}
 use Rattle.tsp_verdict.proofs.one_verdict.files_have_one_verdict.Goals as goal
 
+-- plan: each part is unique, given the laws of the crates below as a record (`Laws`)
 pub returns : goal.returns
 returns c =
     let laws : Laws = record {

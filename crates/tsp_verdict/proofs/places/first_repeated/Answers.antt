@@ -4,6 +4,7 @@ use Rattle.tsp_verdict.specs.states.Marks.{Marked}
 use Rattle.tsp_verdict.proofs.MarkedNodes.{none_marked, stands_whole, found_whole}
 use Rattle.tsp_verdict.proofs.places.first_repeated.Goals as goal
 
+-- plan: at first no node is marked (`none_marked`), so the place found is the first of the list (`found_whole`)
 pub returns : goal.returns
 returns c =
     let nodes : List ℕ = c.args.nodes.now in

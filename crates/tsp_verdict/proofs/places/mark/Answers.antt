@@ -4,6 +4,7 @@ use Rattle.tsp_verdict.specs.Places.{IsFirstPlace, IsAtEarlierPlace}
 use Rattle.tsp_verdict.proofs.MarkedNodes.{mark_next, repeated_next, mark_is}
 use Rattle.tsp_verdict.proofs.places.mark.Goals as goal
 
+-- plan: node by node: the next has a mark (`repeated_next`), or gets one (`mark_next`)
 pub index-requires : goal.index-requires
 index-requires c = omega (arith, c.requires.range c.nodes.node-index 0 c.nodes-test.true, c.nodes.invariant.wide)
 

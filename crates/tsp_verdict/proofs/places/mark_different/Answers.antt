@@ -4,6 +4,7 @@ use Rattle.std.proofs.lemmas.List.{length-set}
 use Rattle.tsp_verdict.proofs.MarkedNodes.{mark_more, small_next}
 use Rattle.tsp_verdict.proofs.places.mark_different.Goals as goal
 
+-- plan: one node more is marked and small (`mark_more`, `small_next`)
 pub nodes-preserved : goal.nodes-preserved
 nodes-preserved c =
     let nodes = c.args.nodes.now in

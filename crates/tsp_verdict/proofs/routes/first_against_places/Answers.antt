@@ -2,6 +2,7 @@
 use Rattle.tsp_verdict.proofs.RouteVerdicts.{depot_first, no_depot, larger_first, customers}
 use Rattle.tsp_verdict.proofs.routes.first_against_places.Goals as goal
 
+-- plan: by what is found first: the depot in a route (`depot_first`), a node too large (`larger_first`), or neither
 pub returns-in-Some : goal.returns-in-Some
 returns-in-Some c =
     depot_first c.args.inst.now c.args.sol.now _ c.args.depot c.in-Some.place c.requires.routes.nodes c.requires.depot

@@ -8,6 +8,7 @@ use Rattle.tsp_verdict.proofs.FilesHold.{as_many}
 use Rattle.tsp_verdict.proofs.RouteVerdicts.{customers_in, IsMarked, is_marked, repeated_first, unserved_first, all_served, none_unserved, overload_first, is_planned}
 use Rattle.tsp_verdict.proofs.routes.verdict_on_routes.Goals as goal
 
+-- plan: by what is found first: a node twice, one unserved, an overload; else the plan is accepted (`is_planned`)
 pub first_overload-requires-clause-range : goal.first_overload-requires-clause-range
 first_overload-requires-clause-range c =
     customers_in c.args.inst.now c.args.sol.now _ (length c.routing-routing.result.demands.now) c.in-Ok.ensures.4.nodes

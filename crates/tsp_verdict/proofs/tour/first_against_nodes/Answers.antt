@@ -6,6 +6,7 @@ use Rattle.tsp_verdict.specs.Tours.{NoneOfTourBeforeRepeats}
 use Rattle.tsp_verdict.proofs.TourVerdicts.{cycle_found, larger_first, none_up_to_repeats, repeated_first}
 use Rattle.tsp_verdict.proofs.tour.first_against_nodes.Goals as goal
 
+-- plan: by what is found first: a node too large (`larger_first`), one twice (`repeated_first`); else a cycle (`cycle_found`)
 pub returns-then-are_different : goal.returns-then-are_different
 returns-then-are_different c =
     cycle_found c.args.inst.now c.args.sol.now c.args.tour.now c.count-nodes.result c.requires.only c.requires.each c.requires.some

@@ -7,6 +7,7 @@ use Rattle.tsp_verdict.proofs.tour.length_after_files.Goals as goal
 pub returns-in-Err : goal.returns-in-Err
 returns-in-Err c = c.in-Err.ensures
 
+-- plan: by whether a fixed pair isn't used (`unused_first`)
 pub returns-in-Some-2 : goal.returns-in-Some-2
 returns-in-Some-2 c =
     let cycle = rw c.in_default.is at c.in_ok-reason.ensures in

@@ -5,6 +5,7 @@ use Rattle.tsp_verdict.specs.Solution.{tours_of}
 use Rattle.tsp_verdict.proofs.TourVerdicts.{one_tour, tour_found}
 use Rattle.tsp_verdict.proofs.tour.the_tour.Goals as goal
 
+-- plan: by the lists: there is one (`one_tour`), of as many nodes (`tour_found`), or a reason
 pub returns : goal.returns
 returns c =
     let tour : List ℕ = c.as_slice.result.now in

@@ -22,6 +22,7 @@ use Rattle.tsp_verdict.proofs.FamiliesHold.{families_hold, families_few}
 use Rattle.tsp_verdict.proofs.TreeReasons.{directed_is, even_view, no_tour, are_of, told, twice_within, bad_within, comb_first, pairs_few, pair_first, twice_first, leaf_first, none_stands, certified}
 use Rattle.tsp_verdict.proofs.tree.judge_tree.Goals as goal
 
+-- plan: by the verdict on the tree: each of its reasons is the first of the file's, and its bound is the certificate's
 pub invariant_of-cases : goal.invariant_of-cases
 invariant_of-cases g c =
     let tree = c.args.tree.now in

@@ -5,6 +5,7 @@ use Rattle.std.proofs.lemmas.Int.{ints}
 use Rattle.tsp_theory.specs.Routing.{IsLeastRoutes}
 use Rattle.tsp_verdict.proofs.verdict_examples.examples_against_routing.Goals as goal
 
+-- plan: the example is computed
 pub returns-clause-least : goal.returns-clause-least
 returns-clause-least c = λ inst least total capacity is.
     let least_is : IsLeastRoutes (pos 12) (pos 8) least = subst₂ (λ t c. IsLeastRoutes t c least) total capacity is.1 in

@@ -12,6 +12,7 @@ use Rattle.tsp_verdict.proofs.verdict_examples.examples_of_accepted.Goals as goa
 the_one : (xs ys : List ℕ) → xs ∷ [] ≡ ys ∷ [] → ys ≡ xs
 the_one xs ys same = sym (ap (λ lists. get_or lists 0 []) same)
 
+-- plan: each example is computed; a list of one list has that one alone (`the_one`)
 pub returns-clause-tour : goal.returns-clause-tour
 returns-clause-tour c = λ inst found bound is.
     let measured : found ≡ length_of (cost inst) (three 1 2 3) =

@@ -25,6 +25,7 @@ no_families : (crossed : List Crossings) → families_with crossed [] ≡ []
 no_families [] = refl
 no_families (own ∷ crossed) = refl
 
+-- plan: each example is computed; a file has one list (`the_list`)
 pub returns-clause-nodes : goal.returns-clause-nodes
 returns-clause-nodes c = λ inst bound is.
     subst (λ ps. IsAdjustedBound (nodes_of inst) (cost inst) (pos 2) ps ((1, 2, pos 5) ∷ []) [] bound)

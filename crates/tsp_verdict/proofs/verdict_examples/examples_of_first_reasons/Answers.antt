@@ -7,6 +7,7 @@ use Rattle.tsp_cases.proofs.OnePass.{first_bad_by_place}
 use Rattle.tsp_verdict.proofs.SmallPlans.{customer}
 use Rattle.tsp_verdict.proofs.verdict_examples.examples_of_first_reasons.Goals as goal
 
+-- plan: each example is computed, customer by customer or leaf by leaf
 pub returns-clause-unserved : goal.returns-clause-unserved
 returns-clause-unserved c = record {
   customer = search rules;

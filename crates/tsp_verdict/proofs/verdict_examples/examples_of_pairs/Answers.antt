@@ -8,6 +8,7 @@ use Rattle.tsp_verdict.proofs.verdict_examples.examples_of_pairs.Goals as goal
 the_list : (xs ys : List ℤ) → Some xs ≡ Some ys → ys ≡ xs
 the_list xs ys same = sym (ap (λ o. unwrap_or o []) same)
 
+-- plan: the example is computed
 pub returns-clause-of_duals : goal.returns-clause-of_duals
 returns-clause-of_duals c = λ inst i j is.
     subst₂ (λ rows columns. (pos 2 *ℤ cost inst i j) <ℤ (entry rows i +ℤ entry columns j))

@@ -5,6 +5,7 @@ use Rattle.tsp_verdict.specs.states.RouteLists.{nodes_in}
 use Rattle.tsp_verdict.proofs.Pieces.{stands_here, count_here, first_after, all_more}
 use Rattle.tsp_verdict.proofs.visits.first_of_in.Goals as goal
 
+-- plan: route by route: the first such place of the next route is the first of all (`first_after`)
 pub first_of-requires : goal.first_of-requires
 first_of-requires c =
     let all : List ℕ = nodes_in c.args.routes.now in

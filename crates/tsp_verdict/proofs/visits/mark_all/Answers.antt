@@ -7,6 +7,7 @@ use Rattle.tsp_verdict.specs.states.RouteLists.{nodes_in}
 use Rattle.tsp_verdict.proofs.Pieces.{stands_here, count_here, all_here}
 use Rattle.tsp_verdict.proofs.visits.mark_all.Goals as goal
 
+-- plan: one route's nodes more are marked, or one of them has a mark already
 pub mark-requires-clause-size : goal.mark-requires-clause-size
 mark-requires-clause-size c =
     let all : List ℕ = nodes_in c.args.routes.now in

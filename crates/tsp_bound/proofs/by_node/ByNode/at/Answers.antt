@@ -5,6 +5,7 @@ use Rattle.tsp_theory.specs.CertificateNumbers.{IsMultiplier}
 use Rattle.tsp_bound.proofs.Tables.{are_lowerings, lowered_said}
 use Rattle.tsp_bound.proofs.by_node.ByNode.at.Goals as goal
 
+-- plan: the node's list in the table is that of its pairs (`are_lowerings`, `lowered_said`)
 pub returns-clause-are : goal.returns-clause-are
 returns-clause-are c =
     let t = c.args.self.now in

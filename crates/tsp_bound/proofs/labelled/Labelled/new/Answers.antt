@@ -3,6 +3,7 @@ use Rattle.std.proofs.Common.{◌≡◌, ◌<◌, ℕ, true, length, arith, sym,
 use Rattle.tsp_bound.specs.states.Components.{AreTags}
 use Rattle.tsp_bound.proofs.labelled.Labelled.new.Goals as goal
 
+-- plan: the boxes have the areas and the tags of their places, by the clauses of the calls
 pub invariant_of-result : goal.invariant_of-result
 invariant_of-result g c =
     let order = c.args.placed.order.now in

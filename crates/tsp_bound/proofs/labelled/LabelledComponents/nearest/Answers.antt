@@ -6,6 +6,7 @@ use Rattle.tsp_bound.specs.states.Components.{label_at, is_in_other_component, I
 use Rattle.tsp_bound.proofs.Known.{kept_of_nearest}
 use Rattle.tsp_bound.proofs.labelled.LabelledComponents.nearest.Goals as goal
 
+-- plan: the link of the nearest place is a kept one (`kept_of_nearest`)
 pub returns : goal.returns
 returns g c =
     let s = c.args.self.now in

@@ -10,6 +10,7 @@ use Rattle.tsp_bound.proofs.Listing.{IsEnding, ending_offered, reached_offered}
 use Rattle.tsp_bound.proofs.listed.Listed.least_of_all.Goals as goal
 use Rattle.tsp_bound.proofs.listed.Listed.least_of_all.Goals.{then-index-own, else-index-own}
 
+-- plan: by the place: of another component it is offered (`reached_offered`), else left out (`ending_offered`)
 pub places-preserved : goal.places-preserved
 places-preserved g c =
     let s = c.args.self.now in

@@ -10,6 +10,7 @@ use Rattle.tsp_bound.proofs.Boxed.{no_more_seen}
 use Rattle.tsp_bound.proofs.Listing.{kept_link}
 use Rattle.tsp_bound.proofs.listed.ListedComponents.nearest.Goals as goal
 
+-- plan: the best kept link is the nearest one (`kept_link`), since no other is seen (`no_more_seen`)
 pub returns-then-label : goal.returns-then-label
 returns-then-label g c =
     let s = c.args.self.now in

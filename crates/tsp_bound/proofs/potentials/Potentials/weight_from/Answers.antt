@@ -13,6 +13,7 @@ overflow_add-result g c =
     (weight_fits c.scaled_cost.result (slice_index_or p.numbers.now (c.args.i - 1) (pos 0)) (slice_index_or p.numbers.now (c.args.j - 1) (pos 0)) c.scaled_cost.ensures.size
     (p.are.numbers_are (c.args.i - 1) (pos 0) first_in) (p.are.numbers_are (c.args.j - 1) (pos 0) second_in))
 
+-- plan: the three parts fit 64 bits (`weight_fits`), so the sum is the weight (`weight_computed`)
 pub returns : goal.returns
 returns g c =
     let p = c.args.self.now in

@@ -23,6 +23,7 @@ returns g t c =
     searched_both w s.order.now outside s.from.site.node c.args.v (2 * c.args.v) (2 * c.args.v + 1) c.args.best half c.below.result
     c.if-v-self.false (omega arith) (omega arith) (λ same. omega (arith, same)) first c.below.ensures
 
+-- plan: by the halves: both are searched (`searched_both`), or one is left alone (`searched_alone`)
 pub returns-then-is_left_alone-2 : goal.returns-then-is_left_alone-2
 returns-then-is_left_alone-2 g t c =
     let s = c.args.self.now in

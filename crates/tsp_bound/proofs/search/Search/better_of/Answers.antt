@@ -7,6 +7,7 @@ use Rattle.tsp_bound.proofs.Boxed.{less_seen, below_seen, not_less_seen}
 use Rattle.tsp_bound.proofs.Trees.{searched_none, leaf_below}
 use Rattle.tsp_bound.proofs.search.Search.better_of.Goals as goal
 
+-- plan: by whether the place is outside and lighter: it is the best (`less_seen`), or isn't (`not_less_seen`)
 pub returns-then-not-is_outside : goal.returns-then-not-is_outside
 returns-then-not-is_outside g c =
     let s = c.args.self.now in

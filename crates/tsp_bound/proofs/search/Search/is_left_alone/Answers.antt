@@ -13,6 +13,7 @@ cost_of-least-requires-clause-inverse g c =
     let s = c.args.self.now in
     rw (same_scale c.scale.result c.scale.ensures.scale) (subst (λ (z : ℤ). IsInverse z s.inverse) (sym c.scale.ensures.value) s.inverse_is)
 
+-- plan: the nearest place of the box costs enough (`enough_is`), so none in it is lighter (`best_below`)
 pub returns-in-Some-checked_sub : goal.returns-in-Some-checked_sub
 returns-in-Some-checked_sub g c = on_true_still c.is_beyond.result _ _ (λ far to node h.
     let s = c.args.self.now in

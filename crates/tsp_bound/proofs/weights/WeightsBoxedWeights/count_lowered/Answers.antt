@@ -11,6 +11,7 @@ returns-clause-no_more g c = λ to node.
     let sum = c.at.ensures.sums to in
     omega (arith, ints, size.0, sum)
 
+-- plan: a node without pairs lowers nothing (`none_listed`), and no other node is lowered (`none_lowered`)
 pub returns-clause-others : goal.returns-clause-others
 returns-clause-others g c = λ to node none.
     let named : List (ℕ × ℤ) → Type 0 = λ ls. (k : ℕ) → k < length (map (λ lowering. lowering.0) ls) → node_in (map (λ lowering. lowering.0) ls) k ≢ to in

@@ -20,6 +20,7 @@ overflow_add-result g c =
     (s.p.now.are.numbers_are (second.site.node - 1) (pos 0) (omega (arith, c.requires.to.site.node_in, s.count))) in
     weight_fits c.scaled-cost.result first.number second.number c.scaled-cost.ensures.size first_size second_size
 
+-- plan: the three parts fit 64 bits (`weight_fits`), so the sum is the weight (`weight_computed`)
 pub returns : goal.returns
 returns g c =
     let s = c.args.self.now in

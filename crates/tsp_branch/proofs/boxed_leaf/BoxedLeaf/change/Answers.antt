@@ -13,6 +13,7 @@ use Rattle.tsp_cases.proofs.Changes.{within}
 use Rattle.tsp_cases.proofs.OpenCases.{changes_listed}
 use Rattle.tsp_branch.proofs.boxed_leaf.BoxedLeaf.change.Goals as goal
 
+-- plan: the list of the node with fewer decisions has those of the pair (`changes_listed`)
 pub returns : goal.returns
 returns g c =
     let boxed = c.args.self.now in

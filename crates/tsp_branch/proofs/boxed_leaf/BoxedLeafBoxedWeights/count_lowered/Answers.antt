@@ -11,6 +11,7 @@ use Rattle.tsp_cases.specs.states.OpenCases.{bears_on, decisions_in}
 use Rattle.tsp_branch.proofs.BoxedValues.{listed_is, lowered_no_more, others_same}
 use Rattle.tsp_branch.proofs.boxed_leaf.BoxedLeafBoxedWeights.count_lowered.Goals as goal
 
+-- plan: a node's pairs are listed with it (`listed_is`), and no other pair lowers it (`others_same`)
 pub returns-clause-value : goal.returns-clause-value
 returns-clause-value g c =
     let boxed = c.args.self.now in

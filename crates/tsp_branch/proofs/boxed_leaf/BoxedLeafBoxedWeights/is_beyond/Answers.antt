@@ -7,6 +7,7 @@ use Rattle.tsp_cases.proofs.CaseWeights.{small_multipliers}
 use Rattle.tsp_branch.proofs.BoxedValues.{base_below}
 use Rattle.tsp_branch.proofs.boxed_leaf.BoxedLeafBoxedWeights.is_beyond.Goals as goal
 
+-- plan: the base is below the weight (`base_below`), so what is beyond it is beyond the weight
 pub returns-clause-above : goal.returns-clause-above
 returns-clause-above g c = λ to node.
     let p = c.args.self.now in

@@ -19,6 +19,7 @@ use Rattle.tsp_branch.proofs.BoxedValues.{listed_is, listed_at_index}
 use Rattle.tsp_branch.proofs.boxed_leaf.BoxedLeafBoxedWeights.lowered.Goals as goal
 use Rattle.tsp_branch.proofs.boxed_leaf.BoxedLeafBoxedWeights.lowered.Goals.{then-first-from, else-first-from}
 
+-- plan: the listed pair has the leaf's own weight (`changes_are`), at its place in the list (`listed_at_index`)
 pub offset_bounds-at-index : goal.offset_bounds-at-index
 offset_bounds-at-index g c =
     let boxed = c.args.self.now in

@@ -8,6 +8,7 @@ use Rattle.tsp_bound.specs.states.NodeNumbers.{most_number}
 use Rattle.tsp_theory.specs.states.Nearest.{least_at}
 use Rattle.tsp_branch.proofs.boxed_leaf.BoxedLeafBoxedWeights.number.Goals as goal
 
+-- plan: the number of the node, as 64 bits hold it
 pub returns : goal.returns
 returns g c =
     let p = c.args.self.now in

@@ -8,6 +8,7 @@ use Rattle.tsp_cases.specs.states.OpenCases.{decisions_in}
 use Rattle.tsp_cases.proofs.Changes.{changes_are}
 use Rattle.tsp_branch.proofs.boxed_leaf.BoxedLeafBoxedWeights.weight.Goals as goal
 
+-- plan: the weight with the changes of both nodes is the leaf's (`changes_are`)
 pub returns : goal.returns
 returns g c =
     let q = c.args.self.now.leaf.now in

@@ -15,6 +15,7 @@ use Rattle.tsp_cases.proofs.CaseWeights.{small_multipliers}
 use Rattle.tsp_branch.proofs.BoxedValues.{base_below, upwards_less, upwards_same}
 use Rattle.tsp_branch.proofs.boxed_leaf.BoxedLeafBoxedWeights.weight_within.Goals as goal
 
+-- plan: by the base, the sets and the decisions: each only adds to it (`base_below`), so the first over the most ends it
 pub returns-then-base-most-clause-no_less : goal.returns-then-base-most-clause-no_less
 returns-then-base-most-clause-no_less g c = λ above.
     let p = c.args.self.now in

@@ -11,6 +11,7 @@ use Rattle.tsp_cases.specs.states.Lent.{lent_in}
 use Rattle.tsp_cases.specs.states.Combed.{IsApart}
 use Rattle.tsp_branch.proofs.case_leaf.CaseLeaf.fill_apart_at.Goals as goal
 
+-- plan: one place more has its weight without sets
 pub places-preserved : goal.places-preserved
 places-preserved g c = λ k lt below.
     let p = c.args.self.now in

@@ -3,6 +3,7 @@ use Rattle.std.proofs.Common.{ℕ, length}
 use Rattle.tsp_cases.specs.states.Lent.{lent_in}
 use Rattle.tsp_branch.proofs.cycle_judge.CycleJudgeLeafJudge.enter.Goals as goal
 
+-- plan: the numbers are as they were, and the rows have one decision more, by the clause of the call
 pub returns : goal.returns
 returns g c = λ case is.
     let s = c.args.self.now.setting.now in (

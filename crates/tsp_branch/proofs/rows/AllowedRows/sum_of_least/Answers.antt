@@ -13,6 +13,7 @@ nodes-init g c = record {
   size = (omega (arith, ints), omega (arith, ints));
 }
 
+-- plan: one node more adds its least link (`sum_more`); a node without one ends it (`sum_none`)
 pub nodes-preserved : goal.nodes-preserved
 nodes-preserved g c =
     let n = g.W.Weights.nodes c.args.self.now.weights.now in

@@ -6,6 +6,7 @@ use Rattle.tsp_cases.specs.states.Decided.{marks_in}
 use Rattle.tsp_cases.proofs.MarkedRows.{same_marks, decision_more, directed_same}
 use Rattle.tsp_cases.proofs.kept.KeptRows.mark.Goals as goal
 
+-- plan: one decision more is one number more in the rows (`decision_more`); of arcs none is (`directed_same`)
 pub add_between-requires : goal.add_between-requires
 add_between-requires c =
     let r = c.requires in

@@ -9,6 +9,7 @@ use Rattle.tsp_judge.proofs.HandedOn.{handed_on}
 use Rattle.tsp_judge.proofs.Openings.{unbound}
 use Rattle.tsp_judge.proofs.opened.Opened.bind.Goals as goal
 
+-- plan: by how it ends: no file, no memory for the bound (`unbound`), or the new basis
 pub invariant_of-self : goal.invariant_of-self
 invariant_of-self c =
     let bounded : IsTrue (is_bounded c.args.by c.self.inside.instance.kind) = search rules in

@@ -13,6 +13,7 @@ returns-in_err-solution c =
     let same : c.from_residual.result ≡ Err c.in_err-solution.field-0.0 = handed_on _ _ c.from_residual.ensures.1 in
     rw same (not_judged c.args.text.now c.args.self.now _ c.in_err-solution.ensures)
 
+-- plan: by how it ends: no file, no memory for the verdict (`not_judged`), or the verdict
 pub returns-in-Ok : goal.returns-in-Ok
 returns-in-Ok c =
     subst (λ (o : Open). IsHeldVerdict c.args.text.now c.args.claimed o c.in-Ok.verdict) c.self.view_is (record {

@@ -5,6 +5,7 @@ use Rattle.tsp_run.specs.declared.source.Source.TheVariants.{Input, Opened}
 use Rattle.tsp_run.specs.states.Source.{IsAskedOnce}
 use Rattle.tsp_run.proofs.source.Source.ask.Goals as goal
 
+-- plan: by the source: standard input or an opened file, whose call it is
 pub returns-in-Input : goal.returns-in-Input
 returns-in-Input g c = record {
   asked = subst (λ (old : Source _ _). IsAskedOnce g.OfInput.FnOnce c.args.of_input g.OfFile.FnOnce c.args.of_file

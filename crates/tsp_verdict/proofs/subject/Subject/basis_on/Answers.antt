@@ -6,6 +6,7 @@ use Rattle.tsp_verdict.proofs.Bases.{bounded_so}
 use Rattle.tsp_verdict.proofs.Bounds.{certificate_decides}
 use Rattle.tsp_verdict.proofs.subject.Subject.basis_on.Goals as goal
 
+-- plan: where no reason is against the instance, the certificate decides (`certificate_decides`)
 pub returns : goal.returns
 returns c =
     let inst = c.args.self.now.instance.now in

@@ -6,6 +6,7 @@ use Rattle.tsp_verdict.proofs.Bases.{up_to_dimension}
 use Rattle.tsp_verdict.proofs.TourReasons.{after_dimension}
 use Rattle.tsp_verdict.proofs.subject.Subject.length_of_tour.Goals as goal
 
+-- plan: by whether the dimensions differ; then the nodes are judged (`after_dimension`)
 pub returns-then-is_some_and : goal.returns-then-is_some_and
 returns-then-is_some_and c =
     let is : is_tour_file c.args.sol.now.kind ≡ true = search rules in

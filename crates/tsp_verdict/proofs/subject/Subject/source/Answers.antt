@@ -5,6 +5,7 @@ use Rattle.tsp_verdict.specs.states.Sources.{IsSubject}
 use Rattle.tsp_verdict.proofs.Bases.{first_known, knows_instance}
 use Rattle.tsp_verdict.proofs.subject.Subject.source.Goals as goal
 
+-- plan: a basis of tours has the reason against the instance (`knows_instance`), which is the first (`first_known`)
 pub returns-in-Some : goal.returns-in-Some
 returns-in-Some c =
     let inst = c.args.self.now.instance.now in

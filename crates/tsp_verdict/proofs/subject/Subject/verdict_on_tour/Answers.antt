@@ -9,6 +9,7 @@ use Rattle.tsp_verdict.specs.states.Sources.{FindsLength, IsVerdictGiven, verdic
 use Rattle.tsp_verdict.proofs.Bases.{subject_rejected, subject_disclaimed, subject_judged}
 use Rattle.tsp_verdict.proofs.subject.Subject.verdict_on_tour.Goals as goal
 
+-- plan: by the tour: rejected, of another length than claimed, or judged by the basis (`subject_judged`)
 pub returns-in-Err : goal.returns-in-Err
 returns-in-Err c =
     let s = c.args.self.now in
