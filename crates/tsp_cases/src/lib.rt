@@ -69,12 +69,13 @@ pub use laws::{
 };
 pub use leaf_judge::LeafJudge;
 pub use lowest::lower;
-pub use moved::fill_moved;
+pub use marks::mark_nodes;
+pub use moved::{fill_moved, take_multipliers};
 pub use multiplied::MultipliedFamilies;
 pub use multipliers::Multipliers;
 pub use node_decisions::NodeDecisions;
 pub use number_examples::{examples_of_differences, examples_of_good_numbers};
-pub use numbers::add_differences;
+pub use numbers::{add_differences, copy_within};
 pub use open_case::OpenCase;
 pub use pass::judge_leaves;
 pub use room::Room;

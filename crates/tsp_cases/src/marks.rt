@@ -6,7 +6,7 @@ ghost use Rattle.tsp_cases.specs.states.Marked.{is_marked, AreNew, AreMarked, Ad
 
 /// Marks nodes. `false` where one has the mark or appears twice: the nodes before it are marked
 /// then.
-pub(crate) fn mark_nodes(marks: &mut [u32], mark: u32, nodes: &[u32]) -> bool
+pub fn mark_nodes(marks: &mut [u32], mark: u32, nodes: &[u32]) -> bool
     requires { All (λ node. node < length marks.old) nodes.now }
     ensures new { IsTrue result ↔ AreNew (is_marked marks.old mark) nodes.now }
     ensures marked { result ≡ true → AreMarked mark nodes.now marks.old marks.new }

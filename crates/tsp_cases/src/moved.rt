@@ -25,7 +25,7 @@ pub fn fill_moved(row: &mut [i64], potentials: &[i64], ends: &[i64])
 }
 
 /// Takes off each node of a set the number of the set's family.
-pub(crate) fn take_multipliers(row: &mut [i64], multiplied: &MultipliedFamilies)
+pub fn take_multipliers(row: &mut [i64], multiplied: &MultipliedFamilies)
     requires { length row.old ≡ multiplied.now.families.now.nodes + 1 }
     ensures { (x : ℕ) → IsMoved (neg_ℤ (multipliers_at multiplied.now.numbers.now (lent_in multiplied.now.families.now) x))
         (least_at row.old x) (least_at row.new x) }

@@ -1,13 +1,14 @@
 -- A plan leaves a cut as often as it needs routes: each route that has a node of the cut leaves it, and carries no more than the
 -- capacity.
 use Rattle.std.proofs.Common.{◌≡◌, ℕ, zero, suc, ◌≤◌, ◌&&◌, ◌||◌, Bool, true, false, not, cond, List, [], ◌∷◌, ◌++◌, length, refl, sym, ap, ◌∙◌, arith, inl, inr}
-use Rattle.std.specs.Prelude.{max, if◌then◌else◌, ℤ, pos, ◌+ℤ◌, ◌*ℤ◌, ◌≤ℤ◌}
+use Rattle.std.specs.Prelude.{min, max, if◌then◌else◌, ℤ, pos, ◌+ℤ◌, ◌*ℤ◌, ◌≤ℤ◌}
 use Rattle.std.specs.List.{AllByRecursion, concat, list_any}
 use Rattle.std.proofs.lemmas.Int.{ints}
 use Rattle.std.proofs.lemmas.Bool.{cases_Bool, both_ways, or_left}
 use Rattle.std.proofs.lemmas.List.Elements.{recursion_from_All, All-from_recursion, All-contains}
 use Rattle.std.proofs.lemmas.List.Folds.{Any-from_list_any}
 use Rattle.std.proofs.Math.IntN.{suc_ℤ-*ℤ, zero-*ℤ}
+use Rattle.tsp_format.specs.Limits.{most_nodes}
 use Rattle.tsp_theory.specs.Cycle.{links}
 use Rattle.tsp_theory.specs.Length.{sum_int_by, length_of}
 use Rattle.tsp_theory.specs.Tree.{crossing}
@@ -166,7 +167,7 @@ touched problem part need routes routing cut plan =
     touching part problem.depot problem.demand problem.capacity routes cut.lacks_depot (demands_low problem routes routing plan)
     (recursion_from_All (λ route. sum_int_by problem.demand route ≤ℤ problem.capacity) routes plan.within)
 
-need_of : (least need count : ℕ) → need ≡ max least 1 → least ≤ count → 1 ≤ count → need ≤ count
+need_of : (least need count : ℕ) → need ≡ max (min least most_nodes) 1 → least ≤ count → 1 ≤ count → need ≤ count
 need_of least need count is low some = omega (arith, is, low, some)
 
 enough : (problem : RoutingProblem) (part : ℕ → Bool) (need : ℕ) (routes : List (List ℕ)) → IsRoutable problem

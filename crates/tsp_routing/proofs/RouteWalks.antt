@@ -1,26 +1,15 @@
 -- Each route of a plan is a walk.
-use Rattle.std.proofs.Common.{◌≢◌, ℕ, zero, suc, List, [], ◌∷◌, ◌++◌, arith}
+use Rattle.std.proofs.Common.{◌≢◌, ℕ, List, [], ◌∷◌, ◌++◌}
 use Rattle.std.specs.Prelude.{pos, ◌≤ℤ◌}
-use Rattle.std.specs.List.{AllPairs, AllByRecursion, concat}
+use Rattle.std.specs.List.{AllByRecursion, concat}
 use Rattle.std.proofs.lemmas.List.Elements.{recursion_from_All, All-from_recursion}
 use Rattle.tsp_theory.specs.Length.{sum_int_by}
 use Rattle.tsp_theory.specs.Routing.{RoutingProblem, IsCustomer}
 use Rattle.tsp_routing.specs.Loads.{load_in, room_in}
 use Rattle.tsp_routing.specs.Walks.{BeginsOther, IsStraightFrom, IsStraight, IsWalk, RoutesAreWalks}
 use Rattle.tsp_routing.proofs.LeftCuts.{parts_all}
+use Rattle.tsp_routing.proofs.CutNeeds.{Apart, apart_from_pairs}
 use Rattle.tsp_routing.proofs.UnitLoads.{routes_have_room}
-
--- no node comes twice
-abbrev Apart : List ℕ → Type 0
-Apart [] = Unit {0}
-Apart (x ∷ xs) = AllByRecursion (λ y. x ≢ y) xs × Apart xs
-
-apart_from_pairs : (xs : List ℕ) → AllPairs (λ a b. a ≢ b) xs → Apart xs
-apart_from_pairs [] h = tt
-apart_from_pairs (x ∷ xs) h = (
-  recursion_from_All (λ y. x ≢ y) xs (λ k d lt. h zero (suc k) d (omega arith) (omega arith)),
-  apart_from_pairs xs (λ i j d below lt. h (suc i) (suc j) d (omega arith) (omega arith)),
-)
 
 begins_other : (x : ℕ) (xs : List ℕ) → AllByRecursion (λ y. x ≢ y) xs → BeginsOther x xs
 begins_other x [] h = tt

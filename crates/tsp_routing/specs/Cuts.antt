@@ -1,8 +1,9 @@
 -- Cuts: parts of the customers, and how often a plan leaves and enters them, by what they demand.
 -- Source: G. Laporte, Y. Nobert and M. Desrochers, Optimal routing under capacity and distance restrictions, 1985: rounded
 -- capacity inequalities.
-use Rattle.std.specs.Prelude.{◌≡◌, ℕ, max, ◌&&◌, Bool, true, false, not, if◌then◌else◌, List, [], ◌*◌, ℤ, pos, ◌≤ℤ◌}
+use Rattle.std.specs.Prelude.{◌≡◌, ℕ, max, min, ◌&&◌, Bool, true, false, not, if◌then◌else◌, List, [], ◌*◌, ℤ, pos, ◌≤ℤ◌}
 use Rattle.tsp_format.specs.Nodes.{nodes_to}
+use Rattle.tsp_format.specs.Limits.{most_nodes}
 use Rattle.tsp_theory.specs.Length.{sum_int_by}
 use Rattle.tsp_theory.specs.Routing.{RoutingProblem, IsCustomer, IsPlan, plan_length, IsLeastRoutes}
 use Rattle.tsp_cases.specs.Combs.{family_crossings}
@@ -21,6 +22,7 @@ abbrev pub demand_in : RoutingProblem → (ℕ → Bool) → ℤ
 demand_in problem part = sum_int_by (λ node. if part node then problem.demand node else pos 0) (nodes_to problem.nodes)
 
 -- A part that has a customer and not the depot, and how many routes it needs: as many as carry its demand, and one at least.
+-- A file has no plan with more routes than nodes, so no more of them are counted.
 pub record IsCapacityCut (problem : RoutingProblem) (part : ℕ → Bool) (need : ℕ) : Type 0 where
   pub inside : ℕ
   pub customer : IsCustomer problem.nodes problem.depot inside
@@ -28,20 +30,22 @@ pub record IsCapacityCut (problem : RoutingProblem) (part : ℕ → Bool) (need 
   pub lacks_depot : part problem.depot ≡ false
   pub least : ℕ
   pub least_is : IsLeastRoutes (demand_in problem part) problem.capacity least
-  pub need_is : need ≡ max least 1
+  pub need_is : need ≡ max (min least most_nodes) 1
 
--- a cut as a family of one set: it is crossed on the way in and on the way out
+-- a cut as a family of one set: it is crossed on the way in and on the way out; nothing asks for the most, which is 1
 pub record IsCutFamily (problem : RoutingProblem) (family : Family) : Type 0 where
   pub alone : family.sets.teeth ≡ []
   pub need : ℕ
   pub cut : IsCapacityCut problem family.sets.handle need
   pub least_is : family.numbers.least ≡ 2 * need
+  pub most_is : family.numbers.most ≡ 1
 
--- how many routes a plan has at least: as many as carry what all customers demand, and one at least
+-- how many routes a plan has at least: as many as carry what all customers demand, and one at least,
+-- counted in the same way
 pub record IsFewest (problem : RoutingProblem) (fewest : ℕ) : Type 0 where
   pub least : ℕ
   pub least_is : IsLeastRoutes (sum_of_customers problem.nodes problem.depot problem.demand) problem.capacity least
-  pub fewest_is : fewest ≡ max least 1
+  pub fewest_is : fewest ≡ max (min least most_nodes) 1
 
 -- ---- the theorems
 

@@ -8,6 +8,7 @@ ghost use Rattle.tsp_routing.specs.Loads.{RoutesHaveRoom, LoadsAreSome};
 ghost use Rattle.tsp_routing.specs.Walks.{RoutesAreWalks};
 ghost use Rattle.tsp_routing.specs.PlanBounds.{PlanBoundsBoundPlans};
 ghost use Rattle.tsp_routing.specs.PlanTrees.{PlanTreesBoundPlans, PlanTreeBoundsAreUnique};
+ghost use Rattle.tsp_routing.specs.PlanVerdicts.{PlanBoundsFoundAreUnique};
 
 /// The length of a plan is the weight of its links; each customer begins one and ends one, and the
 /// depot as many as there are routes. There are at most as many of these as customers.
@@ -51,4 +52,9 @@ pub fn plan_bounds_bound_plans()
 pub fn plan_trees_bound_plans()
     ensures plans { PlanTreesBoundPlans }
     ensures one { PlanTreeBoundsAreUnique }
+{}
+
+/// A certificate has one bound, or none.
+pub fn plan_bounds_are_unique()
+    ensures { PlanBoundsFoundAreUnique }
 {}

@@ -1,14 +1,39 @@
-//! Lower bounds on the lengths of plans of routes, as theorems.
+//! Lower bounds on the lengths of plans of routes, as theorems and as code.
 //!
 //! A plan leaves a set of customers as often as that needs routes, crosses it an even number of
 //! times, and each of its routes is a walk within the capacity. So the bound of a tree of cases,
-//! with least walks at its leaves, holds of every plan. The crate knows no files, and its functions
-//! do nothing: each contract is a theorem.
+//! with least walks at its leaves, holds of every plan. The crate knows no files.
+//!
+//! ```text
+//! let verdict = judge_plans(alloc, &tree)?;
+//! ```
 #![tactic(auto)]
 
+mod cuts;
+mod demands;
+mod given_back;
+mod good_numbers;
+mod judged;
+mod kept_weights;
+mod leaf_sum;
+mod leaf_weights;
+mod least_walk;
 mod laws;
+mod limits;
+mod needs;
+mod onward;
+mod plan_judge;
+mod plan_leaf;
+mod plan_tree;
+mod setting;
+mod sums;
+mod units;
+mod verdict;
 
+pub use judged::PlanVerdict;
 pub use laws::{
-    plan_bounds_bound_plans, plan_links_add_up, plan_trees_bound_plans, plans_keep_limits,
-    plans_leave_cuts, routes_are_walks,
+    plan_bounds_are_unique, plan_bounds_bound_plans, plan_links_add_up, plan_trees_bound_plans,
+    plans_keep_limits, plans_leave_cuts, routes_are_walks,
 };
+pub use plan_tree::PlanTree;
+pub use verdict::judge_plans;

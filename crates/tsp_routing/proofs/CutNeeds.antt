@@ -1,0 +1,197 @@
+-- What the customers of a cut demand, one by one.
+use Rattle.std.proofs.Common.{◌≡◌, ◌≢◌, ℕ, zero, suc, ◌+◌, ◌-◌, ◌*◌, ◌/◌, ◌<◌, ◌≤◌, ◌==◌, ◌||◌, false, List, [], ◌∷◌, refl, sym, ap, ◌∙◌, subst, arith, to_z, of_z, inl, inr, add-one}
+use Rattle.std.specs.Prelude.{◌⊎◌, max, min, if◌then◌else◌, nat_abs, ℤ, pos, negsuc, ◌+ℤ◌, ◌*ℤ◌, ◌≤ℤ◌}
+use Rattle.std.specs.Int.{w64}
+use Rattle.std.specs.List.{All, AllPairs, AllByRecursion, range_with_len}
+use Rattle.std.proofs.lemmas.Bool.{cases_Bool, cases_eq, cases_lt, or_left, ne_eqb, eq-eqb, eqb-true}
+use Rattle.std.proofs.lemmas.Int.{ints}
+use Rattle.std.proofs.lemmas.List.Elements.{recursion_from_All}
+use Rattle.std.proofs.Math.IntN.{+ℤ_assoc}
+use Rattle.std.proofs.Math.Nat.{div-mul-le_self, lt-div-mul-add, mul-le-mul_right}
+use Rattle.tsp_format.specs.Nodes.{IsNode, nodes_to}
+use Rattle.tsp_format.specs.Limits.{most_demand, most_nodes}
+use Rattle.tsp_format.specs.Ranges.{IsFromTo}
+use Rattle.tsp_families.specs.Crossed.{has}
+use Rattle.tsp_theory.specs.Length.{sum_int_by}
+use Rattle.tsp_theory.specs.Routing.{RoutingProblem, IsCustomer, IsLeastRoutes}
+use Rattle.tsp_theory.proofs.Sums.{sum_int_by-add}
+use Rattle.tsp_routing.specs.PlanLinks.{sum_of_customers}
+use Rattle.tsp_routing.specs.Cuts.{IsCapacityCut}
+use Rattle.tsp_routing.specs.states.Demands.{of_others}
+use Rattle.tsp_routing.proofs.LeftCuts.{all_same}
+
+-- a run of nodes with one more at its end
+pub run_more : (f : ℕ → ℤ) (a n : ℕ) → sum_int_by f (range_with_len a (suc n)) ≡ sum_int_by f (range_with_len a n) +ℤ f (a + n)
+run_more f a zero = let same : f a ≡ f (a + 0) = ap f (omega arith) in omega (arith, ints, same)
+run_more f a (suc n) =
+    let rest = run_more f (a + 1) n in
+    let same : f ((a + 1) + n) ≡ f (a + suc n) = ap f (omega arith) in
+    omega (arith, ints, rest, same)
+
+-- ---- sums over the nodes of a list are sums over all nodes
+
+abbrev alone : (ℕ → ℤ) → ℕ → ℕ → ℤ
+alone d y x = if y == x then d x else pos 0
+
+alone_none : (d : ℕ → ℤ) (y a m : ℕ) → y < a → sum_int_by (alone d y) (range_with_len a m) ≡ pos 0
+alone_none d y a zero lt = refl
+alone_none d y a (suc m) lt =
+    let first : alone d y a ≡ pos 0 = ap (λ b. if b then d a else pos 0) (ne_eqb y a (λ same. omega (arith, lt, same))) in
+    omega (arith, ints, first, alone_none d y (a + 1) m (omega (arith, lt)))
+
+alone_sum : (d : ℕ → ℤ) (y a m : ℕ) → a ≤ y → y < a + m → sum_int_by (alone d y) (range_with_len a m) ≡ d y
+alone_sum d y a zero low high = absurd (omega (arith, low, high))
+alone_sum d y a (suc m) low high = elim (cases_eq y a) [
+  | inl same ↦
+      let first : alone d y a ≡ d a = ap (λ b. if b then d a else pos 0) (eq-eqb y a same) in
+      let rest = alone_none d y (a + 1) m (omega (arith, same)) in
+      let own = ap d same in
+      omega (arith, ints, first, rest, own)
+  | inr other ↦
+      let first : alone d y a ≡ pos 0 = ap (λ b. if b then d a else pos 0) (ne_eqb y a other) in
+      omega (arith, ints, first, alone_sum d y (a + 1) m (omega (arith, low, other)) (omega (arith, high)))
+]
+
+absent : (y : ℕ) (ys : List ℕ) (x : ℕ) → y ≡ x → AllByRecursion (λ z. y ≢ z) ys → has ys x ≡ false
+absent y [] x same h = refl
+absent y (z ∷ ys) x same h =
+    let first : (z == x) ≡ false = ne_eqb z x (λ is. h.0 (same ∙ sym is)) in
+    ap (λ b. b || has ys x) first ∙ absent y ys x same h.1
+
+split : (d : ℕ → ℤ) (y : ℕ) (ys : List ℕ) (x : ℕ) → AllByRecursion (λ z. y ≢ z) ys
+    → (if has (y ∷ ys) x then d x else pos 0) ≡ alone d y x +ℤ (if has ys x then d x else pos 0)
+split d y ys x h = elim (cases_Bool (y == x)) [
+  | inl t ↦
+      let none : has ys x ≡ false = absent y ys x (eqb-true y x t) h in
+      rw t (rw none (omega (arith, ints)))
+  | inr f ↦ rw f (omega (arith, ints))
+]
+
+abbrev pub Apart : List ℕ → Type 0
+Apart [] = Unit {0}
+Apart (x ∷ xs) = AllByRecursion (λ y. x ≢ y) xs × Apart xs
+
+pub apart_from_pairs : (xs : List ℕ) → AllPairs (λ a b. a ≢ b) xs → Apart xs
+apart_from_pairs [] h = tt
+apart_from_pairs (x ∷ xs) h = (
+  recursion_from_All (λ y. x ≢ y) xs (λ k d lt. h zero (suc k) d (omega arith) (omega arith)),
+  apart_from_pairs xs (λ i j d below lt. h (suc i) (suc j) d (omega arith) (omega arith)),
+)
+
+zeros : (xs : List ℕ) → sum_int_by (λ (x : ℕ). pos 0) xs ≡ pos 0
+zeros [] = refl
+zeros (x ∷ xs) = omega (arith, ints, zeros xs)
+
+pub held : (d : ℕ → ℤ) (n : ℕ) (ys : List ℕ) → Apart ys → AllByRecursion (IsNode n) ys
+    → sum_int_by (λ x. if has ys x then d x else pos 0) (range_with_len 1 n) ≡ sum_int_by d ys
+held d n [] apart nodes = zeros (range_with_len 1 n)
+held d n (y ∷ ys) apart nodes =
+    let same = all_same (λ x. if has (y ∷ ys) x then d x else pos 0) (λ x. alone d y x +ℤ (if has ys x then d x else pos 0))
+    (range_with_len 1 n) (λ x. split d y ys x apart.0) in
+    let both = sum_int_by-add (alone d y) (λ x. if has ys x then d x else pos 0) (range_with_len 1 n) in
+    let own = alone_sum d y 1 n nodes.0.0 (omega (arith, nodes.0.1)) in
+    let rest = held d n ys apart.1 nodes.1 in
+    omega (arith, ints, same, both, own, rest)
+
+pub nodes_of : (n depot : ℕ) (ys : List ℕ) → AllByRecursion (IsCustomer n depot) ys → AllByRecursion (IsNode n) ys
+nodes_of n depot [] h = tt
+nodes_of n depot (y ∷ ys) h = (h.0.0, nodes_of n depot ys h.1)
+
+pub no_depot : (n depot : ℕ) (ys : List ℕ) → AllByRecursion (IsCustomer n depot) ys → has ys depot ≡ false
+no_depot n depot [] h = refl
+no_depot n depot (y ∷ ys) h = ap (λ b. b || has ys depot) (ne_eqb y depot h.0.1) ∙ no_depot n depot ys h.1
+
+-- the customers as a cut
+pub cut_of : (problem : RoutingProblem) (customers : List ℕ) (least need : ℕ)
+    → All (IsCustomer problem.nodes problem.depot) customers → AllPairs (λ a b. a ≢ b) customers → customers ≢ []
+    → IsLeastRoutes (sum_int_by problem.demand customers) problem.capacity least → need ≡ max (min least most_nodes) 1
+    → IsCapacityCut problem (has customers) need
+unfolding nodes_to
+cut_of problem [] least need are once some is need_is = absurd (some refl)
+cut_of problem (y ∷ ys) least need are once some is need_is =
+    let customers = recursion_from_All (IsCustomer problem.nodes problem.depot) (y ∷ ys) are in
+    let same = held problem.demand problem.nodes (y ∷ ys) (apart_from_pairs (y ∷ ys) once)
+    (nodes_of problem.nodes problem.depot (y ∷ ys) customers) in
+    record {
+      inside = y;
+      customer = customers.0;
+      has_inside = or_left (y == y) (has ys y) (eq-eqb y y refl);
+      lacks_depot = no_depot problem.nodes problem.depot (y ∷ ys) customers;
+      least = least;
+      least_is = subst (λ (z : ℤ). IsLeastRoutes z problem.capacity least) (sym same) is;
+      need_is = need_is;
+    }
+
+-- ---- the least number of routes
+
+least_is : (total capacity : ℕ) → 1 ≤ capacity
+    → IsLeastRoutes (pos total) (pos capacity) ((total + (capacity - 1)) / capacity)
+least_is total capacity some = record {
+  enough =
+      let above = lt-div-mul-add {a = total + (capacity - 1)} {b = capacity} some in
+      let le : total ≤ (total + (capacity - 1)) / capacity * capacity = omega (arith, above, some) in
+      omega (arith, ints, le);
+  none_less = λ count carries. by_size count carries (cases_lt count ((total + (capacity - 1)) / capacity));
+}
+  where
+    by_size : (count : ℕ) → pos total ≤ℤ (pos count *ℤ pos capacity) → (count < (total + (capacity - 1)) / capacity)
+        ⊎ ((total + (capacity - 1)) / capacity ≤ count) → (total + (capacity - 1)) / capacity ≤ count
+    by_size count carries (inr le) = le
+    by_size count carries (inl lt) =
+        let more : suc count * capacity ≤ (total + (capacity - 1)) / capacity * capacity = mul-le-mul_right capacity lt in
+        let below = div-mul-le_self (total + (capacity - 1)) capacity in
+        let nat : total ≤ count * capacity = omega (arith, ints, carries) in
+        absurd (omega (arith, more, below, nat, some))
+
+pub least_of : (total capacity : ℤ) → pos 0 ≤ℤ total → pos 1 ≤ℤ capacity
+    → IsLeastRoutes total capacity ((nat_abs total + (nat_abs capacity - 1)) / nat_abs capacity)
+least_of (pos total) (pos capacity) low some = least_is total capacity (omega (arith, ints, some))
+least_of (pos total) (negsuc capacity) low some = absurd (omega (arith, ints, some))
+least_of (negsuc total) capacity low some = absurd (omega (arith, ints, low))
+
+-- ---- one demand further
+
+pub record IsLoadOf (count : ℕ) (sum : ℤ) : Type 0 where
+  pub low : pos 0 ≤ℤ sum
+  pub high : sum ≤ℤ pos (most_demand * count)
+
+pub load_more : (sum demand : ℤ) (count : ℕ) → IsLoadOf count sum → IsFromTo (pos 0) (pos most_demand) demand
+    → IsLoadOf (count + 1) (sum +ℤ demand)
+load_more sum demand count size more =
+    record { low = omega (arith, ints, size.low, more.0); high = omega (arith, ints, size.high, more.1) }
+
+pub load_fits : (sum demand : ℤ) (count : ℕ) → count ≤ most_nodes → IsLoadOf count sum → IsFromTo (pos 0) (pos most_demand) demand
+    → to_z w64 (of_z w64 (sum +ℤ to_z w64 (of_z w64 demand))) ≡ sum +ℤ demand
+load_fits sum demand count few size more = omega (arith, ints, size.low, size.high, more.0, more.1)
+
+pub sum_step : (f : ℕ → ℤ) (so_far total : ℤ) (x : ℕ) (others rest : List ℕ) → others ≡ x ∷ rest
+    → so_far +ℤ sum_int_by f others ≡ total → (so_far +ℤ f x) +ℤ sum_int_by f rest ≡ total
+sum_step f so_far total x others rest parts e =
+    +ℤ_assoc so_far (f x) (sum_int_by f rest) ∙ subst (λ (xs : List ℕ). so_far +ℤ sum_int_by f xs ≡ total) parts e
+
+-- ---- all customers
+
+others_apart : (depot : ℕ) (f : ℕ → ℤ) (x : ℕ) → of_others depot f x +ℤ alone f depot x ≡ f x
+others_apart depot f x = elim (cases_eq x depot) [
+  | inl same ↦ rw (eq-eqb x depot same) (rw (eq-eqb depot x (sym same)) (omega (arith, ints)))
+  | inr other ↦ rw (ne_eqb x depot other) (rw (ne_eqb depot x (λ is. other (sym is))) (omega (arith, ints)))
+]
+
+pub others_sum : (n depot : ℕ) (f : ℕ → ℤ) → IsNode n depot
+    → sum_int_by (of_others depot f) (nodes_to n) ≡ sum_of_customers n depot f
+unfolding nodes_to
+others_sum n depot f depot_in =
+    let same = all_same (λ x. of_others depot f x +ℤ alone f depot x) f (range_with_len 1 n) (others_apart depot f) in
+    let both = sum_int_by-add (of_others depot f) (alone f depot) (range_with_len 1 n) in
+    let own = alone_sum f depot 1 n depot_in.0 (omega (arith, depot_in.1)) in
+    omega (arith, ints, same, both, own)
+
+pub nodes_more : (f : ℕ → ℤ) (last : ℕ) → sum_int_by f (nodes_to (last + 1)) ≡ sum_int_by f (nodes_to last) +ℤ f (last + 1)
+unfolding nodes_to
+nodes_more f last =
+    let here : f (1 + last) ≡ f (last + 1) = ap f (omega arith) in
+    ap (λ k. sum_int_by f (range_with_len 1 k)) (add-one last) ∙ run_more f 1 last ∙ ap (λ z. sum_int_by f (range_with_len 1 last) +ℤ z) here
+
+pub nodes_none : (f : ℕ → ℤ) → pos 0 ≡ sum_int_by f (nodes_to 0)
+unfolding nodes_to
+nodes_none f = refl

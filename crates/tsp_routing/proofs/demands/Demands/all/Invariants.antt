@@ -1,0 +1,14 @@
+-- The loop of `Demands::all` in src/needs.rt.
+use Rattle.std.proofs.Common.{◌≡◌}
+use Rattle.tsp_format.specs.Nodes.{nodes_to}
+use Rattle.tsp_theory.specs.Length.{sum_int_by}
+use Rattle.tsp_theory.specs.Routing.{demand_of}
+use Rattle.tsp_routing.specs.states.Demands.{of_others}
+use Rattle.tsp_routing.proofs.CutNeeds.{IsLoadOf}
+use Rattle.tsp_routing.proofs.demands.Demands.all.Given as goal
+
+abbrev pub invariant-nodes : goal.invariant-nodes
+invariant-nodes l = record {
+  size : IsLoadOf l.index l.sum;
+  sum : l.sum ≡ sum_int_by (of_others l.self.depot (demand_of l.self.demands.now)) (nodes_to l.index);
+}

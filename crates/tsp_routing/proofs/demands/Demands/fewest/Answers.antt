@@ -1,0 +1,14 @@
+-- The goals of `Demands::fewest` in src/needs.rt: what it ensures.
+use Rattle.std.proofs.Common.{◌∙◌, subst, rules, ℤ}
+use Rattle.std.specs.Int.{w64}
+use Rattle.std.proofs.lemmas.Int.{to_z-of_z}
+use Rattle.tsp_theory.specs.Routing.{IsLeastRoutes}
+use Rattle.tsp_routing.proofs.demands.Demands.fewest.Goals as goal
+
+pub returns-clause-fewest : goal.returns-clause-fewest
+returns-clause-fewest c = λ cost. record {
+  least = c.routes_of.result;
+  least_is = subst (λ (z : ℤ). IsLeastRoutes z c.args.self.now.capacity c.routes_of.result)
+      (to_z-of_z w64 c.all.result (search rules) ∙ c.all.ensures.value) c.routes_of.ensures;
+  fewest_is = c.counted.ensures.value;
+}

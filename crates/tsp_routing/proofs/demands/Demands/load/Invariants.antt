@@ -1,0 +1,12 @@
+-- The loop of `Demands::load` in src/needs.rt.
+use Rattle.std.proofs.Common.{◌≡◌, drop}
+use Rattle.std.specs.Prelude.{◌+ℤ◌}
+use Rattle.tsp_theory.specs.Routing.{load_of}
+use Rattle.tsp_routing.proofs.CutNeeds.{IsLoadOf}
+use Rattle.tsp_routing.proofs.demands.Demands.load.Given as goal
+
+abbrev pub invariant-nodes : goal.invariant-nodes
+invariant-nodes l = record {
+  size : IsLoadOf l.node-index l.sum;
+  so_far : (l.sum +ℤ load_of l.self.demands.now (drop l.node-index l.customers)) ≡ load_of l.self.demands.now l.customers;
+}

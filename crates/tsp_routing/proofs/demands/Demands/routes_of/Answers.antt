@@ -1,0 +1,12 @@
+-- The goals of `Demands::routes_of` in src/needs.rt: what it ensures.
+use Rattle.std.proofs.Common.{rules, FitsSigned}
+use Rattle.std.specs.Int.{w64}
+use Rattle.std.proofs.lemmas.Int.{to_z-of_z}
+use Rattle.tsp_routing.proofs.CutNeeds.{least_of}
+use Rattle.tsp_routing.proofs.demands.Demands.routes_of.Goals as goal
+
+pub returns : goal.returns
+returns c =
+    let total_fits : FitsSigned w64 c.args.total = search rules in
+    let capacity_fits : FitsSigned w64 c.args.self.now.capacity = search rules in
+    simp to_z-of_z (least_of c.args.total c.args.self.now.capacity c.requires.low c.requires.demands.capacity_is.0)

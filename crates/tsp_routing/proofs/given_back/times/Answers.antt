@@ -1,0 +1,13 @@
+-- The goals of `times` in src/given_back.rt: what it ensures.
+use Rattle.std.proofs.Common.{◌∙◌, rules, FitsSigned}
+use Rattle.std.specs.Int.{w64}
+use Rattle.std.proofs.lemmas.Int.{to_z-of_z}
+use Rattle.tsp_routing.proofs.SetProducts.{set_product}
+use Rattle.tsp_routing.proofs.given_back.times.Goals as goal
+
+pub returns-clause-size : goal.returns-clause-size
+returns-clause-size c =
+    let fits : FitsSigned w64 c.args.number = search rules in
+    let is = set_product c.args.count c.args.number c.from.result c.from-2.result c.requires fits c.from.ensures
+    (c.from-2.ensures ∙ to_z-of_z w64 c.args.number fits) in
+    rw is.0 is.1

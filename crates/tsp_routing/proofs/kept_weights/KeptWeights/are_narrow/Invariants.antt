@@ -1,0 +1,21 @@
+-- The loop of `KeptWeights::are_narrow` in src/kept_weights.rt.
+use Rattle.std.proofs.Common.{◌≡◌, ◌≤◌, ◌+◌, ◌^◌, ℕ, true, length}
+use Rattle.std.specs.Prelude.{pos, neg_ℤ}
+use Rattle.tsp_format.specs.Nodes.{IsNode}
+use Rattle.tsp_format.specs.Ranges.{IsFromTo}
+use Rattle.tsp_cases.specs.states.Lent.{lent_in}
+use Rattle.tsp_cases.specs.states.Combed.{set_weight}
+use Rattle.tsp_routing.specs.Weights.{most_link}
+use Rattle.tsp_routing.proofs.kept_weights.KeptWeights.are_narrow.Given as goal
+
+abbrev pub invariant-nodes : goal.invariant-nodes
+invariant-nodes g l =
+    let s = l.self.weights.now in
+    let n : ℕ = g.C.Costs.nodes s.costs.now in
+    let w = set_weight s.scale s.potentials.now s.multipliers.now (lent_in s.families.now) (g.C.Costs.at s.costs.now) in
+    record {
+      row : length l.row ≡ n + 1;
+      wide : (i j : ℕ) → IsNode n i → i ≤ l.index → IsNode n j → IsFromTo (neg_ℤ (pos most_link)) (pos most_link) (w i j);
+      narrow : l.narrow ≡ true → (i j : ℕ) → IsNode n i → i ≤ l.index → IsNode n j
+          → IsFromTo (neg_ℤ (pos (2 ^ 38))) (pos (2 ^ 38)) (w i j);
+    }

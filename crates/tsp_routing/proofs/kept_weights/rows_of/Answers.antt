@@ -1,0 +1,17 @@
+-- The goals of `rows_of` in src/kept_weights.rt: its loop.
+use Rattle.std.proofs.Common.{◌≡◌, ◌+◌, ◌++◌, [], ◌∷◌, ℕ, ℤ, List, subst, sym}
+use Rattle.std.specs.Global.{Vec}
+use Rattle.tsp_cases.specs.states.Lent.{lent_in}
+use Rattle.tsp_cases.specs.states.Combed.{set_weight}
+use Rattle.tsp_routing.specs.states.KeptWeights.{AreFirstRows}
+use Rattle.tsp_routing.proofs.WeightRows.{weights_more}
+use Rattle.tsp_routing.proofs.kept_weights.rows_of.Goals as goal
+
+pub rows-preserved : goal.rows-preserved
+rows-preserved g c =
+    let s = c.args.weights.now in
+    let n : ℕ = g.C.Costs.nodes s.costs.now in
+    let w = set_weight s.scale s.potentials.now s.multipliers.now (lent_in s.families.now) (g.C.Costs.at s.costs.now) in
+    let pushed : c.push.new.list.items ≡ c.rows.rows.items ++ c.in_ok-row.row ∷ [] = c.in_ok-push.ensures.items in
+    subst (AreFirstRows n w (c.rows.index + 1)) (sym pushed)
+    (weights_more n w c.rows.index c.rows.rows.items c.in_ok-row.row c.rows.invariant c.in_ok-row.ensures)

@@ -1,0 +1,11 @@
+-- The loop of `rows_of` in src/kept_weights.rt.
+use Rattle.std.proofs.Common.{ℕ}
+use Rattle.tsp_cases.specs.states.Lent.{lent_in}
+use Rattle.tsp_cases.specs.states.Combed.{set_weight}
+use Rattle.tsp_routing.specs.states.KeptWeights.{AreFirstRows}
+use Rattle.tsp_routing.proofs.kept_weights.rows_of.Given as goal
+
+abbrev pub invariant-rows : goal.invariant-rows
+invariant-rows g l =
+    AreFirstRows (g.C.Costs.nodes l.weights.costs.now) (set_weight l.weights.scale l.weights.potentials.now l.weights.multipliers.now
+    (lent_in l.weights.families.now) (g.C.Costs.at l.weights.costs.now)) l.index l.rows.items

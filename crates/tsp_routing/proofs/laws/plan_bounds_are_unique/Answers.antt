@@ -1,0 +1,6 @@
+-- The goals of `plan_bounds_are_unique` in src/laws.rt: what it ensures.
+use Rattle.tsp_routing.proofs.OneVerdict.{one_plan_bound_found}
+use Rattle.tsp_routing.proofs.laws.plan_bounds_are_unique.Goals as goal
+
+pub returns : goal.returns
+returns c = one_plan_bound_found

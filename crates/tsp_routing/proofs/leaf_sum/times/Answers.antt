@@ -1,0 +1,11 @@
+-- The goals of `times` in src/leaf_sum.rt: that the product does not overflow, and what it ensures.
+use Rattle.tsp_routing.proofs.RouteProducts.{product_fits, product_is}
+use Rattle.tsp_routing.proofs.leaf_sum.times.Goals as goal
+
+pub overflow_mul-result : goal.overflow_mul-result
+overflow_mul-result c = product_fits c.args.count c.args.number c.from.result c.requires.count c.requires.number c.from.ensures
+
+pub returns : goal.returns
+returns c =
+    let is = product_is c.args.count c.args.number c.from.result c.requires.count c.requires.number c.from.ensures in
+    record { value = is.0; size = rw is.0 is.1 }

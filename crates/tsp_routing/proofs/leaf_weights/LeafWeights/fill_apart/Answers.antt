@@ -1,0 +1,42 @@
+-- The goals of `LeafWeights::fill_apart` in src/leaf_weights.rt: what it ensures.
+use Rattle.std.proofs.Common.{◌≡◌, ◌-◌, ◌*◌, ℤ, arith, rules, subst, inr, ap, ap₂, ◌∙◌, to_z, of_z, FitsSigned}
+use Rattle.std.specs.Int.{w64, int_wrap}
+use Rattle.std.specs.Prelude.{pos, neg_ℤ, ◌+ℤ◌, ◌*ℤ◌}
+use Rattle.std.proofs.lemmas.Int.{to_z-of_z}
+use Rattle.tsp_format.specs.Limits.{most_scale, most_weight}
+use Rattle.tsp_theory.specs.CertificateNumbers.{IsFromTo, entry}
+use Rattle.tsp_theory.specs.states.Nearest.{least_at}
+use Rattle.tsp_theory.proofs.Weights.{between_size}
+use Rattle.tsp_theory.proofs.Sizes.{same_scale, scaled_size}
+use Rattle.tsp_cases.specs.states.Lent.{lent_in}
+use Rattle.tsp_cases.specs.states.Combed.{multipliers_at}
+use Rattle.tsp_cases.proofs.SetAlgebra.{apart_is}
+use Rattle.tsp_routing.proofs.leaf_weights.LeafWeights.fill_apart.Goals as goal
+
+-- plan: `apart_is`: the sum in 64 bits is the weight apart; `between_size` for its size
+pub returns : goal.returns
+returns g c = record {
+  values = λ x x_in.
+      let p = c.args.self.now in
+      let n = g.C.Costs.nodes p.costs.now in
+      let cost : ℤ = g.C.Costs.at p.costs.now c.args.from x in
+      let m : ℤ = c.weight_in.result in
+      let k : ℤ = least_at p.moved.now x in
+      let own : ℤ = to_z w64 (of_z w64 m) in
+      let m_in : FitsSigned w64 m = search rules in
+      let entry_is : least_at c.costs_from.new.row x ≡ cost = (c.costs_from.ensures.values x x_in).is in
+      let scaled_is = c.scale_row.ensures x x_in.0 (omega (arith, x_in.1, c.requires.room, c.costs_from.auto.row)) ∙ ap₂ (λ a b. a *ℤ b) (same_scale p.scale p.scaled) entry_is in
+      let value_is : least_at c.shift_row.new.row x ≡ int_wrap w64 ((p.scale *ℤ cost) +ℤ int_wrap w64 (own +ℤ k)) =
+      c.shift_row.ensures x (omega (arith, x_in.1, c.requires.room, c.costs_from.auto.row, c.scale_row.auto.row)) ∙ ap (λ z. int_wrap w64 (z +ℤ int_wrap w64 (own +ℤ k))) scaled_is in
+      inr (apart_is (p.scale *ℤ cost) (entry p.potentials.now c.args.from) (entry p.potentials.now x)
+      (multipliers_at p.multipliers.now (lent_in p.families.now) c.args.from) (multipliers_at p.multipliers.now (lent_in p.families.now) x)
+      m k (int_wrap w64 (own +ℤ k)) (least_at c.shift_row.new.row x) (ap (int_wrap w64) c.weight_in.ensures ∙ p.are_moved c.args.from c.requires.from) (p.are_moved x x_in)
+      (ap (λ z. int_wrap w64 (z +ℤ k)) (to_z-of_z w64 m m_in)) value_is);
+  sizes = λ x x_in.
+      let p = c.args.self.now in
+      let cost : ℤ = g.C.Costs.at p.costs.now c.args.from x in
+      let e = c.costs_from.ensures.values x x_in in
+      between_size (p.scale *ℤ cost) (entry p.potentials.now c.args.from) (entry p.potentials.now x)
+      (subst (λ (z : ℤ). IsFromTo (neg_ℤ (pos (most_scale * most_weight))) (pos (most_scale * most_weight)) (p.scale *ℤ z)) e.is (scaled_size p.scale _ p.scaled e.low e.high))
+      (p.potentials_are (c.args.from - 1) (pos 0) (omega (arith, c.requires.from, p.long))) (p.potentials_are (x - 1) (pos 0) (omega (arith, x_in, p.long)));
+}

@@ -1,0 +1,48 @@
+-- The goals of `LeafWeights::of` in src/leaf_weights.rt: what its value keeps.
+use Rattle.std.proofs.Common.{◌≡◌, ◌∙◌, ℕ, ℤ, List, length, subst, sym, arith, rules, FitsSigned, to_z, of_z}
+use Rattle.std.specs.Prelude.{pos, neg_ℤ}
+use Rattle.std.specs.Global.{Vec}
+use Rattle.std.specs.Int.{w64}
+use Rattle.std.proofs.lemmas.Int.{ints, to_z-of_z}
+use Rattle.std.proofs.lemmas.List.{length-map}
+use Rattle.std.proofs.lemmas.List.Elements.{recursion_from_All, All-from_recursion}
+use Rattle.tsp_format.specs.Ranges.{IsFromTo}
+use Rattle.tsp_families.specs.FamilySets.{lists_of}
+use Rattle.tsp_cases.specs.states.Kept.{AreMoved}
+use Rattle.tsp_cases.specs.states.Lent.{lent_in}
+use Rattle.tsp_cases.specs.states.Sets.{IsSetTable}
+use Rattle.tsp_cases.proofs.CombsBySets.{sets_tell_combs}
+use Rattle.tsp_routing.specs.GoodLeaves.{most_of_multipliers}
+use Rattle.tsp_routing.proofs.MultiplierSizes.{each_small}
+use Rattle.tsp_routing.proofs.SignedSets.{signed_crossings}
+use Rattle.tsp_routing.proofs.leaf_weights.LeafWeights.of.Goals as goal
+
+pub invariant_of-result : goal.invariant_of-result
+invariant_of-result g c =
+    let leaf = c.args.leaf.now in
+    let s = leaf.setting.now in
+    let lists : List (List (List ℕ)) = lent_in s.families.now in
+    let ms : List ℤ = leaf.multipliers.now in
+    let nodes = s.same in
+    let lent_many = length-map s.families.now.lent.now (λ (f : Vec (Vec ℕ)). lists_of f.items) in
+    let many : length s.crossed.now ≡ length lists = omega (arith, s.many, lent_many) in
+    let long : length ms ≡ length lists = leaf.numbers.each_family ∙ many in
+    let sized : FitsSigned w64 s.scale = search rules in
+    let each = All-from_recursion (IsFromTo (neg_ℤ (pos most_of_multipliers)) (pos most_of_multipliers)) ms
+    (each_small most_of_multipliers ms leaf.numbers.sum) in
+    record {
+      scaled = rw (to_z-of_z w64 s.scale sized) s.scaled;
+      small = λ k d lt. let own = each k d lt in (omega (arith, ints, own.0), omega (arith, ints, own.1));
+      same = s.own ∙ sym nodes;
+      as_many = leaf.numbers.each_family ∙ s.many;
+      table = subst (λ (k : ℕ). IsSetTable k lists s.by_node.now) (sym nodes) s.table;
+      places = omega (arith, leaf.places, nodes);
+      are_moved = subst (λ (k : ℕ). AreMoved k leaf.potentials.now ms lists leaf.moved.now) (sym nodes) leaf.are_moved;
+      long = leaf.numbers.each_node ∙ sym nodes;
+      potentials_are = leaf.numbers.potentials_are;
+      crossed = λ i j i_in j_in.
+          let size = signed_crossings s.crossed.now lists ms i j (recursion_from_All (λ sets. length sets ≡ 1) lists s.single) in
+          let same = sets_tell_combs s.crossed.now ms lists i j many long in
+          let most = leaf.numbers.sum in
+          (omega (arith, ints, size.0, same, most), omega (arith, ints, size.1, same, most));
+    }

@@ -1,0 +1,26 @@
+-- The loop of `next_row` in src/least_walk.rt.
+use Rattle.std.proofs.Common.{◌≡◌, ◌≤◌, ◌+◌, ◌*◌, ℕ, length}
+use Rattle.std.specs.List.{All}
+use Rattle.tsp_theory.specs.Routing.{IsCustomer}
+use Rattle.tsp_routing.specs.WalkTables.{IsLow, IsMet}
+use Rattle.tsp_routing.specs.declared.onward.Onward.{Onward}
+use Rattle.tsp_routing.specs.states.Onwards.{load_at, entry_of, entry_at, IsEntrySized, AreRowsLow, AreRowsMet}
+use Rattle.tsp_routing.proofs.least_walk.next_row.Given as goal
+
+abbrev pub invariant-nodes : goal.invariant-nodes
+invariant-nodes g l =
+    let value = g.S.Sum.value in
+    let half : ℕ = g.S.Sum.half in
+    let n : ℕ = l.walks.nodes in
+    let depot : ℕ = l.walks.depot in
+    let w = g.W.Weights.at l.walks.weights.now in
+    let load = load_at l.walks.loads.now in
+    record {
+      long : length l.next.items ≡ l.index + 1;
+      room : length l.row ≡ n + 1;
+      low : AreRowsLow value n depot w load l.table → (node : ℕ) (default : Onward g.row.S.Denot) → IsCustomer n depot node → node ≤ l.index
+          → IsLow n depot w load (length l.table) node (entry_at value l.next.items default node);
+      met : AreRowsMet value half n depot w load l.table → (node : ℕ) (default : Onward g.row.S.Denot) → IsCustomer n depot node
+          → node ≤ l.index → IsMet half n depot w load (length l.table) node (entry_at value l.next.items default node);
+      sizes : All (λ onward. IsEntrySized half ((length l.table + 1) * g.S.Sum.link) (entry_of value onward)) l.next.items;
+    }

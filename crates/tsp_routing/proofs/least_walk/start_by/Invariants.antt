@@ -1,0 +1,25 @@
+-- The loop of `start_by` in src/least_walk.rt.
+use Rattle.std.proofs.Common.{◌≡◌, ◌<◌, ◌≤◌, ℕ, ◌+◌}
+use Rattle.std.specs.Prelude.{ℤ, ◌+ℤ◌, ◌≤ℤ◌}
+use Rattle.tsp_format.specs.Nodes.{IsNode}
+use Rattle.tsp_theory.specs.Routing.{IsCustomer}
+use Rattle.tsp_theory.specs.states.Nearest.{least_at}
+use Rattle.tsp_routing.specs.WalkTables.{IsStartMet}
+use Rattle.tsp_routing.specs.declared.onward.Onward.{Onward}
+use Rattle.tsp_routing.specs.states.Onwards.{entry_at, IsEntryNumber, IsRowSized}
+use Rattle.tsp_routing.proofs.least_walk.start_by.Given as goal
+
+abbrev pub invariant-nodes : goal.invariant-nodes
+invariant-nodes g l =
+    let value = g.S.Sum.value in
+    let half : ℕ = g.S.Sum.half in
+    let link : ℕ = g.S.Sum.link in
+    record {
+      below : (next : ℕ) (default : Onward g.row.S.Denot) → IsCustomer l.walks.nodes l.walks.depot next → next ≤ l.index
+          → value l.least ≤ℤ (least_at l.row next +ℤ (entry_at value l.known default next).least);
+      met : (w : ℕ → ℕ → ℤ) (default : Onward g.row.S.Denot)
+          → ((next : ℕ) → IsNode l.walks.nodes next → least_at l.row next ≡ w l.walks.depot next)
+          → IsStartMet half l.walks.nodes l.walks.depot w (entry_at value l.known default) (value l.least);
+      size : (size : ℕ) → size + link < half → IsRowSized value half l.walks.nodes size l.known
+          → IsEntryNumber half (size + link) (value l.least);
+    }

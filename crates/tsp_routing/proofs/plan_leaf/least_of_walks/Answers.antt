@@ -1,0 +1,97 @@
+-- The goals of `least_of_walks` in src/plan_leaf.rt: the walks of the leaf, and what it ensures.
+use Rattle.std.proofs.Common.{◌≡◌, ◌∙◌, ◌≤◌, ℕ, ℤ, List, Option, length, ap, sym, subst}
+use Rattle.std.specs.Prelude.{◌-ℤ◌}
+use Rattle.std.proofs.lemmas.List.{length-map}
+use Rattle.std.proofs.lemmas.Result.{IfOk-weaker}
+use Rattle.std.specs.Global.{Vec}
+use Rattle.tsp_theory.specs.NodeBound.{weight_between}
+use Rattle.tsp_families.specs.FamilySets.{lists_of}
+use Rattle.tsp_cases.specs.states.Lent.{lent_in}
+use Rattle.tsp_cases.specs.states.Combed.{set_weight}
+use Rattle.tsp_cases.specs.FamiliesOfSets.{families_with}
+use Rattle.tsp_cases.proofs.CombsBySets.{sets_tell_combs}
+use Rattle.tsp_routing.specs.Loads.{load_in, room_in}
+use Rattle.tsp_routing.specs.PlanBounds.{walk_weight}
+use Rattle.tsp_routing.specs.states.Demands.{problem_of}
+use Rattle.tsp_routing.specs.states.Onwards.{load_at}
+use Rattle.tsp_routing.proofs.SignedSets.{least_same}
+use Rattle.tsp_routing.proofs.UnitLoads.{loads_are_some}
+use Rattle.tsp_routing.proofs.plan_leaf.least_of_walks.Goals as goal
+
+pub invariant_of-walks : goal.invariant_of-walks
+invariant_of-walks g c =
+    let s = c.args.leaf.now.setting.now in
+    let n : ℕ = s.demands.nodes in
+    let cost = g.C.Costs.at s.costs.now in
+    let loads : c.deref-2.result.now ≡ s.units.now.loads.items = c.deref-2.ensures.value in
+    record {
+      few = s.are.few;
+      depot_in = s.are.depot_in;
+      by_node = ap length loads ∙ s.loads.places;
+      some = λ node inside.
+          subst (λ (k : ℕ). 1 ≤ k) (sym (ap (λ (ks : List ℕ). load_at ks node) loads ∙ s.loads.loads_are cost node inside.0))
+          (loads_are_some (problem_of s.demands cost) s.unit s.units.now.light node);
+      same = c.of-weights.ensures.nodes ∙ s.same;
+    }
+
+pub invariant_of-walks-2 : goal.invariant_of-walks-2
+invariant_of-walks-2 g c =
+    let s = c.args.leaf.now.setting.now in
+    let n : ℕ = s.demands.nodes in
+    let cost = g.C.Costs.at s.costs.now in
+    let loads : c.deref-2.result.now ≡ s.units.now.loads.items = c.deref-2.ensures.value in
+    record {
+      few = s.are.few;
+      depot_in = s.are.depot_in;
+      by_node = ap length loads ∙ s.loads.places;
+      some = λ node inside.
+          subst (λ (k : ℕ). 1 ≤ k) (sym (ap (λ (ks : List ℕ). load_at ks node) loads ∙ s.loads.loads_are cost node inside.0))
+          (loads_are_some (problem_of s.demands cost) s.unit s.units.now.light node);
+      same = c.of-weights.ensures.nodes ∙ s.same;
+    }
+
+pub returns-then-are_narrow-clause-least : goal.returns-then-are_narrow-clause-least
+returns-then-are_narrow-clause-least g c =
+    let leaf = c.args.leaf.now in
+    let s = leaf.setting.now in
+    let n : ℕ = s.demands.nodes in
+    let cost = g.C.Costs.at s.costs.now in
+    let lists : List (List (List ℕ)) = lent_in s.families.now in
+    let ps : List ℤ = leaf.potentials.now in
+    let ms : List ℤ = leaf.multipliers.now in
+    let own = c.of-weights.result in
+    let loads : c.deref-2.result.now ≡ s.units.now.loads.items = c.deref-2.ensures.value in
+    let lent_many = length-map s.families.now.lent.now (λ (f : Vec (Vec ℕ)). lists_of f.items) in
+    let many : length s.crossed.now ≡ length lists = s.many ∙ sym lent_many in
+    let long : length ms ≡ length lists = leaf.numbers.each_family ∙ many in
+    let weights : (i j : ℕ) → set_weight own.scale own.potentials.now own.multipliers.now (lent_in own.families.now) (g.C.Costs.at own.costs.now) i j
+    ≡ walk_weight s.scale ps (families_with s.crossed.now lists) ms cost i j = λ i j. c.of-weights.ensures.weights i j
+    ∙ ap (λ (z : ℤ). weight_between s.scale ps cost i j -ℤ z) (sym (sets_tell_combs s.crossed.now ms lists i j many long)) in
+    IfOk-weaker c.least_walk.result _ _ (λ found least. least_same n s.demands.depot (load_at c.deref-2.result.now)
+    (load_in (problem_of s.demands cost) s.unit s.units.now.light) s.units.now.room (room_in (problem_of s.demands cost) s.unit s.units.now.light) _
+    (walk_weight s.scale ps (families_with s.crossed.now lists) ms cost) found
+    (λ x x_in. ap (λ (ks : List ℕ). load_at ks x) loads ∙ s.loads.loads_are cost x x_in) (s.loads.room_is cost) weights least)
+    c.least_walk.ensures.exact
+
+pub returns-clause-least : goal.returns-clause-least
+returns-clause-least g c =
+    let leaf = c.args.leaf.now in
+    let s = leaf.setting.now in
+    let n : ℕ = s.demands.nodes in
+    let cost = g.C.Costs.at s.costs.now in
+    let lists : List (List (List ℕ)) = lent_in s.families.now in
+    let ps : List ℤ = leaf.potentials.now in
+    let ms : List ℤ = leaf.multipliers.now in
+    let own = c.of-weights.result in
+    let loads : c.deref-2.result.now ≡ s.units.now.loads.items = c.deref-2.ensures.value in
+    let lent_many = length-map s.families.now.lent.now (λ (f : Vec (Vec ℕ)). lists_of f.items) in
+    let many : length s.crossed.now ≡ length lists = s.many ∙ sym lent_many in
+    let long : length ms ≡ length lists = leaf.numbers.each_family ∙ many in
+    let weights : (i j : ℕ) → set_weight own.scale own.potentials.now own.multipliers.now (lent_in own.families.now) (g.C.Costs.at own.costs.now) i j
+    ≡ walk_weight s.scale ps (families_with s.crossed.now lists) ms cost i j = λ i j. c.of-weights.ensures.weights i j
+    ∙ ap (λ (z : ℤ). weight_between s.scale ps cost i j -ℤ z) (sym (sets_tell_combs s.crossed.now ms lists i j many long)) in
+    IfOk-weaker c.least_walk-2.result _ _ (λ found least. least_same n s.demands.depot (load_at c.deref-2.result.now)
+    (load_in (problem_of s.demands cost) s.unit s.units.now.light) s.units.now.room (room_in (problem_of s.demands cost) s.unit s.units.now.light) _
+    (walk_weight s.scale ps (families_with s.crossed.now lists) ms cost) found
+    (λ x x_in. ap (λ (ks : List ℕ). load_at ks x) loads ∙ s.loads.loads_are cost x x_in) (s.loads.room_is cost) weights least)
+    c.least_walk-2.ensures.exact

@@ -1,0 +1,49 @@
+-- The goals of `moved_of` in src/plan_leaf.rt: what it ensures.
+use Rattle.std.proofs.Common.{◌≡◌, ◌∙◌, ◌+◌, ◌<◌, ℕ, ℤ, List, length, replicate, get_or, refl, ap, sym, arith}
+use Rattle.std.specs.Prelude.{pos, neg_ℤ, ◌+ℤ◌}
+use Rattle.std.specs.Int.{w64, int_wrap}
+use Rattle.std.proofs.lemmas.Int.{ints}
+use Rattle.std.proofs.lemmas.List.{get_or-replicate, length-replicate}
+use Rattle.std.proofs.lemmas.List.Elements.{All-from_recursion}
+use Rattle.tsp_format.specs.Ranges.{IsFromTo}
+use Rattle.tsp_theory.specs.CertificateNumbers.{entry}
+use Rattle.tsp_theory.specs.states.Nearest.{least_at}
+use Rattle.tsp_cases.specs.states.Combed.{multipliers_at}
+use Rattle.tsp_cases.specs.states.Lent.{lent_in}
+use Rattle.tsp_cases.proofs.ListPlaces.{written}
+use Rattle.tsp_cases.proofs.MovedSums.{wrapped_by}
+use Rattle.tsp_cases.proofs.RowsKept.{moved_from_ends}
+use Rattle.tsp_routing.specs.GoodLeaves.{most_of_multipliers}
+use Rattle.tsp_routing.proofs.MultiplierSizes.{each_small}
+use Rattle.tsp_routing.proofs.plan_leaf.moved_of.Goals as goal
+
+pub invariant_of-multiplied : goal.invariant_of-multiplied
+invariant_of-multiplied g c =
+    let each = All-from_recursion (IsFromTo (neg_ℤ (pos most_of_multipliers)) (pos most_of_multipliers)) c.args.multipliers.now
+    (each_small most_of_multipliers c.args.multipliers.now c.requires.numbers.sum) in
+    record {
+      as_many = c.requires.numbers.each_family ∙ c.args.setting.now.many;
+      small = λ k d lt. let own = each k d lt in (omega (arith, ints, own.0), omega (arith, ints, own.1));
+    }
+
+pub returns-clause-moved : goal.returns-clause-moved
+returns-clause-moved g c = λ x x_in.
+    let s = c.args.setting.now in
+    let lists : List (List (List ℕ)) = lent_in s.families.now in
+    let ms : List ℤ = c.args.multipliers.now in
+    let taken : ℤ = neg_ℤ (multipliers_at ms lists x) in
+    let zeros : c.in_ok-ends.ends.items ≡ replicate (s.demands.nodes + 1) (pos 0) = c.in_ok-ends.ensures.items_if_clones_equal (λ y h. h) in
+    let zero : least_at c.deref_mut.result.now x ≡ pos 0 = ap (λ (zs : List ℤ). least_at zs x) (c.deref_mut.ensures.value ∙ zeros)
+    ∙ get_or-replicate (s.demands.nodes + 1) x (pos 0) (pos 0)
+    (let long = length-replicate (s.demands.nodes + 1) (pos 0) in omega (arith, x_in.1, long)) in
+    let ends_is : c.deref.result.now ≡ c.take_multipliers.new.row = c.deref.ensures.value
+    ∙ written c.in_ok-ends.ends.len c.take_multipliers.new.row _ (c.take_multipliers.auto.row ∙ c.deref_mut.ensures.len) in
+    let end : int_wrap w64 (least_at c.deref.result.now x) ≡ int_wrap w64 (pos 0 +ℤ taken) =
+    ap (λ (zs : List ℤ). int_wrap w64 (least_at zs x)) ends_is
+    ∙ wrapped_by taken (least_at c.deref_mut.result.now x) (least_at c.take_multipliers.new.row x) (pos 0) (c.take_multipliers.ensures x) zero in
+    let same : pos 0 +ℤ taken ≡ taken = omega (arith, ints) in
+    let moved_is = written c.in_ok-moved.moved.len c.fill_moved.new.row _ (c.fill_moved.auto.row ∙ c.deref_mut-2.ensures.len) in
+    let held = c.fill_moved.ensures x (x_in.0, omega (arith, x_in.1, c.requires.numbers.each_node)) in
+    ap (λ (zs : List ℤ). int_wrap w64 (least_at zs x)) moved_is
+    ∙ moved_from_ends (entry c.args.potentials.now x) (least_at c.deref.result.now x) (least_at c.fill_moved.new.row x) taken held
+    (end ∙ ap (int_wrap w64) same)

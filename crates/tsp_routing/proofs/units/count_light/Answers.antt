@@ -1,0 +1,39 @@
+-- The goals of `count_light` in src/units.rt: its loop and what it ensures.
+use Rattle.std.proofs.Common.{◌≡◌, ◌∙◌, ℕ, ap, arith}
+use Rattle.std.proofs.lemmas.Int.{ints}
+use Rattle.tsp_format.specs.Nodes.{nodes_to}
+use Rattle.tsp_theory.specs.Length.{sum_int_by}
+use Rattle.tsp_routing.specs.Loads.{is_light}
+use Rattle.tsp_routing.specs.states.Demands.{problem_of}
+use Rattle.tsp_routing.specs.states.Units.{light_in}
+use Rattle.tsp_routing.proofs.CutNeeds.{others_sum, nodes_more, nodes_none}
+use Rattle.tsp_routing.proofs.units.count_light.Goals as goal
+
+pub nodes-init : goal.nodes-init
+nodes-init c = record {
+  few = omega arith;
+  sum = λ cost. nodes_none (light_in (problem_of c.args.demands.now cost) c.args.unit);
+}
+
+pub nodes-preserved : goal.nodes-preserved
+nodes-preserved c =
+    let few = c.light-count.ensures.few in
+    let before = c.nodes.invariant.few in
+    record {
+      few = omega (arith, few, before);
+      sum = λ cost.
+          let own = c.light-count.ensures.value cost in
+          let sum = c.nodes.invariant.sum cost in
+          let more = nodes_more (light_in (problem_of c.args.demands.now cost) c.args.unit) c.nodes.index in
+          omega (arith, ints, own, sum, more, few, before);
+    }
+
+pub returns-clause-units : goal.returns-clause-units
+returns-clause-units c = λ cost.
+    let problem = problem_of c.args.demands.now cost in
+    let last : c.nodes.index ≡ c.args.demands.now.nodes = omega (arith, c.nodes-test.false, c.nodes.auto.index-end) in
+    record {
+      some = c.requires.unit;
+      light_is = c.nodes.invariant.sum cost ∙ ap (λ (k : ℕ). sum_int_by (light_in problem c.args.unit) (nodes_to k)) last
+          ∙ others_sum c.args.demands.now.nodes c.args.demands.now.depot (is_light problem c.args.unit) c.requires.demands.depot_in;
+    }

@@ -1,0 +1,25 @@
+-- The goals of `judge_plans` in src/verdict.rt: what it ensures.
+use Rattle.std.proofs.Common.{ℕ, ℤ}
+use Rattle.std.specs.Prelude.{nat_abs}
+use Rattle.std.proofs.lemmas.Result.{IfOk-weaker}
+use Rattle.tsp_format.specs.states.TreeSteps.{steps_of}
+use Rattle.tsp_families.specs.FamilySets.{families_in}
+use Rattle.tsp_routing.specs.PlanLinks.{IsRoutable}
+use Rattle.tsp_routing.specs.PlanVerdicts.{routing_with}
+use Rattle.tsp_routing.proofs.PlanJudging.{verdict_bounds, no_demand_below}
+use Rattle.tsp_routing.proofs.verdict.judge_plans.Goals as goal
+
+pub returns-clause-plans : goal.returns-clause-plans
+returns-clause-plans g c =
+    let tree = c.args.tree.now in
+    let n : ℕ = g.C.Costs.nodes tree.costs.now in
+    let problem = routing_with n (g.C.Costs.at tree.costs.now) tree.depot tree.demands.now tree.capacity in
+    let routing : IsRoutable problem = record {
+      depot_in = tree.depot_in;
+      some = tree.some;
+      demands = λ node inside. no_demand_below n tree.demands.now tree.each tree.demands_are node inside.0;
+    } in
+    IfOk-weaker c.judged_plans.result _ _
+    (verdict_bounds problem tree.scale (nat_abs tree.unit) (families_in tree.families.now) (steps_of tree.steps.now)
+    c.plan_trees_bound_plans.ensures.plans routing tree.scaled tree.whole)
+    c.judged_plans.ensures.verdict

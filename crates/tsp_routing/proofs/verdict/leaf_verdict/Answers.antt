@@ -1,0 +1,49 @@
+-- The goals of `leaf_verdict` in src/verdict.rt: what it ensures.
+use Rattle.std.proofs.Common.{◌≡◌, ◌∙◌, ◌+◌, ◌*◌, ◌<◌, ◌≤◌, ℕ, [], ◌∷◌, length, true, ap, subst}
+use Rattle.std.specs.Prelude.{nat_le}
+use Rattle.std.proofs.lemmas.Bool.{le-leb}
+use Rattle.tsp_format.specs.states.TreeSteps.{steps_of}
+use Rattle.tsp_cases.specs.Cases.{leaves_of}
+use Rattle.tsp_cases.specs.FamiliesOfSets.{families_with}
+use Rattle.tsp_cases.specs.JudgedLeaves.{AreJudgedBy}
+use Rattle.tsp_cases.specs.Listed.{listed_steps}
+use Rattle.tsp_cases.specs.states.Lent.{lent_in}
+use Rattle.tsp_routing.specs.GoodLeaves.{ArePlanNumbers}
+use Rattle.tsp_routing.specs.PlanTrees.{IsFoundByWalks}
+use Rattle.tsp_routing.specs.PlanVerdicts.{most_entries}
+use Rattle.tsp_routing.specs.states.Demands.{problem_of}
+use Rattle.tsp_routing.specs.states.PlanRooms.{IsFoundOfFew}
+use Rattle.tsp_routing.proofs.PlanJudging.{least_if}
+use Rattle.tsp_routing.proofs.verdict.leaf_verdict.Goals as goal
+
+pub returns-then-few-clause-verdict : goal.returns-then-few-clause-verdict
+returns-then-few-clause-verdict g c =
+    let s = c.args.setting.now in
+    let n : ℕ = s.demands.nodes in
+    let families : ℕ = length s.crossed.now in
+    let cost = g.C.Costs.at s.costs.now in
+    let steps = steps_of c.args.steps.now in
+    let entries : ℕ = c.entries-few.result in
+    let found = IsFoundByWalks (problem_of s.demands cost) s.scale s.unit s.units.now.light (families_with s.crossed.now (lent_in s.families.now)) in
+    let is = subst (AreJudgedBy (IsFoundOfFew (nat_le entries 10000000) (problem_of s.demands cost) s.scale s.unit s.units.now.light
+    (families_with s.crossed.now (lent_in s.families.now))) (ArePlanNumbers n families) n families [] steps)
+    c.in-Bound.is c.in_ok-leaf.ensures.judged in (
+      is.2,
+      subst (λ (k : ℕ). k ≤ most_entries) (c.entries-few.ensures ∙ ap (λ (room : ℕ). n * (room + 1)) (s.loads.room_is cost)) c.if-few.true,
+      least_if (nat_le entries 10000000 ≡ true) found (le-leb entries 10000000 c.if-few.true)
+          (leaves_of ([] ∷ []) (listed_steps n families steps)) c.in-Bound.found is.1,
+    )
+
+pub returns-else-few-clause-verdict : goal.returns-else-few-clause-verdict
+returns-else-few-clause-verdict g c =
+    let s = c.args.setting.now in
+    let n : ℕ = s.demands.nodes in
+    let families : ℕ = length s.crossed.now in
+    let cost = g.C.Costs.at s.costs.now in
+    let steps = steps_of c.args.steps.now in
+    let is = subst (AreJudgedBy (IsFoundOfFew (nat_le c.entries-few.result 10000000) (problem_of s.demands cost) s.scale s.unit s.units.now.light
+    (families_with s.crossed.now (lent_in s.families.now))) (ArePlanNumbers n families) n families [] steps)
+    c.in-Bound.is c.in_ok-leaf.ensures.judged in (
+      is.2,
+      subst (λ (k : ℕ). most_entries < k) (c.entries-few.ensures ∙ ap (λ (room : ℕ). n * (room + 1)) (s.loads.room_is cost)) c.if-few.false,
+    )

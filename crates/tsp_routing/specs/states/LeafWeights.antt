@@ -1,0 +1,11 @@
+-- The weights of a leaf as code finds them: by sets, whose multipliers may have any sign.
+use Rattle.std.specs.Prelude.{ℕ, List, ℤ, pos, neg_ℤ}
+use Rattle.tsp_format.specs.Nodes.{IsNode}
+use Rattle.tsp_format.specs.Ranges.{IsFromTo}
+use Rattle.tsp_cases.specs.states.Combed.{set_crossings}
+use Rattle.tsp_routing.specs.GoodLeaves.{most_of_multipliers}
+
+-- two nodes of 1..n don't cross the sets too often
+abbrev pub AreSignedCrossings : ℕ → List ℤ → List (List (List ℕ)) → Type 0
+AreSignedCrossings n multipliers families = (i j : ℕ) → IsNode n i → IsNode n j
+    → IsFromTo (neg_ℤ (pos most_of_multipliers)) (pos most_of_multipliers) (set_crossings multipliers families i j)

@@ -1,0 +1,42 @@
+-- The memory of leaves for routes, and what is found of them.
+use Rattle.std.specs.Prelude.{◌≡◌, ℕ, ◌+◌, ◌*◌, ◌≤◌, ◌<◌, Bool, true, List, [], length, Option, ℤ}
+use Rattle.tsp_format.specs.Steps.{Step}
+use Rattle.tsp_theory.specs.Routing.{RoutingProblem}
+use Rattle.tsp_cases.specs.Families.{Family}
+use Rattle.tsp_cases.specs.declared.decision.Decision.{Decision}
+use Rattle.tsp_cases.specs.Cases.{LeafNumbers}
+use Rattle.tsp_cases.specs.Listed.{listed_steps}
+use Rattle.tsp_routing.specs.declared.judged.PlanVerdict.{PlanVerdict}
+use Rattle.tsp_routing.specs.declared.judged.PlanVerdict.TheVariants as verdict
+use Rattle.tsp_routing.specs.declared.plan_judge.PlanRoom.{PlanRoom}
+use Rattle.tsp_routing.specs.Loads.{room_in}
+use Rattle.tsp_routing.specs.GoodLeaves.{AreGoodPlanLeaves, IsFirstBadPlanLeaf}
+use Rattle.tsp_routing.specs.PlanTrees.{IsFoundByWalks, IsPlanTreeBound}
+use Rattle.tsp_routing.specs.PlanVerdicts.{most_entries}
+
+-- a number for each node and for each family, and a row
+pub record IsPlanRoom (n families : ℕ) (room : PlanRoom) : Type 0 where
+  pub potentials : length room.potentials.items ≡ n
+  pub multipliers : length room.multipliers.items ≡ families
+  pub row : length room.row.items ≡ n + 1
+
+-- what is found of a leaf where there are few loads; where there are many, it is only good or bad
+abbrev pub IsFoundOfFew : Bool → RoutingProblem → ℤ → ℕ → ℕ → List Family → List Decision × LeafNumbers → Option ℤ → Type 0
+IsFoundOfFew few problem scale unit light families leaf found =
+    few ≡ true → IsFoundByWalks problem scale unit light families leaf found
+
+-- the entries of a table by node and load
+abbrev pub entries_in : RoutingProblem → ℕ → ℕ → ℕ
+entries_in problem unit light = problem.nodes * (room_in problem unit light + 1)
+
+-- the verdict on leaves, where families and branches are good
+abbrev pub IsLeafVerdict : RoutingProblem → ℤ → ℕ → ℕ → ℕ → List Family → List Step → PlanVerdict → Type 0
+IsLeafVerdict problem scale unit light count families steps (verdict.BadLeaf leaf) =
+    IsFirstBadPlanLeaf problem.nodes count steps leaf
+IsLeafVerdict problem scale unit light count families steps verdict.TooManyLoads =
+    AreGoodPlanLeaves problem.nodes count steps × (most_entries < entries_in problem unit light)
+IsLeafVerdict problem scale unit light count families steps (verdict.Bound found) =
+    AreGoodPlanLeaves problem.nodes count steps × (entries_in problem unit light ≤ most_entries)
+    × IsPlanTreeBound problem scale unit light families (listed_steps problem.nodes count steps) found
+IsLeafVerdict problem scale unit light count families steps (verdict.BadFamily family) = ⊥
+IsLeafVerdict problem scale unit light count families steps (verdict.BadBranch branch) = ⊥

@@ -1,0 +1,281 @@
+//! The least weight of a walk.
+
+ghost use Rattle.std.specs.Prelude.{◌≡◌, ◌≢◌, ◌≤◌, ◌<◌, ◌+◌, ◌-◌, ◌*◌, ◌^◌, ℕ, ℤ, ◌∷◌, length, pos, neg_ℤ, ◌+ℤ◌, ◌≤ℤ◌, Some, IfOk, IfSome};
+ghost use Rattle.tsp_format.specs.Nodes.{IsNode};
+ghost use Rattle.tsp_format.specs.Limits.{most_nodes};
+ghost use Rattle.tsp_format.specs.Ranges.{IsFromTo};
+ghost use Rattle.tsp_theory.specs.Length.{length_of};
+ghost use Rattle.tsp_theory.specs.Routing.{IsCustomer};
+ghost use Rattle.tsp_theory.specs.states.Nearest.{least_at};
+ghost use Rattle.tsp_routing.specs.LeastOf.{IsLeastAmong};
+ghost use Rattle.tsp_routing.specs.Walks.{IsWalk, IsBelowWalks};
+ghost use Rattle.tsp_routing.specs.WalkTables.{IsLow, IsMet, IsReal, IsEntryBelowTo, IsEntryMetTo, IsStartMet, IsStartBelow};
+ghost use Rattle.tsp_routing.specs.Weights.{most_room};
+ghost use Rattle.tsp_routing.specs.states.Onwards.{load_at, AreLinks, entry_of, entry_at, IsEntryNumber, IsEntrySized, IsRowSized, AreRowsSized, IsRowLow, AreRowsLow, IsRowMet, AreRowsMet};
+
+use crate::onward::{Onward, improved, least_onward, nowhere};
+use crate::sums::Sum;
+use std::alloc::Global;
+use tsp_memory::{Refused, push};
+use tsp_tree::{Weights, weight_in};
+
+/// The nodes 1 to `nodes`, one of them the depot, and for each a load, with a place 0 that isn't
+/// read; and the weights between them.
+#[derive(Drop)]
+pub(crate) struct Walks<'a, W: Weights> {
+    pub(crate) nodes: u32,
+    pub(crate) depot: u32,
+    pub(crate) loads: &'a [u64],
+    pub(crate) weights: &'a W,
+    ghost few: { nodes ≤ most_nodes },
+    ghost depot_in: { IsNode nodes depot },
+    ghost by_node: { length loads.now ≡ nodes + 1 },
+    ghost some: { (node : ℕ) → IsCustomer nodes depot node → 1 ≤ load_at loads.now node },
+    ghost same: { W.nodes weights.now ≡ nodes },
+}
+
+/// The least weight of a walk; `None` where there is none. A row is lent, which is written over.
+///
+/// # Errors
+///
+/// Out of memory, of which it takes some for each node and each load that there is room for.
+pub(crate) fn least_walk<S: Sum, W: Weights>(
+    alloc: Global,
+    walks: &Walks<W>,
+    room: usize,
+    row: &mut [i64],
+) -> Result<Option<i128>, Refused>
+    requires row { length row.old ≡ walks.now.nodes + 1 }
+    requires few { room ≤ most_room }
+    requires links { AreLinks S.link walks.now.nodes (W.at walks.now.weights.now) }
+    ensures exact { IfOk result (IsLeastAmong
+        (IsWalk walks.now.nodes walks.now.depot (load_at walks.now.loads.now) room)
+        (λ nodes. length_of (W.at walks.now.weights.now) (walks.now.depot ∷ nodes))) }
+    ensures size { IfOk result (λ found. IfSome found (IsFromTo (neg_ℤ (pos (2 ^ 83))) (pos (2 ^ 83)))) }
+    ensures row { length row.new ≡ length row.old }
+{
+    let mut table: Vec<Vec<Onward<S>>> = Vec::new(alloc);
+    'loads: for load in 0..room + 1 {
+        let next = next_row(alloc, walks, &table, row)?;
+        push(&mut table, next)?;
+    }
+    Ok(start(walks, &table, row).weight())
+}
+
+/// The row of the next load.
+///
+/// # Errors
+///
+/// Out of memory, of which it takes some for each node.
+fn next_row<S: Sum, W: Weights>(
+    alloc: Global,
+    walks: &Walks<W>,
+    table: &[Vec<Onward<S>>],
+    row: &mut [i64],
+) -> Result<Vec<Onward<S>>, Refused>
+    requires few { length table.now ≤ most_room }
+    requires links { AreLinks S.link walks.now.nodes (W.at walks.now.weights.now) }
+    requires sizes { AreRowsSized S.value S.half S.link walks.now.nodes table.now }
+    requires room { length row.old ≡ walks.now.nodes + 1 }
+    ensures low { IfOk result (λ next. AreRowsLow S.value walks.now.nodes walks.now.depot (W.at walks.now.weights.now)
+        (load_at walks.now.loads.now) table.now
+        → IsRowLow S.value walks.now.nodes walks.now.depot (W.at walks.now.weights.now) (load_at walks.now.loads.now)
+        (length table.now) next.items) }
+    ensures met { IfOk result (λ next. AreRowsMet S.value S.half walks.now.nodes walks.now.depot (W.at walks.now.weights.now)
+        (load_at walks.now.loads.now) table.now
+        → IsRowMet S.value S.half walks.now.nodes walks.now.depot (W.at walks.now.weights.now) (load_at walks.now.loads.now)
+        (length table.now) next.items) }
+    ensures sizes { IfOk result (λ next.
+        IsRowSized S.value S.half walks.now.nodes ((length table.now + 1) * S.link) next.items) }
+    ensures room { length row.new ≡ length row.old }
+{
+    let mut next = Vec::new(alloc);
+    push(&mut next, nowhere())?;
+    'nodes: for index in 0..walks.nodes {
+        let entry = entry(walks, index + 1, table, row);
+        push(&mut next, entry)?;
+    }
+    Ok(next)
+}
+
+/// The entry of a node for the load that comes next in a table.
+fn entry<S: Sum, W: Weights>(
+    walks: &Walks<W>,
+    node: u32,
+    table: &[Vec<Onward<S>>],
+    row: &mut [i64],
+) -> Onward<S>
+    requires node { IsNode walks.now.nodes node }
+    requires few { length table.now ≤ most_room }
+    requires links { AreLinks S.link walks.now.nodes (W.at walks.now.weights.now) }
+    requires sizes { AreRowsSized S.value S.half S.link walks.now.nodes table.now }
+    requires room { length row.old ≡ walks.now.nodes + 1 }
+    ensures low { AreRowsLow S.value walks.now.nodes walks.now.depot (W.at walks.now.weights.now)
+        (load_at walks.now.loads.now) table.now → IsCustomer walks.now.nodes walks.now.depot node
+        → IsLow walks.now.nodes walks.now.depot (W.at walks.now.weights.now) (load_at walks.now.loads.now)
+        (length table.now) node (entry_of S.value result) }
+    ensures met { AreRowsMet S.value S.half walks.now.nodes walks.now.depot (W.at walks.now.weights.now)
+        (load_at walks.now.loads.now) table.now → IsCustomer walks.now.nodes walks.now.depot node
+        → IsMet S.half walks.now.nodes walks.now.depot (W.at walks.now.weights.now) (load_at walks.now.loads.now)
+        (length table.now) node (entry_of S.value result) }
+    ensures size { IsEntrySized S.half ((length table.now + 1) * S.link) (entry_of S.value result) }
+    ensures room { length row.new ≡ length row.old }
+{
+    let load = walks.loads[node as usize];
+    if node == walks.depot {
+        return nowhere();
+    }
+    if load > table.len() as u64 {
+        return nowhere();
+    }
+    walks.weights.fill(node, row);
+    let known = table[table.len() - load as usize].as_slice();
+    best_entry(walks, node, known, row)
+}
+
+/// The entry of a node by the entries of the next ones and the weights to them.
+fn best_entry<S: Sum, W: Weights>(
+    walks: &Walks<W>,
+    node: u32,
+    known: &[Onward<S>],
+    row: &[i64],
+) -> Onward<S>
+    requires node { IsNode walks.now.nodes node }
+    requires room { length row.now ≡ walks.now.nodes + 1 }
+    requires links { (next : ℕ) → IsNode walks.now.nodes next
+        → IsFromTo (neg_ℤ (pos S.link)) (pos S.link) (least_at row.now next) }
+    requires sizes { (size : ℕ) × (size + S.link < S.half) × IsRowSized S.value S.half walks.now.nodes size known.now }
+    ensures below { (w : ℕ → ℕ → ℤ) (default : Onward S)
+        → ((next : ℕ) → IsNode walks.now.nodes next → least_at row.now next ≡ w node next)
+        → IsEntryBelowTo walks.now.nodes walks.now.depot w (entry_at S.value known.now default) node walks.now.nodes
+        (entry_of S.value result) }
+    ensures met { (w : ℕ → ℕ → ℤ) (default : Onward S)
+        → ((next : ℕ) → IsNode walks.now.nodes next → least_at row.now next ≡ w node next)
+        → IsEntryMetTo S.half walks.now.nodes walks.now.depot w (entry_at S.value known.now default) node walks.now.nodes
+        (entry_of S.value result) }
+    ensures size { (size : ℕ) → size + S.link < S.half → IsRowSized S.value S.half walks.now.nodes size known.now
+        → IsEntrySized S.half (size + S.link) (entry_of S.value result) }
+{
+    let mut best = Onward {
+        least: S::of(weight_in(row, walks.depot)),
+        next: walks.depot,
+        other: S::none(),
+    };
+    'nodes: for index in 0..walks.nodes {
+        best = entry_by(walks, best, node, index + 1, known, row);
+    }
+    best
+}
+
+/// The entry with one next node more.
+#[inline]
+fn entry_by<S: Sum, W: Weights>(
+    walks: &Walks<W>,
+    best: Onward<S>,
+    node: u32,
+    next: u32,
+    known: &[Onward<S>],
+    row: &[i64],
+) -> Onward<S>
+    requires next { IsNode walks.now.nodes next }
+    requires room { length row.now ≡ walks.now.nodes + 1 }
+    requires link { IsFromTo (neg_ℤ (pos S.link)) (pos S.link) (least_at row.now next) }
+    requires sizes { (size : ℕ) × (size + S.link < S.half) × IsRowSized S.value S.half walks.now.nodes size known.now }
+    ensures below { (w : ℕ → ℕ → ℤ) (default : Onward S) → least_at row.now next ≡ w node next
+        → IsEntryBelowTo walks.now.nodes walks.now.depot w (entry_at S.value known.now default) node (next - 1)
+        (entry_of S.value best)
+        → IsEntryBelowTo walks.now.nodes walks.now.depot w (entry_at S.value known.now default) node next
+        (entry_of S.value result) }
+    ensures met { (w : ℕ → ℕ → ℤ) (default : Onward S) → least_at row.now next ≡ w node next
+        → IsEntryMetTo S.half walks.now.nodes walks.now.depot w (entry_at S.value known.now default) node (next - 1)
+        (entry_of S.value best)
+        → IsEntryMetTo S.half walks.now.nodes walks.now.depot w (entry_at S.value known.now default) node next
+        (entry_of S.value result) }
+    ensures size { (size : ℕ) → size + S.link < S.half → IsRowSized S.value S.half walks.now.nodes size known.now
+        → IsEntrySized S.half (size + S.link) (entry_of S.value best)
+        → IsEntrySized S.half (size + S.link) (entry_of S.value result) }
+{
+    if next == walks.depot || next == node {
+        return best;
+    }
+    let onward = least_onward(known[next as usize], node);
+    improved(best, next, onward.plus(weight_in(row, next)))
+}
+
+/// The least weight of a walk by the last row, or the sum of none.
+fn start<S: Sum, W: Weights>(
+    walks: &Walks<W>,
+    table: &[Vec<Onward<S>>],
+    row: &mut [i64],
+) -> S
+    requires some { 1 ≤ length table.now }
+    requires few { length table.now ≤ most_room + 1 }
+    requires links { AreLinks S.link walks.now.nodes (W.at walks.now.weights.now) }
+    requires sizes { AreRowsSized S.value S.half S.link walks.now.nodes table.now }
+    requires room { length row.old ≡ walks.now.nodes + 1 }
+    ensures below { AreRowsLow S.value walks.now.nodes walks.now.depot (W.at walks.now.weights.now)
+        (load_at walks.now.loads.now) table.now
+        → IsBelowWalks walks.now.nodes walks.now.depot (load_at walks.now.loads.now) (length table.now - 1)
+        (W.at walks.now.weights.now) (S.value result) }
+    ensures met { AreRowsLow S.value walks.now.nodes walks.now.depot (W.at walks.now.weights.now)
+        (load_at walks.now.loads.now) table.now
+        → AreRowsMet S.value S.half walks.now.nodes walks.now.depot (W.at walks.now.weights.now)
+        (load_at walks.now.loads.now) table.now → IsReal S.half (S.value result)
+        → IsLeastAmong (IsWalk walks.now.nodes walks.now.depot (load_at walks.now.loads.now) (length table.now - 1))
+        (λ nodes. length_of (W.at walks.now.weights.now) (walks.now.depot ∷ nodes)) (Some (S.value result)) }
+    ensures size { IsReal S.half (S.value result) → IsFromTo (neg_ℤ (pos S.half)) (pos S.half) (S.value result) }
+    ensures room { length row.new ≡ length row.old }
+{
+    walks.weights.fill(walks.depot, row);
+    start_by(walks, table[table.len() - 1].as_slice(), row)
+}
+
+/// The same by the entries of the last row and the weights from the depot.
+fn start_by<S: Sum, W: Weights>(walks: &Walks<W>, known: &[Onward<S>], row: &[i64]) -> S
+    requires room { length row.now ≡ walks.now.nodes + 1 }
+    requires links { (next : ℕ) → IsNode walks.now.nodes next
+        → IsFromTo (neg_ℤ (pos S.link)) (pos S.link) (least_at row.now next) }
+    requires sizes { (size : ℕ) × (size + S.link < S.half) × IsRowSized S.value S.half walks.now.nodes size known.now }
+    ensures below { (w : ℕ → ℕ → ℤ) (default : Onward S)
+        → ((next : ℕ) → IsNode walks.now.nodes next → least_at row.now next ≡ w walks.now.depot next)
+        → IsStartBelow walks.now.nodes walks.now.depot w (entry_at S.value known.now default) (S.value result) }
+    ensures met { (w : ℕ → ℕ → ℤ) (default : Onward S)
+        → ((next : ℕ) → IsNode walks.now.nodes next → least_at row.now next ≡ w walks.now.depot next)
+        → IsStartMet S.half walks.now.nodes walks.now.depot w (entry_at S.value known.now default) (S.value result) }
+    ensures size { (size : ℕ) → size + S.link < S.half → IsRowSized S.value S.half walks.now.nodes size known.now
+        → IsEntryNumber S.half (size + S.link) (S.value result) }
+{
+    let mut least = S::none();
+    'nodes: for index in 0..walks.nodes {
+        least = start_with(walks, least, index + 1, known, row);
+    }
+    least
+}
+
+/// The lower one of this and the way to one customer and on.
+fn start_with<S: Sum, W: Weights>(
+    walks: &Walks<W>,
+    least: S,
+    next: u32,
+    known: &[Onward<S>],
+    row: &[i64],
+) -> S
+    requires next { IsNode walks.now.nodes next }
+    requires room { length row.now ≡ walks.now.nodes + 1 }
+    requires link { IsFromTo (neg_ℤ (pos S.link)) (pos S.link) (least_at row.now next) }
+    requires sizes { (size : ℕ) × (size + S.link < S.half) × IsRowSized S.value S.half walks.now.nodes size known.now }
+    ensures keeps { S.value result ≤ℤ S.value least }
+    ensures own { (default : Onward S) → next ≢ walks.now.depot
+        → S.value result ≤ℤ (least_at row.now next +ℤ (entry_at S.value known.now default next).least) }
+    ensures met { (w : ℕ → ℕ → ℤ) (default : Onward S) → least_at row.now next ≡ w walks.now.depot next
+        → IsStartMet S.half walks.now.nodes walks.now.depot w (entry_at S.value known.now default) (S.value least)
+        → IsStartMet S.half walks.now.nodes walks.now.depot w (entry_at S.value known.now default) (S.value result) }
+    ensures size { (size : ℕ) → size + S.link < S.half → IsRowSized S.value S.half walks.now.nodes size known.now
+        → IsEntryNumber S.half (size + S.link) (S.value least) → IsEntryNumber S.half (size + S.link) (S.value result) }
+{
+    if next == walks.depot {
+        return least;
+    }
+    let weight = known[next as usize].least.plus(weight_in(row, next));
+    if weight.is_below(least) { weight } else { least }
+}

@@ -1,0 +1,70 @@
+//! Entries of a table of the rests of walks.
+
+ghost use Rattle.std.specs.Prelude.{◌≡◌, ◌≤◌, ◌<◌, ◌+◌, ◌*◌, ℕ, ℤ, pos, neg_ℤ, ◌≤ℤ◌};
+ghost use Rattle.tsp_format.specs.Ranges.{IsFromTo};
+ghost use Rattle.tsp_routing.specs.WalkTables.{IsAtMost, least_from};
+ghost use Rattle.tsp_routing.specs.states.Onwards.{entry_of, IsNearOrFar, IsEntryNumber, IsEntrySized, IsChosen};
+
+use crate::sums::Sum;
+
+/// The rest of a walk from a node on: the least weight, the node that comes next then, and the
+/// least weight by another next node.
+#[derive(Clone, Copy)]
+pub(crate) struct Onward<S> {
+    pub(crate) least: S,
+    pub(crate) next: u32,
+    pub(crate) other: S,
+}
+
+/// An entry of no walk.
+pub(crate) fn nowhere<S: Sum>() -> Onward<S>
+    ensures size { (size : ℕ) → IsEntrySized S.half size (entry_of S.value result) }
+    ensures least { S.value result.least ≡ pos (2 * S.half) }
+    ensures other { S.value result.other ≡ pos (2 * S.half) }
+{
+    Onward {
+        least: S::none(),
+        next: 0,
+        other: S::none(),
+    }
+}
+
+/// What a walk that comes from a node weighs on from the next one at the least.
+#[inline]
+pub(crate) fn least_onward<S: Sum>(entry: Onward<S>, from: u32) -> S
+    ensures value { S.value result ≡ least_from (entry_of S.value entry) from }
+    ensures size { (size : ℕ) → IsEntrySized S.half size (entry_of S.value entry)
+        → IsEntryNumber S.half size (S.value result) }
+{
+    if entry.next == from {
+        entry.other
+    } else {
+        entry.least
+    }
+}
+
+/// An entry with one next node more.
+#[inline]
+pub(crate) fn improved<S: Sum>(best: Onward<S>, next: u32, weight: S) -> Onward<S>
+    ensures keeps { (key : ℕ) (z : ℤ) → IsAtMost (entry_of S.value best) key z → IsAtMost (entry_of S.value result) key z }
+    ensures own { (z : ℤ) → S.value weight ≤ℤ z → IsAtMost (entry_of S.value result) next z }
+    ensures size { (size : ℕ) → IsEntrySized S.half size (entry_of S.value best) → neg_ℤ (pos size) ≤ℤ S.value weight
+        → IsNearOrFar S.half size (S.value weight) → IsEntrySized S.half size (entry_of S.value result) }
+    ensures chosen { IsChosen (entry_of S.value best) next (S.value weight) (entry_of S.value result) }
+{
+    if weight.is_below(best.least) {
+        return Onward {
+            least: weight,
+            next,
+            other: best.least,
+        };
+    }
+    if weight.is_below(best.other) {
+        return Onward {
+            least: best.least,
+            next: best.next,
+            other: weight,
+        };
+    }
+    best
+}

@@ -1,0 +1,127 @@
+//! Sums of the weights of walks, in 64 bits where weights are small, and else in 128.
+
+ghost use Rattle.std.proofs.Common.{rules};
+ghost use Rattle.std.specs.Prelude.{◌≡◌, ◌≤◌, ◌<◌, ◌+◌, ◌*◌, ◌^◌, ℕ, ℤ, pos, neg_ℤ, ◌+ℤ◌, int_lt, MatchOption};
+ghost use Rattle.tsp_format.specs.Ranges.{IsFromTo};
+ghost use Rattle.tsp_routing.specs.WalkTables.{IsReal};
+ghost use Rattle.tsp_routing.specs.Weights.{most_link, most_room};
+
+/// The most that a weight is in size where sums fit 64 bits: then 5,000,000 of them do.
+pub(crate) const MOST_NARROW: i64 = 1 << 38;
+
+/// A sum of weights of at most `link` in size. Sums that walks have are at most `half`; those above
+/// it, which are near twice as much, mean that there is no walk. So no sum with none has to be told
+/// from others.
+pub(crate) trait Sum: Copy {
+    ghost value: { Self → ℤ };
+
+    ghost half: { ℕ };
+
+    ghost link: { ℕ };
+
+    /// The sum of no walk.
+    fn none() -> Self
+        ensures { value result ≡ pos (2 * half) };
+
+    /// The sum of one weight.
+    fn of(weight: i64) -> Self
+        requires { IsFromTo (neg_ℤ (pos link)) (pos link) weight }
+        ensures { value result ≡ weight };
+
+    /// The sum with one weight more.
+    fn plus(self, weight: i64) -> Self
+        requires weight { IsFromTo (neg_ℤ (pos link)) (pos link) weight }
+        requires sum { IsFromTo (neg_ℤ (pos half)) (pos (2 * half)) (value self) }
+        ensures { value result ≡ value self +ℤ weight };
+
+    /// Whether it is less than another.
+    fn is_below(self, other: Self) -> bool
+        ensures { result ≡ int_lt (value self) (value other) };
+
+    /// What a walk weighs; `None` where it is the sum of no walk.
+    fn weight(self) -> Option<i128>
+        ensures { MatchOption result (IsReal half (value self) → ⊥)
+            (λ weight. (weight ≡ value self) × IsReal half (value self)) };
+
+    ghost fits: { (count : ℕ) → count ≤ most_room + 2 → (count * link) + link < half };
+
+    ghost small: { half ≤ 2 ^ 83 };
+}
+
+impl Sum for i64 {
+    ghost value = { λ sum. sum };
+
+    ghost half = { 2 ^ 61 };
+
+    ghost link = { 2 ^ 38 };
+
+    ghost fits = { λ count few. Prim.search rules };
+
+    ghost small = { Prim.search rules };
+
+    #[inline]
+    fn none() -> i64 {
+        1 << 62
+    }
+
+    #[inline]
+    fn of(weight: i64) -> i64 {
+        weight
+    }
+
+    #[inline]
+    fn plus(self, weight: i64) -> i64 {
+        self + weight
+    }
+
+    #[inline]
+    fn is_below(self, other: i64) -> bool {
+        self < other
+    }
+
+    fn weight(self) -> Option<i128> {
+        if self > 1 << 61 {
+            return None;
+        }
+        Some(i128::from(self))
+    }
+}
+
+impl Sum for i128 {
+    ghost value = { λ sum. sum };
+
+    ghost half = { 2 ^ 83 };
+
+    ghost link = { most_link };
+
+    ghost fits = { λ count few. Prim.search rules };
+
+    ghost small = { Prim.search rules };
+
+    #[inline]
+    fn none() -> i128 {
+        1 << 84
+    }
+
+    #[inline]
+    fn of(weight: i64) -> i128 {
+        i128::from(weight)
+    }
+
+    #[inline]
+    fn plus(self, weight: i64) -> i128 {
+        self + i128::from(weight)
+    }
+
+    #[inline]
+    fn is_below(self, other: i128) -> bool {
+        self < other
+    }
+
+    fn weight(self) -> Option<i128> {
+        if self > 1 << 83 {
+            return None;
+        }
+        Some(self)
+    }
+}

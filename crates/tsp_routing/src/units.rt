@@ -1,0 +1,99 @@
+//! Loads in units, and what a route has room for.
+
+ghost use Rattle.std.specs.Prelude.{◌≡◌, ◌≤◌, ◌<◌, ◌+◌, ◌*◌, ◌/◌, ◌==◌, ◌^◌, ℕ, ℤ, if◌then◌else◌, length, pos, nat_abs, ◌≤ℤ◌, IfOk};
+ghost use Rattle.tsp_format.specs.Nodes.{IsNode};
+ghost use Rattle.tsp_routing.specs.states.Demands.{problem_of, AreDemands};
+ghost use Rattle.tsp_routing.specs.Loads.{units_of, AreUnits, load_in, room_in};
+ghost use Rattle.tsp_routing.specs.states.Onwards.{load_at};
+ghost use Rattle.tsp_routing.specs.states.Units.{AreUnitLoads, light_in};
+
+use crate::demands::Demands;
+use std::alloc::Global;
+use tsp_memory::{Refused, filled};
+
+/// The load of each node, at its place, and what a route has room for; and how many customers
+/// demand less than a unit.
+#[derive(Drop)]
+pub(crate) struct UnitLoads {
+    pub(crate) light: u64,
+    pub(crate) loads: Vec<u64>,
+    pub(crate) room: u64,
+}
+
+/// Loads in a unit.
+///
+/// # Errors
+///
+/// Out of memory, of which it takes some for each node.
+pub(crate) fn unit_loads(
+    alloc: Global,
+    demands: &Demands,
+    unit: u64,
+) -> Result<UnitLoads, Refused>
+    requires demands { AreDemands demands.now }
+    requires unit { 1 ≤ unit }
+    ensures { IfOk result (λ units. AreUnitLoads demands.now unit units) }
+{
+    let light = count_light(demands, unit);
+    let parts = light + 1;
+    let mut loads = filled(alloc, 0, demands.nodes as usize + 1)?;
+    'nodes: for node in 1..demands.nodes + 1 {
+        loads[node as usize] = load_of(whole_units(demands, unit, node), parts);
+    }
+    let room = demands.capacity as u64 / unit * parts + light;
+    Ok(UnitLoads { light, loads, room })
+}
+
+/// How many customers demand less than a unit.
+fn count_light(demands: &Demands, unit: u64) -> u64
+    requires demands { AreDemands demands.now }
+    requires unit { 1 ≤ unit }
+    ensures units { (cost : ℕ → ℕ → ℤ) → AreUnits (problem_of demands.now cost) unit result }
+    ensures few { result ≤ 100000 }
+{
+    let mut count = 0;
+    'nodes: for index in 0..demands.nodes {
+        count += light(demands, unit, index + 1);
+    }
+    count
+}
+
+/// 1 for a customer that demands less than a unit, else 0.
+fn light(demands: &Demands, unit: u64, node: u32) -> u64
+    requires demands { AreDemands demands.now }
+    requires unit { 1 ≤ unit }
+    requires node { IsNode demands.now.nodes node }
+    ensures value { (cost : ℕ → ℕ → ℤ) → pos result ≡ light_in (problem_of demands.now cost) unit node }
+    ensures few { result ≤ 1 }
+{
+    if node == demands.depot {
+        return 0;
+    }
+    if whole_units(demands, unit, node) > 0 {
+        return 0;
+    }
+    1
+}
+
+/// The whole units that a node demands.
+fn whole_units(demands: &Demands, unit: u64, node: u32) -> u64
+    requires demands { AreDemands demands.now }
+    requires unit { 1 ≤ unit }
+    requires node { IsNode demands.now.nodes node }
+    ensures value { (cost : ℕ → ℕ → ℤ) → result ≡ units_of (problem_of demands.now cost) unit node }
+    ensures size { result ≤ 1000000000 }
+{
+    demands.demand(node) as u64 / unit
+}
+
+/// The load of so many units, of which each has some parts: one part where there is no unit.
+fn load_of(units: u64, parts: u64) -> u64
+    requires units { units ≤ 1000000000 }
+    requires parts { parts ≤ 100001 }
+    ensures { result ≡ (if units == 0 then 1 else (units * parts)) }
+{
+    if units == 0 {
+        return 1;
+    }
+    units * parts
+}
