@@ -90,7 +90,7 @@ uint32_t tsp_check(const uint8_t *instance, size_t instance_len, const uint8_t *
                    const uint8_t *certificate, size_t certificate_len, uint32_t by, int64_t claimed,
                    uint32_t has_claim, uint8_t *out, size_t out_len, size_t *written);
 
-/* Bounds the tours of an instance by a certificate, and gives the report: by is TSP_BY_POTENTIALS or
+/* Bounds the tours or the routes of an instance by a certificate, and gives the report: by is TSP_BY_POTENTIALS or
  * TSP_BY_BRANCHES. In the line of a fault the certificate is file 2. */
 uint32_t tsp_bound(const uint8_t *instance, size_t instance_len, const uint8_t *certificate,
                    size_t certificate_len, uint32_t by, uint8_t *out, size_t out_len, size_t *written);
@@ -173,7 +173,7 @@ enum {
     TSP_ROUTES = 2,   /* accepted, with a length, their number and the least number */
     TSP_REJECTED = 3, /* a no, with its reason */
     TSP_BOUND = 4,    /* a certificate gives this bound */
-    TSP_NO_TOUR = 5   /* a certificate shows that the instance has no tour */
+    TSP_NO_TOUR = 5   /* a certificate shows that the instance has no tour, or no routes */
 };
 
 /* Reasons, in the order in which they are judged. docs/format.md says what they mean. */

@@ -40,10 +40,10 @@ class Report:
         nodes: how many nodes it has.
         not_judged: the unknown keywords of the instance, which the verdict doesn't speak of.
         length: the length of the tour, or of all routes.
-        bound: a number that no tour of the instance is below.
+        bound: a number that no tour of the instance is below, or no routes that each have a customer.
         gap: the length less the bound: 0 where the tour is optimal.
         optimal: whether the length is the bound.
-        no_tour: whether the certificate shows that the instance has no tour; `bound` is None then.
+        no_tour: whether the certificate shows that the instance has no tour, or no routes; `bound` is None then.
         routes: how many routes there are.
         least: how many routes there have to be at least, by their capacity.
         reason: why the verdict is a no, as `RepeatedNode`.
@@ -336,7 +336,7 @@ def bound(
     *,
     explain: bool = False,
 ) -> Report:
-    """The bound that a certificate gives to the tours of an instance.
+    """The bound that a certificate gives to the tours or the routes of an instance.
 
     Each file is a path, the bytes of its text, or a `Problem`.
 

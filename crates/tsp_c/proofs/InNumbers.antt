@@ -5,7 +5,6 @@ use Rattle.std.proofs.lemmas.Int.{ints}
 use Rattle.tsp_stream.specs.Turn.{Turn}
 use Rattle.tsp_stream.specs.Sink.{Sink}
 use Rattle.tsp_draft.specs.Fields.{Fields}
-use Rattle.tsp_theory.specs.CertificateNumbers.{IsBoundSized}
 use Rattle.tsp_reason.specs.declared.certificate.Certificate.{Certificate}
 use Rattle.tsp_reason.specs.declared.verdict.BoundVerdict.{BoundVerdict}
 use Rattle.tsp_reason.specs.declared.verdict.BoundVerdict.TheVariants as bounds
@@ -13,6 +12,7 @@ use Rattle.tsp_reason.specs.declared.verdict.Verdict.{Verdict}
 use Rattle.tsp_reason.specs.Verdicts.{is_yes, is_bound_yes}
 use Rattle.tsp_report.specs.Report.{IsSized}
 use Rattle.tsp_verdict.specs.Bounded.{IsBoundVerdict}
+use Rattle.tsp_verdict.specs.Certified.{IsBoundFitting}
 use Rattle.tsp_verdict.specs.SolutionVerdict.{IsVerdictWith}
 use Rattle.tsp_judge.specs.declared.bound.Bounded.{Bounded}
 use Rattle.tsp_judge.specs.declared.judging.Judged.{Judged}
@@ -30,14 +30,14 @@ use Rattle.tsp_c.proofs.OnTexts.{Reads2, Reads3, are_spelled, unchecked, no_rela
 
 -- ---- bounds that fit
 
-small : (z : ℤ) → IsBoundSized z → unsigned_abs z ≤ 2 ^ 126
+small : (z : ℤ) → IsBoundFitting z → unsigned_abs z ≤ 2 ^ 126
 small (pos n) sized = omega (arith, ints, sized.0, sized.1)
 small (negsuc n) sized = omega (arith, ints, sized.0, sized.1)
 
 pub sized_bound : (by : Certificate) (instance certificate : Fields) (found : BoundVerdict) → IsBoundVerdict by instance certificate found
     → IsSizedBound found
 sized_bound by instance certificate (bounds.Bound bound) is = small bound is.1.2
-sized_bound by instance certificate bounds.NoTour is = tt
+sized_bound by instance certificate bounds.NoSolution is = tt
 sized_bound by instance certificate (bounds.No reason) is = tt
 
 pub sized_bound_run : (by : Certificate) (first second : Turn) (sink : Sink) (ended : Result Bounded RunFault)

@@ -136,8 +136,8 @@ verdict_as_texts : (opened : Open) (claimed : Option ℤ) (one two written : Lis
     → ChecksTexts given claimed one two status text
 verdict_as_texts opened claimed one two written given (Tour length_is bound) status text is means printed texts_are e =
     yes_ends written status text (accepted opened claimed one two written given (Tour length_is bound) is means printed texts_are refl) e
-verdict_as_texts opened claimed one two written given (Routes length_is routes least) status text is means printed texts_are e =
-    yes_ends written status text (accepted opened claimed one two written given (Routes length_is routes least) is means printed texts_are refl) e
+verdict_as_texts opened claimed one two written given (Routes length_is routes least bound) status text is means printed texts_are e =
+    yes_ends written status text (accepted opened claimed one two written given (Routes length_is routes least bound) is means printed texts_are refl) e
 verdict_as_texts opened claimed one two written given (No reason) status text is means printed texts_are e =
     no_ends written status text (record {
       instance = opened.instance;

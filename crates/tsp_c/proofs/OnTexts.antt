@@ -24,7 +24,7 @@ use Rattle.tsp_judge.specs.declared.fault.RunFault.{RunFault}
 use Rattle.tsp_judge.specs.declared.fault.RunFault.TheVariants.{File, WrongKind, Write, OutOfMemory, Relayout}
 use Rattle.tsp_judge.specs.Status.{status_of_fault}
 use Rattle.tsp_judge.specs.CheckRun.{given_by, IsSomeFile, IsFileIn, AreRead, JudgesFiles, IsFaultOfRun, EndsWithout}
-use Rattle.tsp_judge.specs.Accepted.{IsAccepted, IsAcceptedWithoutTour}
+use Rattle.tsp_judge.specs.Accepted.{IsAccepted, IsAcceptedAlone}
 use Rattle.tsp_judge.specs.Yes.{SaysYes, IsCheckOf}
 use Rattle.tsp_judge.specs.BoundRun.{BoundsFiles, EndsUnbounded, SaysBound, IsBoundRunOf}
 use Rattle.tsp_judge.specs.ShowRun.{IsShowRun}
@@ -168,7 +168,7 @@ rejected : (by : Option Certificate) (claimed : Option ℤ) (first second third 
     → IsRejected (with_certificate by three) claimed one two written
 rejected by claimed first second third sink one two three written instance solution certificate (Tour length_is bound) reads collects read judged e =
     absurd (false≢true e)
-rejected by claimed first second third sink one two three written instance solution certificate (Routes length_is routes least) reads collects read judged e =
+rejected by claimed first second third sink one two three written instance solution certificate (Routes length_is routes least bound) reads collects read judged e =
     absurd (false≢true e)
 rejected by claimed first second third sink one two three written instance solution certificate (No reason) reads collects read judged e = record {
   instance = instance;
@@ -307,7 +307,7 @@ bound_says by first second sink one two written found reads collects says = reco
   found = found;
   first_file = spelled first one says.instance reads.first_is says.first_file;
   second_file = spelled second two says.certificate reads.second_is says.second_file;
-  meaning = subst (IsAcceptedWithoutTour by says.instance says.certificate found)
+  meaning = subst (IsAcceptedAlone by says.instance says.certificate found)
       (sym (printed_is sink written says.report collects says.written)) says.meaning;
 }
 
@@ -318,8 +318,8 @@ bound_found : (by : Certificate) (first second : Turn) (sink : Sink) (one two wr
     → EndsOnTexts (Ok (is_bound_yes found)) written status text → BoundsTexts by one two status text
 bound_found by first second sink one two written status text instance certificate (bounds.Bound bound) reads collects first_file second_file judged says e =
     yes_ends written status text (bound_says by first second sink one two written (bounds.Bound bound) reads collects (says refl)) e
-bound_found by first second sink one two written status text instance certificate bounds.NoTour reads collects first_file second_file judged says e =
-    yes_ends written status text (bound_says by first second sink one two written bounds.NoTour reads collects (says refl)) e
+bound_found by first second sink one two written status text instance certificate bounds.NoSolution reads collects first_file second_file judged says e =
+    yes_ends written status text (bound_says by first second sink one two written bounds.NoSolution reads collects (says refl)) e
 bound_found by first second sink one two written status text instance certificate (bounds.No reason) reads collects first_file second_file judged says e =
     no_ends written status text (record {
       instance = instance;

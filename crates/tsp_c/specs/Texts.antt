@@ -20,7 +20,7 @@ use Rattle.tsp_verdict.specs.Certified.{is_bounded, NoneWithoutMemory}
 use Rattle.tsp_verdict.specs.SolutionVerdict.{is_judged, NoneBeforeRepeatsOn, IsVerdictWith}
 use Rattle.tsp_report.specs.Report.{report_of, bound_report_of}
 use Rattle.tsp_report.specs.Show.{shown}
-use Rattle.tsp_judge.specs.Accepted.{IsAccepted, IsAcceptedWithoutTour}
+use Rattle.tsp_judge.specs.Accepted.{IsAccepted, IsAcceptedAlone}
 use Rattle.tsp_judge.specs.ConvertRun.{Becomes}
 use Rattle.tsp_judge.specs.declared.fault.RunFault.{RunFault}
 use Rattle.tsp_judge.specs.declared.fault.RunFault.TheVariants.{File, WrongKind, Write, OutOfMemory, Relayout}
@@ -191,7 +191,7 @@ pub record IsBoundText (by : Certificate) (one two text : List ℕ) : Type 0 whe
   pub found : BoundVerdict
   pub first_file : Spells one instance
   pub second_file : Spells two certificate
-  pub meaning : IsAcceptedWithoutTour by instance certificate found text
+  pub meaning : IsAcceptedAlone by instance certificate found text
 
 -- the first reason against the instance or the certificate is printed
 pub record IsBoundRejected (by : Certificate) (one two text : List ℕ) : Type 0 where

@@ -116,26 +116,28 @@ with_reason told reason = record told {
   second = second_number reason;
 }
 
--- ---- a verdict: 1 a tour, 2 routes, 3 rejected, 4 a bound, 5 that there is no tour
+-- ---- a verdict: 1 a tour, 2 routes, 3 rejected, 4 a bound, 5 that there is no solution
 
 abbrev pub told_of_verdict : Fields → Verdict → Told
 told_of_verdict instance (verdicts.Tour length_is None) =
     record (told_of_instance instance) { verdict = 1; length = length_is }
 told_of_verdict instance (verdicts.Tour length_is (Some bound)) =
     record (with_bound (told_of_instance instance) bound) { verdict = 1; length = length_is }
-told_of_verdict instance (verdicts.Routes length_is count least_is) =
+told_of_verdict instance (verdicts.Routes length_is count least_is None) =
     record (told_of_instance instance) { verdict = 2; length = length_is; routes = count; least = least_is }
+told_of_verdict instance (verdicts.Routes length_is count least_is (Some bound)) =
+    record (with_bound (told_of_instance instance) bound) { verdict = 2; length = length_is; routes = count; least = least_is }
 told_of_verdict instance (verdicts.No reason) = with_reason (told_of_instance instance) reason
 
 abbrev pub told_of_bound : Fields → BoundVerdict → Told
 told_of_bound instance (bounds.Bound bound) = record (with_bound (told_of_instance instance) bound) { verdict = 4 }
-told_of_bound instance bounds.NoTour = record (told_of_instance instance) { verdict = 5 }
+told_of_bound instance bounds.NoSolution = record (told_of_instance instance) { verdict = 5 }
 told_of_bound instance (bounds.No reason) = with_reason (told_of_instance instance) reason
 
 -- its halves have 64 bits
 abbrev pub IsSizedBound : BoundVerdict → Type 0
 IsSizedBound (bounds.Bound bound) = IsGapSized (Some bound)
-IsSizedBound bounds.NoTour = Unit {0}
+IsSizedBound bounds.NoSolution = Unit {0}
 IsSizedBound (bounds.No reason) = Unit {0}
 
 -- ---- a fault: its number, the text's number, the line and the word; what is wrong with a number; the field that isn't whole

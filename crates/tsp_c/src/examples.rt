@@ -85,13 +85,16 @@ pub fn examples_of_told_verdicts()
         (told.verdict ≡ 1) × (told.length ≡ pos 12) × (told.has_bound ≡ 0) × (told.fault ≡ 0) }
     ensures bounded { (instance : Fields) → let told : Told = told_of_verdict instance (verdicts.Tour (pos 12) (Some (pos 10))) in
         (told.verdict ≡ 1) × (told.length ≡ pos 12) × (told.has_bound ≡ 1) × (told.bound_high ≡ pos 0) × (told.bound_low ≡ 10) }
-    ensures routes { (instance : Fields) → let told : Told = told_of_verdict instance (verdicts.Routes (pos 12) 3 2) in
+    ensures routes { (instance : Fields) → let told : Told = told_of_verdict instance (verdicts.Routes (pos 12) 3 2 None) in
         (told.verdict ≡ 2) × (told.length ≡ pos 12) × (told.routes ≡ 3) × (told.least ≡ 2) × (told.has_bound ≡ 0) }
+    ensures bounded_routes { (instance : Fields)
+        → let told : Told = told_of_verdict instance (verdicts.Routes (pos 12) 3 2 (Some (pos 10))) in
+        (told.verdict ≡ 2) × (told.routes ≡ 3) × (told.has_bound ≡ 1) × (told.bound_high ≡ pos 0) × (told.bound_low ≡ 10) }
     ensures rejected { (instance : Fields) → let told : Told = told_of_verdict instance (verdicts.No (reasons.NotSymmetric 1 2)) in
         (told.verdict ≡ 3) × (told.reason ≡ 3) × (told.first ≡ pos 1) × (told.second ≡ pos 2) × (told.length ≡ pos 0) }
     ensures bound { (instance : Fields) → let told : Told = told_of_bound instance (bounds.Bound (pos 10)) in
         (told.verdict ≡ 4) × (told.has_bound ≡ 1) × (told.bound_low ≡ 10) }
-    ensures no_tour { (instance : Fields) → let told : Told = told_of_bound instance bounds.NoTour in
+    ensures no_tour { (instance : Fields) → let told : Told = told_of_bound instance bounds.NoSolution in
         (told.verdict ≡ 5) × (told.has_bound ≡ 0) }
 {}
 

@@ -130,12 +130,25 @@ impl Told {
                 length,
                 routes,
                 least,
+                bound: None,
             } => Told {
                 verdict: ROUTES,
                 length,
                 routes,
                 least,
                 ..told
+            },
+            Verdict::Routes {
+                length,
+                routes,
+                least,
+                bound: Some(bound),
+            } => Told {
+                verdict: ROUTES,
+                length,
+                routes,
+                least,
+                ..told.with_bound(bound)
             },
             Verdict::No(reason) => told.with_reason(reason),
         }
@@ -152,7 +165,7 @@ impl Told {
                 verdict: BOUND,
                 ..told.with_bound(bound)
             },
-            BoundVerdict::NoTour => Told {
+            BoundVerdict::NoSolution => Told {
                 verdict: NO_TOUR,
                 ..told
             },

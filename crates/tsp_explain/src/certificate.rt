@@ -31,7 +31,9 @@ pub(crate) fn push_certificate(
             push_triple(text, index, certificate)
         }
         Reason::DualInfeasible { i, j } => push_sum(text, i, j, certificate),
-        Reason::BadComb { index } => push_comb(text, index, certificate),
+        Reason::BadComb { index } if instance.kind() != Kind::Cvrp => {
+            push_comb(text, index, certificate)
+        }
         Reason::BadBranch { index } | Reason::BranchTwice { index } => {
             push_branch(text, index, certificate)
         }

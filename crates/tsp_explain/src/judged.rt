@@ -9,6 +9,7 @@ use crate::text::{Part, append, push_lines, push_parts};
 use std::alloc::{AllocError, Global};
 use tsp_cost::Instance;
 use tsp_file::File;
+use tsp_format::Kind;
 use tsp_reason::{BoundVerdict, Reason, Role, Verdict, blamed};
 
 /// What a user calls the files of a check, or of a bound.
@@ -30,16 +31,20 @@ pub struct Files<'a> {
 
 /// What the first file of a check is.
 const KINDS: &str =
-    "The first file of a check is of TYPE TSP, ATSP or CVRP, with --potentials or --branches of TYPE TSP or ATSP.\n\
+    "The first file of a check is of TYPE TSP, ATSP or CVRP, with --potentials of TYPE TSP or ATSP.\n\
     The second file is the solution, of TYPE TOUR.";
 
 /// What the first file of a bound is.
 const BOUND_KINDS: &str =
-    "The first file of a bound is of TYPE TSP or ATSP. The certificate is the file of the option.";
+    "The first file of a bound is of TYPE TSP or ATSP, or with --branches of TYPE CVRP.\n\
+    The certificate is the file of the option.";
 
 /// What it means that a certificate gives no bound.
 const NO_TOUR: &str =
     "The instance has no tour: at each leaf of the tree its decisions and the fixed arcs leave some node no arc.";
+
+/// The same of routes.
+const NO_ROUTES: &str = "The instance has no routes: no customer's load fits into a vehicle.";
 
 /// Appends why a solution is rejected; of an accepted one whether one of its comments claims
 /// another length, and whether rounding leaves distances of 0 and 1 alone.
@@ -86,12 +91,13 @@ fn length_of(verdict: Verdict) -> Result<i64, Reason> {
             length,
             routes: _,
             least: _,
+            bound: _,
         } => Ok(length),
         Verdict::No(reason) => Err(reason),
     }
 }
 
-/// Appends what explains that there is no bound: the reason, or that the instance has no tour.
+/// Appends what explains that there is no bound: the reason, or that the instance has no solution.
 ///
 /// # Errors
 ///
@@ -107,7 +113,7 @@ pub fn explain_bound(
     let mut told = Vec::new(alloc);
     let answer = match found {
         BoundVerdict::Bound(_) => Ok(()),
-        BoundVerdict::NoTour => push_lines(&mut told, NO_TOUR),
+        BoundVerdict::NoSolution => push_lines(&mut told, none_of(files.instance.kind())),
         BoundVerdict::No(reason) => push_no(alloc, &mut told, files, reason),
     };
     append(text, told, answer)
@@ -131,6 +137,14 @@ pub fn explain_wrong_kind(
     let kinds = if is_bound { BOUND_KINDS } else { KINDS };
     let answer = push_wrong_kind(&mut told, name, kinds);
     append(text, told, answer)
+}
+
+/// What it means that a certificate gives an instance of this TYPE no bound.
+fn none_of(kind: Kind) -> &'static str {
+    match kind {
+        Kind::Cvrp => NO_ROUTES,
+        _ => NO_TOUR,
+    }
 }
 
 /// Appends that a file is of the wrong kind, and what the files are.

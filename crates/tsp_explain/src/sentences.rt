@@ -219,7 +219,8 @@ const BAD_COMB: &str =
     "This family of COMB_SECTION isn't taken. No set may have a node twice. A family is a lone set, which leaves a node out;\n\
     or a comb: a handle and an odd number of teeth, 3 or more, which don't meet,\n\
     each with a node inside the handle and one outside; or any other sets, at most 63, whose nodes make 2 to 14 parts.\n\
-    Two nodes are in one part if they are in the same sets. The nodes in no set are a part too.";
+    Two nodes are in one part if they are in the same sets. The nodes in no set are a part too.\n\
+    For a CVRP each family is one set of customers.";
 
 const BAD_BRANCH: &str =
     "A branch of BRANCH_SECTION is on a pair of nodes for a TSP or an ATSP. For a CVRP it is on a family of COMB_SECTION:\n\
@@ -235,6 +236,7 @@ const BAD_LEAF: &str =
     A potential is at most 1,000,000,000,000,000 in size; multipliers aren't below 0,\n\
     and sum to at most 300,000,000,000,000,000, where there are lone sets and combs alone. In general the sum of each\n\
     times 3, or for other sets times the most of them that two nodes cross, is at most 900,000,000,000,000,000.\n\
+    For a CVRP multipliers may be below 0, and their sizes sum to at most 300,000,000,000,000,000.\n\
     Numbers are written as their differences to those of the leaf before.";
 
 const TOO_MANY_LOADS: &str =

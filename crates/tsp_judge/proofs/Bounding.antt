@@ -1,6 +1,6 @@
 -- A run that bounds the tours of an instance, put together from its parts.
-use Rattle.std.specs.Prelude.{IsTrue}
-use Rattle.std.proofs.Common.{◌≡◌, true, Result, Ok, Err, refl, subst, inl, inr}
+use Rattle.std.specs.Prelude.{IsTrue, ℤ}
+use Rattle.std.proofs.Common.{◌≡◌, length, Some, sym, true, Result, Ok, Err, refl, subst, inl, inr}
 use Rattle.std.proofs.lemmas.Bool.{false≢true}
 use Rattle.tsp_stream.specs.Turn.{Turn, IsUnread}
 use Rattle.tsp_stream.specs.Sink.{Sink, IsUnwritten}
@@ -10,19 +10,22 @@ use Rattle.tsp_reason.specs.declared.certificate.Certificate.{Certificate}
 use Rattle.tsp_reason.specs.declared.verdict.BoundVerdict.{BoundVerdict}
 use Rattle.tsp_reason.specs.declared.verdict.BoundVerdict.TheVariants as bounds
 use Rattle.tsp_reason.specs.Verdicts.{is_bound_yes}
-use Rattle.tsp_verdict.specs.Bounded.{IsBoundVerdict}
-use Rattle.tsp_verdict.specs.Certified.{is_bounded}
+use Rattle.tsp_reason.specs.declared.verdict.Reason.{Reason}
+use Rattle.tsp_reason.specs.declared.verdict.Reason.TheVariants.{DepotCount}
+use Rattle.tsp_format.specs.declared.kinds.Kind.TheVariants as kinds
+use Rattle.tsp_verdict.specs.Bounded.{StandsAgainstInstanceBy, StandsAgainstBounded, IsBoundVerdict}
+use Rattle.tsp_verdict.specs.Certified.{is_bounded, BoundsSolutionsBy, BoundsSolutions, HasNoSolutionBy, HasNoSolution}
 use Rattle.tsp_report.specs.Report.{bound_report_of}
 use Rattle.tsp_judge.specs.declared.bound.Bounded.{Bounded}
 use Rattle.tsp_judge.specs.declared.fault.RunFault.{RunFault}
 use Rattle.tsp_judge.specs.declared.fault.RunFault.TheVariants.{File, WrongKind, Write, OutOfMemory, Relayout}
 use Rattle.tsp_judge.specs.BoundRun.{BoundsFiles, EndsUnbounded, IsBoundRun, SaysBound, IsBoundRunOf}
 use Rattle.tsp_cost.specs.ProblemLaws.{IsProblem}
-use Rattle.tsp_cost.specs.ComputedProblems.{problem_of}
-use Rattle.tsp_judge.specs.Accepted.{IsAcceptedWithoutTour}
+use Rattle.tsp_cost.specs.ComputedProblems.{problem_of, routing_of, depots_of}
+use Rattle.tsp_judge.specs.Accepted.{BoundsAll, HasNone, IsAcceptedAlone}
 use Rattle.tsp_judge.specs.CheckRun.{ReadsFile}
 use Rattle.tsp_judge.proofs.HandedOn.{one_value}
-use Rattle.tsp_judge.proofs.Yeses.{IsTspOrAtsp, of_type, tours_bounded}
+use Rattle.tsp_judge.proofs.Yeses.{IsBoundedType, of_type, types_bounded, one_depot}
 
 pub bound_first_stops : (by : Certificate) (first second : Turn) (sink : Sink) (fault : RunFault) → ReadsFile 1 first (Err fault) → IsUnread second → IsUnwritten sink
     → EndsUnbounded by first second sink fault
@@ -49,28 +52,45 @@ ends_unbounded by first second instance certificate sink (Write fault) one two b
 ends_unbounded by first second instance certificate sink OutOfMemory one two bounds = (instance, certificate, one, two, bounds)
 ends_unbounded by first second instance certificate sink (Relayout fault) one two bounds = (instance, certificate, one, two, bounds)
 
--- what an accepted bound says
+-- ---- what an accepted bound says
+
+-- there is one depot, where no reason applies
+depot_known : (by : Certificate) (instance certificate : Fields) → instance.kind ≡ Some kinds.Cvrp
+    → ((reason : Reason) → StandsAgainstBounded by instance certificate reason → ⊥) → length (depots_of instance) ≡ 1
+depot_known by instance certificate cvrp none =
+    one_depot (length (depots_of instance)) (λ other. none DepotCount (inl (subst (λ k. StandsAgainstInstanceBy k instance DepotCount) (sym cvrp) other)))
+
+below_all : (by : Certificate) (instance certificate : Fields) (bound : ℤ) → IsProblem instance → IsBoundedType instance.kind
+    → ((reason : Reason) → StandsAgainstBounded by instance certificate reason → ⊥) → BoundsSolutions instance bound → BoundsAll instance bound
+below_all by instance certificate bound problem (inl (inl tsp)) none below =
+    inl (problem_of instance, problem.of_tours (inl tsp), subst (λ k. BoundsSolutionsBy k instance bound) tsp below)
+below_all by instance certificate bound problem (inl (inr atsp)) none below =
+    inl (problem_of instance, problem.of_tours (inr atsp), subst (λ k. BoundsSolutionsBy k instance bound) atsp below)
+below_all by instance certificate bound problem (inr cvrp) none below =
+    inr (routing_of instance, problem.of_routes cvrp (depot_known by instance certificate cvrp none), subst (λ k. BoundsSolutionsBy k instance bound) cvrp below)
+
+none_at_all : (by : Certificate) (instance certificate : Fields) → IsProblem instance → IsBoundedType instance.kind
+    → ((reason : Reason) → StandsAgainstBounded by instance certificate reason → ⊥) → HasNoSolution instance → HasNone instance
+none_at_all by instance certificate problem (inl (inl tsp)) none without =
+    inl (problem_of instance, problem.of_tours (inl tsp), subst (λ k. HasNoSolutionBy k instance) tsp without)
+none_at_all by instance certificate problem (inl (inr atsp)) none without =
+    inl (problem_of instance, problem.of_tours (inr atsp), subst (λ k. HasNoSolutionBy k instance) atsp without)
+none_at_all by instance certificate problem (inr cvrp) none without =
+    inr (routing_of instance, problem.of_routes cvrp (depot_known by instance certificate cvrp none), subst (λ k. HasNoSolutionBy k instance) cvrp without)
+
 bound_accepted : (by : Certificate) (instance certificate : Fields) (found : BoundVerdict) → IsProblem instance → IsTrue (is_bounded by instance.kind)
-    → IsBoundVerdict by instance certificate found → is_bound_yes found ≡ true → IsAcceptedWithoutTour by instance certificate found (bound_report_of instance found)
-bound_accepted by instance certificate (bounds.Bound bound) problem type v is =
-    let tours : IsTspOrAtsp instance.kind = tours_bounded by instance.kind type in
-    record {
-      problem = problem_of instance;
-      of_instance = problem.of_tours tours;
-      certificate_type = of_type by instance certificate (λ reason stands. v.0 reason (inr stands));
-      of_certificate = v.1.0;
-      printed = refl;
-      below_tours = v.1.1;
-    }
-bound_accepted by instance certificate bounds.NoTour problem type v is =
-    let tours : IsTspOrAtsp instance.kind = tours_bounded by instance.kind type in
-    record {
-      problem = problem_of instance;
-      of_instance = problem.of_tours tours;
-      certificate_type = of_type by instance certificate (λ reason stands. v.0 reason (inr stands));
-      printed = refl;
-      no_tour = v.2;
-    }
+    → IsBoundVerdict by instance certificate found → is_bound_yes found ≡ true → IsAcceptedAlone by instance certificate found (bound_report_of instance found)
+bound_accepted by instance certificate (bounds.Bound bound) problem type v is = record {
+  certificate_type = of_type by instance certificate (λ reason stands. v.0 reason (inr stands));
+  of_certificate = v.1.0;
+  printed = refl;
+  below = below_all by instance certificate bound problem (types_bounded by instance.kind type) v.0 v.1.1;
+}
+bound_accepted by instance certificate bounds.NoSolution problem type v is = record {
+  certificate_type = of_type by instance certificate (λ reason stands. v.0 reason (inr stands));
+  printed = refl;
+  none = none_at_all by instance certificate problem (types_bounded by instance.kind type) v.0 v.2;
+}
 bound_accepted by instance certificate (bounds.No reason) problem type v is = absurd (false≢true is)
 
 says_bound : (by : Certificate) (first second : Turn) (sink : Sink) (bounded : Bounded) → IsProblem bounded.instance

@@ -10,11 +10,10 @@ use Rattle.tsp_stream.specs.Sink.{Sink, IsUnwritten}
 use Rattle.tsp_draft.specs.Fields.{Fields}
 use Rattle.tsp_draft.specs.Rules.{is_instance}
 use Rattle.tsp_read.specs.Reads.{IsFile, most_taken}
-use Rattle.tsp_theory.specs.CertificateNumbers.{IsBoundSized as IsSmall}
 use Rattle.tsp_reason.specs.declared.certificate.Certificate.{Certificate}
 use Rattle.tsp_reason.specs.declared.verdict.Verdict.{Verdict}
 use Rattle.tsp_reason.specs.declared.verdict.Verdict.TheVariants as verdicts
-use Rattle.tsp_verdict.specs.Certified.{is_bounded, IsCertifiedVerdict}
+use Rattle.tsp_verdict.specs.Certified.{is_bounded, IsBoundFitting, IsCertifiedTourVerdict, IsCertifiedRoutesVerdict, IsCertifiedVerdictBy}
 use Rattle.tsp_verdict.specs.SolutionVerdict.{is_judged, IsVerdictBy, IsUnclaimedVerdict, IsVerdictWith}
 use Rattle.tsp_judge.specs.declared.fault.RunFault.{RunFault}
 use Rattle.tsp_judge.specs.declared.fault.RunFault.TheVariants.{File, WrongKind, Write, OutOfMemory, Relayout}
@@ -26,7 +25,7 @@ none_taken = omega arith
 
 -- ---- a bound that fits
 
-few : (z : ℤ) → IsSmall z → unsigned_abs z ≤ 2 ^ 126
+few : (z : ℤ) → IsBoundFitting z → unsigned_abs z ≤ 2 ^ 126
 few (pos n) small = omega (arith, ints, small.0, small.1)
 few (negsuc n) small = omega (arith, ints, small.0, small.1)
 
@@ -36,33 +35,48 @@ no_bound (Some b) e = absurd cc
 
 sized_by : (kind : Option Kind) (instance solution : Fields) (verdict : Verdict) → IsVerdictBy kind instance solution verdict → IsSized verdict
 sized_by (Some kinds.Tsp) instance solution (verdicts.Tour length bound) v = no_bound bound v.2
-sized_by (Some kinds.Tsp) instance solution (verdicts.Routes length routes least) v = tt
+sized_by (Some kinds.Tsp) instance solution (verdicts.Routes length routes least bound) v = absurd v
 sized_by (Some kinds.Tsp) instance solution (verdicts.No reason) v = tt
 sized_by (Some kinds.Atsp) instance solution (verdicts.Tour length bound) v = no_bound bound v.2
-sized_by (Some kinds.Atsp) instance solution (verdicts.Routes length routes least) v = tt
+sized_by (Some kinds.Atsp) instance solution (verdicts.Routes length routes least bound) v = absurd v
 sized_by (Some kinds.Atsp) instance solution (verdicts.No reason) v = tt
 sized_by (Some kinds.Cvrp) instance solution (verdicts.Tour length bound) v = absurd v
-sized_by (Some kinds.Cvrp) instance solution (verdicts.Routes length routes least) v = tt
+sized_by (Some kinds.Cvrp) instance solution (verdicts.Routes length routes least bound) v = no_bound bound v.2
 sized_by (Some kinds.Cvrp) instance solution (verdicts.No reason) v = tt
 sized_by (Some kinds.Tour) instance solution verdict v = absurd v
 sized_by (Some kinds.Potentials) instance solution verdict v = absurd v
 sized_by (Some kinds.Branches) instance solution verdict v = absurd v
 sized_by None instance solution verdict v = absurd v
 
-certified : (by : Certificate) (instance solution certificate : Fields) (verdict : Verdict) → IsCertifiedVerdict by instance solution certificate verdict → IsSized verdict
-certified by instance solution certificate (verdicts.Tour length bound) v = subst IsGapSized (sym v.1.bound_is) (few v.1.least v.1.sized)
-certified by instance solution certificate (verdicts.Routes length routes least) v = tt
-certified by instance solution certificate (verdicts.No reason) v = tt
+of_tours : (by : Certificate) (instance solution certificate : Fields) (verdict : Verdict) → IsCertifiedTourVerdict by instance solution certificate verdict → IsSized verdict
+of_tours by instance solution certificate (verdicts.Tour length bound) v = subst IsGapSized (sym v.1.bound_is) (few v.1.least v.1.sized)
+of_tours by instance solution certificate (verdicts.Routes length routes least bound) v = absurd v
+of_tours by instance solution certificate (verdicts.No reason) v = tt
+
+of_routes : (by : Certificate) (instance solution certificate : Fields) (verdict : Verdict) → IsCertifiedRoutesVerdict by instance solution certificate verdict → IsSized verdict
+of_routes by instance solution certificate (verdicts.Routes length routes least bound) v = subst IsGapSized (sym v.1.bound_is) (few v.1.least v.1.sized)
+of_routes by instance solution certificate (verdicts.Tour length bound) v = absurd v
+of_routes by instance solution certificate (verdicts.No reason) v = tt
+
+certified : (kind : Option Kind) (by : Certificate) (instance solution certificate : Fields) (verdict : Verdict) → IsCertifiedVerdictBy kind by instance solution certificate verdict
+    → IsSized verdict
+certified (Some kinds.Cvrp) by instance solution certificate verdict v = of_routes by instance solution certificate verdict v
+certified (Some kinds.Tsp) by instance solution certificate verdict v = of_tours by instance solution certificate verdict v
+certified (Some kinds.Atsp) by instance solution certificate verdict v = of_tours by instance solution certificate verdict v
+certified (Some kinds.Tour) by instance solution certificate verdict v = of_tours by instance solution certificate verdict v
+certified (Some kinds.Potentials) by instance solution certificate verdict v = of_tours by instance solution certificate verdict v
+certified (Some kinds.Branches) by instance solution certificate verdict v = of_tours by instance solution certificate verdict v
+certified None by instance solution certificate verdict v = of_tours by instance solution certificate verdict v
 
 unclaimed : (certificate : Option (Certificate × Fields)) (instance solution : Fields) (verdict : Verdict) → IsUnclaimedVerdict certificate instance solution verdict → IsSized verdict
 unclaimed None instance solution verdict v = sized_by instance.kind instance solution verdict v
-unclaimed (Some given) instance solution verdict v = certified given.0 instance solution given.1 verdict v
+unclaimed (Some given) instance solution verdict v = certified instance.kind given.0 instance solution given.1 verdict v
 
 pub sized : (certificate : Option (Certificate × Fields)) (claimed : Option ℤ) (instance solution : Fields) (verdict : Verdict)
     → IsVerdictWith certificate claimed instance solution verdict → IsSized verdict
 sized certificate None instance solution verdict v = unclaimed certificate instance solution verdict v
 sized certificate (Some claim) instance solution (verdicts.Tour length bound) v = unclaimed certificate instance solution (verdicts.Tour length bound) v.0
-sized certificate (Some claim) instance solution (verdicts.Routes length routes least) v = tt
+sized certificate (Some claim) instance solution (verdicts.Routes length routes least bound) v = unclaimed certificate instance solution (verdicts.Routes length routes least bound) v.0
 sized certificate (Some claim) instance solution (verdicts.No reason) v = tt
 
 -- ---- the TYPE
@@ -70,7 +84,7 @@ sized certificate (Some claim) instance solution (verdicts.No reason) v = tt
 bounded_none : (by : Certificate) (kind : Option Kind) → is_instance kind ≡ false → is_bounded by kind ≡ false
 bounded_none by (Some kinds.Tsp) none = absurd (false≢true (sym none))
 bounded_none by (Some kinds.Atsp) none = absurd (false≢true (sym none))
-bounded_none by (Some kinds.Cvrp) none = refl
+bounded_none by (Some kinds.Cvrp) none = absurd (false≢true (sym none))
 bounded_none by (Some kinds.Tour) none = refl
 bounded_none by (Some kinds.Potentials) none = refl
 bounded_none by (Some kinds.Branches) none = refl

@@ -21,9 +21,9 @@ use Rattle.tsp_reason.specs.declared.verdict.Reason.{Reason}
 use Rattle.tsp_reason.specs.declared.verdict.Reason.TheVariants.{NotASolution, TooFewNodes, DepotCount, NotPotentials, NotBranches}
 use Rattle.tsp_reason.specs.declared.verdict.Verdict.{Verdict}
 use Rattle.tsp_reason.specs.declared.verdict.Verdict.TheVariants as verdicts
-use Rattle.tsp_verdict.specs.Certified.{kind_of, is_bounded, StandsAgainstCertificate, IsCertifiedVerdict}
-use Rattle.tsp_verdict.specs.SolutionVerdict.{is_judged, IsVerdictBy, IsUnclaimedVerdict, IsAsClaimed, IsVerdictWith}
-use Rattle.tsp_verdict.specs.Routes.{IsRoutesVerdict}
+use Rattle.tsp_verdict.specs.Certified.{kind_of, is_bounded, StandsAgainstCertificateBy, StandsAgainstCertificate, IsCertifiedTourVerdict, IsCertifiedRoutesVerdict, IsCertifiedVerdictBy, IsCertifiedVerdict}
+use Rattle.tsp_verdict.specs.SolutionVerdict.{is_judged, IsVerdictBy, IsUnclaimedVerdict, HasLength, IsAsClaimed, IsVerdictWith}
+use Rattle.tsp_verdict.specs.Routes.{StandsAgainstRoutes, IsPlanned, IsRoutesVerdict}
 use Rattle.tsp_verdict.specs.Tours.{IsTourVerdict}
 use Rattle.tsp_verdict.specs.Plan.{plan_length, depot_of}
 use Rattle.tsp_report.specs.Report.{report_of}
@@ -32,7 +32,7 @@ use Rattle.tsp_judge.specs.declared.judging.Judged.{Judged}
 use Rattle.tsp_reason.specs.Verdicts.{is_yes}
 use Rattle.tsp_judge.specs.CheckRun.{Given, EndsWithout, IsRun, told}
 use Rattle.tsp_judge.proofs.HandedOn.{one_value}
-use Rattle.tsp_judge.specs.Accepted.{IsAcceptedTour, AreAcceptedRoutes, IsTourWithBound, IsAccepted}
+use Rattle.tsp_judge.specs.Accepted.{IsAcceptedTour, AreOnlyRoutes, AreAcceptedRoutes, IsTourWithBound, AreRoutesWithBound, IsAccepted}
 use Rattle.tsp_judge.specs.Yes.{SaysYes, IsRunOf}
 
 -- ---- the TYPE of a file
@@ -67,7 +67,16 @@ tree None not = absurd (not refl)
 pub of_type : (by : Certificate) (instance certificate : Fields) → ((reason : Reason) → StandsAgainstCertificate by instance certificate reason → ⊥)
     → certificate.kind ≡ Some (kind_of by)
 of_type Potentials instance certificate none = potentials certificate.kind (λ other. none NotPotentials other)
-of_type Branches instance certificate none = tree certificate.kind (λ other. none NotBranches other)
+of_type Branches instance certificate none = tree certificate.kind (λ other. none NotBranches (not_branches instance.kind other))
+  where
+    not_branches : (kind : Option Kind) → is_branches_file certificate.kind ≡ false → StandsAgainstCertificateBy Branches kind instance certificate NotBranches
+    not_branches (Some kinds.Tsp) other = other
+    not_branches (Some kinds.Atsp) other = other
+    not_branches (Some kinds.Cvrp) other = other
+    not_branches (Some kinds.Tour) other = other
+    not_branches (Some kinds.Potentials) other = other
+    not_branches (Some kinds.Branches) other = other
+    not_branches None other = other
 
 -- the TYPEs whose solutions are tours
 abbrev pub IsTspOrAtsp : Option Kind → Type 0
@@ -78,15 +87,18 @@ pub type_of_tours : (directed : Bool) (kind : Option Kind) → kind ≡ Some (if
 type_of_tours true kind is = inr is
 type_of_tours false kind is = inl is
 
--- one whose tours have a bound
-pub tours_bounded : (by : Certificate) (kind : Option Kind) → IsTrue (is_bounded by kind) → IsTspOrAtsp kind
-tours_bounded by (Some kinds.Tsp) is = inl refl
-tours_bounded by (Some kinds.Atsp) is = inr refl
-tours_bounded by (Some kinds.Cvrp) is = absurd (false≢true is)
-tours_bounded by (Some kinds.Tour) is = absurd (false≢true is)
-tours_bounded by (Some kinds.Potentials) is = absurd (false≢true is)
-tours_bounded by (Some kinds.Branches) is = absurd (false≢true is)
-tours_bounded by None is = absurd (false≢true is)
+-- a TYPE whose solutions have a bound
+abbrev pub IsBoundedType : Option Kind → Type 0
+IsBoundedType kind = IsTspOrAtsp kind ⊎ (kind ≡ Some kinds.Cvrp)
+
+pub types_bounded : (by : Certificate) (kind : Option Kind) → IsTrue (is_bounded by kind) → IsBoundedType kind
+types_bounded by (Some kinds.Tsp) is = inl (inl refl)
+types_bounded by (Some kinds.Atsp) is = inl (inr refl)
+types_bounded by (Some kinds.Cvrp) is = inr refl
+types_bounded by (Some kinds.Tour) is = absurd (false≢true is)
+types_bounded by (Some kinds.Potentials) is = absurd (false≢true is)
+types_bounded by (Some kinds.Branches) is = absurd (false≢true is)
+types_bounded by None is = absurd (false≢true is)
 
 -- ---- a claim: a solution accepted with it is accepted without it too, with the claimed length
 
@@ -96,11 +108,11 @@ tour_as_claimed : (certificate : Option (Certificate × Fields)) (claimed : Opti
 tour_as_claimed certificate None instance solution length bound v = (v, tt)
 tour_as_claimed certificate (Some claim) instance solution length bound v = (v.0, v.1)
 
-routes_as_claimed : (certificate : Option (Certificate × Fields)) (claimed : Option ℤ) (instance solution : Fields) (length : ℤ) (routes least : ℕ)
-    → IsVerdictWith certificate claimed instance solution (verdicts.Routes length routes least)
-    → IsUnclaimedVerdict certificate instance solution (verdicts.Routes length routes least) × IsAsClaimed claimed length
-routes_as_claimed certificate None instance solution length routes least v = (v, tt)
-routes_as_claimed certificate (Some claim) instance solution length routes least v = (v.0, v.1)
+routes_as_claimed : (certificate : Option (Certificate × Fields)) (claimed : Option ℤ) (instance solution : Fields) (length : ℤ) (routes least : ℕ) (bound : Option ℤ)
+    → IsVerdictWith certificate claimed instance solution (verdicts.Routes length routes least bound)
+    → IsUnclaimedVerdict certificate instance solution (verdicts.Routes length routes least bound) × IsAsClaimed claimed length
+routes_as_claimed certificate None instance solution length routes least bound v = (v, tt)
+routes_as_claimed certificate (Some claim) instance solution length routes least bound v = (v.0, v.1)
 
 -- a claimed length
 claim_is : (claimed : Option ℤ) (length measured : ℤ) → IsAsClaimed claimed length → length ≡ measured → (claim : ℤ) → claimed ≡ Some claim → claim ≡ measured
@@ -145,42 +157,58 @@ served_by_none problem some plan = by_depot (eqb_tells problem.depot 1)
     by_depot (inl first) = none_served 2 ((omega arith, some), λ is. omega (arith, is, first.1))
     by_depot (inr other) = none_served 1 ((omega arith, omega (arith, some)), λ is. other.1 (sym is))
 
+-- one depot, where no reason applies
+pub one_depot : (count : ℕ) → (count ≢ 1 → ⊥) → count ≡ 1
+one_depot count not = by_test (eqb_tells count 1)
+  where
+    by_test : ((eqb count 1 ≡ true) × (count ≡ 1)) ⊎ ((eqb count 1 ≡ false) × (count ≢ 1)) → count ≡ 1
+    by_test (inl is) = is.1
+    by_test (inr other) = absurd (not other.1)
+
 -- plan: no reason applies, so there is one depot and a customer; a plan serves it, so the file lists routes (`served_by_none`)
-accepted_routes : (claimed : Option ℤ) (instance solution : Fields) (length_is : ℤ) (count least : ℕ) → IsProblem instance → instance.kind ≡ Some kinds.Cvrp
-    → IsRoutesVerdict instance solution (verdicts.Routes length_is count least) → IsAsClaimed claimed length_is
-    → AreAcceptedRoutes claimed instance solution (report_of instance (verdicts.Routes length_is count least))
-accepted_routes claimed instance solution length_is count least problem type v claims =
-    let one_depot : length (depots_of instance) ≡ 1 = not_not (length (depots_of instance)) (λ other. v.0 DepotCount other) in
-    let some : 2 ≤ nodes_of instance = not_fewer (nodes_of instance) (λ few. v.0 TooFewNodes few) in
+only_routes : (claimed : Option ℤ) (instance solution : Fields) (length_is : ℤ) (count least : ℕ) → IsProblem instance → instance.kind ≡ Some kinds.Cvrp
+    → ((reason : Reason) → StandsAgainstRoutes instance solution reason → ⊥) → IsPlanned instance (tours_of solution) length_is count least
+    → IsAsClaimed claimed length_is → AreOnlyRoutes claimed instance solution (routing_of instance) (tours_of solution) least
+only_routes claimed instance solution length_is count least problem type none planned claims =
+    let depot : length (depots_of instance) ≡ 1 = one_depot (length (depots_of instance)) (λ other. none DepotCount other) in
+    let some : 2 ≤ nodes_of instance = not_fewer (nodes_of instance) (λ few. none TooFewNodes few) in
     record {
-      problem = routing_of instance;
-      of_instance = problem.of_routes type one_depot;
-      solution_type = a_file_of_tours solution.kind (λ other. v.0 NotASolution other);
-      routes = tours_of solution;
+      of_instance = problem.of_routes type depot;
+      solution_type = a_file_of_tours solution.kind (λ other. none NotASolution other);
       all = present solution.tours (tours_of solution) refl
-          (λ none. served_by_none (routing_of instance) some (subst (IsPlan (routing_of instance)) none v.1.plan_of));
-      is_plan = v.1.plan_of;
-      least = least;
-      least_is = v.1.least_is;
-      none_fewer = v.1.none_fewer;
-      as_claimed = claim_is claimed length_is (plan_length (cost instance) (depot_of instance) (tours_of solution)) claims v.1.measured;
-      printed = ap (λ l. report_of instance (verdicts.Routes l count least)) v.1.measured
-          ∙ ap (λ c. report_of instance (verdicts.Routes (plan_length (cost instance) (depot_of instance) (tours_of solution)) c least)) v.1.counted;
+          (λ empty. served_by_none (routing_of instance) some (subst (IsPlan (routing_of instance)) empty planned.plan_of));
+      is_plan = planned.plan_of;
+      least_is = planned.least_is;
+      none_fewer = planned.none_fewer;
+      as_claimed = claim_is claimed length_is (plan_length (cost instance) (depot_of instance) (tours_of solution)) claims planned.measured;
     }
   where
-    not_not : (count : ℕ) → (count ≢ 1 → ⊥) → count ≡ 1
-    not_not count not = by_test (eqb_tells count 1)
-      where
-        by_test : ((eqb count 1 ≡ true) × (count ≡ 1)) ⊎ ((eqb count 1 ≡ false) × (count ≢ 1)) → count ≡ 1
-        by_test (inl is) = is.1
-        by_test (inr other) = absurd (not other.1)
-
     not_fewer : (n : ℕ) → (n < 2 → ⊥) → 2 ≤ n
     not_fewer n not = by_test (cases_lt n 2)
       where
         by_test : (n < 2) ⊎ (2 ≤ n) → 2 ≤ n
         by_test (inl few) = absurd (not few)
         by_test (inr some) = some
+
+-- the report on them
+routes_printed : (instance solution : Fields) (length_is : ℤ) (count least : ℕ) (bound other : Option ℤ) → IsPlanned instance (tours_of solution) length_is count least
+    → bound ≡ other → report_of instance (verdicts.Routes length_is count least bound)
+    ≡ report_of instance (verdicts.Routes (plan_length (cost instance) (depot_of instance) (tours_of solution)) (length (tours_of solution)) least other)
+routes_printed instance solution length_is count least bound other planned same =
+    ap (λ l. report_of instance (verdicts.Routes l count least bound)) planned.measured
+    ∙ ap (λ c. report_of instance (verdicts.Routes (plan_length (cost instance) (depot_of instance) (tours_of solution)) c least bound)) planned.counted
+    ∙ ap (λ b. report_of instance (verdicts.Routes (plan_length (cost instance) (depot_of instance) (tours_of solution)) (length (tours_of solution)) least b)) same
+
+accepted_routes : (claimed : Option ℤ) (instance solution : Fields) (length_is : ℤ) (count least : ℕ) (bound : Option ℤ) → IsProblem instance → instance.kind ≡ Some kinds.Cvrp
+    → IsRoutesVerdict instance solution (verdicts.Routes length_is count least bound) → IsAsClaimed claimed length_is
+    → AreAcceptedRoutes claimed instance solution (report_of instance (verdicts.Routes length_is count least bound))
+accepted_routes claimed instance solution length_is count least bound problem type v claims = record {
+  problem = routing_of instance;
+  routes = tours_of solution;
+  least = least;
+  only_routes = only_routes claimed instance solution length_is count least problem type v.0 v.1 claims;
+  printed = routes_printed instance solution length_is count least bound None v.1 v.2;
+}
 
 tour_by_type : (kind : Option Kind) (claimed : Option ℤ) (instance solution : Fields) (length : ℤ) (bound : Option ℤ) → IsProblem instance → kind ≡ instance.kind
     → IsVerdictBy kind instance solution (verdicts.Tour length bound) → IsAsClaimed claimed length
@@ -195,26 +223,25 @@ tour_by_type (Some kinds.Potentials) claimed instance solution length bound prob
 tour_by_type (Some kinds.Branches) claimed instance solution length bound problem same v claims = absurd v
 tour_by_type None claimed instance solution length bound problem same v claims = absurd v
 
-routes_by_type : (kind : Option Kind) (claimed : Option ℤ) (instance solution : Fields) (length : ℤ) (count least : ℕ) → IsProblem instance → kind ≡ instance.kind
-    → IsVerdictBy kind instance solution (verdicts.Routes length count least) → IsAsClaimed claimed length
-    → AreAcceptedRoutes claimed instance solution (report_of instance (verdicts.Routes length count least))
-routes_by_type (Some kinds.Tsp) claimed instance solution length count least problem same v claims = absurd v
-routes_by_type (Some kinds.Atsp) claimed instance solution length count least problem same v claims = absurd v
-routes_by_type (Some kinds.Cvrp) claimed instance solution length count least problem same v claims =
-    accepted_routes claimed instance solution length count least problem (sym same) v claims
-routes_by_type (Some kinds.Tour) claimed instance solution length count least problem same v claims = absurd v
-routes_by_type (Some kinds.Potentials) claimed instance solution length count least problem same v claims = absurd v
-routes_by_type (Some kinds.Branches) claimed instance solution length count least problem same v claims = absurd v
-routes_by_type None claimed instance solution length count least problem same v claims = absurd v
+routes_by_type : (kind : Option Kind) (claimed : Option ℤ) (instance solution : Fields) (length : ℤ) (count least : ℕ) (bound : Option ℤ) → IsProblem instance → kind ≡ instance.kind
+    → IsVerdictBy kind instance solution (verdicts.Routes length count least bound) → IsAsClaimed claimed length
+    → AreAcceptedRoutes claimed instance solution (report_of instance (verdicts.Routes length count least bound))
+routes_by_type (Some kinds.Tsp) claimed instance solution length count least bound problem same v claims = absurd v
+routes_by_type (Some kinds.Atsp) claimed instance solution length count least bound problem same v claims = absurd v
+routes_by_type (Some kinds.Cvrp) claimed instance solution length count least bound problem same v claims =
+    accepted_routes claimed instance solution length count least bound problem (sym same) v claims
+routes_by_type (Some kinds.Tour) claimed instance solution length count least bound problem same v claims = absurd v
+routes_by_type (Some kinds.Potentials) claimed instance solution length count least bound problem same v claims = absurd v
+routes_by_type (Some kinds.Branches) claimed instance solution length count least bound problem same v claims = absurd v
+routes_by_type None claimed instance solution length count least bound problem same v claims = absurd v
 
 -- ---- with a certificate
 
 bounded_tour : (by : Certificate) (claimed : Option ℤ) (instance solution certificate : Fields) (length : ℤ) (bound : Option ℤ) → IsProblem instance
-    → IsTrue (is_bounded by instance.kind) → IsCertifiedVerdict by instance solution certificate (verdicts.Tour length bound) → IsAsClaimed claimed length
+    → IsTspOrAtsp instance.kind → IsCertifiedTourVerdict by instance solution certificate (verdicts.Tour length bound) → IsAsClaimed claimed length
     → IsTourWithBound by claimed instance solution certificate (report_of instance (verdicts.Tour length bound))
-bounded_tour by claimed instance solution certificate length bound problem type v claims =
+bounded_tour by claimed instance solution certificate length bound problem tours v claims =
     let b = v.1 in
-    let tours : IsTspOrAtsp instance.kind = tours_bounded by instance.kind type in
     record {
       problem = problem_of instance;
       tour = b.tour;
@@ -234,6 +261,47 @@ bounded_tour by claimed instance solution certificate length bound problem type 
       optimal = λ same other is. subst (λ l. l ≤ℤ length_of (cost instance) other) (sym same) (b.below_tours other is);
     }
 
+bounded_routes : (by : Certificate) (claimed : Option ℤ) (instance solution certificate : Fields) (length_is : ℤ) (count fewest : ℕ) (bound : Option ℤ) → IsProblem instance
+    → instance.kind ≡ Some kinds.Cvrp → IsCertifiedRoutesVerdict by instance solution certificate (verdicts.Routes length_is count fewest bound) → IsAsClaimed claimed length_is
+    → AreRoutesWithBound by claimed instance solution certificate (report_of instance (verdicts.Routes length_is count fewest bound))
+bounded_routes by claimed instance solution certificate length_is count fewest bound problem type v claims =
+    let b = v.1 in
+    let length_of_all : List (List ℕ) → ℤ = plan_length (cost instance) (depot_of instance) in
+    record {
+      problem = routing_of instance;
+      routes = tours_of solution;
+      least = fewest;
+      only_routes = only_routes claimed instance solution length_is count fewest problem type (λ reason stands. v.0 reason (inl stands)) b.planned claims;
+      filled = record { plan = b.planned.plan_of; each = b.planned.filled };
+      bound = b.least;
+      certificate_type = of_type by instance certificate (λ reason stands. v.0 reason (inr stands));
+      of_certificate = b.of_certificate;
+      printed = routes_printed instance solution length_is count fewest bound (Some b.least) b.planned b.bound_is;
+      below_plans = b.below_plans;
+      optimal = λ same other is. subst (λ l. l ≤ℤ length_of_all other) (sym same) (b.below_plans other is);
+    }
+
+-- plan: by the TYPE: tours or routes
+bounded_by_type : (by : Certificate) (claimed : Option ℤ) (instance solution certificate : Fields) (verdict : Verdict) (length : ℤ) → IsProblem instance → IsBoundedType instance.kind
+    → IsCertifiedVerdict by instance solution certificate verdict → HasLength verdict length → IsAsClaimed claimed length
+    → IsAccepted (Some (by, certificate)) claimed instance solution (report_of instance verdict)
+bounded_by_type by claimed instance solution certificate (verdicts.Tour found bound) length problem (inl (inl tsp)) v has claims =
+    inl (bounded_tour by claimed instance solution certificate found bound problem (inl tsp)
+    (subst (λ k. IsCertifiedVerdictBy k by instance solution certificate (verdicts.Tour found bound)) tsp v) (subst (IsAsClaimed claimed) has claims))
+bounded_by_type by claimed instance solution certificate (verdicts.Tour found bound) length problem (inl (inr atsp)) v has claims =
+    inl (bounded_tour by claimed instance solution certificate found bound problem (inr atsp)
+    (subst (λ k. IsCertifiedVerdictBy k by instance solution certificate (verdicts.Tour found bound)) atsp v) (subst (IsAsClaimed claimed) has claims))
+bounded_by_type by claimed instance solution certificate (verdicts.Tour found bound) length problem (inr cvrp) v has claims =
+    absurd (subst (λ k. IsCertifiedVerdictBy k by instance solution certificate (verdicts.Tour found bound)) cvrp v)
+bounded_by_type by claimed instance solution certificate (verdicts.Routes found count least bound) length problem (inl (inl tsp)) v has claims =
+    absurd (subst (λ k. IsCertifiedVerdictBy k by instance solution certificate (verdicts.Routes found count least bound)) tsp v)
+bounded_by_type by claimed instance solution certificate (verdicts.Routes found count least bound) length problem (inl (inr atsp)) v has claims =
+    absurd (subst (λ k. IsCertifiedVerdictBy k by instance solution certificate (verdicts.Routes found count least bound)) atsp v)
+bounded_by_type by claimed instance solution certificate (verdicts.Routes found count least bound) length problem (inr cvrp) v has claims =
+    inr (bounded_routes by claimed instance solution certificate found count least bound problem cvrp
+    (subst (λ k. IsCertifiedVerdictBy k by instance solution certificate (verdicts.Routes found count least bound)) cvrp v) (subst (IsAsClaimed claimed) has claims))
+bounded_by_type by claimed instance solution certificate (verdicts.No reason) length problem type v has claims = absurd has
+
 -- ---- either
 
 pub accepted : (certificate : Option (Certificate × Fields)) (claimed : Option ℤ) (instance solution : Fields) (verdict : Verdict) → IsProblem instance
@@ -242,14 +310,15 @@ pub accepted : (certificate : Option (Certificate × Fields)) (claimed : Option 
 accepted None claimed instance solution (verdicts.Tour length bound) problem type v is =
     let c = tour_as_claimed None claimed instance solution length bound v in
     inl (tour_by_type instance.kind claimed instance solution length bound problem refl c.0 c.1)
-accepted None claimed instance solution (verdicts.Routes length count least) problem type v is =
-    let c = routes_as_claimed None claimed instance solution length count least v in
-    inr (routes_by_type instance.kind claimed instance solution length count least problem refl c.0 c.1)
+accepted None claimed instance solution (verdicts.Routes length count least bound) problem type v is =
+    let c = routes_as_claimed None claimed instance solution length count least bound v in
+    inr (routes_by_type instance.kind claimed instance solution length count least bound problem refl c.0 c.1)
 accepted (Some given) claimed instance solution (verdicts.Tour length bound) problem type v is =
     let c = tour_as_claimed (Some given) claimed instance solution length bound v in
-    bounded_tour given.0 claimed instance solution given.1 length bound problem type c.0 c.1
-accepted (Some given) claimed instance solution (verdicts.Routes length count least) problem type v is =
-    absurd (routes_as_claimed (Some given) claimed instance solution length count least v).0
+    bounded_by_type given.0 claimed instance solution given.1 (verdicts.Tour length bound) length problem (types_bounded given.0 instance.kind type) c.0 refl c.1
+accepted (Some given) claimed instance solution (verdicts.Routes length count least bound) problem type v is =
+    let c = routes_as_claimed (Some given) claimed instance solution length count least bound v in
+    bounded_by_type given.0 claimed instance solution given.1 (verdicts.Routes length count least bound) length problem (types_bounded given.0 instance.kind type) c.0 refl c.1
 accepted certificate claimed instance solution (verdicts.No reason) problem type v is = absurd (false≢true (sym is))
 
 says_yes : (given : Given) (claimed : Option ℤ) (first second : Turn) (sink : Sink) (judged : Judged) → IsProblem judged.instance

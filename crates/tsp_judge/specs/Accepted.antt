@@ -7,10 +7,11 @@ use Rattle.tsp_draft.specs.Fields.{Fields}
 use Rattle.tsp_theory.specs.Length.{sum_int_by, length_of}
 use Rattle.tsp_theory.specs.Routing.{RoutingProblem, IsPlan, plan_length, IsLeastRoutes}
 use Rattle.tsp_theory.specs.Tour.{Problem, IsTour, BoundsTours, HasNoTour}
+use Rattle.tsp_routing.specs.PlanLinks.{IsFilledPlan, BoundsPlans, HasNoPlan}
 use Rattle.tsp_cost.specs.Problems.{IsProblemOf, IsRoutingOf}
 use Rattle.tsp_reason.specs.declared.certificate.Certificate.{Certificate}
 use Rattle.tsp_reason.specs.declared.verdict.BoundVerdict.{BoundVerdict}
-use Rattle.tsp_reason.specs.declared.verdict.BoundVerdict.TheVariants.{Bound, NoTour, No}
+use Rattle.tsp_reason.specs.declared.verdict.BoundVerdict.TheVariants.{Bound, NoSolution, No}
 use Rattle.tsp_reason.specs.declared.verdict.Verdict.TheVariants.{Tour, Routes}
 use Rattle.tsp_verdict.specs.Certified.{kind_of, IsBoundOf}
 use Rattle.tsp_report.specs.Report.{report_of, bound_report_of}
@@ -31,21 +32,25 @@ pub record IsAcceptedTour (claimed : Option ℤ) (instance solution : Fields) (r
   pub only_tour : IsOnlyTour claimed instance solution problem tour
   pub printed : report ≡ report_of instance (Tour (length_of problem.cost tour) None)
 
--- Routes: they serve every customer of the instance once and within the capacity. Their length and number are printed, and the
--- length is the claimed one, where one is claimed. The printed `least` is the least number of routes that carry all demands, and
--- no plan of routes has fewer.
-pub record AreAcceptedRoutes (claimed : Option ℤ) (instance solution : Fields) (report : List ℕ) : Type 0 where
-  pub problem : RoutingProblem
+-- The solution's routes serve every customer of the instance once and within the capacity, and `least` is the least number of
+-- routes that carry all demands: no plan of routes has fewer. Their length is the claimed one, where one is claimed.
+pub record AreOnlyRoutes (claimed : Option ℤ) (instance solution : Fields) (problem : RoutingProblem) (routes : List (List ℕ))
+    (least : ℕ) : Type 0 where
   pub of_instance : IsRoutingOf instance problem
   pub solution_type : solution.kind ≡ Some kinds.Tour
-  pub routes : List (List ℕ)
   pub all : solution.tours ≡ Some routes
   pub is_plan : IsPlan problem routes
-  pub least : ℕ
   pub least_is : IsLeastRoutes (sum_int_by problem.demand (nodes_to problem.nodes)) problem.capacity least
   pub none_fewer : (other : List (List ℕ)) → IsPlan problem other → least ≤ length other
   pub as_claimed : (claim : ℤ) → claimed ≡ Some claim → claim ≡ plan_length problem.cost problem.depot routes
-  pub printed : report ≡ report_of instance (Routes (plan_length problem.cost problem.depot routes) (length routes) least)
+
+-- Routes: their length, their number and the least number are printed.
+pub record AreAcceptedRoutes (claimed : Option ℤ) (instance solution : Fields) (report : List ℕ) : Type 0 where
+  pub problem : RoutingProblem
+  pub routes : List (List ℕ)
+  pub least : ℕ
+  pub only_routes : AreOnlyRoutes claimed instance solution problem routes least
+  pub printed : report ≡ report_of instance (Routes (plan_length problem.cost problem.depot routes) (length routes) least None)
 
 -- A tour with a certificate: it is the solution's only one; its length and the certificate's bound are printed. No tour of the
 -- instance is shorter than the bound, so that where the length equals it no tour is shorter than this one.
@@ -62,30 +67,56 @@ pub record IsTourWithBound (by : Certificate) (claimed : Option ℤ) (instance s
   pub optimal : length_of problem.cost tour ≡ bound → (other : List ℕ) → IsTour problem other
       → length_of problem.cost tour ≤ℤ length_of problem.cost other
 
--- A bound without a tour: the certificate's bound is printed, and no tour of the instance is shorter.
+-- Routes with a certificate: the certificate's bound is printed too. No plan of the instance whose routes each have a customer is
+-- shorter than the bound, so that where the length equals it no such plan is shorter than this one, which is such a plan.
+pub record AreRoutesWithBound (by : Certificate) (claimed : Option ℤ) (instance solution certificate : Fields) (report : List ℕ)
+    : Type 0 where
+  pub problem : RoutingProblem
+  pub routes : List (List ℕ)
+  pub least : ℕ
+  pub only_routes : AreOnlyRoutes claimed instance solution problem routes least
+  pub filled : IsFilledPlan problem routes
+  pub bound : ℤ
+  pub certificate_type : certificate.kind ≡ Some (kind_of by)
+  pub of_certificate : IsBoundOf by instance certificate bound
+  pub printed : report
+      ≡ report_of instance (Routes (plan_length problem.cost problem.depot routes) (length routes) least (Some bound))
+  pub below_plans : BoundsPlans problem bound
+  pub optimal : plan_length problem.cost problem.depot routes ≡ bound → (other : List (List ℕ)) → IsFilledPlan problem other
+      → plan_length problem.cost problem.depot routes ≤ℤ plan_length problem.cost problem.depot other
+
+-- no tour of the instance is shorter than the bound, or no plan whose routes each have a customer
+abbrev pub BoundsAll : Fields → ℤ → Type 0
+BoundsAll instance bound = ((problem : Problem) × IsProblemOf instance problem × BoundsTours problem bound)
+    ⊎ ((problem : RoutingProblem) × IsRoutingOf instance problem × BoundsPlans problem bound)
+
+-- the instance has no tour, or no such plan
+abbrev pub HasNone : Fields → Type 0
+HasNone instance = ((problem : Problem) × IsProblemOf instance problem × HasNoTour problem)
+    ⊎ ((problem : RoutingProblem) × IsRoutingOf instance problem × HasNoPlan problem)
+
+-- A bound without a solution: the certificate's bound is printed, and no solution of the instance is shorter.
 pub record IsAcceptedBound (by : Certificate) (instance certificate : Fields) (bound : ℤ) (report : List ℕ) : Type 0 where
-  pub problem : Problem
-  pub of_instance : IsProblemOf instance problem
   pub certificate_type : certificate.kind ≡ Some (kind_of by)
   pub of_certificate : IsBoundOf by instance certificate bound
   pub printed : report ≡ bound_report_of instance (Bound bound)
-  pub below_tours : BoundsTours problem bound
+  pub below : BoundsAll instance bound
 
--- With the line `bound none`: the instance has no tour.
-pub record IsShownTourless (by : Certificate) (instance certificate : Fields) (report : List ℕ) : Type 0 where
-  pub problem : Problem
-  pub of_instance : IsProblemOf instance problem
+-- With the line `bound none`: the instance has no solution.
+pub record IsShownUnsolvable (by : Certificate) (instance certificate : Fields) (report : List ℕ) : Type 0 where
   pub certificate_type : certificate.kind ≡ Some (kind_of by)
-  pub printed : report ≡ bound_report_of instance NoTour
-  pub no_tour : HasNoTour problem
+  pub printed : report ≡ bound_report_of instance NoSolution
+  pub none : HasNone instance
 
 -- The meaning of `yes` in a check, by the certificate, and in a bound without a solution.
 abbrev pub IsAccepted : Option (Certificate × Fields) → Option ℤ → Fields → Fields → List ℕ → Type 0
 IsAccepted None claimed instance solution report =
     IsAcceptedTour claimed instance solution report ⊎ AreAcceptedRoutes claimed instance solution report
-IsAccepted (Some given) claimed instance solution report = IsTourWithBound given.0 claimed instance solution given.1 report
+IsAccepted (Some given) claimed instance solution report =
+    IsTourWithBound given.0 claimed instance solution given.1 report
+    ⊎ AreRoutesWithBound given.0 claimed instance solution given.1 report
 
-abbrev pub IsAcceptedWithoutTour : Certificate → Fields → Fields → BoundVerdict → List ℕ → Type 0
-IsAcceptedWithoutTour by instance certificate (Bound bound) report = IsAcceptedBound by instance certificate bound report
-IsAcceptedWithoutTour by instance certificate NoTour report = IsShownTourless by instance certificate report
-IsAcceptedWithoutTour by instance certificate (No reason) report = ⊥
+abbrev pub IsAcceptedAlone : Certificate → Fields → Fields → BoundVerdict → List ℕ → Type 0
+IsAcceptedAlone by instance certificate (Bound bound) report = IsAcceptedBound by instance certificate bound report
+IsAcceptedAlone by instance certificate NoSolution report = IsShownUnsolvable by instance certificate report
+IsAcceptedAlone by instance certificate (No reason) report = ⊥

@@ -13,7 +13,7 @@ use Rattle.tsp_verdict.specs.Certified.{is_bounded, NoneWithoutMemory}
 use Rattle.tsp_judge.specs.declared.bound.Bounded.{Bounded}
 use Rattle.tsp_judge.specs.declared.fault.RunFault.{RunFault}
 use Rattle.tsp_judge.specs.declared.fault.RunFault.TheVariants.{File, WrongKind, Write, OutOfMemory}
-use Rattle.tsp_judge.specs.Accepted.{IsAcceptedWithoutTour}
+use Rattle.tsp_judge.specs.Accepted.{IsAcceptedAlone}
 use Rattle.tsp_judge.specs.CheckRun.{IsSomeFile}
 use Rattle.tsp_report.specs.Report.{bound_report_of}
 
@@ -55,7 +55,7 @@ pub record SaysBound (by : Certificate) (first second : Turn) (sink : Sink) (fou
   pub first_file : IsFile first instance
   pub second_file : IsFile second certificate
   pub written : HasWritten sink report
-  pub meaning : IsAcceptedWithoutTour by instance certificate found report
+  pub meaning : IsAcceptedAlone by instance certificate found report
 
 -- what the run does, and what its line `yes` means
 abbrev pub IsBoundRunOf : Certificate → Turn → Turn → Sink → Result Bounded RunFault → Type 0

@@ -19,7 +19,7 @@ ghost use Rattle.tsp_judge.specs.CompareRun.{ComparesNone, IsFaultOfCompare, IsT
 /// The largest status of the solutions, whichever comes first.
 pub fn examples_of_largest_statuses()
     ensures none { largest_status [] ≡ 0 }
-    ensures yes { largest_status (Ok (verdicts.Tour (pos 14) None) ∷ Ok (verdicts.Routes (pos 20) 3 2) ∷ []) ≡ 0 }
+    ensures yes { largest_status (Ok (verdicts.Tour (pos 14) None) ∷ Ok (verdicts.Routes (pos 20) 3 2 None) ∷ []) ≡ 0 }
     ensures no { largest_status (Ok (verdicts.No reasons.TourCount) ∷ Ok (verdicts.Tour (pos 14) None) ∷ []) ≡ 1 }
     ensures fault { largest_status (Ok (verdicts.No reasons.TourCount) ∷ Err read_faults.TooLong ∷ []) ≡ 2 }
     ensures device { largest_status (Err read_faults.Device ∷ Err read_faults.TooLong ∷ []) ≡ 5 }
@@ -29,15 +29,15 @@ pub fn examples_of_largest_statuses()
 /// which ends the text, and the status is 1 then.
 pub fn examples_of_bases()
     ensures tour { is_yes (verdicts.Tour (pos 14) None) ≡ true }
-    ensures routes { is_yes (verdicts.Routes (pos 20) 3 2) ≡ true }
+    ensures routes { is_yes (verdicts.Routes (pos 20) 3 2 None) ≡ true }
     ensures rejected { is_yes (verdicts.No reasons.TourCount) ≡ false }
     ensures bounded { is_bound_yes (bounds.Bound (pos 12)) ≡ true }
-    ensures without_tours { is_bound_yes bounds.NoTour ≡ true }
+    ensures without_tours { is_bound_yes bounds.NoSolution ≡ true }
     ensures unbounded { is_bound_yes (bounds.No reasons.TooFewNodes) ≡ false }
     ensures clear { is_clear (bases.Tours None) ≡ true }
     ensures clear_by_a_bound { is_clear (bases.Tours (Some (pos 12))) ≡ true }
-    ensures clear_without_tours { is_clear bases.NoTour ≡ true }
-    ensures clear_for_routes { is_clear (bases.Routes 2) ≡ true }
+    ensures clear_without_tours { is_clear bases.NoSolution ≡ true }
+    ensures clear_for_routes { is_clear (bases.Routes 2 None) ≡ true }
     ensures reason { is_clear (bases.No reasons.TooFewNodes) ≡ false }
     ensures status { (head : List ℕ) (sink : Sink) → HasWritten sink head → ComparesNone head sink (Ok 1) }
     ensures no_other_status { (head : List ℕ) (sink : Sink) → ¬ ComparesNone head sink (Ok 2) }

@@ -50,6 +50,6 @@ pub fn solutions_without_a_basis()
         → IsBasis given instance (bases.No reason) → IsVerdictWith given None instance solution verdict
         → is_yes verdict ≡ false }
     ensures no_tour { (given : Option (Certificate × Fields)) (instance solution : Fields) (verdict : Verdict)
-        → IsBasis given instance bases.NoTour → IsVerdictWith given None instance solution verdict
+        → IsBasis given instance bases.NoSolution → IsVerdictWith given None instance solution verdict
         → is_yes verdict ≡ false }
 {}

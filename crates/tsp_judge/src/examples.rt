@@ -28,7 +28,8 @@ ghost use Rattle.tsp_verdict.specs.Certified.{kind_of, is_bounded};
 pub fn examples_of_answers()
     ensures tour { is_yes (verdicts.Tour (pos 14) None) ≡ true }
     ensures bounded_tour { is_yes (verdicts.Tour (pos 18) (Some (pos 14))) ≡ true }
-    ensures routes { is_yes (verdicts.Routes (pos 20) 3 2) ≡ true }
+    ensures routes { is_yes (verdicts.Routes (pos 20) 3 2 None) ≡ true }
+    ensures bounded_routes { is_yes (verdicts.Routes (pos 20) 3 2 (Some (pos 18))) ≡ true }
     ensures no { is_yes (verdicts.No reasons.TourCount) ≡ false }
 {}
 
@@ -52,7 +53,7 @@ pub fn examples_of_certificates()
     ensures potentials_of_atsp { is_bounded certificates.Potentials (Some kinds.Atsp) ≡ true }
     ensures branches_of_atsp { is_bounded certificates.Branches (Some kinds.Atsp) ≡ true }
     ensures potentials_of_cvrp { is_bounded certificates.Potentials (Some kinds.Cvrp) ≡ false }
-    ensures branches_of_cvrp { is_bounded certificates.Branches (Some kinds.Cvrp) ≡ false }
+    ensures branches_of_cvrp { is_bounded certificates.Branches (Some kinds.Cvrp) ≡ true }
     ensures no_instance { is_bounded certificates.Potentials (Some kinds.Tour) ≡ false }
     ensures no_type { is_bounded certificates.Branches None ≡ false }
 {}

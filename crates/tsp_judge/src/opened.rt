@@ -75,8 +75,8 @@ impl Opened {
     ///
     /// # Errors
     ///
-    /// `File` with the number 2 where the text is no file; `WrongKind` where tours of the instance
-    /// have no bound by the certificate; `OutOfMemory`. In each case nothing has changed.
+    /// `File` with the number 2 where the text is no file; `WrongKind` where solutions of the
+    /// instance have no bound by the certificate; `OutOfMemory`. In each case nothing has changed.
     pub fn bind(
         &mut self,
         alloc: Global,
@@ -95,7 +95,7 @@ impl Opened {
             Ok(found) => found,
             Err(undecided) => return Err(Early::undecided(undecided)),
         };
-        self.basis = basis_of(found);
+        self.basis = basis_of(&self.instance, found);
         self.certificate = Some((by, file));
         Ok(found)
     }

@@ -6,7 +6,7 @@ ghost use Rattle.std.specs.Prelude.{[], Option, None, Some, Ok, Err, ℤ};
 ghost use Rattle.tsp_draft.specs.Fields.{Fields};
 ghost use Rattle.tsp_format.specs.declared.kinds.Kind.TheVariants as kinds;
 ghost use Rattle.tsp_format.specs.declared.layout.Layout.{Layout};
-ghost use Rattle.tsp_reason.specs.declared.certificate.Certificate.{Certificate};
+ghost use Rattle.tsp_reason.specs.declared.certificate.Certificate.TheVariants as certificates;
 ghost use Rattle.tsp_reason.specs.declared.verdict.BoundVerdict.TheVariants as bounds;
 ghost use Rattle.tsp_reason.specs.declared.verdict.Reason.{Reason};
 ghost use Rattle.tsp_reason.specs.declared.verdict.Verdict.TheVariants as verdicts;
@@ -43,15 +43,19 @@ pub fn examples_of_wrong_kinds()
         → JudgesFiles None claimed (instance_with kinds.Tour 4 []) solution sink (Err run_faults.WrongKind) }
     ensures tours_are_no_no { (claimed : Option ℤ) (solution : Fields) (sink : Sink) (reason : Reason)
         → ¬ JudgesFiles None claimed (instance_with kinds.Tour 4 []) solution sink (Ok (verdicts.No reason)) }
-    ensures routes { (by : Certificate) (claimed : Option ℤ) (solution certificate : Fields) (sink : Sink) → IsUnwritten sink
-        → JudgesFiles (Some (by, certificate)) claimed (instance_with kinds.Cvrp 4 []) solution sink (Err run_faults.WrongKind) }
-    ensures routes_are_no_no { (by : Certificate) (claimed : Option ℤ) (solution certificate : Fields) (sink : Sink)
+    ensures routes { (claimed : Option ℤ) (solution certificate : Fields) (sink : Sink) → IsUnwritten sink
+        → JudgesFiles (Some (certificates.Potentials, certificate)) claimed (instance_with kinds.Cvrp 4 []) solution sink (Err run_faults.WrongKind) }
+    ensures routes_are_no_no { (claimed : Option ℤ) (solution certificate : Fields) (sink : Sink)
         (reason : Reason)
-        → ¬ JudgesFiles (Some (by, certificate)) claimed (instance_with kinds.Cvrp 4 []) solution sink (Ok (verdicts.No reason)) }
+        → ¬ JudgesFiles (Some (certificates.Potentials, certificate)) claimed (instance_with kinds.Cvrp 4 []) solution sink (Ok (verdicts.No reason)) }
     ensures instance { (claimed : Option ℤ) (solution : Fields) (sink : Sink)
         → ¬ JudgesFiles None claimed (instance_with kinds.Cvrp 4 []) solution sink (Err run_faults.WrongKind) }
-    ensures bound_of_routes { (by : Certificate) (certificate : Fields) (sink : Sink) → IsUnwritten sink
-        → BoundsFiles by (instance_with kinds.Cvrp 4 []) certificate sink (Err run_faults.WrongKind) }
-    ensures bound_is_no_no { (by : Certificate) (certificate : Fields) (sink : Sink) (reason : Reason)
-        → ¬ BoundsFiles by (instance_with kinds.Cvrp 4 []) certificate sink (Ok (bounds.No reason)) }
+    ensures branches_of_routes { (claimed : Option ℤ) (solution certificate : Fields) (sink : Sink)
+        → ¬ JudgesFiles (Some (certificates.Branches, certificate)) claimed (instance_with kinds.Cvrp 4 []) solution sink (Err run_faults.WrongKind) }
+    ensures bound_by_branches { (certificate : Fields) (sink : Sink)
+        → ¬ BoundsFiles certificates.Branches (instance_with kinds.Cvrp 4 []) certificate sink (Err run_faults.WrongKind) }
+    ensures bound_of_routes { (certificate : Fields) (sink : Sink) → IsUnwritten sink
+        → BoundsFiles certificates.Potentials (instance_with kinds.Cvrp 4 []) certificate sink (Err run_faults.WrongKind) }
+    ensures bound_is_no_no { (certificate : Fields) (sink : Sink) (reason : Reason)
+        → ¬ BoundsFiles certificates.Potentials (instance_with kinds.Cvrp 4 []) certificate sink (Ok (bounds.No reason)) }
 {}

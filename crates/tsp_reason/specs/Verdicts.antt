@@ -9,18 +9,18 @@ use Rattle.tsp_reason.specs.declared.verdict.Verdict.TheVariants.{Tour, Routes, 
 
 abbrev pub is_yes : Verdict → Bool
 is_yes (Tour length bound) = true
-is_yes (Routes length routes least) = true
+is_yes (Routes length routes least bound) = true
 is_yes (No reason) = false
 
 -- the same without a solution
 abbrev pub is_bound_yes : BoundVerdict → Bool
 is_bound_yes (bounds.Bound bound) = true
-is_bound_yes bounds.NoTour = true
+is_bound_yes bounds.NoSolution = true
 is_bound_yes (bounds.No reason) = false
 
 -- solutions are judged one by one, since no reason applies whatever the solution
 abbrev pub is_clear : Basis → Bool
 is_clear (bases.Tours bound) = true
-is_clear bases.NoTour = true
-is_clear (bases.Routes least) = true
+is_clear bases.NoSolution = true
+is_clear (bases.Routes least bound) = true
 is_clear (bases.No reason) = false

@@ -8,9 +8,10 @@ pub enum Basis {
     /// Tours are judged. No tour of the instance is shorter than the bound, where there is one.
     Tours { bound: Option<i128> },
     /// The certificate shows that the instance has no tour.
-    NoTour,
-    /// Routes are judged. No plan of the instance has fewer than `least` routes.
-    Routes { least: u64 },
+    NoSolution,
+    /// Routes are judged. No plan of the instance has fewer than `least` routes, and none whose
+    /// routes each have a customer is shorter than the bound, where there is one.
+    Routes { least: u64, bound: Option<i128> },
     /// No solution is accepted, with the first reason that applies to the instance or the
     /// certificate.
     No(Reason),
@@ -26,7 +27,7 @@ impl Basis {
         ensures { result ≡ is_clear self }
     {
         match self {
-            Basis::Tours { .. } | Basis::NoTour | Basis::Routes { .. } => true,
+            Basis::Tours { .. } | Basis::NoSolution | Basis::Routes { .. } => true,
             Basis::No(_) => false,
         }
     }

@@ -1,11 +1,11 @@
 //! What certifies a bound.
 
-/// What a file that certifies a bound on the tours of an instance holds.
+/// What a file that certifies a bound on the tours or the routes of an instance holds.
 #[derive(Clone, Copy, Debug, PartialEq, Eq)]
 pub enum Certificate {
     /// Potentials of nodes and of fixed edges for a TSP, or of rows and columns for an ATSP.
     Potentials,
-    /// A tree of cases, with families of sets and the potentials of each leaf, for a TSP or an
-    /// ATSP.
+    /// A tree of cases, with families of sets and the potentials of each leaf, for a TSP, an ATSP
+    /// or a CVRP.
     Branches,
 }

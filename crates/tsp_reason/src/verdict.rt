@@ -96,11 +96,13 @@ pub enum Verdict {
         bound: Option<i128>,
     },
     /// Accepted: the solution is a plan of this many routes, of this length in all. No plan of the
-    /// instance has fewer than `least` routes.
+    /// instance has fewer than `least` routes. Where a certificate was judged too, no plan whose
+    /// routes each have a customer is shorter than the bound.
     Routes {
         length: i64,
         routes: u32,
         least: u64,
+        bound: Option<i128>,
     },
     /// Rejected, with the first reason that applies to the solution.
     No(Reason),
@@ -127,7 +129,7 @@ pub enum BoundVerdict {
     /// Accepted: no tour of the instance is shorter than this bound.
     Bound(i128),
     /// Accepted: the instance has no tour.
-    NoTour,
+    NoSolution,
     /// Rejected, with the first reason that applies to the instance or the certificate.
     No(Reason),
 }
@@ -141,7 +143,7 @@ impl BoundVerdict {
         ensures { result ≡ is_bound_yes self }
     {
         match self {
-            BoundVerdict::Bound(_) | BoundVerdict::NoTour => true,
+            BoundVerdict::Bound(_) | BoundVerdict::NoSolution => true,
             BoundVerdict::No(_) => false,
         }
     }

@@ -13,13 +13,17 @@ use Rattle.tsp_report.specs.Report.{instance_lines, no_line, reason_text}
 
 -- ---- the head
 
--- the bound, or `none` where the instance has no tour; the least number of routes; or the first reason against the instance or
--- the certificate
+-- the bound, where there is one
+abbrev pub basis_bound : Option ℤ → List ℕ
+basis_bound None = []
+basis_bound (Some bound) = codes "bound " ++ signed_decimal bound ++ codes "\n"
+
+-- the bound, or `none` where the instance has no solution, after the least number of routes; or the first reason against the
+-- instance or the certificate
 abbrev pub basis_lines : Basis → List ℕ
-basis_lines (bases.Tours None) = []
-basis_lines (bases.Tours (Some bound)) = codes "bound " ++ signed_decimal bound ++ codes "\n"
-basis_lines bases.NoTour = codes "bound none\n"
-basis_lines (bases.Routes least) = codes "least " ++ decimal least ++ codes "\n"
+basis_lines (bases.Tours bound) = basis_bound bound
+basis_lines bases.NoSolution = codes "bound none\n"
+basis_lines (bases.Routes least bound) = codes "least " ++ decimal least ++ codes "\n" ++ basis_bound bound
 basis_lines (bases.No reason) = no_line reason
 
 abbrev pub head_of : Fields → Basis → List ℕ
@@ -37,7 +41,8 @@ bound_words length (Some bound) = gap_words (length -ℤ bound)
 
 abbrev pub verdict_words : Verdict → List ℕ
 verdict_words (Tour length bound) = signed_decimal length ++ bound_words length bound
-verdict_words (Routes length routes least) = signed_decimal length ++ codes " routes " ++ decimal routes
+verdict_words (Routes length routes least bound) = signed_decimal length ++ codes " routes " ++ decimal routes
+    ++ bound_words length bound
 verdict_words (No reason) = codes "no " ++ reason_text reason
 
 -- the verdict on a solution, or the fault of its file

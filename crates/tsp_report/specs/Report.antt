@@ -123,11 +123,15 @@ bound_lines length (Some bound) = codes "bound " ++ signed_decimal bound ++ gap_
 abbrev pub no_line : Reason → List ℕ
 no_line reason = codes "no " ++ reason_text reason ++ codes "\n"
 
-abbrev pub verdict_lines : Verdict → List ℕ
-verdict_lines (Tour length bound) = codes "length " ++ signed_decimal length ++ codes "\n" ++ bound_lines length bound
+-- the length of an accepted solution, and the bound, where there is one
+abbrev pub accepted_lines : ℤ → Option ℤ → List ℕ
+accepted_lines length bound = codes "length " ++ signed_decimal length ++ codes "\n" ++ bound_lines length bound
     ++ codes "yes\n"
-verdict_lines (Routes length routes least) = codes "routes " ++ decimal routes ++ codes "\nleast " ++ decimal least
-    ++ codes "\nlength " ++ signed_decimal length ++ codes "\nyes\n"
+
+abbrev pub verdict_lines : Verdict → List ℕ
+verdict_lines (Tour length bound) = accepted_lines length bound
+verdict_lines (Routes length routes least bound) = codes "routes " ++ decimal routes ++ codes "\nleast " ++ decimal least
+    ++ codes "\n" ++ accepted_lines length bound
 verdict_lines (No reason) = no_line reason
 
 -- a bound of which the gap to a length fits
@@ -136,7 +140,7 @@ IsGapSized bound = IfSome bound (λ b. unsigned_abs b ≤ 2 ^ 126)
 
 abbrev pub IsSized : Verdict → Type 0
 IsSized (Tour length bound) = IsGapSized bound
-IsSized (Routes length routes least) = Unit {0}
+IsSized (Routes length routes least bound) = IsGapSized bound
 IsSized (No reason) = Unit {0}
 
 -- the report on an instance
@@ -145,12 +149,12 @@ report_of instance verdict = instance_lines instance ++ verdict_lines verdict
 
 -- ---- a bound without a solution
 
--- the bound, or `none` where the instance has no tour; or the first reason against the instance or the certificate
+-- the bound, or `none` where the instance has no solution; or the first reason against the instance or the certificate
 abbrev pub bound_found_lines : BoundVerdict → List ℕ
 bound_found_lines (bounds.Bound bound) = codes "bound " ++ signed_decimal bound ++ codes "\nyes\n"
-bound_found_lines bounds.NoTour = codes "bound none\nyes\n"
+bound_found_lines bounds.NoSolution = codes "bound none\nyes\n"
 bound_found_lines (bounds.No reason) = no_line reason
 
--- the report on an instance whose tours are bounded
+-- the report on an instance whose solutions are bounded
 abbrev pub bound_report_of : Fields → BoundVerdict → List ℕ
 bound_report_of instance found = instance_lines instance ++ bound_found_lines found

@@ -12,7 +12,7 @@ use tsp_reason::BoundVerdict;
 use tsp_stream::{Piece, Watched, WriteFault, hand_over, put};
 
 /// Writes the report on the bound of an instance, line by line: the lines on the instance; the
-/// bound, or `none` where the instance has no tour, and `yes`; or `no` with the first reason
+/// bound, or `none` where the instance has no solution, and `yes`; or `no` with the first reason
 /// against the instance or the certificate.
 ///
 /// # Errors
@@ -50,7 +50,7 @@ fn put_found<W: Write>(piece: &mut Piece, out: &mut Watched<W>, found: BoundVerd
             put_named(piece, out, b"bound ", bound);
             put(piece, out, b"\nyes\n");
         }
-        BoundVerdict::NoTour => put(piece, out, b"bound none\nyes\n"),
+        BoundVerdict::NoSolution => put(piece, out, b"bound none\nyes\n"),
         BoundVerdict::No(reason) => put_no(piece, out, reason),
     }
 }

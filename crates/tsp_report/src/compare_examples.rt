@@ -19,9 +19,11 @@ pub fn examples_of_heads()
         ≡ codes "type TSP\nnodes 2\nnot judged FOO\nnot judged BAR\n" }
     ensures bounded { head_of matrix (bases.Tours (Some (pos 12)))
         ≡ codes "type TSP\nnodes 2\nnot judged FOO\nnot judged BAR\nbound 12\n" }
-    ensures no_tour { head_of matrix bases.NoTour
+    ensures no_tour { head_of matrix bases.NoSolution
         ≡ codes "type TSP\nnodes 2\nnot judged FOO\nnot judged BAR\nbound none\n" }
-    ensures routes { head_of shown_routes (bases.Routes 3) ≡ codes "type CVRP\nnodes 2\nleast 3\n" }
+    ensures routes { head_of shown_routes (bases.Routes 3 None) ≡ codes "type CVRP\nnodes 2\nleast 3\n" }
+    ensures bounded_routes { head_of shown_routes (bases.Routes 3 (Some (pos 12)))
+        ≡ codes "type CVRP\nnodes 2\nleast 3\nbound 12\n" }
     ensures no { head_of matrix (bases.No reasons.TooFewNodes)
         ≡ codes "type TSP\nnodes 2\nnot judged FOO\nnot judged BAR\nno TooFewNodes\n" }
 {}
@@ -36,8 +38,12 @@ pub fn examples_of_lines()
         ≡ codes "18 gap 4 -\n" }
     ensures below_zero { solution_line (Ok (verdicts.Tour (negsuc 33) (Some (negsuc 34))))
         (codes "a") ≡ codes "-34 gap 1 a\n" }
-    ensures routes { solution_line (Ok (verdicts.Routes (pos 20) 3 2)) (codes "a.sol")
+    ensures routes { solution_line (Ok (verdicts.Routes (pos 20) 3 2 None)) (codes "a.sol")
         ≡ codes "20 routes 3 a.sol\n" }
+    ensures optimal_routes { solution_line (Ok (verdicts.Routes (pos 20) 3 2 (Some (pos 20)))) (codes "a.sol")
+        ≡ codes "20 routes 3 optimal a.sol\n" }
+    ensures gap_of_routes { solution_line (Ok (verdicts.Routes (pos 20) 3 2 (Some (pos 18)))) (codes "a.sol")
+        ≡ codes "20 routes 3 gap 2 a.sol\n" }
     ensures no { solution_line (Ok (verdicts.No (reasons.RepeatedNode 3))) (codes "a")
         ≡ codes "no RepeatedNode 3 a\n" }
     ensures stray { solution_line (Err (read_faults.Line 2 1 line_faults.StrayNumber)) (codes "a")

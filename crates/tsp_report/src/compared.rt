@@ -5,7 +5,7 @@ ghost use Rattle.tsp_stream.specs.states.Watched.{sink_of};
 ghost use Rattle.tsp_stream.specs.Sink.{Writes};
 ghost use Rattle.tsp_stream.specs.states.WriteProgress.{Puts};
 ghost use Rattle.tsp_report.specs.Report.{IsGapSized, IsSized};
-ghost use Rattle.tsp_report.specs.ComparisonText.{head_of, basis_lines, gap_words, bound_words, verdict_words, found_words, solution_line};
+ghost use Rattle.tsp_report.specs.ComparisonText.{head_of, basis_lines, basis_bound, gap_words, bound_words, verdict_words, found_words, solution_line};
 
 use crate::fault::put_fault;
 use crate::reason::put_reason;
@@ -17,8 +17,8 @@ use tsp_stream::{Piece, Watched, WriteFault, hand_over, put, put_number};
 use tsp_text::ReadFault;
 
 /// Writes the head of a comparison of solutions of an instance: the lines on the instance; the
-/// bound, or `none` where the instance has no tour; for TYPE CVRP the least number of routes. Or
-/// `no` with the first reason against the instance or the certificate.
+/// bound, or `none` where the instance has no solution; for TYPE CVRP the least number of routes
+/// before it. Or `no` with the first reason against the instance or the certificate.
 ///
 /// # Errors
 ///
@@ -82,17 +82,24 @@ fn put_basis<W: Write>(piece: &mut Piece, out: &mut Watched<W>, basis: Basis)
     ensures { Puts W.contents out.old piece.old out.new piece.new (basis_lines basis) }
 {
     match basis {
-        Basis::Tours { bound: None } => {}
-        Basis::Tours { bound: Some(bound) } => {
-            put_named(piece, out, b"bound ", bound);
-            put(piece, out, b"\n");
-        }
-        Basis::NoTour => put(piece, out, b"bound none\n"),
-        Basis::Routes { least } => {
+        Basis::Tours { bound } => put_bound_line(piece, out, bound),
+        Basis::NoSolution => put(piece, out, b"bound none\n"),
+        Basis::Routes { least, bound } => {
             put_named(piece, out, b"least ", least);
             put(piece, out, b"\n");
+            put_bound_line(piece, out, bound);
         }
         Basis::No(reason) => put_no(piece, out, reason),
+    }
+}
+
+/// Adds the line of a bound, where there is one.
+fn put_bound_line<W: Write>(piece: &mut Piece, out: &mut Watched<W>, bound: Option<i128>)
+    ensures { Puts W.contents out.old piece.old out.new piece.new (basis_bound bound) }
+{
+    if let Some(bound) = bound {
+        put_named(piece, out, b"bound ", bound);
+        put(piece, out, b"\n");
     }
 }
 
@@ -117,9 +124,15 @@ fn put_words<W: Write>(piece: &mut Piece, out: &mut Watched<W>, verdict: Verdict
             put_number(piece, out, length);
             put_bound_words(piece, out, length, bound);
         }
-        Verdict::Routes { length, routes, .. } => {
+        Verdict::Routes {
+            length,
+            routes,
+            least: _,
+            bound,
+        } => {
             put_number(piece, out, length);
             put_named(piece, out, b" routes ", routes);
+            put_bound_words(piece, out, length, bound);
         }
         Verdict::No(reason) => {
             put(piece, out, b"no ");

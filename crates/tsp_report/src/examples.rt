@@ -32,13 +32,13 @@ pub fn examples_of_reports()
         ≡ codes "bound " ++ signed_decimal (negsuc 34) ++ gap_lines (pos 1) }
     ensures tour { verdict_lines (verdicts.Tour (pos 14) None)
         ≡ codes "length " ++ signed_decimal (pos 14) ++ codes "\nyes\n" }
-    ensures routes { verdict_lines (verdicts.Routes (pos 20) 3 2)
+    ensures routes { verdict_lines (verdicts.Routes (pos 20) 3 2 None)
         ≡ codes "routes " ++ decimal 3 ++ codes "\nleast "
-        ++ decimal 2 ++ codes "\nlength " ++ signed_decimal (pos 20) ++ codes "\nyes\n" }
+        ++ decimal 2 ++ codes "\n" ++ (codes "length " ++ signed_decimal (pos 20) ++ codes "\nyes\n") }
     ensures no { verdict_lines (verdicts.No reasons.TourCount) ≡ codes "no TourCount\n" }
     ensures bound_alone { bound_found_lines (bounds.Bound (pos 14))
         ≡ codes "bound " ++ signed_decimal (pos 14) ++ codes "\nyes\n" }
-    ensures no_tour { bound_found_lines bounds.NoTour ≡ codes "bound none\nyes\n" }
+    ensures no_tour { bound_found_lines bounds.NoSolution ≡ codes "bound none\nyes\n" }
     ensures no_bound_alone { bound_found_lines (bounds.No reasons.TooFewNodes)
         ≡ codes "no TooFewNodes\n" }
 {}

@@ -4,7 +4,7 @@ ghost use Rattle.std.specs.Prelude.{◌≡◌, ◌++◌, ◌≤◌, ◌^◌, ◌
 ghost use Rattle.tsp_stream.specs.states.Watched.{sink_of};
 ghost use Rattle.tsp_stream.specs.Sink.{Writes};
 ghost use Rattle.tsp_stream.specs.states.WriteProgress.{Puts};
-ghost use Rattle.tsp_report.specs.Report.{report_of, instance_lines, type_line, nodes_line, not_judged, no_line, verdict_lines, bound_lines, gap_lines, IsGapSized, IsSized};
+ghost use Rattle.tsp_report.specs.Report.{report_of, instance_lines, type_line, nodes_line, not_judged, no_line, verdict_lines, accepted_lines, bound_lines, gap_lines, IsGapSized, IsSized};
 
 use crate::reason::put_reason;
 use itoa::Integer;
@@ -115,24 +115,31 @@ fn put_verdict<W: Write>(piece: &mut Piece, out: &mut Watched<W>, verdict: Verdi
     ensures { Puts W.contents out.old piece.old out.new piece.new (verdict_lines verdict) }
 {
     match verdict {
-        Verdict::Tour { length, bound } => {
-            put_named(piece, out, b"length ", length);
-            put(piece, out, b"\n");
-            put_bound(piece, out, length, bound);
-            put(piece, out, b"yes\n");
-        }
+        Verdict::Tour { length, bound } => put_accepted(piece, out, length, bound),
         Verdict::Routes {
             length,
             routes,
             least,
+            bound,
         } => {
             put_named(piece, out, b"routes ", routes);
             put_named(piece, out, b"\nleast ", least);
-            put_named(piece, out, b"\nlength ", length);
-            put(piece, out, b"\nyes\n");
+            put(piece, out, b"\n");
+            put_accepted(piece, out, length, bound);
         }
         Verdict::No(reason) => put_no(piece, out, reason),
     }
+}
+
+/// Adds the lines of a length and of a bound, where there is one, and the line `yes`.
+fn put_accepted<W: Write>(piece: &mut Piece, out: &mut Watched<W>, length: i64, bound: Option<i128>)
+    requires { IsGapSized bound }
+    ensures { Puts W.contents out.old piece.old out.new piece.new (accepted_lines length bound) }
+{
+    put_named(piece, out, b"length ", length);
+    put(piece, out, b"\n");
+    put_bound(piece, out, length, bound);
+    put(piece, out, b"yes\n");
 }
 
 /// Adds the line `no` with its reason.

@@ -1,7 +1,7 @@
 //! Whole reports, and all that is shown of files of each TYPE. No body is looked at here: a
 //! definition that is changed together with its code is refused by its examples.
 
-ghost use Rattle.std.specs.Prelude.{◌≡◌, ◌++◌, Some, pos, codes};
+ghost use Rattle.std.specs.Prelude.{◌≡◌, ◌++◌, None, Some, pos, codes};
 ghost use Rattle.tsp_reason.specs.declared.verdict.BoundVerdict.TheVariants as bounds;
 ghost use Rattle.tsp_reason.specs.declared.verdict.Reason.TheVariants as reasons;
 ghost use Rattle.tsp_reason.specs.declared.verdict.Verdict.TheVariants as verdicts;
@@ -15,15 +15,19 @@ pub fn examples_of_whole_reports()
         "type TSP\nnodes 2\nnot judged FOO\nnot judged BAR\nlength 14\nbound 12\ngap 2\nyes\n" }
     ensures no { report_of matrix (verdicts.No reasons.TourCount)
         ≡ codes "type TSP\nnodes 2\nnot judged FOO\nnot judged BAR\nno TourCount\n" }
-    ensures routes { report_of shown_routes (verdicts.Routes (pos 20) 3 2)
+    ensures routes { report_of shown_routes (verdicts.Routes (pos 20) 3 2 None)
         ≡ codes "type CVRP\nnodes 2\nroutes 3\nleast 2\nlength 20\nyes\n" }
+    ensures optimal_routes { report_of shown_routes (verdicts.Routes (pos 20) 3 2 (Some (pos 20)))
+        ≡ codes "type CVRP\nnodes 2\nroutes 3\nleast 2\nlength 20\nbound 20\noptimal\nyes\n" }
+    ensures bounded_routes { report_of shown_routes (verdicts.Routes (pos 20) 3 2 (Some (pos 18)))
+        ≡ codes "type CVRP\nnodes 2\nroutes 3\nleast 2\nlength 20\nbound 18\ngap 2\nyes\n" }
 {}
 
 /// Whole reports on the same instance, where its tours are bounded.
 pub fn examples_of_bound_reports()
     ensures bound { bound_report_of matrix (bounds.Bound (pos 12))
         ≡ codes "type TSP\nnodes 2\nnot judged FOO\nnot judged BAR\nbound 12\nyes\n" }
-    ensures no_tour { bound_report_of matrix bounds.NoTour
+    ensures no_tour { bound_report_of matrix bounds.NoSolution
         ≡ codes "type TSP\nnodes 2\nnot judged FOO\nnot judged BAR\nbound none\nyes\n" }
     ensures no { bound_report_of matrix (bounds.No reasons.TooFewNodes)
         ≡ codes "type TSP\nnodes 2\nnot judged FOO\nnot judged BAR\nno TooFewNodes\n" }

@@ -1,39 +1,37 @@
 -- What is known of all solutions, and the verdict on one of them by that.
-use Rattle.std.proofs.Common.{◌≡◌, ◌⊎◌, ◌<◌, ◌≤◌, ℕ, inl, inr, true, Option, Some, None, refl, sym, ap, subst, ◌∙◌, arith}
+use Rattle.std.proofs.Common.{◌≡◌, ◌⊎◌, ◌<◌, ◌≤◌, ℕ, inl, inr, true, Option, Some, None, refl, sym, ap₂, subst, ◌∙◌, arith}
 use Rattle.std.specs.Prelude.{ℤ, IsTrue, MatchOption, option_map}
 use Rattle.std.proofs.lemmas.Bool.{false≢true}
-use Rattle.tsp_format.specs.declared.kinds.Kind.{Kind}
 use Rattle.tsp_format.specs.declared.kinds.Kind.TheVariants as kinds
 use Rattle.tsp_draft.specs.Fields.{Fields}
 use Rattle.tsp_draft.specs.Rules.{is_tour_file}
+use Rattle.tsp_theory.specs.Tour.{HasNoTour}
+use Rattle.tsp_cost.specs.ComputedProblems.{problem_of, routing_of, capacity_of}
 use Rattle.tsp_reason.specs.declared.basis.Basis.{Basis}
 use Rattle.tsp_reason.specs.declared.basis.Basis.TheVariants as bases
 use Rattle.tsp_reason.specs.declared.certificate.Certificate.{Certificate}
 use Rattle.tsp_reason.specs.declared.verdict.BoundVerdict.TheVariants as bounds
 use Rattle.tsp_reason.specs.declared.verdict.Reason.{Reason}
-use Rattle.tsp_reason.specs.declared.verdict.Reason.TheVariants.{NotASolution, TooFewNodes, NotSymmetric, DepotCount, DepotDemand, FixedEdgesInRoutes, LengthClaimed, Dimension, NotPotentials}
+use Rattle.tsp_reason.specs.declared.verdict.Reason.TheVariants.{NotASolution, TooFewNodes, NotSymmetric, LengthClaimed, Dimension, NotPotentials}
 use Rattle.tsp_reason.specs.declared.verdict.Verdict.{Verdict}
 use Rattle.tsp_reason.specs.declared.verdict.Verdict.TheVariants as verdicts
-use Rattle.tsp_verdict.specs.Basis.{StandsAgainstRouting, IsBasisOfTours, IsBasisOfRoutes, IsBasisAlone, IsBasisBy, IsBasis, HasBasis, IsVerdictFrom}
-use Rattle.tsp_verdict.specs.Bounded.{StandsAgainstInstance, NoneAgainstInstance, StandsAgainstBounded}
-use Rattle.tsp_verdict.specs.Certified.{is_bounded, StandsAgainstCertificate}
-use Rattle.tsp_verdict.specs.SolutionVerdict.{is_judged, IsVerdictBy, IsVerdictOn, IsAsClaimed, IsOtherClaimed, IsVerdictWith}
-use Rattle.tsp_verdict.specs.Plan.{total_of, IsLeastRoutes}
+use Rattle.tsp_verdict.specs.Basis.{IsBasisOfTours, IsBasisOfRoutes, IsBasisAlone, IsBasisOfToursBy, IsBasisOfRoutesBy, IsBasis, HasBasis, IsVerdictFrom}
+use Rattle.tsp_verdict.specs.Bounded.{StandsAgainstTouring, NoneAgainstTouring, StandsAgainstInstance, StandsAgainstBounded}
+use Rattle.tsp_verdict.specs.Certified.{is_bounded, StandsAgainstCertificate, HasNoSolutionBy, HasNoSolution}
+use Rattle.tsp_verdict.specs.SolutionVerdict.{IsVerdictBy, IsVerdictOn, HasLength, HasNoLength, IsAsClaimed, IsOtherClaimed, IsVerdictWith}
+use Rattle.tsp_verdict.specs.Plan.{total_of, IsLeastRoutes, HasNoPlan}
 use Rattle.tsp_verdict.specs.Reasons.{rank_of, NoneBefore, IsFirstReason}
-use Rattle.tsp_cost.specs.ComputedProblems.{capacity_of}
-use Rattle.tsp_verdict.specs.Routes.{StandsAgainstRoutes, IsRoutesVerdict}
+use Rattle.tsp_verdict.specs.Routes.{IsFirstAgainstRoutes, IsRoutesVerdict, NoneOfRoutesBeforeRepeats}
+use Rattle.tsp_verdict.specs.Solution.{tours_of}
 use Rattle.tsp_verdict.specs.Tours.{NoneOfTourBefore, IsFirstAgainstTour, IsTourVerdict, StandsAgainstTour}
-use Rattle.tsp_verdict.specs.states.Sources.{verdict_by, IsSubject, IsVerdictGiven, IsBasisGiven}
+use Rattle.tsp_verdict.specs.states.Sources.{verdict_by, verdict_with, IsSubject, IsVerdictGiven, IsBasisGiven}
 use Rattle.tsp_verdict.specs.declared.source.Given.{Given}
 use Rattle.tsp_verdict.specs.declared.source.Given.TheVariants as givens
 use Rattle.tsp_verdict.specs.states.Known.{against_instance, KnowsInstance}
-use Rattle.tsp_verdict.proofs.Certificates.{certificate_rank, kinds_bounded}
-use Rattle.tsp_verdict.proofs.Claims.{refused_alone, other_alone, accepted_alone, tour_refused, tour_of_another_length, certificate_refused, tour_bounded}
-use Rattle.tsp_verdict.proofs.FoundBounds.{against_tour, found_by_certificate}
-
--- tours are judged
-abbrev pub HasTours : Fields → Type 0
-HasTours inst = (inst.kind ≡ Some kinds.Tsp) ⊎ (inst.kind ≡ Some kinds.Atsp)
+use Rattle.tsp_verdict.proofs.Certificates.{certificate_rank}
+use Rattle.tsp_verdict.proofs.Claims.{refused_alone, other_alone, accepted_alone, tour_refused, tour_of_another_length, certificate_refused, tour_bounded, on_routes, routes_refused, routes_of_another_length, routes_uncertified, routes_bounded}
+use Rattle.tsp_verdict.proofs.FoundBounds.{against_tour, against_routes, none_of_tour, none_of_routes, found_by_certificate}
+use Rattle.tsp_verdict.proofs.ByType.{HasTours, for_tours, of_tours, tours_by, routes_by}
 
 -- ---- what a basis of tours says of the instance
 
@@ -41,95 +39,99 @@ alone_of_tours : (inst : Fields) (basis : Basis) → HasTours inst → IsBasisAl
 alone_of_tours inst basis (inl tsp) b = subst (λ kind. IsBasisAlone kind inst basis) tsp b
 alone_of_tours inst basis (inr atsp) b = subst (λ kind. IsBasisAlone kind inst basis) atsp b
 
-instance_rank : (inst : Fields) (reason : Reason) → StandsAgainstInstance inst reason → rank_of reason < rank_of Dimension
+instance_rank : (inst : Fields) (reason : Reason) → StandsAgainstTouring inst reason → rank_of reason < rank_of Dimension
 instance_rank inst TooFewNodes stands = omega arith
 instance_rank inst (NotSymmetric i j) stands = omega arith
 instance_rank inst reason stands = absurd stands
 
 -- the first of all is the first against the instance, where it comes before those against the certificate
-of_instance : (by : Certificate) (inst cert : Fields) (reason : Reason) → rank_of reason < rank_of NotPotentials
+of_instance : (by : Certificate) (inst cert : Fields) (reason : Reason) → HasTours inst → rank_of reason < rank_of NotPotentials
     → IsFirstReason (StandsAgainstBounded by inst cert) reason
-    → IsFirstReason (StandsAgainstInstance inst) reason
-of_instance by inst cert reason early first = record {
+    → IsFirstReason (StandsAgainstTouring inst) reason
+of_instance by inst cert reason kind early first = record {
   stands = by_side first.stands;
-  none_before = λ other low stands. first.none_before other low (inl stands);
+  none_before = λ other low stands. first.none_before other low (inl (for_tours inst other kind stands));
 }
   where
-    by_side : StandsAgainstInstance inst reason ⊎ StandsAgainstCertificate by inst cert reason → StandsAgainstInstance inst reason
-    by_side (inl stands) = stands
+    by_side : StandsAgainstInstance inst reason ⊎ StandsAgainstCertificate by inst cert reason → StandsAgainstTouring inst reason
+    by_side (inl stands) = of_tours inst reason kind stands
     by_side (inr stands) = absurd (omega (arith, early, certificate_rank by inst cert reason stands))
 
 -- none applies to the instance, where the first of all comes after those
-after_instance : (by : Certificate) (inst cert : Fields) (reason : Reason) → rank_of Dimension ≤ rank_of reason
-    → IsFirstReason (StandsAgainstBounded by inst cert) reason → NoneAgainstInstance inst
-after_instance by inst cert reason late first =
-    λ other stands. first.none_before other (omega (arith, late, instance_rank inst other stands)) (inl stands)
+after_instance : (by : Certificate) (inst cert : Fields) (reason : Reason) → HasTours inst → rank_of Dimension ≤ rank_of reason
+    → IsFirstReason (StandsAgainstBounded by inst cert) reason → NoneAgainstTouring inst
+after_instance by inst cert reason kind late first =
+    λ other stands. first.none_before other (omega (arith, late, instance_rank inst other stands))
+    (inl (for_tours inst other kind stands))
 
 -- whether the file is a solution is judged of that alone
-no_solution : (by : Certificate) (inst cert : Fields)
+no_solution : (by : Certificate) (inst cert : Fields) → HasTours inst
     → StandsAgainstInstance inst NotASolution ⊎ StandsAgainstCertificate by inst cert NotASolution → ⊥
-no_solution by inst cert (inl stands) = stands
-no_solution by inst cert (inr stands) = omega (arith, certificate_rank by inst cert NotASolution stands)
+no_solution by inst cert kind (inl stands) = of_tours inst NotASolution kind stands
+no_solution by inst cert kind (inr stands) = omega (arith, certificate_rank by inst cert NotASolution stands)
 
-reason_alone : (inst : Fields) (reason : Reason) → IsFirstReason (StandsAgainstInstance inst) reason
+reason_alone : (inst : Fields) (reason : Reason) → IsFirstReason (StandsAgainstTouring inst) reason
     → KnowsInstance inst (bases.No reason)
 reason_alone inst TooFewNodes first = first
 reason_alone inst (NotSymmetric i j) first = first
 reason_alone inst reason first = absurd first.stands
 
-reason_by : (by : Certificate) (inst cert : Fields) (reason : Reason) → IsFirstReason (StandsAgainstBounded by inst cert) reason
+reason_by : (by : Certificate) (inst cert : Fields) (reason : Reason) → HasTours inst
+    → IsFirstReason (StandsAgainstBounded by inst cert) reason
     → KnowsInstance inst (bases.No reason)
-reason_by by inst cert TooFewNodes first = of_instance by inst cert TooFewNodes (omega arith) first
-reason_by by inst cert (NotSymmetric i j) first = of_instance by inst cert (NotSymmetric i j) (omega arith) first
-reason_by by inst cert NotASolution first = absurd (no_solution by inst cert first.stands)
-reason_by by inst cert reason first = after_instance by inst cert reason (omega arith) first
+reason_by by inst cert TooFewNodes kind first = of_instance by inst cert TooFewNodes kind (omega arith) first
+reason_by by inst cert (NotSymmetric i j) kind first = of_instance by inst cert (NotSymmetric i j) kind (omega arith) first
+reason_by by inst cert NotASolution kind first = absurd (no_solution by inst cert kind first.stands)
+reason_by by inst cert reason kind first = after_instance by inst cert reason kind (omega arith) first
 
 knows_alone : (inst : Fields) (basis : Basis) → IsBasisOfTours inst basis → KnowsInstance inst basis
 knows_alone inst (bases.Tours None) b = b
 knows_alone inst (bases.Tours (Some bound)) b = absurd b
-knows_alone inst bases.NoTour b = absurd b
-knows_alone inst (bases.Routes least) b = absurd b
+knows_alone inst bases.NoSolution b = absurd b
+knows_alone inst (bases.Routes least bound) b = absurd b
 knows_alone inst (bases.No reason) b = reason_alone inst reason b
 
-knows_by : (by : Certificate) (inst cert : Fields) (basis : Basis) → IsBasisBy by inst cert basis → KnowsInstance inst basis
-knows_by by inst cert (bases.Tours None) b = absurd b
-knows_by by inst cert (bases.Tours (Some bound)) b = λ reason stands. b.0 reason (inl stands)
-knows_by by inst cert bases.NoTour b = λ reason stands. b.0 reason (inl stands)
-knows_by by inst cert (bases.Routes least) b = absurd b
-knows_by by inst cert (bases.No reason) b = reason_by by inst cert reason b
+knows_by : (by : Certificate) (inst cert : Fields) (basis : Basis) → HasTours inst → IsBasisOfToursBy by inst cert basis
+    → KnowsInstance inst basis
+knows_by by inst cert (bases.Tours None) kind b = absurd b
+knows_by by inst cert (bases.Tours (Some bound)) kind b = λ reason stands. b.0 reason (inl (for_tours inst reason kind stands))
+knows_by by inst cert bases.NoSolution kind b = λ reason stands. b.0 reason (inl (for_tours inst reason kind stands))
+knows_by by inst cert (bases.Routes least bound) kind b = absurd b
+knows_by by inst cert (bases.No reason) kind b = reason_by by inst cert reason kind b
 
 -- a basis of tours has the reason against the instance, where one applies
 pub knows_instance : (given : Option (Certificate × Fields)) (inst : Fields) (basis : Basis) → HasTours inst
     → IsBasis given inst basis → KnowsInstance inst basis
 knows_instance None inst basis kind b = knows_alone inst basis (alone_of_tours inst basis kind b.1)
-knows_instance (Some given) inst basis kind b = knows_by given.0 inst given.1 basis b.1
+knows_instance (Some given) inst basis kind b =
+    knows_by given.0 inst given.1 basis kind (tours_by given.0 inst given.1 basis kind b.1)
 
 -- where it has none, none applies to the instance
 pub none_known : (inst : Fields) (basis : Basis) (found : Option Reason) → found ≡ against_instance basis → found ≡ None
-    → KnowsInstance inst basis → NoneAgainstInstance inst
+    → KnowsInstance inst basis → NoneAgainstTouring inst
 none_known inst basis found is none knows =
-    subst (λ (it : Option Reason). MatchOption it (NoneAgainstInstance inst)
-    (λ reason. IsFirstReason (StandsAgainstInstance inst) reason)) (sym is ∙ none) knows
+    subst (λ (it : Option Reason). MatchOption it (NoneAgainstTouring inst)
+    (λ reason. IsFirstReason (StandsAgainstTouring inst) reason)) (sym is ∙ none) knows
 
 -- the one that it has is the first
 pub first_known : (inst : Fields) (basis : Basis) (found : Option Reason) (reason : Reason) → found ≡ against_instance basis
     → found ≡ Some reason → KnowsInstance inst basis
-    → IsFirstReason (StandsAgainstInstance inst) reason
+    → IsFirstReason (StandsAgainstTouring inst) reason
 first_known inst basis found reason is some knows =
-    subst (λ (it : Option Reason). MatchOption it (NoneAgainstInstance inst) (λ r. IsFirstReason (StandsAgainstInstance inst) r))
+    subst (λ (it : Option Reason). MatchOption it (NoneAgainstTouring inst) (λ r. IsFirstReason (StandsAgainstTouring inst) r))
     (sym is ∙ some) knows
 
 -- ---- the reasons before those against the tours
 
 up_to_instance : (inst sol : Fields) (rank : ℕ) → rank ≤ rank_of (NotSymmetric 1 2) → is_tour_file sol.kind ≡ true
-    → NoneBefore (StandsAgainstInstance inst) rank → NoneBefore (StandsAgainstTour inst sol) rank
+    → NoneBefore (StandsAgainstTouring inst) rank → NoneBefore (StandsAgainstTour inst sol) rank
 up_to_instance inst sol rank few is none NotASolution low stands = false≢true (sym stands ∙ is)
 up_to_instance inst sol rank few is none TooFewNodes low stands = none TooFewNodes low stands
 up_to_instance inst sol rank few is none reason low stands = absurd (omega (arith, few, low))
 
 -- the first reason against the instance is the first against a solution that has tours
 pub instance_first : (inst sol : Fields) (reason : Reason) → is_tour_file sol.kind ≡ true
-    → IsFirstReason (StandsAgainstInstance inst) reason → IsFirstAgainstTour inst sol reason
+    → IsFirstReason (StandsAgainstTouring inst) reason → IsFirstAgainstTour inst sol reason
 instance_first inst sol TooFewNodes is first =
     record {
       stands = first.stands;
@@ -145,7 +147,7 @@ instance_first inst sol (NotSymmetric i j) is first =
 instance_first inst sol reason is first = absurd first.stands
 
 -- where none applies to the instance
-pub up_to_dimension : (inst sol : Fields) → is_tour_file sol.kind ≡ true → NoneAgainstInstance inst
+pub up_to_dimension : (inst sol : Fields) → is_tour_file sol.kind ≡ true → NoneAgainstTouring inst
     → NoneOfTourBefore inst sol Dimension
 up_to_dimension inst sol is none NotASolution low stands = false≢true (sym stands ∙ is)
 up_to_dimension inst sol is none TooFewNodes low stands = none TooFewNodes stands
@@ -161,21 +163,21 @@ tour_alone inst sol verdict (inr atsp) v = subst (λ kind. IsVerdictBy kind inst
 
 -- the first reason against a tour is that of the verdict
 tour_rejected : (given : Option (Certificate × Fields)) (inst sol : Fields) (claimed : Option ℤ) (reason : Reason) → HasTours inst
-    → IsTrue (is_judged given inst.kind) → IsFirstAgainstTour inst sol reason
+    → IsFirstAgainstTour inst sol reason
     → IsVerdictWith given claimed inst sol (verdicts.No reason)
-tour_rejected None inst sol claimed reason kind is first =
+tour_rejected None inst sol claimed reason kind first =
     refused_alone claimed inst sol (verdicts.No reason) tt (tour_alone inst sol (verdicts.No reason) kind first)
-tour_rejected (Some given) inst sol claimed reason kind is first = tour_refused given.0 inst sol given.1 claimed reason is first
+tour_rejected (Some given) inst sol claimed reason kind first = tour_refused given.0 inst sol given.1 claimed reason kind first
 
 -- another length than the claimed one
 tour_disclaimed : (given : Option (Certificate × Fields)) (inst sol : Fields) (claimed : Option ℤ) (found : ℤ) → HasTours inst
-    → IsTrue (is_judged given inst.kind) → IsTourVerdict inst sol (verdicts.Tour found None) → IsOtherClaimed claimed found
+    → IsTourVerdict inst sol (verdicts.Tour found None) → IsOtherClaimed claimed found
     → IsVerdictWith given claimed inst sol (verdicts.No (LengthClaimed found))
-tour_disclaimed None inst sol claimed found kind is v other =
+tour_disclaimed None inst sol claimed found kind v other =
     other_alone claimed inst sol (verdicts.Tour found None) found refl other
     (tour_alone inst sol (verdicts.Tour found None) kind v)
-tour_disclaimed (Some given) inst sol claimed found kind is v other =
-    tour_of_another_length given.0 inst sol given.1 claimed found is v other
+tour_disclaimed (Some given) inst sol claimed found kind v other =
+    tour_of_another_length given.0 inst sol given.1 claimed found kind v other
 
 -- a tour to which no reason applies has the bound
 tour_accepted : (given : Option (Certificate × Fields)) (inst sol : Fields) (bound claimed : Option ℤ) (found : ℤ) → HasTours inst
@@ -184,12 +186,14 @@ tour_accepted : (given : Option (Certificate × Fields)) (inst sol : Fields) (bo
 tour_accepted None inst sol None claimed found kind b v claims =
     accepted_alone claimed inst sol (verdicts.Tour found None) found refl claims
     (tour_alone inst sol (verdicts.Tour found None) kind v)
-tour_accepted (Some given) inst sol None claimed found kind b v claims = absurd b.1
+tour_accepted (Some given) inst sol None claimed found kind b v claims =
+    absurd (tours_by given.0 inst given.1 (bases.Tours None) kind b.1)
 tour_accepted None inst sol (Some least) claimed found kind b v claims =
     absurd (alone_of_tours inst (bases.Tours (Some least)) kind b.1)
 tour_accepted (Some given) inst sol (Some least) claimed found kind b v claims =
-    tour_bounded given.0 inst sol given.1 claimed found least v claims
-    (found_by_certificate given.0 inst sol given.1 (bounds.Bound least) v.0 b.1)
+    tour_bounded given.0 inst sol given.1 claimed found least kind v claims
+    (found_by_certificate given.0 inst given.1 (bounds.Bound least) (none_of_tour inst sol kind v.0)
+    (tours_by given.0 inst given.1 (bases.Tours (Some least)) kind b.1))
 
 -- the reason against the certificate, where none applies to the tour
 tour_uncertified : (given : Option (Certificate × Fields)) (inst sol : Fields) (claimed : Option ℤ) (found : ℤ) (reason : Reason)
@@ -199,21 +203,27 @@ tour_uncertified : (given : Option (Certificate × Fields)) (inst sol : Fields) 
 tour_uncertified None inst sol claimed found reason kind b v claims =
     absurd (v.0 reason (against_tour inst sol reason (alone_of_tours inst (bases.No reason) kind b.1).stands))
 tour_uncertified (Some given) inst sol claimed found reason kind b v claims =
-    certificate_refused given.0 inst sol given.1 claimed found reason b.0 v claims
-    (found_by_certificate given.0 inst sol given.1 (bounds.No reason) v.0 b.1)
+    certificate_refused given.0 inst sol given.1 claimed found reason kind v claims
+    (found_by_certificate given.0 inst given.1 (bounds.No reason) (none_of_tour inst sol kind v.0)
+    (tours_by given.0 inst given.1 (bases.No reason) kind b.1))
+
+without_tour : (inst : Fields) → HasTours inst → HasNoSolution inst → HasNoTour (problem_of inst)
+without_tour inst (inl tsp) none = subst (λ kind. HasNoSolutionBy kind inst) tsp none
+without_tour inst (inr atsp) none = subst (λ kind. HasNoSolutionBy kind inst) atsp none
 
 -- an instance without tours has no tour of a solution
 no_tour : (given : Option (Certificate × Fields)) (inst sol : Fields) (found : ℤ) → HasTours inst
-    → IsBasis given inst bases.NoTour
+    → IsBasis given inst bases.NoSolution
     → IsTourVerdict inst sol (verdicts.Tour found None) → ⊥
-no_tour None inst sol found kind b v = alone_of_tours inst bases.NoTour kind b.1
-no_tour (Some given) inst sol found kind b v = b.1.2 v.1.0 v.1.2
+no_tour None inst sol found kind b v = alone_of_tours inst bases.NoSolution kind b.1
+no_tour (Some given) inst sol found kind b v =
+    let by = tours_by given.0 inst given.1 bases.NoSolution kind b.1 in without_tour inst kind by.2 v.1.0 v.1.2
 
 -- an instance with tours has no routes
-no_routes : (given : Option (Certificate × Fields)) (inst : Fields) (least : ℕ) → HasTours inst
-    → IsBasis given inst (bases.Routes least) → ⊥
-no_routes None inst least kind b = alone_of_tours inst (bases.Routes least) kind b.1
-no_routes (Some given) inst least kind b = b.1
+no_routes : (given : Option (Certificate × Fields)) (inst : Fields) (least : ℕ) (bound : Option ℤ) → HasTours inst
+    → IsBasis given inst (bases.Routes least bound) → ⊥
+no_routes None inst least bound kind b = alone_of_tours inst (bases.Routes least bound) kind b.1
+no_routes (Some given) inst least bound kind b = tours_by given.0 inst given.1 (bases.Routes least bound) kind b.1
 
 -- the verdict on a tour that is accepted on its own, by what is known of all
 tour_judged : (given : Option (Certificate × Fields)) (inst sol : Fields) (basis : Basis) (claimed : Option ℤ) (found : ℤ)
@@ -222,8 +232,9 @@ tour_judged : (given : Option (Certificate × Fields)) (inst sol : Fields) (basi
     → IsVerdictWith given claimed inst sol (verdict_by basis found) × HasBasis (verdict_by basis found) basis
 tour_judged given inst sol (bases.Tours bound) claimed found kind b v claims =
     (tour_accepted given inst sol bound claimed found kind b v claims, refl)
-tour_judged given inst sol bases.NoTour claimed found kind b v claims = absurd (no_tour given inst sol found kind b v)
-tour_judged given inst sol (bases.Routes least) claimed found kind b v claims = absurd (no_routes given inst least kind b)
+tour_judged given inst sol bases.NoSolution claimed found kind b v claims = absurd (no_tour given inst sol found kind b v)
+tour_judged given inst sol (bases.Routes least bound) claimed found kind b v claims =
+    absurd (no_routes given inst least bound kind b)
 tour_judged given inst sol (bases.No reason) claimed found kind b v claims =
     (tour_uncertified given inst sol claimed found reason kind b v claims, tt)
 
@@ -237,17 +248,17 @@ bounded_so by inst (inr atsp) = subst (λ kind. IsTrue (is_bounded by kind)) (sy
 pub subject_rejected : (given : Given) (inst sol : Fields) (claimed : Option ℤ) (reason : Reason) → HasTours inst
     → IsSubject inst given → IsFirstAgainstTour inst sol reason → IsVerdictGiven given claimed inst sol (verdicts.No reason)
 subject_rejected (givens.Certificate certificate) inst sol claimed reason kind s first =
-    tour_rejected (option_map (λ it. (it.0, it.1.now)) certificate) inst sol claimed reason kind s first
+    tour_rejected (option_map (λ it. (it.0, it.1.now)) certificate) inst sol claimed reason kind first
 subject_rejected (givens.Basis basis) inst sol claimed reason kind s first =
-    (tt, λ other b. tour_rejected other inst sol claimed reason kind b.0 first)
+    (tt, λ other b. tour_rejected other inst sol claimed reason kind first)
 
 pub subject_disclaimed : (given : Given) (inst sol : Fields) (claimed : Option ℤ) (found : ℤ) → HasTours inst
     → IsSubject inst given → IsTourVerdict inst sol (verdicts.Tour found None) → IsOtherClaimed claimed found
     → IsVerdictGiven given claimed inst sol (verdicts.No (LengthClaimed found))
 subject_disclaimed (givens.Certificate certificate) inst sol claimed found kind s v other =
-    tour_disclaimed (option_map (λ it. (it.0, it.1.now)) certificate) inst sol claimed found kind s v other
+    tour_disclaimed (option_map (λ it. (it.0, it.1.now)) certificate) inst sol claimed found kind v other
 subject_disclaimed (givens.Basis basis) inst sol claimed found kind s v other =
-    (tt, λ any b. tour_disclaimed any inst sol claimed found kind b.0 v other)
+    (tt, λ any b. tour_disclaimed any inst sol claimed found kind v other)
 
 from_basis : (inst sol : Fields) (basis known : Basis) (claimed : Option ℤ) (found : ℤ) → HasTours inst → basis ≡ known
     → (given : Option (Certificate × Fields)) × IsBasis given inst known → IsTourVerdict inst sol (verdicts.Tour found None)
@@ -268,79 +279,161 @@ subject_judged (givens.Basis known) inst sol basis claimed found kind s is v cla
 
 -- ---- routes
 
-cvrp_apart : (kind : Option Kind) → kind ≡ Some kinds.Cvrp → (kind ≡ Some kinds.Tsp) ⊎ (kind ≡ Some kinds.Atsp) → ⊥
-cvrp_apart kind cvrp (inl tsp) = cc
-cvrp_apart kind cvrp (inr atsp) = cc
-
--- routes have no certificate
-alone_of_routes : (given : Option (Certificate × Fields)) (inst : Fields) (basis : Basis) → inst.kind ≡ Some kinds.Cvrp
-    → IsBasis given inst basis → IsBasisOfRoutes inst basis
-alone_of_routes None inst basis cvrp b = subst (λ kind. IsBasisAlone kind inst basis) cvrp b.1
-alone_of_routes (Some given) inst basis cvrp b = absurd (cvrp_apart inst.kind cvrp (kinds_bounded given.0 inst.kind b.0))
+alone_of_routes : (inst : Fields) (basis : Basis) → inst.kind ≡ Some kinds.Cvrp → IsBasisAlone inst.kind inst basis
+    → IsBasisOfRoutes inst basis
+alone_of_routes inst basis cvrp b = subst (λ kind. IsBasisAlone kind inst basis) cvrp b
 
 -- the least number is one
-same_least : (total capacity : ℤ) (a b : ℕ) → IsLeastRoutes total capacity a → IsLeastRoutes total capacity b → a ≡ b
+pub same_least : (total capacity : ℤ) (a b : ℕ) → IsLeastRoutes total capacity a → IsLeastRoutes total capacity b → a ≡ b
 same_least total capacity a b first second = omega (arith, first.none_less b second.enough, second.none_less a first.enough)
 
--- a reason against the instance is one against all routes
-against_routes : (inst sol : Fields) (reason : Reason) → StandsAgainstRouting inst reason → StandsAgainstRoutes inst sol reason
-against_routes inst sol TooFewNodes stands = stands
-against_routes inst sol DepotCount stands = stands
-against_routes inst sol DepotDemand stands = stands
-against_routes inst sol FixedEdgesInRoutes stands = stands
-against_routes inst sol reason stands = absurd stands
+-- the first reason against routes is that of the verdict
+routes_rejected : (given : Option (Certificate × Fields)) (inst sol : Fields) (claimed : Option ℤ) (reason : Reason)
+    → inst.kind ≡ Some kinds.Cvrp → IsFirstAgainstRoutes inst sol reason
+    → IsVerdictWith given claimed inst sol (verdicts.No reason)
+routes_rejected None inst sol claimed reason cvrp first =
+    refused_alone claimed inst sol (verdicts.No reason) tt (on_routes inst sol (verdicts.No reason) cvrp first)
+routes_rejected (Some given) inst sol claimed reason cvrp first =
+    routes_refused given.0 inst sol given.1 claimed reason cvrp first
 
-accepted_basis : (inst sol : Fields) (basis : Basis) (found : ℤ) (count least : ℕ) → IsBasisOfRoutes inst basis
-    → IsRoutesVerdict inst sol (verdicts.Routes found count least)
-    → basis ≡ bases.Routes least
-accepted_basis inst sol (bases.Tours bound) found count least b v = absurd b
-accepted_basis inst sol bases.NoTour found count least b v = absurd b
-accepted_basis inst sol (bases.Routes other) found count least b v =
-    ap bases.Routes (same_least (total_of inst) (capacity_of inst) other least b.1 v.1.least_is)
-accepted_basis inst sol (bases.No reason) found count least b v = absurd (v.0 reason (against_routes inst sol reason b.stands))
+-- another length than the claimed one
+routes_disclaimed : (given : Option (Certificate × Fields)) (inst sol : Fields) (claimed : Option ℤ) (found : ℤ)
+    (count fewest : ℕ) → inst.kind ≡ Some kinds.Cvrp
+    → IsRoutesVerdict inst sol (verdicts.Routes found count fewest None) → IsOtherClaimed claimed found
+    → IsVerdictWith given claimed inst sol (verdicts.No (LengthClaimed found))
+routes_disclaimed None inst sol claimed found count fewest cvrp v other =
+    other_alone claimed inst sol (verdicts.Routes found count fewest None) found refl other
+    (on_routes inst sol (verdicts.Routes found count fewest None) cvrp v)
+routes_disclaimed (Some given) inst sol claimed found count fewest cvrp v other =
+    routes_of_another_length given.0 inst sol given.1 claimed found count fewest cvrp v other
 
--- without the claim a solution is accepted too
-own_tour : (claimed : Option ℤ) (inst sol : Fields) (found : ℤ) (bound : Option ℤ)
-    → IsVerdictWith None claimed inst sol (verdicts.Tour found bound)
-    → IsVerdictOn inst sol (verdicts.Tour found bound)
-own_tour None inst sol found bound v = v
-own_tour (Some claim) inst sol found bound v = v.0
-
-own_routes : (claimed : Option ℤ) (inst sol : Fields) (found : ℤ) (count least : ℕ)
-    → IsVerdictWith None claimed inst sol (verdicts.Routes found count least)
-    → IsVerdictOn inst sol (verdicts.Routes found count least)
-own_routes None inst sol found count least v = v
-own_routes (Some claim) inst sol found count least v = v.0
-
-routes_have : (inst sol : Fields) (basis : Basis) (claimed : Option ℤ) (verdict : Verdict) → inst.kind ≡ Some kinds.Cvrp
-    → IsBasisOfRoutes inst basis
-    → IsVerdictWith None claimed inst sol verdict → HasBasis verdict basis
-routes_have inst sol basis claimed (verdicts.Tour found bound) cvrp b v =
-    absurd (subst (λ kind. IsVerdictBy kind inst sol (verdicts.Tour found bound)) cvrp (own_tour claimed inst sol found bound v))
-routes_have inst sol basis claimed (verdicts.Routes found count least) cvrp b v =
-    accepted_basis inst sol basis found count least b
-    (subst (λ kind. IsVerdictBy kind inst sol (verdicts.Routes found count least)) cvrp
-    (own_routes claimed inst sol found count least v))
-routes_have inst sol basis claimed (verdicts.No reason) cvrp b v = tt
-
-with_either : (given : Option (Certificate × Fields)) (inst sol : Fields) (claimed : Option ℤ) (verdict : Verdict)
-    → inst.kind ≡ Some kinds.Cvrp → IsTrue (is_judged given inst.kind)
-    → IsVerdictWith None claimed inst sol verdict → IsVerdictWith given claimed inst sol verdict
-with_either None inst sol claimed verdict cvrp is v = v
-with_either (Some given) inst sol claimed verdict cvrp is v =
-    absurd (cvrp_apart inst.kind cvrp (kinds_bounded given.0 inst.kind is))
-
--- the verdict on routes is that of the solution
-pub routes_judged : (given : Given) (inst sol : Fields) (claimed : Option ℤ) (verdict next : Verdict)
-    → inst.kind ≡ Some kinds.Cvrp → IsSubject inst given → IsRoutesVerdict inst sol verdict
-    → ((instance solution : Fields) → IsVerdictOn instance solution verdict → IsVerdictWith None claimed instance solution next)
-    → IsVerdictGiven given claimed inst sol next
-routes_judged (givens.Certificate certificate) inst sol claimed verdict next cvrp s routes claims =
-    with_either (option_map (λ it. (it.0, it.1.now)) certificate) inst sol claimed next cvrp s
-    (claims inst sol (subst (λ kind. IsVerdictBy kind inst sol verdict) (sym cvrp) routes))
-routes_judged (givens.Basis basis) inst sol claimed verdict next cvrp s routes claims =
-    let own : IsVerdictWith None claimed inst sol next =
-    claims inst sol (subst (λ kind. IsVerdictBy kind inst sol verdict) (sym cvrp) routes) in (
-      routes_have inst sol basis claimed next cvrp (alone_of_routes s.0 inst basis cvrp s.1) own,
-      λ other b. with_either other inst sol claimed next cvrp b.0 own,
+-- The verdict on routes that are accepted on their own, by what is known of all.
+-- plan: by the certificate and the basis; where there is none, the basis has the least number alone; else the bound, or the reason
+-- against the certificate
+routes_alone : (inst sol : Fields) (basis : Basis) (claimed : Option ℤ) (found : ℤ) (count fewest : ℕ)
+    → inst.kind ≡ Some kinds.Cvrp → IsBasisOfRoutes inst basis
+    → IsRoutesVerdict inst sol (verdicts.Routes found count fewest None) → IsAsClaimed claimed found
+    → IsVerdictWith None claimed inst sol (verdict_with basis (verdicts.Routes found count fewest None))
+    × HasBasis (verdict_with basis (verdicts.Routes found count fewest None)) basis
+routes_alone inst sol (bases.Routes least None) claimed found count fewest cvrp b v claims =
+    let same = same_least (total_of inst) (capacity_of inst) fewest least v.1.least_is b.1 in
+    let here : IsRoutesVerdict inst sol (verdicts.Routes found count least None) =
+    subst (λ (k : ℕ). IsRoutesVerdict inst sol (verdicts.Routes found count k None)) same v in (
+      accepted_alone claimed inst sol (verdicts.Routes found count least None) found refl claims
+          (on_routes inst sol (verdicts.Routes found count least None) cvrp here),
+      refl,
     )
+routes_alone inst sol (bases.Routes least (Some bound)) claimed found count fewest cvrp b v claims = absurd b
+routes_alone inst sol (bases.Tours bound) claimed found count fewest cvrp b v claims = absurd b
+routes_alone inst sol bases.NoSolution claimed found count fewest cvrp b v claims = absurd b
+routes_alone inst sol (bases.No reason) claimed found count fewest cvrp b v claims =
+    absurd (v.0 reason (against_routes inst sol reason b.stands))
+
+routes_with : (by : Certificate) (inst sol cert : Fields) (basis : Basis) (claimed : Option ℤ) (found : ℤ) (count fewest : ℕ)
+    → inst.kind ≡ Some kinds.Cvrp → IsBasisOfRoutesBy by inst cert basis
+    → IsRoutesVerdict inst sol (verdicts.Routes found count fewest None) → IsAsClaimed claimed found
+    → IsVerdictWith (Some (by, cert)) claimed inst sol (verdict_with basis (verdicts.Routes found count fewest None))
+    × HasBasis (verdict_with basis (verdicts.Routes found count fewest None)) basis
+routes_with by inst sol cert (bases.Routes least (Some bound)) claimed found count fewest cvrp b v claims =
+    let same = same_least (total_of inst) (capacity_of inst) fewest least v.1.least_is b.1 in
+    let here : IsRoutesVerdict inst sol (verdicts.Routes found count least None) =
+    subst (λ (k : ℕ). IsRoutesVerdict inst sol (verdicts.Routes found count k None)) same v in (
+      routes_bounded by inst sol cert claimed found count least bound cvrp here claims
+          (found_by_certificate by inst cert (bounds.Bound bound) (none_of_routes inst sol cvrp v.0) b.0),
+      refl,
+    )
+routes_with by inst sol cert (bases.Routes least None) claimed found count fewest cvrp b v claims = absurd b
+routes_with by inst sol cert (bases.Tours bound) claimed found count fewest cvrp b v claims = absurd b
+routes_with by inst sol cert bases.NoSolution claimed found count fewest cvrp b v claims =
+    let none : HasNoPlan (routing_of inst) = subst (λ kind. HasNoSolutionBy kind inst) cvrp b.2 in
+    absurd (none (tours_of sol) (record { plan = v.1.plan_of; each = v.1.filled }))
+routes_with by inst sol cert (bases.No reason) claimed found count fewest cvrp b v claims = (
+  routes_uncertified by inst sol cert claimed found count fewest reason cvrp v claims
+      (found_by_certificate by inst cert (bounds.No reason) (none_of_routes inst sol cvrp v.0) b),
+  tt,
+)
+
+routes_by_basis : (given : Option (Certificate × Fields)) (inst sol : Fields) (basis : Basis) (claimed : Option ℤ) (found : ℤ)
+    (count fewest : ℕ) → inst.kind ≡ Some kinds.Cvrp → IsBasis given inst basis
+    → IsRoutesVerdict inst sol (verdicts.Routes found count fewest None) → IsAsClaimed claimed found
+    → IsVerdictWith given claimed inst sol (verdict_with basis (verdicts.Routes found count fewest None))
+    × HasBasis (verdict_with basis (verdicts.Routes found count fewest None)) basis
+routes_by_basis None inst sol basis claimed found count fewest cvrp b v claims =
+    routes_alone inst sol basis claimed found count fewest cvrp (alone_of_routes inst basis cvrp b.1) v claims
+routes_by_basis (Some given) inst sol basis claimed found count fewest cvrp b v claims =
+    routes_with given.0 inst sol given.1 basis claimed found count fewest cvrp
+    (routes_by given.0 inst given.1 basis cvrp b.1) v claims
+
+-- ---- a subject of routes
+
+-- plan: by the verdict: a tour is none, and a reason is the first against the routes
+pub routes_subject_rejected : (given : Given) (inst sol : Fields) (claimed : Option ℤ) (verdict : Verdict)
+    → inst.kind ≡ Some kinds.Cvrp → IsRoutesVerdict inst sol verdict → HasNoLength verdict
+    → IsVerdictGiven given claimed inst sol verdict
+routes_subject_rejected given inst sol claimed (verdicts.Tour found bound) cvrp v none = absurd none
+routes_subject_rejected given inst sol claimed (verdicts.Routes found count fewest bound) cvrp v none = absurd none
+routes_subject_rejected (givens.Certificate certificate) inst sol claimed (verdicts.No reason) cvrp first none =
+    routes_rejected (option_map (λ it. (it.0, it.1.now)) certificate) inst sol claimed reason cvrp first
+routes_subject_rejected (givens.Basis basis) inst sol claimed (verdicts.No reason) cvrp first none =
+    (tt, λ other b. routes_rejected other inst sol claimed reason cvrp first)
+
+-- an accepted verdict is one on routes without a bound
+pub record AreOwnRoutes (inst sol : Fields) (verdict : Verdict) (length : ℤ) : Type 0 where
+  pub count : ℕ
+  pub fewest : ℕ
+  pub is : verdict ≡ verdicts.Routes length count fewest None
+  pub own : IsRoutesVerdict inst sol (verdicts.Routes length count fewest None)
+
+own_routes : (inst sol : Fields) (verdict : Verdict) (length : ℤ) → IsRoutesVerdict inst sol verdict → HasLength verdict length
+    → AreOwnRoutes inst sol verdict length
+own_routes inst sol (verdicts.Routes found count fewest bound) length v has =
+    let same : verdicts.Routes found count fewest bound ≡ verdicts.Routes length count fewest None =
+    ap₂ (λ (l : ℤ) (b : Option ℤ). verdicts.Routes l count fewest b) (sym has) v.2 in
+    record { count = count; fewest = fewest; is = same; own = subst (IsRoutesVerdict inst sol) same v }
+own_routes inst sol (verdicts.Tour found bound) length v has = absurd v
+own_routes inst sol (verdicts.No reason) length v has = absurd has
+
+-- so no reason applies to the solution
+pub none_of_accepted : (inst sol : Fields) (verdict : Verdict) (length : ℤ) → IsRoutesVerdict inst sol verdict
+    → HasLength verdict length → NoneOfRoutesBeforeRepeats inst sol
+none_of_accepted inst sol verdict length v has place reason low stands =
+    (own_routes inst sol verdict length v has).own.0 reason stands
+
+pub routes_subject_disclaimed : (given : Given) (inst sol : Fields) (claimed : Option ℤ) (verdict : Verdict) (length : ℤ)
+    → inst.kind ≡ Some kinds.Cvrp → IsRoutesVerdict inst sol verdict → HasLength verdict length
+    → IsOtherClaimed claimed length → IsVerdictGiven given claimed inst sol (verdicts.No (LengthClaimed length))
+routes_subject_disclaimed (givens.Certificate certificate) inst sol claimed verdict length cvrp v has other =
+    let r = own_routes inst sol verdict length v has in
+    routes_disclaimed (option_map (λ it. (it.0, it.1.now)) certificate) inst sol claimed length r.count r.fewest cvrp r.own other
+routes_subject_disclaimed (givens.Basis basis) inst sol claimed verdict length cvrp v has other =
+    let r = own_routes inst sol verdict length v has in
+    (tt, λ any b. routes_disclaimed any inst sol claimed length r.count r.fewest cvrp r.own other)
+
+routes_from_basis : (inst sol : Fields) (basis known : Basis) (claimed : Option ℤ) (found : ℤ) (count fewest : ℕ)
+    → inst.kind ≡ Some kinds.Cvrp → basis ≡ known → (given : Option (Certificate × Fields)) × IsBasis given inst known
+    → IsRoutesVerdict inst sol (verdicts.Routes found count fewest None) → IsAsClaimed claimed found
+    → IsVerdictFrom known claimed inst sol (verdict_with basis (verdicts.Routes found count fewest None))
+routes_from_basis inst sol basis known claimed found count fewest cvrp is s v claims =
+    subst (λ (it : Basis). IsVerdictFrom known claimed inst sol (verdict_with it (verdicts.Routes found count fewest None)))
+    (sym is) (
+      (routes_by_basis s.0 inst sol known claimed found count fewest cvrp s.1 v claims).1,
+      λ given b. (routes_by_basis given inst sol known claimed found count fewest cvrp b v claims).0,
+    )
+
+routes_given : (given : Given) (inst sol : Fields) (basis : Basis) (claimed : Option ℤ) (found : ℤ)
+    (count fewest : ℕ) → inst.kind ≡ Some kinds.Cvrp → IsSubject inst given → IsBasisGiven given inst basis
+    → IsRoutesVerdict inst sol (verdicts.Routes found count fewest None) → IsAsClaimed claimed found
+    → IsVerdictGiven given claimed inst sol (verdict_with basis (verdicts.Routes found count fewest None))
+routes_given (givens.Certificate certificate) inst sol basis claimed found count fewest cvrp s b v claims =
+    (routes_by_basis (option_map (λ it. (it.0, it.1.now)) certificate) inst sol basis claimed found count fewest cvrp b v claims).0
+routes_given (givens.Basis known) inst sol basis claimed found count fewest cvrp s is v claims =
+    routes_from_basis inst sol basis known claimed found count fewest cvrp is s v claims
+
+pub routes_subject_judged : (given : Given) (inst sol : Fields) (basis : Basis) (claimed : Option ℤ) (verdict : Verdict)
+    (length : ℤ) → inst.kind ≡ Some kinds.Cvrp → IsSubject inst given → IsBasisGiven given inst basis
+    → IsRoutesVerdict inst sol verdict → HasLength verdict length → IsAsClaimed claimed length
+    → IsVerdictGiven given claimed inst sol (verdict_with basis verdict)
+routes_subject_judged given inst sol basis claimed verdict length cvrp s b v has claims =
+    let r = own_routes inst sol verdict length v has in
+    subst (λ (it : Verdict). IsVerdictGiven given claimed inst sol (verdict_with basis it)) (sym r.is)
+    (routes_given given inst sol basis claimed length r.count r.fewest cvrp s b r.own claims)

@@ -2,6 +2,7 @@
 use Rattle.std.proofs.Common.{◌≡◌, ℕ, List, [], ◌∷◌, get_or, inl, inr, refl, sym, ap, ap₂, subst, subst₂, ◌∙◌, arith}
 use Rattle.std.specs.Prelude.{Some, ◌≤◌, length, unwrap_or, ℤ, ◌+ℤ◌, ◌-ℤ◌, ◌*ℤ◌, ◌≤ℤ◌, ◌<ℤ◌}
 use Rattle.std.specs.List.{All}
+use Rattle.std.proofs.lemmas.Int.{ints}
 use Rattle.std.proofs.lemmas.List.Elements.{All-contains}
 use Rattle.tsp_draft.specs.Fields.{Fields, nodes_of}
 use Rattle.tsp_file.specs.Cost.{cost}
@@ -20,8 +21,12 @@ use Rattle.tsp_reason.specs.declared.verdict.Reason.TheVariants.{DualInfeasible}
 use Rattle.tsp_verdict.specs.Multiplied.{AreListed}
 use Rattle.tsp_file.specs.Defaults.{fixed_of, scale_in, multipliers_in}
 use Rattle.tsp_verdict.specs.PotentialsCertificate.{StandsAgainstPotentials, IsBoundByNodes, IsBoundByDuals}
-use Rattle.tsp_verdict.specs.Certified.{IsBoundBy, IsCertified}
+use Rattle.tsp_verdict.specs.Certified.{IsBoundBy, BoundsSolutionsBy, IsBoundFitting, IsCertified}
 use Rattle.tsp_reason.specs.declared.certificate.Certificate.TheVariants.{Potentials}
+
+-- the bounds of tours are smaller
+pub fitting : (bound : ℤ) → IsBoundSized bound → IsBoundFitting bound
+fitting bound sized = (omega (arith, ints, sized.0), omega (arith, ints, sized.1))
 
 abbrev pub Same : (ℕ → ℕ → ℤ) → (ℕ → ℕ → ℤ) → Type 0
 Same v w = (i j : ℕ) → v i j ≡ w i j
@@ -97,10 +102,10 @@ certified inst pot n costs scale potentials triples bound law triples_are listed
     law (nodes_of inst) (cost inst) scale potentials triples [] bound nodes some even scale_is count here cycle
     (subst (λ ts. UsesEach ts nodes) (sym triples_are) used) (λ k d lt. absurd (omega arith)) in (
       subst (λ k. IsBoundBy Potentials k inst pot bound) (sym kind) by_certificate,
-      λ nodes tour. cycles nodes tour.cycle
+      subst (λ k. BoundsSolutionsBy k inst bound) (sym kind) (λ nodes tour. cycles nodes tour.cycle
           (listed_used nodes (fixed_of inst) (multipliers_in pot)
-          (subst (λ k. All (Uses (is_directed k) nodes) (fixed_of inst)) kind tour.fixed_used) listed),
-      found.1,
+          (subst (λ k. All (Uses (is_directed k) nodes) (fixed_of inst)) kind tour.fixed_used) listed)),
+      fitting bound found.1,
     )
 
 -- ---- duals
@@ -147,9 +152,10 @@ assigned inst pot n costs scale rows columns bound law kind some scaled are as_r
       of_duals = subst (λ s. IsDualBound s rows columns bound) are.scale_is found.1;
     } in (
       subst (λ k. IsBoundBy Potentials k inst pot bound) (sym kind) by_certificate,
-      λ cycle tour. law (nodes_of inst) (cost inst) scale rows columns bound cycle (omega (arith, some)) scaled as_rows as_columns
-          good found.1 tour.cycle,
-      small,
+      subst (λ k. BoundsSolutionsBy k inst bound) (sym kind) (λ cycle tour.
+          law (nodes_of inst) (cost inst) scale rows columns bound cycle (omega (arith, some)) scaled as_rows as_columns
+          good found.1 tour.cycle),
+      fitting bound small,
     )
 
 -- and so is the first pair that breaks them

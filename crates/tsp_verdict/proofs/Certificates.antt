@@ -11,17 +11,20 @@ use Rattle.tsp_draft.specs.Fields.{Fields, nodes_of}
 use Rattle.tsp_draft.specs.Rules.{is_potentials_file}
 use Rattle.tsp_theory.specs.Adjusted.{pair_of, is_same_pair, AreOnPairs}
 use Rattle.tsp_reason.specs.declared.verdict.Reason.{Reason}
-use Rattle.tsp_reason.specs.declared.verdict.Reason.TheVariants.{TooFewNodes, NotPotentials, PotentialsDimension, PotentialsKind, MultiplierNotFixed, MultiplierRepeated, DualInfeasible, DepotCount, DepotDemand, FixedEdgesInRoutes, DepotInRoute, Unserved, Overload, NotBranches, BranchesDimension, BadComb, BadBranch, BranchTwice, BadLeaf, TooManyLoads, LengthClaimed}
+use Rattle.tsp_reason.specs.declared.verdict.Reason.TheVariants.{NotASolution, TooFewNodes, Dimension, NodeOutOfRange, RepeatedNode, NotPotentials, PotentialsDimension, PotentialsKind, MultiplierNotFixed, MultiplierRepeated, DualInfeasible, DepotCount, DepotDemand, FixedEdgesInRoutes, DepotInRoute, Unserved, Overload, NotBranches, BranchesDimension, BadComb, BadBranch, BranchTwice, BadLeaf, TooManyLoads, LengthClaimed}
 use Rattle.tsp_verdict.specs.Multiplied.{AreListed, IsUnlisted, IsPairRepeated, pair_at}
 use Rattle.tsp_verdict.specs.Places.{IsFirstPlace}
 use Rattle.tsp_verdict.specs.Reasons.{rank_of, NoneBefore, IsFirstReason}
 use Rattle.tsp_file.specs.Defaults.{fixed_of, scale_in, multipliers_in}
-use Rattle.tsp_verdict.specs.Tours.{IsFirstAgainstTour, StandsAgainstTour}
+use Rattle.tsp_verdict.specs.Tours.{StandsAgainstTour}
 use Rattle.tsp_file.specs.Cost.{cost}
 use Rattle.tsp_theory.specs.Assignment.{AreGood}
 use Rattle.tsp_verdict.specs.PotentialsCertificate.{has_wanted, BreaksDuals, StandsAgainstPotentials, IsBoundByDuals}
-use Rattle.tsp_verdict.specs.Certified.{is_bounded, IsBoundBy, IsCertified, StandsAgainstCertificate, NoneWithoutMemory, StandsAgainstCertified, IsFirstAgainstCertified}
-use Rattle.tsp_verdict.specs.BranchesCertificate.{IsBoundByBranches}
+use Rattle.tsp_verdict.specs.Certified.{is_bounded, IsBoundBy, IsCertified, StandsAgainstCertificate, NoneWithoutMemory}
+use Rattle.tsp_verdict.specs.BranchesCertificate.{StandsAgainstBranches}
+use Rattle.tsp_verdict.specs.WalksCertificate.{StandsAgainstWalks}
+use Rattle.tsp_verdict.specs.Routes.{StandsAgainstRoutes}
+use Rattle.tsp_verdict.proofs.ByType.{tree_either}
 use Rattle.tsp_verdict.specs.declared.tour.TourCosts.{TourCosts}
 use Rattle.tsp_verdict.specs.declared.tour.TourCosts.TheVariants.{Undirected, Directed}
 use Rattle.tsp_verdict.specs.states.TourCosts.{AreTourCosts, IsSymmetricTsp}
@@ -214,56 +217,100 @@ tour_rank inst sol TooManyLoads stands = absurd stands
 tour_rank inst sol (LengthClaimed length) stands = absurd stands
 tour_rank inst sol reason stands = omega arith
 
+pub routes_rank : (inst sol : Fields) (reason : Reason) → StandsAgainstRoutes inst sol reason
+    → rank_of reason < rank_of (LengthClaimed (pos 0))
+routes_rank inst sol NotASolution stands = omega arith
+routes_rank inst sol TooFewNodes stands = omega arith
+routes_rank inst sol Dimension stands = omega arith
+routes_rank inst sol (NodeOutOfRange place) stands = omega arith
+routes_rank inst sol (RepeatedNode place) stands = omega arith
+routes_rank inst sol DepotCount stands = omega arith
+routes_rank inst sol DepotDemand stands = omega arith
+routes_rank inst sol FixedEdgesInRoutes stands = omega arith
+routes_rank inst sol (DepotInRoute place) stands = omega arith
+routes_rank inst sol (Unserved node) stands = omega arith
+routes_rank inst sol (Overload route) stands = omega arith
+routes_rank inst sol reason stands = absurd stands
+
+-- ---- those against a certificate are judged last
+
+potentials_rank : (inst cert : Fields) (reason : Reason) → StandsAgainstPotentials inst cert reason
+    → rank_of NotPotentials ≤ rank_of reason
+potentials_rank inst cert NotPotentials stands = omega arith
+potentials_rank inst cert PotentialsDimension stands = omega arith
+potentials_rank inst cert PotentialsKind stands = omega arith
+potentials_rank inst cert (MultiplierNotFixed index) stands = omega arith
+potentials_rank inst cert (MultiplierRepeated index) stands = omega arith
+potentials_rank inst cert (DualInfeasible i j) stands = omega arith
+potentials_rank inst cert reason stands = absurd stands
+
+branches_rank : (inst cert : Fields) (reason : Reason) → StandsAgainstBranches inst cert reason
+    → rank_of NotPotentials ≤ rank_of reason
+branches_rank inst cert NotBranches stands = omega arith
+branches_rank inst cert BranchesDimension stands = omega arith
+branches_rank inst cert (BadComb index) stands = omega arith
+branches_rank inst cert (BadBranch index) stands = omega arith
+branches_rank inst cert (BranchTwice index) stands = omega arith
+branches_rank inst cert (BadLeaf index) stands = omega arith
+branches_rank inst cert reason stands = absurd stands
+
+walks_rank : (inst cert : Fields) (reason : Reason) → StandsAgainstWalks inst cert reason
+    → rank_of NotPotentials ≤ rank_of reason
+walks_rank inst cert NotBranches stands = omega arith
+walks_rank inst cert BranchesDimension stands = omega arith
+walks_rank inst cert (BadComb index) stands = omega arith
+walks_rank inst cert (BadBranch index) stands = omega arith
+walks_rank inst cert (BadLeaf index) stands = omega arith
+walks_rank inst cert TooManyLoads stands = omega arith
+walks_rank inst cert reason stands = absurd stands
+
 pub certificate_rank : (by : Certificate) (inst cert : Fields) (reason : Reason) → StandsAgainstCertificate by inst cert reason
     → rank_of NotPotentials ≤ rank_of reason
-certificate_rank Potentials inst cert NotPotentials stands = omega arith
-certificate_rank Potentials inst cert PotentialsDimension stands = omega arith
-certificate_rank Potentials inst cert PotentialsKind stands = omega arith
-certificate_rank Potentials inst cert (MultiplierNotFixed index) stands = omega arith
-certificate_rank Potentials inst cert (MultiplierRepeated index) stands = omega arith
-certificate_rank Potentials inst cert (DualInfeasible i j) stands = omega arith
-certificate_rank Potentials inst cert reason stands = absurd stands
-certificate_rank Branches inst cert NotBranches stands = omega arith
-certificate_rank Branches inst cert BranchesDimension stands = omega arith
-certificate_rank Branches inst cert (BadComb index) stands = omega arith
-certificate_rank Branches inst cert (BadBranch index) stands = omega arith
-certificate_rank Branches inst cert (BranchTwice index) stands = omega arith
-certificate_rank Branches inst cert (BadLeaf index) stands = omega arith
-certificate_rank Branches inst cert reason stands = absurd stands
+certificate_rank Potentials inst cert reason stands = potentials_rank inst cert reason stands
+certificate_rank Branches inst cert reason stands =
+    tree_either inst.kind (λ Stands. (reason : Reason) → Stands reason → rank_of NotPotentials ≤ rank_of reason) inst cert
+    (branches_rank inst cert) (walks_rank inst cert) reason stands
 
--- the first reason against the tour is the first of all
-pub tour_first : (by : Certificate) (inst sol cert : Fields) (reason : Reason) → IsFirstAgainstTour inst sol reason
-    → IsFirstAgainstCertified by inst sol cert reason
-tour_first by inst sol cert reason first = record {
+-- ---- reasons against a solution, of one TYPE, and then against a certificate
+
+-- against either
+abbrev pub Both : (Reason → Type 0) → Certificate → Fields → Fields → Reason → Type 0
+Both Own by inst cert reason = Own reason ⊎ StandsAgainstCertificate by inst cert reason
+
+-- those against the solution are judged before a length that is claimed
+abbrev pub AreOwn : (Reason → Type 0) → Type 0
+AreOwn Own = (reason : Reason) → Own reason → rank_of reason < rank_of (LengthClaimed (pos 0))
+
+-- the first of them is the first of all
+pub own_first : (Own : Reason → Type 0) (by : Certificate) (inst cert : Fields) (reason : Reason) → AreOwn Own
+    → IsFirstReason Own reason → IsFirstReason (Both Own by inst cert) reason
+own_first Own by inst cert reason own first = record {
   stands = inl first.stands;
   none_before = λ other low stands. by_side other low stands;
 }
   where
-    by_side : (other : Reason) → rank_of other < rank_of reason
-        → StandsAgainstTour inst sol other ⊎ StandsAgainstCertificate by inst cert other → ⊥
+    by_side : (other : Reason) → rank_of other < rank_of reason → Both Own by inst cert other → ⊥
     by_side other low (inl stands) = first.none_before other low stands
     by_side other low (inr stands) =
-        omega (arith, low, tour_rank inst sol reason first.stands, certificate_rank by inst cert other stands)
+        omega (arith, low, own reason first.stands, certificate_rank by inst cert other stands)
 
--- where none applies to the tour, the first against the certificate is the first of all
-pub certificate_first : (by : Certificate) (inst sol cert : Fields) (reason : Reason)
-    → ((other : Reason) → StandsAgainstTour inst sol other → ⊥)
-    → IsFirstReason (StandsAgainstCertificate by inst cert) reason → IsFirstAgainstCertified by inst sol cert reason
-certificate_first by inst sol cert reason none first = record {
+-- where none applies to the solution, the first against the certificate is the first of all
+pub certificate_first : (Own : Reason → Type 0) (by : Certificate) (inst cert : Fields) (reason : Reason)
+    → ((other : Reason) → Own other → ⊥)
+    → IsFirstReason (StandsAgainstCertificate by inst cert) reason → IsFirstReason (Both Own by inst cert) reason
+certificate_first Own by inst cert reason none first = record {
   stands = inr first.stands;
   none_before = λ other low stands. by_side other low stands;
 }
   where
-    by_side : (other : Reason) → rank_of other < rank_of reason
-        → StandsAgainstTour inst sol other ⊎ StandsAgainstCertificate by inst cert other → ⊥
+    by_side : (other : Reason) → rank_of other < rank_of reason → Both Own by inst cert other → ⊥
     by_side other low (inl stands) = none other stands
     by_side other low (inr stands) = first.none_before other low stands
 
-pub none_at_all : (by : Certificate) (inst sol cert : Fields) → ((other : Reason) → StandsAgainstTour inst sol other → ⊥)
-    → ((other : Reason) → StandsAgainstCertificate by inst cert other → ⊥)
-    → (reason : Reason) → StandsAgainstCertified by inst sol cert reason → ⊥
-none_at_all by inst sol cert tour certificate reason (inl stands) = tour reason stands
-none_at_all by inst sol cert tour certificate reason (inr stands) = certificate reason stands
+pub none_at_all : (Own : Reason → Type 0) (by : Certificate) (inst cert : Fields) → ((other : Reason) → Own other → ⊥)
+    → ((other : Reason) → StandsAgainstCertificate by inst cert other → ⊥) → (reason : Reason) → Both Own by inst cert reason → ⊥
+none_at_all Own by inst cert own certificate reason (inl stands) = own reason stands
+none_at_all Own by inst cert own certificate reason (inr stands) = certificate reason stands
 
 pub enough : (inst sol : Fields) → ((reason : Reason) → StandsAgainstTour inst sol reason → ⊥) → 3 ≤ nodes_of inst
 enough inst sol none = omega (arith, lt_of_not-le (λ (few : nodes_of inst ≤ 2). none TooFewNodes (omega (arith, few))))
@@ -275,17 +322,10 @@ pub kinds_by_potentials : (kind : Option Kind) → (kind ≡ Some kinds.Tsp) ⊎
 kinds_by_potentials kind (inl tsp) = ap (is_bounded Potentials) tsp
 kinds_by_potentials kind (inr atsp) = ap (is_bounded Potentials) atsp
 
-pub kinds_bounded : (by : Certificate) (kind : Option Kind) → IsTrue (is_bounded by kind)
-    → (kind ≡ Some kinds.Tsp) ⊎ (kind ≡ Some kinds.Atsp)
-kinds_bounded Potentials (Some kinds.Tsp) is = inl refl
-kinds_bounded Potentials (Some kinds.Atsp) is = inr refl
-kinds_bounded Branches (Some kinds.Tsp) is = inl refl
-kinds_bounded Branches (Some kinds.Atsp) is = inr refl
-kinds_bounded by (Some kinds.Cvrp) is = absurd (false≢true is)
-kinds_bounded by (Some kinds.Tour) is = absurd (false≢true is)
-kinds_bounded by (Some kinds.Potentials) is = absurd (false≢true is)
-kinds_bounded by (Some kinds.Branches) is = absurd (false≢true is)
-kinds_bounded by None is = absurd (false≢true is)
+-- routes have a bound by branches alone
+pub bounds_routes : (by : Certificate) (kind : Option Kind) → kind ≡ Some kinds.Cvrp → IsTrue (is_bounded by kind) → by ≡ Branches
+bounds_routes Potentials kind cvrp is = absurd (false≢true (sym (ap (is_bounded Potentials) cvrp) ∙ is))
+bounds_routes Branches kind cvrp is = refl
 
 -- a TSP and an ATSP are two kinds
 tsp_is_not_atsp : (kind : Option Kind) → kind ≡ Some kinds.Tsp → kind ≡ Some kinds.Atsp → true ≡ false
@@ -299,14 +339,3 @@ tsp_is_not_atsp kind tsp atsp = sym (ap is_tsp tsp) ∙ ap is_tsp atsp
 pub symmetric_tsp : (inst : Fields) (costs : TourCosts) → AreTourCosts inst costs → IsSymmetricTsp inst
 symmetric_tsp inst (Undirected view) are tsp = are.2
 symmetric_tsp inst (Directed view) are tsp = absurd (false≢true (sym (tsp_is_not_atsp inst.kind tsp are.0)))
-
--- a bound by branches is that of a tree of cases
-pub of_tree : (kind : Option Kind) (inst tree : Fields) (bound : ℤ) → IsBoundBy Branches kind inst tree bound
-    → IsBoundByBranches inst tree bound
-of_tree (Some kinds.Tsp) inst tree bound is = is
-of_tree (Some kinds.Atsp) inst tree bound is = is
-of_tree (Some kinds.Cvrp) inst tree bound is = absurd is
-of_tree (Some kinds.Tour) inst tree bound is = absurd is
-of_tree (Some kinds.Potentials) inst tree bound is = absurd is
-of_tree (Some kinds.Branches) inst tree bound is = absurd is
-of_tree None inst tree bound is = absurd is

@@ -5,7 +5,7 @@ use Rattle.std.specs.Global.{Vec}
 use Rattle.std.specs.List.{All, AllByRecursion, concat, sum_by}
 use Rattle.std.proofs.lemmas.Bool.{false≢true}
 use Rattle.std.proofs.lemmas.List.{length-map}
-use Rattle.std.proofs.lemmas.List.Elements.{All-from_recursion, recursion_from_All}
+use Rattle.std.proofs.lemmas.List.Elements.{All-weaker, All-from_recursion, recursion_from_All}
 use Rattle.std.proofs.lemmas.List.Sums.{sum_by-cons}
 use Rattle.tsp_format.specs.Nodes.{IsNode}
 use Rattle.tsp_format.specs.Limits.{most_nodes, most_tour_nodes, most_changes}
@@ -70,6 +70,14 @@ nodes_are f tours same = nodes_in_is tours ∙ ap concat same
 pub tours_are : (f : Fields) (tours : List (List ℕ)) → f.tours ≡ Some tours → tours ≡ tours_of f
 tours_are f tours stand = sym (ap (λ (o : Option (List (List ℕ))). unwrap_or o []) stand)
 
+some_nodes : (tour : List ℕ) → 1 ≤ length tour → tour ≢ []
+some_nodes [] some same = omega (arith, some)
+some_nodes (node ∷ nodes) some same = absurd cc
+
+filled : (f : Fields) (tours : List (List ℕ)) → tours ≡ tours_of f → All IsNodeList tours → All (λ tour. tour ≢ []) (tours_of f)
+filled f tours same lists = subst (λ (ts : List (List ℕ)). All (λ tour. tour ≢ []) ts) same
+    (All-weaker IsNodeList (λ tour. tour ≢ []) (λ tour is. some_nodes tour is.0) tours lists)
+
 pub tours_held : (f : Fields) (tours : List (Vec ℕ)) → f.kind ≡ Some kinds.Tour
     → f.tours ≡ Some (map (λ (t : Vec ℕ). t.items) tours) → AreTours (map (λ (t : Vec ℕ). t.items) tours) → AreToursOf f tours
 tours_held f tours sort stand held = record {
@@ -77,6 +85,7 @@ tours_held f tours sort stand held = record {
   value = tours_are f (map (λ (t : Vec ℕ). t.items) tours) stand;
   nodes = nodes_are f tours (tours_are f (map (λ (t : Vec ℕ). t.items) tours) stand);
   range = counted_from_one tours held;
+  filled = filled f (map (λ (t : Vec ℕ). t.items) tours) (tours_are f (map (λ (t : Vec ℕ). t.items) tours) stand) held.0;
   few = few_tours tours held;
   size = few_nodes tours held;
 }

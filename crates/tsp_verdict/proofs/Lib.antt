@@ -4,6 +4,7 @@ pub mod FilesHold
 pub mod HeldNumbers
 pub mod FixedPairs
 mod FoundBounds
+pub mod ByType
 pub mod Links
 pub mod MarkedNodes
 mod PairKeys
@@ -20,6 +21,7 @@ pub mod SmallPlans
 pub mod FamiliesHold
 pub mod GivenPairs
 pub mod TreeReasons
+pub mod WalkReasons
 pub mod Bounds
 pub mod Claims
 pub mod Bases

@@ -1,6 +1,6 @@
 -- Of two reasons of one rank that apply to a solution, to an instance or to a certificate the numbers are the same.
-use Rattle.std.proofs.Common.{◌≡◌, ◌∙◌, ℕ, List, inl, inr, refl, sym, ap, ap₂, subst, arith}
-use Rattle.std.specs.Prelude.{◌⊎◌, Option, None, Some, Bool, ℤ}
+use Rattle.std.proofs.Common.{◌≡◌, ◌∙◌, ℕ, ◌+◌, ◌-◌, List, length, inl, inr, refl, sym, ap, ap₂, subst, arith}
+use Rattle.std.specs.Prelude.{Option, None, Some, Bool, ℤ}
 use Rattle.std.proofs.lemmas.Bool.{cases_order, false≢true}
 use Rattle.std.proofs.lemmas.Int.{ints}
 use Rattle.std.proofs.lemmas.List.Elements.{recursion_from_All}
@@ -10,7 +10,7 @@ use Rattle.tsp_file.specs.Cost.{cost}
 use Rattle.tsp_theory.specs.Costs.{IsFirstAsymmetric}
 use Rattle.tsp_theory.specs.Assignment.{IsFirstBroken}
 use Rattle.tsp_families.specs.declared.family.Crossings.{Crossings}
-use Rattle.tsp_cases.specs.BadBranches.{IsFirstBadBranch}
+use Rattle.tsp_cases.specs.BadBranches as pairs
 use Rattle.tsp_cases.specs.Families.{IsFamily, NumbersAreUnique}
 use Rattle.tsp_cases.specs.declared.decision.Decision.{Decision}
 use Rattle.tsp_cases.specs.Listed.{IsFirstBadLeaf}
@@ -21,16 +21,22 @@ use Rattle.tsp_reason.specs.declared.certificate.Certificate.{Certificate}
 use Rattle.tsp_reason.specs.declared.certificate.Certificate.TheVariants.{Potentials, Branches}
 use Rattle.tsp_reason.specs.declared.verdict.Reason.{Reason}
 use Rattle.tsp_reason.specs.declared.verdict.Reason.TheVariants.{NotASolution, TooFewNodes, NotSymmetric, Dimension, TourCount, TourLength, DepotCount, DepotDemand, FixedEdgesInRoutes, DepotInRoute, NodeOutOfRange, RepeatedNode, FixedEdgeUnused, Unserved, Overload, LengthClaimed, NotPotentials, PotentialsDimension, PotentialsKind, MultiplierNotFixed, MultiplierRepeated, DualInfeasible, NotBranches, BranchesDimension, BadComb, BadBranch, BranchTwice, BadLeaf, TooManyLoads}
-use Rattle.tsp_verdict.specs.Basis.{StandsAgainstRouting}
-use Rattle.tsp_verdict.specs.Bounded.{StandsAgainstInstance, StandsAgainstBounded}
+use Rattle.tsp_routing.specs.GoodSets.{IsFirstBadSet}
+use Rattle.tsp_routing.specs.GoodBranches.{IsFirstBadPlanBranch}
+use Rattle.tsp_routing.specs.GoodLeaves.{IsFirstBadPlanLeaf}
+use Rattle.tsp_verdict.specs.Bounded.{StandsAgainstTouring, StandsAgainstRouting, StandsAgainstInstance, StandsAgainstBounded}
 use Rattle.tsp_verdict.specs.BranchesCertificate.{given_in, AreNumbersOf, StandsAgainstBranches, families_with_numbers}
-use Rattle.tsp_verdict.specs.Certified.{StandsAgainstCertificate, StandsAgainstCertified}
+use Rattle.tsp_verdict.specs.Certified.{StandsAgainstCertificate, StandsAgainstCertified, StandsAgainstCertifiedRoutes}
 use Rattle.tsp_verdict.specs.PotentialsCertificate.{BreaksDuals, StandsAgainstPotentials}
 use Rattle.tsp_verdict.specs.Reasons.{rank_of}
 use Rattle.tsp_verdict.specs.Routes.{IsFirstUnserved, StandsAgainstRoutes}
 use Rattle.tsp_verdict.specs.Tours.{StandsAgainstTour}
+use Rattle.tsp_verdict.specs.WalksCertificate.{StandsAgainstWalks}
+use Rattle.tsp_verdict.proofs.Bounds.{instance_rank}
+use Rattle.tsp_verdict.proofs.Certificates.{tour_rank, routes_rank, certificate_rank, AreOwn, Both}
 use Rattle.tsp_verdict.proofs.FamiliesHold.{one_numbers}
 use Rattle.tsp_verdict.proofs.FirstReasons.{Carried, reason_of, IsOneByRank, one_place, one_pair}
+use Rattle.tsp_verdict.proofs.ByType.{instance_either, tree_either}
 
 -- the one value of an option
 pub one_value : {X : Type 0} (option : Option X) (a b : X) → option ≡ Some a → option ≡ Some b → a ≡ b
@@ -88,7 +94,7 @@ tours_by_rank inst sol TooManyLoads carried one other = absurd one
 -- ---- against an instance, whatever the solution
 
 -- plan: by the reason: one without numbers is equal to itself, and of one with numbers the files have one first place or pair
-pub instances_by_rank : (inst : Fields) → IsOneByRank (StandsAgainstInstance inst)
+pub instances_by_rank : (inst : Fields) → IsOneByRank (StandsAgainstTouring inst)
 instances_by_rank inst NotASolution carried one other = absurd one
 instances_by_rank inst TooFewNodes carried one other = refl
 instances_by_rank inst (NotSymmetric i j) carried one other =
@@ -285,8 +291,8 @@ twice_by_rank inst tree a b one other =
     let moved = subst (λ steps. IsFirstTwice (is_directed inst.kind) (given_in inst) steps b) steps other.2 in
     one_twice (is_directed inst.kind) (given_in inst) one.0 a b one.2 moved
 
-one_bad_pair : (least most : ℕ) (steps : List listed.Step) (a b : ℕ) → IsFirstBadBranch least most steps a
-    → IsFirstBadBranch least most steps b → a ≡ b
+one_bad_pair : (least most : ℕ) (steps : List listed.Step) (a b : ℕ) → pairs.IsFirstBadBranch least most steps a
+    → pairs.IsFirstBadBranch least most steps b → a ≡ b
 one_bad_pair least most steps a b one other = elim (cases_order a b) [
   | inl same ↦ same
   | inr (inl less) ↦ absurd (one.bad (other.before a one.from_one less))
@@ -297,7 +303,7 @@ bad_pair_by_rank : (inst tree : Fields) (a b : ℕ) → StandsAgainstBranches in
     → StandsAgainstBranches inst tree (BadBranch b) → a ≡ b
 bad_pair_by_rank inst tree a b one other =
     let steps = one_value tree.branches other.0 one.0 other.1 one.1 in
-    let moved = subst (λ steps. IsFirstBadBranch 1 (nodes_of inst) steps b) steps other.2 in
+    let moved = subst (λ steps. pairs.IsFirstBadBranch 1 (nodes_of inst) steps b) steps other.2 in
     one_bad_pair 1 (nodes_of inst) one.0 a b one.2 moved
 
 bad_leaf_by_rank : NumbersAreUnique → (inst tree : Fields) (a b : ℕ) → StandsAgainstBranches inst tree (BadLeaf a)
@@ -342,190 +348,142 @@ trees_by_rank unique inst tree (BadLeaf i) carried one other =
     ap BadLeaf (bad_leaf_by_rank unique inst tree i carried.0 one other)
 trees_by_rank unique inst tree TooManyLoads carried one other = absurd one
 
+-- ---- against a certificate for routes
+
+one_bad_set : (n depot : ℕ) (families : List (List (List ℕ))) (a b : ℕ) → IsFirstBadSet n depot families a
+    → IsFirstBadSet n depot families b → a ≡ b
+one_bad_set n depot families a b one other = elim (cases_order a b) [
+  | inl same ↦ same
+  | inr (inl less) ↦ absurd (one.bad (a - 1) (omega (arith, one.least)) (other.before (a - 1) (omega (arith, one.least, less))))
+  | inr (inr more) ↦ absurd (other.bad (b - 1) (omega (arith, other.least)) (one.before (b - 1) (omega (arith, other.least, more))))
+]
+
+one_bad_plan_leaf : (n families : ℕ) (steps : List listed.Step) (a b : ℕ) → IsFirstBadPlanLeaf n families steps a
+    → IsFirstBadPlanLeaf n families steps b → a ≡ b
+one_bad_plan_leaf n families steps a b one other = elim (cases_order a b) [
+  | inl same ↦ same
+  | inr (inl less) ↦ absurd (one.bad (other.before a one.least less))
+  | inr (inr more) ↦ absurd (other.bad (one.before b other.least more))
+]
+
+bad_branch_by_rank : (inst tree : Fields) (a b : ℕ) → StandsAgainstWalks inst tree (BadBranch a)
+    → StandsAgainstWalks inst tree (BadBranch b) → a ≡ b
+bad_branch_by_rank inst tree a b one other =
+    let steps = one_value tree.branches other.0 one.0 other.1 one.1 in
+    let moved = subst (λ steps. IsFirstBadPlanBranch (nodes_of inst) (length (families_listed tree)) steps b) steps other.2 in
+    one_bad_pair (nodes_of inst + 1) (nodes_of inst + length (families_listed tree)) one.0 a b one.2 moved
+
+bad_plan_leaf_by_rank : (inst tree : Fields) (a b : ℕ) → StandsAgainstWalks inst tree (BadLeaf a)
+    → StandsAgainstWalks inst tree (BadLeaf b) → a ≡ b
+bad_plan_leaf_by_rank inst tree a b one other =
+    let steps = one_value tree.branches other.0 one.0 other.1 one.1 in
+    let moved = subst (λ steps. IsFirstBadPlanLeaf (nodes_of inst) (length (families_listed tree)) steps b) steps other.2 in
+    one_bad_plan_leaf (nodes_of inst) (length (families_listed tree)) one.0 a b one.2 moved
+
+-- plan: by the reason: one without numbers is equal to itself, and of one with numbers the files have one first place or pair
+pub walks_by_rank : (inst tree : Fields) → IsOneByRank (StandsAgainstWalks inst tree)
+walks_by_rank inst tree NotASolution carried one other = absurd one
+walks_by_rank inst tree TooFewNodes carried one other = absurd one
+walks_by_rank inst tree (NotSymmetric i j) carried one other = absurd one
+walks_by_rank inst tree Dimension carried one other = absurd one
+walks_by_rank inst tree TourCount carried one other = absurd one
+walks_by_rank inst tree TourLength carried one other = absurd one
+walks_by_rank inst tree DepotCount carried one other = absurd one
+walks_by_rank inst tree DepotDemand carried one other = absurd one
+walks_by_rank inst tree FixedEdgesInRoutes carried one other = absurd one
+walks_by_rank inst tree (DepotInRoute i) carried one other = absurd one
+walks_by_rank inst tree (NodeOutOfRange i) carried one other = absurd one
+walks_by_rank inst tree (RepeatedNode i) carried one other = absurd one
+walks_by_rank inst tree (FixedEdgeUnused i) carried one other = absurd one
+walks_by_rank inst tree (Unserved i) carried one other = absurd one
+walks_by_rank inst tree (Overload i) carried one other = absurd one
+walks_by_rank inst tree (LengthClaimed i) carried one other = absurd one
+walks_by_rank inst tree NotPotentials carried one other = absurd one
+walks_by_rank inst tree PotentialsDimension carried one other = absurd one
+walks_by_rank inst tree PotentialsKind carried one other = absurd one
+walks_by_rank inst tree (MultiplierNotFixed i) carried one other = absurd one
+walks_by_rank inst tree (MultiplierRepeated i) carried one other = absurd one
+walks_by_rank inst tree (DualInfeasible i j) carried one other = absurd one
+walks_by_rank inst tree NotBranches carried one other = refl
+walks_by_rank inst tree BranchesDimension carried one other = refl
+walks_by_rank inst tree (BadComb i) carried one other = ap BadComb (one_bad_set _ _ _ i carried.0 one other)
+walks_by_rank inst tree (BadBranch i) carried one other = ap BadBranch (bad_branch_by_rank inst tree i carried.0 one other)
+walks_by_rank inst tree (BranchTwice i) carried one other = absurd one
+walks_by_rank inst tree (BadLeaf i) carried one other = ap BadLeaf (bad_plan_leaf_by_rank inst tree i carried.0 one other)
+walks_by_rank inst tree TooManyLoads carried one other = refl
+
 -- ---- against either of two: a reason of one rank applies to one of them alone
 
 pub certificates_by_rank : NumbersAreUnique → (by : Certificate) (inst cert : Fields)
     → IsOneByRank (StandsAgainstCertificate by inst cert)
 certificates_by_rank unique Potentials inst cert = potentials_by_rank inst cert
-certificates_by_rank unique Branches inst cert = trees_by_rank unique inst cert
+certificates_by_rank unique Branches inst cert =
+    tree_either inst.kind IsOneByRank inst cert (trees_by_rank unique inst cert) (walks_by_rank inst cert)
 
-abbrev pub AreApart : (Reason → Type 0) → (Reason → Type 0) → Type 0
-AreApart One Other = (reason : Reason) (carried : Carried) → One reason → Other (reason_of (rank_of reason) carried) → ⊥
+-- a reason of the rank of another has that rank
+same_rank : (reason : Reason) (carried : Carried) → rank_of (reason_of (rank_of reason) carried) ≡ rank_of reason
+same_rank NotASolution carried = refl
+same_rank TooFewNodes carried = refl
+same_rank (NotSymmetric i j) carried = refl
+same_rank Dimension carried = refl
+same_rank TourCount carried = refl
+same_rank TourLength carried = refl
+same_rank DepotCount carried = refl
+same_rank DepotDemand carried = refl
+same_rank FixedEdgesInRoutes carried = refl
+same_rank (DepotInRoute i) carried = refl
+same_rank (NodeOutOfRange i) carried = refl
+same_rank (RepeatedNode i) carried = refl
+same_rank (FixedEdgeUnused i) carried = refl
+same_rank (Unserved i) carried = refl
+same_rank (Overload i) carried = refl
+same_rank (LengthClaimed i) carried = refl
+same_rank NotPotentials carried = refl
+same_rank PotentialsDimension carried = refl
+same_rank PotentialsKind carried = refl
+same_rank (MultiplierNotFixed i) carried = refl
+same_rank (MultiplierRepeated i) carried = refl
+same_rank (DualInfeasible i j) carried = refl
+same_rank NotBranches carried = refl
+same_rank BranchesDimension carried = refl
+same_rank (BadComb i) carried = refl
+same_rank (BadBranch i) carried = refl
+same_rank (BranchTwice i) carried = refl
+same_rank (BadLeaf i) carried = refl
+same_rank TooManyLoads carried = refl
 
-pub either_by_rank : (One Other : Reason → Type 0) → AreApart One Other → AreApart Other One → IsOneByRank One → IsOneByRank Other
-    → IsOneByRank (λ reason. One reason ⊎ Other reason)
-either_by_rank One Other apart again one other reason carried (inl a) (inl b) = one reason carried a b
-either_by_rank One Other apart again one other reason carried (inl a) (inr b) = absurd (apart reason carried a b)
-either_by_rank One Other apart again one other reason carried (inr a) (inl b) = absurd (again reason carried a b)
-either_by_rank One Other apart again one other reason carried (inr a) (inr b) = other reason carried a b
-
--- plan: by the certificate and the reason: none is one of tours and of certificates
-tour_apart : (by : Certificate) (inst sol cert : Fields)
-    → AreApart (StandsAgainstTour inst sol) (StandsAgainstCertificate by inst cert)
-tour_apart Potentials inst sol cert NotASolution carried one other = absurd other
-tour_apart Potentials inst sol cert TooFewNodes carried one other = absurd other
-tour_apart Potentials inst sol cert (NotSymmetric i j) carried one other = absurd other
-tour_apart Potentials inst sol cert Dimension carried one other = absurd other
-tour_apart Potentials inst sol cert TourCount carried one other = absurd other
-tour_apart Potentials inst sol cert TourLength carried one other = absurd other
-tour_apart Potentials inst sol cert DepotCount carried one other = absurd one
-tour_apart Potentials inst sol cert DepotDemand carried one other = absurd one
-tour_apart Potentials inst sol cert FixedEdgesInRoutes carried one other = absurd one
-tour_apart Potentials inst sol cert (DepotInRoute i) carried one other = absurd one
-tour_apart Potentials inst sol cert (NodeOutOfRange i) carried one other = absurd other
-tour_apart Potentials inst sol cert (RepeatedNode i) carried one other = absurd other
-tour_apart Potentials inst sol cert (FixedEdgeUnused i) carried one other = absurd other
-tour_apart Potentials inst sol cert (Unserved i) carried one other = absurd one
-tour_apart Potentials inst sol cert (Overload i) carried one other = absurd one
-tour_apart Potentials inst sol cert (LengthClaimed i) carried one other = absurd one
-tour_apart Potentials inst sol cert NotPotentials carried one other = absurd one
-tour_apart Potentials inst sol cert PotentialsDimension carried one other = absurd one
-tour_apart Potentials inst sol cert PotentialsKind carried one other = absurd one
-tour_apart Potentials inst sol cert (MultiplierNotFixed i) carried one other = absurd one
-tour_apart Potentials inst sol cert (MultiplierRepeated i) carried one other = absurd one
-tour_apart Potentials inst sol cert (DualInfeasible i j) carried one other = absurd one
-tour_apart Potentials inst sol cert NotBranches carried one other = absurd one
-tour_apart Potentials inst sol cert BranchesDimension carried one other = absurd one
-tour_apart Potentials inst sol cert (BadComb i) carried one other = absurd one
-tour_apart Potentials inst sol cert (BadBranch i) carried one other = absurd one
-tour_apart Potentials inst sol cert (BranchTwice i) carried one other = absurd one
-tour_apart Potentials inst sol cert (BadLeaf i) carried one other = absurd one
-tour_apart Potentials inst sol cert TooManyLoads carried one other = absurd one
-tour_apart Branches inst sol cert NotASolution carried one other = absurd other
-tour_apart Branches inst sol cert TooFewNodes carried one other = absurd other
-tour_apart Branches inst sol cert (NotSymmetric i j) carried one other = absurd other
-tour_apart Branches inst sol cert Dimension carried one other = absurd other
-tour_apart Branches inst sol cert TourCount carried one other = absurd other
-tour_apart Branches inst sol cert TourLength carried one other = absurd other
-tour_apart Branches inst sol cert DepotCount carried one other = absurd one
-tour_apart Branches inst sol cert DepotDemand carried one other = absurd one
-tour_apart Branches inst sol cert FixedEdgesInRoutes carried one other = absurd one
-tour_apart Branches inst sol cert (DepotInRoute i) carried one other = absurd one
-tour_apart Branches inst sol cert (NodeOutOfRange i) carried one other = absurd other
-tour_apart Branches inst sol cert (RepeatedNode i) carried one other = absurd other
-tour_apart Branches inst sol cert (FixedEdgeUnused i) carried one other = absurd other
-tour_apart Branches inst sol cert (Unserved i) carried one other = absurd one
-tour_apart Branches inst sol cert (Overload i) carried one other = absurd one
-tour_apart Branches inst sol cert (LengthClaimed i) carried one other = absurd one
-tour_apart Branches inst sol cert NotPotentials carried one other = absurd one
-tour_apart Branches inst sol cert PotentialsDimension carried one other = absurd one
-tour_apart Branches inst sol cert PotentialsKind carried one other = absurd one
-tour_apart Branches inst sol cert (MultiplierNotFixed i) carried one other = absurd one
-tour_apart Branches inst sol cert (MultiplierRepeated i) carried one other = absurd one
-tour_apart Branches inst sol cert (DualInfeasible i j) carried one other = absurd one
-tour_apart Branches inst sol cert NotBranches carried one other = absurd one
-tour_apart Branches inst sol cert BranchesDimension carried one other = absurd one
-tour_apart Branches inst sol cert (BadComb i) carried one other = absurd one
-tour_apart Branches inst sol cert (BadBranch i) carried one other = absurd one
-tour_apart Branches inst sol cert (BranchTwice i) carried one other = absurd one
-tour_apart Branches inst sol cert (BadLeaf i) carried one other = absurd one
-tour_apart Branches inst sol cert TooManyLoads carried one other = absurd one
-
--- plan: by the certificate and the reason: none is one of certificates and of tours
-certificate_apart : (by : Certificate) (inst sol cert : Fields)
-    → AreApart (StandsAgainstCertificate by inst cert) (StandsAgainstTour inst sol)
-certificate_apart Potentials inst sol cert NotASolution carried one other = absurd one
-certificate_apart Potentials inst sol cert TooFewNodes carried one other = absurd one
-certificate_apart Potentials inst sol cert (NotSymmetric i j) carried one other = absurd one
-certificate_apart Potentials inst sol cert Dimension carried one other = absurd one
-certificate_apart Potentials inst sol cert TourCount carried one other = absurd one
-certificate_apart Potentials inst sol cert TourLength carried one other = absurd one
-certificate_apart Potentials inst sol cert DepotCount carried one other = absurd one
-certificate_apart Potentials inst sol cert DepotDemand carried one other = absurd one
-certificate_apart Potentials inst sol cert FixedEdgesInRoutes carried one other = absurd one
-certificate_apart Potentials inst sol cert (DepotInRoute i) carried one other = absurd one
-certificate_apart Potentials inst sol cert (NodeOutOfRange i) carried one other = absurd one
-certificate_apart Potentials inst sol cert (RepeatedNode i) carried one other = absurd one
-certificate_apart Potentials inst sol cert (FixedEdgeUnused i) carried one other = absurd one
-certificate_apart Potentials inst sol cert (Unserved i) carried one other = absurd one
-certificate_apart Potentials inst sol cert (Overload i) carried one other = absurd one
-certificate_apart Potentials inst sol cert (LengthClaimed i) carried one other = absurd one
-certificate_apart Potentials inst sol cert NotPotentials carried one other = absurd other
-certificate_apart Potentials inst sol cert PotentialsDimension carried one other = absurd other
-certificate_apart Potentials inst sol cert PotentialsKind carried one other = absurd other
-certificate_apart Potentials inst sol cert (MultiplierNotFixed i) carried one other = absurd other
-certificate_apart Potentials inst sol cert (MultiplierRepeated i) carried one other = absurd other
-certificate_apart Potentials inst sol cert (DualInfeasible i j) carried one other = absurd other
-certificate_apart Potentials inst sol cert NotBranches carried one other = absurd one
-certificate_apart Potentials inst sol cert BranchesDimension carried one other = absurd one
-certificate_apart Potentials inst sol cert (BadComb i) carried one other = absurd one
-certificate_apart Potentials inst sol cert (BadBranch i) carried one other = absurd one
-certificate_apart Potentials inst sol cert (BranchTwice i) carried one other = absurd one
-certificate_apart Potentials inst sol cert (BadLeaf i) carried one other = absurd one
-certificate_apart Potentials inst sol cert TooManyLoads carried one other = absurd one
-certificate_apart Branches inst sol cert NotASolution carried one other = absurd one
-certificate_apart Branches inst sol cert TooFewNodes carried one other = absurd one
-certificate_apart Branches inst sol cert (NotSymmetric i j) carried one other = absurd one
-certificate_apart Branches inst sol cert Dimension carried one other = absurd one
-certificate_apart Branches inst sol cert TourCount carried one other = absurd one
-certificate_apart Branches inst sol cert TourLength carried one other = absurd one
-certificate_apart Branches inst sol cert DepotCount carried one other = absurd one
-certificate_apart Branches inst sol cert DepotDemand carried one other = absurd one
-certificate_apart Branches inst sol cert FixedEdgesInRoutes carried one other = absurd one
-certificate_apart Branches inst sol cert (DepotInRoute i) carried one other = absurd one
-certificate_apart Branches inst sol cert (NodeOutOfRange i) carried one other = absurd one
-certificate_apart Branches inst sol cert (RepeatedNode i) carried one other = absurd one
-certificate_apart Branches inst sol cert (FixedEdgeUnused i) carried one other = absurd one
-certificate_apart Branches inst sol cert (Unserved i) carried one other = absurd one
-certificate_apart Branches inst sol cert (Overload i) carried one other = absurd one
-certificate_apart Branches inst sol cert (LengthClaimed i) carried one other = absurd one
-certificate_apart Branches inst sol cert NotPotentials carried one other = absurd one
-certificate_apart Branches inst sol cert PotentialsDimension carried one other = absurd one
-certificate_apart Branches inst sol cert PotentialsKind carried one other = absurd one
-certificate_apart Branches inst sol cert (MultiplierNotFixed i) carried one other = absurd one
-certificate_apart Branches inst sol cert (MultiplierRepeated i) carried one other = absurd one
-certificate_apart Branches inst sol cert (DualInfeasible i j) carried one other = absurd one
-certificate_apart Branches inst sol cert NotBranches carried one other = absurd other
-certificate_apart Branches inst sol cert BranchesDimension carried one other = absurd other
-certificate_apart Branches inst sol cert (BadComb i) carried one other = absurd other
-certificate_apart Branches inst sol cert (BadBranch i) carried one other = absurd other
-certificate_apart Branches inst sol cert (BranchTwice i) carried one other = absurd other
-certificate_apart Branches inst sol cert (BadLeaf i) carried one other = absurd other
-certificate_apart Branches inst sol cert TooManyLoads carried one other = absurd other
-
--- reasons against an instance are reasons against its tours
--- plan: by the reason: each that is judged of the instance is judged of its tours too
-against_tours : (inst sol : Fields) (reason : Reason) → StandsAgainstInstance inst reason → StandsAgainstTour inst sol reason
-against_tours inst sol NotASolution one = absurd one
-against_tours inst sol TooFewNodes one = one
-against_tours inst sol (NotSymmetric i j) one = one
-against_tours inst sol Dimension one = absurd one
-against_tours inst sol TourCount one = absurd one
-against_tours inst sol TourLength one = absurd one
-against_tours inst sol DepotCount one = absurd one
-against_tours inst sol DepotDemand one = absurd one
-against_tours inst sol FixedEdgesInRoutes one = absurd one
-against_tours inst sol (DepotInRoute i) one = absurd one
-against_tours inst sol (NodeOutOfRange i) one = absurd one
-against_tours inst sol (RepeatedNode i) one = absurd one
-against_tours inst sol (FixedEdgeUnused i) one = absurd one
-against_tours inst sol (Unserved i) one = absurd one
-against_tours inst sol (Overload i) one = absurd one
-against_tours inst sol (LengthClaimed i) one = absurd one
-against_tours inst sol NotPotentials one = absurd one
-against_tours inst sol PotentialsDimension one = absurd one
-against_tours inst sol PotentialsKind one = absurd one
-against_tours inst sol (MultiplierNotFixed i) one = absurd one
-against_tours inst sol (MultiplierRepeated i) one = absurd one
-against_tours inst sol (DualInfeasible i j) one = absurd one
-against_tours inst sol NotBranches one = absurd one
-against_tours inst sol BranchesDimension one = absurd one
-against_tours inst sol (BadComb i) one = absurd one
-against_tours inst sol (BadBranch i) one = absurd one
-against_tours inst sol (BranchTwice i) one = absurd one
-against_tours inst sol (BadLeaf i) one = absurd one
-against_tours inst sol TooManyLoads one = absurd one
+-- reasons against a solution or an instance come before those against a certificate, whatever they carry
+either_by_rank : NumbersAreUnique → (Own : Reason → Type 0) (by : Certificate) (inst cert : Fields) → AreOwn Own → IsOneByRank Own
+    → IsOneByRank (Both Own by inst cert)
+either_by_rank unique Own by inst cert own one reason carried (inl a) (inl b) = one reason carried a b
+either_by_rank unique Own by inst cert own one reason carried (inl a) (inr b) =
+    absurd (omega (
+      arith,
+      own reason a,
+      certificate_rank by inst cert (reason_of (rank_of reason) carried) b,
+      same_rank reason carried,
+    ))
+either_by_rank unique Own by inst cert own one reason carried (inr a) (inl b) =
+    absurd (omega (
+      arith,
+      own (reason_of (rank_of reason) carried) b,
+      certificate_rank by inst cert reason a,
+      same_rank reason carried,
+    ))
+either_by_rank unique Own by inst cert own one reason carried (inr a) (inr b) =
+    certificates_by_rank unique by inst cert reason carried a b
 
 pub certified_by_rank : NumbersAreUnique → (by : Certificate) (inst sol cert : Fields)
     → IsOneByRank (StandsAgainstCertified by inst sol cert)
-certified_by_rank unique by inst sol cert = either_by_rank (StandsAgainstTour inst sol) (StandsAgainstCertificate by inst cert)
-    (tour_apart by inst sol cert) (certificate_apart by inst sol cert) (tours_by_rank inst sol)
-    (certificates_by_rank unique by inst cert)
+certified_by_rank unique by inst sol cert =
+    either_by_rank unique (StandsAgainstTour inst sol) by inst cert (tour_rank inst sol) (tours_by_rank inst sol)
+
+pub certified_routes_by_rank : NumbersAreUnique → (by : Certificate) (inst sol cert : Fields)
+    → IsOneByRank (StandsAgainstCertifiedRoutes by inst sol cert)
+certified_routes_by_rank unique by inst sol cert =
+    either_by_rank unique (StandsAgainstRoutes inst sol) by inst cert (routes_rank inst sol) (routes_by_rank inst sol)
 
 pub bounded_by_rank : NumbersAreUnique → (by : Certificate) (inst cert : Fields)
     → IsOneByRank (StandsAgainstBounded by inst cert)
-bounded_by_rank unique by inst cert = either_by_rank (StandsAgainstInstance inst) (StandsAgainstCertificate by inst cert)
-    (λ reason carried one other. tour_apart by inst cert cert reason carried (against_tours inst cert reason one) other)
-    (λ reason carried one other. certificate_apart by inst cert cert reason carried one
-    (against_tours inst cert (reason_of (rank_of reason) carried) other))
-    (instances_by_rank inst) (certificates_by_rank unique by inst cert)
+bounded_by_rank unique by inst cert = either_by_rank unique (StandsAgainstInstance inst) by inst cert (instance_rank inst)
+    (instance_either inst.kind IsOneByRank inst (instances_by_rank inst) (routings_by_rank inst))

@@ -1,14 +1,15 @@
 -- Files have one verdict: reasons by their ranks and numbers, lengths by the one tour or the plan, bounds by least 1-trees, sums
 -- of duals and leaves, each of which is one number.
-use Rattle.std.proofs.Common.{◌≡◌, ◌∙◌, ℕ, List, [], ◌∷◌, get_or, inl, inr, refl, sym, ap, ap₂, subst, arith}
+use Rattle.std.proofs.Common.{◌≡◌, ◌∙◌, ℕ, false, List, [], ◌∷◌, get_or, inl, inr, refl, sym, ap, ap₂, subst, arith}
 use Rattle.std.specs.Prelude.{Option, None, Some, ℤ}
+use Rattle.std.proofs.lemmas.Bool.{false≢true}
 use Rattle.std.proofs.lemmas.Int.{ints}
 use Rattle.tsp_format.specs.declared.kinds.Kind.{Kind}
 use Rattle.tsp_format.specs.declared.kinds.Kind.TheVariants as kinds
 use Rattle.tsp_format.specs.Steps as listed
 use Rattle.tsp_draft.specs.Fields.{Fields, nodes_of}
 use Rattle.tsp_file.specs.Cost.{cost}
-use Rattle.tsp_file.specs.Defaults.{scale_in, multipliers_in}
+use Rattle.tsp_file.specs.Defaults.{scale_in, multipliers_in, families_listed}
 use Rattle.tsp_theory.specs.Length.{length_of}
 use Rattle.tsp_theory.specs.CertificateNumbers.{total, IsLeastBound}
 use Rattle.tsp_theory.specs.Routing.{IsLeastRoutes}
@@ -29,25 +30,28 @@ use Rattle.tsp_reason.specs.declared.verdict.Reason.{Reason}
 use Rattle.tsp_reason.specs.declared.verdict.Reason.TheVariants.{LengthClaimed}
 use Rattle.tsp_reason.specs.declared.verdict.Verdict.{Verdict}
 use Rattle.tsp_reason.specs.declared.verdict.Verdict.TheVariants.{Tour, Routes, No}
-use Rattle.tsp_verdict.specs.Basis.{StandsAgainstRouting, IsBasisOfTours, IsBasisOfRoutes, IsBasisAlone, IsBasisBy, IsBasisWith}
-use Rattle.tsp_verdict.specs.Bounded.{StandsAgainstInstance, StandsAgainstBounded, IsBoundVerdict}
+use Rattle.tsp_verdict.specs.Basis.{IsBasisOfTours, IsBasisOfRoutes, IsBasisAlone, IsBasisOfToursBy, IsBasisOfRoutesBy, IsBasisBy, IsBasisWith}
+use Rattle.tsp_verdict.specs.Bounded.{StandsAgainstTouring, StandsAgainstRouting, StandsAgainstBounded, IsBoundVerdict}
 use Rattle.tsp_verdict.specs.BranchesCertificate.{given_in, case_steps_in, families_with_numbers, HasBoundByBranches}
-use Rattle.tsp_verdict.specs.Certified.{IsBoundBy, StandsAgainstCertificate, IsCertified, StandsAgainstCertified, IsCertifiedVerdict}
+use Rattle.tsp_verdict.specs.Certified.{is_bounded, IsBoundBy, IsBoundOf, HasNoBoundBy, StandsAgainstCertificate, IsCertified, StandsAgainstCertified, IsCertifiedTourVerdict, StandsAgainstCertifiedRoutes, IsCertifiedRoutesVerdict, IsCertifiedVerdictBy, IsCertifiedVerdict}
 use Rattle.tsp_verdict.specs.SolutionVerdict.{IsVerdictBy, IsVerdictOn, IsUnclaimedVerdict, IsFirstAgainstGiven, HasLength, IsOfLength, IsClaimedVerdict}
 use Rattle.tsp_verdict.specs.OneVerdict.{FilesHaveOneVerdict, FilesHaveOneBound, FilesHaveOneBasis, SolutionsHaveOneVerdict}
 use Rattle.tsp_verdict.specs.Plan.{total_of}
-use Rattle.tsp_cost.specs.ComputedProblems.{capacity_of}
+use Rattle.tsp_cost.specs.ComputedProblems.{routing_of, capacity_of}
 use Rattle.tsp_verdict.specs.PotentialsCertificate.{IsBoundByNodes, IsBoundByDuals}
-use Rattle.tsp_verdict.specs.Routes.{StandsAgainstRoutes, IsRoutesVerdict}
+use Rattle.tsp_verdict.specs.Routes.{StandsAgainstRoutes, IsPlanned, IsRoutesVerdict}
+use Rattle.tsp_verdict.specs.WalksCertificate.{unit_in, HasBoundByWalks}
+use Rattle.tsp_routing.specs.PlanVerdicts.{IsBoundFound, PlanBoundsFoundAreUnique}
 use Rattle.tsp_verdict.specs.Solution.{tours_of}
 use Rattle.tsp_verdict.specs.Tours.{StandsAgainstTour, IsTourVerdict}
 use Rattle.tsp_verdict.proofs.FirstReasons.{one_first}
-use Rattle.tsp_verdict.proofs.OneReason.{one_value, tours_by_rank, instances_by_rank, routings_by_rank, routes_by_rank, certificates_by_rank, certified_by_rank, bounded_by_rank, one_crossed}
+use Rattle.tsp_verdict.proofs.OneReason.{one_value, tours_by_rank, instances_by_rank, routings_by_rank, routes_by_rank, certificates_by_rank, certified_by_rank, certified_routes_by_rank, bounded_by_rank, one_crossed}
 
 -- the laws of the crates below
 pub record Laws : Type 0 where
   pub numbers : NumbersAreUnique
   pub leaves : CaseTreeBoundsAreUnique
+  pub walks : PlanBoundsFoundAreUnique
 
 -- ---- on its own
 
@@ -58,13 +62,13 @@ one_list lists a b one other = ap (λ found. get_or found 0 []) (sym one ∙ oth
 one_tour : (inst sol : Fields) (one other : Verdict) → IsTourVerdict inst sol one → IsTourVerdict inst sol other → one ≡ other
 one_tour inst sol (No a) (No b) one other = ap No (one_first (StandsAgainstTour inst sol) (tours_by_rank inst sol) a b one other)
 one_tour inst sol (No a) (Tour found bound) one other = absurd (other.0 a one.stands)
-one_tour inst sol (No a) (Routes found routes least) one other = absurd other
+one_tour inst sol (No a) (Routes found routes least bound_b) one other = absurd other
 one_tour inst sol (Tour length bound) (No b) one other = absurd (one.0 b other.stands)
 one_tour inst sol (Tour length bound) (Tour found least) one other =
     let same = one_list (tours_of sol) one.1.0 other.1.0 one.1.1 other.1.1 in
     ap₂ (λ length bound. Tour length bound) (one.1.3 ∙ ap (length_of (cost inst)) same ∙ sym other.1.3) (one.2 ∙ sym other.2)
-one_tour inst sol (Tour length bound) (Routes found routes least) one other = absurd other
-one_tour inst sol (Routes length routes least) other is none = absurd is
+one_tour inst sol (Tour length bound) (Routes found routes least bound_b) one other = absurd other
+one_tour inst sol (Routes length routes least bound) other is none = absurd is
 
 one_least : (total capacity : ℤ) (a b : ℕ) → IsLeastRoutes total capacity a → IsLeastRoutes total capacity b → a ≡ b
 one_least total capacity a b one other =
@@ -73,18 +77,26 @@ one_least total capacity a b one other =
 three : {X Y Z W : Type 0} (f : X → Y → Z → W) (x p : X) (y q : Y) (z r : Z) → x ≡ p → y ≡ q → z ≡ r → f x y z ≡ f p q r
 three f x p y q z r first second third = ap (λ x. f x y z) first ∙ ap₂ (λ y z. f p y z) second third
 
+-- routes of one plan, with one bound
+one_planned : (inst : Fields) (plan : List (List ℕ)) (a b : ℤ) (count other fewest least : ℕ) (bound : Option ℤ)
+    → IsPlanned inst plan a count fewest → IsPlanned inst plan b other least
+    → Routes a count fewest bound ≡ Routes b other least bound
+one_planned inst plan a b count other fewest least bound one second =
+    three (λ length routes least. Routes length routes least bound) a b count other fewest least
+    (one.measured ∙ sym second.measured) (one.counted ∙ sym second.counted)
+    (one_least (total_of inst) (capacity_of inst) fewest least one.least_is second.least_is)
+
 one_routes : (inst sol : Fields) (one other : Verdict) → IsRoutesVerdict inst sol one → IsRoutesVerdict inst sol other
     → one ≡ other
 one_routes inst sol (No a) (No b) one other =
     ap No (one_first (StandsAgainstRoutes inst sol) (routes_by_rank inst sol) a b one other)
-one_routes inst sol (No a) (Routes found routes least) one other = absurd (other.0 a one.stands)
+one_routes inst sol (No a) (Routes found routes least bound) one other = absurd (other.0 a one.stands)
 one_routes inst sol (No a) (Tour found bound) one other = absurd other
-one_routes inst sol (Routes length routes least) (No b) one other = absurd (one.0 b other.stands)
-one_routes inst sol (Routes length routes least) (Routes found count fewest) one other =
-    three (λ length routes least. Routes length routes least) length found routes count least fewest
-    (one.1.measured ∙ sym other.1.measured) (one.1.counted ∙ sym other.1.counted)
-    (one_least (total_of inst) (capacity_of inst) least fewest one.1.least_is other.1.least_is)
-one_routes inst sol (Routes length routes least) (Tour found bound) one other = absurd other
+one_routes inst sol (Routes length routes least bound) (No b) one other = absurd (one.0 b other.stands)
+one_routes inst sol (Routes length routes least bound) (Routes found count fewest same) one other =
+    one_planned inst (tours_of sol) length found routes count least fewest bound one.1 other.1
+    ∙ ap (λ b. Routes found count fewest b) (one.2 ∙ sym other.2)
+one_routes inst sol (Routes length routes least bound) (Tour found none) one other = absurd other
 one_routes inst sol (Tour length bound) other is none = absurd is
 
 one_by_kind : (kind : Option Kind) (inst sol : Fields) (one other : Verdict) → IsVerdictBy kind inst sol one
@@ -145,6 +157,14 @@ one_by_tree laws inst tree a b one other =
     (families_with_numbers tree one.crossed)
     (given_in inst) (case_steps_in inst tree one.steps) a b one.bound moved
 
+one_by_walks : Laws → (inst tree : Fields) (a b : Option ℤ) → HasBoundByWalks inst tree a → HasBoundByWalks inst tree b → a ≡ b
+one_by_walks laws inst tree a b one other =
+    let Found : List listed.Step → Type 0 = λ steps. IsBoundFound (routing_of inst) (scale_in tree) (unit_in tree)
+    (families_listed tree) steps b in
+    let steps = one_value tree.branches other.steps one.steps other.steps_are one.steps_are in
+    let moved : Found one.steps = subst Found steps other.bound in
+    laws.walks (routing_of inst) (scale_in tree) (unit_in tree) (families_listed tree) one.steps a b one.bound moved
+
 of_some : (a b : ℤ) → Some a ≡ Some b → a ≡ b
 of_some a b same = one_value (Some b) a b (sym same) refl
 
@@ -161,7 +181,8 @@ one_bound_by laws Branches (Some kinds.Tsp) inst cert a b one other =
     of_some a b (one_by_tree laws inst cert (Some a) (Some b) one other)
 one_bound_by laws Branches (Some kinds.Atsp) inst cert a b one other =
     of_some a b (one_by_tree laws inst cert (Some a) (Some b) one other)
-one_bound_by laws Branches (Some kinds.Cvrp) inst cert a b one other = absurd one
+one_bound_by laws Branches (Some kinds.Cvrp) inst cert a b one other =
+    of_some a b (one_by_walks laws inst cert (Some a) (Some b) one other)
 one_bound_by laws Branches (Some kinds.Tour) inst cert a b one other = absurd one
 one_bound_by laws Branches (Some kinds.Potentials) inst cert a b one other = absurd one
 one_bound_by laws Branches (Some kinds.Branches) inst cert a b one other = absurd one
@@ -171,53 +192,98 @@ one_bound_by laws Branches None inst cert a b one other = absurd one
 some_or_none : (a : ℤ) → Some a ≡ None → ⊥
 some_or_none a both = grind (arith, both)
 
-bound_or_none : Laws → (kind : Option Kind) (inst cert : Fields) (a : ℤ) → IsBoundBy Branches kind inst cert a
-    → HasBoundByBranches inst cert None → ⊥
-bound_or_none laws (Some kinds.Tsp) inst cert a one none = some_or_none a (one_by_tree laws inst cert (Some a) None one none)
-bound_or_none laws (Some kinds.Atsp) inst cert a one none = some_or_none a (one_by_tree laws inst cert (Some a) None one none)
-bound_or_none laws (Some kinds.Cvrp) inst cert a one none = one
-bound_or_none laws (Some kinds.Tour) inst cert a one none = one
-bound_or_none laws (Some kinds.Potentials) inst cert a one none = one
-bound_or_none laws (Some kinds.Branches) inst cert a one none = one
-bound_or_none laws None inst cert a one none = one
+bound_or_none : Laws → (by : Certificate) (kind : Option Kind) (inst cert : Fields) (a : ℤ) → IsBoundBy by kind inst cert a
+    → HasNoBoundBy by kind inst cert → ⊥
+bound_or_none laws Branches (Some kinds.Tsp) inst cert a one none =
+    some_or_none a (one_by_tree laws inst cert (Some a) None one none)
+bound_or_none laws Branches (Some kinds.Atsp) inst cert a one none =
+    some_or_none a (one_by_tree laws inst cert (Some a) None one none)
+bound_or_none laws Branches (Some kinds.Cvrp) inst cert a one none =
+    some_or_none a (one_by_walks laws inst cert (Some a) None one none)
+bound_or_none laws Branches (Some kinds.Tour) inst cert a one none = one
+bound_or_none laws Branches (Some kinds.Potentials) inst cert a one none = one
+bound_or_none laws Branches (Some kinds.Branches) inst cert a one none = one
+bound_or_none laws Branches None inst cert a one none = one
+bound_or_none laws Potentials (Some kinds.Tsp) inst cert a one none = none
+bound_or_none laws Potentials (Some kinds.Atsp) inst cert a one none = none
+bound_or_none laws Potentials (Some kinds.Cvrp) inst cert a one none = none
+bound_or_none laws Potentials (Some kinds.Tour) inst cert a one none = none
+bound_or_none laws Potentials (Some kinds.Potentials) inst cert a one none = none
+bound_or_none laws Potentials (Some kinds.Branches) inst cert a one none = none
+bound_or_none laws Potentials None inst cert a one none = none
 
 never_none : Laws → (by : Certificate) (inst cert : Fields) (a : ℤ) → IsBoundVerdict by inst cert (bounds.Bound a)
-    → IsBoundVerdict by inst cert bounds.NoTour → ⊥
-never_none laws Potentials inst cert a one other = other.1
-never_none laws Branches inst cert a one other =
-    let certified : IsCertified Branches inst cert a = one.1 in bound_or_none laws inst.kind inst cert a certified.0 other.1
+    → IsBoundVerdict by inst cert bounds.NoSolution → ⊥
+never_none laws by inst cert a one other =
+    let certified : IsCertified by inst cert a = one.1 in bound_or_none laws by inst.kind inst cert a certified.0 other.1
 
 pub one_bound : Laws → FilesHaveOneBound
 one_bound laws by inst cert (bounds.Bound a) (bounds.Bound b) one other =
     let first : IsCertified by inst cert a = one.1 in
     let second : IsCertified by inst cert b = other.1 in
     ap bounds.Bound (one_bound_by laws by inst.kind inst cert a b first.0 second.0)
-one_bound laws by inst cert (bounds.Bound a) bounds.NoTour one other = absurd (never_none laws by inst cert a one other)
+one_bound laws by inst cert (bounds.Bound a) bounds.NoSolution one other = absurd (never_none laws by inst cert a one other)
 one_bound laws by inst cert (bounds.Bound a) (bounds.No reason) one other = absurd (one.0 reason other.stands)
-one_bound laws by inst cert bounds.NoTour (bounds.Bound b) one other = absurd (never_none laws by inst cert b other one)
-one_bound laws by inst cert bounds.NoTour bounds.NoTour one other = refl
-one_bound laws by inst cert bounds.NoTour (bounds.No reason) one other = absurd (one.0 reason other.stands)
+one_bound laws by inst cert bounds.NoSolution (bounds.Bound b) one other = absurd (never_none laws by inst cert b other one)
+one_bound laws by inst cert bounds.NoSolution bounds.NoSolution one other = refl
+one_bound laws by inst cert bounds.NoSolution (bounds.No reason) one other = absurd (one.0 reason other.stands)
 one_bound laws by inst cert (bounds.No reason) (bounds.Bound b) one other = absurd (other.0 reason one.stands)
-one_bound laws by inst cert (bounds.No reason) bounds.NoTour one other = absurd (other.0 reason one.stands)
+one_bound laws by inst cert (bounds.No reason) bounds.NoSolution one other = absurd (other.0 reason one.stands)
 one_bound laws by inst cert (bounds.No a) (bounds.No b) one other =
     ap bounds.No (one_first (StandsAgainstBounded by inst cert) (bounded_by_rank laws.numbers by inst cert) a b one other)
 
 -- ---- with a certificate
 
-one_certified : Laws → (by : Certificate) (inst sol cert : Fields) (one other : Verdict) → IsCertifiedVerdict by inst sol cert one
-    → IsCertifiedVerdict by inst sol cert other → one ≡ other
-one_certified laws by inst sol cert (No a) (No b) one other =
+one_certified_tour : Laws → (by : Certificate) (inst sol cert : Fields) (one other : Verdict) → IsCertifiedTourVerdict by inst sol cert one
+    → IsCertifiedTourVerdict by inst sol cert other → one ≡ other
+one_certified_tour laws by inst sol cert (No a) (No b) one other =
     ap No (one_first (StandsAgainstCertified by inst sol cert) (certified_by_rank laws.numbers by inst sol cert) a b one other)
-one_certified laws by inst sol cert (No a) (Tour length bound) one other = absurd (other.0 a one.stands)
-one_certified laws by inst sol cert (No a) (Routes length routes least) one other = absurd other
-one_certified laws by inst sol cert (Tour length bound) (No b) one other = absurd (one.0 b other.stands)
-one_certified laws by inst sol cert (Tour length bound) (Tour found least) one other =
+one_certified_tour laws by inst sol cert (No a) (Tour length bound) one other = absurd (other.0 a one.stands)
+one_certified_tour laws by inst sol cert (No a) (Routes length routes least bound) one other = absurd other
+one_certified_tour laws by inst sol cert (Tour length bound) (No b) one other = absurd (one.0 b other.stands)
+one_certified_tour laws by inst sol cert (Tour length bound) (Tour found least) one other =
     let same = one_list (tours_of sol) one.1.tour other.1.tour one.1.only other.1.only in
     let least = one_bound_by laws by inst.kind inst cert one.1.least other.1.least one.1.of_certificate other.1.of_certificate in
     ap₂ (λ length bound. Tour length bound) (one.1.measured ∙ ap (length_of (cost inst)) same ∙ sym other.1.measured)
     (one.1.bound_is ∙ ap Some least ∙ sym other.1.bound_is)
-one_certified laws by inst sol cert (Tour length bound) (Routes found routes least) one other = absurd other
-one_certified laws by inst sol cert (Routes length routes least) other is none = absurd is
+one_certified_tour laws by inst sol cert (Tour length bound) (Routes found routes least bound_b) one other = absurd other
+one_certified_tour laws by inst sol cert (Routes length routes least bound) other is none = absurd is
+
+one_certified_routes : Laws → (by : Certificate) (inst sol cert : Fields) (one other : Verdict)
+    → IsCertifiedRoutesVerdict by inst sol cert one → IsCertifiedRoutesVerdict by inst sol cert other → one ≡ other
+one_certified_routes laws by inst sol cert (No a) (No b) one other =
+    ap No (one_first (StandsAgainstCertifiedRoutes by inst sol cert) (certified_routes_by_rank laws.numbers by inst sol cert) a b one
+    other)
+one_certified_routes laws by inst sol cert (No a) (Routes length routes least bound) one other = absurd (other.0 a one.stands)
+one_certified_routes laws by inst sol cert (No a) (Tour length bound) one other = absurd other
+one_certified_routes laws by inst sol cert (Routes length routes least bound) (No b) one other = absurd (one.0 b other.stands)
+one_certified_routes laws by inst sol cert (Routes length routes least bound) (Routes found count fewest same) one other =
+    let lower = one_bound_by laws by inst.kind inst cert one.1.least other.1.least one.1.of_certificate other.1.of_certificate in
+    one_planned inst (tours_of sol) length found routes count least fewest bound one.1.planned other.1.planned
+    ∙ ap (λ b. Routes found count fewest b) (one.1.bound_is ∙ ap Some lower ∙ sym other.1.bound_is)
+one_certified_routes laws by inst sol cert (Routes length routes least bound) (Tour found none) one other = absurd other
+one_certified_routes laws by inst sol cert (Tour length bound) other is none = absurd is
+
+one_certified_by : Laws → (kind : Option Kind) (by : Certificate) (inst sol cert : Fields) (one other : Verdict)
+    → IsCertifiedVerdictBy kind by inst sol cert one → IsCertifiedVerdictBy kind by inst sol cert other → one ≡ other
+one_certified_by laws (Some kinds.Tsp) by inst sol cert one other first second =
+    one_certified_tour laws by inst sol cert one other first second
+one_certified_by laws (Some kinds.Atsp) by inst sol cert one other first second =
+    one_certified_tour laws by inst sol cert one other first second
+one_certified_by laws (Some kinds.Cvrp) by inst sol cert one other first second =
+    one_certified_routes laws by inst sol cert one other first second
+one_certified_by laws (Some kinds.Tour) by inst sol cert one other first second =
+    one_certified_tour laws by inst sol cert one other first second
+one_certified_by laws (Some kinds.Potentials) by inst sol cert one other first second =
+    one_certified_tour laws by inst sol cert one other first second
+one_certified_by laws (Some kinds.Branches) by inst sol cert one other first second =
+    one_certified_tour laws by inst sol cert one other first second
+one_certified_by laws None by inst sol cert one other first second =
+    one_certified_tour laws by inst sol cert one other first second
+
+one_certified : Laws → (by : Certificate) (inst sol cert : Fields) (one other : Verdict) → IsCertifiedVerdict by inst sol cert one
+    → IsCertifiedVerdict by inst sol cert other → one ≡ other
+one_certified laws by inst sol cert one other first second = one_certified_by laws inst.kind by inst sol cert one other first second
 
 one_unclaimed : Laws → (given : Option (Certificate × Fields)) (inst sol : Fields) (one other : Verdict)
     → IsUnclaimedVerdict given inst sol one → IsUnclaimedVerdict given inst sol other → one ≡ other
@@ -229,7 +295,7 @@ one_unclaimed laws (Some given) inst sol one other first second =
 
 same_length : (verdict : Verdict) (a b : ℤ) → HasLength verdict a → HasLength verdict b → a ≡ b
 same_length (Tour length bound) a b one other = one ∙ sym other
-same_length (Routes length routes least) a b one other = one ∙ sym other
+same_length (Routes length routes least bound) a b one other = one ∙ sym other
 same_length (No reason) a b one other = absurd one
 
 one_length : (inst sol : Fields) (a b : ℤ) → IsOfLength inst sol a → IsOfLength inst sol b → a ≡ b
@@ -243,46 +309,138 @@ never_refused : (inst sol : Fields) (length : ℤ) (reason : Reason) → IsOfLen
 never_refused inst sol length reason one refused =
     subst (λ verdict. HasLength verdict length) (one_alone inst sol one.0 (No reason) one.1 refused) one.2
 
--- an accepted solution with a certificate is accepted on its own
-tour_by_kind : (by : Certificate) (kind : Option Kind) (inst sol cert : Fields) (least length : ℤ)
-    → IsBoundBy by kind inst cert least
-    → IsTourVerdict inst sol (Tour length None) → IsVerdictBy kind inst sol (Tour length None)
-tour_by_kind by (Some kinds.Tsp) inst sol cert least length bound tour = tour
-tour_by_kind by (Some kinds.Atsp) inst sol cert least length bound tour = tour
-tour_by_kind Potentials (Some kinds.Cvrp) inst sol cert least length bound tour = absurd bound
-tour_by_kind Potentials (Some kinds.Tour) inst sol cert least length bound tour = absurd bound
-tour_by_kind Potentials (Some kinds.Potentials) inst sol cert least length bound tour = absurd bound
-tour_by_kind Potentials (Some kinds.Branches) inst sol cert least length bound tour = absurd bound
-tour_by_kind Potentials None inst sol cert least length bound tour = absurd bound
-tour_by_kind Branches (Some kinds.Cvrp) inst sol cert least length bound tour = absurd bound
-tour_by_kind Branches (Some kinds.Tour) inst sol cert least length bound tour = absurd bound
-tour_by_kind Branches (Some kinds.Potentials) inst sol cert least length bound tour = absurd bound
-tour_by_kind Branches (Some kinds.Branches) inst sol cert least length bound tour = absurd bound
-tour_by_kind Branches None inst sol cert least length bound tour = absurd bound
+-- no bound comes of other TYPEs
+boundless : (by : Certificate) (kind : Option Kind) (inst cert : Fields) (least : ℤ) → is_bounded by kind ≡ false
+    → IsBoundBy by kind inst cert least → ⊥
+boundless Potentials (Some kinds.Tsp) inst cert least other bound = absurd (false≢true (sym other))
+boundless Potentials (Some kinds.Atsp) inst cert least other bound = absurd (false≢true (sym other))
+boundless Potentials (Some kinds.Cvrp) inst cert least other bound = bound
+boundless Potentials (Some kinds.Tour) inst cert least other bound = bound
+boundless Potentials (Some kinds.Potentials) inst cert least other bound = bound
+boundless Potentials (Some kinds.Branches) inst cert least other bound = bound
+boundless Potentials None inst cert least other bound = bound
+boundless Branches (Some kinds.Tsp) inst cert least other bound = absurd (false≢true (sym other))
+boundless Branches (Some kinds.Atsp) inst cert least other bound = absurd (false≢true (sym other))
+boundless Branches (Some kinds.Cvrp) inst cert least other bound = absurd (false≢true (sym other))
+boundless Branches (Some kinds.Tour) inst cert least other bound = bound
+boundless Branches (Some kinds.Potentials) inst cert least other bound = bound
+boundless Branches (Some kinds.Branches) inst cert least other bound = bound
+boundless Branches None inst cert least other bound = bound
+
+-- an accepted tour with a certificate is accepted on its own; so are accepted routes
+alone_tour : (by : Certificate) (inst sol cert : Fields) (verdict : Verdict) (length : ℤ) → HasLength verdict length
+    → IsCertifiedTourVerdict by inst sol cert verdict
+    → (least : ℤ) × IsBoundOf by inst cert least × IsTourVerdict inst sol (Tour length None)
+alone_tour by inst sol cert (Tour measured bound) length has accepted = (
+  accepted.1.least,
+  accepted.1.of_certificate,
+  (
+    λ reason stands. accepted.0 reason (inl stands),
+    (accepted.1.tour, accepted.1.only, accepted.1.tour_of, has ∙ accepted.1.measured),
+    refl,
+  ),
+)
+alone_tour by inst sol cert (Routes measured routes least bound) length has accepted = absurd accepted
+alone_tour by inst sol cert (No reason) length has accepted = absurd has
+
+alone_routes : (by : Certificate) (inst sol cert : Fields) (verdict : Verdict) (length : ℤ) → HasLength verdict length
+    → IsCertifiedRoutesVerdict by inst sol cert verdict
+    → (yes : Verdict) × IsRoutesVerdict inst sol yes × HasLength yes length
+alone_routes by inst sol cert (Routes measured routes least bound) length has accepted = (
+  Routes measured routes least None,
+  (λ reason stands. accepted.0 reason (inl stands), accepted.1.planned, refl),
+  has,
+)
+alone_routes by inst sol cert (Tour measured bound) length has accepted = absurd accepted
+alone_routes by inst sol cert (No reason) length has accepted = absurd has
+
+-- of another TYPE none is
+alone_other : (by : Certificate) (kind : Option Kind) (inst sol cert : Fields) (verdict : Verdict) (length : ℤ)
+    → kind ≡ inst.kind → is_bounded by kind ≡ false → HasLength verdict length
+    → IsCertifiedTourVerdict by inst sol cert verdict → ⊥
+alone_other by kind inst sol cert verdict length same other has accepted =
+    let alone = alone_tour by inst sol cert verdict length has accepted in
+    boundless by kind inst cert alone.0 other (subst (λ k. IsBoundBy by k inst cert alone.0) (sym same) alone.1)
+
+none_bounded : (by : Certificate) → is_bounded by None ≡ false
+none_bounded Potentials = refl
+none_bounded Branches = refl
+
+tour_file_unbounded : (by : Certificate) → is_bounded by (Some kinds.Tour) ≡ false
+tour_file_unbounded Potentials = refl
+tour_file_unbounded Branches = refl
+
+potentials_unbounded : (by : Certificate) → is_bounded by (Some kinds.Potentials) ≡ false
+potentials_unbounded Potentials = refl
+potentials_unbounded Branches = refl
+
+branches_unbounded : (by : Certificate) → is_bounded by (Some kinds.Branches) ≡ false
+branches_unbounded Potentials = refl
+branches_unbounded Branches = refl
+
+alone_by_kind : (by : Certificate) (kind : Option Kind) (inst sol cert : Fields) (verdict : Verdict) (length : ℤ)
+    → kind ≡ inst.kind → HasLength verdict length → IsCertifiedVerdictBy kind by inst sol cert verdict
+    → (yes : Verdict) × IsVerdictBy kind inst sol yes × HasLength yes length
+alone_by_kind by (Some kinds.Tsp) inst sol cert verdict length same has accepted =
+    (Tour length None, (alone_tour by inst sol cert verdict length has accepted).2, refl)
+alone_by_kind by (Some kinds.Atsp) inst sol cert verdict length same has accepted =
+    (Tour length None, (alone_tour by inst sol cert verdict length has accepted).2, refl)
+alone_by_kind by (Some kinds.Cvrp) inst sol cert verdict length same has accepted =
+    alone_routes by inst sol cert verdict length has accepted
+alone_by_kind by (Some kinds.Tour) inst sol cert verdict length same has accepted =
+    absurd (alone_other by (Some kinds.Tour) inst sol cert verdict length same (tour_file_unbounded by) has accepted)
+alone_by_kind by (Some kinds.Potentials) inst sol cert verdict length same has accepted =
+    absurd (alone_other by (Some kinds.Potentials) inst sol cert verdict length same (potentials_unbounded by) has accepted)
+alone_by_kind by (Some kinds.Branches) inst sol cert verdict length same has accepted =
+    absurd (alone_other by (Some kinds.Branches) inst sol cert verdict length same (branches_unbounded by) has accepted)
+alone_by_kind by None inst sol cert verdict length same has accepted =
+    absurd (alone_other by None inst sol cert verdict length same (none_bounded by) has accepted)
 
 accepted_alone : (given : Option (Certificate × Fields)) (inst sol : Fields) (verdict : Verdict) (length : ℤ)
     → HasLength verdict length
     → IsUnclaimedVerdict given inst sol verdict → IsOfLength inst sol length
 accepted_alone None inst sol verdict length has accepted = (verdict, accepted, has)
-accepted_alone (Some given) inst sol (Tour measured bound) length has accepted = (
-  Tour measured None,
-  tour_by_kind given.0 inst.kind inst sol given.1 accepted.1.least measured accepted.1.of_certificate (
-    λ reason stands. accepted.0 reason (inl stands),
-    (accepted.1.tour, accepted.1.only, accepted.1.tour_of, accepted.1.measured),
-    refl,
-  ),
-  has,
-)
-accepted_alone (Some given) inst sol (Routes measured routes least) length has accepted = absurd accepted
-accepted_alone (Some given) inst sol (No reason) length has accepted = absurd has
+accepted_alone (Some given) inst sol verdict length has accepted =
+    alone_by_kind given.0 inst.kind inst sol given.1 verdict length refl has accepted
 
 -- no reason applies to the certificate of an accepted solution
+none_of_tour : (by : Certificate) (inst sol cert : Fields) (verdict : Verdict) (length : ℤ) (reason : Reason)
+    → HasLength verdict length → IsCertifiedTourVerdict by inst sol cert verdict → StandsAgainstCertificate by inst cert reason → ⊥
+none_of_tour by inst sol cert (Tour measured bound) length reason has accepted stands = accepted.0 reason (inr stands)
+none_of_tour by inst sol cert (Routes measured routes least bound) length reason has accepted stands = accepted
+none_of_tour by inst sol cert (No other) length reason has accepted stands = has
+
+none_of_routes : (by : Certificate) (inst sol cert : Fields) (verdict : Verdict) (length : ℤ) (reason : Reason)
+    → HasLength verdict length → IsCertifiedRoutesVerdict by inst sol cert verdict → StandsAgainstCertificate by inst cert reason
+    → ⊥
+none_of_routes by inst sol cert (Routes measured routes least bound) length reason has accepted stands =
+    accepted.0 reason (inr stands)
+none_of_routes by inst sol cert (Tour measured bound) length reason has accepted stands = accepted
+none_of_routes by inst sol cert (No other) length reason has accepted stands = has
+
+none_by_kind : (by : Certificate) (kind : Option Kind) (inst sol cert : Fields) (verdict : Verdict) (length : ℤ) (reason : Reason)
+    → HasLength verdict length → IsCertifiedVerdictBy kind by inst sol cert verdict → StandsAgainstCertificate by inst cert reason
+    → ⊥
+none_by_kind by (Some kinds.Cvrp) inst sol cert verdict length reason has accepted stands =
+    none_of_routes by inst sol cert verdict length reason has accepted stands
+none_by_kind by (Some kinds.Tsp) inst sol cert verdict length reason has accepted stands =
+    none_of_tour by inst sol cert verdict length reason has accepted stands
+none_by_kind by (Some kinds.Atsp) inst sol cert verdict length reason has accepted stands =
+    none_of_tour by inst sol cert verdict length reason has accepted stands
+none_by_kind by (Some kinds.Tour) inst sol cert verdict length reason has accepted stands =
+    none_of_tour by inst sol cert verdict length reason has accepted stands
+none_by_kind by (Some kinds.Potentials) inst sol cert verdict length reason has accepted stands =
+    none_of_tour by inst sol cert verdict length reason has accepted stands
+none_by_kind by (Some kinds.Branches) inst sol cert verdict length reason has accepted stands =
+    none_of_tour by inst sol cert verdict length reason has accepted stands
+none_by_kind by None inst sol cert verdict length reason has accepted stands =
+    none_of_tour by inst sol cert verdict length reason has accepted stands
+
 none_against : (given : Option (Certificate × Fields)) (inst sol : Fields) (verdict : Verdict) (length : ℤ) (reason : Reason)
     → HasLength verdict length → IsUnclaimedVerdict given inst sol verdict → IsFirstAgainstGiven given inst reason → ⊥
 none_against None inst sol verdict length reason has accepted first = first
-none_against (Some given) inst sol (Tour measured bound) length reason has accepted first = accepted.0 reason (inr first.stands)
-none_against (Some given) inst sol (Routes measured routes least) length reason has accepted first = accepted
-none_against (Some given) inst sol (No other) length reason has accepted first = has
+none_against (Some given) inst sol verdict length reason has accepted first =
+    none_by_kind given.0 inst.kind inst sol given.1 verdict length reason has accepted first.stands
 
 never_both : (claim : ℤ) (given : Option (Certificate × Fields)) (inst sol : Fields) (reason : Reason) (verdict : Verdict)
     (length : ℤ)
@@ -324,20 +482,20 @@ one_claimed : Laws → (claim : ℤ) (given : Option (Certificate × Fields)) (i
 one_claimed laws claim given inst sol (No a) (No b) one other = one_refused laws claim given inst sol a b one other
 one_claimed laws claim given inst sol (No a) (Tour length bound) one other =
     absurd (never_both claim given inst sol a (Tour length bound) length refl one other.0 other.1)
-one_claimed laws claim given inst sol (No a) (Routes length routes least) one other =
-    absurd (never_both claim given inst sol a (Routes length routes least) length refl one other.0 other.1)
+one_claimed laws claim given inst sol (No a) (Routes length routes least bound) one other =
+    absurd (never_both claim given inst sol a (Routes length routes least bound) length refl one other.0 other.1)
 one_claimed laws claim given inst sol (Tour length bound) (No b) one other =
     absurd (never_both claim given inst sol b (Tour length bound) length refl other one.0 one.1)
 one_claimed laws claim given inst sol (Tour length bound) (Tour found least) one other =
     one_unclaimed laws given inst sol (Tour length bound) (Tour found least) one.0 other.0
-one_claimed laws claim given inst sol (Tour length bound) (Routes found routes least) one other =
-    one_unclaimed laws given inst sol (Tour length bound) (Routes found routes least) one.0 other.0
-one_claimed laws claim given inst sol (Routes length routes least) (No b) one other =
-    absurd (never_both claim given inst sol b (Routes length routes least) length refl other one.0 one.1)
-one_claimed laws claim given inst sol (Routes length routes least) (Tour found bound) one other =
-    one_unclaimed laws given inst sol (Routes length routes least) (Tour found bound) one.0 other.0
-one_claimed laws claim given inst sol (Routes length routes least) (Routes found count fewest) one other =
-    one_unclaimed laws given inst sol (Routes length routes least) (Routes found count fewest) one.0 other.0
+one_claimed laws claim given inst sol (Tour length bound) (Routes found routes least bound_b) one other =
+    one_unclaimed laws given inst sol (Tour length bound) (Routes found routes least bound_b) one.0 other.0
+one_claimed laws claim given inst sol (Routes length routes least bound) (No b) one other =
+    absurd (never_both claim given inst sol b (Routes length routes least bound) length refl other one.0 one.1)
+one_claimed laws claim given inst sol (Routes length routes least bound) (Tour found none) one other =
+    one_unclaimed laws given inst sol (Routes length routes least bound) (Tour found none) one.0 other.0
+one_claimed laws claim given inst sol (Routes length routes least bound) (Routes found count fewest bound_b) one other =
+    one_unclaimed laws given inst sol (Routes length routes least bound) (Routes found count fewest bound_b) one.0 other.0
 
 pub one_verdict : Laws → FilesHaveOneVerdict
 one_verdict laws given None inst sol one other first second = one_unclaimed laws given inst sol one other first second
@@ -348,30 +506,33 @@ one_verdict laws given (Some claim) inst sol one other first second = one_claime
 one_of_tours : (inst : Fields) (one other : Basis) → IsBasisOfTours inst one → IsBasisOfTours inst other → one ≡ other
 one_of_tours inst (bases.Tours None) (bases.Tours None) one other = refl
 one_of_tours inst (bases.Tours None) (bases.Tours (Some bound)) one other = absurd other
-one_of_tours inst (bases.Tours None) bases.NoTour one other = absurd other
-one_of_tours inst (bases.Tours None) (bases.Routes least) one other = absurd other
+one_of_tours inst (bases.Tours None) bases.NoSolution one other = absurd other
+one_of_tours inst (bases.Tours None) (bases.Routes least bound) one other = absurd other
 one_of_tours inst (bases.Tours None) (bases.No reason) one other = absurd (one reason other.stands)
 one_of_tours inst (bases.Tours (Some bound)) other one second = absurd one
-one_of_tours inst bases.NoTour other one second = absurd one
-one_of_tours inst (bases.Routes least) other one second = absurd one
+one_of_tours inst bases.NoSolution other one second = absurd one
+one_of_tours inst (bases.Routes least bound) other one second = absurd one
 one_of_tours inst (bases.No reason) (bases.Tours None) one other = absurd (other reason one.stands)
 one_of_tours inst (bases.No reason) (bases.Tours (Some bound)) one other = absurd other
-one_of_tours inst (bases.No reason) bases.NoTour one other = absurd other
-one_of_tours inst (bases.No reason) (bases.Routes least) one other = absurd other
+one_of_tours inst (bases.No reason) bases.NoSolution one other = absurd other
+one_of_tours inst (bases.No reason) (bases.Routes least bound) one other = absurd other
 one_of_tours inst (bases.No a) (bases.No b) one other =
-    ap bases.No (one_first (StandsAgainstInstance inst) (instances_by_rank inst) a b one other)
+    ap bases.No (one_first (StandsAgainstTouring inst) (instances_by_rank inst) a b one other)
 
 one_of_routes : (inst : Fields) (one other : Basis) → IsBasisOfRoutes inst one → IsBasisOfRoutes inst other → one ≡ other
 one_of_routes inst (bases.Tours bound) other one second = absurd one
-one_of_routes inst bases.NoTour other one second = absurd one
-one_of_routes inst (bases.Routes least) (bases.Tours bound) one other = absurd other
-one_of_routes inst (bases.Routes least) bases.NoTour one other = absurd other
-one_of_routes inst (bases.Routes a) (bases.Routes b) one other =
-    ap bases.Routes (one_least (total_of inst) (capacity_of inst) a b one.1 other.1)
-one_of_routes inst (bases.Routes least) (bases.No reason) one other = absurd (one.0 reason other.stands)
+one_of_routes inst bases.NoSolution other one second = absurd one
+one_of_routes inst (bases.Routes least (Some bound)) other one second = absurd one
+one_of_routes inst (bases.Routes least None) (bases.Tours bound) one other = absurd other
+one_of_routes inst (bases.Routes least None) bases.NoSolution one other = absurd other
+one_of_routes inst (bases.Routes a None) (bases.Routes b None) one other =
+    ap (λ least. bases.Routes least None) (one_least (total_of inst) (capacity_of inst) a b one.1 other.1)
+one_of_routes inst (bases.Routes least None) (bases.Routes other (Some bound)) one second = absurd second
+one_of_routes inst (bases.Routes least None) (bases.No reason) one other = absurd (one.0 reason other.stands)
 one_of_routes inst (bases.No reason) (bases.Tours bound) one other = absurd other
-one_of_routes inst (bases.No reason) bases.NoTour one other = absurd other
-one_of_routes inst (bases.No reason) (bases.Routes least) one other = absurd (other.0 reason one.stands)
+one_of_routes inst (bases.No reason) bases.NoSolution one other = absurd other
+one_of_routes inst (bases.No reason) (bases.Routes least None) one other = absurd (other.0 reason one.stands)
+one_of_routes inst (bases.No reason) (bases.Routes least (Some bound)) one other = absurd other
 one_of_routes inst (bases.No a) (bases.No b) one other =
     ap bases.No (one_first (StandsAgainstRouting inst) (routings_by_rank inst) a b one other)
 
@@ -389,28 +550,87 @@ one_basis_alone None inst one other first second = absurd first
 -- a basis with a certificate is what a bound without a solution says
 abbrev basis_of_bound : BoundVerdict → Basis
 basis_of_bound (bounds.Bound bound) = bases.Tours (Some bound)
-basis_of_bound bounds.NoTour = bases.NoTour
+basis_of_bound bounds.NoSolution = bases.NoSolution
 basis_of_bound (bounds.No reason) = bases.No reason
 
-said_by : (by : Certificate) (inst cert : Fields) (basis : Basis) → IsBasisBy by inst cert basis
+said_by : (by : Certificate) (inst cert : Fields) (basis : Basis) → IsBasisOfToursBy by inst cert basis
     → (verdict : BoundVerdict) × IsBoundVerdict by inst cert verdict × (basis ≡ basis_of_bound verdict)
 said_by by inst cert (bases.Tours None) is = absurd is
 said_by by inst cert (bases.Tours (Some bound)) is = (bounds.Bound bound, is, refl)
-said_by by inst cert bases.NoTour is = (bounds.NoTour, is, refl)
-said_by by inst cert (bases.Routes least) is = absurd is
+said_by by inst cert bases.NoSolution is = (bounds.NoSolution, is, refl)
+said_by by inst cert (bases.Routes least bound) is = absurd is
 said_by by inst cert (bases.No reason) is = (bounds.No reason, is, refl)
 
-one_basis_by : Laws → (by : Certificate) (inst cert : Fields) (one other : Basis) → IsBasisBy by inst cert one
-    → IsBasisBy by inst cert other → one ≡ other
-one_basis_by laws by inst cert one other first second =
+one_basis_of_tours : Laws → (by : Certificate) (inst cert : Fields) (one other : Basis) → IsBasisOfToursBy by inst cert one
+    → IsBasisOfToursBy by inst cert other → one ≡ other
+one_basis_of_tours laws by inst cert one other first second =
     let said = said_by by inst cert one first in
     let again = said_by by inst cert other second in
     said.2 ∙ ap basis_of_bound (one_bound laws by inst cert said.0 again.0 said.1 again.1) ∙ sym again.2
 
+-- of routes with the least number of routes beside it
+abbrev routes_of_bound : ℕ → BoundVerdict → Basis
+routes_of_bound least (bounds.Bound bound) = bases.Routes least (Some bound)
+routes_of_bound least bounds.NoSolution = bases.NoSolution
+routes_of_bound least (bounds.No reason) = bases.No reason
+
+routes_said_by : (by : Certificate) (inst cert : Fields) (basis : Basis) → IsBasisOfRoutesBy by inst cert basis
+    → (verdict : BoundVerdict) × IsBoundVerdict by inst cert verdict
+    × ((least : ℕ) → IsLeastRoutes (total_of inst) (capacity_of inst) least → basis ≡ routes_of_bound least verdict)
+routes_said_by by inst cert (bases.Routes own None) is = absurd is
+routes_said_by by inst cert (bases.Routes own (Some bound)) is = (
+  bounds.Bound bound,
+  is.0,
+  λ least is_least. ap (λ k. bases.Routes k (Some bound)) (one_least (total_of inst) (capacity_of inst) own least is.1 is_least),
+)
+routes_said_by by inst cert bases.NoSolution is = (bounds.NoSolution, is, λ least is_least. refl)
+routes_said_by by inst cert (bases.Tours bound) is = absurd is
+routes_said_by by inst cert (bases.No reason) is = (bounds.No reason, is, λ least is_least. refl)
+
+-- plan: by the two bases; bounds and least numbers are one each
+one_basis_of_routes : Laws → (by : Certificate) (inst cert : Fields) (one other : Basis) → IsBasisOfRoutesBy by inst cert one
+    → IsBasisOfRoutesBy by inst cert other → one ≡ other
+one_basis_of_routes laws by inst cert (bases.Routes least None) other first second = absurd first
+one_basis_of_routes laws by inst cert (bases.Tours bound) other first second = absurd first
+one_basis_of_routes laws by inst cert (bases.Routes least (Some bound)) other first second =
+    let again = routes_said_by by inst cert other second in
+    sym (again.2 least first.1 ∙ ap (routes_of_bound least)
+    (one_bound laws by inst cert again.0 (bounds.Bound bound) again.1 first.0))
+one_basis_of_routes laws by inst cert bases.NoSolution (bases.Routes least (Some bound)) first second =
+    absurd (never_none laws by inst cert bound second.0 first)
+one_basis_of_routes laws by inst cert bases.NoSolution (bases.Routes least None) first second = absurd second
+one_basis_of_routes laws by inst cert bases.NoSolution (bases.Tours bound) first second = absurd second
+one_basis_of_routes laws by inst cert bases.NoSolution bases.NoSolution first second = refl
+one_basis_of_routes laws by inst cert bases.NoSolution (bases.No reason) first second = absurd (first.0 reason second.stands)
+one_basis_of_routes laws by inst cert (bases.No reason) (bases.Routes least (Some bound)) first second =
+    absurd (second.0.0 reason first.stands)
+one_basis_of_routes laws by inst cert (bases.No reason) (bases.Routes least None) first second = absurd second
+one_basis_of_routes laws by inst cert (bases.No reason) (bases.Tours bound) first second = absurd second
+one_basis_of_routes laws by inst cert (bases.No reason) bases.NoSolution first second = absurd (second.0 reason first.stands)
+one_basis_of_routes laws by inst cert (bases.No a) (bases.No b) first second =
+    ap basis_of_bound (one_bound laws by inst cert (bounds.No a) (bounds.No b) first second)
+
+one_basis_by : Laws → (kind : Option Kind) (by : Certificate) (inst cert : Fields) (one other : Basis)
+    → IsBasisBy kind by inst cert one → IsBasisBy kind by inst cert other → one ≡ other
+one_basis_by laws (Some kinds.Cvrp) by inst cert one other first second =
+    one_basis_of_routes laws by inst cert one other first second
+one_basis_by laws (Some kinds.Tsp) by inst cert one other first second =
+    one_basis_of_tours laws by inst cert one other first second
+one_basis_by laws (Some kinds.Atsp) by inst cert one other first second =
+    one_basis_of_tours laws by inst cert one other first second
+one_basis_by laws (Some kinds.Tour) by inst cert one other first second =
+    one_basis_of_tours laws by inst cert one other first second
+one_basis_by laws (Some kinds.Potentials) by inst cert one other first second =
+    one_basis_of_tours laws by inst cert one other first second
+one_basis_by laws (Some kinds.Branches) by inst cert one other first second =
+    one_basis_of_tours laws by inst cert one other first second
+one_basis_by laws None by inst cert one other first second = one_basis_of_tours laws by inst cert one other first second
+
 one_basis_with : Laws → (given : Option (Certificate × Fields)) (inst : Fields) (one other : Basis) → IsBasisWith given inst one
     → IsBasisWith given inst other → one ≡ other
 one_basis_with laws None inst one other first second = one_basis_alone inst.kind inst one other first second
-one_basis_with laws (Some given) inst one other first second = one_basis_by laws given.0 inst given.1 one other first second
+one_basis_with laws (Some given) inst one other first second =
+    one_basis_by laws inst.kind given.0 inst given.1 one other first second
 
 pub one_basis : Laws → FilesHaveOneBasis
 one_basis laws given inst one other first second = one_basis_with laws given inst one other first.1 second.1

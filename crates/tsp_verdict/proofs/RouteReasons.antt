@@ -7,7 +7,7 @@ use Rattle.tsp_verdict.specs.Places.{IsFirstPlace, IsLarger, IsAt, IsAtEarlierPl
 use Rattle.tsp_verdict.specs.Plan.{depot_of}
 use Rattle.tsp_cost.specs.ComputedProblems.{demands_of, capacity_of}
 use Rattle.tsp_verdict.specs.Solution.{visited, tours_of}
-use Rattle.tsp_verdict.specs.Basis.{StandsAgainstRouting, NoneAgainstRouting}
+use Rattle.tsp_verdict.specs.Bounded.{StandsAgainstRouting, NoneAgainstRouting}
 use Rattle.tsp_verdict.specs.Reasons.{NoneBefore, IsFirstReason, rank_of}
 use Rattle.tsp_verdict.specs.Routes.{IsFirstUnserved, IsOverloaded, StandsAgainstRoutes, NoneOfRoutesBefore, NoneOfRoutesBeforePlaces, IsFirstAgainstRoutes}
 

@@ -1,5 +1,5 @@
 -- The verdict on routes, by what has been ruled out.
-use Rattle.std.proofs.Common.{◌≡◌, ◌≢◌, ℕ, ◌+◌, ◌-◌, ◌<◌, ◌≤◌, Bool, true, false, List, [], length, sym, ap, subst, ◌∙◌, arith}
+use Rattle.std.proofs.Common.{◌≡◌, ◌≢◌, ℕ, ◌+◌, ◌-◌, ◌<◌, ◌≤◌, Bool, true, false, List, [], length, None, refl, sym, ap, subst, ◌∙◌, arith}
 use Rattle.std.specs.Prelude.{slice_index_or, ℤ, pos, ◌≤ℤ◌}
 use Rattle.std.specs.List.{All, Contains}
 use Rattle.std.proofs.lemmas.Int.{ints}
@@ -8,13 +8,13 @@ use Rattle.tsp_format.specs.Nodes.{IsNode, nodes_to}
 use Rattle.tsp_draft.specs.Fields.{Fields, nodes_of}
 use Rattle.tsp_draft.specs.Valid.{IsDemand}
 use Rattle.tsp_file.specs.Cost.{cost}
-use Rattle.tsp_reason.specs.declared.verdict.Reason.{Reason}
+use Rattle.tsp_reason.specs.declared.verdict.Verdict.TheVariants.{Routes}
 use Rattle.tsp_reason.specs.declared.verdict.Reason.TheVariants.{DepotInRoute, NodeOutOfRange, RepeatedNode, Unserved, Overload}
 use Rattle.tsp_verdict.specs.states.Marks.{Marked}
 use Rattle.tsp_verdict.specs.Places.{IsFirstPlace, IsLarger, IsAt, IsAtEarlierPlace}
 use Rattle.tsp_cost.specs.ComputedProblems.{routing_of, demands_of, capacity_of}
 use Rattle.tsp_verdict.specs.Plan.{demand_of, load_of, IsCustomer, plan_length, IsLeastRoutes, depot_of, total_of, AreCustomers}
-use Rattle.tsp_verdict.specs.Routes.{IsOverloaded, StandsAgainstRoutes, NoneOfRoutesBefore, IsFirstAgainstRoutes, IsPlanned}
+use Rattle.tsp_verdict.specs.Routes.{IsOverloaded, StandsAgainstRoutes, NoneOfRoutesBefore, IsFirstAgainstRoutes, IsRoutesVerdict}
 use Rattle.tsp_verdict.specs.Solution.{visited, tours_of}
 use Rattle.tsp_verdict.proofs.MarkedNodes.{all_apart, marked_there, there_marked}
 use Rattle.tsp_verdict.proofs.PlanBounds.{demand_low, none_fewer}
@@ -150,14 +150,14 @@ pub is_planned : (inst sol : Fields) (seen : List Bool) (size : ℕ) (routes : L
     (depot : ℕ) (measured : ℤ) (count least : ℕ)
     → routes ≡ tours_of sol → demands ≡ demands_of inst → length demands ≡ nodes_of inst → capacity ≡ capacity_of inst
     → depot ≡ depot_of inst
-    → AreCustomers inst sol → IsMarked inst sol seen size
+    → AreCustomers inst sol → All (λ route. route ≢ []) (tours_of sol) → IsMarked inst sol seen size
     → ((node : ℕ) → IsCustomer (nodes_of inst) (depot_of inst) node → Contains (visited sol) node)
     → All IsDemand demands → demand_of (demands_of inst) depot ≡ pos 0
     → All (λ route. load_of demands route ≤ℤ capacity) routes → measured ≡ plan_length (cost inst) depot routes
     → count ≡ length routes
     → IsLeastRoutes (load_of demands (nodes_to (length demands))) capacity least
-    → ((reason : Reason) → StandsAgainstRoutes inst sol reason → ⊥) × IsPlanned inst (tours_of sol) measured count least
-is_planned inst sol seen size routes demands capacity depot measured count least are demands_are each capacity_is depot_is all m
+    → IsRoutesVerdict inst sol (Routes measured count least None)
+is_planned inst sol seen size routes demands capacity depot measured count least are demands_are each capacity_is depot_is all filled m
     served range empty within long counted is_least =
     let carried : All (λ route. load_of (demands_of inst) route ≤ℤ capacity_of inst) (tours_of sol) =
     subst (λ (z : ℤ). All (λ route. load_of (demands_of inst) route ≤ℤ z) (tours_of sol)) capacity_is
@@ -175,11 +175,13 @@ is_planned inst sol seen size routes demands capacity depot measured count least
       after_loads inst sol (none_unserved inst sol m.none served) (λ place first. over place first carried),
       record {
         plan_of = record { customers = all; once = all_apart (visited sol) m.marks.once; served = served; within = carried };
+        filled = filled;
         measured = long ∙ ap (λ d. plan_length (cost inst) d routes) depot_is ∙ ap (plan_length (cost inst) (depot_of inst)) are;
         counted = counted ∙ ap length are;
         least_is = least_here;
         none_fewer = none_fewer (routing_of inst) least low none_here least_here;
       },
+      refl,
     )
   where
     over : (place : ℕ) → IsFirstPlace (IsOverloaded (demands_of inst) (capacity_of inst) (tours_of sol)) (tours_of sol) place

@@ -1,5 +1,5 @@
 -- Reasons against a certificate by branching, ruled out one by one, and its bound.
-use Rattle.std.proofs.Common.{◌≡◌, ◌∙◌, ℕ, ◌-◌, ◌<◌, ◌≤◌, Bool, true, false, List, [], ◌∷◌, get_or, length, inl, inr, refl, sym, ap, subst, subst₂, arith}
+use Rattle.std.proofs.Common.{◌≡◌, ◌≢◌, ◌∙◌, ℕ, ◌-◌, ◌<◌, ◌≤◌, Bool, true, false, List, [], ◌∷◌, get_or, length, inl, inr, refl, sym, ap, subst, subst₂, arith}
 use Rattle.std.specs.Prelude.{◌⊎◌, Option, None, Some, unwrap_or, ℤ}
 use Rattle.std.specs.Global.{Vec}
 use Rattle.std.specs.List.{All}
@@ -15,7 +15,7 @@ use Rattle.tsp_draft.specs.states.Drafts.{combs_of as lists_of_combs}
 use Rattle.tsp_draft.specs.Rules.{is_branches_file}
 use Rattle.tsp_file.specs.Cost.{cost}
 use Rattle.tsp_theory.specs.Costs.{IsSymmetric}
-use Rattle.tsp_theory.specs.Tour.{HasNoTour}
+use Rattle.tsp_theory.specs.Tour.{BoundsTours, HasNoTour}
 use Rattle.tsp_cost.specs.ComputedProblems.{is_directed, problem_of, IsTourOf}
 use Rattle.tsp_theory.specs.CertificateNumbers.{IsScale, IsBoundSized}
 use Rattle.tsp_branch.specs.declared.judged.BranchVerdict.{BranchVerdict}
@@ -32,15 +32,17 @@ use Rattle.tsp_cases.specs.GoodFamilies.{IsGoodFamily, IsFirstBadFamily, AreFami
 use Rattle.tsp_cases.specs.Listed.{leaf_changes, listed_steps, AreGoodLeaves, IsFirstBadLeaf}
 use Rattle.tsp_cases.specs.Twice.{branches_of_cases, IsFirstTwice}
 use Rattle.tsp_reason.specs.declared.verdict.Reason.{Reason}
-use Rattle.tsp_reason.specs.declared.verdict.Reason.TheVariants.{NotBranches, BranchesDimension, BadComb, BadBranch, BranchTwice, BadLeaf}
+use Rattle.tsp_reason.specs.declared.verdict.Reason.TheVariants.{NotBranches, BranchesDimension, BadComb, BadBranch, BranchTwice, BadLeaf, TooManyLoads}
 use Rattle.tsp_file.specs.Defaults.{scale_in, fixed_of, families_listed}
 use Rattle.tsp_verdict.specs.Places.{IsFirstPlace}
 use Rattle.tsp_verdict.specs.Reasons.{NoneBefore, IsFirstReason, rank_of}
 use Rattle.tsp_verdict.specs.states.TourCosts.{IsSymmetricTsp}
 use Rattle.tsp_verdict.specs.BranchesCertificate.{each_once, given_in, case_steps_in, families_with_numbers, AreNumbersOf, IsBadFamily, StandsAgainstBranches, HasBoundByBranches, IsBoundByBranches, HasNoBoundByBranches}
-use Rattle.tsp_verdict.specs.Certified.{IsBoundBy, IsCertified, NoneWithoutMemory}
+use Rattle.tsp_verdict.specs.Certified.{IsBoundBy, HasNoBoundBy, HasNoBound, StandsAgainstCertificateBy, StandsAgainstCertificate, BoundsSolutionsBy, BoundsSolutions, HasNoSolutionBy, HasNoSolution, IsCertified, NoneWithoutMemory}
+use Rattle.tsp_verdict.specs.WalksCertificate.{StandsAgainstWalks}
+use Rattle.tsp_verdict.proofs.ByType.{tree_either}
 use Rattle.tsp_reason.specs.declared.certificate.Certificate.TheVariants.{Branches}
-use Rattle.tsp_verdict.proofs.CarriedBounds.{Same}
+use Rattle.tsp_verdict.proofs.CarriedBounds.{Same, fitting}
 use Rattle.tsp_verdict.proofs.GivenPairs.{keeps_given}
 use Rattle.tsp_verdict.proofs.FamiliesHold.{one_numbers}
 
@@ -212,46 +214,115 @@ none_before inst tree rank sort size combs pairs once leaves reason low stands =
 pub none_of_tree : (inst tree : Fields) → is_branches_file tree.kind ≡ true → nodes_of tree ≡ nodes_of inst
     → NoneWithoutMemory Branches inst tree
 none_of_tree inst tree sort size =
-    none_before inst tree (rank_of (BadComb 1)) (λ low. sort) (λ low. size) (λ low. absurd (omega (arith, low)))
-    (λ low. absurd (omega (arith, low))) (λ low. absurd (omega (arith, low))) (λ low. absurd (omega (arith, low)))
+    tree_either inst.kind (λ Stands. NoneBefore Stands (rank_of (BadComb 1))) inst tree
+    (none_before inst tree (rank_of (BadComb 1)) (λ low. sort) (λ low. size) (λ low. absurd (omega (arith, low)))
+    (λ low. absurd (omega (arith, low))) (λ low. absurd (omega (arith, low))) (λ low. absurd (omega (arith, low))))
+    (of_walks inst tree sort size)
+  where
+    of_walks : (inst tree : Fields) → is_branches_file tree.kind ≡ true → nodes_of tree ≡ nodes_of inst
+        → NoneBefore (StandsAgainstWalks inst tree) (rank_of (BadComb 1))
+    of_walks inst tree sort size NotBranches low stands = false≢true (sym stands ∙ sort)
+    of_walks inst tree sort size BranchesDimension low stands = stands size
+    of_walks inst tree sort size reason low stands = absurd (omega (arith, low))
 
-pub comb_first : (inst tree : Fields) (costs : ℕ → ℕ → ℤ) (index : ℕ) → is_branches_file tree.kind ≡ true
+-- the two reasons that need no look at the tree
+pub no_branches : (inst tree : Fields) → is_branches_file tree.kind ≡ false
+    → IsFirstReason (StandsAgainstCertificate Branches inst tree) NotBranches
+no_branches inst tree other =
+    tree_either inst.kind (λ Stands. IsFirstReason Stands NotBranches) inst tree
+    (record { stands = other; none_before = λ reason low stands. of_tours reason low stands })
+    (record { stands = other; none_before = λ reason low stands. of_walks reason low stands })
+  where
+    of_tours : (reason : Reason) → rank_of reason < rank_of NotBranches → StandsAgainstBranches inst tree reason → ⊥
+    of_tours NotBranches low stands = omega (arith, low)
+    of_tours BranchesDimension low stands = omega (arith, low)
+    of_tours (BadComb index) low stands = omega (arith, low)
+    of_tours (BadBranch index) low stands = omega (arith, low)
+    of_tours (BranchTwice index) low stands = omega (arith, low)
+    of_tours (BadLeaf index) low stands = omega (arith, low)
+    of_tours reason low stands = stands
+
+    of_walks : (reason : Reason) → rank_of reason < rank_of NotBranches → StandsAgainstWalks inst tree reason → ⊥
+    of_walks NotBranches low stands = omega (arith, low)
+    of_walks BranchesDimension low stands = omega (arith, low)
+    of_walks (BadComb index) low stands = omega (arith, low)
+    of_walks (BadBranch index) low stands = omega (arith, low)
+    of_walks (BadLeaf index) low stands = omega (arith, low)
+    of_walks TooManyLoads low stands = omega (arith, low)
+    of_walks reason low stands = stands
+
+pub other_dimension : (inst tree : Fields) → is_branches_file tree.kind ≡ true → nodes_of tree ≢ nodes_of inst
+    → IsFirstReason (StandsAgainstCertificate Branches inst tree) BranchesDimension
+other_dimension inst tree sort other =
+    tree_either inst.kind (λ Stands. IsFirstReason Stands BranchesDimension) inst tree
+    (record { stands = other; none_before = λ reason low stands. of_tours reason low stands })
+    (record { stands = other; none_before = λ reason low stands. of_walks reason low stands })
+  where
+    of_tours : (reason : Reason) → rank_of reason < rank_of BranchesDimension → StandsAgainstBranches inst tree reason → ⊥
+    of_tours NotBranches low stands = false≢true (sym stands ∙ sort)
+    of_tours BranchesDimension low stands = omega (arith, low)
+    of_tours (BadComb index) low stands = omega (arith, low)
+    of_tours (BadBranch index) low stands = omega (arith, low)
+    of_tours (BranchTwice index) low stands = omega (arith, low)
+    of_tours (BadLeaf index) low stands = omega (arith, low)
+    of_tours reason low stands = stands
+
+    of_walks : (reason : Reason) → rank_of reason < rank_of BranchesDimension → StandsAgainstWalks inst tree reason → ⊥
+    of_walks NotBranches low stands = false≢true (sym stands ∙ sort)
+    of_walks BranchesDimension low stands = omega (arith, low)
+    of_walks (BadComb index) low stands = omega (arith, low)
+    of_walks (BadBranch index) low stands = omega (arith, low)
+    of_walks (BadLeaf index) low stands = omega (arith, low)
+    of_walks TooManyLoads low stands = omega (arith, low)
+    of_walks reason low stands = stands
+
+-- a TSP or an ATSP
+abbrev pub HasArcsOrEdges : Fields → Type 0
+HasArcsOrEdges inst = (inst.kind ≡ Some kinds.Tsp) ⊎ (inst.kind ≡ Some kinds.Atsp)
+
+-- of its tours the reasons against the certificate are these
+for_tree : (P : (Reason → Type 0) → Type 0) (inst tree : Fields) → HasArcsOrEdges inst → P (StandsAgainstBranches inst tree)
+    → P (StandsAgainstCertificate Branches inst tree)
+for_tree P inst tree (inl tsp) first = subst (λ k. P (StandsAgainstCertificateBy Branches k inst tree)) (sym tsp) first
+for_tree P inst tree (inr atsp) first = subst (λ k. P (StandsAgainstCertificateBy Branches k inst tree)) (sym atsp) first
+
+pub comb_first : (inst tree : Fields) (costs : ℕ → ℕ → ℤ) (index : ℕ) → HasArcsOrEdges inst → is_branches_file tree.kind ≡ true
     → nodes_of tree ≡ nodes_of inst
     → IsTold inst tree costs (found.BadFamily index)
-    → IsFirstReason (StandsAgainstBranches inst tree) (BadComb index)
-comb_first inst tree costs index sort size is = record {
+    → IsFirstReason (StandsAgainstCertificate Branches inst tree) (BadComb index)
+comb_first inst tree costs index kind sort size is = for_tree (λ Stands. IsFirstReason Stands (BadComb index)) inst tree kind (record {
   stands = bad_comb inst tree index is.by_steps;
   none_before = none_before inst tree (rank_of (BadComb 1)) (λ low. sort) (λ low. size) (λ low. absurd (omega (arith, low)))
       (λ low. absurd (omega (arith, low))) (λ low. absurd (omega (arith, low))) (λ low. absurd (omega (arith, low)));
-}
+})
 
-pub pair_first : (inst tree : Fields) (costs : ℕ → ℕ → ℤ) (index : ℕ) → is_branches_file tree.kind ≡ true
+pub pair_first : (inst tree : Fields) (costs : ℕ → ℕ → ℤ) (index : ℕ) → HasArcsOrEdges inst → is_branches_file tree.kind ≡ true
     → nodes_of tree ≡ nodes_of inst
     → IsTold inst tree costs (found.BadBranch index)
-    → IsFirstReason (StandsAgainstBranches inst tree) (BadBranch index)
-pair_first inst tree costs index sort size is = record {
+    → IsFirstReason (StandsAgainstCertificate Branches inst tree) (BadBranch index)
+pair_first inst tree costs index kind sort size is = for_tree (λ Stands. IsFirstReason Stands (BadBranch index)) inst tree kind (record {
   stands = (is.steps, is.steps_are, is.by_steps.2);
   none_before = none_before inst tree (rank_of (BadBranch 1)) (λ low. sort) (λ low. size)
       (λ low. no_bad_comb inst tree is.by_steps.1.good) (λ low. absurd (omega (arith, low)))
       (λ low. absurd (omega (arith, low))) (λ low. absurd (omega (arith, low)));
-}
+})
 
-pub twice_first : (inst tree : Fields) (costs : ℕ → ℕ → ℤ) (index : ℕ) → is_branches_file tree.kind ≡ true
+pub twice_first : (inst tree : Fields) (costs : ℕ → ℕ → ℤ) (index : ℕ) → HasArcsOrEdges inst → is_branches_file tree.kind ≡ true
     → nodes_of tree ≡ nodes_of inst
     → IsTold inst tree costs (found.BranchTwice index)
-    → IsFirstReason (StandsAgainstBranches inst tree) (BranchTwice index)
-twice_first inst tree costs index sort size is = record {
+    → IsFirstReason (StandsAgainstCertificate Branches inst tree) (BranchTwice index)
+twice_first inst tree costs index kind sort size is = for_tree (λ Stands. IsFirstReason Stands (BranchTwice index)) inst tree kind (record {
   stands = (is.steps, is.steps_are, is.by_steps.3);
   none_before = none_before inst tree (rank_of (BranchTwice 1)) (λ low. sort) (λ low. size)
       (λ low. no_bad_comb inst tree is.by_steps.1.good) (λ low. no_bad_pair inst tree is.steps is.steps_are is.by_steps.2.0)
       (λ low. absurd (omega (arith, low))) (λ low. absurd (omega (arith, low)));
-}
+})
 
-pub leaf_first : (inst tree : Fields) (costs : ℕ → ℕ → ℤ) (index : ℕ) → is_branches_file tree.kind ≡ true
+pub leaf_first : (inst tree : Fields) (costs : ℕ → ℕ → ℤ) (index : ℕ) → HasArcsOrEdges inst → is_branches_file tree.kind ≡ true
     → nodes_of tree ≡ nodes_of inst
     → IsTold inst tree costs (found.BadLeaf index)
-    → IsFirstReason (StandsAgainstBranches inst tree) (BadLeaf index)
-leaf_first inst tree costs index sort size is = record {
+    → IsFirstReason (StandsAgainstCertificate Branches inst tree) (BadLeaf index)
+leaf_first inst tree costs index kind sort size is = for_tree (λ Stands. IsFirstReason Stands (BadLeaf index)) inst tree kind (record {
   stands = (
     is.steps,
     is.steps_are,
@@ -263,30 +334,34 @@ leaf_first inst tree costs index sort size is = record {
       (λ low. no_bad_comb inst tree is.by_steps.are_families.good)
       (λ low. no_bad_pair inst tree is.steps is.steps_are is.by_steps.on_nodes.0)
       (λ low. no_twice inst tree is.steps is.steps_are is.by_steps.are_once.0) (λ low. absurd (omega (arith, low)));
-}
+})
 
-pub none_stands : NumbersAreUnique → (inst tree : Fields) (costs : ℕ → ℕ → ℤ) (bound : Option ℤ)
+none_of_branches : NumbersAreUnique → (inst tree : Fields) (costs : ℕ → ℕ → ℤ) (bound : Option ℤ)
     → is_branches_file tree.kind ≡ true
     → nodes_of tree ≡ nodes_of inst → IsTold inst tree costs (found.Bound bound)
     → (reason : Reason) → StandsAgainstBranches inst tree reason → ⊥
-none_stands unique inst tree costs bound sort size is NotBranches stands = false≢true (sym stands ∙ sort)
-none_stands unique inst tree costs bound sort size is BranchesDimension stands = stands size
-none_stands unique inst tree costs bound sort size is (BadComb index) stands =
+none_of_branches unique inst tree costs bound sort size is NotBranches stands = false≢true (sym stands ∙ sort)
+none_of_branches unique inst tree costs bound sort size is BranchesDimension stands = stands size
+none_of_branches unique inst tree costs bound sort size is (BadComb index) stands =
     no_bad_comb inst tree is.by_steps.are_families.good index stands
-none_stands unique inst tree costs bound sort size is (BadBranch index) stands =
+none_of_branches unique inst tree costs bound sort size is (BadBranch index) stands =
     no_bad_pair inst tree is.steps is.steps_are is.by_steps.on_nodes.0 index stands
-none_stands unique inst tree costs bound sort size is (BranchTwice index) stands =
+none_of_branches unique inst tree costs bound sort size is (BranchTwice index) stands =
     no_twice inst tree is.steps is.steps_are is.by_steps.are_once.0 index stands
-none_stands unique inst tree costs bound sort size is (BadLeaf index) stands =
+none_of_branches unique inst tree costs bound sort size is (BadLeaf index) stands =
     no_bad_leaf unique inst tree is.steps is.by_steps.crossed is.steps_are
     (numbers_told inst tree is.by_steps.crossed is.by_steps.are_families) is.by_steps.leaves.2 index stands
-none_stands unique inst tree costs bound sort size is reason stands = stands
+none_of_branches unique inst tree costs bound sort size is reason stands = stands
+
+pub none_stands : NumbersAreUnique → (inst tree : Fields) (costs : ℕ → ℕ → ℤ) (bound : Option ℤ) → HasArcsOrEdges inst
+    → is_branches_file tree.kind ≡ true
+    → nodes_of tree ≡ nodes_of inst → IsTold inst tree costs (found.Bound bound)
+    → (reason : Reason) → StandsAgainstCertificate Branches inst tree reason → ⊥
+none_stands unique inst tree costs bound kind sort size is =
+    for_tree (λ Stands. (reason : Reason) → Stands reason → ⊥) inst tree kind
+    (none_of_branches unique inst tree costs bound sort size is)
 
 -- ---- the bound, carried to costs that are the same between all nodes
-
--- a TSP or an ATSP
-abbrev pub HasArcsOrEdges : Fields → Type 0
-HasArcsOrEdges inst = (inst.kind ≡ Some kinds.Tsp) ⊎ (inst.kind ≡ Some kinds.Atsp)
 
 -- pairs of a TSP alone have no direction
 pub tsp_of_undirected : (inst : Fields) → HasArcsOrEdges inst → is_directed inst.kind ≡ false → inst.kind ≡ Some kinds.Tsp
@@ -357,6 +432,18 @@ bound_by : (inst tree : Fields) (bound : ℤ) → HasArcsOrEdges inst → IsBoun
 bound_by inst tree bound (inl tsp) is = subst (λ k. IsBoundBy Branches k inst tree bound) (sym tsp) is
 bound_by inst tree bound (inr atsp) is = subst (λ k. IsBoundBy Branches k inst tree bound) (sym atsp) is
 
+none_by : (inst tree : Fields) → HasArcsOrEdges inst → HasNoBoundByBranches inst tree → HasNoBound Branches inst tree
+none_by inst tree (inl tsp) is = subst (λ k. HasNoBoundBy Branches k inst tree) (sym tsp) is
+none_by inst tree (inr atsp) is = subst (λ k. HasNoBoundBy Branches k inst tree) (sym atsp) is
+
+below_all : (inst : Fields) (bound : ℤ) → HasArcsOrEdges inst → BoundsTours (problem_of inst) bound → BoundsSolutions inst bound
+below_all inst bound (inl tsp) below = subst (λ k. BoundsSolutionsBy k inst bound) (sym tsp) below
+below_all inst bound (inr atsp) below = subst (λ k. BoundsSolutionsBy k inst bound) (sym atsp) below
+
+without_tours : (inst : Fields) → HasArcsOrEdges inst → HasNoTour (problem_of inst) → HasNoSolution inst
+without_tours inst (inl tsp) none = subst (λ k. HasNoSolutionBy k inst) (sym tsp) none
+without_tours inst (inr atsp) none = subst (λ k. HasNoSolutionBy k inst) (sym atsp) none
+
 -- the bound that a view's costs give is that of the certificate
 pub certified : (inst tree : Fields) (costs : ℕ → ℕ → ℤ) (bound : ℤ) → CaseTreesBoundCycles → HasArcsOrEdges inst
     → 3 ≤ nodes_of inst → IsSymmetricTsp inst → IsScale (scale_in tree)
@@ -364,18 +451,18 @@ pub certified : (inst tree : Fields) (costs : ℕ → ℕ → ℤ) (bound : ℤ)
     → IsCertified Branches inst tree bound
 certified inst tree costs bound law kind some even scaled same sized is = (
   bound_by inst tree bound kind (has_bound inst tree costs (Some bound) same is),
-  λ nodes tour. cycles_bounded inst tree costs (Some bound) same is law kind some even scaled nodes tour.cycle
-      (tour_keeps inst nodes tour),
-  sized,
+  below_all inst bound kind (λ nodes tour. cycles_bounded inst tree costs (Some bound) same is law kind some even scaled nodes
+      tour.cycle (tour_keeps inst nodes tour)),
+  fitting bound sized,
 )
 
 -- where no leaf has a bound, the certificate gives none, and the instance has no tour
 pub no_tour : (inst tree : Fields) (costs : ℕ → ℕ → ℤ) → CaseTreesBoundCycles → HasArcsOrEdges inst → 3 ≤ nodes_of inst
     → IsSymmetricTsp inst → IsScale (scale_in tree)
     → Same costs (cost inst) → IsTold inst tree costs (found.Bound None)
-    → HasNoBoundByBranches inst tree × HasNoTour (problem_of inst)
+    → HasNoBound Branches inst tree × HasNoSolution inst
 no_tour inst tree costs law kind some even scaled same is = (
-  has_bound inst tree costs None same is,
-  λ nodes tour. cycles_bounded inst tree costs None same is law kind some even scaled nodes tour.cycle
-      (tour_keeps inst nodes tour),
+  none_by inst tree kind (has_bound inst tree costs None same is),
+  without_tours inst kind (λ nodes tour. cycles_bounded inst tree costs None same is law kind some even scaled nodes tour.cycle
+      (tour_keeps inst nodes tour)),
 )

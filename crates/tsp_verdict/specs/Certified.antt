@@ -1,14 +1,14 @@
--- The verdict on a tour with a certificate: the first reason against either, or a tour, its length and the bound. Certificates
--- differ only in their reasons, and where their numbers become a bound, by the TYPE of the instance.
-use Rattle.std.specs.Prelude.{◌≡◌, ◌⊎◌, ℕ, Bool, true, false, List, [], ◌∷◌, Option, None, Some, ℤ}
+-- The verdict on a solution with a certificate: the first reason against either, or a tour or routes, their length and the bound.
+-- Certificates differ only in their reasons, and where their numbers become a bound, by the TYPE of the instance.
+use Rattle.std.specs.Prelude.{◌≡◌, ◌⊎◌, ℕ, Bool, true, false, List, [], ◌∷◌, Option, None, Some, ◌^◌, ℤ, pos, neg_ℤ}
 use Rattle.tsp_format.specs.declared.kinds.Kind.{Kind}
 use Rattle.tsp_format.specs.declared.kinds.Kind.TheVariants as kinds
+use Rattle.tsp_format.specs.Ranges.{IsFromTo}
 use Rattle.tsp_draft.specs.Fields.{Fields}
 use Rattle.tsp_file.specs.Cost.{cost}
 use Rattle.tsp_theory.specs.Length.{length_of}
 use Rattle.tsp_theory.specs.Tour.{BoundsTours, HasNoTour}
-use Rattle.tsp_cost.specs.ComputedProblems.{problem_of, IsTourOf}
-use Rattle.tsp_theory.specs.CertificateNumbers.{IsBoundSized}
+use Rattle.tsp_cost.specs.ComputedProblems.{problem_of, routing_of, IsTourOf}
 use Rattle.tsp_reason.specs.declared.certificate.Certificate.{Certificate}
 use Rattle.tsp_reason.specs.declared.certificate.Certificate.TheVariants.{Potentials, Branches}
 use Rattle.tsp_reason.specs.declared.verdict.BoundVerdict.{BoundVerdict}
@@ -21,6 +21,9 @@ use Rattle.tsp_verdict.specs.Reasons.{rank_of, NoneBefore, IsFirstReason}
 use Rattle.tsp_verdict.specs.Solution.{tours_of}
 use Rattle.tsp_verdict.specs.Tours.{StandsAgainstTour}
 use Rattle.tsp_verdict.specs.PotentialsCertificate.{StandsAgainstPotentials, IsBoundByNodes, IsBoundByDuals}
+use Rattle.tsp_verdict.specs.Plan.{BoundsPlans, HasNoPlan}
+use Rattle.tsp_verdict.specs.Routes.{StandsAgainstRoutes, IsPlanned}
+use Rattle.tsp_verdict.specs.WalksCertificate.{StandsAgainstWalks, HasBoundByWalks}
 use Rattle.tsp_verdict.specs.BranchesCertificate.{StandsAgainstBranches, IsBoundByBranches, HasNoBoundByBranches}
 
 -- ---- by the certificate, and by the TYPE of the instance
@@ -30,28 +33,62 @@ abbrev pub kind_of : Certificate → Kind
 kind_of Potentials = kinds.Potentials
 kind_of Branches = kinds.Branches
 
--- the TYPEs whose tours have a bound by it
+-- the TYPEs whose tours or routes have a bound by it
 abbrev pub is_bounded : Certificate → Option Kind → Bool
 is_bounded by (Some kinds.Tsp) = true
 is_bounded by (Some kinds.Atsp) = true
+is_bounded Branches (Some kinds.Cvrp) = true
 is_bounded by other = false
 
--- the bound that it gives tours of this TYPE
+-- the bound that it gives tours or routes of this TYPE
 abbrev pub IsBoundBy : Certificate → Option Kind → Fields → Fields → ℤ → Type 0
 IsBoundBy Potentials (Some kinds.Tsp) instance certificate bound = IsBoundByNodes instance certificate bound
 IsBoundBy Potentials (Some kinds.Atsp) instance certificate bound = IsBoundByDuals instance certificate bound
 IsBoundBy Branches (Some kinds.Tsp) instance certificate bound = IsBoundByBranches instance certificate bound
 IsBoundBy Branches (Some kinds.Atsp) instance certificate bound = IsBoundByBranches instance certificate bound
+IsBoundBy Branches (Some kinds.Cvrp) instance certificate bound = HasBoundByWalks instance certificate (Some bound)
 IsBoundBy by other instance certificate bound = ⊥
 
 -- the bound that it gives the instance
 abbrev pub IsBoundOf : Certificate → Fields → Fields → ℤ → Type 0
 IsBoundOf by instance certificate bound = IsBoundBy by instance.kind instance certificate bound
 
+-- The certificate gives no bound: no leaf of its tree has one. Potentials and duals always give one.
+abbrev pub HasNoBoundBy : Certificate → Option Kind → Fields → Fields → Type 0
+HasNoBoundBy Branches (Some kinds.Tsp) instance certificate = HasNoBoundByBranches instance certificate
+HasNoBoundBy Branches (Some kinds.Atsp) instance certificate = HasNoBoundByBranches instance certificate
+HasNoBoundBy Branches (Some kinds.Cvrp) instance certificate = HasBoundByWalks instance certificate None
+HasNoBoundBy by other instance certificate = ⊥
+
+abbrev pub HasNoBound : Certificate → Fields → Fields → Type 0
+HasNoBound by instance certificate = HasNoBoundBy by instance.kind instance certificate
+
 -- when a reason applies to it; reasons of tours, of routes and of other certificates never do
+abbrev pub StandsAgainstCertificateBy : Certificate → Option Kind → Fields → Fields → Reason → Type 0
+StandsAgainstCertificateBy Potentials kind instance certificate reason = StandsAgainstPotentials instance certificate reason
+StandsAgainstCertificateBy Branches (Some kinds.Cvrp) instance certificate reason = StandsAgainstWalks instance certificate reason
+StandsAgainstCertificateBy Branches other instance certificate reason = StandsAgainstBranches instance certificate reason
+
 abbrev pub StandsAgainstCertificate : Certificate → Fields → Fields → Reason → Type 0
-StandsAgainstCertificate Potentials instance certificate reason = StandsAgainstPotentials instance certificate reason
-StandsAgainstCertificate Branches instance certificate reason = StandsAgainstBranches instance certificate reason
+StandsAgainstCertificate by instance certificate reason = StandsAgainstCertificateBy by instance.kind instance certificate reason
+
+-- ---- what it says of solutions, by the TYPE of the instance
+
+-- no tour of the instance is shorter than the bound; or no plan whose routes each have a customer
+abbrev pub BoundsSolutionsBy : Option Kind → Fields → ℤ → Type 0
+BoundsSolutionsBy (Some kinds.Cvrp) instance bound = BoundsPlans (routing_of instance) bound
+BoundsSolutionsBy other instance bound = BoundsTours (problem_of instance) bound
+
+abbrev pub BoundsSolutions : Fields → ℤ → Type 0
+BoundsSolutions instance bound = BoundsSolutionsBy instance.kind instance bound
+
+-- the instance has no tour; or no such plan
+abbrev pub HasNoSolutionBy : Option Kind → Fields → Type 0
+HasNoSolutionBy (Some kinds.Cvrp) instance = HasNoPlan (routing_of instance)
+HasNoSolutionBy other instance = HasNoTour (problem_of instance)
+
+abbrev pub HasNoSolution : Fields → Type 0
+HasNoSolution instance = HasNoSolutionBy instance.kind instance
 
 -- the rank of the first reason against it that needs memory
 abbrev pub first_with_memory : Certificate → ℕ
@@ -64,27 +101,26 @@ NoneWithoutMemory by instance certificate = NoneBefore (StandsAgainstCertificate
 
 -- ---- its bound
 
--- the bound that the certificate gives, which no tour is below, and sums with which fit 128 bits
+-- how large a bound is at most: sums with it fit 128 bits
+abbrev pub IsBoundFitting : ℤ → Type 0
+IsBoundFitting bound = IsFromTo (neg_ℤ (pos (2 ^ 110))) (pos (2 ^ 110)) bound
+
+-- the bound that the certificate gives, which no solution is below, and sums with which fit 128 bits
 abbrev pub IsCertified : Certificate → Fields → Fields → ℤ → Type 0
-IsCertified by instance certificate bound = IsBoundOf by instance certificate bound × BoundsTours (problem_of instance) bound
-    × IsBoundSized bound
+IsCertified by instance certificate bound = IsBoundOf by instance certificate bound × BoundsSolutions instance bound
+    × IsBoundFitting bound
 
--- The certificate gives no bound: no leaf of its tree has one. Potentials and duals always give one.
-abbrev pub HasNoBound : Certificate → Fields → Fields → Type 0
-HasNoBound Potentials instance certificate = ⊥
-HasNoBound Branches instance certificate = HasNoBoundByBranches instance certificate
-
--- What a certificate gives to which no reason applies: a bound, or that the instance has no tour. Or the first reason that
+-- What a certificate gives to which no reason applies: a bound, or that the instance has no solution. Or the first reason that
 -- applies.
 abbrev pub FindsBound : Certificate → Fields → Fields → BoundVerdict → Type 0
 FindsBound by instance certificate (bounds.Bound bound) =
     ((reason : Reason) → StandsAgainstCertificate by instance certificate reason → ⊥) × IsCertified by instance certificate bound
-FindsBound by instance certificate bounds.NoTour =
+FindsBound by instance certificate bounds.NoSolution =
     ((reason : Reason) → StandsAgainstCertificate by instance certificate reason → ⊥) × HasNoBound by instance certificate
-    × HasNoTour (problem_of instance)
+    × HasNoSolution instance
 FindsBound by instance certificate (bounds.No reason) = IsFirstReason (StandsAgainstCertificate by instance certificate) reason
 
--- ---- the verdict
+-- ---- the verdict on a tour
 
 -- against the tour, or against the certificate
 abbrev pub StandsAgainstCertified : Certificate → Fields → Fields → Fields → Reason → Type 0
@@ -107,13 +143,52 @@ pub record IsCertifiedTour (by : Certificate) (instance solution certificate : F
   pub bound_is : bound ≡ Some least
   pub of_certificate : IsBoundOf by instance certificate least
   pub below_tours : BoundsTours (problem_of instance) least
-  pub sized : IsBoundSized least
+  pub sized : IsBoundFitting least
 
 -- Rejected: the reason is the first one that applies. Accepted: none applies, and the tour is bounded so.
-abbrev pub IsCertifiedVerdict : Certificate → Fields → Fields → Fields → Verdict → Type 0
-IsCertifiedVerdict by instance solution certificate (verdicts.No reason) = IsFirstAgainstCertified by instance solution
+abbrev pub IsCertifiedTourVerdict : Certificate → Fields → Fields → Fields → Verdict → Type 0
+IsCertifiedTourVerdict by instance solution certificate (verdicts.No reason) = IsFirstAgainstCertified by instance solution
     certificate reason
-IsCertifiedVerdict by instance solution certificate (verdicts.Tour length_is bound) =
+IsCertifiedTourVerdict by instance solution certificate (verdicts.Tour length_is bound) =
     ((reason : Reason) → StandsAgainstCertified by instance solution certificate reason → ⊥)
     × IsCertifiedTour by instance solution certificate length_is bound
-IsCertifiedVerdict by instance solution certificate (verdicts.Routes length_is routes least) = ⊥
+IsCertifiedTourVerdict by instance solution certificate (verdicts.Routes length_is routes least bound) = ⊥
+
+-- ---- the verdict on routes
+
+-- against the routes, or against the certificate
+abbrev pub StandsAgainstCertifiedRoutes : Certificate → Fields → Fields → Fields → Reason → Type 0
+StandsAgainstCertifiedRoutes by instance solution certificate reason = StandsAgainstRoutes instance solution reason
+    ⊎ StandsAgainstCertificate by instance certificate reason
+
+-- Accepted: the routes are planned as without a certificate, and the bound is that of the certificate; every plan of the instance
+-- whose routes each have a customer is at least as long as the bound.
+pub record AreCertifiedRoutes (by : Certificate) (instance solution certificate : Fields) (length_is : ℤ) (routes fewest : ℕ)
+    (bound : Option ℤ) : Type 0 where
+  pub planned : IsPlanned instance (tours_of solution) length_is routes fewest
+  pub least : ℤ
+  pub bound_is : bound ≡ Some least
+  pub of_certificate : IsBoundOf by instance certificate least
+  pub below_plans : BoundsPlans (routing_of instance) least
+  pub sized : IsBoundFitting least
+
+-- Rejected: the reason is the first one that applies. Accepted: none applies, and the routes are bounded so.
+abbrev pub IsCertifiedRoutesVerdict : Certificate → Fields → Fields → Fields → Verdict → Type 0
+IsCertifiedRoutesVerdict by instance solution certificate (verdicts.No reason) =
+    IsFirstReason (StandsAgainstCertifiedRoutes by instance solution certificate) reason
+IsCertifiedRoutesVerdict by instance solution certificate (verdicts.Routes length_is routes fewest bound) =
+    ((reason : Reason) → StandsAgainstCertifiedRoutes by instance solution certificate reason → ⊥)
+    × AreCertifiedRoutes by instance solution certificate length_is routes fewest bound
+IsCertifiedRoutesVerdict by instance solution certificate (verdicts.Tour length_is bound) = ⊥
+
+-- ---- the verdict, by the TYPE of the instance
+
+abbrev pub IsCertifiedVerdictBy : Option Kind → Certificate → Fields → Fields → Fields → Verdict → Type 0
+IsCertifiedVerdictBy (Some kinds.Cvrp) by instance solution certificate verdict =
+    IsCertifiedRoutesVerdict by instance solution certificate verdict
+IsCertifiedVerdictBy other by instance solution certificate verdict =
+    IsCertifiedTourVerdict by instance solution certificate verdict
+
+abbrev pub IsCertifiedVerdict : Certificate → Fields → Fields → Fields → Verdict → Type 0
+IsCertifiedVerdict by instance solution certificate verdict =
+    IsCertifiedVerdictBy instance.kind by instance solution certificate verdict

@@ -8,6 +8,7 @@ pub mod Solution
 pub mod Tours
 pub mod PotentialsCertificate
 pub mod BranchesCertificate
+pub mod WalksCertificate
 pub mod Certified
 pub mod SolutionVerdict
 pub mod Bounded

@@ -7,6 +7,7 @@ use Rattle.tsp_cost.specs.ComputedProblems.{demands_of}
 use Rattle.tsp_verdict.specs.Solution.{visited}
 pub use Rattle.tsp_theory.specs.Routing.{demand_of, load_of, IsCustomer, IsPlan, plan_length, IsLeastRoutes}
 pub use Rattle.tsp_cost.specs.ComputedProblems.{depot_of, IsPlanOf}
+pub use Rattle.tsp_routing.specs.PlanLinks.{IsFilledPlan, BoundsPlans, HasNoPlan}
 
 -- the sum of all demands
 abbrev pub total_of : Fields → ℤ

@@ -1,7 +1,7 @@
 -- The verdict on routes: the first reason against them, or a plan of the instance and its length.
 -- Source: TSPLIB 95 (G. Reinelt), capacitated vehicle routing; the reasons and their order are this project's.
-use Rattle.std.specs.Prelude.{◌≡◌, ◌≢◌, ℕ, ◌-◌, ◌<◌, ◌≤◌, false, List, [], length, Some, slice_index_or, ℤ, pos, ◌<ℤ◌}
-use Rattle.std.specs.List.{Contains}
+use Rattle.std.specs.Prelude.{◌≡◌, ◌≢◌, ℕ, ◌-◌, ◌<◌, ◌≤◌, false, List, [], length, Some, slice_index_or, None, ℤ, pos, ◌<ℤ◌}
+use Rattle.std.specs.List.{All, Contains}
 use Rattle.tsp_draft.specs.Fields.{Fields, nodes_of}
 use Rattle.tsp_draft.specs.Rules.{is_tour_file}
 use Rattle.tsp_file.specs.Cost.{cost}
@@ -54,21 +54,23 @@ NoneOfRoutesBefore instance solution reason = NoneBefore (StandsAgainstRoutes in
 abbrev pub IsFirstAgainstRoutes : Fields → Fields → Reason → Type 0
 IsFirstAgainstRoutes instance solution reason = IsFirstReason (StandsAgainstRoutes instance solution) reason
 
--- Accepted routes: they are a plan of the instance, of this length and number, and no plan at all has fewer routes than the least
--- number that carries all demands.
+-- Accepted routes: they are a plan of the instance, each with a customer, of this length and number, and no plan at all has fewer
+-- routes than the least number that carries all demands.
 pub record IsPlanned (instance : Fields) (plan : List (List ℕ)) (length_is : ℤ) (routes least : ℕ) : Type 0 where
   pub plan_of : IsPlanOf instance plan
+  pub filled : All (λ route. route ≢ []) plan
   pub measured : length_is ≡ plan_length (cost instance) (depot_of instance) plan
   pub counted : routes ≡ length plan
   pub least_is : IsLeastRoutes (total_of instance) (capacity_of instance) least
   pub none_fewer : (other : List (List ℕ)) → IsPlanOf instance other → least ≤ length other
 
--- Rejected: the reason is the first one that applies. Accepted: none applies, and the tours of the solution are planned so.
+-- Rejected: the reason is the first one that applies. Accepted: none applies, and the tours of the solution are planned so. No
+-- certificate, no bound.
 abbrev pub IsRoutesVerdict : Fields → Fields → Verdict → Type 0
 IsRoutesVerdict instance solution (verdicts.No reason) = IsFirstAgainstRoutes instance solution reason
-IsRoutesVerdict instance solution (verdicts.Routes length_is routes least) =
+IsRoutesVerdict instance solution (verdicts.Routes length_is routes least bound) =
     ((reason : Reason) → StandsAgainstRoutes instance solution reason → ⊥)
-    × IsPlanned instance (tours_of solution) length_is routes least
+    × IsPlanned instance (tours_of solution) length_is routes least × (bound ≡ None)
 IsRoutesVerdict instance solution (verdicts.Tour length_is bound) = ⊥
 
 -- No reason applies that needs no look at the nodes of the routes.

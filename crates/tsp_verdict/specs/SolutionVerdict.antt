@@ -70,13 +70,13 @@ IsOtherClaimed (Some claim) length_is = claim ≢ length_is
 -- the solution is accepted with this length
 abbrev pub HasLength : Verdict → ℤ → Type 0
 HasLength (Tour length_is bound) found = found ≡ length_is
-HasLength (Routes length_is routes least) found = found ≡ length_is
+HasLength (Routes length_is routes least bound) found = found ≡ length_is
 HasLength (No reason) found = ⊥
 
 -- the solution is rejected, so the verdict has no length
 abbrev pub HasNoLength : Verdict → Type 0
 HasNoLength (Tour length_is bound) = ⊥
-HasNoLength (Routes length_is routes least) = ⊥
+HasNoLength (Routes length_is routes least bound) = ⊥
 HasNoLength (No reason) = Unit {0}
 
 -- on its own the solution is accepted, with this length
@@ -92,8 +92,8 @@ IsClaimedVerdict claim given instance solution (No reason) = IsVerdictOn instanc
     ⊎ (IsOfLength instance solution claim × IsFirstAgainstGiven given instance reason)
 IsClaimedVerdict claim given instance solution (Tour length_is bound) =
     IsUnclaimedVerdict given instance solution (Tour length_is bound) × (claim ≡ length_is)
-IsClaimedVerdict claim given instance solution (Routes length_is routes least) =
-    IsUnclaimedVerdict given instance solution (Routes length_is routes least) × (claim ≡ length_is)
+IsClaimedVerdict claim given instance solution (Routes length_is routes least bound) =
+    IsUnclaimedVerdict given instance solution (Routes length_is routes least bound) × (claim ≡ length_is)
 
 -- the verdict on a solution, with a certificate where there is one, and with the length that is claimed, where one is
 abbrev pub IsVerdictWith : Option (Certificate × Fields) → Option ℤ → Fields → Fields → Verdict → Type 0

@@ -50,7 +50,7 @@ IsTourVerdict instance solution (verdicts.Tour length bound) =
     ((reason : Reason) → StandsAgainstTour instance solution reason → ⊥)
     × ((tour : List ℕ) × (tours_of solution ≡ tour ∷ []) × IsTourOf instance tour × (length ≡ length_of (cost instance) tour))
     × (bound ≡ None)
-IsTourVerdict instance solution (verdicts.Routes length routes least) = ⊥
+IsTourVerdict instance solution (verdicts.Routes length routes least bound) = ⊥
 
 -- No reason applies that needs no look at the nodes of the tour.
 abbrev pub NoneOfTourBeforeNodes : Fields → Fields → Type 0

@@ -4,8 +4,10 @@ ghost use Rattle.std.specs.Prelude.{◌≡◌, IsTrue, None, Some, MatchResult, 
 ghost use Rattle.tsp_format.specs.declared.kinds.Kind.TheVariants as kinds;
 ghost use Rattle.tsp_draft.specs.Fields.{Fields};
 ghost use Rattle.tsp_reason.specs.declared.certificate.Certificate.{Certificate};
-ghost use Rattle.tsp_verdict.specs.Basis.{IsBasis, IsBasisBy, IsBasisOfRoutes, NoneOfBasisWithoutMemory};
+ghost use Rattle.tsp_verdict.specs.Basis.{IsBasis, IsBasisBy, IsBasisOfToursBy, IsBasisOfRoutesBy, IsBasisOfRoutes, NoneOfBasisWithoutMemory};
 ghost use Rattle.tsp_verdict.specs.Bounded.{IsBoundVerdict};
+ghost use Rattle.tsp_cost.specs.ComputedProblems.{capacity_of};
+ghost use Rattle.tsp_verdict.specs.Plan.{total_of, IsLeastRoutes};
 ghost use Rattle.tsp_verdict.specs.SolutionVerdict.{is_judged};
 ghost use Rattle.tsp_verdict.specs.states.Known.{against_instance};
 
@@ -24,7 +26,7 @@ use tsp_reason::{Basis, BoundVerdict, Certificate, Reason};
 /// That is the first reason that applies whatever the solution: `TooFewNodes` and `NotSymmetric` of
 /// tours, or `TooFewNodes`, `DepotCount`, `DepotDemand` and `FixedEdgesInRoutes` of routes, or one
 /// against the certificate. Where none applies, it is the bound of the certificate, as of
-/// [`judge_bound`], and for TYPE CVRP the least number of routes.
+/// [`judge_bound`], and for TYPE CVRP the least number of routes too.
 ///
 /// # Requires
 ///
@@ -46,7 +48,7 @@ pub fn judge_basis(
 {
     match certificate {
         None => Ok(basis_alone(instance)),
-        Some((by, file)) => Ok(basis_of(judge_bound(alloc, by, instance, file)?)),
+        Some((by, file)) => Ok(basis_of(instance, judge_bound(alloc, by, instance, file)?)),
     }
 }
 
@@ -75,6 +77,7 @@ fn basis_of_routes(instance: &Instance) -> Basis
     match the_depot(instance, &routing) {
         Ok(_) => Basis::Routes {
             least: least_routes(routing.demands, routing.capacity),
+            bound: None,
         },
         Err(reason) => Basis::No(reason),
     }
@@ -82,15 +85,56 @@ fn basis_of_routes(instance: &Instance) -> Basis
 
 /// What [`judge_basis`] finds of an instance with a certificate, by what [`judge_bound`] has found
 /// of the two.
-pub fn basis_of(found: BoundVerdict) -> Basis
+pub fn basis_of(instance: &Instance, found: BoundVerdict) -> Basis
+    ensures { (by : Certificate) (certificate : Fields)
+        → IsBoundVerdict by instance.now certificate found
+        → IsBasisBy instance.now.kind by instance.now certificate result }
+{
+    match instance.kind() {
+        Kind::Cvrp => routes_basis_of(instance, found),
+        _ => tours_basis_of(found),
+    }
+}
+
+/// The same of tours.
+fn tours_basis_of(found: BoundVerdict) -> Basis
     ensures { (by : Certificate) (instance certificate : Fields)
-        → IsBoundVerdict by instance certificate found → IsBasisBy by instance certificate result }
+        → IsBoundVerdict by instance certificate found
+        → IsBasisOfToursBy by instance certificate result }
 {
     match found {
         BoundVerdict::Bound(bound) => Basis::Tours { bound: Some(bound) },
-        BoundVerdict::NoTour => Basis::NoTour,
+        BoundVerdict::NoSolution => Basis::NoSolution,
         BoundVerdict::No(reason) => Basis::No(reason),
     }
+}
+
+/// The same of routes.
+fn routes_basis_of(instance: &Instance, found: BoundVerdict) -> Basis
+    requires { instance.now.kind ≡ Some kinds.Cvrp }
+    ensures { (by : Certificate) (certificate : Fields)
+        → IsBoundVerdict by instance.now certificate found
+        → IsBasisOfRoutesBy by instance.now certificate result }
+{
+    match found {
+        BoundVerdict::Bound(bound) => Basis::Routes {
+            least: least_of(instance),
+            bound: Some(bound),
+        },
+        BoundVerdict::NoSolution => Basis::NoSolution,
+        BoundVerdict::No(reason) => Basis::No(reason),
+    }
+}
+
+/// The least number of routes that carry all demands of an instance.
+fn least_of(instance: &Instance) -> u64
+    requires { instance.now.kind ≡ Some kinds.Cvrp }
+    ensures { IsLeastRoutes (total_of instance.now) (capacity_of instance.now) result }
+{
+    let routing = routing(instance);
+    let nodes = instance.count();
+    prove!(routing.demands.len() == nodes as usize);
+    least_routes(routing.demands, routing.capacity)
 }
 
 /// The reason of a basis that applies to the instance, whatever the tour and the certificate.

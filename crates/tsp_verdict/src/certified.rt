@@ -17,17 +17,19 @@ use tsp_format::Kind;
 use tsp_memory::Refused;
 use tsp_reason::{BoundVerdict, Certificate};
 
-/// Whether tours of instances of this TYPE have a bound by a certificate.
+/// Whether tours or routes of instances of this TYPE have a bound by a certificate.
 pub fn is_bounded(by: Certificate, kind: Kind) -> bool
     ensures { result ≡ is_bounded by (Some kind) }
 {
     match (by, kind) {
         (Certificate::Potentials | Certificate::Branches, Kind::Tsp | Kind::Atsp) => true,
-        (_, Kind::Cvrp | Kind::Tour | Kind::Potentials | Kind::Branches) => false,
+        (Certificate::Branches, Kind::Cvrp) => true,
+        (Certificate::Potentials, Kind::Cvrp) => false,
+        (_, Kind::Tour | Kind::Potentials | Kind::Branches) => false,
     }
 }
 
-/// The bound that a certificate gives, or that the instance has no tour; or the first reason
+/// The bound that a certificate gives tours, or that the instance has no tour; or the first reason
 /// against it. Of duals no memory is taken.
 ///
 /// # Errors

@@ -34,7 +34,7 @@ pub fn examples_of_claimed_verdicts()
     ensures not_above { (instance solution : Fields)
         → ¬ IsVerdictWith None (Some (pos 15)) instance solution (verdicts.Tour (pos 14) None) }
     ensures not_below { (instance solution : Fields)
-        → ¬ IsVerdictWith None (Some (pos 13)) instance solution (verdicts.Routes (pos 14) 3 2) }
+        → ¬ IsVerdictWith None (Some (pos 13)) instance solution (verdicts.Routes (pos 14) 3 2 None) }
     ensures unclaimed { (instance solution : Fields)
         → IsVerdictOn instance solution (verdicts.Tour (pos 14) None)
         → IsVerdictWith None None instance solution (verdicts.Tour (pos 14) None) }

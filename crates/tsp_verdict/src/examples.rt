@@ -10,7 +10,7 @@ ghost use Rattle.tsp_reason.specs.declared.verdict.Reason.TheVariants as reasons
 ghost use Rattle.tsp_reason.specs.declared.verdict.Verdict.TheVariants as verdicts;
 ghost use Rattle.tsp_reason.specs.declared.certificate.Certificate.TheVariants as certificates;
 ghost use Rattle.tsp_verdict.specs.Bounded.{StandsAgainstInstance};
-ghost use Rattle.tsp_verdict.specs.Certified.{NoneWithoutMemory};
+ghost use Rattle.tsp_verdict.specs.Certified.{StandsAgainstCertificate, NoneWithoutMemory};
 ghost use Rattle.tsp_verdict.specs.SolutionVerdict.{IsAsClaimed, IsOtherClaimed, HasLength, HasNoLength};
 ghost use Rattle.tsp_verdict.specs.Plan.{IsPlanOf, IsLeastRoutes, plan_length, total_of};
 ghost use Rattle.tsp_verdict.specs.Tours.{StandsAgainstTour, NoneOfTourBeforeRepeats};
@@ -81,7 +81,7 @@ pub fn examples_of_claims()
     ensures other { IsOtherClaimed (Some (negsuc 33)) (pos 34) }
     ensures tour { HasLength (verdicts.Tour (pos 14) (Some (pos 10))) (pos 14) }
     ensures not_its_bound { ¬ HasLength (verdicts.Tour (pos 14) (Some (pos 10))) (pos 10) }
-    ensures routes { HasLength (verdicts.Routes (pos 20) 3 2) (pos 20) }
+    ensures routes { HasLength (verdicts.Routes (pos 20) 3 2 None) (pos 20) }
     ensures no { ¬ HasLength (verdicts.No reasons.TourCount) (pos 0) }
     ensures no_length { HasNoLength (verdicts.No reasons.TourCount) }
     ensures a_length { ¬ HasNoLength (verdicts.Tour (pos 14) None) }
@@ -233,9 +233,10 @@ pub fn examples_of_reasons_before_memory()
         cert reasons.PotentialsKind → ¬ NoneWithoutMemory certificates.Potentials inst cert }
     ensures no_potentials { (inst cert : Fields) → StandsAgainstPotentials inst
         cert reasons.NotPotentials → ¬ NoneWithoutMemory certificates.Potentials inst cert }
-    ensures nodes_of_branches { (inst cert : Fields) → StandsAgainstBranches inst
+    ensures nodes_of_branches { (inst cert : Fields) → StandsAgainstCertificate certificates.Branches inst
         cert reasons.BranchesDimension → ¬ NoneWithoutMemory certificates.Branches inst cert }
-    ensures no_branches { (inst cert : Fields) → StandsAgainstBranches inst cert reasons.NotBranches
+    ensures no_branches { (inst cert : Fields)
+        → StandsAgainstCertificate certificates.Branches inst cert reasons.NotBranches
         → ¬ NoneWithoutMemory certificates.Branches inst cert }
 {}
 

@@ -36,6 +36,7 @@ mod tour;
 mod tree;
 mod verdict_examples;
 mod visits;
+mod walks;
 
 pub use basis::{basis_alone, basis_of, judge_basis};
 pub use bounded::judge_bound;

@@ -3,6 +3,7 @@
 ghost use Rattle.tsp_verdict.specs.OneVerdict.{FilesHaveOneVerdict, FilesHaveOneBound, FilesHaveOneBasis, SolutionsHaveOneVerdict};
 
 use tsp_branch::{case_tree_bounds_are_unique, numbers_are_unique};
+use tsp_routing::plan_bounds_are_unique;
 
 /// Files have one verdict, whichever TYPE, certificate and claim; so has an instance with a
 /// certificate, and so has each solution of a comparison.
@@ -14,4 +15,5 @@ pub fn files_have_one_verdict()
 {
     case_tree_bounds_are_unique();
     numbers_are_unique();
+    plan_bounds_are_unique();
 }

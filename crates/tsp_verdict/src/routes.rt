@@ -9,7 +9,7 @@ ghost use Rattle.tsp_draft.specs.Fields.{nodes_of};
 ghost use Rattle.tsp_cost.specs.ComputedProblems.{demands_of, depots_of};
 ghost use Rattle.tsp_verdict.specs.Routes.{NoneOfRoutesBefore, NoneOfRoutesBeforePlaces, IsFirstAgainstRoutes, IsRoutesVerdict, NoneOfRoutesBeforeRepeats};
 ghost use Rattle.tsp_reason.specs.declared.verdict.Reason.TheVariants.{DepotCount};
-ghost use Rattle.tsp_verdict.specs.Basis.{StandsAgainstRouting, NoneAgainstRouting};
+ghost use Rattle.tsp_verdict.specs.Bounded.{StandsAgainstRouting, NoneAgainstRouting};
 ghost use Rattle.tsp_verdict.specs.Reasons.{IsFirstReason};
 ghost use Rattle.tsp_verdict.specs.states.RouteLists.{AreToursOf};
 
@@ -64,7 +64,24 @@ pub(crate) fn verdict_on_routes(
         length: plan_length(inst, depot, routes),
         routes: routes.len() as u32,
         least: least_routes(routing.demands, routing.capacity),
+        bound: None,
     })
+}
+
+/// The only depot of an instance, or the first reason against it, whatever the routes.
+pub(crate) fn depot_of_routes(inst: &Instance) -> Result<u32, Reason>
+    requires { inst.now.kind ≡ Some kinds.Cvrp }
+    ensures { MatchResult result (λ depot. (2 ≤ nodes_of inst.now) × (depot ≡ depot_of inst.now)
+        × IsNode (nodes_of inst.now) depot × NoneAgainstRouting inst.now)
+        (λ reason. IsFirstReason (StandsAgainstRouting inst.now) reason) }
+{
+    if inst.count() < FEWEST_NODES {
+        return Err(Reason::TooFewNodes);
+    }
+    match the_depot(inst, &routing(inst)) {
+        Ok(depot) => Ok(depot),
+        Err(reason) => Err(reason),
+    }
 }
 
 /// The only depot of an instance of enough nodes, or the first reason against it, whatever the

@@ -2,7 +2,7 @@
 //! verdict on a tour by what is known of all.
 
 ghost use Rattle.std.specs.Prelude.{◌≡◌};
-ghost use Rattle.tsp_verdict.specs.states.Sources.{verdict_by};
+ghost use Rattle.tsp_verdict.specs.states.Sources.{verdict_by, verdict_with};
 
 use crate::tour::TourCosts;
 use tsp_file::File;
@@ -26,6 +26,31 @@ pub(crate) enum Source<'a> {
     Basis(Basis),
 }
 
+/// The verdict on routes that are accepted on their own, by what is known of all solutions.
+pub(crate) fn verdict_with(basis: Basis, verdict: Verdict) -> Verdict
+    ensures { result ≡ verdict_with basis verdict }
+{
+    match (basis, verdict) {
+        (
+            Basis::Routes { least, bound },
+            Verdict::Routes {
+                length,
+                routes,
+                least: _,
+                bound: _,
+            },
+        ) => Verdict::Routes {
+            length,
+            routes,
+            least,
+            bound,
+        },
+        (Basis::No(reason), _) => Verdict::No(reason),
+        // A basis of an instance that has routes is none of the others.
+        (_, verdict) => verdict,
+    }
+}
+
 /// The verdict on a tour of this length, by what is known of all solutions.
 pub(crate) fn verdict_by(basis: Basis, length: i64) -> Verdict
     ensures { result ≡ verdict_by basis length }
@@ -34,7 +59,7 @@ pub(crate) fn verdict_by(basis: Basis, length: i64) -> Verdict
         Basis::Tours { bound } => Verdict::Tour { length, bound },
         Basis::No(reason) => Verdict::No(reason),
         // A basis of an instance that has a tour is neither of these.
-        Basis::NoTour | Basis::Routes { .. } => Verdict::Tour {
+        Basis::NoSolution | Basis::Routes { .. } => Verdict::Tour {
             length,
             bound: None,
         },

@@ -1,12 +1,12 @@
 //! What solutions are judged by, and the verdict on one of them.
 
-use crate::basis::{against_instance, basis_of};
+use crate::basis::{against_instance, basis_of, judge_basis};
 use crate::bounded::costs_of_tours;
 use crate::certified::bound_of;
-use crate::claimed::{is_other, with_claim};
+use crate::claimed::{is_other, length_in};
 use crate::files::solution_tours;
 use crate::routes::verdict_on_routes;
-use crate::source::{Given, Source, verdict_by};
+use crate::source::{Given, Source, verdict_by, verdict_with};
 use crate::tour::length_after_files;
 use std::alloc::{AllocError, Global};
 use tsp_cost::{Costs, Instance};
@@ -29,9 +29,10 @@ pub(crate) struct Subject<'a> {
 impl<'a> Subject<'a> {
     ghost use Rattle.std.specs.Prelude.{◌≡◌, ◌⊎◌, Some, IfOk, MatchResult};
     ghost use Rattle.tsp_format.specs.declared.kinds.Kind.TheVariants as kinds;
-    ghost use Rattle.tsp_verdict.specs.Bounded.{StandsAgainstInstance, NoneAgainstInstance};
+    ghost use Rattle.tsp_verdict.specs.Bounded.{StandsAgainstTouring, NoneAgainstTouring};
     ghost use Rattle.tsp_verdict.specs.SolutionVerdict.{NoneBeforeRepeatsOn};
     ghost use Rattle.tsp_verdict.specs.Reasons.{IsFirstReason};
+    ghost use Rattle.tsp_verdict.specs.Routes.{NoneOfRoutesBeforeRepeats};
     ghost use Rattle.tsp_verdict.specs.Tours.{NoneOfTourBeforeRepeats};
     ghost use Rattle.tsp_verdict.specs.states.Sources.{IsSubject, IsVerdictGiven, IsBasisGiven, IsSource, FindsLength};
 
@@ -54,11 +55,43 @@ impl<'a> Subject<'a> {
             (λ refused. NoneBeforeRepeatsOn self.now.instance.now solution.now) }
     {
         match self.instance.kind() {
-            Kind::Cvrp => {
-                let verdict = verdict_on_routes(alloc, self.instance, solution)?;
-                Ok(with_claim(verdict, claimed))
-            }
+            Kind::Cvrp => self.verdict_on_plan(alloc, solution, claimed),
             _ => Ok(self.verdict_on_tour(alloc, solution, claimed)?),
+        }
+    }
+
+    /// The verdict on a solution that should be routes.
+    fn verdict_on_plan(
+        &self,
+        alloc: Global,
+        solution: &File,
+        claimed: Option<i64>,
+    ) -> Result<Verdict, AllocError>
+        requires sound { IsSubject self.now.instance.now self.now.given }
+        requires kind { self.now.instance.now.kind ≡ Some kinds.Cvrp }
+        ensures { MatchResult result
+            (λ verdict. IsVerdictGiven self.now.given claimed self.now.instance.now solution.now verdict)
+            (λ refused. NoneOfRoutesBeforeRepeats self.now.instance.now solution.now) }
+    {
+        let verdict = verdict_on_routes(alloc, self.instance, solution)?;
+        let Some(measured) = length_in(verdict) else {
+            return Ok(verdict);
+        };
+        if is_other(claimed, measured) {
+            return Ok(Verdict::No(Reason::LengthClaimed { length: measured }));
+        }
+        let basis = self.basis_of_all(alloc)?;
+        Ok(verdict_with(basis, verdict))
+    }
+
+    /// What is known of all solutions, or is now found.
+    fn basis_of_all(&self, alloc: Global) -> Result<Basis, AllocError>
+        requires sound { IsSubject self.now.instance.now self.now.given }
+        ensures { IfOk result (λ basis. IsBasisGiven self.now.given self.now.instance.now basis) }
+    {
+        match self.given {
+            Given::Certificate(certificate) => judge_basis(alloc, self.instance, certificate),
+            Given::Basis(basis) => Ok(basis),
         }
     }
 
@@ -126,9 +159,9 @@ impl<'a> Subject<'a> {
         requires kind { (self.now.instance.now.kind ≡ Some kinds.Tsp)
             ⊎ (self.now.instance.now.kind ≡ Some kinds.Atsp) }
         ensures { MatchResult result
-            (λ source. NoneAgainstInstance self.now.instance.now
+            (λ source. NoneAgainstTouring self.now.instance.now
             × IsSource self.now.instance.now self.now.given source)
-            (λ reason. IsFirstReason (StandsAgainstInstance self.now.instance.now) reason) }
+            (λ reason. IsFirstReason (StandsAgainstTouring self.now.instance.now) reason) }
     {
         match self.given {
             Given::Certificate(certificate) => match costs_of_tours(self.instance) {
@@ -148,7 +181,7 @@ impl<'a> Subject<'a> {
         requires sound { IsSubject self.now.instance.now self.now.given }
         requires kind { (self.now.instance.now.kind ≡ Some kinds.Tsp)
             ⊎ (self.now.instance.now.kind ≡ Some kinds.Atsp) }
-        requires none { NoneAgainstInstance self.now.instance.now }
+        requires none { NoneAgainstTouring self.now.instance.now }
         requires source { IsSource self.now.instance.now self.now.given source }
         ensures { IfOk result (λ basis. IsBasisGiven self.now.given self.now.instance.now basis) }
     {
@@ -160,6 +193,6 @@ impl<'a> Subject<'a> {
             return Ok(Basis::Tours { bound: None });
         };
         let found = bound_of(alloc, by, self.instance, costs, file)?;
-        Ok(basis_of(found))
+        Ok(basis_of(self.instance, found))
     }
 }

@@ -10,9 +10,8 @@ ghost use Rattle.tsp_cost.specs.states.Views.{HasCosts};
 ghost use Rattle.tsp_verdict.specs.Reasons.{IsFirstReason};
 ghost use Rattle.tsp_draft.specs.Fields.{nodes_of};
 ghost use Rattle.tsp_verdict.specs.states.TourCosts.{IsSymmetricTsp};
-ghost use Rattle.tsp_verdict.specs.BranchesCertificate.{StandsAgainstBranches};
 ghost use Rattle.tsp_reason.specs.declared.certificate.Certificate.TheVariants as certificates;
-ghost use Rattle.tsp_verdict.specs.Certified.{FindsBound, NoneWithoutMemory};
+ghost use Rattle.tsp_verdict.specs.Certified.{StandsAgainstCertificate, FindsBound, NoneWithoutMemory};
 
 use crate::decided::taken_once;
 use crate::tour::is_directed;
@@ -78,12 +77,13 @@ pub(crate) fn bound_of_tree(
 }
 
 /// The tree that a certificate holds, or the first reason that needs no look at it.
-fn tree_of<'a>(instance: &Instance, branches: &'a File) -> Result<TreeData<'a>, Reason>
+pub(crate) fn tree_of<'a>(instance: &Instance, branches: &'a File) -> Result<TreeData<'a>, Reason>
     ensures { MatchResult result (λ tree. (is_branches_file branches.now.kind ≡ true)
         × (nodes_of branches.now ≡ nodes_of instance.now)
         × HoldsCases branches.now tree.scale tree.load_unit (combs_of tree.combs.now)
         (steps_of tree.steps.now))
-        (λ reason. IsFirstReason (StandsAgainstBranches instance.now branches.now) reason) }
+        (λ reason. IsFirstReason
+        (StandsAgainstCertificate certificates.Branches instance.now branches.now) reason) }
 {
     let Some(tree) = branches.as_tree() else {
         return Err(Reason::NotBranches);
@@ -132,7 +132,7 @@ fn judge_tree<C: PlacedCosts>(
     };
     match judge_branches_in_space(alloc, &cases)? {
         BranchVerdict::Bound(Some(bound)) => Ok(BoundVerdict::Bound(bound)),
-        BranchVerdict::Bound(None) => Ok(BoundVerdict::NoTour),
+        BranchVerdict::Bound(None) => Ok(BoundVerdict::NoSolution),
         BranchVerdict::BadFamily(index) => Ok(BoundVerdict::No(Reason::BadComb {
             index: index as u32,
         })),

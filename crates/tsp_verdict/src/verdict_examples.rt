@@ -2,7 +2,7 @@
 //! is named. No body is looked at here: a definition that is changed together with its code is
 //! refused by its examples.
 
-ghost use Rattle.std.specs.Prelude.{◌≡◌, ◌<◌, ℕ, [], ◌∷◌, Option, ℤ, pos, ◌+ℤ◌, ◌*ℤ◌, ◌<ℤ◌};
+ghost use Rattle.std.specs.Prelude.{◌≡◌, ◌<◌, ℕ, [], ◌∷◌, Option, None, ℤ, pos, ◌+ℤ◌, ◌*ℤ◌, ◌<ℤ◌};
 ghost use Rattle.tsp_format.specs.Steps.{Leaf};
 ghost use Rattle.tsp_format.specs.declared.kinds.Kind.TheVariants as kinds;
 ghost use Rattle.tsp_draft.specs.Fields.{Fields, nodes_of};
@@ -16,10 +16,10 @@ ghost use Rattle.tsp_reason.specs.declared.certificate.Certificate.{Certificate}
 ghost use Rattle.tsp_reason.specs.declared.verdict.Reason.TheVariants as reasons;
 ghost use Rattle.tsp_reason.specs.declared.verdict.Verdict.TheVariants as verdicts;
 ghost use Rattle.tsp_reason.specs.declared.basis.Basis.TheVariants as bases;
-ghost use Rattle.tsp_verdict.specs.Basis.{StandsAgainstRouting, IsBasisOfRoutes};
+ghost use Rattle.tsp_verdict.specs.Basis.{IsBasisOfRoutes};
 ghost use Rattle.tsp_verdict.specs.Plan.{total_of};
-ghost use Rattle.tsp_verdict.specs.Bounded.{StandsAgainstInstance};
-ghost use Rattle.tsp_verdict.specs.Certified.{IsCertifiedVerdict};
+ghost use Rattle.tsp_verdict.specs.Bounded.{StandsAgainstTouring, StandsAgainstRouting};
+ghost use Rattle.tsp_verdict.specs.Certified.{IsCertifiedTourVerdict, IsCertifiedRoutesVerdict};
 ghost use Rattle.tsp_verdict.specs.Tours.{StandsAgainstTour, IsTourVerdict};
 ghost use Rattle.tsp_verdict.specs.PotentialsCertificate.{StandsAgainstPotentials, IsBoundByNodes, IsBoundByDuals};
 ghost use Rattle.tsp_verdict.specs.BranchesCertificate.{StandsAgainstBranches, HasBoundByBranches, given_in, case_steps_in};
@@ -33,17 +33,21 @@ pub fn examples_of_accepted()
         → IsTourVerdict inst (lone (three 1 2 3)) (verdicts.Tour found bound)
         → found ≡ cost inst 1 2 +ℤ cost inst 2 3 +ℤ cost inst 3 1 }
     ensures certified { (by : Certificate) (inst cert : Fields) (found : ℤ) (bound : Option ℤ)
-        → IsCertifiedVerdict by inst (lone (three 1 2 3)) cert (verdicts.Tour found bound)
+        → IsCertifiedTourVerdict by inst (lone (three 1 2 3)) cert (verdicts.Tour found bound)
         → found ≡ cost inst 1 2 +ℤ cost inst 2 3 +ℤ cost inst 3 1 }
     ensures routes { (inst : Fields) (found : ℤ) (routes least : ℕ) → depot_of inst ≡ 2
-        → IsRoutesVerdict inst (both (two 3 1) (4 ∷ [])) (verdicts.Routes found routes least)
+        → IsRoutesVerdict inst (both (two 3 1) (4 ∷ [])) (verdicts.Routes found routes least None)
+        → found ≡ cost inst 2 3 +ℤ cost inst 3 1 +ℤ cost inst 1 2 +ℤ cost inst 2 4 +ℤ cost inst 4 2 }
+    ensures certified_routes { (by : Certificate) (inst cert : Fields) (found : ℤ) (routes least : ℕ)
+        (bound : Option ℤ) → depot_of inst ≡ 2
+        → IsCertifiedRoutesVerdict by inst (both (two 3 1) (4 ∷ [])) cert (verdicts.Routes found routes least bound)
         → found ≡ cost inst 2 3 +ℤ cost inst 3 1 +ℤ cost inst 1 2 +ℤ cost inst 2 4 +ℤ cost inst 4 2 }
     ensures number { (inst : Fields) (found : ℤ) (routes least : ℕ)
-        → IsRoutesVerdict inst (both (two 3 1) (4 ∷ [])) (verdicts.Routes found routes least)
+        → IsRoutesVerdict inst (both (two 3 1) (4 ∷ [])) (verdicts.Routes found routes least None)
         → routes ≡ 2 }
     ensures least { (inst : Fields) (found : ℤ) (routes least : ℕ)
         → total_of inst ≡ pos 12 → capacity_of inst ≡ pos 8
-        → IsRoutesVerdict inst (both (two 3 1) (4 ∷ [])) (verdicts.Routes found routes least)
+        → IsRoutesVerdict inst (both (two 3 1) (4 ∷ [])) (verdicts.Routes found routes least None)
         → least ≡ 2 }
 {}
 
@@ -77,7 +81,7 @@ pub fn examples_against_routing()
     ensures not_fixed { ¬ StandsAgainstRouting (instance_with kinds.Cvrp 4 []) reasons.FixedEdgesInRoutes }
     ensures no_solution { ¬ StandsAgainstRouting (instance_with kinds.Cvrp 4 []) reasons.NotASolution }
     ensures least { (inst : Fields) (least : ℕ) → total_of inst ≡ pos 12 → capacity_of inst ≡ pos 8
-        → IsBasisOfRoutes inst (bases.Routes least) → least ≡ 2 }
+        → IsBasisOfRoutes inst (bases.Routes least None) → least ≡ 2 }
 {}
 
 /// Which of two nodes a reason names first: the smaller one of a pair with two costs, and the row
@@ -86,7 +90,7 @@ pub fn examples_of_pairs()
     ensures of_a_tour { (inst sol : Fields) (i j : ℕ)
         → StandsAgainstTour inst sol (reasons.NotSymmetric i j) → i < j }
     ensures of_an_instance { (inst : Fields) (i j : ℕ)
-        → StandsAgainstInstance inst (reasons.NotSymmetric i j) → i < j }
+        → StandsAgainstTouring inst (reasons.NotSymmetric i j) → i < j }
     ensures of_duals { (inst : Fields) (i j : ℕ)
         → StandsAgainstPotentials inst halves_of_rows (reasons.DualInfeasible i j)
         → (pos 2 *ℤ cost inst i j) <ℤ (entry (pos 1 ∷ pos 2 ∷ pos 4 ∷ []) i

@@ -5,7 +5,7 @@ use Rattle.tsp_reason.specs.declared.basis.Basis.{Basis}
 use Rattle.tsp_reason.specs.declared.basis.Basis.TheVariants as bases
 use Rattle.tsp_reason.specs.declared.verdict.Reason.{Reason}
 use Rattle.tsp_reason.specs.declared.verdict.Reason.TheVariants.{TooFewNodes, NotSymmetric}
-use Rattle.tsp_verdict.specs.Bounded.{StandsAgainstInstance, NoneAgainstInstance}
+use Rattle.tsp_verdict.specs.Bounded.{StandsAgainstTouring, NoneAgainstTouring}
 use Rattle.tsp_verdict.specs.Reasons.{IsFirstReason}
 
 -- the reason of a basis that is one against the instance
@@ -16,5 +16,5 @@ against_instance basis = None
 
 -- it is the first one against the instance, or none applies to that
 abbrev pub KnowsInstance : Fields → Basis → Type 0
-KnowsInstance instance basis = MatchOption (against_instance basis) (NoneAgainstInstance instance)
-    (λ reason. IsFirstReason (StandsAgainstInstance instance) reason)
+KnowsInstance instance basis = MatchOption (against_instance basis) (NoneAgainstTouring instance)
+    (λ reason. IsFirstReason (StandsAgainstTouring instance) reason)

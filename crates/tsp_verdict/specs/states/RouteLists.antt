@@ -1,5 +1,5 @@
 -- Tours and routes as code has them.
-use Rattle.std.specs.Prelude.{◌≡◌, ℕ, ◌≤◌, true, List, length, map}
+use Rattle.std.specs.Prelude.{◌≡◌, ◌≢◌, ℕ, ◌≤◌, true, List, [], length, map}
 use Rattle.std.specs.Global.{Vec}
 use Rattle.std.specs.List.{All, flat_map}
 use Rattle.tsp_format.specs.Limits.{most_tour_nodes}
@@ -17,5 +17,6 @@ pub record AreToursOf (solution : Fields) (tours : List (Vec ℕ)) : Type 0 wher
   pub value : map (λ (tour : Vec ℕ). tour.items) tours ≡ tours_of solution
   pub nodes : nodes_in tours ≡ visited solution
   pub range : All (λ node. 1 ≤ node) (nodes_in tours)
+  pub filled : All (λ tour. tour ≢ []) (tours_of solution)
   pub few : length tours ≤ most_tour_nodes
   pub size : length (nodes_in tours) ≤ most_tour_nodes

@@ -9,7 +9,7 @@ use Rattle.tsp_reason.specs.declared.verdict.Reason.{Reason}
 use Rattle.tsp_reason.specs.declared.verdict.Verdict.{Verdict}
 use Rattle.tsp_reason.specs.declared.verdict.Verdict.TheVariants as verdicts
 use Rattle.tsp_verdict.specs.Basis.{IsBasis, IsVerdictFrom}
-use Rattle.tsp_verdict.specs.Bounded.{NoneAgainstInstance}
+use Rattle.tsp_verdict.specs.Bounded.{NoneAgainstTouring}
 use Rattle.tsp_verdict.specs.SolutionVerdict.{is_judged, IsVerdictWith}
 use Rattle.tsp_verdict.specs.Tours.{IsTourVerdict, IsFirstAgainstTour}
 use Rattle.tsp_verdict.specs.declared.source.Given.{Given}
@@ -49,7 +49,7 @@ IsSource instance given (sources.Basis basis) = given ≡ givens.Basis basis
 -- the length of the one tour, where no reason applies to the instance or to it; or the first reason
 abbrev pub FindsLength : Fields → Fields → Given → Result (ℤ × Source) Reason → Type 0
 FindsLength instance solution given (Ok found) = IsTourVerdict instance solution (verdicts.Tour found.0 None)
-    × NoneAgainstInstance instance
+    × NoneAgainstTouring instance
     × IsSource instance given found.1
 FindsLength instance solution given (Err reason) = IsFirstAgainstTour instance solution reason
 
@@ -58,6 +58,14 @@ FindsLength instance solution given (Err reason) = IsFirstAgainstTour instance s
 -- the verdict on a tour of this length; a basis without tours is none of an instance that has one
 abbrev pub verdict_by : Basis → ℤ → Verdict
 verdict_by (bases.Tours bound) length = verdicts.Tour length bound
-verdict_by bases.NoTour length = verdicts.Tour length None
-verdict_by (bases.Routes least) length = verdicts.Tour length None
+verdict_by bases.NoSolution length = verdicts.Tour length None
+verdict_by (bases.Routes least bound) length = verdicts.Tour length None
 verdict_by (bases.No reason) length = verdicts.No reason
+
+-- ---- routes
+
+-- the verdict on routes that are accepted on their own; a basis of an instance that has routes is none of the others
+abbrev pub verdict_with : Basis → Verdict → Verdict
+verdict_with (bases.Routes least bound) (verdicts.Routes length routes own none) = verdicts.Routes length routes least bound
+verdict_with (bases.No reason) verdict = verdicts.No reason
+verdict_with basis verdict = verdict

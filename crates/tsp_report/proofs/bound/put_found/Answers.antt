@@ -18,8 +18,8 @@ returns-in-Bound g c =
     let named = simp to_z-of_z at c.put_named.ensures in
     rw c.in-Bound.is (carried_then start after_bound last (codes "bound " ++ signed_decimal c.in-Bound.bound) (codes "\nyes\n") named c.put.ensures)
 
-pub returns-in-NoTour : goal.returns-in-NoTour
-returns-in-NoTour g c = rw c.in-NoTour.is c.put-in-NoTour.ensures
+pub returns-in-NoSolution : goal.returns-in-NoSolution
+returns-in-NoSolution g c = rw c.in-NoSolution.is c.put-in-NoSolution.ensures
 
 pub returns-in-No : goal.returns-in-No
 returns-in-No g c = rw c.in-No.is c.put_no.ensures

@@ -23,3 +23,7 @@ returns-clause-routes c = refl
 pub returns-clause-no : goal.returns-clause-no
 unfolding digits
 returns-clause-no c = refl
+
+pub returns-clause-bounded_routes : goal.returns-clause-bounded_routes
+unfolding digits
+returns-clause-bounded_routes c = refl

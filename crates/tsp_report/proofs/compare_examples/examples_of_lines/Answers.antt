@@ -47,3 +47,11 @@ returns-clause-device c = refl
 pub returns-clause-too_long : goal.returns-clause-too_long
 unfolding digits
 returns-clause-too_long c = refl
+
+pub returns-clause-optimal_routes : goal.returns-clause-optimal_routes
+unfolding digits
+returns-clause-optimal_routes c = refl
+
+pub returns-clause-gap_of_routes : goal.returns-clause-gap_of_routes
+unfolding digits
+returns-clause-gap_of_routes c = refl

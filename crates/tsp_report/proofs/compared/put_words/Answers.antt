@@ -1,5 +1,5 @@
 -- The goals of `put_words` in src/compared.rt: what it ensures.
-use Rattle.std.proofs.Common.{rules}
+use Rattle.std.proofs.Common.{◌++◌, rules}
 use Rattle.std.specs.Prelude.{codes, decimal, FitsSigned}
 use Rattle.std.specs.Fmt.{signed_decimal}
 use Rattle.std.specs.Int.{w64}
@@ -26,10 +26,16 @@ pub returns-in-Routes : goal.returns-in-Routes
 returns-in-Routes g c =
     let start = way_of g.W.Write.contents c.args.out.now c.args.piece.now.items in
     let after_length = way_of g.W.Write.contents c.put_number-in-Routes.new.out c.put_number-in-Routes.new.piece.items in
-    let last = way_of g.W.Write.contents c.put_named.new.out c.put_named.new.piece.items in
+    let after_routes = way_of g.W.Write.contents c.put_named.new.out c.put_named.new.piece.items in
+    let last = way_of g.W.Write.contents c.put_bound_words-in-Routes.new.out c.put_bound_words-in-Routes.new.piece.items in
     let fits : FitsSigned w64 c.in-Routes.length = search rules in
     let number = simp to_z-of_z at c.put_number-in-Routes.ensures in
-    rw c.in-Routes.is (then_named start after_length last (signed_decimal c.in-Routes.length) (codes " routes ") (decimal c.in-Routes.routes) number c.put_named.ensures)
+    let bound = simp to_z-of_z at c.put_bound_words-in-Routes.ensures in
+    let counted = then_named start after_length after_routes (signed_decimal c.in-Routes.length) (codes " routes ")
+    (decimal c.in-Routes.routes) number c.put_named.ensures in
+    rw c.in-Routes.is (carried_then start after_routes last
+    (signed_decimal c.in-Routes.length ++ codes " routes " ++ decimal c.in-Routes.routes)
+    (bound_words c.in-Routes.length c.in-Routes.bound) counted bound)
 
 pub returns-in-No : goal.returns-in-No
 returns-in-No g c =

@@ -15,3 +15,11 @@ returns-clause-no c = refl
 pub returns-clause-routes : goal.returns-clause-routes
 unfolding digits
 returns-clause-routes c = refl
+
+pub returns-clause-optimal_routes : goal.returns-clause-optimal_routes
+unfolding digits
+returns-clause-optimal_routes c = refl
+
+pub returns-clause-bounded_routes : goal.returns-clause-bounded_routes
+unfolding digits
+returns-clause-bounded_routes c = refl

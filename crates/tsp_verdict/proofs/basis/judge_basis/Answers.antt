@@ -5,5 +5,5 @@ pub returns-in_ok-judge_bound-in-Some : goal.returns-in_ok-judge_bound-in-Some
 returns-in_ok-judge_bound-in-Some c =
     rw c.in-Some.is (
       rw c.in-Some.is at c.requires,
-      c.basis_of.ensures c.in-Some.by c.args.instance.now c.in-Some.file.now c.in_ok-judge_bound-in-Some.ensures,
+      c.basis_of.ensures c.in-Some.by c.in-Some.file.now c.in_ok-judge_bound-in-Some.ensures,
     )

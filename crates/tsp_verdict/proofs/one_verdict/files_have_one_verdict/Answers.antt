@@ -8,6 +8,7 @@ returns c =
     let laws : Laws = record {
       numbers = c.numbers_are_unique.ensures;
       leaves = c.case_tree_bounds_are_unique.ensures;
+      walks = c.plan_bounds_are_unique.ensures;
     } in
     record {
       verdict = one_verdict laws;

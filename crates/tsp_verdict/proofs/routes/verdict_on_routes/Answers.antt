@@ -73,5 +73,5 @@ returns c =
     c.least_routes.result
     c.in-Ok.ensures.4.value c.routing-routing.ensures.demands c.routing-routing.ensures.each c.routing-routing.ensures.capacity
     c.in-Ok.ensures.0
-    c.in_default.ensures.0 marked served c.routing-routing.ensures.each_demand c.in-Ok.ensures.2
+    c.in_default.ensures.0 c.in-Ok.ensures.4.filled marked served c.routing-routing.ensures.each_demand c.in-Ok.ensures.2
     within c.plan_length.ensures (sym (as_many c.in-Ok.found.1.now)) least)

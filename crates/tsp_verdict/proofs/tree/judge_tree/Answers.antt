@@ -80,7 +80,7 @@ returns-in-Bound-Some g c =
     let all_told = told inst tree c.is_directed-directed.result n costs _ families given steps (found.Bound (Some bound)) are
     is in
     rw (to_z-of_z w128 bound fits) (
-      none_stands c.numbers_are_unique.ensures inst tree costs (Some bound) c.requires.sort c.requires.count all_told,
+      none_stands c.numbers_are_unique.ensures inst tree costs (Some bound) c.requires.kind c.requires.sort c.requires.count all_told,
       certified inst tree costs bound c.case_trees_bound_cycles.ensures.cycles c.requires.kind c.requires.some c.requires.even
           (subst IsScale c.requires.held.scale_is c.requires.held.scaled) c.requires.keeps.every
           (subst IsSizedVerdict whole c.in_ok-bound.ensures.size) all_told,
@@ -109,7 +109,7 @@ returns-in-Bound-None g c =
     let all_told = told inst tree c.is_directed-directed.result n costs _ families given steps (found.Bound None) are is in
     let gone = no_tour inst tree costs c.case_trees_bound_cycles.ensures.cycles c.requires.kind c.requires.some c.requires.even
     (subst IsScale c.requires.held.scale_is c.requires.held.scaled) c.requires.keeps.every all_told in
-    (none_stands c.numbers_are_unique.ensures inst tree costs None c.requires.sort c.requires.count all_told, gone.0, gone.1)
+    (none_stands c.numbers_are_unique.ensures inst tree costs None c.requires.kind c.requires.sort c.requires.count all_told, gone.0, gone.1)
 
 pub returns-in-BadFamily : goal.returns-in-BadFamily
 returns-in-BadFamily g c =
@@ -130,7 +130,7 @@ returns-in-BadFamily g c =
     (c.deref.ensures.value ∙ c.in_ok-given.ensures) c.requires.held.steps_are in
     let is = subst (IsBranchVerdict c.is_directed-directed.result n costs (to_z w64 (of_z w64 c.args.tree.now.scale)) families
     given steps) c.in-BadFamily.is c.in_ok-bound.ensures.verdict in
-    comb_first inst tree costs c.in-BadFamily.index c.requires.sort c.requires.count
+    comb_first inst tree costs c.in-BadFamily.index c.requires.kind c.requires.sort c.requires.count
     (told inst tree c.is_directed-directed.result n costs _ families given steps (found.BadFamily c.in-BadFamily.index) are is)
 
 pub overflow_cast-result-in-BadBranch : goal.overflow_cast-result-in-BadBranch
@@ -166,7 +166,7 @@ returns-in-BadBranch g c =
     (c.deref.ensures.value ∙ c.in_ok-given.ensures) c.requires.held.steps_are in
     let is = subst (IsBranchVerdict c.is_directed-directed.result n costs (to_z w64 (of_z w64 c.args.tree.now.scale)) families
     given steps) c.in-BadBranch.is c.in_ok-bound.ensures.verdict in
-    pair_first inst tree costs c.in-BadBranch.index c.requires.sort c.requires.count
+    pair_first inst tree costs c.in-BadBranch.index c.requires.kind c.requires.sort c.requires.count
     (told inst tree c.is_directed-directed.result n costs _ families given steps (found.BadBranch c.in-BadBranch.index) are
     is)
 
@@ -202,7 +202,7 @@ returns-in-BranchTwice g c =
     (c.deref.ensures.value ∙ c.in_ok-given.ensures) c.requires.held.steps_are in
     let is = subst (IsBranchVerdict c.is_directed-directed.result n costs (to_z w64 (of_z w64 c.args.tree.now.scale)) families
     given steps) c.in-BranchTwice.is c.in_ok-bound.ensures.verdict in
-    twice_first inst tree costs c.in-BranchTwice.index c.requires.sort c.requires.count
+    twice_first inst tree costs c.in-BranchTwice.index c.requires.kind c.requires.sort c.requires.count
     (told inst tree c.is_directed-directed.result n costs _ families given steps (found.BranchTwice c.in-BranchTwice.index) are
     is)
 
@@ -238,5 +238,5 @@ returns g c =
     (c.deref.ensures.value ∙ c.in_ok-given.ensures) c.requires.held.steps_are in
     let is = subst (IsBranchVerdict c.is_directed-directed.result n costs (to_z w64 (of_z w64 c.args.tree.now.scale)) families
     given steps) c.in-BadLeaf.is c.in_ok-bound.ensures.verdict in
-    leaf_first inst tree costs c.in-BadLeaf.index c.requires.sort c.requires.count
+    leaf_first inst tree costs c.in-BadLeaf.index c.requires.kind c.requires.sort c.requires.count
     (told inst tree c.is_directed-directed.result n costs _ families given steps (found.BadLeaf c.in-BadLeaf.index) are is)

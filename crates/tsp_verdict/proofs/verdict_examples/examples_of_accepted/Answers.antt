@@ -31,6 +31,12 @@ returns-clause-routes c = λ inst found routes least depot is.
     subst (λ (d : ℕ). found ≡ plan_length (cost inst) d (two 3 1 ∷ (4 ∷ []) ∷ [])) depot is.1.measured in
     omega (arith, ints, measured)
 
+pub returns-clause-certified_routes : goal.returns-clause-certified_routes
+returns-clause-certified_routes c = λ by inst cert found routes least bound depot is.
+    let measured : found ≡ plan_length (cost inst) 2 (two 3 1 ∷ (4 ∷ []) ∷ []) =
+    subst (λ (d : ℕ). found ≡ plan_length (cost inst) d (two 3 1 ∷ (4 ∷ []) ∷ [])) depot is.1.planned.measured in
+    omega (arith, ints, measured)
+
 pub returns-clause-number : goal.returns-clause-number
 returns-clause-number c = λ inst found routes least is. is.1.counted
 

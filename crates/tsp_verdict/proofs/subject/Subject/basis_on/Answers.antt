@@ -4,6 +4,7 @@ use Rattle.tsp_verdict.specs.declared.source.Source.{Source}
 use Rattle.tsp_verdict.specs.states.Sources.{IsSource}
 use Rattle.tsp_verdict.proofs.Bases.{bounded_so}
 use Rattle.tsp_verdict.proofs.Bounds.{certificate_decides}
+use Rattle.tsp_verdict.proofs.ByType.{none_for_tours}
 use Rattle.tsp_verdict.proofs.subject.Subject.basis_on.Goals as goal
 
 -- plan: where no reason is against the instance, the certificate decides (`certificate_decides`)
@@ -13,5 +14,6 @@ returns c =
     let by = c.in-Some.by in
     let cert = c.in-Some.file.now in
     let source = subst (λ (source : Source). IsSource inst c.args.self.now.given source) c.in-Costs.is c.requires.source in
-    let decides = certificate_decides by inst cert c.in_ok-found.found c.requires.none c.in_ok-found.ensures.found in
-    rw source.0 (rw c.in-Some.is (bounded_so by inst c.requires.kind, c.basis_of.ensures by inst cert decides))
+    let decides = certificate_decides by inst cert c.in_ok-found.found (none_for_tours inst c.requires.kind c.requires.none)
+    c.in_ok-found.ensures.found in
+    rw source.0 (rw c.in-Some.is (bounded_so by inst c.requires.kind, c.basis_of.ensures by cert decides))

@@ -1,0 +1,26 @@
+-- The goals of `put_accepted` in src/report.rt: what it ensures.
+use Rattle.std.proofs.Common.{◌++◌, rules}
+use Rattle.std.specs.Prelude.{codes, FitsSigned}
+use Rattle.std.specs.Fmt.{signed_decimal}
+use Rattle.std.specs.Int.{w64}
+use Rattle.std.proofs.lemmas.Int.{to_z-of_z}
+use Rattle.tsp_stream.specs.states.WriteProgress.{way_of}
+use Rattle.tsp_stream.proofs.Carrying.{carried_then}
+use Rattle.tsp_report.specs.Report.{bound_lines}
+use Rattle.tsp_report.proofs.report.put_accepted.Goals as goal
+
+pub returns : goal.returns
+returns g c =
+    let start = way_of g.W.Write.contents c.args.out.now c.args.piece.now.items in
+    let after_length = way_of g.W.Write.contents c.put_named.new.out c.put_named.new.piece.items in
+    let after_line = way_of g.W.Write.contents c.put.new.out c.put.new.piece.items in
+    let after_bound = way_of g.W.Write.contents c.put_bound.new.out c.put_bound.new.piece.items in
+    let last = way_of g.W.Write.contents c.put-2.new.out c.put-2.new.piece.items in
+    let fits : FitsSigned w64 c.args.length = search rules in
+    let named = simp to_z-of_z at c.put_named.ensures in
+    let bound = simp to_z-of_z at c.put_bound.ensures in
+    let text = codes "length " ++ signed_decimal c.args.length in
+    let lines = bound_lines c.args.length c.args.bound in
+    carried_then start after_bound last (text ++ codes "\n" ++ lines) (codes "yes\n")
+    (carried_then start after_line after_bound (text ++ codes "\n") lines
+    (carried_then start after_length after_line text (codes "\n") named c.put.ensures) bound) c.put-2.ensures
