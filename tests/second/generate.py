@@ -255,10 +255,12 @@ def point_lines(pick: random.Random, kind: str, nodes: int) -> list[str]:
 def instance_lines(pick: random.Random, kind: str, nodes: int) -> list[str]:
     """An instance, with fixed pairs and unknown keywords at times."""
     by_points = kind != "ATSP" and pick.randrange(2)
-    lines = point_lines(pick, kind, nodes) if by_points else matrix_lines(pick, kind, nodes, pick.choice([3, 99, 10**9, 10**12]))
+    most, uneven = pick.choice([3, 99, 10**9, 10**12]), 1 if kind == "CVRP" else 20
+    lines = point_lines(pick, kind, nodes) if by_points else matrix_lines(pick, kind, nodes, most, uneven)
     if kind == "CVRP":
         demands = [f"{node} {0 if node == 1 else pick.randint(0, 9)}" for node in range(1, nodes + 1)]
-        lines += [f"CAPACITY : {pick.randint(9, 40)}", "DEMAND_SECTION", *demands, "DEPOT_SECTION", *pick.choice([["1"], ["1"], ["1"], ["2"], ["1 1"], []]), "-1"]
+        capacity = pick.randint(9, 40) if pick.randrange(8) else pick.randint(1, 8)
+        lines += [f"CAPACITY : {capacity}", "DEMAND_SECTION", *demands, "DEPOT_SECTION", *pick.choice([["1"], ["1"], ["1"], ["2"], ["1 1"], []]), "-1"]
     if pick.randrange(4) == 0:
         lines.insert(pick.randrange(2), pick.choice(["DISTANCE : 9", "SERVICE_TIME : 1", "VEHICLES : 3"]))
     return lines
@@ -355,9 +357,49 @@ def tree_lines(pick: random.Random, nodes: int) -> list[str]:
     return [*lines, "BRANCH_SECTION", *steps(pick.randrange(4))]
 
 
+def plan_tree_lines(pick: random.Random, nodes: int) -> list[str]:
+    """A certificate for routes from the depot 1; seldom a bad one."""
+    size = pick.choice([0, 4, 100, 10**9, 10**15])
+    families = [pick.sample(range(2, nodes + 1), pick.randint(1, nodes - 1)) for _ in range(pick.randrange(4))]
+    last = nodes + len(families)
+
+    def leaf() -> str:
+        pairs = []
+        for _ in range(pick.randrange(6)):
+            index = pick.randint(1, last + (pick.randrange(60) == 0))
+            most = min(size, 10**6) if index > nodes and pick.randrange(40) else size
+            pairs.append(f"{index} {pick.randint(-most, most)}")
+        if families and pick.randrange(25) == 0:  # multipliers at their limit, or past it
+            pairs = [f"{last} {pick.choice([2, -2]) * 10**15}"] * pick.choice([150, 151])
+        return " ".join(["0", *pairs, "-1"])
+
+    def steps(depth: int) -> list[str]:
+        if depth == 0 or not families:
+            return [leaf()]
+        branch = f"{pick.randint(nodes + 1, last)} {pick.randint(1, nodes)}"
+        if pick.randrange(40) == 0:
+            branch = pick.choice([f"{last + 1} 1", " ".join(map(str, pick.sample(range(1, nodes + 1), 2)))])
+        return [branch, *steps(pick.randrange(depth)), *steps(pick.randrange(depth))]
+
+    sets = [[nodes] for nodes in families]
+    if sets and pick.randrange(20) == 0:
+        pick.choice(sets)[0].append(pick.randint(1, nodes))
+    if sets and pick.randrange(40) == 0:
+        pick.choice(sets).append([nodes])
+    unit = pick.choice([[], [], ["1"], ["2"], ["3"], ["5"], ["10"], ["41"], ["1000000000000"]])
+    lines = ["TYPE : BRANCHES", f"DIMENSION : {nodes + (pick.randrange(40) == 0)}", *pick.choice([[], ["SCALE : 2"], ["SCALE : 7"]])]
+    lines += [f"LOAD_UNIT : {word}" for word in unit]
+    if families:
+        listed = [" ".join([*(" ".join(map(str, [*one, -1])) for one in family), "-1"]) for family in sets]
+        lines += ["COMB_SECTION", *listed, "-1"]
+    return [*lines, "BRANCH_SECTION", *steps(pick.randrange(4))]
+
+
 def certificate(pick: random.Random, kind: str, nodes: int, pairs: list) -> tuple[str, bytes]:
     """A certificate and its kind; now and then one of the other kind."""
     word = pick.choice(["potentials", "branches", "branches"])
+    if kind == "CVRP" and pick.randrange(15):
+        return "branches", joined(*plan_tree_lines(pick, nodes))
     lines = potential_lines(pick, kind, nodes, pairs) if (word == "potentials") != (pick.randrange(30) == 0) else tree_lines(pick, nodes)
     return word, joined(*lines)
 
@@ -383,7 +425,7 @@ def checks(pick: random.Random, number: int) -> Case:
     nodes = pick.choice([1, 2, 3, 4, 5, 6, 7, 8, 9, 12])
     kind, tours, pairs, lines = problem(pick, ["TSP", "TSP", "ATSP", "CVRP"], nodes)
     solution = joined(*tour_lines(pick, tours, nodes))
-    if kind == "CVRP" and pick.randrange(10) or pick.randrange(4) == 0 or nodes < 2:
+    if kind == "CVRP" and pick.randrange(3) == 0 or pick.randrange(4) == 0 or nodes < 2:
         claim = pick.choice([b"", b"", str(pick.randint(-5, 99)).encode()])
         return Case("check", (joined(*lines), solution), claim=claim)
     word, text = certificate(pick, kind, nodes, pairs)
@@ -401,7 +443,7 @@ def comparisons(pick: random.Random, number: int) -> Case:
         other = [pick.sample(tour, len(tour)) for tour in tours] if pick.randrange(2) and not pairs else tours
         text = joined(*tour_lines(pick, other, nodes))
         solutions.append(broken(pick, text) if pick.randrange(6) == 0 else text)
-    if kind == "CVRP" and pick.randrange(12) or pick.randrange(3) == 0:
+    if kind == "CVRP" and pick.randrange(3) == 0 or pick.randrange(3) == 0:
         return Case("compare", (joined(*lines), *solutions))
     word, text = certificate(pick, kind, nodes, pairs)
     return Case("compare", (joined(*lines), *solutions, text), kind=word)

@@ -2,7 +2,8 @@
 from __future__ import annotations
 
 from bounds import Unbounded, reason_against_branches, reason_against_potentials, tree_bound, potential_bound
-from reader import Fault, File, Wrong, read, whole
+from reader import INSTANCES, Fault, File, Wrong, read, whole
+from routes import Fleet, plan_bound, reason_against_plans
 from writer import LAYOUTS, Costs, Refused, canonical, first_uneven, length, not_judged, relaid, shown
 
 Result = tuple[int, bytes, bytes]  # the exit status, standard output and standard error
@@ -54,6 +55,8 @@ class Judge:
     def against_certificate(self) -> None:
         if self.kind == "potentials":
             reason = reason_against_potentials(self.instance, self.certificate, self.costs)
+        elif self.kind == "branches" and self.routes:
+            reason = reason_against_plans(Fleet(self.instance, self.costs), self.certificate)
         elif self.kind == "branches":
             reason = reason_against_branches(self.instance, self.certificate)
         else:
@@ -63,6 +66,8 @@ class Judge:
 
     def bound(self) -> int | None:
         """The bound; None where no leaf of a tree counts."""
+        if self.routes:
+            return plan_bound(Fleet(self.instance, self.costs), self.certificate)
         try:
             return (potential_bound if self.kind == "potentials" else tree_bound)(self.instance, self.certificate, self.costs)
         except Unbounded:
@@ -168,7 +173,7 @@ def judge_of(texts: list[bytes], kind: str, place: int) -> tuple[Judge, list[Fil
     files = files_of(texts)
     if isinstance(files, bytes):
         return 2, b"", files
-    accepted = ("TSP", "ATSP") if kind else ("TSP", "ATSP", "CVRP")
+    accepted = ("TSP", "ATSP") if kind == "potentials" else INSTANCES
     if files[0].type not in accepted:
         return 2, b"", b"file 1: wrong kind\n"
     return Judge(files[0], files[place] if kind else None, kind), files
@@ -189,13 +194,12 @@ def check(instance: bytes, solution: bytes, certificate: bytes = b"", kind: str 
         judge.against_certificate()
     except No as reason:
         return 1, told(judge.head(), f"no {reason}"), b""
-    if judge.routes:
-        return 0, told(judge.head(), f"routes {routes}", f"least {judge.least()}", f"length {measured}", "yes"), b""
-    if not kind:
-        return 0, told(judge.head(), f"length {measured}", "yes"), b""
-    bound = judge.bound()
-    met = "optimal" if measured == bound else f"gap {measured - bound}"
-    return 0, told(judge.head(), f"length {measured}", f"bound {bound}", met, "yes"), b""
+    lines = [f"routes {routes}", f"least {judge.least()}"] if judge.routes else []
+    lines.append(f"length {measured}")
+    if kind:
+        bound = judge.bound()
+        lines += [f"bound {bound}", "optimal" if measured == bound else f"gap {measured - bound}"]
+    return 0, told(judge.head(), *lines, "yes"), b""
 
 
 def bound(instance: bytes, certificate: bytes, kind: str) -> Result:
@@ -205,6 +209,8 @@ def bound(instance: bytes, certificate: bytes, kind: str) -> Result:
     judge, _ = found
     try:
         judge.against_instance()
+        if judge.routes:
+            judge.against_depot()
         judge.against_certificate()
     except No as reason:
         return 1, told(judge.head(), f"no {reason}"), b""
@@ -227,15 +233,16 @@ def compare(instance: bytes, solutions: list[tuple[str, bytes]], certificate: by
         return 1, told(judge.head(), f"no {reason}"), b""
     least = judge.bound() if kind else None
     lines, status = [], 0
+    if judge.routes and (least is not None or not kind):
+        lines.append(f"least {judge.least()}")
     if kind:
         lines.append(f"bound {'none' if least is None else least}")
-    elif judge.routes:
-        lines.append(f"least {judge.least()}")
     for path, text in solutions:
         try:
             measured, routes = judge.measured(read(text))
-            met = "optimal " if measured == least else f"gap {measured - least} " if kind else f"routes {routes} " if judge.routes else ""
-            lines.append(f"{measured} {met}{path}")
+            count = f"routes {routes} " if judge.routes else ""
+            met = "optimal " if measured == least else f"gap {measured - least} " if kind else ""
+            lines.append(f"{measured} {count}{met}{path}")
         except Fault as fault:
             lines.append(f"{fault} {path}")
             status = max(status, 2)

@@ -13,7 +13,7 @@ from generate import Case, case_of
 from runner import Counts
 
 MOST = 40_000  # cases for a bug
-MODULES = ["reader", "bounds", "writer", "judge"]
+MODULES = ["reader", "bounds", "writer", "routes", "judge"]
 HERE = Path(__file__).resolve().parent
 
 # The file of the bug, what is there, what is put in its place, and what that is.
@@ -57,6 +57,19 @@ BUGS = [
     ("bounds", "return min(by, default=0) < 0 or", "return min(by, default=0) < -1 or", "a multiplier may be -1"),
     ("bounds", "all((i == a) == (j == b) for a, b in leaf.used)", "all(i != a or j == b for a, b in leaf.used)", "a taken arc lets others enter its end"),
     ("bounds", "if first > self.nodes:", "if False:", "a tour may be branched on by a family"),
+    ("routes", "up(sum(self.demand[node] for node in nodes), self.capacity))", "sum(self.demand[node] for node in nodes) // self.capacity)", "the need of a set is rounded down"),
+    ("routes", "or self.fleet.depot in sets[0]:", "or False:", "a family may have the depot"),
+    ("routes", "if not 1 <= first - self.nodes <= len(self.families):", "if first > self.nodes + len(self.families):", "routes may be branched on by a pair"),
+    ("routes", "sum(map(abs, self.multipliers(leaf))) > MOST", "sum(self.multipliers(leaf)) > MOST", "multipliers below 0 have no limit"),
+    ("routes", "demand // unit for", "-(-demand // unit) for", "loads are rounded up"),
+    ("routes", "self.room = fleet.capacity // unit * parts + len(light)", "self.room = fleet.capacity // unit * parts", "there is no room for loads of 0"),
+    ("routes", "if node not in (last, before) and", "if node != last and", "a walk may go back at once"),
+    ("routes", "ways = [weight(last, depot)]\n", "ways = [weight(last, depot)] if before != depot else [10**40]\n", "no walk has one customer"),
+    ("routes", "least - 2 * potential(self.fleet.depot)", "least - potential(self.fleet.depot)", "the depot's potential is given back once"),
+    ("routes", "min(self.fleet.need(customers) * each, len(customers) * each)", "self.fleet.need(customers) * each", "the fewest routes are taken where each weighs less than 0"),
+    ("routes", "(self.low(leaf, k) if multiplier > 0 else self.high(leaf, k))", "self.low(leaf, k)", "the low number of crossings is taken for a multiplier below 0"),
+    ("routes", "least = [2 * t + 2 for", "least = [2 * t + 1 for", "the second tree begins at 2t + 1 crossings"),
+    ("routes", "return min(ways, default=None)\n\n\ndef reason", "return min(ways, default=0)\n\n\ndef reason", "a leaf without a walk has a bound"),
 ]
 
 
