@@ -357,8 +357,8 @@ def tree_lines(pick: random.Random, nodes: int) -> list[str]:
     return [*lines, "BRANCH_SECTION", *steps(pick.randrange(4))]
 
 
-def plan_tree_lines(pick: random.Random, nodes: int) -> list[str]:
-    """A certificate for routes from the depot 1; seldom a bad one."""
+def plan_tree_lines(pick: random.Random, nodes: int, depths: int = 4) -> list[str]:
+    """A certificate for routes from the depot 1, of less than so many branches one below the other; seldom a bad one."""
     size = pick.choice([0, 4, 100, 10**9, 10**15])
     families = [pick.sample(range(2, nodes + 1), pick.randint(1, nodes - 1)) for _ in range(pick.randrange(4))]
     last = nodes + len(families)
@@ -392,7 +392,7 @@ def plan_tree_lines(pick: random.Random, nodes: int) -> list[str]:
     if families:
         listed = [" ".join([*(" ".join(map(str, [*one, -1])) for one in family), "-1"]) for family in sets]
         lines += ["COMB_SECTION", *listed, "-1"]
-    return [*lines, "BRANCH_SECTION", *steps(pick.randrange(4))]
+    return [*lines, "BRANCH_SECTION", *steps(pick.randrange(depths))]
 
 
 def certificate(pick: random.Random, kind: str, nodes: int, pairs: list) -> tuple[str, bytes]:
@@ -467,6 +467,15 @@ def matrices(pick: random.Random, number: int) -> Case:
         row = pick.randrange(5, len(lines))
         lines[row] += pick.choice([" 1", " -", " +7", " 1x"])
     return Case("convert" if layout or pick.randrange(2) else "show", (joined(*lines),), layout=layout)
+
+
+def wide_plans(pick: random.Random, number: int) -> Case:
+    """A bound of routes for more customers than plans can be tried of."""
+    nodes = choice_of(number, [15, 20, 25, 30])[0]
+    lines = point_lines(pick, "CVRP", nodes) if pick.randrange(2) else matrix_lines(pick, "CVRP", nodes, 99, 1)
+    demands = [f"{node} {0 if node == 1 else pick.randint(1, 9)}" for node in range(1, nodes + 1)]
+    lines += [f"CAPACITY : {pick.randint(9, 20)}", "DEMAND_SECTION", *demands, "DEPOT_SECTION", "1 -1"]
+    return Case("bound", (joined(*lines), joined(*plan_tree_lines(pick, nodes, 2))), kind="branches")
 
 
 # ---- texts that were whole
@@ -544,7 +553,7 @@ GENERATORS: list[tuple[Generator, int]] = [
     (mutated, 8), (laid_out, 6), (pieces, 5),
 ]
 ROUND = [make for make, often in GENERATORS for _ in range(often)]
-SELDOM = 400  # one case in as many is a wide matrix
+SELDOM = 400  # one case in as many is a wide matrix, and one a bound of many routes
 
 
 def case_of(seed: int, number: int) -> tuple[str, Case]:
@@ -552,6 +561,8 @@ def case_of(seed: int, number: int) -> tuple[str, Case]:
     pick = random.Random(f"{seed} {number}")
     if number % SELDOM == SELDOM - 1:
         make, turn = matrices, number // SELDOM
+    elif number % SELDOM == SELDOM // 2 - 1:
+        make, turn = wide_plans, number // SELDOM
     else:
         rounds, place_in_round = divmod(number, len(ROUND))
         order = random.Random(f"order {seed} {rounds}").sample(ROUND, len(ROUND))
